@@ -19,7 +19,8 @@ use Rattle.net_world.specs.Input.{IsInput, IsRising, commands, ends_last, order_
 use Rattle.net_world.specs.Log.{done}
 use Rattle.nf_net.specs.Promises.{Completed, Promises}
 use Rattle.nf_net.proofs.PacketCounts.{all_done}
-use Rattle.run_report.specs.Lines.{answer_in, by_number, output_in}
+use Rattle.report_lines.specs.Lines.{by_number, output_in}
+use Rattle.run_report.specs.Lines.{answer_in}
 use Rattle.opennf_calls.proofs.NumberedLines.{rising_above, rising_sorted}
 
 -- what the log has an output for is what was processed

@@ -7,7 +7,7 @@ use Rattle.std.proofs.lemmas.Bool.{ltb-true, ltb-false}
 use Rattle.std.proofs.lemmas.Bool.Decides.{nat_tests}
 use Rattle.net_world.specs.Fold.{times}
 use Rattle.net_world.specs.Input.{IsRising}
-use Rattle.run_report.specs.Sorting.{put_in, sorted_by}
+use Rattle.report_lines.specs.Sorting.{put_in, sorted_by}
 
 less_by : (less same : Bool) → is_lt (cond less Less (cond same Equal Greater)) ≡ less
 less_by true same = refl

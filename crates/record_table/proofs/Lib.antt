@@ -1,5 +1,6 @@
 pub mod UnitOrder
 pub mod RecordLookUps
+pub mod CopiedRecords
 pub mod EntryMaps
 pub mod Results
 pub mod ChunkFronts

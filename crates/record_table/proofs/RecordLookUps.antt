@@ -31,7 +31,7 @@ not_cond : {X : Type 0} (b : Bool) (x y : X) → cond (not b) x y ≡ cond b y x
 not_cond true x y = refl
 not_cond false x y = refl
 
-among_more : (us : List units.Unit) (u q : units.Unit) → is_among (us ++ u ∷ []) q ≡ (is_among us q || same_unit q u)
+pub among_more : (us : List units.Unit) (u q : units.Unit) → is_among (us ++ u ∷ []) q ≡ (is_among us q || same_unit q u)
 among_more [] u q = or_false (same_unit q u)
   where
     or_false : (b : Bool) → (b || false) ≡ b

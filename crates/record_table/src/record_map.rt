@@ -6,7 +6,7 @@ ghost use Rattle.std.specs.Option.{option_copied};
 ghost use Rattle.std.specs.FinMap as finite;
 ghost use Rattle.flow_filter.specs.Flow.{flow_of};
 ghost use Rattle.nf_function.specs.Semantics.{output_for, unit_at};
-ghost use Rattle.record_table.specs.Table.{after_packet, without, either, joined, AreSound};
+ghost use Rattle.record_table.specs.Table.{after_packet, is_among, without, either, joined, AreSound};
 ghost use Rattle.record_table.specs.Entries.{map_of, AreEntriesOf};
 ghost use Rattle.record_table.specs.Keeping.{choice, taken};
 
@@ -103,6 +103,20 @@ impl<R: Drop> RecordMap<R> {
         let is_new = self.records.insert(unit, kept)?.is_none();
         self.count += u32::from(is_new);
         Ok(is_new)
+    }
+
+    /// The records of some units again.
+    pub(crate) fn copied<F: Function<Record = R>>(&self, units: &[Unit]) -> Result<Self, NoMemory>
+        ensures { IfOk result (λ copies. copies ≡ finite.retain_keys self.now (is_among units.now)) }
+    {
+        let mut copies = RecordMap::open(self.alloc);
+        copies.reserve(units.len())?;
+        for unit in units {
+            if let Some(record) = self.get(unit) {
+                copies.insert(*unit, F::copy(self.alloc, record)?)?;
+            }
+        }
+        Ok(copies)
     }
 
     /// Takes the records of some units out.

@@ -217,6 +217,20 @@ impl<F: Function> Table<F> {
         self.take_in(live, Keep::Coming, chunks)
     }
 
+    /// Makes the records that stand by of some units live too, in place of what is live of them. No chunk is made.
+    ///
+    /// All growth and all copies come before the first change. A unit that comes twice does no harm.
+    pub fn promote(&mut self, units: &Units) -> Result<(), NoMemory>
+        ensures table { OnOk result (self.new ≡ record self.old { live = replaced_by self.old.live (finite.retain_keys self.old.standby (is_among units.now)) }) }
+        ensures each { OnOk result ((u : EachUnit) → finite.get self.new.live u ≡ option_or (if is_among units.now u then finite.get self.old.standby u else None) (finite.get self.old.live u)) }
+        ensures standby { self.new.standby ≡ self.old.standby }
+        ensures err { OnErr result (self.new ≡ self.old) }
+    {
+        let copies = self.standby.copied::<F>(units.items())?;
+        self.live.join::<F>(copies.into_entries(), Keep::Coming)?;
+        Ok(())
+    }
+
     /// How many units have a live record.
     pub fn live_count(&self) -> u32
         ensures { result ≡ finite.len self.now.live }

@@ -2,7 +2,8 @@
 use Rattle.std.proofs.Common.{◌≡◌, ℕ, ◌<◌, ◌≤◌, List, [], ◌∷◌, ◌++◌, drop, length, arith, refl, sym, ap, ◌∙◌}
 use Rattle.std.proofs.lemmas.List.{append-nil, drop_all}
 use Rattle.net_world.specs.declared.node.Node.{Node}
-use Rattle.run_report.specs.Lines.{NamedInstance, named_instances}
+use Rattle.report_lines.specs.Lines.{NamedInstance}
+use Rattle.run_report.specs.Lines.{named_instances}
 
 pub all_done : {X A : Type 0} (f : List X → List A) → f [] ≡ [] → (front whole : List A) (i : ℕ) (xs : List X) → length xs ≤ i → front ++ f (drop i xs) ≡ whole → front ≡ whole
 all_done f none front whole i xs past is = sym (append-nil front) ∙ ap (λ l. front ++ l) (sym none ∙ ap f (sym (drop_all i xs past))) ∙ is

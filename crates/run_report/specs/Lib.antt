@@ -1,5 +1,3 @@
 pub mod Audits
-pub mod Sorting
 pub mod Lines
 pub mod Seen
-pub mod Ends

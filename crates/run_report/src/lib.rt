@@ -6,15 +6,11 @@
 //! world that choices lead to from a network's start, where they are a complete run, and else names the step that isn't one of a run.
 #![tactic(auto)]
 
+mod answers;
 pub mod auditing;
-mod ends;
 pub mod head;
-pub mod instances;
-mod line_front;
-pub mod lines;
+mod instances;
 pub mod reporting;
-pub mod states;
-pub mod units;
 
 pub use auditing::{AuditFault, audit};
 pub use head::Head;

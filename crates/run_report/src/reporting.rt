@@ -1,15 +1,19 @@
-ghost use Rattle.std.specs.Prelude.{◌≡◌, ◌++◌, map, IfOk, OnOk};
-ghost use Rattle.run_report.specs.Lines.{named_instances, report_text, summary_lines, tail_lines, whole_lines};
-ghost use Rattle.run_report.specs.Seen.{instance_seen};
+ghost use Rattle.std.specs.Prelude.{◌≡◌, ◌++◌, IfOk, OnOk};
+ghost use Rattle.run_report.specs.Lines.{named_instances, packet_lines, record_lines, report_text, summary_lines, whole_lines};
+ghost use Rattle.report_lines.specs.Lines.{tail_lines};
 
+use crate::answers::push_answers;
 use crate::head::Head;
-use crate::instances::{NamedInstance, named_instances, push_lives, push_tallies};
-use crate::lines::{push_answers, push_packets};
-use crate::states::push_records;
+use crate::instances::{named_instances, push_lives};
 use actor_net::World;
 use basics::{NoMemory, Text};
+use flow_filter::Name;
 use net_world::Node;
 use nf_function::Function;
+use nf_msgs::Note;
+use report_lines::{
+    NamedInstance, name_bytes, push_dones, push_outs, push_standbys, push_states, push_tail,
+};
 use std::alloc::Global;
 
 /// The report of a world. A summary has counts in place of the lines of packets and records.
@@ -30,7 +34,7 @@ pub fn report<F: Function>(
     } else {
         push_whole(alloc, &mut text, head, world, &found)?;
     }
-    push_tail(&mut text, head, world, &found)?;
+    push_tail(&mut text, head.names.items().len(), &found)?;
     Ok(text)
 }
 
@@ -43,12 +47,40 @@ fn push_whole<F: Function>(
     world: &World<Node<F>>,
     found: &[NamedInstance<'_, F>],
 ) -> Result<(), NoMemory>
-    requires { map instance_seen found.now ≡ named_instances head.now.names world.now.nodes }
+    requires { found.now ≡ named_instances head.now.names world.now.nodes }
     ensures { OnOk result (text.new ≡ text.old ++ whole_lines F.semantics head.now world.now) }
 {
     push_packets::<F>(alloc, text, head.names.items(), world.log())?;
     push_answers(alloc, text, world.log())?;
     push_records(alloc, text, found)
+}
+
+/// Puts the lines of the packets after a text.
+#[tactic(auto, unfolding(crate::specs::Lines::packet_lines))]
+fn push_packets<F: Function>(
+    alloc: Global,
+    text: &mut Text,
+    names: &[Name],
+    log: &[Note],
+) -> Result<(), NoMemory>
+    ensures { OnOk result (text.new ≡ text.old ++ packet_lines F.semantics names.now log.now) }
+{
+    let names = name_bytes(alloc, names)?;
+    push_outs::<F>(alloc, text, log)?;
+    push_dones(alloc, text, &names, log)
+}
+
+/// Puts the lines of the records after a text.
+#[tactic(auto, unfolding(crate::specs::Lines::record_lines))]
+fn push_records<F: Function>(
+    alloc: Global,
+    text: &mut Text,
+    instances: &[NamedInstance<'_, F>],
+) -> Result<(), NoMemory>
+    ensures { OnOk result (text.new ≡ text.old ++ record_lines F.semantics instances.now) }
+{
+    push_states(alloc, text, instances)?;
+    push_standbys(alloc, text, instances)
 }
 
 /// Puts the lines of answers and of counts after a text.
@@ -60,24 +92,9 @@ fn push_summary<F: Function>(
     world: &World<Node<F>>,
     found: &[NamedInstance<'_, F>],
 ) -> Result<(), NoMemory>
-    requires { map instance_seen found.now ≡ named_instances head.now.names world.now.nodes }
+    requires { found.now ≡ named_instances head.now.names world.now.nodes }
     ensures { OnOk result (text.new ≡ text.old ++ summary_lines head.now world.now) }
 {
     push_answers(alloc, text, world.log())?;
     push_lives(text, found)
-}
-
-/// Puts the lines of the tallies and the last line after a text.
-#[tactic(auto, unfolding(crate::specs::Lines::tail_lines))]
-fn push_tail<F: Function>(
-    text: &mut Text,
-    head: &Head,
-    world: &World<Node<F>>,
-    found: &[NamedInstance<'_, F>],
-) -> Result<(), NoMemory>
-    requires { map instance_seen found.now ≡ named_instances head.now.names world.now.nodes }
-    ensures { OnOk result (text.new ≡ text.old ++ tail_lines head.now world.now.nodes) }
-{
-    push_tallies(text, head.names.items().len(), found)?;
-    text.push_bytes(b"end\n")
 }

@@ -1,0 +1,4 @@
+pub mod NumberBefore
+pub mod ProcessedNotes
+pub mod SortLemmas
+pub mod SortedAlready

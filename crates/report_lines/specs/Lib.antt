@@ -1,0 +1,4 @@
+pub mod Sorting
+pub mod Lines
+pub mod Seen
+pub mod Ends

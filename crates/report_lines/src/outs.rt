@@ -1,0 +1,157 @@
+//! The lines of the packets' outputs.
+ghost use Rattle.std.specs.Prelude.{◌≡◌, ◌++◌, true, codes, filter_map, IfOk, OnOk};
+ghost use Rattle.counted_lines.specs.Pages.{pending, word_of};
+ghost use Rattle.report_lines.specs.Lines.{by_number, out_line, out_lines, output_in};
+
+use crate::ends::OutputEnds;
+use basics::{NoMemory, Text};
+use counted_lines::CountedLines;
+use nf_function::{Function, Output};
+use nf_msgs::Note;
+use std::alloc::Global;
+
+/// Puts the line of each packet's output after a text, by the packets' numbers.
+pub fn push_outs<F: Function>(alloc: Global, text: &mut Text, log: &[Note]) -> Result<(), NoMemory>
+    ensures { OnOk result (text.new ≡ text.old ++ out_lines F.semantics log.now) }
+{
+    let mut lines = CountedLines::open(alloc, b"out ")?;
+    let mut ends = OutputEnds::<F>::open(alloc)?;
+    if is_by_number(log) {
+        push_noted_outs::<F>(text, &mut lines, &mut ends, log)?;
+        return lines.flush(text);
+    }
+    push_sorted_outs::<F>(alloc, text, &mut lines, &mut ends, log)?;
+    lines.flush(text)
+}
+
+/// Whether the packets' outputs stand in the log by their numbers, as they nearly always do.
+fn is_by_number(log: &[Note]) -> bool
+    ensures { result ≡ true → filter_map output_in log.now ≡ by_number output_in log.now }
+{
+    let mut last = 0;
+    for note in log {
+        if let Note::Processed { number, .. } = note {
+            if *number < last {
+                return false;
+            }
+            last = *number;
+        }
+    }
+    true
+}
+
+/// Puts the line of each packet's output after the text and the lines that are still to go there, in the order of the log.
+fn push_noted_outs<F: Function>(
+    text: &mut Text,
+    lines: &mut CountedLines,
+    ends: &mut OutputEnds<F>,
+    log: &[Note],
+) -> Result<(), NoMemory>
+    requires word { word_of lines.old ≡ codes "out " }
+    requires in_order { filter_map output_in log.now ≡ by_number output_in log.now }
+    ensures { OnOk result (text.new ++ pending lines.new ≡ (text.old ++ pending lines.old) ++ out_lines F.semantics log.now) }
+{
+    for note in log {
+        if let Note::Processed { number, output, .. } = note {
+            push_out::<F>(text, lines, ends, *number, output)?;
+        }
+    }
+    Ok(())
+}
+
+/// The same by the packets' numbers, where they stand in another order.
+#[cold]
+fn push_sorted_outs<F: Function>(
+    alloc: Global,
+    text: &mut Text,
+    lines: &mut CountedLines,
+    ends: &mut OutputEnds<F>,
+    log: &[Note],
+) -> Result<(), NoMemory>
+    requires { word_of lines.old ≡ codes "out " }
+    ensures { OnOk result (text.new ++ pending lines.new ≡ (text.old ++ pending lines.old) ++ out_lines F.semantics log.now) }
+{
+    let outputs = outputs_by_number(alloc, log)?;
+    for (number, output) in &outputs {
+        push_out::<F>(text, lines, ends, *number, output)?;
+    }
+    Ok(())
+}
+
+/// The packets' outputs by their numbers.
+fn outputs_by_number(alloc: Global, log: &[Note]) -> Result<Vec<(u32, Output)>, NoMemory>
+    ensures { IfOk result (λ found. found.items ≡ by_number output_in log.now) }
+{
+    let mut found = outputs(alloc, log)?;
+    found.sort_by_key(|output| output.0)?;
+    Ok(found)
+}
+
+/// The packets' outputs as they stand in the log.
+fn outputs(alloc: Global, log: &[Note]) -> Result<Vec<(u32, Output)>, NoMemory>
+    ensures { IfOk result (λ found. found.items ≡ filter_map output_in log.now) }
+{
+    let mut found = Vec::new(alloc);
+    for note in log {
+        if let Note::Processed { number, output, .. } = note {
+            found.push((*number, *output))?;
+        }
+    }
+    Ok(found)
+}
+
+/// Puts an output's line after the text and the lines that are still to go there.
+#[tactic(auto, unfolding(crate::specs::Lines::out_line))]
+#[inline(always)]
+fn push_out<F: Function>(
+    text: &mut Text,
+    lines: &mut CountedLines,
+    ends: &mut OutputEnds<F>,
+    number: u32,
+    output: &Output,
+) -> Result<(), NoMemory>
+    requires { word_of lines.old ≡ codes "out " }
+    ensures text { OnOk result (text.new ++ pending lines.new ≡ (text.old ++ pending lines.old) ++ out_line F.semantics (number, output.now)) }
+    ensures word { word_of lines.new ≡ word_of lines.old }
+{
+    match ends.kept(output) {
+        Some(end) => lines.push(text, u64::from(number), end),
+        None => push_other_out::<F>(text, lines, ends, number, output),
+    }
+}
+
+/// The same for an output whose end isn't kept yet.
+#[tactic(auto, unfolding(crate::specs::Lines::out_line))]
+#[cold]
+#[inline(never)]
+fn push_other_out<F: Function>(
+    text: &mut Text,
+    lines: &mut CountedLines,
+    ends: &mut OutputEnds<F>,
+    number: u32,
+    output: &Output,
+) -> Result<(), NoMemory>
+    requires { word_of lines.old ≡ codes "out " }
+    ensures text { OnOk result (text.new ++ pending lines.new ≡ (text.old ++ pending lines.old) ++ out_line F.semantics (number, output.now)) }
+    ensures word { word_of lines.new ≡ word_of lines.old }
+{
+    match ends.make(output)? {
+        Some(end) => lines.push(text, u64::from(number), &end),
+        None => {
+            lines.flush(text)?;
+            push_long_out::<F>(text, number, output)
+        }
+    }
+}
+
+/// The same without a block, for an output whose text is longer than one.
+#[tactic(auto, unfolding(crate::specs::Lines::out_line))]
+fn push_long_out<F: Function>(text: &mut Text, number: u32, output: &Output) -> Result<(), NoMemory>
+    ensures { OnOk result (text.new ≡ text.old ++ out_line F.semantics (number, output.now)) }
+{
+    text.push_bytes(b"out ")?;
+    text.push_decimal(u64::from(number))?;
+    text.push_bytes(b" ")?;
+    F::push_output(text, output)?;
+    text.push_bytes(b"\n")
+}

@@ -1,0 +1,14 @@
+-- What was sorted is the sort.
+use Rattle.std.proofs.Common.{rules}
+use Rattle.std.specs.Ordering.{nat_cmp}
+use Rattle.std.specs.Cmp.{nat_cmp_total}
+use Rattle.std.proofs.lemmas.List.Sorted.{answers_always}
+use Rattle.run_report.specs.Seen.{answer_seen}
+use Rattle.report_lines.proofs.SortLemmas.{is_sort_seen}
+use Rattle.run_report.proofs.answers.answers_by_number.Goals as goal
+
+pub returns : goal.returns
+returns c =
+    is_sort_seen answer_seen (λ x. x.0) nat_cmp nat_cmp_total c.in_ok-found.found.items c.sort_by_key.new.self.items _ c.in_ok-found.ensures
+    (c.in_ok-sort_by_key.ensures.sorted (λ x. x.0) (answers_always _ _ _ (λ f a r f' q. search rules)))
+    (c.in_ok-sort_by_key.ensures.stable (λ x. x.0) (answers_always _ _ _ (λ f a r f' q. search rules)))

@@ -1,9 +1,0 @@
--- The lines of the instances so far, and those still to come.
-use Rattle.std.proofs.Common.{◌≡◌, ◌++◌, map, drop}
-use Rattle.std.specs.List.{flat_map}
-use Rattle.run_report.specs.Lines.{tally_line}
-use Rattle.run_report.specs.Seen.{instance_seen}
-use Rattle.run_report.proofs.instances.push_tallies.Given as goal
-
-abbrev pub invariant-loop-named : goal.invariant-loop-named
-invariant-loop-named g l = l.text ++ flat_map (tally_line l.count) (map instance_seen (drop l.named-index l.instances)) ≡ l.fn.text ++ flat_map (tally_line l.count) (map instance_seen l.instances)
