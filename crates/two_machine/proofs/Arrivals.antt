@@ -1,0 +1,250 @@
+-- What each step notes of arrivals, and where the input and its end are.
+use Rattle.std.proofs.Common.{◌≡◌, ℕ, Bool, true, false, List, [], ◌∷◌, ◌++◌, refl, sym, ap, ◌∙◌, append-nil}
+use Rattle.std.specs.Prelude.{if◌then◌else◌, ◌==◌}
+use Rattle.two_machine.proofs.Machine.{Rule, Free, Drops, Buffers, Target, To_a, To_both, To_b}
+use Rattle.two_machine.proofs.Tables
+use Rattle.two_machine.proofs.Tables.{System, Msg, Note, Switch, Ctrl, Inst, Step, In_packet, In_start, In_end, Start, End, Copied, Laid, Forward, Lay, Finish, Carry, Pass, Stop, Enable, Get, Delete, Restore, Fence, Enabled, Chunks, Deleted, Restored, Event, Seen, Fenced, Final, Credit, has_room, goes, switch_step, processed, all_processed, ruled, inst_step, ctrl_step, takes_in}
+use Rattle.two_machine.proofs.View.{World, Observer, read, read-append, arrived, item}
+use Rattle.two_machine.proofs.Labels.{IsSelected, In_input, On_sc, On_cs, On_ac, On_bc, On_back}
+use Rattle.two_machine.proofs.Puts.{sent}
+use Rattle.two_machine.proofs.Places.{Place, In, Cs, Aw, Bw, Sc, Ac, Bc, Sa, Ca, Sb, Cb, with_waits, comes, Label, result}
+use Rattle.two_machine.proofs.Shapes.{copied}
+use Rattle.actor_net.proofs.WeightLaws.{Each, each-append}
+use Rattle.two_machine.proofs.StepLabels.{ctrl_ok, gives_sc, gives_ac, gives_bc}
+
+-- the packets of an input
+abbrev pub coming : {C : Type 0} → Msg C → List ℕ
+coming (In_packet p) = p ∷ []
+coming m = []
+
+-- no End, and no copy besides
+abbrev pub Not_end : {C : Type 0} → Msg C → Type 0
+Not_end End = ⊥
+Not_end m = Unit {0}
+
+abbrev pub Quiet : {C : Type 0} → Msg C → Type 0
+Quiet End = ⊥
+Quiet (Copied p) = ⊥
+Quiet m = Unit {0}
+
+-- one End, and no copy after it
+abbrev pub One_end : {C : Type 0} → List (Msg C) → Type 0
+One_end [] = ⊥
+One_end (End ∷ ms) = Each Quiet ms
+One_end (m ∷ ms) = One_end ms
+
+-- the end of an input stands last
+abbrev pub Ends_last : {C : Type 0} → List (Msg C) → Type 0
+Ends_last [] = ⊥
+Ends_last (In_end ∷ []) = Unit {0}
+Ends_last (In_end ∷ m ∷ ms) = ⊥
+Ends_last (m ∷ ms) = Ends_last ms
+
+pub one_end_more : {C : Type 0} (xs ys : List (Msg C)) → One_end xs → Each Quiet ys → One_end (xs ++ ys)
+one_end_more [] ys h k = absurd h
+one_end_more (End ∷ xs) ys h k = each-append Quiet xs ys h k
+one_end_more (x ∷ xs) ys h k = one_end_more xs ys h k
+
+pub one_end_put : {C : Type 0} (xs : List (Msg C)) → Each Not_end xs → One_end (xs ++ End ∷ [])
+one_end_put [] h = tt
+one_end_put (End ∷ xs) h = absurd h.0
+one_end_put (x ∷ xs) h = one_end_put xs h.1
+
+-- where the end is
+pub data End_at {T C O : Type 0} (v : World T C O) : Type 0 where
+  In_input_still : Ends_last v.input → Each Not_end v.sc → v.ct.ended ≡ false → End_at v
+  On_link : v.input ≡ [] → One_end v.sc → v.ct.ended ≡ false → End_at v
+  Has_come : v.input ≡ [] → Each Not_end v.sc → v.ct.ended ≡ true → End_at v
+
+module _ {U T C R O : Type 0} (S : System U T C R O) where
+  pub quiet_copied : (o : Observer U) (xs : List (Msg C)) → Each (On_sc S) xs → Each Quiet xs → copied (read (item S o) xs) ≡ []
+  quiet_copied o [] l h = refl
+  quiet_copied o (Start ∷ xs) l h = quiet_copied o xs l.1 h.1
+  quiet_copied o (Laid high ∷ xs) l h = quiet_copied o xs l.1 h.1
+  quiet_copied o (Copied p ∷ xs) l h = absurd h.0
+  quiet_copied o (End ∷ xs) l h = absurd h.0
+  quiet_copied o (x ∷ xs) l h = absurd l.0
+
+  -- arrivals
+  goes_notes : (t : Target) (s : Switch) (p : ℕ) → read arrived (goes S t s p).notes ≡ p ∷ []
+  goes_notes To_a s p = refl
+  goes_notes To_both s p = refl
+  goes_notes To_b s p = refl
+
+  lay_notes : (high : Bool) → read (arrived {O = O}) ((if high then Tables.High else Tables.Low) ∷ []) ≡ []
+  lay_notes true = refl
+  lay_notes false = refl
+
+  in_notes : (s : Switch) (m : Msg C) → In_input S m → takes_in S s m ≡ true → read arrived (switch_step S s m).notes ≡ comes In m
+  in_notes s (In_packet p) h ready = rw ready (goes_notes (if S.covers p then s.target else To_a) s p)
+  in_notes s In_start h ready = refl
+  in_notes s In_end h ready = refl
+  in_notes s m h ready = absurd h
+
+  cs_notes : (s : Switch) (m : Msg C) → On_cs S m → read arrived (switch_step S s m).notes ≡ []
+  cs_notes s (Forward p) h = refl
+  cs_notes s (Lay true) h = refl
+  cs_notes s (Lay false) h = refl
+  cs_notes s (Finish to) h = refl
+  cs_notes s m h = absurd h
+
+  back_notes : (s : Switch) (m : Msg C) → On_back S m → read arrived (switch_step S s m).notes ≡ []
+  back_notes s (Credit p) h = refl
+  back_notes s m h = absurd h
+
+  all_notes : (n : ℕ) (i : Inst T) (ps : List ℕ) → read arrived (all_processed S n i ps).notes ≡ []
+  all_notes n i [] = refl
+  all_notes n i (p ∷ ps) = all_notes n (processed S n i p).node ps
+
+  ruled_notes : (r : Rule) (n : ℕ) (i : Inst T) (p : ℕ) → read arrived (ruled S r n i p).notes ≡ []
+  ruled_notes Free n i p = refl
+  ruled_notes Drops n i p = refl
+  ruled_notes Buffers n i p = refl
+
+  pub inst_notes : (n : ℕ) (i : Inst T) (m : Msg C) → read arrived (inst_step S n i m).notes ≡ []
+  inst_notes n i (Carry p) =
+      elim (S.covers p) as (λ b. read arrived (if b then ruled S i.rule n i p else processed S n i p).notes ≡ []) [
+        | true ↦ ruled_notes i.rule n i p
+        | false ↦ refl
+      ]
+  inst_notes n i Fence = all_notes n (record i { rule = Free; held = [] }) i.held
+  inst_notes n i m = refl
+
+  abbrev pub Ready : Place → World T C O → Msg C → Type 0
+  Ready In v m = takes_in S v.sw m ≡ true
+  Ready pl v m = Unit {0}
+
+  pub arrivals : (pl : Place) (v : World T C O) (m : Msg C) (rest : List (Msg C)) → Label S pl m → Ready pl v m → IsSelected S v.ct.kept
+      → read arrived (result S pl (with_waits S pl rest v) m).log ≡ read arrived v.log ++ comes pl m
+  arrivals In v m rest h ready k = read-append arrived v.log (switch_step S v.sw m).notes ∙ ap (λ xs. read arrived v.log ++ xs) (in_notes v.sw m h ready)
+  arrivals Cs v m rest h ready k = read-append arrived v.log (switch_step S v.sw m).notes ∙ ap (λ xs. read arrived v.log ++ xs) (cs_notes v.sw m h)
+  arrivals Aw v m rest h ready k = read-append arrived v.log (switch_step S v.sw m).notes ∙ ap (λ xs. read arrived v.log ++ xs) (back_notes v.sw m h)
+  arrivals Bw v m rest h ready k = read-append arrived v.log (switch_step S v.sw m).notes ∙ ap (λ xs. read arrived v.log ++ xs) (back_notes v.sw m h)
+  arrivals Sc v m rest h ready k =
+      read-append arrived v.log (ctrl_step S v.ct 0 m).notes ∙ ap (λ xs. read arrived v.log ++ xs) (ctrl_ok S v.ct 0 m k (gives_sc S m h)).quiet
+  arrivals Ac v m rest h ready k =
+      read-append arrived v.log (ctrl_step S v.ct 2 m).notes ∙ ap (λ xs. read arrived v.log ++ xs) (ctrl_ok S v.ct 2 m k (gives_ac S m h)).quiet
+  arrivals Bc v m rest h ready k =
+      read-append arrived v.log (ctrl_step S v.ct 3 m).notes ∙ ap (λ xs. read arrived v.log ++ xs) (ctrl_ok S v.ct 3 m k (gives_bc S m h)).quiet
+  arrivals Sa v m rest h ready k = read-append arrived v.log (inst_step S 0 v.a m).notes ∙ ap (λ xs. read arrived v.log ++ xs) (inst_notes 0 v.a m)
+  arrivals Ca v m rest h ready k = read-append arrived v.log (inst_step S 0 v.a m).notes ∙ ap (λ xs. read arrived v.log ++ xs) (inst_notes 0 v.a m)
+  arrivals Sb v m rest h ready k = read-append arrived v.log (inst_step S 1 v.b m).notes ∙ ap (λ xs. read arrived v.log ++ xs) (inst_notes 1 v.b m)
+  arrivals Cb v m rest h ready k = read-append arrived v.log (inst_step S 1 v.b m).notes ∙ ap (λ xs. read arrived v.log ++ xs) (inst_notes 1 v.b m)
+
+  -- the end
+  goes_sc : (t : Target) (s : Switch) (p : ℕ) → Each Not_end (sent 1 (goes S t s p).sends)
+  goes_sc To_a s p = tt
+  goes_sc To_both s p = (tt, tt)
+  goes_sc To_b s p = tt
+
+  end_in : (v : World T C O) (m : Msg C) (rest : List (Msg C)) → In_input S m → takes_in S v.sw m ≡ true → End_at (with_waits S In (m ∷ rest) v)
+      → End_at (result S In (with_waits S In rest v) m)
+  end_in v (In_packet p) rest h ready (In_input_still last none not_yet) =
+      In_input_still last
+      (each-append Not_end v.sc (sent 1 (switch_step S v.sw (In_packet p)).sends) none
+      (rw ready (goes_sc (if S.covers p then v.sw.target else To_a) v.sw p)))
+      not_yet
+  end_in v In_start rest h ready (In_input_still last none not_yet) = In_input_still last (each-append Not_end v.sc (Start ∷ []) none (tt, tt)) not_yet
+  end_in v In_end [] h ready (In_input_still last none not_yet) = On_link refl (one_end_put v.sc none) not_yet
+  end_in v In_end (x ∷ rest) h ready (In_input_still last none not_yet) = absurd last
+  end_in v m rest h ready (In_input_still last none not_yet) = absurd h
+  end_in v m rest h ready (On_link none one not_yet) = cc
+  end_in v m rest h ready (Has_come none no_end has) = cc
+
+  -- what the switch sends the controller otherwise says nothing of the end
+  quiet_cs : (s : Switch) (m : Msg C) → On_cs S m → Each Quiet (sent 1 (switch_step S s m).sends)
+  quiet_cs s (Forward p) h = tt
+  quiet_cs s (Lay high) h = (tt, tt)
+  quiet_cs s (Finish to) h = by (to == 0)
+    where
+      by : (b : Bool) → Each Quiet (sent {M = Msg C} 1 ((if b then 2 else 3, Stop) ∷ []))
+      by true = tt
+      by false = tt
+  quiet_cs s m h = absurd h
+
+  not_end : (xs : List (Msg C)) → Each (On_sc S) xs → Each Quiet xs → Each Not_end xs
+  not_end [] l h = tt
+  not_end (End ∷ xs) l h = absurd h.0
+  not_end (x ∷ xs) l h = (tt, not_end xs l.1 h.1)
+
+  more_sc : (v w : World T C O) (xs : List (Msg C)) → Each (On_sc S) xs → Each Quiet xs → w.input ≡ v.input → w.sc ≡ v.sc ++ xs → w.ct.ended ≡ v.ct.ended
+      → End_at v → End_at w
+  more_sc v w xs l q input sc ended (In_input_still last none not_yet) =
+      In_input_still (rw input last) (rw sc (each-append Not_end v.sc xs none (not_end xs l q))) (ended ∙ not_yet)
+  more_sc v w xs l q input sc ended (On_link none one not_yet) = On_link (input ∙ none) (rw sc (one_end_more v.sc xs one q)) (ended ∙ not_yet)
+  more_sc v w xs l q input sc ended (Has_come none no_end has) =
+      Has_come (input ∙ none) (rw sc (each-append Not_end v.sc xs no_end (not_end xs l q))) (ended ∙ has)
+
+  same_sc : (v w : World T C O) → w.input ≡ v.input → w.sc ≡ v.sc → w.ct.ended ≡ v.ct.ended → End_at v → End_at w
+  same_sc v w input sc ended h = more_sc v w [] tt tt input (sc ∙ sym (append-nil v.sc)) ended h
+
+  end_sc : (v : World T C O) (m : Msg C) (rest : List (Msg C)) → On_sc S m → IsSelected S v.ct.kept → End_at (with_waits S Sc (m ∷ rest) v)
+      → End_at (result S Sc (with_waits S Sc rest v) m)
+  end_sc v End rest h k (In_input_still last none not_yet) = absurd none.0
+  end_sc v End rest h k (On_link none one not_yet) = Has_come none (quiet_not rest one) (ctrl_ok S v.ct 0 End k tt).ended
+    where
+      quiet_not : (xs : List (Msg C)) → Each Quiet xs → Each Not_end xs
+      quiet_not [] h = tt
+      quiet_not (End ∷ xs) h = absurd h.0
+      quiet_not (x ∷ xs) h = (tt, quiet_not xs h.1)
+  end_sc v End rest h k (Has_come none no_end has) = absurd no_end.0
+  end_sc v Start rest h k (In_input_still last none not_yet) = In_input_still last none.1 ((ctrl_ok S v.ct 0 Start k tt).ended ∙ not_yet)
+  end_sc v Start rest h k (On_link none one not_yet) = On_link none one ((ctrl_ok S v.ct 0 Start k tt).ended ∙ not_yet)
+  end_sc v Start rest h k (Has_come none no_end has) = Has_come none no_end.1 ((ctrl_ok S v.ct 0 Start k tt).ended ∙ has)
+  end_sc v (Copied p) rest h k (In_input_still last none not_yet) = In_input_still last none.1 ((ctrl_ok S v.ct 0 (Copied p) k tt).ended ∙ not_yet)
+  end_sc v (Copied p) rest h k (On_link none one not_yet) = On_link none one ((ctrl_ok S v.ct 0 (Copied p) k tt).ended ∙ not_yet)
+  end_sc v (Copied p) rest h k (Has_come none no_end has) = Has_come none no_end.1 ((ctrl_ok S v.ct 0 (Copied p) k tt).ended ∙ has)
+  end_sc v (Laid high) rest h k (In_input_still last none not_yet) = In_input_still last none.1 ((ctrl_ok S v.ct 0 (Laid high) k tt).ended ∙ not_yet)
+  end_sc v (Laid high) rest h k (On_link none one not_yet) = On_link none one ((ctrl_ok S v.ct 0 (Laid high) k tt).ended ∙ not_yet)
+  end_sc v (Laid high) rest h k (Has_come none no_end has) = Has_come none no_end.1 ((ctrl_ok S v.ct 0 (Laid high) k tt).ended ∙ has)
+  end_sc v m rest h k e = absurd h
+
+  quiet_back : (s : Switch) (m : Msg C) → On_back S m → sent 1 (switch_step S s m).sends ≡ []
+  quiet_back s (Credit p) h = refl
+  quiet_back s m h = absurd h
+
+  ended_ac : (m : Msg C) (c : Ctrl C) (port : ℕ) → IsSelected S c.kept → On_ac S m → (ctrl_step S c port m).node.ended ≡ c.ended
+  ended_ac Enabled c port k h = (ctrl_ok S c port Enabled k tt).ended
+  ended_ac (Chunks cs) c port k h = (ctrl_ok S c port (Chunks cs) k h).ended
+  ended_ac Deleted c port k h = (ctrl_ok S c port Deleted k tt).ended
+  ended_ac (Event p) c port k h = (ctrl_ok S c port (Event p) k tt).ended
+  ended_ac Final c port k h = (ctrl_ok S c port Final k tt).ended
+  ended_ac m c port k h = absurd h
+
+  ended_bc : (m : Msg C) (c : Ctrl C) (port : ℕ) → IsSelected S c.kept → On_bc S m → (ctrl_step S c port m).node.ended ≡ c.ended
+  ended_bc Restored c port k h = (ctrl_ok S c port Restored k tt).ended
+  ended_bc Enabled c port k h = (ctrl_ok S c port Enabled k tt).ended
+  ended_bc Fenced c port k h = (ctrl_ok S c port Fenced k tt).ended
+  ended_bc (Seen p) c port k h = (ctrl_ok S c port (Seen p) k tt).ended
+  ended_bc Final c port k h = (ctrl_ok S c port Final k tt).ended
+  ended_bc m c port k h = absurd h
+
+  on_sc_cs : (s : Switch) (m : Msg C) → On_cs S m → Each (On_sc S) (sent 1 (switch_step S s m).sends)
+  on_sc_cs s (Forward p) h = tt
+  on_sc_cs s (Lay high) h = (tt, tt)
+  on_sc_cs s (Finish to) h = by (to == 0)
+    where
+      by : (b : Bool) → Each (On_sc S) (sent {M = Msg C} 1 ((if b then 2 else 3, Stop) ∷ []))
+      by true = tt
+      by false = tt
+  on_sc_cs s m h = absurd h
+
+  pub end_goes : (pl : Place) (v : World T C O) (m : Msg C) (rest : List (Msg C)) → Label S pl m → Ready pl v m → IsSelected S v.ct.kept
+      → End_at (with_waits S pl (m ∷ rest) v) → End_at (result S pl (with_waits S pl rest v) m)
+  end_goes In v m rest h ready k e = end_in v m rest h ready e
+  end_goes Cs v m rest h ready k e =
+      more_sc (with_waits S Cs (m ∷ rest) v) (result S Cs (with_waits S Cs rest v) m) (sent 1 (switch_step S v.sw m).sends) (on_sc_cs v.sw m h)
+      (quiet_cs v.sw m h) refl refl refl e
+  end_goes Aw v m rest h ready k e =
+      let none = quiet_back v.sw m h in
+      same_sc (with_waits S Aw (m ∷ rest) v) (result S Aw (with_waits S Aw rest v) m) refl (rw none (append-nil v.sc)) refl e
+  end_goes Bw v m rest h ready k e =
+      let none = quiet_back v.sw m h in
+      same_sc (with_waits S Bw (m ∷ rest) v) (result S Bw (with_waits S Bw rest v) m) refl (rw none (append-nil v.sc)) refl e
+  end_goes Sc v m rest h ready k e = end_sc v m rest h k e
+  end_goes Ac v m rest h ready k e = same_sc (with_waits S Ac (m ∷ rest) v) (result S Ac (with_waits S Ac rest v) m) refl refl (ended_ac m v.ct 2 k h) e
+  end_goes Bc v m rest h ready k e = same_sc (with_waits S Bc (m ∷ rest) v) (result S Bc (with_waits S Bc rest v) m) refl refl (ended_bc m v.ct 3 k h) e
+  end_goes Sa v m rest h ready k e = same_sc (with_waits S Sa (m ∷ rest) v) (result S Sa (with_waits S Sa rest v) m) refl refl refl e
+  end_goes Ca v m rest h ready k e = same_sc (with_waits S Ca (m ∷ rest) v) (result S Ca (with_waits S Ca rest v) m) refl refl refl e
+  end_goes Sb v m rest h ready k e = same_sc (with_waits S Sb (m ∷ rest) v) (result S Sb (with_waits S Sb rest v) m) refl refl refl e
+  end_goes Cb v m rest h ready k e = same_sc (with_waits S Cb (m ∷ rest) v) (result S Cb (with_waits S Cb rest v) m) refl refl refl e

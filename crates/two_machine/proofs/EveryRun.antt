@@ -1,0 +1,333 @@
+-- Parts (1) and (3) of the theorem: order, each packet at most once, true outputs, Low before High, for every run.
+use Rattle.std.proofs.Common.{◌≡◌, ◌≤◌, ℕ, ◌+◌, Bool, true, false, Option, Some, None, List, [], ◌∷◌, ◌++◌, refl, sym, ap, subst, ◌∙◌, append_assoc, arith}
+use Rattle.std.specs.Prelude.{if◌then◌else◌, ◌==◌}
+use Rattle.std.proofs.lemmas.Bool.{false≢true}
+use Rattle.std.proofs.lemmas.Bool.Decides.{nat_tests, Decides-eqb}
+use Rattle.actor_net.specs.declared.choice.Choice.{Choice}
+use Rattle.actor_net.specs.Network.{Network, is_enabled, taken, run, IsRun}
+use Rattle.two_machine.proofs.Machine.{folded}
+use Rattle.two_machine.proofs.Stages.{Stage, Before, Storing, Passing, Turned, Ends, done, path, Rises}
+use Rattle.two_machine.proofs.Tables.{System, Laws, Msg, Note, Node, Arrived, Processed, Low, High, Done, No_packet, node_step, node_ready}
+use Rattle.two_machine.proofs.View.{World, net, read, those, those-append, carries, arrived, ran, Observer, Nobody, Of_unit, IsTaken, frame}
+use Rattle.two_machine.proofs.Places.{Place, choice, with_waits, result}
+use Rattle.two_machine.proofs.Arrivals.{coming, Ready}
+use Rattle.two_machine.proofs.Runs.{Holds, known, keeps, next_equal}
+use Rattle.two_machine.proofs.Outputs.{mine, its_frame, told, due, IsRight, right_keeps, cover_mine}
+use Rattle.two_machine.proofs.Untaken.{Stays, stays_keeps}
+use Rattle.two_machine.proofs.Closing.{Unsent, Closing}
+use Rattle.two_machine.proofs.Promises.{times, IsFront, processed, of_unit, fold, outputs, given, start, LeadsTo, Every}
+use Rattle.two_machine.proofs.Scans.{scan_right, low_before_high, is_wrong}
+use Rattle.two_machine.proofs.Shapes.{shape}
+use Rattle.two_machine.proofs.TakenMessages.{finds, labels_less, written, kept_there}
+use Rattle.two_machine.proofs.Starts.{first_world, opens, first_holds, every_run}
+use Rattle.two_machine.proofs.ClosingPlaces.{closing_keeps}
+
+-- what holds besides of every world of a run
+module _ {U T C R O : Type 0} (S : System U T C R O) (laws : Laws S) (o : Observer U) (its : IsTaken S o) (all : List ℕ) (rises : Rises 0 all)
+    (Q : World T C O → Type 0)
+    (goes : (pl : Place) (v : World T C O) (x : Msg C) (rest : List (Msg C)) → Ready S pl v x → Holds S laws o its all rises (with_waits S pl (x ∷ rest) v)
+    → Q (with_waits S pl (x ∷ rest) v) → Q (result S pl (with_waits S pl rest v) x))
+  where
+    pub record ReachedWith (w : Network (Node T C) (Msg C) (Note O)) : Type 0 where
+      pub world : World T C O
+      pub is : w ≡ net world
+      pub holds : Holds S laws o its all rises world
+      pub more : Q world
+
+    next_with : (pl : Place) (v : World T C O) (x : Msg C) (rest : List (Msg C)) → Ready S pl v x
+        → Holds S laws o its all rises (with_waits S pl (x ∷ rest) v) → Q (with_waits S pl (x ∷ rest) v)
+        → ReachedWith (taken (node_step S) (net (with_waits S pl (x ∷ rest) v)) (choice pl))
+    next_with pl v x rest ready h q = record {
+      world = result S pl (with_waits S pl rest v) x;
+      is = next_equal S laws o its all rises pl v x rest h;
+      holds = keeps S laws o its all rises pl v x rest ready h;
+      more = goes pl v x rest ready h q;
+    }
+
+    step_with : (v : World T C O) (c : Choice) → Holds S laws o its all rises v → Q v → is_enabled (node_ready S) (net v) c ≡ true
+        → ReachedWith (taken (node_step S) (net v) c)
+    step_with v c h q on =
+        let took = finds S v c.node c.port on in
+        let wrote = written S took.place v (took.message ∷ took.rest) took.waits_is in
+        let holds : Holds S laws o its all rises (with_waits S took.place (took.message ∷ took.rest) v) = subst (Holds S laws o its all rises) wrote h in
+        let more : Q (with_waits S took.place (took.message ∷ took.rest) v) = subst Q wrote q in
+        let next = next_with took.place v took.message took.rest took.ready holds more in
+        let at : c ≡ choice took.place = took.is in
+        subst (λ y. ReachedWith (taken (node_step S) (net v) y)) (sym at)
+        (subst (λ y. ReachedWith (taken (node_step S) (net y) (choice took.place))) (sym wrote) next)
+
+    pub reach_with : (cs : List Choice) (w : Network (Node T C) (Msg C) (Note O)) → ReachedWith w → IsRun (node_ready S) (node_step S) cs w
+        → ReachedWith (run (node_step S) cs w)
+    reach_with [] w r is = r
+    reach_with (c ∷ cs) w r is =
+        let here = r.is in
+        let on : is_enabled (node_ready S) (net r.world) c ≡ true = subst (λ y. is_enabled (node_ready S) y c ≡ true) here is.0 in
+        reach_with cs (taken (node_step S) w c) (subst (λ y. ReachedWith (taken (node_step S) y c)) (sym here) (step_with r.world c r.holds r.more on)) is.1
+
+pub first_closing : {U T C R O : Type 0} (S : System U T C R O) (window : ℕ) (early late : List ℕ) → Closing S (first_world S window early late)
+first_closing S window early late =
+    record {
+      at = Unsent;
+      cs = refl;
+      sa = refl;
+      sb = refl;
+      ac = refl;
+      bc = refl;
+      finished = refl;
+      stopped = refl;
+      a = refl;
+      b = refl;
+      closed = refl;
+      over = refl;
+    }
+
+-- lists of numbers
+times_front : (p : ℕ) (xs ys : List ℕ) → times p xs ≤ times p (xs ++ ys)
+times_front p [] ys = omega arith
+times_front p (x ∷ xs) ys = omega (arith, times_front p xs ys)
+
+times_below : (p n : ℕ) (xs : List ℕ) → p ≤ n → Rises n xs → times p xs ≡ 0
+times_below p n [] less h = refl
+times_below p n (x ∷ xs) less h =
+    let rest = times_below p x xs (omega (arith, less, h.0)) h.1 in
+    let other : (p == x) ≡ false = grind (arith, nat_tests, less, h.0) in
+    rw other (omega (arith, rest))
+
+times_once : (p n : ℕ) (xs : List ℕ) → Rises n xs → times p xs ≤ 1
+times_once p n [] h = omega arith
+times_once p n (x ∷ xs) h =
+    elim (p == x) as (λ b. (p == x) ≡ b → (if b then 1 else 0) + times p xs ≤ 1) [
+      | true ↦ λ e. let same : p ≡ x = (Decides-eqb p x).0 e in let rest = times_below p x xs (omega (arith, same)) h.1 in omega (arith, rest)
+      | false ↦ λ _. omega (arith, times_once p x xs h.1)
+    ] refl
+
+pub ran_is : {O : Type 0} (ns : List (Note O)) → processed ns ≡ read ran ns
+ran_is [] = refl
+ran_is (Processed p i o ∷ ns) = ap (λ xs. p ∷ xs) (ran_is ns)
+ran_is (Arrived p ∷ ns) = ran_is ns
+ran_is (Low ∷ ns) = ran_is ns
+ran_is (High ∷ ns) = ran_is ns
+ran_is (Done ∷ ns) = ran_is ns
+ran_is (No_packet ∷ ns) = ran_is ns
+
+module _ {U T C R O : Type 0} (S : System U T C R O) (laws : Laws S) (window : ℕ) (early late : List ℕ) (rises : Rises 0 (early ++ late)) (u : U) where
+  abbrev its_own : List ℕ → List ℕ
+  its_own ps = of_unit S u ps
+
+  pub own_is : (ps : List ℕ) → of_unit S u ps ≡ those (mine S laws u) ps
+  own_is [] = refl
+  own_is (p ∷ ps) = ap (λ xs. if S.equal (S.unit_of p) u then p ∷ xs else xs) (own_is ps)
+
+  given_is : (ns : List (Note O)) → given S u ns ≡ told S laws u ns
+  given_is [] = refl
+  given_is (Processed p i o ∷ ns) = ap (λ xs. if S.equal (S.unit_of p) u then o ∷ xs else xs) (given_is ns)
+  given_is (Arrived p ∷ ns) = given_is ns
+  given_is (Low ∷ ns) = given_is ns
+  given_is (High ∷ ns) = given_is ns
+  given_is (Done ∷ ns) = given_is ns
+  given_is (No_packet ∷ ns) = given_is ns
+
+  due_is : (r : Option R) (ps : List ℕ) → due S laws u r ps ≡ outputs S r (of_unit S u ps)
+  due_is r [] = refl
+  due_is r (p ∷ ps) = by (S.equal (S.unit_of p) u) (due_is (Some (S.step r p)) ps) (due_is r ps)
+    where
+      by : (b : Bool) → due S laws u (Some (S.step r p)) ps ≡ outputs S (Some (S.step r p)) (of_unit S u ps)
+          → due S laws u r ps ≡ outputs S r (of_unit S u ps)
+          → (if b then S.output r p ∷ due S laws u (Some (S.step r p)) ps else due S laws u r ps)
+          ≡ outputs S r (if b then p ∷ of_unit S u ps else of_unit S u ps)
+      by true h k = ap (λ xs. S.output r p ∷ xs) h
+      by false h k = k
+
+  pub fold_is : (r : Option R) (ps : List ℕ) → folded (its_frame S laws u) r ps ≡ fold S r (of_unit S u ps)
+  fold_is r [] = refl
+  fold_is r (p ∷ ps) = by (S.equal (S.unit_of p) u) (fold_is (Some (S.step r p)) ps) (fold_is r ps)
+    where
+      by : (b : Bool) → folded (its_frame S laws u) (Some (S.step r p)) ps ≡ fold S (Some (S.step r p)) (of_unit S u ps)
+          → folded (its_frame S laws u) r ps ≡ fold S r (of_unit S u ps)
+          → folded (its_frame S laws u) (if b then Some (S.step r p) else r) ps
+          ≡ fold S r (if b then p ∷ of_unit S u ps else of_unit S u ps)
+      by true h k = h
+      by false h k = k
+
+  -- the unit's packets are among those that the filter matches
+  pub own_those : S.takes u ≡ true → (ps : List ℕ) → those (mine S laws u) (those S.covers ps) ≡ those (mine S laws u) ps
+  own_those its [] = refl
+  own_those its (p ∷ ps) = by (S.covers p) refl (own_those its ps)
+    where
+      both : (b : Bool) → mine S laws u p ≡ b → S.covers p ≡ false
+          → (if b then p ∷ those (mine S laws u) ps else those (mine S laws u) ps) ≡ those (mine S laws u) ps
+      both true e off = absurd (false≢true (sym off ∙ cover_mine S laws u its p e))
+      both false e off = refl
+
+      by : (b : Bool) → S.covers p ≡ b → those (mine S laws u) (those S.covers ps) ≡ those (mine S laws u) ps
+          → those (mine S laws u) (if b then p ∷ those S.covers ps else those S.covers ps)
+          ≡ (if mine S laws u p then p ∷ those (mine S laws u) ps else those (mine S laws u) ps)
+      by true e h = ap (λ xs. if mine S laws u p then p ∷ xs else xs) h
+      by false e h = h ∙ sym (both (mine S laws u p) refl e)
+
+  -- what is known of a unit in any world of a run
+  pub record Unit_facts (w : Network (Node T C) (Msg C) (Note O)) : Type 0 where
+    pub front : IsFront (of_unit S u (processed w.log)) (of_unit S u (early ++ late))
+    pub answers : given S u w.log ≡ outputs S None (of_unit S u (processed w.log))
+
+  -- from an order in the words of the invariant
+  front_from : (log : List (Note O)) (input waiting : List ℕ) → those (mine S laws u) (read ran log) ++ waiting ≡ those (mine S laws u) (read arrived log)
+      → read arrived log ++ input ≡ early ++ late → IsFront (of_unit S u (processed log)) (of_unit S u (early ++ late))
+  front_from log input waiting order are = record {
+    rest = waiting ++ those (mine S laws u) input;
+    whole =
+        ap (λ xs. xs ++ (waiting ++ those (mine S laws u) input)) (own_is (processed log) ∙ ap (those (mine S laws u)) (ran_is log))
+        ∙ sym (append_assoc (those (mine S laws u) (read ran log)) waiting (those (mine S laws u) input))
+        ∙ ap (λ xs. xs ++ those (mine S laws u) input) order
+        ∙ sym (those-append (mine S laws u) (read arrived log) input)
+        ∙ ap (those (mine S laws u)) are
+        ∙ sym (own_is (early ++ late));
+  }
+
+  answers_from : (log : List (Note O)) → IsRight S laws u log
+      → given S u log ≡ outputs S None (of_unit S u (processed log))
+  answers_from log right =
+      given_is log ∙ right ∙ due_is None (read ran log) ∙ ap (λ xs. outputs S None (of_unit S u xs)) (sym (ran_is log))
+
+  pub done_is : (o : Observer U) (s : Stage) → done s ≡ (shape (frame S o) s).done
+  done_is o (Before n d l b) = refl
+  done_is o (Storing n d f e l b) = refl
+  done_is o (Passing n d s z x g e l t c b) = refl
+  done_is o (Turned n d s z x g e l t c h y b) = refl
+  done_is o (Ends n d s t h y b) = refl
+
+  abbrev pub WithRight : S.takes u ≡ true → Network (Node T C) (Msg C) (Note O) → Type 0
+  WithRight its w =
+      ReachedWith S laws (Of_unit u) its (early ++ late) rises (λ v. IsRight S laws u v.log × Closing S v)
+      (λ pl v x rest ready h q.
+      (right_keeps S laws u its (early ++ late) rises pl v x rest h q.0, closing_keeps S pl v x rest (labels_less S pl v x rest h.labels).0 q.1))
+      w
+
+  abbrev pub WithStays : S.takes u ≡ false → Network (Node T C) (Msg C) (Note O) → Type 0
+  WithStays not_its w =
+      ReachedWith S laws Nobody tt (early ++ late) rises (λ v. Stays S laws u not_its v × Closing S v)
+      (λ pl v x rest ready h q. (
+        stays_keeps S laws u not_its pl v x rest (labels_less S pl v x rest h.labels).0 ready (kept_there S pl v (x ∷ rest) h.labels)
+            (known S laws Nobody tt (early ++ late) rises (with_waits S pl (x ∷ rest) v) h) q.0,
+        closing_keeps S pl v x rest
+            (labels_less S pl v x rest h.labels).0 q.1,
+      ))
+      w
+
+  pub taken_run : (its : S.takes u ≡ true) (cs : List Choice) → IsRun (node_ready S) (node_step S) cs (start S window early late)
+      → WithRight its (run (node_step S) cs (start S window early late))
+  taken_run its cs is =
+      reach_with S laws (Of_unit u) its (early ++ late) rises (λ v. IsRight S laws u v.log × Closing S v)
+      (λ pl v x rest ready h q.
+      (right_keeps S laws u its (early ++ late) rises pl v x rest h q.0, closing_keeps S pl v x rest (labels_less S pl v x rest h.labels).0 q.1))
+      cs (start S window early late)
+      (record {
+        world = first_world S window early late;
+        is = opens S window early late;
+        holds = first_holds S laws (Of_unit u) its window early late rises;
+        more = (refl, first_closing S window early late);
+      })
+      is
+
+  pub untaken_run : (not_its : S.takes u ≡ false) (cs : List Choice) → IsRun (node_ready S) (node_step S) cs (start S window early late)
+      → WithStays not_its (run (node_step S) cs (start S window early late))
+  untaken_run not_its cs is =
+      reach_with S laws Nobody tt (early ++ late) rises (λ v. Stays S laws u not_its v × Closing S v)
+      (λ pl v x rest ready h q. (
+        stays_keeps S laws u not_its pl v x rest (labels_less S pl v x rest h.labels).0 ready (kept_there S pl v (x ∷ rest) h.labels)
+            (known S laws Nobody tt (early ++ late) rises (with_waits S pl (x ∷ rest) v) h) q.0,
+        closing_keeps S pl v x rest
+            (labels_less S pl v x rest h.labels).0 q.1,
+      ))
+      cs (start S window early late)
+      (record {
+        world = first_world S window early late;
+        is = opens S window early late;
+        holds = first_holds S laws Nobody tt window early late rises;
+        more = (record { a_is = laws.nothing u; b_is = laws.nothing u; order = refl; right = refl }, first_closing S window early late);
+      })
+      is
+
+  pub facts_taken : (its : S.takes u ≡ true) (w : Network (Node T C) (Msg C) (Note O)) → WithRight its w → Unit_facts w
+  facts_taken its w r =
+      let here = r.is in
+      let v = r.world in
+      let h = r.holds in
+      let dones : done h.stage ≡ those S.covers (read ran v.log) = done_is (Of_unit u) h.stage ∙ sym (ap (λ x. x.done) h.alike) in
+      let order : those (mine S laws u) (read ran v.log) ++ those (mine S laws u) (path h.stage) ≡ those (mine S laws u) (read arrived v.log) =
+      ap (λ xs. xs ++ those (mine S laws u) (path h.stage)) (sym (own_those its (read ran v.log)) ∙ ap (those (mine S laws u)) (sym dones))
+      ∙ sym (those-append (mine S laws u) (done h.stage) (path h.stage))
+      ∙ ap (those (mine S laws u)) h.order
+      ∙ own_those its (read arrived v.log)
+      in
+      rw here
+      (record {
+        front = front_from v.log (read coming v.input) (those (mine S laws u) (path h.stage)) order h.arrivals_are;
+        answers = answers_from v.log r.more.0;
+      })
+
+  pub facts_untaken : (not_its : S.takes u ≡ false) (w : Network (Node T C) (Msg C) (Note O)) → WithStays not_its w → Unit_facts w
+  facts_untaken not_its w r =
+      let here = r.is in
+      let v = r.world in
+      rw here
+      (record {
+        front = front_from v.log (read coming v.input) (those (mine S laws u) (read carries v.sa)) r.more.0.order r.holds.arrivals_are;
+        answers = answers_from v.log r.more.0.right;
+      })
+
+  pub unit_facts : (cs : List Choice) → IsRun (node_ready S) (node_step S) cs (start S window early late)
+      → Unit_facts (run (node_step S) cs (start S window early late))
+  unit_facts cs is = by (S.takes u) refl
+    where
+      by : (b : Bool) → S.takes u ≡ b → Unit_facts (run (node_step S) cs (start S window early late))
+      by true e = facts_taken e (run (node_step S) cs (start S window early late)) (taken_run e cs is)
+      by false e = facts_untaken e (run (node_step S) cs (start S window early late)) (untaken_run e cs is)
+
+  -- a packet of the unit stands as often among the unit's packets
+  times_own : (p : ℕ) → S.equal (S.unit_of p) u ≡ true → (ps : List ℕ) → times p (of_unit S u ps) ≡ times p ps
+  times_own p own [] = refl
+  times_own p own (q ∷ ps) = by (S.equal (S.unit_of q) u) refl (times_own p own ps)
+    where
+      apart : S.equal (S.unit_of q) u ≡ false → (b : Bool) → (p == q) ≡ b → b ≡ false
+      apart off true e = let same : p ≡ q = (Decides-eqb p q).0 e in absurd (false≢true (sym off ∙ subst (λ x. S.equal (S.unit_of x) u ≡ true) same own))
+      apart off false e = refl
+
+      by : (b : Bool) → S.equal (S.unit_of q) u ≡ b → times p (of_unit S u ps) ≡ times p ps
+          → times p (if b then q ∷ of_unit S u ps else of_unit S u ps) ≡ (if p == q then 1 else 0) + times p ps
+      by true e h = ap (λ k. (if p == q then 1 else 0) + k) h
+      by false e h = let other = apart e (p == q) refl in rw other (h ∙ omega arith)
+
+module _ {U T C R O : Type 0} (S : System U T C R O) (laws : Laws S) (window : ℕ) (early late : List ℕ) (rises : Rises 0 (early ++ late)) where
+  once_of : (p : ℕ) (w : Network (Node T C) (Msg C) (Note O)) → Unit_facts S laws window early late rises (S.unit_of p) w → times p (processed w.log) ≤ 1
+  once_of p w facts =
+      let u = S.unit_of p in
+      let own = laws.itself u in
+      let front = facts.front in
+      let left = times_own S laws window early late rises u p own (processed w.log) in
+      let right = times_own S laws window early late rises u p own (early ++ late) in
+      let part = times_front p (of_unit S u (processed w.log)) front.rest in
+      let whole = ap (times p) front.whole in
+      let one = times_once p 0 (early ++ late) rises in
+      omega (arith, left, right, part, whole, one)
+
+  -- parts (1) and (3)
+  pub every : (cs : List Choice) (w : Network (Node T C) (Msg C) (Note O)) → LeadsTo S window early late cs w → Every S window early late w
+  every cs w leads =
+      let reached = leads.reached in
+      let facts : (u : U) → Unit_facts S laws window early late rises u w =
+      λ u. subst (Unit_facts S laws window early late rises u) (sym reached) (unit_facts S laws window early late rises u cs leads.is_run) in
+      let nobody = every_run S laws Nobody tt window early late rises cs leads.is_run in
+      let world = reached ∙ nobody.is in
+      let right =
+      subst (λ x. is_wrong x.scan ≡ false) (sym nobody.holds.alike) (scan_right (frame S Nobody) nobody.holds.stage) in
+      record {
+        in_turn = record {
+          rest = read coming nobody.world.input;
+          whole = ap (λ x. read arrived x.log ++ read coming nobody.world.input) world ∙ nobody.holds.arrivals_are;
+        };
+        front = λ u. (facts u).front;
+        once = λ p. once_of p w (facts (S.unit_of p));
+        answers = λ u. (facts u).answers;
+        laid = record { between = λ before after is. low_before_high S nobody.world.log right before after (sym (ap (λ x. x.log) world) ∙ is) };
+      }

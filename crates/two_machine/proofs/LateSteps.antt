@@ -1,0 +1,379 @@
+-- Each step from a stage from the low rule on leads to a stage, in order.
+use Rattle.std.proofs.Common.{◌≡◌, ℕ, Bool, true, false, Option, Some, None, List, [], ◌∷◌, ◌++◌, refl, sym, ap, subst, ◌∙◌, append_assoc, append-nil}
+use Rattle.std.specs.Prelude.{is_some}
+use Rattle.std.proofs.lemmas.Bool.{false≢true}
+use Rattle.two_machine.proofs.Machine.{Laid, Frame, Move, End_comes, Arrive, Take_sa, Take_pass, Take_plain, Take_sc, Take_forward, Take_cs, Take_cb, Take_event, Take_seen, Take_bc, Idles, same, soon}
+use Rattle.two_machine.proofs.Stages.{Turn, Low_goes, Low_comes, Waits, High_goes, No_packet_came, Late, High_comes, Settles, Last, Fence_goes, Fenced_comes, Is_over, Old, old, Copies, Stage, Before, Storing, Passing, Turned, Ends, to_list, waits, since_seen, old_path, done, path, last_of, Rises, Follows, LastFits, PassingFits, TurnedFits, Fits}
+use Rattle.two_machine.proofs.Laws.{folded-append, copies-append, copied-copies, copied_all, last_put, append_nil_left, append_nil_right, rises_after, rises_front, only_one, both}
+use Rattle.two_machine.proofs.EarlySteps.{stays, paths, before, storing}
+use Rattle.two_machine.proofs.Shapes.{shape, Allowed, Leads, GoesOn}
+
+ruleset shapes = (append_assoc, append-nil, folded-append, copies-append)
+
+abbrev pub copying : Option ℕ → List ℕ → Copies
+copying t c = record { last = t; coming = c }
+
+-- the old path with its packets at other places
+pub refollow : {d : List ℕ} {o : Old} {c : Copies} → (w : Old) → Follows d o c → since_seen w ≡ since_seen o → old_path w ≡ old_path o → Follows d w c
+refollow {d} {o} {c} w h one two = record { front = h.front; joined = ap (λ xs. h.front ++ xs) one ∙ h.joined; last = λ x e. ap last_of two ∙ h.last x e }
+
+-- a packet is processed
+pub follow_pass : (d : List ℕ) (s : Option ℕ) (z x g e l : List ℕ) (c : Copies) (p : ℕ) → Follows d (old s z (p ∷ x) g e l) c
+    → Follows (d ++ p ∷ []) (old s (z ++ p ∷ []) x g e l) c
+follow_pass d s z x g e l c p h = record {
+  front = h.front;
+  joined = let is = h.joined in rw (← is) (simp paths);
+  last = λ v is. let same : old_path (old s (z ++ p ∷ []) x g e l) ≡ old_path (old s z (p ∷ x) g e l) = simp paths in ap last_of same ∙ h.last v is;
+}
+
+-- it is told that one was seen
+pub follow_seen : (d : List ℕ) (s : Option ℕ) (z x g e l : List ℕ) (c : Copies) (p : ℕ) → Follows d (old s (p ∷ z) x g e l) c
+    → Follows d (old (Some p) z x g e l) c
+follow_seen d None z x g e l c p h = record { front = h.front; joined = h.joined; last = h.last }
+follow_seen d (Some v) z x g e l c p h = record {
+  front = h.front ++ v ∷ [];
+  joined = append_assoc h.front (v ∷ []) (p ∷ z) ∙ h.joined;
+  last = h.last;
+}
+
+-- a packet arrives, with a copy
+pub follow_both : (d : List ℕ) (s : Option ℕ) (z x g e l : List ℕ) (t : Option ℕ) (c : List ℕ) (p : ℕ) → Follows d (old s z x g e l) (copying t c)
+    → Follows d (old s z x g e (l ++ p ∷ [])) (copying t (c ++ p ∷ []))
+follow_both d s z x g e l t c p h = record {
+  front = h.front;
+  joined = h.joined;
+  last = λ v is.
+      let whole : old_path (old s z x g e (l ++ p ∷ [])) ≡ old_path (old s z x g e l) ++ p ∷ [] = simp paths in
+      let mine : to_list t ++ (c ++ p ∷ []) ≡ (to_list t ++ c) ++ p ∷ [] = sym (append_assoc (to_list t) c (p ∷ [])) in
+      ap last_of whole ∙ last_put (old_path (old s z x g e l)) p ∙ sym (ap last_of mine ∙ last_put (to_list t ++ c) p) ∙ is;
+}
+
+-- without a copy, before any
+pub follow_first : (d : List ℕ) (s : Option ℕ) (z x g e l : List ℕ) (t : Option ℕ) (c : List ℕ) (p : ℕ) → t ≡ None → c ≡ []
+    → Follows d (old s z x g e l) (copying t c) → Follows d (old s z x g e (l ++ p ∷ [])) (copying t c)
+follow_first d s z x g e l t c p no_last none h = record {
+  front = h.front;
+  joined = h.joined;
+  last = λ v is. let never : ◌≡◌ {A = Option ℕ} None (Some v) = rw (no_last, none) at is in cc;
+}
+
+-- a copy is taken
+pub follow_copy : (d : List ℕ) (o : Old) (t : Option ℕ) (c : List ℕ) (p : ℕ) → Follows d o (copying t (p ∷ c)) → Follows d o (copying (Some p) c)
+follow_copy d o None c p h = record { front = h.front; joined = h.joined; last = h.last }
+follow_copy d o (Some v) c p h = record { front = h.front; joined = h.joined; last = h.last }
+
+module _ {R : Type 0} (f : Frame R) where
+  pub passing : (n : Turn) (d : List ℕ) (s : Option ℕ) (z x g e l : List ℕ) (t : Option ℕ) (c : List ℕ) (b : Bool)
+      → PassingFits n d (old s z x g e l) (copying t c) b → (m : Move) → Allowed (shape f (Passing n d s z x g e l t c b)) m
+      → GoesOn f (Passing n d s z x g e l t c b) m
+  passing Waits d s z x g e l t c true h m a = absurd (false≢true (sym h.own))
+  passing Low_goes d s z x g e l t c b h (Arrive p) a = record {
+    next = Passing Low_goes d s z x g e (l ++ p ∷ []) t c b;
+    fits = record { follows = follow_first d s z x g e l t c p h.own.1 h.own.0 h.follows; none_after = h.none_after; own = h.own };
+    alike = refl;
+    order = simp paths;
+  }
+  passing Low_comes d s z x g e l t [] b h (Arrive p) a = record {
+    next = Passing Low_comes d s z x g e (l ++ p ∷ []) t (p ∷ []) b;
+    fits = record { follows = follow_both d s z x g e l t [] p h.follows; none_after = λ is. absurd (false≢true (sym a ∙ is)); own = tt };
+    alike = refl;
+    order = simp paths;
+  }
+  passing Low_comes d s z x g e l t (q ∷ c) b h (Arrive p) a = record {
+    next = Passing Low_comes d s z x g e (l ++ p ∷ []) t (q ∷ (c ++ p ∷ [])) b;
+    fits = record { follows = follow_both d s z x g e l t (q ∷ c) p h.follows; none_after = λ is. absurd (false≢true (sym a ∙ is)); own = tt };
+    alike = simp shapes;
+    order = simp paths;
+  }
+  passing Waits d s z x g e l t [] false h (Arrive p) a = record {
+    next = Passing Waits d s z x g e (l ++ p ∷ []) t (p ∷ []) false;
+    fits = record { follows = follow_both d s z x g e l t [] p h.follows; none_after = λ is. absurd (false≢true is); own = refl };
+    alike = refl;
+    order = simp paths;
+  }
+  passing Waits d s z x g e l t (q ∷ c) false h (Arrive p) a = record {
+    next = Passing Waits d s z x g e (l ++ p ∷ []) t (q ∷ (c ++ p ∷ [])) false;
+    fits = record { follows = follow_both d s z x g e l t (q ∷ c) p h.follows; none_after = λ is. absurd (false≢true is); own = refl };
+    alike = simp shapes;
+    order = simp paths;
+  }
+  passing High_goes d s z x g e l t c b h (Arrive p) a = record {
+    next = Passing High_goes d s z x g e (l ++ p ∷ []) t (c ++ p ∷ []) b;
+    fits = record { follows = follow_both d s z x g e l t c p h.follows; none_after = λ is. absurd (false≢true (sym a ∙ is)); own = h.own };
+    alike = simp shapes;
+    order = simp paths;
+  }
+  passing No_packet_came d s z x g e l t c b h (Arrive p) a = absurd (false≢true (sym a ∙ h.own.1))
+  passing n d s z x g e [] t c b h Take_sa a = stays f (Passing n d s z x g e [] t c b) h
+  passing n d s z x g e (p ∷ l) t c b h Take_sa a = record {
+    next = Passing n d s z x g (e ++ p ∷ []) l t c b;
+    fits = record { follows = refollow (old s z x g (e ++ p ∷ []) l) h.follows refl (simp paths); none_after = h.none_after; own = h.own };
+    alike = refl;
+    order = simp paths;
+  }
+  passing n d s z [] g e l t c b h Take_pass a = stays f (Passing n d s z [] g e l t c b) h
+  passing n d s z (p ∷ x) g e l t c b h Take_pass a = record {
+    next = Passing n (d ++ p ∷ []) s (z ++ p ∷ []) x g e l t c b;
+    fits = record { follows = follow_pass d s z x g e l (copying t c) p h.follows; none_after = h.none_after; own = h.own };
+    alike = simp shapes;
+    order = simp paths;
+  }
+  passing n d s z x [] e l t c b h Take_forward a = stays f (Passing n d s z x [] e l t c b) h
+  passing n d s z x (p ∷ g) e l t c b h Take_forward a = record {
+    next = Passing n d s z (x ++ p ∷ []) g e l t c b;
+    fits = record { follows = refollow (old s z (x ++ p ∷ []) g e l) h.follows refl (simp paths); none_after = h.none_after; own = h.own };
+    alike = refl;
+    order = simp paths;
+  }
+  passing n d s z x g [] l t c b h Take_event a = stays f (Passing n d s z x g [] l t c b) h
+  passing Low_goes d s z x g (p ∷ e) l t c b h Take_event a = record {
+    next = Passing Low_goes d s z x (g ++ p ∷ []) e l t c b;
+    fits = record { follows = refollow (old s z x (g ++ p ∷ []) e l) h.follows refl (simp paths); none_after = h.none_after; own = h.own };
+    alike = refl;
+    order = simp paths;
+  }
+  passing n d s z x g (p ∷ e) l t c b h Take_event a = record {
+    next = Passing n d s z x (g ++ p ∷ []) e l t c b;
+    fits = record { follows = refollow (old s z x (g ++ p ∷ []) e l) h.follows refl (simp paths); none_after = h.none_after; own = h.own };
+    alike = refl;
+    order = simp paths;
+  }
+  passing n d s [] x g e l t c b h Take_seen a = stays f (Passing n d s [] x g e l t c b) h
+  passing Low_goes d s (p ∷ z) x g e l t c b h Take_seen a = record {
+    next = Passing Low_goes d (Some p) z x g e l t c b;
+    fits = record { follows = follow_seen d s z x g e l (copying t c) p h.follows; none_after = h.none_after; own = h.own };
+    alike = refl;
+    order = simp paths;
+  }
+  passing n d s (p ∷ z) x g e l t c b h Take_seen a = record {
+    next = Passing n d (Some p) z x g e l t c b;
+    fits = record { follows = follow_seen d s z x g e l (copying t c) p h.follows; none_after = h.none_after; own = h.own };
+    alike = refl;
+    order = simp paths;
+  }
+  passing Low_comes d s z x g e l t [] true h Take_sc a = record {
+    next = Passing No_packet_came d s z x g e l t [] true;
+    fits = record { follows = h.follows; none_after = h.none_after; own = (refl, refl) };
+    alike = refl;
+    order = simp paths;
+  }
+  passing Low_comes d s z x g e l t (q ∷ c) true h Take_sc a = let none = h.none_after refl in cc
+  passing Low_comes d s z x g e l t c false h Take_sc a = record {
+    next = Passing Waits d s z x g e l t c false;
+    fits = record { follows = h.follows; none_after = h.none_after; own = refl };
+    alike = refl;
+    order = simp paths;
+  }
+  passing Waits d s z x g e l t [] false h Take_sc a = stays f (Passing Waits d s z x g e l t [] false) h
+  passing Waits d s z x g e l t (p ∷ c) false h Take_sc a = record {
+    next = Passing High_goes d s z x g e l (Some p) c false;
+    fits = record { follows = follow_copy d (old s z x g e l) t c p h.follows; none_after = λ is. absurd (false≢true is); own = refl };
+    alike = refl;
+    order = simp paths;
+  }
+  passing High_goes d s z x g e l t [] b h Take_sc a = stays f (Passing High_goes d s z x g e l t [] b) h
+  passing High_goes d s z x g e l t (p ∷ c) b h Take_sc a = record {
+    next = Passing High_goes d s z x g e l (Some p) c b;
+    fits = record { follows = follow_copy d (old s z x g e l) t c p h.follows; none_after = λ is. let none = h.none_after is in cc; own = refl };
+    alike = refl;
+    order = simp paths;
+  }
+  passing n d s z x g e l t c b h Take_sc a = stays f (Passing n d s z x g e l t c b) h
+  passing Low_goes d s z x g e l t [] b h Take_cs a = record {
+    next = Passing Low_comes d s z x g e l t [] b;
+    fits = record { follows = h.follows; none_after = h.none_after; own = tt };
+    alike = refl;
+    order = simp paths;
+  }
+  passing Low_goes d s z x g e l t (q ∷ c) b h Take_cs a = let none = h.own.0 in cc
+  passing High_goes d s z x g e l t c b h Take_cs a = record {
+    next = Turned High_comes d s z x g e l t c [] [] b;
+    fits = record { follows = h.follows; none_after = h.none_after; own = h.own };
+    alike = refl;
+    order = simp paths;
+  }
+  passing n d s z x g e l t c b h Take_cs a = stays f (Passing n d s z x g e l t c b) h
+  passing Low_goes d s z x g e l t c b h End_comes a = record {
+    next = Passing Low_goes d s z x g e l t c true;
+    fits = record { follows = h.follows; none_after = λ _. h.own.0; own = h.own };
+    alike = refl;
+    order = simp paths;
+  }
+  passing Low_comes d s z x g e l t c b h End_comes a = record {
+    next = Passing Low_comes d s z x g e l t c true;
+    fits = record { follows = h.follows; none_after = λ _. sym (copied_all R c) ∙ a.1; own = tt };
+    alike = refl;
+    order = simp paths;
+  }
+  passing Waits d s z x g e l t [] false h End_comes a = record {
+    next = Passing No_packet_came d s z x g e l t [] true;
+    fits = record { follows = h.follows; none_after = λ _. refl; own = (refl, refl) };
+    alike = refl;
+    order = simp paths;
+  }
+  passing Waits d s z x g e l t (q ∷ c) false h End_comes a = let none = a.1 in cc
+  passing High_goes d s z x g e l t c b h End_comes a = record {
+    next = Passing High_goes d s z x g e l t c true;
+    fits = record { follows = h.follows; none_after = λ _. sym (copied_all R c) ∙ a.1; own = h.own };
+    alike = refl;
+    order = simp paths;
+  }
+  passing No_packet_came d s z x g e l t c b h End_comes a = absurd (false≢true (sym a.0 ∙ h.own.1))
+  passing Waits d s z x g e l t c false h Idles a = stays f (Passing Waits d s z x g e l t c false) h
+  passing n d s z x g e l t c b h Idles a = stays f (Passing n d s z x g e l t c b) h
+  passing n d s z x g e l t c b h m a = stays f (Passing n d s z x g e l t c b) h
+
+  -- all that was on the old path was seen
+  is_empty : (d : List ℕ) (v : ℕ) (z x g e l : List ℕ) (c : Copies) (h y : List ℕ) (k : ℕ) → Follows d (old (Some v) z x g e l) c → c.last ≡ Some v
+      → c.coming ≡ [] → Rises k (d ++ (waits (old (Some v) z x g e l) ++ (h ++ y))) → z ++ (x ++ (g ++ (e ++ l))) ≡ []
+  is_empty d v z x g e l c h y k w last none rises =
+      let ends : last_of (to_list c.last ++ c.coming) ≡ Some v = rw (last, none) refl in
+      let is_last = w.last v ends in
+      let is = w.joined in
+      let whole : d ++ ((x ++ (g ++ (e ++ l))) ++ (h ++ y)) ≡ w.front ++ ((v ∷ (z ++ (x ++ (g ++ (e ++ l))))) ++ (h ++ y)) = rw (← is) (simp paths) in
+      let later = rises_after k w.front ((v ∷ (z ++ (x ++ (g ++ (e ++ l))))) ++ (h ++ y)) (rw whole at rises) in
+      only_one later.0 v (z ++ (x ++ (g ++ (e ++ l)))) (rises_front later.0 (v ∷ (z ++ (x ++ (g ++ (e ++ l))))) (h ++ y) later.1) is_last
+
+  -- the last packet of the old path may have been seen
+  settles : (n : Late) (r : Option ℕ) (q : List ℕ) (d : List ℕ) (s : Option ℕ) (z x g e l : List ℕ) (t : Option ℕ) (h y : List ℕ) (b : Bool) (k : ℕ)
+      → Follows d (old s z x g e l) (copying t []) → is_some t ≡ true → Rises k (d ++ (waits (old s z x g e l) ++ (h ++ y))) → (now : Bool) → same s t ≡ now
+      → Leads f (Turned n d r q x g e l t [] h y b) (soon f (shape f (Turned Settles d s z x g e l t [] h y b))) []
+  settles n r q d s z x g e l t h y b k w some rises false is = record {
+    next = Turned Settles d s z x g e l t [] h y b;
+    fits = record { follows = w; none_after = λ _. refl; own = (refl, is, some) };
+    alike = rw is refl;
+    order = simp paths;
+  }
+  settles n r q d s z x g e l t h y b k w some rises true is =
+      let two = both s t is in
+      let seen = two.one in
+      let none = is_empty d two.number z x g e l (copying t []) h y k (subst (λ o. Follows d (old o z x g e l) (copying t [])) seen w) two.two refl rises in
+      let z_is = append_nil_left z (x ++ (g ++ (e ++ l))) none in
+      let xs = append_nil_right z (x ++ (g ++ (e ++ l))) none in
+      let x_is = append_nil_left x (g ++ (e ++ l)) xs in
+      let gs = append_nil_right x (g ++ (e ++ l)) xs in
+      let g_is = append_nil_left g (e ++ l) gs in
+      let es = append_nil_right g (e ++ l) gs in
+      let e_is = append_nil_left e l es in
+      let l_is = append_nil_right e l es in
+      rw (z_is, x_is, g_is, e_is, l_is) (record {
+        next = Ends Fence_goes d t s h y b;
+        fits = tt;
+        alike = rw is refl;
+        order = simp paths;
+      })
+
+  pub turned : (n : Late) (d : List ℕ) (s : Option ℕ) (z x g e l : List ℕ) (t : Option ℕ) (c h y : List ℕ) (b : Bool)
+      → TurnedFits n d (old s z x g e l) (copying t c) b → (k : ℕ) → Rises k (d ++ (waits (old s z x g e l) ++ (h ++ y))) → (m : Move)
+      → Allowed (shape f (Turned n d s z x g e l t c h y b)) m → GoesOn f (Turned n d s z x g e l t c h y b) m
+  turned n d s z x g e l t c h y b w k rises (Arrive p) a = record {
+    next = Turned n d s z x g e l t c h (y ++ p ∷ []) b;
+    fits = w;
+    alike = refl;
+    order = simp paths;
+  }
+  turned n d s z x g e [] t c h y b w k rises Take_sa a = stays f (Turned n d s z x g e [] t c h y b) w
+  turned n d s z x g e (p ∷ l) t c h y b w k rises Take_sa a = record {
+    next = Turned n d s z x g (e ++ p ∷ []) l t c h y b;
+    fits = record { follows = refollow (old s z x g (e ++ p ∷ []) l) w.follows refl (simp paths); none_after = w.none_after; own = w.own };
+    alike = refl;
+    order = simp paths;
+  }
+  turned n d s z [] g e l t c h y b w k rises Take_pass a = stays f (Turned n d s z [] g e l t c h y b) w
+  turned n d s z (p ∷ x) g e l t c h y b w k rises Take_pass a = record {
+    next = Turned n (d ++ p ∷ []) s (z ++ p ∷ []) x g e l t c h y b;
+    fits = record { follows = follow_pass d s z x g e l (copying t c) p w.follows; none_after = w.none_after; own = w.own };
+    alike = simp shapes;
+    order = simp paths;
+  }
+  turned n d s z x [] e l t c h y b w k rises Take_forward a = stays f (Turned n d s z x [] e l t c h y b) w
+  turned n d s z x (p ∷ g) e l t c h y b w k rises Take_forward a = record {
+    next = Turned n d s z (x ++ p ∷ []) g e l t c h y b;
+    fits = record { follows = refollow (old s z (x ++ p ∷ []) g e l) w.follows refl (simp paths); none_after = w.none_after; own = w.own };
+    alike = refl;
+    order = simp paths;
+  }
+  turned n d s z x g e l t c h [] b w k rises Take_plain a = stays f (Turned n d s z x g e l t c h [] b) w
+  turned n d s z x g e l t c h (p ∷ y) b w k rises Take_plain a = record {
+    next = Turned n d s z x g e l t c (h ++ p ∷ []) y b;
+    fits = w;
+    alike = refl;
+    order = simp paths;
+  }
+  turned n d s z x g [] l t c h y b w k rises Take_event a = stays f (Turned n d s z x g [] l t c h y b) w
+  turned High_comes d s z x g (p ∷ e) l t c h y b w k rises Take_event a = record {
+    next = Turned High_comes d s z x (g ++ p ∷ []) e l t c h y b;
+    fits = record { follows = refollow (old s z x (g ++ p ∷ []) e l) w.follows refl (simp paths); none_after = w.none_after; own = w.own };
+    alike = refl;
+    order = simp paths;
+  }
+  turned Settles d s z x g (p ∷ e) l t c h y b w k rises Take_event a = record {
+    next = Turned Settles d s z x (g ++ p ∷ []) e l t c h y b;
+    fits = record { follows = refollow (old s z x (g ++ p ∷ []) e l) w.follows refl (simp paths); none_after = w.none_after; own = w.own };
+    alike = let not_yet = w.own.1 in rw not_yet refl;
+    order = simp paths;
+  }
+  turned n d s [] x g e l t c h y b w k rises Take_seen a = stays f (Turned n d s [] x g e l t c h y b) w
+  turned High_comes d s (p ∷ z) x g e l t c h y b w k rises Take_seen a = record {
+    next = Turned High_comes d (Some p) z x g e l t c h y b;
+    fits = record { follows = follow_seen d s z x g e l (copying t c) p w.follows; none_after = w.none_after; own = w.own };
+    alike = refl;
+    order = simp paths;
+  }
+  turned Settles d s (p ∷ z) x g e l t [] h y b w k rises Take_seen a =
+      settles Settles s (p ∷ z) d (Some p) z x g e l t h y b k (follow_seen d s z x g e l (copying t []) p w.follows) w.own.2 rises (same (Some p) t) refl
+  turned Settles d s (p ∷ z) x g e l t (q ∷ c) h y b w k rises Take_seen a = let none = w.own.0 in cc
+  turned High_comes d s z x g e l t [] h y b w k rises Take_sc a = settles High_comes s z d s z x g e l t h y b k w.follows w.own rises (same s t) refl
+  turned High_comes d s z x g e l t (p ∷ c) h y b w k rises Take_sc a = record {
+    next = Turned High_comes d s z x g e l (Some p) c h y b;
+    fits = record { follows = follow_copy d (old s z x g e l) t c p w.follows; none_after = λ is. let none = w.none_after is in cc; own = refl };
+    alike = refl;
+    order = simp paths;
+  }
+  turned n d s z x g e l t c h y b w k rises Take_sc a = stays f (Turned n d s z x g e l t c h y b) w
+  turned High_comes d s z x g e l t c h y b w k rises End_comes a = record {
+    next = Turned High_comes d s z x g e l t c h y true;
+    fits = record { follows = w.follows; none_after = λ _. let none = copied-copies R c (Laid true ∷ []) in sym (append-nil c) ∙ sym none ∙ a.1; own = w.own };
+    alike = refl;
+    order = simp paths;
+  }
+  turned Settles d s z x g e l t c h y b w k rises End_comes a = record {
+    next = Turned Settles d s z x g e l t c h y true;
+    fits = record { follows = w.follows; none_after = λ _. w.own.0; own = w.own };
+    alike = let not_yet = w.own.1 in rw not_yet refl;
+    order = simp paths;
+  }
+  turned High_comes d s z x g e l t c h y b w k rises Idles a = stays f (Turned High_comes d s z x g e l t c h y b) w
+  turned Settles d s z x g e l t c h y b w k rises Idles a = record {
+    next = Turned Settles d s z x g e l t c h y b;
+    fits = w;
+    alike = let not_yet = w.own.1 in rw not_yet refl;
+    order = simp paths;
+  }
+  turned n d s z x g e l t c h y b w k rises m a = stays f (Turned n d s z x g e l t c h y b) w
+
+  pub ends : (n : Last) (d : List ℕ) (s t : Option ℕ) (h y : List ℕ) (b : Bool) → LastFits n h → (m : Move) → GoesOn f (Ends n d s t h y b) m
+  ends Fence_goes d s t h y b w (Arrive p) = record { next = Ends Fence_goes d s t h (y ++ p ∷ []) b; fits = w; alike = refl; order = simp paths }
+  ends n d s t h y b w (Arrive p) = record { next = Ends n d s t h (y ++ p ∷ []) b; fits = w; alike = refl; order = simp paths }
+  ends n d s t h [] b w Take_plain = stays f (Ends n d s t h [] b) w
+  ends Fence_goes d s t h (p ∷ y) b w Take_plain = record { next = Ends Fence_goes d s t (h ++ p ∷ []) y b; fits = tt; alike = refl; order = simp paths }
+  ends n d s t [] (p ∷ y) b w Take_plain = record { next = Ends n (d ++ p ∷ []) s t [] y b; fits = w; alike = simp shapes; order = simp paths }
+  ends Fenced_comes d s t (q ∷ h) (p ∷ y) b w Take_plain = cc
+  ends Is_over d s t (q ∷ h) (p ∷ y) b w Take_plain = cc
+  ends Fence_goes d s t h y b w Take_cb = record { next = Ends Fenced_comes (d ++ h) s t [] y b; fits = refl; alike = simp shapes; order = simp paths }
+  ends n d s t h y b w Take_cb = stays f (Ends n d s t h y b) w
+  ends Fenced_comes d s t h y b w Take_bc = record { next = Ends Is_over d s t h y b; fits = w; alike = refl; order = simp paths }
+  ends n d s t h y b w Take_bc = stays f (Ends n d s t h y b) w
+  ends Fence_goes d s t h y b w End_comes = record { next = Ends Fence_goes d s t h y true; fits = w; alike = refl; order = simp paths }
+  ends n d s t h y b w End_comes = record { next = Ends n d s t h y true; fits = w; alike = refl; order = simp paths }
+  ends Fence_goes d s t h y b w Idles = stays f (Ends Fence_goes d s t h y b) w
+  ends n d s t h y b w Idles = stays f (Ends n d s t h y b) w
+  ends n d s t h y b w m = stays f (Ends n d s t h y b) w
+
+  -- each step from a stage leads to a stage
+  pub goes_on : (s : Stage) → Fits s → (k : ℕ) → Rises k (done s ++ path s) → (m : Move) → Allowed (shape f s) m → GoesOn f s m
+  goes_on (Before n d l b) w k rises m a = before f n d l b m
+  goes_on (Storing n d g e l b) w k rises m a = storing f n d g e l b m
+  goes_on (Passing n d s z x g e l t c b) w k rises m a = passing n d s z x g e l t c b w m a
+  goes_on (Turned n d s z x g e l t c h y b) w k rises m a = turned n d s z x g e l t c h y b w k rises m a
+  goes_on (Ends n d s t h y b) w k rises m a = ends n d s t h y b w m

@@ -1,0 +1,125 @@
+-- The theorem's words: what is read off a run of a two-phase update, and what holds of every run. Packets go by their numbers.
+use Rattle.std.proofs.Common.{◌≡◌, ◌≤◌, ◌⊎◌, ℕ, ◌+◌, ◌*◌, Bool, true, false, Option, Some, None, List, [], ◌∷◌, ◌++◌, length}
+use Rattle.std.specs.Prelude.{if◌then◌else◌, ◌==◌, ◌||◌}
+use Rattle.actor_net.specs.declared.choice.Choice.{Choice}
+use Rattle.actor_net.specs.Network.{Network, IsRun, is_enabled, is_done, run}
+use Rattle.actor_net.specs.Opening.{opening}
+use Rattle.two_machine.proofs.Tables.{System, Msg, Note, Node, Arrived, Processed, Low, High, Done, No_packet, Is_switch, Is_inst, node_step, node_ready, node_ended, first_nodes, items}
+use Rattle.two_machine.proofs.View.{read, arrived}
+
+-- how often a number stands in a list
+abbrev pub times : ℕ → List ℕ → ℕ
+times p [] = 0
+times p (q ∷ qs) = (if p == q then 1 else 0) + times p qs
+
+-- a list and more after it
+pub record IsFront (front all : List ℕ) : Type 0 where
+  pub rest : List ℕ
+  pub whole : front ++ rest ≡ all
+
+-- a list with one item in front, if there is one
+abbrev pub listed : {X : Type 0} → Option X → List X → List X
+listed None xs = xs
+listed (Some x) xs = x ∷ xs
+
+module _ {O : Type 0} where
+  -- packets that were processed, in order
+  abbrev pub processed : List (Note O) → List ℕ
+  processed [] = []
+  processed (Processed p i o ∷ ns) = p ∷ processed ns
+  processed (n ∷ ns) = processed ns
+
+  -- what stands after the first Low
+  abbrev pub after_low : List (Note O) → List (Note O)
+  after_low [] = []
+  after_low (Low ∷ ns) = ns
+  after_low (n ∷ ns) = after_low ns
+
+  -- whether such a packet arrived
+  abbrev pub has_come : (ℕ → Bool) → List (Note O) → Bool
+  has_come k [] = false
+  has_come k (Arrived p ∷ ns) = k p || has_come k ns
+  has_come k (n ∷ ns) = has_come k ns
+
+  -- the notes of the update's end
+  abbrev pub verdicts : List (Note O) → List (Note O)
+  verdicts [] = []
+  verdicts (Done ∷ ns) = Done ∷ verdicts ns
+  verdicts (No_packet ∷ ns) = No_packet ∷ verdicts ns
+  verdicts (n ∷ ns) = verdicts ns
+
+-- the window of the switch, which is the first node
+abbrev pub switch_window : {T C : Type 0} → List (Node T C) → Option ℕ
+switch_window (Is_switch s ∷ nodes) = Some s.window
+switch_window nodes = None
+
+module _ {U T C R O : Type 0} (S : System U T C R O) where
+  -- the packets of a unit among these
+  abbrev pub of_unit : U → List ℕ → List ℕ
+  of_unit u [] = []
+  of_unit u (p ∷ ps) = if S.equal (S.unit_of p) u then p ∷ of_unit u ps else of_unit u ps
+
+  -- one instance that nothing moves: its record after packets of one unit, and its outputs
+  abbrev pub fold : Option R → List ℕ → Option R
+  fold r [] = r
+  fold r (p ∷ ps) = fold (Some (S.step r p)) ps
+
+  abbrev pub outputs : Option R → List ℕ → List O
+  outputs r [] = []
+  outputs r (p ∷ ps) = S.output r p ∷ outputs (Some (S.step r p)) ps
+
+  -- what was answered to the unit's packets
+  abbrev pub given : U → List (Note O) → List O
+  given u [] = []
+  given u (Processed p i o ∷ ns) = if S.equal (S.unit_of p) u then o ∷ given u ns else given u ns
+  given u (n ∷ ns) = given u ns
+
+  -- the unit's live record at each node that has one, in order of the nodes
+  abbrev pub live_in : U → List (Node T C) → List R
+  live_in u [] = []
+  live_in u (Is_inst n i ∷ nodes) = listed (S.at i.table u) (live_in u nodes)
+  live_in u (n ∷ nodes) = live_in u nodes
+
+  -- Low stands before High, and between them such a packet arrived
+  pub record LowBeforeHigh (log : List (Note O)) : Type 0 where
+    pub between : (before after : List (Note O)) → log ≡ before ++ High ∷ after → has_come S.covers (after_low before) ≡ true
+
+module _ {U T C R O : Type 0} (S : System U T C R O) (window : ℕ) (early late : List ℕ) where
+  abbrev pub start : Network (Node T C) (Msg C) (Note O)
+  start = opening (first_nodes S window) (items S early late)
+
+  -- these choices are a run, and lead to this world
+  pub record LeadsTo (cs : List Choice) (w : Network (Node T C) (Msg C) (Note O)) : Type 0 where
+    pub is_run : IsRun (node_ready S) (node_step S) cs start
+    pub reached : w ≡ run (node_step S) cs start
+
+  -- what holds of every run
+  pub record Every (w : Network (Node T C) (Msg C) (Note O)) : Type 0 where
+    -- the switch takes the packets in their order
+    pub in_turn : IsFront (read arrived w.log) (early ++ late)
+    -- (1)
+    pub front : (u : U) → IsFront (of_unit S u (processed w.log)) (of_unit S u (early ++ late))
+    pub once : (p : ℕ) → times p (processed w.log) ≤ 1
+    pub answers : (u : U) → given S u w.log ≡ outputs S None (of_unit S u (processed w.log))
+    -- (3)
+    pub laid : LowBeforeHigh S w.log
+
+  -- (5): the run is short, and goes on unless nothing is left to do; and the window stays
+  pub record Ends (cs : List Choice) (w : Network (Node T C) (Msg C) (Note O)) : Type 0 where
+    pub short : length cs ≤ 8 * length (early ++ late) + 32
+    pub goes_on : (is_done (node_ended S) w ≡ true) ⊎ ((c : Choice) × (is_enabled (node_ready S) w c ≡ true))
+    pub window_is : switch_window w.nodes ≡ Some window
+
+  -- what holds besides where nothing is left to do
+  pub record Complete (w : Network (Node T C) (Msg C) (Note O)) : Type 0 where
+    -- (2)
+    pub all : (u : U) → of_unit S u (processed w.log) ≡ of_unit S u (early ++ late)
+    pub live : (u : U) → live_in S u w.nodes ≡ listed (fold S None (of_unit S u (early ++ late))) []
+    -- (4)
+    pub verdict : verdicts w.log ≡ (if has_come S.covers (after_low w.log) then Done ∷ [] else No_packet ∷ [])
+
+  -- the theorem, of a run from a start
+  pub record Published (cs : List Choice) (w : Network (Node T C) (Msg C) (Note O)) : Type 0 where
+    pub every : Every w
+    pub ends : Ends cs w
+    pub complete : is_done (node_ended S) w ≡ true → Complete w

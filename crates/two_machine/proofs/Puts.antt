@@ -1,0 +1,210 @@
+-- What a step of each node leaves of the world, link by link, is what the core's network leaves, with the labels of its messages.
+use Rattle.std.proofs.Common.{◌≡◌, ℕ, zero, suc, List, [], ◌∷◌, ◌++◌, ap, ◌∙◌, append_assoc, append-nil}
+use Rattle.std.specs.Prelude.{if◌then◌else◌, ◌==◌}
+use Rattle.actor_net.specs.Network.{delivered, after}
+use Rattle.two_machine.proofs.Tables.{System, Msg, Switch, Ctrl, Inst, Is_switch, Is_ctrl, Is_inst, Step, as_node}
+use Rattle.two_machine.proofs.View.{World, net, read}
+use Rattle.two_machine.proofs.Labels.{IsSelected, On_sa, On_sb, On_sc, On_cs, On_ca, On_cb, On_ac, On_bc, On_back, Labels}
+use Rattle.actor_net.proofs.WeightLaws.{Each, each-append}
+
+-- what is sent to a node
+abbrev pub to_one : {M : Type 0} → ℕ → ℕ × M → List M
+to_one k x = if x.0 == k then x.1 ∷ [] else []
+
+abbrev pub sent : {M : Type 0} → ℕ → List (ℕ × M) → List M
+sent k xs = read (to_one k) xs
+
+module _ {U T C R O : Type 0} (S : System U T C R O) where
+  -- what each node may send, by its receiver
+  abbrev pub From_switch : ℕ → Msg C → Type 0
+  From_switch zero m = ⊥
+  From_switch (suc zero) m = On_sc S m
+  From_switch (suc (suc zero)) m = On_sa S m
+  From_switch (suc (suc (suc zero))) m = On_sb S m
+  From_switch (suc (suc (suc (suc k)))) m = ⊥
+
+  abbrev pub From_ctrl : ℕ → Msg C → Type 0
+  From_ctrl zero m = On_cs S m
+  From_ctrl (suc zero) m = ⊥
+  From_ctrl (suc (suc zero)) m = On_ca S m
+  From_ctrl (suc (suc (suc zero))) m = On_cb S m
+  From_ctrl (suc (suc (suc (suc k)))) m = ⊥
+
+  abbrev pub From_a : ℕ → Msg C → Type 0
+  From_a zero m = On_back S m
+  From_a (suc zero) m = On_ac S m
+  From_a (suc (suc k)) m = ⊥
+
+  abbrev pub From_b : ℕ → Msg C → Type 0
+  From_b zero m = On_back S m
+  From_b (suc zero) m = On_bc S m
+  From_b (suc (suc k)) m = ⊥
+
+  -- what a step leaves
+  abbrev pub put_switch : World T C O → Step S Switch → World T C O
+  put_switch v did =
+      record v { sw = did.node; sc = v.sc ++ sent 1 did.sends; sa = v.sa ++ sent 2 did.sends; sb = v.sb ++ sent 3 did.sends; log = v.log ++ did.notes }
+
+  abbrev pub put_ctrl : World T C O → Step S (Ctrl C) → World T C O
+  put_ctrl v did =
+      record v { ct = did.node; cs = v.cs ++ sent 0 did.sends; ca = v.ca ++ sent 2 did.sends; cb = v.cb ++ sent 3 did.sends; log = v.log ++ did.notes }
+
+  abbrev pub put_a : World T C O → Step S (Inst T) → World T C O
+  put_a v did = record v { a = did.node; aw = v.aw ++ sent 0 did.sends; ac = v.ac ++ sent 1 did.sends; log = v.log ++ did.notes }
+
+  abbrev pub put_b : World T C O → Step S (Inst T) → World T C O
+  put_b v did = record v { b = did.node; bw = v.bw ++ sent 0 did.sends; bc = v.bc ++ sent 1 did.sends; log = v.log ++ did.notes }
+
+  abbrev links : World T C O → List (List (Msg C))
+  links v = (net v).links
+
+  by_switch : (v : World T C O) (xs : List (ℕ × Msg C)) → Each (λ x. From_switch x.0 x.1) xs
+      → delivered 4 0 xs (links v) ≡ links (record v { sc = v.sc ++ sent 1 xs; sa = v.sa ++ sent 2 xs; sb = v.sb ++ sent 3 xs })
+  by_switch v [] h = simp append-nil
+  by_switch v ((zero, m) ∷ xs) h = absurd h.0
+  by_switch v ((suc zero, m) ∷ xs) h = by_switch (record v { sc = v.sc ++ m ∷ [] }) xs h.1 ∙ simp append_assoc
+  by_switch v ((suc (suc zero), m) ∷ xs) h = by_switch (record v { sa = v.sa ++ m ∷ [] }) xs h.1 ∙ simp append_assoc
+  by_switch v ((suc (suc (suc zero)), m) ∷ xs) h = by_switch (record v { sb = v.sb ++ m ∷ [] }) xs h.1 ∙ simp append_assoc
+  by_switch v ((suc (suc (suc (suc k))), m) ∷ xs) h = absurd h.0
+
+  by_ctrl : (v : World T C O) (xs : List (ℕ × Msg C)) → Each (λ x. From_ctrl x.0 x.1) xs
+      → delivered 4 1 xs (links v) ≡ links (record v { cs = v.cs ++ sent 0 xs; ca = v.ca ++ sent 2 xs; cb = v.cb ++ sent 3 xs })
+  by_ctrl v [] h = simp append-nil
+  by_ctrl v ((zero, m) ∷ xs) h = by_ctrl (record v { cs = v.cs ++ m ∷ [] }) xs h.1 ∙ simp append_assoc
+  by_ctrl v ((suc zero, m) ∷ xs) h = absurd h.0
+  by_ctrl v ((suc (suc zero), m) ∷ xs) h = by_ctrl (record v { ca = v.ca ++ m ∷ [] }) xs h.1 ∙ simp append_assoc
+  by_ctrl v ((suc (suc (suc zero)), m) ∷ xs) h = by_ctrl (record v { cb = v.cb ++ m ∷ [] }) xs h.1 ∙ simp append_assoc
+  by_ctrl v ((suc (suc (suc (suc k))), m) ∷ xs) h = absurd h.0
+
+  by_a : (v : World T C O) (xs : List (ℕ × Msg C)) → Each (λ x. From_a x.0 x.1) xs
+      → delivered 4 2 xs (links v) ≡ links (record v { aw = v.aw ++ sent 0 xs; ac = v.ac ++ sent 1 xs })
+  by_a v [] h = simp append-nil
+  by_a v ((zero, m) ∷ xs) h = by_a (record v { aw = v.aw ++ m ∷ [] }) xs h.1 ∙ simp append_assoc
+  by_a v ((suc zero, m) ∷ xs) h = by_a (record v { ac = v.ac ++ m ∷ [] }) xs h.1 ∙ simp append_assoc
+  by_a v ((suc (suc k), m) ∷ xs) h = absurd h.0
+
+  by_b : (v : World T C O) (xs : List (ℕ × Msg C)) → Each (λ x. From_b x.0 x.1) xs
+      → delivered 4 3 xs (links v) ≡ links (record v { bw = v.bw ++ sent 0 xs; bc = v.bc ++ sent 1 xs })
+  by_b v [] h = simp append-nil
+  by_b v ((zero, m) ∷ xs) h = by_b (record v { bw = v.bw ++ m ∷ [] }) xs h.1 ∙ simp append_assoc
+  by_b v ((suc zero, m) ∷ xs) h = by_b (record v { bc = v.bc ++ m ∷ [] }) xs h.1 ∙ simp append_assoc
+  by_b v ((suc (suc k), m) ∷ xs) h = absurd h.0
+
+  pub after_switch : (v : World T C O) (did : Step S Switch) → Each (λ x. From_switch x.0 x.1) did.sends
+      → after (net v) 0 (as_node S Is_switch did) ≡ net (put_switch v did)
+  after_switch v did h = ap (λ ls. record (net (put_switch v did)) { links = ls }) (by_switch v did.sends h)
+
+  pub after_ctrl : (v : World T C O) (did : Step S (Ctrl C)) → Each (λ x. From_ctrl x.0 x.1) did.sends
+      → after (net v) 1 (as_node S Is_ctrl did) ≡ net (put_ctrl v did)
+  after_ctrl v did h = ap (λ ls. record (net (put_ctrl v did)) { links = ls }) (by_ctrl v did.sends h)
+
+  pub after_a : (v : World T C O) (did : Step S (Inst T)) → Each (λ x. From_a x.0 x.1) did.sends
+      → after (net v) 2 (as_node S (Is_inst 0) did) ≡ net (put_a v did)
+  after_a v did h = ap (λ ls. record (net (put_a v did)) { links = ls }) (by_a v did.sends h)
+
+  pub after_b : (v : World T C O) (did : Step S (Inst T)) → Each (λ x. From_b x.0 x.1) did.sends
+      → after (net v) 3 (as_node S (Is_inst 1) did) ≡ net (put_b v did)
+  after_b v did h = ap (λ ls. record (net (put_b v did)) { links = ls }) (by_b v did.sends h)
+
+  -- labels of what is sent
+  each_switch : (xs : List (ℕ × Msg C)) → Each (λ x. From_switch x.0 x.1) xs
+      → Each (On_sc S) (sent 1 xs) × Each (On_sa S) (sent 2 xs) × Each (On_sb S) (sent 3 xs)
+  each_switch [] h = (tt, tt, tt)
+  each_switch ((zero, m) ∷ xs) h = absurd h.0
+  each_switch ((suc zero, m) ∷ xs) h = let r = each_switch xs h.1 in ((h.0, r.0), r.1, r.2)
+  each_switch ((suc (suc zero), m) ∷ xs) h = let r = each_switch xs h.1 in (r.0, (h.0, r.1), r.2)
+  each_switch ((suc (suc (suc zero)), m) ∷ xs) h = let r = each_switch xs h.1 in (r.0, r.1, (h.0, r.2))
+  each_switch ((suc (suc (suc (suc k))), m) ∷ xs) h = absurd h.0
+
+  each_ctrl : (xs : List (ℕ × Msg C)) → Each (λ x. From_ctrl x.0 x.1) xs → Each (On_cs S) (sent 0 xs) × Each (On_ca S) (sent 2 xs) × Each (On_cb S) (sent 3 xs)
+  each_ctrl [] h = (tt, tt, tt)
+  each_ctrl ((zero, m) ∷ xs) h = let r = each_ctrl xs h.1 in ((h.0, r.0), r.1, r.2)
+  each_ctrl ((suc zero, m) ∷ xs) h = absurd h.0
+  each_ctrl ((suc (suc zero), m) ∷ xs) h = let r = each_ctrl xs h.1 in (r.0, (h.0, r.1), r.2)
+  each_ctrl ((suc (suc (suc zero)), m) ∷ xs) h = let r = each_ctrl xs h.1 in (r.0, r.1, (h.0, r.2))
+  each_ctrl ((suc (suc (suc (suc k))), m) ∷ xs) h = absurd h.0
+
+  each_a : (xs : List (ℕ × Msg C)) → Each (λ x. From_a x.0 x.1) xs → Each (On_back S) (sent 0 xs) × Each (On_ac S) (sent 1 xs)
+  each_a [] h = (tt, tt)
+  each_a ((zero, m) ∷ xs) h = let r = each_a xs h.1 in ((h.0, r.0), r.1)
+  each_a ((suc zero, m) ∷ xs) h = let r = each_a xs h.1 in (r.0, (h.0, r.1))
+  each_a ((suc (suc k), m) ∷ xs) h = absurd h.0
+
+  each_b : (xs : List (ℕ × Msg C)) → Each (λ x. From_b x.0 x.1) xs → Each (On_back S) (sent 0 xs) × Each (On_bc S) (sent 1 xs)
+  each_b [] h = (tt, tt)
+  each_b ((zero, m) ∷ xs) h = let r = each_b xs h.1 in ((h.0, r.0), r.1)
+  each_b ((suc zero, m) ∷ xs) h = let r = each_b xs h.1 in (r.0, (h.0, r.1))
+  each_b ((suc (suc k), m) ∷ xs) h = absurd h.0
+
+  pub labels_switch : (v : World T C O) (did : Step S Switch) → Labels S v → Each (λ x. From_switch x.0 x.1) did.sends → Labels S (put_switch v did)
+  labels_switch v did l h =
+      let r = each_switch did.sends h in
+      record {
+        input = l.input;
+        cs = l.cs;
+        ca = l.ca;
+        cb = l.cb;
+        ac = l.ac;
+        bc = l.bc;
+        aw = l.aw;
+        bw = l.bw;
+        kept = l.kept;
+        sc = each-append (On_sc S) v.sc (sent 1 did.sends) l.sc r.0;
+        sa = each-append (On_sa S) v.sa (sent 2 did.sends) l.sa r.1;
+        sb = each-append (On_sb S) v.sb (sent 3 did.sends) l.sb r.2;
+      }
+
+  pub labels_ctrl : (v : World T C O) (did : Step S (Ctrl C)) → Labels S v → IsSelected S did.node.kept → Each (λ x. From_ctrl x.0 x.1) did.sends
+      → Labels S (put_ctrl v did)
+  labels_ctrl v did l kept h =
+      let r = each_ctrl did.sends h in
+      record {
+        input = l.input;
+        sa = l.sa;
+        sb = l.sb;
+        sc = l.sc;
+        ac = l.ac;
+        bc = l.bc;
+        aw = l.aw;
+        bw = l.bw;
+        kept = kept;
+        cs = each-append (On_cs S) v.cs (sent 0 did.sends) l.cs r.0;
+        ca = each-append (On_ca S) v.ca (sent 2 did.sends) l.ca r.1;
+        cb = each-append (On_cb S) v.cb (sent 3 did.sends) l.cb r.2;
+      }
+
+  pub labels_a : (v : World T C O) (did : Step S (Inst T)) → Labels S v → Each (λ x. From_a x.0 x.1) did.sends → Labels S (put_a v did)
+  labels_a v did l h =
+      let r = each_a did.sends h in
+      record {
+        input = l.input;
+        sa = l.sa;
+        sb = l.sb;
+        sc = l.sc;
+        cs = l.cs;
+        ca = l.ca;
+        cb = l.cb;
+        bc = l.bc;
+        bw = l.bw;
+        kept = l.kept;
+        aw = each-append (On_back S) v.aw (sent 0 did.sends) l.aw r.0;
+        ac = each-append (On_ac S) v.ac (sent 1 did.sends) l.ac r.1;
+      }
+
+  pub labels_b : (v : World T C O) (did : Step S (Inst T)) → Labels S v → Each (λ x. From_b x.0 x.1) did.sends → Labels S (put_b v did)
+  labels_b v did l h =
+      let r = each_b did.sends h in
+      record {
+        input = l.input;
+        sa = l.sa;
+        sb = l.sb;
+        sc = l.sc;
+        cs = l.cs;
+        ca = l.ca;
+        cb = l.cb;
+        ac = l.ac;
+        aw = l.aw;
+        kept = l.kept;
+        bw = each-append (On_back S) v.bw (sent 0 did.sends) l.bw r.0;
+        bc = each-append (On_bc S) v.bc (sent 1 did.sends) l.bc r.1;
+      }

@@ -1,0 +1,184 @@
+-- What the scan of a log tells: Low before High with a packet between them, and the verdict.
+use Rattle.std.proofs.Common.{◌≡◌, ℕ, Bool, true, false, Option, List, [], ◌∷◌, ◌++◌, refl, sym, ap, ◌∙◌, append-nil}
+use Rattle.std.specs.Prelude.{if◌then◌else◌, ◌||◌}
+use Rattle.std.proofs.lemmas.Bool.{false≢true}
+use Rattle.two_machine.proofs.Machine.{Scan, No_low, Low_only, Low_came, High_laid, Is_done, Is_none, Wrong, Frame}
+use Rattle.two_machine.proofs.Stages.{Stage, Before, Storing, Passing, Turned, Ends, Turn, Low_goes, Low_comes, Waits, High_goes, No_packet_came, Last, Is_over}
+use Rattle.two_machine.proofs.Tables.{System, Note, Arrived, Processed, Low, High, Done, No_packet}
+use Rattle.two_machine.proofs.View.{scan_note, scans, scans-append}
+use Rattle.two_machine.proofs.Promises.{after_low, has_come, verdicts}
+use Rattle.two_machine.proofs.Shapes.{shape, since}
+
+-- whether such a packet came since Low
+abbrev pub came_by : Scan → Bool
+came_by Low_came = true
+came_by High_laid = true
+came_by Is_done = true
+came_by s = false
+
+abbrev pub verdicts_by : {O : Type 0} → Scan → List (Note O)
+verdicts_by Is_done = Done ∷ []
+verdicts_by Is_none = No_packet ∷ []
+verdicts_by s = []
+
+abbrev pub is_wrong : Scan → Bool
+is_wrong Wrong = true
+is_wrong s = false
+
+abbrev pub has_low : Scan → Bool
+has_low No_low = false
+has_low s = true
+
+or_false : (b : Bool) → b ≡ b || false
+or_false true = refl
+or_false false = refl
+
+module _ {U T C R O : Type 0} (S : System U T C R O) where
+  -- nothing rights a wrong log
+  wrong_stays : (ns : List (Note O)) → scans S Wrong ns ≡ Wrong
+  wrong_stays [] = refl
+  wrong_stays (Arrived p ∷ ns) = by (S.covers p) (wrong_stays ns)
+    where
+      by : (b : Bool) → scans S Wrong ns ≡ Wrong → scans S (if b then Wrong else Wrong) ns ≡ Wrong
+      by true e = e
+      by false e = e
+  wrong_stays (Processed p i o ∷ ns) = wrong_stays ns
+  wrong_stays (Low ∷ ns) = wrong_stays ns
+  wrong_stays (High ∷ ns) = wrong_stays ns
+  wrong_stays (Done ∷ ns) = wrong_stays ns
+  wrong_stays (No_packet ∷ ns) = wrong_stays ns
+
+  never : {X : Type 0} → (ns : List (Note O)) → is_wrong (scans S Wrong ns) ≡ false → X
+  never ns right = let wrong = wrong_stays ns in absurd (false≢true (sym (rw wrong at right)))
+
+  -- from Low on
+  come_since : (s : Scan) (ns : List (Note O)) → is_wrong (scans S s ns) ≡ false → has_low s ≡ true → came_by (scans S s ns) ≡ came_by s || has_come S.covers ns
+  come_since No_low ns right low = absurd (false≢true low)
+  come_since Wrong ns right low = never ns right
+  come_since s [] right low = or_false (came_by s)
+  come_since Low_only (Arrived p ∷ ns) right low = by (S.covers p) right (come_since Low_came ns) (come_since Low_only ns)
+    where
+      by : (b : Bool) → is_wrong (scans S (if b then Low_came else Low_only) ns) ≡ false
+          → (is_wrong (scans S Low_came ns) ≡ false → true ≡ true → came_by (scans S Low_came ns) ≡ true)
+          → (is_wrong (scans S Low_only ns) ≡ false → true ≡ true → came_by (scans S Low_only ns) ≡ has_come S.covers ns)
+          → came_by (scans S (if b then Low_came else Low_only) ns) ≡ b || has_come S.covers ns
+      by true right h k = h right refl
+      by false right h k = k right refl
+  come_since Low_came (Arrived p ∷ ns) right low = by (S.covers p) right (come_since Low_came ns)
+    where
+      by : (b : Bool) → is_wrong (scans S (if b then Low_came else Low_came) ns) ≡ false
+          → (is_wrong (scans S Low_came ns) ≡ false → true ≡ true → came_by (scans S Low_came ns) ≡ true)
+          → came_by (scans S (if b then Low_came else Low_came) ns) ≡ true
+      by true right h = h right refl
+      by false right h = h right refl
+  come_since High_laid (Arrived p ∷ ns) right low = by (S.covers p) right (come_since High_laid ns)
+    where
+      by : (b : Bool) → is_wrong (scans S (if b then High_laid else High_laid) ns) ≡ false
+          → (is_wrong (scans S High_laid ns) ≡ false → true ≡ true → came_by (scans S High_laid ns) ≡ true)
+          → came_by (scans S (if b then High_laid else High_laid) ns) ≡ true
+      by true right h = h right refl
+      by false right h = h right refl
+  come_since Is_done (Arrived p ∷ ns) right low = by (S.covers p) right (come_since Is_done ns)
+    where
+      by : (b : Bool) → is_wrong (scans S (if b then Is_done else Is_done) ns) ≡ false
+          → (is_wrong (scans S Is_done ns) ≡ false → true ≡ true → came_by (scans S Is_done ns) ≡ true)
+          → came_by (scans S (if b then Is_done else Is_done) ns) ≡ true
+      by true right h = h right refl
+      by false right h = h right refl
+  come_since Is_none (Arrived p ∷ ns) right low = by (S.covers p) right (come_since Is_none ns)
+    where
+      by : (b : Bool) → is_wrong (scans S (if b then Wrong else Is_none) ns) ≡ false
+          → (is_wrong (scans S Is_none ns) ≡ false → true ≡ true → came_by (scans S Is_none ns) ≡ has_come S.covers ns)
+          → came_by (scans S (if b then Wrong else Is_none) ns) ≡ b || has_come S.covers ns
+      by true right h = never ns right
+      by false right h = h right refl
+  come_since s (Processed p i o ∷ ns) right low = come_since s ns right low
+  come_since Low_came (High ∷ ns) right low = come_since High_laid ns right refl
+  come_since High_laid (Done ∷ ns) right low = come_since Is_done ns right refl
+  come_since Low_only (No_packet ∷ ns) right low = come_since Is_none ns right refl
+  come_since s (n ∷ ns) right low = never ns right
+
+  -- and from the start
+  pub from_start : (ns : List (Note O)) → is_wrong (scans S No_low ns) ≡ false → came_by (scans S No_low ns) ≡ has_come S.covers (after_low ns)
+  from_start [] right = refl
+  from_start (Arrived p ∷ ns) right = by (S.covers p) right (from_start ns)
+    where
+      by : (b : Bool) → is_wrong (scans S (if b then No_low else No_low) ns) ≡ false
+          → (is_wrong (scans S No_low ns) ≡ false → came_by (scans S No_low ns) ≡ has_come S.covers (after_low ns))
+          → came_by (scans S (if b then No_low else No_low) ns) ≡ has_come S.covers (after_low ns)
+      by true right h = h right
+      by false right h = h right
+  from_start (Processed p i o ∷ ns) right = from_start ns right
+  from_start (Low ∷ ns) right = come_since Low_only ns right refl
+  from_start (n ∷ ns) right = never ns right
+
+  -- what stands before High was right, and a packet had come
+  before_high : (s : Scan) (after : List (Note O)) → is_wrong (scans S (scan_note S s High) after) ≡ false → s ≡ Low_came
+  before_high Low_came after right = refl
+  before_high s after right = never after right
+
+  pub low_before_high : (log : List (Note O)) → is_wrong (scans S No_low log) ≡ false → (before after : List (Note O)) → log ≡ before ++ High ∷ after
+      → has_come S.covers (after_low before) ≡ true
+  low_before_high log right before after is =
+      let whole = scans-append S No_low before (High ∷ after) in
+      let was = before_high (scans S No_low before) after (rw (is, whole) at right) in
+      sym (from_start before (rw was refl)) ∙ ap came_by was
+
+  same_after : (t s : Scan) (b : Bool) (ns : List (Note O)) → is_wrong (scans S (if b then t else s) ns) ≡ false → verdicts_by {O = O} s ≡ verdicts_by t
+      → (is_wrong (scans S t ns) ≡ false → verdicts_by t ++ verdicts ns ≡ verdicts_by (scans S t ns))
+      → (is_wrong (scans S s ns) ≡ false → verdicts_by s ++ verdicts ns ≡ verdicts_by (scans S s ns))
+      → verdicts_by s ++ verdicts ns ≡ verdicts_by (scans S (if b then t else s) ns)
+  same_after t s true ns right same h k = ap (λ xs. xs ++ verdicts ns) same ∙ h right
+  same_after t s false ns right same h k = k right
+
+  -- the verdict
+  verdict_from : (s : Scan) (ns : List (Note O)) → is_wrong (scans S s ns) ≡ false → verdicts_by s ++ verdicts ns ≡ verdicts_by (scans S s ns)
+  verdict_from Wrong ns right = never ns right
+  verdict_from s [] right = append-nil (verdicts_by s)
+  verdict_from s (Processed p i o ∷ ns) right = verdict_from s ns right
+  verdict_from No_low (Arrived p ∷ ns) right = same_after No_low No_low (S.covers p) ns right refl (verdict_from No_low ns) (verdict_from No_low ns)
+  verdict_from Low_only (Arrived p ∷ ns) right = same_after Low_came Low_only (S.covers p) ns right refl (verdict_from Low_came ns) (verdict_from Low_only ns)
+  verdict_from Low_came (Arrived p ∷ ns) right = same_after Low_came Low_came (S.covers p) ns right refl (verdict_from Low_came ns) (verdict_from Low_came ns)
+  verdict_from High_laid (Arrived p ∷ ns) right =
+      same_after High_laid High_laid (S.covers p) ns right refl (verdict_from High_laid ns) (verdict_from High_laid ns)
+  verdict_from Is_done (Arrived p ∷ ns) right = same_after Is_done Is_done (S.covers p) ns right refl (verdict_from Is_done ns) (verdict_from Is_done ns)
+  verdict_from Is_none (Arrived p ∷ ns) right = by (S.covers p) right (verdict_from Is_none ns)
+    where
+      by : (b : Bool) → is_wrong (scans S (if b then Wrong else Is_none) ns) ≡ false
+          → (is_wrong (scans S Is_none ns) ≡ false → No_packet ∷ verdicts ns ≡ verdicts_by (scans S Is_none ns))
+          → No_packet ∷ verdicts ns ≡ verdicts_by (scans S (if b then Wrong else Is_none) ns)
+      by true right h = never ns right
+      by false right h = h right
+  verdict_from No_low (Low ∷ ns) right = verdict_from Low_only ns right
+  verdict_from Low_came (High ∷ ns) right = verdict_from High_laid ns right
+  verdict_from High_laid (Done ∷ ns) right = verdict_from Is_done ns right
+  verdict_from Low_only (No_packet ∷ ns) right = verdict_from Is_none ns right
+  verdict_from s (n ∷ ns) right = never ns right
+
+  pub the_verdict : (log : List (Note O)) → is_wrong (scans S No_low log) ≡ false → verdicts log ≡ verdicts_by (scans S No_low log)
+  the_verdict log right = verdict_from No_low log right
+
+-- no stage has a wrong log
+since_right : (c : List ℕ) → is_wrong (since c) ≡ false
+since_right [] = refl
+since_right (p ∷ c) = refl
+
+module _ {R : Type 0} (f : Frame R) where
+  turn_right : (n : Turn) (d : List ℕ) (s : Option ℕ) (z x g e l : List ℕ) (t : Option ℕ) (c : List ℕ) (b : Bool)
+      → is_wrong (shape f (Passing n d s z x g e l t c b)).scan ≡ false
+  turn_right Low_goes d s z x g e l t c b = refl
+  turn_right Low_comes d s z x g e l t c b = since_right c
+  turn_right Waits d s z x g e l t c b = since_right c
+  turn_right High_goes d s z x g e l t c b = refl
+  turn_right No_packet_came d s z x g e l t c b = refl
+
+  last_right : (n : Last) (d : List ℕ) (s t : Option ℕ) (h y : List ℕ) (b : Bool) → is_wrong (shape f (Ends n d s t h y b)).scan ≡ false
+  last_right Is_over d s t h y b = refl
+  last_right n d s t h y b = refl
+
+  pub scan_right : (s : Stage) → is_wrong (shape f s).scan ≡ false
+  scan_right (Before n d l b) = refl
+  scan_right (Storing n d g e l b) = refl
+  scan_right (Passing n d s z x g e l t c b) = turn_right n d s z x g e l t c b
+  scan_right (Turned n d s z x g e l t c h y b) = refl
+  scan_right (Ends n d s t h y b) = last_right n d s t h y b

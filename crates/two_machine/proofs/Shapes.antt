@@ -1,0 +1,274 @@
+-- The state of the machine at each stage (`shape`), and where a move from there leads.
+use Rattle.std.proofs.Common.{◌≡◌, ℕ, true, false, Option, None, List, [], ◌∷◌, ◌++◌}
+use Rattle.two_machine.proofs.Machine.{Rule, Free, Drops, Buffers, Target, To_a, To_both, To_b, Phase, Idle, Freezing, Getting, Deleting, Putting, Holding, Laying, Waiting, Turning, Settling, Ending, Over, Scan, No_low, Low_only, Low_came, High_laid, Is_done, Is_none, Item, Enable, Get, Delete, Restore, Fence, Enabled, Chunks, Deleted, Restored, Fenced, Lay, Laid, Copied, Frame, after, State, Move, Arrive, End_comes, moved}
+use Rattle.two_machine.proofs.Stages.{Early, Not_begun, Enable_goes, Part, Enabled_comes, Get_goes, Chunks_come, Delete_goes, Deleted_comes, Restore_goes, Restored_comes, Hold_goes, Held_comes, Turn, Low_goes, Low_comes, Waits, High_goes, No_packet_came, Late, High_comes, Settles, Last, Fence_goes, Fenced_comes, Is_over, Stage, Before, Storing, Passing, Turned, Ends, done, path, Fits}
+
+-- the phases of the stages
+abbrev pub early_phase : Early → Phase
+early_phase Not_begun = Idle
+early_phase Enable_goes = Freezing
+
+abbrev pub starts_of : Early → List ℕ
+starts_of Not_begun = 0 ∷ []
+starts_of Enable_goes = []
+
+abbrev pub enables : {R : Type 0} → Early → List (Item R)
+enables Not_begun = []
+enables Enable_goes = Enable Drops ∷ []
+
+abbrev pub part_phase : Part → Phase
+part_phase Enabled_comes = Freezing
+part_phase Get_goes = Getting
+part_phase Chunks_come = Getting
+part_phase Delete_goes = Deleting
+part_phase Deleted_comes = Deleting
+part_phase Restore_goes = Putting
+part_phase Restored_comes = Putting
+part_phase Hold_goes = Holding
+part_phase Held_comes = Holding
+
+module _ {R : Type 0} (r : Option R) where
+  abbrev pub part_ca : Part → List (Item R)
+  part_ca Get_goes = Get ∷ []
+  part_ca Delete_goes = Delete r ∷ []
+  part_ca n = []
+
+  abbrev pub part_ac : Part → List (Item R)
+  part_ac Enabled_comes = Enabled ∷ []
+  part_ac Chunks_come = Chunks r ∷ []
+  part_ac Deleted_comes = Deleted ∷ []
+  part_ac n = []
+
+  abbrev pub part_cb : Part → List (Item R)
+  part_cb Restore_goes = Restore r ∷ []
+  part_cb Hold_goes = Enable Buffers ∷ []
+  part_cb n = []
+
+  abbrev pub part_bc : Part → List (Item R)
+  part_bc Restored_comes = Restored ∷ []
+  part_bc Held_comes = Enabled ∷ []
+  part_bc n = []
+
+  abbrev pub part_a : Part → Option R
+  part_a Enabled_comes = r
+  part_a Get_goes = r
+  part_a Chunks_come = r
+  part_a Delete_goes = r
+  part_a n = None
+
+  abbrev pub part_b : Part → Option R
+  part_b Restored_comes = r
+  part_b Hold_goes = r
+  part_b Held_comes = r
+  part_b n = None
+
+  abbrev pub part_kept : Part → Option R
+  part_kept Delete_goes = r
+  part_kept Deleted_comes = r
+  part_kept n = None
+
+abbrev pub part_rule : Part → Rule
+part_rule Held_comes = Buffers
+part_rule n = Free
+
+abbrev pub turn_phase : Turn → Phase
+turn_phase Low_goes = Laying
+turn_phase Low_comes = Laying
+turn_phase Waits = Waiting
+turn_phase High_goes = Turning
+turn_phase No_packet_came = Over
+
+abbrev pub copies : {R : Type 0} → List ℕ → List (Item R)
+copies [] = []
+copies (p ∷ ps) = Copied p ∷ copies ps
+
+abbrev pub turn_sc : {R : Type 0} → Turn → List ℕ → List (Item R)
+turn_sc Low_goes c = []
+turn_sc Low_comes c = Laid false ∷ copies c
+turn_sc Waits c = copies c
+turn_sc High_goes c = copies c
+turn_sc No_packet_came c = []
+
+abbrev pub turn_cs : {R : Type 0} → Turn → List (Item R)
+turn_cs Low_goes = Lay false ∷ []
+turn_cs High_goes = Lay true ∷ []
+turn_cs n = []
+
+abbrev pub turn_target : Turn → Target
+turn_target Low_goes = To_a
+turn_target n = To_both
+
+-- whether a matched packet came since Low
+abbrev pub since : List ℕ → Scan
+since [] = Low_only
+since (p ∷ ps) = Low_came
+
+abbrev pub turn_scan : Turn → List ℕ → Scan
+turn_scan Low_goes c = No_low
+turn_scan Low_comes c = since c
+turn_scan Waits c = since c
+turn_scan High_goes c = Low_came
+turn_scan No_packet_came c = Is_none
+
+abbrev pub late_phase : Late → Phase
+late_phase High_comes = Turning
+late_phase Settles = Settling
+
+abbrev pub late_sc : {R : Type 0} → Late → List ℕ → List (Item R)
+late_sc High_comes c = copies c ++ Laid true ∷ []
+late_sc Settles c = []
+
+abbrev pub last_phase : Last → Phase
+last_phase Fence_goes = Ending
+last_phase Fenced_comes = Ending
+last_phase Is_over = Over
+
+abbrev pub last_cb : {R : Type 0} → Last → List (Item R)
+last_cb Fence_goes = Fence ∷ []
+last_cb n = []
+
+abbrev pub last_bc : {R : Type 0} → Last → List (Item R)
+last_bc Fenced_comes = Fenced ∷ []
+last_bc n = []
+
+abbrev pub last_rule : Last → Rule
+last_rule Fence_goes = Buffers
+last_rule n = Free
+
+abbrev pub last_scan : Last → Scan
+last_scan Is_over = Is_done
+last_scan n = High_laid
+
+module _ {R : Type 0} (f : Frame R) where
+  abbrev pub shape : Stage → State R
+  shape (Before n d l b) = record {
+    starts = starts_of n;
+    sa = l;
+    passes = [];
+    plains = [];
+    forwards = [];
+    events = [];
+    seens = [];
+    sc = [];
+    cs = [];
+    ca = enables n;
+    cb = [];
+    ac = [];
+    bc = [];
+    target = To_a;
+    a = record { rule = Free; held = []; live = after f d };
+    b = record { rule = Free; held = []; live = None };
+    c = record { phase = early_phase n; store = []; kept = None; last = None; seen = None; ended = b };
+    done = d;
+    scan = No_low;
+  }
+  shape (Storing n d g e l b) = record {
+    starts = [];
+    sa = l;
+    passes = [];
+    plains = [];
+    forwards = [];
+    events = e;
+    seens = [];
+    sc = [];
+    cs = [];
+    ca = part_ca (after f d) n;
+    cb = part_cb (after f d) n;
+    ac = part_ac (after f d) n;
+    bc = part_bc (after f d) n;
+    target = To_a;
+    a = record { rule = Drops; held = []; live = part_a (after f d) n };
+    b = record { rule = part_rule n; held = []; live = part_b (after f d) n };
+    c = record { phase = part_phase n; store = g; kept = part_kept (after f d) n; last = None; seen = None; ended = b };
+    done = d;
+    scan = No_low;
+  }
+  shape (Passing n d s z x g e l t c b) = record {
+    starts = [];
+    sa = l;
+    passes = x;
+    plains = [];
+    forwards = g;
+    events = e;
+    seens = z;
+    sc = turn_sc n c;
+    cs = turn_cs n;
+    ca = [];
+    cb = [];
+    ac = [];
+    bc = [];
+    target = turn_target n;
+    a = record { rule = Drops; held = []; live = None };
+    b = record { rule = Buffers; held = []; live = after f d };
+    c = record { phase = turn_phase n; store = []; kept = None; last = t; seen = s; ended = b };
+    done = d;
+    scan = turn_scan n c;
+  }
+  shape (Turned n d s z x g e l t c h y b) = record {
+    starts = [];
+    sa = l;
+    passes = x;
+    plains = y;
+    forwards = g;
+    events = e;
+    seens = z;
+    sc = late_sc n c;
+    cs = [];
+    ca = [];
+    cb = [];
+    ac = [];
+    bc = [];
+    target = To_b;
+    a = record { rule = Drops; held = []; live = None };
+    b = record { rule = Buffers; held = h; live = after f d };
+    c = record { phase = late_phase n; store = []; kept = None; last = t; seen = s; ended = b };
+    done = d;
+    scan = High_laid;
+  }
+  shape (Ends n d s t h y b) = record {
+    starts = [];
+    sa = [];
+    passes = [];
+    plains = y;
+    forwards = [];
+    events = [];
+    seens = [];
+    sc = [];
+    cs = [];
+    ca = [];
+    cb = last_cb n;
+    ac = [];
+    bc = last_bc n;
+    target = To_b;
+    a = record { rule = Drops; held = []; live = None };
+    b = record { rule = last_rule n; held = h; live = after f d };
+    c = record { phase = last_phase n; store = []; kept = None; last = s; seen = t; ended = b };
+    done = d;
+    scan = last_scan n;
+  }
+
+-- the numbers of copies on a link
+abbrev pub copied : {R : Type 0} → List (Item R) → List ℕ
+copied [] = []
+copied (Copied p ∷ xs) = p ∷ copied xs
+copied (x ∷ xs) = copied xs
+
+-- nothing arrives after the end, which comes after all copies
+abbrev pub Allowed : {R : Type 0} → State R → Move → Type 0
+Allowed x (Arrive p) = x.c.ended ≡ false
+Allowed x End_comes = (x.c.ended ≡ false) × (copied x.sc ≡ [])
+Allowed x m = Unit {0}
+
+abbrev pub brings : Move → List ℕ
+brings (Arrive p) = p ∷ []
+brings m = []
+
+-- where a move leads
+pub record Leads {R : Type 0} (f : Frame R) (s : Stage) (x : State R) (ps : List ℕ) : Type 0 where
+  pub next : Stage
+  pub fits : Fits next
+  pub alike : x ≡ shape f next
+  pub order : done next ++ path next ≡ (done s ++ path s) ++ ps
+
+abbrev pub GoesOn : {R : Type 0} → Frame R → Stage → Move → Type 0
+GoesOn f s m = Leads f s (moved f (shape f s) m) (brings m)

@@ -1,0 +1,176 @@
+-- Which message an enabled choice takes, and what is known of the world without it.
+use Rattle.std.proofs.Common.{◌≡◌, ◌≢◌, ℕ, zero, suc, true, false, Some, List, [], ◌∷◌, ◌++◌, refl, ap, arith}
+use Rattle.std.specs.Prelude.{◌==◌, nat_lt}
+use Rattle.std.proofs.lemmas.Bool.{false≢true}
+use Rattle.std.proofs.lemmas.Bool.Decides.{nat_tests}
+use Rattle.actor_net.specs.declared.choice.Choice.{Choice}
+use Rattle.actor_net.specs.Network.{waiting, takes_first, is_enabled}
+use Rattle.two_machine.proofs.Machine.{Drops}
+use Rattle.two_machine.proofs.Tables.{System, Msg, Node, Is_switch, Is_ctrl, Is_inst, In_packet, In_start, In_end, node_ready}
+use Rattle.two_machine.proofs.View.{World, net, read}
+use Rattle.two_machine.proofs.Labels
+use Rattle.two_machine.proofs.Labels.{IsSelected, In_input, Labels}
+use Rattle.two_machine.proofs.Places.{Place, In, Cs, Aw, Bw, Sc, Ac, Bc, Sa, Ca, Sb, Cb, choice, waits, with_waits, comes, Label, result}
+use Rattle.two_machine.proofs.Arrivals.{coming, Ready}
+
+module _ {U T C R O : Type 0} (S : System U T C R O) where
+  -- what an enabled choice takes
+  pub record Takes (v : World T C O) (k p : ℕ) : Type 0 where
+    pub place : Place
+    pub message : Msg C
+    pub rest : List (Msg C)
+    pub is : ◌≡◌ {A = Choice} (record { node = k; port = p }) (choice place)
+    pub waits_is : waits S place v ≡ message ∷ rest
+    pub ready : Ready S place v message
+
+  by_link : (v : World T C O) (pl : Place) (node : Node T C) (l : List (Msg C)) → waits S pl v ≡ l
+      → takes_first (node_ready S) (choice pl) (Some node) l ≡ true → ((message : Msg C) → Ready S pl v message) → Takes v (choice pl).node (choice pl).port
+  by_link v pl node [] e on ready = absurd (false≢true on)
+  by_link v pl node (message ∷ rest) e on ready = record { place = pl; message = message; rest = rest; is = refl; waits_is = e; ready = ready message }
+
+  by_input : (v : World T C O) (l : List (Msg C)) → v.input ≡ l → takes_first (node_ready S) (choice In) (Some (Is_switch v.sw)) l ≡ true → Takes v 0 0
+  by_input v [] e on = absurd (false≢true on)
+  by_input v (message ∷ rest) e on = record { place = In; message = message; rest = rest; is = refl; waits_is = e; ready = on }
+
+  far : (k : ℕ) → nat_lt (suc (suc (suc (suc k)))) 4 ≡ false
+  far k = grind (arith, nat_tests)
+
+  not_zero : (k : ℕ) → (suc (suc (suc (suc k))) == 0) ≡ false
+  not_zero k = grind (arith, nat_tests)
+
+  nothing : (v : World T C O) (k p : ℕ) (node : Node T C) (l : List (Msg C)) → l ≡ []
+      → takes_first (node_ready S) (record { node = k; port = p }) (Some node) l ≡ true → Takes v k p
+  nothing v k p node l e on = absurd (false≢true (rw e at on))
+
+  pub finds : (v : World T C O) (k p : ℕ) → is_enabled (node_ready S) (net v) (record { node = k; port = p }) ≡ true → Takes v k p
+  finds v zero zero on = by_input v v.input refl on
+  finds v zero (suc zero) on = by_link v Cs (Is_switch v.sw) v.cs refl on (λ _. tt)
+  finds v zero (suc (suc zero)) on = by_link v Aw (Is_switch v.sw) v.aw refl on (λ _. tt)
+  finds v zero (suc (suc (suc zero))) on = by_link v Bw (Is_switch v.sw) v.bw refl on (λ _. tt)
+  finds v (suc zero) zero on = by_link v Sc (Is_ctrl v.ct) v.sc refl on (λ _. tt)
+  finds v (suc zero) (suc zero) on = absurd (false≢true on)
+  finds v (suc zero) (suc (suc zero)) on = by_link v Ac (Is_ctrl v.ct) v.ac refl on (λ _. tt)
+  finds v (suc zero) (suc (suc (suc zero))) on = by_link v Bc (Is_ctrl v.ct) v.bc refl on (λ _. tt)
+  finds v (suc (suc zero)) zero on = by_link v Sa (Is_inst 0 v.a) v.sa refl on (λ _. tt)
+  finds v (suc (suc zero)) (suc zero) on = by_link v Ca (Is_inst 0 v.a) v.ca refl on (λ _. tt)
+  finds v (suc (suc zero)) (suc (suc zero)) on = absurd (false≢true on)
+  finds v (suc (suc zero)) (suc (suc (suc zero))) on = absurd (false≢true on)
+  finds v (suc (suc (suc zero))) zero on = by_link v Sb (Is_inst 1 v.b) v.sb refl on (λ _. tt)
+  finds v (suc (suc (suc zero))) (suc zero) on = by_link v Cb (Is_inst 1 v.b) v.cb refl on (λ _. tt)
+  finds v (suc (suc (suc zero))) (suc (suc zero)) on = absurd (false≢true on)
+  finds v (suc (suc (suc zero))) (suc (suc (suc zero))) on = absurd (false≢true on)
+  finds v zero (suc (suc (suc (suc p)))) on =
+      let no_link = far p in
+      let port = not_zero p in
+      nothing v 0 (suc (suc (suc (suc p)))) (Is_switch v.sw) (waiting (net v) (record { node = 0; port = suc (suc (suc (suc p))) }))
+      (rw (port, no_link) refl) on
+  finds v (suc zero) (suc (suc (suc (suc p)))) on =
+      let no_link = far p in
+      nothing v 1 (suc (suc (suc (suc p)))) (Is_ctrl v.ct) (waiting (net v) (record { node = 1; port = suc (suc (suc (suc p))) })) (rw no_link refl) on
+  finds v (suc (suc zero)) (suc (suc (suc (suc p)))) on =
+      let no_link = far p in
+      nothing v 2 (suc (suc (suc (suc p)))) (Is_inst 0 v.a) (waiting (net v) (record { node = 2; port = suc (suc (suc (suc p))) })) (rw no_link refl) on
+  finds v (suc (suc (suc zero))) (suc (suc (suc (suc p)))) on =
+      let no_link = far p in
+      nothing v 3 (suc (suc (suc (suc p)))) (Is_inst 1 v.b) (waiting (net v) (record { node = 3; port = suc (suc (suc (suc p))) })) (rw no_link refl) on
+  finds v (suc (suc (suc (suc k)))) p on = absurd (false≢true on)
+
+  -- the labels of what is taken, and of what is left
+  pub labels_less : (pl : Place) (v : World T C O) (message : Msg C) (rest : List (Msg C)) → Labels S (with_waits S pl (message ∷ rest) v)
+      → Label S pl message × Labels S (with_waits S pl rest v)
+  labels_less In v x rest l = (l.input.0, Labels.less_input S v x rest l)
+  labels_less Cs v x rest l = (l.cs.0, Labels.less_cs S v x rest l)
+  labels_less Aw v x rest l = (l.aw.0, Labels.less_aw S v x rest l)
+  labels_less Bw v x rest l = (l.bw.0, Labels.less_bw S v x rest l)
+  labels_less Sc v x rest l = (l.sc.0, Labels.less_sc S v x rest l)
+  labels_less Ac v x rest l = (l.ac.0, Labels.less_ac S v x rest l)
+  labels_less Bc v x rest l = (l.bc.0, Labels.less_bc S v x rest l)
+  labels_less Sa v x rest l = (l.sa.0, Labels.less_sa S v x rest l)
+  labels_less Ca v x rest l = (l.ca.0, Labels.less_ca S v x rest l)
+  labels_less Sb v x rest l = (l.sb.0, Labels.less_sb S v x rest l)
+  labels_less Cb v x rest l = (l.cb.0, Labels.less_cb S v x rest l)
+
+  pub kept_there : (pl : Place) (v : World T C O) (xs : List (Msg C)) → Labels S (with_waits S pl xs v) → IsSelected S v.ct.kept
+  kept_there In v xs l = l.kept
+  kept_there Cs v xs l = l.kept
+  kept_there Aw v xs l = l.kept
+  kept_there Bw v xs l = l.kept
+  kept_there Sc v xs l = l.kept
+  kept_there Ac v xs l = l.kept
+  kept_there Bc v xs l = l.kept
+  kept_there Sa v xs l = l.kept
+  kept_there Ca v xs l = l.kept
+  kept_there Sb v xs l = l.kept
+  kept_there Cb v xs l = l.kept
+
+  -- a world with what waits at a place written out
+  pub written : (pl : Place) (v : World T C O) (xs : List (Msg C)) → waits S pl v ≡ xs → v ≡ with_waits S pl xs v
+  written In v xs e = ap (λ l. with_waits S In l v) e
+  written Cs v xs e = ap (λ l. with_waits S Cs l v) e
+  written Aw v xs e = ap (λ l. with_waits S Aw l v) e
+  written Bw v xs e = ap (λ l. with_waits S Bw l v) e
+  written Sc v xs e = ap (λ l. with_waits S Sc l v) e
+  written Ac v xs e = ap (λ l. with_waits S Ac l v) e
+  written Bc v xs e = ap (λ l. with_waits S Bc l v) e
+  written Sa v xs e = ap (λ l. with_waits S Sa l v) e
+  written Ca v xs e = ap (λ l. with_waits S Ca l v) e
+  written Sb v xs e = ap (λ l. with_waits S Sb l v) e
+  written Cb v xs e = ap (λ l. with_waits S Cb l v) e
+
+  -- what of the world a place doesn't change
+  pub log_there : (pl : Place) (v : World T C O) (xs : List (Msg C)) → (with_waits S pl xs v).log ≡ v.log
+  log_there In v xs = refl
+  log_there Cs v xs = refl
+  log_there Aw v xs = refl
+  log_there Bw v xs = refl
+  log_there Sc v xs = refl
+  log_there Ac v xs = refl
+  log_there Bc v xs = refl
+  log_there Sa v xs = refl
+  log_there Ca v xs = refl
+  log_there Sb v xs = refl
+  log_there Cb v xs = refl
+
+  pub rule_there : (pl : Place) (v : World T C O) (xs : List (Msg C)) → (with_waits S pl xs v).b.rule ≢ Drops → v.b.rule ≢ Drops
+  rule_there In v xs h = h
+  rule_there Cs v xs h = h
+  rule_there Aw v xs h = h
+  rule_there Bw v xs h = h
+  rule_there Sc v xs h = h
+  rule_there Ac v xs h = h
+  rule_there Bc v xs h = h
+  rule_there Sa v xs h = h
+  rule_there Ca v xs h = h
+  rule_there Sb v xs h = h
+  rule_there Cb v xs h = h
+
+  pub ready_there : (pl : Place) (v : World T C O) (x : Msg C) (xs : List (Msg C)) → Ready S pl (with_waits S pl xs v) x → Ready S pl v x
+  ready_there In v x xs h = h
+  ready_there Cs v x xs h = tt
+  ready_there Aw v x xs h = tt
+  ready_there Bw v x xs h = tt
+  ready_there Sc v x xs h = tt
+  ready_there Ac v x xs h = tt
+  ready_there Bc v x xs h = tt
+  ready_there Sa v x xs h = tt
+  ready_there Ca v x xs h = tt
+  ready_there Sb v x xs h = tt
+  ready_there Cb v x xs h = tt
+
+  -- the packets that still stand in the input
+  pub left_in : (pl : Place) (v : World T C O) (x : Msg C) (xs : List (Msg C)) → Label S pl x
+      → read coming (with_waits S pl (x ∷ xs) v).input ≡ comes pl x ++ read coming (result S pl (with_waits S pl xs v) x).input
+  left_in In v (In_packet p) xs h = refl
+  left_in In v In_start xs h = refl
+  left_in In v In_end xs h = refl
+  left_in In v x xs h = absurd h
+  left_in Cs v x xs h = refl
+  left_in Aw v x xs h = refl
+  left_in Bw v x xs h = refl
+  left_in Sc v x xs h = refl
+  left_in Ac v x xs h = refl
+  left_in Bc v x xs h = refl
+  left_in Sa v x xs h = refl
+  left_in Ca v x xs h = refl
+  left_in Sb v x xs h = refl
+  left_in Cb v x xs h = refl

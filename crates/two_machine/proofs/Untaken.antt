@@ -1,0 +1,297 @@
+-- Along every run a unit that the filter doesn't take stays at A: its packets go there in order, and its record is live there alone.
+use Rattle.std.proofs.Common.{◌≡◌, ℕ, Bool, true, false, None, List, [], ◌∷◌, ◌++◌, refl, sym, ap, ◌∙◌, append_assoc, append-nil}
+use Rattle.std.specs.Prelude.{if◌then◌else◌, ◌==◌}
+use Rattle.two_machine.proofs.Machine.{Rule, Free, Drops, Buffers, Target, To_a, To_both, To_b, stepped, folded}
+use Rattle.two_machine.proofs.Laws.{folded-append}
+use Rattle.two_machine.proofs.Tables
+use Rattle.two_machine.proofs.Tables.{System, Laws, Msg, Note, Switch, Ctrl, Inst, Node, Step, In_packet, In_start, In_end, Forward, Lay, Finish, Carry, Pass, Stop, Enable, Get, Delete, Restore, Fence, Credit, Arrived, Processed, has_room, goes, switch_step, processed, all_processed, ruled, inst_step, ctrl_step, takes_in}
+use Rattle.two_machine.proofs.View.{World, read, read-append, those, those-append, carries, arrived, ran, Nobody, view}
+use Rattle.two_machine.proofs.Labels.{IsSelected, In_input, On_sa, On_ca, On_sb, On_cb, On_cs, On_back}
+use Rattle.two_machine.proofs.Puts.{sent, put_switch, put_a, put_b}
+use Rattle.two_machine.proofs.Places.{Place, In, Cs, Aw, Bw, Sc, Ac, Bc, Sa, Ca, Sb, Cb, with_waits, Label, result}
+use Rattle.two_machine.proofs.StageFacts.{Knows}
+use Rattle.two_machine.proofs.Arrivals.{Ready, inst_notes}
+use Rattle.two_machine.proofs.Outputs.{mine, its_frame, told, due, record_by, IsRight, right_more, right_none, right_one, told_other, due_other, folded_other, other_cover, each_other, ran_fence}
+use Rattle.actor_net.proofs.WeightLaws.{Each}
+use Rattle.two_machine.proofs.StepLabels.{CtrlOk, ctrl_ok, gives_sc, gives_ac, gives_bc}
+
+module _ {U T C R O : Type 0} (S : System U T C R O) (laws : Laws S) (u : U) (not_its : S.takes u ≡ false) where
+  abbrev own : List ℕ → List ℕ
+  own ps = those (mine S laws u) ps
+
+  pub record Stays (v : World T C O) : Type 0 where
+    pub a_is : S.at v.a.table u ≡ record_by S laws u v.log
+    pub b_is : S.at v.b.table u ≡ None
+    pub order : own (read ran v.log) ++ own (read carries v.sa) ≡ own (read arrived v.log)
+    pub right : IsRight S laws u v.log
+
+  record_more : (log notes : List (Note O)) → record_by S laws u (log ++ notes) ≡ folded (its_frame S laws u) (record_by S laws u log) (read ran notes)
+  record_more log notes =
+      ap (folded (its_frame S laws u) None) (read-append ran log notes) ∙ folded-append (its_frame S laws u) None (read ran log) (read ran notes)
+
+  -- a step that processes nothing, and brings nothing in
+  quietly : (v w : World T C O) (notes : List (Note O)) → w.log ≡ v.log ++ notes → read ran notes ≡ [] → read arrived notes ≡ []
+      → S.at w.a.table u ≡ S.at v.a.table u → S.at w.b.table u ≡ S.at v.b.table u → own (read carries w.sa) ≡ own (read carries v.sa) → Stays v → Stays w
+  quietly v w notes log no_ran no_came a b sa h =
+      let rans : read ran (v.log ++ notes) ≡ read ran v.log = read-append ran v.log notes ∙ rw no_ran (append-nil (read ran v.log)) in
+      let came : read arrived (v.log ++ notes) ≡ read arrived v.log = read-append arrived v.log notes ∙ rw no_came (append-nil (read arrived v.log)) in
+      record {
+        a_is = rw log (a ∙ h.a_is ∙ sym (ap (folded (its_frame S laws u) None) rans));
+        b_is = b ∙ h.b_is;
+        order = rw (log, rans, came, sa) h.order;
+        right = rw log (right_none S laws u v.log notes h.right no_ran);
+      }
+
+  own_put : (xs ys : List (Msg C)) → read carries ys ≡ [] → own (read carries (xs ++ ys)) ≡ own (read carries xs)
+  own_put xs ys none = ap own (read-append carries xs ys ∙ rw none (append-nil (read carries xs)))
+
+  -- A processes a packet
+  runs_a : (v : World T C O) (p : ℕ) (rest : List (Msg C)) → Stays (record v { sa = Carry p ∷ rest })
+      → Stays (put_a S (record v { sa = rest }) (processed S 0 v.a p))
+  runs_a v p rest h = record {
+    a_is = laws.processed v.a.table p u ∙ ap (λ x. stepped (its_frame S laws u) x p) h.a_is ∙ sym (record_more v.log (processed S 0 v.a p).notes);
+    b_is = h.b_is;
+    order =
+        ap (λ xs. own xs ++ own (read carries rest)) (read-append ran v.log (processed S 0 v.a p).notes)
+        ∙ ap (λ xs. xs ++ own (read carries rest)) (those-append (mine S laws u) (read ran v.log) (p ∷ []))
+        ∙ append_assoc (own (read ran v.log)) (own (p ∷ [])) (own (read carries rest))
+        ∙ ap (λ xs. own (read ran v.log) ++ xs) (sym (those-append (mine S laws u) (p ∷ []) (read carries rest)))
+        ∙ h.order
+        ∙ sym (ap own (read-append arrived v.log (processed S 0 v.a p).notes ∙ append-nil (read arrived v.log)));
+    right = right_more S laws u v.log (processed S 0 v.a p).notes h.right (right_one S laws u 0 v.a.table p (record_by S laws u v.log) (λ _. h.a_is));
+  }
+
+  -- a packet of another unit leaves A's link
+  less_a : (p : ℕ) (rest : List (Msg C)) → mine S laws u p ≡ false → own (read carries rest) ≡ own (read carries (Carry p ∷ rest))
+  less_a p rest other = rw other refl
+
+  stays_sa : (v : World T C O) (x : Msg C) (rest : List (Msg C)) → On_sa S x → Stays (record v { sa = x ∷ rest })
+      → Stays (put_a S (record v { sa = rest }) (inst_step S 0 v.a x))
+  stays_sa v (Carry p) rest l h = by (S.covers p) refl
+    where
+      less : World T C O
+      less = record v { sa = rest }
+
+      first : World T C O
+      first = record v { sa = Carry p ∷ rest }
+
+      by_rule : (r : Rule) → mine S laws u p ≡ false → Stays (put_a S less (ruled S r 0 v.a p))
+      by_rule Free other = runs_a v p rest h
+      by_rule Drops other = quietly first (put_a S less (ruled S Drops 0 v.a p)) [] refl refl refl refl refl (less_a p rest other) h
+      by_rule Buffers other = quietly first (put_a S less (ruled S Buffers 0 v.a p)) [] refl refl refl refl refl (less_a p rest other) h
+
+      by : (b : Bool) → S.covers p ≡ b → Stays (put_a S less (if b then ruled S v.a.rule 0 v.a p else processed S 0 v.a p))
+      by true e = by_rule v.a.rule (other_cover S laws u not_its p e)
+      by false e = runs_a v p rest h
+  stays_sa v Stop rest l h =
+      quietly (record v { sa = Stop ∷ rest }) (put_a S (record v { sa = rest }) (inst_step S 0 v.a Stop)) [] refl refl refl refl refl refl h
+  stays_sa v x rest l h = absurd l
+
+  no_chunk : (s : T) → S.has (S.select s) u ≡ None
+  no_chunk s = laws.selected s u ∙ rw not_its refl
+
+  stays_ca : (v : World T C O) (x : Msg C) (rest : List (Msg C)) → On_ca S x → Stays (record v { ca = x ∷ rest })
+      → Stays (put_a S (record v { ca = rest }) (inst_step S 0 v.a x))
+  stays_ca v (Enable r) rest l h =
+      quietly (record v { ca = Enable r ∷ rest }) (put_a S (record v { ca = rest }) (inst_step S 0 v.a (Enable r))) [] refl refl refl refl refl refl h
+  stays_ca v Get rest l h = quietly (record v { ca = Get ∷ rest }) (put_a S (record v { ca = rest }) (inst_step S 0 v.a Get)) [] refl refl refl refl refl refl h
+  stays_ca v (Delete c) rest l h =
+      let made = l.1 in
+      let none = no_chunk l.0 in
+      let kept : S.at (S.delete c v.a.table) u ≡ S.at v.a.table u = rw made (laws.deleted v.a.table l.0 u ∙ rw none refl) in
+      quietly (record v { ca = Delete c ∷ rest }) (put_a S (record v { ca = rest }) (inst_step S 0 v.a (Delete c))) [] refl refl refl kept refl refl h
+  stays_ca v x rest l h = absurd l
+
+  -- B processes packets of other units
+  runs_b : (v w : World T C O) (notes : List (Note O)) (ps : List ℕ) → w.log ≡ v.log ++ notes → read ran notes ≡ ps → read arrived notes ≡ []
+      → told S laws u notes ≡ [] → Each (λ p. mine S laws u p ≡ false) ps → S.at w.a.table u ≡ S.at v.a.table u → S.at w.b.table u ≡ S.at v.b.table u
+      → own (read carries w.sa) ≡ own (read carries v.sa) → Stays v → Stays w
+  runs_b v w notes ps log rans no_came tells others a b sa h =
+      let came : read arrived (v.log ++ notes) ≡ read arrived v.log = read-append arrived v.log notes ∙ rw no_came (append-nil (read arrived v.log)) in
+      let owned : own (read ran (v.log ++ notes)) ≡ own (read ran v.log) =
+      ap own (read-append ran v.log notes) ∙ those-append (mine S laws u) (read ran v.log) (read ran notes)
+      ∙ ap (λ xs. own (read ran v.log) ++ xs) (ap own rans ∙ own_none ps others) ∙ append-nil (own (read ran v.log)) in
+      record {
+        a_is =
+            rw log
+            (a ∙ h.a_is
+            ∙ sym
+            (record_more v.log notes ∙ ap (folded (its_frame S laws u) (record_by S laws u v.log)) rans
+            ∙ folded_other S laws u (record_by S laws u v.log) ps others));
+        b_is = b ∙ h.b_is;
+        order = rw (log, owned, came, sa) h.order;
+        right =
+            rw log
+            (right_more S laws u v.log notes h.right
+            (tells ∙ sym (ap (due S laws u (record_by S laws u v.log)) rans ∙ due_other S laws u (record_by S laws u v.log) ps others)));
+      }
+    where
+      own_none : (xs : List ℕ) → Each (λ p. mine S laws u p ≡ false) xs → own xs ≡ []
+      own_none [] k = refl
+      own_none (p ∷ xs) k = let other = k.0 in rw other (own_none xs k.1)
+
+  other_at : (t : T) (p : ℕ) → mine S laws u p ≡ false → S.at (S.process t p) u ≡ S.at t u
+  other_at t p other = laws.processed t p u ∙ rw other refl
+
+  others_at : (i : Inst T) (ps : List ℕ) → Each (λ p. mine S laws u p ≡ false) ps → S.at (all_processed S 1 i ps).node.table u ≡ S.at i.table u
+  others_at i [] h = refl
+  others_at i (p ∷ ps) h = others_at (processed S 1 i p).node ps h.1 ∙ other_at i.table p h.0
+
+  tells_nothing : (n : ℕ) (i : Inst T) (p : ℕ) → mine S laws u p ≡ false → told S laws u (processed S n i p).notes ≡ []
+  tells_nothing n i p other = rw other refl
+
+  stays_sb : (v : World T C O) (x : Msg C) (rest : List (Msg C)) → On_sb S x → Knows (λ p. S.covers p ≡ true) (view S Nobody (record v { sb = x ∷ rest }))
+      → Stays (record v { sb = x ∷ rest }) → Stays (put_b S (record v { sb = rest }) (inst_step S 1 v.b x))
+  stays_sb v (Carry p) rest l k h = by (S.covers p)
+    where
+      less : World T C O
+      less = record v { sb = rest }
+
+      first : World T C O
+      first = record v { sb = Carry p ∷ rest }
+
+      other : mine S laws u p ≡ false
+      other = other_cover S laws u not_its p k.plains.0
+
+      one : Stays (put_b S less (processed S 1 v.b p))
+      one =
+          runs_b first (put_b S less (processed S 1 v.b p)) (processed S 1 v.b p).notes (p ∷ []) refl refl refl (tells_nothing 1 v.b p other) (other, tt)
+          refl (other_at v.b.table p other) refl h
+
+      by_rule : (r : Rule) → Stays (put_b S less (ruled S r 1 v.b p))
+      by_rule Free = one
+      by_rule Drops = quietly first (put_b S less (ruled S Drops 1 v.b p)) [] refl refl refl refl refl refl h
+      by_rule Buffers = quietly first (put_b S less (ruled S Buffers 1 v.b p)) [] refl refl refl refl refl refl h
+
+      by : (b : Bool) → Stays (put_b S less (if b then ruled S v.b.rule 1 v.b p else processed S 1 v.b p))
+      by true = by_rule v.b.rule
+      by false = one
+  stays_sb v (Pass p) rest l k h =
+      let other = other_cover S laws u not_its p k.passes.0 in
+      runs_b (record v { sb = Pass p ∷ rest }) (put_b S (record v { sb = rest }) (inst_step S 1 v.b (Pass p))) (processed S 1 v.b p).notes (p ∷ []) refl
+      refl refl (tells_nothing 1 v.b p other) (other, tt) refl (other_at v.b.table p other) refl h
+  stays_sb v Stop rest l k h =
+      quietly (record v { sb = Stop ∷ rest }) (put_b S (record v { sb = rest }) (inst_step S 1 v.b Stop)) [] refl refl refl refl refl refl h
+  stays_sb v x rest l k h = absurd l
+
+  stays_cb : (v : World T C O) (x : Msg C) (rest : List (Msg C)) → On_cb S x → Knows (λ p. S.covers p ≡ true) (view S Nobody (record v { cb = x ∷ rest }))
+      → Stays (record v { cb = x ∷ rest }) → Stays (put_b S (record v { cb = rest }) (inst_step S 1 v.b x))
+  stays_cb v (Enable r) rest l k h =
+      quietly (record v { cb = Enable r ∷ rest }) (put_b S (record v { cb = rest }) (inst_step S 1 v.b (Enable r))) [] refl refl refl refl refl refl h
+  stays_cb v (Restore c) rest l k h =
+      let made = l.1 in
+      let kept : S.at (S.restore c v.b.table) u ≡ S.at v.b.table u = rw made (laws.untouched v.b.table l.0 u (no_chunk l.0)) in
+      quietly (record v { cb = Restore c ∷ rest }) (put_b S (record v { cb = rest }) (inst_step S 1 v.b (Restore c))) [] refl refl refl refl kept refl h
+  stays_cb v Fence rest l k h =
+      let others = each_other S laws u not_its v.b.held k.held in
+      let i = record v.b { rule = Free; held = [] } in
+      runs_b (record v { cb = Fence ∷ rest }) (put_b S (record v { cb = rest }) (inst_step S 1 v.b Fence)) (inst_step S 1 v.b Fence).notes v.b.held refl
+      (ran_fence S laws u 1 v.b) (inst_notes S 1 v.b Fence) (told_other S laws u 1 i v.b.held others) others refl (others_at i v.b.held others) refl h
+  stays_cb v x rest l k h = absurd l
+
+  -- the switch
+  stays_goes : (v : World T C O) (p : ℕ) (t : Target) → (t ≡ To_b → mine S laws u p ≡ false) → Stays v → Stays (put_switch S v (goes S t v.sw p))
+  stays_goes v p t b h =
+      let rans : read ran (v.log ++ Arrived p ∷ []) ≡ read ran v.log = read-append ran v.log (Arrived p ∷ []) ∙ append-nil (read ran v.log) in
+      let came : own (read arrived (v.log ++ Arrived p ∷ [])) ≡ own (read arrived v.log) ++ own (p ∷ []) =
+      ap own (read-append arrived v.log (Arrived p ∷ [])) ∙ those-append (mine S laws u) (read arrived v.log) (p ∷ []) in
+      let a = ap (folded (its_frame S laws u) None) (sym rans) in
+      let right = right_none S laws u v.log (Arrived p ∷ []) h.right refl in
+      let more : own (read ran (v.log ++ Arrived p ∷ [])) ++ own (read carries (v.sa ++ Carry p ∷ [])) ≡ own (read arrived (v.log ++ Arrived p ∷ [])) =
+      ap (λ xs. own xs ++ own (read carries (v.sa ++ Carry p ∷ []))) rans
+      ∙ ap (λ xs. own (read ran v.log) ++ xs) (ap own (read-append carries v.sa (Carry p ∷ [])) ∙ those-append (mine S laws u) (read carries v.sa) (p ∷ []))
+      ∙ sym (append_assoc (own (read ran v.log)) (own (read carries v.sa)) (own (p ∷ [])))
+      ∙ ap (λ xs. xs ++ own (p ∷ [])) h.order ∙ sym came
+      in
+      by t b a right more rans came
+    where
+      by : (t : Target) → (t ≡ To_b → mine S laws u p ≡ false) → record_by S laws u v.log ≡ record_by S laws u (v.log ++ Arrived p ∷ [])
+          → IsRight S laws u (v.log ++ Arrived p ∷ [])
+          → own (read ran (v.log ++ Arrived p ∷ [])) ++ own (read carries (v.sa ++ Carry p ∷ [])) ≡ own (read arrived (v.log ++ Arrived p ∷ []))
+          → read ran (v.log ++ Arrived p ∷ []) ≡ read ran v.log → own (read arrived (v.log ++ Arrived p ∷ [])) ≡ own (read arrived v.log) ++ own (p ∷ [])
+          → Stays (put_switch S v (goes S t v.sw p))
+      by To_a b a right more rans came = record { a_is = h.a_is ∙ a; b_is = h.b_is; order = more; right = right }
+      by To_both b a right more rans came = record { a_is = h.a_is ∙ a; b_is = h.b_is; order = more; right = right }
+      by To_b b a right more rans came =
+          let other = b refl in
+          let none : own (p ∷ []) ≡ [] = rw other refl in
+          record {
+            a_is = h.a_is ∙ a;
+            b_is = h.b_is;
+            order =
+                ap (λ xs. own xs ++ own (read carries (v.sa ++ []))) rans
+                ∙ ap (λ xs. own (read ran v.log) ++ own (read carries xs)) (append-nil v.sa)
+                ∙ h.order ∙ sym (came ∙ ap (λ xs. own (read arrived v.log) ++ xs) none ∙ append-nil (own (read arrived v.log)));
+            right = right;
+          }
+
+  stays_in : (v : World T C O) (x : Msg C) (rest : List (Msg C)) → In_input S x → takes_in S v.sw x ≡ true → Stays (record v { input = x ∷ rest })
+      → Stays (put_switch S (record v { input = rest }) (switch_step S v.sw x))
+  stays_in v (In_packet p) rest l ready h = rw ready (by (S.covers p) refl)
+    where
+      less : World T C O
+      less = record v { input = rest }
+
+      less_holds : Stays less
+      less_holds = record { a_is = h.a_is; b_is = h.b_is; order = h.order; right = h.right }
+
+      by : (b : Bool) → S.covers p ≡ b → Stays (put_switch S less (goes S (if b then v.sw.target else To_a) v.sw p))
+      by true e = stays_goes less p v.sw.target (λ _. other_cover S laws u not_its p e) less_holds
+      by false e = stays_goes less p To_a (λ never. cc) less_holds
+  stays_in v In_start rest l ready h =
+      quietly (record v { input = In_start ∷ rest }) (put_switch S (record v { input = rest }) (switch_step S v.sw In_start)) [] refl refl refl refl refl
+      (own_put v.sa [] refl) h
+  stays_in v In_end rest l ready h =
+      quietly (record v { input = In_end ∷ rest }) (put_switch S (record v { input = rest }) (switch_step S v.sw In_end)) [] refl refl refl refl refl
+      (own_put v.sa [] refl) h
+  stays_in v x rest l ready h = absurd l
+
+  stays_cs : (v : World T C O) (x : Msg C) (rest : List (Msg C)) → On_cs S x → Stays (record v { cs = x ∷ rest })
+      → Stays (put_switch S (record v { cs = rest }) (switch_step S v.sw x))
+  stays_cs v (Forward p) rest l h =
+      quietly (record v { cs = Forward p ∷ rest }) (put_switch S (record v { cs = rest }) (switch_step S v.sw (Forward p))) [] refl refl refl refl refl
+      (own_put v.sa [] refl) h
+  stays_cs v (Lay true) rest l h =
+      quietly (record v { cs = Lay true ∷ rest }) (put_switch S (record v { cs = rest }) (switch_step S v.sw (Lay true))) (Tables.High ∷ []) refl refl refl
+      refl refl (own_put v.sa [] refl) h
+  stays_cs v (Lay false) rest l h =
+      quietly (record v { cs = Lay false ∷ rest }) (put_switch S (record v { cs = rest }) (switch_step S v.sw (Lay false))) (Tables.Low ∷ []) refl refl refl
+      refl refl (own_put v.sa [] refl) h
+  stays_cs v (Finish to) rest l h =
+      quietly (record v { cs = Finish to ∷ rest }) (put_switch S (record v { cs = rest }) (switch_step S v.sw (Finish to))) [] refl refl refl refl refl
+      (by (to == 0)) h
+    where
+      by : (b : Bool) → own (read carries (v.sa ++ sent 2 ((if b then 2 else 3, Stop) ∷ []))) ≡ own (read carries v.sa)
+      by true = own_put v.sa (Stop ∷ []) refl
+      by false = own_put v.sa [] refl
+  stays_cs v x rest l h = absurd l
+
+  stays_ctrl : (v w : World T C O) (e : Bool) (did : Step S (Ctrl C)) → CtrlOk S e did → Stays v → w.log ≡ v.log ++ did.notes → w.a ≡ v.a → w.b ≡ v.b
+      → w.sa ≡ v.sa → Stays w
+  stays_ctrl v w e did ok h log a b sa =
+      quietly v w did.notes log ok.unrun ok.quiet (ap (λ i. S.at i.table u) a) (ap (λ i. S.at i.table u) b) (ap (λ l. own (read carries l)) sa) h
+
+  stays_back : (v : World T C O) (x : Msg C) → On_back S x → Stays v → Stays (put_switch S v (switch_step S v.sw x))
+  stays_back v (Credit p) l h = quietly v (put_switch S v (switch_step S v.sw (Credit p))) [] refl refl refl refl refl (own_put v.sa [] refl) h
+  stays_back v x l h = absurd l
+
+  pub stays_keeps : (pl : Place) (v : World T C O) (x : Msg C) (rest : List (Msg C)) → Label S pl x → Ready S pl v x → IsSelected S v.ct.kept
+      → Knows (λ p. S.covers p ≡ true) (view S Nobody (with_waits S pl (x ∷ rest) v)) → Stays (with_waits S pl (x ∷ rest) v)
+      → Stays (result S pl (with_waits S pl rest v) x)
+  stays_keeps In v x rest l ready k n h = stays_in v x rest l ready h
+  stays_keeps Cs v x rest l ready k n h = stays_cs v x rest l h
+  stays_keeps Aw v x rest l ready k n h = stays_back (record v { aw = rest }) x l (record { a_is = h.a_is; b_is = h.b_is; order = h.order; right = h.right })
+  stays_keeps Bw v x rest l ready k n h = stays_back (record v { bw = rest }) x l (record { a_is = h.a_is; b_is = h.b_is; order = h.order; right = h.right })
+  stays_keeps Sc v x rest l ready k n h =
+      stays_ctrl (with_waits S Sc (x ∷ rest) v) (result S Sc (with_waits S Sc rest v) x) _ (ctrl_step S v.ct 0 x) (ctrl_ok S v.ct 0 x k (gives_sc S x l)) h
+      refl refl refl refl
+  stays_keeps Ac v x rest l ready k n h =
+      stays_ctrl (with_waits S Ac (x ∷ rest) v) (result S Ac (with_waits S Ac rest v) x) _ (ctrl_step S v.ct 2 x) (ctrl_ok S v.ct 2 x k (gives_ac S x l)) h
+      refl refl refl refl
+  stays_keeps Bc v x rest l ready k n h =
+      stays_ctrl (with_waits S Bc (x ∷ rest) v) (result S Bc (with_waits S Bc rest v) x) _ (ctrl_step S v.ct 3 x) (ctrl_ok S v.ct 3 x k (gives_bc S x l)) h
+      refl refl refl refl
+  stays_keeps Sa v x rest l ready k n h = stays_sa v x rest l h
+  stays_keeps Ca v x rest l ready k n h = stays_ca v x rest l h
+  stays_keeps Sb v x rest l ready k n h = stays_sb v x rest l n h
+  stays_keeps Cb v x rest l ready k n h = stays_cb v x rest l n h

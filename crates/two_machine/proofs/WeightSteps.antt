@@ -1,0 +1,233 @@
+-- Each message that is taken leaves a lighter world.
+use Rattle.std.proofs.Common.{◌≡◌, ◌≤◌, ℕ, ◌+◌, true, false, List, [], ◌∷◌, ◌++◌, length, refl, arith}
+use Rattle.std.specs.Prelude.{if◌then◌else◌, ◌==◌}
+use Rattle.std.proofs.lemmas.List.{length_push}
+use Rattle.two_machine.proofs.Machine.{Rule, Free, Drops, Buffers, Target, To_a, To_both, To_b}
+use Rattle.two_machine.proofs.Tables.{System, Msg, Switch, Ctrl, Inst, Step, In_packet, In_start, In_end, Start, End, Copied, Laid, Forward, Lay, Finish, Carry, Pass, Stop, Enable, Get, Delete, Restore, Fence, Enabled, Chunks, Deleted, Restored, Event, Seen, Fenced, Final, Credit, has_room, goes, switch_step, processed, all_processed, ruled, inst_step, ctrl_step}
+use Rattle.two_machine.proofs.View.{World}
+use Rattle.two_machine.proofs.Labels.{In_input, On_sa, On_sb, On_sc, On_cs, On_ca, On_cb, On_ac, On_bc, On_back}
+use Rattle.two_machine.proofs.Puts.{sent, put_switch, put_ctrl, put_a, put_b}
+use Rattle.two_machine.proofs.Places.{Place, In, Cs, Aw, Bw, Sc, Ac, Bc, Sa, Ca, Sb, Cb, with_waits, Label, result}
+use Rattle.actor_net.proofs.WeightLaws.{weigh, weigh-append}
+use Rattle.two_machine.proofs.Weights.{w_in, w_sa, w_sb, w_cs, w_two, w_one, w_ac, w_ctrl, weight, Costs, allowed, step_costs}
+
+module _ {U T C R O : Type 0} (S : System U T C R O) where
+  -- a step at each node, with what it may weigh
+  pub ctrl_less : (v : World T C O) (did : Step S (Ctrl C)) (n : ℕ) → Costs S did n → weight S (put_ctrl S v did) + w_ctrl S v.ct ≤ weight S v + n
+  ctrl_less v did n cost =
+      let a = weigh-append w_cs v.cs (sent 0 did.sends) in
+      let b = weigh-append w_two v.ca (sent 2 did.sends) in
+      let d = weigh-append w_two v.cb (sent 3 did.sends) in
+      omega (arith, a, b, d, cost)
+
+  pub switch_less : (v : World T C O) (did : Step S Switch) (n : ℕ)
+      → weigh w_one (sent 1 did.sends) + weigh w_sa (sent 2 did.sends) + weigh w_sb (sent 3 did.sends) ≤ n → weight S (put_switch S v did) ≤ weight S v + n
+  switch_less v did n cost =
+      let a = weigh-append w_one v.sc (sent 1 did.sends) in
+      let b = weigh-append w_sa v.sa (sent 2 did.sends) in
+      let d = weigh-append w_sb v.sb (sent 3 did.sends) in
+      omega (arith, a, b, d, cost)
+
+  pub a_less : (v : World T C O) (did : Step S (Inst T)) (n : ℕ)
+      → length did.node.held + weigh w_one (sent 0 did.sends) + weigh w_ac (sent 1 did.sends) + 1 ≤ length v.a.held + n
+      → weight S (put_a S v did) + 1 ≤ weight S v + n
+  a_less v did n cost =
+      let a = weigh-append w_one v.aw (sent 0 did.sends) in
+      let b = weigh-append w_ac v.ac (sent 1 did.sends) in
+      omega (arith, a, b, cost)
+
+  pub b_less : (v : World T C O) (did : Step S (Inst T)) (n : ℕ)
+      → length did.node.held + weigh w_one (sent 0 did.sends) + weigh w_one (sent 1 did.sends) + 1 ≤ length v.b.held + n
+      → weight S (put_b S v did) + 1 ≤ weight S v + n
+  b_less v did n cost =
+      let a = weigh-append w_one v.bw (sent 0 did.sends) in
+      let b = weigh-append w_one v.bc (sent 1 did.sends) in
+      omega (arith, a, b, cost)
+
+  goes_costs : (t : Target) (s : Switch) (p : ℕ)
+      → weigh w_one (sent 1 (goes S t s p).sends) + weigh w_sa (sent 2 (goes S t s p).sends) + weigh w_sb (sent 3 (goes S t s p).sends) ≤ 7
+  goes_costs To_a s p = omega arith
+  goes_costs To_both s p = omega arith
+  goes_costs To_b s p = omega arith
+
+  in_costs : (s : Switch) (m : Msg C) → In_input S m
+      → weigh w_one (sent 1 (switch_step S s m).sends) + weigh w_sa (sent 2 (switch_step S s m).sends) + weigh w_sb (sent 3 (switch_step S s m).sends) + 1
+      ≤ w_in m
+  in_costs s (In_packet p) l =
+      elim (has_room S s) as (λ b.
+      weigh w_one (sent 1 (if b then goes S (if S.covers p then s.target else To_a) s p else record { node = s; sends = []; notes = [] }).sends)
+      + weigh w_sa
+      (sent 2 (if b then goes S (if S.covers p then s.target else To_a) s p else record { node = s; sends = []; notes = [] }).sends)
+      + weigh w_sb
+      (sent 3 (if b then goes S (if S.covers p then s.target else To_a) s p else record { node = s; sends = []; notes = [] }).sends)
+      + 1
+      ≤ 8) [
+        | true ↦ omega (arith, goes_costs (if S.covers p then s.target else To_a) s p)
+        | false ↦ omega arith
+      ]
+  in_costs s In_start l = omega arith
+  in_costs s In_end l = omega arith
+  in_costs s m l = absurd l
+
+  cs_costs : (s : Switch) (m : Msg C) → On_cs S m
+      → weigh w_one (sent 1 (switch_step S s m).sends) + weigh w_sa (sent 2 (switch_step S s m).sends) + weigh w_sb (sent 3 (switch_step S s m).sends) + 1
+      ≤ w_cs m
+  cs_costs s (Forward p) l = omega arith
+  cs_costs s (Lay high) l = omega arith
+  cs_costs s (Finish to) l =
+      elim (to == 0) as (λ b.
+      weigh w_one (sent {M = Msg C} 1 ((if b then 2 else 3, Stop) ∷ [])) + weigh w_sa (sent {M = Msg C} 2 ((if b then 2 else 3, Stop) ∷ []))
+      + weigh w_sb (sent {M = Msg C} 3 ((if b then 2 else 3, Stop) ∷ [])) + 1
+      ≤ (if b then 6 else 3)) [
+        | true ↦ omega arith
+        | false ↦ omega arith
+      ]
+  cs_costs s m l = absurd l
+
+  back_costs : (s : Switch) (m : Msg C) → On_back S m
+      → weigh w_one (sent 1 (switch_step S s m).sends) + weigh w_sa (sent 2 (switch_step S s m).sends) + weigh w_sb (sent 3 (switch_step S s m).sends) + 1
+      ≤ 1
+  back_costs s (Credit p) l = omega arith
+  back_costs s m l = absurd l
+
+  ruled_a : (r : Rule) (i : Inst T) (p : ℕ)
+      → length (ruled S r 0 i p).node.held + weigh w_one (sent 0 (ruled S r 0 i p).sends) + weigh w_ac (sent 1 (ruled S r 0 i p).sends) ≤ length i.held + 5
+  ruled_a Free i p = omega arith
+  ruled_a Drops i p = omega arith
+  ruled_a Buffers i p = omega (arith, length_push i.held p)
+
+  sa_costs : (i : Inst T) (m : Msg C) → On_sa S m
+      → length (inst_step S 0 i m).node.held + weigh w_one (sent 0 (inst_step S 0 i m).sends) + weigh w_ac (sent 1 (inst_step S 0 i m).sends) + 1
+      ≤ length i.held + w_sa m
+  sa_costs i (Carry p) l =
+      elim (S.covers p) as (λ b.
+      length (if b then ruled S i.rule 0 i p else processed S 0 i p).node.held
+      + weigh w_one (sent 0 (if b then ruled S i.rule 0 i p else processed S 0 i p).sends)
+      + weigh w_ac (sent 1 (if b then ruled S i.rule 0 i p else processed S 0 i p).sends) + 1
+      ≤ length i.held + 6) [
+        | true ↦ omega (arith, ruled_a i.rule i p)
+        | false ↦ omega arith
+      ]
+  sa_costs i Stop l = omega arith
+  sa_costs i m l = absurd l
+
+  ca_costs : (i : Inst T) (m : Msg C) → On_ca S m
+      → length (inst_step S 0 i m).node.held + weigh w_one (sent 0 (inst_step S 0 i m).sends) + weigh w_ac (sent 1 (inst_step S 0 i m).sends) + 1
+      ≤ length i.held + 2
+  ca_costs i (Enable r) l = omega arith
+  ca_costs i Get l = omega arith
+  ca_costs i (Delete c) l = omega arith
+  ca_costs i m l = absurd l
+
+  ruled_b : (r : Rule) (i : Inst T) (p : ℕ)
+      → length (ruled S r 1 i p).node.held + weigh w_one (sent 0 (ruled S r 1 i p).sends) + weigh w_one (sent 1 (ruled S r 1 i p).sends) ≤ length i.held + 5
+  ruled_b Free i p = omega arith
+  ruled_b Drops i p = omega arith
+  ruled_b Buffers i p = omega (arith, length_push i.held p)
+
+  sb_costs : (i : Inst T) (m : Msg C) → On_sb S m
+      → length (inst_step S 1 i m).node.held + weigh w_one (sent 0 (inst_step S 1 i m).sends) + weigh w_one (sent 1 (inst_step S 1 i m).sends) + 1
+      ≤ length i.held + w_sb m
+  sb_costs i (Carry p) l =
+      elim (S.covers p) as (λ b.
+      length (if b then ruled S i.rule 1 i p else processed S 1 i p).node.held
+      + weigh w_one (sent 0 (if b then ruled S i.rule 1 i p else processed S 1 i p).sends)
+      + weigh w_one (sent 1 (if b then ruled S i.rule 1 i p else processed S 1 i p).sends) + 1
+      ≤ length i.held + 6) [
+        | true ↦ omega (arith, ruled_b i.rule i p)
+        | false ↦ omega arith
+      ]
+  sb_costs i (Pass p) l = omega arith
+  sb_costs i Stop l = omega arith
+  sb_costs i m l = absurd l
+
+  all_costs : (i : Inst T) (ps : List ℕ)
+      → (length (all_processed S 1 i ps).node.held ≡ length i.held)
+      × (weigh w_one (sent 0 ((all_processed S 1 i ps).sends ++ (1, Fenced) ∷ [])) ≡ length ps)
+      × (weigh w_one (sent 1 ((all_processed S 1 i ps).sends ++ (1, Fenced) ∷ [])) ≡ 1)
+  all_costs i [] = (refl, refl, refl)
+  all_costs i (p ∷ ps) = let rest = all_costs (processed S 1 i p).node ps in (rest.0, omega (arith, rest.1), rest.2)
+
+  cb_costs : (i : Inst T) (m : Msg C) → On_cb S m
+      → length (inst_step S 1 i m).node.held + weigh w_one (sent 0 (inst_step S 1 i m).sends) + weigh w_one (sent 1 (inst_step S 1 i m).sends) + 1
+      ≤ length i.held + 2
+  cb_costs i (Enable r) l = omega arith
+  cb_costs i (Restore c) l = omega arith
+  cb_costs i Fence l =
+      let all = all_costs (record i { rule = Free; held = [] }) i.held in
+      let one = all.0 in
+      let two = all.1 in
+      let three = all.2 in
+      omega (arith, one, two, three)
+  cb_costs i m l = absurd l
+
+  sc_allowed : (m : Msg C) → On_sc S m → allowed S m 0 ≡ 0
+  sc_allowed Start l = refl
+  sc_allowed End l = refl
+  sc_allowed (Copied p) l = refl
+  sc_allowed (Laid high) l = refl
+  sc_allowed m l = absurd l
+
+  ac_allowed : (m : Msg C) → On_ac S m → allowed S m 2 + 1 ≡ w_ac m
+  ac_allowed Enabled l = refl
+  ac_allowed (Chunks c) l = refl
+  ac_allowed Deleted l = refl
+  ac_allowed (Event p) l = refl
+  ac_allowed Final l = refl
+  ac_allowed m l = absurd l
+
+  bc_allowed : (m : Msg C) → On_bc S m → allowed S m 3 ≡ 0
+  bc_allowed Restored l = refl
+  bc_allowed Enabled l = refl
+  bc_allowed Fenced l = refl
+  bc_allowed (Seen p) l = refl
+  bc_allowed Final l = refl
+  bc_allowed m l = absurd l
+
+  -- each message taken makes the world lighter
+  pub lighter : (pl : Place) (v : World T C O) (m : Msg C) (rest : List (Msg C)) → Label S pl m
+      → weight S (result S pl (with_waits S pl rest v) m) + 1 ≤ weight S (with_waits S pl (m ∷ rest) v)
+  lighter In v m rest l =
+      let n =
+      weigh w_one (sent 1 (switch_step S v.sw m).sends) + weigh w_sa (sent 2 (switch_step S v.sw m).sends)
+      + weigh w_sb (sent 3 (switch_step S v.sw m).sends) in
+      let one = switch_less (with_waits S In rest v) (switch_step S v.sw m) n (omega arith) in
+      let two = in_costs v.sw m l in
+      omega (arith, one, two)
+  lighter Cs v m rest l =
+      let n =
+      weigh w_one (sent 1 (switch_step S v.sw m).sends) + weigh w_sa (sent 2 (switch_step S v.sw m).sends)
+      + weigh w_sb (sent 3 (switch_step S v.sw m).sends) in
+      let one = switch_less (with_waits S Cs rest v) (switch_step S v.sw m) n (omega arith) in
+      let two = cs_costs v.sw m l in
+      omega (arith, one, two)
+  lighter Aw v m rest l =
+      let n =
+      weigh w_one (sent 1 (switch_step S v.sw m).sends) + weigh w_sa (sent 2 (switch_step S v.sw m).sends)
+      + weigh w_sb (sent 3 (switch_step S v.sw m).sends) in
+      let one = switch_less (with_waits S Aw rest v) (switch_step S v.sw m) n (omega arith) in
+      let two = back_costs v.sw m l in
+      omega (arith, one, two)
+  lighter Bw v m rest l =
+      let n =
+      weigh w_one (sent 1 (switch_step S v.sw m).sends) + weigh w_sa (sent 2 (switch_step S v.sw m).sends)
+      + weigh w_sb (sent 3 (switch_step S v.sw m).sends) in
+      let one = switch_less (with_waits S Bw rest v) (switch_step S v.sw m) n (omega arith) in
+      let two = back_costs v.sw m l in
+      omega (arith, one, two)
+  lighter Sc v m rest l =
+      let one = ctrl_less (with_waits S Sc rest v) (ctrl_step S v.ct 0 m) (w_ctrl S v.ct + allowed S m 0) (step_costs S v.ct 0 m) in
+      let two = sc_allowed m l in
+      omega (arith, one, two)
+  lighter Ac v m rest l =
+      let one = ctrl_less (with_waits S Ac rest v) (ctrl_step S v.ct 2 m) (w_ctrl S v.ct + allowed S m 2) (step_costs S v.ct 2 m) in
+      let two = ac_allowed m l in
+      omega (arith, one, two)
+  lighter Bc v m rest l =
+      let one = ctrl_less (with_waits S Bc rest v) (ctrl_step S v.ct 3 m) (w_ctrl S v.ct + allowed S m 3) (step_costs S v.ct 3 m) in
+      let two = bc_allowed m l in
+      omega (arith, one, two)
+  lighter Sa v m rest l = let one = a_less (with_waits S Sa rest v) (inst_step S 0 v.a m) (w_sa m) (sa_costs v.a m l) in omega (arith, one)
+  lighter Ca v m rest l = let one = a_less (with_waits S Ca rest v) (inst_step S 0 v.a m) 2 (ca_costs v.a m l) in omega (arith, one)
+  lighter Sb v m rest l = let one = b_less (with_waits S Sb rest v) (inst_step S 1 v.b m) (w_sb m) (sb_costs v.b m l) in omega (arith, one)
+  lighter Cb v m rest l = let one = b_less (with_waits S Cb rest v) (inst_step S 1 v.b m) 2 (cb_costs v.b m l) in omega (arith, one)

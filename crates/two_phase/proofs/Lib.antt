@@ -1,0 +1,15 @@
+pub mod AlikeLists
+pub mod RecordLaws
+pub mod Outlines
+pub mod InstanceFollows
+pub mod SwitchFollows
+pub mod ControllerFollows
+pub mod AlikeWorlds
+pub mod WholeFilters
+pub mod NumberedPackets
+pub mod RealRuns
+pub mod Words
+pub mod Theorem
+pub mod OtherMessages
+pub mod PushedPackets
+pub mod SentMessages

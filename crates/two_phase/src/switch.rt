@@ -1,0 +1,283 @@
+ghost use Rattle.std.specs.Prelude.{◌≡◌, ◌≤◌, ◌<◌, ◌++◌, [], ◌∷◌, false, IfOk, OnOk};
+ghost use Rattle.switch_rules.specs.Rules.{opened};
+ghost use Rattle.two_phase.specs.Tables.{arrives, destination_node, goes_to, has_closed, has_room, on_credit, on_finish, on_lay, on_packet, switch_step, takes_in, target_of, the_update};
+
+use crate::msg::TwoMsg;
+use crate::note::TwoNote;
+use crate::roles::{DESTINATION, INSTANCES, SOURCE, THE_UPDATE};
+use actor_net::Outbox;
+use basics::{Boxed, NoMemory};
+use event_filter::Mark;
+use flow_filter::{CapturedPacket, Filter, Packet, Site, flow_of};
+use nf_msgs::{CONTROLLER, Msg, Note, instance_node};
+use packet_pool::{Cell, Pool};
+use std::alloc::Global;
+use std::marker::Model;
+use switch_node::switch::MOST_WINDOW;
+use switch_rules::{Rules, Target};
+
+/// The number of the switch's pool.
+const POOL: u32 = 0;
+
+/// The switch of an update.
+#[derive(Drop)]
+pub struct TwoSwitch {
+    rules: Rules,
+    pool: Pool,
+    /// Packets that came home: their room is used again.
+    spare: Vec<Boxed<Packet>>,
+    site: Site,
+    filter: Filter,
+    /// How many packets are under way.
+    flying: u32,
+    /// Whether all is done.
+    closed: bool,
+    alloc: Global,
+}
+
+impl Model for TwoSwitch {
+    ghost use Rattle.std.specs.Prelude.{◌≡◌, ◌+◌};
+    ghost use Rattle.two_phase.specs.Parts.{SwitchState};
+
+    ghost Value = { SwitchState };
+
+    ghost view = { λ s. record {
+      rules = s.rules;
+      pool = s.pool;
+      site = s.site;
+      filter = s.filter;
+      flying = s.flying;
+      closed = s.closed;
+    } };
+
+    ghost invariant = { λ s. s.flying + s.pool.home ≡ s.pool.cells };
+}
+
+impl TwoSwitch {
+    /// A switch with all cells at home, by whose rules every flow goes to the source.
+    pub(crate) fn open(
+        alloc: Global,
+        window: u32,
+        filter: Filter,
+        site: Site,
+    ) -> Result<TwoSwitch, NoMemory>
+        requires { (1 ≤ window) × (window ≤ MOST_WINDOW) }
+        ensures { IfOk result (λ switch. switch ≡ record {
+          rules = opened [];
+          pool = record { name = POOL; cells = window; home = window };
+          site = site;
+          filter = filter;
+          flying = 0;
+          closed = false;
+        }) }
+    {
+        Ok(TwoSwitch {
+            rules: Rules::open(alloc, &[])?,
+            pool: Pool::open(POOL, window),
+            spare: Vec::new(alloc),
+            site,
+            filter,
+            flying: 0,
+            closed: false,
+            alloc,
+        })
+    }
+
+    /// Whether it takes this item from the head of the input.
+    pub(crate) fn ready(&self, item: &TwoMsg) -> bool
+        ensures { result ≡ takes_in self.now item.now }
+    {
+        match item {
+            TwoMsg::InPacket(_) => self.has_room(),
+            _ => true,
+        }
+    }
+
+    /// Whether all is done and no packet is under way.
+    pub(crate) fn ended(&self) -> bool
+        ensures { result ≡ has_closed self.now }
+    {
+        self.closed && self.flying == 0
+    }
+
+    /// Takes a message: its row of the table.
+    pub(crate) fn step(
+        &mut self,
+        message: TwoMsg,
+        out: &mut Outbox<TwoMsg, TwoNote>,
+    ) -> Result<(), NoMemory>
+        ensures node { OnOk result (self.new ≡ (switch_step self.old message).node) }
+        ensures sends { OnOk result (out.new.0 ≡ out.old.0 ++ (switch_step self.old message).sends) }
+        ensures notes { OnOk result (out.new.1 ≡ out.old.1 ++ (switch_step self.old message).notes) }
+    {
+        match message {
+            TwoMsg::InPacket(packet) => self.let_in(packet, out),
+            TwoMsg::InStart => out.send(CONTROLLER, TwoMsg::Start),
+            TwoMsg::InEnd => out.send(CONTROLLER, TwoMsg::End),
+            TwoMsg::Forward(cell) => forward(cell, out),
+            TwoMsg::Lay { high } => self.lay(high, out),
+            TwoMsg::Finish { to } => self.finish(to, out),
+            TwoMsg::Inner(message) => {
+                self.take_back(message);
+                Ok(())
+            }
+            _ => Ok(()),
+        }
+    }
+
+    /// Whether one packet more may be under way.
+    fn has_room(&self) -> bool
+        ensures { result ≡ has_room self.now }
+    {
+        self.flying < self.pool.cells()
+    }
+
+    /// Sends a packet to its target.
+    fn let_in(
+        &mut self,
+        captured: CapturedPacket,
+        out: &mut Outbox<TwoMsg, TwoNote>,
+    ) -> Result<(), NoMemory>
+        ensures node { OnOk result (self.new ≡ (on_packet self.old captured).node) }
+        ensures sends { OnOk result (out.new.0 ≡ out.old.0 ++ (on_packet self.old captured).sends) }
+        ensures notes { OnOk result (out.new.1 ≡ out.old.1 ++ (on_packet self.old captured).notes) }
+    {
+        if !self.has_room() {
+            return Ok(());
+        }
+        let packet = self.boxed(captured)?;
+        match self.target_of(packet.get()) {
+            Target::Controller => self.carry_and_copy(packet, out),
+            Target::Instance(to) if to < INSTANCES => self.carry(to, packet, out),
+            Target::Instance(_) => Ok(()),
+        }
+    }
+
+    /// The packet behind a pointer: in the room that one before it has left, or else in a new one.
+    fn boxed(&mut self, captured: CapturedPacket) -> Result<Boxed<Packet>, NoMemory>
+        ensures packet { IfOk result (λ packet. packet ≡ captured) }
+        ensures same { self.new ≡ self.old }
+    {
+        match self.spare.pop() {
+            Some(room) => Ok(captured.into_room(room)),
+            None => captured.into_boxed(self.alloc),
+        }
+    }
+
+    /// The target of a packet, by its flow.
+    fn target_of(&self, packet: &Packet) -> Target
+        ensures { result ≡ target_of self.now packet.now }
+    {
+        let (flow, _direction) = flow_of(&self.site, packet);
+        self.rules.target(&flow)
+    }
+
+    /// Puts a packet into a cell and sends it to an instance.
+    fn carry(
+        &mut self,
+        to: u8,
+        packet: Boxed<Packet>,
+        out: &mut Outbox<TwoMsg, TwoNote>,
+    ) -> Result<(), NoMemory>
+        requires instance { to < INSTANCES }
+        requires room { self.old.flying < self.old.pool.cells }
+        ensures node { OnOk result (self.new ≡ (arrives self.old packet to []).node) }
+        ensures sends { OnOk result (out.new.0 ≡ out.old.0 ++ (arrives self.old packet to []).sends) }
+        ensures notes { OnOk result (out.new.1 ≡ out.old.1 ++ (arrives self.old packet to []).notes) }
+    {
+        let number = packet.get().number;
+        let has_room = self.flying < self.pool.cells();
+        prove!(has_room);
+        let Ok(parcel) = self.pool.take(packet) else {
+            unreachable!()
+        };
+        self.flying += 1;
+        out.note(TwoNote::Inner(Note::Arrived(number)))?;
+        let message = Msg::Carry {
+            mark: Mark::Plain,
+            parcel,
+        };
+        out.send(instance_node(to), TwoMsg::Inner(message))
+    }
+
+    /// Sends a packet to the source, and a copy of it to the controller.
+    fn carry_and_copy(
+        &mut self,
+        packet: Boxed<Packet>,
+        out: &mut Outbox<TwoMsg, TwoNote>,
+    ) -> Result<(), NoMemory>
+        requires { self.old.flying < self.old.pool.cells }
+        ensures node { OnOk result (self.new ≡ (goes_to self.old packet Target.Controller).node) }
+        ensures sends { OnOk result (out.new.0 ≡ out.old.0 ++ (goes_to self.old packet Target.Controller).sends) }
+        ensures notes { OnOk result (out.new.1 ≡ out.old.1 ++ (goes_to self.old packet Target.Controller).notes) }
+    {
+        let copy = Boxed::new(self.alloc, *packet.get())?;
+        self.carry(SOURCE, packet, out)?;
+        out.send(CONTROLLER, TwoMsg::Copied(copy))
+    }
+
+    /// Lays a rule, and says so.
+    fn lay(&mut self, high: bool, out: &mut Outbox<TwoMsg, TwoNote>) -> Result<(), NoMemory>
+        ensures node { OnOk result (self.new ≡ (on_lay high self.old).node) }
+        ensures sends { OnOk result (out.new.0 ≡ out.old.0 ++ (on_lay high self.old).sends) }
+        ensures notes { OnOk result (out.new.1 ≡ out.old.1 ++ (on_lay high self.old).notes) }
+    {
+        let (from, to, note) = if high {
+            (
+                Target::Controller,
+                Target::Instance(DESTINATION),
+                TwoNote::High,
+            )
+        } else {
+            (Target::Instance(SOURCE), Target::Controller, TwoNote::Low)
+        };
+        self.rules.redirect(&self.filter, from, to)?;
+        out.note(note)?;
+        out.send(CONTROLLER, TwoMsg::Laid { high })
+    }
+
+    /// Stops an instance, if it is there.
+    fn finish(&mut self, to: u8, out: &mut Outbox<TwoMsg, TwoNote>) -> Result<(), NoMemory>
+        ensures node { OnOk result (self.new ≡ (on_finish self.old to).node) }
+        ensures sends { OnOk result (out.new.0 ≡ out.old.0 ++ (on_finish self.old to).sends) }
+        ensures notes { OnOk result (out.new.1 ≡ out.old.1) }
+    {
+        if to >= INSTANCES {
+            return Ok(());
+        }
+        if to == DESTINATION {
+            self.closed = true;
+        }
+        out.send(instance_node(to), TwoMsg::Inner(Msg::Stop))
+    }
+
+    /// Takes a cell home that an instance sends back.
+    fn take_back(&mut self, message: Msg)
+        ensures { self.new ≡ (switch_step self.old (TwoMsg.Inner message)).node }
+    {
+        if let Msg::Credit(cell) = message {
+            self.take_home(cell);
+        }
+    }
+
+    /// Takes a cell home, if it is one of the pool's. Where there is no memory to keep its packet's room, that is dropped.
+    fn take_home(&mut self, cell: Cell)
+        ensures { self.new ≡ (on_credit self.old cell).node }
+    {
+        if self.flying == 0 || cell.pool() != self.pool.name() {
+            return;
+        }
+        self.flying -= 1;
+        let packet = self.pool.give(cell);
+        let _kept = self.spare.push(packet);
+    }
+}
+
+/// Sends a packet on to the destination, past its rules.
+fn forward(parcel: Cell, out: &mut Outbox<TwoMsg, TwoNote>) -> Result<(), NoMemory>
+    ensures { OnOk result (out.new ≡ (out.old.0 ++ (destination_node, TwoMsg.Inner (Msg.Carry (Mark.Pass the_update) parcel)) ∷ [], out.old.1)) }
+{
+    let mark = Mark::Pass(THE_UPDATE);
+    let message = Msg::Carry { mark, parcel };
+    out.send(instance_node(DESTINATION), TwoMsg::Inner(message))
+}
