@@ -34,7 +34,7 @@ pub fn merge(alloc: Global, histories: &[History]) -> Result<Choices, NoMemory>
     }
 }
 
-/// The same by sorting a list of all steps.
+/// A merge by sorting a list of all steps.
 fn merge_sorted(alloc: Global, histories: &[History]) -> Result<Choices, NoMemory>
     ensures { IfOk result (IsMerge histories.now) }
 {

@@ -1,3 +1,4 @@
+//! One link: the messages that wait, in the order in which they were sent.
 ghost use Rattle.std.specs.Prelude.{◌≡◌, ◌==◌, [], ◌∷◌, ◌++◌, length, drop, OnOk, OnErr, MatchOption};
 
 use basics::NoMemory;
@@ -69,7 +70,7 @@ impl<M> Link<M> {
         self.queue.pop_front()
     }
 
-    /// The same, and with the last message the room goes back.
+    /// Takes the first message, where one is there. With the last one the room goes back.
     #[inline(always)]
     pub fn pop_for_good(&mut self) -> Option<M>
         ensures { MatchOption result ((self.old ≡ []) × (self.new ≡ [])) (λ x. self.old ≡ x ∷ self.new) }

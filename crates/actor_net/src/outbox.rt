@@ -1,3 +1,4 @@
+//! What one step sends and notes.
 ghost use Rattle.std.specs.Prelude.{◌≡◌, ◌==◌, [], ◌∷◌, ◌++◌, length, not, OnOk, OnErr, MatchOption, IfNone};
 
 use basics::NoMemory;

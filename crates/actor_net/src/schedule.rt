@@ -1,3 +1,4 @@
+//! Schedules: how a simulated run picks each of its choices.
 ghost use Rattle.std.specs.Prelude.{◌≡◌, ℕ, length, true, Err, IfOk, OnSome};
 ghost use Rattle.actor_net.specs.Network.{run, IsRun, is_done};
 ghost use Rattle.actor_net.specs.Schedules.{later, picked, scheduled, schedule_of, StopsShort};

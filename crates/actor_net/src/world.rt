@@ -1,3 +1,4 @@
+//! Worlds: which choices are enabled, and what each choice leaves of the nodes, the links, the input and the log.
 ghost use Rattle.std.specs.Prelude.{◌≡◌, ◌==◌, ◌<◌, ◌-◌, ◌*◌, true, false, [], ◌∷◌, length, drop, slice_get, slice_index_or, Some, OnOk, IfOk, IsErrOf};
 ghost use Rattle.std.specs.List.{list_all};
 ghost use Rattle.actor_net.specs.Network.{Network, node_numbers, IsWorld, is_enabled, taken, is_done, waiting, without_first, after, delivered, put_on};
@@ -107,7 +108,7 @@ impl<A: Actor> World<A> {
         }
     }
 
-    /// The same, of a node and a port that are there.
+    /// Whether a choice of a node and a port that are there can be taken.
     #[inline(always)]
     fn enabled_within(&self, choice: Choice) -> bool
         requires { (choice.node < length self.now.nodes) × (choice.port < length self.now.nodes) }
@@ -133,7 +134,7 @@ impl<A: Actor> World<A> {
         Ok(())
     }
 
-    /// The same, where the choice can be taken.
+    /// Takes one step by a choice that can be taken.
     #[inline(always)]
     pub(crate) fn take_enabled(&mut self, choice: Choice) -> Result<(), NoMemory>
         requires { is_enabled A.is_ready self.old choice ≡ true }
@@ -198,7 +199,6 @@ impl<A: Actor> World<A> {
         }
     }
 
-    /// How many choices are enabled.
     pub(crate) fn count_enabled(&self) -> usize
         ensures { result ≡ length (enabled_choices A.is_ready self.now) }
     {
@@ -363,7 +363,7 @@ fn deliver<M: Drop, N>(
     Ok(())
 }
 
-/// The same, for what is left after the first message.
+/// Moves what was sent after the first message to the ends of its links.
 #[cold]
 #[inline(never)]
 fn deliver_rest<M: Drop, N>(

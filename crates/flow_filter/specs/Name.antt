@@ -1,6 +1,6 @@
 -- The name of an instance. This project's own rule.
-use Rattle.std.specs.Prelude.{ℕ, Bool, ◌&&◌, ◌||◌, nat_le, false, List, [], ◌∷◌, length}
-use Rattle.std.specs.List.{list_all, list_any}
+use Rattle.std.specs.Prelude.{ℕ, Bool, ◌&&◌, ◌||◌, nat_le, false, List, [], ◌∷◌, length, Option}
+use Rattle.std.specs.List.{list_all, list_any, position}
 use Rattle.std.specs.Str.{bytes_eq}
 use Rattle.basics.specs.Bytes.{digit_zero, digit_nine, letter_a, letter_z}
 
@@ -20,3 +20,7 @@ is_name bytes = nat_le 1 (length bytes) && nat_le (length bytes) longest_name &&
 abbrev pub has_twice : List (List ℕ) → Bool
 has_twice [] = false
 has_twice (name ∷ more) = list_any (λ other. bytes_eq other name) more || has_twice more
+
+-- the place of the first of the names that has these bytes
+abbrev pub place_of : List (List ℕ) → List ℕ → Option ℕ
+place_of names name = position (λ other. bytes_eq other name) names

@@ -1,6 +1,6 @@
 -- What the numbers in a packet stand for: protocols as IPv4's header has them (IANA's list of protocol numbers), the flags of TCP (RFC 9293), and
 -- how much of a payload is kept, which is this project's own.
-use Rattle.std.specs.Prelude.{ℕ}
+use Rattle.std.specs.Prelude.{ℕ, ◌==◌, Bool, not, bit_and}
 
 abbrev pub tcp : ℕ
 tcp = 6
@@ -19,6 +19,10 @@ rst = 0x04
 
 abbrev pub ack : ℕ
 ack = 0x10
+
+-- a flag of the header is set
+abbrev pub has_flag : ℕ → ℕ → Bool
+has_flag flags flag = not (bit_and flags flag == 0)
 
 -- the greatest number of a port
 abbrev pub most_port : ℕ

@@ -1,3 +1,4 @@
+//! A packet as a capture has it, without room for a payload that it doesn't have.
 ghost use Rattle.std.specs.Prelude.{◌≡◌, true, replicate, IfOk};
 ghost use Rattle.flow_filter.specs.Captured.{bare_packet, header_of};
 ghost use Rattle.flow_filter.specs.Packet.{most_held};
@@ -77,7 +78,7 @@ impl CapturedPacket {
         }
     }
 
-    /// The same, in the room of a packet that isn't needed any more.
+    /// The packet behind a pointer, in the room of one that isn't needed any more.
     pub fn into_room(self, room: Boxed<Packet>) -> Boxed<Packet>
         ensures { result ≡ self }
     {

@@ -1,3 +1,4 @@
+//! Filters as texts: how they are read, and how they are printed.
 ghost use Rattle.std.specs.Prelude.{◌≡◌, ◌≤◌, ◌<◌, ◌+◌, true, false, ◌++◌, ◌∷◌, ◌==◌, ◌||◌, if◌then◌else◌, IfOk, OnOk, OnErr, codes, length, option_map, is_some};
 ghost use Rattle.std.specs.Fmt.{decimal};
 ghost use Rattle.std.specs.List.{slice_split};
@@ -48,7 +49,7 @@ impl Filter {
         Filter::parse_bytes(text.as_bytes())
     }
 
-    /// The same, where the text is given as its bytes.
+    /// The filter that a text spells, which is given as its bytes, or the fault of its first field from the left that breaks a rule.
     #[tactic(auto, unfolding(crate::specs::FilterText::parse))]
     pub fn parse_bytes(text: &[u8]) -> Result<Self, FilterFault>
         ensures value { AgreesBy fields_of result (parse text.now) }

@@ -1,3 +1,4 @@
+//! Flows: the two ends of a packet's conversation as the site sees them, and the order of flows.
 ghost use Rattle.std.specs.Prelude.{◌≡◌, ◌+◌, ◌*◌, ◌^◌, ◌<◌, true};
 ghost use Rattle.flow_filter.specs.Flow.{flow_of, inward, outward, owner_of_port, is_mapped, is_source_first};
 

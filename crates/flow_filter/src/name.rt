@@ -1,6 +1,6 @@
-ghost use Rattle.std.specs.Prelude.{◌≡◌, true, IfOk, List, ℕ, if◌then◌else◌};
+ghost use Rattle.std.specs.Prelude.{◌≡◌, ◌<◌, true, length, IfOk, IfSome, List, ℕ, if◌then◌else◌};
 ghost use Rattle.std.specs.List.{list_all};
-ghost use Rattle.flow_filter.specs.Name.{has_twice, is_name, is_name_byte};
+ghost use Rattle.flow_filter.specs.Name.{has_twice, is_name, is_name_byte, place_of};
 
 use basics::{Bytes, NoMemory, TryCopy};
 use std::alloc::Global;
@@ -80,4 +80,12 @@ pub fn has_twice(alloc: Global, names: &[Name]) -> Result<bool, NoMemory>
 {
     let distinct: BTreeSet<&[u8]> = names.iter().map(|name| name.items()).collect(alloc)?;
     Ok(distinct.len() < names.len())
+}
+
+/// The place of the first of the names that has these bytes.
+pub fn place_of(names: &[Name], bytes: &[u8]) -> Option<usize>
+    ensures place { result ≡ place_of names.now bytes.now }
+    ensures within { IfSome result (λ place. place < length names.now) }
+{
+    names.iter().position(|name| name.items() == bytes)
 }

@@ -1,3 +1,4 @@
+//! The trait of network functions, with what contracts ask of each of them.
 ghost use Rattle.std.specs.Prelude.{◌≡◌, ◌++◌, true, false, length, IsOk, IfOk, OnOk, OnErr};
 ghost use Rattle.flow_filter.specs.Flow.{flow_of};
 ghost use Rattle.nf_function.specs.declared.kind.Kind.{Kind as TheKind};
@@ -107,7 +108,7 @@ pub trait Function {
     fn is_timed(kept: &Self::Record) -> bool
         ensures { result ≡ semantics.is_timed kept.now };
 
-    /// The same record again.
+    /// A copy of the record.
     fn copy(alloc: Global, kept: &Self::Record) -> Result<Self::Record, NoMemory>
         ensures { IfOk result (λ other. other ≡ kept.now) };
 

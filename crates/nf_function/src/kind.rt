@@ -1,3 +1,4 @@
+//! Which network functions there are, by what units they keep state, and which filters split such a unit.
 ghost use Rattle.std.specs.Prelude.{◌≡◌, Some};
 ghost use Rattle.std.specs.Bool.{OnFalse};
 ghost use Rattle.flow_filter.specs.FilterText.{fields_of};

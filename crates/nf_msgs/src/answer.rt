@@ -1,3 +1,4 @@
+use basics::{NoMemory, TryCopy};
 use flow_filter::Name;
 
 /// What the operator is told of a command.
@@ -13,4 +14,28 @@ pub enum Answer {
     Import { held: u32, coming: u32, limit: u32 },
     /// A chunk of version `newest` came, and the destination reads at most version `reads`.
     Old { newest: u8, reads: u8 },
+}
+
+/// Only the answer of an unknown name takes memory.
+impl TryCopy for Answer {
+    fn copy(&self) -> Result<Self, NoMemory> {
+        match self {
+            Answer::Done => Ok(Answer::Done),
+            Answer::Unknown(name) => Ok(Answer::Unknown(name.copy()?)),
+            Answer::Overlap(op) => Ok(Answer::Overlap(*op)),
+            Answer::Import {
+                held,
+                coming,
+                limit,
+            } => Ok(Answer::Import {
+                held: *held,
+                coming: *coming,
+                limit: *limit,
+            }),
+            Answer::Old { newest, reads } => Ok(Answer::Old {
+                newest: *newest,
+                reads: *reads,
+            }),
+        }
+    }
 }

@@ -1,5 +1,3 @@
-ghost use Rattle.std.specs.Prelude.{◌≡◌, IfOk};
-
 use crate::names::Names;
 use basics::{NoMemory, TryCopy};
 use flow_filter::{Filter, Name};
@@ -35,21 +33,15 @@ pub enum Order {
     },
 }
 
-impl Command {
-    /// The same command again, on the same allocators.
-    pub fn copy(&self) -> Result<Self, NoMemory>
-        ensures { IfOk result (λ other. other ≡ self.now) }
-    {
+impl TryCopy for Command {
+    fn copy(&self) -> Result<Self, NoMemory> {
         let what = self.what.copy()?;
         Ok(Command { op: self.op, what })
     }
 }
 
-impl Order {
-    /// The same order again, on the same allocators.
-    pub fn copy(&self) -> Result<Self, NoMemory>
-        ensures { IfOk result (λ other. other ≡ self.now) }
-    {
+impl TryCopy for Order {
+    fn copy(&self) -> Result<Self, NoMemory> {
         match self {
             Order::Move {
                 src,

@@ -1,3 +1,4 @@
+//! Messages as texts, for tests and whoever looks at a link; and which operation and packet a message is of.
 ghost use Rattle.std.specs.Prelude.{◌≡◌, ◌++◌, option_map, IfOk, OnOk};
 ghost use Rattle.nf_msgs.specs.MessageParts.{kind_name, noted, op_of, packet_carried, receiver_of, shown};
 

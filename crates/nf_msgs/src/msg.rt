@@ -1,3 +1,4 @@
+//! The messages between the switch, the controller and the instances.
 use crate::answer::Answer;
 use crate::command::Command;
 use basics::Boxed;

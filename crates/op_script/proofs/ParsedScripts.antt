@@ -5,14 +5,14 @@ use Rattle.std.specs.Str.{bytes_eq}
 use Rattle.std.proofs.lemmas.Bool.{leb-false, ltb-false, not-false}
 use Rattle.std.proofs.lemmas.List.Quantifiers.{position-Some}
 use Rattle.flow_filter.specs.declared.filter_text.FilterFault.{FilterFault}
-use Rattle.flow_filter.specs.Name.{has_twice, is_name}
+use Rattle.flow_filter.specs.Name.{has_twice, is_name, place_of}
 use Rattle.basics.specs.Parsing.{split_once}
 use Rattle.flow_filter.specs.FilterText.{Fields, is_transport, parse}
 use Rattle.flow_filter.proofs.ParsedFilters.{parse_printable}
 use Rattle.nf_function.specs.declared.kind.Kind.{Kind}
 use Rattle.nf_function.specs.Units.{splits}
 use Rattle.op_script.specs.Statements.{Word, words, Event, Moving, Copying, Sharing, Settling, Statement, Silent, Routing, Happening}
-use Rattle.op_script.specs.Reading.{State, start, OrderView, Moves, Copies, Shares, LineView, Judged, ◌>>=◌, unless, wanted, place_of, ends_of, members_of, whole, filter_of, filter_or_all, with_route, with_line, noted, numbered, order_said, goes_back, with_event, with_statement, with_text, and_lines, with_lines}
+use Rattle.op_script.specs.Reading.{State, start, OrderView, Moves, Copies, Shares, LineView, Judged, ◌>>=◌, unless, wanted, ends_of, members_of, whole, filter_of, filter_or_all, with_route, with_line, noted, numbered, order_said, goes_back, with_event, with_statement, with_text, and_lines, with_lines}
 use Rattle.op_script.specs.Printing.{IsRoute, IsWhat, IsLine, IsScript, is_writable}
 use Rattle.std.specs.Prelude.{◌==◌}
 use Rattle.std.specs.Str.Lines.{strip_carriage_return}
@@ -53,12 +53,12 @@ two_pieces : (list : Word) (r : Option (Word × Word)) → split_once 44 list �
 two_pieces list None at is = absurd cc
 two_pieces list (Some p) at is = rw (split-Some 44 list p.0 p.1 (sym at)) (omega (arith, length-slice_split (λ b. b == 44) p.1))
 
-ends_again : (source target : Word) (ends : Word × Word) → ends_of source target ≡ Ok ends → ends_of ends.0 ends.1 ≡ Ok (ends.0, ends.1)
+ends_again : (source destination : Word) (ends : Word × Word) → ends_of source destination ≡ Ok ends → ends_of ends.0 ends.1 ≡ Ok (ends.0, ends.1)
 unfolding ends_of
-ends_again source target ends is =
-    let first = unless_Ok (not (is_name source && is_name target)) bad.Name (unless (bytes_eq source target) bad.SameInstance (Ok (source, target))) ends is in
-    let second = unless_Ok (bytes_eq source target) bad.SameInstance (Ok (source, target)) ends first.1 in
-    let same : (source, target) ≡ ends = let rest = second.1 in cc in
+ends_again source destination ends is =
+    let first = unless_Ok (not (is_name source && is_name destination)) bad.Name (unless (bytes_eq source destination) bad.SameInstance (Ok (source, destination))) ends is in
+    let second = unless_Ok (bytes_eq source destination) bad.SameInstance (Ok (source, destination)) ends first.1 in
+    let same : (source, destination) ≡ ends = let rest = second.1 in cc in
     subst (λ (e : Word × Word). ends_of e.0 e.1 ≡ Ok (e.0, e.1)) same (is ∙ ap (λ (e : Word × Word). Ok e) (sym same))
 
 -- the members of a share
@@ -75,16 +75,16 @@ members_right list members comma is =
 
 order_right : (kind : Kind) (event : Event) (order : Option OrderView) → IsEvent event → order_said kind event ≡ Ok order → (lines : List LineView) → IsWhat (numbered lines order)
 unfolding order_said
-order_right kind (Moving source target filter keep) order right is lines =
-    let ends = steps (ends_of source target) (λ e. filter_of kind filter >>= λ f. Ok (Some (Moves e.0 e.1 f keep))) order is in
+order_right kind (Moving source destination filter keep) order right is lines =
+    let ends = steps (ends_of source destination) (λ e. filter_of kind filter >>= λ f. Ok (Some (Moves e.0 e.1 f keep))) order is in
     let read = steps (filter_of kind filter) (λ f. Ok (Some (Moves ends.value.0 ends.value.1 f keep))) order ends.rest in
     let same : Some (Moves ends.value.0 ends.value.1 read.value keep) ≡ order = let rest = read.rest in cc in
-    subst (λ (o : Option OrderView). IsWhat (numbered lines o)) same (ends_again source target ends.value ends.first, filter_printable kind filter read.value read.first)
-order_right kind (Copying source target filter) order right is lines =
-    let ends = steps (ends_of source target) (λ e. filter_or_all kind filter >>= λ f. Ok (Some (Copies e.0 e.1 f))) order is in
+    subst (λ (o : Option OrderView). IsWhat (numbered lines o)) same (ends_again source destination ends.value ends.first, filter_printable kind filter read.value read.first)
+order_right kind (Copying source destination filter) order right is lines =
+    let ends = steps (ends_of source destination) (λ e. filter_or_all kind filter >>= λ f. Ok (Some (Copies e.0 e.1 f))) order is in
     let read = steps (filter_or_all kind filter) (λ f. Ok (Some (Copies ends.value.0 ends.value.1 f))) order ends.rest in
     let same : Some (Copies ends.value.0 ends.value.1 read.value) ≡ order = let rest = read.rest in cc in
-    subst (λ (o : Option OrderView). IsWhat (numbered lines o)) same (ends_again source target ends.value ends.first, copied_printable kind filter read.value read.first)
+    subst (λ (o : Option OrderView). IsWhat (numbered lines o)) same (ends_again source destination ends.value ends.first, copied_printable kind filter read.value read.first)
 order_right kind (Sharing list filter) order right is lines =
     let members = steps (members_of list) (λ m. filter_of kind filter >>= λ f. Ok (Some (Shares m f))) order is in
     let read = steps (filter_of kind filter) (λ f. Ok (Some (Shares members.value f))) order members.rest in
@@ -95,15 +95,15 @@ order_right kind Settling order right is lines =
     let same : None ≡ order = cc in subst (λ (o : Option OrderView). IsWhat (numbered lines o)) same tt
 
 route_kept : (kind : Kind) (names : List Word) (s t : State) (filter instance : Word) → IsState names s → with_route kind names s filter instance ≡ Ok t → IsState names t
-unfolding with_route place_of
+unfolding with_route
 route_kept kind names s t filter instance kept is =
     let first = unless_Ok (is_some s.last) bad.Order _ t is in
-    let place = steps (wanted (place_of instance names) bad.Name) _ t first.1 in
+    let place = steps (wanted (place_of names instance) bad.Name) _ t first.1 in
     let read = steps (filter_of kind filter) _ t place.rest in
     let few = unless_Ok (leb 1000 (length s.routes)) bad.TooMany (Ok (record s { routes = s.routes ++ (read.value, place.value) ∷ [] })) t read.rest in
     let same : record s { routes = s.routes ++ (read.value, place.value) ∷ [] } ≡ t = let rest = few.1 in cc in
     let less : length s.routes < 1000 = leb-false 1000 (length s.routes) few.0 in
-    let within = position-Some (λ other. bytes_eq other instance) names place.value [] (wanted_Ok (place_of instance names) bad.Name place.value place.first) in
+    let within = position-Some (λ other. bytes_eq other instance) names place.value [] (wanted_Ok (place_of names instance) bad.Name place.value place.first) in
     subst (IsState names) same (record {
       script = record {
         few_routes = omega (arith, length-append s.routes ((read.value, place.value) ∷ []));

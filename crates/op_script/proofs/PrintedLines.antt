@@ -49,15 +49,15 @@ pub at_statement : (at : ℕ) (verb : Word) (more : List Word) (event : Event) �
 unfolding statement_of
 at_statement at verb more event small is = rw (parse_number-printed 4294967295 at (omega arith) (omega arith), is) refl
 
-pub move_event : (source target filter : Word) (keep : Bool)
-    → event_of (codes "move") (source ∷ target ∷ filter ∷ cond keep (codes "order") (codes "lossfree") ∷ []) ≡ Some (Moving source target filter keep)
+pub move_event : (source destination filter : Word) (keep : Bool)
+    → event_of (codes "move") (source ∷ destination ∷ filter ∷ cond keep (codes "order") (codes "lossfree") ∷ []) ≡ Some (Moving source destination filter keep)
 unfolding event_of moving
-move_event source target filter true = refl
-move_event source target filter false = refl
+move_event source destination filter true = refl
+move_event source destination filter false = refl
 
-pub copy_event : (source target what : Word) → event_of (codes "copy") (source ∷ target ∷ what ∷ []) ≡ Some (Copying source target (cond (bytes_eq what (codes "all")) None (Some what)))
+pub copy_event : (source destination what : Word) → event_of (codes "copy") (source ∷ destination ∷ what ∷ []) ≡ Some (Copying source destination (cond (bytes_eq what (codes "all")) None (Some what)))
 unfolding event_of copying
-copy_event source target what = refl
+copy_event source destination what = refl
 
 pub share_event : (list filter : Word) → is_some (split_once 44 list) ≡ true → event_of (codes "share") (list ∷ filter ∷ codes "strict" ∷ []) ≡ Some (Sharing list filter)
 unfolding event_of sharing

@@ -28,8 +28,8 @@ use Rattle.op_script.proofs.PrintedLines.{at_statement, move_event, copy_event, 
 
 -- the event that an order's words spell
 abbrev pub event_in : Order → Event
-event_in (Move source target filter keep) = Moving source target (print filter) keep
-event_in (Copy source target filter) = Copying source target (option_map print filter)
+event_in (Move source destination filter keep) = Moving source destination (print filter) keep
+event_in (Copy source destination filter) = Copying source destination (option_map print filter)
 event_in (Share members filter) = Sharing (join_with_byte 44 members) (print filter)
 
 pub filter_again : (kind : Kind) (f : Filter) → IsFilter f → is_printable f ≡ true → splits kind (fields_of f) ≡ false → filter_of kind (print f) ≡ Ok (fields_of f)
@@ -41,11 +41,11 @@ unfolding parse
 not_all text g false is read = refl
 not_all text g true is read = let all : text ≡ codes "all" = (bytes_eq-Decides text (codes "all")).0 is in let wrong = rw all at read in absurd cc
 
-ends_names : (source target : Word) (ends : Word × Word) → ends_of source target ≡ Ok ends → (is_name source ≡ true) × (is_name target ≡ true)
+ends_names : (source destination : Word) (ends : Word × Word) → ends_of source destination ≡ Ok ends → (is_name source ≡ true) × (is_name destination ≡ true)
 unfolding ends_of
-ends_names source target ends is =
-    let first = unless_Ok (not (is_name source && is_name target)) bad.Name (unless (bytes_eq source target) bad.SameInstance (Ok (source, target))) ends is in
-    and_parts (is_name source) (is_name target) (not-false _ first.0)
+ends_names source destination ends is =
+    let first = unless_Ok (not (is_name source && is_name destination)) bad.Name (unless (bytes_eq source destination) bad.SameInstance (Ok (source, destination))) ends is in
+    and_parts (is_name source) (is_name destination) (not-false _ first.0)
 
 letters_lack : (name : Word) → list_all is_name_byte name ≡ true → Lacks 44 name
 letters_lack [] is = tt
@@ -81,44 +81,44 @@ members_again (first ∷ next ∷ more) two are once =
 
 -- the words of an order are its event's statement
 pub order_statement : (at : ℕ) (o : Order) → at < 2 ^ 32 → IsOrder (order_view o) → OrderFits o → statement_of (codes "at" ∷ decimal at ∷ order_words o) ≡ Some (Happening at (event_in o))
-order_statement at (Move source target filter keep) small is fits = at_statement at (codes "move") _ _ small (move_event source target (print filter) keep)
-order_statement at (Copy source target None) small is fits = at_statement at (codes "copy") _ _ small (copy_event source target (codes "all"))
-order_statement at (Copy source target (Some filter)) small is fits =
+order_statement at (Move source destination filter keep) small is fits = at_statement at (codes "move") _ _ small (move_event source destination (print filter) keep)
+order_statement at (Copy source destination None) small is fits = at_statement at (codes "copy") _ _ small (copy_event source destination (codes "all"))
+order_statement at (Copy source destination (Some filter)) small is fits =
     let other = not_all (print filter) (fields_of filter) (bytes_eq (print filter) (codes "all")) refl (parse-print filter fits is.1) in
-    at_statement at (codes "copy") _ _ small (copy_event source target (print filter) ∙ ap (λ (test : Bool). Some (Copying source target (cond test None (Some (print filter))))) other)
+    at_statement at (codes "copy") _ _ small (copy_event source destination (print filter) ∙ ap (λ (test : Bool). Some (Copying source destination (cond test None (Some (print filter))))) other)
 order_statement at (Share members filter) small is fits = at_statement at (codes "share") _ _ small (share_event (join_with_byte 44 members) (print filter) (members_again members is.0 is.1 is.2).1)
 
 -- the event of an order gives the order
 pub order_again : (kind : Kind) (o : Order) → IsOrder (order_view o) → OrderFits o → order_splits kind (order_view o) ≡ false → order_said kind (event_in o) ≡ Ok (Some (order_view o))
 unfolding order_said
-order_again kind (Move source target filter keep) is fits whole = rw (is.0, filter_again kind filter fits is.1 whole) refl
-order_again kind (Copy source target None) is fits whole = let ends = is.0 in rw ends refl
-order_again kind (Copy source target (Some filter)) is fits whole = rw (is.0, filter_again kind filter fits is.1 whole) refl
+order_again kind (Move source destination filter keep) is fits whole = rw (is.0, filter_again kind filter fits is.1 whole) refl
+order_again kind (Copy source destination None) is fits whole = let ends = is.0 in rw ends refl
+order_again kind (Copy source destination (Some filter)) is fits whole = rw (is.0, filter_again kind filter fits is.1 whole) refl
 order_again kind (Share members filter) is fits whole = rw ((members_again members is.0 is.1 is.2).0, filter_again kind filter fits is.3 whole) refl
 
 -- the words of an order are words
 pub order_words_are : (o : Order) → IsOrder (order_view o) → OrderFits o → AllByRecursion IsWord (order_words o)
-order_words_are (Move source target filter keep) is fits =
-    let names = ends_names source target (source, target) is.0 in
-    (record { some = omega arith; seen = Within-literal 33 127 (codes "move") refl }, (name_word source names.0, (name_word target names.1, (filter_word filter fits, (how_word keep, tt)))))
+order_words_are (Move source destination filter keep) is fits =
+    let names = ends_names source destination (source, destination) is.0 in
+    (record { some = omega arith; seen = Within-literal 33 127 (codes "move") refl }, (name_word source names.0, (name_word destination names.1, (filter_word filter fits, (how_word keep, tt)))))
   where
     how_word : (keep : Bool) → IsWord (cond keep (codes "order") (codes "lossfree"))
     how_word true = record { some = omega arith; seen = Within-literal 33 127 (codes "order") refl }
     how_word false = record { some = omega arith; seen = Within-literal 33 127 (codes "lossfree") refl }
-order_words_are (Copy source target None) is fits =
-    let names = ends_names source target (source, target) is.0 in (
+order_words_are (Copy source destination None) is fits =
+    let names = ends_names source destination (source, destination) is.0 in (
       record { some = omega arith; seen = Within-literal 33 127 (codes "copy") refl },
       (
         name_word source names.0,
         (
-          name_word target names.1,
+          name_word destination names.1,
           (record { some = omega arith; seen = Within-literal 33 127 (codes "all") refl }, tt),
         ),
       ),
     )
-order_words_are (Copy source target (Some filter)) is fits =
-    let names = ends_names source target (source, target) is.0 in
-    (record { some = omega arith; seen = Within-literal 33 127 (codes "copy") refl }, (name_word source names.0, (name_word target names.1, (filter_word filter fits, tt))))
+order_words_are (Copy source destination (Some filter)) is fits =
+    let names = ends_names source destination (source, destination) is.0 in
+    (record { some = omega arith; seen = Within-literal 33 127 (codes "copy") refl }, (name_word source names.0, (name_word destination names.1, (filter_word filter fits, tt))))
 order_words_are (Share members filter) is fits = (
   record { some = omega arith; seen = Within-literal 33 127 (codes "share") refl },
   (

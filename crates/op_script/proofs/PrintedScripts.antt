@@ -9,7 +9,7 @@ use Rattle.std.proofs.lemmas.List.{map-append, length-map}
 use Rattle.std.proofs.lemmas.Slice.Eq.{bytes_eq-Decides}
 use Rattle.flow_filter.specs.declared.filter.Filter.{Filter}
 use Rattle.flow_filter.specs.Filter.{IsFilter}
-use Rattle.flow_filter.specs.Name.{is_name, has_twice}
+use Rattle.flow_filter.specs.Name.{is_name, has_twice, place_of}
 use Rattle.flow_filter.specs.FilterText.{Fields, print, fields_of}
 use Rattle.nf_function.specs.declared.kind.Kind.{Kind}
 use Rattle.nf_function.specs.Units.{splits}
@@ -18,13 +18,13 @@ use Rattle.op_script.specs.declared.script.Line.{Line}
 use Rattle.op_script.specs.declared.script.What.{What}
 use Rattle.op_script.specs.declared.script.What.TheVariants.{Command, Settle}
 use Rattle.op_script.specs.Statements.{Word, Event, Routing, Happening, Settling, statement_of}
-use Rattle.op_script.specs.Reading.{State, ScriptAnswer, start, OrderView, LineView, place_of, with_route, noted, numbered, command_count, is_command, order_said, goes_back, with_statement, with_lines, script_of, route_view, line_view, what_view, order_view, script_view, ScriptView}
+use Rattle.op_script.specs.Reading.{State, ScriptAnswer, start, OrderView, LineView, with_route, noted, numbered, command_count, order_said, goes_back, with_statement, with_lines, script_of, route_view, line_view, what_view, order_view, script_view, ScriptView}
 use Rattle.op_script.specs.Printing.{route_words, line_words, what_words, IsWhat, line_text, script_words, script_text, IsRoute, IsLine, IsScript, SplitsNone, what_splits, WhatFits, LineFits, follows, next_after, and_then}
 use Rattle.op_script.proofs.PrintableWords.{Within, IsWord, Within-literal, line_seen, line_utf8, name_word, decimal_word}
 use Rattle.op_script.proofs.FilterWordLemmas.{filter_word}
 use Rattle.op_script.proofs.PrintedLines.{line_says, lines-joined, route_statement, at_statement, settle_event}
 use Rattle.op_script.proofs.PrintedOrders.{event_in, filter_again, order_statement, order_again, order_words_are}
-use Rattle.op_script.proofs.ScriptLineLemmas.{All-append}
+use Rattle.op_script.proofs.ScriptLineLemmas.{All-append, count-append}
 
 differs : (name other : Word) → bytes_eq other name ≡ false → bytes_eq name other ≡ false
 differs name other is = false_from_ne_true (bytes_eq name other) (λ same.
@@ -43,8 +43,7 @@ first_at (name ∷ more) (suc i) below once =
     rw (differs_at name more i (omega arith) p.0) (ap (λ n. 1 + n) (first_at more i (omega arith) p.1) ∙ omega arith)
 
 -- a name stands at its place, where names differ
-place_at : (names : List Word) (i : ℕ) → i < length names → has_twice names ≡ false → place_of (slice_index_or names i []) names ≡ Some i
-unfolding place_of
+place_at : (names : List Word) (i : ℕ) → i < length names → has_twice names ≡ false → place_of names (slice_index_or names i []) ≡ Some i
 place_at names i below once = rw (first_at names i below once, lt-ltb i (length names) below) refl
 
 name_at : (names : List Word) (i : ℕ) → i < length names → list_all is_name names ≡ true → is_name (slice_index_or names i []) ≡ true
@@ -120,10 +119,6 @@ what_are Settle is fits = (record { some = omega arith; seen = Within-literal 33
 line_are : (line : Line) → IsLine (line_view line) → LineFits line → AllByRecursion IsWord (line_words line)
 line_are line is fits = let small = fits.0 in
     (record { some = omega arith; seen = Within-literal 33 127 (codes "at") refl }, (decimal_word line.at (omega arith), what_are line.what is fits.1))
-
-count-append : (lines : List LineView) (line : LineView) → command_count (lines ++ line ∷ []) ≡ command_count lines + cond (is_command line) 1 0
-count-append [] line = omega arith
-count-append (first ∷ more) line = ap (λ n. cond (is_command first) 1 0 + n) (count-append more line) ∙ omega arith
 
 some_next : (test : Bool) (n m : ℕ) → cond test (Some m) None ≡ Some n → (test ≡ true) × (m ≡ n)
 some_next true n m is = (refl, cc)

@@ -1,8 +1,9 @@
 -- Lines that follow one another, and one line more.
-use Rattle.std.proofs.Common.{◌≡◌, ℕ, ◌+◌, ◌≤◌, Bool, true, false, cond, eqb, leb, List, [], ◌∷◌, ◌++◌, Option, None, Some, is_some, refl, arith}
+use Rattle.std.proofs.Common.{◌≡◌, ℕ, ◌+◌, ◌≤◌, Bool, true, false, cond, eqb, leb, List, [], ◌∷◌, ◌++◌, Option, None, Some, is_some, refl, ◌∙◌, arith}
 use Rattle.std.specs.List.{AllByRecursion}
 use Rattle.std.proofs.lemmas.Bool.{and_parts, and_from, le-leb, eq-eqb}
-use Rattle.op_script.specs.Reading.{OrderView, LineView, command_count, numbered}
+use Rattle.std.proofs.lemmas.List.Sums.{sum_by-append, sum_by-cons}
+use Rattle.op_script.specs.Reading.{OrderView, LineView, command_count, is_command, numbered}
 use Rattle.op_script.specs.Printing.{follows, next_after, and_then}
 
 pub All-append : {X : Type 0} (P : X → Type 0) (xs ys : List X) → AllByRecursion P xs → AllByRecursion P ys → AllByRecursion P (xs ++ ys)
@@ -45,7 +46,12 @@ follows-append last next [] line given far fits =
 follows-append last next (first ∷ more) line given far fits =
     let parts = and_parts (leb last first.at) (and_then (next_after next first.what) (λ n. follows first.at n more)) given in
     and_from (leb last first.at) _ parts.0
-    (follow_first next first.at (command_count more) more (more ++ line ∷ []) first.what line.what (λ n rest fit. follows-append first.at n more line rest far fit) parts.1 fits)
+    (follow_first next first.at (command_count more) more (more ++ line ∷ []) first.what line.what (λ n rest fit. follows-append first.at n more line rest far fit) parts.1
+    (rw (sum_by-cons (λ l. cond (is_command l) 1 0) first more) at fits))
+
+-- one command more, or none
+pub count-append : (lines : List LineView) (line : LineView) → command_count (lines ++ line ∷ []) ≡ command_count lines + cond (is_command line) 1 0
+count-append lines line = sum_by-append (λ l. cond (is_command l) 1 0) lines (line ∷ []) ∙ omega arith
 
 -- the number that a line is given is the next
 pub numbered_next : (lines : List LineView) (order : Option OrderView) → IsNext (1 + command_count lines) (numbered lines order)

@@ -7,8 +7,8 @@ use Rattle.op_script.specs.Statements.{Word, Event, Moving, Copying, Sharing, Se
 
 -- a share's list has a comma
 abbrev pub IsEvent : Event → Type 0
-IsEvent (Moving source target filter keep) = Unit {0}
-IsEvent (Copying source target filter) = Unit {0}
+IsEvent (Moving source destination filter keep) = Unit {0}
+IsEvent (Copying source destination filter) = Unit {0}
 IsEvent (Sharing list filter) = is_some (split_once 44 list) ≡ true
 IsEvent Settling = Unit {0}
 

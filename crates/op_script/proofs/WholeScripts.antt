@@ -4,10 +4,11 @@ use Rattle.std.specs.Str.{is_utf8}
 use Rattle.std.specs.Str.Lines.{strip_carriage_return}
 use Rattle.flow_filter.specs.declared.filter_text.FilterFault.{FilterFault}
 use Rattle.flow_filter.specs.FilterText.{Fields, parse}
+use Rattle.flow_filter.specs.Name.{place_of}
 use Rattle.nf_function.specs.declared.kind.Kind.{Kind}
 use Rattle.nf_function.specs.Units.{splits}
 use Rattle.op_script.specs.Statements.{Word, Event, Moving, Copying, Sharing, Settling, Statement, Silent, Routing, Happening}
-use Rattle.op_script.specs.Reading.{State, start, OrderView, Moves, Copies, Shares, LineView, Judged, ◌>>=◌, wanted, place_of, ends_of, members_of, whole, filter_of, filter_or_all, with_route, with_line, noted, numbered, order_said, goes_back, with_event, with_statement, with_text, and_lines, with_lines}
+use Rattle.op_script.specs.Reading.{State, start, OrderView, Moves, Copies, Shares, LineView, Judged, ◌>>=◌, wanted, ends_of, members_of, whole, filter_of, filter_or_all, with_route, with_line, noted, numbered, order_said, goes_back, with_event, with_statement, with_text, and_lines, with_lines}
 use Rattle.op_script.specs.Printing.{what_splits, order_splits, SplitsNone}
 use Rattle.op_script.specs.declared.fault.ScriptKind.TheVariants as bad
 use Rattle.op_script.proofs.JudgedLemmas.{steps, unless_Ok}
@@ -29,22 +30,22 @@ module _ (kind : Kind) where
   abbrev IsWhole : List LineView → Option OrderView → Type 0
   IsWhole lines order = what_splits kind (numbered lines order) ≡ false
 
-  copied_whole : (text : Option Word) (f : Option Fields) → filter_or_all kind text ≡ Ok f → (source target : Word) → order_splits kind (Copies source target f) ≡ false
-  copied_whole None f is source target = let none : None ≡ f = cc in subst (λ (f : Option Fields). order_splits kind (Copies source target f) ≡ false) none refl
-  copied_whole (Some text) f is source target =
+  copied_whole : (text : Option Word) (f : Option Fields) → filter_or_all kind text ≡ Ok f → (source destination : Word) → order_splits kind (Copies source destination f) ≡ false
+  copied_whole None f is source destination = let none : None ≡ f = cc in subst (λ (f : Option Fields). order_splits kind (Copies source destination f) ≡ false) none refl
+  copied_whole (Some text) f is source destination =
       let s = steps (filter_of kind text) (λ g. Ok (Some g)) f is in
       let some : Some s.value ≡ f = let rest = s.rest in cc in
-      subst (λ (f : Option Fields). order_splits kind (Copies source target f) ≡ false) some (filter_whole text s.value s.first)
+      subst (λ (f : Option Fields). order_splits kind (Copies source destination f) ≡ false) some (filter_whole text s.value s.first)
 
   order_whole : (event : Event) (order : Option OrderView) → order_said kind event ≡ Ok order → (lines : List LineView) → IsWhole lines order
   unfolding order_said
-  order_whole (Moving source target filter keep) order is lines =
-      let ends = steps (ends_of source target) (λ e. filter_of kind filter >>= λ f. Ok (Some (Moves e.0 e.1 f keep))) order is in
+  order_whole (Moving source destination filter keep) order is lines =
+      let ends = steps (ends_of source destination) (λ e. filter_of kind filter >>= λ f. Ok (Some (Moves e.0 e.1 f keep))) order is in
       let read = steps (filter_of kind filter) (λ f. Ok (Some (Moves ends.value.0 ends.value.1 f keep))) order ends.rest in
       let same : Some (Moves ends.value.0 ends.value.1 read.value keep) ≡ order = let rest = read.rest in cc in
       subst (IsWhole lines) same (filter_whole filter read.value read.first)
-  order_whole (Copying source target filter) order is lines =
-      let ends = steps (ends_of source target) (λ e. filter_or_all kind filter >>= λ f. Ok (Some (Copies e.0 e.1 f))) order is in
+  order_whole (Copying source destination filter) order is lines =
+      let ends = steps (ends_of source destination) (λ e. filter_or_all kind filter >>= λ f. Ok (Some (Copies e.0 e.1 f))) order is in
       let read = steps (filter_or_all kind filter) (λ f. Ok (Some (Copies ends.value.0 ends.value.1 f))) order ends.rest in
       let same : Some (Copies ends.value.0 ends.value.1 read.value) ≡ order = let rest = read.rest in cc in
       subst (IsWhole lines) same (copied_whole filter read.value read.first ends.value.0 ends.value.1)
@@ -64,7 +65,7 @@ module _ (kind : Kind) where
     unfolding with_route
     route_whole s t filter instance kept is =
         let first = unless_Ok (is_some s.last) bad.Order _ t is in
-        let place = steps (wanted (place_of instance names) bad.Name) _ t first.1 in
+        let place = steps (wanted (place_of names instance) bad.Name) _ t first.1 in
         let read = steps (filter_of kind filter) _ t place.rest in
         let few = unless_Ok (leb 1000 (length s.routes)) bad.TooMany (Ok (record s { routes = s.routes ++ (read.value, place.value) ∷ [] })) t read.rest in
         let same : record s { routes = s.routes ++ (read.value, place.value) ∷ [] } ≡ t = let rest = few.1 in cc in

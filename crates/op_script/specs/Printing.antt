@@ -31,9 +31,9 @@ copied (Some filter) = print filter
 
 -- the words of an order
 abbrev pub order_words : Order → List Word
-order_words (Move source target filter keep) =
-    codes "move" ∷ source ∷ target ∷ print filter ∷ (if keep then codes "order" else codes "lossfree") ∷ []
-order_words (Copy source target filter) = codes "copy" ∷ source ∷ target ∷ copied filter ∷ []
+order_words (Move source destination filter keep) =
+    codes "move" ∷ source ∷ destination ∷ print filter ∷ (if keep then codes "order" else codes "lossfree") ∷ []
+order_words (Copy source destination filter) = codes "copy" ∷ source ∷ destination ∷ copied filter ∷ []
 order_words (Share members filter) = codes "share" ∷ join_with_byte comma members ∷ print filter ∷ codes "strict" ∷ []
 
 -- the words of what happens
@@ -68,8 +68,8 @@ is_writable (Some filter) = is_transport filter.proto
 
 -- an order that a script may give
 abbrev pub IsOrder : OrderView → Type 0
-IsOrder (Moves source target filter keep) = (ends_of source target ≡ Ok (source, target)) × (is_transport filter.proto ≡ true)
-IsOrder (Copies source target filter) = (ends_of source target ≡ Ok (source, target)) × (is_writable filter ≡ true)
+IsOrder (Moves source destination filter keep) = (ends_of source destination ≡ Ok (source, destination)) × (is_transport filter.proto ≡ true)
+IsOrder (Copies source destination filter) = (ends_of source destination ≡ Ok (source, destination)) × (is_writable filter ≡ true)
 IsOrder (Shares members filter) =
     (fewest_members ≤ length members) × (list_all is_name members ≡ true) × (has_twice members ≡ false) × (is_transport filter.proto ≡ true)
 
@@ -106,9 +106,9 @@ pub record IsScript (names : List Word) (script : ScriptView) : Type 0 where
 
 -- an order that splits a unit of the function
 abbrev pub order_splits : Kind → OrderView → Bool
-order_splits kind (Moves source target filter keep) = splits kind filter
-order_splits kind (Copies source target None) = false
-order_splits kind (Copies source target (Some filter)) = splits kind filter
+order_splits kind (Moves source destination filter keep) = splits kind filter
+order_splits kind (Copies source destination None) = false
+order_splits kind (Copies source destination (Some filter)) = splits kind filter
 order_splits kind (Shares members filter) = splits kind filter
 
 abbrev pub what_splits : Kind → Option (ℕ × OrderView) → Bool
@@ -126,8 +126,8 @@ CopiedFits (Some filter) = IsFilter filter
 
 -- the numbers of a filter that an order gives are within their types
 abbrev pub OrderFits : Order → Type 0
-OrderFits (Move source target filter keep) = IsFilter filter
-OrderFits (Copy source target filter) = CopiedFits filter
+OrderFits (Move source destination filter keep) = IsFilter filter
+OrderFits (Copy source destination filter) = CopiedFits filter
 OrderFits (Share members filter) = IsFilter filter
 
 abbrev pub WhatFits : What → Type 0

@@ -1,12 +1,12 @@
 -- Reading an operator's script: what its lines say in turn, and the fault of the first line that breaks a rule.
 -- This project's own rules. In a line the faults are looked for in the order in which the definitions ask.
 use Rattle.std.specs.Prelude.{◌≡◌, ℕ, ◌+◌, Bool, true, false, not, ◌&&◌, ◌==◌, nat_lt, nat_le, if◌then◌else◌, List, [], ◌∷◌, ◌++◌, length, map, Option, None, Some, is_some, option_map, Result, Ok, Err}
-use Rattle.std.specs.List.{slice_split, list_all, position}
+use Rattle.std.specs.List.{slice_split, list_all, count_by}
 use Rattle.std.specs.Str.{bytes_eq, is_utf8}
 use Rattle.std.specs.Str.Lines.{strip_carriage_return}
 use Rattle.flow_filter.specs.declared.filter.Filter.{Filter}
 use Rattle.flow_filter.specs.declared.filter_text.FilterFault.{FilterFault}
-use Rattle.flow_filter.specs.Name.{has_twice, is_name}
+use Rattle.flow_filter.specs.Name.{has_twice, is_name, place_of}
 use Rattle.flow_filter.specs.FilterText.{Fields, fields_of, parse}
 use Rattle.nf_function.specs.declared.kind.Kind.{Kind}
 use Rattle.nf_function.specs.Units.{splits}
@@ -22,15 +22,14 @@ use Rattle.op_script.specs.declared.fault.ScriptFault.{ScriptFault}
 use Rattle.op_script.specs.declared.fault.ScriptFault.TheVariants as fault
 use Rattle.op_script.specs.declared.fault.LineFault.{LineFault}
 use Rattle.op_script.specs.declared.fault.LineFault.TheVariants as one
-use Rattle.op_script.specs.declared.reader.Reader.{Reader}
 use Rattle.op_script.specs.Statements.{Word, words, Event, Moving, Copying, Sharing, Settling, Statement, Silent, Routing, Happening, statement_of}
 use Rattle.basics.specs.Bytes.{line_feed, comma}
 use Rattle.flow_filter.specs.Limits.{most_lines}
 
 -- an order with its names as bytes and its filter as its fields
 pub data OrderView : Type 0 where
-  Moves : (source : Word) (target : Word) (filter : Fields) (keep : Bool) → OrderView
-  Copies : (source : Word) (target : Word) (filter : Option Fields) → OrderView
+  Moves : (source : Word) (destination : Word) (filter : Fields) (keep : Bool) → OrderView
+  Copies : (source : Word) (destination : Word) (filter : Option Fields) → OrderView
   Shares : (members : List Word) (filter : Fields) → OrderView
 
 -- what happens after a packet: a command under its number, or None for a settle
@@ -68,16 +67,12 @@ abbrev pub wanted : {A : Type 0} → Option A → ScriptKind → Judged A
 wanted None kind = Err kind
 wanted (Some x) kind = Ok x
 
--- the place of an instance among the names
-unfoldable pub place_of : Word → List Word → Option ℕ
-place_of name names = position (λ other. bytes_eq other name) names
-
--- a source and a target
+-- a source and a destination
 unfoldable pub ends_of : Word → Word → Judged (Word × Word)
-ends_of source target =
-    unless (not (is_name source && is_name target)) bad.Name
-    (unless (bytes_eq source target) bad.SameInstance
-    (Ok (source, target)))
+ends_of source destination =
+    unless (not (is_name source && is_name destination)) bad.Name
+    (unless (bytes_eq source destination) bad.SameInstance
+    (Ok (source, destination)))
 
 -- the members of a share
 unfoldable pub members_of : Word → Judged (List Word)
@@ -104,7 +99,7 @@ filter_or_all kind (Some text) = filter_of kind text >>= λ f. Ok (Some f)
 unfoldable pub with_route : Kind → List Word → State → Word → Word → Judged State
 with_route kind names s filter instance =
     unless (is_some s.last) bad.Order
-    (wanted (place_of instance names) bad.Name >>= λ place.
+    (wanted (place_of names instance) bad.Name >>= λ place.
     filter_of kind filter >>= λ f.
     unless (nat_le most_lines (length s.routes)) bad.TooMany
     (Ok (record s { routes = s.routes ++ (f, place) ∷ [] })))
@@ -115,13 +110,16 @@ is_command line = is_some line.what
 
 -- how many commands stand in the lines
 abbrev pub command_count : List LineView → ℕ
-command_count [] = 0
-command_count (line ∷ more) = (if is_command line then 1 else 0) + command_count more
+command_count lines = count_by is_command lines
 
--- a command takes the number after those so far, and a settle takes none
+-- after so many commands a further one takes the next number, and a settle takes none
+abbrev pub numbered_after : ℕ → Option OrderView → Option (ℕ × OrderView)
+numbered_after count None = None
+numbered_after count (Some order) = Some (count + 1, order)
+
+-- a command takes the number after those so far
 abbrev pub numbered : List LineView → Option OrderView → Option (ℕ × OrderView)
-numbered lines None = None
-numbered lines (Some order) = Some (command_count lines + 1, order)
+numbered lines order = numbered_after (command_count lines) order
 
 -- what happens is noted
 abbrev pub noted : State → ℕ → Option OrderView → State
@@ -133,10 +131,10 @@ with_line s at order = unless (nat_le most_lines (length s.lines)) bad.TooMany (
 
 -- the order of an event, or None for a settle
 unfoldable pub order_said : Kind → Event → Judged (Option OrderView)
-order_said kind (Moving source target filter keep) =
-    ends_of source target >>= λ ends. filter_of kind filter >>= λ f. Ok (Some (Moves ends.0 ends.1 f keep))
-order_said kind (Copying source target filter) =
-    ends_of source target >>= λ ends. filter_or_all kind filter >>= λ f. Ok (Some (Copies ends.0 ends.1 f))
+order_said kind (Moving source destination filter keep) =
+    ends_of source destination >>= λ ends. filter_of kind filter >>= λ f. Ok (Some (Moves ends.0 ends.1 f keep))
+order_said kind (Copying source destination filter) =
+    ends_of source destination >>= λ ends. filter_or_all kind filter >>= λ f. Ok (Some (Copies ends.0 ends.1 f))
 order_said kind (Sharing list filter) =
     members_of list >>= λ members. filter_of kind filter >>= λ f. Ok (Some (Shares members f))
 order_said kind Settling = Ok None
@@ -196,8 +194,8 @@ script_of kind names bytes =
 
 -- an order of the code, seen as above
 abbrev pub order_view : Order → OrderView
-order_view (Move source target filter keep) = Moves source target (fields_of filter) keep
-order_view (Copy source target filter) = Copies source target (option_map fields_of filter)
+order_view (Move source destination filter keep) = Moves source destination (fields_of filter) keep
+order_view (Copy source destination filter) = Copies source destination (option_map fields_of filter)
 order_view (Share members filter) = Shares members (fields_of filter)
 
 abbrev pub what_view : What → Option (ℕ × OrderView)
@@ -213,10 +211,6 @@ route_view route = (fields_of route.0, route.1)
 abbrev pub script_view : Script → ScriptView
 script_view script = (map route_view script.routes.items, map line_view script.lines.items)
 
--- the state that a reader of lines is in
-abbrev pub state_of : Reader → State
-state_of r = record { routes = map route_view r.routes.items; lines = map line_view r.lines.items; last = r.last }
-
 -- what was judged is what the definition says; out of memory is free
 abbrev pub Says : {X Y : Type 0} → (X → Y) → Result X LineFault → Judged Y → Type 0
 Says view (Ok x) judged = judged ≡ Ok (view x)
@@ -224,8 +218,8 @@ Says view (Err one.NoMemory) judged = Unit {0}
 Says view (Err (one.Bad kind)) judged = judged ≡ Err kind
 
 -- a line's fault, under its number
-abbrev pub Numbered : ℕ → Result Reader LineFault → Result Reader ScriptFault → Type 0
-Numbered line (Ok r) numbered = numbered ≡ Ok r
+abbrev pub Numbered : ℕ → Result State LineFault → Result State ScriptFault → Type 0
+Numbered line (Ok s) numbered = numbered ≡ Ok s
 Numbered line (Err one.NoMemory) numbered = numbered ≡ Err fault.NoMemory
 Numbered line (Err (one.Bad kind)) numbered = numbered ≡ Err (fault.Bad line kind)
 

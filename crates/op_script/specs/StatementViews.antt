@@ -8,8 +8,8 @@ use Rattle.op_script.specs.declared.statement.Event.TheVariants.{Move, Copy, Sha
 use Rattle.op_script.specs.Statements.{Event, Moving, Copying, Sharing, Settling, Statement, Silent, Routing, Happening}
 
 abbrev pub event_view : event.Event → Event
-event_view (Move source target filter keep) = Moving source.now target.now filter.now keep
-event_view (Copy source target filter) = Copying source.now target.now (option_map (λ w. w.now) filter)
+event_view (Move source destination filter keep) = Moving source.now destination.now filter.now keep
+event_view (Copy source destination filter) = Copying source.now destination.now (option_map (λ w. w.now) filter)
 event_view (Share members filter) = Sharing members.now filter.now
 event_view Settle = Settling
 

@@ -18,8 +18,8 @@ words line = filter (λ word. not (length word == 0)) (slice_split is_blank line
 
 -- what happens at a point of the trace, by its words
 pub data Event : Type 0 where
-  Moving : (source : Word) (target : Word) (filter : Word) (keep : Bool) → Event
-  Copying : (source : Word) (target : Word) (filter : Option Word) → Event
+  Moving : (source : Word) (destination : Word) (filter : Word) (keep : Bool) → Event
+  Copying : (source : Word) (destination : Word) (filter : Option Word) → Event
   Sharing : (members : Word) (filter : Word) → Event
   Settling : Event
 
@@ -31,15 +31,15 @@ pub data Statement : Type 0 where
 
 -- `SRC DST FILTER order` or `SRC DST FILTER lossfree`
 unfoldable pub moving : List Word → Option Event
-moving (source ∷ target ∷ filter ∷ how ∷ []) =
-    if bytes_eq how (codes "order") then Some (Moving source target filter true)
-    else if bytes_eq how (codes "lossfree") then Some (Moving source target filter false)
+moving (source ∷ destination ∷ filter ∷ how ∷ []) =
+    if bytes_eq how (codes "order") then Some (Moving source destination filter true)
+    else if bytes_eq how (codes "lossfree") then Some (Moving source destination filter false)
     else None
 moving _ = None
 
 -- `SRC DST FILTER` or `SRC DST all`
 unfoldable pub copying : List Word → Option Event
-copying (source ∷ target ∷ what ∷ []) = Some (Copying source target (if bytes_eq what (codes "all") then None else Some what))
+copying (source ∷ destination ∷ what ∷ []) = Some (Copying source destination (if bytes_eq what (codes "all") then None else Some what))
 copying _ = None
 
 -- `INST,INST.. FILTER strict`, where the list has a comma

@@ -1,10 +1,11 @@
+//! The input of a run: packets and the lines of a script, each line at its point.
 ghost use Rattle.std.specs.Prelude.{◌≡◌, ◌≤◌, [], ◌++◌, ◌==◌, nat_le, length, map, IfOk, OnOk};
 ghost use Rattle.std.specs.List.{list_all, prefix_len};
 ghost use Rattle.op_script.specs.Items.{msg_of, said_where, items_from, AreLinesFrom, items};
 
 use crate::packet_items::PacketItems;
 use crate::script::{Line, Script, What};
-use basics::{Boxed, NoMemory};
+use basics::{Boxed, NoMemory, TryCopy};
 use nf_msgs::Msg;
 use std::alloc::Global;
 use std::collections::VecDeque;

@@ -1,3 +1,4 @@
+//! Scripts as texts: each route and each line as it would be written.
 ghost use Rattle.std.specs.Prelude.{false, ◌≡◌, ◌++◌, ◌∷◌, ◌≤◌, [], Ok, IfOk, OnOk, length, option_map, true, codes, if◌then◌else◌};
 ghost use Rattle.std.specs.List.{join_with_byte, list_all};
 ghost use Rattle.flow_filter.specs.FilterText.{after_commas, fields_of, is_printable, print};
@@ -112,15 +113,20 @@ fn print_order(out: &mut Text, order: &Order) -> Result<(), NoMemory>
     }
 }
 
-/// Appends a verb, a source and a target, and a space after each.
-fn print_ends(out: &mut Text, verb: &[u8], source: &Name, target: &Name) -> Result<(), NoMemory>
-    ensures { OnOk result (out.new ≡ out.old ++ (verb.now ++ space ∷ (source.now ++ space ∷ (target.now ++ space ∷ [])))) }
+/// Appends a verb, a source and a destination, and a space after each.
+fn print_ends(
+    out: &mut Text,
+    verb: &[u8],
+    source: &Name,
+    destination: &Name,
+) -> Result<(), NoMemory>
+    ensures { OnOk result (out.new ≡ out.old ++ (verb.now ++ space ∷ (source.now ++ space ∷ (destination.now ++ space ∷ [])))) }
 {
     out.push_bytes(verb)?;
     out.push_bytes(b" ")?;
     out.push_bytes(source.items())?;
     out.push_bytes(b" ")?;
-    out.push_bytes(target.items())?;
+    out.push_bytes(destination.items())?;
     out.push_bytes(b" ")
 }
 

@@ -1,12 +1,13 @@
-ghost use Rattle.std.specs.Prelude.{◌≡◌, ◌≤◌, ◌==◌, ◌<◌, ◌^◌, map, length, IfOk, IfSome, Some, None, option_map, if◌then◌else◌};
-ghost use Rattle.std.specs.List.{slice_split, list_all, position};
-ghost use Rattle.std.specs.Str.{bytes_eq, is_utf8};
+//! How a script is read, line by line: its routes, its commands with their numbers, and the first fault.
+ghost use Rattle.std.specs.Prelude.{◌≡◌, ◌≤◌, ◌==◌, ◌<◌, ◌^◌, map, length, IfOk, Some, None, option_map, if◌then◌else◌};
+ghost use Rattle.std.specs.List.{slice_split, list_all};
+ghost use Rattle.std.specs.Str.{is_utf8};
 ghost use Rattle.std.specs.Str.Lines.{strip_carriage_return};
 ghost use Rattle.flow_filter.specs.Name.{is_name};
 ghost use Rattle.flow_filter.specs.FilterText.{fields_of};
 ghost use Rattle.op_script.specs.StatementViews.{event_view, statement_view};
 ghost use Rattle.op_script.specs.Printing.{IsScript, SplitsNone};
-ghost use Rattle.op_script.specs.Reading.{ends_of, members_of, filter_of, filter_or_all, order_said, with_route, with_line, numbered, is_command, command_count, line_view, what_view, with_event, with_statement, with_text, script_of, place_of, state_of, script_view, order_view, with_lines, start, Says, SaysWhole, Numbered, longest_script};
+ghost use Rattle.op_script.specs.Reading.{ends_of, members_of, filter_of, filter_or_all, order_said, with_route, with_line, numbered_after, is_command, line_view, what_view, with_event, with_statement, with_text, script_of, script_view, order_view, with_lines, start, Says, SaysWhole, Numbered, longest_script};
 ghost use Rattle.basics.specs.Bytes.{line_feed, comma};
 ghost use Rattle.flow_filter.specs.Limits.{most_lines};
 
@@ -16,7 +17,7 @@ use crate::script::{Line, Script, What};
 use crate::statement::{Event, Statement, statement_of, words};
 use basics::NoMemory;
 use basics::parsing::first_piece;
-use flow_filter::name::has_twice;
+use flow_filter::name::{has_twice, place_of};
 use flow_filter::{Filter, Name};
 use nf_function::{Kind, splits};
 use nf_msgs::{Command, Names, Order};
@@ -62,11 +63,12 @@ fn read_lines(
 ) -> Result<Reader, ScriptFault>
     requires few { length names.now ≤ 2 ^ 8 }
     requires short { length bytes.now ≤ longest_script }
-    ensures { SaysWhole state_of result (with_lines kind names.now 1 start (slice_split (λ b. b == line_feed) bytes.now)) }
+    ensures { SaysWhole (λ s. s) result (with_lines kind names.now 1 start (slice_split (λ b. b == line_feed) bytes.now)) }
 {
     let mut reader = Reader {
         routes: Vec::new(alloc),
         lines: Vec::new(alloc),
+        commands: 0,
         last: None,
     };
     let mut line = 0;
@@ -103,7 +105,7 @@ fn with_text(
     line: &[u8],
 ) -> Result<Reader, LineFault>
     requires { length names.now ≤ 2 ^ 8 }
-    ensures { Says state_of result (with_text kind names.now (state_of reader) line.now) }
+    ensures { Says (λ s. s) result (with_text kind names.now reader line.now) }
 {
     if !is_utf8(line) {
         return Err(LineFault::Bad(ScriptKind::NotUtf8));
@@ -134,7 +136,7 @@ fn with_statement(
     statement: Statement<'_>,
 ) -> Result<Reader, LineFault>
     requires { length names.now ≤ 2 ^ 8 }
-    ensures { Says state_of result (with_statement kind names.now (state_of reader) (statement_view statement.entry)) }
+    ensures { Says (λ s. s) result (with_statement kind names.now reader (statement_view statement.entry)) }
 {
     match statement {
         Statement::Silent => Ok(reader),
@@ -153,38 +155,20 @@ fn with_route(
     instance: &[u8],
 ) -> Result<Reader, LineFault>
     requires { length names.now ≤ 2 ^ 8 }
-    ensures { Says state_of result (with_route kind names.now (state_of reader) filter.now instance.now) }
+    ensures { Says (λ s. s) result (with_route kind names.now reader filter.now instance.now) }
 {
     if reader.last.is_some() {
         return Err(LineFault::Bad(ScriptKind::Order));
     }
-    let Some(place) = place_of(instance, names) else {
+    let Some(place) = place_of(names, instance) else {
         return Err(LineFault::Bad(ScriptKind::Name));
     };
     let filter = filter_of(kind, filter)?;
     if reader.routes.len() >= MOST_LINES {
         return Err(LineFault::Bad(ScriptKind::TooMany));
     }
-    reader.routes.push((filter, place))?;
+    reader.routes.push((filter, place as u8))?;
     Ok(reader)
-}
-
-/// The place of an instance among the names.
-#[tactic(auto, unfolding(crate::specs::Reading::place_of))]
-fn place_of(name: &[u8], names: &[Name]) -> Option<u8>
-    requires { length names.now ≤ 2 ^ 8 }
-    ensures { result ≡ place_of name.now names.now }
-{
-    let place = first_place(name, names)?;
-    Some(place as u8)
-}
-
-/// The place of the first name with these bytes.
-fn first_place(name: &[u8], names: &[Name]) -> Option<usize>
-    ensures place { result ≡ position (λ other. bytes_eq other name.now) names.now }
-    ensures within { IfSome result (λ place. place < length names.now) }
-{
-    names.iter().position(|other| other.items() == name)
 }
 
 /// The filter that the text spells, where it splits no unit.
@@ -209,7 +193,7 @@ fn with_event(
     at: u32,
     event: Event<'_>,
 ) -> Result<Reader, LineFault>
-    ensures { Says state_of result (with_event kind (state_of reader) at (event_view event.entry)) }
+    ensures { Says (λ s. s) result (with_event kind reader at (event_view event.entry)) }
 {
     if reader.last.is_some_and(|last| at < last) {
         return Err(LineFault::Bad(ScriptKind::Order));
@@ -226,11 +210,11 @@ fn order_said(alloc: Global, kind: Kind, event: Event<'_>) -> Result<Option<Orde
     match event {
         Event::Move {
             source,
-            target,
+            destination,
             filter,
             keep,
         } => {
-            let (src, dst) = ends_of(alloc, source, target)?;
+            let (src, dst) = ends_of(alloc, source, destination)?;
             let filter = filter_of(kind, filter)?;
             Ok(Some(Order::Move {
                 src,
@@ -241,10 +225,10 @@ fn order_said(alloc: Global, kind: Kind, event: Event<'_>) -> Result<Option<Orde
         }
         Event::Copy {
             source,
-            target,
+            destination,
             filter,
         } => {
-            let (src, dst) = ends_of(alloc, source, target)?;
+            let (src, dst) = ends_of(alloc, source, destination)?;
             let filter = filter_or_all(kind, filter)?;
             Ok(Some(Order::Copy { src, dst, filter }))
         }
@@ -257,21 +241,21 @@ fn order_said(alloc: Global, kind: Kind, event: Event<'_>) -> Result<Option<Orde
     }
 }
 
-/// The names of a source and a target, where they are names and differ.
+/// The names of a source and a destination, where they are names and differ.
 #[tactic(auto, unfolding(crate::specs::Reading::ends_of))]
-fn ends_of(alloc: Global, source: &[u8], target: &[u8]) -> Result<(Name, Name), LineFault>
-    ensures { Says (λ ends. ends) result (ends_of source.now target.now) }
+fn ends_of(alloc: Global, source: &[u8], destination: &[u8]) -> Result<(Name, Name), LineFault>
+    ensures { Says (λ ends. ends) result (ends_of source.now destination.now) }
 {
     let Some(source_name) = Name::read(alloc, source)? else {
         return Err(LineFault::Bad(ScriptKind::Name));
     };
-    let Some(target_name) = Name::read(alloc, target)? else {
+    let Some(destination_name) = Name::read(alloc, destination)? else {
         return Err(LineFault::Bad(ScriptKind::Name));
     };
-    if source == target {
+    if source == destination {
         return Err(LineFault::Bad(ScriptKind::SameInstance));
     }
-    Ok((source_name, target_name))
+    Ok((source_name, destination_name))
 }
 
 /// The filter of a copy, if it has one.
@@ -315,42 +299,42 @@ fn names_of(alloc: Global, list: &[u8]) -> Result<Option<Names>, NoMemory>
     Ok(Some(names))
 }
 
-/// The reader with an `at` line more: an order, or a settle.
-fn with_line(mut reader: Reader, at: u32, order: Option<Order>) -> Result<Reader, LineFault>
-    ensures { Says state_of result (with_line (state_of reader) at (option_map order_view order)) }
+/// The reader with an `at` line more: an order under its number, or a settle.
+fn with_line(reader: Reader, at: u32, order: Option<Order>) -> Result<Reader, LineFault>
+    ensures { Says (λ s. s) result (with_line reader at (option_map order_view order)) }
 {
     if reader.lines.len() >= MOST_LINES {
         return Err(LineFault::Bad(ScriptKind::TooMany));
     }
-    let what = numbered_order(reader.lines.as_slice(), order);
-    reader.lines.push(Line { at, what })?;
-    reader.last = Some(at);
-    Ok(reader)
+    let Reader {
+        routes,
+        mut lines,
+        commands,
+        ..
+    } = reader;
+    let what = numbered_order(commands, order);
+    let line = Line { at, what };
+    let commands = commands + u32::from(is_command(&line));
+    lines.push(line)?;
+    Ok(Reader {
+        routes,
+        lines,
+        commands,
+        last: Some(at),
+    })
 }
 
-/// An order under the number after those of the lines so far, or a settle.
-fn numbered_order(lines: &[Line], order: Option<Order>) -> What
-    requires { length lines.now < most_lines }
-    ensures { what_view result ≡ numbered (map line_view lines.now) (option_map order_view order) }
+/// An order under the number after so many commands, or a settle.
+fn numbered_order(commands: u32, order: Option<Order>) -> What
+    requires { commands < most_lines }
+    ensures { what_view result ≡ numbered_after commands (option_map order_view order) }
 {
     match order {
         Some(what) => {
-            let op = command_count(lines) + 1;
+            let op = commands + 1;
             What::Command(Command { op, what })
         }
         None => What::Settle,
-    }
-}
-
-/// How many commands stand in the lines.
-fn command_count(lines: &[Line]) -> u32
-    requires { length lines.now < most_lines }
-    ensures count { result ≡ command_count (map line_view lines.now) }
-    ensures most { result ≤ length lines.now }
-{
-    match lines {
-        [] => 0,
-        [line, more @ ..] => u32::from(is_command(line)) + command_count(more),
     }
 }
 

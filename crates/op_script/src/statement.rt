@@ -1,3 +1,4 @@
+//! One line of a script as a statement: its words, before names and filters are looked at.
 ghost use Rattle.std.specs.Prelude.{◌≡◌, map, IfOk, option_map};
 ghost use Rattle.op_script.specs.Statements.{words, is_blank, statement_of, routing, happening, event_of, moving, copying, sharing, settling, is_comment, most_at};
 ghost use Rattle.basics.specs.Parsing.{parse_number};
@@ -12,13 +13,13 @@ use std::alloc::Global;
 pub enum Event<'a> {
     Move {
         source: &'a [u8],
-        target: &'a [u8],
+        destination: &'a [u8],
         filter: &'a [u8],
         keep: bool,
     },
     Copy {
         source: &'a [u8],
-        target: &'a [u8],
+        destination: &'a [u8],
         filter: Option<&'a [u8]>,
     },
     Share {
@@ -143,7 +144,7 @@ fn moving<'a>(words: &[&'a [u8]]) -> Option<Event<'a>>
     ensures { option_map event_view result ≡ moving (map (λ w. w.now) words.now) }
 {
     match words {
-        [source, target, filter, how] => {
+        [source, destination, filter, how] => {
             let keep = if *how == b"order".as_slice() {
                 true
             } else if *how == b"lossfree".as_slice() {
@@ -153,7 +154,7 @@ fn moving<'a>(words: &[&'a [u8]]) -> Option<Event<'a>>
             };
             Some(Event::Move {
                 source,
-                target,
+                destination,
                 filter,
                 keep,
             })
@@ -168,7 +169,7 @@ fn copying<'a>(words: &[&'a [u8]]) -> Option<Event<'a>>
     ensures { option_map event_view result ≡ copying (map (λ w. w.now) words.now) }
 {
     match words {
-        [source, target, what] => {
+        [source, destination, what] => {
             let filter = if *what == b"all".as_slice() {
                 None
             } else {
@@ -176,7 +177,7 @@ fn copying<'a>(words: &[&'a [u8]]) -> Option<Event<'a>>
             };
             Some(Event::Copy {
                 source,
-                target,
+                destination,
                 filter,
             })
         }

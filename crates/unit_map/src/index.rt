@@ -59,7 +59,7 @@ impl<K: Ord + Hash + Copy> Index<K> {
         self.find_by_hash(entries, key)
     }
 
-    /// The same, by the hash of the key.
+    /// The place of the key's entry, by the hash of the key.
     #[inline(always)]
     fn find_by_hash<V>(&self, entries: &[(K, V)], key: &K) -> Option<usize>
         ensures found { IfSome result (λ place. is_place_of K.eq entries.now place key.now ≡ true) }

@@ -2,14 +2,14 @@
 use Rattle.std.proofs.Common.{◌≡◌, ◌==◌, ◌+◌, ◌≤◌, option_map}
 use Rattle.std.specs.List.{slice_split}
 use Rattle.basics.specs.Parsing.{remaining_pieces}
-use Rattle.op_script.specs.Reading.{with_lines, state_of, start}
+use Rattle.op_script.specs.Reading.{with_lines, start}
 use Rattle.basics.proofs.BytesLeft.{bytes_left}
 use Rattle.op_script.proofs.reading.read_lines.Given as goal
 
 -- what is left, from here on, gives what the whole script gives
 abbrev pub invariant-loop-rest : goal.invariant-loop-rest
 invariant-loop-rest l = record {
-  same : with_lines l.kind l.names (l.line + 1) (state_of l.reader) (remaining_pieces 10 (option_map (λ t. t.now) l.rest))
+  same : with_lines l.kind l.names (l.line + 1) l.reader (remaining_pieces 10 (option_map (λ t. t.now) l.rest))
       ≡ with_lines l.kind l.names 1 start (slice_split (λ b. b == 10) l.bytes);
   room : l.line + bytes_left (option_map (λ t. t.now) l.rest) ≤ 1048577;
 }
