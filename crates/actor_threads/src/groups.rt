@@ -3,6 +3,7 @@ ghost use Rattle.std.specs.Prelude.{◌≡◌, ◌<◌, length, IfOk, All};
 ghost use Rattle.actor_threads.specs.Groups.{IsInRound, AllInRound, AllGoOn};
 
 use crate::gate::Gate;
+use crate::pace::{Crew, Watch};
 use crate::worker::Worker;
 use actor_net::Actor;
 use basics::NoMemory;
@@ -73,29 +74,27 @@ impl<A: Actor> Member<A> {
         self.looked && !self.failed
     }
 
-    /// A turn: some steps, and then what they sent is sent. Tells whether there was a step.
+    /// A turn: some steps, and then what they sent is sent. Tells how many steps there were.
     #[inline(always)]
-    pub(crate) fn turn<R: Wait, G: Gate>(&mut self, rt: &R, gate: &G) -> bool
+    pub(crate) fn turn<R: Wait, G: Gate>(&mut self, rt: &R, gate: &G) -> u32
         ensures { GoesOn A.is_ready A.stepped self.old self.new }
     {
-        let moved = self.steps(rt, gate);
+        let steps = self.steps(rt, gate);
         self.worker.flush(rt);
-        moved
+        steps
     }
 
-    /// Does some steps, and tells whether it did any.
+    /// Does some steps, and tells how many.
     #[inline(always)]
-    fn steps<R: Wait, G: Gate>(&mut self, rt: &R, gate: &G) -> bool
+    fn steps<R: Wait, G: Gate>(&mut self, rt: &R, gate: &G) -> u32
         ensures { GoesOn A.is_ready A.stepped self.old self.new }
     {
-        let mut moved = false;
-        for _ in 0..TURN_STEPS {
+        for done in 0..TURN_STEPS {
             if !self.act(rt, gate) {
-                return moved;
+                return done;
             }
-            moved = true;
         }
-        moved
+        TURN_STEPS
     }
 
     /// Does a step where there is something to do, and tells whether it did.
@@ -124,11 +123,12 @@ impl<A: Actor> Member<A> {
     }
 }
 
-/// All workers do their rounds: that of node 0 alone, and the others in groups, each group in a thread of its own where
-/// threads can be made. The members come back in their order.
+/// All workers do their rounds. At the busy pace that of node 0 has a thread of its own, and so has each group of the others, where
+/// threads can be made; at the calm pace all of them take turns in one thread. The members come back in their order.
 pub(crate) fn run_all<R: Threads + Wait + Sync, A: Actor + Send, G: Gate>(
     rt: &R,
     gate: &G,
+    crew: &Crew,
     mut first: Vec<Member<A>>,
 ) -> Result<Vec<Member<A>>, NoMemory>
 where
@@ -139,36 +139,37 @@ where
     ensures count { IfOk result (λ after. length after.items ≡ length first.items) }
     ensures round { IfOk result (λ after. AllInRound A.is_ready A.stepped first.items after.items) }
 {
-    let rest = first.split_off(1)?;
+    let alone = crew.alone(first.len());
+    let rest = first.split_off(alone)?;
     let size = group_size(rt, rest.len());
-    let busy = AtomicU64::new(1 + rest.len().div_ceil(size) as u64);
+    crew.begin(1 + rest.len().div_ceil(size) as u64);
     let (mut first, mut rest) = thread::join(
         rt,
         || -> Vec<Member<A>>
             ensures count { length result.items ≡ length first.items }
             ensures on { AllGoOn A.is_ready A.stepped first.items result.items }
-        { run_alone(rt, gate, &busy, first) },
+        { run_alone(rt, gate, crew, first) },
         || -> Vec<Member<A>>
             requires { 0 < size }
             ensures count { length result.items ≡ length rest.items }
             ensures on { AllGoOn A.is_ready A.stepped rest.items result.items }
-        { run_groups(rt, gate, &busy, size, rest) },
+        { run_groups(rt, gate, crew, size, rest) },
     );
     first.append(&mut rest)?;
     Ok(first)
 }
 
-/// All members in one group.
+/// All members in one group, which looks after the pace.
 fn run_alone<R: Wait, A: Actor, G: Gate>(
     rt: &R,
     gate: &G,
-    busy: &AtomicU64,
+    crew: &Crew,
     mut members: Vec<Member<A>>,
 ) -> Vec<Member<A>>
     ensures count { length result.items ≡ length members.items }
     ensures on { AllGoOn A.is_ready A.stepped members.items result.items }
 {
-    run_group(rt, gate, busy, members.as_mut_slice());
+    run_group(rt, gate, crew, true, members.as_mut_slice());
     members
 }
 
@@ -176,7 +177,7 @@ fn run_alone<R: Wait, A: Actor, G: Gate>(
 fn run_groups<R: Threads + Wait + Sync, A: Actor + Send, G: Gate>(
     rt: &R,
     gate: &G,
-    busy: &AtomicU64,
+    crew: &Crew,
     size: usize,
     mut members: Vec<Member<A>>,
 ) -> Vec<Member<A>>
@@ -189,41 +190,45 @@ where
 {
     let run = |_start: usize, group: &mut [Member<A>]|
         ensures { AllGoOn A.is_ready A.stepped group.entry.now group.exit.now }
-    { run_group(rt, gate, busy, group) };
+    { run_group(rt, gate, crew, false, group) };
     thread::for_each_chunk_mut(rt, members.as_mut_slice(), size, &run);
     members
 }
 
-/// The workers of one group take turns, until no group is busy. `busy` counts the groups that are.
+/// The workers of one group take turns, until no group is busy or another pace is wanted. One group looks after the pace.
 fn run_group<R: Wait, A: Actor, G: Gate>(
     rt: &R,
     gate: &G,
-    busy: &AtomicU64,
+    crew: &Crew,
+    leads: bool,
     members: &mut [Member<A>],
 )
     ensures { AllGoOn A.is_ready A.stepped members.old members.new }
 {
-    let mut idle = Idleness { turns: 0 };
+    let mut idle = Idleness::new();
+    let mut watch = Watch::new();
     for _ in rt.forever() {
-        let moved = turn_all(rt, gate, members);
-        if idle.is_over(rt, busy, moved) {
+        let steps = turn_all(rt, gate, members);
+        if leads && watch.wants_another_pace(crew, steps, idle.has_slept()) {
+            crew.change_pace();
+            return;
+        }
+        if idle.is_over(rt, crew, steps > 0) {
             return;
         }
     }
 }
 
-/// A turn of each worker of a group. Tells whether one did a step.
+/// A turn of each worker of a group. Tells how many steps they did.
 #[inline(always)]
-fn turn_all<R: Wait, A: Actor, G: Gate>(rt: &R, gate: &G, members: &mut [Member<A>]) -> bool
+fn turn_all<R: Wait, A: Actor, G: Gate>(rt: &R, gate: &G, members: &mut [Member<A>]) -> u32
     ensures { AllGoOn A.is_ready A.stepped members.old members.new }
 {
-    let mut moved = false;
+    let mut steps: u32 = 0;
     for at in 0..members.len() {
-        if members[at].turn(rt, gate) {
-            moved = true;
-        }
+        steps = steps.saturating_add(members[at].turn(rt, gate));
     }
-    moved
+    steps
 }
 
 /// How many turns in a row of a group did no step.
@@ -233,28 +238,37 @@ struct Idleness {
 }
 
 impl Idleness {
+    fn new() -> Self {
+        Idleness { turns: 0 }
+    }
+
+    /// Whether the group slept after its latest turn.
+    fn has_slept(&self) -> bool {
+        self.turns >= SPIN_TURNS
+    }
+
     /// Counts a turn, and waits a little after one that did no step. Tells whether the group's part of the round is over.
-    fn is_over<R: Wait>(&mut self, rt: &R, busy: &AtomicU64, moved: bool) -> bool {
+    fn is_over<R: Wait>(&mut self, rt: &R, crew: &Crew, moved: bool) -> bool {
         if moved {
             if self.turns >= REST_TURNS {
-                busy.fetch_add(1, Ordering::SeqCst);
+                crew.busy.fetch_add(1, Ordering::SeqCst);
             }
             self.turns = 0;
             return false;
         }
-        if self.turns >= IDLE_TURNS {
+        if self.turns >= IDLE_TURNS || crew.is_calm() || crew.ends() {
             return true;
         }
         self.turns += 1;
         if self.turns == REST_TURNS {
-            busy.fetch_sub(1, Ordering::SeqCst);
+            crew.busy.fetch_sub(1, Ordering::SeqCst);
         }
-        if self.turns >= REST_TURNS && busy.load(Ordering::SeqCst) == 0 {
+        if self.turns >= REST_TURNS && crew.busy.load(Ordering::SeqCst) == 0 {
             return true;
         }
-        pause(busy);
+        pause(&crew.busy);
         if self.turns >= SPIN_TURNS {
-            sleep(rt, busy);
+            sleep(rt, &crew.busy);
         }
         false
     }
@@ -281,9 +295,15 @@ fn sleep<R: Wait>(rt: &R, busy: &AtomicU64) {
 fn group_size<R: Threads>(rt: &R, workers: usize) -> usize
     ensures { 0 < result }
 {
-    let processors = match thread::available_parallelism(rt) {
+    workers
+        .div_ceil(processors(rt).max(FEWEST_GROUPS) - 1)
+        .max(1)
+}
+
+/// How many processors there are, as far as the system tells.
+pub(crate) fn processors<R: Threads>(rt: &R) -> usize {
+    match thread::available_parallelism(rt) {
         Ok(processors) => processors.get(),
         Err(_) => 1,
-    };
-    workers.div_ceil(processors.max(FEWEST_GROUPS) - 1).max(1)
+    }
 }

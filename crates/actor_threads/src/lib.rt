@@ -14,6 +14,7 @@ pub mod gate;
 mod groups;
 mod links;
 mod notes;
+mod pace;
 pub mod round;
 pub mod ways;
 pub mod worker;

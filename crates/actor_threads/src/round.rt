@@ -9,9 +9,10 @@ ghost use Rattle.actor_threads.specs.LinkTable.{row_at, ways_of};
 ghost use Rattle.actor_threads.specs.Round.{AllStart, CanCloseAll, AllClosed, Gathered, OpenedWith};
 
 use crate::gate::Gate;
-use crate::groups::{Member, run_all};
+use crate::groups::{Member, processors, run_all};
 use crate::links::{Ends, close_row, open_all};
 use crate::notes::NoteQueue;
+use crate::pace::Crew;
 use crate::ways::{Batch, WayIn, WayOut};
 use crate::worker::Worker;
 use actor_net::{Actor, Choice, Choices, History, Parts, World, merge};
@@ -38,11 +39,12 @@ where
 {
     let mut world = world;
     let mut choices = Choices::open(alloc);
+    let crew = crew(rt);
     for _ in rt.forever() {
         if world.complete() {
             return Ok((world, choices));
         }
-        let (next, more) = run_round(rt, alloc, world, gate)?;
+        let (next, more) = round_of(rt, alloc, world, gate, &crew)?;
         choices = join(choices, more)?;
         world = next;
     }
@@ -63,11 +65,33 @@ where
     ensures run { IfOk result (λ r. IsRun A.is_ready A.stepped r.1 world × (r.0 ≡ run A.stepped r.1 world)) }
     ensures moves { IfOk result (λ r. (r.1 ≡ []) ↔ ((c : Choice) → is_enabled A.is_ready world c ≡ false)) }
 {
+    round_of(rt, alloc, world, gate, &crew(rt))
+}
+
+/// A round by these groups.
+fn round_of<R: Threads + Wait + Sync, A: Actor + Send, G: Gate>(
+    rt: &R,
+    alloc: Global,
+    world: World<A>,
+    gate: &G,
+    crew: &Crew,
+) -> Result<(World<A>, Choices), NoMemory>
+where
+    A::Message: Send,
+    A::Note: Send,
+    ensures run { IfOk result (λ r. IsRun A.is_ready A.stepped r.1 world × (r.0 ≡ run A.stepped r.1 world)) }
+    ensures moves { IfOk result (λ r. (r.1 ≡ []) ↔ ((c : Choice) → is_enabled A.is_ready world c ≡ false)) }
+{
     let (members, log) = members_of(alloc, world)?;
-    let after = run_all(rt, gate, members)?;
+    let after = run_all(rt, gate, crew, members)?;
     let round_parts = take_apart(alloc, after)?;
     let (left, choices) = gather(rt, alloc, round_parts, log)?;
     Ok((left, choices))
+}
+
+/// The groups of a run, at the busy pace.
+fn crew<R: Threads>(rt: &R) -> Crew {
+    Crew::new(processors(rt) == 1)
 }
 
 /// The workers of all nodes, none of which has done a step.

@@ -1,4 +1,6 @@
 pub mod Grammar
+pub mod Values
+pub mod NetworkWords
 pub mod Requests
 pub mod Views
 pub mod RequestViews

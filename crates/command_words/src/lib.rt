@@ -6,11 +6,15 @@
 #![tactic(auto)]
 
 pub mod fault;
+pub mod forms;
 pub mod grammar;
+pub mod instances;
 pub mod request;
 pub mod values;
 pub mod words;
 
 pub use fault::ArgumentsFault;
-pub use request::{Checking, Generating, Instances, NetworkRequest, Request};
-pub use words::parse_command;
+pub use request::{
+    Auditing, CalmRequest, Checking, Generating, InstanceWords, Instances, NetworkRequest, Request,
+};
+pub use words::{names_run, parse_calm, parse_command, parse_run};

@@ -1,4 +1,6 @@
-ghost use Rattle.std.specs.Prelude.{◌≤◌};
+//! What the words of the command line ask for.
+ghost use Rattle.std.specs.Prelude.{◌≤◌, IsSome, length};
+ghost use Rattle.flow_filter.specs.Limits.{most_instances, most_window};
 ghost use Rattle.command_words.specs.declared.request.TheConstants.{MOST_PACKETS, MOST_HOSTS};
 
 use actor_net::Schedule;
@@ -11,16 +13,25 @@ pub const MOST_PACKETS: u32 = 1_000_000;
 /// The most hosts of a generated capture.
 pub const MOST_HOSTS: u32 = 256;
 
-/// The instances of a run: the name of each, how many live records it takes in by moves, and whether it is marked, so that it
-/// reads chunks of version 1 alone.
+/// What the words say of one instance.
 #[derive(Debug, Drop)]
-pub struct Instances {
-    pub names: Vec<Name>,
-    pub limits: Vec<u32>,
-    pub marked: Vec<bool>,
+pub struct InstanceWords {
+    pub name: Name,
+    /// How many live records it takes in by moves.
+    pub limit: u32,
+    /// Whether it reads chunks of version 1 alone.
+    pub reads_old: bool,
 }
 
-/// What `sim`, `run` and `audit` ask for.
+/// What the words say of the instances: 1 to 16 of them.
+#[derive(Debug, Drop)]
+pub struct Instances {
+    pub rows: Vec<InstanceWords>,
+    ghost some: { 1 ≤ length rows.items },
+    ghost few: { length rows.items ≤ most_instances },
+}
+
+/// What `sim` and `run` ask for.
 #[derive(Debug, Drop)]
 pub struct NetworkRequest<'a> {
     pub kind: Kind,
@@ -36,6 +47,14 @@ pub struct NetworkRequest<'a> {
     pub trace: &'a str,
     /// The script's file.
     pub script: Option<&'a str>,
+    ghost window_in_range: { (1 ≤ window) × (window ≤ most_window) },
+}
+
+/// What `audit` asks for. The journal's file is given.
+#[derive(Debug, Drop)]
+pub struct Auditing<'a> {
+    pub network: NetworkRequest<'a>,
+    ghost has_journal: { IsSome network.journal },
 }
 
 /// What `check` asks for.
@@ -62,15 +81,22 @@ pub struct Generating<'a> {
     ghost hosts_in_range: { (1 ≤ hosts) × (hosts ≤ MOST_HOSTS) },
 }
 
-/// What the words ask for.
+/// What the words ask for: a run by threads, or something that always comes to its end.
 #[derive(Debug, Drop)]
 pub enum Request<'a> {
-    /// A simulated run over a capture, which picks its next step by the schedule.
-    Sim(NetworkRequest<'a>, Schedule),
     /// A run by threads over a capture.
     Run(NetworkRequest<'a>),
-    /// The run that a journal tells, again. The journal's file is given.
-    Audit(NetworkRequest<'a>),
+    /// What needs no threads.
+    Calm(CalmRequest<'a>),
+}
+
+/// What the words ask for, where it needs no threads.
+#[derive(Debug, Drop)]
+pub enum CalmRequest<'a> {
+    /// A simulated run over a capture, which picks its next step by the schedule.
+    Sim(NetworkRequest<'a>, Schedule),
+    /// The run that a journal tells, again.
+    Audit(Auditing<'a>),
     /// The canonical text of a script.
     Check(Checking<'a>),
     /// A generated capture.

@@ -1,20 +1,18 @@
-ghost use Rattle.std.specs.Prelude.{◌≡◌, ◌≤◌, ◌<◌, ◌∷◌, [], ◌++◌, length, find, is_some, not, if◌then◌else◌, All, IfOk, IfSome, OnOk};
-ghost use Rattle.std.specs.List.{filter_map, position};
-ghost use Rattle.std.specs.Str.{bytes_eq};
-ghost use Rattle.ctrl_node.specs.Controller.{answers, begins, begins_between, begins_share, closed, copies_between, finish_of, handed, instance_at, on_asked, on_diverted, on_event, on_final, opened, overlap, place_of, refusal, row, serves, takes_turn, unknown_name, with_finish};
-ghost use Rattle.ctrl_node.specs.Operations.{lasts, turn_of};
+//! The controller as a node: what it holds, and the row of each message.
+ghost use Rattle.std.specs.Prelude.{◌≡◌, ◌≤◌, ◌<◌, ◌++◌, length, if◌then◌else◌, IfOk, IfSome, OnOk};
 ghost use Rattle.std.specs.FinMap as finite;
+ghost use Rattle.ctrl_node.specs.Controller.{answers, closed, finish_of, handed, instance_at, on_diverted, on_event, on_final, opened, row, serves, takes_turn, with_finish};
+ghost use Rattle.ctrl_node.specs.Operations.{lasts, turn_of};
 
-use crate::operation::Operation;
+mod commands;
+
 use crate::operations::Operations;
 use actor_net::{Actor, Outbox};
-use basics::{Boxed, NoMemory, TryCopy};
-use copy_share::{CopyOp, ShareOp};
+use basics::{Boxed, NoMemory};
 use event_filter::Mark;
 use event_store::EventStore;
-use flow_filter::{Filter, Name, Site, flow_of};
-use move_op::MoveOp;
-use nf_msgs::{Answer, Command, MOST_INSTANCES, Msg, Names, Note, Order, SWITCH};
+use flow_filter::{Site, flow_of};
+use nf_msgs::{Answer, MOST_INSTANCES, Msg, Names, Note, SWITCH};
 use packet_pool::Cell;
 use std::alloc::Global;
 use std::marker::Model;
@@ -154,200 +152,6 @@ impl Ctrl {
         }
     }
 
-    /// A command is refused, or begins.
-    fn asked(&mut self, command: Command, out: &mut Outbox<Msg, Note>) -> Result<(), NoMemory>
-        ensures node { OnOk result (self.new ≡ (on_asked self.old command).node) }
-        ensures sends { OnOk result (out.new.0 ≡ out.old.0 ++ (on_asked self.old command).sends) }
-        ensures notes { OnOk result (out.new.1 ≡ out.old.1 ++ (on_asked self.old command).notes) }
-    {
-        let Command { op, what } = command;
-        if self.operations.contains(op) {
-            return Ok(());
-        }
-        if let Some(answer) = self.refusal(&what)? {
-            return self.answer(op, answer, out);
-        }
-        self.begin(op, what, out)
-    }
-
-    /// The cause for which an order is refused.
-    fn refusal(&self, what: &Order) -> Result<Option<Answer>, NoMemory>
-        ensures { IfOk result (λ answer. answer ≡ refusal self.now what.now) }
-    {
-        if let Some(name) = self.unknown_name(what)? {
-            return Ok(Some(Answer::Unknown(name)));
-        }
-        Ok(self.overlap(what).map(Answer::Overlap))
-    }
-
-    /// The first name in an order that no instance has.
-    fn unknown_name(&self, what: &Order) -> Result<Option<Name>, NoMemory>
-        ensures { IfOk result (λ name. name ≡ unknown_name self.now what.now) }
-    {
-        match what {
-            Order::Move { src, dst, .. } => self.unknown_of(src, dst),
-            Order::Copy { src, dst, .. } => self.unknown_of(src, dst),
-            Order::Share { members, .. } => self.unknown_among(members.items()),
-        }
-    }
-
-    /// The first of these names that no instance has.
-    fn unknown_among(&self, names: &[Name]) -> Result<Option<Name>, NoMemory>
-        ensures { IfOk result (λ name. name ≡ find (λ name. not (is_some (place_of self.now.names name))) names.now) }
-    {
-        for name in names {
-            if self.place_of(name).is_none() {
-                return Ok(Some(name.copy()?));
-            }
-        }
-        Ok(None)
-    }
-
-    /// The lowest number of an open operation that the order's filter meets.
-    fn overlap(&self, what: &Order) -> Option<u32>
-        ensures { result ≡ overlap self.now what.now }
-    {
-        match what {
-            Order::Move { filter, .. } => self.operations.lowest_meeting(filter),
-            Order::Copy { filter, .. } => match filter {
-                Some(filter) => self.operations.lowest_meeting(filter),
-                None => None,
-            },
-            Order::Share { filter, .. } => self.operations.lowest_meeting(filter),
-        }
-    }
-
-    /// The first of two names that no instance has.
-    fn unknown_of(&self, first: &Name, second: &Name) -> Result<Option<Name>, NoMemory>
-        ensures { IfOk result (λ name. name ≡ find (λ name. not (is_some (place_of self.now.names name))) (first.now ∷ second.now ∷ [])) }
-    {
-        if self.place_of(first).is_none() {
-            return Ok(Some(first.copy()?));
-        }
-        if self.place_of(second).is_none() {
-            return Ok(Some(second.copy()?));
-        }
-        Ok(None)
-    }
-
-    /// An operation begins.
-    fn begin(&mut self, op: u32, what: Order, out: &mut Outbox<Msg, Note>) -> Result<(), NoMemory>
-        ensures node { OnOk result (self.new ≡ (begins self.old op what).node) }
-        ensures sends { OnOk result (out.new.0 ≡ out.old.0 ++ (begins self.old op what).sends) }
-        ensures notes { OnOk result (out.new.1 ≡ out.old.1 ++ (begins self.old op what).notes) }
-    {
-        match what {
-            Order::Move {
-                src,
-                dst,
-                filter,
-                keep,
-            } => {
-                let from = self.place_of(&src);
-                let to = self.place_of(&dst);
-                self.begin_between(op, from, to, &filter, keep, out)
-            }
-            Order::Copy { src, dst, filter } => {
-                let from = self.place_of(&src);
-                let to = self.place_of(&dst);
-                self.copy_between(op, from, to, filter, out)
-            }
-            Order::Share { members, filter } => {
-                let places = self.places_of(members.items())?;
-                self.begin_share(op, places, &filter, out)
-            }
-        }
-    }
-
-    /// A move begins between two instances.
-    fn begin_between(
-        &mut self,
-        op: u32,
-        from: Option<u8>,
-        to: Option<u8>,
-        filter: &Filter,
-        keep: bool,
-        out: &mut Outbox<Msg, Note>,
-    ) -> Result<(), NoMemory>
-        requires from { IfSome from (λ place. place < MOST_INSTANCES) }
-        requires to { IfSome to (λ place. place < MOST_INSTANCES) }
-        ensures node { OnOk result (self.new ≡ (begins_between self.old op filter.now keep from to).node) }
-        ensures sends { OnOk result (out.new.0 ≡ out.old.0 ++ (begins_between self.old op filter.now keep from to).sends) }
-        ensures notes { OnOk result (out.new.1 ≡ out.old.1 ++ (begins_between self.old op filter.now keep from to).notes) }
-    {
-        let Some(from) = from else {
-            return Ok(());
-        };
-        let Some(to) = to else {
-            return Ok(());
-        };
-        out.note(Note::Begun(op))?;
-        let begun = MoveOp::begin(self.alloc, op, from, to, filter, keep, out)?;
-        self.operations.insert(op, Operation::Move(begun))
-    }
-
-    /// A copy begins between two instances.
-    fn copy_between(
-        &mut self,
-        op: u32,
-        from: Option<u8>,
-        to: Option<u8>,
-        filter: Option<Filter>,
-        out: &mut Outbox<Msg, Note>,
-    ) -> Result<(), NoMemory>
-        requires from { IfSome from (λ place. place < MOST_INSTANCES) }
-        requires to { IfSome to (λ place. place < MOST_INSTANCES) }
-        ensures node { OnOk result (self.new ≡ (copies_between self.old op filter from to).node) }
-        ensures sends { OnOk result (out.new.0 ≡ out.old.0 ++ (copies_between self.old op filter from to).sends) }
-        ensures notes { OnOk result (out.new.1 ≡ out.old.1 ++ (copies_between self.old op filter from to).notes) }
-    {
-        let Some(from) = from else {
-            return Ok(());
-        };
-        let Some(to) = to else {
-            return Ok(());
-        };
-        out.note(Note::Begun(op))?;
-        let begun = CopyOp::begin(self.alloc, op, from, to, filter, out)?;
-        self.operations.insert(op, Operation::Copy(begun))
-    }
-
-    /// The numbers of the instances with these names, in order.
-    fn places_of(&self, names: &[Name]) -> Result<Vec<u8>, NoMemory>
-        ensures places { IfOk result (λ places. places.items ≡ filter_map (place_of self.now.names) names.now) }
-        ensures within { IfOk result (λ places. All (λ place. place < MOST_INSTANCES) places.items) }
-    {
-        let mut places = Vec::new(self.alloc);
-        for name in names {
-            let Some(place) = self.place_of(name) else {
-                continue;
-            };
-            places.push(place)?;
-        }
-        Ok(places)
-    }
-
-    /// A share begins, if it has members.
-    fn begin_share(
-        &mut self,
-        op: u32,
-        members: Vec<u8>,
-        filter: &Filter,
-        out: &mut Outbox<Msg, Note>,
-    ) -> Result<(), NoMemory>
-        requires instances { All (λ member. member < MOST_INSTANCES) members.items }
-        ensures node { OnOk result (self.new ≡ (begins_share self.old op filter.now members.items).node) }
-        ensures sends { OnOk result (out.new.0 ≡ out.old.0 ++ (begins_share self.old op filter.now members.items).sends) }
-        ensures notes { OnOk result (out.new.1 ≡ out.old.1 ++ (begins_share self.old op filter.now members.items).notes) }
-    {
-        if members.is_empty() {
-            return Ok(());
-        }
-        out.note(Note::Begun(op))?;
-        let begun = ShareOp::begin(self.alloc, op, members, filter, self.site, out)?;
-        self.operations.insert(op, Operation::Share(begun))
-    }
-
     /// Answers a command.
     fn answer(&self, op: u32, answer: Answer, out: &mut Outbox<Msg, Note>) -> Result<(), NoMemory>
         ensures sends { OnOk result (out.new.0 ≡ out.old.0 ++ (answers self.now op answer).sends) }
@@ -474,15 +278,6 @@ impl Ctrl {
         out.send(SWITCH, Msg::Finish)
     }
 
-    /// The number of the instance with a name.
-    fn place_of(&self, name: &Name) -> Option<u8>
-        ensures value { result ≡ place_of self.now.names name.now }
-        ensures within { IfSome result (λ place. place < MOST_INSTANCES) }
-    {
-        let place = first_place(name.items(), self.names.items())?;
-        Some(place as u8)
-    }
-
     /// The number of the instance that a port is of.
     fn instance_at(&self, port: u8) -> Option<u8>
         ensures value { result ≡ instance_at self.now port }
@@ -494,12 +289,4 @@ impl Ctrl {
         }
         Some(instance)
     }
-}
-
-/// The place of the first name with these bytes.
-fn first_place(name: &[u8], names: &[Name]) -> Option<usize>
-    ensures place { result ≡ position (λ other. bytes_eq other name.now) names.now }
-    ensures within { IfSome result (λ place. place < length names.now) }
-{
-    names.iter().position(|other| other.items() == name)
 }

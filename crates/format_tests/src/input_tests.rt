@@ -1,6 +1,7 @@
 //! Tests of `run_input`: what a run is given, of a setting, a script and packets.
 
-use crate::script_tests::{instances, shown, two_packets};
+use crate::script_tests::{shown, two_packets};
+use command_words::instances::instances_of;
 use flow_filter::{Filter, Prefix, Site};
 use net_world::Config;
 use nf_function::Kind;
@@ -24,15 +25,12 @@ fn site() -> Site {
 
 /// What the tracker's instances `a` and `b` are given, by the text of a script.
 fn given(alloc: Global, text: &[u8]) -> Result<(Config, Vec<Msg>), Fail> {
-    let names = instances(alloc)?;
-    let script = read_script(alloc, text, Kind::Conntrack, names.as_slice())?;
-    let limits = [5, 7];
-    let marked = [false, true];
+    let instances = instances_of(alloc, Some("a:5,b:7:v1"))?.ok_or("no instances")?;
+    let names = instances.names(alloc)?;
+    let script = read_script(alloc, text, Kind::Conntrack, names.items())?;
     let setting = Setting {
         kind: Kind::Conntrack,
-        names: names.as_slice(),
-        limits: limits.as_slice(),
-        marked: marked.as_slice(),
+        instances: &instances,
         site: site(),
         window: 3,
     };

@@ -8,6 +8,8 @@
 #[cfg(test)]
 mod capture_tests;
 #[cfg(test)]
+mod check_words_tests;
+#[cfg(test)]
 mod filter_tests;
 #[cfg(test)]
 mod function_tests;
@@ -18,6 +20,10 @@ mod journal_tests;
 #[cfg(test)]
 mod outside_tests;
 #[cfg(test)]
+mod run_words_tests;
+#[cfg(test)]
 mod script_tests;
+#[cfg(test)]
+mod sim_words_tests;
 #[cfg(test)]
 mod words_tests;

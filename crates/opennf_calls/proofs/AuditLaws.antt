@@ -5,15 +5,7 @@ use Rattle.std.specs.declared.alloc.Global.{Global}
 use Rattle.flow_filter.specs.declared.filter.Filter.{Filter}
 use Rattle.flow_filter.specs.declared.packet.Packet.{Packet}
 use Rattle.flow_filter.specs.declared.site.Site.{Site}
-use Rattle.nf_function.specs.declared.kind.Kind.{Kind}
-use Rattle.nf_function.specs.declared.kind.Kind.TheVariants as kinds
 use Rattle.nf_function.specs.Semantics.{Semantics}
-use Rattle.conn_tracker.specs.declared.conntrack.Conntrack.{Conntrack}
-use Rattle.conn_tracker.specs.Conntrack.{conntrack}
-use Rattle.addr_translator.specs.declared.nat.Nat.{Nat}
-use Rattle.addr_translator.specs.Nat.{nat}
-use Rattle.asset_monitor.specs.declared.monitor.Monitor.{Monitor}
-use Rattle.asset_monitor.specs.Monitor.{monitor}
 use Rattle.nf_io.specs.declared.outside.Role.TheVariants.{Trace, Report, JournalOut}
 use Rattle.nf_msgs.specs.declared.msg.Msg.{Msg}
 use Rattle.nf_msgs.specs.declared.note.Note.{Note}
@@ -30,8 +22,9 @@ use Rattle.net_world.specs.Start.{started}
 use Rattle.run_report.specs.Lines.{report_text}
 use Rattle.command_words.specs.Requests.{NetworkAsked}
 use Rattle.opennf_calls.specs.Again.{AuditLaw}
-use Rattle.opennf_calls.specs.NetworkRuns.{Scenario, RunResults, IsNoRun, IsRunOf, OfKind, config_for, given_script, head_for, job_for, run_given, start_for}
+use Rattle.opennf_calls.specs.NetworkRuns.{Scenario, RunResults, HasNoRun, HasRun, IsNoRun, IsRunOf, config_for, given_script, head_for, job_for, run_given, start_for}
 use Rattle.opennf_calls.specs.Outcome.{first_refusal, journal_read, journal_refusal, script_refusal, trace_refusal}
+use Rattle.opennf_calls.proofs.FunctionLemmas.{from_both, from_kind}
 use Rattle.opennf_calls.proofs.SameInputs.{AreSame, same_scenario}
 
 -- each choice of a run is enabled in its turn
@@ -81,25 +74,23 @@ module _ {R : Type 0} (F : Type 0) (f : Semantics R) (s : NetworkAsked) (g h : S
         ]
 
 -- The same, for the function that the words name.
-module _ (s : NetworkAsked) (g h : Scenario) (same : AreSame g h) (by : Option Schedule) (made : RunResults) where
-  same_report : (kind : Kind) → OfKind kind (λ R F f. IsRunOf (run_given F f s g) by made) → (audited : RunResults) → OfKind kind (λ R F f. IsRunOf (run_given F f s h) None audited) → audited.choices ≡ made.choices → audited.texts Report ≡ made.texts Report
-  same_report kinds.Conntrack x audited y chose = reports Conntrack conntrack s g h same by made x audited y chose
-  same_report kinds.Nat x audited y chose = reports Nat nat s g h same by made x audited y chose
-  same_report kinds.Monitor x audited y chose = reports Monitor monitor s g h same by made x audited y chose
+module _ (s : NetworkAsked) (g h : Scenario) (same : AreSame g h) (by : Option Schedule) (made : RunResults) (ran : HasRun s g by made) where
+  same_report : (audited : RunResults) → HasRun s h None audited → audited.choices ≡ made.choices → audited.texts Report ≡ made.texts Report
+  same_report audited again chose =
+      from_both s.kind (λ R F f. IsRunOf (run_given F f s g) by made) (λ R F f. IsRunOf (run_given F f s h) None audited) (audited.texts Report ≡ made.texts Report)
+      (λ R F f x y. reports F f s g h same by made x audited y chose) ran again
 
-  still_runs : (kind : Kind) → OfKind kind (λ R F f. IsRunOf (run_given F f s g) by made) → (cs : List Choice) → cs ≡ made.choices → (step : ℕ) → OfKind kind (λ R F f. IsNoRun (run_given F f s h) cs step) → ⊥
-  still_runs kinds.Conntrack x cs chose step told = no_cause Conntrack conntrack s g h same by made x cs chose step told
-  still_runs kinds.Nat x cs chose step told = no_cause Nat nat s g h same by made x cs chose step told
-  still_runs kinds.Monitor x cs chose step told = no_cause Monitor monitor s g h same by made x cs chose step told
+  still_runs : (cs : List Choice) → cs ≡ made.choices → (step : ℕ) → HasNoRun s h cs step → ⊥
+  still_runs cs chose step told =
+      from_both s.kind (λ R F f. IsRunOf (run_given F f s g) by made) (λ R F f. IsNoRun (run_given F f s h) cs step) ⊥
+      (λ R F f x none. no_cause F f s g h same by made x cs chose step none) ran told
 
-read_again : (s : NetworkAsked) (g : Scenario) (by : Option Schedule) (made : RunResults) (kind : Kind) → OfKind kind (λ R F f. IsRunOf (run_given F f s g) by made) → journal_of s.kind (length s.instances.names) (made.texts JournalOut) ≡ Ok made.choices
-read_again s g by made kinds.Conntrack x = x.again
-read_again s g by made kinds.Nat x = x.again
-read_again s g by made kinds.Monitor x = x.again
+read_again : (s : NetworkAsked) (g : Scenario) (by : Option Schedule) (made : RunResults) → HasRun s g by made → journal_of s.kind (length s.instances) (made.texts JournalOut) ≡ Ok made.choices
+read_again s g by made ran = from_kind s.kind (λ R F f. IsRunOf (run_given F f s g) by made) (journal_of s.kind (length s.instances) (made.texts JournalOut) ≡ Ok made.choices) (λ R F f x. x.again) ran
 
 pub audit_law : AuditLaw
 audit_law s bytes again by made is back =
-    let told : journal_read s again ≡ Ok made.choices = ap (journal_of s.kind (length s.instances.names)) back.journal ∙ read_again s is.scenario by made s.kind is.holds in
+    let told : journal_read s again ≡ Ok made.choices = ap (journal_of s.kind (length s.instances)) back.journal ∙ read_again s is.scenario by made is.holds in
     let chosen : (cs : List Choice) → journal_read s again ≡ Ok cs → cs ≡ made.choices = (λ cs read. let both : Ok cs ≡ Ok made.choices = sym read ∙ told in cc) in
     record {
       sound =
@@ -107,9 +98,9 @@ audit_law s bytes again by made is back =
           ∙ ap (λ read. first_refusal (trace_refusal read) (journal_refusal (journal_read s again))) (ap capture_of back.trace ∙ is.is_scenario.read)
           ∙ ap journal_refusal told;
       complete = λ step fails.
-          still_runs s is.scenario fails.no_run.scenario (same_scenario s bytes again is.scenario fails.no_run.scenario is.is_scenario fails.no_run.is_scenario back.trace back.script) by made s.kind is.holds
+          still_runs s is.scenario fails.no_run.scenario (same_scenario s bytes again is.scenario fails.no_run.scenario is.is_scenario fails.no_run.is_scenario back.trace back.script) by made is.holds
           fails.choices (chosen fails.choices fails.told) step fails.no_run.holds;
       same = λ audited a.
-          same_report s is.scenario a.run.scenario (same_scenario s bytes again is.scenario a.run.scenario is.is_scenario a.run.is_scenario back.trace back.script) by made s.kind is.holds
+          same_report s is.scenario a.run.scenario (same_scenario s bytes again is.scenario a.run.scenario is.is_scenario a.run.is_scenario back.trace back.script) by made is.holds
           audited a.run.holds (chosen audited.choices a.told);
     }

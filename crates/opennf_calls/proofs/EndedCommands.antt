@@ -1,6 +1,5 @@
 -- What a command that ended leaves, seen from before its files were bound.
-use Rattle.std.proofs.Common.{◌≡◌, ℕ, List, [], Option, None, Some, refl, ap, sym, ◌∙◌, subst, inl, inr}
-use Rattle.std.specs.Prelude.{option_and_then}
+use Rattle.std.proofs.Common.{◌≡◌, ℕ, List, [], Option, None, Some, refl, sym, ◌∙◌, subst, inl, inr}
 use Rattle.nf_io.specs.declared.outside.Role.{Role}
 use Rattle.nf_io.specs.declared.outside.Role.TheVariants.{Errors}
 use Rattle.nf_io.specs.Meaning.{Meaning}
@@ -8,7 +7,6 @@ use Rattle.command_words.specs.declared.fault.ArgumentsFault.{ArgumentsFault}
 use Rattle.command_words.specs.declared.fault.ArgumentsFault.TheVariants as words
 use Rattle.command_words.specs.Requests.{Asked, asks_sim, asks_run, asks_audit, asks_check, asks_gen}
 use Rattle.command_words.specs.Views.{Refuses}
-use Rattle.opennf_calls.specs.declared.status.Status.{Status}
 use Rattle.opennf_calls.specs.declared.outcome.Outcome.{Outcome}
 use Rattle.opennf_calls.specs.Command.{file_for}
 use Rattle.opennf_calls.specs.Outcome.{CauseOf, IsBound}
@@ -32,24 +30,26 @@ no_file (asks_check c) = refl
 no_file (asks_gen g) = refl
 
 -- a command ended
-pub ended : (request : Option Asked) (asked : Asked) (before old new : Role → Meaning) (outcome : Outcome) → request ≡ Some asked
-    → ((role : Role) → (before role).name ≡ None) → SameContents before old → IsBound asked old → Performs asked old new outcome
-    → HasEnded request before new outcome
-ended request asked before old new outcome is unnamed contents bound performs = record {
-  cause = subst (λ (p : Option Asked). CauseOf p before new outcome) (sym is)
-      (row_around before old new new (bound_before before old new contents) asked outcome.choices outcome.status performs.row);
-  names = λ role. inr (performs.names role ∙ bound role ∙ ap (λ (p : Option Asked). option_and_then (λ a. file_for a role) p) (sym is));
+pub ended : (asked : Asked) (before old new : Role → Meaning) (outcome : Outcome) → ((role : Role) → (before role).name ≡ None) → SameContents before old
+    → IsBound asked old → Performs asked old new outcome → HasEnded (Some asked) before new outcome
+ended asked before old new outcome unnamed contents bound performs = record {
+  cause = row_around before old new new (bound_before before old new contents) asked outcome.choices outcome.status performs.row;
+  names = λ role. inr (performs.names role ∙ bound role);
   errors = performs.errors ∙ same_meaning (old Errors) (before Errors) (contents.left Errors) (contents.written Errors) (contents.faults Errors)
       (bound Errors ∙ no_file asked ∙ sym (unnamed Errors));
 }
 
+-- a command that is all that the words ask for
+pub ended_words : (request : Option Asked) (asked : Asked) (old new : Role → Meaning) (outcome : Outcome) → request ≡ Some asked
+    → HasEnded (Some asked) old new outcome → HasEnded request old new outcome
+ended_words request asked old new outcome is holds = subst (λ (r : Option Asked). HasEnded r old new outcome) (sym is) holds
+
 -- words were refused
-pub refused_words : (request : Option Asked) (old : Role → Meaning) (fault : ArgumentsFault) (status : Status) (outcome : Outcome) → Refuses fault request
-    → ((role : Role) → (old role).name ≡ None) → status ≡ words_status fault → outcome ≡ record { status = status; choices = [] } → HasEnded request old old outcome
-refused_words request old fault status outcome refuses unnamed is ends =
+pub refused_words : (request : Option Asked) (old : Role → Meaning) (fault : ArgumentsFault) (outcome : Outcome) → Refuses fault request
+    → ((role : Role) → (old role).name ≡ None) → outcome ≡ record { status = words_status fault; choices = [] } → HasEnded request old old outcome
+refused_words request old fault outcome refuses unnamed ends =
     subst (λ (o : Outcome). HasEnded request old old o) (sym ends)
-    (subst (λ (s : Status). HasEnded request old old (record { status = s; choices = [] })) (sym is)
-    (record { cause = by fault request refuses; names = λ role. inl (unnamed role); errors = refl }))
+    (record { cause = by fault request refuses; names = λ role. inl (unnamed role); errors = refl })
   where
     by : (fault : ArgumentsFault) (request : Option Asked) → Refuses fault request → CauseOf request old old (record { status = words_status fault; choices = [] })
     by words.Usage None refuses = (inl refl, λ role differ. refl, refl)

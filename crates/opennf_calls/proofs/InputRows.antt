@@ -20,6 +20,7 @@ use Rattle.op_script.specs.declared.fault.ScriptKind.{ScriptKind}
 use Rattle.op_script.specs.declared.script.Script.{Script as TheScript}
 use Rattle.op_script.specs.Reading.{script_of}
 use Rattle.command_words.specs.Requests.{NetworkAsked}
+use Rattle.command_words.specs.Values.{names_of}
 use Rattle.opennf_calls.specs.declared.status.Status.{Status}
 use Rattle.opennf_calls.specs.Outcome.{IsSite, first_refusal, inputs_refusal, script_refusal, trace_refusal}
 use Rattle.opennf_calls.specs.NetworkRuns.{given_script}
@@ -31,7 +32,11 @@ pub is_named : (file : Option (Bor (List ℕ))) → is_none file ≡ false → i
 is_named None none = absurd (cc)
 is_named (Some name) none = refl
 
-pub named_script : (s : NetworkAsked) (bytes : List ℕ) → is_some s.script ≡ true → given_script s bytes ≡ script_of s.kind s.instances.names bytes
+pub still_named : (file : Option (Bor (List ℕ))) → is_some file ≡ true → is_some (option_map (λ t. t.now) file) ≡ true
+still_named None there = absurd (cc)
+still_named (Some name) there = refl
+
+pub named_script : (s : NetworkAsked) (bytes : List ℕ) → is_some s.script ≡ true → given_script s bytes ≡ script_of s.kind (names_of s.instances) bytes
 named_script s bytes named = rw named refl
 
 -- a script that is refused

@@ -1,9 +1,11 @@
 pub mod AuditLaws
 pub mod AuditRows
-pub mod BuiltCommands
+pub mod CaptureRows
 pub mod CompleteLemmas
 pub mod EndedCommands
+pub mod FunctionLemmas
 pub mod InputRows
+pub mod JournalRows
 pub mod LastLineLemmas
 pub mod LoggedNumbers
 pub mod MakingLemmas

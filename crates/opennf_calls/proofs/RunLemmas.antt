@@ -1,8 +1,10 @@
 -- What is known of a run of the network, in the words of its command.
-use Rattle.std.proofs.Common.{◌≡◌, ℕ, ◌<◌, true, List, map, length, Option, Some, Result, Ok, Err, refl, ap, ◌∙◌, subst, arith}
+use Rattle.std.proofs.Common.{◌≡◌, ℕ, ◌<◌, true, List, map, length, Option, None, Some, Result, Ok, Err, false, refl, sym, ap, ◌∙◌, subst, arith}
 use Rattle.std.specs.Prelude.{MatchResult}
 use Rattle.std.specs.declared.alloc.Global.{Global}
 use Rattle.flow_filter.specs.declared.packet.Packet.{Packet}
+use Rattle.nf_function.specs.declared.kind.Kind.{Kind}
+use Rattle.nf_function.specs.Records.{Laws as FunctionLaws}
 use Rattle.nf_function.specs.Semantics.{Semantics}
 use Rattle.nf_msgs.specs.declared.msg.Msg.{Msg}
 use Rattle.nf_msgs.specs.declared.note.Note.{Note}
@@ -10,13 +12,13 @@ use Rattle.command_words.specs.Requests.{NetworkAsked}
 use Rattle.actor_net.specs.declared.choice.Choice.{Choice}
 use Rattle.actor_net.specs.declared.schedule.Schedule.{Schedule}
 use Rattle.actor_net.specs.declared.schedule.TheConstants.{MOST_CHOICES}
-use Rattle.actor_net.specs.Network.{Network, is_done}
+use Rattle.actor_net.specs.Network.{Network, is_done, run}
 use Rattle.journal_file.proofs.HeaderReads.{journal_again}
 use Rattle.net_world.specs.declared.config.Config.{Config}
 use Rattle.net_world.specs.declared.node.Node.{Node}
-use Rattle.net_world.specs.Input.{IsInput}
+use Rattle.net_world.specs.Input.{IsInput, commands, packets}
 use Rattle.net_world.specs.Jobs.{course_of, job_of}
-use Rattle.net_world.specs.Nodes.{node_ended}
+use Rattle.net_world.specs.Nodes.{node_ended, node_step}
 use Rattle.nf_net.specs.Promises.{Completed, Promises, Standbys, Verdicts}
 use Rattle.net_world.specs.Runs.{LeadsTo, chosen}
 use Rattle.net_world.specs.Start.{started}
@@ -25,13 +27,19 @@ use Rattle.run_report.specs.declared.auditing.AuditFault.{AuditFault}
 use Rattle.run_report.specs.declared.auditing.AuditFault.TheVariants as audit
 use Rattle.run_report.specs.declared.head.Head.{Head}
 use Rattle.run_report.specs.Audits.{IsAuditCause}
-use Rattle.run_report.specs.Lines.{report_text}
+use Rattle.report_lines.specs.Lines.{by_number, output_in}
+use Rattle.run_report.specs.Lines.{answer_in, report_text}
+use Rattle.run_headline.specs.Headline.{HasHeadline, Subject}
+use Rattle.run_headline.specs.Law.{IsCompleted, subject}
+use Rattle.run_headline.proofs.HeadlineRuns.{headline}
+use Rattle.run_headline.proofs.ReportTexts.{has_headline}
 use Rattle.opennf_calls.specs.declared.network.Made.{Made}
 use Rattle.opennf_calls.specs.declared.status.Status.{Status}
-use Rattle.opennf_calls.specs.declared.status.Status.TheVariants.{BadTrace, BadJournal, NotARun, NoMemory, Ok as Done, Usage, BadScript, ReadFault, WriteFault}
-use Rattle.opennf_calls.specs.NetworkRuns.{Scenario, HasNoRun, IsNoRun, IsRunOf, config_for, head_for, items_for, run_given}
+use Rattle.opennf_calls.specs.Functions.{OfKind}
+use Rattle.opennf_calls.specs.NetworkRuns.{Scenario, HasRun, IsRunOf, config_for, head_for, items_for, run_given, subject_for}
 use Rattle.opennf_calls.specs.Phases.{IsRefusedAs, IsRefusedRun, gives}
 use Rattle.opennf_calls.specs.Status.{audit_status}
+use Rattle.opennf_calls.proofs.FunctionLemmas.{from_kind, of_kind}
 use Rattle.opennf_calls.proofs.LoggedNumbers.{answer_numbers, out_numbers}
 use Rattle.run_input.proofs.SaidCommands.{end_is_last, packets_in}
 
@@ -55,12 +63,43 @@ module _ {R : Type 0} (F : Type 0) (f : Semantics R) (s : NetworkAsked) (g : Sce
     pub home : AllHome config world
     pub few : length choices < MOST_CHOICES
     pub input : IsInput s.kind config items
+    pub kind : f.kind ≡ s.kind
+
+  -- what the run is of, by the items and by the capture
+  same_subject : subject f (config_for s g.site g.script.routes.items) (items_for g.captured g.script) ≡ subject_for f g
+  same_subject = ap (λ (ps : List Packet). record (subject_for f g) { packets = ps }) (packets_in g.captured.packets g.script.lines.items)
+
+  -- what its report says
+  said : (laws : FunctionLaws f) (made : Made) (world : Network (Node F R) Msg Note) → Ran made.choices world → head ≡ head_for s g.captured
+      → made.report ≡ report_text f head s.summary world → s.summary ≡ false → HasHeadline (subject_for f g) (head_for s g.captured) made.report
+  said laws made world ran is_head report whole =
+      let c = config_for s g.site g.script.routes.items in
+      let l = items_for g.captured g.script in
+      let input = moved (IsInput s.kind) ran.input in
+      let leads = moved (λ c l. LeadsTo f (started alloc c l) made.choices world) ran.leads in
+      let promises = moved (λ c l. Promises f c l world) ran.promises in
+      let completed = moved (λ c l. Completed f c l world) ran.completed in
+      let outs = out_numbers f s.kind c l input world completed in
+      let answers = answer_numbers f s.kind c l input world completed (end_is_last g.captured.packets g.script.lines.items) promises in
+      let is : IsCompleted F f alloc c l made.choices = record {
+        is_input = subst (λ (k : Kind). IsInput k c l) (sym ran.kind) input;
+        is_run = leads.is_run;
+        promises = subst (Promises f c l) leads.reached promises;
+        completed = subst (Completed f c l) leads.reached completed;
+        outs = subst (λ (w : Network (Node F R) Msg Note). map (λ x. x.0) (by_number output_in w.log) ≡ map (λ p. p.number) (packets l)) leads.reached outs;
+        answers = subst (λ (w : Network (Node F R) Msg Note). map (λ x. x.0) (by_number answer_in w.log) ≡ map (λ k. k.op) (commands l)) leads.reached answers;
+      } in
+      let end = run (node_step f) made.choices (started {F = F} {R = R} alloc c l) in
+      let text : made.report ≡ report_text f (head_for s g.captured) false end =
+          report ∙ (λ i. report_text f (is_head i) (whole i) (leads.reached i)) in
+      subst (λ (v : Subject R). HasHeadline v (head_for s g.captured) made.report) same_subject
+      (subst (HasHeadline (subject f c l) (head_for s g.captured)) (sym text) (has_headline f c l (head_for s g.captured) end refl (headline F f laws alloc c l made.choices is)))
 
   -- its report is made
-  pub run_of : (by : Option Schedule) (made : Made) (world : Network (Node F R) Msg Note) → Ran made.choices world
+  pub run_of : (laws : FunctionLaws f) (by : Option Schedule) (made : Made) (world : Network (Node F R) Msg Note) → Ran made.choices world
       → ((schedule : Schedule) → by ≡ Some schedule → made.choices ≡ chosen {F = F} f at_start schedule)
       → head ≡ head_for s g.captured → made.report ≡ report_text f head s.summary world → IsRunOf (run_given F f s g) by (gives s made)
-  run_of by made world ran scheduled is_head report = record {
+  run_of laws by made world ran scheduled is_head report = record {
     alloc = alloc;
     world = world;
     leads = moved (λ c l. LeadsTo f (started alloc c l) made.choices world) ran.leads;
@@ -76,9 +115,10 @@ module _ {R : Type 0} (F : Type 0) (f : Semantics R) (s : NetworkAsked) (g : Sce
         ∙ ap (map (λ (p : Packet). p.number)) (packets_in g.captured.packets g.script.lines.items);
     answers = answer_numbers f s.kind (config_for s g.site g.script.routes.items) (items_for g.captured g.script) (moved (IsInput s.kind) ran.input) world
         (moved (λ c l. Completed f c l world) ran.completed) (end_is_last g.captured.packets g.script.lines.items) (moved (λ c l. Promises f c l world) ran.promises);
+    headline = said laws made world ran is_head report;
     journal = refl;
     few = ran.few;
-    again = (let few = ran.few in journal_again s.kind (length s.instances.names) made.choices (omega (arith, few)));
+    again = (let few = ran.few in journal_again s.kind (length s.instances) made.choices (omega (arith, few)));
   }
 
   -- the choices are no complete run
@@ -88,21 +128,11 @@ module _ {R : Type 0} (F : Type 0) (f : Semantics R) (s : NetworkAsked) (g : Sce
   run_refused choices audit.NoMemory cause = tt
 
 -- The function is that of the words.
-module _ {R : Type 0} (F : Type 0) (f : Semantics R) (s : NetworkAsked) (g : Scenario) where
-  no_run : (choices : List Choice) → ((step : ℕ) → IsNoRun (run_given F f s g) choices step → HasNoRun s g choices step)
-      → (status : Status) → IsRefusedAs (run_given F f s g) choices status → IsRefusedRun s g choices status
-  no_run choices same (NotARun step) cause = same step cause
-  no_run choices same NoMemory cause = cause
-  no_run choices same Done cause = absurd cause
-  no_run choices same Usage cause = absurd cause
-  no_run choices same (BadScript line kind) cause = absurd cause
-  no_run choices same (BadTrace offset kind) cause = absurd cause
-  no_run choices same (BadJournal fault) cause = absurd cause
-  no_run choices same (ReadFault role) cause = absurd cause
-  no_run choices same (WriteFault role) cause = absurd cause
-
-  pub told_kind : (choices : List Choice) (r : Result Made Status) (P Q : Made → Type 0)
-      → ((made : Made) → P made → Q made) → ((step : ℕ) → IsNoRun (run_given F f s g) choices step → HasNoRun s g choices step)
-      → MatchResult r P (IsRefusedAs (run_given F f s g) choices) → MatchResult r Q (IsRefusedRun s g choices)
-  told_kind choices (Ok made) P Q of_kind same holds = of_kind made holds
-  told_kind choices (Err status) P Q of_kind same holds = no_run choices same status holds
+pub told_kind : (s : NetworkAsked) (g : Scenario) (choices : List Choice) (r : Result Made Status)
+    → OfKind s.kind (λ R F f. MatchResult r (λ made. IsRunOf (run_given F f s g) None (gives s made) × (made.choices ≡ choices)) (IsRefusedAs (run_given F f s g) choices))
+    → MatchResult r (λ made. HasRun s g None (gives s made) × (made.choices ≡ choices)) (IsRefusedRun s g choices)
+told_kind s g choices (Err status) holds = holds
+told_kind s g choices (Ok made) holds = (
+  of_kind s.kind (λ R F f. IsRunOf (run_given F f s g) None (gives s made) × (made.choices ≡ choices)) (λ R F f. IsRunOf (run_given F f s g) None (gives s made)) (λ R F f both. both.0) holds,
+  from_kind s.kind (λ R F f. IsRunOf (run_given F f s g) None (gives s made) × (made.choices ≡ choices)) (made.choices ≡ choices) (λ R F f both. both.1) holds,
+)

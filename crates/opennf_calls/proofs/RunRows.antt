@@ -11,7 +11,7 @@ use Rattle.opennf_calls.specs.declared.status.Status.{Status}
 use Rattle.opennf_calls.specs.declared.status.Status.TheVariants.{Ok as Done, Usage, BadScript, BadTrace, BadJournal, NotARun, ReadFault, WriteFault, NoMemory}
 use Rattle.opennf_calls.specs.Command.{is_input, is_read_before, run_file, with_journal}
 use Rattle.opennf_calls.specs.NetworkRuns.{Scenario, RunResults, HasRun, given_script}
-use Rattle.opennf_calls.specs.Outcome.{EarlierAreSound, ForResults, HasEarlier, HasInput, IsBound, IsRead, IsRefusedCommand, RowOf, earlier_refusal, first_refusal, inputs_refusal, journal_read, journal_refusal, refusal_of, script_refusal}
+use Rattle.opennf_calls.specs.Outcome.{EarlierAreSound, ForResults, HasEarlier, HasInput, IsBound, IsRefusedCommand, RowOf, earlier_refusal, first_refusal, inputs_refusal, journal_read, journal_refusal, refusal_of, script_refusal}
 use Rattle.opennf_calls.specs.Phases.{HasInputs, InputsFail, IsSoundBefore, OnlyRead, ReadToEnd, RefusesInputs, ScriptIsSound, TellsInputs, TellsScript}
 use Rattle.opennf_calls.proofs.RowLemmas.{first_read, not_before, read_fault, refused, silent}
 
@@ -45,7 +45,8 @@ all_read s new read JournalOut input = absurd (cc)
 all_read s new read TraceOut input = absurd (cc)
 all_read s new read Errors input = absurd (cc)
 
-pub journal_read_too : (s : NetworkAsked) (new : Role → Meaning) → ReadToEnd s new → (new JournalIn).left ≡ Some [] → IsRead (asks_audit s) new
+pub journal_read_too : (s : NetworkAsked) (new : Role → Meaning) → ReadToEnd s new → (new JournalIn).left ≡ Some []
+    → (role : Role) → IsTrue (is_read role && is_some (with_journal s JournalIn role)) → (new role).left ≡ Some []
 journal_read_too s new read journal Trace input = read.trace
 journal_read_too s new read journal Script input = read.script input
 journal_read_too s new read journal JournalIn input = journal

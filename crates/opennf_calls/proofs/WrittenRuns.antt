@@ -29,13 +29,9 @@ same_end asked old new made outcome status ended chose performs =
         subst (λ (st : Status). o ≡ record { status = st; choices = made.choices }) is
         (subst (λ (cs : List Choice). o ≡ record { status = o.status; choices = cs }) chosen refl)
 
-module _ (s : NetworkAsked) (asked : Asked) (old mid : Role → Meaning) (read : OnlyRead old mid) (bound : IsBound asked old)
-    (made : Made) (results : ForResults asked old mid (λ g. g ≡ gives s made)) where
-  weakened : (P : RunResults → Type 0) → P (gives s made) → ForResults asked old mid P
-  weakened P holds bytes told =
-      let found = results bytes told in
-      record { read = found.read; sound = found.sound; made = found.made; are = found.are; wrote = subst P (sym found.wrote) holds }
-
+-- a command that made a report
+module _ (asked : Asked) (old mid : Role → Meaning) (read : OnlyRead old mid) (bound : IsBound asked old)
+    (made : Made) (results : ForResults asked old mid (GivesReport made.choices made.report)) where
   -- the report was written
   pub report_performs : ((other : Role) → IsTrue (is_result asked other) → other ≡ Report) → (new : Role → Meaning) (outcome : Outcome)
       → WroteReport made mid new outcome → Performs asked old new outcome
@@ -44,11 +40,21 @@ module _ (s : NetworkAsked) (asked : Asked) (old mid : Role → Meaning) (read :
     where
       by : (part : Written) → is_part part made.report → Wrote Report mid new part → Performs asked old new (record { status = report_end part; choices = made.choices })
       by (all_of text) is wrote =
-          report_written asked old mid new read bound only made.choices made.report (weakened (GivesReport made.choices made.report) (record { is_made = refl; report = refl }))
-          (subst (λ (t : List ℕ). Wrote Report mid new (all_of t)) is wrote)
+          report_written asked old mid new read bound only made.choices made.report results (subst (λ (t : List ℕ). Wrote Report mid new (all_of t)) is wrote)
       by (front_of text) is wrote =
-          report_failed asked old mid new read bound only made.choices made.report (weakened (GivesReport made.choices made.report) (record { is_made = refl; report = refl }))
-          (subst (λ (t : List ℕ). Wrote Report mid new (front_of t)) is wrote)
+          report_failed asked old mid new read bound only made.choices made.report results (subst (λ (t : List ℕ). Wrote Report mid new (front_of t)) is wrote)
+
+module _ (s : NetworkAsked) (asked : Asked) (old mid : Role → Meaning) (read : OnlyRead old mid) (bound : IsBound asked old)
+    (made : Made) (results : ForResults asked old mid (λ g. g ≡ gives s made)) where
+  weakened : (P : RunResults → Type 0) → P (gives s made) → ForResults asked old mid P
+  weakened P holds bytes told =
+      let found = results bytes told in
+      record { read = found.read; sound = found.sound; made = found.made; are = found.are; wrote = subst P (sym found.wrote) holds }
+
+  -- the report of a run was written
+  pub run_report_performs : ((other : Role) → IsTrue (is_result asked other) → other ≡ Report) → (new : Role → Meaning) (outcome : Outcome)
+      → WroteReport made mid new outcome → Performs asked old new outcome
+  run_report_performs = report_performs asked old mid read bound made (weakened (GivesReport made.choices made.report) (record { is_made = refl; report = refl }))
 
   two_texts : ForResults asked old mid (GivesBoth JournalOut (gives s made))
   two_texts = weakened (GivesBoth JournalOut (gives s made)) (record { is_made = refl; file = refl; report = refl })
@@ -87,7 +93,7 @@ pub record WritesRun (s : NetworkAsked) (asked : Asked) : Type 0 where
 pub run_performs : (s : NetworkAsked) (asked : Asked) (writes : WritesRun s asked) (old mid new : Role → Meaning) → OnlyRead old mid → IsBound asked old
     → (made : Made) → ForResults asked old mid (λ g. g ≡ gives s made) → (outcome : Outcome) → WroteRun (record { asked = s; made = made }) mid new outcome → Performs asked old new outcome
 run_performs s asked writes old mid new read bound made results outcome (Report_alone none wrote) =
-    report_performs s asked old mid read bound made results (writes.alone none) new outcome wrote
+    run_report_performs s asked old mid read bound made results (writes.alone none) new outcome wrote
 run_performs s asked writes old mid new read bound made results outcome (Both named wrote) =
     both_performs s asked old mid read bound made results (writes.first named) new outcome wrote
 run_performs s asked writes old mid new read bound made results outcome (Front_alone named wrote) =

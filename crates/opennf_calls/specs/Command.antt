@@ -1,6 +1,5 @@
 -- Which files each command names, which roles it reads, and to which it writes results. This project's own.
-use Rattle.std.specs.Prelude.{ℕ, List, ◌∷◌, Option, None, Some, Bool, true, false, not, ◌&&◌, if◌then◌else◌, is_some}
-use Rattle.std.specs.Str.{bytes_eq}
+use Rattle.std.specs.Prelude.{ℕ, List, Option, None, Some, Bool, true, false, not, ◌&&◌, if◌then◌else◌, is_some}
 use Rattle.nf_io.specs.declared.outside.Role.{Role}
 use Rattle.nf_io.specs.declared.outside.Role.TheVariants.{Trace, Script, JournalIn, Report, JournalOut, TraceOut, Errors}
 use Rattle.nf_io.specs.Roles.{is_read, same_role}
@@ -51,8 +50,3 @@ is_result asked role = not (is_read role) && is_some (file_for asked role)
 -- whether one result is written before another: the report is the last
 abbrev pub comes_before : Role → Role → Bool
 comes_before first second = not (same_role first Report) && same_role second Report
-
--- whether the second word, after the program's name, is this command
-abbrev pub is_command : List ℕ → List (List ℕ) → Bool
-is_command name (program ∷ command ∷ words) = bytes_eq command name
-is_command name words = false

@@ -1,17 +1,9 @@
 -- What a run of the network is given, and what comes of it: a complete run from its start, its report and its journal. This project's own.
-use Rattle.std.specs.Prelude.{◌≡◌, ◌<◌, ℕ, true, List, [], ◌∷◌, map, length, Option, Some, is_some, Result, Ok, if◌then◌else◌}
+use Rattle.std.specs.Prelude.{◌≡◌, ◌<◌, ℕ, true, false, List, [], map, length, Option, Some, is_some, Result, Ok, if◌then◌else◌}
 use Rattle.std.specs.declared.alloc.Global.{Global}
 use Rattle.flow_filter.specs.declared.filter.Filter.{Filter}
 use Rattle.flow_filter.specs.declared.site.Site.{Site}
-use Rattle.nf_function.specs.declared.kind.Kind.{Kind}
-use Rattle.nf_function.specs.declared.kind.Kind.TheVariants as kinds
 use Rattle.nf_function.specs.Semantics.{Semantics}
-use Rattle.conn_tracker.specs.declared.conntrack.Conntrack.{Conntrack}
-use Rattle.conn_tracker.specs.Conntrack.{conntrack}
-use Rattle.addr_translator.specs.declared.nat.Nat.{Nat}
-use Rattle.addr_translator.specs.Nat.{nat}
-use Rattle.asset_monitor.specs.declared.monitor.Monitor.{Monitor}
-use Rattle.asset_monitor.specs.Monitor.{monitor}
 use Rattle.nf_msgs.specs.declared.msg.Msg.{Msg}
 use Rattle.nf_msgs.specs.declared.note.Note.{Note}
 use Rattle.trace_reader.specs.declared.trace.Trace.{Trace as Captured}
@@ -19,7 +11,9 @@ use Rattle.op_script.specs.declared.script.Script.{Script as TheScript}
 use Rattle.op_script.specs.declared.fault.ScriptKind.{ScriptKind}
 use Rattle.op_script.specs.Items as script_items
 use Rattle.op_script.specs.Reading.{ScriptView, script_of}
+use Rattle.command_words.specs.declared.request.InstanceWords.{InstanceWords}
 use Rattle.command_words.specs.Requests.{NetworkAsked}
+use Rattle.command_words.specs.Values.{names_of}
 use Rattle.nf_io.specs.declared.outside.Role.{Role}
 use Rattle.nf_io.specs.declared.outside.Role.TheVariants.{Report, JournalOut}
 use Rattle.actor_net.specs.declared.choice.Choice.{Choice}
@@ -37,21 +31,23 @@ use Rattle.net_world.specs.Nodes.{node_ended}
 use Rattle.net_world.specs.Runs.{chosen, LeadsTo}
 use Rattle.net_world.specs.Start.{started}
 use Rattle.net_world.specs.Window.{AllHome}
+use Rattle.opennf_calls.specs.Functions.{OfKind}
 use Rattle.report_lines.specs.Lines.{by_number, output_in}
+use Rattle.run_headline.specs.Headline.{HasHeadline, Subject}
 use Rattle.run_report.specs.declared.head.Head.{Head}
 use Rattle.run_report.specs.Audits.{IsAuditCause}
 use Rattle.run_report.specs.Lines.{answer_in, report_text}
 
 -- the script that the words' file is read as, and one without routes and lines where the words name none
 abbrev pub given_script : NetworkAsked → List ℕ → Result ScriptView (ℕ × ScriptKind)
-given_script s bytes = if is_some s.script then script_of s.kind s.instances.names bytes else Ok ([], [])
+given_script s bytes = if is_some s.script then script_of s.kind (names_of s.instances) bytes else Ok ([], [])
 
 -- the network that the words and the routes ask for, at a site
 abbrev pub config_for : NetworkAsked → Site → List (Filter × ℕ) → Config
 config_for s site routes = record {
-  names = s.instances.names;
-  limits = s.instances.limits;
-  marked = s.instances.marked;
+  names = names_of s.instances;
+  limits = map (λ (i : InstanceWords). i.limit) s.instances;
+  marked = map (λ (i : InstanceWords). i.reads_old) s.instances;
   site = site;
   window = s.window;
   routes = routes;
@@ -65,7 +61,7 @@ items_for captured script = script_items.items captured.packets script.lines.ite
 abbrev pub head_for : NetworkAsked → Captured → Head
 head_for s captured = record {
   kind = s.kind;
-  names = s.instances.names;
+  names = names_of s.instances;
   window = s.window;
   packets = length captured.packets;
   skipped = captured.skipped;
@@ -100,6 +96,15 @@ job_for given = job_of given.function (config_for given.words given.scenario.sit
 abbrev pub start_for : {F R : Type 0} → Job R → Global → Network (Node F R) Msg Note
 start_for job alloc = started alloc job.config job.items
 
+-- what a report is of
+abbrev pub subject_for : {R : Type 0} → Semantics R → Scenario → Subject R
+subject_for f scenario = record {
+  function = f;
+  site = scenario.site;
+  packets = scenario.captured.packets;
+  commands = commands (items_for scenario.captured scenario.script);
+}
+
 module _ {F R : Type 0} (given : RunGiven F R) where
   -- the course of a run of it
   abbrev course_for : Global → List Choice → Course F R
@@ -121,23 +126,19 @@ module _ {F R : Type 0} (given : RunGiven F R) where
     -- its outputs stand by the numbers of the packets that were captured, each once and in order, and its answers by those of the commands
     pub outs : map (λ x. x.0) (by_number output_in world.log) ≡ map (λ p. p.number) given.scenario.captured.packets
     pub answers : map (λ x. x.0) (by_number answer_in world.log) ≡ map (λ c. c.op) (commands (job_for given).items)
-    pub journal : made.texts JournalOut ≡ journal_bytes given.words.kind (length given.words.instances.names) made.choices
+    -- what the report says of each packet, each unit and each command
+    pub headline : given.words.summary ≡ false → HasHeadline (subject_for given.function given.scenario) (head_for given.words given.scenario.captured) (made.texts Report)
+    pub journal : made.texts JournalOut ≡ journal_bytes given.words.kind (length given.words.instances) made.choices
     -- its choices are fewer than a journal may have, so the journal is read as these choices again
     pub few : length made.choices < MOST_CHOICES
-    pub again : journal_of given.words.kind (length given.words.instances.names) (made.texts JournalOut) ≡ Ok made.choices
+    pub again : journal_of given.words.kind (length given.words.instances) (made.texts JournalOut) ≡ Ok made.choices
 
   -- these choices aren't a complete run, which shows at this step
   pub record IsNoRun (choices : List Choice) (step : ℕ) : Type 0 where
     pub alloc : Global
     pub cause : IsAuditCause {F = F} given.function (start_for (job_for given) alloc) choices step
 
--- what is said of a function holds of the one of this kind
-abbrev pub OfKind : Kind → ((R F : Type 0) → Semantics R → Type 0) → Type 0
-OfKind kinds.Conntrack P = P _ Conntrack conntrack
-OfKind kinds.Nat P = P _ Nat nat
-OfKind kinds.Monitor P = P _ Monitor monitor
-
--- the same, for the function that the words name
+-- the run of the function that the words name
 abbrev pub HasRun : NetworkAsked → Scenario → Option Schedule → RunResults → Type 0
 HasRun s scenario by made = OfKind s.kind (λ R F f. IsRunOf (run_given F f s scenario) by made)
 

@@ -1,5 +1,6 @@
--- What a run of the program reads, writes and answers: one table of statuses for all commands. A further command is a further
--- case of `file_for`, `refusal_of` and `AreResults`; the table stays as it is. This project's own.
+-- What a run of the program reads, writes and answers: one table of statuses for all commands. A further command is a further case
+-- of `file_for` and of what it can be refused for and gives: `refusal_of`, `earlier_refusal` and `FailsAt` where it reads inputs, and
+-- `AreResults`. The table stays as it is. This project's own.
 use Rattle.std.specs.Prelude.{◌≡◌, ◌≢◌, ℕ, ◌++◌, List, [], codes, decimal, length, Option, None, Some, Bool, false, ◌&&◌, Result, Ok, Err, option_and_then, IsTrue, ◌⊎◌}
 use Rattle.std.specs.Io.KnownBytes.{Appends}
 use Rattle.nf_io.specs.declared.outside.Role.{Role}
@@ -19,6 +20,7 @@ use Rattle.journal_file.specs.Reading.{journal_of}
 use Rattle.actor_net.specs.declared.choice.Choice.{Choice}
 use Rattle.actor_net.specs.declared.schedule.Schedule.{Schedule}
 use Rattle.command_words.specs.Requests.{Asked, NetworkAsked, CheckAsked, GenAsked, asks_sim, asks_run, asks_audit, asks_check, asks_gen}
+use Rattle.command_words.specs.Values.{names_of}
 use Rattle.opennf_calls.specs.declared.status.Status.{Status}
 use Rattle.opennf_calls.specs.declared.status.Status.TheVariants.{Ok as Done, Usage, BadScript, BadTrace, BadJournal, NotARun, ReadFault, WriteFault, NoMemory}
 use Rattle.opennf_calls.specs.declared.outcome.Outcome.{Outcome}
@@ -50,7 +52,7 @@ IsCompletedRun s bytes by made = OfScenario s bytes (λ scenario. HasRun s scena
 
 -- what the bytes of a journal are read as
 abbrev pub journal_read : NetworkAsked → (Role → List ℕ) → Result (List Choice) JournalFault
-journal_read s bytes = journal_of s.kind (length s.instances.names) (bytes JournalIn)
+journal_read s bytes = journal_of s.kind (length s.instances) (bytes JournalIn)
 
 -- the run that a journal tells
 pub record IsAudited (s : NetworkAsked) (bytes : Role → List ℕ) (made : RunResults) : Type 0 where
@@ -60,8 +62,8 @@ pub record IsAudited (s : NetworkAsked) (bytes : Role → List ℕ) (made : RunR
 -- the canonical text of the script that the bytes are read as
 pub record IsCheckText (c : CheckAsked) (bytes text : List ℕ) : Type 0 where
   pub script : TheScript
-  pub read : script_of c.kind c.instances.names bytes ≡ Ok (script_view script)
-  pub canonical : text ≡ script_text c.instances.names script
+  pub read : script_of c.kind (names_of c.instances) bytes ≡ Ok (script_view script)
+  pub canonical : text ≡ script_text (names_of c.instances) script
 
 -- `gen number NUMBER packets N hosts H`
 unfoldable pub gen_line : GenAsked → List ℕ
@@ -102,7 +104,7 @@ abbrev pub refusal_of : Asked → (Role → List ℕ) → Option Status
 refusal_of (asks_sim s schedule) bytes = inputs_refusal s bytes
 refusal_of (asks_run s) bytes = inputs_refusal s bytes
 refusal_of (asks_audit s) bytes = first_refusal (inputs_refusal s bytes) (journal_refusal (journal_read s bytes))
-refusal_of (asks_check c) bytes = script_refusal (script_of c.kind c.instances.names (bytes Script))
+refusal_of (asks_check c) bytes = script_refusal (script_of c.kind (names_of c.instances) (bytes Script))
 refusal_of (asks_gen g) bytes = None
 
 -- the first refusal for what a command reads before this input, if there is one

@@ -6,7 +6,7 @@ use Rattle.nf_io.specs.declared.outside.Role.TheVariants.{Errors, JournalIn, Jou
 use Rattle.nf_io.specs.Roles.{is_read}
 use Rattle.nf_io.specs.Meaning.{Meaning, OthersStay, Rose}
 use Rattle.flow_filter.specs.declared.site.Site.{Site}
-use Rattle.flow_filter.specs.Limits.{most_packets, most_instances, most_window}
+use Rattle.flow_filter.specs.Limits.{most_packets}
 use Rattle.trace_reader.specs.Records.{AreNumbered}
 use Rattle.trace_reader.specs.Steered.{is_steered_proto}
 use Rattle.op_script.specs.declared.script.Script.{Script}
@@ -17,6 +17,7 @@ use Rattle.net_world.specs.Input.{IsInput}
 use Rattle.net_length.specs.Length.{IsShort}
 use Rattle.actor_net.specs.declared.choice.Choice.{Choice}
 use Rattle.command_words.specs.Requests.{Asked, NetworkAsked}
+use Rattle.command_words.specs.Values.{names_of}
 use Rattle.opennf_calls.specs.declared.status.Status.{Status}
 use Rattle.opennf_calls.specs.declared.status.Status.TheVariants.{BadScript, BadTrace, NoMemory, NotARun, ReadFault}
 use Rattle.opennf_calls.specs.declared.outcome.Outcome.{Outcome}
@@ -25,7 +26,8 @@ use Rattle.opennf_calls.specs.Outcome.{CauseOf, IsScenario, MayBind, RowOf, inpu
 use Rattle.opennf_calls.specs.declared.inputs.Inputs.{Inputs}
 use Rattle.opennf_calls.specs.declared.network.Made.{Made}
 use Rattle.opennf_calls.specs.declared.network.Opening.{Opening}
-use Rattle.opennf_calls.specs.NetworkRuns.{Scenario, RunGiven, RunResults, HasNoRun, IsNoRun, config_for, given_script, head_for, items_for}
+use Rattle.opennf_calls.specs.Functions.{OfKind}
+use Rattle.opennf_calls.specs.NetworkRuns.{Scenario, RunGiven, RunResults, IsNoRun, config_for, given_script, head_for, items_for, run_given}
 
 -- a role has this name now, and nothing else changed
 pub record Named (role : Role) (name : Option (List ℕ)) (old new : Role → Meaning) : Type 0 where
@@ -53,14 +55,6 @@ pub record OnlyRead (old new : Role → Meaning) : Type 0 where
   pub written : (role : Role) → (new role).written ≡ (old role).written
   pub names : SameNames old new
   pub others : (role : Role) → is_read role ≡ false → new role ≡ old role
-
--- a run has 1 to 16 instances with a limit and a mark each, and a window
-pub record CanRun (s : NetworkAsked) : Type 0 where
-  pub some : 1 ≤ length s.instances.names
-  pub few : length s.instances.names ≤ most_instances
-  pub limits : length s.instances.limits ≡ length s.instances.names
-  pub marked : length s.instances.marked ≡ length s.instances.names
-  pub window : (1 ≤ s.window) × (s.window ≤ most_window)
 
 -- the words' script and capture hold these bytes
 pub record TellsInputs (s : NetworkAsked) (old : Role → Meaning) (bytes : Role → List ℕ) : Type 0 where
@@ -121,7 +115,7 @@ scenario_of site inputs = record { site = site; captured = inputs.trace; script 
 
 -- a script whose filters split no unit, and packets in the order of their numbers, no more than are read
 pub record CanBegin (s : NetworkAsked) (scenario : Scenario) : Type 0 where
-  pub right : IsScript s.instances.names (script_view scenario.script)
+  pub right : IsScript (names_of s.instances) (script_view scenario.script)
   pub whole : SplitsNone s.kind (script_view scenario.script)
   pub numbers : AreNumbered 1 scenario.captured.packets
   pub steered : All (λ packet. is_steered_proto packet.proto ≡ true) scenario.captured.packets
@@ -141,7 +135,7 @@ result_texts journal report JournalOut = journal
 result_texts journal report role = report
 
 abbrev pub gives : NetworkAsked → Made → RunResults
-gives s made = record { choices = made.choices; texts = result_texts (journal_bytes s.kind (length s.instances.names) made.choices) made.report }
+gives s made = record { choices = made.choices; texts = result_texts (journal_bytes s.kind (length s.instances) made.choices) made.report }
 
 -- the choices and the report that a command gives
 pub record GivesReport (choices : List Choice) (text : List ℕ) (made : RunResults) : Type 0 where
@@ -157,9 +151,7 @@ module _ {F R : Type 0} (given : RunGiven F R) where
 
 -- the same, for the function that the words name
 abbrev pub IsRefusedRun : NetworkAsked → Scenario → List Choice → Status → Type 0
-IsRefusedRun s scenario choices (NotARun step) = HasNoRun s scenario choices step
-IsRefusedRun s scenario choices NoMemory = Unit {0}
-IsRefusedRun s scenario choices status = ⊥
+IsRefusedRun s scenario choices status = OfKind s.kind (λ R F f. IsRefusedAs (run_given F f s scenario) choices status)
 
 -- a command whose files were bound ended: its row holds, and the names and the standard error are as before
 pub record Performs (asked : Asked) (old new : Role → Meaning) (outcome : Outcome) : Type 0 where

@@ -59,7 +59,7 @@ pub record MadeRun : Type 0 where
 
 -- the bytes of its journal
 abbrev pub journal_of_run : MadeRun → List ℕ
-journal_of_run run = journal_bytes run.asked.kind (length run.asked.instances.names) run.made.choices
+journal_of_run run = journal_bytes run.asked.kind (length run.asked.instances) run.made.choices
 
 -- the journal was written, and then the report
 pub record WroteBoth (run : MadeRun) (old new : Role → Meaning) (outcome : Outcome) : Type 0 where

@@ -1,5 +1,5 @@
 //! The command `audit`: the run that a journal tells, again.
-ghost use Rattle.std.specs.Prelude.{◌≡◌, MatchResult, [], IsSome, drop, length};
+ghost use Rattle.std.specs.Prelude.{◌≡◌, MatchResult, [], drop};
 ghost use Rattle.std.specs.Option.{ForSome};
 ghost use Rattle.nf_io.specs.declared.outside.Role.TheVariants.{JournalIn as JournalRole};
 ghost use Rattle.nf_io.specs.Meaning.{CanRead};
@@ -8,7 +8,7 @@ ghost use Rattle.command_words.specs.Requests.{asks_audit};
 ghost use Rattle.command_words.specs.RequestViews.{network_view};
 ghost use Rattle.opennf_calls.specs.Again.{AuditLaw};
 ghost use Rattle.opennf_calls.specs.Outcome.{IsBound, ForResults, RowOf};
-ghost use Rattle.opennf_calls.specs.Phases.{CanRun, OnlyRead, Performs, ReadAlone, gives};
+ghost use Rattle.opennf_calls.specs.Phases.{OnlyRead, Performs, ReadAlone, gives};
 
 use crate::inputs::read_inputs;
 use crate::network::{Made, run_told};
@@ -16,18 +16,16 @@ use crate::outcome::Outcome;
 use crate::results::write_report;
 use crate::status::Status;
 use actor_net::Choices;
-use command_words::NetworkRequest;
+use command_words::Auditing;
 use journal_file::{JournalFault, read_journal_from};
 use nf_function::Kind;
 use nf_io::{Outside, Role, RoleSource};
 use std::alloc::Global;
 
 /// Reads the script, the capture and the journal, whose files are bound, and writes the report of the run that the journal tells.
-pub fn audit<O: Outside>(alloc: Global, asked: &NetworkRequest<'_>, outside: &mut O) -> Outcome
-    requires bound { IsBound (asks_audit (network_view asked.now)) (O.seen outside.old) }
-    requires runs { CanRun (network_view asked.now) }
-    requires journal { IsSome (network_view asked.now).journal }
-    ensures { Performs (asks_audit (network_view asked.now)) (O.seen outside.old) (O.seen outside.new) result }
+pub fn audit<O: Outside>(alloc: Global, asked: &Auditing<'_>, outside: &mut O) -> Outcome
+    requires { IsBound (asks_audit (network_view asked.now.network)) (O.seen outside.old) }
+    ensures { Performs (asks_audit (network_view asked.now.network)) (O.seen outside.old) (O.seen outside.new) result }
 {
     match make(alloc, asked, outside) {
         Ok(made) => write_report(made, outside),
@@ -36,30 +34,18 @@ pub fn audit<O: Outside>(alloc: Global, asked: &NetworkRequest<'_>, outside: &mu
 }
 
 /// Reads the inputs and the journal, and takes its choices.
-fn make<O: Outside>(
-    alloc: Global,
-    asked: &NetworkRequest<'_>,
-    outside: &mut O,
-) -> Result<Made, Status>
-    requires bound { IsBound (asks_audit (network_view asked.now)) (O.seen outside.old) }
-    requires runs { CanRun (network_view asked.now) }
-    requires journal { IsSome (network_view asked.now).journal }
+fn make<O: Outside>(alloc: Global, asked: &Auditing<'_>, outside: &mut O) -> Result<Made, Status>
+    requires { IsBound (asks_audit (network_view asked.now.network)) (O.seen outside.old) }
     ensures only { OnlyRead (O.seen outside.old) (O.seen outside.new) }
     ensures row { MatchResult result
-        (λ made. ForResults (asks_audit (network_view asked.now)) (O.seen outside.old) (O.seen outside.new) (λ g. g ≡ gives (network_view asked.now) made))
-        (λ status. RowOf (asks_audit (network_view asked.now)) (O.seen outside.old) (O.seen outside.new) (record { status = status; choices = [] })) }
+        (λ made. ForResults (asks_audit (network_view asked.now.network)) (O.seen outside.old) (O.seen outside.new) (λ g. g ≡ gives (network_view asked.now.network) made))
+        (λ status. RowOf (asks_audit (network_view asked.now.network)) (O.seen outside.old) (O.seen outside.new) (record { status = status; choices = [] })) }
 {
-    let inputs = read_inputs(alloc, asked, outside)?;
-    let choices = read_choices(alloc, asked.kind, count_instances(asked), outside)?;
-    run_told(alloc, asked, inputs, choices)
-}
-
-/// How many instances the words name.
-fn count_instances(asked: &NetworkRequest<'_>) -> u8
-    requires { CanRun (network_view asked.now) }
-    ensures { result ≡ length asked.now.instances.names.items }
-{
-    asked.instances.names.len() as u8
+    let network = &asked.network;
+    let inputs = read_inputs(alloc, network, outside)?;
+    let count = network.instances.rows.len() as u8;
+    let choices = read_choices(alloc, network.kind, count, outside)?;
+    run_told(alloc, network, inputs, choices)
 }
 
 /// Reads the journal of so many instances.

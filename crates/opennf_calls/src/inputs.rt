@@ -1,25 +1,30 @@
 //! Reading what a run of the network is given: the script, and then the capture.
-ghost use Rattle.std.specs.Prelude.{◌≡◌, ◌≤◌, true, All, IfOk, MatchResult, length};
+ghost use Rattle.std.specs.Prelude.{◌≡◌, ◌≤◌, ◌+◌, true, All, Some, IfOk, MatchResult, length, take, drop};
 ghost use Rattle.std.specs.Option.{ForSome};
 ghost use Rattle.nf_io.specs.declared.outside.Role.TheVariants.{Trace as TraceRole, Script as ScriptRole};
 ghost use Rattle.nf_io.specs.Meaning.{CanRead};
+ghost use Rattle.nf_io.specs.Transfers.{HasUptoCause};
 ghost use Rattle.trace_reader.specs.Answers.{AnswersTrace, HasReadCause};
 ghost use Rattle.flow_filter.specs.Limits.{most_packets};
 ghost use Rattle.trace_reader.specs.Records.{AreNumbered, capture_of};
 ghost use Rattle.trace_reader.specs.Steered.{is_steered_proto};
 ghost use Rattle.op_script.specs.Printing.{IsScript, SplitsNone};
 ghost use Rattle.op_script.specs.Reading.{script_view};
+ghost use Rattle.command_words.specs.Values.{names_of};
 ghost use Rattle.command_words.specs.RequestViews.{network_view};
-ghost use Rattle.opennf_calls.specs.Phases.{CanBegin, CanRun, HasInputs, HasScript, InputsBound, InputsFail, OnlyRead, ReadAlone, scenario_of};
+ghost use Rattle.opennf_calls.specs.Phases.{CanBegin, HasInputs, HasScript, InputsBound, InputsFail, OnlyRead, ReadAlone, scenario_of};
 
-use crate::check::{MOST_BYTES, read_bytes};
 use crate::status::Status;
 use command_words::NetworkRequest;
-use nf_io::{Outside, Role, RoleSource};
-use op_script::{Script, read_script};
+use flow_filter::Bytes;
+use nf_io::{Outside, Role, RoleSource, UptoFault, read_upto};
+use op_script::{LONGEST_SCRIPT, Script, read_script};
 use run_input::CapturedItems;
 use std::alloc::Global;
 use trace_reader::TraceFault;
+
+/// The most bytes of a script that are read, but for the one that shows that it is longer.
+pub(crate) const MOST_BYTES: u64 = LONGEST_SCRIPT as u64;
 
 /// What a run of the network is given.
 #[derive(Drop)]
@@ -34,8 +39,7 @@ pub fn read_inputs<O: Outside>(
     asked: &NetworkRequest<'_>,
     outside: &mut O,
 ) -> Result<Inputs, Status>
-    requires bound { InputsBound (network_view asked.now) (O.seen outside.old) }
-    requires runs { CanRun (network_view asked.now) }
+    requires { InputsBound (network_view asked.now) (O.seen outside.old) }
     ensures only { OnlyRead (O.seen outside.old) (O.seen outside.new) }
     ensures sound { IfOk result (λ inputs. CanBegin (network_view asked.now) (scenario_of asked.now.site inputs)) }
 
@@ -55,10 +59,9 @@ fn read_commands<O: Outside>(
     asked: &NetworkRequest<'_>,
     outside: &mut O,
 ) -> Result<Script, Status>
-    requires bound { InputsBound (network_view asked.now) (O.seen outside.old) }
-    requires runs { CanRun (network_view asked.now) }
+    requires { InputsBound (network_view asked.now) (O.seen outside.old) }
     ensures alone { ReadAlone ScriptRole (O.seen outside.old) (O.seen outside.new) }
-    ensures right { IfOk result (λ script. IsScript asked.now.instances.names.items (script_view script)) }
+    ensures right { IfOk result (λ script. IsScript (names_of asked.now.instances.rows.items) (script_view script)) }
     ensures whole { IfOk result (λ script. SplitsNone asked.now.kind (script_view script)) }
 
     // The script is the one that is given, or the status has its cause.
@@ -72,17 +75,20 @@ fn read_commands<O: Outside>(
             lines: Vec::new(alloc),
         });
     }
-    let bytes = match read_bytes(alloc, outside, MOST_BYTES) {
+    let bytes = match read_script_bytes(alloc, outside, MOST_BYTES) {
         Ok(bytes) => bytes,
         Err(fault) => return Err(Status::of_reading(Role::Script, fault)),
     };
-    let names = asked.instances.names.as_slice();
-    let script = read_script(alloc, bytes.items(), asked.kind, names)?;
+    let names = asked.instances.names(alloc)?;
+    let script = read_script(alloc, bytes.items(), asked.kind, names.items())?;
     Ok(script)
 }
 
 /// Reads the capture.
-fn read_capture<O: Outside>(alloc: Global, outside: &mut O) -> Result<CapturedItems, TraceFault>
+pub(crate) fn read_capture<O: Outside>(
+    alloc: Global,
+    outside: &mut O,
+) -> Result<CapturedItems, TraceFault>
     requires { CanRead TraceRole (O.seen outside.old TraceRole) }
     ensures trace { ForSome (O.seen outside.old TraceRole).left (λ bytes.
         AnswersTrace (capture_of bytes) (O.seen outside.new TraceRole).left result) }
@@ -97,4 +103,23 @@ fn read_capture<O: Outside>(alloc: Global, outside: &mut O) -> Result<CapturedIt
         role: Role::Trace,
     };
     CapturedItems::read(alloc, &mut source)
+}
+
+/// Reads the script, or one byte more than `most` of one that is longer.
+pub(crate) fn read_script_bytes<O: Outside>(
+    alloc: Global,
+    outside: &mut O,
+    most: u64,
+) -> Result<Bytes, UptoFault>
+    requires { CanRead ScriptRole (O.seen outside.old ScriptRole) }
+    ensures bytes { ForSome (O.seen outside.old ScriptRole).left (λ bytes. IfOk result (λ found.
+        (found ≡ take (most + 1) bytes) × ((O.seen outside.new ScriptRole).left ≡ Some (drop (most + 1) bytes)))) }
+    ensures cause { HasUptoCause (O.seen outside.old ScriptRole).faults (O.seen outside.new ScriptRole).faults result }
+    ensures alone { ReadAlone ScriptRole (O.seen outside.old) (O.seen outside.new) }
+{
+    let mut source = RoleSource {
+        outside,
+        role: Role::Script,
+    };
+    read_upto(alloc, &mut source, most)
 }

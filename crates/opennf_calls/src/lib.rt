@@ -7,13 +7,14 @@
 //! Contracts see the outside as a function from roles to what is known of each, the words as lists of bytes, and a status as
 //! its fields. The main promise is `HasOutcome` of `specs/Outcome.antt`: at `Ok` the report is that of a world to which a
 //! complete run leads the network, whose input is what the capture's and the script's bytes are read as: the run of the words'
-//! schedule for `sim`, the one that the workers made for `run`, the one that the journal tells for `audit`. Or the report is the
+//! schedule for `sim`, a run whose choices are handed out for `run`, the one that the journal tells for `audit`. Or the report is the
 //! canonical text of the script's bytes, or the capture that was drawn is written. Every other status has its cause.
 #![tactic(auto)]
 
 pub mod audit;
 pub mod check;
 pub mod error_line;
+pub mod functions;
 pub mod generate;
 pub mod inputs;
 pub mod network;

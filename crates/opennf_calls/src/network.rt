@@ -1,10 +1,11 @@
 //! The run of a network, and what comes of it: by a schedule, by threads, or by choices that are told.
-ghost use Rattle.std.specs.Prelude.{◌≡◌, IfOk, MatchResult};
+ghost use Rattle.std.specs.Prelude.{◌≡◌, Some, None, IfOk, MatchResult};
 ghost use Rattle.command_words.specs.RequestViews.{network_view};
 ghost use Rattle.opennf_calls.specs.Ends.{EndLaw};
 ghost use Rattle.opennf_calls.specs.NetworkRuns.{HasRun, IsRunOf, run_given};
-ghost use Rattle.opennf_calls.specs.Phases.{CanBegin, CanRun, IsOpening, IsRefusedRun, IsRefusedAs, scenario_of, gives};
+ghost use Rattle.opennf_calls.specs.Phases.{CanBegin, IsOpening, IsRefusedRun, IsRefusedAs, scenario_of, gives};
 
+use crate::functions::{ForFunction, for_kind};
 use crate::inputs::Inputs;
 use crate::status::Status;
 use crate::threads::run_network;
@@ -48,19 +49,21 @@ pub fn run_scheduled(
     inputs: Inputs,
     schedule: Schedule,
 ) -> Result<Made, NoMemory>
-    requires runs { CanRun (network_view asked.now) }
-    requires sound { CanBegin (network_view asked.now) (scenario_of asked.now.site inputs) }
+    requires { CanBegin (network_view asked.now) (scenario_of asked.now.site inputs) }
     ensures { IfOk result (λ made. HasRun (network_view asked.now) (scenario_of asked.now.site inputs) (Some schedule) (gives (network_view asked.now) made)) }
 {
     let kind = asked.kind;
-    match kind {
-        Kind::Conntrack => schedule_network::<Conntrack>(alloc, asked, inputs, schedule),
-        Kind::Nat => schedule_network::<Nat>(alloc, asked, inputs, schedule),
-        Kind::Monitor => schedule_network::<Monitor>(alloc, asked, inputs, schedule),
-    }
+    let scheduled = Scheduled {
+        alloc,
+        asked,
+        inputs,
+        schedule,
+    };
+    for_kind(kind, scheduled)
 }
 
-/// Runs the network by threads.
+/// Runs the network by threads. What goes to other threads has to be known where the function is chosen, so this doesn't go through
+/// [`for_kind`].
 pub fn run_threaded<R: Threads + Wait + Sync, G: Gate>(
     rt: &R,
     alloc: Global,
@@ -68,8 +71,7 @@ pub fn run_threaded<R: Threads + Wait + Sync, G: Gate>(
     inputs: Inputs,
     gate: &G,
 ) -> Result<Made, NoMemory>
-    requires runs { CanRun (network_view asked.now) }
-    requires sound { CanBegin (network_view asked.now) (scenario_of asked.now.site inputs) }
+    requires { CanBegin (network_view asked.now) (scenario_of asked.now.site inputs) }
     ensures { IfOk result (λ made. HasRun (network_view asked.now) (scenario_of asked.now.site inputs) None (gives (network_view asked.now) made)) }
 {
     let kind = asked.kind;
@@ -87,17 +89,69 @@ pub fn run_told(
     inputs: Inputs,
     choices: Choices,
 ) -> Result<Made, Status>
-    requires runs { CanRun (network_view asked.now) }
-    requires sound { CanBegin (network_view asked.now) (scenario_of asked.now.site inputs) }
+    requires { CanBegin (network_view asked.now) (scenario_of asked.now.site inputs) }
     ensures { MatchResult result
         (λ made. HasRun (network_view asked.now) (scenario_of asked.now.site inputs) None (gives (network_view asked.now) made) × (made.choices ≡ choices))
         (IsRefusedRun (network_view asked.now) (scenario_of asked.now.site inputs) choices) }
 {
     let kind = asked.kind;
-    match kind {
-        Kind::Conntrack => tell_network::<Conntrack>(alloc, asked, inputs, choices),
-        Kind::Nat => tell_network::<Nat>(alloc, asked, inputs, choices),
-        Kind::Monitor => tell_network::<Monitor>(alloc, asked, inputs, choices),
+    let told = Told {
+        alloc,
+        asked,
+        inputs,
+        choices,
+    };
+    for_kind(kind, told)
+}
+
+/// A run by a schedule, for any function.
+#[derive(Drop)]
+struct Scheduled<'a, 'w> {
+    alloc: Global,
+    asked: &'a NetworkRequest<'w>,
+    inputs: Inputs,
+    schedule: Schedule,
+}
+
+impl ForFunction for Scheduled<'_, '_> {
+    type Output = Result<Made, NoMemory>;
+
+    ghost may = { λ w kind. (kind ≡ w.asked.now.kind) × CanBegin (network_view w.asked.now) (scenario_of w.asked.now.site w.inputs) };
+
+    ghost gives = { λ w R F f r. IfOk r (λ made.
+        IsRunOf (run_given F f (network_view w.asked.now) (scenario_of w.asked.now.site w.inputs)) (Some w.schedule) (gives (network_view w.asked.now) made)) };
+
+    fn call<F: Function + Send>(self) -> Result<Made, NoMemory>
+    where
+        F::Record: Send,
+    {
+        schedule_network::<F>(self.alloc, self.asked, self.inputs, self.schedule)
+    }
+}
+
+/// A run by choices, for any function.
+#[derive(Drop)]
+struct Told<'a, 'w> {
+    alloc: Global,
+    asked: &'a NetworkRequest<'w>,
+    inputs: Inputs,
+    choices: Choices,
+}
+
+impl ForFunction for Told<'_, '_> {
+    type Output = Result<Made, Status>;
+
+    ghost may = { λ w kind. (kind ≡ w.asked.now.kind) × CanBegin (network_view w.asked.now) (scenario_of w.asked.now.site w.inputs) };
+
+    ghost gives = { λ w R F f r. MatchResult r
+        (λ made. IsRunOf (run_given F f (network_view w.asked.now) (scenario_of w.asked.now.site w.inputs)) None (gives (network_view w.asked.now) made) × (made.choices ≡ w.choices))
+        (IsRefusedAs (run_given F f (network_view w.asked.now) (scenario_of w.asked.now.site w.inputs)) w.choices) };
+
+    fn call<F: Function + Send>(self) -> Result<Made, Status>
+    where
+        F::Record: Send,
+    {
+        tell_network::<F>(self.alloc, self.asked, self.inputs, self.choices)
     }
 }
 
@@ -109,7 +163,6 @@ fn schedule_network<F: Function>(
     schedule: Schedule,
 ) -> Result<Made, NoMemory>
     requires kind { F.semantics.kind ≡ asked.now.kind }
-    requires runs { CanRun (network_view asked.now) }
     requires sound { CanBegin (network_view asked.now) (scenario_of asked.now.site inputs) }
     ensures { IfOk result (λ made. IsRunOf (run_given F.row.Denot F.semantics (network_view asked.now) (scenario_of asked.now.site inputs)) (Some schedule) (gives (network_view asked.now) made)) }
 {
@@ -138,7 +191,6 @@ fn thread_network<R: Threads + Wait + Sync, F: Function + Send, G: Gate>(
 where
     F::Record: Send,
     requires kind { F.semantics.kind ≡ asked.now.kind }
-    requires runs { CanRun (network_view asked.now) }
     requires sound { CanBegin (network_view asked.now) (scenario_of asked.now.site inputs) }
     ensures { IfOk result (λ made. IsRunOf (run_given F.row.Denot F.semantics (network_view asked.now) (scenario_of asked.now.site inputs)) None (gives (network_view asked.now) made)) }
 {
@@ -160,7 +212,6 @@ fn tell_network<F: Function>(
     choices: Choices,
 ) -> Result<Made, Status>
     requires kind { F.semantics.kind ≡ asked.now.kind }
-    requires runs { CanRun (network_view asked.now) }
     requires sound { CanBegin (network_view asked.now) (scenario_of asked.now.site inputs) }
     ensures { MatchResult result
         (λ made. IsRunOf (run_given F.row.Denot F.semantics (network_view asked.now) (scenario_of asked.now.site inputs)) None (gives (network_view asked.now) made) × (made.choices ≡ choices))
@@ -178,15 +229,12 @@ fn tell_network<F: Function>(
 
 /// The network before its start.
 fn open(alloc: Global, asked: &NetworkRequest<'_>, inputs: Inputs) -> Result<Opening, NoMemory>
-    requires runs { CanRun (network_view asked.now) }
     requires sound { CanBegin (network_view asked.now) (scenario_of asked.now.site inputs) }
     ensures { IfOk result (IsOpening (network_view asked.now) (scenario_of asked.now.site inputs)) }
 {
     let setting = Setting {
         kind: asked.kind,
-        names: asked.instances.names.as_slice(),
-        limits: asked.instances.limits.as_slice(),
-        marked: asked.instances.marked.as_slice(),
+        instances: &asked.instances,
         site: asked.site,
         window: asked.window,
     };

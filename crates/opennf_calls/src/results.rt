@@ -3,7 +3,6 @@ ghost use Rattle.std.specs.Prelude.{◌≡◌, ◌≢◌, None};
 ghost use Rattle.nf_io.specs.declared.outside.Role.TheVariants.{Report as ReportRole, JournalOut as JournalRole};
 ghost use Rattle.nf_io.specs.Meaning.{CanWrite};
 ghost use Rattle.command_words.specs.RequestViews.{network_view};
-ghost use Rattle.opennf_calls.specs.Phases.{CanRun};
 ghost use Rattle.opennf_calls.specs.Writing.{WroteReport, WroteRun};
 
 use crate::network::Made;
@@ -22,7 +21,6 @@ pub fn write_results<O: Outside>(
     made: Made,
     outside: &mut O,
 ) -> Outcome
-    requires runs { CanRun (network_view asked.now) }
     requires report { CanWrite ReportRole (O.seen outside.old ReportRole) }
     requires journal { asked.now.journal ≢ None → CanWrite JournalRole (O.seen outside.old JournalRole) }
     ensures { WroteRun (record { asked = network_view asked.now; made = made }) (O.seen outside.old) (O.seen outside.new) result }
@@ -30,7 +28,7 @@ pub fn write_results<O: Outside>(
     if asked.journal.is_none() {
         return write_report(made, outside);
     }
-    let count = asked.instances.names.len() as u8;
+    let count = asked.instances.rows.len() as u8;
     let Ok(journal) = write_journal(alloc, asked.kind, count, made.choices.items()) else {
         return Outcome::without_run(alloc, Status::NoMemory);
     };

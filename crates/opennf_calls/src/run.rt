@@ -3,7 +3,7 @@ ghost use Rattle.std.specs.Prelude.{◌≡◌, MatchResult, []};
 ghost use Rattle.command_words.specs.Requests.{asks_run};
 ghost use Rattle.command_words.specs.RequestViews.{network_view};
 ghost use Rattle.opennf_calls.specs.Outcome.{IsBound, ForResults, RowOf};
-ghost use Rattle.opennf_calls.specs.Phases.{CanRun, OnlyRead, Performs, gives};
+ghost use Rattle.opennf_calls.specs.Phases.{OnlyRead, Performs, gives};
 
 use crate::inputs::read_inputs;
 use crate::network::{Made, run_threaded};
@@ -26,8 +26,7 @@ pub fn run<R: Threads + Wait + Sync, O: Outside, G: Gate>(
     outside: &mut O,
     gate: &G,
 ) -> Outcome
-    requires bound { IsBound (asks_run (network_view asked.now)) (O.seen outside.old) }
-    requires runs { CanRun (network_view asked.now) }
+    requires { IsBound (asks_run (network_view asked.now)) (O.seen outside.old) }
     ensures { Performs (asks_run (network_view asked.now)) (O.seen outside.old) (O.seen outside.new) result }
 {
     match make(rt, alloc, asked, outside, gate) {
@@ -44,8 +43,7 @@ fn make<R: Threads + Wait + Sync, O: Outside, G: Gate>(
     outside: &mut O,
     gate: &G,
 ) -> Result<Made, Status>
-    requires bound { IsBound (asks_run (network_view asked.now)) (O.seen outside.old) }
-    requires runs { CanRun (network_view asked.now) }
+    requires { IsBound (asks_run (network_view asked.now)) (O.seen outside.old) }
     ensures only { OnlyRead (O.seen outside.old) (O.seen outside.new) }
     ensures row { MatchResult result
         (λ made. ForResults (asks_run (network_view asked.now)) (O.seen outside.old) (O.seen outside.new) (λ g. g ≡ gives (network_view asked.now) made))

@@ -3,7 +3,7 @@ ghost use Rattle.std.specs.Prelude.{◌≡◌, MatchResult, [], ◌∷◌};
 ghost use Rattle.command_words.specs.Requests.{asks_sim};
 ghost use Rattle.command_words.specs.RequestViews.{network_view};
 ghost use Rattle.opennf_calls.specs.Outcome.{IsBound, ForResults, RowOf};
-ghost use Rattle.opennf_calls.specs.Phases.{CanRun, OnlyRead, Performs, gives};
+ghost use Rattle.opennf_calls.specs.Phases.{OnlyRead, Performs, gives};
 
 use crate::inputs::read_inputs;
 use crate::network::{Made, run_scheduled};
@@ -23,8 +23,7 @@ pub fn simulate<O: Outside>(
     schedule: Schedule,
     outside: &mut O,
 ) -> Outcome
-    requires bound { IsBound (asks_sim (network_view asked.now) schedule) (O.seen outside.old) }
-    requires runs { CanRun (network_view asked.now) }
+    requires { IsBound (asks_sim (network_view asked.now) schedule) (O.seen outside.old) }
     ensures { Performs (asks_sim (network_view asked.now) schedule) (O.seen outside.old) (O.seen outside.new) result }
 {
     match make(alloc, asked, schedule, outside) {
@@ -40,8 +39,7 @@ fn make<O: Outside>(
     schedule: Schedule,
     outside: &mut O,
 ) -> Result<Made, Status>
-    requires bound { IsBound (asks_sim (network_view asked.now) schedule) (O.seen outside.old) }
-    requires runs { CanRun (network_view asked.now) }
+    requires { IsBound (asks_sim (network_view asked.now) schedule) (O.seen outside.old) }
     ensures only { OnlyRead (O.seen outside.old) (O.seen outside.new) }
 
     // What is made is what the command gives for its inputs, or the status has its row.

@@ -21,7 +21,8 @@ use std::alloc::Global;
 use std::sync::Wait;
 use std::thread::Threads;
 
-/// Runs a network from its start, with a worker for each node, until nothing is left to do. The choices are those that the workers made.
+/// Runs a network from its start, with a worker for each node, until nothing is left to do. The workers make the choices, which no
+/// clause says.
 pub fn run_network<R: Threads + Wait + Sync, F: Function + Send, G: Gate>(
     rt: &R,
     alloc: Global,

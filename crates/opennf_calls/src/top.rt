@@ -1,12 +1,14 @@
-ghost use Rattle.std.specs.Prelude.{◌≡◌, ◌⊎◌, true, false, Some, None, option_map, map, codes, string_bytes, OnOk, OnErr};
+//! The top calls: the words are read once, files are bound, and what the words ask for is done. A further command that starts no threads
+//! has a further line in `bind_files` and in `do_calm`.
+ghost use Rattle.std.specs.Prelude.{◌≡◌, ◌⊎◌, true, false, [], Option, Some, None, option_map, map, codes, string_bytes, OnOk, OnErr};
 ghost use Rattle.nf_io.specs.declared.outside.Role.{Role as TheRole};
-ghost use Rattle.nf_io.specs.Meaning.{CanBind};
-ghost use Rattle.command_words.specs.Requests.{request_of};
-ghost use Rattle.command_words.specs.RequestViews.{network_view, request_view};
-ghost use Rattle.opennf_calls.specs.Command.{is_command, is_journal, with_journal};
+ghost use Rattle.nf_io.specs.Meaning.{Meaning, CanBind};
+ghost use Rattle.command_words.specs.Requests.{Asked, asks_run, is_command, request_of};
+ghost use Rattle.command_words.specs.RequestViews.{network_view, calm_view};
+ghost use Rattle.opennf_calls.specs.Command.{is_journal, with_journal};
 ghost use Rattle.opennf_calls.specs.Outcome.{IsBound, MayBind, HasOutcome};
 ghost use Rattle.opennf_calls.specs.Status.{words_status};
-ghost use Rattle.opennf_calls.specs.Phases.{HasEnded, Named, SameContents};
+ghost use Rattle.opennf_calls.specs.Phases.{HasEnded, Named, Performs, SameContents};
 
 use crate::audit::audit;
 use crate::check::check;
@@ -19,7 +21,9 @@ use crate::status::Status;
 use crate::writing::put;
 use actor_threads::Gate;
 use basics::NoMemory;
-use command_words::{ArgumentsFault, NetworkRequest, Request, parse_command};
+use command_words::{
+    ArgumentsFault, CalmRequest, NetworkRequest, Request, parse_calm, parse_command, parse_run,
+};
 use nf_io::{Outside, Role};
 use std::alloc::Global;
 use std::sync::Wait;
@@ -38,10 +42,13 @@ pub fn opennf_top<R: Threads + Wait + Sync, O: Outside, G: Gate>(
     requires { (role : TheRole) → (O.seen outside.old role).name ≡ None }
     ensures { HasOutcome (request_of (map string_bytes words.now)) (O.seen outside.old) (O.seen outside.new) result }
 {
-    if names_run(words) {
-        opennf_run(rt, alloc, words, outside, gate)
-    } else {
-        opennf_calm(alloc, words, outside)
+    let request = match parse_command(alloc, words) {
+        Ok(request) => request,
+        Err(fault) => return tell(refuse(alloc, fault), outside),
+    };
+    match request {
+        Request::Run(asked) => tell(perform_run(rt, alloc, &asked, outside, gate), outside),
+        Request::Calm(asked) => tell(perform_calm(alloc, &asked, outside), outside),
     }
 }
 
@@ -57,10 +64,10 @@ pub fn opennf_run<R: Threads + Wait + Sync, O: Outside, G: Gate>(
     requires command { is_command (codes "run") (map string_bytes words.now) ≡ true }
     ensures { HasOutcome (request_of (map string_bytes words.now)) (O.seen outside.old) (O.seen outside.new) result }
 {
-    let outcome = perform_run(rt, alloc, words, outside, gate);
-    // A failing standard error changes no status.
-    let _ = put(outside, Role::Errors, line(&outcome.status).as_bytes());
-    outcome
+    match parse_run(alloc, words) {
+        Ok(asked) => tell(perform_run(rt, alloc, &asked, outside, gate), outside),
+        Err(fault) => tell(refuse(alloc, fault), outside),
+    }
 }
 
 /// The same for the commands that start no threads. It always returns.
@@ -69,95 +76,85 @@ pub fn opennf_calm<O: Outside>(alloc: Global, words: &[String], outside: &mut O)
     requires command { is_command (codes "run") (map string_bytes words.now) ≡ false }
     ensures { HasOutcome (request_of (map string_bytes words.now)) (O.seen outside.old) (O.seen outside.new) result }
 {
-    let outcome = perform(alloc, words, outside);
-    // A failing standard error changes no status.
+    match parse_calm(alloc, words) {
+        Ok(asked) => tell(perform_calm(alloc, &asked, outside), outside),
+        Err(fault) => tell(refuse(alloc, fault), outside),
+    }
+}
+
+/// Binds the files of a run by threads, and runs the network.
+fn perform_run<R: Threads + Wait + Sync, O: Outside, G: Gate>(
+    rt: &R,
+    alloc: Global,
+    asked: &NetworkRequest<'_>,
+    outside: &mut O,
+    gate: &G,
+) -> Outcome
+    requires { (role : TheRole) → (O.seen outside.old role).name ≡ None }
+    ensures { HasEnded (Some (asks_run (network_view asked.now))) (O.seen outside.old) (O.seen outside.new) result }
+{
+    match bind_run(asked, Role::JournalOut, outside) {
+        Ok(()) => run(rt, alloc, asked, outside, gate),
+        Err(_) => Outcome::without_run(alloc, Status::NoMemory),
+    }
+}
+
+/// Binds the files that a command names, and does what it asks for.
+fn perform_calm<O: Outside>(alloc: Global, asked: &CalmRequest<'_>, outside: &mut O) -> Outcome
+    requires { (role : TheRole) → (O.seen outside.old role).name ≡ None }
+    ensures { HasEnded (Some (calm_view asked.now)) (O.seen outside.old) (O.seen outside.new) result }
+{
+    match bind_files(asked, outside) {
+        Ok(()) => do_calm(alloc, asked, outside),
+        Err(_) => Outcome::without_run(alloc, Status::NoMemory),
+    }
+}
+
+/// Does what a command asks for, whose files are bound.
+fn do_calm<O: Outside>(alloc: Global, asked: &CalmRequest<'_>, outside: &mut O) -> Outcome
+    requires { IsBound (calm_view asked.now) (O.seen outside.old) }
+    ensures { Performs (calm_view asked.now) (O.seen outside.old) (O.seen outside.new) result }
+{
+    match asked {
+        CalmRequest::Sim(asked, schedule) => simulate(alloc, asked, *schedule, outside),
+        CalmRequest::Audit(asked) => audit(alloc, asked, outside),
+        CalmRequest::Check(asked) => Outcome::without_run(alloc, check(alloc, asked, outside)),
+        CalmRequest::Gen(asked) => Outcome::without_run(alloc, generate(alloc, asked, outside)),
+    }
+}
+
+/// The end of words that aren't a command.
+fn refuse(alloc: Global, fault: ArgumentsFault) -> Outcome
+    ensures { result ≡ record { status = words_status fault; choices = [] } }
+{
+    let status = match fault {
+        ArgumentsFault::Usage => Status::Usage,
+        ArgumentsFault::NoMemory => Status::NoMemory,
+    };
+    Outcome::without_run(alloc, status)
+}
+
+/// Puts the line of an end to the standard error. A failing standard error changes no status.
+fn tell<O: Outside>(outcome: Outcome, outside: &mut O) -> Outcome
+    ensures { (request : Option Asked) (before : TheRole → Meaning) → HasEnded request before (O.seen outside.old) outcome
+        → HasOutcome request before (O.seen outside.new) result }
+{
     let _ = put(outside, Role::Errors, line(&outcome.status).as_bytes());
     outcome
 }
 
-/// Whether the words name the command `run`.
-pub fn names_run(words: &[String]) -> bool
-    ensures { result ≡ is_command (codes "run") (map string_bytes words.now) }
-{
-    match words {
-        [_, command, ..] => command.as_str() == "run",
-        _ => false,
-    }
-}
-
-/// Runs the network by threads, as the words ask for.
-fn perform_run<R: Threads + Wait + Sync, O: Outside, G: Gate>(
-    rt: &R,
-    alloc: Global,
-    words: &[String],
-    outside: &mut O,
-    gate: &G,
-) -> Outcome
-    requires unnamed { (role : TheRole) → (O.seen outside.old role).name ≡ None }
-    requires command { is_command (codes "run") (map string_bytes words.now) ≡ true }
-    ensures { HasEnded (request_of (map string_bytes words.now)) (O.seen outside.old) (O.seen outside.new) result }
-{
-    let request = match parse_command(alloc, words) {
-        Ok(request) => request,
-        Err(fault) => return Outcome::without_run(alloc, of_words(fault)),
-    };
-    let Ok(()) = bind_files(&request, outside) else {
-        return Outcome::without_run(alloc, Status::NoMemory);
-    };
-    match request {
-        Request::Run(asked) => run(rt, alloc, &asked, outside, gate),
-        Request::Sim(_asked, _schedule) => unreachable!(),
-        Request::Audit(_asked) => unreachable!(),
-        Request::Check(_asked) => unreachable!(),
-        Request::Gen(_asked) => unreachable!(),
-    }
-}
-
-/// Does what the words ask for, which is no run by threads.
-fn perform<O: Outside>(alloc: Global, words: &[String], outside: &mut O) -> Outcome
-    requires unnamed { (role : TheRole) → (O.seen outside.old role).name ≡ None }
-    requires command { is_command (codes "run") (map string_bytes words.now) ≡ false }
-    ensures { HasEnded (request_of (map string_bytes words.now)) (O.seen outside.old) (O.seen outside.new) result }
-{
-    let request = match parse_command(alloc, words) {
-        Ok(request) => request,
-        Err(fault) => return Outcome::without_run(alloc, of_words(fault)),
-    };
-    let Ok(()) = bind_files(&request, outside) else {
-        return Outcome::without_run(alloc, Status::NoMemory);
-    };
-    match request {
-        Request::Sim(asked, schedule) => simulate(alloc, &asked, schedule, outside),
-        Request::Audit(asked) => audit(alloc, &asked, outside),
-        Request::Check(asked) => Outcome::without_run(alloc, check(alloc, &asked, outside)),
-        Request::Gen(asked) => Outcome::without_run(alloc, generate(alloc, &asked, outside)),
-        Request::Run(_asked) => unreachable!(),
-    }
-}
-
-/// The status of words that aren't a command.
-fn of_words(fault: ArgumentsFault) -> Status
-    ensures { result ≡ words_status fault }
-{
-    match fault {
-        ArgumentsFault::Usage => Status::Usage,
-        ArgumentsFault::NoMemory => Status::NoMemory,
-    }
-}
-
 /// Binds each file that a command names to its role.
-fn bind_files<O: Outside>(request: &Request<'_>, outside: &mut O) -> Result<(), NoMemory>
+fn bind_files<O: Outside>(asked: &CalmRequest<'_>, outside: &mut O) -> Result<(), NoMemory>
     requires { (role : TheRole) → (O.seen outside.old role).name ≡ None }
-    ensures bound { OnOk result (IsBound (request_view request.now) (O.seen outside.new)) }
-    ensures names { MayBind (Some (request_view request.now)) (O.seen outside.new) }
+    ensures bound { OnOk result (IsBound (calm_view asked.now) (O.seen outside.new)) }
+    ensures names { MayBind (Some (calm_view asked.now)) (O.seen outside.new) }
     ensures contents { SameContents (O.seen outside.old) (O.seen outside.new) }
 {
-    match request {
-        Request::Sim(asked, _) => bind_run(asked, Role::JournalOut, outside),
-        Request::Run(asked) => bind_run(asked, Role::JournalOut, outside),
-        Request::Audit(asked) => bind_run(asked, Role::JournalIn, outside),
-        Request::Check(asked) => bind_file(outside, Role::Script, Some(asked.script)),
-        Request::Gen(asked) => bind_file(outside, Role::TraceOut, Some(asked.trace)),
+    match asked {
+        CalmRequest::Sim(asked, _) => bind_run(asked, Role::JournalOut, outside),
+        CalmRequest::Audit(asked) => bind_run(&asked.network, Role::JournalIn, outside),
+        CalmRequest::Check(asked) => bind_file(outside, Role::Script, Some(asked.script)),
+        CalmRequest::Gen(asked) => bind_file(outside, Role::TraceOut, Some(asked.trace)),
     }
 }
 

@@ -3,8 +3,8 @@ ghost use Rattle.nf_io.specs.declared.outside.Role.{Role as TheRole};
 ghost use Rattle.nf_io.specs.Memory.{seen_in};
 
 use basics::NoMemory;
+use command_words::names_run;
 use nf_io::{MemoryOutside, Role};
-use opennf_calls::top::names_run;
 use opennf_calls::{Outcome, Status, opennf_calm};
 use std::alloc::Global;
 use std::test::Fail;

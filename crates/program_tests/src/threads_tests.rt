@@ -6,6 +6,7 @@ ghost use Rattle.net_world.specs.Input.{IsInput};
 
 use actor_net::{Choice, Choices, World};
 use actor_threads::{Gate, OpenGate};
+use command_words::instances::instances_of;
 use conn_tracker::Conntrack;
 use flow_filter::{CapturedPacket, Name, Packet, Prefix, Site, Text, UDP};
 use net_world::{Config, Node};
@@ -74,18 +75,16 @@ fn given(alloc: Global, script: &[u8], count: u32) -> Result<(Config, Vec<Msg>),
     requires { count < 1000 }
     ensures { IfOk result (λ given. IsInput OfFlows given.0 given.1.items) }
 {
-    let names = instances(alloc)?;
-    let script = read_script(alloc, script, Kind::Conntrack, names.as_slice())?;
-    let limits = [9, 9];
+    let instances = instances_of(alloc, Some("a:9,b:9"))?.ok_or("no instances")?;
+    let names = instances.names(alloc)?;
+    let script = read_script(alloc, script, Kind::Conntrack, names.items())?;
     let inside = Prefix {
         bits: 0x0a00_0000,
         len: 24,
     };
     let setting = Setting {
         kind: Kind::Conntrack,
-        names: names.as_slice(),
-        limits: limits.as_slice(),
-        marked: &[false, false],
+        instances: &instances,
         site: Site {
             inside,
             outside: None,

@@ -37,13 +37,13 @@ rest_same : {X : Type 0} (b : Bool) (y : X) (us vs : List X) → cond b (y ∷ u
 rest_same true y us vs same = ap (drop 1) same
 rest_same false y us vs same = same
 
-weaker : {X : Type 0} {P Q : X → Type 0} → ((x : X) → P x → Q x) → (xs : List X) → AllByRecursion P xs → AllByRecursion Q xs
+pub weaker : {X : Type 0} {P Q : X → Type 0} → ((x : X) → P x → Q x) → (xs : List X) → AllByRecursion P xs → AllByRecursion Q xs
 weaker f [] all = tt
 weaker f (x ∷ xs) all = (f x all.0, weaker f xs all.1)
 
 module _ {X : Type 0} (lt : X → X → Bool) where
   -- none is less than one before it
-  abbrev IsUp : List X → Type 0
+  abbrev pub IsUp : List X → Type 0
   IsUp [] = Unit {0}
   IsUp (x ∷ xs) = AllByRecursion (λ w. lt w x ≡ false) xs × IsUp xs
 
@@ -76,7 +76,7 @@ module _ {X : Type 0} (lt : X → X → Bool) where
       cc)
 
   -- lists that rise and keep those that tie in one order are the same
-  one_sort : IsStrictWeakOrder lt → (ys zs : List X) → IsUp ys → IsUp zs → ((x : X) → filter (ties lt x) ys ≡ filter (ties lt x) zs) → ys ≡ zs
+  pub one_sort : IsStrictWeakOrder lt → (ys zs : List X) → IsUp ys → IsUp zs → ((x : X) → filter (ties lt x) ys ≡ filter (ties lt x) zs) → ys ≡ zs
   one_sort o [] [] up also same = refl
   one_sort o [] (z ∷ zs) up also same =
       let one : [] ≡ z ∷ filter (ties lt z) zs = rw (self_ties o z) at (same z) in cc
@@ -93,7 +93,7 @@ module _ {X : Type 0} (lt : X → X → Bool) where
       ap (λ v. v ∷ ys) first ∙ ap (λ l. z ∷ l) rest
 
 module _ {X K : Type 0} (key : X → K) (cmp : K → K → Ordering) where
-  abbrev less : X → X → Bool
+  abbrev pub less : X → X → Bool
   less x y = is_lt (cmp (key x) (key y))
 
   all_put : (P : X → Type 0) (x : X) (ys : List X) → P x → AllByRecursion P ys → AllByRecursion P (put_in key cmp x ys)
@@ -110,7 +110,7 @@ module _ {X K : Type 0} (key : X → K) (cmp : K → K → Ordering) where
     | false ↦ λ h. ((h, weaker (λ w g. o.chain w y x g h) ys up.0), up)
   ] refl
 
-  up_sort : IsStrictWeakOrder less → (xs : List X) → IsUp less (sorted_by key cmp xs)
+  pub up_sort : IsStrictWeakOrder less → (xs : List X) → IsUp less (sorted_by key cmp xs)
   up_sort o [] = tt
   up_sort o (x ∷ xs) = up_put o x (sorted_by key cmp xs) (up_sort o xs)
 
@@ -124,7 +124,7 @@ module _ {X K : Type 0} (key : X → K) (cmp : K → K → Ordering) where
         | false ↦ λ h. refl
       ] refl
 
-  same_sort : IsStrictWeakOrder less → (z : X) (xs : List X) → filter (ties less z) (sorted_by key cmp xs) ≡ filter (ties less z) xs
+  pub same_sort : IsStrictWeakOrder less → (z : X) (xs : List X) → filter (ties less z) (sorted_by key cmp xs) ≡ filter (ties less z) xs
   same_sort o z [] = refl
   same_sort o z (x ∷ xs) = same_put o z x (sorted_by key cmp xs) ∙ ap (λ l. cond (ties less z x) (x ∷ l) l) (same_sort o z xs)
 

@@ -29,7 +29,7 @@ not_less_by false true h = refl
 not_less_by false false h = refl
 
 -- a number that isn't less than another
-not_less : (m n : ℕ) → nat_le m n ≡ true → is_lt (nat_cmp n m) ≡ false
+pub not_less : (m n : ℕ) → nat_le m n ≡ true → is_lt (nat_cmp n m) ≡ false
 not_less m n le = not_less_by (nat_lt n m) (n == m) (le-ltb n m (leb-true m n le))
 
 module _ {X : Type 0} where

@@ -1,6 +1,7 @@
 -- What was made of the words' values, a script and a trace is an input of the network.
-use Rattle.std.proofs.Common.{◌≡◌, ℕ, ◌<◌, ◌≤◌, ◌^◌, List, length, arith}
+use Rattle.std.proofs.Common.{◌≡◌, ℕ, ◌<◌, ◌≤◌, ◌^◌, List, length, sym, ◌∙◌, arith}
 use Rattle.std.specs.Prelude.{All}
+use Rattle.std.proofs.lemmas.List.{length-map}
 use Rattle.flow_filter.specs.declared.filter.Filter.{Filter}
 use Rattle.flow_filter.specs.declared.packet.Packet.{Packet}
 use Rattle.flow_filter.specs.Filter.{IsFilter}
@@ -15,14 +16,15 @@ use Rattle.net_world.specs.declared.config.Config.{Config}
 use Rattle.net_world.specs.Input.{IsSteered, most_counted, IsInput}
 use Rattle.net_world.specs.Start.{IsConfig}
 use Rattle.run_input.specs.declared.setting.Setting.{Setting}
-use Rattle.run_input.specs.Settings.{config_of, IsSetting}
+use Rattle.command_words.specs.declared.request.InstanceWords.{InstanceWords}
+use Rattle.command_words.specs.Values.{names_of}
+use Rattle.run_input.specs.Settings.{config_of}
 use Rattle.run_input.proofs.SaidCommands.{only_items, packets_in, commands_in}
 use Rattle.run_input.proofs.ScriptedOrders.{numbers_rise, in_order, ops_rise, all_proper, routes_whole, routes_there}
 
 -- what is known of all that is given
 pub record IsGiven (setting : Setting) (script : Script) (ps : List Packet) : Type 0 where
-  pub setting_is : IsSetting setting
-  pub script_is : IsScript setting.names.now (script_view script)
+  pub script_is : IsScript (names_of setting.instances.now.rows.items) (script_view script)
   pub whole : SplitsNone setting.kind (script_view script)
   pub numbers : AreNumbered 1 ps
   pub steered : All (IsSteered setting.site) ps
@@ -32,14 +34,19 @@ pub record IsGiven (setting : Setting) (script : Script) (ps : List Packet) : Ty
   pub fits : All (λ (line : Line). WhatFits line.what) script.lines.items
 
 is_config : (setting : Setting) (script : Script) (ps : List Packet) → IsGiven setting script ps → IsConfig (config_of setting script.routes.items)
-is_config setting script ps g = record {
-  some = g.setting_is.some;
-  few = g.setting_is.few;
-  limits = g.setting_is.limits;
-  marks = g.setting_is.marks;
-  window = g.setting_is.window;
-  routes = routes_there setting.names.now script.routes.items g.script_is.routes;
-}
+is_config setting script ps g =
+    let rows = setting.instances.now.rows.items in
+    let names = length-map rows (λ (i : InstanceWords). i.name) in
+    let some = setting.instances.now.some in
+    let few = setting.instances.now.few in
+    record {
+      some = omega (arith, names, some);
+      few = omega (arith, names, few);
+      limits = length-map rows (λ (i : InstanceWords). i.limit) ∙ sym names;
+      marks = length-map rows (λ (i : InstanceWords). i.reads_old) ∙ sym names;
+      window = setting.window_in_range;
+      routes = routes_there (names_of rows) script.routes.items g.script_is.routes;
+    }
 
 input_is : (setting : Setting) (script : Script) (ps : List Packet) → IsGiven setting script ps → IsInput setting.kind (config_of setting script.routes.items) (items ps script.lines.items)
 input_is setting script ps g =

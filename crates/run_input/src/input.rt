@@ -1,4 +1,4 @@
-ghost use Rattle.std.specs.Prelude.{◌≡◌, ◌<◌, ◌≤◌, ◌^◌, true, All, length, IfOk};
+ghost use Rattle.std.specs.Prelude.{◌≡◌, ◌<◌, ◌≤◌, ◌^◌, true, All, length, map, IfOk};
 ghost use Rattle.flow_filter.specs.Filter.{IsFilter, IsFlow};
 ghost use Rattle.nf_function.specs.Records.{Fits};
 ghost use Rattle.nf_function.specs.Units.{is_transport};
@@ -8,15 +8,17 @@ ghost use Rattle.op_script.specs.Printing.{CopiedFits, IsScript, SplitsNone, Wha
 ghost use Rattle.op_script.specs.Items.{items};
 ghost use Rattle.net_world.specs.Input.{IsInput, IsSteered, ends_last, most_counted};
 ghost use Rattle.net_length.specs.Length.{IsShort};
-ghost use Rattle.run_input.specs.Settings.{config_of, IsSetting};
+ghost use Rattle.command_words.specs.Values.{names_of};
+ghost use Rattle.run_input.specs.Settings.{config_of};
 ghost use Rattle.run_input.specs.PacketFacts.{IsTransport, IsSteeredItem};
 ghost use Rattle.flow_filter.specs.Limits.{most_packets};
 
 use crate::setting::Setting;
-use basics::{NoMemory, TryCopy};
-use flow_filter::{CapturedPacket, Filter, Flow, Name, Packet, Sequence, Site, flow_of};
+use basics::NoMemory;
+use command_words::InstanceWords;
+use flow_filter::{CapturedPacket, Filter, Flow, Packet, Sequence, Site, flow_of};
 use net_world::Config;
-use nf_msgs::{Msg, Names, Order};
+use nf_msgs::{Msg, Order};
 use op_script::{Line, PacketItems, Script, What, items};
 use std::alloc::Global;
 
@@ -27,8 +29,7 @@ pub fn input_of(
     script: &Script,
     packets: PacketItems,
 ) -> Result<(Config, Vec<Msg>), NoMemory>
-    requires setting { IsSetting setting.now }
-    requires script { IsScript setting.now.names.now (script_view script.now) }
+    requires script { IsScript (names_of setting.now.instances.now.rows.items) (script_view script.now) }
     requires whole { SplitsNone setting.now.kind (script_view script.now) }
     requires numbers { AreNumbered 1 packets }
     requires steered { All (λ packet. is_transport packet.proto ≡ true) packets }
@@ -158,23 +159,27 @@ fn config_of(
 ) -> Result<Config, NoMemory>
     ensures { IfOk result (λ config. config ≡ config_of setting.now routes.now) }
 {
+    let rows = setting.instances.rows.as_slice();
     Ok(Config {
-        names: names_of(alloc, setting.names)?,
-        limits: Sequence::from_vec(Vec::from_slice(alloc, setting.limits)?),
-        marked: Sequence::from_vec(Vec::from_slice(alloc, setting.marked)?),
+        names: setting.instances.names(alloc)?,
+        limits: Sequence::from_vec(limits_of(alloc, rows)?),
+        marked: Sequence::from_vec(old_readers(alloc, rows)?),
         site: setting.site,
         window: setting.window,
         routes: Sequence::from_vec(Vec::from_slice(alloc, routes)?),
     })
 }
 
-/// The same names again.
-fn names_of(alloc: Global, names: &[Name]) -> Result<Names, NoMemory>
-    ensures { IfOk result (λ copies. copies ≡ names.now) }
+/// How many records each instance takes.
+fn limits_of(alloc: Global, rows: &[InstanceWords]) -> Result<Vec<u32>, NoMemory>
+    ensures { IfOk result (λ limits. limits.items ≡ map (λ row. row.limit) rows.now) }
 {
-    let mut copies = Names::open(alloc);
-    for name in names {
-        copies.push(name.copy()?)?;
-    }
-    Ok(copies)
+    rows.iter().map(|row| row.limit).collect(alloc)
+}
+
+/// Which instances read chunks of version 1 alone.
+fn old_readers(alloc: Global, rows: &[InstanceWords]) -> Result<Vec<bool>, NoMemory>
+    ensures { IfOk result (λ old. old.items ≡ map (λ row. row.reads_old) rows.now) }
+{
+    rows.iter().map(|row| row.reads_old).collect(alloc)
 }

@@ -1,4 +1,8 @@
-use flow_filter::{Name, Site};
+ghost use Rattle.std.specs.Prelude.{◌≤◌};
+ghost use Rattle.flow_filter.specs.Limits.{most_window};
+
+use command_words::Instances;
+use flow_filter::Site;
 use nf_function::Kind;
 
 /// What the words say of a run.
@@ -6,13 +10,9 @@ use nf_function::Kind;
 pub struct Setting<'a> {
     /// Which function the instances run.
     pub kind: Kind,
-    /// The instances' names.
-    pub names: &'a [Name],
-    /// How many records each instance takes.
-    pub limits: &'a [u32],
-    /// Which instances read chunks of version 1 alone.
-    pub marked: &'a [bool],
+    pub instances: &'a Instances,
     pub site: Site,
     /// How many packets may be under way.
     pub window: u32,
+    ghost window_in_range: { (1 ≤ window) × (window ≤ most_window) },
 }

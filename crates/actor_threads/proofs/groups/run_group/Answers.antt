@@ -1,9 +1,12 @@
--- One more turn of all members goes on with their rounds.
+-- One more turn of all members goes on with their rounds, whether it is the last or not.
 use Rattle.actor_threads.proofs.GroupLemmas.{all_go_on}
 use Rattle.actor_threads.proofs.groups.run_group.Goals as goal
 
 pub loop-preserved : goal.loop-preserved
-loop-preserved g c = all_go_on g.A.Actor.is_ready g.A.Actor.stepped _ _ _ c.loop.auto.members c.loop.invariant c.turn_all-moved.ensures
+loop-preserved g c = all_go_on g.A.Actor.is_ready g.A.Actor.stepped _ _ _ c.loop.auto.members c.loop.invariant c.turn_all-steps.ensures
 
 pub returns-then-is_over : goal.returns-then-is_over
-returns-then-is_over g c = all_go_on g.A.Actor.is_ready g.A.Actor.stepped _ _ _ c.loop.auto.members c.loop.invariant c.turn_all-moved.ensures
+returns-then-is_over g c = all_go_on g.A.Actor.is_ready g.A.Actor.stepped _ _ _ c.loop.auto.members c.loop.invariant c.turn_all-steps.ensures
+
+pub returns-then-wants_another_pace : goal.returns-then-wants_another_pace
+returns-then-wants_another_pace g c = all_go_on g.A.Actor.is_ready g.A.Actor.stepped _ _ _ c.loop.auto.members c.loop.invariant c.turn_all-steps.ensures

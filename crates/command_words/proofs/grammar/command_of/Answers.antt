@@ -1,11 +1,18 @@
--- One argument more.
+-- One argument more, and in the end those of the form, which are as simple as clap's clauses ask.
 use Rattle.std.proofs.Common.{◌∙◌, [], ap}
-use Rattle.command_words.specs.declared.grammar.ArgumentKind.TheVariants.{Positional}
+use Rattle.command_words.specs.declared.forms.ArgumentKind.TheVariants.{Positional}
 use Rattle.command_words.specs.Grammar.{app_with, rule_by}
-use Rattle.command_words.proofs.ArgumentTables.{map_more}
+use Rattle.command_words.proofs.ArgumentTables.{all_mapped, map_more, is_simple_app}
 use Rattle.command_words.proofs.grammar.command_of.Goals as goal
 
-pub loop-want-preserved : goal.loop-want-preserved
-loop-want-preserved c = c.in_ok-command.ensures c.args.title.now _ c.loop-want.invariant
-    ∙ ap (app_with c.args.title.now) (map_more (λ e. rule_by e.0 e.1.now) c.args.table.now c.loop-want.want-index
-    (Positional, record { ref_ptr = (0, 0); now = [] }) c.loop-want-test.true)
+pub loop-kind-preserved : goal.loop-kind-preserved
+loop-kind-preserved c = c.in_ok-command.ensures _ c.loop-kind.invariant
+    ∙ ap app_with (map_more (λ e. rule_by e.0 e.1.now) c.arguments-arguments.result.now c.loop-kind.kind-index
+    (Positional, record { ref_ptr = (0, 0); now = [] }) c.loop-kind-test.true)
+
+pub returns-clause-app : goal.returns-clause-app
+returns-clause-app c = c.loop-kind.invariant ∙ ap app_with
+    (all_mapped (λ e. rule_by e.0 e.1.now) c.arguments-arguments.result.now c.loop-kind.kind-index c.loop-kind-test.false ∙ c.arguments-arguments.ensures)
+
+pub returns-clause-simple : goal.returns-clause-simple
+returns-clause-simple c = is_simple_app c.args.form _ (returns-clause-app c)

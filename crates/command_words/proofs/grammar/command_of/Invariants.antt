@@ -5,5 +5,5 @@ use Rattle.command_words.specs.Grammar.{app_with, rule_by}
 use Rattle.command_words.proofs.grammar.command_of.Given as goal
 
 -- the command has the arguments so far
-abbrev pub invariant-loop-want : goal.invariant-loop-want
-invariant-loop-want l = app_of l.command ≡ app_with l.fn.title (map (λ e. rule_by e.0 e.1.now) (take l.want-index l.table))
+abbrev pub invariant-loop-kind : goal.invariant-loop-kind
+invariant-loop-kind l = app_of l.command ≡ app_with (map (λ e. rule_by e.0 e.1.now) (take l.kind-index l.arguments))

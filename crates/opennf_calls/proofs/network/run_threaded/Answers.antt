@@ -3,7 +3,8 @@ use Rattle.std.proofs.Common.{None, sym, subst}
 use Rattle.std.specs.Prelude.{IfOk}
 use Rattle.nf_function.specs.declared.kind.Kind.{Kind}
 use Rattle.command_words.specs.RequestViews.{network_view}
-use Rattle.opennf_calls.specs.NetworkRuns.{OfKind, IsRunOf, run_given}
+use Rattle.opennf_calls.specs.Functions.{OfKind}
+use Rattle.opennf_calls.specs.NetworkRuns.{IsRunOf, run_given}
 use Rattle.opennf_calls.specs.Phases.{scenario_of, gives}
 use Rattle.opennf_calls.proofs.network.run_threaded.Goals as goal
 

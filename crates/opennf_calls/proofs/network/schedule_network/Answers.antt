@@ -27,7 +27,7 @@ returns g c =
     let input = subst (λ (k : Kind). IsInput k opening.config opening.items.items) (sym c.requires.kind) is.is_input in
     let leads = subst (λ cs. LeadsTo f start cs c.in-Ok.ended.0) (sym c.in-Ok.ensures.choices) c.in-Ok.ensures.end.leads in
     run_of g.row.F.Denot f (network_view c.args.asked.now) (scenario_of c.args.asked.now.site c.args.inputs) c.args.alloc opening.config opening.items.items opening.head is.config is.items
-    (Some c.args.schedule) (record { choices = c.in-Ok.ended.1; report = c.in_ok-report.report }) c.in-Ok.ended.0
+    g.met.F.Function.laws (Some c.args.schedule) (record { choices = c.in-Ok.ended.1; report = c.in_ok-report.report }) c.in-Ok.ended.0
     (record {
       leads = leads;
       complete = c.in-Ok.ensures.end.complete;
@@ -38,5 +38,6 @@ returns g c =
       home = c.in-Ok.ensures.home;
       few = short_runs g.row.F.Denot f g.met.F.Function.laws c.args.alloc opening.config opening.items.items input is.short c.in-Ok.ended.1 leads.is_run;
       input = is.is_input;
+      kind = c.requires.kind;
     }) (λ schedule same. let by : c.args.schedule ≡ schedule = cc in c.in-Ok.ensures.choices ∙ ap (λ k. chosen {F = g.row.F.Denot} f start k) by)
     is.head c.in_ok-report.ensures

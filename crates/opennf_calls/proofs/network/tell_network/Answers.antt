@@ -33,7 +33,7 @@ returns g c =
     let start = started {F = g.row.F.Denot} {R = g.row.F-Record.Denot} c.args.alloc opening.config opening.items.items in
     let input = subst (λ (k : Kind). IsInput k opening.config opening.items.items) (sym c.requires.kind) is.is_input in (
       run_of g.row.F.Denot g.F.Function.semantics (network_view c.args.asked.now) (scenario_of c.args.asked.now.site c.args.inputs) c.args.alloc opening.config opening.items.items opening.head is.config is.items
-          None (record { choices = c.args.choices; report = c.in_ok-report.report }) (world_after g.F.Function.semantics start c.items-told.result.now)
+          g.met.F.Function.laws None (record { choices = c.args.choices; report = c.in_ok-report.report }) (world_after g.F.Function.semantics start c.items-told.result.now)
           (subst (λ (cs : List Choice). Ran g.row.F.Denot g.F.Function.semantics (network_view c.args.asked.now) (scenario_of c.args.asked.now.site c.args.inputs) c.args.alloc opening.config opening.items.items opening.head is.config is.items cs (world_after g.F.Function.semantics start c.items-told.result.now)) told
           (record {
             leads = report.run.leads;
@@ -45,6 +45,7 @@ returns g c =
             home = report.home input;
             few = short_runs g.row.F.Denot g.F.Function.semantics g.met.F.Function.laws c.args.alloc opening.config opening.items.items input is.short c.items-told.result.now report.run.leads.is_run;
             input = is.is_input;
+            kind = c.requires.kind;
           })) (λ schedule same. cc) is.head report.text,
       refl,
     )

@@ -12,7 +12,7 @@ returns-in_err-inputs-clause-row g c =
     let failed = err_from_is_err_and c.from_residual.result c.from_residual.ensures.1 in
     rw (failed.1, failed.2)
     (fails_row s (asks_sim s c.args.schedule) (sim_reads s c.args.schedule) (g.O.Outside.seen c.args.outside.now)
-    (g.O.Outside.seen c.read_inputs.new.outside) c.in_err-inputs.ensures.only c.requires.bound c.in_err-inputs.field-0.0 c.in_err-inputs.ensures.given)
+    (g.O.Outside.seen c.read_inputs.new.outside) c.in_err-inputs.ensures.only c.requires c.in_err-inputs.field-0.0 c.in_err-inputs.ensures.given)
 
 pub returns-clause-row : goal.returns-clause-row
 returns-clause-row g c =

@@ -1,24 +1,19 @@
--- The cause of the status stands, whatever became of the line on the standard error.
-use Rattle.std.proofs.Common.{rules, ◌≡◌, map}
+-- What a run by threads ends with is what its words ask for.
+use Rattle.std.proofs.Common.{map}
 use Rattle.std.specs.Prelude.{string_bytes}
-use Rattle.command_words.specs.Requests.{request_of}
-use Rattle.opennf_calls.specs.Status.{line_of}
-use Rattle.opennf_calls.proofs.CompleteLemmas.{complete}
-use Rattle.opennf_calls.proofs.LastLineLemmas.{cause_around, line_after, names_after, puts_line}
+use Rattle.command_words.specs.Requests.{asks_run, request_of}
+use Rattle.command_words.specs.RequestViews.{network_view}
+use Rattle.opennf_calls.proofs.EndedCommands.{ended_words, refused_words}
 use Rattle.opennf_calls.proofs.top.opennf_run.Goals as goal
 
-pub returns : goal.returns
-returns g c =
-    let is : c.as_bytes.result.now ≡ line_of c.perform_run-outcome.result.status = search rules in
+pub returns-in-Ok : goal.returns-in-Ok
+returns-in-Ok g c =
     let request = request_of (map string_bytes c.args.words.now) in
     let old = g.O.Outside.seen c.args.outside.now in
-    let mid = g.O.Outside.seen c.perform_run-outcome.new.outside in
-    let new = g.O.Outside.seen c.put.new.outside in
-    let around = line_after old mid new _ c.put.ensures in
-    let cause = cause_around old old mid new around request c.perform_run-outcome.result c.perform_run-outcome.ensures.cause in
-    record {
-      cause = cause;
-      names = names_after request mid new around.names c.perform_run-outcome.ensures.names;
-      errors = puts_line _ old mid new c.put.result c.perform_run-outcome.ensures.errors (rw (← is) c.put.ensures);
-      complete = complete request old new c.perform_run-outcome.result cause;
-    }
+    c.tell.ensures request old (ended_words request (asks_run (network_view c.in-Ok.asked)) old (g.O.Outside.seen c.perform_run.new.outside) c.perform_run.result c.in-Ok.ensures c.perform_run.ensures)
+
+pub returns-in-Err : goal.returns-in-Err
+returns-in-Err g c =
+    let request = request_of (map string_bytes c.args.words.now) in
+    let old = g.O.Outside.seen c.args.outside.now in
+    c.tell-in-Err.ensures request old (refused_words request old c.in-Err.fault c.refuse.result c.in-Err.ensures c.requires.unnamed c.refuse.ensures)

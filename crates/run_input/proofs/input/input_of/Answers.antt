@@ -6,6 +6,7 @@ use Rattle.flow_filter.specs.Filter.{IsFilter}
 use Rattle.op_script.specs.declared.script.Line.{Line}
 use Rattle.net_world.specs.Input.{most_counted, ends_last}
 use Rattle.op_script.specs.Printing.{WhatFits}
+use Rattle.command_words.specs.Values.{names_of}
 use Rattle.run_input.specs.Settings.{config_of}
 use Rattle.run_input.specs.PacketFacts.{IsTransport, IsSteeredItem}
 use Rattle.run_input.proofs.MadeInput.{made_is}
@@ -21,7 +22,6 @@ pub returns-clause-input : goal.returns-clause-input
 returns-clause-input c =
     let routes = c.as_slice-3.ensures.value in
     made_is c.args.setting.now c.args.script.now c.args.packets c.in_ok-config.config c.in_ok-items.items.items (record {
-      setting_is = c.requires.setting;
       script_is = c.requires.script;
       whole = c.requires.whole;
       numbers = c.requires.numbers;
@@ -36,4 +36,4 @@ pub returns-clause-last : goal.returns-clause-last
 returns-clause-last c = ap ends_last c.in_ok-items.ensures ∙ end_is_last c.args.packets c.args.script.now.lines.items
 
 pub returns-clause-short : goal.returns-clause-short
-returns-clause-short c few = short_is c.args.setting.now.names.now c.args.script.now c.args.packets c.in_ok-items.items.items c.requires.script c.in_ok-items.ensures few
+returns-clause-short c few = short_is (names_of c.args.setting.now.instances.now.rows.items) c.args.script.now c.args.packets c.in_ok-items.items.items c.requires.script c.in_ok-items.ensures few

@@ -2,5 +2,5 @@
 use Rattle.actor_threads.specs.Groups.{GoesOn}
 use Rattle.actor_threads.proofs.groups.Member.steps.Given as goal
 
-abbrev pub invariant-loop : goal.invariant-loop
-invariant-loop g l = GoesOn g.A.Actor.is_ready g.A.Actor.stepped l.fn.self l.self
+abbrev pub invariant-loop-done : goal.invariant-loop-done
+invariant-loop-done g l = GoesOn g.A.Actor.is_ready g.A.Actor.stepped l.fn.self l.self

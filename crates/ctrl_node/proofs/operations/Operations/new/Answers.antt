@@ -1,0 +1,10 @@
+-- No numbers rise.
+use Rattle.std.proofs.Common.{sym, subst}
+use Rattle.std.specs.Ordering.{nat_cmp}
+use Rattle.std.specs.Map.{keys_of}
+use Rattle.std.specs.List.Sorted.{IsStrictlySortedBy}
+use Rattle.ctrl_node.proofs.operations.Operations.new.Goals as goal
+
+pub invariant_of-result : goal.invariant_of-result
+unfolding IsStrictlySortedBy
+invariant_of-result c = subst (λ es. IsStrictlySortedBy nat_cmp (keys_of es)) (sym c.new.ensures.empty) tt

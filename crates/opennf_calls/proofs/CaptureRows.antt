@@ -1,0 +1,79 @@
+-- The rows of a command that reads a capture and nothing else.
+use Rattle.std.proofs.Common.{◌≡◌, ℕ, List, [], ◌&&◌, true, false, None, Some, is_some, Ok, Err, Result, refl, ap, sym, ◌∙◌, subst, IsTrue}
+use Rattle.std.proofs.lemmas.Bool.{and_parts}
+use Rattle.nf_io.specs.declared.outside.Role.{Role}
+use Rattle.nf_io.specs.declared.outside.Role.TheVariants.{Trace, Script, JournalIn, Report, JournalOut, TraceOut, Errors}
+use Rattle.nf_io.specs.Meaning.{Meaning}
+use Rattle.trace_reader.specs.declared.trace.Trace.{Trace as Captured}
+use Rattle.trace_reader.specs.declared.fault.TraceFault.{TraceFault}
+use Rattle.trace_reader.specs.declared.fault.TraceFault.TheVariants as fault
+use Rattle.trace_reader.specs.Answers.{AnswersTrace, HasReadCause}
+use Rattle.trace_reader.specs.Records.{capture_of}
+use Rattle.command_words.specs.Requests.{Asked}
+use Rattle.opennf_calls.specs.declared.status.Status.{Status}
+use Rattle.opennf_calls.specs.Command.{file_for, is_input, is_read_before}
+use Rattle.opennf_calls.specs.NetworkRuns.{RunResults}
+use Rattle.opennf_calls.specs.Outcome.{AreResults, EarlierAreSound, ForResults, HasEarlier, HasInput, IsBound, IsRefusedCommand, RowOf, earlier_refusal, refusal_of, trace_refusal}
+use Rattle.opennf_calls.specs.Phases.{OnlyRead, ReadAlone}
+use Rattle.opennf_calls.specs.Status.{trace_status}
+use Rattle.opennf_calls.proofs.RowLemmas.{OneFile, input_alone, not_before, one_read, read_fault, refused, silent}
+
+-- the command has one file, a capture, which alone can refuse it
+pub record ReadsCapture (asked : Asked) : Type 0 where
+  pub one : OneFile asked Trace
+  pub named : IsTrue (is_input asked Trace)
+  pub refusal : (bytes : Role → List ℕ) → refusal_of asked bytes ≡ trace_refusal (capture_of (bytes Trace))
+  pub earlier : (bytes : Role → List ℕ) → earlier_refusal asked Trace bytes ≡ None
+
+-- what reading the capture answers
+abbrev pub AnswersCapture : (old new : Role → Meaning) → Result Captured TraceFault → Type 0
+AnswersCapture old new r = (bytes : List ℕ) → (old Trace).left ≡ Some bytes → AnswersTrace (capture_of bytes) (new Trace).left r
+
+module _ (asked : Asked) (reads : ReadsCapture asked) (old new : Role → Meaning) (bound : IsBound asked old) (alone : ReadAlone Trace old new) where
+  pub only_capture : OnlyRead old new
+  only_capture = one_read Trace old new refl alone
+
+  -- nothing is read before it
+  first : (bytes : Role → List ℕ) → HasEarlier asked Trace old bytes → EarlierAreSound asked Trace bytes new
+  first bytes told = record { read = none; sound = reads.earlier bytes }
+    where
+      none : (other : Role) → IsTrue (is_input asked other && is_read_before other Trace) → (new other).left ≡ Some []
+      none Script is =
+          let file = (and_parts (is_input asked Script) true is).0 in
+          let no_file : is_some (file_for asked Script) ≡ false = ap is_some (reads.one Script (λ same. cc)) in absurd (cc)
+      none Trace is = absurd (not_before (is_input asked Trace) is)
+      none JournalIn is = absurd (not_before (is_input asked JournalIn) is)
+      none Report is = absurd (not_before (is_input asked Report) is)
+      none JournalOut is = absurd (not_before (is_input asked JournalOut) is)
+      none TraceOut is = absurd (not_before (is_input asked TraceOut) is)
+      none Errors is = absurd (not_before (is_input asked Errors) is)
+
+  refuses : (e : TraceFault) (status : Status) → trace_refusal (Err e) ≡ Some status
+      → ((bytes : Role → List ℕ) → HasInput asked old bytes → capture_of (bytes Trace) ≡ Err e) → IsRefusedCommand asked old new status
+  refuses e status is due = refused old new only_capture asked status bound (λ bytes told. reads.refusal bytes ∙ ap trace_refusal (due bytes told) ∙ is)
+
+  -- a fault of the capture
+  pub capture_row : (e : TraceFault) → AnswersCapture old new (Err e) → HasReadCause {A = Captured} (old Trace).faults (new Trace).faults (Err e)
+      → RowOf asked old new (record { status = trace_status e; choices = [] })
+  capture_row fault.Magic answers cause = (refuses fault.Magic _ refl (λ bytes told. answers (bytes Trace) (told Trace reads.named)), refl)
+  capture_row fault.PcapNg answers cause = (refuses fault.PcapNg _ refl (λ bytes told. answers (bytes Trace) (told Trace reads.named)), refl)
+  capture_row fault.Version answers cause = (refuses fault.Version _ refl (λ bytes told. answers (bytes Trace) (told Trace reads.named)), refl)
+  capture_row (fault.LinkType n) answers cause = (refuses (fault.LinkType n) _ refl (λ bytes told. answers (bytes Trace) (told Trace reads.named)), refl)
+  capture_row (fault.RecordLength offset n) answers cause = (refuses (fault.RecordLength offset n) _ refl (λ bytes told. answers (bytes Trace) (told Trace reads.named)), refl)
+  capture_row (fault.TooLong offset) answers cause = (refuses (fault.TooLong offset) _ refl (λ bytes told. answers (bytes Trace) (told Trace reads.named)), refl)
+  capture_row (fault.Header length) answers cause = (refuses (fault.Header length) _ refl (λ bytes told. answers (bytes Trace) (told Trace reads.named)), refl)
+  capture_row fault.Read answers cause = (read_fault old new only_capture asked Trace bound reads.named (cause.read refl) first, refl)
+  capture_row fault.NoMemory answers cause = (silent old new only_capture, refl)
+
+  -- the capture was read, and this was made of it
+  pub capture_results : (captured : Captured) → AnswersCapture old new (Ok captured) → (made : RunResults)
+      → ((bytes : Role → List ℕ) → capture_of (bytes Trace) ≡ Ok captured → AreResults asked bytes made) → ForResults asked old new (λ g. g ≡ made)
+  capture_results captured answers made are bytes told =
+      let read = answers (bytes Trace) (told Trace reads.named) in
+      record {
+        read = λ role input. subst (λ (r : Role). (new r).left ≡ Some []) (sym (input_alone asked Trace reads.one role input)) read.1;
+        sound = reads.refusal bytes ∙ ap trace_refusal read.0;
+        made = made;
+        are = are bytes read.0;
+        wrote = refl;
+      }

@@ -1,0 +1,245 @@
+-- The headline of every completed run.
+use Rattle.std.proofs.Common.{◌≡◌, ℕ, zero, suc, ◌+◌, ◌≤◌, ◌<◌, Bool, true, false, ◌||◌, cond, Option, Some, None, List, [], ◌∷◌, length, map, get_or}
+use Rattle.std.proofs.Common.{refl, sym, ap, ◌∙◌, subst, arith}
+use Rattle.std.specs.Prelude.{◌==◌, if◌then◌else◌, filter, filter_map, option_to_list, slice_get, zip}
+use Rattle.std.specs.List.{AllByRecursion, flat_map, list_any}
+use Rattle.std.specs.declared.alloc.Global.{Global}
+use Rattle.std.specs.FinMap as finite
+use Rattle.std.proofs.lemmas.Bool.Decides.{nat_tests}
+use Rattle.std.proofs.lemmas.List.{length-map}
+use Rattle.flow_filter.specs.declared.packet.Packet.{Packet}
+use Rattle.nf_function.specs.declared.unit.Unit as units
+use Rattle.nf_function.specs.Records.{Laws as FunctionLaws}
+use Rattle.nf_function.specs.Semantics.{Semantics}
+use Rattle.nf_msgs.specs.declared.msg.Msg.{Msg}
+use Rattle.nf_msgs.specs.declared.note.Note.{Note}
+use Rattle.nf_msgs.specs.declared.note.Note.TheVariants as note
+use Rattle.nf_msgs.specs.Nodes.{instance_node}
+use Rattle.instance_worker.specs.declared.instance.Instance.{Instance as InstanceState}
+use Rattle.actor_net.specs.declared.choice.Choice.{Choice}
+use Rattle.actor_net.specs.Network.{Network, run}
+use Rattle.actor_net.proofs.RunInduction.{run_world}
+use Rattle.net_world.specs.declared.config.Config.{Config}
+use Rattle.net_world.specs.declared.node.Node.{Node}
+use Rattle.net_world.specs.declared.node.Node.TheVariants.{Switch, Controller, Instance}
+use Rattle.net_world.specs.Fold as folds
+use Rattle.net_world.specs.Fold.{times}
+use Rattle.net_world.specs.Input.{packet_numbered, packets}
+use Rattle.net_world.specs.Log.{done, those}
+use Rattle.net_world.specs.Nodes.{node_ready, node_step}
+use Rattle.net_world.specs.Records.{live_at, live_in}
+use Rattle.net_world.specs.Start.{started}
+use Rattle.nf_net.proofs.PacketCounts.{all_done}
+use Rattle.net_world.specs.Places.{is_loose}
+use Rattle.report_lines.specs.Lines.{NamedInstance, by_number, by_unit, named_records}
+use Rattle.run_report.specs.Lines.{answer_in, instance_in, instance_under, named_instances}
+use Rattle.whole_joined.proofs.Joined.{Nodes, node_of}
+use Rattle.whole_joined.proofs.StartJoined.{all_fit, count_at_start}
+use Rattle.whole_joined.proofs.RunsJoined.{run_beside, start_world}
+use Rattle.run_headline.specs.Headline.{Subject, Headline, is_covered, packets_of, record_after, records_of}
+use Rattle.run_headline.specs.Law.{IsCompleted, done_in, lines, subject}
+use Rattle.run_headline.proofs.CoveredUnits.{uncovered}
+use Rattle.run_headline.proofs.UnitOutputs.{all_found, folds_same, mine, part, processed_all, tests_agree, unit_outputs}
+use Rattle.run_headline.proofs.UnitStates.{each_kept, kept_of, live_nth, live_of, none_live, one_live, sorted_kept, under_names}
+
+-- The nodes of a world: a switch, a controller, and instances.
+module _ {F R : Type 0} where
+  pub record AreNodes (nodes : List (Node F R)) (count : ℕ) : Type 0 where
+    pub instances : List (InstanceState F R)
+    pub many : length instances ≡ count
+    pub in_order : filter_map instance_in nodes ≡ instances
+    pub lives : (u : units.Unit) (i : ℕ) → live_in u (slice_get nodes (instance_node i)) ≡ live_nth u instances i
+
+  record AreInstances (rest : List (Node F R)) : Type 0 where
+    instances : List (InstanceState F R)
+    are : rest ≡ map Instance instances
+
+  instances_from : (g : ℕ → InstanceState F R) (rest : List (Node F R)) → ((k : ℕ) → k < length rest → (d : Node F R) → get_or rest k d ≡ Instance (g k))
+      → AreInstances rest
+  instances_from g [] each = record { instances = []; are = refl }
+  instances_from g (x ∷ rest) each =
+      let more = instances_from (λ k. g (suc k)) rest (λ k within d. each (suc k) (omega (arith, within)) d) in
+      record { instances = g 0 ∷ more.instances; are = ap (λ y. y ∷ rest) (each 0 (omega arith) x) ∙ ap (λ l. Instance (g 0) ∷ l) more.are }
+
+  picked : (is : List (InstanceState F R)) → filter_map instance_in (map Instance is) ≡ is
+  picked [] = refl
+  picked (i ∷ is) = ap (λ l. i ∷ l) (picked is)
+
+  lives_nth : (u : units.Unit) (is : List (InstanceState F R)) (k : ℕ) → live_in u (slice_get (map Instance is) k) ≡ live_nth u is k
+  lives_nth u [] k = refl
+  lives_nth u (i ∷ is) zero = refl
+  lives_nth u (i ∷ is) (suc k) = lives_nth u is k
+
+  pub nodes_from : (x : Nodes F R) (nodes : List (Node F R)) (count : ℕ) → length nodes ≡ count + 2 → ((k : ℕ) → k < count + 2 → (d : Node F R)
+      → get_or nodes k d ≡ node_of x k) → AreNodes nodes count
+  nodes_from x [] count long each = absurd (omega (arith, long))
+  nodes_from x (a ∷ []) count long each = absurd (omega (arith, long))
+  nodes_from x (a ∷ b ∷ rest) count long each =
+      let switch : a ≡ Switch x.switch = each 0 (omega arith) a in
+      let controller : b ≡ Controller x.controller = each 1 (omega arith) a in
+      let are = instances_from (λ k. x.instance (suc (suc k))) rest (λ k within d. each (suc (suc k)) (omega (arith, within, long)) d) in
+      let whole : a ∷ b ∷ rest ≡ Switch x.switch ∷ Controller x.controller ∷ map Instance are.instances = λ i. switch i ∷ controller i ∷ are.are i in
+      record {
+        instances = are.instances;
+        many = (let same = ap length are.are ∙ length-map are.instances _ in omega (arith, same, long));
+        in_order = ap (filter_map instance_in) whole ∙ picked are.instances;
+        lives = λ u i. (let node : instance_node i ≡ suc (suc i) = omega arith in
+            ap (λ l. live_in u (slice_get l (instance_node i))) whole
+            ∙ ap (λ k. live_in u (slice_get (Switch x.switch ∷ Controller x.controller ∷ map Instance are.instances) k)) node
+            ∙ lives_nth u are.instances i);
+      }
+
+-- What is printed of packets has each number as often as it was processed.
+dones_times : (n : ℕ) (log : List Note) → length (filter (λ d. d.0 == n) (filter_map done_in log)) ≡ times n (map (λ d. d.number) (done log))
+dones_times n [] = refl
+dones_times n (note.Processed number instance output ∷ log) = elim (number == n) as (λ b. (number == n) ≡ b
+    → length (cond b ((number, instance) ∷ filter (λ d. d.0 == n) (filter_map done_in log)) (filter (λ d. d.0 == n) (filter_map done_in log)))
+    ≡ (if n == number then 1 else 0) + times n (map (λ d. d.number) (done log))) [
+      | true ↦ λ is. (let turned : (n == number) ≡ true = grind (arith, nat_tests) in let rest = dones_times n log in rw turned (omega (arith, rest)))
+      | false ↦ λ is. (let turned : (n == number) ≡ false = grind (arith, nat_tests) in let rest = dones_times n log in rw turned (omega (arith, rest)))
+    ] refl
+dones_times n (note.Arrived number ∷ log) = dones_times n log
+dones_times n (note.Begun op ∷ log) = dones_times n log
+dones_times n (note.Exported op instance us ∷ log) = dones_times n log
+dones_times n (note.Imported op instance us ∷ log) = dones_times n log
+dones_times n (note.Kept op instance us ∷ log) = dones_times n log
+dones_times n (note.Installed op ∷ log) = dones_times n log
+dones_times n (note.Answered op answer ∷ log) = dones_times n log
+
+packet_times : (n : ℕ) (ps : List Packet) → length (filter (λ p. p.number == n) ps) ≡ times n (map (λ p. p.number) ps)
+packet_times n [] = refl
+packet_times n (p ∷ ps) = elim (p.number == n) as (λ b. (p.number == n) ≡ b
+    → length (cond b (p ∷ filter (λ q. q.number == n) ps) (filter (λ q. q.number == n) ps))
+    ≡ (if n == p.number then 1 else 0) + times n (map (λ q. q.number) ps)) [
+      | true ↦ λ is. (let turned : (n == p.number) ≡ true = grind (arith, nat_tests) in let rest = packet_times n ps in rw turned (omega (arith, rest)))
+      | false ↦ λ is. (let turned : (n == p.number) ≡ false = grind (arith, nat_tests) in let rest = packet_times n ps in rw turned (omega (arith, rest)))
+    ] refl
+
+no_more : (ns : List ℕ) → ((p : ℕ) → times p ns ≡ 0) → ns ≡ []
+no_more [] none = refl
+no_more (n ∷ ns) none = (let own : (n == n) ≡ true = grind (arith, nat_tests) in let here : (if n == n then 1 else 0) + times n ns ≡ 0 = none n in
+    let some : 1 + times n ns ≡ 0 = rw own at here in absurd (omega (arith, some)))
+
+-- there is a number
+abbrev has_some : List ℕ → Bool
+has_some [] = false
+has_some (n ∷ ns) = true
+
+nothing : {X : Type 0} (o : Option X) → ((x : X) → o ≡ Some x → ⊥) → o ≡ None
+nothing None h = refl
+nothing (Some x) h = absurd (h x refl)
+
+module _ {R : Type 0} (F : Type 0) (f : Semantics R) (laws : FunctionLaws f) (alloc : Global) (c : Config) (items : List Msg) (choices : List Choice) (is : IsCompleted F f alloc c items choices) where
+  abbrev first : Network (Node F R) Msg Note
+  first = started alloc c items
+
+  abbrev w : Network (Node F R) Msg Note
+  w = run (node_step f) choices first
+
+  abbrev of : Subject R
+  of = subject f c items
+
+  abbrev there : List (NamedInstance R)
+  there = named_instances c.names w.nodes
+
+  nodes : AreNodes w.nodes (length c.names)
+  nodes =
+      let joined = (run_beside F f laws alloc c items is.is_input choices is.is_run).joined in
+      let reached = run_world node_ready (node_step f) (length c.names + 2) first (start_world F f laws alloc c items is.is_input) (count_at_start F f alloc c items is.is_input) choices is.is_run in
+      nodes_from joined.nodes w.nodes (length c.names) reached.1 joined.nodes_are
+
+  module _ (u : units.Unit) where
+    abbrev went : List ℕ
+    went = folds.went f c items u w.log
+
+    abbrev mine_u : ℕ → Bool
+    mine_u = mine f c items u
+
+    abbrev part_u : Packet → Bool
+    part_u = part f c items u
+
+    abbrev kept : Option R
+    kept = folds.fold f c items None went
+
+    live_is : (i : ℕ) → live_at w i u ≡ live_nth u nodes.instances i
+    live_is i = nodes.lives u i
+
+    -- what is live of the unit is what one instance keeps of what was processed
+    live_kept : (o : Option R) → kept ≡ o → flat_map (live_of u) nodes.instances ≡ option_to_list o
+    live_kept None e = none_live u nodes.instances (λ k. nothing (live_nth u nodes.instances k) (λ s h.
+        let there = is.completed.records_are u k s (live_is k ∙ h) in
+        let wrong : None ≡ Some s = sym e ∙ there in cc))
+    live_kept (Some r) e =
+        let has = is.completed.has_record u r e in
+        one_live u nodes.instances has.0 r (sym (live_is has.0) ∙ has.1) (λ l s h. is.promises.one_record u l has.0 s r (live_is l ∙ h) has.1)
+
+    unsorted : kept_of u (flat_map (named_records true) there) ≡ option_to_list kept
+    unsorted =
+        each_kept u there ∙ ap (λ l. flat_map (λ i. option_to_list (finite.get i.table.live u)) (map instance_under (zip c.names l))) nodes.in_order
+        ∙ under_names u c.names nodes.instances nodes.many ∙ live_kept kept refl
+
+    at_most_one : (o : Option R) → length (option_to_list o) ≤ 1
+    at_most_one None = omega arith
+    at_most_one (Some r) = omega arith
+
+    records_kept : records_of of u (by_unit true there) ≡ option_to_list kept
+    records_kept =
+        let few = at_most_one kept in let same = ap length unsorted in
+        sorted_kept u (flat_map (named_records true) there) (omega (arith, few, same)) ∙ unsorted
+
+    -- a packet leaves a record
+    some_kept : (r : R) (ps : List ℕ) → length (option_to_list (folds.fold f c items (Some r) ps)) ≡ 1
+    some_kept r [] = refl
+    some_kept r (p ∷ ps) = rw ((all_fit f c items is.is_input p).transport) (some_kept (f.stepped c.site (Some r) (packet_numbered items p)).kept ps)
+
+    one_kept : (ps : List ℕ) → length (option_to_list (folds.fold f c items None ps)) ≡ (if has_some ps then 1 else 0)
+    one_kept [] = refl
+    one_kept (p ∷ ps) = rw ((all_fit f c items is.is_input p).transport) (some_kept (f.stepped c.site None (packet_numbered items p)).kept ps)
+
+    abbrev own : List Packet
+    own = packets_of of u
+
+    -- whether one of some packets is the unit's
+    any_own : (ps : List Packet) → AllByRecursion (λ p. mine_u p.number ≡ part_u p) ps
+        → has_some (those mine_u (map (λ p. p.number) ps)) ≡ list_any part_u ps
+    any_own [] all = refl
+    any_own (p ∷ ps) all = subst (λ b. has_some (cond b (p.number ∷ those mine_u (map (λ q. q.number) ps)) (those mine_u (map (λ q. q.number) ps)))
+        ≡ (part_u p || list_any part_u ps)) (sym all.0)
+        (elim (part_u p) as (λ b. has_some (cond b (p.number ∷ those mine_u (map (λ q. q.number) ps)) (those mine_u (map (λ q. q.number) ps)))
+        ≡ (b || list_any part_u ps)) [
+          | true ↦ refl
+          | false ↦ any_own ps all.1
+        ])
+
+    none_both : (xs ys : List ℕ) → ((p : ℕ) → times p xs ≡ times p ys) → has_some xs ≡ has_some ys
+    none_both [] ys same = ap has_some (sym (no_more ys (λ p. sym (same p))))
+    none_both (x ∷ xs) [] same = absurd (let none = no_more (x ∷ xs) same in let long = ap length none in omega (arith, long))
+    none_both (x ∷ xs) (y ∷ ys) same = refl
+
+    some_came : has_some went ≡ list_any part_u (packets items)
+    some_came =
+        none_both went (those mine_u (map (λ p. p.number) (packets items))) (λ p. is.completed.each_once u p
+        ∙ ap (λ l. times p (those mine_u l)) is.completed.all_came)
+        ∙ any_own (packets items) (tests_agree f c items u (packets items) (all_found 0 (packets items) is.is_input.numbers))
+
+    one_state : length (records_of of u (by_unit true there)) ≡ (if list_any part_u (packets items) then 1 else 0)
+    one_state = ap length records_kept ∙ one_kept went ∙ ap (λ b. if b then 1 else 0) some_came
+
+    module _ (off : is_covered of (by_number answer_in w.log) u ≡ false) where
+      in_turn : is_loose c items u w.log ≡ false
+      in_turn = uncovered f c items w.log is.promises.answers is.answers u off
+
+      record_is : records_of of u (by_unit true there) ≡ option_to_list (record_after of own)
+      record_is = records_kept ∙ ap option_to_list (ap (folds.fold f c items None) (processed_all f c items is.is_input w is.promises is.completed u in_turn)
+          ∙ folds_same f c items u None (packets items) (all_found 0 (packets items) is.is_input.numbers))
+
+  pub headline : Headline of (lines f c items w)
+  headline = record {
+    outs = is.outs;
+    dones = λ n. dones_times n w.log ∙ all_done f c items w.log is.completed.each_once n ∙ ap (times n) is.completed.all_came
+        ∙ sym (packet_times n (packets items));
+    answers = is.answers;
+    one_state = one_state;
+    outputs = λ u off. unit_outputs f c items is.is_input w is.promises is.completed u (in_turn u off) is.outs;
+    record_is = record_is;
+  }

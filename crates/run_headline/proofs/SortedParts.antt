@@ -1,0 +1,80 @@
+-- A part of a sorted list: what stood in order stands as it was, and what stood alone.
+use Rattle.std.proofs.Common.{◌≡◌, ℕ, suc, ◌<◌, ◌≤◌, Bool, true, false, cond, List, [], ◌∷◌, length, map, refl, sym, ap, ◌∙◌, arith}
+use Rattle.std.specs.Prelude.{nat_le, filter}
+use Rattle.std.specs.Ordering.{nat_cmp}
+use Rattle.std.specs.declared.cmp.Ordering.{Ordering}
+use Rattle.std.specs.List.{AllByRecursion}
+use Rattle.std.specs.List.Sorted.{ties}
+use Rattle.std.specs.Cmp.{IsTotalOrder, IsStrictWeakOrder}
+use Rattle.std.proofs.lemmas.List.Sorted.{ranks_by}
+use Rattle.net_world.specs.Input.{IsRising}
+use Rattle.report_lines.specs.Sorting.{sorted_by}
+use Rattle.report_lines.proofs.SortLemmas.{IsUp, less, one_sort, up_sort, same_sort}
+use Rattle.report_lines.proofs.SortedAlready.{not_less}
+
+-- two tests, one after the other or the other way round
+module _ {X : Type 0} (p q : X → Bool) where
+  both_ways : (a b : Bool) (x : X) (us vs : List X) → us ≡ vs → cond b (cond a (x ∷ us) us) us ≡ cond a (cond b (x ∷ vs) vs) vs
+  both_ways true true x us vs same = ap (λ l. x ∷ l) same
+  both_ways true false x us vs same = same
+  both_ways false true x us vs same = same
+  both_ways false false x us vs same = same
+
+  filter_first : (x : X) (b : Bool) (l : List X) → filter p (cond b (x ∷ l) l) ≡ cond b (cond (p x) (x ∷ filter p l) (filter p l)) (filter p l)
+  filter_first x true l = refl
+  filter_first x false l = refl
+
+module _ {X : Type 0} where
+  pub filters_commute : (p q : X → Bool) (xs : List X) → filter p (filter q xs) ≡ filter q (filter p xs)
+  filters_commute p q [] = refl
+  filters_commute p q (x ∷ xs) =
+      filter_first p q x (q x) (filter q xs) ∙ both_ways p q (p x) (q x) x (filter p (filter q xs)) (filter q (filter p xs)) (filters_commute p q xs)
+      ∙ sym (filter_first q p x (p x) (filter p xs))
+
+  all_filter : (P : X → Type 0) (q : X → Bool) (xs : List X) → AllByRecursion P xs → AllByRecursion P (filter q xs)
+  all_filter P q [] all = tt
+  all_filter P q (x ∷ xs) all = elim (q x) as (λ b. AllByRecursion P (cond b (x ∷ filter q xs) (filter q xs))) [
+    | true ↦ (all.0, all_filter P q xs all.1)
+    | false ↦ all_filter P q xs all.1
+  ]
+
+  up_filter : (lt : X → X → Bool) (q : X → Bool) (xs : List X) → IsUp lt xs → IsUp lt (filter q xs)
+  up_filter lt q [] up = tt
+  up_filter lt q (x ∷ xs) up = elim (q x) as (λ b. IsUp lt (cond b (x ∷ filter q xs) (filter q xs))) [
+    | true ↦ (all_filter (λ w. lt w x ≡ false) q xs up.0, up_filter lt q xs up.1)
+    | false ↦ up_filter lt q xs up.1
+  ]
+
+module _ {X K : Type 0} (key : X → K) (cmp : K → K → Ordering) (total : IsTotalOrder cmp) where
+  order : IsStrictWeakOrder (less key cmp)
+  order = ranks_by total key
+
+  -- a part that stands in order is found as it was
+  pub part_stays : (q : X → Bool) (xs : List X) → IsUp (less key cmp) (filter q xs) → filter q (sorted_by key cmp xs) ≡ filter q xs
+  part_stays q xs up =
+      one_sort (less key cmp) order (filter q (sorted_by key cmp xs)) (filter q xs) (up_filter (less key cmp) q (sorted_by key cmp xs) (up_sort key cmp order xs)) up
+      (λ z. filters_commute (ties (less key cmp) z) q (sorted_by key cmp xs) ∙ ap (filter q) (same_sort key cmp order z xs)
+      ∙ sym (filters_commute (ties (less key cmp) z) q xs))
+
+  -- and so is a part of one item
+  up_alone : (xs : List X) → length xs ≤ 1 → IsUp (less key cmp) xs
+  up_alone [] few = tt
+  up_alone (x ∷ []) few = (tt, tt)
+  up_alone (x ∷ y ∷ xs) few = absurd (omega (arith, few))
+
+  pub one_stays : (q : X → Bool) (xs : List X) → length (filter q xs) ≤ 1 → filter q (sorted_by key cmp xs) ≡ filter q xs
+  one_stays q xs few = part_stays q xs (up_alone (filter q xs) few)
+
+-- numbers that rise stand in order
+module _ {X : Type 0} where
+  no_less : (least : ℕ) (x : ℕ × X) (xs : List (ℕ × X)) → x.0 < least → IsRising least (map (λ y. y.0) xs)
+      → AllByRecursion (λ w. less (λ y. y.0) nat_cmp w x ≡ false) xs
+  no_less least x [] low rising = tt
+  no_less least x (y ∷ xs) low rising =
+      let first = rising.0 in
+      let le : nat_le x.0 y.0 ≡ true = grind (arith, low, first) in
+      (not_less x.0 y.0 le, no_less (suc y.0) x xs (omega (arith, low, first)) rising.1)
+
+  pub up_rising : (least : ℕ) (xs : List (ℕ × X)) → IsRising least (map (λ y. y.0) xs) → IsUp (less (λ y. y.0) nat_cmp) xs
+  up_rising least [] rising = tt
+  up_rising least (x ∷ xs) rising = (no_less (suc x.0) x xs (omega arith) rising.1, up_rising (suc x.0) xs rising.1)

@@ -1,0 +1,183 @@
+-- The outputs of a unit that no plain move handed on, as they stand among all outputs sorted by the packets' numbers.
+use Rattle.std.proofs.Common.{◌≡◌, ℕ, suc, ◌≤◌, ◌<◌, Bool, true, false, cond, Option, Some, None, List, [], ◌∷◌, map, refl, sym, ap, ◌∙◌, subst, arith}
+use Rattle.std.specs.Prelude.{◌==◌, filter, filter_map, find, fold, scan, zip, unwrap_or}
+use Rattle.std.specs.List.{AllByRecursion}
+use Rattle.std.proofs.lemmas.Bool.Decides.{nat_tests}
+use Rattle.flow_filter.specs.declared.packet.Packet.{Packet}
+use Rattle.nf_function.specs.declared.output.Output.{Output}
+use Rattle.nf_function.specs.declared.unit.Unit as units
+use Rattle.nf_function.specs.Semantics.{Semantics, kept_after, output_for}
+use Rattle.nf_msgs.specs.declared.msg.Msg.{Msg}
+use Rattle.nf_msgs.specs.declared.note.Note.{Note}
+use Rattle.nf_msgs.specs.declared.note.Note.TheVariants as note
+use Rattle.nf_msgs.specs.Nodes.{instance_node}
+use Rattle.actor_net.specs.Network.{Network}
+use Rattle.net_world.specs.declared.config.Config.{Config}
+use Rattle.net_world.specs.declared.node.Node.{Node}
+use Rattle.net_world.specs.Fold as folds
+use Rattle.net_world.specs.Input.{IsInput, IsRising, no_packet, packet_numbered, packets}
+use Rattle.net_world.specs.Log.{done, done_of, those}
+use Rattle.net_world.specs.Places.{is_loose}
+use Rattle.nf_net.specs.Promises.{Promises, Completed}
+use Rattle.report_lines.specs.Lines.{by_number, output_in}
+use Rattle.run_headline.specs.Headline.{outs_of, outputs_to, packets_of, is_of}
+use Rattle.run_headline.specs.Law.{subject}
+use Rattle.run_headline.proofs.SortedParts.{part_stays, up_rising}
+use Rattle.std.proofs.lemmas.Cmp.{nat_cmp_total}
+
+abbrev Outs : Type 0
+Outs = List (ℕ × Output)
+
+-- the outputs that pass a test, as they were noted
+module _ (mine : ℕ → Bool) where
+  abbrev mine_of : Outs → Outs
+  mine_of outs = filter (λ o. mine o.0) outs
+
+  pub numbers_noted : (log : List Note) → map (λ o. o.0) (mine_of (filter_map output_in log)) ≡ map (λ d. d.number) (done_of mine (done log))
+  numbers_noted [] = refl
+  numbers_noted (note.Processed number instance output ∷ log) = elim (mine number) as (λ b.
+      map (λ o. o.0) (cond b ((number, output) ∷ mine_of (filter_map output_in log)) (mine_of (filter_map output_in log)))
+      ≡ map (λ d. d.number) (cond b (record { number = number; node = instance_node instance; output = output } ∷ done_of mine (done log)) (done_of mine (done log)))) [
+        | true ↦ ap (λ l. number ∷ l) (numbers_noted log)
+        | false ↦ numbers_noted log
+      ]
+  numbers_noted (note.Arrived number ∷ log) = numbers_noted log
+  numbers_noted (note.Begun op ∷ log) = numbers_noted log
+  numbers_noted (note.Exported op instance us ∷ log) = numbers_noted log
+  numbers_noted (note.Imported op instance us ∷ log) = numbers_noted log
+  numbers_noted (note.Kept op instance us ∷ log) = numbers_noted log
+  numbers_noted (note.Installed op ∷ log) = numbers_noted log
+  numbers_noted (note.Answered op answer ∷ log) = numbers_noted log
+
+  pub outputs_noted : (log : List Note) → map (λ o. o.1) (mine_of (filter_map output_in log)) ≡ map (λ d. d.output) (done_of mine (done log))
+  outputs_noted [] = refl
+  outputs_noted (note.Processed number instance output ∷ log) = elim (mine number) as (λ b.
+      map (λ o. o.1) (cond b ((number, output) ∷ mine_of (filter_map output_in log)) (mine_of (filter_map output_in log)))
+      ≡ map (λ d. d.output) (cond b (record { number = number; node = instance_node instance; output = output } ∷ done_of mine (done log)) (done_of mine (done log)))) [
+        | true ↦ ap (λ l. output ∷ l) (outputs_noted log)
+        | false ↦ outputs_noted log
+      ]
+  outputs_noted (note.Arrived number ∷ log) = outputs_noted log
+  outputs_noted (note.Begun op ∷ log) = outputs_noted log
+  outputs_noted (note.Exported op instance us ∷ log) = outputs_noted log
+  outputs_noted (note.Imported op instance us ∷ log) = outputs_noted log
+  outputs_noted (note.Kept op instance us ∷ log) = outputs_noted log
+  outputs_noted (note.Installed op ∷ log) = outputs_noted log
+  outputs_noted (note.Answered op answer ∷ log) = outputs_noted log
+
+  -- some of rising numbers rise
+  rising_from : (low least : ℕ) (ns : List ℕ) → low ≤ least → IsRising least ns → IsRising low ns
+  rising_from low least [] le rising = tt
+  rising_from low least (n ∷ ns) le rising = (let first = rising.0 in omega (arith, le, first), rising.1)
+
+  pub some_rise : (least : ℕ) (ns : List ℕ) → IsRising least ns → IsRising least (those mine ns)
+  some_rise least [] rising = tt
+  some_rise least (n ∷ ns) rising = elim (mine n) as (λ b. IsRising least (cond b (n ∷ those mine ns) (those mine ns))) [
+    | true ↦ (rising.0, some_rise (suc n) ns rising.1)
+    | false ↦ rising_from least (suc n) (those mine ns) (let first = rising.0 in omega (arith, first)) (some_rise (suc n) ns rising.1)
+  ]
+
+  -- the outputs beside the packets that pass the test
+  pub beside : (part : Packet → Bool) (ps : List Packet) (outs : Outs) → map (λ o. o.0) outs ≡ map (λ p. p.number) ps
+      → AllByRecursion (λ p. mine p.number ≡ part p) ps → map (λ x. x.1.1) (filter (λ x. part x.0) (zip ps outs)) ≡ map (λ o. o.1) (mine_of outs)
+  beside part [] [] same all = refl
+  beside part [] (o ∷ outs) same all = cc
+  beside part (p ∷ ps) [] same all = cc
+  beside part (p ∷ ps) (o ∷ outs) same all =
+      let number : o.0 ≡ p.number = cc in
+      let rest : map (λ x. x.0) outs ≡ map (λ q. q.number) ps = cc in
+      let more = beside part ps outs rest all.1 in
+      let passes : mine o.0 ≡ part p = ap mine number ∙ all.0 in
+      subst (λ b. map (λ x. x.1.1) (cond (part p) ((p, o) ∷ filter (λ x. part x.0) (zip ps outs)) (filter (λ x. part x.0) (zip ps outs)))
+      ≡ map (λ x. x.1) (cond b (o ∷ mine_of outs) (mine_of outs))) (sym passes)
+      (elim (part p) as (λ b. map (λ x. x.1.1) (cond b ((p, o) ∷ filter (λ x. part x.0) (zip ps outs)) (filter (λ x. part x.0) (zip ps outs)))
+      ≡ map (λ x. x.1) (cond b (o ∷ mine_of outs) (mine_of outs))) [
+        | true ↦ ap (λ l. o.1 ∷ l) more
+        | false ↦ more
+      ])
+
+-- each packet is found by its number
+find_past : (n least : ℕ) (ps : List Packet) (p : Packet) → p.number < n → find (λ q. q.number == n) (p ∷ ps) ≡ find (λ q. q.number == n) ps
+find_past n least ps p low = let off : (p.number == n) ≡ false = grind (arith, nat_tests, low) in rw off refl
+
+all_past : (p : Packet) (least : ℕ) (ps qs : List Packet) → p.number < least → IsRising least (map (λ q. q.number) qs)
+    → AllByRecursion (λ q. find (λ r. r.number == q.number) ps ≡ Some q) qs → AllByRecursion (λ q. find (λ r. r.number == q.number) (p ∷ ps) ≡ Some q) qs
+all_past p least ps [] low rising all = tt
+all_past p least ps (q ∷ qs) low rising all =
+    let first = rising.0 in
+    let less : p.number < q.number = omega (arith, low, first) in
+    (find_past q.number least ps p less ∙ all.0, all_past p (suc q.number) ps qs (omega (arith, less)) rising.1 all.1)
+
+pub all_found : (least : ℕ) (ps : List Packet) → IsRising least (map (λ p. p.number) ps) → AllByRecursion (λ p. find (λ q. q.number == p.number) ps ≡ Some p) ps
+all_found least [] rising = tt
+all_found least (p ∷ ps) rising =
+    let own : (p.number == p.number) ≡ true = grind (arith, nat_tests) in
+    (rw own refl, all_past p (suc p.number) ps ps (omega arith) rising.1 (all_found (suc p.number) ps rising.1))
+
+module _ {R : Type 0} (f : Semantics R) (c : Config) (items : List Msg) (u : units.Unit) where
+  abbrev pub mine : ℕ → Bool
+  mine = folds.is_of f c items u
+
+  abbrev pub part : Packet → Bool
+  part = is_of (subject f c items) u
+
+  abbrev pub IsThere : Packet → Type 0
+  IsThere p = find (λ q. q.number == p.number) (packets items) ≡ Some p
+
+  numbered : (p : Packet) → IsThere p → packet_numbered items p.number ≡ p
+  numbered p there = ap (λ o. unwrap_or o no_packet) there
+
+  pub tests_agree : (ps : List Packet) → AllByRecursion IsThere ps → AllByRecursion (λ p. mine p.number ≡ part p) ps
+  tests_agree [] all = tt
+  tests_agree (p ∷ ps) all = (ap part (numbered p all.0), tests_agree ps all.1)
+
+  -- one instance is given numbers, or packets
+  pub outputs_same : (kept : Option R) (ps : List Packet) → AllByRecursion IsThere ps
+      → folds.outputs f c items kept (those mine (map (λ p. p.number) ps)) ≡ scan (kept_after f c.site) (output_for f c.site) kept (filter part ps)
+  outputs_same kept [] all = refl
+  outputs_same kept (p ∷ ps) all =
+      let is : packet_numbered items p.number ≡ p = numbered p all.0 in
+      subst (λ (q : Packet). folds.outputs f c items kept (cond (part q) (p.number ∷ those mine (map (λ r. r.number) ps)) (those mine (map (λ r. r.number) ps)))
+      ≡ scan (kept_after f c.site) (output_for f c.site) kept (cond (part p) (p ∷ filter part ps) (filter part ps))) (sym is)
+      (elim (part p) as (λ b. folds.outputs f c items kept (cond b (p.number ∷ those mine (map (λ r. r.number) ps)) (those mine (map (λ r. r.number) ps)))
+      ≡ scan (kept_after f c.site) (output_for f c.site) kept (cond b (p ∷ filter part ps) (filter part ps))) [
+        | true ↦ subst (λ (q : Packet). output_for f c.site kept q ∷ folds.outputs f c items (kept_after f c.site kept q) (those mine (map (λ r. r.number) ps))
+            ≡ output_for f c.site kept p ∷ scan (kept_after f c.site) (output_for f c.site) (kept_after f c.site kept p) (filter part ps)) (sym is)
+            (ap (λ l. output_for f c.site kept p ∷ l) (outputs_same (kept_after f c.site kept p) ps all.1))
+        | false ↦ outputs_same kept ps all.1
+      ])
+
+  pub folds_same : (kept : Option R) (ps : List Packet) → AllByRecursion IsThere ps
+      → folds.fold f c items kept (those mine (map (λ p. p.number) ps)) ≡ fold (kept_after f c.site) kept (filter part ps)
+  folds_same kept [] all = refl
+  folds_same kept (p ∷ ps) all =
+      let is : packet_numbered items p.number ≡ p = numbered p all.0 in
+      subst (λ (q : Packet). folds.fold f c items kept (cond (part q) (p.number ∷ those mine (map (λ r. r.number) ps)) (those mine (map (λ r. r.number) ps)))
+      ≡ fold (kept_after f c.site) kept (cond (part p) (p ∷ filter part ps) (filter part ps))) (sym is)
+      (elim (part p) as (λ b. folds.fold f c items kept (cond b (p.number ∷ those mine (map (λ r. r.number) ps)) (those mine (map (λ r. r.number) ps)))
+      ≡ fold (kept_after f c.site) kept (cond b (p ∷ filter part ps) (filter part ps))) [
+        | true ↦ subst (λ (q : Packet). folds.fold f c items (kept_after f c.site kept q) (those mine (map (λ r. r.number) ps))
+            ≡ fold (kept_after f c.site) (kept_after f c.site kept p) (filter part ps)) (sym is) (folds_same (kept_after f c.site kept p) ps all.1)
+        | false ↦ folds_same kept ps all.1
+      ])
+
+module _ {F R : Type 0} (f : Semantics R) (c : Config) (items : List Msg) (is : IsInput f.kind c items) (w : Network (Node F R) Msg Note)
+    (promises : Promises f c items w) (completed : Completed f c items w) (u : units.Unit) (loose : is_loose c items u w.log ≡ false) where
+  all_there : AllByRecursion (IsThere f c items u) (packets items)
+  all_there = all_found 0 (packets items) is.numbers
+
+  -- what was processed of the unit is all its packets, in their order
+  pub processed_all : folds.went f c items u w.log ≡ those (mine f c items u) (map (λ p. p.number) (packets items))
+  processed_all = completed.all_went u loose ∙ ap (those (mine f c items u)) completed.all_came
+
+  up : IsRising 0 (map (λ o. o.0) (mine_of (mine f c items u) (filter_map output_in w.log)))
+  up = subst (IsRising 0) (sym (numbers_noted (mine f c items u) w.log
+      ∙ processed_all)) (some_rise (mine f c items u) 0 (map (λ p. p.number) (packets items)) is.numbers)
+
+  pub unit_outputs : map (λ x. x.0) (by_number output_in w.log) ≡ map (λ p. p.number) (packets items)
+      → outs_of (subject f c items) u (by_number output_in w.log) ≡ outputs_to (subject f c items) (packets_of (subject f c items) u)
+  unit_outputs numbers =
+      beside (mine f c items u) (part f c items u) (packets items) (by_number output_in w.log) numbers (tests_agree f c items u (packets items) all_there)
+      ∙ ap (map (λ o. o.1)) (part_stays (λ o. o.0) _ nat_cmp_total (λ o. mine f c items u o.0) (filter_map output_in w.log) (up_rising 0 _ up))
+      ∙ outputs_noted (mine f c items u) w.log ∙ promises.outputs_are u ∙ ap (folds.outputs f c items None) processed_all
+      ∙ outputs_same f c items u None (packets items) all_there
