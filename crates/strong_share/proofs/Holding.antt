@@ -56,6 +56,7 @@ module _ (job : StrongJob) where
     pub members : s.members ≡ job.members
     pub cells : s.pool.cells ≡ job.window
     pub name : s.pool.name ≡ 0
+    pub balanced : s.flying + s.pool.home ≡ s.pool.cells
 
   -- a packet that was queued was raised by the member to which the switch gave it
   abbrev pub IsRight : ℕ × ℕ → Type 0

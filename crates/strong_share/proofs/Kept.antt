@@ -24,10 +24,10 @@ use Rattle.strong_share.specs.declared.note.StrongNote.{StrongNote}
 use Rattle.strong_share.specs.declared.serving.Serving.{Serving}
 use Rattle.strong_share.specs.declared.serving.Serving.TheVariants.{Idle, Out, Syncing}
 use Rattle.strong_share.specs.declared.node.StrongNode.{StrongNode}
-use Rattle.strong_share.specs.declared.node.StrongNode.TheVariants.{Ctrl as Controller, Instance}
-use Rattle.strong_share.specs.Tables.{node_ended, is_home, is_idle, all_stopped}
+use Rattle.strong_share.specs.declared.node.StrongNode.TheVariants.{Switch, Ctrl as Controller, Instance}
+use Rattle.strong_share.specs.Tables.{node_ended, has_closed, is_home, is_idle, all_stopped}
 use Rattle.strong_share.specs.Start.{StrongJob, IsStrongJob, numbers_of}
-use Rattle.strong_share.specs.Words.{entries, queue_order, events_of, arrived, done_numbers, is_taken, member_of, is_taken_at, is_of, fold, numbers_in, processed_of, queue_of, live_at, standby_at, live_in, standby_in, outputs, outputs_of}
+use Rattle.strong_share.specs.Words.{entries, queue_order, events_of, arrived, done_numbers, is_taken, member_of, is_taken_at, is_of, fold, numbers_in, processed_of, queue_of, live_at, standby_at, live_in, standby_in, home_in, cells_at_home, outputs, outputs_of}
 use Rattle.strong_share.specs.Promises.{StrongPromises, StrongCompleted}
 use Rattle.strong_share.proofs.Lists.{filter_among, times-append, times_filter, filter_few}
 use Rattle.strong_share.proofs.Folds.{seen, unit_taken, AreNumberedFrom, numbered_from}
@@ -294,6 +294,24 @@ module _ {R : Type 0} (f : Semantics R) (laws : Laws f) (job : StrongJob) (job_i
           (own_is u k k_in ∙ ap (λ b. if b then fold f job None (processed_of f job u x.log) else (if k == 0 then fold f job None (processed_of f job u x.log)
           else None)) on) (rest.other k k_in u)
 
+      -- the switch has closed: no cell is out
+      closed : has_closed x.switch ≡ true
+      closed =
+          let count = shows.count in
+          sym (ap node_ended (shows.switch (Switch x.switch))) ∙ done_node node_ended w done 0 (Switch x.switch) (omega (arith, count))
+
+      home_is : x.switch.pool.home ≡ job.window
+      home_is =
+          let none : x.switch.flying ≡ 0 = (Decides-eqb x.switch.flying 0).0 (and_parts x.switch.closed (x.switch.flying == 0) closed).1 in
+          let all = h.labelled.switch.balanced in
+          let cells = h.labelled.switch.cells in
+          omega (arith, none, all, cells)
+
+      all_home : cells_at_home w ≡ Some job.window
+      all_home =
+          let count = shows.count in
+          ap home_in (slice_get-get_or w.nodes 0 (Switch x.switch) (omega (arith, count)) ∙ ap Some (shows.switch (Switch x.switch))) ∙ ap Some home_is
+
       pub completed : StrongCompleted f job w
       completed = record {
         all_came = subst (λ l. arrived l ≡ numbers_of job) (sym shows.log) all_came;
@@ -306,4 +324,5 @@ module _ {R : Type 0} (f : Semantics R) (laws : Laws f) (job : StrongJob) (job_i
             subst (λ l. (u : units.Unit) (k : ℕ) → k < job.members → takes job.filter u ≡ true
             → standby_at w k u ≡ (if k == 0 then None else fold f job None (processed_of f job u l))) (sym shows.log) standby_is;
         raised_all = subst (λ l. (k : ℕ) → k < job.members → events_of k l ≡ filter (is_taken_at job k) (numbers_of job)) (sym shows.log) raised_all;
+        all_home = all_home;
       }

@@ -110,7 +110,7 @@ module _ (F : Type 0) {R : Type 0} (f : Semantics R) (laws : Laws f) (alloc : Gl
       out = λ k _. tt;
       back = λ k _. tt;
       home = λ k _. tt;
-      switch = record { filter = refl; site = refl; members = refl; cells = refl; name = refl };
+      switch = record { filter = refl; site = refl; members = refl; cells = refl; name = refl; balanced = omega arith };
       members = refl;
       member = λ k _. record { rules = refl; site = refl; index = refl };
     };

@@ -88,7 +88,7 @@ module _ {F R : Type 0} (f : Semantics R) (laws : Laws f) (job : StrongJob) (job
       let room : takes_in x.switch (InPacket p) ≡ true = ap (takes_in x.switch) (sym e) ∙ on in
       subst (λ z. Holds f job (switch_did (record x { input = rest }) (switch_step x.switch z))) (sym e)
       (subst (λ did. Holds f job (switch_did (record x { input = rest }) did)) (sym (arrives_is f job x p h.labelled.switch label room))
-      (subst (Holds f job) (sym (came_is f job x rest p)) (came_holds f job x p rest h first)))
+      (subst (Holds f job) (sym (came_is f job x rest p)) (came_holds f job x p rest h room first)))
   input_kept m rest is on (An_end e) =
       subst (λ z. Holds f job (switch_did (record x { input = rest }) (switch_step x.switch z))) (sym e)
       (subst (Holds f job) (sym (ended_is f job x rest)) (ended_holds f job x rest h (is ∙ ap (λ z. z ∷ rest) e)))

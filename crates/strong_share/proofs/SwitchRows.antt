@@ -1,6 +1,8 @@
 -- The rows of the switch keep what every scene of a run keeps.
 use Rattle.std.proofs.Common.{◌≡◌, ℕ, ◌+◌, ◌-◌, ◌%◌, ◌<◌, Bool, true, false, List, [], ◌∷◌, ◌++◌, map, refl, sym, ap, subst, ◌∙◌, append_assoc, append-nil, arith}
 use Rattle.std.specs.Prelude.{if◌then◌else◌, ◌==◌, ◌&&◌, ◌||◌, not, filter, flat_map}
+use Rattle.std.proofs.lemmas.Bool.{or_parts}
+use Rattle.std.proofs.lemmas.Bool.Decides.{nat_tests, Decides-ltb}
 use Rattle.std.proofs.lemmas.List.Concat.{flat_map-append}
 use Rattle.std.proofs.lemmas.List.Elements.{filter-append}
 use Rattle.flow_filter.specs.declared.packet.Packet.{Packet}
@@ -96,8 +98,9 @@ module _ {F R : Type 0} (f : Semantics R) (job : StrongJob) where
       up = ap (λ b. x.up ++ ((if b then Carry mark.Plain (record { pool = 0; packet = p }) ∷ [] else []) ++ [])) (two_one (member_of job p.number))
           ∙ append-nil x.up
 
-  pub came_holds : (x : Scene F R) (p : Packet) (rest : List Msg) → Holds f job x → x.input ≡ InPacket p ∷ rest → Holds f job (came x rest p)
-  came_holds x p rest h is = record {
+  pub came_holds : (x : Scene F R) (p : Packet) (rest : List Msg) → Holds f job x → has_room x.switch ≡ true → x.input ≡ InPacket p ∷ rest
+      → Holds f job (came x rest p)
+  came_holds x p rest h room is = record {
     labelled = record {
       input = label.1;
       up = h.labelled.up;
@@ -106,7 +109,14 @@ module _ {F R : Type 0} (f : Semantics R) (job : StrongJob) where
           ((record { same = label.0; pool = refl }, refl), tt);
       back = h.labelled.back;
       home = h.labelled.home;
-      switch = let s = h.labelled.switch in record { filter = s.filter; site = s.site; members = s.members; cells = s.cells; name = s.name };
+      switch = let s = h.labelled.switch in record {
+        filter = s.filter;
+        site = s.site;
+        members = s.members;
+        cells = s.cells;
+        name = s.name;
+        balanced = let was = s.balanced in let less = (Decides-ltb x.switch.flying x.switch.pool.cells).0 room in omega (arith, was, less);
+      };
       members = h.labelled.members;
       member = h.labelled.member;
     };
@@ -260,7 +270,8 @@ module _ {F R : Type 0} (f : Semantics R) (job : StrongJob) where
           (h.labelled.out k k_in) (tt, tt));
       back = h.labelled.back;
       home = h.labelled.home;
-      switch = let s = h.labelled.switch in record { filter = s.filter; site = s.site; members = s.members; cells = s.cells; name = s.name };
+      switch = let s = h.labelled.switch in
+          record { filter = s.filter; site = s.site; members = s.members; cells = s.cells; name = s.name; balanced = s.balanced };
       members = h.labelled.members;
       member = h.labelled.member;
     };
@@ -311,14 +322,21 @@ module _ {F R : Type 0} (f : Semantics R) (job : StrongJob) where
   credit_notes x c true = refl
   credit_notes x c false = refl
 
-  credit_switch : (x : Scene F R) (c : FullCell) (b : Bool) → IsSwitch job x.switch
+  credit_switch : (x : Scene F R) (c : FullCell) (b : Bool) → (b ≡ false → (x.switch.flying == 0) ≡ false) → IsSwitch job x.switch
       → IsSwitch job (if b then switch_still x.switch else record {
         node = record x.switch { pool = one_more x.switch.pool; flying = x.switch.flying - 1 };
         sends = [];
         notes = [];
       }).node
-  credit_switch x c true s = s
-  credit_switch x c false s = record { filter = s.filter; site = s.site; members = s.members; cells = s.cells; name = s.name }
+  credit_switch x c true some s = s
+  credit_switch x c false some s = record {
+    filter = s.filter;
+    site = s.site;
+    members = s.members;
+    cells = s.cells;
+    name = s.name;
+    balanced = let off = some refl in let out : 0 < x.switch.flying = grind (arith, nat_tests, off) in let was = s.balanced in omega (arith, was, out);
+  }
 
   credit_closed : (x : Scene F R) (c : FullCell) (b : Bool) → (if b then switch_still x.switch else record
       { node = record x.switch { pool = one_more x.switch.pool; flying = x.switch.flying - 1 }; sends = []; notes = [] }).node.closed ≡ x.switch.closed
@@ -357,7 +375,7 @@ module _ {F R : Type 0} (f : Semantics R) (job : StrongJob) where
       out = h.labelled.out;
       back = h.labelled.back;
       home = each_taken (λ k. home_label job) job.members x.home j (Credit c) rest j_in is h.labelled.home;
-      switch = credit_switch x c stays h.labelled.switch;
+      switch = credit_switch x c stays (λ off. (or_parts (x.switch.flying == 0) (not (c.pool == x.switch.pool.name)) off).0) h.labelled.switch;
       members = h.labelled.members;
       member = h.labelled.member;
     };

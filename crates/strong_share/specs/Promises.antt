@@ -1,6 +1,6 @@
 -- What every run of strong sharing keeps, complete or not. That the start and each step are as the tables say stands on `start`, `StrongNode` and
 -- `run_strong`. This project's own.
-use Rattle.std.specs.Prelude.{◌≡◌, ◌≤◌, ◌<◌, ℕ, true, false, ◌==◌, if◌then◌else◌, List, length, filter, None}
+use Rattle.std.specs.Prelude.{◌≡◌, ◌≤◌, ◌<◌, ℕ, true, false, ◌==◌, if◌then◌else◌, List, length, filter, Some, None}
 use Rattle.nf_function.specs.declared.unit.Unit as units
 use Rattle.nf_function.specs.Units.{takes}
 use Rattle.nf_function.specs.Semantics.{Semantics}
@@ -12,7 +12,7 @@ use Rattle.strong_share.specs.declared.note.StrongNote.{StrongNote}
 use Rattle.strong_share.specs.declared.node.StrongNode.{StrongNode}
 use Rattle.strong_share.specs.Tables.{node_ready, node_ended}
 use Rattle.strong_share.specs.Start.{StrongJob, numbers_of}
-use Rattle.strong_share.specs.Words.{events_of, arrived, done_numbers, is_taken_at, fold, outputs, numbers_in, processed_of, queue_of, outputs_of, live_at, standby_at, most_choices}
+use Rattle.strong_share.specs.Words.{events_of, arrived, done_numbers, is_taken_at, fold, outputs, numbers_in, processed_of, queue_of, outputs_of, live_at, standby_at, cells_at_home, most_choices}
 
 module _ {R : Type 0} (f : Semantics R) (job : StrongJob) where
   -- what every run keeps
@@ -46,6 +46,8 @@ module _ {R : Type 0} (f : Semantics R) (job : StrongJob) where
         → standby_at w k unit ≡ (if k == 0 then None else fold f job None (processed_of f job unit w.log))
     -- each member raised all that the switch gave it
     pub raised_all : (k : ℕ) → k < job.members → events_of k w.log ≡ filter (is_taken_at job k) (numbers_of job)
+    -- all cells of the pool are home
+    pub all_home : cells_at_home w ≡ Some job.window
 
 -- a run has at most so many choices, and a world that isn't complete has an enabled one
 pub record StrongEnds (job : StrongJob) {F R : Type 0} (choices : List Choice) (w : Network (StrongNode F R) Msg StrongNote) : Type 0 where

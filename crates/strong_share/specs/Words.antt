@@ -12,14 +12,14 @@ use Rattle.nf_function.specs.Semantics.{Semantics, unit_at, kept_after, output_f
 use Rattle.record_table.specs.Table.{same_unit}
 use Rattle.nf_msgs.specs.declared.msg.Msg.{Msg}
 use Rattle.nf_msgs.specs.declared.note.Note.{Note}
-use Rattle.nf_msgs.specs.Nodes.{instance_node}
+use Rattle.nf_msgs.specs.Nodes.{switch_node, instance_node}
 use Rattle.actor_net.specs.Network.{Network}
 use Rattle.net_world.specs.Input.{no_packet}
 use Rattle.net_world.specs.Log as log
 use Rattle.strong_share.specs.declared.note.StrongNote.{StrongNote}
 use Rattle.strong_share.specs.declared.note.StrongNote.TheVariants.{Inner, Queued}
 use Rattle.strong_share.specs.declared.node.StrongNode.{StrongNode}
-use Rattle.strong_share.specs.declared.node.StrongNode.TheVariants.{Instance}
+use Rattle.strong_share.specs.declared.node.StrongNode.TheVariants.{Switch, Instance}
 use Rattle.strong_share.specs.Start.{StrongJob, numbers_of}
 
 -- the notes of the network in a log
@@ -113,6 +113,14 @@ module _ {F R : Type 0} where
 
   abbrev pub standby_at : Network (StrongNode F R) Msg StrongNote → ℕ → units.Unit → Option R
   standby_at w i unit = standby_in unit (slice_get w.nodes (instance_node i))
+
+  -- how many cells of the switch's pool are home
+  abbrev pub home_in : Option (StrongNode F R) → Option ℕ
+  home_in (Some (Switch s)) = Some s.pool.home
+  home_in other = None
+
+  abbrev pub cells_at_home : Network (StrongNode F R) Msg StrongNote → Option ℕ
+  cells_at_home w = home_in (slice_get w.nodes switch_node)
 
 -- the most choices of a run: of n members and P packets, (2n + 4) P + 2n + 3
 abbrev pub most_choices : StrongJob → ℕ
