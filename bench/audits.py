@@ -5,7 +5,7 @@ Use: audits.py PROGRAM SEED COUNT
 
 First some journals that were worked out by hand, every fault of one, and the rows on copies and shares by threads. Then COUNT runs that are drawn by chance as in compare.py: a
 simulation's journal has the choices of the model's schedule; what threads did is a run of the model with the same report; and an audit
-of a journal, right or spoiled, answers what the model makes of its choices. Right ones are those of simulations, of threads, and of
+of a journal, right or spoiled, answers what the model makes of its choices, and so does a failover of two of its instances. Right ones are those of simulations, of threads, and of
 choices that the model takes by weights. A run that differs is left in a folder, which is named. The status is 1 where one does.
 """
 import os
@@ -19,6 +19,7 @@ from collections import Counter
 sys.dont_write_bytecode = True
 import cases  # noqa: E402
 import compare  # noqa: E402
+import failover  # noqa: E402
 import model  # noqa: E402
 import network  # noqa: E402
 import network_checks  # noqa: E402
@@ -26,6 +27,7 @@ import network_checks  # noqa: E402
 JOURNAL = "journal"
 KINDS = {"conntrack": 1, "nat": 2, "monitor": 3}
 MOST_CHOICES = 200_000_000
+MOST_PAIRS = 12
 
 
 class Difference(Exception):
@@ -76,6 +78,16 @@ def audited(words, content, is_summary=False):
         return refusal.status, b"", f"opennf: {refusal.line}\n".encode()
 
 
+def failed_over(words, content, failing):
+    """What the model makes of a failover: the status and both outputs."""
+    asked = model.read_words([word.encode() for word in words])
+    try:
+        model.start(asked)
+        return 0, failover.failed_over(asked, choices_of(content, asked.function, len(asked.names)), failing), b""
+    except model.Refusal as refusal:
+        return refusal.status, b"", f"opennf: {refusal.line}\n".encode()
+
+
 # --- The program ---
 
 
@@ -100,6 +112,15 @@ def hold_audit(program, words, content, wanted, is_summary=False):
         file.write(content)
     more = ["--summary"] if is_summary else []
     hold(program, unscheduled("audit", words, "--journal", JOURNAL, *more), wanted)
+    os.remove(JOURNAL)
+
+
+def hold_failover(program, words, content, failing, wanted):
+    names = compare.names_in(words)
+    asked = "--failed", names[failing.failed], "--to", names[failing.to], "--after", str(failing.after)
+    with open(JOURNAL, "wb") as file:
+        file.write(content)
+    hold(program, unscheduled("fail", words, "--journal", JOURNAL, *asked), wanted)
     os.remove(JOURNAL)
 
 
@@ -131,6 +152,11 @@ def words_by_hand(name, frames, lines, *more, instances="a,b"):
 
 def report_of(packets, lines, window=256):
     head = ["opennf report 1", f"function conntrack instances 2 window {window}", f"trace packets {packets} skipped 0 whole"]
+    return "".join(line + "\n" for line in [*head, *lines, "end"]).encode()
+
+
+def failover_of(packets, lines):
+    head = ["opennf failover 1", "function conntrack instances 2 window 256", f"trace packets {packets} skipped 0 whole"]
     return "".join(line + "\n" for line in [*head, *lines, "end"]).encode()
 
 
@@ -171,6 +197,36 @@ def check_by_hand(program):
             sys.exit(f"audits.py: the model's line on a journal isn't the one that was worked out by hand: {line}")
     one = words_by_hand("one", cases.HANDSHAKE, ["at 1 move a b any order"], "--window", "1")
     hold_audit(program, one, whole, (3, b"", b"opennf: not a run at step 18\n"))
+
+
+# A copy after the first of three packets of one flow, which the second passes and the third hasn't met; and a packet without a copy.
+COPIED = "00 20 02 00 10 21 12 31 13 01 00 00 20 00"
+
+
+def check_failovers_by_hand(program):
+    question, unit = cases.question(1), "udp 10.0.0.1:5000 192.0.2.9:53"
+    copied = words_by_hand("copied", [question] * 3, ["at 1 copy a b any", "at 1 settle"])
+    lines = [
+        "fail a after 14",
+        f"promote {unit} to b single out packets 1 bytes 20",
+        "lost 2",
+        "open 3",
+        f"caught {unit} b single out packets 3 bytes 60",
+    ]
+    choices = choices_by_hand(COPIED)
+    wanted = 0, failover_of(3, lines), b""
+    rows = [(copied, choices, failover.Failing(0, 1, 14), wanted)]
+    alone = words_by_hand("alone", [question], [])
+    lines = ["fail a after 2", f"gone {unit}", "lost 1", f"caught {unit} b single out packets 1 bytes 20"]
+    rows.append((alone, choices[:2], failover.Failing(0, 1, 2), (0, failover_of(1, lines), b"")))
+    rows.append((alone, choices[:2], failover.Failing(0, 1, 0), (0, failover_of(1, ["fail a after 0"]), b"")))
+    rows.append((alone, choices[:2], failover.Failing(0, 1, 3), (3, b"", b"opennf: not a run at step 3\n")))
+    rows.append((alone, choices[1:], failover.Failing(0, 1, 3), (3, b"", b"opennf: not a run at step 1\n")))
+    for words, told, failing, wanted in rows:
+        content = journal_of(1, 2, told)
+        hold_failover(program, words, content, failing, wanted)
+        if failed_over(words, content, failing) != wanted:
+            sys.exit(f"audits.py: the model's failover isn't the one that was worked out by hand: {wanted}")
 
 
 def check_threads_by_hand(program):
@@ -299,6 +355,17 @@ def check_by_chance(chance, program, answers):
         wanted = audited(words, journal, is_summary)
         hold_audit(program, words, journal, wanted, is_summary)
         answers[" ".join(wanted[2].decode().split()[1:3]) or "a report"] += 1
+        check_failovers(chance, program, words, journal)
+
+
+def check_failovers(chance, program, words, journal):
+    """A failover at a place by chance, for each pair of instances, or for some where there are many."""
+    places = range(len(compare.names_in(words)))
+    pairs = [(failed, to) for failed in places for to in places if failed != to]
+    count = max(len(journal) - 16, 0) // 2
+    for failed, to in chance.sample(pairs, min(len(pairs), MOST_PAIRS)):
+        failing = failover.Failing(failed, to, chance.randrange(count + 3))
+        hold_failover(program, words, journal, failing, failed_over(words, journal, failing))
 
 
 def keep(name, difference):
@@ -323,6 +390,7 @@ def main(arguments):
         os.chdir(folder)
         try:
             check_by_hand(program)
+            check_failovers_by_hand(program)
             check_threads_by_hand(program)
             check_rows(program)
             for place in range(count):

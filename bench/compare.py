@@ -80,6 +80,11 @@ def chance_words(chance):
     return cases.network_words(function.name, chance_limits(chance, names), TRACE, script, more)
 
 
+def names_in(words):
+    """The instances' names in the words."""
+    return [item.split(":")[0] for item in words[words.index("--instances") + 1].split(",")]
+
+
 def by_model(words):
     """What the model makes of the words: the status and both outputs."""
     try:

@@ -3,11 +3,13 @@
 
 Use: model.py sim FUNCTION --instances LIST --inside PREFIX [--outside ADDR] [--window W] [--schedule S] [--summary]
          TRACE [SCRIPT]
+     model.py strong FUNCTION --instances LIST --inside PREFIX [--outside ADDR] [--window W] [--schedule S] TRACE [FILTER]
      model.py gen NUMBER --packets N --hosts H TRACE
 
 It prints what the program prints for these words, writes the same file and ends with the same status. It takes the words in
 this order alone. It is slow and plain: the whole capture is read first, and a message is a tuple. The functions stand in
-functions.py, scripts in script_reader.py and the network in network.py.
+functions.py, scripts in script_reader.py, the network in network.py, that of strong sharing in strong_share.py and the reports in
+reports.py.
 """
 import os
 import struct
@@ -18,7 +20,9 @@ sys.dont_write_bytecode = True
 import make_capture  # noqa: E402
 import network  # noqa: E402
 import script_reader  # noqa: E402
+import strong_share  # noqa: E402
 from functions import FUNCTIONS, Site, Translator, read_address, read_number, read_prefix  # noqa: E402
+from reports import report, strong_report  # noqa: E402
 
 
 class Refusal(Exception):
@@ -48,6 +52,18 @@ class Simulation(NamedTuple):
     is_summary: bool = False
 
 
+class Sharing(NamedTuple):
+    """Strong sharing that is to be simulated."""
+
+    function: type
+    names: list
+    site: Site
+    window: int
+    schedule: object  # "first", "last" or a number
+    trace: bytes
+    flows: object  # the filter of what is shared
+
+
 class Making(NamedTuple):
     """A capture that is to be made."""
 
@@ -70,6 +86,8 @@ def read_words(words):
     asked = None
     if texts[:1] == ["sim"]:
         asked = read_sim(texts, words)
+    elif texts[:1] == ["strong"]:
+        asked = read_strong(texts, words)
     elif len(texts) == 7:
         asked = read_gen(texts, words[6])
     if asked is None:
@@ -80,18 +98,22 @@ def read_words(words):
 MOST_INSTANCES, MOST_WINDOW, MOST_RECORDS, MARK = 16, 4096, 1_000_000, "v1"
 
 
-def read_sim(texts, words):
-    values, place = {"--outside": None, "--window": "256", "--schedule": "first"}, 2
-    for name in "--instances", "--inside", "--outside", "--window", "--schedule":
+def read_options(texts):
+    """The texts of a network's options, from the third word on, and the place of the first word after them."""
+    values, place = {"--instances": "", "--inside": "", "--outside": None, "--window": "256", "--schedule": "first"}, 2
+    for name in values:
         if texts[place : place + 1] == [name] and place + 1 < len(texts):
             values[name] = texts[place + 1]
             place += 2
+    return values, place
+
+
+def read_sim(texts, words):
+    values, place = read_options(texts)
     is_summary = texts[place : place + 1] == ["--summary"]
     place += is_summary
     files = words[place:]
     if len(files) not in (1, 2) or not all(map(is_file, texts[place:])):
-        return None
-    if "--instances" not in values or "--inside" not in values:
         return None
     function = FUNCTIONS.get(texts[1])
     instances = read_instances(values["--instances"])
@@ -101,6 +123,30 @@ def read_sim(texts, words):
     if None in (function, instances, site, window, schedule):
         return None
     return Simulation(function, *instances, site, window, schedule, files[0], files[1] if files[1:] else None, is_summary)
+
+
+def read_strong(texts, words):
+    values, place = read_options(texts)
+    if len(words) - place not in (1, 2) or not is_file(texts[place]):
+        return None
+    function = FUNCTIONS.get(texts[1])
+    names = read_members(values["--instances"])
+    site = read_site(function, values["--inside"], values["--outside"])
+    window = read_number(values["--window"], 1, MOST_WINDOW)
+    schedule = read_schedule(values["--schedule"])
+    if None in (function, names, site, window, schedule):
+        return None
+    try:
+        flows = script_reader.read_filter(texts[place + 1] if texts[place + 1 :] else "any", function)
+    except script_reader.BrokenRule:
+        return None
+    return Sharing(function, names, site, window, schedule, words[place], flows)
+
+
+def read_members(text):
+    """The names of two members or more, with commas between them."""
+    names = text.split(",")
+    return names if all(map(script_reader.is_name, names)) and 2 <= len(set(names)) == len(names) <= MOST_INSTANCES else None
 
 
 def read_instances(text):
@@ -259,43 +305,7 @@ def read_packet(ip, nanos) -> Optional[Packet]:
     return Packet(nanos, proto, (source, source_port), (target, target_port), flags, total - header - own, head)
 
 
-# --- The report ---
-
-
-def report(asked, trace, world):
-    instances = list(zip(asked.names, world.nodes[2:]))
-    outs = {number: output for kind, number, *_, output in of_kind(world, "processed")}
-    answers = {command: answer for _, command, answer in of_kind(world, "answered")}
-    packets = [
-        *(f"out {number} {output}" for number, output in sorted(outs.items())),
-        *(f"done {number} {asked.names[instance]}" for _, number, instance, _ in of_kind(world, "processed")),
-    ]
-    lives = [f"live {name} {len(instance.records)}" for name, instance in instances]
-
-    def record_lines(kind, of):
-        lines = [
-            (unit, place, f"{kind} {asked.function.print_unit(unit)} {name} {asked.function.print_record(record)}")
-            for place, (name, instance) in enumerate(instances)
-            for unit, record in of(instance).items()
-        ]
-        return [line for *_, line in sorted(lines)]
-
-    lines = [
-        "opennf report 1",
-        f"function {asked.function.name} instances {len(instances)} window {asked.window}",
-        f"trace packets {len(trace.packets)} skipped {trace.skipped} {'cut' if trace.cut else 'whole'}",
-        *([] if asked.is_summary else packets),
-        *(f"answer {command} {answer}" for command, answer in sorted(answers.items())),
-        *(lives if asked.is_summary else record_lines("state", lambda instance: instance.records)),
-        *([] if asked.is_summary else record_lines("standby", lambda instance: instance.standby)),
-        *(f"tally {name} {' '.join(map(str, instance.tally))}" for name, instance in instances),
-        "end",
-    ]
-    return "".join(line + "\n" for line in lines).encode()
-
-
-def of_kind(world, kind):
-    return [note for note in world.log if note[0] == kind]
+# --- The runs ---
 
 
 def read_file(name, role, most=-1):
@@ -331,11 +341,21 @@ def simulate(asked):
     return trace, world
 
 
+def share(asked):
+    """The capture, and the world at the end of strong sharing."""
+    trace = read_trace(read_file(asked.trace, "trace"))
+    world = strong_share.start(asked, trace.packets)
+    network.run(world, asked.schedule)
+    return trace, world
+
+
 def run(words):
     """The report's bytes for the program's words after its name, each as bytes. A capture that is asked for is written."""
     asked = read_words(words)
     if isinstance(asked, Making):
         return make(asked)
+    if isinstance(asked, Sharing):
+        return strong_report(asked, *share(asked))
     return report(asked, *simulate(asked))
 
 

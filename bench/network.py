@@ -203,8 +203,12 @@ class Instance:
             return f"import {len(self.records)} {piece.total} {self.limit}"
         return f"old {piece.newest} 1" if self.is_marked and piece.newest > 1 else None
 
+    def may_take(self, message):
+        """In a run nothing comes after the stop."""
+        return not self.ended
+
     def take(self, port, message, step):
-        if self.ended:
+        if not self.may_take(message):
             raise Stray(message)
         match message:
             case "carry", parcel, mark:

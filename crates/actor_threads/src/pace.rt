@@ -6,7 +6,7 @@ ghost use Rattle.std.specs.Prelude.{◌<◌, ◌≤◌};
 use std::sync::atomic::{AtomicU64, Ordering};
 
 /// The first group looks at the pace after so many sleeps.
-const SLEEPS: u32 = 64;
+const SLEEPS: u32 = 16;
 
 /// Little is under way where the first group did fewer steps between two sleeps.
 const FEW_STEPS: u32 = 64;

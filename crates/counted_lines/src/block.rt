@@ -63,7 +63,7 @@ impl Block {
         Block { bytes, len }
     }
 
-    /// The same block again.
+    /// A copy of the block.
     #[inline(always)]
     pub fn copy(&self) -> Block
         ensures { result ≡ self.now }

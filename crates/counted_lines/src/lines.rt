@@ -1,5 +1,5 @@
 //! Lines of one word that go to a text by pages.
-ghost use Rattle.std.specs.Prelude.{◌≡◌, ◌≤◌, ◌++◌, [], decimal, length, IfOk, OnOk};
+ghost use Rattle.std.specs.Prelude.{◌≡◌, ◌≤◌, ◌++◌, [], decimal, length, IfOk, OnOk, OnErr};
 ghost use Rattle.counted_lines.specs.declared.block.TheConstants.{WORD};
 
 use crate::block::{Block, WORD};
@@ -35,6 +35,8 @@ impl CountedLines {
     pub fn push(&mut self, text: &mut Text, number: u64, end: &Block) -> Result<(), NoMemory>
         ensures text { OnOk result (text.new ++ pending self.new ≡ (text.old ++ pending self.old) ++ (word_of self.old ++ decimal number ++ end.now)) }
         ensures word { word_of self.new ≡ word_of self.old }
+        ensures err { OnErr result (pending self.new ≡ pending self.old) }
+        ensures text_err { OnErr result (text.new ≡ text.old) }
     {
         self.count.go_to(number);
         self.page.push_line(text, &self.count, end)
@@ -45,6 +47,8 @@ impl CountedLines {
         ensures text { OnOk result (text.new ≡ text.old ++ pending self.old) }
         ensures pending { OnOk result (pending self.new ≡ []) }
         ensures word { word_of self.new ≡ word_of self.old }
+        ensures err { OnErr result (pending self.new ≡ pending self.old) }
+        ensures text_err { OnErr result (text.new ≡ text.old) }
     {
         self.page.flush(text)
     }

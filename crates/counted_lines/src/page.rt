@@ -1,5 +1,5 @@
 //! A page of lines, which goes to a text as a whole.
-ghost use Rattle.std.specs.Prelude.{◌≡◌, ◌<◌, ◌≤◌, ◌+◌, ◌++◌, ℕ, List, [], ◌∷◌, decimal, length, vec_len, OnOk, IfOk};
+ghost use Rattle.std.specs.Prelude.{◌≡◌, ◌<◌, ◌≤◌, ◌+◌, ◌++◌, ℕ, List, [], ◌∷◌, decimal, length, vec_len, OnOk, OnErr, IfOk};
 ghost use Rattle.counted_lines.specs.declared.page.TheConstants.{PAGE_BYTES};
 
 use crate::block::{BLOCK, Block};
@@ -7,7 +7,6 @@ use crate::counter::Counter;
 use basics::{NoMemory, Text};
 use std::alloc::Global;
 
-/// How many bytes a page has.
 const PAGE_BYTES: usize = 65_536;
 
 /// No line is longer: two blocks.
@@ -41,7 +40,9 @@ impl Page {
         count: &Counter,
         end: &Block,
     ) -> Result<(), NoMemory>
-        ensures { OnOk result (text.new ++ page_text self.new ≡ (text.old ++ page_text self.old) ++ (count.now.word.now ++ decimal count.now.number ++ end.now)) }
+        ensures text { OnOk result (text.new ++ page_text self.new ≡ (text.old ++ page_text self.old) ++ (count.now.word.now ++ decimal count.now.number ++ end.now)) }
+        ensures err { OnErr result (page_text self.new ≡ page_text self.old) }
+        ensures text_err { OnErr result (text.new ≡ text.old) }
     {
         if self.used > PAGE_BYTES - LONGEST_LINE {
             self.flush(text)?;
@@ -57,6 +58,8 @@ impl Page {
         ensures text { OnOk result (text.new ≡ text.old ++ page_text self.old) }
         ensures page { OnOk result (page_text self.new ≡ []) }
         ensures used { OnOk result (self.new.used ≡ 0) }
+        ensures err { OnErr result (page_text self.new ≡ page_text self.old) }
+        ensures text_err { OnErr result (text.new ≡ text.old) }
     {
         text.push_bytes(&self.bytes[..self.used])?;
         self.used = 0;

@@ -91,7 +91,7 @@ module _ {R : Type 0} (F : Type 0) (f : Semantics R) (s : NetworkAsked) (g : Sce
       } in
       let end = run (node_step f) made.choices (started {F = F} {R = R} alloc c l) in
       let text : made.report ≡ report_text f (head_for s g.captured) false end =
-          report ∙ (λ i. report_text f (is_head i) (whole i) (leads.reached i)) in
+      report ∙ (λ i. report_text f (is_head i) (whole i) (leads.reached i)) in
       subst (λ (v : Subject R). HasHeadline v (head_for s g.captured) made.report) same_subject
       (subst (HasHeadline (subject f c l) (head_for s g.captured)) (sym text) (has_headline f c l (head_for s g.captured) end refl (headline F f laws alloc c l made.choices is)))
 

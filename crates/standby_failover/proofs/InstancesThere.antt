@@ -1,0 +1,42 @@
+-- In a world of a run the node of each instance is an instance.
+use Rattle.std.proofs.Common.{◌≡◌, ℕ, ◌+◌, ◌<◌, true, List, length, ap, ◌∙◌, arith, Some}
+use Rattle.std.specs.Prelude.{slice_get}
+use Rattle.std.specs.declared.alloc.Global.{Global}
+use Rattle.std.proofs.lemmas.Option.{slice_get-get_or}
+use Rattle.nf_function.specs.Records.{Laws as FunctionLaws}
+use Rattle.nf_function.specs.Semantics.{Semantics}
+use Rattle.nf_msgs.specs.declared.msg.Msg.{Msg}
+use Rattle.nf_msgs.specs.declared.note.Note.{Note}
+use Rattle.nf_msgs.specs.Nodes.{instance_node}
+use Rattle.actor_net.specs.declared.choice.Choice.{Choice}
+use Rattle.actor_net.specs.Network.{Network, IsRun, run}
+use Rattle.actor_net.proofs.RunInduction.{run_world}
+use Rattle.net_world.specs.declared.config.Config.{Config}
+use Rattle.net_world.specs.declared.node.Node.{Node}
+use Rattle.net_world.specs.declared.node.Node.TheVariants.{Instance}
+use Rattle.net_world.specs.Input.{IsInput}
+use Rattle.net_world.specs.Nodes.{node_step, node_ready}
+use Rattle.net_world.specs.Start.{started}
+use Rattle.whole_joined.proofs.StartJoined.{count_at_start}
+use Rattle.whole_joined.proofs.RunsJoined.{run_beside, start_world}
+use Rattle.path_net.proofs.RecordPromises.{instance_of}
+use Rattle.standby_failover.specs.Scenes.{is_instance}
+
+module _ (F : Type 0) {R : Type 0} (f : Semantics R) (laws : FunctionLaws f) (alloc : Global) (c : Config) (items : List Msg) (is : IsInput f.kind c items)
+    (cs : List Choice) where
+  abbrev w : Network (Node F R) Msg Note
+  w = run (node_step f) cs (started {F = F} {R = R} alloc c items)
+
+  pub are_there : IsRun node_ready (node_step f) cs (started {F = F} {R = R} alloc c items) → (i : ℕ) → i < length c.names
+      → is_instance (slice_get w.nodes (instance_node i)) ≡ true
+  are_there runs i within =
+      let j = (run_beside F f laws alloc c items is cs runs).joined in
+      let reached = run_world node_ready (node_step f) (length c.names + 2) (started {F = F} {R = R} alloc c items) (start_world F f laws alloc c items is)
+      (count_at_start F f alloc c items is) cs runs in
+      let few : instance_node i < length c.names + 2 = omega (arith, within) in
+      let node : Node F R = Instance (j.nodes.instance (instance_node i)) in
+      let long : length w.nodes ≡ length c.names + 2 = reached.1 in
+      let inside : instance_node i < length w.nodes = omega (arith, few, long) in
+      let there : slice_get w.nodes (instance_node i) ≡ Some node = slice_get-get_or w.nodes (instance_node i) node inside
+      ∙ ap Some (j.nodes_are (instance_node i) few node ∙ instance_of j.nodes (instance_node i) (omega arith)) in
+      ap is_instance there

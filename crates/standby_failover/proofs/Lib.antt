@@ -1,0 +1,13 @@
+pub mod ListLemmas
+pub mod NumberedPackets
+pub mod MetNumbers
+pub mod Reflected
+pub mod LostPackets
+pub mod Arrivals
+pub mod PromotedTables
+pub mod SceneSteps
+pub mod CaughtUp
+pub mod Known
+pub mod ReplayLemmas
+pub mod InstancesThere
+pub mod LeftWorlds

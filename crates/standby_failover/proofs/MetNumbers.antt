@@ -1,0 +1,133 @@
+-- The numbers of packets that a loop over a log or a list has met so far: those of one place more.
+use Rattle.std.proofs.Common.{◌≡◌, ℕ, ◌+◌, ◌<◌, Bool, true, false, List, [], ◌∷◌, ◌++◌, map, take, drop, get_or, length, filter, append-nil, refl, sym, ap, ◌∙◌}
+use Rattle.std.specs.Prelude.{◌==◌, ◌||◌, if◌then◌else◌}
+use Rattle.std.specs.Cmp.{nat_cmp_is, Equal-is}
+use Rattle.std.specs.FinMap.{nat_cmp-IsAntisymmetric}
+use Rattle.std.specs.Ordering.{nat_cmp, is_eq}
+use Rattle.std.specs.declared.cmp.Ordering.TheVariants.{Equal}
+use Rattle.std.proofs.lemmas.Bool.{true≢false}
+use Rattle.std.proofs.lemmas.Bool.Decides.{Decides-eqb}
+use Rattle.std.proofs.lemmas.List.{map-append, take_more, drop_more, take-append-drop}
+use Rattle.std.proofs.lemmas.List.Elements.{filter-append}
+use Rattle.nf_msgs.specs.declared.note.Note.{Note}
+use Rattle.nf_msgs.specs.declared.note.Note.TheVariants as note
+use Rattle.nf_function.specs.declared.output.Output.{Output}
+use Rattle.net_world.specs.Log.{arrived, done}
+use Rattle.whole_joined.proofs.LogLemmas.{arrived-append, done-append}
+use Rattle.standby_failover.specs.Failover.{is_in, numbers_done}
+use Rattle.standby_failover.proofs.ListLemmas.{in-append, in_middle}
+
+-- the test of a set's key is that of the number
+same_key : (k q : ℕ) → is_eq (nat_cmp k q) ≡ (q == k)
+same_key k q = by_test (q == k) refl
+  where
+    by_order : (b : Bool) → (q == k) ≡ false → is_eq (nat_cmp k q) ≡ b → is_eq (nat_cmp k q) ≡ (q == k)
+    by_order true off e =
+        let same : q ≡ k = sym (nat_cmp-IsAntisymmetric k q ((Equal-is (nat_cmp k q)).0 e)) in
+        absurd (true≢false (sym ((Decides-eqb q k).1 same) ∙ off))
+    by_order false off e = e ∙ sym off
+
+    by_test : (b : Bool) → (q == k) ≡ b → is_eq (nat_cmp k q) ≡ (q == k)
+    by_test true on = ap is_eq (sym (nat_cmp_is k q Equal (sym ((Decides-eqb q k).0 on)))) ∙ sym on
+    by_test false off = by_order (is_eq (nat_cmp k q)) off refl
+
+or_cond : (a b : Bool) → (if a then true else b) ≡ (b || (a || false))
+or_cond true true = refl
+or_cond true false = refl
+or_cond false true = refl
+or_cond false false = refl
+
+-- what a set has, with one number more of a list
+pub set_more : (xs : List ℕ) (i d q : ℕ) (old new : Bool) → i < length xs → new ≡ (if is_eq (nat_cmp (get_or xs i d) q) then true else old)
+    → old ≡ is_in q (take i xs) → new ≡ is_in q (take (i + 1) xs)
+set_more xs i d q old new within is so_far =
+    is ∙ ap (λ b. if b then true else old) (same_key (get_or xs i d) q) ∙ or_cond (q == get_or xs i d) old
+    ∙ ap (λ b. b || ((q == get_or xs i d) || false)) so_far
+    ∙ sym (in-append q (take i xs) (get_or xs i d ∷ []))
+    ∙ ap (is_in q) (sym (take_more xs i d within))
+
+-- the notes up to a place, with one more
+notes_more : (log : List Note) (i : ℕ) (n : Note) → i < length log → n ≡ get_or log i n → take (i + 1) log ≡ take i log ++ n ∷ []
+notes_more log i n within here = take_more log i n within ∙ ap (λ v. take i log ++ v ∷ []) (sym here)
+
+pub done_more : (log : List Note) (i : ℕ) (n : Note) → i < length log → n ≡ get_or log i n
+    → numbers_done (take (i + 1) log) ≡ numbers_done (take i log) ++ numbers_done (n ∷ [])
+done_more log i n within here =
+    ap numbers_done (notes_more log i n within here) ∙ ap (map (λ d. d.number)) (done-append (take i log) (n ∷ []))
+    ∙ map-append (λ d. d.number) (done (take i log)) (done (n ∷ []))
+
+pub came_more : (log : List Note) (i : ℕ) (n : Note) → i < length log → n ≡ get_or log i n
+    → arrived (take (i + 1) log) ≡ arrived (take i log) ++ arrived (n ∷ [])
+came_more log i n within here = ap arrived (notes_more log i n within here) ∙ arrived-append (take i log) (n ∷ [])
+
+-- those that came and are picked out, with one note more
+pub picked_more : (l : ℕ → Bool) (log : List Note) (i : ℕ) (n : Note) → i < length log → n ≡ get_or log i n
+    → filter l (arrived (take (i + 1) log)) ≡ filter l (arrived (take i log)) ++ filter l (arrived (n ∷ []))
+picked_more l log i n within here = ap (filter l) (came_more log i n within here) ∙ filter-append l (arrived (take i log)) (arrived (n ∷ []))
+
+-- other notes tell of none
+pub none_done : (n : Note) → ((number : ℕ) (instance : ℕ) (output : Output) → n ≡ note.Processed number instance output → ⊥) → numbers_done (n ∷ []) ≡ []
+none_done (note.Processed number instance output) h = absurd (h number instance output refl)
+none_done (note.Arrived number) h = refl
+none_done (note.Begun op) h = refl
+none_done (note.Exported instance op us) h = refl
+none_done (note.Imported instance op us) h = refl
+none_done (note.Kept instance op us) h = refl
+none_done (note.Installed op) h = refl
+none_done (note.Answered op answer) h = refl
+
+pub none_came : (n : Note) → ((number : ℕ) → n ≡ note.Arrived number → ⊥) → arrived (n ∷ []) ≡ []
+none_came (note.Arrived number) h = absurd (h number refl)
+none_came (note.Processed number instance output) h = refl
+none_came (note.Begun op) h = refl
+none_came (note.Exported instance op us) h = refl
+none_came (note.Imported instance op us) h = refl
+none_came (note.Kept instance op us) h = refl
+none_came (note.Installed op) h = refl
+none_came (note.Answered op answer) h = refl
+
+-- a number that is picked out, or not
+pub picked : (l : ℕ → Bool) (p : ℕ) (b : Bool) → l p ≡ b → filter l (p ∷ []) ≡ (if b then p ∷ [] else [])
+picked l p b e = ap (λ t. if t then p ∷ [] else []) e
+
+-- the loops: a note that tells of nothing, and one that tells of a number
+module _ (log : List Note) (i : ℕ) (n : Note) (within : i < length log) (here : n ≡ get_or log i n) where
+  pub done_same : ((number : ℕ) (instance : ℕ) (output : Output) → n ≡ note.Processed number instance output → ⊥)
+      → numbers_done (take (i + 1) log) ≡ numbers_done (take i log)
+  done_same h = done_more log i n within here ∙ ap (λ ys. numbers_done (take i log) ++ ys) (none_done n h) ∙ append-nil (numbers_done (take i log))
+
+  pub done_next : (number instance : ℕ) (output : Output) → n ≡ note.Processed number instance output
+      → numbers_done (take (i + 1) log) ≡ numbers_done (take i log) ++ number ∷ []
+  done_next number instance output is = done_more log i n within here ∙ ap (λ v. numbers_done (take i log) ++ numbers_done (v ∷ [])) is
+
+  pub picked_same : (l : ℕ → Bool) → ((number : ℕ) → n ≡ note.Arrived number → ⊥) → filter l (arrived (take (i + 1) log)) ≡ filter l (arrived (take i log))
+  picked_same l h = picked_more l log i n within here ∙ ap (λ ys. filter l (arrived (take i log)) ++ filter l ys) (none_came n h)
+      ∙ append-nil (filter l (arrived (take i log)))
+
+  pub picked_next : (l : ℕ → Bool) (number : ℕ) → n ≡ note.Arrived number → (b : Bool) → l number ≡ b
+      → filter l (arrived (take (i + 1) log)) ≡ filter l (arrived (take i log)) ++ (if b then number ∷ [] else [])
+  picked_next l number is b e =
+      picked_more l log i n within here ∙ ap (λ v. filter l (arrived (take i log)) ++ filter l (arrived (v ∷ []))) is
+      ∙ ap (λ t. filter l (arrived (take i log)) ++ (if t then number ∷ [] else [])) e
+
+  pub left_out : (l : ℕ → Bool) (number : ℕ) → n ≡ note.Arrived number → l number ≡ false
+      → filter l (arrived (take (i + 1) log)) ≡ filter l (arrived (take i log))
+  left_out l number is e = picked_next l number is false e ∙ append-nil (filter l (arrived (take i log)))
+
+-- a number that is met is among those of the log
+pub met_done : (log : List Note) (i : ℕ) (n : Note) → i < length log → n ≡ get_or log i n → (number instance : ℕ) (output : Output)
+    → n ≡ note.Processed number instance output
+    → numbers_done (take i log) ++ number ∷ numbers_done (drop (i + 1) log) ≡ numbers_done log
+met_done log i n within here number instance output is =
+    sym (ap numbers_done (sym (take-append-drop i log) ∙ ap (λ ys. take i log ++ ys)
+    (drop_more log i n within ∙ ap (λ v. v ∷ drop (i + 1) log) (sym here ∙ is)))
+    ∙ ap (map (λ d. d.number)) (done-append (take i log) (note.Processed number instance output ∷ drop (i + 1) log))
+    ∙ map-append (λ d. d.number) (done (take i log)) (done (note.Processed number instance output ∷ drop (i + 1) log)))
+
+pub met_came : (log : List Note) (i : ℕ) (n : Note) → i < length log → n ≡ get_or log i n → (number : ℕ) → n ≡ note.Arrived number
+    → is_in number (arrived log) ≡ true
+met_came log i n within here number is =
+    ap (λ l. is_in number (arrived l)) (sym (take-append-drop i log)
+    ∙ ap (λ ys. take i log ++ ys) (drop_more log i n within ∙ ap (λ v. v ∷ drop (i + 1) log) (sym here ∙ is)))
+    ∙ ap (is_in number) (arrived-append (take i log) (note.Arrived number ∷ drop (i + 1) log))
+    ∙ in_middle number (arrived (take i log)) (arrived (drop (i + 1) log))

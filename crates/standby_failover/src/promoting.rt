@@ -1,0 +1,75 @@
+ghost use Rattle.std.specs.Prelude.{◌≡◌, ◌≢◌, ◌<◌, ◌++◌, ◌==◌, ℕ, All, IsSome, find, length, IfOk};
+ghost use Rattle.trace_reader.specs.Records.{AreNumbered};
+ghost use Rattle.net_world.specs.Input.{packets, IsInput};
+ghost use Rattle.net_world.specs.Jobs.{job_of};
+ghost use Rattle.net_world.specs.Start.{started};
+ghost use Rattle.standby_failover.specs.Causes.{IsFailCause, IsReached, first_of, world_after};
+ghost use Rattle.standby_failover.specs.Failover.{IsLeft, IsPromoted, failover_of};
+
+use crate::fault::FailFault;
+use crate::packets::packets_of;
+use crate::promoted::Promoted;
+use crate::replay::{into_table, table_of, world_after};
+use crate::scene::{Affected, Scene};
+use actor_net::Choice;
+use net_world::Config;
+use nf_function::Function;
+use nf_msgs::Msg;
+use std::alloc::Global;
+
+/// What is left where an instance of a network fails after the first so many choices, and another takes over.
+///
+/// The instances go by their places among the names. A unit whose record is on its way in a message isn't affected.
+pub fn promote<F: Function>(
+    alloc: Global,
+    config: &Config,
+    items: Vec<Msg>,
+    choices: &[Choice],
+    after: u64,
+    failed: u8,
+    to: u8,
+) -> Result<Promoted<F>, FailFault>
+    requires input { IsInput F.semantics.kind config.now items.items }
+    requires numbered { AreNumbered 1 (packets items.items) }
+    requires failed { failed < length config.now.names }
+    requires to { to < length config.now.names }
+    requires two { failed ≢ to }
+    ensures reached { IfOk result (λ _. IsReached {F = F.row.Denot} F.semantics (started alloc config.now items.items) (first_of choices.now after)) }
+
+    // What the words of the next clause speak of: the records that stand by are those of so many packets, and of no other number of them.
+    ensures left { let world = world_after F.semantics (started alloc config.now items.items) (first_of choices.now after) in
+        IfOk result (λ _. IsLeft {F = F.row.Denot} (failover_of (job_of F.semantics config.now items.items) world failed to)) }
+    ensures promoted { let world = world_after F.semantics (started alloc config.now items.items) (first_of choices.now after) in
+        IfOk result (IsPromoted {F = F.row.Denot} (failover_of (job_of F.semantics config.now items.items) world failed to)) }
+
+    // What [`crate::catch_up`] asks: the numbers are those of packets of the input.
+    ensures known { IfOk result (λ promoted. All (λ n. IsSome (find (λ p. p.number == n) (packets items.items))) (promoted.order ++ promoted.pending)) }
+    ensures not_a_run { (step : ℕ) → result ≡ Err (FailFault.NotARun step)
+        → IsFailCause {F = F.row.Denot} F.semantics (started alloc config.now items.items) (first_of choices.now after) step }
+{
+    let packets = packets_of(alloc, items.as_slice())?;
+    let world = world_after::<F>(alloc, config, items, choices, after)?;
+    let scene = Scene {
+        site: config.site,
+        packets: packets.items(),
+        log: world.log(),
+        failed: table_of(&world, failed),
+        to: table_of(&world, to),
+    };
+    let affected = scene.affected(alloc)?;
+    let mut table = into_table(world, to)?;
+    table.promote(&affected.units)?;
+    let Affected {
+        units,
+        lost,
+        pending,
+        order,
+    } = affected;
+    Ok(Promoted {
+        table,
+        units,
+        lost,
+        pending,
+        order,
+    })
+}

@@ -1,0 +1,75 @@
+//! The world after the first of some choices, and the records of its instances.
+ghost use Rattle.std.specs.Prelude.{◌≡◌, ◌<◌, ℕ, true, length, slice_get, IfOk};
+ghost use Rattle.nf_msgs.specs.Nodes.{instance_node};
+ghost use Rattle.net_world.specs.Input.{IsInput};
+ghost use Rattle.net_world.specs.Start.{started};
+ghost use Rattle.standby_failover.specs.Causes.{IsFailCause, IsReached, first_of, world_after};
+ghost use Rattle.standby_failover.specs.Failover.{table_at};
+ghost use Rattle.standby_failover.specs.Scenes.{is_instance};
+
+use crate::fault::FailFault;
+use actor_net::{Choice, ReplayFault, World};
+use basics::NoMemory;
+use net_world::{Config, Node, start};
+use nf_function::Function;
+use nf_msgs::{MOST_INSTANCES, Msg, instance_node};
+use nf_net::run_choices;
+use record_table::Table;
+use std::alloc::Global;
+
+/// The world of a network after the first so many choices.
+pub(crate) fn world_after<F: Function>(
+    alloc: Global,
+    config: &Config,
+    items: Vec<Msg>,
+    choices: &[Choice],
+    after: u64,
+) -> Result<World<Node<F>>, FailFault>
+    requires { IsInput F.semantics.kind config.now items.items }
+    ensures reached { IfOk result (λ _. IsReached {F = F.row.Denot} F.semantics (started alloc config.now items.items) (first_of choices.now after)) }
+    ensures world { IfOk result (λ world. world ≡ world_after F.semantics (started alloc config.now items.items) (first_of choices.now after)) }
+    ensures instances { IfOk result (λ world. (i : ℕ) → i < length config.now.names → is_instance (slice_get world.nodes (instance_node i)) ≡ true) }
+    ensures not_a_run { (step : ℕ) → result ≡ Err (FailFault.NotARun step)
+        → IsFailCause {F = F.row.Denot} F.semantics (started alloc config.now items.items) (first_of choices.now after) step }
+{
+    let start = start::<F>(alloc, config, items)?;
+    let count = choices.len() as u64;
+    let first = &choices[..after.min(count) as usize];
+    match run_choices(start, first) {
+        Ok(world) if after <= count => Ok(world),
+        Ok(_world) => Err(FailFault::NotARun { step: count + 1 }),
+        Err(ReplayFault::NotEnabled { index }) => {
+            let step = index as u64 + 1;
+            Err(FailFault::NotARun { step })
+        }
+        Err(ReplayFault::NoMemory) => Err(FailFault::NoMemory),
+    }
+}
+
+/// The records of an instance of a world.
+pub(crate) fn table_of<F: Function>(world: &World<Node<F>>, instance: u8) -> &Table<F>
+    requires few { instance < MOST_INSTANCES }
+    requires there { is_instance (slice_get world.now.nodes (instance_node instance)) ≡ true }
+    ensures { result.now ≡ table_at world.now instance }
+{
+    match world.nodes().get(usize::from(instance_node(instance))) {
+        Some(Node::Instance(found)) => found.table(),
+        _ => unreachable!(),
+    }
+}
+
+/// The records of an instance of a world that is done with.
+pub(crate) fn into_table<F: Function>(
+    world: World<Node<F>>,
+    instance: u8,
+) -> Result<Table<F>, NoMemory>
+    requires few { instance < MOST_INSTANCES }
+    requires there { is_instance (slice_get world.nodes (instance_node instance)) ≡ true }
+    ensures { IfOk result (λ table. table ≡ table_at world instance) }
+{
+    let mut nodes = world.parts()?.nodes.into_vec();
+    match nodes.swap_remove(usize::from(instance_node(instance))) {
+        Node::Instance(found) => Ok(found.into_table()),
+        _ => unreachable!(),
+    }
+}

@@ -1,0 +1,81 @@
+-- Functions that are changed at one place, some packets among others and how often they stand there, and tests of the numbers of nodes.
+use Rattle.std.proofs.Common.{◌≡◌, ℕ, ◌+◌, ◌≤◌, Bool, true, false, List, [], ◌∷◌, ◌++◌, refl, sym, ap, ◌∙◌, append-nil, arith}
+use Rattle.std.specs.Prelude.{if◌then◌else◌, ◌==◌, filter}
+use Rattle.std.proofs.lemmas.List.Elements.{filter-append}
+use Rattle.std.proofs.lemmas.Bool.Decides.{nat_tests, Decides-eqb}
+use Rattle.net_world.specs.Fold.{times}
+
+-- changed at one place
+abbrev pub put : {X : Type 0} → (ℕ → X) → ℕ → X → ℕ → X
+put g j x k = if k == j then x else g k
+
+-- those of a smaller kind among those of a greater
+pub filter_among : (small great : ℕ → Bool) → ((p : ℕ) → small p ≡ true → great p ≡ true) → (xs : List ℕ) → filter small (filter great xs) ≡ filter small xs
+filter_among small great in_it [] = refl
+filter_among small great in_it (x ∷ xs) =
+    elim (great x) as (λ b. great x ≡ b → filter small (if b then x ∷ filter great xs else filter great xs)
+    ≡ (if small x then x ∷ filter small xs else filter small xs)) [
+      | true ↦ λ _. ap (λ z. if small x then x ∷ z else z) (filter_among small great in_it xs)
+      | false ↦ λ off. (elim (small x) as (λ b. small x ≡ b → filter small (filter great xs) ≡ (if b then x ∷ filter small xs else filter small xs)) [
+        | true ↦ λ on. (let both : false ≡ true = sym off ∙ in_it x on in cc)
+        | false ↦ λ _. filter_among small great in_it xs
+      ] refl)
+    ] refl
+
+-- one more, which is one of these or isn't
+pub filter_one_more : (mine : ℕ → Bool) (xs : List ℕ) (p : ℕ) → mine p ≡ true → filter mine (xs ++ p ∷ []) ≡ filter mine xs ++ p ∷ []
+filter_one_more mine xs p on = filter-append mine xs (p ∷ []) ∙ ap (λ b. filter mine xs ++ (if b then p ∷ [] else [])) on
+
+pub filter_no_more : (mine : ℕ → Bool) (xs : List ℕ) (p : ℕ) → mine p ≡ false → filter mine (xs ++ p ∷ []) ≡ filter mine xs
+filter_no_more mine xs p off = filter-append mine xs (p ∷ []) ∙ ap (λ b. filter mine xs ++ (if b then p ∷ [] else [])) off ∙ append-nil (filter mine xs)
+
+pub times-append : (p : ℕ) (xs ys : List ℕ) → times p (xs ++ ys) ≡ times p xs + times p ys
+times-append p [] ys = omega arith
+times-append p (x ∷ xs) ys = omega (arith, times-append p xs ys)
+
+-- how often one of a kind stands among those of the kind
+pub times_filter : (mine : ℕ → Bool) (p : ℕ) → mine p ≡ true → (xs : List ℕ) → times p (filter mine xs) ≡ times p xs
+times_filter mine p on [] = refl
+times_filter mine p on (x ∷ xs) =
+    elim (mine x) as (λ b. mine x ≡ b → times p (if b then x ∷ filter mine xs else filter mine xs) ≡ (if p == x then 1 else 0) + times p xs) [
+      | true ↦ λ _. ap (λ n. (if p == x then 1 else 0) + n) (times_filter mine p on xs)
+      | false ↦ λ off. (elim (p == x) as (λ b. (p == x) ≡ b → times p (filter mine xs) ≡ (if b then 1 else 0) + times p xs) [
+        | true ↦ λ is. (let same : p ≡ x = (Decides-eqb p x).0 is in let both : true ≡ false = sym on ∙ ap mine same ∙ off in cc)
+        | false ↦ λ _. (let rest = times_filter mine p on xs in omega (arith, rest))
+      ] refl)
+    ] refl
+
+pub filter_few : (mine : ℕ → Bool) (p : ℕ) (xs : List ℕ) → times p (filter mine xs) ≤ times p xs
+filter_few mine p [] = omega arith
+filter_few mine p (x ∷ xs) = elim (mine x) as (λ b. times p (if b then x ∷ filter mine xs else filter mine xs) ≤ (if p == x then 1 else 0) + times p xs) [
+  | true ↦ (let rest = filter_few mine p xs in omega (arith, rest))
+  | false ↦ (let rest = filter_few mine p xs in omega (arith, rest))
+]
+
+-- tests of nodes: the switch is 0, the controller 1, members are from 2
+pub two_two : (k j : ℕ) → (k + 2 == j + 2) ≡ (k == j)
+two_two k j = elim (k == j) as (λ b. (k == j) ≡ b → (k + 2 == j + 2) ≡ b) [
+  | true ↦ λ on. grind (arith, nat_tests)
+  | false ↦ λ off. grind (arith, nat_tests)
+] refl
+
+pub two_zero : (k : ℕ) → (k + 2 == 0) ≡ false
+two_zero k = grind (arith, nat_tests)
+
+pub two_one : (k : ℕ) → (k + 2 == 1) ≡ false
+two_one k = grind (arith, nat_tests)
+
+pub zero_two : (k : ℕ) → (0 == k + 2) ≡ false
+zero_two k = grind (arith, nat_tests)
+
+pub one_two : (k : ℕ) → (1 == k + 2) ≡ false
+one_two k = grind (arith, nat_tests)
+
+pub self : (k : ℕ) → (k == k) ≡ true
+self k = (Decides-eqb k k).1 refl
+
+pub swapped : (j k : ℕ) → (j == k) ≡ (k == j)
+swapped j k = elim (k == j) as (λ b. (k == j) ≡ b → (j == k) ≡ b) [
+  | true ↦ λ on. grind (arith, nat_tests)
+  | false ↦ λ off. grind (arith, nat_tests)
+] refl

@@ -1,0 +1,77 @@
+-- What is read off a log that goes on.
+use Rattle.std.proofs.Common.{◌≡◌, ℕ, None, Bool, true, false, List, [], ◌∷◌, ◌++◌, map, refl, sym, ap, ◌∙◌, append-nil}
+use Rattle.std.specs.Prelude.{if◌then◌else◌, ◌==◌, filter}
+use Rattle.std.proofs.lemmas.List.{map-append}
+use Rattle.std.proofs.lemmas.List.Elements.{filter-append, filter_map-append}
+use Rattle.nf_function.specs.declared.unit.Unit as units
+use Rattle.nf_function.specs.Semantics.{Semantics}
+use Rattle.nf_msgs.specs.declared.note.Note.{Note}
+use Rattle.nf_msgs.specs.declared.note.Note.TheVariants.{Arrived, Processed}
+use Rattle.net_world.specs.Log as log
+use Rattle.strong_share.specs.declared.note.StrongNote.{StrongNote}
+use Rattle.strong_share.specs.declared.note.StrongNote.TheVariants.{Queued}
+use Rattle.strong_share.specs.Start.{StrongJob}
+use Rattle.strong_share.specs.Words.{inner_note, inner_notes, entry_in, entries, queue_order, events_of, arrived, done, done_numbers, is_of, outputs_of, processed_of, outputs}
+
+-- the packets in entries, and those that a member raised
+abbrev pub entry_numbers : List (ℕ × ℕ) → List ℕ
+entry_numbers es = map (λ e. e.0) es
+
+abbrev pub member_numbers : ℕ → List (ℕ × ℕ) → List ℕ
+member_numbers k es = map (λ e. e.0) (filter (λ e. e.1 == k) es)
+
+pub entries-append : (xs ys : List StrongNote) → entries (xs ++ ys) ≡ entries xs ++ entries ys
+entries-append xs ys = filter_map-append entry_in xs ys
+
+pub queue_order-append : (xs ys : List StrongNote) → queue_order (xs ++ ys) ≡ queue_order xs ++ queue_order ys
+queue_order-append xs ys = ap entry_numbers (entries-append xs ys) ∙ map-append (λ (e : ℕ × ℕ). e.0) (entries xs) (entries ys)
+
+pub events_of-queued : (k p j : ℕ) (xs : List StrongNote) → events_of k (xs ++ Queued p j ∷ []) ≡ events_of k xs ++ (if j == k then p ∷ [] else [])
+events_of-queued k p j xs =
+    ap (member_numbers k) (entries-append xs (Queued p j ∷ []))
+    ∙ ap entry_numbers (filter-append (λ (e : ℕ × ℕ). e.1 == k) (entries xs) ((p, j) ∷ []))
+    ∙ map-append (λ (e : ℕ × ℕ). e.0) (filter (λ e. e.1 == k) (entries xs)) (if j == k then (p, j) ∷ [] else [])
+    ∙ ap (λ z. events_of k xs ++ z) (one (j == k))
+  where
+    one : (b : Bool) → entry_numbers (if b then (p, j) ∷ [] else []) ≡ (if b then p ∷ [] else [])
+    one true = refl
+    one false = refl
+
+log_arrived-append : (xs ys : List Note) → log.arrived (xs ++ ys) ≡ log.arrived xs ++ log.arrived ys
+log_arrived-append [] ys = refl
+log_arrived-append (Arrived p ∷ xs) ys = ap (λ z. p ∷ z) (log_arrived-append xs ys)
+log_arrived-append (n ∷ xs) ys = log_arrived-append xs ys
+
+log_done-append : (xs ys : List Note) → log.done (xs ++ ys) ≡ log.done xs ++ log.done ys
+log_done-append [] ys = refl
+log_done-append (Processed p i out ∷ xs) ys = ap (λ z. log.done (Processed p i out ∷ []) ++ z) (log_done-append xs ys)
+log_done-append (n ∷ xs) ys = log_done-append xs ys
+
+pub arrived-append : (xs ys : List StrongNote) → arrived (xs ++ ys) ≡ arrived xs ++ arrived ys
+arrived-append xs ys = ap log.arrived (filter_map-append inner_note xs ys) ∙ log_arrived-append (inner_notes xs) (inner_notes ys)
+
+pub done-append : (xs ys : List StrongNote) → done (xs ++ ys) ≡ done xs ++ done ys
+done-append xs ys = ap log.done (filter_map-append inner_note xs ys) ∙ log_done-append (inner_notes xs) (inner_notes ys)
+
+pub done_numbers-append : (xs ys : List StrongNote) → done_numbers (xs ++ ys) ≡ done_numbers xs ++ done_numbers ys
+done_numbers-append xs ys = ap (map (λ d. d.number)) (done-append xs ys) ∙ map-append (λ (d : log.Done). d.number) (done xs) (done ys)
+
+-- notes of which nothing is read but what arrived
+pub record IsQuiet (old new : List StrongNote) : Type 0 where
+  pub entries_stay : entries new ≡ entries old
+  pub done_stays : done new ≡ done old
+
+pub quiet_log : (old more : List StrongNote) → entries more ≡ [] → done more ≡ [] → IsQuiet old (old ++ more)
+quiet_log old more none undone = record {
+  entries_stay = entries-append old more ∙ ap (λ z. entries old ++ z) none ∙ append-nil (entries old);
+  done_stays = done-append old more ∙ ap (λ z. done old ++ z) undone ∙ append-nil (done old);
+}
+
+module _ {R : Type 0} (f : Semantics R) (job : StrongJob) where
+  -- outputs stay as they are where nothing is processed
+  pub answered_same : (old new : List StrongNote) → IsQuiet old new → ((u : units.Unit)
+      → outputs_of f job u old ≡ outputs f job None (processed_of f job u old))
+      → (u : units.Unit) → outputs_of f job u new ≡ outputs f job None (processed_of f job u new)
+  answered_same old new q h u =
+      ap (λ ds. map (λ d. d.output) (filter (λ d. is_of f job u d.number) ds)) q.done_stays ∙ h u
+      ∙ ap (λ ds. outputs f job None (filter (is_of f job u) (map (λ d. d.number) ds))) (sym q.done_stays)

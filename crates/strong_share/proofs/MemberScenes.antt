@@ -1,0 +1,120 @@
+-- What a member's step leaves of a scene, and which of its facts stay.
+use Rattle.std.proofs.Common.{◌≡◌, ℕ, ◌+◌, ◌<◌, Bool, true, false, List, [], ◌++◌, map, refl, sym, ap, ◌∙◌}
+use Rattle.std.specs.Prelude.{if◌then◌else◌, ◌==◌, not}
+use Rattle.std.proofs.lemmas.Bool.Decides.{Decides-eqb}
+use Rattle.std.specs.FinMap as finite
+use Rattle.nf_function.specs.declared.unit.Unit as units
+use Rattle.nf_function.specs.Semantics.{Semantics}
+use Rattle.record_table.specs.Table.{part}
+use Rattle.nf_msgs.specs.declared.msg.Msg.{Msg}
+use Rattle.instance_worker.specs.declared.instance.Instance.{Instance as InstanceState}
+use Rattle.instance_worker.specs.Instance.{Step}
+use Rattle.actor_net.specs.Histories.{sent_for}
+use Rattle.actor_net.proofs.WeightLaws.{Each, weigh}
+use Rattle.strong_share.specs.declared.note.StrongNote.{StrongNote}
+use Rattle.strong_share.specs.declared.note.StrongNote.TheVariants.{Inner}
+use Rattle.strong_share.specs.Tables.{is_home}
+use Rattle.strong_share.specs.Start.{StrongJob}
+use Rattle.strong_share.proofs.Lists.{put}
+use Rattle.strong_share.proofs.MemberRows.{IsMember}
+use Rattle.strong_share.proofs.Scenes.{Scene, member_did}
+use Rattle.strong_share.proofs.ServedPackets.{one_if}
+use Rattle.strong_share.proofs.Reading.{stop_in, each_at}
+use Rattle.strong_share.proofs.Holding.{out_label, back_label, home_label, Labelled, Ends, ends_left, Holds}
+
+pub put_own : {X : Type 0} (g : ℕ → X) (j k : ℕ) → put g j (g j) k ≡ g k
+put_own g j k = elim (k == j) as (λ b. (k == j) ≡ b → (if b then g j else g k) ≡ g k) [
+  | true ↦ λ on. (let same : k ≡ j = (Decides-eqb k j).0 on in ap g (sym same))
+  | false ↦ λ _. refl
+] refl
+
+-- What a member's step leaves: what it sent on its two links, and what it noted.
+module _ {F R : Type 0} (x : Scene F R) (out to : ℕ → List Msg) (j : ℕ) (node : InstanceState F R) (told credits : List Msg) (notes : List StrongNote) where
+  abbrev pub left_by : Scene F R
+  left_by = record x {
+    out = out;
+    to = to;
+    member = put x.member j node;
+    back = λ k. x.back k ++ (if k == j then told else []);
+    home = λ k. x.home k ++ (if k == j then credits else []);
+    log = x.log ++ notes;
+  }
+
+pub left_is : {F R : Type 0} (x : Scene F R) (out to : ℕ → List Msg) (j : ℕ) (did : Step F R) (told credits : List Msg) (notes : List StrongNote)
+    → sent_for 1 did.sends ≡ told → sent_for 0 did.sends ≡ credits → map Inner did.notes ≡ notes
+    → member_did (record x { out = out; to = to }) j did ≡ left_by x out to j did.node told credits notes
+left_is x out to j did told credits notes t c n =
+    ap (λ ms. left_by x out to j did.node ms (sent_for 0 did.sends) (map Inner did.notes)) t
+    ∙ ap (λ ms. left_by x out to j did.node told ms (map Inner did.notes)) c
+    ∙ ap (λ ns. left_by x out to j did.node told credits ns) n
+
+module _ {F R : Type 0} (f : Semantics R) (job : StrongJob) (x : Scene F R) (j : ℕ) (j_in : j < job.members) (h : Holds f job x) (node : InstanceState F R)
+  where
+    -- what stays as it is of a member
+    pub record Stays : Type 0 where
+      pub rules : node.rules ≡ (x.member j).rules
+      pub site : node.site ≡ (x.member j).site
+      pub index : node.index ≡ (x.member j).index
+
+    at_j : (k : ℕ) → k < job.members → Stays → IsMember job k (put x.member j node k)
+    at_j k k_in s = elim (k == j) as (λ b. (k == j) ≡ b → IsMember job k (if b then node else x.member k)) [
+      | true ↦ λ on.
+          let same : k ≡ j = (Decides-eqb k j).0 on in
+          let was = h.labelled.member j j_in in
+          record { rules = s.rules ∙ was.rules; site = s.site ∙ was.site; index = s.index ∙ was.index ∙ sym same }
+      | false ↦ λ _. h.labelled.member k k_in
+    ] refl
+
+    pub labelled_left : (out to : ℕ → List Msg) (told credits : List Msg) (notes : List StrongNote) → Stays
+        → ((k : ℕ) → k < job.members → Each (out_label job k) (out k)) → Each (back_label job j) told → Each (home_label job) credits
+        → Labelled job (left_by x out to j node told credits notes)
+    labelled_left out to told credits notes s outs backs homes = record {
+      input = h.labelled.input;
+      up = h.labelled.up;
+      down = h.labelled.down;
+      out = outs;
+      back = λ k k_in. each_at (back_label job) j k (x.back k) told (h.labelled.back k k_in) backs;
+      home = λ k k_in. each_at (λ i. home_label job) j k (x.home k) credits (h.labelled.home k k_in) homes;
+      switch = h.labelled.switch;
+      members = h.labelled.members;
+      member = λ k k_in. at_j k k_in s;
+    }
+
+    -- the records of a member
+    own_left : (k : ℕ) (u : units.Unit) (turned : Bool → Bool) → finite.get (part (put x.member j node k).table (turned (is_home k))) u
+        ≡ (if k == j then finite.get (part node.table (turned (is_home j))) u else finite.get (part (x.member k).table (turned (is_home k))) u)
+    own_left k u turned =
+        elim (k == j) as (λ b. (k == j) ≡ b → finite.get (part (if b then node else x.member k).table (turned (is_home k))) u
+        ≡ (if b then finite.get (part node.table (turned (is_home j))) u else finite.get (part (x.member k).table (turned (is_home k))) u)) [
+          | true ↦ λ on. (let same : k ≡ j = (Decides-eqb k j).0 on in ap (λ i. finite.get (part node.table (turned (is_home i))) u) same)
+          | false ↦ λ _. refl
+        ] refl
+
+    pub own_is : (k : ℕ) (u : units.Unit) → finite.get (part (put x.member j node k).table (is_home k)) u
+        ≡ (if k == j then finite.get (part node.table (is_home j)) u else finite.get (part (x.member k).table (is_home k)) u)
+    own_is k u = own_left k u (λ b. b)
+
+    pub other_is : part node.table (not (is_home j)) ≡ part (x.member j).table (not (is_home j)) → (k : ℕ) (u : units.Unit)
+        → finite.get (part (put x.member j node k).table (not (is_home k))) u ≡ finite.get (part (x.member k).table (not (is_home k))) u
+    other_is same k u =
+        own_left k u not ∙ elim (k == j) as (λ b. (k == j) ≡ b → (if b then finite.get (part node.table (not (is_home j))) u else finite.get
+        (part (x.member k).table (not (is_home k))) u) ≡ finite.get (part (x.member k).table (not (is_home k))) u) [
+          | true ↦ λ on. (let is_j : k ≡ j = (Decides-eqb k j).0 on in ap (λ t. finite.get t u) same
+              ∙ ap (λ i. finite.get (part (x.member i).table (not (is_home i))) u) (sym is_j))
+          | false ↦ λ _. refl
+        ] refl
+
+    -- the end: it goes on where the member's stop isn't taken
+    pub ends_left_by : (out to : ℕ → List Msg) (told credits : List Msg) (notes : List StrongNote) → node.ended ≡ (x.member j).ended
+        → ((k : ℕ) → weigh stop_in (out k) ≡ weigh stop_in (x.out k)) → Ends job (left_by x out to j node told credits notes)
+    ends_left_by out to told credits notes same stops = record {
+      closed = h.ends.closed;
+      stopped = λ k k_in. ap (λ s. ends_left job x + s + one_if (put x.member j node k).ended) (stops k)
+          ∙ ap (λ b. ends_left job x + weigh stop_in (x.out k) + one_if b) (ended k) ∙ h.ends.stopped k k_in;
+    }
+      where
+        ended : (k : ℕ) → (put x.member j node k).ended ≡ (x.member k).ended
+        ended k = elim (k == j) as (λ b. (k == j) ≡ b → (if b then node else x.member k).ended ≡ (x.member k).ended) [
+          | true ↦ λ on. (let is_j : k ≡ j = (Decides-eqb k j).0 on in same ∙ ap (λ i. (x.member i).ended) (sym is_j))
+          | false ↦ λ _. refl
+        ] refl

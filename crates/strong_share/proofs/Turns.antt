@@ -1,0 +1,63 @@
+-- How many members have yet to answer, where a turn changes and where the chunk goes to all but one.
+use Rattle.std.proofs.Common.{◌≡◌, ℕ, zero, suc, ◌+◌, ◌<◌, ◌≤◌, true, false, refl, ap, arith}
+use Rattle.std.specs.Prelude.{if◌then◌else◌, ◌==◌}
+use Rattle.std.proofs.lemmas.Bool.Decides.{nat_tests, Decides-eqb}
+use Rattle.strong_share.proofs.Lists.{put}
+use Rattle.strong_share.proofs.ServedPackets.{Turn, Turn.Going, Turn.Coming, Turn.Quiet, is_pending, one_if, pending}
+
+-- a turn that changes
+pending_put_over : (at : ℕ → Turn) (j n : ℕ) (t : Turn) → n ≤ j → pending (put at j t) n ≡ pending at n
+pending_put_over at j zero t over = refl
+pending_put_over at j (suc k) t over =
+    let other : (k == j) ≡ false = grind (arith, nat_tests, over) in
+    let rest = pending_put_over at j k t (omega (arith, over)) in
+    rw (rest, other) refl
+
+pub pending_put : (at : ℕ → Turn) (j n : ℕ) (t : Turn) → j < n → pending (put at j t) n + one_if (is_pending (at j)) ≡ pending at n + one_if (is_pending t)
+pending_put at j zero t there = absurd (omega arith)
+pending_put at j (suc k) t there =
+    elim (k == j) as (λ b. (k == j) ≡ b → pending (put at j t) k + one_if (is_pending (if b then t else at k)) + one_if (is_pending (at j))
+    ≡ pending at k + one_if (is_pending (at k)) + one_if (is_pending t)) [
+      | true ↦ λ on.
+          let same : k ≡ j = (Decides-eqb k j).0 on in
+          let rest = pending_put_over at j k t (omega (arith, same)) in
+          let here : one_if (is_pending (at k)) ≡ one_if (is_pending (at j)) = ap (λ i. one_if (is_pending (at i))) same in
+          omega (arith, rest, here)
+      | false ↦ λ off.
+          let apart : j < k = grind (arith, nat_tests, there, off) in
+          let rest = pending_put at j k t apart in
+          omega (arith, rest)
+    ] refl
+
+-- where none has yet to answer, all is quiet
+pub none_pending : (at : ℕ → Turn) (n : ℕ) → pending at n ≡ 0 → (k : ℕ) → k < n → at k ≡ Quiet
+none_pending at zero none k there = absurd (omega arith)
+none_pending at (suc n) none k there = elim (k == n) as (λ b. (k == n) ≡ b → at k ≡ Quiet) [
+  | true ↦ λ on. (let same : k ≡ n =
+      (Decides-eqb k n).0 on in by (at k) (let here : one_if (is_pending (at k)) ≡ one_if (is_pending (at n)) = ap (λ i. one_if (is_pending (at i))) same in
+      omega (arith, none, here)))
+  | false ↦ λ off. (let less : k < n = grind (arith, nat_tests, there, off) in none_pending at n (omega (arith, none)) k less)
+] refl
+  where
+    by : (t : Turn) → one_if (is_pending t) ≡ 0 → t ≡ Quiet
+    by Going e = absurd (omega (arith, e))
+    by Coming e = absurd (omega (arith, e))
+    by Quiet e = refl
+
+-- to all but one
+abbrev pub all_but : ℕ → ℕ → Turn
+all_but m k = if k == m then Quiet else Going
+
+all_pending : (m n : ℕ) → n ≤ m → pending (all_but m) n ≡ n
+all_pending m zero over = refl
+all_pending m (suc k) over =
+    let other : (k == m) ≡ false = grind (arith, nat_tests, over) in
+    let rest = all_pending m k (omega (arith, over)) in
+    rw other (omega (arith, rest))
+
+pub pending_all_but : (m n : ℕ) → m < n → pending (all_but m) n + 1 ≡ n
+pending_all_but m zero there = absurd (omega arith)
+pending_all_but m (suc k) there = elim (k == m) as (λ b. (k == m) ≡ b → pending (all_but m) k + one_if (is_pending (if b then Quiet else Going)) + 1 ≡ suc k) [
+  | true ↦ λ on. (let same : k ≡ m = (Decides-eqb k m).0 on in let rest = all_pending m k (omega (arith, same)) in omega (arith, rest))
+  | false ↦ λ off. (let less : m < k = grind (arith, nat_tests, there, off) in let rest = pending_all_but m k less in omega (arith, rest))
+] refl

@@ -1,0 +1,23 @@
+-- What the nodes of strong sharing hold. This project's own.
+use Rattle.std.specs.Prelude.{ℕ, Bool, List}
+use Rattle.flow_filter.specs.declared.filter.Filter.{Filter}
+use Rattle.flow_filter.specs.declared.site.Site.{Site}
+use Rattle.packet_pool.specs.Pool.{PoolState}
+use Rattle.strong_share.specs.declared.queued_packet.QueuedPacket.{QueuedPacket}
+use Rattle.strong_share.specs.declared.serving.Serving.{Serving}
+
+-- the switch: how many packets are under way, and whether all is done
+pub record SwitchState : Type 0 where
+  pub pool : PoolState
+  pub site : Site
+  pub filter : Filter
+  pub members : ℕ
+  pub flying : ℕ
+  pub closed : Bool
+
+-- the controller: the packets that wait, each with the member that raised it; where the one that is served is; and how many members have stopped
+pub record ControllerState : Type 0 where
+  pub members : ℕ
+  pub queue : List QueuedPacket
+  pub serving : Serving
+  pub finals : ℕ
