@@ -13,3 +13,5 @@ pub mod Theorem
 pub mod OtherMessages
 pub mod PushedPackets
 pub mod SentMessages
+pub mod PacketLines
+pub mod InstanceNames

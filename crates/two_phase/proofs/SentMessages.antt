@@ -1,4 +1,4 @@
--- What is sent before a last message, and that message.
+-- Lists after one another: what is sent before a last message, and that message; three texts.
 use Rattle.std.proofs.Common.{◌≡◌, Ok, Err, Result, List, ◌++◌, ap, ◌∙◌, append_assoc}
 use Rattle.std.specs.Prelude.{OnOk}
 
@@ -6,3 +6,9 @@ pub after_all : {X Y T E : Type 0} (result : Result T E) (new : List X × List Y
     → OnOk result (new ≡ (sent ++ one, notes)) → sent ≡ before ++ cells → OnOk result (new.0 ≡ before ++ (cells ++ one))
 after_all (Err e) new sent before cells one notes h is = tt
 after_all (Ok x) new sent before cells one notes h is = ap (λ n. n.0) h ∙ ap (λ l. l ++ one) is ∙ append_assoc before cells one
+
+pub three_after : {X T E : Type 0} (result : Result T E) (new old one two three : List X) → OnOk result (new ≡ ((old ++ one) ++ two) ++ three)
+    → OnOk result (new ≡ old ++ ((one ++ two) ++ three))
+three_after (Err e) new old one two three h = tt
+three_after (Ok x) new old one two three h =
+    h ∙ ap (λ l. l ++ three) (append_assoc old one two) ∙ append_assoc old (one ++ two) three

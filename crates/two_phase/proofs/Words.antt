@@ -11,7 +11,7 @@ use Rattle.nf_function.specs.declared.output.Output.{Output}
 use Rattle.nf_function.specs.declared.unit.Unit as units
 use Rattle.nf_function.specs.Records.{Laws as FunctionLaws}
 use Rattle.nf_function.specs.Semantics.{Semantics, kept_after, output_for}
-use Rattle.nf_msgs.specs.declared.note.Note.TheVariants as inner_note
+use Rattle.nf_msgs.specs.declared.note.Note.TheVariants as net_note
 use Rattle.actor_net.specs.declared.choice.Choice.{Choice}
 use Rattle.actor_net.specs.Network.{Network, is_enabled, is_done}
 use Rattle.net_world.specs.Fold.{times, is_of, fold, outputs, went, given}
@@ -25,7 +25,7 @@ use Rattle.two_phase.specs.declared.node.TwoNode.TheVariants.{Switch, Ctrl as Co
 use Rattle.two_phase.specs.Parts.{SwitchState}
 use Rattle.two_phase.specs.Tables.{node_ready, node_ended, has_closed}
 use Rattle.two_phase.specs.Start.{UpdateJob, IsUpdateJob, config_of, items_of}
-use Rattle.two_phase.specs.Promises.{inner, is_low, after_low, verdicts, live_in, switch_in, is_matched, has_come, Cells, mine, UpdateCompleted, Published}
+use Rattle.two_phase.specs.Promises.{inner_notes, is_low, after_low, verdicts, live_in, switch_in, is_matched, has_come, Cells, mine, UpdateCompleted, Published}
 use Rattle.two_machine.proofs.Tables as core
 use Rattle.two_machine.proofs.View.{read, read-append}
 use Rattle.two_machine.proofs.View as view
@@ -39,26 +39,26 @@ use Rattle.two_phase.proofs.RealRuns.{setting, S, early, late, IsShownBy}
 
 -- logs
 abbrev numbers_done : List TwoNote → List ℕ
-numbers_done log = map (λ d. d.number) (done (inner log))
+numbers_done log = map (λ d. d.number) (done (inner_notes log))
 
 done_is : (ns : List TwoNote) → numbers_done ns ≡ promises.processed (read outline_note ns)
 done_is [] = refl
-done_is (note.Inner (inner_note.Processed n i o) ∷ ns) = ap (λ l. n ∷ l) (done_is ns)
-done_is (note.Inner (inner_note.Arrived n) ∷ ns) = done_is ns
+done_is (note.Inner (net_note.Processed n i o) ∷ ns) = ap (λ l. n ∷ l) (done_is ns)
+done_is (note.Inner (net_note.Arrived n) ∷ ns) = done_is ns
 done_is (note.Inner n ∷ ns) = done_is ns
 done_is (n ∷ ns) = done_is ns
 
-arrived_is : (ns : List TwoNote) → arrived (inner ns) ≡ read view.arrived (read outline_note ns)
+arrived_is : (ns : List TwoNote) → arrived (inner_notes ns) ≡ read view.arrived (read outline_note ns)
 arrived_is [] = refl
-arrived_is (note.Inner (inner_note.Processed n i o) ∷ ns) = arrived_is ns
-arrived_is (note.Inner (inner_note.Arrived n) ∷ ns) = ap (λ l. n ∷ l) (arrived_is ns)
+arrived_is (note.Inner (net_note.Processed n i o) ∷ ns) = arrived_is ns
+arrived_is (note.Inner (net_note.Arrived n) ∷ ns) = ap (λ l. n ∷ l) (arrived_is ns)
 arrived_is (note.Inner n ∷ ns) = arrived_is ns
 arrived_is (n ∷ ns) = arrived_is ns
 
-come_is : (k : ℕ → Bool) (ns : List TwoNote) → list_any k (arrived (inner ns)) ≡ promises.has_come k (read outline_note ns)
+come_is : (k : ℕ → Bool) (ns : List TwoNote) → list_any k (arrived (inner_notes ns)) ≡ promises.has_come k (read outline_note ns)
 come_is k [] = refl
-come_is k (note.Inner (inner_note.Arrived n) ∷ ns) = ap (λ b. k n || b) (come_is k ns)
-come_is k (note.Inner (inner_note.Processed n i o) ∷ ns) = come_is k ns
+come_is k (note.Inner (net_note.Arrived n) ∷ ns) = ap (λ b. k n || b) (come_is k ns)
+come_is k (note.Inner (net_note.Processed n i o) ∷ ns) = come_is k ns
 come_is k (note.Inner n ∷ ns) = come_is k ns
 come_is k (n ∷ ns) = come_is k ns
 
@@ -72,8 +72,8 @@ later n ns off = rw off (ap (λ k. drop k (n ∷ ns)) (more (position_or_len is_
 after_is : (ns : List TwoNote) → read outline_note (after_low ns) ≡ promises.after_low (read outline_note ns)
 after_is [] = refl
 after_is (note.Low ∷ ns) = refl
-after_is (note.Inner (inner_note.Arrived n) ∷ ns) = ap (read outline_note) (later (note.Inner (inner_note.Arrived n)) ns refl) ∙ after_is ns
-after_is (note.Inner (inner_note.Processed n i o) ∷ ns) = ap (read outline_note) (later (note.Inner (inner_note.Processed n i o)) ns refl) ∙ after_is ns
+after_is (note.Inner (net_note.Arrived n) ∷ ns) = ap (read outline_note) (later (note.Inner (net_note.Arrived n)) ns refl) ∙ after_is ns
+after_is (note.Inner (net_note.Processed n i o) ∷ ns) = ap (read outline_note) (later (note.Inner (net_note.Processed n i o)) ns refl) ∙ after_is ns
 after_is (note.Inner n ∷ ns) = ap (read outline_note) (later (note.Inner n) ns refl) ∙ after_is ns
 after_is (n ∷ ns) = ap (read outline_note) (later n ns refl) ∙ after_is ns
 
@@ -85,8 +85,8 @@ verdicts_are : (ns : List TwoNote) → verdicts ns ≡ map real_note (promises.v
 verdicts_are [] = refl
 verdicts_are (note.Done ∷ ns) = ap (λ l. note.Done ∷ l) (verdicts_are ns)
 verdicts_are (note.NoPacket ∷ ns) = ap (λ l. note.NoPacket ∷ l) (verdicts_are ns)
-verdicts_are (note.Inner (inner_note.Arrived n) ∷ ns) = verdicts_are ns
-verdicts_are (note.Inner (inner_note.Processed n i o) ∷ ns) = verdicts_are ns
+verdicts_are (note.Inner (net_note.Arrived n) ∷ ns) = verdicts_are ns
+verdicts_are (note.Inner (net_note.Processed n i o) ∷ ns) = verdicts_are ns
 verdicts_are (note.Inner n ∷ ns) = verdicts_are ns
 verdicts_are (n ∷ ns) = verdicts_are ns
 
@@ -130,18 +130,18 @@ module _ (F : Type 0) {R : Type 0} (f : Semantics R) (laws : FunctionLaws f) (al
       ap (λ k. output_for f job.site o (packet_numbered (items_of job) p) ∷ outputs f (config_of job) (items_of job) k ps) (kept_is o p)
       ∙ ap (λ l. output_for f job.site o (packet_numbered (items_of job) p) ∷ l) (outputs_are (Some (its.step o p)) ps)
 
-  given_is : (u : units.Unit) (ns : List TwoNote) → given f (config_of job) (items_of job) u (inner ns) ≡ promises.given its u (read outline_note ns)
+  given_is : (u : units.Unit) (ns : List TwoNote) → given f (config_of job) (items_of job) u (inner_notes ns) ≡ promises.given its u (read outline_note ns)
   given_is u [] = refl
-  given_is u (note.Inner (inner_note.Processed p i o) ∷ ns) =
+  given_is u (note.Inner (net_note.Processed p i o) ∷ ns) =
       elim (is_of f (config_of job) (items_of job) u p) as (λ b.
       map (λ d. d.output)
-      (if b then record { number = p; node = i + 2; output = o } ∷ done_of (is_of f (config_of job) (items_of job) u) (done (inner ns))
-      else done_of (is_of f (config_of job) (items_of job) u) (done (inner ns)))
+      (if b then record { number = p; node = i + 2; output = o } ∷ done_of (is_of f (config_of job) (items_of job) u) (done (inner_notes ns))
+      else done_of (is_of f (config_of job) (items_of job) u) (done (inner_notes ns)))
       ≡ (if b then o ∷ promises.given its u (read outline_note ns) else promises.given its u (read outline_note ns))) [
         | true ↦ ap (λ l. o ∷ l) (given_is u ns)
         | false ↦ given_is u ns
       ]
-  given_is u (note.Inner (inner_note.Arrived n) ∷ ns) = given_is u ns
+  given_is u (note.Inner (net_note.Arrived n) ∷ ns) = given_is u ns
   given_is u (note.Inner n ∷ ns) = given_is u ns
   given_is u (n ∷ ns) = given_is u ns
 
@@ -159,8 +159,8 @@ module _ (F : Type 0) {R : Type 0} (f : Semantics R) (laws : FunctionLaws f) (al
       ]
 
   went_is : (u : units.Unit) (ns : List TwoNote)
-      → went f (config_of job) (items_of job) u (inner ns) ≡ promises.of_unit its u (promises.processed (read outline_note ns))
-  went_is u ns = went_those u (done (inner ns)) ∙ those_are u (numbers_done ns) ∙ ap (promises.of_unit its u) (done_is ns)
+      → went f (config_of job) (items_of job) u (inner_notes ns) ≡ promises.of_unit its u (promises.processed (read outline_note ns))
+  went_is u ns = went_those u (done (inner_notes ns)) ∙ those_are u (numbers_done ns) ∙ ap (promises.of_unit its u) (done_is ns)
 
   after_come : (ns : List TwoNote) → has_come job (after_low ns) ≡ promises.has_come its.covers (promises.after_low (read outline_note ns))
   after_come ns = come_is (is_matched job) (after_low ns) ∙ ap (promises.has_come its.covers) (after_is ns)
@@ -293,7 +293,7 @@ module _ (F : Type 0) {R : Type 0} (f : Semantics R) (laws : FunctionLaws f) (al
               ∙ every.answers u
               ∙ ap (λ l. promises.outputs its None (promises.of_unit its u (promises.processed l))) (sym log)
               ∙ ap (promises.outputs its None) (sym (went_is u w.log))
-              ∙ sym (outputs_are None (went f (config_of job) (items_of job) u (inner w.log)));
+              ∙ sym (outputs_are None (went f (config_of job) (items_of job) u (inner_notes w.log)));
           completed = completed;
           laid = λ before after at.
               after_come before

@@ -26,12 +26,12 @@ use Rattle.two_phase.specs.Tables.{node_ready, node_ended}
 use Rattle.two_phase.specs.Start.{UpdateJob, config_of, items_of}
 
 -- the notes of the network
-abbrev pub inner_in : TwoNote → Option Note
-inner_in (Inner note) = Some note
-inner_in note = None
+abbrev pub inner_note : TwoNote → Option Note
+inner_note (Inner note) = Some note
+inner_note note = None
 
-abbrev pub inner : List TwoNote → List Note
-inner log = filter_map inner_in log
+abbrev pub inner_notes : List TwoNote → List Note
+inner_notes log = filter_map inner_note log
 
 -- what was noted after the low rule was laid
 abbrev pub is_low : TwoNote → Bool
@@ -70,7 +70,7 @@ module _ (job : UpdateJob) where
 
   -- whether such a packet arrived
   abbrev pub has_come : List TwoNote → Bool
-  has_come log = list_any is_matched (arrived (inner log))
+  has_come log = list_any is_matched (arrived (inner_notes log))
 
   -- the switch counts the packets under way, and the other cells are at home
   pub record Cells {F R : Type 0} (w : Network (TwoNode F R) TwoMsg TwoNote) : Type 0 where
@@ -88,7 +88,7 @@ module _ {R : Type 0} (f : Semantics R) (job : UpdateJob) where
   -- what a complete run keeps besides
   pub record UpdateCompleted {F : Type 0} (w : Network (TwoNode F R) TwoMsg TwoNote) : Type 0 where
     -- (2) each packet of a unit is processed, and its record is live at one instance alone
-    pub all_went : (unit : units.Unit) → went f (config_of job) (items_of job) unit (inner w.log) ≡ mine unit
+    pub all_went : (unit : units.Unit) → went f (config_of job) (items_of job) unit (inner_notes w.log) ≡ mine unit
     pub live_is : (unit : units.Unit)
         → filter_map (live_in unit) w.nodes ≡ option_to_list (fold f (config_of job) (items_of job) None (mine unit))
     -- (4) the update is done where a packet that the filter matches came after the low rule, and else no packet came
@@ -97,14 +97,14 @@ module _ {R : Type 0} (f : Semantics R) (job : UpdateJob) where
   -- what every run keeps, by these choices
   pub record Published {F : Type 0} (choices : List Choice) (w : Network (TwoNode F R) TwoMsg TwoNote) : Type 0 where
     -- the switch takes the packets of the trace in their order
-    pub in_turn : IsFront (arrived (inner w.log)) (trace job)
+    pub in_turn : IsFront (arrived (inner_notes w.log)) (trace job)
     -- (1) what is processed of a unit is a front of its packets, each packet once at most
-    pub in_order : (unit : units.Unit) → IsFront (went f (config_of job) (items_of job) unit (inner w.log)) (mine unit)
-    pub once : (p : ℕ) → times p (map (λ d. d.number) (done (inner w.log))) ≤ 1
+    pub in_order : (unit : units.Unit) → IsFront (went f (config_of job) (items_of job) unit (inner_notes w.log)) (mine unit)
+    pub once : (p : ℕ) → times p (map (λ d. d.number) (done (inner_notes w.log))) ≤ 1
     -- (2) outputs are those of one instance that nothing moves, and so is the record at the end
     pub outputs_are : (unit : units.Unit)
-        → given f (config_of job) (items_of job) unit (inner w.log)
-        ≡ outputs f (config_of job) (items_of job) None (went f (config_of job) (items_of job) unit (inner w.log))
+        → given f (config_of job) (items_of job) unit (inner_notes w.log)
+        ≡ outputs f (config_of job) (items_of job) None (went f (config_of job) (items_of job) unit (inner_notes w.log))
     pub completed : is_done node_ended w ≡ true → UpdateCompleted w
     -- (3) the low rule is laid before the high one, and between them a packet that the filter matches arrived
     pub laid : (before after : List TwoNote) → w.log ≡ before ++ High ∷ after → has_come job (after_low before) ≡ true

@@ -4,7 +4,7 @@
 //!
 //! Contracts see a [`TwoSwitch`] and a [`TwoCtrl`] as their fields, and a [`TwoNode`] as the value of the node that it is. This crate touches nothing
 //! but memory. Each step of a node is its row of the tables in `specs/Tables.antt`; what [`run_two`] and [`simulate_two`] promise of every run stands
-//! in one file, `specs/Promises.antt`.
+//! in one file, `specs/Promises.antt`; and [`report_two`] writes exactly the lines of `specs/Report.antt`.
 #![tactic(auto)]
 
 pub mod controller;
@@ -13,6 +13,7 @@ pub mod msg;
 pub mod node;
 pub mod note;
 pub mod phase;
+pub mod report;
 pub mod roles;
 pub mod run;
 pub mod starting;
@@ -24,6 +25,7 @@ pub use msg::TwoMsg;
 pub use node::TwoNode;
 pub use note::TwoNote;
 pub use phase::Phase;
+pub use report::{TwoHead, report_two};
 pub use run::{run_two, simulate_two};
 pub use starting::start;
 pub use switch::TwoSwitch;

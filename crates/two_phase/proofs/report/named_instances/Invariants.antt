@@ -1,0 +1,8 @@
+-- The instances of the nodes so far, and those still to come, under the names that are left.
+use Rattle.std.proofs.Common.{◌≡◌, ◌++◌, drop}
+use Rattle.report_lines.specs.Seen.{texts_seen}
+use Rattle.two_phase.specs.Report.{named_instances}
+use Rattle.two_phase.proofs.report.named_instances.Given as goal
+
+abbrev pub invariant-loop-node : goal.invariant-loop-node
+invariant-loop-node g l = l.found.items ++ named_instances (texts_seen l.left) (drop l.node-index l.nodes) ≡ named_instances (texts_seen l.names) l.nodes
