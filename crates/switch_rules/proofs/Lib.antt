@@ -6,4 +6,7 @@ mod MaskLists
 mod PlacedRules
 mod GroupLemmas
 mod FirstMatches
-mod Coverings
+mod RedirectSteps
+mod SpanLemmas
+mod NextPlaces
+mod SectionLemmas

@@ -1,20 +1,19 @@
--- Under its mask a filter matches a flow, or covers a filter, exactly where the values are its own.
-use Rattle.std.proofs.Common.{◌≡◌, ◌≢◌, ℕ, ◌+◌, ◌-◌, ◌*◌, ◌/◌, ◌%◌, ◌^◌, ◌<◌, Bool, true, false, not, eqb, leb, ◌&&◌, ◌||◌, Option, None, Some, is_some, unwrap_or, refl, ap, sym, subst, ◌∙◌, arith}
+-- Under its mask a filter matches a flow exactly where the values are its own.
+use Rattle.std.proofs.Common.{◌≡◌, ℕ, ◌+◌, ◌-◌, ◌*◌, ◌/◌, ◌%◌, ◌^◌, ◌<◌, Bool, true, false, eqb, ◌&&◌, Option, None, Some, is_some, unwrap_or, refl, ap, sym, ◌∙◌, arith}
 use Rattle.std.specs.Prelude.{nat_eq}
 use Rattle.std.specs.Bool.{beq}
-use Rattle.std.specs.Option.{ForSome, option_map_or}
-use Rattle.std.proofs.lemmas.Bool.{eqb-true, eqb-false, eq-eqb, ne_eqb, le-leb, lt-leb, and_parts, and_from, and_left, true≢false, false_from_ne_true}
+use Rattle.std.specs.Option.{option_map_or}
+use Rattle.std.proofs.lemmas.Bool.{eqb-true, eqb-false, eq-eqb, ne_eqb, and_parts, true≢false, false_from_ne_true}
 use Rattle.std.proofs.lemmas.Nat.{shr_split, pow_pos}
-use Rattle.std.proofs.Math.Nat.{div-eq_of_lt, mul-div_cancel, zero-mul}
+use Rattle.std.proofs.Math.Nat.{div-eq_of_lt, mul-div_cancel}
 use Rattle.std.proofs.Math.Bool.{and-false, and-true}
 use Rattle.flow_filter.specs.declared.prefix.Prefix.{Prefix}
 use Rattle.flow_filter.specs.declared.flow.Flow.{Flow}
 use Rattle.flow_filter.specs.declared.filter.Filter.{Filter}
 use Rattle.flow_filter.specs.Flow.{flow_eq}
-use Rattle.flow_filter.specs.Filter.{holds, agrees, matches, covers, covers_value, covers_prefix, IsFlow, IsFilter}
-use Rattle.flow_filter.proofs.FieldTests.{FieldTests, all_pass, all_both}
+use Rattle.flow_filter.specs.Filter.{holds, agrees, matches, IsFlow}
 use Rattle.switch_rules.specs.declared.mask.Mask.{Mask}
-use Rattle.switch_rules.specs.Masks.{mask_of, values_of, where_given, front, masked, mask_eq, is_within}
+use Rattle.switch_rules.specs.Masks.{mask_of, values_of, where_given, front, masked, mask_eq}
 
 -- an address whose last bits are zeros is the front of another exactly where their fronts are equal
 front_test : (s b a : ℕ) → b % 2 ^ s ≡ 0 → eqb (a / 2 ^ s) (b / 2 ^ s) ≡ eqb b (a / 2 ^ s * 2 ^ s)
@@ -64,50 +63,6 @@ pub matches-masked : (f : Filter) (flow : Flow) → IsFlow flow → matches f fl
 matches-masked f flow fits = matches_by_field
     (number_matches f.proto flow.proto) (prefix_matches f.local flow.local fits.local) (number_matches f.lport flow.lport)
     (prefix_matches f.remote flow.remote fits.remote) (number_matches f.rport flow.rport)
-
--- one field covers another where the mask's is within the other's and the values are equal
-record FieldCovers (covers within equal : Bool) : Type 0 where
-  is : covers ≡ (within && equal)
-
-number_covers : (x y : Option ℕ) → FieldCovers (covers_value nat_eq x y) (not (is_some x) || is_some y) (eqb (unwrap_or x 0) (where_given (is_some x) (unwrap_or y 0)))
-number_covers None y = record { is = refl }
-number_covers (Some x) None = record { is = refl }
-number_covers (Some x) (Some y) = record { is = refl }
-
-front_zero : (len : ℕ) → front len 0 ≡ 0
-front_zero len = ap (λ n. n * 2 ^ (32 - len)) (div-eq_of_lt (pow_pos (32 - len))) ∙ zero-mul (2 ^ (32 - len))
-
--- a given prefix against a field that isn't given
-whole_bits : (bits len : ℕ) → len ≡ 0 → bits < 2 ^ 32 → bits % 2 ^ (32 - len) ≡ 0 → bits ≡ 0
-whole_bits bits len none small aligned =
-    let rest : bits % 2 ^ 32 ≡ 0 = subst (λ n. bits % 2 ^ (32 - n) ≡ 0) none aligned in omega arith
-
-prefix_covers_all : (p : Prefix) (is_empty : Bool) → eqb p.len 0 ≡ is_empty → p.bits < 2 ^ 32 → is_empty ≡ (leb p.len 0 && eqb p.bits (front p.len 0))
-prefix_covers_all p true is small =
-    let none : p.len ≡ 0 = eqb-true p.len 0 is in
-    sym (and_from _ _ (le-leb p.len 0 (omega arith)) (eq-eqb p.bits (front p.len 0) (whole_bits p.bits p.len none small p.aligned ∙ sym (front_zero p.len))))
-prefix_covers_all p false is small = let some : p.len ≢ 0 = eqb-false p.len 0 is in sym (and_left _ _ (lt-leb p.len 0 (omega arith)))
-
-prefix_covers : (x y : Option Prefix) → ForSome x (λ p. p.bits < 2 ^ 32) → ForSome y (λ p. p.bits < 2 ^ 32)
-    → FieldCovers (covers_prefix x y) (leb (len_of x) (len_of y)) (eqb (bits_of x) (front (len_of x) (bits_of y)))
-prefix_covers None None fx fy = record { is = refl }
-prefix_covers None (Some q) fx fy = record { is = sym (and_from _ _ (le-leb 0 q.len (omega arith)) (eq-eqb 0 (front 0 q.bits) (sym (front_none q.bits (fy q refl))))) }
-prefix_covers (Some p) None fx fy = record { is = prefix_covers_all p (eqb p.len 0) refl (fx p refl) }
-prefix_covers (Some p) (Some q) fx fy = record { is = ap (λ b. leb p.len q.len && b) (front_test (32 - p.len) p.bits q.bits p.aligned) }
-
-covers_by_field : {p l lp r rp a b c d e v w x y z : Bool} → FieldCovers p a v → FieldCovers l b w → FieldCovers lp c x → FieldCovers r d y → FieldCovers rp e z
-    → (p && l && lp && r && rp) ≡ ((a && b && c && d && e) && (w && (y && (x && (z && v)))))
-covers_by_field {a = a} {b = b} {c = c} {d = d} {e = e} {v = v} {w = w} {x = x} {y = y} {z = z} proto local lport remote rport =
-    let within : FieldTests = record { proto = a; local = b; lport = c; remote = d; rport = e } in
-    let equal : FieldTests = record { proto = v; local = w; lport = x; remote = y; rport = z } in
-    rw (proto.is, local.is, lport.is, remote.is, rport.is) (all_both within equal ∙ ap (λ t. all_pass within && t) (five_in_order v w x y z))
-
--- a filter covers another exactly where its mask is within the other's, whose values under it are its own
-pub covers-masked : (f g : Filter) → IsFilter f → IsFilter g
-    → covers f g ≡ (is_within (mask_of f) (mask_of g) && flow_eq (values_of f) (masked (mask_of f) (values_of g)))
-covers-masked f g ff fg = covers_by_field
-    (number_covers f.proto g.proto) (prefix_covers f.local g.local ff.local fg.local) (number_covers f.lport g.lport)
-    (prefix_covers f.remote g.remote ff.remote fg.remote) (number_covers f.rport g.rport)
 
 -- masks that are equal by their test are the same
 beq_same : (a b : Bool) → beq a b ≡ true → a ≡ b

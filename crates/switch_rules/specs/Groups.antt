@@ -1,16 +1,15 @@
 -- The classifier: the rules in groups by their masks. A flow is looked up once in each group, and the entry with the least place is
 -- the first rule that matches. This project's own, after tuple space search (Srinivasan, Suri and Varghese, 1999).
-use Rattle.std.specs.Prelude.{◌≡◌, ◌&&◌, Bool, nat_lt, if◌then◌else◌, List, [], ◌∷◌, map, find, All, Option, None, Some, IsSome, is_some, option_map}
+use Rattle.std.specs.Prelude.{◌≡◌, ◌&&◌, Bool, nat_lt, if◌then◌else◌, List, [], ◌∷◌, map, find, All, Option, None, Some, IsSome, option_map}
 use Rattle.std.specs.List.{enumerate_from, filter_map}
 use Rattle.flow_filter.specs.declared.flow.Flow.{Flow}
-use Rattle.flow_filter.specs.declared.filter.Filter.{Filter}
 use Rattle.flow_filter.specs.Flow.{flow_eq}
 use Rattle.unit_map.specs.Entries.{record_of}
 use Rattle.switch_rules.specs.declared.target.Target.{Target}
 use Rattle.switch_rules.specs.declared.mask.Mask.{Mask}
 use Rattle.switch_rules.specs.declared.group.Group.{Group}
 use Rattle.switch_rules.specs.declared.group.Placed.{Placed}
-use Rattle.switch_rules.specs.Masks.{mask_of, values_of, masked, mask_eq, is_within}
+use Rattle.switch_rules.specs.Masks.{mask_of, values_of, masked, mask_eq}
 use Rattle.flow_filter.specs.Filter.{IsFlow}
 use Rattle.switch_rules.specs.Rules.{Rule, first_match, firsts, AreFilters}
 
@@ -54,10 +53,6 @@ least (p ∷ ps) = nearer (Some p) (least ps)
 -- the target of the entry with the least place
 abbrev pub answer : List Group → Flow → Option Target
 answer groups flow = option_map (λ p. p.target) (least (met groups flow))
-
--- a group has an entry at what the filter says of the group's fields, all of which it gives: that of a rule that covers the filter
-abbrev pub has_covering : Filter → Group → Bool
-has_covering f g = is_within g.mask (mask_of f) && is_some (entry g (masked g.mask (values_of f)))
 
 -- rules with their groups, where each flow has a rule
 pub record AreClassified (rules : List Rule) (groups : List Group) : Type 0 where

@@ -1,6 +1,6 @@
 -- Masks: which fields a filter gives, and how much of its addresses. Flows that agree under a filter's mask are matched alike.
 -- This project's own, after tuple space search (Srinivasan, Suri and Varghese, 1999).
-use Rattle.std.specs.Prelude.{ℕ, ◌-◌, ◌*◌, ◌/◌, ◌^◌, ◌==◌, ◌&&◌, ◌||◌, nat_le, not, Bool, if◌then◌else◌, unwrap_or, is_some}
+use Rattle.std.specs.Prelude.{ℕ, ◌-◌, ◌*◌, ◌/◌, ◌^◌, ◌==◌, ◌&&◌, Bool, if◌then◌else◌, unwrap_or, is_some}
 use Rattle.std.specs.Bool.{beq}
 use Rattle.std.specs.Option.{option_map_or}
 use Rattle.flow_filter.specs.declared.flow.Flow.{Flow}
@@ -49,8 +49,3 @@ masked m flow = record {
 -- the masks are equal in every field
 abbrev pub mask_eq : Mask → Mask → Bool
 mask_eq a b = beq a.proto b.proto && (a.local == b.local && (beq a.lport b.lport && (a.remote == b.remote && beq a.rport b.rport)))
-
--- each field of the first mask is one of the second, which has no shorter prefixes
-abbrev pub is_within : Mask → Mask → Bool
-is_within a b = (not a.proto || b.proto) && nat_le a.local b.local && (not a.lport || b.lport) && nat_le a.remote b.remote
-    && (not a.rport || b.rport)

@@ -1,11 +1,12 @@
 -- The switch's rules: the first rule that matches a flow gives its target.
 -- This project's own, after flow tables whose rules stand in the order of their priority.
 use Rattle.std.specs.Prelude.{◌≡◌, ℕ, ◌==◌, ◌&&◌, Bool, true, false, not, if◌then◌else◌, List, [], ◌∷◌, ◌++◌, map, filter, find, All, Option, None, option_map, option_to_list}
-use Rattle.std.specs.List.{flat_map}
+use Rattle.std.specs.List.{flat_map, fold}
 use Rattle.std.specs.Option.{option_map_or}
 use Rattle.flow_filter.specs.declared.flow.Flow.{Flow}
 use Rattle.flow_filter.specs.declared.filter.Filter.{Filter}
 use Rattle.flow_filter.specs.Filter.{matches, meet, covers, IsFlow, IsFilter}
+use Rattle.switch_rules.specs.declared.redirect.Redirect.{Redirect as Order}
 use Rattle.switch_rules.specs.declared.target.Target.{Target}
 use Rattle.switch_rules.specs.declared.target.Target.TheVariants.{Instance, Controller}
 
@@ -37,14 +38,20 @@ abbrev pub routed : List (Filter × ℕ) → Flow → ℕ
 routed routes flow = option_map_or (λ r. r.1) (find (λ r. matches r.0 flow) routes) 0
 
 -- an order to the switch: flows of the filter that go to one target are to go to another
-pub record Redirect : Type 0 where
-  pub filter : Filter
-  pub from : Target
-  pub to : Target
+abbrev pub Redirect : Type 0
+Redirect = Order
+
+-- the redirect takes the flow from this target
+abbrev pub takes : Redirect → Flow → Target → Bool
+takes r flow target = matches r.filter flow && target_eq target r.from
 
 -- the target afterwards of a flow with this target before
 abbrev pub redirected_target : Redirect → Flow → Target → Target
-redirected_target r flow target = if matches r.filter flow && target_eq target r.from then r.to else target
+redirected_target r flow target = if takes r flow target then r.to else target
+
+-- the same after redirects, one after another
+abbrev pub target_after : List Redirect → Flow → Target → Target
+target_after redirects flow before = fold (λ target r. redirected_target r flow target) before redirects
 
 -- the new rules give each flow its target after the redirect
 abbrev pub Redirects : Redirect → List Rule → List Rule → Type 0
@@ -68,6 +75,14 @@ uncovered rules = firsts (λ earlier later. covers earlier.0 later.0) rules
 abbrev pub redirected : Redirect → List Rule → List Rule
 redirected r rules = uncovered (flat_map (split r) rules)
 
+-- the same after redirects, one after another
+abbrev pub rules_after : List Redirect → List Rule → List Rule
+rules_after redirects rules = fold (λ old r. redirected r old) rules redirects
+
 -- each number that the rules' filters give is within its type
 abbrev pub AreFilters : List Rule → Type 0
 AreFilters rules = All (λ r. IsFilter r.0) rules
+
+-- the same of redirects
+abbrev pub AreRedirects : List Redirect → Type 0
+AreRedirects redirects = All (λ r. IsFilter r.filter) redirects

@@ -1,10 +1,9 @@
 ghost use Rattle.std.specs.Prelude.{◌≡◌, ◌∷◌, ◌++◌, [], length, min, position, IfOk, OnOk, List};
-ghost use Rattle.std.specs.List.{list_any};
-ghost use Rattle.flow_filter.specs.Filter.{covers, IsFlow, IsFilter};
+ghost use Rattle.flow_filter.specs.Filter.{IsFlow, IsFilter};
 ghost use Rattle.flow_filter.specs.declared.flow.Flow.{Flow as EachFlow};
 ghost use Rattle.switch_rules.specs.Rules.{Rule, first_match, AreFilters};
 ghost use Rattle.switch_rules.specs.Masks.{mask_eq};
-ghost use Rattle.switch_rules.specs.Groups.{AreGroups, answer, met, nearer, least, has_covering};
+ghost use Rattle.switch_rules.specs.Groups.{AreGroups, answer, met, nearer, least};
 
 use crate::group::{Group, Placed};
 use crate::mask::{Mask, values_of};
@@ -95,14 +94,6 @@ impl Classifier {
             }
         }
     }
-
-    /// Whether one of the rules covers a filter.
-    pub(crate) fn covers(&self, filter: Filter) -> bool
-        ensures covers { (rules : List Rule) → AreGroups rules self.now → AreFilters rules → result ≡ list_any (λ r. covers r.0 filter) rules }
-        ensures filter { IsFilter filter }
-    {
-        has_covering(&self.groups, filter)
-    }
 }
 
 /// Of the entries that the flow meets, the one with the least place.
@@ -134,14 +125,4 @@ fn place_of(groups: &[Group], mask: Mask) -> Option<usize>
     ensures { result ≡ position (λ g. mask_eq g.mask mask) groups.now }
 {
     groups.iter().position(|group| group.mask == mask)
-}
-
-/// Whether a group has an entry for a rule that covers the filter.
-fn has_covering(groups: &[Group], filter: Filter) -> bool
-    ensures value { result ≡ list_any (has_covering filter) groups.now }
-    ensures filter { IsFilter filter }
-{
-    let mask = Mask::of(&filter);
-    let values = values_of(&filter);
-    groups.iter().any(|group| group.mask.is_within(&mask) && group.find(&values).is_some())
 }

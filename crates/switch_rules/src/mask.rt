@@ -1,5 +1,5 @@
 ghost use Rattle.std.specs.Prelude.{◌≡◌};
-ghost use Rattle.switch_rules.specs.Masks.{mask_of, values_of, masked, front, is_within};
+ghost use Rattle.switch_rules.specs.Masks.{mask_of, values_of, masked, front};
 
 use flow_filter::{Filter, Flow};
 
@@ -38,17 +38,6 @@ impl Mask {
             rport: if self.rport { flow.rport } else { 0 },
             proto: if self.proto { flow.proto } else { 0 },
         }
-    }
-
-    /// Whether each field of the mask is one of the other, which has no shorter prefixes.
-    pub fn is_within(&self, other: &Mask) -> bool
-        ensures { result ≡ is_within self.now other.now }
-    {
-        (!self.proto || other.proto)
-            && self.local <= other.local
-            && (!self.lport || other.lport)
-            && self.remote <= other.remote
-            && (!self.rport || other.rport)
     }
 }
 

@@ -1,25 +1,31 @@
--- The law of the new list, and that the classifier is the list's.
-use Rattle.std.proofs.Common.{◌≡◌, ap, sym, ◌∙◌, subst, flat_map}
-use Rattle.switch_rules.specs.Rules.{Redirect, Redirects, split, uncovered, redirected, AreFilters}
-use Rattle.switch_rules.proofs.RedirectLaws.{AreFilters-redirected, redirected_law, still_all}
+-- One more redirect keeps the numbers of all filters within their types, and changes targets by its law.
+use Rattle.std.proofs.Common.{ap, sym, subst, ◌∙◌}
+use Rattle.std.proofs.lemmas.List.Elements.{All-push}
+use Rattle.std.proofs.lemmas.List.Sums.{fold_push}
+use Rattle.switch_rules.specs.Rules.{AreRedirects, Redirect, Redirects, redirected, rules_after}
+use Rattle.switch_rules.proofs.RedirectLaws.{redirected_law}
+use Rattle.switch_rules.proofs.RedirectSteps.{AreFilters-after, fits}
 use Rattle.switch_rules.proofs.rules.Rules.redirect.Goals as goal
 
-abbrev order : goal.After-drop-parts-2 → Redirect
+pub invariant_of-self : goal.invariant_of-self
+invariant_of-self c = (c.self.invariant.0, subst AreRedirects (sym c.in_err-push.ensures.err) c.self.invariant.1)
+
+abbrev order : goal.In_ok-push → Redirect
 order c = record { filter = c.args.filter.now; from = c.args.from; to = c.args.to }
 
-list : (c : goal.After-drop-parts-2) → c.in_ok-list.list.items ≡ redirected (order c) c.self.inside.list.items
-list c = c.in_ok-list.ensures.list ∙ ap uncovered (c.deref-2.ensures.value ∙ c.in_ok-parts.ensures.list ∙ ap (flat_map (split (order c))) c.deref.ensures.value)
-
-law : (c : goal.After-drop-parts-2) → Redirects (order c) c.self.inside.list.items c.in_ok-list.list.items
-law c = subst (Redirects (order c) c.self.inside.list.items) (sym (list c))
-    (redirected_law (order c) c.self.inside.list.items c.self.invariant.filters c.in_ok-parts.ensures.filter)
-
-pub invariant_of-self : goal.invariant_of-self
-invariant_of-self c = record {
-  grouped = c.in_ok-list.ensures.groups;
-  filters = subst AreFilters (sym (list c)) (AreFilters-redirected (order c) c.self.inside.list.items c.self.invariant.filters c.in_ok-parts.ensures.filter);
-  all = still_all (order c) c.self.inside.list.items c.in_ok-list.list.items (law c) c.self.invariant.all;
-}
+pub invariant_of-self-2 : goal.invariant_of-self-2
+invariant_of-self-2 c = (
+  c.self.invariant.0,
+  subst AreRedirects (sym c.in_ok-push.ensures.ok)
+      (All-push fits c.self.inside.redirects (order c) c.self.invariant.1 c.in_ok-push.ensures.filter),
+)
 
 pub returns-clause-targets : goal.returns-clause-targets
-returns-clause-targets c = subst (λ rules. Redirects (order c) rules c.in_ok-list.list.items) c.self.view_is (law c)
+returns-clause-targets c =
+    let redirects = c.self.inside.redirects in let routes = c.self.inside.routes in
+    subst (Redirects (order c) c.args.self.now)
+    (sym (ap (λ xs. rules_after xs routes) c.in_ok-push.ensures.ok ∙ fold_push (λ old r. redirected r old) routes redirects (order c)
+    ∙ ap (redirected (order c)) c.self.view_is))
+    (subst (λ rules. Redirects (order c) rules (redirected (order c) rules)) c.self.view_is
+    (redirected_law (order c) (rules_after redirects routes)
+    (AreFilters-after redirects routes c.self.invariant.0 c.self.invariant.1) c.in_ok-push.ensures.filter))

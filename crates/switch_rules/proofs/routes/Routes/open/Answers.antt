@@ -3,7 +3,7 @@ use Rattle.std.proofs.Common.{ap, ◌∙◌, subst, is_some}
 use Rattle.switch_rules.specs.Rules.{first_match, AreFilters}
 use Rattle.switch_rules.specs.Groups.{AreGroups}
 use Rattle.switch_rules.proofs.RedirectLaws.{opened_law}
-use Rattle.switch_rules.proofs.rules.Rules.open.Goals as goal
+use Rattle.switch_rules.proofs.routes.Routes.open.Goals as goal
 
 pub invariant_of-result : goal.invariant_of-result
 invariant_of-result c = record {
@@ -14,3 +14,6 @@ invariant_of-result c = record {
 
 pub returns-clause-targets : goal.returns-clause-targets
 returns-clause-targets c flow = ap (λ rules. first_match rules flow) c.in_ok-list.ensures ∙ opened_law c.args.routes.now flow
+
+pub returns-clause-filters : goal.returns-clause-filters
+returns-clause-filters c = subst AreFilters c.deref.ensures.value c.in_ok-classifier.ensures.filters

@@ -2,7 +2,7 @@
 use Rattle.std.proofs.Common.{ap, ◌∙◌, is_some}
 use Rattle.switch_rules.specs.Rules.{first_match}
 use Rattle.switch_rules.proofs.FirstMatches.{answer-first}
-use Rattle.switch_rules.proofs.rules.Rules.first.Goals as goal
+use Rattle.switch_rules.proofs.routes.Routes.first.Goals as goal
 
 pub returns-then-len-gt-FEW_RULES-clause-value : goal.returns-then-len-gt-FEW_RULES-clause-value
 returns-then-len-gt-FEW_RULES-clause-value c =

@@ -1,0 +1,133 @@
+-- Spans of redirects' places: each redirect that was noted is noted still, and so is the new one.
+use Rattle.std.proofs.Common.{◌≡◌, ℕ, zero, suc, ◌<◌, ◌≤◌, max, min, Bool, true, false, cond, leb, ◌&&◌, List, [], ◌∷◌, ◌++◌, length, set, get_or, Option, None, Some, Result, Ok, Err, inl, inr, refl, ap, ◌∙◌, arith}
+use Rattle.std.specs.Prelude.{position, OnErr, OnOk}
+use Rattle.std.specs.List.{list_any}
+use Rattle.std.proofs.lemmas.Bool.{and_parts, and_from, or_cases, or_left, or_right, le-leb, leb-true, eq-eqb, eqb-true}
+use Rattle.std.proofs.lemmas.List.Folds.{list_any-append}
+use Rattle.std.proofs.lemmas.List.Quantifiers.{position-Some}
+use Rattle.flow_filter.specs.declared.flow.Flow.{Flow}
+use Rattle.flow_filter.specs.Flow.{flow_eq}
+use Rattle.switch_rules.specs.declared.target.Target.{Target}
+use Rattle.switch_rules.specs.declared.target.Target.TheVariants.{Instance, Controller}
+use Rattle.switch_rules.specs.declared.span_group.SpanGroup.{SpanGroup}
+use Rattle.switch_rules.specs.declared.span_group.Span.{Span}
+use Rattle.switch_rules.specs.Masks.{mask_of, values_of, mask_eq}
+use Rattle.switch_rules.specs.Rules.{Redirect, target_eq}
+use Rattle.switch_rules.specs.Spans.{holds, is_noted, notes, span, widened}
+use Rattle.switch_rules.proofs.MaskLemmas.{mask_eq_refl, flow_eq_same, flow_eq_refl}
+
+-- targets that are equal by their test are the same
+pub target_eq_same : (a b : Target) → target_eq a b ≡ true → a ≡ b
+target_eq_same (Instance i) (Instance j) is = ap Instance (eqb-true i j is)
+target_eq_same Controller Controller is = refl
+target_eq_same (Instance i) Controller is = cc
+target_eq_same Controller (Instance j) is = cc
+
+pub target_eq_refl : (a : Target) → target_eq a a ≡ true
+target_eq_refl (Instance i) = eq-eqb i i refl
+target_eq_refl Controller = refl
+
+-- the span of the new place
+holds-widened : (o : Option Span) (place : ℕ) → holds (Some (widened o place)) place ≡ true
+holds-widened None place = and_from _ _ (le-leb place place (omega arith)) (le-leb place place (omega arith))
+holds-widened (Some s) place = and_from _ _ (le-leb (min s.first place) place (omega arith)) (le-leb place (max s.last place) (omega arith))
+
+holds_still : (o : Option Span) (place i : ℕ) → holds o i ≡ true → holds (Some (widened o place)) i ≡ true
+holds_still None place i is = cc
+holds_still (Some s) place i is =
+    let both = and_parts (leb s.first i) (leb i s.last) is in
+    let after : s.first ≤ i = leb-true _ _ both.0 in let before : i ≤ s.last = leb-true _ _ both.1 in
+    and_from _ _ (le-leb (min s.first place) i (omega arith)) (le-leb i (max s.last place) (omega arith))
+
+-- a group's spans after one more place at a masked flow
+abbrev pub IsWidened : Flow → ℕ → SpanGroup → SpanGroup → Type 0
+IsWidened key place g g' = (k : Flow) → span g' k ≡ cond (flow_eq key k) (Some (widened (span g key) place)) (span g k)
+
+by_test : (key : Flow) (place : ℕ) (g : SpanGroup) (k : Flow) (i : ℕ) (test : Bool) → flow_eq key k ≡ test → holds (span g k) i ≡ true
+    → holds (cond test (Some (widened (span g key) place)) (span g k)) i ≡ true
+by_test key place g k i true is at = holds_still (span g key) place i (ap (λ x. holds (span g x) i) (flow_eq_same key k is) ∙ at)
+by_test key place g k i false is at = at
+
+-- what the spans held they still hold
+still_held : (key : Flow) (place : ℕ) (g g' : SpanGroup) → IsWidened key place g g' → (k : Flow) (i : ℕ)
+    → holds (span g k) i ≡ true → holds (span g' k) i ≡ true
+still_held key place g g' own k i at = ap (λ o. holds o i) (own k) ∙ by_test key place g k i (flow_eq key k) refl at
+
+pub any_weaker : (p q : SpanGroup → Bool) → ((g : SpanGroup) → p g ≡ true → q g ≡ true) → (gs : List SpanGroup) → list_any p gs ≡ true → list_any q gs ≡ true
+any_weaker p q gives [] any = any
+any_weaker p q gives (g ∷ gs) any = elim (or_cases (p g) _ any) [
+  | inl here ↦ or_left _ _ (gives g here)
+  | inr later ↦ or_right _ _ (any_weaker p q gives gs later)
+]
+
+any_set : (p : SpanGroup → Bool) (gs : List SpanGroup) (at : ℕ) (g g' : SpanGroup) → g ≡ get_or gs at g → (p g ≡ true → p g' ≡ true)
+    → list_any p gs ≡ true → list_any p (set gs at g') ≡ true
+any_set p [] at g g' is keeps any = any
+any_set p (x ∷ gs) zero g g' is keeps any = elim (or_cases (p x) _ any) [
+  | inl here ↦ or_left _ _ (keeps (ap p is ∙ here))
+  | inr later ↦ or_right _ _ later
+]
+any_set p (x ∷ gs) (suc at) g g' is keeps any = elim (or_cases (p x) _ any) [
+  | inl here ↦ or_left _ _ here
+  | inr later ↦ or_right _ _ (any_set p gs at g g' is keeps later)
+]
+
+set_there : (p : SpanGroup → Bool) (gs : List SpanGroup) (at : ℕ) (g : SpanGroup) → at < length gs → p g ≡ true → list_any p (set gs at g) ≡ true
+set_there p [] at g within is = absurd (omega (arith, within))
+set_there p (x ∷ gs) zero g within is = or_left _ _ is
+set_there p (x ∷ gs) (suc at) g within is = or_right _ _ (set_there p gs at g (omega (arith, within)) is)
+
+-- the group is that of the redirect's mask and target
+abbrev is_of : Redirect → SpanGroup → Bool
+is_of r g = mask_eq g.mask (mask_of r.filter) && target_eq g.from r.from
+
+-- a group of the same mask and target, whose spans hold what the other's did
+record Keeps (g g' : SpanGroup) : Type 0 where
+  mask : g'.mask ≡ g.mask
+  from : g'.from ≡ g.from
+  held : (k : Flow) (i : ℕ) → holds (span g k) i ≡ true → holds (span g' k) i ≡ true
+
+same_group : (r : Redirect) (g g' : SpanGroup) → g'.mask ≡ g.mask → g'.from ≡ g.from → is_of r g' ≡ is_of r g
+same_group r g g' mask from =
+    ap (λ m. mask_eq m (mask_of r.filter) && target_eq g'.from r.from) mask ∙ ap (λ t. mask_eq g.mask (mask_of r.filter) && target_eq t r.from) from
+
+notes_still : (i : ℕ) (r : Redirect) (g g' : SpanGroup) → Keeps g g' → notes i r g ≡ true → notes i r g' ≡ true
+notes_still i r g g' keeps is =
+    let both = and_parts (is_of r g) (holds (span g (values_of r.filter)) i) is in
+    and_from _ _ (same_group r g g' keeps.mask keeps.from ∙ both.0) (keeps.held (values_of r.filter) i both.1)
+
+either_way : {E P Q A : Type 0} (result : Result (Unit {0}) E) → OnOk result P → OnErr result Q → (P → A) → (Q → A) → A
+either_way (Ok x) p q f g = f p
+either_way (Err e) p q f g = g q
+
+-- what was noted is noted still, where a group is written anew or added
+pub noted_still : {E : Type 0} (result : Result (Unit {0}) E) (gs : List SpanGroup) (at : ℕ) (g g' : SpanGroup) (key : Flow) (place : ℕ) → g ≡ get_or gs at g
+    → g'.mask ≡ g.mask → g'.from ≡ g.from → OnOk result (IsWidened key place g g') → OnErr result ((k : Flow) → span g' k ≡ span g k)
+    → (i : ℕ) (r : Redirect) → is_noted gs i r ≡ true → is_noted (set gs at g') i r ≡ true
+noted_still result gs at g g' key place is mask from own same i r = any_set (notes i r) gs at g g' is (notes_still i r g g' (record {
+  mask = mask;
+  from = from;
+  held = λ k n held. either_way result own same (λ widened. still_held key place g g' widened k n held) (λ e. ap (λ o. holds o n) (e k) ∙ held);
+}))
+
+pub noted_before : (gs : List SpanGroup) (g : SpanGroup) (i : ℕ) (r : Redirect) → is_noted gs i r ≡ true → is_noted (gs ++ g ∷ []) i r ≡ true
+noted_before gs g i r is = list_any-append (notes i r) gs (g ∷ []) ∙ or_left _ _ is
+
+held_here : (key : Flow) (place : ℕ) (g g' : SpanGroup) → IsWidened key place g g' → holds (span g' key) place ≡ true
+held_here key place g g' own =
+    ap (λ o. holds o place) (own key ∙ ap (λ b. cond b (Some (widened (span g key) place)) (span g key)) (flow_eq_refl key)) ∙ holds-widened (span g key) place
+
+-- the new redirect is noted, in the group of its mask and target or in one of its own
+pub noted_here : (gs : List SpanGroup) (at place : ℕ) (r : Redirect) (g g' : SpanGroup) → position (is_of r) gs ≡ Some at → g ≡ get_or gs at g
+    → g'.mask ≡ g.mask → g'.from ≡ g.from → IsWidened (values_of r.filter) place g g' → is_noted (set gs at g') place r ≡ true
+noted_here gs at place r g g' found is mask from own =
+    let here = position-Some (is_of r) gs at g found in
+    set_there (notes place r) gs at g' here.0
+    (and_from _ _ (same_group r g g' mask from ∙ ap (is_of r) is ∙ here.1) (held_here (values_of r.filter) place g g' own))
+
+pub noted_last : (gs : List SpanGroup) (place : ℕ) (r : Redirect) (g g' : SpanGroup) → g'.mask ≡ mask_of r.filter → g'.from ≡ r.from
+    → IsWidened (values_of r.filter) place g g' → is_noted (gs ++ g' ∷ []) place r ≡ true
+noted_last gs place r g g' mask from own =
+    list_any-append (notes place r) gs (g' ∷ []) ∙ or_right _ _ (or_left _ _ (and_from _ _
+    (and_from _ _ (ap (λ m. mask_eq m (mask_of r.filter)) mask ∙ mask_eq_refl (mask_of r.filter)) (ap (λ t. target_eq t r.from) from ∙ target_eq_refl r.from))
+    (held_here (values_of r.filter) place g g' own)))
