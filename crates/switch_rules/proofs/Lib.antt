@@ -9,4 +9,4 @@ mod FirstMatches
 mod RedirectSteps
 mod SpanLemmas
 mod NextPlaces
-mod StageLemmas
+mod SectionLemmas

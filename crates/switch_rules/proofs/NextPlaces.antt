@@ -38,13 +38,15 @@ next_of_later (Some s) place = elim (leb place s.last) as (λ b. IfSome (cond b 
 ]
 
 pub next_in_later : (g : SpanGroup) (flow : Flow) (target : Target) (place : ℕ) → IfSome (next_in g flow target place) (λ next. place ≤ next)
-next_in_later g flow target place = elim (target_eq g.from target) as (λ b. IfSome (cond b (next_of (span g (masked g.mask flow)) place) None) (λ next. place ≤ next)) [
-  | true ↦ next_of_later (span g (masked g.mask flow)) place
-  | false ↦ tt
-]
+next_in_later g flow target place = elim (target_eq g.from target) as (λ b.
+    IfSome (cond b (next_of (span g (masked g.mask flow)) place) None) (λ next. place ≤ next)) [
+      | true ↦ next_of_later (span g (masked g.mask flow)) place
+      | false ↦ tt
+    ]
 
 -- the earlier of two places that aren't before one isn't either
-pub earlier_later : (a b : Option ℕ) (place : ℕ) → IfSome a (λ next. place ≤ next) → IfSome b (λ next. place ≤ next) → IfSome (earlier a b) (λ next. place ≤ next)
+pub earlier_later : (a b : Option ℕ) (place : ℕ) → IfSome a (λ next. place ≤ next) → IfSome b (λ next. place ≤ next)
+    → IfSome (earlier a b) (λ next. place ≤ next)
 earlier_later None b place of_a of_b = of_b
 earlier_later (Some x) None place of_a of_b = of_a
 earlier_later (Some x) (Some y) place of_a of_b = omega (arith, of_a, of_b)
@@ -75,13 +77,15 @@ taken_in flow flows target i r takes_it g is =
     (ap (λ m. holds (span g (masked m flow)) i) mask ∙ ap (λ k. holds (span g k) i) (sym values) ∙ noted.1)
 
 -- the same of all groups
-pub taken_in_some : (flow : Flow) → IsFlow flow → (target : Target) (i : ℕ) (r : Redirect) (gs : List SpanGroup) → takes r flow target ≡ true → is_noted gs i r ≡ true
-    → list_any (may_take flow target i) gs ≡ true
+pub taken_in_some : (flow : Flow) → IsFlow flow → (target : Target) (i : ℕ) (r : Redirect) (gs : List SpanGroup) → takes r flow target ≡ true
+    → is_noted gs i r ≡ true → list_any (may_take flow target i) gs ≡ true
 taken_in_some flow flows target i r gs takes_it = any_weaker (notes i r) (may_take flow target i) (taken_in flow flows target i r takes_it) gs
 
--- before the next place no stage has a redirect that takes the flow
-pub none_before : (gs : List SpanGroup) (stages : List (List Redirect)) (flow : Flow) (target : Target) (place : ℕ) (next : Option ℕ) → AreNoted gs stages
+-- before the next place no section has a redirect that takes the flow
+pub none_before : (gs : List SpanGroup) (sections : List (List Redirect)) (flow : Flow) (target : Target) (place : ℕ) (next : Option ℕ) → AreNoted gs sections
     → ((i : ℕ) (r : Redirect) → place ≤ i → is_noted gs i r ≡ true → takes r flow target ≡ true → is_up_to next i ≡ true)
-    → (i : ℕ) (stage : List Redirect) → place ≤ i → is_up_to next i ≡ false → slice_get stages i ≡ Some stage → All (λ r. takes r flow target ≡ false) stage
-none_before gs stages flow target place next noted before i stage later early at = All-weaker (λ r. is_noted gs i r ≡ true) (λ r. takes r flow target ≡ false)
-    (λ r here. false_from_ne_true (takes r flow target) (λ is. both_ways (is_up_to next i) early (before i r later here is))) stage (noted i stage at)
+    → (i : ℕ) (section : List Redirect) → place ≤ i → is_up_to next i ≡ false → slice_get sections i ≡ Some section
+    → All (λ r. takes r flow target ≡ false) section
+none_before gs sections flow target place next noted before i section later early at =
+    All-weaker (λ r. is_noted gs i r ≡ true) (λ r. takes r flow target ≡ false)
+    (λ r here. false_from_ne_true (takes r flow target) (λ is. both_ways (is_up_to next i) early (before i r later here is))) section (noted i section at)

@@ -49,7 +49,8 @@ by_test key place g k i true is at = holds_still (span g key) place i (ap (λ x.
 by_test key place g k i false is at = at
 
 -- what the spans held they still hold
-still_held : (key : Flow) (place : ℕ) (g g' : SpanGroup) → IsWidened key place g g' → (k : Flow) (i : ℕ) → holds (span g k) i ≡ true → holds (span g' k) i ≡ true
+still_held : (key : Flow) (place : ℕ) (g g' : SpanGroup) → IsWidened key place g g' → (k : Flow) (i : ℕ)
+    → holds (span g k) i ≡ true → holds (span g' k) i ≡ true
 still_held key place g g' own k i at = ap (λ o. holds o i) (own k) ∙ by_test key place g k i (flow_eq key k) refl at
 
 pub any_weaker : (p q : SpanGroup → Bool) → ((g : SpanGroup) → p g ≡ true → q g ≡ true) → (gs : List SpanGroup) → list_any p gs ≡ true → list_any q gs ≡ true
@@ -87,7 +88,8 @@ record Keeps (g g' : SpanGroup) : Type 0 where
   held : (k : Flow) (i : ℕ) → holds (span g k) i ≡ true → holds (span g' k) i ≡ true
 
 same_group : (r : Redirect) (g g' : SpanGroup) → g'.mask ≡ g.mask → g'.from ≡ g.from → is_of r g' ≡ is_of r g
-same_group r g g' mask from = ap (λ m. mask_eq m (mask_of r.filter) && target_eq g'.from r.from) mask ∙ ap (λ t. mask_eq g.mask (mask_of r.filter) && target_eq t r.from) from
+same_group r g g' mask from =
+    ap (λ m. mask_eq m (mask_of r.filter) && target_eq g'.from r.from) mask ∙ ap (λ t. mask_eq g.mask (mask_of r.filter) && target_eq t r.from) from
 
 notes_still : (i : ℕ) (r : Redirect) (g g' : SpanGroup) → Keeps g g' → notes i r g ≡ true → notes i r g' ≡ true
 notes_still i r g g' keeps is =
@@ -120,7 +122,8 @@ pub noted_here : (gs : List SpanGroup) (at place : ℕ) (r : Redirect) (g g' : S
     → g'.mask ≡ g.mask → g'.from ≡ g.from → IsWidened (values_of r.filter) place g g' → is_noted (set gs at g') place r ≡ true
 noted_here gs at place r g g' found is mask from own =
     let here = position-Some (is_of r) gs at g found in
-    set_there (notes place r) gs at g' here.0 (and_from _ _ (same_group r g g' mask from ∙ ap (is_of r) is ∙ here.1) (held_here (values_of r.filter) place g g' own))
+    set_there (notes place r) gs at g' here.0
+    (and_from _ _ (same_group r g g' mask from ∙ ap (is_of r) is ∙ here.1) (held_here (values_of r.filter) place g g' own))
 
 pub noted_last : (gs : List SpanGroup) (place : ℕ) (r : Redirect) (g g' : SpanGroup) → g'.mask ≡ mask_of r.filter → g'.from ≡ r.from
     → IsWidened (values_of r.filter) place g g' → is_noted (gs ++ g' ∷ []) place r ≡ true

@@ -1,5 +1,5 @@
 pub mod Masks
 pub mod Rules
 pub mod Groups
-pub mod Stages
+pub mod Sections
 pub mod Spans

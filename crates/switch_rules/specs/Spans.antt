@@ -1,4 +1,4 @@
--- Steps between code and definition, which nobody has to believe: between which places redirects stand that may take a flow, by their stages.
+-- Steps between code and definition, which nobody has to believe: between which places redirects stand that may take a flow, by their sections.
 use Rattle.std.specs.Prelude.{◌≡◌, ◌&&◌, ℕ, Bool, true, false, nat_le, min, max, if◌then◌else◌, List, All, slice_get, Option, None, Some}
 use Rattle.std.specs.List.{list_any}
 use Rattle.flow_filter.specs.declared.flow.Flow.{Flow}
@@ -32,9 +32,9 @@ notes place r g = (mask_eq g.mask (mask_of r.filter) && target_eq g.from r.from)
 abbrev pub is_noted : List SpanGroup → ℕ → Redirect → Bool
 is_noted groups place r = list_any (notes place r) groups
 
--- each redirect of the stages is noted at its stage's place
+-- each redirect of the sections is noted at its section's place
 abbrev pub AreNoted : List SpanGroup → List (List Redirect) → Type 0
-AreNoted groups stages = (place : ℕ) (stage : List Redirect) → slice_get stages place ≡ Some stage → All (λ r. is_noted groups place r ≡ true) stage
+AreNoted groups sections = (place : ℕ) (section : List Redirect) → slice_get sections place ≡ Some section → All (λ r. is_noted groups place r ≡ true) section
 
 -- at the place a redirect of the group may take the flow from its target
 abbrev pub may_take : Flow → Target → ℕ → SpanGroup → Bool

@@ -13,9 +13,9 @@ pub mod redirect;
 pub mod redirect_list;
 pub mod routes;
 pub mod rules;
+pub mod section;
 pub mod span_group;
 pub mod spans;
-pub mod stage;
 pub mod target;
 
 pub use classifier::Classifier;

@@ -11,7 +11,7 @@ use std::alloc::Global;
 use unit_map::UnitMap;
 
 /// Where the redirects stand whose filters have one mask and which take flows from one target: for what a filter says of the
-/// mask's fields, the places from the first such redirect's stage to the last's.
+/// mask's fields, the places from the first such redirect's section to the last's.
 #[derive(Drop)]
 pub struct SpanGroup {
     pub mask: Mask,

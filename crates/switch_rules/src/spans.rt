@@ -1,3 +1,4 @@
+//! Between which places of a list redirects stand that may take a flow.
 ghost use Rattle.std.specs.Prelude.{◌≡◌, ◌≤◌, ◌&&◌, ℕ, true, [], position, length, IfSome, OnOk};
 ghost use Rattle.std.specs.List.{list_any};
 ghost use Rattle.flow_filter.specs.Filter.{IsFlow};

@@ -2,9 +2,9 @@
 use Rattle.std.proofs.Common.{sym, subst}
 use Rattle.std.specs.Prelude.{All}
 use Rattle.std.proofs.lemmas.List.Elements.{All-head, All-push}
-use Rattle.switch_rules.specs.Stages.{IsAlike}
-use Rattle.switch_rules.proofs.StageLemmas.{alike_flips}
-use Rattle.switch_rules.proofs.stage.Stage.push.Goals as goal
+use Rattle.switch_rules.specs.Sections.{IsAlike}
+use Rattle.switch_rules.proofs.SectionLemmas.{alike_flips}
+use Rattle.switch_rules.proofs.section.Section.push.Goals as goal
 
 pub invariant_of-self-2 : goal.invariant_of-self-2
 invariant_of-self-2 c =

@@ -1,6 +1,6 @@
 ghost use Rattle.std.specs.Prelude.{◌≡◌, ◌++◌, ◌∷◌, [], All, IsTrue, OnOk, OnErr};
 ghost use Rattle.switch_rules.specs.Rules.{target_after};
-ghost use Rattle.switch_rules.specs.Stages.{IsAlike, target_of_matched};
+ghost use Rattle.switch_rules.specs.Sections.{IsAlike, target_of_matched};
 
 use crate::mask::{Mask, values_of};
 use crate::redirect::Redirect;
@@ -12,15 +12,15 @@ use std::marker::Model;
 
 /// Redirects one after another whose filters match the same flows, as those of moves that undo one another. Contracts see their list.
 #[derive(Drop)]
-pub struct Stage {
+pub struct Section {
     first: Redirect,
     rest: Vec<Redirect>,
 }
 
-impl Model for Stage {
+impl Model for Section {
     ghost use Rattle.std.specs.Prelude.{◌∷◌, List, All};
     ghost use Rattle.switch_rules.specs.Rules.{Redirect};
-    ghost use Rattle.switch_rules.specs.Stages.{IsAlike};
+    ghost use Rattle.switch_rules.specs.Sections.{IsAlike};
 
     ghost Value = { List Redirect };
 
@@ -29,12 +29,12 @@ impl Model for Stage {
     ghost invariant = { λ s. All (IsAlike s.first) s.rest.items };
 }
 
-impl Stage {
-    /// A stage of one redirect. This takes no memory.
-    pub(crate) fn open(alloc: Global, first: Redirect) -> Stage
+impl Section {
+    /// A section of one redirect. This takes no memory.
+    pub(crate) fn open(alloc: Global, first: Redirect) -> Section
         ensures { result ≡ first ∷ [] }
     {
-        Stage {
+        Section {
             first,
             rest: Vec::new(alloc),
         }

@@ -2,9 +2,9 @@
 use Rattle.std.proofs.Common.{rules, ap, sym, ◌∙◌, ◌&&◌, cond, eqb-true, arith}
 use Rattle.flow_filter.specs.Filter.{IsFlow}
 use Rattle.switch_rules.specs.Rules.{target_after, target_eq}
-use Rattle.switch_rules.specs.Stages.{target_of_matched}
-use Rattle.switch_rules.proofs.StageLemmas.{after_matched, after_one, after_unmatched}
-use Rattle.switch_rules.proofs.stage.Stage.target_after.Goals as goal
+use Rattle.switch_rules.specs.Sections.{target_of_matched}
+use Rattle.switch_rules.proofs.SectionLemmas.{after_matched, after_one, after_unmatched}
+use Rattle.switch_rules.proofs.section.Section.target_after.Goals as goal
 
 pub returns-then-is_empty : goal.returns-then-is_empty
 returns-then-is_empty c =

@@ -1,4 +1,4 @@
--- Steps between code and definition, which nobody has to believe: redirects in stages, each of redirects that match the same flows.
+-- Steps between code and definition, which nobody has to believe: redirects in sections, each of redirects that match the same flows.
 use Rattle.std.specs.Prelude.{◌≡◌, if◌then◌else◌, List}
 use Rattle.std.specs.List.{fold}
 use Rattle.flow_filter.specs.declared.flow.Flow.{Flow}
@@ -15,6 +15,6 @@ pub record IsAlike (one other : Redirect) : Type 0 where
 abbrev pub target_of_matched : List Redirect → Target → Target
 target_of_matched redirects before = fold (λ target r. if target_eq target r.from then r.to else target) before redirects
 
--- the target of a flow after stages, one after another
-abbrev pub target_after_stages : List (List Redirect) → Flow → Target → Target
-target_after_stages stages flow before = fold (λ target stage. target_after stage flow target) before stages
+-- the target of a flow after sections, one after another
+abbrev pub target_after_sections : List (List Redirect) → Flow → Target → Target
+target_after_sections sections flow before = fold (λ target section. target_after section flow target) before sections
