@@ -10,7 +10,7 @@ use Rattle.clap.specs.declared.error.ErrorKind.{ErrorKind}
 use Rattle.command_words.specs.declared.forms.ArgumentKind.{ArgumentKind}
 use Rattle.command_words.specs.declared.forms.ArgumentKind.TheVariants.{Positional, OptionalPositional, Required, Optional, Flag}
 use Rattle.command_words.specs.declared.forms.Form.{Form}
-use Rattle.command_words.specs.declared.forms.Form.TheVariants.{Run, Sim, Check, Gen}
+use Rattle.command_words.specs.declared.forms.Form.TheVariants.{Run, Sim, Fail, Check, Gen}
 
 -- an argument by its name: a place, an option or a flag, and whether it must be there
 abbrev pub rule_by : ArgumentKind → Text → Rule
@@ -40,6 +40,13 @@ sim_rules = rule_by Positional (codes "function") ∷ rule_by Required (codes "i
     ∷ rule_by Optional (codes "outside") ∷ rule_by Optional (codes "window") ∷ rule_by Optional (codes "schedule") ∷ rule_by Optional (codes "journal")
     ∷ rule_by Flag (codes "summary") ∷ rule_by Positional (codes "trace") ∷ rule_by OptionalPositional (codes "script") ∷ []
 
+-- FUNCTION --instances LIST --inside PREFIX [--outside ADDR] [--window W] --journal FILE --failed NAME --to NAME --after J TRACE [SCRIPT]
+abbrev pub fail_rules : List Rule
+fail_rules = rule_by Positional (codes "function") ∷ rule_by Required (codes "instances") ∷ rule_by Required (codes "inside")
+    ∷ rule_by Optional (codes "outside") ∷ rule_by Optional (codes "window") ∷ rule_by Required (codes "journal")
+    ∷ rule_by Required (codes "failed") ∷ rule_by Required (codes "to") ∷ rule_by Required (codes "after")
+    ∷ rule_by Positional (codes "trace") ∷ rule_by OptionalPositional (codes "script") ∷ []
+
 -- FUNCTION --instances LIST SCRIPT
 abbrev pub check_rules : List Rule
 check_rules = rule_by Positional (codes "function") ∷ rule_by Required (codes "instances") ∷ rule_by Positional (codes "script") ∷ []
@@ -52,6 +59,7 @@ gen_rules = rule_by Positional (codes "number") ∷ rule_by Required (codes "pac
 abbrev pub rules_of : Form → List Rule
 rules_of Run = run_rules
 rules_of Sim = sim_rules
+rules_of Fail = fail_rules
 rules_of Check = check_rules
 rules_of Gen = gen_rules
 

@@ -8,7 +8,7 @@ use Rattle.command_words.specs.declared.request.InstanceWords.{InstanceWords}
 use Rattle.command_words.specs.Grammar.{value_of, is_on}
 use Rattle.command_words.specs.Values.{instances_of, inside_of, outside_of, window_of, file_of, file_if}
 
--- what `sim`, `run` and `audit` ask for
+-- what `sim`, `run` and `audit` ask for, and `fail` of the run
 pub record NetworkAsked : Type 0 where
   pub kind : Kind
   pub instances : List InstanceWords
@@ -23,7 +23,7 @@ pub record NetworkAsked : Type 0 where
   pub trace : Text
   pub script : Option Text
 
--- the values of the words that `run`, `sim` and `audit` share
+-- the values of the words that `run`, `sim`, `audit` and `fail` share
 unfoldable pub network_values : List Row → Option NetworkAsked
 network_values given = do
   kind ← value_of (codes "function") given >>= function_named

@@ -4,11 +4,12 @@ use Rattle.flow_filter.specs.Reading.{prefix_numbers}
 use Rattle.command_words.specs.declared.request.NetworkRequest.{NetworkRequest}
 use Rattle.command_words.specs.declared.request.Checking.{Checking}
 use Rattle.command_words.specs.declared.request.Generating.{Generating}
+use Rattle.command_words.specs.declared.request.FailRequest.{FailRequest}
 use Rattle.command_words.specs.declared.request.Request.{Request}
 use Rattle.command_words.specs.declared.request.Request.TheVariants.{Run, Calm}
 use Rattle.command_words.specs.declared.request.CalmRequest.{CalmRequest}
-use Rattle.command_words.specs.declared.request.CalmRequest.TheVariants.{Sim, Audit, Check, Gen}
-use Rattle.command_words.specs.Requests.{NetworkAsked, CheckAsked, GenAsked, Asked, asks_sim, asks_run, asks_audit, asks_check, asks_gen}
+use Rattle.command_words.specs.declared.request.CalmRequest.TheVariants.{Sim, Audit, Fail, Check, Gen}
+use Rattle.command_words.specs.Requests.{NetworkAsked, FailAsked, CheckAsked, GenAsked, Asked, asks_sim, asks_run, asks_audit, asks_fail, asks_check, asks_gen}
 
 abbrev pub network_view : NetworkRequest → NetworkAsked
 network_view n = record {
@@ -23,6 +24,9 @@ network_view n = record {
   script = option_map (λ t. t.now) n.script;
 }
 
+abbrev pub fail_view : FailRequest → FailAsked
+fail_view f = record { network = network_view f.network; failed = f.failed; to = f.to; after = f.after }
+
 abbrev pub check_view : Checking → CheckAsked
 check_view c = record { kind = c.kind; instances = c.instances.rows.items; script = c.script.now }
 
@@ -32,6 +36,7 @@ gen_view g = record { number = g.number; packets = g.packets; hosts = g.hosts; t
 abbrev pub calm_view : CalmRequest → Asked
 calm_view (Sim n schedule) = asks_sim (network_view n) schedule
 calm_view (Audit a) = asks_audit (network_view a.network)
+calm_view (Fail f) = asks_fail (fail_view f)
 calm_view (Check c) = asks_check (check_view c)
 calm_view (Gen g) = asks_gen (gen_view g)
 

@@ -13,6 +13,7 @@ use Rattle.command_words.specs.declared.request.InstanceWords.{InstanceWords}
 use Rattle.command_words.specs.Grammar.{given_arguments, value_of}
 use Rattle.command_words.specs.Values.{only, instances_of, count_of, given_number, schedule_of, file_of}
 pub use Rattle.command_words.specs.NetworkWords.{NetworkAsked, network_values}
+pub use Rattle.command_words.specs.FailWords.{FailAsked, fail_values}
 
 -- what `check` asks for
 pub record CheckAsked : Type 0 where
@@ -32,6 +33,7 @@ pub data Asked : Type 0 where
   asks_sim : NetworkAsked → Schedule → Asked
   asks_run : NetworkAsked → Asked
   asks_audit : NetworkAsked → Asked
+  asks_fail : FailAsked → Asked
   asks_check : CheckAsked → Asked
   asks_gen : GenAsked → Asked
 
@@ -62,6 +64,9 @@ sim_of words = given_arguments forms.Sim words >>= λ g. network_values g >>= λ
 abbrev pub audit_of : List Text → Option Asked
 audit_of words = given_arguments forms.Run words >>= λ g. network_values g >>= λ n. only (is_some n.journal) (Some (asks_audit n))
 
+abbrev pub fail_of : List Text → Option Asked
+fail_of words = given_arguments forms.Fail words >>= λ g. fail_values g >>= λ f. Some (asks_fail f)
+
 abbrev pub check_of : List Text → Option Asked
 check_of words = given_arguments forms.Check words >>= λ g. check_values g >>= λ c. Some (asks_check c)
 
@@ -73,6 +78,7 @@ unfoldable pub calm_of : Text → List Text → Option Asked
 calm_of command words =
     if bytes_eq command (codes "sim") then sim_of words
     else if bytes_eq command (codes "audit") then audit_of words
+    else if bytes_eq command (codes "fail") then fail_of words
     else if bytes_eq command (codes "check") then check_of words
     else if bytes_eq command (codes "gen") then gen_of words
     else None

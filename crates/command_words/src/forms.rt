@@ -24,6 +24,8 @@ pub enum Form {
     Run,
     /// Those after `sim`.
     Sim,
+    /// Those after `fail`.
+    Fail,
     /// Those after `check`.
     Check,
     /// Those after `gen`.
@@ -55,6 +57,20 @@ static SIM: [(ArgumentKind, &str); 10] = [
     (ArgumentKind::OptionalPositional, "script"),
 ];
 
+static FAIL: [(ArgumentKind, &str); 11] = [
+    (ArgumentKind::Positional, "function"),
+    (ArgumentKind::Required, "instances"),
+    (ArgumentKind::Required, "inside"),
+    (ArgumentKind::Optional, "outside"),
+    (ArgumentKind::Optional, "window"),
+    (ArgumentKind::Required, "journal"),
+    (ArgumentKind::Required, "failed"),
+    (ArgumentKind::Required, "to"),
+    (ArgumentKind::Required, "after"),
+    (ArgumentKind::Positional, "trace"),
+    (ArgumentKind::OptionalPositional, "script"),
+];
+
 static CHECK: [(ArgumentKind, &str); 3] = [
     (ArgumentKind::Positional, "function"),
     (ArgumentKind::Required, "instances"),
@@ -76,6 +92,7 @@ impl Form {
         match self {
             Form::Run => RUN.as_slice(),
             Form::Sim => SIM.as_slice(),
+            Form::Fail => FAIL.as_slice(),
             Form::Check => CHECK.as_slice(),
             Form::Gen => GEN.as_slice(),
         }

@@ -1,7 +1,7 @@
 //! The words of a command by clap: one reader for every form.
 ghost use Rattle.std.specs.Prelude.{Some, None, codes, ◌≡◌, ◌++◌, ◌∷◌, [], true, false, List, map, IfOk, option_map, string_bytes};
 ghost use Rattle.clap.specs.Words.{Rule, Text, app_of, rule_of, rows_of, found_of, is_simple_and_free};
-ghost use Rattle.command_words.specs.declared.forms.Form.TheVariants.{Run as RunForm, Sim as SimForm, Check as CheckForm, Gen as GenForm};
+ghost use Rattle.command_words.specs.declared.forms.Form.TheVariants.{Run as RunForm, Sim as SimForm, Fail as FailForm, Check as CheckForm, Gen as GenForm};
 ghost use Rattle.command_words.specs.Grammar.{rule_by, app_with, form_app, rows_taken, value_of, is_on, given_arguments, named_texts};
 ghost use Rattle.command_words.specs.Views.{Reads, given_view};
 
@@ -64,6 +64,10 @@ pub fn written_words()
         ∷ (codes "--journal=" ++ j) ∷ codes "--summary" ∷ codes "--" ∷ f ∷ t ∷ c ∷ []))
         ≡ Some ((codes "instances", l) ∷ (codes "inside", p) ∷ (codes "journal", j) ∷ (codes "summary", codes "true")
         ∷ (codes "function", f) ∷ (codes "trace", t) ∷ (codes "script", c) ∷ []) }
+    ensures fail { (f l p j a b n t c : Text) → option_map named_texts (given_arguments FailForm ((codes "--after=" ++ n) ∷ (codes "--to=" ++ b) ∷ (codes "--failed=" ++ a)
+        ∷ (codes "--journal=" ++ j) ∷ (codes "--inside=" ++ p) ∷ (codes "--instances=" ++ l) ∷ codes "--" ∷ f ∷ t ∷ c ∷ []))
+        ≡ Some ((codes "after", n) ∷ (codes "to", b) ∷ (codes "failed", a) ∷ (codes "journal", j) ∷ (codes "inside", p) ∷ (codes "instances", l)
+        ∷ (codes "function", f) ∷ (codes "trace", t) ∷ (codes "script", c) ∷ []) }
     ensures check { (f l s : Text) → option_map named_texts (given_arguments CheckForm ((codes "--instances=" ++ l) ∷ codes "--" ∷ f ∷ s ∷ []))
         ≡ Some ((codes "instances", l) ∷ (codes "function", f) ∷ (codes "script", s) ∷ []) }
     ensures capture { (n p h t : Text) → option_map named_texts (given_arguments GenForm ((codes "--packets=" ++ p) ∷ (codes "--hosts=" ++ h) ∷ codes "--" ∷ n ∷ t ∷ []))
@@ -74,6 +78,10 @@ pub fn written_words()
     ensures valued { (f l p x t : Text) → given_arguments RunForm ((codes "--instances=" ++ l) ∷ (codes "--inside=" ++ p) ∷ (codes "--summary=" ++ x) ∷ codes "--" ∷ f ∷ t ∷ []) ≡ None }
     ensures again { (f l p t : Text) → given_arguments RunForm ((codes "--instances=" ++ l) ∷ (codes "--inside=" ++ p) ∷ codes "--summary" ∷ codes "--summary" ∷ codes "--" ∷ f ∷ t ∷ []) ≡ None }
     ensures scheduled { (f l p s t : Text) → given_arguments RunForm ((codes "--instances=" ++ l) ∷ (codes "--inside=" ++ p) ∷ (codes "--schedule=" ++ s) ∷ codes "--" ∷ f ∷ t ∷ []) ≡ None }
+    ensures counted { (f l p j a b n t : Text) → given_arguments FailForm ((codes "--after=" ++ n) ∷ (codes "--to=" ++ b) ∷ (codes "--failed=" ++ a)
+        ∷ (codes "--journal=" ++ j) ∷ (codes "--inside=" ++ p) ∷ (codes "--instances=" ++ l) ∷ codes "--summary" ∷ codes "--" ∷ f ∷ t ∷ []) ≡ None }
+    ensures untold { (f l p a b n t : Text) → given_arguments FailForm ((codes "--after=" ++ n) ∷ (codes "--to=" ++ b) ∷ (codes "--failed=" ++ a)
+        ∷ (codes "--inside=" ++ p) ∷ (codes "--instances=" ++ l) ∷ codes "--" ∷ f ∷ t ∷ []) ≡ None }
     ensures stray { (f l s more : Text) → given_arguments CheckForm ((codes "--instances=" ++ l) ∷ codes "--" ∷ f ∷ s ∷ more ∷ []) ≡ None }
     ensures unknown { (f l s : Text) → given_arguments CheckForm ((codes "--instances=" ++ l) ∷ codes "--summary" ∷ codes "--" ∷ f ∷ s ∷ []) ≡ None }
     ensures help { (f l s : Text) → given_arguments CheckForm ((codes "--instances=" ++ l) ∷ codes "--help" ∷ codes "--" ∷ f ∷ s ∷ []) ≡ None }

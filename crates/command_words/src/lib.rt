@@ -5,6 +5,7 @@
 //! that reads nothing, or that memory ran out. The crate touches nothing outside of memory.
 #![tactic(auto)]
 
+mod fail;
 pub mod fault;
 pub mod forms;
 pub mod grammar;
@@ -15,6 +16,7 @@ pub mod words;
 
 pub use fault::ArgumentsFault;
 pub use request::{
-    Auditing, CalmRequest, Checking, Generating, InstanceWords, Instances, NetworkRequest, Request,
+    Auditing, CalmRequest, Checking, FailRequest, Generating, InstanceWords, Instances,
+    NetworkRequest, Request,
 };
 pub use words::{names_run, parse_calm, parse_command, parse_run};

@@ -1,5 +1,5 @@
 //! What the words of the command line ask for.
-ghost use Rattle.std.specs.Prelude.{◌≤◌, IsSome, length};
+ghost use Rattle.std.specs.Prelude.{◌≤◌, ◌<◌, ◌≢◌, IsSome, length};
 ghost use Rattle.flow_filter.specs.Limits.{most_instances, most_window};
 ghost use Rattle.command_words.specs.declared.request.TheConstants.{MOST_PACKETS, MOST_HOSTS};
 
@@ -57,6 +57,22 @@ pub struct Auditing<'a> {
     ghost has_journal: { IsSome network.journal },
 }
 
+/// What `fail` asks for. The journal's file is given. The instances go by their places in the list.
+#[derive(Debug, Drop)]
+pub struct FailRequest<'a> {
+    pub network: NetworkRequest<'a>,
+    /// The instance that fails.
+    pub failed: u8,
+    /// The one that takes over.
+    pub to: u8,
+    /// After how many choices of the journal it fails.
+    pub after: u64,
+    ghost has_journal: { IsSome network.journal },
+    ghost has_failed: { failed < length network.instances.rows.items },
+    ghost has_to: { to < length network.instances.rows.items },
+    ghost two: { failed ≢ to },
+}
+
 /// What `check` asks for.
 #[derive(Debug, Drop)]
 pub struct Checking<'a> {
@@ -97,6 +113,8 @@ pub enum CalmRequest<'a> {
     Sim(NetworkRequest<'a>, Schedule),
     /// The run that a journal tells, again.
     Audit(Auditing<'a>),
+    /// What is left where an instance fails in the middle of such a run.
+    Fail(FailRequest<'a>),
     /// The canonical text of a script.
     Check(Checking<'a>),
     /// A generated capture.

@@ -4,6 +4,7 @@ ghost use Rattle.command_words.specs.Requests.{asks_run, request_of, is_command,
 ghost use Rattle.command_words.specs.Views.{Reads, given_view};
 ghost use Rattle.command_words.specs.RequestViews.{request_view, calm_view, network_view, check_view, gen_view};
 
+use crate::fail::ask_fail;
 use crate::fault::ArgumentsFault;
 use crate::forms::Form;
 use crate::grammar::{Given, read};
@@ -77,6 +78,7 @@ fn ask<'a>(
     match command {
         "sim" => ask_sim(alloc, words),
         "audit" => ask_audit(alloc, words),
+        "fail" => ask_fail(alloc, words),
         "check" => ask_check(alloc, words),
         "gen" => ask_gen(alloc, words),
         _ => Err(ArgumentsFault::Usage),
@@ -135,7 +137,7 @@ fn ask_gen<'a>(alloc: Global, words: &'a [String]) -> Result<CalmRequest<'a>, Ar
     Ok(CalmRequest::Gen(generating))
 }
 
-/// The values that `run`, `sim` and `audit` share, where each is in its grammar.
+/// The values that `run`, `sim`, `audit` and `fail` share, where each is in its grammar.
 #[tactic(auto, unfolding(crate::specs::NetworkWords::network_values))]
 pub(crate) fn network_values<'a>(
     alloc: Global,

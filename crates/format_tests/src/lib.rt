@@ -10,6 +10,8 @@ mod capture_tests;
 #[cfg(test)]
 mod check_words_tests;
 #[cfg(test)]
+mod fail_words_tests;
+#[cfg(test)]
 mod filter_tests;
 #[cfg(test)]
 mod function_tests;

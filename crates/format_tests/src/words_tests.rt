@@ -53,6 +53,7 @@ fn asked(reading: Result<Request<'_>, ArgumentsFault>) -> &'static str {
         Ok(Request::Run(_)) => "run",
         Ok(Request::Calm(CalmRequest::Sim(..))) => "sim",
         Ok(Request::Calm(CalmRequest::Audit(_))) => "audit",
+        Ok(Request::Calm(CalmRequest::Fail(_))) => "fail",
         Ok(Request::Calm(CalmRequest::Check(_))) => "check",
         Ok(Request::Calm(CalmRequest::Gen(_))) => "gen",
         Err(ArgumentsFault::Usage) => "usage",

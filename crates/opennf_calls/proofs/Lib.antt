@@ -3,6 +3,8 @@ pub mod AuditRows
 pub mod CaptureRows
 pub mod CompleteLemmas
 pub mod EndedCommands
+pub mod FailLemmas
+pub mod FailRows
 pub mod FunctionLemmas
 pub mod InputRows
 pub mod JournalRows

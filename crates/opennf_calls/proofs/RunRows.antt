@@ -6,7 +6,7 @@ use Rattle.nf_io.specs.declared.outside.Role.TheVariants.{Trace, Script, Journal
 use Rattle.nf_io.specs.Meaning.{Meaning}
 use Rattle.nf_io.specs.Roles.{is_read}
 use Rattle.actor_net.specs.declared.schedule.Schedule.{Schedule}
-use Rattle.command_words.specs.Requests.{Asked, NetworkAsked, asks_sim, asks_run, asks_audit}
+use Rattle.command_words.specs.Requests.{Asked, FailAsked, NetworkAsked, asks_sim, asks_run, asks_audit, asks_fail}
 use Rattle.opennf_calls.specs.declared.status.Status.{Status}
 use Rattle.opennf_calls.specs.declared.status.Status.TheVariants.{Ok as Done, Usage, BadScript, BadTrace, BadJournal, NotARun, ReadFault, WriteFault, NoMemory}
 use Rattle.opennf_calls.specs.Command.{is_input, is_read_before, run_file, with_journal}
@@ -74,6 +74,15 @@ pub audit_reads : (s : NetworkAsked) → Reads s (asks_audit s)
 audit_reads s = record {
   input = beside_read s;
   first = λ bytes status is. ap (λ (o : Option Status). first_refusal o (journal_refusal (journal_read s bytes))) is;
+  script_named = refl;
+  none_earlier = λ bytes. refl;
+  script_earlier = λ bytes. refl;
+}
+
+pub fail_reads : (f : FailAsked) → Reads f.network (asks_fail f)
+fail_reads f = record {
+  input = beside_read f.network;
+  first = λ bytes status is. ap (λ (o : Option Status). first_refusal o (journal_refusal (journal_read f.network bytes))) is;
   script_named = refl;
   none_earlier = λ bytes. refl;
   script_earlier = λ bytes. refl;

@@ -5,7 +5,7 @@ use Rattle.nf_io.specs.declared.outside.Role.TheVariants.{Trace, Script, Journal
 use Rattle.nf_io.specs.Meaning.{Meaning}
 use Rattle.actor_net.specs.declared.choice.Choice.{Choice}
 use Rattle.actor_net.specs.declared.schedule.Schedule.{Schedule}
-use Rattle.command_words.specs.Requests.{Asked, NetworkAsked, asks_sim, asks_run, asks_audit}
+use Rattle.command_words.specs.Requests.{Asked, FailAsked, NetworkAsked, asks_sim, asks_run, asks_audit, asks_fail}
 use Rattle.opennf_calls.specs.declared.status.Status.{Status}
 use Rattle.opennf_calls.specs.declared.status.Status.TheVariants.{WriteFault, NoMemory}
 use Rattle.opennf_calls.specs.declared.outcome.Outcome.{Outcome}
@@ -142,3 +142,13 @@ audit_writes s Trace result = absurd (cc)
 audit_writes s Script result = absurd (cc)
 audit_writes s JournalIn result = absurd (cc)
 audit_writes s Errors result = absurd (cc)
+
+-- and so does a failover
+pub fail_writes : (f : FailAsked) (other : Role) → IsTrue (is_result (asks_fail f) other) → other ≡ Report
+fail_writes f Report result = refl
+fail_writes f JournalOut result = absurd (cc)
+fail_writes f TraceOut result = absurd (cc)
+fail_writes f Trace result = absurd (cc)
+fail_writes f Script result = absurd (cc)
+fail_writes f JournalIn result = absurd (cc)
+fail_writes f Errors result = absurd (cc)

@@ -3,7 +3,7 @@ use Rattle.std.specs.Prelude.{ℕ, List, Option, None, Some, Bool, true, false, 
 use Rattle.nf_io.specs.declared.outside.Role.{Role}
 use Rattle.nf_io.specs.declared.outside.Role.TheVariants.{Trace, Script, JournalIn, Report, JournalOut, TraceOut, Errors}
 use Rattle.nf_io.specs.Roles.{is_read, same_role}
-use Rattle.command_words.specs.Requests.{Asked, NetworkAsked, asks_sim, asks_run, asks_audit, asks_check, asks_gen}
+use Rattle.command_words.specs.Requests.{Asked, NetworkAsked, asks_sim, asks_run, asks_audit, asks_fail, asks_check, asks_gen}
 
 -- the capture and the script of a run of the network
 abbrev pub run_file : NetworkAsked → Role → Option (List ℕ)
@@ -21,11 +21,12 @@ is_journal role = false
 abbrev pub with_journal : NetworkAsked → Role → Role → Option (List ℕ)
 with_journal s journal role = if same_role role journal then s.journal else run_file s role
 
--- the file that the words give to a role: a journal is written by `sim` and `run`, and read by `audit`
+-- the file that the words give to a role: a journal is written by `sim` and `run`, and read by `audit` and `fail`
 abbrev pub file_for : Asked → Role → Option (List ℕ)
 file_for (asks_sim s schedule) role = with_journal s JournalOut role
 file_for (asks_run s) role = with_journal s JournalOut role
 file_for (asks_audit s) role = with_journal s JournalIn role
+file_for (asks_fail f) role = with_journal f.network JournalIn role
 file_for (asks_check c) Script = Some c.script
 file_for (asks_gen g) TraceOut = Some g.trace
 file_for asked role = None

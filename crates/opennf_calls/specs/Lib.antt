@@ -1,6 +1,7 @@
 pub mod Again
 pub mod Command
 pub mod Ends
+pub mod FailRuns
 pub mod Functions
 pub mod NetworkRuns
 pub mod Outcome

@@ -19,12 +19,13 @@ use Rattle.journal_file.specs.declared.fault.JournalFault.{JournalFault}
 use Rattle.journal_file.specs.Reading.{journal_of}
 use Rattle.actor_net.specs.declared.choice.Choice.{Choice}
 use Rattle.actor_net.specs.declared.schedule.Schedule.{Schedule}
-use Rattle.command_words.specs.Requests.{Asked, NetworkAsked, CheckAsked, GenAsked, asks_sim, asks_run, asks_audit, asks_check, asks_gen}
+use Rattle.command_words.specs.Requests.{Asked, NetworkAsked, FailAsked, CheckAsked, GenAsked, asks_sim, asks_run, asks_audit, asks_fail, asks_check, asks_gen}
 use Rattle.command_words.specs.Values.{names_of}
 use Rattle.opennf_calls.specs.declared.status.Status.{Status}
 use Rattle.opennf_calls.specs.declared.status.Status.TheVariants.{Ok as Done, Usage, BadScript, BadTrace, BadJournal, NotARun, ReadFault, WriteFault, NoMemory}
 use Rattle.opennf_calls.specs.declared.outcome.Outcome.{Outcome}
 use Rattle.opennf_calls.specs.Command.{file_for, is_input, is_read_before, is_result, comes_before}
+use Rattle.opennf_calls.specs.FailRuns.{HasFailover, HasNoFailover}
 use Rattle.opennf_calls.specs.NetworkRuns.{Scenario, RunResults, given_script, HasRun, HasNoRun}
 use Rattle.opennf_calls.specs.Status.{line_of, trace_status, journal_status}
 
@@ -58,6 +59,12 @@ journal_read s bytes = journal_of s.kind (length s.instances) (bytes JournalIn)
 pub record IsAudited (s : NetworkAsked) (bytes : Role → List ℕ) (made : RunResults) : Type 0 where
   pub told : journal_read s bytes ≡ Ok made.choices
   pub run : IsCompletedRun s bytes None made
+
+-- the failover in the run that a journal tells
+pub record IsFailedOver (f : FailAsked) (bytes : Role → List ℕ) (made : RunResults) : Type 0 where
+  pub choices : List Choice
+  pub told : journal_read f.network bytes ≡ Ok choices
+  pub failover : OfScenario f.network bytes (λ scenario. HasFailover f scenario choices made)
 
 -- the canonical text of the script that the bytes are read as
 pub record IsCheckText (c : CheckAsked) (bytes text : List ℕ) : Type 0 where
@@ -104,6 +111,7 @@ abbrev pub refusal_of : Asked → (Role → List ℕ) → Option Status
 refusal_of (asks_sim s schedule) bytes = inputs_refusal s bytes
 refusal_of (asks_run s) bytes = inputs_refusal s bytes
 refusal_of (asks_audit s) bytes = first_refusal (inputs_refusal s bytes) (journal_refusal (journal_read s bytes))
+refusal_of (asks_fail f) bytes = first_refusal (inputs_refusal f.network bytes) (journal_refusal (journal_read f.network bytes))
 refusal_of (asks_check c) bytes = script_refusal (script_of c.kind (names_of c.instances) (bytes Script))
 refusal_of (asks_gen g) bytes = None
 
@@ -113,6 +121,8 @@ earlier_refusal (asks_sim s schedule) Trace bytes = script_refusal (given_script
 earlier_refusal (asks_run s) Trace bytes = script_refusal (given_script s (bytes Script))
 earlier_refusal (asks_audit s) Trace bytes = script_refusal (given_script s (bytes Script))
 earlier_refusal (asks_audit s) JournalIn bytes = inputs_refusal s bytes
+earlier_refusal (asks_fail f) Trace bytes = script_refusal (given_script f.network (bytes Script))
+earlier_refusal (asks_fail f) JournalIn bytes = inputs_refusal f.network bytes
 earlier_refusal asked role bytes = None
 
 -- the choices of a journal aren't a complete run, which shows at this step
@@ -121,8 +131,15 @@ pub record TellsNoRun (s : NetworkAsked) (bytes : Role → List ℕ) (step : ℕ
   pub told : journal_read s bytes ≡ Ok choices
   pub no_run : OfScenario s bytes (λ scenario. HasNoRun s scenario choices step)
 
+-- so many choices of a journal aren't there, or aren't a run, which shows at this step
+pub record TellsNoFailover (f : FailAsked) (bytes : Role → List ℕ) (step : ℕ) : Type 0 where
+  pub choices : List Choice
+  pub told : journal_read f.network bytes ≡ Ok choices
+  pub no_failover : OfScenario f.network bytes (λ scenario. HasNoFailover f scenario choices step)
+
 abbrev pub FailsAt : Asked → (Role → List ℕ) → ℕ → Type 0
 FailsAt (asks_audit s) bytes step = TellsNoRun s bytes step
+FailsAt (asks_fail f) bytes step = TellsNoFailover f bytes step
 FailsAt asked bytes step = ⊥
 
 -- what a command gives for these input bytes: the choices of a run, and a text for each result
@@ -130,6 +147,7 @@ abbrev pub AreResults : Asked → (Role → List ℕ) → RunResults → Type 0
 AreResults (asks_sim s schedule) bytes made = IsCompletedRun s bytes (Some schedule) made
 AreResults (asks_run s) bytes made = IsCompletedRun s bytes None made
 AreResults (asks_audit s) bytes made = IsAudited s bytes made
+AreResults (asks_fail f) bytes made = IsFailedOver f bytes made
 AreResults (asks_check c) bytes made = (made.choices ≡ []) × IsCheckText c (bytes Script) (made.texts Report)
 AreResults (asks_gen g) bytes made = (made.choices ≡ []) × AreGenTexts g (made.texts TraceOut) (made.texts Report)
 
@@ -218,7 +236,7 @@ pub record IsRefusedCommand (asked : Asked) (old new : Role → Meaning) (status
   pub silent : WroteNothing old new
   pub refusal : (bytes : Role → List ℕ) → HasInput asked old bytes → refusal_of asked bytes ≡ Some status
 
--- the inputs were read to their end and nothing refuses them, but the journal's choices aren't a complete run
+-- the inputs were read to their end and nothing refuses them, but the journal's choices aren't a run as the command asks
 pub record Failed (asked : Asked) (bytes : Role → List ℕ) (new : Role → Meaning) (step : ℕ) : Type 0 where
   pub read : IsRead asked new
   pub sound : refusal_of asked bytes ≡ None
@@ -264,8 +282,8 @@ abbrev pub PutsLine : List ℕ → (old new : Meaning) → Type 0
 PutsLine line old new =
     Appends old.written new.written line ⊎ (Rose old.faults new.faults × AppendsFront old.written new.written line)
 
--- what good input ends with where nothing fails: Ok or out of memory; a command that reads a journal also where its choices aren't a
--- complete run
+-- what good input ends with where nothing fails: Ok or out of memory; a command that reads a journal also where its choices aren't a run as
+-- it asks
 pub data IsGoodEnd (asked : Asked) (bytes : Role → List ℕ) (status : Status) : Type 0 where
   Is_done : status ≡ Done → IsGoodEnd asked bytes status
   Is_memory : status ≡ NoMemory → IsGoodEnd asked bytes status

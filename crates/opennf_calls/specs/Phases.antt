@@ -16,7 +16,7 @@ use Rattle.journal_file.specs.Format.{journal_bytes}
 use Rattle.net_world.specs.Input.{IsInput}
 use Rattle.net_length.specs.Length.{IsShort}
 use Rattle.actor_net.specs.declared.choice.Choice.{Choice}
-use Rattle.command_words.specs.Requests.{Asked, NetworkAsked}
+use Rattle.command_words.specs.Requests.{Asked, FailAsked, NetworkAsked}
 use Rattle.command_words.specs.Values.{names_of}
 use Rattle.opennf_calls.specs.declared.status.Status.{Status}
 use Rattle.opennf_calls.specs.declared.status.Status.TheVariants.{BadScript, BadTrace, NoMemory, NotARun, ReadFault}
@@ -26,6 +26,7 @@ use Rattle.opennf_calls.specs.Outcome.{CauseOf, IsScenario, MayBind, RowOf, inpu
 use Rattle.opennf_calls.specs.declared.inputs.Inputs.{Inputs}
 use Rattle.opennf_calls.specs.declared.network.Made.{Made}
 use Rattle.opennf_calls.specs.declared.network.Opening.{Opening}
+use Rattle.opennf_calls.specs.FailRuns.{IsNoFailover}
 use Rattle.opennf_calls.specs.Functions.{OfKind}
 use Rattle.opennf_calls.specs.NetworkRuns.{Scenario, RunGiven, RunResults, IsNoRun, config_for, given_script, head_for, items_for, run_given}
 
@@ -137,6 +138,10 @@ result_texts journal report role = report
 abbrev pub gives : NetworkAsked → Made → RunResults
 gives s made = record { choices = made.choices; texts = result_texts (journal_bytes s.kind (length s.instances) made.choices) made.report }
 
+-- what a command gives that writes a report alone
+abbrev pub reports : Made → RunResults
+reports made = record { choices = made.choices; texts = λ role. made.report }
+
 -- the choices and the report that a command gives
 pub record GivesReport (choices : List Choice) (text : List ℕ) (made : RunResults) : Type 0 where
   pub is_made : made.choices ≡ choices
@@ -149,9 +154,18 @@ module _ {F R : Type 0} (given : RunGiven F R) where
   IsRefusedAs choices NoMemory = Unit {0}
   IsRefusedAs choices status = ⊥
 
+  -- why they lead to no failover
+  abbrev pub IsNoFailoverAs : FailAsked → List Choice → Status → Type 0
+  IsNoFailoverAs asked choices (NotARun step) = IsNoFailover given asked choices step
+  IsNoFailoverAs asked choices NoMemory = Unit {0}
+  IsNoFailoverAs asked choices status = ⊥
+
 -- the same, for the function that the words name
 abbrev pub IsRefusedRun : NetworkAsked → Scenario → List Choice → Status → Type 0
 IsRefusedRun s scenario choices status = OfKind s.kind (λ R F f. IsRefusedAs (run_given F f s scenario) choices status)
+
+abbrev pub IsRefusedFailover : FailAsked → Scenario → List Choice → Status → Type 0
+IsRefusedFailover asked scenario choices status = OfKind asked.network.kind (λ R F f. IsNoFailoverAs (run_given F f asked.network scenario) asked choices status)
 
 -- a command whose files were bound ended: its row holds, and the names and the standard error are as before
 pub record Performs (asked : Asked) (old new : Role → Meaning) (outcome : Outcome) : Type 0 where

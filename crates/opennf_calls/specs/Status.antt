@@ -14,6 +14,8 @@ use Rattle.journal_file.specs.declared.fault.JournalFault.{JournalFault}
 use Rattle.journal_file.specs.declared.fault.JournalFault.TheVariants as journal
 use Rattle.run_report.specs.declared.auditing.AuditFault.{AuditFault}
 use Rattle.run_report.specs.declared.auditing.AuditFault.TheVariants as audit
+use Rattle.standby_failover.specs.declared.fault.FailFault.{FailFault}
+use Rattle.standby_failover.specs.declared.fault.FailFault.TheVariants as failing
 use Rattle.trace_reader.specs.declared.make.MakeFault.{MakeFault}
 use Rattle.trace_reader.specs.declared.make.MakeFault.TheVariants as making
 use Rattle.command_words.specs.declared.fault.ArgumentsFault.{ArgumentsFault}
@@ -97,7 +99,7 @@ trace_line_of offset kind =
 abbrev pub journal_line_of : JournalKind → List ℕ
 journal_line_of kind = codes "opennf: journal: " ++ journal_kind_name kind ++ codes "\n"
 
--- the line on a journal whose choices aren't a complete run
+-- the line on a journal whose choices aren't a run as the command asks
 abbrev pub no_run_line_of : ℕ → List ℕ
 no_run_line_of step = codes "opennf: not a run at step " ++ decimal step ++ codes "\n"
 
@@ -144,6 +146,11 @@ journal_status journal.NoMemory = NoMemory
 abbrev pub audit_status : AuditFault → Status
 audit_status (audit.NotARun step) = NotARun step
 audit_status audit.NoMemory = NoMemory
+
+-- the status of choices that don't lead to a failover
+abbrev pub fail_status : FailFault → Status
+fail_status (failing.NotARun step) = NotARun step
+fail_status failing.NoMemory = NoMemory
 
 -- the status of a script that can't be read
 abbrev pub script_status : ScriptFault → Status

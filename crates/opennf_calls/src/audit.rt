@@ -49,7 +49,7 @@ fn make<O: Outside>(alloc: Global, asked: &Auditing<'_>, outside: &mut O) -> Res
 }
 
 /// Reads the journal of so many instances.
-fn read_choices<O: Outside>(
+pub(crate) fn read_choices<O: Outside>(
     alloc: Global,
     kind: Kind,
     instances: u8,

@@ -14,6 +14,8 @@
 pub mod audit;
 pub mod check;
 pub mod error_line;
+pub mod fail;
+mod failing;
 pub mod functions;
 pub mod generate;
 pub mod inputs;

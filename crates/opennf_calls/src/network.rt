@@ -37,9 +37,9 @@ pub struct Made {
 /// A network before its start: what it is made of, its input, and what its report repeats.
 #[derive(Drop)]
 pub struct Opening {
-    config: Config,
-    items: Vec<Msg>,
-    head: Head,
+    pub(crate) config: Config,
+    pub(crate) items: Vec<Msg>,
+    pub(crate) head: Head,
 }
 
 /// Runs the network by a schedule. Its instances have the function that the words name, as below.
@@ -228,7 +228,11 @@ fn tell_network<F: Function>(
 }
 
 /// The network before its start.
-fn open(alloc: Global, asked: &NetworkRequest<'_>, inputs: Inputs) -> Result<Opening, NoMemory>
+pub(crate) fn open(
+    alloc: Global,
+    asked: &NetworkRequest<'_>,
+    inputs: Inputs,
+) -> Result<Opening, NoMemory>
     requires sound { CanBegin (network_view asked.now) (scenario_of asked.now.site inputs) }
     ensures { IfOk result (IsOpening (network_view asked.now) (scenario_of asked.now.site inputs)) }
 {

@@ -7,6 +7,7 @@ use journal_file::JournalFault;
 use nf_io::{Role, UptoFault};
 use op_script::{ScriptFault, ScriptKind};
 use run_report::AuditFault;
+use standby_failover::FailFault;
 use trace_reader::{MakeFault, TraceFault};
 
 /// What is wrong with a capture.
@@ -58,7 +59,7 @@ pub enum Status {
     BadTrace { offset: u64, kind: TraceKind },
     /// The journal breaks a rule.
     BadJournal { kind: JournalKind },
-    /// The journal's choices aren't a complete run: the choice of this step, from 1, can't be taken, or is missing.
+    /// The journal's choices aren't a run as the command asks: the choice of this step, from 1, can't be taken, or is missing.
     NotARun { step: u64 },
     /// A file couldn't be read.
     ReadFault { role: Role },
@@ -170,6 +171,21 @@ impl From<AuditFault> for Status {
         match fault {
             AuditFault::NotARun { step } => Status::NotARun { step },
             AuditFault::NoMemory => Status::NoMemory,
+        }
+    }
+}
+
+/// The status of choices that don't lead to a failover.
+impl From<FailFault> for Status {
+    ghost use Rattle.std.specs.Prelude.{◌≡◌};
+    ghost use Rattle.opennf_calls.specs.Status.{fail_status};
+
+    ghost from_gives = { λ fault status. status ≡ fail_status fault };
+
+    fn from(fault: FailFault) -> Self {
+        match fault {
+            FailFault::NotARun { step } => Status::NotARun { step },
+            FailFault::NoMemory => Status::NoMemory,
         }
     }
 }

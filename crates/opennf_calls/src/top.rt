@@ -13,6 +13,7 @@ ghost use Rattle.opennf_calls.specs.Phases.{HasEnded, Named, Performs, SameConte
 use crate::audit::audit;
 use crate::check::check;
 use crate::error_line::line;
+use crate::fail::fail;
 use crate::generate::generate;
 use crate::outcome::Outcome;
 use crate::run::run;
@@ -118,6 +119,7 @@ fn do_calm<O: Outside>(alloc: Global, asked: &CalmRequest<'_>, outside: &mut O) 
     match asked {
         CalmRequest::Sim(asked, schedule) => simulate(alloc, asked, *schedule, outside),
         CalmRequest::Audit(asked) => audit(alloc, asked, outside),
+        CalmRequest::Fail(asked) => fail(alloc, asked, outside),
         CalmRequest::Check(asked) => Outcome::without_run(alloc, check(alloc, asked, outside)),
         CalmRequest::Gen(asked) => Outcome::without_run(alloc, generate(alloc, asked, outside)),
     }
@@ -153,6 +155,7 @@ fn bind_files<O: Outside>(asked: &CalmRequest<'_>, outside: &mut O) -> Result<()
     match asked {
         CalmRequest::Sim(asked, _) => bind_run(asked, Role::JournalOut, outside),
         CalmRequest::Audit(asked) => bind_run(&asked.network, Role::JournalIn, outside),
+        CalmRequest::Fail(asked) => bind_run(&asked.network, Role::JournalIn, outside),
         CalmRequest::Check(asked) => bind_file(outside, Role::Script, Some(asked.script)),
         CalmRequest::Gen(asked) => bind_file(outside, Role::TraceOut, Some(asked.trace)),
     }

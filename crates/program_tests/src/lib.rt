@@ -7,6 +7,8 @@
 #[cfg(test)]
 mod check_tests;
 #[cfg(test)]
+mod fail_tests;
+#[cfg(test)]
 mod generate_tests;
 #[cfg(test)]
 mod journal_tests;

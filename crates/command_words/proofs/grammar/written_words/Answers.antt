@@ -16,6 +16,10 @@ pub returns-clause-run : goal.returns-clause-run
 unfolding app_with given_arguments rows_taken clap_on_literals
 returns-clause-run c = λ a b d e f g. refl
 
+pub returns-clause-fail : goal.returns-clause-fail
+unfolding app_with given_arguments rows_taken clap_on_literals
+returns-clause-fail c = λ a b d e f g h i j. refl
+
 pub returns-clause-check : goal.returns-clause-check
 unfolding app_with given_arguments rows_taken clap_on_literals
 returns-clause-check c = λ a b d. refl
@@ -47,6 +51,14 @@ returns-clause-again c = λ a b d e. refl
 pub returns-clause-scheduled : goal.returns-clause-scheduled
 unfolding app_with given_arguments rows_taken clap_on_literals
 returns-clause-scheduled c = λ a b d e f. refl
+
+pub returns-clause-counted : goal.returns-clause-counted
+unfolding app_with given_arguments rows_taken clap_on_literals
+returns-clause-counted c = λ a b d e f g h i. refl
+
+pub returns-clause-untold : goal.returns-clause-untold
+unfolding app_with given_arguments rows_taken clap_on_literals
+returns-clause-untold c = λ a b d e f g h. refl
 
 pub returns-clause-stray : goal.returns-clause-stray
 unfolding app_with given_arguments rows_taken clap_on_literals

@@ -1,0 +1,80 @@
+-- What is left is that of the words, the script and the capture.
+use Rattle.std.proofs.Common.{rules, ◌≡◌, ◌++◌, ◌==◌, ℕ, Err, List, take, ap, sym, subst, ◌∙◌}
+use Rattle.std.specs.Prelude.{All, IsSome, find}
+use Rattle.std.proofs.lemmas.Result.{err_from_is_err_and}
+use Rattle.flow_filter.specs.declared.packet.Packet.{Packet}
+use Rattle.trace_reader.specs.Records.{AreNumbered}
+use Rattle.actor_net.specs.declared.choice.Choice.{Choice}
+use Rattle.command_words.specs.RequestViews.{fail_view}
+use Rattle.net_world.specs.Input.{packets}
+use Rattle.net_world.specs.Jobs.{job_of}
+use Rattle.net_world.specs.Start.{started}
+use Rattle.run_input.proofs.SaidCommands.{packets_in}
+use Rattle.standby_failover.specs.Causes.{IsFailCause, first_of, world_after}
+use Rattle.opennf_calls.specs.Phases.{scenario_of}
+use Rattle.opennf_calls.proofs.FailLemmas.{Left, failover_is, failover_refused}
+use Rattle.opennf_calls.proofs.failing.fail_network.Given.{Over}
+use Rattle.opennf_calls.proofs.failing.fail_network.Goals as goal
+use Rattle.opennf_calls.proofs.failing.fail_network.Goals.{In_ok-trace}
+
+-- the packets of the input are those of the capture, and are copied
+trace_is : (g : Over) (c : In_ok-trace g) → c.in_ok-trace.trace ≡ packets c.in_ok-config.field-0.items.items
+trace_is g c = c.in_ok-trace.ensures ∙ ap packets c.as_slice.ensures.value
+
+numbered : (g : Over) (c : In_ok-trace g) → AreNumbered 1 (packets c.in_ok-config.field-0.items.items)
+numbered g c =
+    let scenario = scenario_of c.args.asked.now.network.site c.args.inputs in
+    subst (AreNumbered 1) (sym (ap packets c.in_ok-config.ensures.items ∙ packets_in scenario.captured.packets scenario.script.lines.items)) c.requires.sound.numbers
+
+pub promote-requires-clause-numbered : goal.promote-requires-clause-numbered
+promote-requires-clause-numbered g c = numbered g (goal.at.promote-requires-clause-numbered g c).In_ok-trace
+
+pub report_failover-requires-clause-numbered : goal.report_failover-requires-clause-numbered
+report_failover-requires-clause-numbered g c =
+    let b = (goal.at.report_failover-requires-clause-numbered g c).In_ok-trace in
+    subst (AreNumbered 1) (sym (trace_is g b)) (numbered g b)
+
+pub report_failover-requires-clause-known : goal.report_failover-requires-clause-known
+report_failover-requires-clause-known g c =
+    let b = (goal.at.report_failover-requires-clause-known g c).In_ok-trace in
+    let p = c.in_ok-promoted.promoted in
+    subst (λ (ps : List Packet). All (λ n. IsSome (find (λ p. p.number == n) ps)) (p.order ++ p.pending)) (sym (trace_is g b)) c.in_ok-promoted.ensures.known
+
+pub returns-in_err-promoted : goal.returns-in_err-promoted
+returns-in_err-promoted g c =
+    let f = g.F.Function.semantics in
+    let asked = fail_view c.args.asked.now in
+    let opening = c.in_ok-config.field-0 in
+    let is = c.in_ok-config.ensures in
+    let told : c.items.result.now ≡ c.args.choices = search rules in
+    let failed = err_from_is_err_and c.from_residual-in_err-promoted.result c.from_residual-in_err-promoted.ensures.1 in
+    rw (failed.1, failed.2)
+    (failover_refused g.row.F.Denot f asked (scenario_of c.args.asked.now.network.site c.args.inputs) c.args.alloc opening.config opening.items.items is.config is.items
+    c.args.choices c.in_err-promoted.field-0.0 (λ step same.
+    subst (λ (cs : List Choice). IsFailCause {F = g.row.F.Denot} f (started c.args.alloc opening.config opening.items.items) (first_of cs asked.after) step) told
+    (c.in_err-promoted.ensures.not_a_run step (ap Err same))))
+
+pub returns : goal.returns
+returns g c =
+    let f = g.F.Function.semantics in
+    let asked = fail_view c.args.asked.now in
+    let scenario = scenario_of c.args.asked.now.network.site c.args.inputs in
+    let opening = c.in_ok-config.field-0 in
+    let is = c.in_ok-config.ensures in
+    let b = (goal.at.returns g c).In_ok-trace in
+    let told : c.items.result.now ≡ c.args.choices = search rules in
+    let left = c.in_ok-promoted.ensures in
+    let report = c.in_ok-report.ensures in
+    let world = world_after f (started {F = g.row.F.Denot} c.args.alloc opening.config opening.items.items) (first_of c.items.result.now asked.after) in
+    let taken : c.from_vec-choices.result ≡ take asked.after c.args.choices = search rules in
+    failover_is g.row.F.Denot f asked scenario c.args.alloc opening.config opening.items.items is.config is.items c.args.choices opening.head is.head
+    c.in_ok-promoted.promoted c.in_ok-report._table
+    (subst (λ (cs : List Choice). Left g.row.F.Denot f asked scenario c.args.alloc opening.config opening.items.items is.config is.items cs
+      c.in_ok-promoted.promoted c.in_ok-report._table) told
+    (record {
+      reached = left.reached;
+      left = left.left;
+      is_promoted = left.promoted;
+      has_caught_up = report.caught opening.items.items world asked.failed asked.to left.left left.promoted (sym (trace_is g b));
+    }))
+    (record { choices = c.from_vec-choices.result; report = c.in_ok-report.report }) taken report.text

@@ -1,0 +1,102 @@
+//! A failover in the run of a network, for each function.
+ghost use Rattle.std.specs.Prelude.{◌≡◌, MatchResult};
+ghost use Rattle.command_words.specs.RequestViews.{fail_view, network_view};
+ghost use Rattle.opennf_calls.specs.FailRuns.{HasFailover, IsFailover};
+ghost use Rattle.opennf_calls.specs.NetworkRuns.{run_given};
+ghost use Rattle.opennf_calls.specs.Phases.{CanBegin, IsNoFailoverAs, IsRefusedFailover, reports, scenario_of};
+
+use crate::functions::{ForFunction, for_kind};
+use crate::inputs::Inputs;
+use crate::network::{Made, Opening, open};
+use crate::status::Status;
+use actor_net::Choices;
+use command_words::FailRequest;
+use nf_function::Function;
+use standby_failover::{Failing, packets_of, promote, report_failover};
+use std::alloc::Global;
+
+/// Takes the first of some choices, and makes the report of what is left where the instance fails.
+pub(crate) fn run_failed(
+    alloc: Global,
+    asked: &FailRequest<'_>,
+    inputs: Inputs,
+    choices: Choices,
+) -> Result<Made, Status>
+    requires { CanBegin (network_view asked.now.network) (scenario_of asked.now.network.site inputs) }
+    ensures { MatchResult result
+        (λ made. HasFailover (fail_view asked.now) (scenario_of asked.now.network.site inputs) choices (reports made))
+        (IsRefusedFailover (fail_view asked.now) (scenario_of asked.now.network.site inputs) choices) }
+{
+    let kind = asked.network.kind;
+    let failed = Failed {
+        alloc,
+        asked,
+        inputs,
+        choices,
+    };
+    for_kind(kind, failed)
+}
+
+/// A failover, for any function.
+#[derive(Drop)]
+struct Failed<'a, 'w> {
+    alloc: Global,
+    asked: &'a FailRequest<'w>,
+    inputs: Inputs,
+    choices: Choices,
+}
+
+impl ForFunction for Failed<'_, '_> {
+    type Output = Result<Made, Status>;
+
+    ghost may = { λ w kind. (kind ≡ w.asked.now.network.kind) × CanBegin (network_view w.asked.now.network) (scenario_of w.asked.now.network.site w.inputs) };
+
+    ghost gives = { λ w R F f r. MatchResult r
+        (λ made. IsFailover (run_given F f (network_view w.asked.now.network) (scenario_of w.asked.now.network.site w.inputs)) (fail_view w.asked.now) w.choices (reports made))
+        (IsNoFailoverAs (run_given F f (network_view w.asked.now.network) (scenario_of w.asked.now.network.site w.inputs)) (fail_view w.asked.now) w.choices) };
+
+    fn call<F: Function + Send>(self) -> Result<Made, Status>
+    where
+        F::Record: Send,
+    {
+        fail_network::<F>(self.alloc, self.asked, self.inputs, self.choices)
+    }
+}
+
+/// What is left where the instance fails, and its report.
+fn fail_network<F: Function>(
+    alloc: Global,
+    asked: &FailRequest<'_>,
+    inputs: Inputs,
+    choices: Choices,
+) -> Result<Made, Status>
+    requires kind { F.semantics.kind ≡ asked.now.network.kind }
+    requires sound { CanBegin (network_view asked.now.network) (scenario_of asked.now.network.site inputs) }
+    ensures { MatchResult result
+        (λ made. IsFailover (run_given F.row.Denot F.semantics (network_view asked.now.network) (scenario_of asked.now.network.site inputs)) (fail_view asked.now) choices (reports made))
+        (IsNoFailoverAs (run_given F.row.Denot F.semantics (network_view asked.now.network) (scenario_of asked.now.network.site inputs)) (fail_view asked.now) choices) }
+{
+    let Opening {
+        config,
+        items,
+        head,
+    } = open(alloc, &asked.network, inputs)?;
+    let trace = packets_of(alloc, items.as_slice())?;
+    let FailRequest {
+        failed,
+        to,
+        after,
+        ..
+    } = asked;
+    let promoted = promote::<F>(alloc, &config, items, choices.items(), *after, *failed, *to)?;
+    let failing = Failing {
+        failed: *failed,
+        to: *to,
+        after: *after,
+    };
+    let (report, _table) = report_failover(alloc, &head, &failing, promoted, &config, &trace)?;
+    let mut taken = choices.into_vec();
+    taken.truncate(*after as usize);
+    let choices = Choices::from_vec(taken);
+    Ok(Made { choices, report })
+}
