@@ -70,7 +70,7 @@ returns g c =
     failover_is g.row.F.Denot f asked scenario c.args.alloc opening.config opening.items.items is.config is.items c.args.choices opening.head is.head
     c.in_ok-promoted.promoted c.in_ok-report._table
     (subst (λ (cs : List Choice). Left g.row.F.Denot f asked scenario c.args.alloc opening.config opening.items.items is.config is.items cs
-      c.in_ok-promoted.promoted c.in_ok-report._table) told
+    c.in_ok-promoted.promoted c.in_ok-report._table) told
     (record {
       reached = left.reached;
       left = left.left;
