@@ -1,6 +1,7 @@
 pub mod Grammar
 pub mod Values
 pub mod NetworkWords
+pub mod UpdateWords
 pub mod Requests
 pub mod Views
 pub mod RequestViews

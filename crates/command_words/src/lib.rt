@@ -9,12 +9,14 @@ pub mod fault;
 pub mod forms;
 pub mod grammar;
 pub mod instances;
+pub mod published;
 pub mod request;
 pub mod values;
 pub mod words;
 
 pub use fault::ArgumentsFault;
 pub use request::{
-    Auditing, CalmRequest, Checking, Generating, InstanceWords, Instances, NetworkRequest, Request,
+    Auditing, CalmRequest, Checking, Generating, InstanceWords, Instances, NetworkRequest,
+    Publishing, Request,
 };
 pub use words::{names_run, parse_calm, parse_command, parse_run};

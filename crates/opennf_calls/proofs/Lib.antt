@@ -19,5 +19,6 @@ pub mod SameInputs
 pub mod SameSites
 pub mod ScriptLemmas
 pub mod TwoResults
+pub mod UpdateRows
 pub mod WritingLemmas
 pub mod WrittenRuns

@@ -137,6 +137,10 @@ result_texts journal report role = report
 abbrev pub gives : NetworkAsked → Made → RunResults
 gives s made = record { choices = made.choices; texts = result_texts (journal_bytes s.kind (length s.instances) made.choices) made.report }
 
+-- what a command gives that writes a report alone
+abbrev pub reports : Made → RunResults
+reports made = record { choices = made.choices; texts = λ role. made.report }
+
 -- the choices and the report that a command gives
 pub record GivesReport (choices : List Choice) (text : List ℕ) (made : RunResults) : Type 0 where
   pub is_made : made.choices ≡ choices

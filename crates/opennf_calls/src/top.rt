@@ -15,6 +15,7 @@ use crate::check::check;
 use crate::error_line::line;
 use crate::generate::generate;
 use crate::outcome::Outcome;
+use crate::published::publish;
 use crate::run::run;
 use crate::sim::simulate;
 use crate::status::Status;
@@ -120,6 +121,7 @@ fn do_calm<O: Outside>(alloc: Global, asked: &CalmRequest<'_>, outside: &mut O) 
         CalmRequest::Audit(asked) => audit(alloc, asked, outside),
         CalmRequest::Check(asked) => Outcome::without_run(alloc, check(alloc, asked, outside)),
         CalmRequest::Gen(asked) => Outcome::without_run(alloc, generate(alloc, asked, outside)),
+        CalmRequest::Published(asked, schedule) => publish(alloc, asked, *schedule, outside),
     }
 }
 
@@ -155,6 +157,7 @@ fn bind_files<O: Outside>(asked: &CalmRequest<'_>, outside: &mut O) -> Result<()
         CalmRequest::Audit(asked) => bind_run(&asked.network, Role::JournalIn, outside),
         CalmRequest::Check(asked) => bind_file(outside, Role::Script, Some(asked.script)),
         CalmRequest::Gen(asked) => bind_file(outside, Role::TraceOut, Some(asked.trace)),
+        CalmRequest::Published(asked, _) => bind_file(outside, Role::Trace, Some(asked.trace)),
     }
 }
 
