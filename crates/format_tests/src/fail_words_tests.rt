@@ -112,7 +112,8 @@ fn words_of_fail_are_a_command_or_usage(rt: HostRuntime) -> Result<(), Fail> {
 
 #[test]
 fn fail_gives_the_places_of_two_instances(rt: HostRuntime) -> Result<(), Fail> {
-    let line = "x fail conntrack --instances a,b:5,c --inside 10.0.0.0/24 --journal j --failed c --to b --after 14 t s";
+    let line =
+        "x fail conntrack --instances a,b:5,c --inside 10.0.0.0/24 --journal j --failed c --to b --after 14 t s";
     let words = split(rt.alloc(), line)?;
     let request = parse_command(rt.alloc(), words.as_slice());
     let Ok(Request::Calm(CalmRequest::Fail(asked))) = request else {

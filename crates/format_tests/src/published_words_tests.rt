@@ -63,10 +63,7 @@ static PUBLISHED: [(&str, &str); 18] = [
         "x published conntrack --inside 10.0.0.0/24 --window 0 t 1 any",
         "usage",
     ),
-    (
-        "x published nat --inside 10.0.0.0/24 t 1 any",
-        "usage",
-    ),
+    ("x published nat --inside 10.0.0.0/24 t 1 any", "usage"),
     (
         "x published conntrack --inside 10.0.0.0/24 --schedule next t 1 any",
         "usage",
@@ -85,9 +82,10 @@ fn published_gives_its_numbers_and_the_file(rt: HostRuntime) -> Result<(), Fail>
         rt.alloc(),
         "x published conntrack --inside 10.0.0.0/24 --window 8 --schedule 9 t 7 any",
     )?;
-    let Ok(Request::Calm(CalmRequest::Published(asked, schedule))) =
-        parse_command(rt.alloc(), words.as_slice())
-    else {
+    let Ok(Request::Calm(CalmRequest::Published(asked, schedule))) = parse_command(
+        rt.alloc(),
+        words.as_slice(),
+    ) else {
         return Err(Fail::from("no published"));
     };
     assert_eq!(rt; (asked.window, asked.at), (8, 7));

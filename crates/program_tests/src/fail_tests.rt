@@ -9,9 +9,7 @@ use std::alloc::Global;
 use std::test::Fail;
 
 /// What comes before the choices of a journal of the tracker and two instances, up to the last byte of their number.
-static FRONT: [u8; 15] = [
-    b'O', b'N', b'F', b'J', 0, 1, 1, 2, 0, 0, 0, 0, 0, 0, 0,
-];
+static FRONT: [u8; 15] = [b'O', b'N', b'F', b'J', 0, 1, 1, 2, 0, 0, 0, 0, 0, 0, 0];
 
 /// A journal of choices that two digits each spell: the node and its port.
 fn journal(alloc: Global, digits: &str) -> Result<Vec<u8>, NoMemory> {
@@ -62,7 +60,13 @@ const COPIED: &str = "00 20 02 00 10 21 12 31 13 01 00 00 20 00";
 #[test]
 fn a_copy_lags_by_one_packet_and_another_is_open(rt: HostRuntime) -> Result<(), Fail> {
     let script = "at 1 copy a b any\nat 1 settle\n";
-    let (outcome, outside) = ended(rt.alloc(), 3, script, COPIED, "--failed a --to b --after 14")?;
+    let (outcome, outside) = ended(
+        rt.alloc(),
+        3,
+        script,
+        COPIED,
+        "--failed a --to b --after 14",
+    )?;
     let report = "opennf failover 1
 function conntrack instances 2 window 256
 trace packets 3 skipped 0 whole
@@ -100,11 +104,31 @@ end
 #[test]
 fn each_bad_end_of_a_failover_has_its_line(rt: HostRuntime) -> Result<(), Fail> {
     let rows = [
-        ("00 20", "--failed a --to b --after 3", "opennf: not a run at step 3\n"),
-        ("00 30", "--failed a --to b --after 2", "opennf: not a run at step 2\n"),
-        ("00 20", "--failed a --to a --after 2", "opennf: bad words\n"),
-        ("00 20", "--failed a --to c --after 2", "opennf: bad words\n"),
-        ("00 20", "--failed a --to b --after 2 --summary", "opennf: bad words\n"),
+        (
+            "00 20",
+            "--failed a --to b --after 3",
+            "opennf: not a run at step 3\n",
+        ),
+        (
+            "00 30",
+            "--failed a --to b --after 2",
+            "opennf: not a run at step 2\n",
+        ),
+        (
+            "00 20",
+            "--failed a --to a --after 2",
+            "opennf: bad words\n",
+        ),
+        (
+            "00 20",
+            "--failed a --to c --after 2",
+            "opennf: bad words\n",
+        ),
+        (
+            "00 20",
+            "--failed a --to b --after 2 --summary",
+            "opennf: bad words\n",
+        ),
     ];
     for (digits, more, line) in rows {
         let (outcome, outside) = ended(rt.alloc(), 1, "", digits, more)?;
