@@ -5,11 +5,12 @@ Use: model.py sim FUNCTION --instances LIST --inside PREFIX [--outside ADDR] [--
          TRACE [SCRIPT]
      model.py strong FUNCTION --instances LIST --inside PREFIX [--outside ADDR] [--window W] [--schedule S] TRACE [FILTER]
      model.py gen NUMBER --packets N --hosts H TRACE
+     model.py published FUNCTION --inside PREFIX [--outside ADDR] [--window W] [--schedule S] TRACE K FILTER
 
 It prints what the program prints for these words, writes the same file and ends with the same status. It takes the words in
 this order alone. It is slow and plain: the whole capture is read first, and a message is a tuple. The functions stand in
 functions.py, scripts in script_reader.py, the network in network.py, that of strong sharing in strong_share.py and the reports in
-reports.py.
+reports.py, and the network of an update in update.py.
 """
 import os
 import struct
@@ -21,7 +22,8 @@ import make_capture  # noqa: E402
 import network  # noqa: E402
 import script_reader  # noqa: E402
 import strong_share  # noqa: E402
-from functions import FUNCTIONS, Site, Translator, read_address, read_number, read_prefix  # noqa: E402
+import update  # noqa: E402
+from functions import FUNCTIONS, Filter, FilterFault, Site, Translator, read_address, read_number, read_prefix  # noqa: E402
 from reports import report, strong_report  # noqa: E402
 
 
@@ -73,6 +75,20 @@ class Making(NamedTuple):
     trace: bytes
 
 
+class Update(NamedTuple):
+    """A two-phase update."""
+
+    function: type
+    site: Site
+    window: int
+    schedule: object
+    trace: bytes
+    at: int  # after how many packets it starts
+    flows: Filter
+    names: tuple = ("a", "b")
+    is_summary: bool = False
+
+
 def is_file(text):
     return text == "-" or (text != "" and not text.startswith("-"))
 
@@ -88,6 +104,8 @@ def read_words(words):
         asked = read_sim(texts, words)
     elif texts[:1] == ["strong"]:
         asked = read_strong(texts, words)
+    elif texts[:1] == ["published"]:
+        asked = read_published(texts, words)
     elif len(texts) == 7:
         asked = read_gen(texts, words[6])
     if asked is None:
@@ -147,6 +165,34 @@ def read_members(text):
     """The names of two members or more, with commas between them."""
     names = text.split(",")
     return names if all(map(script_reader.is_name, names)) and 2 <= len(set(names)) == len(names) <= MOST_INSTANCES else None
+
+
+def read_published(texts, words):
+    values, place = {"--outside": None, "--window": "256", "--schedule": "first"}, 2
+    for name in "--inside", "--outside", "--window", "--schedule":
+        if texts[place : place + 1] == [name] and place + 1 < len(texts):
+            values[name] = texts[place + 1]
+            place += 2
+    if len(texts) != place + 3 or not is_file(texts[place]) or "--inside" not in values:
+        return None
+    function = FUNCTIONS.get(texts[1])
+    site = read_site(function, values["--inside"], values["--outside"])
+    window = read_number(values["--window"], 1, MOST_WINDOW)
+    schedule = read_schedule(values["--schedule"])
+    at = read_number(texts[place + 1], 0, 2**32 - 1)
+    flows = read_whole(function, texts[place + 2])
+    if None in (function, site, window, schedule, at, flows):
+        return None
+    return Update(function, site, window, schedule, words[place], at, flows)
+
+
+def read_whole(function, text):
+    """The filter, where it splits no unit."""
+    try:
+        flows = Filter(text)
+    except FilterFault:
+        return None
+    return None if function is None or function.splits(flows) else flows
 
 
 def read_instances(text):
@@ -356,6 +402,9 @@ def run(words):
         return make(asked)
     if isinstance(asked, Sharing):
         return strong_report(asked, *share(asked))
+    if isinstance(asked, Update):
+        trace = read_trace(read_file(asked.trace, "trace"))
+        return report(asked, trace, update.run(asked, trace.packets), "opennf published 1")
     return report(asked, *simulate(asked))
 
 

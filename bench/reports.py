@@ -1,12 +1,12 @@
 """The reports, a part of the model in model.py: lines of a world at the end of its run."""
 
 
-def report(asked, trace, world):
+def report(asked, trace, world, first="opennf report 1"):
     answers = {command: answer for _, command, answer in of_kind(world, "answered")}
     packets = [*out_lines(world), *done_lines(asked, world)]
     lives = [f"live {name} {len(instance.records)}" for name, instance in instances_of(asked, world)]
     lines = [
-        "opennf report 1",
+        first,
         *head_lines(asked, trace),
         *([] if asked.is_summary else packets),
         *(f"answer {command} {answer}" for command, answer in sorted(answers.items())),

@@ -10,7 +10,7 @@ use Rattle.clap.specs.declared.error.ErrorKind.{ErrorKind}
 use Rattle.command_words.specs.declared.forms.ArgumentKind.{ArgumentKind}
 use Rattle.command_words.specs.declared.forms.ArgumentKind.TheVariants.{Positional, OptionalPositional, Required, Optional, Flag}
 use Rattle.command_words.specs.declared.forms.Form.{Form}
-use Rattle.command_words.specs.declared.forms.Form.TheVariants.{Run, Sim, Fail, Check, Gen}
+use Rattle.command_words.specs.declared.forms.Form.TheVariants.{Run, Sim, Fail, Check, Gen, Published}
 
 -- an argument by its name: a place, an option or a flag, and whether it must be there
 abbrev pub rule_by : ArgumentKind → Text → Rule
@@ -55,6 +55,12 @@ check_rules = rule_by Positional (codes "function") ∷ rule_by Required (codes 
 abbrev pub gen_rules : List Rule
 gen_rules = rule_by Positional (codes "number") ∷ rule_by Required (codes "packets") ∷ rule_by Required (codes "hosts") ∷ rule_by Positional (codes "trace") ∷ []
 
+-- FUNCTION --inside PREFIX [--outside ADDR] [--window W] [--schedule S] TRACE K FILTER
+abbrev pub published_rules : List Rule
+published_rules = rule_by Positional (codes "function") ∷ rule_by Required (codes "inside") ∷ rule_by Optional (codes "outside")
+    ∷ rule_by Optional (codes "window") ∷ rule_by Optional (codes "schedule") ∷ rule_by Positional (codes "trace")
+    ∷ rule_by Positional (codes "at") ∷ rule_by Positional (codes "filter") ∷ []
+
 -- the arguments of each form
 abbrev pub rules_of : Form → List Rule
 rules_of Run = run_rules
@@ -62,6 +68,7 @@ rules_of Sim = sim_rules
 rules_of Fail = fail_rules
 rules_of Check = check_rules
 rules_of Gen = gen_rules
+rules_of Published = published_rules
 
 abbrev pub form_app : Form → App
 form_app form = app_with (rules_of form)

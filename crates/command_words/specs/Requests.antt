@@ -14,6 +14,7 @@ use Rattle.command_words.specs.Grammar.{given_arguments, value_of}
 use Rattle.command_words.specs.Values.{only, instances_of, count_of, given_number, schedule_of, file_of}
 pub use Rattle.command_words.specs.NetworkWords.{NetworkAsked, network_values}
 pub use Rattle.command_words.specs.FailWords.{FailAsked, fail_values}
+pub use Rattle.command_words.specs.UpdateWords.{PublishedAsked, published_values}
 
 -- what `check` asks for
 pub record CheckAsked : Type 0 where
@@ -36,6 +37,7 @@ pub data Asked : Type 0 where
   asks_fail : FailAsked → Asked
   asks_check : CheckAsked → Asked
   asks_gen : GenAsked → Asked
+  asks_published : PublishedAsked → Schedule → Asked
 
 -- the values of `check`
 unfoldable pub check_values : List Row → Option CheckAsked
@@ -73,6 +75,10 @@ check_of words = given_arguments forms.Check words >>= λ g. check_values g >>= 
 abbrev pub gen_of : List Text → Option Asked
 gen_of words = given_arguments forms.Gen words >>= λ g. gen_values g >>= λ v. Some (asks_gen v)
 
+abbrev pub published_of : List Text → Option Asked
+published_of words =
+    given_arguments forms.Published words >>= λ g. published_values g >>= λ p. schedule_of (value_of (codes "schedule") g) >>= λ s. Some (asks_published p s)
+
 -- the commands that start no threads
 unfoldable pub calm_of : Text → List Text → Option Asked
 calm_of command words =
@@ -81,6 +87,7 @@ calm_of command words =
     else if bytes_eq command (codes "fail") then fail_of words
     else if bytes_eq command (codes "check") then check_of words
     else if bytes_eq command (codes "gen") then gen_of words
+    else if bytes_eq command (codes "published") then published_of words
     else None
 
 -- PROGRAM COMMAND and the words of the command

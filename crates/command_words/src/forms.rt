@@ -30,6 +30,8 @@ pub enum Form {
     Check,
     /// Those after `gen`.
     Gen,
+    /// Those after `published`.
+    Published,
 }
 
 static RUN: [(ArgumentKind, &str); 9] = [
@@ -77,6 +79,17 @@ static CHECK: [(ArgumentKind, &str); 3] = [
     (ArgumentKind::Positional, "script"),
 ];
 
+static PUBLISHED: [(ArgumentKind, &str); 8] = [
+    (ArgumentKind::Positional, "function"),
+    (ArgumentKind::Required, "inside"),
+    (ArgumentKind::Optional, "outside"),
+    (ArgumentKind::Optional, "window"),
+    (ArgumentKind::Optional, "schedule"),
+    (ArgumentKind::Positional, "trace"),
+    (ArgumentKind::Positional, "at"),
+    (ArgumentKind::Positional, "filter"),
+];
+
 static GEN: [(ArgumentKind, &str); 4] = [
     (ArgumentKind::Positional, "number"),
     (ArgumentKind::Required, "packets"),
@@ -95,6 +108,7 @@ impl Form {
             Form::Fail => FAIL.as_slice(),
             Form::Check => CHECK.as_slice(),
             Form::Gen => GEN.as_slice(),
+            Form::Published => PUBLISHED.as_slice(),
         }
     }
 }

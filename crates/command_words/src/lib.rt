@@ -10,6 +10,7 @@ pub mod fault;
 pub mod forms;
 pub mod grammar;
 pub mod instances;
+pub mod published;
 pub mod request;
 pub mod values;
 pub mod words;
@@ -17,6 +18,6 @@ pub mod words;
 pub use fault::ArgumentsFault;
 pub use request::{
     Auditing, CalmRequest, Checking, FailRequest, Generating, InstanceWords, Instances,
-    NetworkRequest, Request,
+    NetworkRequest, Publishing, Request,
 };
 pub use words::{names_run, parse_calm, parse_command, parse_run};

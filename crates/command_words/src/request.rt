@@ -1,10 +1,12 @@
 //! What the words of the command line ask for.
-ghost use Rattle.std.specs.Prelude.{◌≤◌, ◌<◌, ◌≢◌, IsSome, length};
+ghost use Rattle.std.specs.Prelude.{◌≤◌, ◌<◌, ◌≢◌, IsSome, length, ◌≡◌, false};
+ghost use Rattle.flow_filter.specs.FilterText.{fields_of};
 ghost use Rattle.flow_filter.specs.Limits.{most_instances, most_window};
+ghost use Rattle.nf_function.specs.Units.{splits};
 ghost use Rattle.command_words.specs.declared.request.TheConstants.{MOST_PACKETS, MOST_HOSTS};
 
 use actor_net::Schedule;
-use flow_filter::{Name, Site};
+use flow_filter::{Filter, Name, Site};
 use nf_function::Kind;
 
 /// The most packets of a generated capture.
@@ -97,6 +99,23 @@ pub struct Generating<'a> {
     ghost hosts_in_range: { (1 ≤ hosts) × (hosts ≤ MOST_HOSTS) },
 }
 
+/// What `published` asks for: a two-phase update.
+#[derive(Debug, Drop)]
+pub struct Publishing<'a> {
+    pub kind: Kind,
+    pub site: Site,
+    /// How many packets may be under way.
+    pub window: u32,
+    /// After how many packets the move is asked for.
+    pub at: u32,
+    /// What is moved.
+    pub filter: Filter,
+    /// The capture's file.
+    pub trace: &'a str,
+    ghost window_in_range: { (1 ≤ window) × (window ≤ most_window) },
+    ghost whole: { splits kind (fields_of filter) ≡ false },
+}
+
 /// What the words ask for: a run by threads, or something that always comes to its end.
 #[derive(Debug, Drop)]
 pub enum Request<'a> {
@@ -119,4 +138,6 @@ pub enum CalmRequest<'a> {
     Check(Checking<'a>),
     /// A generated capture.
     Gen(Generating<'a>),
+    /// A two-phase update, which picks its next step by the schedule.
+    Published(Publishing<'a>, Schedule),
 }

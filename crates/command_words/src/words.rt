@@ -9,6 +9,7 @@ use crate::fault::ArgumentsFault;
 use crate::forms::Form;
 use crate::grammar::{Given, read};
 use crate::instances::instances_of;
+use crate::published::ask_published;
 use crate::request::{
     Auditing, CalmRequest, Checking, Generating, MOST_HOSTS, MOST_PACKETS, NetworkRequest, Request,
 };
@@ -81,6 +82,7 @@ fn ask<'a>(
         "fail" => ask_fail(alloc, words),
         "check" => ask_check(alloc, words),
         "gen" => ask_gen(alloc, words),
+        "published" => ask_published(alloc, words),
         _ => Err(ArgumentsFault::Usage),
     }
 }

@@ -22,6 +22,8 @@ mod journal_tests;
 #[cfg(test)]
 mod outside_tests;
 #[cfg(test)]
+mod published_words_tests;
+#[cfg(test)]
 mod run_words_tests;
 #[cfg(test)]
 mod script_tests;

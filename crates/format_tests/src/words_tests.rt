@@ -56,6 +56,7 @@ fn asked(reading: Result<Request<'_>, ArgumentsFault>) -> &'static str {
         Ok(Request::Calm(CalmRequest::Fail(_))) => "fail",
         Ok(Request::Calm(CalmRequest::Check(_))) => "check",
         Ok(Request::Calm(CalmRequest::Gen(_))) => "gen",
+        Ok(Request::Calm(CalmRequest::Published(..))) => "published",
         Err(ArgumentsFault::Usage) => "usage",
         Err(ArgumentsFault::NoMemory) => "no memory",
     }

@@ -21,5 +21,6 @@ pub mod SameInputs
 pub mod SameSites
 pub mod ScriptLemmas
 pub mod TwoResults
+pub mod UpdateRows
 pub mod WritingLemmas
 pub mod WrittenRuns

@@ -3,7 +3,7 @@ use Rattle.std.specs.Prelude.{ℕ, List, Option, None, Some, Bool, true, false, 
 use Rattle.nf_io.specs.declared.outside.Role.{Role}
 use Rattle.nf_io.specs.declared.outside.Role.TheVariants.{Trace, Script, JournalIn, Report, JournalOut, TraceOut, Errors}
 use Rattle.nf_io.specs.Roles.{is_read, same_role}
-use Rattle.command_words.specs.Requests.{Asked, NetworkAsked, asks_sim, asks_run, asks_audit, asks_fail, asks_check, asks_gen}
+use Rattle.command_words.specs.Requests.{Asked, NetworkAsked, asks_sim, asks_run, asks_audit, asks_fail, asks_check, asks_gen, asks_published}
 
 -- the capture and the script of a run of the network
 abbrev pub run_file : NetworkAsked → Role → Option (List ℕ)
@@ -29,6 +29,7 @@ file_for (asks_audit s) role = with_journal s JournalIn role
 file_for (asks_fail f) role = with_journal f.network JournalIn role
 file_for (asks_check c) Script = Some c.script
 file_for (asks_gen g) TraceOut = Some g.trace
+file_for (asks_published p schedule) Trace = Some p.trace
 file_for asked role = None
 
 -- an input of the command: a role that is read, and has a file

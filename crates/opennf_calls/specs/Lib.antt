@@ -7,5 +7,6 @@ pub mod NetworkRuns
 pub mod Outcome
 pub mod Phases
 pub mod Status
+pub mod UpdateRuns
 pub mod Writing
 pub mod LineRoom

@@ -21,12 +21,14 @@ pub mod generate;
 pub mod inputs;
 pub mod network;
 pub mod outcome;
+pub mod published;
 pub mod results;
 pub mod run;
 pub mod sim;
 pub mod status;
 pub mod threads;
 pub mod top;
+mod update;
 pub mod writing;
 
 pub use outcome::Outcome;

@@ -16,6 +16,7 @@ use crate::error_line::line;
 use crate::fail::fail;
 use crate::generate::generate;
 use crate::outcome::Outcome;
+use crate::published::publish;
 use crate::run::run;
 use crate::sim::simulate;
 use crate::status::Status;
@@ -122,6 +123,7 @@ fn do_calm<O: Outside>(alloc: Global, asked: &CalmRequest<'_>, outside: &mut O) 
         CalmRequest::Fail(asked) => fail(alloc, asked, outside),
         CalmRequest::Check(asked) => Outcome::without_run(alloc, check(alloc, asked, outside)),
         CalmRequest::Gen(asked) => Outcome::without_run(alloc, generate(alloc, asked, outside)),
+        CalmRequest::Published(asked, schedule) => publish(alloc, asked, *schedule, outside),
     }
 }
 
@@ -158,6 +160,7 @@ fn bind_files<O: Outside>(asked: &CalmRequest<'_>, outside: &mut O) -> Result<()
         CalmRequest::Fail(asked) => bind_run(&asked.network, Role::JournalIn, outside),
         CalmRequest::Check(asked) => bind_file(outside, Role::Script, Some(asked.script)),
         CalmRequest::Gen(asked) => bind_file(outside, Role::TraceOut, Some(asked.trace)),
+        CalmRequest::Published(asked, _) => bind_file(outside, Role::Trace, Some(asked.trace)),
     }
 }
 

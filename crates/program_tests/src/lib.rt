@@ -13,6 +13,8 @@ mod generate_tests;
 #[cfg(test)]
 mod journal_tests;
 #[cfg(test)]
+mod published_tests;
+#[cfg(test)]
 mod sim_tests;
 #[cfg(test)]
 mod threads_tests;

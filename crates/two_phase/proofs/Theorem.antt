@@ -54,6 +54,11 @@ module _ (F : Type 0) {R : Type 0} (f : Semantics R) (laws : FunctionLaws f) (al
   same_choices schedule (Err e) w start a = tt
   same_choices schedule (Ok r) w start a = a ∙ ap (chosen schedule) start
 
+  pub same_world : {E : Type 0} (result : Result (Real × List Choice) E) (w : Real) → w ≡ first → IfOk result (λ r. r.0 ≡ run (node_step f) r.1 w)
+      → IfOk result (λ r. r.0 ≡ run (node_step f) r.1 first)
+  same_world (Err e) w start there = tt
+  same_world (Ok r) w start there = there ∙ ap (run (node_step f) r.1) start
+
   pub simulated : {E : Type 0} (result : Result (Real × List Choice) E) (w : Real) → w ≡ first → IfOk result (λ r. r.0 ≡ run (node_step f) r.1 w)
       → IfOk result (λ r. IsRun node_ready (node_step f) r.1 w) → IfOk result (λ r. Published f job r.1 r.0)
   simulated (Err e) w start there is_run = tt

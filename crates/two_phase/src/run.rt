@@ -1,6 +1,6 @@
 ghost use Rattle.std.specs.Prelude.{◌≡◌, ◌≢◌, ℕ, true, IfOk};
 ghost use Rattle.std.specs.declared.alloc.Global.{Global as AnAllocator};
-ghost use Rattle.actor_net.specs.Network.{is_done};
+ghost use Rattle.actor_net.specs.Network.{is_done, run};
 ghost use Rattle.actor_net.specs.Replays.{replayed};
 ghost use Rattle.actor_net.specs.Schedules.{scheduled};
 ghost use Rattle.actor_net.specs.declared.schedule.TheConstants.{MOST_CHOICES};
@@ -42,6 +42,8 @@ pub fn simulate_two<F: Function>(
     requires { IsUpdateJob F.semantics.kind (record { site = site; window = window; filter = filter; at = at; packets = packets }) }
     ensures choices { let job : AJob = record { site = site; window = window; filter = filter; at = at; packets = packets } in
         IfOk result (λ r. r.1 ≡ scheduled node_ready node_ended (node_step {F = F.row.Denot} F.semantics) MOST_CHOICES schedule (two_start alloc job)) }
+    ensures world { let job : AJob = record { site = site; window = window; filter = filter; at = at; packets = packets } in
+        IfOk result (λ r. r.0 ≡ run (node_step F.semantics) r.1 (two_start alloc job)) }
     ensures complete { IfOk result (λ r. is_done node_ended r.0 ≡ true) }
     ensures published { let job : AJob = record { site = site; window = window; filter = filter; at = at; packets = packets } in
         IfOk result (λ r. Published F.semantics job r.1 r.0) }
