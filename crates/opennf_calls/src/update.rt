@@ -34,7 +34,7 @@ pub(crate) fn run_update(
     requires few { length trace.packets ≤ most_packets }
     ensures { IfOk result (λ made. HasUpdate (published_view asked.now) (scene_of asked.now trace) schedule (reports made)) }
 {
-    are_steered(&asked.site, trace.packets.items());
+    are_steered(asked.site, trace.packets.items());
     is_filter(asked.filter);
     let kind = asked.kind;
     let updating = Updating {
@@ -113,14 +113,22 @@ fn update_network<F: Function>(
 }
 
 /// Packets of TCP and UDP are steered.
-fn are_steered(site: &Site, packets: &[CapturedPacket])
+fn are_steered(site: Site, packets: &[CapturedPacket])
     requires { All (λ packet. is_steered_proto packet.proto ≡ true) packets.now }
-    ensures steered { All (IsSteered site.now) packets.now }
-    ensures site { site.now.inside.bits < 2 ^ 32 }
+    ensures steered { All (IsSteered site) packets.now }
+    ensures site { site.inside.bits < 2 ^ 32 }
 {
     for packet in packets {
-        is_steered(site, &packet.packet());
+        is_steered_when_captured(&site, packet);
     }
+}
+
+/// A captured packet is steered as any other.
+fn is_steered_when_captured(site: &Site, captured: &CapturedPacket)
+    requires { is_steered_proto captured.now.proto ≡ true }
+    ensures { IsSteered site.now captured.now }
+{
+    is_steered(site, &captured.packet());
 }
 
 /// The numbers of a packet and those of its flow are within their types.

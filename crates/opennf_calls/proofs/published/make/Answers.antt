@@ -21,7 +21,7 @@ returns-clause-only g c = one_read Trace _ _ refl c.in_ok-trace.ensures.alone
 pub returns-in_err-trace-clause-row : goal.returns-in_err-trace-clause-row
 returns-in_err-trace-clause-row g c =
     let p = published_view c.args.asked.now in
-    let failed = err_from_is_err_and c.from_residual-in_err-trace.result c.from_residual-in_err-trace.ensures.1 in
+    let failed = err_from_is_err_and c.from_residual.result c.from_residual.ensures.1 in
     rw (failed.1, failed.2)
     (capture_row (asks_published p c.args.schedule) (update_reads p c.args.schedule) (g.O.Outside.seen c.args.outside.now)
     (g.O.Outside.seen c.read_packets.new.outside) c.requires c.in_err-trace.ensures.alone c.in_err-trace.field-0.0 c.in_err-trace.ensures.trace c.in_err-trace.ensures.cause)
