@@ -762,6 +762,27 @@ def many_units(cases):
         cases.words(f"net-many-shared-{place}", network_words(function, "a,b,c", trace, shared, more))
 
 
+def moves_back_and_forth(cases):
+    """Hundreds of moves by chance, of few filters and so of the same flows again and again: of all flows, of ports, of prefixes that hold one
+    another, each mostly followed by one back or on."""
+    filters = ["any", "local=10.0.0.0/29", "local=10.0.0.4/30", "proto=udp", "rport=53", "remote=192.0.2.9", *(f"local=10.0.0.{host}" for host in range(8)),
+        *(f"lport={5000 + port}" for port in range(4)), *(f"local=10.0.0.{host},lport={5000 + host % 4}" for host in range(8))]
+    for place in range(6):
+        chance = random.Random(f"moves back and forth {place}")
+        names = "abcdefgh"[: chance.choice([2, 3, 8])]
+        packets = [question(chance.randrange(8), 5000 + chance.randrange(4)) for _ in range(60)]
+        lines = [f"route {flows} {chance.choice(names)}" for flows in chance.sample(filters, chance.choice([0, 2, 8]))]
+        points = sorted(chance.randrange(61) for _ in range(100))
+        for point in points:
+            flows, way = chance.choice(filters), chance.sample(names, 2)
+            for source, target in [way, way[::-1], way][: chance.choice([1, 2, 2, 3])]:
+                lines.append(f"at {point} move {source} {target} {flows} {chance.choice(['order', 'lossfree'])}")
+                if place % 2:
+                    lines.append(f"at {point} settle")
+        for way, more in enumerate((["--schedule", "last"], ["--window", "3", "--schedule", str(place)])):
+            network_case(cases, f"back-and-forth-{place}-{way}", "conntrack", ",".join(names), packets, lines, more)
+
+
 def network_refusals(cases):
     """Which of several faults is told: words, then the script, then the capture."""
     bad = cases.file("net-bad.pcap", b"no capture")
@@ -860,7 +881,7 @@ def networks_at_times(cases):
         hold_to(f"net-timed-{name}", report)
 
 
-NETWORKS = networks_by_hand, networks_at_times, sixteen_instances, office_moves, many_units, network_refusals, faulty_scripts
+NETWORKS = networks_by_hand, networks_at_times, sixteen_instances, office_moves, many_units, moves_back_and_forth, network_refusals, faulty_scripts
 
 
 def by_chance(cases, seed, count):
