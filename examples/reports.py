@@ -33,12 +33,12 @@ NAME, NUMBER = "[a-z0-9]{1,16}", "[0-9]{1,9}"
 UNIT = r"(?:tcp|udp) [\d.]+:\d+ [\d.]+:\d+|[\d.]+"
 # The lines of a report by their first words, in their order.
 FORMS = {
-    "opennf": "opennf report 1",
+    "opennf": "opennf (report|published) 1",
     "function": r"function (conntrack|nat|monitor) instances (\d{1,2}) window (\d{1,4})",
     "trace": r"trace packets (\d{1,7}) skipped (\d{1,10}) (whole|cut)",
     "out": r"out (\d{1,7}) ([ -~]+)",
     "done": rf"done (\d{{1,7}}) ({NAME})",
-    "answer": rf"answer (\d{{1,4}}) (done|unknown {NAME}|overlap {NUMBER}|old {NUMBER} {NUMBER}|import {NUMBER} {NUMBER} {NUMBER})",
+    "answer": rf"answer (\d{{1,4}}) (done|no packet|unknown {NAME}|overlap {NUMBER}|old {NUMBER} {NUMBER}|import {NUMBER} {NUMBER} {NUMBER})",
     "state": rf"state ({UNIT}) ({NAME}) ([ -~]+)",
     "standby": rf"standby ({UNIT}) ({NAME}) ([ -~]+)",
     "live": rf"live ({NAME}) ({NUMBER})",
@@ -52,6 +52,7 @@ class Report(NamedTuple):
     """What the lines of a report say. An instance is its place in `names`."""
 
     file: str
+    kind: str  # the second word of its first line
     function: str
     window: int
     packets: int
@@ -95,6 +96,7 @@ def read_lines(name):
 def read_report(name):
     found = read_lines(name)
     (function, instances, window), (packets, skipped, end) = found["function"][0], found["trace"][0]
+    (kind,) = found["opennf"][0]
     names = [instance for instance, _ in found["tally"]]
     check_names(name, found, names, int(instances))
     records = {word: [[] for _ in names] for word in ("state", "standby")}
@@ -104,6 +106,7 @@ def read_report(name):
     live = {instance: int(count) for instance, count in found["live"]}
     report = Report(
         file=name,
+        kind=kind,
         function=function,
         window=int(window),
         packets=int(packets),

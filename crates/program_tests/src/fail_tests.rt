@@ -44,10 +44,11 @@ fn ended(
     let line = "opennf fail conntrack --instances a,b --inside 10.0.0.0/24 --journal J T S";
     let words: Vec<&str> = line.split(' ').chain(more.split(' ')).collect(alloc)?;
     let words = owned(alloc, words.as_slice())?;
-    let mut outside = outside_of(alloc, &[&HEADER])?;
+    let mut trace = Vec::new(alloc);
     for _ in 0..packets {
-        outside.put(Role::Trace, &untimed())?;
+        trace.extend_from_slice(&untimed())?;
     }
+    let mut outside = outside_of(alloc, &[&HEADER, trace.as_slice()])?;
     outside.put(Role::Script, script.as_bytes())?;
     outside.put(Role::JournalIn, journal(alloc, digits)?.as_slice())?;
     let outcome = calm(alloc, words.as_slice(), &mut outside);
