@@ -3,9 +3,10 @@
 
 Use: compare.py PROGRAM SEED COUNT
 
-Each run has a function, up to 16 instances with limits and marks, a window, a schedule, a capture and a script of routes, moves, copies, shares and
-settles. The words, what the program wrote and what the model wrote of a run that differs are left in a folder, which is named. Printed at
-the end are how many runs were the same, and how often each answer came. The status is 1 where a run differs.
+Each run has a function, up to 16 instances with limits and marks, a window, a schedule, a capture and a script of routes, moves, copies, shares and settles;
+one in four is of the command `published`, which has a packet's number and a filter in place of instances and script. The words, what the program wrote and
+what the model wrote of a run that differs are left in a folder, which is named. Printed at the end are how many runs were the same, and how often each answer
+came. The status is 1 where a run differs.
 """
 import os
 import random
@@ -58,26 +59,44 @@ def chance_limits(chance, names):
     return ",".join(map("".join, zip(names, limits, marks)))
 
 
-def chance_words(chance):
-    """The words of a run. Its capture and its script are written beside."""
+def chance_site(chance):
+    """A function, its site and the words of the options that each network has."""
     function = chance.choice(list(FUNCTIONS.values()))
     is_nat = function.name == "nat"
-    site = Site(Prefix(0x0A000000, 24), 0xCB007101 if is_nat else None)
-    names = list(network_checks.NAMES[: chance.choice([1, 2, 2, 2, 3, 3, 3, 5, 16])])
-    trace, count = chance_trace(chance, site, chance.random() < 0.03)
     more = cases.TRANSLATED if is_nat else []
     if chance.random() < 0.8:
         more = [*more, "--window", str(chance.choice([1, 1, 2, 3, 7, 16, 100, 256, 4096, chance.randrange(1, 4097)]))]
     if chance.random() < 0.9:
         more = [*more, "--schedule", chance.choice(["first", "last", *[str(chance.getrandbits(64))] * 4])]
+    return function, Site(Prefix(0x0A000000, 24), 0xCB007101 if is_nat else None), more
+
+
+def put_trace(chance, site):
+    """About how many packets the capture has, which is written beside."""
+    trace, count = chance_trace(chance, site, chance.random() < 0.03)
     with open(TRACE, "wb") as file:
         file.write(trace)
+    return count
+
+
+def chance_words(chance):
+    """The words of a run. Its capture and its script are written beside."""
+    function, site, more = chance_site(chance)
+    names = list(network_checks.NAMES[: chance.choice([1, 2, 2, 2, 3, 3, 3, 5, 16])])
+    count = put_trace(chance, site)
     script = None
     if chance.random() < 0.95:
         script = SCRIPT
         with open(SCRIPT, "w", encoding="ascii") as file:
             file.write(network_checks.chance_script(chance, function, names, count))
     return cases.network_words(function.name, chance_limits(chance, names), TRACE, script, more)
+
+
+def chance_published(chance):
+    """The words of a published move. Its capture is written beside."""
+    function, site, more = chance_site(chance)
+    point = str(chance.randrange(put_trace(chance, site) + 3))
+    return ["published", function.name, "--inside", "10.0.0.0/24", *more, TRACE, point, network_checks.chance_filter(chance, function)]
 
 
 def names_in(words):
@@ -120,14 +139,15 @@ def main(arguments):
     with tempfile.TemporaryDirectory() as folder:
         os.chdir(folder)
         for place in range(count):
-            words = chance_words(random.Random(f"{seed} {place}"))
+            chance_run = chance_published if place % 4 == 3 else chance_words
+            words = chance_run(random.Random(f"{seed} {place}"))
             wanted, given = by_model(words), by_program(program, words)
             if given != wanted:
                 differences += 1
                 print(f"compare.py: run {place} of seed {seed} differs: {keep(place, words, wanted, given)}")
             if differences == MOST_DIFFERENCES:
                 break
-            answers.update(re.findall(rb"^answer \d+ ([a-z]+)", wanted[1], re.MULTILINE))
+            answers.update(re.findall(rb"^answer \d+ (no packet|[a-z]+)", wanted[1], re.MULTILINE))
             answers["no report"] += wanted[0] != 0
         os.chdir(os.sep)
     found = {str(word, "ascii") if isinstance(word, bytes) else word: times for word, times in sorted(answers.items(), key=str)}
