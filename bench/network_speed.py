@@ -1,11 +1,12 @@
 #!/usr/bin/env python3
 """Measures runs of the network by several instances and with moves, and prints how their times and their memory compare.
 
-Use: network_speed.py FOLDER PROGRAM FEW TENTH MOVED TWELVE
+Use: network_speed.py FOLDER PROGRAM FEW TENTH MOVED TWELVE [MOVES]
 
 The captures are generated packets (FEW), a tenth as many of them (TENTH), packets of a tenth as many flows, each of which comes
 again and again (MOVED), and the generated ones for 12 moves (TWELVE). The scripts go into FOLDER. Each run is made five times,
-in turn with the run that it is compared with, and once more for its memory.
+in turn with the run that it is compared with, and once more for its memory. MOVES is the program of moves.rs: what moves take is
+then compared with what the same moves take there, as one writes them (plain) and tuned.
 """
 import os
 import struct
@@ -118,41 +119,56 @@ def growth(program, tenth, few):
           f"{len(report(sim(program, 'a', few))) / packets_in(few):.0f}")
 
 
-def there_and_back(folder, program, moved):
+def beside_plain_rust(moves, capture, period, count, taken, opennf):
+    """What the moves take, beside the same moves by plain Rust. `opennf` are the two commands without and with them."""
+    if moves is None:
+        return
+    words = [capture, str(period), str(count), taken]
+    runs = measured(*opennf, *([moves, mode, *words] for mode in ("none", "plain", "tuned")))
+    without, with_moves, none, plain, tuned = (it.spent for it in runs)
+    for name, other in ("plain", plain), ("tuned", tuned):
+        print(f"  the moves take {(with_moves - without) / max(other - none, 1e-6):.2f} times as long as in {name} Rust, of the processor's time")
+
+
+def there_and_back(folder, program, moved, moves):
     packets = packets_in(moved)
     print(f"{packets // 10} units moved to another instance and back, among {packets} packets:")
     script = written(folder, "there-and-back", [
         f"at {packets * 3 // 10} move a b any order", f"at {packets * 3 // 10} settle",
         f"at {packets * 6 // 10} move b a any order", f"at {packets * 6 // 10} settle",
     ])
-    without, with_moves = measured(sim(program, "a,b", moved), sim(program, "a,b", moved, script))
+    commands = sim(program, "a,b", moved), sim(program, "a,b", moved, script)
+    without, with_moves = measured(*commands)
     tell("without the moves", without)
     tell("with them", with_moves, without)
+    beside_plain_rust(moves, moved, packets * 3 // 10, 2, "any", commands)
     print(f"  {(with_moves.peak - without.peak) / (packets // 10):.0f} bytes more at the peak for each unit that is moved")
 
 
-def twelve_moves(folder, program, twelve):
+def twelve_moves(folder, program, twelve, moves):
     print("12 moves of half of the flows:")
     ways = ("a b", "b c", "c a") * 4
     script = written(folder, "twelve", [
         line for place, way in enumerate(ways, 1)
         for line in (f"at {700 * place} move {way} local=10.0.0.0/25 order", f"at {700 * place} settle")
     ])
-    without, with_moves = measured(sim(program, "a,b,c", twelve), sim(program, "a,b,c", twelve, script))
+    commands = sim(program, "a,b,c", twelve), sim(program, "a,b,c", twelve, script)
+    without, with_moves = measured(*commands)
     tell("without the moves", without)
     tell("with them", with_moves, without)
+    beside_plain_rust(moves, twelve, 700, 12, "half", commands)
 
 
 def main(arguments):
-    if len(arguments) != 6:
-        sys.exit("use: network_speed.py FOLDER PROGRAM FEW TENTH MOVED TWELVE")
-    folder, program, few, tenth, moved, twelve = arguments
+    if len(arguments) not in (6, 7):
+        sys.exit("use: network_speed.py FOLDER PROGRAM FEW TENTH MOVED TWELVE [MOVES]")
+    folder, program, few, tenth, moved, twelve, moves = [*arguments, None][:7]
     instances(folder, program, few)
     threads(folder, program, few)
     journals(folder, program, few)
     growth(program, tenth, few)
-    there_and_back(folder, program, moved)
-    twelve_moves(folder, program, twelve)
+    there_and_back(folder, program, moved, moves)
+    twelve_moves(folder, program, twelve, moves)
 
 
 if __name__ == "__main__":

@@ -11,7 +11,7 @@
 #
 # Then the program runs by itself: with one instance and three, by threads, with a journal and its audit, with a tenth of the packets and
 # all, with and without a move of a tenth as many units as there are packets to another instance and back, and with and without 12 moves of
-# half of the flows of 10,000 packets.
+# half of the flows of 10,000 packets. What the moves take stands beside what they take by plain Rust (moves.rs).
 # This is no part of the gate. What it makes stands in bench/out.
 set -eu
 bench=$(cd "$(dirname "${BASH_SOURCE[0]}")" && pwd)
@@ -47,7 +47,10 @@ made few python3 "$bench/make_capture.py" 7 $packets 256
 for shape in one distinct skipped; do
     made $shape python3 "$bench/shapes.py" $shape $packets
 done
+moves=()
 if [ ${#programs[@]} = 2 ]; then
+    rustc --edition 2021 -O -o "$out/moves" "$bench/moves.rs"
+    moves=("$out/moves")
     rustc --edition 2021 -O -o "$out/collide" "$bench/collide.rs"
     made ordinary "$out/collide" $packets 0 0
     made colliding "$out/collide" $packets 8 14
@@ -60,4 +63,4 @@ made repeated python3 "$bench/shapes.py" repeated $packets
 made twelve python3 "$bench/make_capture.py" 7 10000 200
 echo "load $(cut -d ' ' -f 1-3 /proc/loadavg), processors $(nproc)"
 python3 "$bench/measure.py" "$out" "${programs[@]}" -- "${beside[@]}"
-python3 "$bench/network_speed.py" "$out" "$program" "${captures[@]}"
+python3 "$bench/network_speed.py" "$out" "$program" "${captures[@]}" "${moves[@]}"
