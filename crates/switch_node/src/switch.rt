@@ -1,13 +1,13 @@
 ghost use Rattle.std.specs.Prelude.{◌≡◌, ◌≤◌, ◌<◌, ◌+◌, ◌++◌, false, All, IfOk, OnOk};
 ghost use Rattle.switch_rules.specs.Rules.{opened};
-ghost use Rattle.switch_node.specs.Switch.{has_closed, has_room, on_command, on_credit, on_install, on_packet, sends_to_instance, stops, switch_step, takes_in, target_of, is_there};
+ghost use Rattle.switch_node.specs.Switch.{has_closed, on_command, on_install, on_packet, sends_to_instance, stops, switch_step, takes_in, target_of, is_there};
 
 use actor_net::{Actor, Outbox};
 use basics::{Boxed, NoMemory};
 use event_filter::Mark;
 use flow_filter::{CapturedPacket, Filter, Packet, Site, flow_of};
 use nf_msgs::{CONTROLLER, Command, MOST_INSTANCES, Msg, Note, instance_node};
-use packet_pool::{Cell, Pool};
+use packet_window::Window;
 use std::alloc::Global;
 use std::marker::Model;
 use switch_rules::{Rules, Target};
@@ -18,25 +18,15 @@ pub const MOST_WINDOW: u32 = 4096;
 /// The most commands that may wait for their answer.
 pub const MOST_WAITING: u32 = u32::MAX;
 
-/// The number of the switch's pool.
-const POOL: u32 = 0;
-
 /// The switch of a network.
 #[derive(Drop)]
 pub struct Switch {
     rules: Rules,
-    pool: Pool,
-    /// Packets that came home: their room is used again.
-    spare: Vec<Boxed<Packet>>,
+    window: Window,
     site: Site,
     instances: u8,
-    /// How many packets are under way.
-    flying: u32,
     /// How many commands wait for their answer.
     waiting: u32,
-    /// Whether all is done.
-    closed: bool,
-    alloc: Global,
 }
 
 impl Model for Switch {
@@ -48,15 +38,15 @@ impl Model for Switch {
 
     ghost view = { λ s. record {
       rules = s.rules;
-      pool = s.pool;
+      pool = s.window.pool;
       site = s.site;
       instances = s.instances;
-      flying = s.flying;
+      flying = s.window.flying;
       waiting = s.waiting;
-      closed = s.closed;
+      closed = s.window.closed;
     } };
 
-    ghost invariant = { λ s. (s.flying + s.pool.home ≡ s.pool.cells) × (s.instances ≤ MOST_INSTANCES) };
+    ghost invariant = { λ s. (s.window.flying + s.window.pool.home ≡ s.window.pool.cells) × (s.instances ≤ MOST_INSTANCES) };
 }
 
 impl Actor for Switch {
@@ -74,7 +64,7 @@ impl Actor for Switch {
 
     fn ready(&self, item: &Msg) -> bool {
         match item {
-            Msg::InPacket(_) => self.has_room(),
+            Msg::InPacket(_) => self.window.has_room(),
             Msg::InCommand(_) => self.waiting < MOST_WAITING,
             Msg::InSettle => self.waiting == 0,
             _ => true,
@@ -105,7 +95,7 @@ impl Actor for Switch {
             }
             Msg::Finish => self.finish(out),
             Msg::Credit(cell) => {
-                self.take_home(cell);
+                self.window.take_home(cell);
                 Ok(())
             }
             _ => Ok(()),
@@ -113,7 +103,7 @@ impl Actor for Switch {
     }
 
     fn ended(&self) -> bool {
-        self.closed && self.flying == 0
+        self.window.has_ended()
     }
 }
 
@@ -131,7 +121,7 @@ impl Switch {
         requires routes { All (λ r. r.1 < instances) routes.now }
         ensures { IfOk result (λ switch. switch ≡ record {
           rules = opened routes.now;
-          pool = record { name = POOL; cells = window; home = window };
+          pool = record { name = 0; cells = window; home = window };
           site = site;
           instances = instances;
           flying = 0;
@@ -141,14 +131,10 @@ impl Switch {
     {
         Ok(Switch {
             rules: Rules::open(alloc, routes)?,
-            pool: Pool::open(POOL, window),
-            spare: Vec::new(alloc),
+            window: Window::open(alloc, window),
             site,
             instances,
-            flying: 0,
             waiting: 0,
-            closed: false,
-            alloc,
         })
     }
 
@@ -156,14 +142,7 @@ impl Switch {
     pub fn home(&self) -> u32
         ensures { result ≡ self.now.pool.home }
     {
-        self.pool.home()
-    }
-
-    /// Whether one packet more may be under way.
-    fn has_room(&self) -> bool
-        ensures { result ≡ has_room self.now }
-    {
-        self.flying < self.pool.cells()
+        self.window.home()
     }
 
     /// Puts a packet into a cell and sends it to its target.
@@ -176,16 +155,13 @@ impl Switch {
         ensures sends { OnOk result (out.new.0 ≡ out.old.0 ++ (on_packet self.old captured).sends) }
         ensures notes { OnOk result (out.new.1 ≡ out.old.1 ++ (on_packet self.old captured).notes) }
     {
-        let packet = self.boxed(captured)?;
+        let packet = self.window.boxed(captured)?;
         let target = self.target_of(packet.get());
         let number = packet.get().number;
-        if self.flying >= self.pool.cells() || !self.is_there(target) {
+        if !self.window.has_room() || !self.is_there(target) {
             return Ok(());
         }
-        let Ok(cell) = self.pool.take(packet) else {
-            return Ok(());
-        };
-        self.flying += 1;
+        let cell = self.window.let_in(packet);
         out.note(Note::Arrived(number))?;
         match target {
             Target::Controller => out.send(CONTROLLER, Msg::Diverted(cell)),
@@ -196,17 +172,6 @@ impl Switch {
                 };
                 out.send(instance_node(to), message)
             }
-        }
-    }
-
-    /// The packet behind a pointer: in the room that one before it has left, or else in a new one.
-    fn boxed(&mut self, captured: CapturedPacket) -> Result<Boxed<Packet>, NoMemory>
-        ensures packet { IfOk result (λ packet. packet ≡ captured) }
-        ensures same { self.new ≡ self.old }
-    {
-        match self.spare.pop() {
-            Some(room) => Ok(captured.into_room(room)),
-            None => captured.into_boxed(self.alloc),
         }
     }
 
@@ -281,22 +246,10 @@ impl Switch {
         ensures sends { OnOk result (out.new.0 ≡ out.old.0 ++ stops self.old.instances) }
         ensures notes { OnOk result (out.new.1 ≡ out.old.1) }
     {
-        self.closed = true;
+        self.window.close();
         for instance in 0..self.instances {
             out.send(instance_node(instance), Msg::Stop)?;
         }
         Ok(())
-    }
-
-    /// Takes a cell home, if it is one of the pool's. Where there is no memory to keep its packet's room, that is dropped.
-    fn take_home(&mut self, cell: Cell)
-        ensures { self.new ≡ (on_credit self.old cell).node }
-    {
-        if self.flying == 0 || cell.pool() != self.pool.name() {
-            return;
-        }
-        self.flying -= 1;
-        let packet = self.pool.give(cell);
-        let _kept = self.spare.push(packet);
     }
 }
