@@ -1,11 +1,12 @@
 //! The bytes that a record is stored as.
-ghost use Rattle.std.specs.Prelude.{◌≡◌, ◌≤◌, ◌++◌, length, option_map, OnOk};
+ghost use Rattle.std.specs.Prelude.{◌≡◌, ◌≤◌, ◌++◌, true, length, option_map, OnOk};
 ghost use Rattle.std.specs.List.{flat_map, list_all};
 ghost use Rattle.nf_function.specs.Records.{age_cmp};
 ghost use Rattle.addr_translator.specs.Body.{is_mapping, is_distinct, are_mappings, is_valid, mapping_bytes, body_of, first_mapping, mappings_in, with_mappings, spelled, record_in};
 ghost use Rattle.addr_translator.specs.Nat.{nat};
 ghost use Rattle.flow_filter.specs.Flow.{ports_per_host};
 
+use crate::ends::Ends;
 use crate::mapping::Mapping;
 use crate::record::NatRecord;
 use basics::{Bytes, NoMemory};
@@ -141,10 +142,12 @@ fn is_mapping(mapping: Mapping) -> bool
 
 /// Whether no end stands twice among the mappings.
 fn is_distinct(mappings: &[Mapping]) -> bool
+    requires { list_all is_mapping mappings.now ≡ true }
     ensures { result ≡ is_distinct mappings.now }
 {
-    for (place, mapping) in mappings.iter().enumerate() {
-        if mappings[place + 1..].contains(mapping) {
+    let mut seen = Ends::none();
+    for mapping in mappings {
+        if !seen.see(*mapping) {
             return false;
         }
     }
