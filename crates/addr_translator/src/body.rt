@@ -21,6 +21,9 @@ const FIXED: usize = 18;
 /// How many bytes a mapping is stored as.
 const MAPPING: usize = 3;
 
+/// Up to so many mappings it takes less time to hold each to all others than to clear a bit for each end that there can be.
+const FEW: usize = 16;
+
 /// How many bytes a record is stored as.
 pub fn body_length(kept: &NatRecord) -> u16
     ensures { result ≡ length (body_of kept.now) }
@@ -145,9 +148,24 @@ fn is_distinct(mappings: &[Mapping]) -> bool
     requires { list_all is_mapping mappings.now ≡ true }
     ensures { result ≡ is_distinct mappings.now }
 {
+    if mappings.len() <= FEW {
+        return are_few_distinct(mappings);
+    }
     let mut seen = Ends::none();
     for mapping in mappings {
         if !seen.see(*mapping) {
+            return false;
+        }
+    }
+    true
+}
+
+/// The same of few mappings, each of which is held to all later ones.
+fn are_few_distinct(mappings: &[Mapping]) -> bool
+    ensures { result ≡ is_distinct mappings.now }
+{
+    for (place, mapping) in mappings.iter().enumerate() {
+        if mappings[place + 1..].contains(mapping) {
             return false;
         }
     }
