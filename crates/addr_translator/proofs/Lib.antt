@@ -1,2 +1,3 @@
 pub mod BodyOrder
 pub mod MappingsRead
+pub mod SeenEnds

@@ -2,6 +2,7 @@ pub mod Mappings
 pub mod Table
 pub mod Text
 pub mod Body
+pub mod Ends
 pub mod Nat
 pub mod BodyLemmas
 pub mod StepLemmas

@@ -1,11 +1,12 @@
 //! The bytes that a record is stored as.
-ghost use Rattle.std.specs.Prelude.{◌≡◌, ◌≤◌, ◌++◌, length, option_map, OnOk};
+ghost use Rattle.std.specs.Prelude.{◌≡◌, ◌≤◌, ◌++◌, true, length, option_map, OnOk};
 ghost use Rattle.std.specs.List.{flat_map, list_all};
 ghost use Rattle.nf_function.specs.Records.{age_cmp};
 ghost use Rattle.addr_translator.specs.Body.{is_mapping, is_distinct, are_mappings, is_valid, mapping_bytes, body_of, first_mapping, mappings_in, with_mappings, spelled, record_in};
 ghost use Rattle.addr_translator.specs.Nat.{nat};
 ghost use Rattle.flow_filter.specs.Flow.{ports_per_host};
 
+use crate::ends::Ends;
 use crate::mapping::Mapping;
 use crate::record::NatRecord;
 use basics::{Bytes, NoMemory};
@@ -19,6 +20,9 @@ const FIXED: usize = 18;
 
 /// How many bytes a mapping is stored as.
 const MAPPING: usize = 3;
+
+/// Up to so many mappings it takes less time to hold each to all others than to clear a bit for each end that there can be.
+const FEW: usize = 16;
 
 /// How many bytes a record is stored as.
 pub fn body_length(kept: &NatRecord) -> u16
@@ -141,6 +145,23 @@ fn is_mapping(mapping: Mapping) -> bool
 
 /// Whether no end stands twice among the mappings.
 fn is_distinct(mappings: &[Mapping]) -> bool
+    requires { list_all is_mapping mappings.now ≡ true }
+    ensures { result ≡ is_distinct mappings.now }
+{
+    if mappings.len() <= FEW {
+        return are_few_distinct(mappings);
+    }
+    let mut seen = Ends::none();
+    for mapping in mappings {
+        if !seen.see(*mapping) {
+            return false;
+        }
+    }
+    true
+}
+
+/// The same of few mappings, each of which is held to all later ones.
+fn are_few_distinct(mappings: &[Mapping]) -> bool
     ensures { result ≡ is_distinct mappings.now }
 {
     for (place, mapping) in mappings.iter().enumerate() {

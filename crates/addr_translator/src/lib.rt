@@ -6,6 +6,7 @@
 #![tactic(auto)]
 
 pub mod body;
+pub mod ends;
 pub mod mapping;
 pub mod nat;
 pub mod passage;

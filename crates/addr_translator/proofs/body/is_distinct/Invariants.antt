@@ -1,8 +1,9 @@
 -- The loop of `is_distinct`.
 use Rattle.std.proofs.Common.{◌≡◌, drop}
 use Rattle.addr_translator.specs.Body.{is_distinct}
+use Rattle.addr_translator.proofs.SeenEnds.{are_apart}
 use Rattle.addr_translator.proofs.body.is_distinct.Given as goal
 
--- whether some end stands twice is seen among the mappings that are left
-abbrev pub invariant-loop-place : goal.invariant-loop-place
-invariant-loop-place l = is_distinct (drop l.place l.mappings) ≡ is_distinct l.mappings
+-- no end stands twice where none that is left was seen or stands twice
+abbrev pub invariant-loop-mapping : goal.invariant-loop-mapping
+invariant-loop-mapping l = is_distinct l.mappings ≡ are_apart l.seen.words (drop l.mapping-index l.mappings)
