@@ -9,14 +9,18 @@ use Rattle.std.proofs.lemmas.List.Elements.{All-get_or, All-append}
 use Rattle.std.proofs.Math.Seq.{get_or-append_right}
 use Rattle.actor_net.specs.Network.{Stepped}
 use Rattle.actor_threads.specs.declared.groups.Member.{Member}
-use Rattle.actor_threads.specs.Work.{WorkerView, Idled, DoesStep, IsQuiet, Ran}
+use Rattle.actor_threads.specs.Work.{WorkerView, IsQuiet, Ran, Worked}
 use Rattle.actor_threads.specs.Groups.{has_run, Progress, IsInRound, GoesOn, AllGoOn, AllInRound}
-use Rattle.actor_threads.proofs.WorkerSteps.{start, idle, more, longer}
+use Rattle.actor_threads.proofs.WorkerSteps.{start, worked_then}
 
 -- where a list is no longer than before, nothing was moved
 unmoved : (moved : Bool) (m n : ℕ) → (moved ≡ true → m < n) → n ≡ m → moved ≡ false
 unmoved false m n more same = refl
 unmoved true m n more same = absurd (omega (arith, more refl, same))
+
+positive : (n : ℕ) → (n ≡ 0 → ⊥) → 0 < n
+positive zero more = absurd (more refl)
+positive (suc n) more = omega arith
 
 -- what a slice wrote back
 pub written_back : {X : Type 0} (old new : List X) (n : ℕ) → length new ≡ length old → n ≡ length old → take n (new ++ drop (length new) old) ≡ new
@@ -38,31 +42,30 @@ module _ {A M N : Type 0} (ready : A → M → Bool) (step : A → ℕ → M →
     quiet = λ t. absurd (true≢false (sym t ∙ looked));
   }
 
-  -- a step more
-  pub steps_on : (m n : Member A M N) → m.failed ≡ false → DoesStep ready step m.worker n.worker → n.looked ≡ true → GoesOn ready step m n
-  steps_on m n ok did looked first on = λ _.
-      let p = on ok in
-      let grown : length n.worker.steps ≡ length m.worker.steps + 1 = longer ready step first m.worker did.found n.worker did.port did.took p.worked did.looks did.acts in
-      let longer' : length first.steps < length n.worker.steps = omega (arith, grown, p.longer) in
-      record {
-        worked = more ready step first m.worker did.found n.worker did.port did.took p.worked did.looks did.acts;
-        longer = omega (arith, longer');
-        fresh = λ t. absurd (true≢false (sym looked ∙ t));
-        moved = λ _. longer';
-        quiet = λ _ none. absurd (omega (arith, longer', none));
-      }
-
   quiet_at_start : (first : WorkerView A M N) (m : Member A M N) (looked : Bool) → m.looked ≡ looked → Progress ready step first m → (m.moved ≡ false → IsQuiet ready m.worker) → length m.worker.steps ≡ length first.steps → IsQuiet ready first
   quiet_at_start first m true is p q none = p.quiet is none
   quiet_at_start first m false is p q none = subst (λ (v : WorkerView A M N). IsQuiet ready v) (p.fresh is) (q (unmoved m.moved _ _ p.moved none))
 
-  -- a look that found nothing
-  pub looks_on : (m n : Member A M N) → m.failed ≡ false → Idled m.worker n.worker → (m.moved ≡ false → IsQuiet ready m.worker) → n.looked ≡ true → n.moved ≡ m.moved → GoesOn ready step m n
-  looks_on m n ok i q looked moved first on = λ _.
+  -- a turn with steps
+  pub steps_on : (m n : Member A M N) (steps : ℕ) → m.failed ≡ false → Worked ready step m.worker n.worker → length n.worker.steps ≡ length m.worker.steps + steps → (steps ≡ 0 → ⊥) → n.looked ≡ true → GoesOn ready step m n
+  steps_on m n steps ok w count more looked first on = λ _.
       let p = on ok in
-      let same : length n.worker.steps ≡ length m.worker.steps = ap (λ (v : WorkerView A M N). length v.steps) i.rest in
+      let some : 0 < steps = positive steps more in
+      let longer : length first.steps < length n.worker.steps = omega (arith, count, some, p.longer) in
       record {
-        worked = idle ready step first m.worker n.worker p.worked i;
+        worked = worked_then ready step first m.worker n.worker p.worked w;
+        longer = omega (arith, longer);
+        fresh = λ t. absurd (true≢false (sym looked ∙ t));
+        moved = λ _. longer;
+        quiet = λ _ none. absurd (omega (arith, longer, none));
+      }
+
+  -- a turn that found nothing
+  pub looks_on : (m n : Member A M N) → m.failed ≡ false → Worked ready step m.worker n.worker → length n.worker.steps ≡ length m.worker.steps → (m.moved ≡ false → IsQuiet ready m.worker) → n.looked ≡ true → n.moved ≡ m.moved → GoesOn ready step m n
+  looks_on m n ok w same q looked moved first on = λ _.
+      let p = on ok in
+      record {
+        worked = worked_then ready step first m.worker n.worker p.worked w;
         longer = omega (arith, same, p.longer);
         fresh = λ t. absurd (true≢false (sym looked ∙ t));
         moved = λ t. omega (arith, same, p.moved (sym moved ∙ t));

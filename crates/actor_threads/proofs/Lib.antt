@@ -10,7 +10,7 @@ pub mod RoundWithoutChoice
 pub mod OpenedWays
 pub mod RoundLemmas
 pub mod LinkTableLemmas
-pub mod HistoryStep
+pub mod LongerHistories
 pub mod RoundStart
 pub mod SentMessages
 pub mod WorkerSteps

@@ -1,4 +1,4 @@
--- Steps between code and definition, which nobody has to believe: what contracts see of a worker's ways. This project's own. Messages are
+-- What contracts see of a worker's ways. This project's own. Messages are
 -- handed over in batches. A way in is its link, the messages that the take end gave, and what is still kept. A way out is its link, and all
 -- that was sent or waits to be sent.
 use Rattle.std.specs.Prelude.{◌≡◌, ℕ, ◌-◌, ◌^◌, ◌≤◌, List, ◌∷◌, ◌++◌, map, flat_map}

@@ -1,4 +1,4 @@
--- Steps between code and definition, which nobody has to believe: what a worker does in a round. This project's own. A worker is one node
+-- What a worker does in a round. This project's own. A worker is one node
 -- with a way in from each node and a way out to each. Its steps are those of a history: each has a clock, a port, and the stamped
 -- message that it took.
 use Rattle.std.specs.Prelude.{◌≡◌, ◌==◌, ◌&&◌, ◌<◌, ◌≤◌, ◌⊎◌, ℕ, ◌+◌, Bool, true, false, if◌then◌else◌, List, [], ◌∷◌, ◌++◌, length, slice_index_or, map, max}

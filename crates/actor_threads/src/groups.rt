@@ -13,9 +13,6 @@ use std::thread;
 use std::thread::Threads;
 use std::time::Duration;
 
-/// A worker's turn has at most so many steps.
-const TURN_STEPS: u32 = 256;
-
 /// A group waits so many turns in a row that did no step without giving its processor away. Its workers then see at once what
 /// others send, as long as these have a processor.
 const SPIN_TURNS: u32 = 16;
@@ -74,50 +71,27 @@ impl<A: Actor> Member<A> {
         self.looked && !self.failed
     }
 
-    /// A turn: some steps, and then what they sent is sent. Tells how many steps there were.
+    /// A turn, unless the worker ran out of memory. Tells how many steps there were.
     #[inline(always)]
     pub(crate) fn turn<R: Wait, G: Gate>(&mut self, rt: &R, gate: &G) -> u32
         ensures { GoesOn A.is_ready A.stepped self.old self.new }
     {
-        let steps = self.steps(rt, gate);
-        self.worker.flush(rt);
-        steps
-    }
-
-    /// Does some steps, and tells how many.
-    #[inline(always)]
-    fn steps<R: Wait, G: Gate>(&mut self, rt: &R, gate: &G) -> u32
-        ensures { GoesOn A.is_ready A.stepped self.old self.new }
-    {
-        for done in 0..TURN_STEPS {
-            if !self.act(rt, gate) {
-                return done;
-            }
-        }
-        TURN_STEPS
-    }
-
-    /// Does a step where there is something to do, and tells whether it did.
-    #[inline(always)]
-    fn act<R: Wait, G: Gate>(&mut self, rt: &R, gate: &G) -> bool
-        ensures { GoesOn A.is_ready A.stepped self.old self.new }
-    {
         if self.failed {
-            return false;
+            return 0;
         }
-        match self.worker.act(rt, gate, self.moved) {
-            Ok(true) => {
+        match self.worker.work(rt, gate, self.moved) {
+            Ok(0) => {
+                self.looked = true;
+                0
+            }
+            Ok(steps) => {
                 self.looked = true;
                 self.moved = true;
-                true
-            }
-            Ok(false) => {
-                self.looked = true;
-                false
+                steps
             }
             Err(_) => {
                 self.failed = true;
-                false
+                0
             }
         }
     }

@@ -43,7 +43,7 @@ pub record MoveNext : Type 0 where
   pub phase : Phase
   pub sends : List (ℕ × Msg)
 
--- the same, and the parcels that are then stored for the move, where they change
+-- what a move does next, and the parcels that are then stored for it, where they change
 pub record MoveRow : Type 0 where
   pub next : MoveNext
   pub stored : Option (List FullCell)

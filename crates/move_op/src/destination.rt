@@ -1,3 +1,4 @@
+//! The rows of a move for what its destination says.
 ghost use Rattle.std.specs.Prelude.{◌≡◌, ◌∷◌, ◌++◌, OnOk, IfOk};
 ghost use Rattle.event_store.specs.Store.{stored};
 ghost use Rattle.move_op.specs.Move.{all_put, from_destination, on_destination_enabled, on_destination_fenced, on_put_no, on_put_ok, pushed, put_back, store_after};
@@ -14,7 +15,6 @@ use nf_msgs::{Answer, Msg, Note, Piece, Refused};
 use packet_pool::Cell;
 
 impl Plan {
-    /// A message of the destination.
     pub(crate) fn from_destination(
         &self,
         phase: Phase,

@@ -1,3 +1,4 @@
+//! A move that has begun: a plan and a phase, as its callers see it.
 ghost use Rattle.std.specs.Prelude.{◌≡◌, ◌<◌, ◌++◌, OnOk, IfOk};
 ghost use Rattle.move_op.specs.Move.{answer_of, begin_sends, begun, row_in, store_after};
 
@@ -116,36 +117,12 @@ impl MoveOp {
     }
 }
 
-/// The answer of a move that is over.
+/// The answer of a move that is over. It has no name, so that this takes no memory.
 fn answer_of(phase: &Phase) -> Result<Option<Answer>, NoMemory>
     ensures { IfOk result (λ answer. answer ≡ answer_of phase.now) }
 {
     match phase {
-        Phase::Over(answer) => Ok(Some(copy_of(answer)?)),
+        Phase::Over(answer) => Ok(Some(answer.copy()?)),
         _ => Ok(None),
-    }
-}
-
-/// The same answer again. A move is answered by one without a name, and this then takes no memory.
-fn copy_of(answer: &Answer) -> Result<Answer, NoMemory>
-    ensures { IfOk result (λ other. other ≡ answer.now) }
-{
-    match answer {
-        Answer::Done => Ok(Answer::Done),
-        Answer::Unknown(name) => Ok(Answer::Unknown(name.copy()?)),
-        Answer::Overlap(op) => Ok(Answer::Overlap(*op)),
-        Answer::Import {
-            held,
-            coming,
-            limit,
-        } => Ok(Answer::Import {
-            held: *held,
-            coming: *coming,
-            limit: *limit,
-        }),
-        Answer::Old { newest, reads } => Ok(Answer::Old {
-            newest: *newest,
-            reads: *reads,
-        }),
     }
 }

@@ -1,4 +1,4 @@
-ghost use Rattle.std.specs.Prelude.{◌≡◌, [], ◌∷◌, ◌++◌, length, MatchOption, IfOk, OnOk, ◌==◌};
+ghost use Rattle.std.specs.Prelude.{◌≡◌, [], ◌∷◌, ◌++◌, length, MatchOption, IfOk, OnOk, OnErr, ◌==◌};
 ghost use Rattle.move_op.specs.Move.{chunks_of};
 
 use basics::{Boxed, NoMemory};
@@ -42,7 +42,8 @@ impl Pieces {
 
     /// Puts a piece after the others.
     pub fn push(&mut self, piece: Boxed<Piece>) -> Result<(), NoMemory>
-        ensures { OnOk result (self.new ≡ self.old ++ piece ∷ []) }
+        ensures ok { OnOk result (self.new ≡ self.old ++ piece ∷ []) }
+        ensures err { OnErr result (self.new ≡ self.old) }
     {
         self.pieces.push_back(piece)?;
         Ok(())
@@ -50,7 +51,8 @@ impl Pieces {
 
     /// Puts a piece before the others.
     pub fn push_front(&mut self, piece: Boxed<Piece>) -> Result<(), NoMemory>
-        ensures { OnOk result (self.new ≡ piece ∷ self.old) }
+        ensures ok { OnOk result (self.new ≡ piece ∷ self.old) }
+        ensures err { OnErr result (self.new ≡ self.old) }
     {
         self.pieces.push_front(piece)?;
         Ok(())

@@ -1,3 +1,4 @@
+//! What a move is asked for, and its row for each message: which phase comes next, and what is sent.
 ghost use Rattle.std.specs.Prelude.{◌≡◌, ◌∷◌, [], ◌++◌, false, map, OnOk, IfOk};
 ghost use Rattle.event_store.specs.Store.{stored};
 ghost use Rattle.move_op.specs.Move.{asked, chunks_of, destination, enable_at, forward_to, pushed, put_to, released, row_in, source, store_after};

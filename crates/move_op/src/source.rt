@@ -1,3 +1,4 @@
+//! The rows of a move for what its source says.
 ghost use Rattle.std.specs.Prelude.{◌≡◌, [], ◌++◌, OnOk, IfOk};
 ghost use Rattle.event_store.specs.Store.{stored};
 ghost use Rattle.move_op.specs.Move.{from_source, on_deleted, on_event, on_piece, on_restored, on_source_enabled, on_source_fenced, returned, store_after};
@@ -15,7 +16,6 @@ use nf_msgs::{Answer, Msg, Note, Piece, SWITCH, units_in};
 use packet_pool::Cell;
 
 impl Plan {
-    /// A message of the source.
     pub(crate) fn from_source(
         &self,
         phase: Phase,
