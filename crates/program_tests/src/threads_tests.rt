@@ -1,4 +1,5 @@
-ghost use Rattle.std.specs.Prelude.{◌≡◌, ◌<◌, true, vec_len, All, IfOk};
+ghost use Rattle.std.specs.Prelude.{◌≡◌, ◌<◌, ◌≤◌, true, vec_len, All, IfOk};
+ghost use Rattle.flow_filter.specs.Limits.{most_window};
 ghost use Rattle.nf_function.specs.Units.{is_transport};
 ghost use Rattle.nf_function.specs.declared.kind.Kind.TheVariants.{Conntrack as OfFlows};
 ghost use Rattle.trace_reader.specs.Records.{AreNumbered};
@@ -23,7 +24,7 @@ use std::test::Fail;
 use std::thread;
 use std::thread::Threads;
 
-/// How many packets may be under way.
+/// How many packets may be under way in the runs with moves: fewer than there are.
 const WINDOW: u32 = 8;
 
 /// The instances a and b.
@@ -58,7 +59,7 @@ fn packet(number: u32) -> Packet
 
 /// So many packets.
 fn packets(alloc: Global, count: u32) -> Result<PacketItems, Fail>
-    requires { count < 1000 }
+    requires { count < 2000 }
     ensures numbers { IfOk result (AreNumbered 1) }
     ensures steered { IfOk result (All (λ packet. is_transport packet.proto ≡ true)) }
 {
@@ -71,8 +72,14 @@ fn packets(alloc: Global, count: u32) -> Result<PacketItems, Fail>
 }
 
 /// What the instances a and b are given, by the text of a script.
-fn given(alloc: Global, script: &[u8], count: u32) -> Result<(Config, Vec<Msg>), Fail>
-    requires { count < 1000 }
+fn given(
+    alloc: Global,
+    script: &[u8],
+    count: u32,
+    window: u32,
+) -> Result<(Config, Vec<Msg>), Fail>
+    requires count { count < 2000 }
+    requires window { (1 ≤ window) × (window ≤ most_window) }
     ensures { IfOk result (λ given. IsInput OfFlows given.0 given.1.items) }
 {
     let instances = instances_of(alloc, Some("a:9,b:9"))?.ok_or("no instances")?;
@@ -89,7 +96,7 @@ fn given(alloc: Global, script: &[u8], count: u32) -> Result<(Config, Vec<Msg>),
             inside,
             outside: None,
         },
-        window: WINDOW,
+        window,
     };
     let packets = packets(alloc, count)?;
     Ok(input_of(alloc, &setting, &script, packets)?)
@@ -118,7 +125,7 @@ fn each_packet_of_two_moves_is_processed_once(rt: HostRuntime) -> Result<(), Fai
         expected.push(number + 1)?;
     }
     for _ in 0..20 {
-        let (config, items) = given(alloc, MOVES.as_bytes(), 40)?;
+        let (config, items) = given(alloc, MOVES.as_bytes(), 40, WINDOW)?;
         let (world, _choices) = run_network::<_, Conntrack, _>(
             &rt, alloc, &config, items, &OpenGate,
         )?;
@@ -142,7 +149,7 @@ fn head(alloc: Global) -> Result<Head, Fail> {
 
 /// The report of a run by threads, and its choices.
 fn run_told<R: Threads + Wait + Sync>(rt: &R, alloc: Global) -> Result<(Text, Choices), Fail> {
-    let (config, items) = given(alloc, MOVES.as_bytes(), 40)?;
+    let (config, items) = given(alloc, MOVES.as_bytes(), 40, WINDOW)?;
     let (world, choices) = run_network::<_, Conntrack, _>(rt, alloc, &config, items, &OpenGate)?;
     let text = report::<Conntrack>(alloc, &head(alloc)?, &world, false)?;
     Ok((text, choices))
@@ -150,7 +157,7 @@ fn run_told<R: Threads + Wait + Sync>(rt: &R, alloc: Global) -> Result<(Text, Ch
 
 /// The report of the same run, by its choices alone.
 fn audit_told(alloc: Global, choices: &[Choice]) -> Result<Text, Fail> {
-    let (config, items) = given(alloc, MOVES.as_bytes(), 40)?;
+    let (config, items) = given(alloc, MOVES.as_bytes(), 40, WINDOW)?;
     let text = audit::<Conntrack>(alloc, &config, items, &head(alloc)?, choices, false)?;
     Ok(text)
 }
@@ -213,7 +220,7 @@ fn both_instances_are_in_a_pass_at_once(rt: HostRuntime) -> Result<(), Fail> {
     let alloc = rt.alloc();
     let gate = Meeting::open();
     let script = "route lport=5001 b\nroute any a\n";
-    let (config, items) = given(alloc, script.as_bytes(), 400)?;
+    let (config, items) = given(alloc, script.as_bytes(), 1024, 64)?;
     let (_world, choices) = run_network::<_, Conntrack, _>(&rt, alloc, &config, items, &gate)?;
     assert_eq!(rt; gate.met.load(Ordering::SeqCst), 1);
     assert_eq!(rt;
