@@ -72,12 +72,7 @@ fn packets(alloc: Global, count: u32) -> Result<PacketItems, Fail>
 }
 
 /// What the instances a and b are given, by the text of a script.
-fn given(
-    alloc: Global,
-    script: &[u8],
-    count: u32,
-    window: u32,
-) -> Result<(Config, Vec<Msg>), Fail>
+fn given(alloc: Global, script: &[u8], count: u32, window: u32) -> Result<(Config, Vec<Msg>), Fail>
     requires count { count < 2000 }
     requires window { (1 ≤ window) × (window ≤ most_window) }
     ensures { IfOk result (λ given. IsInput OfFlows given.0 given.1.items) }
