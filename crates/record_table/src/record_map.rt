@@ -18,6 +18,12 @@ use std::alloc::Global;
 use std::marker::Model;
 use unit_map::UnitMap;
 
+/// So many entries may stand for each record, and so many more, before those whose records have left are dropped. So what goes over all
+/// entries takes time in proportion to the records.
+const MOST_FOR_A_RECORD: usize = 4;
+
+const MOST_WITHOUT: usize = 64;
+
 /// The records of units, at most one for each, which contracts see as a finite map.
 #[derive(Drop)]
 pub(crate) struct RecordMap<R> {
@@ -126,6 +132,20 @@ impl<R: Drop> RecordMap<R> {
         for unit in units {
             self.take(unit);
         }
+        self.drop_empty();
+    }
+
+    /// Drops the entries whose records have left, where they are most of all. Where there is no memory for that, they stay for now.
+    fn drop_empty(&mut self)
+        ensures { self.new ≡ self.old }
+    {
+        let most = (self.count as usize)
+            .saturating_mul(MOST_FOR_A_RECORD)
+            .saturating_add(MOST_WITHOUT);
+        if self.records.entries().len() <= most {
+            return;
+        }
+        let _dropped = self.records.drop_empty();
     }
 
     /// Takes the record of a unit out, if it has one.

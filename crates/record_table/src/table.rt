@@ -134,7 +134,7 @@ impl<F: Function> Table<F> {
         }
     }
 
-    /// Takes the live records of some units out, and gives how many there were. This takes no memory.
+    /// Takes the live records of some units out, and gives how many there were. This can't run out of memory.
     pub fn remove(&mut self, units: &Units) -> u32
         ensures table { self.new ≡ record self.old { live = without units.now self.old.live } }
         ensures each { (u : EachUnit) → finite.get self.new.live u ≡ (if is_among units.now u then None else finite.get self.old.live u) }

@@ -148,6 +148,22 @@ impl<K: Ord + Hash + Copy> Index<K> {
         if self.slots.len() >= PROBES && more <= self.room {
             return Ok(());
         }
+        self.renew(entries, more)
+    }
+
+    /// Makes the index anew, with room for some more entries, and then drops the entries without a record.
+    pub fn renew<R: Drop>(
+        &mut self,
+        entries: &mut Vec<(K, Option<R>)>,
+        more: usize,
+    ) -> Result<(), NoMemory>
+        requires { IsSound (key_rules K.eq K.cmp K.hash_input) self.old entries.old.items }
+        ensures room { OnOk result (PROBES ≤ vec_len self.new.slots) }
+        ensures sound { IsSound (key_rules K.eq K.cmp K.hash_input) self.new entries.new.items }
+        ensures same { (k : K) → record_of K.eq entries.new.items k ≡ record_of K.eq entries.old.items k }
+        ensures absent { (k : K) → lookup (K.eq k) entries.old.items ≡ None → lookup (K.eq k) entries.new.items ≡ None }
+        ensures err { OnErr result (entries.new.items ≡ entries.old.items) }
+    {
         let index = Index::of(*entries.allocator(), entries, more)?;
         entries.retain(|entry| entry.1.is_some());
         *self = index;

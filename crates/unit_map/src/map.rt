@@ -69,6 +69,14 @@ impl<K: Ord + Hash + Copy, R: Drop> UnitMap<K, R> {
         self.index.make_room(&mut self.entries, more)
     }
 
+    /// Drops the entries without a record, in time in proportion to all entries. No key's record changes, also where memory runs out.
+    pub fn drop_empty(&mut self) -> Result<(), NoMemory>
+        ensures same { (k : K) → record_of K.eq self.new k ≡ record_of K.eq self.old k }
+        ensures map { IsMap K.eq self.new }
+    {
+        self.index.renew(&mut self.entries, 0)
+    }
+
     /// The record of a key.
     pub fn get(&self, key: &K) -> Option<&R>
         ensures { option_copied result ≡ record_of K.eq self.now key.now }

@@ -4,8 +4,8 @@ use Rattle.std.proofs.lemmas.List.Elements.{filter_from_retain}
 use Rattle.std.proofs.lemmas.Map.Made.{IsDistinct-keys_filter}
 use Rattle.unit_map.specs.Entries.{has_record}
 use Rattle.unit_map.proofs.EntryLemmas.{record_filter, absent_filter}
-use Rattle.unit_map.proofs.index.Index.make_room.Given.{Over}
-use Rattle.unit_map.proofs.index.Index.make_room.Goals as goal
+use Rattle.unit_map.proofs.index.Index.renew.Given.{Over}
+use Rattle.unit_map.proofs.index.Index.renew.Goals as goal
 
 kept : (g : Over) (c : goal.After-drop-self-2 g) → c.retain.new.self.items ≡ filter has_record c.args.entries.now.items
 kept g c = filter_from_retain _ has_record (λ p x b q h. search rules) _ _ _ c.retain.ensures.filtered
