@@ -11,8 +11,8 @@ use Rattle.nf_msgs.specs.declared.command.Order.{Order}
 use Rattle.nf_msgs.specs.declared.command.Order.TheVariants as order
 use Rattle.nf_msgs.specs.declared.note.Note.{Note}
 use Rattle.move_op.specs.declared.door.Door.TheVariants as door
-use Rattle.move_op.specs.declared.phase.Phase.{Phase}
-use Rattle.move_op.specs.declared.phase.Phase.TheVariants as phase
+use Rattle.move_op.specs.Phases.{Phase}
+use Rattle.move_op.specs.Phases as phase
 use Rattle.copy_share.specs.Copy as copy
 use Rattle.copy_share.specs.Share.{SharePlan}
 use Rattle.ctrl_node.specs.declared.operation.Operation.{Operation}

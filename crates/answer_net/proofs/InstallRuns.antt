@@ -19,8 +19,8 @@ use Rattle.actor_net.proofs.OpeningWorlds.{opening_weight}
 use Rattle.actor_net.proofs.RunInduction.{Taking, run_induction}
 use Rattle.actor_net.proofs.StepOutcome.{Takes, taken_outcome}
 use Rattle.actor_net.proofs.WeightLaws.{EachSent, total, sent_weight, total_after}
-use Rattle.move_op.specs.declared.phase.Phase.{Phase}
-use Rattle.move_op.specs.declared.phase.Phase.TheVariants as phase
+use Rattle.move_op.specs.Phases.{Phase}
+use Rattle.move_op.specs.Phases as phase
 use Rattle.copy_share.specs.Share.{ShareState}
 use Rattle.ctrl_node.specs.declared.operation.Operation.{Operation}
 use Rattle.ctrl_node.specs.declared.operation.Operation.TheVariants.{Move, Copy, Share}

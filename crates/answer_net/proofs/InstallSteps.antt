@@ -25,8 +25,8 @@ use Rattle.copy_share.specs.Copy.{CopyState}
 use Rattle.copy_share.specs.Copy as copy
 use Rattle.copy_share.specs.Share.{SharePlan, ShareState}
 use Rattle.copy_share.specs.Share as share
-use Rattle.move_op.specs.declared.phase.Phase.{Phase}
-use Rattle.move_op.specs.declared.phase.Phase.TheVariants as phase
+use Rattle.move_op.specs.Phases.{Phase}
+use Rattle.move_op.specs.Phases as phase
 use Rattle.move_op.specs.Move.{MovePlan, MoveState, MoveRow, row_in, begun, answer_of}
 use Rattle.event_store.specs.Store.{stored}
 use Rattle.ctrl_node.specs.declared.operation.Operation.{Operation}

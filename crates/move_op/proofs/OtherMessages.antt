@@ -5,7 +5,7 @@ use Rattle.nf_msgs.specs.declared.msg.Piece as piece
 use Rattle.nf_msgs.specs.declared.msg.Refused as refused
 use Rattle.nf_msgs.specs.declared.msg.Msg.{Msg}
 use Rattle.nf_msgs.specs.declared.msg.Msg.TheVariants as msg
-use Rattle.move_op.specs.declared.phase.Phase.{Phase}
+use Rattle.move_op.specs.Phases.{Phase}
 use Rattle.move_op.specs.Move.{MovePlan, goes, keeps, from_source, from_destination}
 
 pub other_of_source : (plan : MovePlan) (phase : Phase) (events : List FullCell) (message : Msg)

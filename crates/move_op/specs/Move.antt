@@ -22,8 +22,7 @@ use Rattle.nf_msgs.specs.Exports.{units_in}
 use Rattle.nf_msgs.specs.Nodes.{switch_node, instance_node}
 use Rattle.move_op.specs.declared.door.Door.{Door}
 use Rattle.move_op.specs.declared.door.Door.TheVariants.{Shut, Asked, Open, Refused}
-use Rattle.move_op.specs.declared.phase.Phase.{Phase}
-use Rattle.move_op.specs.declared.phase.Phase.TheVariants.{Freezing, Streaming, Holding, Passing, Ending, Restoring, Returning, Undoing, Over}
+use Rattle.move_op.specs.Phases.{Phase, Freezing, Streaming, Holding, Passing, Ending, Restoring, Returning, Undoing, Over}
 
 -- what is to be moved: the command's number, the source and the destination, the filter, and whether packets keep their order
 pub record MovePlan : Type 0 where

@@ -1,17 +1,17 @@
 //! The rows of a move for what its destination says.
 ghost use Rattle.std.specs.Prelude.{◌≡◌, ◌∷◌, ◌++◌, OnOk, IfOk};
 ghost use Rattle.event_store.specs.Store.{stored};
-ghost use Rattle.move_op.specs.Move.{all_put, from_destination, on_destination_enabled, on_destination_fenced, on_put_no, on_put_ok, pushed, put_back, store_after};
+ghost use Rattle.move_op.specs.Move.{all_put, from_destination, on_destination_enabled, on_destination_fenced, on_put_no, on_put_ok, store_after};
+ghost use Rattle.move_op.specs.Phases.{phase_of};
 
 use crate::door::Door;
 use crate::phase::Phase;
-use crate::pieces::Pieces;
 use crate::plan::Plan;
 use actor_net::Outbox;
-use basics::{Boxed, NoMemory};
+use basics::NoMemory;
 use event_filter::Action;
 use event_store::EventStore;
-use nf_msgs::{Answer, Msg, Note, Piece, Refused};
+use nf_msgs::{Answer, Msg, Note, Refused};
 use packet_pool::Cell;
 
 impl Plan {
@@ -22,9 +22,9 @@ impl Plan {
         store: &mut EventStore<Cell>,
         out: &mut Outbox<Msg, Note>,
     ) -> Result<Phase, NoMemory>
-        ensures phase { IfOk result (λ next. next ≡ (from_destination self.now phase (stored store.old self.now.op) message).next.phase) }
-        ensures stored { OnOk result (store.new ≡ store_after store.old self.now.op (from_destination self.now phase (stored store.old self.now.op) message).stored) }
-        ensures out { OnOk result (out.new ≡ (out.old.0 ++ (from_destination self.now phase (stored store.old self.now.op) message).next.sends, out.old.1)) }
+        ensures phase { IfOk result (λ next. phase_of next ≡ (from_destination self.now (phase_of phase) (stored store.old self.now.op) message).next.phase) }
+        ensures stored { OnOk result (store.new ≡ store_after store.old self.now.op (from_destination self.now (phase_of phase) (stored store.old self.now.op) message).stored) }
+        ensures out { OnOk result (out.new ≡ (out.old.0 ++ (from_destination self.now (phase_of phase) (stored store.old self.now.op) message).next.sends, out.old.1)) }
     {
         match message {
             Msg::PutOk { .. } => self.put_ok(phase, store, out),
@@ -42,21 +42,16 @@ impl Plan {
         store: &mut EventStore<Cell>,
         out: &mut Outbox<Msg, Note>,
     ) -> Result<Phase, NoMemory>
-        ensures phase { IfOk result (λ next. next ≡ (on_put_ok self.now phase (stored store.old self.now.op)).next.phase) }
-        ensures stored { OnOk result (store.new ≡ store_after store.old self.now.op (on_put_ok self.now phase (stored store.old self.now.op)).stored) }
-        ensures out { OnOk result (out.new ≡ (out.old.0 ++ (on_put_ok self.now phase (stored store.old self.now.op)).next.sends, out.old.1)) }
+        ensures phase { IfOk result (λ next. phase_of next ≡ (on_put_ok self.now (phase_of phase) (stored store.old self.now.op)).next.phase) }
+        ensures stored { OnOk result (store.new ≡ store_after store.old self.now.op (on_put_ok self.now (phase_of phase) (stored store.old self.now.op)).stored) }
+        ensures out { OnOk result (out.new ≡ (out.old.0 ++ (on_put_ok self.now (phase_of phase) (stored store.old self.now.op)).next.sends, out.old.1)) }
     {
         match phase {
-            Phase::Streaming {
-                frozen,
-                free,
-                came,
-                door: Door::Asked(false),
-            } => self.push(frozen, free, came, Door::Open, out),
-            Phase::Streaming {
-                door: Door::Asked(true) | Door::Open,
-                ..
-            } => self.all_put(store, out),
+            Phase::Streaming(stream) => match stream.door {
+                Door::Asked(false) => stream.agreed(self, out),
+                Door::Asked(true) | Door::Open => self.all_put(store, out),
+                _ => Ok(Phase::Streaming(stream)),
+            },
             phase => Ok(phase),
         }
     }
@@ -67,7 +62,7 @@ impl Plan {
         store: &mut EventStore<Cell>,
         out: &mut Outbox<Msg, Note>,
     ) -> Result<Phase, NoMemory>
-        ensures phase { IfOk result (λ next. next ≡ (all_put self.now (stored store.old self.now.op) self.now.keep).next.phase) }
+        ensures phase { IfOk result (λ next. phase_of next ≡ (all_put self.now (stored store.old self.now.op) self.now.keep).next.phase) }
         ensures stored { OnOk result (store.new ≡ store_after store.old self.now.op (all_put self.now (stored store.old self.now.op) self.now.keep).stored) }
         ensures out { OnOk result (out.new ≡ (out.old.0 ++ (all_put self.now (stored store.old self.now.op) self.now.keep).next.sends, out.old.1)) }
     {
@@ -85,51 +80,16 @@ impl Plan {
         refused: Refused,
         out: &mut Outbox<Msg, Note>,
     ) -> Result<Phase, NoMemory>
-        ensures phase { IfOk result (λ next. next ≡ (on_put_no self.now phase refused.why refused.chunks).phase) }
-        ensures out { OnOk result (out.new ≡ (out.old.0 ++ (on_put_no self.now phase refused.why refused.chunks).sends, out.old.1)) }
+        ensures phase { IfOk result (λ next. phase_of next ≡ (on_put_no self.now (phase_of phase) refused.why refused.chunks).phase) }
+        ensures out { OnOk result (out.new ≡ (out.old.0 ++ (on_put_no self.now (phase_of phase) refused.why refused.chunks).sends, out.old.1)) }
     {
         match phase {
-            Phase::Streaming {
-                frozen,
-                free,
-                came,
-                door,
-            } => match door {
-                Door::Asked(last) => self.refuse(frozen, free, came, last, refused, out),
-                door => Ok(Phase::Streaming {
-                    frozen,
-                    free,
-                    came,
-                    door,
-                }),
+            Phase::Streaming(stream) => match stream.door {
+                Door::Asked(last) => stream.refused(self, refused, last, out),
+                _ => Ok(Phase::Streaming(stream)),
             },
             phase => Ok(phase),
         }
-    }
-
-    /// The piece comes back before the others that are free.
-    fn refuse(
-        &self,
-        frozen: Pieces,
-        mut free: Pieces,
-        came: bool,
-        last: bool,
-        refused: Refused,
-        out: &mut Outbox<Msg, Note>,
-    ) -> Result<Phase, NoMemory>
-        ensures phase { IfOk result (λ next. next ≡ (pushed self.now frozen (put_back refused.chunks last ∷ free) came (Door.Refused refused.why)).phase) }
-        ensures out { OnOk result (out.new ≡ (out.old.0 ++ (pushed self.now frozen (put_back refused.chunks last ∷ free) came (Door.Refused refused.why)).sends, out.old.1)) }
-    {
-        let Refused { why, chunks } = refused;
-        let piece = Piece {
-            chunks,
-            total: 0,
-            newest: 0,
-            last,
-        };
-        let piece = Boxed::new(self.alloc, piece)?;
-        free.push_front(piece)?;
-        self.push(frozen, free, came, Door::Refused(why), out)
     }
 
     /// The destination holds what comes.
@@ -139,9 +99,9 @@ impl Plan {
         store: &mut EventStore<Cell>,
         out: &mut Outbox<Msg, Note>,
     ) -> Result<Phase, NoMemory>
-        ensures phase { IfOk result (λ next. next ≡ (on_destination_enabled self.now phase (stored store.old self.now.op)).next.phase) }
-        ensures stored { OnOk result (store.new ≡ store_after store.old self.now.op (on_destination_enabled self.now phase (stored store.old self.now.op)).stored) }
-        ensures out { OnOk result (out.new ≡ (out.old.0 ++ (on_destination_enabled self.now phase (stored store.old self.now.op)).next.sends, out.old.1)) }
+        ensures phase { IfOk result (λ next. phase_of next ≡ (on_destination_enabled self.now (phase_of phase) (stored store.old self.now.op)).next.phase) }
+        ensures stored { OnOk result (store.new ≡ store_after store.old self.now.op (on_destination_enabled self.now (phase_of phase) (stored store.old self.now.op)).stored) }
+        ensures out { OnOk result (out.new ≡ (out.old.0 ++ (on_destination_enabled self.now (phase_of phase) (stored store.old self.now.op)).next.sends, out.old.1)) }
     {
         match phase {
             Phase::Holding => self.release(store, out),
@@ -155,8 +115,8 @@ impl Plan {
         phase: Phase,
         out: &mut Outbox<Msg, Note>,
     ) -> Result<Phase, NoMemory>
-        ensures phase { IfOk result (λ next. next ≡ (on_destination_fenced self.now phase).phase) }
-        ensures out { OnOk result (out.new ≡ (out.old.0 ++ (on_destination_fenced self.now phase).sends, out.old.1)) }
+        ensures phase { IfOk result (λ next. phase_of next ≡ (on_destination_fenced self.now (phase_of phase)).phase) }
+        ensures out { OnOk result (out.new ≡ (out.old.0 ++ (on_destination_fenced self.now (phase_of phase)).sends, out.old.1)) }
     {
         match phase {
             Phase::Ending => Ok(Phase::Over(Answer::Done)),

@@ -12,9 +12,11 @@ pub mod phase;
 pub mod pieces;
 mod plan;
 mod source;
+pub mod stream;
 mod units;
 
 pub use door::Door;
 pub use operation::MoveOp;
 pub use phase::Phase;
 pub use pieces::Pieces;
+pub use stream::Stream;

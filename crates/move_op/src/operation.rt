@@ -1,6 +1,7 @@
 //! A move that has begun: a plan and a phase, as its callers see it.
 ghost use Rattle.std.specs.Prelude.{◌≡◌, ◌<◌, ◌++◌, OnOk, IfOk};
 ghost use Rattle.move_op.specs.Move.{answer_of, begin_sends, begun, row_in, store_after};
+ghost use Rattle.move_op.specs.Phases.{phase_of};
 
 use crate::phase::Phase;
 use crate::plan::Plan;
@@ -24,10 +25,11 @@ pub struct MoveOp {
 
 impl Model for MoveOp {
     ghost use Rattle.move_op.specs.Move.{MoveState};
+    ghost use Rattle.move_op.specs.Phases.{phase_of};
 
     ghost Value = { MoveState };
 
-    ghost view = { λ m. record { plan = m.plan; phase = m.phase } };
+    ghost view = { λ m. record { plan = m.plan; phase = phase_of m.phase } };
 }
 
 impl MoveOp {
@@ -119,7 +121,7 @@ impl MoveOp {
 
 /// The answer of a move that is over. It has no name, so that this takes no memory.
 fn answer_of(phase: &Phase) -> Result<Option<Answer>, NoMemory>
-    ensures { IfOk result (λ answer. answer ≡ answer_of phase.now) }
+    ensures { IfOk result (λ answer. answer ≡ answer_of (phase_of phase.now)) }
 {
     match phase {
         Phase::Over(answer) => Ok(Some(answer.copy()?)),

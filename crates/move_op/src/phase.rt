@@ -1,5 +1,4 @@
-use crate::door::Door;
-use crate::pieces::Pieces;
+use crate::stream::Stream;
 use nf_msgs::Answer;
 
 /// How far a move has come.
@@ -8,15 +7,7 @@ pub enum Phase {
     /// The source is to hand out the packets of the move unprocessed.
     Freezing,
     /// The source sends its state by pieces.
-    Streaming {
-        /// Pieces whose records the source is still to remove.
-        frozen: Pieces,
-        /// Pieces whose records stand nowhere else.
-        free: Pieces,
-        /// Whether the last piece came.
-        came: bool,
-        door: Door,
-    },
+    Streaming(Stream),
     /// The destination is to hold the packets that come by the new rules.
     Holding,
     /// Packets go to the destination; those of the old rules are still under way.

@@ -1,9 +1,10 @@
 //! What a move is asked for, and its row for each message: which phase comes next, and what is sent.
 ghost use Rattle.std.specs.Prelude.{◌≡◌, ◌∷◌, [], ◌++◌, false, map, OnOk, IfOk};
 ghost use Rattle.event_store.specs.Store.{stored};
-ghost use Rattle.move_op.specs.Move.{asked, chunks_of, destination, enable_at, forward_to, pushed, put_to, released, row_in, source, store_after};
+ghost use Rattle.move_op.specs.Move.{chunks_of, destination, enable_at, forward_to, put_to, released, row_in, source, store_after};
+ghost use Rattle.move_op.specs.Phases as stages;
+ghost use Rattle.move_op.specs.Phases.{phase_of};
 
-use crate::door::Door;
 use crate::phase::Phase;
 use crate::pieces::Pieces;
 use actor_net::Outbox;
@@ -50,9 +51,9 @@ impl Plan {
         store: &mut EventStore<Cell>,
         out: &mut Outbox<Msg, Note>,
     ) -> Result<Phase, NoMemory>
-        ensures phase { IfOk result (λ next. next ≡ (row_in (record { plan = self.now; phase = phase }) store.old sender message).next.phase) }
-        ensures stored { OnOk result (store.new ≡ store_after store.old self.now.op (row_in (record { plan = self.now; phase = phase }) store.old sender message).stored) }
-        ensures out { OnOk result (out.new ≡ (out.old.0 ++ (row_in (record { plan = self.now; phase = phase }) store.old sender message).next.sends, out.old.1)) }
+        ensures phase { IfOk result (λ next. phase_of next ≡ (row_in (record { plan = self.now; phase = phase_of phase }) store.old sender message).next.phase) }
+        ensures stored { OnOk result (store.new ≡ store_after store.old self.now.op (row_in (record { plan = self.now; phase = phase_of phase }) store.old sender message).stored) }
+        ensures out { OnOk result (out.new ≡ (out.old.0 ++ (row_in (record { plan = self.now; phase = phase_of phase }) store.old sender message).next.sends, out.old.1)) }
     {
         if sender == self.source() {
             return self.from_source(phase, message, store, out);
@@ -69,7 +70,7 @@ impl Plan {
         store: &mut EventStore<Cell>,
         out: &mut Outbox<Msg, Note>,
     ) -> Result<Phase, NoMemory>
-        ensures phase { IfOk result (λ next. next ≡ (released self.now (stored store.old self.now.op)).next.phase) }
+        ensures phase { IfOk result (λ next. phase_of next ≡ (released self.now (stored store.old self.now.op)).next.phase) }
         ensures stored { OnOk result (store.new ≡ store_after store.old self.now.op (released self.now (stored store.old self.now.op)).stored) }
         ensures out { OnOk result (out.new ≡ (out.old.0 ++ (released self.now (stored store.old self.now.op)).next.sends, out.old.1)) }
     {
@@ -85,78 +86,6 @@ impl Plan {
         Ok(Phase::Passing)
     }
 
-    /// The pieces that are free go on as the door says.
-    pub(crate) fn push(
-        &self,
-        frozen: Pieces,
-        free: Pieces,
-        came: bool,
-        door: Door,
-        out: &mut Outbox<Msg, Note>,
-    ) -> Result<Phase, NoMemory>
-        ensures phase { IfOk result (λ next. next ≡ (pushed self.now frozen free came door).phase) }
-        ensures out { OnOk result (out.new ≡ (out.old.0 ++ (pushed self.now frozen free came door).sends, out.old.1)) }
-    {
-        match door {
-            Door::Shut => self.ask(frozen, free, came, out),
-            Door::Open => {
-                self.put_all(free, out)?;
-                Ok(Phase::Streaming {
-                    frozen,
-                    free: Pieces::open(self.alloc),
-                    came,
-                    door: Door::Open,
-                })
-            }
-            Door::Refused(why) => {
-                if came && frozen.is_empty() {
-                    return self.restore(why, free, out);
-                }
-                Ok(Phase::Streaming {
-                    frozen,
-                    free,
-                    came,
-                    door: Door::Refused(why),
-                })
-            }
-            Door::Asked(last) => Ok(Phase::Streaming {
-                frozen,
-                free,
-                came,
-                door: Door::Asked(last),
-            }),
-        }
-    }
-
-    /// The first piece asks whether all of them are taken.
-    fn ask(
-        &self,
-        frozen: Pieces,
-        mut free: Pieces,
-        came: bool,
-        out: &mut Outbox<Msg, Note>,
-    ) -> Result<Phase, NoMemory>
-        ensures phase { IfOk result (λ next. next ≡ (asked self.now frozen free came).phase) }
-        ensures out { OnOk result (out.new ≡ (out.old.0 ++ (asked self.now frozen free came).sends, out.old.1)) }
-    {
-        let Some(piece) = free.pop() else {
-            return Ok(Phase::Streaming {
-                frozen,
-                free,
-                came,
-                door: Door::Shut,
-            });
-        };
-        let door = Door::Asked(piece.get().last);
-        self.put(piece, true, out)?;
-        Ok(Phase::Streaming {
-            frozen,
-            free,
-            came,
-            door,
-        })
-    }
-
     /// The source is to take its state back.
     pub(crate) fn restore(
         &self,
@@ -164,7 +93,7 @@ impl Plan {
         free: Pieces,
         out: &mut Outbox<Msg, Note>,
     ) -> Result<Phase, NoMemory>
-        ensures phase { IfOk result (λ next. next ≡ Phase.Restoring why) }
+        ensures phase { IfOk result (λ next. phase_of next ≡ stages.Restoring why) }
         ensures out { OnOk result (out.new ≡ (out.old.0 ++ (source self.now, Msg.Restore self.now.op (chunks_of free)) ∷ [], out.old.1)) }
     {
         let chunks = free.into_chunks(self.alloc)?;

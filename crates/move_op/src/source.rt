@@ -2,11 +2,12 @@
 ghost use Rattle.std.specs.Prelude.{◌≡◌, [], ◌++◌, OnOk, IfOk};
 ghost use Rattle.event_store.specs.Store.{stored};
 ghost use Rattle.move_op.specs.Move.{from_source, on_deleted, on_event, on_piece, on_restored, on_source_enabled, on_source_fenced, returned, store_after};
+ghost use Rattle.move_op.specs.Phases as stages;
+ghost use Rattle.move_op.specs.Phases.{phase_of};
 
-use crate::door::Door;
 use crate::phase::Phase;
-use crate::pieces::Pieces;
 use crate::plan::Plan;
+use crate::stream::Stream;
 use crate::units::have_units;
 use actor_net::Outbox;
 use basics::{Boxed, NoMemory};
@@ -23,9 +24,9 @@ impl Plan {
         store: &mut EventStore<Cell>,
         out: &mut Outbox<Msg, Note>,
     ) -> Result<Phase, NoMemory>
-        ensures phase { IfOk result (λ next. next ≡ (from_source self.now phase (stored store.old self.now.op) message).next.phase) }
-        ensures stored { OnOk result (store.new ≡ store_after store.old self.now.op (from_source self.now phase (stored store.old self.now.op) message).stored) }
-        ensures out { OnOk result (out.new ≡ (out.old.0 ++ (from_source self.now phase (stored store.old self.now.op) message).next.sends, out.old.1)) }
+        ensures phase { IfOk result (λ next. phase_of next ≡ (from_source self.now (phase_of phase) (stored store.old self.now.op) message).next.phase) }
+        ensures stored { OnOk result (store.new ≡ store_after store.old self.now.op (from_source self.now (phase_of phase) (stored store.old self.now.op) message).stored) }
+        ensures out { OnOk result (out.new ≡ (out.old.0 ++ (from_source self.now (phase_of phase) (stored store.old self.now.op) message).next.sends, out.old.1)) }
     {
         match message {
             Msg::Event { parcel, .. } => self.take_event(phase, parcel, store, out),
@@ -46,9 +47,9 @@ impl Plan {
         store: &mut EventStore<Cell>,
         out: &mut Outbox<Msg, Note>,
     ) -> Result<Phase, NoMemory>
-        ensures phase { IfOk result (λ next. next ≡ (on_event self.now phase (stored store.old self.now.op) parcel).next.phase) }
-        ensures stored { OnOk result (store.new ≡ store_after store.old self.now.op (on_event self.now phase (stored store.old self.now.op) parcel).stored) }
-        ensures out { OnOk result (out.new ≡ (out.old.0 ++ (on_event self.now phase (stored store.old self.now.op) parcel).next.sends, out.old.1)) }
+        ensures phase { IfOk result (λ next. phase_of next ≡ (on_event self.now (phase_of phase) (stored store.old self.now.op) parcel).next.phase) }
+        ensures stored { OnOk result (store.new ≡ store_after store.old self.now.op (on_event self.now (phase_of phase) (stored store.old self.now.op) parcel).stored) }
+        ensures out { OnOk result (out.new ≡ (out.old.0 ++ (on_event self.now (phase_of phase) (stored store.old self.now.op) parcel).next.sends, out.old.1)) }
     {
         match phase {
             Phase::Passing => {
@@ -69,9 +70,9 @@ impl Plan {
         store: &mut EventStore<Cell>,
         out: &mut Outbox<Msg, Note>,
     ) -> Result<Phase, NoMemory>
-        ensures phase { IfOk result (λ next. next ≡ (on_source_enabled self.now phase (stored store.old self.now.op)).next.phase) }
-        ensures stored { OnOk result (store.new ≡ store_after store.old self.now.op (on_source_enabled self.now phase (stored store.old self.now.op)).stored) }
-        ensures out { OnOk result (out.new ≡ (out.old.0 ++ (on_source_enabled self.now phase (stored store.old self.now.op)).next.sends, out.old.1)) }
+        ensures phase { IfOk result (λ next. phase_of next ≡ (on_source_enabled self.now (phase_of phase) (stored store.old self.now.op)).next.phase) }
+        ensures stored { OnOk result (store.new ≡ store_after store.old self.now.op (on_source_enabled self.now (phase_of phase) (stored store.old self.now.op)).stored) }
+        ensures out { OnOk result (out.new ≡ (out.old.0 ++ (on_source_enabled self.now (phase_of phase) (stored store.old self.now.op)).next.sends, out.old.1)) }
     {
         match phase {
             Phase::Freezing => self.stream(out),
@@ -82,8 +83,8 @@ impl Plan {
 
     /// Asks the source for its state, by pieces.
     fn stream(&self, out: &mut Outbox<Msg, Note>) -> Result<Phase, NoMemory>
-        ensures phase { IfOk result (λ next. next ≡ (on_source_enabled self.now Phase.Freezing []).next.phase) }
-        ensures out { OnOk result (out.new ≡ (out.old.0 ++ (on_source_enabled self.now Phase.Freezing []).next.sends, out.old.1)) }
+        ensures phase { IfOk result (λ next. phase_of next ≡ (on_source_enabled self.now stages.Freezing []).next.phase) }
+        ensures out { OnOk result (out.new ≡ (out.old.0 ++ (on_source_enabled self.now stages.Freezing []).next.sends, out.old.1)) }
     {
         let filter = Boxed::new(self.alloc, self.filter)?;
         let message = Msg::Stream {
@@ -91,12 +92,7 @@ impl Plan {
             filter,
         };
         out.send(self.source(), message)?;
-        Ok(Phase::Streaming {
-            frozen: Pieces::open(self.alloc),
-            free: Pieces::open(self.alloc),
-            came: false,
-            door: Door::Shut,
-        })
+        Ok(Phase::Streaming(Stream::open(self.alloc)))
     }
 
     /// Sends the stored parcels back to the source, and its fence after them.
@@ -106,7 +102,7 @@ impl Plan {
         store: &mut EventStore<Cell>,
         out: &mut Outbox<Msg, Note>,
     ) -> Result<Phase, NoMemory>
-        ensures phase { IfOk result (λ next. next ≡ (returned self.now why (stored store.old self.now.op)).next.phase) }
+        ensures phase { IfOk result (λ next. phase_of next ≡ (returned self.now why (stored store.old self.now.op)).next.phase) }
         ensures stored { OnOk result (store.new ≡ store_after store.old self.now.op (returned self.now why (stored store.old self.now.op)).stored) }
         ensures out { OnOk result (out.new ≡ (out.old.0 ++ (returned self.now why (stored store.old self.now.op)).next.sends, out.old.1)) }
     {
@@ -126,26 +122,15 @@ impl Plan {
         piece: Boxed<Piece>,
         out: &mut Outbox<Msg, Note>,
     ) -> Result<Phase, NoMemory>
-        ensures phase { IfOk result (λ next. next ≡ (on_piece self.now phase piece).phase) }
-        ensures out { OnOk result (out.new ≡ (out.old.0 ++ (on_piece self.now phase piece).sends, out.old.1)) }
+        ensures phase { IfOk result (λ next. phase_of next ≡ (on_piece self.now (phase_of phase) piece).phase) }
+        ensures out { OnOk result (out.new ≡ (out.old.0 ++ (on_piece self.now (phase_of phase) piece).sends, out.old.1)) }
     {
         match phase {
-            Phase::Streaming {
-                mut frozen,
-                free,
-                came,
-                door,
-            } if have_units(piece.get().chunks.items()) => {
+            Phase::Streaming(mut stream) if have_units(piece.get().chunks.items()) => {
                 let units = units_in(self.alloc, piece.get().chunks.items())?;
-                let last = piece.get().last;
                 out.send(self.source(), Msg::Delete { op: self.op, units })?;
-                frozen.push(piece)?;
-                Ok(Phase::Streaming {
-                    frozen,
-                    free,
-                    came: came || last,
-                    door,
-                })
+                stream.add(piece)?;
+                Ok(Phase::Streaming(stream))
             }
             phase => Ok(phase),
         }
@@ -153,35 +138,19 @@ impl Plan {
 
     /// The first piece that was frozen is free.
     fn deleted(&self, phase: Phase, out: &mut Outbox<Msg, Note>) -> Result<Phase, NoMemory>
-        ensures phase { IfOk result (λ next. next ≡ (on_deleted self.now phase).phase) }
-        ensures out { OnOk result (out.new ≡ (out.old.0 ++ (on_deleted self.now phase).sends, out.old.1)) }
+        ensures phase { IfOk result (λ next. phase_of next ≡ (on_deleted self.now (phase_of phase)).phase) }
+        ensures out { OnOk result (out.new ≡ (out.old.0 ++ (on_deleted self.now (phase_of phase)).sends, out.old.1)) }
     {
         match phase {
-            Phase::Streaming {
-                mut frozen,
-                mut free,
-                came,
-                door,
-            } => {
-                let Some(piece) = frozen.pop() else {
-                    return Ok(Phase::Streaming {
-                        frozen,
-                        free,
-                        came,
-                        door,
-                    });
-                };
-                free.push(piece)?;
-                self.push(frozen, free, came, door, out)
-            }
+            Phase::Streaming(stream) => stream.removed(self, out),
             phase => Ok(phase),
         }
     }
 
     /// The source is to hold what comes.
     fn restored(&self, phase: Phase, out: &mut Outbox<Msg, Note>) -> Result<Phase, NoMemory>
-        ensures phase { IfOk result (λ next. next ≡ (on_restored self.now phase).phase) }
-        ensures out { OnOk result (out.new ≡ (out.old.0 ++ (on_restored self.now phase).sends, out.old.1)) }
+        ensures phase { IfOk result (λ next. phase_of next ≡ (on_restored self.now (phase_of phase)).phase) }
+        ensures out { OnOk result (out.new ≡ (out.old.0 ++ (on_restored self.now (phase_of phase)).sends, out.old.1)) }
     {
         match phase {
             Phase::Restoring(why) => {
@@ -194,8 +163,8 @@ impl Plan {
 
     /// The source has processed what came by the old rules, or what it held.
     fn source_fenced(&self, phase: Phase, out: &mut Outbox<Msg, Note>) -> Result<Phase, NoMemory>
-        ensures phase { IfOk result (λ next. next ≡ (on_source_fenced self.now phase).phase) }
-        ensures out { OnOk result (out.new ≡ (out.old.0 ++ (on_source_fenced self.now phase).sends, out.old.1)) }
+        ensures phase { IfOk result (λ next. phase_of next ≡ (on_source_fenced self.now (phase_of phase)).phase) }
+        ensures out { OnOk result (out.new ≡ (out.old.0 ++ (on_source_fenced self.now (phase_of phase)).sends, out.old.1)) }
     {
         match phase {
             Phase::Passing => {

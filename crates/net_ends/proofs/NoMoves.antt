@@ -19,8 +19,8 @@ use Rattle.event_store.specs.Store.{stored}
 use Rattle.nf_msgs.specs.declared.msg.Msg.{Msg}
 use Rattle.nf_msgs.specs.declared.note.Note.{Note}
 use Rattle.nf_msgs.specs.Nodes.{instance_node}
-use Rattle.move_op.specs.declared.phase.Phase.{Phase as RealPhase}
-use Rattle.move_op.specs.declared.phase.Phase.TheVariants as phase
+use Rattle.move_op.specs.Phases.{Phase as RealPhase}
+use Rattle.move_op.specs.Phases as phase
 use Rattle.move_op.specs.Move.{MoveState, answer_of}
 use Rattle.ctrl_node.specs.declared.operation.Operation.TheVariants.{Move}
 use Rattle.actor_net.specs.Network.{Network, waiting}

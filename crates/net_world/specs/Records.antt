@@ -14,8 +14,8 @@ use Rattle.nf_msgs.specs.declared.msg.Msg.TheVariants.{Piece, Put, PutNo, Restor
 use Rattle.nf_msgs.specs.declared.note.Note.{Note}
 use Rattle.nf_msgs.specs.Exports.{units_in}
 use Rattle.nf_msgs.specs.Nodes.{controller_node, instance_node}
-use Rattle.move_op.specs.declared.phase.Phase.{Phase}
-use Rattle.move_op.specs.declared.phase.Phase.TheVariants.{Streaming}
+use Rattle.move_op.specs.Phases.{Phase}
+use Rattle.move_op.specs.Phases.{Streaming}
 use Rattle.move_op.specs.Move.{chunks_of}
 use Rattle.ctrl_node.specs.declared.operation.Operation.{Operation}
 use Rattle.ctrl_node.specs.declared.operation.Operation.TheVariants.{Move}

@@ -33,8 +33,8 @@ use Rattle.whole_joined.proofs.LogLemmas.{has_begun-append}
 use Rattle.nf_net.proofs.MoveJudged.{Said, Knows}
 use Rattle.nf_net.proofs.VerdictLemmas.{exported_kept, before_export_kept, taken_more}
 use Rattle.move_op.specs.declared.door.Door.TheVariants as door
-use Rattle.move_op.specs.declared.phase.Phase.{Phase}
-use Rattle.move_op.specs.declared.phase.Phase.TheVariants as phase
+use Rattle.move_op.specs.Phases.{Phase}
+use Rattle.move_op.specs.Phases as phase
 
 -- an instance's answer is the verdict by what it holds, and by what the piece says
 pub answer_is : {F R : Type 0} (i : Instance F R) (piece : Piece) (timed : Bool) → piece.newest ≡ version_number timed → answer_by (piece_refusal i piece) ≡ verdict (record { held = finite.len i.table.live; coming = piece.total; limit = i.limit; marked = i.marked; timed = timed })

@@ -1,9 +1,10 @@
 -- A message that the table doesn't name leaves the move as it is.
 use Rattle.std.proofs.Common.{rules}
+use Rattle.move_op.specs.Phases.{phase_of}
 use Rattle.move_op.proofs.OtherMessages.{other_of_destination}
 use Rattle.move_op.proofs.plan.Plan.from_destination.Goals as goal
 
 pub returns : goal.returns
 returns c =
     let no = c.in_default in
-    rw (other_of_destination c.args.self.now c.args.phase _ c.args.message no.not-PutOk no.not-PutNo no.not-Enabled no.not-Fenced) (search rules)
+    rw (other_of_destination c.args.self.now (phase_of c.args.phase) _ c.args.message no.not-PutOk no.not-PutNo no.not-Enabled no.not-Fenced) (search rules)
