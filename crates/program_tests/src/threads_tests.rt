@@ -1,3 +1,4 @@
+//! Tests of runs of the network by threads.
 ghost use Rattle.std.specs.Prelude.{◌≡◌, ◌<◌, true, vec_len, All, IfOk};
 ghost use Rattle.nf_function.specs.Units.{is_transport};
 ghost use Rattle.nf_function.specs.declared.kind.Kind.TheVariants.{Conntrack as OfFlows};
@@ -56,7 +57,6 @@ fn packet(number: u32) -> Packet
     }
 }
 
-/// So many packets.
 fn packets(alloc: Global, count: u32) -> Result<PacketItems, Fail>
     requires { count < 1000 }
     ensures numbers { IfOk result (AreNumbered 1) }
