@@ -60,7 +60,7 @@ impl Counts {
         Ok(())
     }
 
-    /// The same counts, to be given out.
+    /// The counts, to be given out.
     fn into_queue(self) -> CountQueue
         ensures { result ≡ self }
     {
@@ -71,7 +71,7 @@ impl Counts {
     }
 }
 
-/// The same, given out from the first on.
+/// Counts that are given out from the first on.
 #[derive(Drop)]
 struct CountQueue {
     runs: VecDeque<Run>,

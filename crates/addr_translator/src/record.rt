@@ -1,3 +1,4 @@
+//! What the translator keeps of an inside host: its mappings by their outside ports, and its counts.
 ghost use Rattle.std.specs.Prelude.{◌≡◌, ◌<◌, ◌≤◌, ◌++◌, ◌∷◌, [], nat_lt, length};
 ghost use Rattle.std.specs.List.{All, position};
 ghost use Rattle.nf_function.specs.Semantics.{count};

@@ -1,3 +1,4 @@
+//! The translator's table: what a packet changes of its host's mappings, and the output.
 ghost use Rattle.std.specs.Prelude.{◌≡◌, ◌<◌, ◌^◌, Some, if◌then◌else◌};
 ghost use Rattle.std.specs.List.{position};
 ghost use Rattle.flow_filter.specs.Flow.{flow_of, ports_per_host};
@@ -39,7 +40,7 @@ pub fn step(site: &Site, kept: &mut Option<NatRecord>, packet: &Packet) -> Outpu
     step_of_host(site, flow.local, kept, packet)
 }
 
-/// The same, where the packet's host is at hand.
+/// Takes a packet, whose host is at hand, into what is kept of that host, and gives the output.
 #[tactic(auto, unfolding(crate::specs::Table::stepped))]
 pub fn step_of_host(site: &Site, host: u32, kept: &mut Option<NatRecord>, packet: &Packet) -> Output
     requires { host ≡ (flow_of site.now packet.now).0.local }

@@ -1,3 +1,4 @@
+//! The monitor's table: what a packet tells of its host's services, and the output.
 ghost use Rattle.std.specs.Prelude.{◌≡◌, ◌<◌, ◌^◌, true, Some, if◌then◌else◌, unwrap_or, IfOk, OnOk, OnErr};
 ghost use Rattle.nf_function.specs.Units.{is_transport};
 ghost use Rattle.asset_monitor.specs.Places.{IsAt, IsGap};

@@ -17,7 +17,6 @@ const MOST_RECORDS: u32 = 1_000_000;
 /// What stands after an instance that reads chunks of version 1 alone.
 const VERSION_1: &[u8] = b"v1";
 
-/// The most instances.
 const MOST_INSTANCES: usize = 16;
 
 /// The instances of a list, where there are at most 16 and their names differ.

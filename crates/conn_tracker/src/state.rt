@@ -1,3 +1,4 @@
+//! The states of a connection, and which of them comes after a packet.
 ghost use Rattle.std.specs.Prelude.{◌≡◌, ◌≤◌, length};
 ghost use Rattle.conn_tracker.specs.Table.{cell, row, first_tcp, next_udp, restarts, all_states, name_of, state_number, state_of};
 ghost use Rattle.conn_tracker.specs.RecordRoom.{state_room};

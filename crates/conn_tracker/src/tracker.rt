@@ -1,3 +1,4 @@
+//! The tracker's step: the record of a flow's first packet, and the record after a further one.
 ghost use Rattle.std.specs.Prelude.{◌≡◌, true, Some};
 ghost use Rattle.conn_tracker.specs.Table.{first_record, next_record, stepped, first_state, opener_of_first, is_idle, next_state, next_opener, is_same_direction, first_opener, IsTrackRecord};
 ghost use Rattle.conn_tracker.specs.Body.{is_within};

@@ -1,3 +1,4 @@
+//! A copy that has begun, and its row for each message.
 ghost use Rattle.std.specs.Prelude.{◌≡◌, ◌<◌, [], ◌++◌, option_map, OnOk, IfOk};
 ghost use Rattle.copy_share.specs.Copy.{answer_of, asks, begin_sends, begun, from_destination, from_source, row};
 

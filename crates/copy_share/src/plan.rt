@@ -1,3 +1,4 @@
+//! What is to be shared, and what a share sends to its members.
 ghost use Rattle.std.specs.Prelude.{◌≡◌, ◌<◌, ◌∷◌, [], ◌++◌, OnOk, IfOk, All, length, ◌==◌};
 ghost use Rattle.nf_msgs.specs.Nodes.{instance_node};
 ghost use Rattle.copy_share.specs.Share.{home, member_for, member_of, on_shared, others, serves, syncing, syncs};

@@ -1,3 +1,4 @@
+//! A share that has begun: how it is set up, and how it serves one packet after the other.
 ghost use Rattle.std.specs.Prelude.{◌≡◌, ◌<◌, [], ◌++◌, All, length, OnOk, IfOk};
 ghost use Rattle.event_store.specs.Store.{store_after, stored};
 ghost use Rattle.copy_share.specs.Share.{begin_sends, begun, is_idle, on_chunks, on_fenced, on_shared, on_synced, row, served, setting};

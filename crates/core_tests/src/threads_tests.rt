@@ -1,3 +1,4 @@
+//! Tests of runs by threads: their choices replay to the world that they leave, and two workers are in a step at once.
 ghost use Rattle.std.specs.Prelude.{◌==◌, ◌-◌, ◌<◌, true, if◌then◌else◌, [], ◌∷◌};
 
 use actor_net::{Actor, Choice, Outbox, World, replay};

@@ -1,3 +1,4 @@
+//! Tests of worlds: what a step does, what schedules and replays give, and that a merge is the same both ways.
 use actor_net::{
     Actor, Choice, History, Outbox, Parts, Schedule, World, merge, replay, run_schedule,
 };

@@ -1,3 +1,4 @@
+//! An operation that has begun, a move, a copy or a share, as the controller calls it.
 ghost use Rattle.std.specs.Prelude.{◌≡◌, ◌++◌, Some, OnOk, IfOk};
 ghost use Rattle.std.specs.Option.{option_or};
 ghost use Rattle.ctrl_node.specs.Operations.{is_quiet, is_shared_by, lasts, meets_operation, serving_of, turn_of};

@@ -1,3 +1,4 @@
+//! Parcels that operations keep for later, a queue for each.
 ghost use Rattle.std.specs.Prelude.{◌≡◌, ◌==◌, ℕ, if◌then◌else◌, [], ◌∷◌, ◌++◌, length, drop, min, slice_get, OnOk, OnErr, IfErr};
 ghost use Rattle.std.specs.FinMap as map;
 ghost use Rattle.event_store.specs.Store.{stored, with_parcels};

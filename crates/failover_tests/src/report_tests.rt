@@ -1,3 +1,4 @@
+//! Tests of the report of a failover: which packets and records are lost, and which are promoted.
 ghost use Rattle.std.specs.Prelude.{◌≡◌, All, IfOk};
 ghost use Rattle.trace_reader.specs.Records.{AreNumbered};
 ghost use Rattle.nf_function.specs.declared.kind.Kind.TheVariants.{Conntrack as OfFlows};

@@ -90,7 +90,6 @@ impl<F: Function> Instance<F> {
         self.send_piece(op, whole.piece(true, chunks), out)
     }
 
-    /// Sends a piece.
     fn send_piece(&self, op: u32, piece: Piece, out: &mut Outbox<Msg, Note>) -> Result<(), NoMemory>
         ensures sends { OnOk result (out.new.0 ≡ out.old.0 ++ told (OnePiece op piece ∷ [])) }
         ensures notes { OnOk result (out.new.1 ≡ out.old.1) }

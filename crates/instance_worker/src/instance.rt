@@ -1,3 +1,4 @@
+//! An instance: its records, its event rules and its tally, and which of its calls takes a message.
 ghost use Rattle.std.specs.Prelude.{◌≡◌, ◌<◌, [], ◌++◌, false, OnErr, OnOk, replicate};
 ghost use Rattle.event_filter.specs.Rules.{with_rule};
 ghost use Rattle.record_table.specs.Table.{empty};

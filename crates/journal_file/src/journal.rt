@@ -64,7 +64,7 @@ pub fn read_journal(
     journal_of(alloc, bytes, kind, instances)
 }
 
-/// The same, check by check.
+/// The choices of a journal, check by check.
 #[tactic(auto, unfolding(crate::specs::Reading::journal_of))]
 fn journal_of(
     alloc: Global,

@@ -1,3 +1,4 @@
+//! Tests of one move in a whole network, by what its run notes.
 ghost use Rattle.std.specs.Prelude.{All, IfOk};
 ghost use Rattle.nf_function.specs.declared.kind.Kind.TheVariants.{Conntrack as OfFlows};
 ghost use Rattle.net_world.specs.Input.{IsInput, IsWhole};

@@ -1,3 +1,4 @@
+//! An outside in memory whose calls can be made to fail.
 ghost use Rattle.std.specs.Prelude.{◌≡◌, ◌≢◌, ◌<◌, ◌-◌, ◌^◌, ◌++◌, ◌∷◌, [], false, Some, min, length, is_err, IsTrue, IsErr, IfOk, OnOk, OnErr};
 ghost use Rattle.std.specs.Option.{ForSome};
 ghost use Rattle.std.specs.Io.{ReadsAtMost, WritesAtMost};

@@ -1,3 +1,4 @@
+//! Tests of the controller by what it sends and notes for the messages that it gets.
 use crate::common::{PACKET, SITE, chunk, piece, write_messages};
 use actor_net::{Actor, Outbox};
 use basics::{Boxed, NoMemory, Text};

@@ -1,3 +1,4 @@
+//! Tests of an instance by the messages that it sends.
 use crate::common::{SITE, packet};
 use actor_net::{Actor, Outbox};
 use basics::Boxed;

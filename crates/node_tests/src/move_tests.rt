@@ -1,3 +1,4 @@
+//! Tests of a move by the messages that it sends, one row of its table after the other.
 use crate::common::{PACKET, piece, write_sent};
 use actor_net::Outbox;
 use basics::{Boxed, NoMemory, Text};

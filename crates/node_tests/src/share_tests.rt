@@ -1,3 +1,4 @@
+//! Tests of copies and shares by the messages that they send.
 ghost use Rattle.std.specs.Prelude.{◌<◌, All, length};
 
 use crate::common::{PACKET, SITE, chunk, write_message};

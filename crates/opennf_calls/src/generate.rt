@@ -30,7 +30,6 @@ pub fn generate<O: Outside>(alloc: Global, asked: &Generating<'_>, outside: &mut
     }
 }
 
-/// Writes the capture.
 fn write_capture<O: Outside>(
     alloc: Global,
     asked: &Generating<'_>,

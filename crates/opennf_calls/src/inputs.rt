@@ -84,7 +84,6 @@ fn read_commands<O: Outside>(
     Ok(script)
 }
 
-/// Reads the capture.
 pub(crate) fn read_capture<O: Outside>(
     alloc: Global,
     outside: &mut O,

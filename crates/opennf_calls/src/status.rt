@@ -1,3 +1,4 @@
+//! How a run of the program ended, with the number that it ends with and the words that tell it.
 ghost use Rattle.std.specs.Prelude.{◌≡◌, ◌≤◌, length};
 ghost use Rattle.opennf_calls.specs.Status.{trace_kind_name, exit_number, journal_kind_name, role_name, script_kind_name, reading_status};
 ghost use Rattle.opennf_calls.specs.LineRoom.{trace_kind_room, role_room, script_kind_room, journal_kind_room};

@@ -54,7 +54,7 @@ pub fn opennf_top<R: Threads + Wait + Sync, O: Outside, G: Gate>(
     }
 }
 
-/// The same for the command that starts threads. It may wait for them.
+/// All that the program does where the words have the command that starts threads. It may wait for them.
 pub fn opennf_run<R: Threads + Wait + Sync, O: Outside, G: Gate>(
     rt: &R,
     alloc: Global,
@@ -72,7 +72,7 @@ pub fn opennf_run<R: Threads + Wait + Sync, O: Outside, G: Gate>(
     }
 }
 
-/// The same for the commands that start no threads. It always returns.
+/// All that the program does where the words have no command that starts threads. It always returns.
 pub fn opennf_calm<O: Outside>(alloc: Global, words: &[String], outside: &mut O) -> Outcome
     requires unnamed { (role : TheRole) → (O.seen outside.old role).name ≡ None }
     requires command { is_command (codes "run") (map string_bytes words.now) ≡ false }

@@ -1,3 +1,4 @@
+//! Tests of the monitor by its outputs and records, as they are printed.
 ghost use Rattle.std.specs.Prelude.{◌≤◌, length};
 
 use crate::common::{PACKET, SITE, reverse};

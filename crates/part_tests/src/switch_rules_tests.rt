@@ -1,3 +1,4 @@
+//! Tests of the switch's rules: where a flow goes, also after redirects, and how many groups the routes take.
 use flow_filter::{Filter, Flow, Prefix};
 use std::test::Fail;
 use switch_rules::{Classifier, Rules, Target};

@@ -1,3 +1,4 @@
+//! Tests of an instance's records: which imports are refused, and what is then live or stands by.
 use crate::common::{FLOW, PACKET, SITE};
 use basics::NoMemory;
 use conn_tracker::{Conntrack, State, TrackRecord};

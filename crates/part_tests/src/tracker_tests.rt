@@ -1,3 +1,4 @@
+//! Tests of the tracker by the states that its outputs name.
 use crate::common::{PACKET, SITE, reverse};
 use conn_tracker::{Conntrack, State, TrackRecord, print_output, print_record, step};
 use flow_filter::{Direction, Packet, TCP, flow_of};

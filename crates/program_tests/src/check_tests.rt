@@ -12,7 +12,7 @@ use std::test::Fail;
 /// The words that check the script S for the connection tracker.
 static WORDS: [&str; 6] = ["opennf", "check", "conntrack", "--instances", "a,b", "S"];
 
-/// The same for the asset monitor.
+/// The words that check the script S for the asset monitor.
 static MONITOR: [&str; 6] = ["opennf", "check", "monitor", "--instances", "a,b", "S"];
 
 /// Scripts that break a rule, with the line on the standard error.

@@ -1,3 +1,4 @@
+//! Tests of the command `sim` by whole reports.
 ghost use Rattle.std.specs.Prelude.{◌≡◌, None, IfOk};
 ghost use Rattle.nf_io.specs.declared.outside.Role.{Role as TheRole};
 ghost use Rattle.nf_io.specs.Memory.{seen_in};
@@ -257,7 +258,7 @@ fn scripted(
     Ok((outcome.status.number(), outside))
 }
 
-/// The same of three packets of 10.0.0.1 and one of 10.0.0.2.
+/// The outcome of a simulation of three packets of 10.0.0.1 and one of 10.0.0.2, and its outside.
 fn four_packets(
     alloc: Global,
     instances: &str,

@@ -1,3 +1,4 @@
+//! Tests of runs of the network by threads.
 ghost use Rattle.std.specs.Prelude.{◌≡◌, ◌<◌, ◌≤◌, true, vec_len, All, IfOk};
 ghost use Rattle.flow_filter.specs.Limits.{most_window};
 ghost use Rattle.nf_function.specs.Units.{is_transport};
@@ -57,7 +58,6 @@ fn packet(number: u32) -> Packet
     }
 }
 
-/// So many packets.
 fn packets(alloc: Global, count: u32) -> Result<PacketItems, Fail>
     requires { count < 2000 }
     ensures numbers { IfOk result (AreNumbered 1) }

@@ -85,7 +85,6 @@ fn is_taken(filter: Option<&Filter>, unit: &Unit) -> bool
     }
 }
 
-/// The number of a unit.
 #[inline(always)]
 fn unit_number(unit: &Unit) -> u128
     ensures value { result ≡ unit_number unit.now }

@@ -61,7 +61,7 @@ pub(crate) fn records_of<F: Function>(
     Ok(records.into_entries())
 }
 
-/// The same, where each chunk spells a record and the units stand in order, so that no unit comes twice.
+/// The records of chunks, where each chunk spells one and the units stand in order, so that no unit comes twice.
 fn records_in_order<F: Function>(
     alloc: Global,
     chunks: &[Chunk],

@@ -1,3 +1,4 @@
+//! The records of one instance, live and in standby, and what a step, an import, an export and a promotion do with them.
 ghost use Rattle.std.specs.Prelude.{◌≡◌, ◌+◌, ◌≤◌, true, false, not, if◌then◌else◌, List, length, map, option_map, IfOk, IfErr, IfSome, OnOk, OnErr, None};
 ghost use Rattle.std.specs.Option.{option_copied, option_or};
 ghost use Rattle.std.specs.FinMap as finite;
@@ -77,7 +78,7 @@ impl<F: Function> Table<F> {
         self.step_along(site, flow, direction, packet, live)
     }
 
-    /// The same, where the packet's flow and the direction in which it goes are at hand.
+    /// Steps the record of a packet's unit, where the packet's flow and the direction in which it goes are at hand.
     pub fn step_along(
         &mut self,
         site: &Site,
@@ -174,7 +175,7 @@ impl<F: Function> Table<F> {
         self.restore(chunks)
     }
 
-    /// The same without a limit.
+    /// Makes the chunks' records live, without a limit.
     pub fn restore(&mut self, chunks: Chunks) -> Result<(), ImportFault>
         ensures table { OnOk result (self.new ≡ record self.old { live = newest_of F.semantics self.old.live (records_of F.semantics chunks) }) }
         ensures each { OnOk result ((u : EachUnit) → finite.get self.new.live u ≡ either (newest F.semantics) (finite.get self.old.live u) (finite.get (records_of F.semantics chunks) u)) }

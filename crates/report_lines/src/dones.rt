@@ -82,7 +82,7 @@ fn push_done(
     }
 }
 
-/// The same for a word, a number and an instance.
+/// Puts the line of a word, a number and an instance.
 #[inline(always)]
 fn push_at(
     text: &mut Text,
@@ -102,7 +102,7 @@ fn push_at(
     }
 }
 
-/// The same for a word, a number and what ends the line.
+/// Puts the line of a word, a number and what ends the line.
 #[tactic(auto, unfolding(crate::specs::Lines::named_text))]
 #[inline(always)]
 fn push_ended(
@@ -122,7 +122,7 @@ fn push_ended(
     }
 }
 
-/// The same for a number and a name that is long, or isn't there.
+/// Puts the line of a number and a name that is long, or isn't there.
 #[cold]
 #[inline(never)]
 fn push_other(
@@ -140,7 +140,7 @@ fn push_other(
     push_long(text, word, number, name)
 }
 
-/// The same without a block, after a text that has all lines so far: `WORD NUMBER NAME`.
+/// Puts the line `WORD NUMBER NAME` after a text that has all lines so far.
 #[tactic(auto, unfolding(crate::specs::Lines::named_text))]
 fn push_long(text: &mut Text, word: &[u8], number: u32, name: &[u8]) -> Result<(), NoMemory>
     ensures { OnOk result (text.new ≡ text.old ++ named_text word.now number name.now) }

@@ -94,7 +94,6 @@ impl<'a> NameEnd<'a> {
         NameEnd { name, end }
     }
 
-    /// The name.
     pub(crate) fn name(&self) -> &[u8]
         ensures { result.now ≡ self.now.name.now }
     {

@@ -59,7 +59,7 @@ fn push_noted_outs<F: Function>(
     Ok(())
 }
 
-/// The same by the packets' numbers, where they stand in another order.
+/// Puts the line of each packet's output after the text, by the packets' numbers, where the log has them in another order.
 #[cold]
 fn push_sorted_outs<F: Function>(
     alloc: Global,
@@ -120,7 +120,7 @@ fn push_out<F: Function>(
     }
 }
 
-/// The same for an output whose end isn't kept yet.
+/// Puts the line of an output whose end isn't kept yet.
 #[tactic(auto, unfolding(crate::specs::Lines::out_line))]
 #[cold]
 #[inline(never)]
@@ -144,7 +144,7 @@ fn push_other_out<F: Function>(
     }
 }
 
-/// The same without a block, for an output whose text is longer than one.
+/// Puts the line of an output whose text is longer than a block after a text that has all lines so far.
 #[tactic(auto, unfolding(crate::specs::Lines::out_line))]
 fn push_long_out<F: Function>(text: &mut Text, number: u32, output: &Output) -> Result<(), NoMemory>
     ensures { OnOk result (text.new ≡ text.old ++ out_line F.semantics (number, output.now)) }

@@ -53,7 +53,7 @@ fn push_record_lines<F: Function>(
     Ok(())
 }
 
-/// The same for the records of one instance, which are in order.
+/// Puts a line for each record of one instance, which are in order.
 fn push_own_lines<F: Function>(
     text: &mut Text,
     word: &[u8],

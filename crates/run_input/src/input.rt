@@ -1,3 +1,4 @@
+//! The configuration and the input of a run, made of the words' values, the script and the packets.
 ghost use Rattle.std.specs.Prelude.{◌≡◌, ◌<◌, ◌≤◌, ◌^◌, true, All, length, map, IfOk};
 ghost use Rattle.flow_filter.specs.Filter.{IsFilter, IsFlow};
 ghost use Rattle.nf_function.specs.Records.{Fits};
@@ -57,7 +58,7 @@ fn are_lines(lines: &[Line])
     }
 }
 
-/// The same of what happens.
+/// The numbers of the filter of what happens are within their types.
 fn is_what(what: &What)
     ensures { WhatFits what.now }
 {
@@ -76,7 +77,7 @@ fn is_filter(_filter: Filter)
     ensures { IsFilter _filter }
 {}
 
-/// The same of a filter that may be there.
+/// The numbers of a filter that may be there are within their types.
 fn is_filter_if(filter: Option<Filter>)
     ensures { CopiedFits filter }
 {

@@ -1,3 +1,4 @@
+//! Tests of the reports of runs by their whole texts.
 ghost use Rattle.std.specs.Prelude.{◌≡◌, ◌<◌, length, IfOk};
 ghost use Rattle.net_world.specs.Start.{IsConfig};
 

@@ -68,7 +68,6 @@ fn host_front(head: [u8; 3], host: u32, length: u16) -> [u8; 9]
     ]
 }
 
-/// The key of a flow.
 #[tactic(auto, unfolding(crate::specs::Format::key_bytes, nf_function::specs::Stored::number_bytes))]
 fn flow_key(flow: &Flow) -> [u8; 13]
     ensures { result ≡ key_bytes (OfFlow flow.now) }

@@ -1,3 +1,4 @@
+//! The stored bytes of one unit's record: how they are written, and how they are read with the first fault.
 ghost use Rattle.std.specs.Prelude.{◌≡◌, ◌<◌, true, Some, Ok, length, slice_get, IfOk};
 ghost use Rattle.state_chunk.specs.Format.{record_chunk, record_bytes, version_number, IsRecordOf};
 ghost use Rattle.state_chunk.specs.Reading.{record_read, record_of_version, DecodesTo};
@@ -60,7 +61,7 @@ pub fn decode<F: Function>(alloc: Global, bytes: &[u8]) -> Result<(Unit, F::Reco
     decoded::<F>(alloc, bytes)
 }
 
-/// The same, part by part.
+/// The unit and the record of a chunk, read part by part.
 #[inline(always)]
 #[tactic(auto, unfolding(crate::specs::Reading::record_read))]
 fn decoded<F: Function>(alloc: Global, bytes: &[u8]) -> Result<(Unit, F::Record), ChunkFault>

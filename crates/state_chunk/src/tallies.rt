@@ -64,7 +64,7 @@ pub fn decode_tally(kind: Kind, bytes: &[u8]) -> Result<Tally, ChunkFault>
     decoded_tally(kind, bytes)
 }
 
-/// The same, part by part.
+/// The tally of a chunk, read part by part.
 #[tactic(auto, unfolding(crate::specs::Reading::tally_read))]
 fn decoded_tally(kind: Kind, bytes: &[u8]) -> Result<Tally, ChunkFault>
     ensures value { DecodesTo (λ tally. tally.slots) result (tally_read kind bytes.now) }

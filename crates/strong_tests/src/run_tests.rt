@@ -1,3 +1,4 @@
+//! Tests of strong sharing by the notes of whole runs.
 use crate::common::{head, reported, sent, site};
 use actor_net::{Choice, Schedule};
 use basics::Text;

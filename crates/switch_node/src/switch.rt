@@ -1,3 +1,4 @@
+//! The switch: it takes in packets and commands, sends packets where its rules say, and takes cells home.
 ghost use Rattle.std.specs.Prelude.{◌≡◌, ◌≤◌, ◌<◌, ◌+◌, ◌++◌, false, All, IfOk, OnOk};
 ghost use Rattle.switch_rules.specs.Rules.{opened};
 ghost use Rattle.switch_node.specs.Switch.{has_closed, on_command, on_install, on_packet, sends_to_instance, stops, switch_step, takes_in, target_of, is_there};

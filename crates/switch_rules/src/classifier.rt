@@ -1,3 +1,4 @@
+//! Rules in groups by their masks, so that a look-up takes one step for each mask.
 ghost use Rattle.std.specs.Prelude.{◌≡◌, ◌∷◌, ◌++◌, [], length, min, position, IfOk, OnOk, List};
 ghost use Rattle.flow_filter.specs.Filter.{IsFlow, IsFilter};
 ghost use Rattle.flow_filter.specs.declared.flow.Flow.{Flow as EachFlow};

@@ -55,7 +55,7 @@ impl Routes {
         }
     }
 
-    /// The same, by the shorter way.
+    /// The target of the first rule that matches a flow, by the list where that is short, and else by the groups.
     fn first(&self, flow: &Flow) -> Option<Target>
         ensures value { result ≡ first_match self.now flow.now }
         ensures found { is_some result ≡ true }

@@ -1,3 +1,4 @@
+//! The form of a capture, as its first 24 bytes tell it.
 ghost use Rattle.std.specs.Prelude.{◌≡◌, ◌≢◌, ◌≤◌, Err, length};
 ghost use Rattle.trace_reader.specs.Limits.{head_size, header_size};
 ghost use Rattle.trace_reader.specs.Numbers.{number_in};

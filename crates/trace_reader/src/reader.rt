@@ -1,3 +1,4 @@
+//! A capture read record by record.
 ghost use Rattle.std.specs.Prelude.{◌≡◌, ◌≤◌, None, Ok, Err, drop, IfOk, IfSome, IfNone};
 ghost use Rattle.std.specs.Option.{ForSome, ForNone};
 ghost use Rattle.trace_reader.specs.Limits.{header_size, most_bytes};

@@ -1,3 +1,4 @@
+//! One record of a capture: its header, and the bytes of its packet.
 ghost use Rattle.std.specs.Prelude.{◌≡◌, ◌≢◌, ◌<◌, ◌≤◌, ℕ, ◌+◌, List, min, length, take, None, Ok, Err, IfOk, IfSome};
 ghost use Rattle.std.specs.Io.{StartsWith};
 ghost use Rattle.nf_io.specs.Meaning.{StaysOpen, untouched};

@@ -1,3 +1,4 @@
+//! Which records hold packets that are steered, and the packet of such a record.
 ghost use Rattle.std.specs.Prelude.{◌≡◌, ◌≤◌, ◌+◌, ◌-◌, ◌^◌, ◌++◌, min, length, replicate, true, Some, IfSome};
 ghost use Rattle.trace_reader.specs.Limits.{front_size, head_size, most_captured};
 ghost use Rattle.trace_reader.specs.Numbers.{u16_at, u32_at};
@@ -177,7 +178,7 @@ fn packet_with(number: u32, nanos: u64, len: usize, front: &[u8], parts: &Parts)
     packet_around(number, nanos, len, front, parts, head)
 }
 
-/// The same with this payload.
+/// The packet of a steered record, with this payload.
 #[inline(always)]
 fn packet_around(
     number: u32,

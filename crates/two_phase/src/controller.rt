@@ -1,3 +1,4 @@
+//! The controller of a two-phase update, and its row for each message.
 ghost use Rattle.std.specs.Prelude.{◌≡◌, [], ◌++◌, false, None, OnOk};
 ghost use Rattle.two_phase.specs.Tables.{controller_row, controller_step, finishes, is_over};
 

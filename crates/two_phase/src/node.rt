@@ -1,3 +1,4 @@
+//! The four nodes of a two-phase update as one type, and what its instances tell besides.
 ghost use Rattle.std.specs.Prelude.{◌≡◌, ◌++◌, map, IfOk, OnOk};
 ghost use Rattle.instance_worker.specs.Instance.{instance_step};
 ghost use Rattle.two_phase.specs.declared.note.TwoNote.TheVariants.{Inner as AnInner};

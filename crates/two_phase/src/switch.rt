@@ -1,3 +1,4 @@
+//! The switch of a two-phase update: packets are copied, then go by the low rule, and then by the high one.
 ghost use Rattle.std.specs.Prelude.{◌≡◌, ◌≤◌, ◌<◌, ◌++◌, [], ◌∷◌, false, IfOk, OnOk};
 ghost use Rattle.switch_rules.specs.Rules.{opened};
 ghost use Rattle.two_phase.specs.Tables.{arrives, destination_node, goes_to, has_closed, has_room, on_credit, on_finish, on_lay, on_packet, switch_step, takes_in, target_of, the_update};
