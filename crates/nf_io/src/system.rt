@@ -1,9 +1,12 @@
 //! What a run asks of the operating system. Of files and standard streams nothing but these calls is trusted.
-ghost use Rattle.std.specs.Prelude.{take, IfOk, OnErr, ◌≡◌};
+ghost use Rattle.std.specs.Prelude.{take, None, IfOk, OnErr, ◌≡◌};
 ghost use Rattle.std.specs.Io.{WritesAtMost};
 ghost use Rattle.std.specs.Io.KnownBytes.{Keeps, append_known};
 ghost use Rattle.nf_io.specs.System.{SystemBytes, untold_bytes};
 
+use crate::arguments::{Arguments, arguments};
+use basics::NoMemory;
+use std::env::Env;
 use std::io::{ErrorKind, Read, Write};
 use std::rt::Files;
 use std::{fs, io};
@@ -70,5 +73,13 @@ impl<R: Files + Print + Eprint + Drop> System for HostSystem<R> {
         };
         self.rt.eprint(text)?;
         Ok(bytes.len())
+    }
+}
+
+impl<R: Files + Print + Eprint + Env + AllocGlobal + Drop> Arguments for HostSystem<R> {
+    ghost given = { λ _. None };
+
+    fn arguments(&self) -> Result<Vec<String>, NoMemory> {
+        arguments(&self.rt)
     }
 }
