@@ -1,5 +1,5 @@
--- What an outside over files tells of a role: it stays where the role's file does, its own bytes are left or written, and those at hand are the first.
-use Rattle.std.proofs.Common.{◌≡◌, ℕ, List, [], ◌++◌, Option, None, Some, IsTrue, false, length, take, refl, ap, subst}
+-- What an outside over files tells of a role: it stays where the role's file does, begins as the file shows, and goes on with the bytes at hand.
+use Rattle.std.proofs.Common.{◌≡◌, ℕ, List, [], Option, Some, None, Result, Ok, Err, OnOk, IsTrue, slice_index, refl, ap, ◌∙◌, subst}
 use Rattle.std.specs.Prelude.{option_and_then, unwrap_or}
 use Rattle.std.specs.Io.{StartsWith}
 use Rattle.std.specs.Io.KnownBytes.{prepend_known}
@@ -8,11 +8,11 @@ use Rattle.nf_io.specs.declared.stream.Stream.{Stream}
 use Rattle.nf_io.specs.declared.named.NamedFiles.{NamedFiles}
 use Rattle.nf_io.specs.declared.outside.Role.{Role}
 use Rattle.nf_io.specs.declared.outside.Role.TheVariants.{Trace, Script, JournalIn, Report, JournalOut, TraceOut, Errors}
-use Rattle.nf_io.specs.Roles.{is_read}
-use Rattle.nf_io.specs.Meaning.{Shown}
+use Rattle.nf_io.specs.Roles.{is_read, role_place}
+use Rattle.nf_io.specs.Meaning.{Meaning, with_bytes}
 use Rattle.nf_io.specs.System.{SystemBytes}
 use Rattle.nf_io.specs.Streams.{FileBytes, file_ahead, stream_left, stream_written}
-use Rattle.nf_io.specs.Files.{ahead_in, of_role, stream_in, told_in}
+use Rattle.nf_io.specs.Files.{ahead_in, begun, name_in, of_role, seen_of, shown_of, stream_in, told_in}
 
 pub same_told : {F : Type 0} (view : FileBytes F) (told : SystemBytes) (new old : NamedFiles F) (role : Role)
     → stream_in new role ≡ stream_in old role → told_in view told new role ≡ told_in view told old role
@@ -24,12 +24,18 @@ same_told view told new old JournalOut same = ap (option_and_then (stream_writte
 same_told view told new old TraceOut same = ap (option_and_then (stream_written view.written told)) same
 same_told view told new old Errors same = refl
 
--- the bytes of a role that is read are left, and those of one that is written are written
-pub of_read : (role : Role) (bytes : Option (List ℕ)) → IsTrue (is_read role) → of_role role bytes ≡ record { left = bytes; written = None }
-of_read role bytes read = rw read refl
+-- what is told of a role, by its bytes and its name
+abbrev by_file : Role → ℕ → Option (List ℕ) → Option (List ℕ) → Meaning
+by_file role faults bytes name = record { left = (of_role role bytes).left; written = (of_role role bytes).written; faults = faults; name = name }
 
-pub of_written : (role : Role) (bytes : Option (List ℕ)) → is_read role ≡ false → of_role role bytes ≡ record { left = None; written = bytes }
-of_written role bytes written = rw written refl
+-- a role that got a name has the bytes that its file shows
+pub bound_file : {F E : Type 0} (told : SystemBytes) (before after : Role → Option (List ℕ)) (faults : List ℕ) (old new : NamedFiles F) (role : Role) (name : List ℕ) (r : Result (Unit {0}) E)
+    → OnOk r (after role ≡ begun told role name) → OnOk r (name_in new role ≡ Some name)
+    → OnOk r (seen_of after faults new role ≡ record (with_bytes (shown_of told role name) (seen_of before faults old role)) { name = Some name })
+bound_file told before after faults old new role name (Ok done) bytes named =
+    ap (λ b. by_file role (slice_index faults (role_place role)) b (name_in new role)) bytes
+    ∙ ap (λ n. by_file role (slice_index faults (role_place role)) (begun told role name) n) named
+bound_file told before after faults old new role name (Err failed) bytes named = tt
 
 -- known bytes begin with those in front of them
 starts : (ahead : List ℕ) (known : Option (List ℕ)) (left : List ℕ) → prepend_known ahead known ≡ Some left → StartsWith left ahead

@@ -5,10 +5,9 @@ ghost use Rattle.nf_io.specs.Meaning.{HasCause};
 ghost use Rattle.nf_io.specs.System.{untold_bytes};
 ghost use Rattle.nf_io.specs.Files.{seen_of, shown_of, ahead_in, untouched_streams, told_in, views};
 
-use crate::arguments::Arguments;
 use crate::named::{NamedFiles, read_role, role_at_hand, skip_role, write_role};
 use crate::outside::{Failed, Outside, Role};
-use crate::system::{HostSystem, System};
+use crate::system::{HostSystem, Process, System};
 use basics::NoMemory;
 use std::alloc::Global;
 use std::rt::Files;
@@ -85,7 +84,7 @@ impl<S: System> Outside for FileOutside<S> {
     }
 }
 
-impl<S: System + Arguments> Arguments for FileOutside<S> {
+impl<S: System + Process> Process for FileOutside<S> {
     ghost given = { λ outside. S.given outside.system };
 
     fn arguments(&self) -> Result<Vec<String>, NoMemory> {

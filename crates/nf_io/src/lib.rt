@@ -31,5 +31,5 @@ pub use file::FileOutside;
 pub use memory::MemoryOutside;
 pub use outside::{Failed, Outside, Role};
 pub use streams::{RoleSink, RoleSource, Sink, Source};
-pub use system::{HostSystem, System};
+pub use system::{HostSystem, Process, System};
 pub use transfers::{UptoFault, read_upto, write_all};

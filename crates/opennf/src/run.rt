@@ -6,15 +6,14 @@ ghost use Rattle.command_words.specs.Requests.{Asked, request_of};
 ghost use Rattle.opennf.specs.Program.{ForGiven, EndsAs};
 
 use actor_threads::OpenGate;
-use nf_io::Outside;
-use nf_io::arguments::Arguments;
+use nf_io::{Outside, Process};
 use opennf_calls::{opennf_top, opennf_unread};
 use std::process::ExitCode;
 use std::sync::Wait;
 use std::thread::Threads;
 
 /// Does what the program's arguments ask for. What it gives is the number of the status.
-pub fn program<R: AllocGlobal + Threads + Wait + Sync, O: Outside + Arguments>(
+pub fn program<R: AllocGlobal + Threads + Wait + Sync, O: Outside + Process>(
     rt: &R,
     outside: &mut O,
 ) -> ExitCode

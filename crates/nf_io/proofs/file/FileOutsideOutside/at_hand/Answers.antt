@@ -1,6 +1,4 @@
 -- The bytes at hand are the first of those that the role has left.
-use Rattle.std.proofs.Common.{subst}
-use Rattle.std.specs.Io.{StartsWith}
 use Rattle.nf_io.specs.Files.{views}
 use Rattle.nf_io.proofs.FileRoles.{next_in}
 use Rattle.nf_io.proofs.file.FileOutsideOutside.at_hand.Goals as goal
