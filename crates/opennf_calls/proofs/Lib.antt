@@ -1,5 +1,6 @@
 pub mod AuditLaws
 pub mod AuditRows
+pub mod BoundFiles
 pub mod CaptureRows
 pub mod CompleteLemmas
 pub mod EndedCommands

@@ -4,7 +4,7 @@ use Rattle.std.specs.Prelude.{◌≡◌, ◌≤◌, ℕ, true, false, All, List,
 use Rattle.nf_io.specs.declared.outside.Role.{Role}
 use Rattle.nf_io.specs.declared.outside.Role.TheVariants.{Errors, JournalIn, JournalOut, Report, Script as ScriptRole, Trace as TraceRole}
 use Rattle.nf_io.specs.Roles.{is_read}
-use Rattle.nf_io.specs.Meaning.{Meaning, OthersStay, Rose}
+use Rattle.nf_io.specs.Meaning.{Meaning, OthersStay, Rose, Shown, with_bytes}
 use Rattle.flow_filter.specs.declared.site.Site.{Site}
 use Rattle.flow_filter.specs.Limits.{most_packets}
 use Rattle.trace_reader.specs.Records.{AreNumbered}
@@ -30,10 +30,19 @@ use Rattle.opennf_calls.specs.FailRuns.{IsNoFailover}
 use Rattle.opennf_calls.specs.Functions.{OfKind}
 use Rattle.opennf_calls.specs.NetworkRuns.{Scenario, RunGiven, RunResults, IsNoRun, config_for, given_script, head_for, items_for, run_given}
 
--- a role has this name now, and nothing else changed
+-- a role has this name now, and the others are as before
 pub record Named (role : Role) (name : Option (List ℕ)) (old new : Role → Meaning) : Type 0 where
-  pub here : new role ≡ record (old role) { name = name }
+  pub here : (new role).name ≡ name
   pub others : OthersStay role old new
+
+-- a role is as before, or it got a name, and the bytes that its file shows
+pub data KeptOrBound (shown : List ℕ → Shown) (old new : Meaning) : Type 0 where
+  Is_kept : new ≡ old → KeptOrBound shown old new
+  Is_bound : (name : List ℕ) → old.name ≡ None → new ≡ record (with_bytes (shown name) old) { name = Some name } → KeptOrBound shown old new
+
+-- files were bound, and nothing else changed
+abbrev pub Binds : (Role → List ℕ → Shown) → (old new : Role → Meaning) → Type 0
+Binds shown old new = (role : Role) → KeptOrBound (shown role) (old role) (new role)
 
 -- nothing but names changed
 pub record SameContents (old new : Role → Meaning) : Type 0 where

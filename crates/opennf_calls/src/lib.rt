@@ -33,4 +33,4 @@ pub mod writing;
 
 pub use outcome::Outcome;
 pub use status::{JournalKind, Status, TraceKind};
-pub use top::{opennf_calm, opennf_run, opennf_top};
+pub use top::{opennf_calm, opennf_run, opennf_top, opennf_unread};
