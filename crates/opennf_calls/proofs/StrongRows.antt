@@ -15,10 +15,12 @@ use Rattle.command_words.specs.declared.request.StrongRequest.{StrongRequest}
 use Rattle.command_words.specs.Requests.{StrongAsked, asks_strong}
 use Rattle.command_words.specs.RequestViews.{strong_view}
 use Rattle.net_world.specs.Input.{IsSteered}
+use Rattle.strong_share.specs.Start.{job_of}
 use Rattle.opennf_calls.specs.declared.network.Made.{Made}
+use Rattle.opennf_calls.specs.CaptureScenes.{CaptureScene}
 use Rattle.opennf_calls.specs.Outcome.{ForResults, IsBound}
 use Rattle.opennf_calls.specs.Phases.{CanShare, GivesReport, ReadAlone, reports}
-use Rattle.opennf_calls.specs.StrongRuns.{HasSharing, sharing_scene}
+use Rattle.opennf_calls.specs.StrongRuns.{HasSharing, sharing_for, sharing_scene}
 use Rattle.opennf_calls.proofs.CaptureRows.{AnswersCapture, ReadsCapture, capture_report, one_capture}
 
 -- strong sharing reads a capture alone
@@ -57,3 +59,8 @@ can_share asked captured site filter numbers steered few = record {
   };
   few = few;
 }
+
+-- the sharing by so many members as the words name
+pub same_sharing : (s : StrongAsked) (scene : CaptureScene) (members : ℕ) → members ≡ length s.names
+    → job_of scene.site s.window members scene.filter scene.captured.packets ≡ sharing_for s scene
+same_sharing s scene members same = ap (λ (n : ℕ). job_of scene.site s.window n scene.filter scene.captured.packets) same

@@ -78,15 +78,16 @@ fn share_network<F: Function>(
     ensures { IfOk result (λ made. IsSharingOf F.row.Denot F.semantics (strong_view asked.now) (sharing_scene asked.now trace) schedule (reports made)) }
 {
     let head = head_of(asked, &trace)?;
+    let Trace { packets, .. } = trace;
     let (site, window) = (asked.site, asked.window);
-    let members = asked.names.items().len() as u8;
+    let members = member_count(asked);
     let ended = simulate_strong::<F>(
         alloc,
         site,
         window,
         members,
         asked.filter,
-        trace.packets,
+        packets,
         schedule,
     );
     let (world, choices) = match ended {
@@ -96,6 +97,13 @@ fn share_network<F: Function>(
     };
     let report = report_strong::<F>(alloc, &head, &world)?;
     Ok(Made { choices, report })
+}
+
+/// How many members there are.
+fn member_count(asked: &StrongRequest<'_>) -> u8
+    ensures { result ≡ length asked.now.names }
+{
+    asked.names.items().len() as u8
 }
 
 /// What the report repeats of the words and the capture.
