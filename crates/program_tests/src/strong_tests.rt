@@ -14,7 +14,9 @@ fn shared(alloc: Global, line: &str, pieces: &[&[u8]]) -> Result<(u8, MemoryOuts
 }
 
 #[test]
-fn a_packet_waits_until_all_have_the_state_after_the_one_before(rt: HostRuntime) -> Result<(), Fail> {
+fn a_packet_waits_until_all_have_the_state_after_the_one_before(
+    rt: HostRuntime,
+) -> Result<(), Fail> {
     let line = "opennf strong conntrack --instances a,b --inside 10.0.0.0/24 --schedule last T";
     let (number, outside) = shared(rt.alloc(), line, &[&HEADER, &CONNECTION])?;
     assert_eq!(rt; number, 0);
@@ -71,7 +73,8 @@ end
 
 #[test]
 fn three_monitors_share_a_host(rt: HostRuntime) -> Result<(), Fail> {
-    let line = "opennf strong monitor --instances a,b,c --inside 10.0.0.0/24 --schedule 7 T local=10.0.0.1";
+    let line =
+        "opennf strong monitor --instances a,b,c --inside 10.0.0.0/24 --schedule 7 T local=10.0.0.1";
     let (number, outside) = shared(rt.alloc(), line, &[&HEADER, &CONNECTION])?;
     assert_eq!(rt; number, 0);
     let report = "opennf strong 1
@@ -101,7 +104,8 @@ end
 
 #[test]
 fn two_translators_share_a_host(rt: HostRuntime) -> Result<(), Fail> {
-    let line = "opennf strong nat --instances a,b --inside 10.0.0.0/24 --outside 203.0.113.1 --schedule 7 T local=10.0.0.0/30";
+    let line =
+        "opennf strong nat --instances a,b --inside 10.0.0.0/24 --outside 203.0.113.1 --schedule 7 T local=10.0.0.0/30";
     let (number, outside) = shared(rt.alloc(), line, &[&HEADER, &CONNECTION])?;
     assert_eq!(rt; number, 0);
     let report = "opennf strong 1
@@ -128,8 +132,11 @@ end
 }
 
 #[test]
-fn what_the_filter_does_not_take_is_processed_by_the_first_member(rt: HostRuntime) -> Result<(), Fail> {
-    let line = "opennf strong monitor --instances a,b --inside 10.0.0.0/24 --window 1 T local=10.0.0.2";
+fn what_the_filter_does_not_take_is_processed_by_the_first_member(
+    rt: HostRuntime,
+) -> Result<(), Fail> {
+    let line =
+        "opennf strong monitor --instances a,b --inside 10.0.0.0/24 --window 1 T local=10.0.0.2";
     let (number, outside) = shared(rt.alloc(), line, &[&HEADER, &CONNECTION])?;
     assert_eq!(rt; number, 0);
     let report = "opennf strong 1
