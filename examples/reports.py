@@ -37,9 +37,10 @@ TOP_FORMS = {
 }
 # The lines of a report by their first words, in their order.
 FORMS = {
-    "opennf": "opennf (report|published) 1",
+    "opennf": "opennf (report|published|strong) 1",
     **TOP_FORMS,
     "out": r"out (\d{1,7}) ([ -~]+)",
+    "event": rf"event (\d{{1,7}}) ({NAME})",
     "done": rf"done (\d{{1,7}}) ({NAME})",
     "answer": rf"answer (\d{{1,4}}) (done|no packet|unknown {NAME}|overlap {NUMBER}|old {NUMBER} {NUMBER}|import {NUMBER} {NUMBER} {NUMBER})",
     "state": rf"state ({UNIT}) ({NAME}) ([ -~]+)",
@@ -62,6 +63,7 @@ class Report(NamedTuple):
     is_cut: bool
     names: list
     outputs: dict  # by packet
+    queued: list  # of (packet, instance), in the order of the queue of strong sharing
     done: list  # of (packet, instance), in the order of processing
     answers: dict  # by command
     records: list  # for each instance its (unit, record)
@@ -117,7 +119,8 @@ def report_of(name, text):
         is_cut=end == "cut",
         names=names,
         outputs={int(number): output for number, output in found["out"]},
-        done=[(int(number), names.index(instance)) for number, instance in found["done"]],
+        queued=instances_of(found["event"], names),
+        done=instances_of(found["done"], names),
         answers={int(number): answer for number, answer in found["answer"]},
         records=records["state"],
         standing=records["standby"],
@@ -129,11 +132,15 @@ def report_of(name, text):
     return report
 
 
+def instances_of(lines, names):
+    return [(int(number), names.index(instance)) for number, instance in lines]
+
+
 def check_names(name, found, names, instances):
     """Each instance has one tally, and a summary one count of live records for each."""
     if len(set(names)) != instances or any(counts.count(" ") + 1 != len(names) for _, counts in found["tally"]):
         raise Fault(f"{name}: hasn't one tally for each of {count_of(instances, 'instance')}")
-    for instance in [line[1] for word in ("done", "state", "standby") for line in found[word]]:
+    for instance in [line[1] for word in ("event", "done", "state", "standby") for line in found[word]]:
         if instance not in names:
             raise Fault(f"{name}: has no tally of instance {instance}")
     if found["live"] and [instance for instance, _ in found["live"]] != names:
@@ -147,6 +154,8 @@ def check_counts(report):
         raise Fault(f"{report.file}: hasn't one line 'out' and one line 'done' for each of {count_of(report.packets, 'packet')}")
     if sum(map(report.processed, range(len(report.names)))) != report.packets:
         raise Fault(f"{report.file}: its tallies don't add up to {count_of(report.packets, 'packet')}")
+    if len(set(report.queued)) != len(report.queued) or not set(report.queued) <= set(report.done):
+        raise Fault(f"{report.file}: has a packet twice in its queue, or one that another instance processed")
     if sorted(report.answers) != list(range(1, len(report.answers) + 1)):
         raise Fault(f"{report.file}: its answers aren't numbered from 1")
 

@@ -21,6 +21,7 @@ pub mod RunsEnd
 pub mod SameInputs
 pub mod SameSites
 pub mod ScriptLemmas
+pub mod StrongRows
 pub mod TwoResults
 pub mod UpdateRows
 pub mod WritingLemmas

@@ -20,6 +20,7 @@ use crate::published::publish;
 use crate::run::run;
 use crate::sim::simulate;
 use crate::status::Status;
+use crate::strong::share;
 use crate::writing::put;
 use actor_threads::Gate;
 use basics::NoMemory;
@@ -132,6 +133,7 @@ fn do_calm<O: Outside>(alloc: Global, asked: &CalmRequest<'_>, outside: &mut O) 
         CalmRequest::Check(asked) => Outcome::without_run(alloc, check(alloc, asked, outside)),
         CalmRequest::Gen(asked) => Outcome::without_run(alloc, generate(alloc, asked, outside)),
         CalmRequest::Published(asked, schedule) => publish(alloc, asked, *schedule, outside),
+        CalmRequest::Strong(asked, schedule) => share(alloc, asked, *schedule, outside),
     }
 }
 
@@ -170,6 +172,7 @@ fn bind_files<O: Outside>(asked: &CalmRequest<'_>, outside: &mut O) -> Result<()
         CalmRequest::Check(asked) => bind_file(outside, Role::Script, Some(asked.script)),
         CalmRequest::Gen(asked) => bind_file(outside, Role::TraceOut, Some(asked.trace)),
         CalmRequest::Published(asked, _) => bind_file(outside, Role::Trace, Some(asked.trace)),
+        CalmRequest::Strong(asked, _) => bind_file(outside, Role::Trace, Some(asked.trace)),
     }
 }
 
