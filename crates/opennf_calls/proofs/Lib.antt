@@ -1,5 +1,6 @@
 pub mod AuditLaws
 pub mod AuditRows
+pub mod CallLaws
 pub mod CaptureRows
 pub mod CompleteLemmas
 pub mod EndedCommands

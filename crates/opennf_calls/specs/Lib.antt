@@ -1,4 +1,5 @@
 pub mod Again
+pub mod Calls
 pub mod Command
 pub mod Ends
 pub mod FailRuns
