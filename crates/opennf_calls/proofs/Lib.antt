@@ -1,6 +1,7 @@
 pub mod AuditLaws
 pub mod AuditRows
 pub mod BoundFiles
+pub mod CallLaws
 pub mod CaptureRows
 pub mod CompleteLemmas
 pub mod EndedCommands

@@ -1,5 +1,6 @@
 pub mod Again
 pub mod CaptureScenes
+pub mod Calls
 pub mod Command
 pub mod Ends
 pub mod FailRuns

@@ -19,6 +19,7 @@ mod failing;
 pub mod functions;
 pub mod generate;
 pub mod inputs;
+pub mod laws;
 pub mod network;
 pub mod outcome;
 pub mod published;
