@@ -16,7 +16,7 @@ pub loop-note-preserved : goal.loop-note-preserved
 loop-note-preserved c =
     let number = c.in-Arrived.number in
     let tested : c.is_marked.result ≡ is_in number c.args.numbers.now =
-        c.is_marked.ensures ∙ ap (λ ms. is_marked ms number) c.as_slice.ensures.value ∙ c.in_ok-marks.ensures number in
+    c.is_marked.ensures ∙ ap (λ ms. is_marked ms number) c.as_slice.ensures.value ∙ c.in_ok-marks.ensures number in
     elim c.if-is_marked.branch [
       | then-is_marked+in_ok-push w ↦
           w.found-is ∙ w.in_ok-push.ensures.ok ∙ ap (λ xs. xs ++ number ∷ []) c.loop-note.invariant

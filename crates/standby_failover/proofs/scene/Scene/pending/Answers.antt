@@ -27,7 +27,7 @@ loop-note-preserved g c =
     let log = s.log.now in
     let came = met_came log i c.note-item.result c.loop-note-test.true c.note-item.is number c.in-Arrived.is in
     let tested : c.is_marked.result ≡ is_in number (numbers_done log) =
-        c.is_marked.ensures ∙ ap (λ ms. is_marked ms number) c.as_slice.ensures.value ∙ c.in_ok-marks.ensures number in
+    c.is_marked.ensures ∙ ap (λ ms. is_marked ms number) c.as_slice.ensures.value ∙ c.in_ok-marks.ensures number in
     elim c.if-not-is_marked.branch [
       | then-not-is_marked+then-affects+in_ok-push w ↦ λ v is.
           let out : is_in number (numbers_done log) ≡ false = sym tested ∙ w.if-not-is_marked.true in
