@@ -34,7 +34,8 @@ fn run<R: AllocGlobal + Threads + Wait + Sync, O: Outside>(
     outside: &mut O,
 ) -> ExitCode
     requires { (role : TheRole) → (O.seen outside.old role).name ≡ None }
-    ensures { EndsAs (request_of (map string_bytes words.now)) (as_named (O.shown outside.old) (O.seen outside.old) (O.seen outside.new)) (O.seen outside.new) (exit_status result) }
+    ensures { EndsAs (request_of (map string_bytes words.now))
+        (as_named (O.shown outside.old) (O.seen outside.old) (O.seen outside.new)) (O.seen outside.new) (exit_status result) }
 {
     let outcome = opennf_top(rt, rt.alloc(), words, outside, &OpenGate);
     ExitCode::from(outcome.status.number())
@@ -43,7 +44,8 @@ fn run<R: AllocGlobal + Threads + Wait + Sync, O: Outside>(
 /// Answers that no memory was left to take the words.
 fn refuse<R: AllocGlobal, O: Outside>(rt: &R, outside: &mut O) -> ExitCode
     requires { (role : TheRole) → (O.seen outside.old role).name ≡ None }
-    ensures { (request : Option Asked) → EndsAs request (as_named (O.shown outside.old) (O.seen outside.old) (O.seen outside.new)) (O.seen outside.new) (exit_status result) }
+    ensures { (request : Option Asked) → EndsAs request
+        (as_named (O.shown outside.old) (O.seen outside.old) (O.seen outside.new)) (O.seen outside.new) (exit_status result) }
 {
     ExitCode::from(opennf_unread(rt.alloc(), outside).status.number())
 }

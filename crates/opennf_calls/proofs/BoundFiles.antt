@@ -7,8 +7,10 @@ use Rattle.opennf_calls.specs.Phases.{Binds, Is_bound, Is_kept, KeptOrBound, Sam
 use Rattle.opennf_calls.proofs.RoleLemmas.{everywhere}
 
 -- one file was bound, or none where memory ran out
-pub binds_one : {E : Type 0} (shown : Role → List ℕ → Shown) (role : Role) (name : List ℕ) (old new : Role → Meaning) (r : Result (Unit {0}) E) → (old role).name ≡ None
-    → OnOk r (new role ≡ record (with_bytes (shown role name) (old role)) { name = Some name }) → OnErr r (new role ≡ old role) → OthersStay role old new → Binds shown old new
+pub binds_one : {E : Type 0} (shown : Role → List ℕ → Shown) (role : Role) (name : List ℕ) (old new : Role → Meaning)
+    (r : Result (Unit {0}) E) → (old role).name ≡ None
+    → OnOk r (new role ≡ record (with_bytes (shown role name) (old role)) { name = Some name })
+    → OnErr r (new role ≡ old role) → OthersStay role old new → Binds shown old new
 binds_one shown role name old new (Ok done) unnamed bound kept others =
     everywhere role old new (λ other m. KeptOrBound (shown other) (old other) m) others (λ other differ. Is_kept refl) (Is_bound name unnamed bound)
 binds_one shown role name old new (Err failed) unnamed bound kept others =
@@ -16,7 +18,8 @@ binds_one shown role name old new (Err failed) unnamed bound kept others =
 
 -- files were bound, and then others
 module _ (first later : Role → List ℕ → Shown) (same : (role : Role) (name : List ℕ) → later role name ≡ first role name) (old mid new : Role → Meaning) where
-  bound_after : (role : Role) → KeptOrBound (first role) (old role) (mid role) → KeptOrBound (later role) (mid role) (new role) → KeptOrBound (first role) (old role) (new role)
+  bound_after : (role : Role) → KeptOrBound (first role) (old role) (mid role) → KeptOrBound (later role) (mid role) (new role)
+      → KeptOrBound (first role) (old role) (new role)
   bound_after role (Is_kept before) (Is_kept after) = Is_kept (after ∙ before)
   bound_after role (Is_bound name unnamed is) (Is_kept after) = Is_bound name unnamed (after ∙ is)
   bound_after role (Is_kept before) (Is_bound name unnamed is) =

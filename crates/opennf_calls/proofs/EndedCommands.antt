@@ -35,24 +35,28 @@ no_file (asks_published p schedule) = refl
 no_file (asks_strong s schedule) = refl
 
 -- a command ended
-module _ (asked : Asked) (shown : Role → List ℕ → Shown) (before old new : Role → Meaning) (outcome : Outcome) (unnamed : (role : Role) → (before role).name ≡ None)
+module _ (asked : Asked) (shown : Role → List ℕ → Shown) (before old new : Role → Meaning) (outcome : Outcome)
+    (unnamed : (role : Role) → (before role).name ≡ None)
     (binds : Binds shown before old) where
   -- no file was bound to the standard error
   same_errors : (contents : SameContents (as_named shown before new) old) → (old Errors).name ≡ None → old Errors ≡ as_named shown before new Errors
   same_errors contents none =
-      same_meaning (old Errors) (as_named shown before new Errors) (contents.left Errors) (contents.written Errors) (contents.faults Errors) (none ∙ sym (unnamed Errors))
+      same_meaning (old Errors) (as_named shown before new Errors) (contents.left Errors) (contents.written Errors)
+      (contents.faults Errors) (none ∙ sym (unnamed Errors))
 
   pub ended : IsBound asked old → Performs asked old new outcome → HasEnded (Some asked) (as_named shown before new) new outcome
   ended bound performs =
       let contents = bound_contents shown before old new unnamed performs.names binds in
       record {
-        cause = row_around (as_named shown before new) old new new (bound_before (as_named shown before new) old new contents) asked outcome.choices outcome.status performs.row;
+        cause = row_around (as_named shown before new) old new new
+            (bound_before (as_named shown before new) old new contents) asked outcome.choices outcome.status performs.row;
         names = λ role. inr (performs.names role ∙ bound role);
         errors = performs.errors ∙ same_errors contents (bound Errors ∙ no_file asked);
       }
 
 -- memory ran out while files were bound
-pub ended_unbound : (asked : Asked) (shown : Role → List ℕ → Shown) (before old : Role → Meaning) → ((role : Role) → (before role).name ≡ None) → Binds shown before old
+pub ended_unbound : (asked : Asked) (shown : Role → List ℕ → Shown) (before old : Role → Meaning)
+    → ((role : Role) → (before role).name ≡ None) → Binds shown before old
     → MayBind (Some asked) old → HasEnded (Some asked) (as_named shown before old) old (record { status = NoMemory; choices = [] })
 ended_unbound asked shown before old unnamed binds may =
     let contents = bound_contents shown before old old unnamed (λ role. refl) binds in
@@ -69,8 +73,10 @@ pub ended_words : (request : Option Asked) (asked : Asked) (old new : Role → M
 ended_words request asked old new outcome is holds = subst (λ (r : Option Asked). HasEnded r old new outcome) (sym is) holds
 
 -- words were refused
-pub refused_words : (request : Option Asked) (shown : Role → List ℕ → Shown) (old : Role → Meaning) (fault : ArgumentsFault) (outcome : Outcome) → Refuses fault request
-    → ((role : Role) → (old role).name ≡ None) → outcome ≡ record { status = words_status fault; choices = [] } → HasEnded request (as_named shown old old) old outcome
+pub refused_words : (request : Option Asked) (shown : Role → List ℕ → Shown) (old : Role → Meaning) (fault : ArgumentsFault) (outcome : Outcome)
+    → Refuses fault request
+    → ((role : Role) → (old role).name ≡ None) → outcome ≡ record { status = words_status fault; choices = [] }
+    → HasEnded request (as_named shown old old) old outcome
 refused_words request shown old fault outcome refuses unnamed ends =
     subst (λ (o : Outcome). HasEnded request (as_named shown old old) old o) (sym ends)
     (record { cause = by fault request refuses; names = λ role. inl (unnamed role); errors = same Errors })
@@ -81,7 +87,8 @@ refused_words request shown old fault outcome refuses unnamed ends =
     silent : WroteNothing (as_named shown old old) old
     silent role differ = ap (λ m. m.written) (same role)
 
-    by : (fault : ArgumentsFault) (request : Option Asked) → Refuses fault request → CauseOf request (as_named shown old old) old (record { status = words_status fault; choices = [] })
+    by : (fault : ArgumentsFault) (request : Option Asked)
+        → Refuses fault request → CauseOf request (as_named shown old old) old (record { status = words_status fault; choices = [] })
     by words.Usage None refuses = (inl refl, silent, refl)
     by words.Usage (Some asked) refuses = absurd (cc)
     by words.NoMemory None refuses = (inr refl, silent, refl)

@@ -43,7 +43,8 @@ pub fn opennf_top<R: Threads + Wait + Sync, O: Outside, G: Gate>(
     gate: &G,
 ) -> Outcome
     requires { (role : TheRole) → (O.seen outside.old role).name ≡ None }
-    ensures { HasOutcome (request_of (map string_bytes words.now)) (as_named (O.shown outside.old) (O.seen outside.old) (O.seen outside.new)) (O.seen outside.new) result }
+    ensures { HasOutcome (request_of (map string_bytes words.now))
+        (as_named (O.shown outside.old) (O.seen outside.old) (O.seen outside.new)) (O.seen outside.new) result }
 {
     let request = match parse_command(alloc, words) {
         Ok(request) => request,
@@ -65,7 +66,8 @@ pub fn opennf_run<R: Threads + Wait + Sync, O: Outside, G: Gate>(
 ) -> Outcome
     requires unnamed { (role : TheRole) → (O.seen outside.old role).name ≡ None }
     requires command { is_command (codes "run") (map string_bytes words.now) ≡ true }
-    ensures { HasOutcome (request_of (map string_bytes words.now)) (as_named (O.shown outside.old) (O.seen outside.old) (O.seen outside.new)) (O.seen outside.new) result }
+    ensures { HasOutcome (request_of (map string_bytes words.now))
+        (as_named (O.shown outside.old) (O.seen outside.old) (O.seen outside.new)) (O.seen outside.new) result }
 {
     match parse_run(alloc, words) {
         Ok(asked) => tell(perform_run(rt, alloc, &asked, outside, gate), outside),
@@ -77,7 +79,8 @@ pub fn opennf_run<R: Threads + Wait + Sync, O: Outside, G: Gate>(
 pub fn opennf_calm<O: Outside>(alloc: Global, words: &[String], outside: &mut O) -> Outcome
     requires unnamed { (role : TheRole) → (O.seen outside.old role).name ≡ None }
     requires command { is_command (codes "run") (map string_bytes words.now) ≡ false }
-    ensures { HasOutcome (request_of (map string_bytes words.now)) (as_named (O.shown outside.old) (O.seen outside.old) (O.seen outside.new)) (O.seen outside.new) result }
+    ensures { HasOutcome (request_of (map string_bytes words.now))
+        (as_named (O.shown outside.old) (O.seen outside.old) (O.seen outside.new)) (O.seen outside.new) result }
 {
     match parse_calm(alloc, words) {
         Ok(asked) => tell(perform_calm(alloc, &asked, outside), outside),
@@ -88,7 +91,8 @@ pub fn opennf_calm<O: Outside>(alloc: Global, words: &[String], outside: &mut O)
 /// The end where no memory was left to take the words.
 pub fn opennf_unread<O: Outside>(alloc: Global, outside: &mut O) -> Outcome
     requires { (role : TheRole) → (O.seen outside.old role).name ≡ None }
-    ensures { (request : Option Asked) → HasOutcome request (as_named (O.shown outside.old) (O.seen outside.old) (O.seen outside.new)) (O.seen outside.new) result }
+    ensures { (request : Option Asked) → HasOutcome request
+        (as_named (O.shown outside.old) (O.seen outside.old) (O.seen outside.new)) (O.seen outside.new) result }
 {
     tell(refuse(alloc, ArgumentsFault::NoMemory), outside)
 }
@@ -102,7 +106,8 @@ fn perform_run<R: Threads + Wait + Sync, O: Outside, G: Gate>(
     gate: &G,
 ) -> Outcome
     requires { (role : TheRole) → (O.seen outside.old role).name ≡ None }
-    ensures { HasEnded (Some (asks_run (network_view asked.now))) (as_named (O.shown outside.old) (O.seen outside.old) (O.seen outside.new)) (O.seen outside.new) result }
+    ensures { HasEnded (Some (asks_run (network_view asked.now)))
+        (as_named (O.shown outside.old) (O.seen outside.old) (O.seen outside.new)) (O.seen outside.new) result }
 {
     match bind_run(asked, Role::JournalOut, outside) {
         Ok(()) => run(rt, alloc, asked, outside, gate),

@@ -19,4 +19,5 @@ returns-in-Err g c =
     let request = request_of (map string_bytes c.args.words.now) in
     let shown = g.O.Outside.shown c.args.outside.now in
     let old = g.O.Outside.seen c.args.outside.now in
-    c.tell-in-Err.ensures request shown old (refused_words request shown old c.in-Err.fault c.refuse.result c.in-Err.ensures c.requires.unnamed c.refuse.ensures)
+    c.tell-in-Err.ensures request shown old (refused_words request shown old c.in-Err.fault c.refuse.result c.in-Err.ensures c.requires.unnamed
+    c.refuse.ensures)

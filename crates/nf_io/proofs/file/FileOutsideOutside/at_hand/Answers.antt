@@ -6,4 +6,5 @@ use Rattle.nf_io.proofs.file.FileOutsideOutside.at_hand.Goals as goal
 pub returns-clause-next : goal.returns-clause-next
 returns-clause-next g c = λ left is.
     rw c.role_at_hand.ensures
-    (next_in (views g.S.File.Read.remaining g.S.File.Write.contents) (g.S.System.told c.args.self.now.system) c.args.self.now.files c.args.role c.requires.read left is)
+    (next_in (views g.S.File.Read.remaining g.S.File.Write.contents) (g.S.System.told c.args.self.now.system) c.args.self.now.files
+    c.args.role c.requires.read left is)
