@@ -4,9 +4,9 @@
 Use: compare.py PROGRAM SEED COUNT
 
 Each run has a function, up to 16 instances with limits and marks, a window, a schedule, a capture and a script of routes, moves, copies, shares and settles;
-one in four is of the command `published`, which has a packet's number and a filter in place of instances and script. The words, what the program wrote and
-what the model wrote of a run that differs are left in a folder, which is named. Printed at the end are how many runs were the same, and how often each answer
-came. The status is 1 where a run differs.
+one in four is of the command `published`, which has a packet's number and a filter in place of instances and script, and one in four of `strong`, which has
+a list of names and a filter. The words, what the program wrote and what the model wrote of a run that differs are left in a folder, which is named. Printed at
+the end are how many runs were the same, and how often each answer came. The status is 1 where a run differs.
 """
 import os
 import random
@@ -99,6 +99,18 @@ def chance_published(chance):
     return ["published", function.name, "--inside", "10.0.0.0/24", *more, TRACE, point, network_checks.chance_filter(chance, function)]
 
 
+def chance_strong(chance):
+    """The words of strong sharing. Its capture is written beside."""
+    function, site, more = chance_site(chance)
+    names = ",".join(network_checks.NAMES[: chance.choice([2, 2, 2, 3, 3, 5, 16])])
+    put_trace(chance, site)
+    shared = [network_checks.chance_filter(chance, function)] if chance.random() < 0.8 else []
+    return ["strong", function.name, "--instances", names, "--inside", "10.0.0.0/24", *more, TRACE, *shared]
+
+
+RUNS = [chance_words, chance_strong, chance_words, chance_published]
+
+
 def names_in(words):
     """The instances' names in the words."""
     return [item.split(":")[0] for item in words[words.index("--instances") + 1].split(",")]
@@ -139,8 +151,7 @@ def main(arguments):
     with tempfile.TemporaryDirectory() as folder:
         os.chdir(folder)
         for place in range(count):
-            chance_run = chance_published if place % 4 == 3 else chance_words
-            words = chance_run(random.Random(f"{seed} {place}"))
+            words = RUNS[place % len(RUNS)](random.Random(f"{seed} {place}"))
             wanted, given = by_model(words), by_program(program, words)
             if given != wanted:
                 differences += 1

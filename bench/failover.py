@@ -2,6 +2,7 @@
 """What is left of a run where an instance fails and another takes over from the records that stand by there, a part of the model in model.py.
 
 Use: failover.py, which prints how many packets are lost by how often one copies, for the capture and the words of examples/failover.txt
+     failover.py FAILED TO AFTER sim WORD.., which prints the report of a failover in this run; instances go by their places from 0
 
 A run goes as its choices say, so many of them. The units whose records are live at the instance that fails are affected. The record of such a
 unit that stands by at the other one is what the function makes of some first packets of the unit, of those that were processed; the packets
@@ -149,7 +150,7 @@ def left_at_each(lines):
     return found, len(choices)
 
 
-def main():
+def table():
     scripts = {"never": [], **{f"every {step} packets": copies(step, 138) for step in (40, 20, 10, 5)}, "after each packet": copies(1, 138)}
     scripts["a strict share in place of copies"] = ["at 0 share a,b any strict", "at 0 settle"]
     print("| copies | lost in the mean | lost at most | units gone at most | choices |\n|---|---|---|---|---|")
@@ -160,5 +161,12 @@ def main():
         print(f"| {name} | {sum(lost) / len(lost):.1f} | {max(lost)} | {max(gone)} | {choices} |")
 
 
+def main(words):
+    if not words:
+        return table()
+    failing, asked = Failing(*map(int, words[:3])), model.read_words([word.encode() for word in words[3:]])
+    sys.stdout.buffer.write(failed_over(asked, model.simulate(asked)[1].choices, failing))
+
+
 if __name__ == "__main__":
-    main()
+    main(sys.argv[1:])

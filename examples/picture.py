@@ -1,5 +1,7 @@
 """What a picture of examples/draw is made of: texts and shapes in SVG, and the plan of its rows and columns."""
+import datetime
 import math
+import re
 from collections import Counter
 from xml.sax.saxutils import escape
 
@@ -51,6 +53,15 @@ def wrapped(text, width, character):
         lines.append(text[:end].rstrip())
         text = text[end:].lstrip()
     return [*lines, text]
+
+
+def with_time(record):
+    """A tracker's record with the time of its last packet as a date, in place of nanoseconds."""
+    match = re.fullmatch("(.*) seen ([0-9]{1,20})", record)
+    if not match:
+        return record
+    time = datetime.datetime.fromtimestamp(int(match[2]) // 10**9, datetime.timezone.utc)
+    return f"{match[1]}, last seen {time:%Y-%m-%d %H:%M:%S} UTC"
 
 
 class Picture:

@@ -31,12 +31,16 @@ def read_text(name):
 
 NAME, NUMBER = "[a-z0-9]{1,16}", "[0-9]{1,9}"
 UNIT = r"(?:tcp|udp) [\d.]+:\d+ [\d.]+:\d+|[\d.]+"
-# The lines of a report by their first words, in their order.
-FORMS = {
-    "opennf": "opennf (report|published) 1",
+TOP_FORMS = {
     "function": r"function (conntrack|nat|monitor) instances (\d{1,2}) window (\d{1,4})",
     "trace": r"trace packets (\d{1,7}) skipped (\d{1,10}) (whole|cut)",
+}
+# The lines of a report by their first words, in their order.
+FORMS = {
+    "opennf": "opennf (report|published|strong) 1",
+    **TOP_FORMS,
     "out": r"out (\d{1,7}) ([ -~]+)",
+    "event": rf"event (\d{{1,7}}) ({NAME})",
     "done": rf"done (\d{{1,7}}) ({NAME})",
     "answer": rf"answer (\d{{1,4}}) (done|no packet|unknown {NAME}|overlap {NUMBER}|old {NUMBER} {NUMBER}|import {NUMBER} {NUMBER} {NUMBER})",
     "state": rf"state ({UNIT}) ({NAME}) ([ -~]+)",
@@ -45,7 +49,6 @@ FORMS = {
     "tally": rf"tally ({NAME}) ({NUMBER}(?: {NUMBER}){{0,15}})",
     "end": "end",
 }
-ORDER = list(FORMS)
 
 
 class Report(NamedTuple):
@@ -60,6 +63,7 @@ class Report(NamedTuple):
     is_cut: bool
     names: list
     outputs: dict  # by packet
+    queued: list  # of (packet, instance), in the order of the queue of strong sharing
     done: list  # of (packet, instance), in the order of processing
     answers: dict  # by command
     records: list  # for each instance its (unit, record)
@@ -72,29 +76,30 @@ class Report(NamedTuple):
         return self.tallies[instance][instance]
 
 
-def read_lines(name):
-    """The fields of a report's lines, by their first words."""
-    found, place = {word: [] for word in FORMS}, 0
-    *lines, rest = read_text(name).split("\n")
+def lines_by_word(name, text, forms, beside=None):
+    """The fields of a report's lines, by their first words. The lines stand in the order of the forms, but for those beside others."""
+    order, found, place = list(forms), {word: [] for word in forms}, 0
+    *lines, rest = text.split("\n")
     if rest:
         raise Fault(f"{name}: ends within a line")
     for number, line in enumerate(lines, 1):
         word = line.split(" ")[0]
-        match = re.fullmatch(FORMS.get(word, "(?!)"), line, re.ASCII)
+        match = re.fullmatch(forms.get(word, "(?!)"), line, re.ASCII)
         if not match:
             raise Fault(f"{name} line {number}: isn't a line of a report")
-        if ORDER.index(word) < place or (word in ("opennf", "function", "trace", "end") and found[word]):
+        at = order.index((beside or {}).get(word, word))
+        if at < place or (word in ("opennf", "function", "trace", "end") and found[word]):
             raise Fault(f"{name} line {number}: stands in a wrong place")
-        place = ORDER.index(word)
+        place = at
         found[word].append(match.groups())
-    for word in "opennf", "function", "trace", "tally", "end":
-        if not found[word]:
-            raise Fault(f"{name}: has no line '{word}'")
     return found
 
 
-def read_report(name):
-    found = read_lines(name)
+def report_of(name, text):
+    found = lines_by_word(name, text, FORMS)
+    for word in "opennf", "function", "trace", "tally", "end":
+        if not found[word]:
+            raise Fault(f"{name}: has no line '{word}'")
     (function, instances, window), (packets, skipped, end) = found["function"][0], found["trace"][0]
     (kind,) = found["opennf"][0]
     names = [instance for instance, _ in found["tally"]]
@@ -114,7 +119,8 @@ def read_report(name):
         is_cut=end == "cut",
         names=names,
         outputs={int(number): output for number, output in found["out"]},
-        done=[(int(number), names.index(instance)) for number, instance in found["done"]],
+        queued=instances_of(found["event"], names),
+        done=instances_of(found["done"], names),
         answers={int(number): answer for number, answer in found["answer"]},
         records=records["state"],
         standing=records["standby"],
@@ -126,11 +132,15 @@ def read_report(name):
     return report
 
 
+def instances_of(lines, names):
+    return [(int(number), names.index(instance)) for number, instance in lines]
+
+
 def check_names(name, found, names, instances):
     """Each instance has one tally, and a summary one count of live records for each."""
     if len(set(names)) != instances or any(counts.count(" ") + 1 != len(names) for _, counts in found["tally"]):
         raise Fault(f"{name}: hasn't one tally for each of {count_of(instances, 'instance')}")
-    for instance in [line[1] for word in ("done", "state", "standby") for line in found[word]]:
+    for instance in [line[1] for word in ("event", "done", "state", "standby") for line in found[word]]:
         if instance not in names:
             raise Fault(f"{name}: has no tally of instance {instance}")
     if found["live"] and [instance for instance, _ in found["live"]] != names:
@@ -144,6 +154,8 @@ def check_counts(report):
         raise Fault(f"{report.file}: hasn't one line 'out' and one line 'done' for each of {count_of(report.packets, 'packet')}")
     if sum(map(report.processed, range(len(report.names)))) != report.packets:
         raise Fault(f"{report.file}: its tallies don't add up to {count_of(report.packets, 'packet')}")
+    if len(set(report.queued)) != len(report.queued) or not set(report.queued) <= set(report.done):
+        raise Fault(f"{report.file}: has a packet twice in its queue, or one that another instance processed")
     if sorted(report.answers) != list(range(1, len(report.answers) + 1)):
         raise Fault(f"{report.file}: its answers aren't numbered from 1")
 
@@ -306,6 +318,12 @@ USE = "[--script SCRIPT] [--trace CAPTURE --inside PREFIX [--outside ADDR]] REPO
 
 def read_words(program, words):
     """What the words of a command line name."""
+    given, name = given_words(program, words)
+    return asked_of(given, name, read_text(name))
+
+
+def given_words(program, words):
+    """The options of a command line with their values, and the name of the report."""
     given, words = {}, list(words)
     while len(words) > 1 and words[0] in OPTIONS and words[0] not in given:
         option, value, *words = words
@@ -313,9 +331,14 @@ def read_words(program, words):
     has_trace = "--trace" in given
     if len(words) != 1 or words[0].startswith("-") or has_trace != ("--inside" in given) or has_trace < ("--outside" in given):
         raise Fault(f"use: {program} {USE}")
-    report = read_report(words[0])
+    return given, words[0]
+
+
+def asked_of(given, name, text):
+    """A report, and what else the options name."""
+    report = report_of(name, text)
     script = read_script(given["--script"], report) if "--script" in given else None
     packets = None
-    if has_trace:
+    if "--trace" in given:
         packets = read_capture(given["--trace"], site_of(given["--inside"], given.get("--outside")), report.packets)
     return Asked(report, script, packets, takings_of(report, script, packets) if script else [])

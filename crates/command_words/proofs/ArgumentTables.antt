@@ -4,7 +4,7 @@ use Rattle.std.proofs.lemmas.List.{take_all, take_more, map-append}
 use Rattle.clap.specs.Words.{App, is_simple_and_free}
 use Rattle.clap.proofs.OnLiterals.{clap_on_literals}
 use Rattle.command_words.specs.declared.forms.Form.{Form}
-use Rattle.command_words.specs.declared.forms.Form.TheVariants.{Run, Sim, Fail, Check, Gen, Published}
+use Rattle.command_words.specs.declared.forms.Form.TheVariants.{Run, Sim, Fail, Check, Gen, Published, Strong}
 use Rattle.command_words.specs.Grammar.{app_with, form_app}
 
 pub map_more : {X Y : Type 0} (f : X → Y) (xs : List X) (i : ℕ) (d : X) → i < length xs → map f (take i xs) ++ f (get_or xs i d) ∷ [] ≡ map f (take (i + 1) xs)
@@ -21,6 +21,7 @@ is_simple_form Fail = refl
 is_simple_form Check = refl
 is_simple_form Gen = refl
 is_simple_form Published = refl
+is_simple_form Strong = refl
 
 pub is_simple_app : (form : Form) (app : App) → app ≡ form_app form → is_simple_and_free app ≡ true
 is_simple_app form app is = ap is_simple_and_free is ∙ is_simple_form form

@@ -10,7 +10,7 @@ use Rattle.clap.specs.declared.error.ErrorKind.{ErrorKind}
 use Rattle.command_words.specs.declared.forms.ArgumentKind.{ArgumentKind}
 use Rattle.command_words.specs.declared.forms.ArgumentKind.TheVariants.{Positional, OptionalPositional, Required, Optional, Flag}
 use Rattle.command_words.specs.declared.forms.Form.{Form}
-use Rattle.command_words.specs.declared.forms.Form.TheVariants.{Run, Sim, Fail, Check, Gen, Published}
+use Rattle.command_words.specs.declared.forms.Form.TheVariants.{Run, Sim, Fail, Check, Gen, Published, Strong}
 
 -- an argument by its name: a place, an option or a flag, and whether it must be there
 abbrev pub rule_by : ArgumentKind → Text → Rule
@@ -61,6 +61,12 @@ published_rules = rule_by Positional (codes "function") ∷ rule_by Required (co
     ∷ rule_by Optional (codes "window") ∷ rule_by Optional (codes "schedule") ∷ rule_by Positional (codes "trace")
     ∷ rule_by Positional (codes "at") ∷ rule_by Positional (codes "filter") ∷ []
 
+-- FUNCTION --instances LIST --inside PREFIX [--outside ADDR] [--window W] [--schedule S] TRACE [FILTER]
+abbrev pub strong_rules : List Rule
+strong_rules = rule_by Positional (codes "function") ∷ rule_by Required (codes "instances") ∷ rule_by Required (codes "inside")
+    ∷ rule_by Optional (codes "outside") ∷ rule_by Optional (codes "window") ∷ rule_by Optional (codes "schedule")
+    ∷ rule_by Positional (codes "trace") ∷ rule_by OptionalPositional (codes "filter") ∷ []
+
 -- the arguments of each form
 abbrev pub rules_of : Form → List Rule
 rules_of Run = run_rules
@@ -69,6 +75,7 @@ rules_of Fail = fail_rules
 rules_of Check = check_rules
 rules_of Gen = gen_rules
 rules_of Published = published_rules
+rules_of Strong = strong_rules
 
 abbrev pub form_app : Form → App
 form_app form = app_with (rules_of form)

@@ -3,6 +3,7 @@ pub mod Values
 pub mod NetworkWords
 pub mod FailWords
 pub mod UpdateWords
+pub mod StrongWords
 pub mod Requests
 pub mod Views
 pub mod RequestViews

@@ -9,9 +9,10 @@ use Rattle.command_words.specs.declared.request.FailRequest.{FailRequest}
 use Rattle.command_words.specs.declared.request.Request.{Request}
 use Rattle.command_words.specs.declared.request.Request.TheVariants.{Run, Calm}
 use Rattle.command_words.specs.declared.request.CalmRequest.{CalmRequest}
-use Rattle.command_words.specs.declared.request.CalmRequest.TheVariants.{Sim, Audit, Fail, Check, Gen, Published}
-use Rattle.command_words.specs.Requests.{NetworkAsked, FailAsked, CheckAsked, GenAsked, Asked, asks_sim, asks_run, asks_audit, asks_fail, asks_check, asks_gen, PublishedAsked, asks_published}
+use Rattle.command_words.specs.declared.request.CalmRequest.TheVariants.{Sim, Audit, Fail, Check, Gen, Published, Strong}
+use Rattle.command_words.specs.Requests.{NetworkAsked, FailAsked, CheckAsked, GenAsked, Asked, asks_sim, asks_run, asks_audit, asks_fail, asks_check, asks_gen, PublishedAsked, asks_published, StrongAsked, asks_strong}
 use Rattle.command_words.specs.declared.request.Publishing.{Publishing}
+use Rattle.command_words.specs.declared.request.StrongRequest.{StrongRequest}
 
 abbrev pub network_view : NetworkRequest → NetworkAsked
 network_view n = record {
@@ -46,6 +47,17 @@ published_view p = record {
   trace = p.trace.now;
 }
 
+abbrev pub strong_view : StrongRequest → StrongAsked
+strong_view s = record {
+  kind = s.kind;
+  names = s.names;
+  inside = prefix_numbers s.site.inside;
+  outside = s.site.outside;
+  window = s.window;
+  filter = fields_of s.filter;
+  trace = s.trace.now;
+}
+
 abbrev pub calm_view : CalmRequest → Asked
 calm_view (Sim n schedule) = asks_sim (network_view n) schedule
 calm_view (Audit a) = asks_audit (network_view a.network)
@@ -53,6 +65,7 @@ calm_view (Fail f) = asks_fail (fail_view f)
 calm_view (Check c) = asks_check (check_view c)
 calm_view (Gen g) = asks_gen (gen_view g)
 calm_view (Published p schedule) = asks_published (published_view p) schedule
+calm_view (Strong s schedule) = asks_strong (strong_view s) schedule
 
 abbrev pub request_view : Request → Asked
 request_view (Run n) = asks_run (network_view n)

@@ -15,6 +15,7 @@ use Rattle.command_words.specs.Values.{only, instances_of, count_of, given_numbe
 pub use Rattle.command_words.specs.NetworkWords.{NetworkAsked, network_values}
 pub use Rattle.command_words.specs.FailWords.{FailAsked, fail_values}
 pub use Rattle.command_words.specs.UpdateWords.{PublishedAsked, published_values}
+pub use Rattle.command_words.specs.StrongWords.{StrongAsked, strong_values}
 
 -- what `check` asks for
 pub record CheckAsked : Type 0 where
@@ -38,6 +39,7 @@ pub data Asked : Type 0 where
   asks_check : CheckAsked → Asked
   asks_gen : GenAsked → Asked
   asks_published : PublishedAsked → Schedule → Asked
+  asks_strong : StrongAsked → Schedule → Asked
 
 -- the values of `check`
 unfoldable pub check_values : List Row → Option CheckAsked
@@ -79,6 +81,9 @@ abbrev pub published_of : List Text → Option Asked
 published_of words =
     given_arguments forms.Published words >>= λ g. published_values g >>= λ p. schedule_of (value_of (codes "schedule") g) >>= λ s. Some (asks_published p s)
 
+abbrev pub strong_of : List Text → Option Asked
+strong_of words = given_arguments forms.Strong words >>= λ g. strong_values g >>= λ v. schedule_of (value_of (codes "schedule") g) >>= λ s. Some (asks_strong v s)
+
 -- the commands that start no threads
 unfoldable pub calm_of : Text → List Text → Option Asked
 calm_of command words =
@@ -88,6 +93,7 @@ calm_of command words =
     else if bytes_eq command (codes "check") then check_of words
     else if bytes_eq command (codes "gen") then gen_of words
     else if bytes_eq command (codes "published") then published_of words
+    else if bytes_eq command (codes "strong") then strong_of words
     else None
 
 -- PROGRAM COMMAND and the words of the command

@@ -32,6 +32,8 @@ pub enum Form {
     Gen,
     /// Those after `published`.
     Published,
+    /// Those after `strong`.
+    Strong,
 }
 
 static RUN: [(ArgumentKind, &str); 9] = [
@@ -90,6 +92,17 @@ static PUBLISHED: [(ArgumentKind, &str); 8] = [
     (ArgumentKind::Positional, "filter"),
 ];
 
+static STRONG: [(ArgumentKind, &str); 8] = [
+    (ArgumentKind::Positional, "function"),
+    (ArgumentKind::Required, "instances"),
+    (ArgumentKind::Required, "inside"),
+    (ArgumentKind::Optional, "outside"),
+    (ArgumentKind::Optional, "window"),
+    (ArgumentKind::Optional, "schedule"),
+    (ArgumentKind::Positional, "trace"),
+    (ArgumentKind::OptionalPositional, "filter"),
+];
+
 static GEN: [(ArgumentKind, &str); 4] = [
     (ArgumentKind::Positional, "number"),
     (ArgumentKind::Required, "packets"),
@@ -109,6 +122,7 @@ impl Form {
             Form::Check => CHECK.as_slice(),
             Form::Gen => GEN.as_slice(),
             Form::Published => PUBLISHED.as_slice(),
+            Form::Strong => STRONG.as_slice(),
         }
     }
 }

@@ -12,12 +12,13 @@ pub mod grammar;
 pub mod instances;
 pub mod published;
 pub mod request;
+pub mod strong;
 pub mod values;
 pub mod words;
 
 pub use fault::ArgumentsFault;
 pub use request::{
     Auditing, CalmRequest, Checking, FailRequest, Generating, InstanceWords, Instances,
-    NetworkRequest, Publishing, Request,
+    NetworkRequest, Publishing, Request, StrongRequest,
 };
 pub use words::{names_run, parse_calm, parse_command, parse_run};

@@ -67,7 +67,7 @@ fn at_of(text: Option<&str>) -> Option<u32>
 
 /// The filter, which must be given, where it splits no unit.
 #[tactic(auto, unfolding(crate::specs::UpdateWords::filter_of))]
-fn filter_of(kind: Kind, text: Option<&str>) -> Option<Filter>
+pub(crate) fn filter_of(kind: Kind, text: Option<&str>) -> Option<Filter>
     ensures value { option_map fields_of result ≡ option_and_then (filter_of kind) (option_map (λ t. t.now) text.entry) }
     ensures whole { IfSome result (λ filter. splits kind (fields_of filter) ≡ false) }
 {

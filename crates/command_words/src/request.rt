@@ -4,9 +4,10 @@ ghost use Rattle.flow_filter.specs.FilterText.{fields_of};
 ghost use Rattle.flow_filter.specs.Limits.{most_instances, most_window};
 ghost use Rattle.nf_function.specs.Units.{splits};
 ghost use Rattle.command_words.specs.declared.request.TheConstants.{MOST_PACKETS, MOST_HOSTS};
+ghost use Rattle.command_words.specs.declared.strong.TheConstants.{FEWEST_MEMBERS};
 
 use actor_net::Schedule;
-use flow_filter::{Filter, Name, Site};
+use flow_filter::{Filter, Name, Sequence, Site};
 use nf_function::Kind;
 
 /// The most packets of a generated capture.
@@ -116,6 +117,25 @@ pub struct Publishing<'a> {
     ghost whole: { splits kind (fields_of filter) ≡ false },
 }
 
+/// What `strong` asks for: strong sharing by these members.
+#[derive(Debug, Drop)]
+pub struct StrongRequest<'a> {
+    pub kind: Kind,
+    /// The members' names, in order.
+    pub names: Sequence<Name>,
+    pub site: Site,
+    /// How many packets may be under way.
+    pub window: u32,
+    /// What they share.
+    pub filter: Filter,
+    /// The capture's file.
+    pub trace: &'a str,
+    ghost some: { FEWEST_MEMBERS ≤ length names },
+    ghost few: { length names ≤ most_instances },
+    ghost window_in_range: { (1 ≤ window) × (window ≤ most_window) },
+    ghost whole: { splits kind (fields_of filter) ≡ false },
+}
+
 /// What the words ask for: a run by threads, or something that always comes to its end.
 #[derive(Debug, Drop)]
 pub enum Request<'a> {
@@ -140,4 +160,6 @@ pub enum CalmRequest<'a> {
     Gen(Generating<'a>),
     /// A two-phase update, which picks its next step by the schedule.
     Published(Publishing<'a>, Schedule),
+    /// Strong sharing, which picks its next step by the schedule.
+    Strong(StrongRequest<'a>, Schedule),
 }

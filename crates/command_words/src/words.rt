@@ -13,6 +13,7 @@ use crate::published::ask_published;
 use crate::request::{
     Auditing, CalmRequest, Checking, Generating, MOST_HOSTS, MOST_PACKETS, NetworkRequest, Request,
 };
+use crate::strong::ask_strong;
 use crate::values::{
     count_of, file_if, file_of, function_of, given_number, inside_of, schedule_of, site_of,
     window_of,
@@ -83,6 +84,7 @@ fn ask<'a>(
         "check" => ask_check(alloc, words),
         "gen" => ask_gen(alloc, words),
         "published" => ask_published(alloc, words),
+        "strong" => ask_strong(alloc, words),
         _ => Err(ArgumentsFault::Usage),
     }
 }

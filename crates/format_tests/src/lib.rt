@@ -30,4 +30,6 @@ mod script_tests;
 #[cfg(test)]
 mod sim_words_tests;
 #[cfg(test)]
+mod strong_words_tests;
+#[cfg(test)]
 mod words_tests;

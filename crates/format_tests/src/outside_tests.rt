@@ -3,7 +3,6 @@ ghost use Rattle.std.specs.Prelude.{◌≡◌, ◌<◌, ◌≤◌, false, length
 ghost use Rattle.nf_io.specs.Roles.{is_read, needs_name};
 ghost use Rattle.nf_io.specs.Meaning.{CanRead, CanWrite};
 ghost use Rattle.nf_io.specs.Memory.{seen_in};
-ghost use Rattle.nf_io.specs.Files.{seen_of};
 
 use basics::NoMemory;
 use nf_io::{
@@ -177,8 +176,8 @@ fn bound<S: System + Drop>(
     name: &str,
 ) -> Result<FileOutside<S>, NoMemory>
     requires { IsTrue (needs_name role) }
-    ensures read { IsTrue (is_read role) → IfOk result (λ outside. CanRead role (seen_of outside.faults outside.files role)) }
-    ensures written { is_read role ≡ false → IfOk result (λ outside. CanWrite role (seen_of outside.faults outside.files role)) }
+    ensures read { IsTrue (is_read role) → IfOk result (λ outside. CanRead role (⟦<FileOutside<S> as Outside>⟧.seen outside role)) }
+    ensures written { is_read role ≡ false → IfOk result (λ outside. CanWrite role (⟦<FileOutside<S> as Outside>⟧.seen outside role)) }
 {
     let mut outside = FileOutside::over(system, alloc);
     outside.bind(role, name)?;

@@ -57,6 +57,7 @@ fn asked(reading: Result<Request<'_>, ArgumentsFault>) -> &'static str {
         Ok(Request::Calm(CalmRequest::Check(_))) => "check",
         Ok(Request::Calm(CalmRequest::Gen(_))) => "gen",
         Ok(Request::Calm(CalmRequest::Published(..))) => "published",
+        Ok(Request::Calm(CalmRequest::Strong(..))) => "strong",
         Err(ArgumentsFault::Usage) => "usage",
         Err(ArgumentsFault::NoMemory) => "no memory",
     }

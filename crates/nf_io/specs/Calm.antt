@@ -3,7 +3,7 @@ use Rattle.std.specs.Prelude.{ℕ, List, [], take, option_map, unwrap_or, slice_
 use Rattle.nf_io.specs.declared.outside.Role.{Role}
 use Rattle.nf_io.specs.declared.calm.CalmOutside.{CalmOutside}
 use Rattle.nf_io.specs.Roles.{role_place, is_read}
-use Rattle.nf_io.specs.Meaning.{Meaning, blank}
+use Rattle.nf_io.specs.Meaning.{Meaning, Shown, blank, bytes_of}
 use Rattle.nf_io.specs.Tapes.{left_on, meaning_on, room_on}
 
 -- a role that is read has no faults, whatever its tape counted
@@ -13,6 +13,10 @@ calm role meaning = record meaning { faults = if is_read role then 0 else meanin
 -- the four meanings of a role
 abbrev pub calm_in : CalmOutside → Role → Meaning
 calm_in outside role = calm role (unwrap_or (option_map meaning_on (slice_get outside.tapes (role_place role))) blank)
+
+-- the bytes of a role, whatever its name is
+abbrev pub calm_shown : CalmOutside → Role → List ℕ → Shown
+calm_shown outside role name = bytes_of (calm_in outside role)
 
 -- the bytes of a role that one call may take
 abbrev pub calm_ahead : CalmOutside → Role → List ℕ

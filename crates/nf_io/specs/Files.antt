@@ -1,11 +1,11 @@
--- What an outside over files tells in the trait's own words, the names and the counts of faults; and what it does to the bytes of files and streams where the system tells them. This project's own.
-use Rattle.std.specs.Prelude.{ℕ, List, Option, None, option_map, option_and_then, slice_index}
+-- What an outside over files tells of each role: its count of faults, its name, and the bytes of its own file or stream where the system tells them. This project's own.
+use Rattle.std.specs.Prelude.{ℕ, List, Option, None, if◌then◌else◌, option_map, option_and_then, slice_index}
 use Rattle.nf_io.specs.declared.outside.Role.{Role}
 use Rattle.nf_io.specs.declared.outside.Role.TheVariants.{Trace, Script, JournalIn, Report, JournalOut, TraceOut, Errors}
 use Rattle.nf_io.specs.declared.stream.Stream.{Stream}
 use Rattle.nf_io.specs.declared.named.NamedFiles.{NamedFiles}
-use Rattle.nf_io.specs.Roles.{role_place}
-use Rattle.nf_io.specs.Meaning.{Meaning}
+use Rattle.nf_io.specs.Roles.{is_read, role_place}
+use Rattle.nf_io.specs.Meaning.{Meaning, Shown}
 use Rattle.nf_io.specs.System.{SystemBytes}
 use Rattle.nf_io.specs.Streams.{FileBytes, file_ahead, stream_name, stream_left, stream_written}
 
@@ -51,10 +51,25 @@ told_in view told files JournalOut = option_and_then (stream_written view.writte
 told_in view told files TraceOut = option_and_then (stream_written view.written told) files.trace_out
 told_in view told files Errors = told.errors
 
--- no faults, no name, and contents that aren't told
-abbrev pub untold : Meaning
-untold = record { left = None; written = None; faults = 0; name = None }
+-- the bytes of a role are those left where it is read, and those written where it is written
+abbrev pub of_role : Role → Option (List ℕ) → Shown
+of_role role bytes = record { left = if is_read role then bytes else None; written = if is_read role then None else bytes }
 
--- what the trait's callers are told of a role: its count of faults and its name
-abbrev pub seen_of : {F : Type 0} → List ℕ → NamedFiles F → Role → Meaning
-seen_of faults files role = record { left = None; written = None; faults = slice_index faults (role_place role); name = name_in files role }
+-- what a role's file shows under a name
+abbrev pub shown_of : SystemBytes → Role → List ℕ → Shown
+shown_of told role name = of_role role (begun told role name)
+
+-- what the trait's callers are told of a role, given the bytes of each
+abbrev pub seen_of : {F : Type 0} → (Role → Option (List ℕ)) → List ℕ → NamedFiles F → Role → Meaning
+seen_of told faults files role = record {
+  left = (of_role role (told role)).left;
+  written = (of_role role (told role)).written;
+  faults = slice_index faults (role_place role);
+  name = name_in files role;
+}
+
+-- no file is open, no role has a name and no call failed: the two streams alone have bytes
+abbrev pub untouched_streams : SystemBytes → Role → Meaning
+untouched_streams told Report = record { left = None; written = told.output; faults = 0; name = None }
+untouched_streams told Errors = record { left = None; written = told.errors; faults = 0; name = None }
+untouched_streams told role = record { left = None; written = None; faults = 0; name = None }

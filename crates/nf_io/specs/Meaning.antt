@@ -1,5 +1,5 @@
 -- What callers know of the outside, role by role, and of a source or a sink. This project's own.
-use Rattle.std.specs.Prelude.{◌≡◌, ◌≢◌, ℕ, ◌+◌, ◌-◌, ◌^◌, ◌≤◌, min, false, List, [], length, take, Option, None, Some, if◌then◌else◌, IsTrue, IsSome, Result, OnErr}
+use Rattle.std.specs.Prelude.{◌≡◌, ◌≢◌, ℕ, ◌+◌, ◌-◌, ◌^◌, ◌≤◌, min, false, List, [], length, take, Option, None, Some, if◌then◌else◌, option_map, unwrap_or, IsTrue, IsSome, Result, OnErr}
 use Rattle.std.specs.Io.KnownBytes.{Appends}
 use Rattle.nf_io.specs.declared.outside.Role.{Role}
 use Rattle.nf_io.specs.Roles.{is_read, needs_name, same_role}
@@ -14,6 +14,23 @@ pub record Meaning : Type 0 where
 -- no contents, no faults and no name
 abbrev pub blank : Meaning
 blank = record { left = Some []; written = Some []; faults = 0; name = None }
+
+-- the bytes that a file shows under a name: those left to read and those written, each where the outside tells them
+pub record Shown : Type 0 where
+  pub left : Option (List ℕ)
+  pub written : Option (List ℕ)
+
+-- the bytes of a role
+abbrev pub bytes_of : Meaning → Shown
+bytes_of meaning = record { left = meaning.left; written = meaning.written }
+
+-- the role with these bytes
+abbrev pub with_bytes : Shown → Meaning → Meaning
+with_bytes shown meaning = record meaning { left = shown.left; written = shown.written }
+
+-- the roles before a call, each with the bytes that its file showed then, where it has the file's name after the call
+abbrev pub as_named : (Role → List ℕ → Shown) → (old new : Role → Meaning) → Role → Meaning
+as_named shown old new role = with_bytes (unwrap_or (option_map (shown role) (new role).name) (bytes_of (old role))) (old role)
 
 -- a count grew, or stands at the greatest u64
 abbrev pub Rose : ℕ → ℕ → Type 0

@@ -1,14 +1,18 @@
 -- What the outsides in memory hold, and which of their calls are to fail. This project's own.
-use Rattle.std.specs.Prelude.{◌≡◌, ◌≢◌, ℕ, option_map, unwrap_or, slice_get}
+use Rattle.std.specs.Prelude.{◌≡◌, ◌≢◌, ℕ, List, option_map, unwrap_or, slice_get}
 use Rattle.nf_io.specs.declared.outside.Role.{Role}
 use Rattle.nf_io.specs.declared.memory.MemoryOutside.{MemoryOutside}
 use Rattle.nf_io.specs.Roles.{role_place}
-use Rattle.nf_io.specs.Meaning.{Meaning, blank}
+use Rattle.nf_io.specs.Meaning.{Meaning, Shown, blank, bytes_of}
 use Rattle.nf_io.specs.Planned.{FailPlan, unplanned, meaning_of, plan_of, room_of, after_call}
 
 -- the four meanings of a role
 abbrev pub seen_in : MemoryOutside → Role → Meaning
 seen_in memory role = unwrap_or (option_map meaning_of (slice_get memory.tapes (role_place role))) blank
+
+-- the bytes of a role, whatever its name is
+abbrev pub shown_in : MemoryOutside → Role → List ℕ → Shown
+shown_in memory role name = bytes_of (seen_in memory role)
 
 -- the plan of a role
 abbrev pub plan_in : MemoryOutside → Role → FailPlan

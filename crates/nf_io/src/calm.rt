@@ -1,5 +1,5 @@
 //! An outside in memory in which no read fails, and no write while there is room.
-ghost use Rattle.std.specs.Prelude.{◌≡◌, ◌<◌, ◌-◌, ◌^◌, Some, min, length, IsOk, IfOk, OnOk, OnErr};
+ghost use Rattle.std.specs.Prelude.{ℕ, List, ◌≡◌, ◌<◌, ◌-◌, ◌^◌, Some, min, length, IsOk, IfOk, OnOk, OnErr};
 ghost use Rattle.std.specs.Option.{ForSome};
 ghost use Rattle.std.specs.Io.{ReadsAtMost, WritesAtMost};
 ghost use Rattle.std.specs.Io.KnownBytes.{ReadConsumes, WriteAppends, append_known};
@@ -75,9 +75,11 @@ impl CalmOutside {
 
 impl Outside for CalmOutside {
     ghost use Rattle.nf_io.specs.Meaning.{HasCause, OthersStay, CanRead, CanWrite, CanBind};
-    ghost use Rattle.nf_io.specs.Calm.{calm_in, calm_ahead, calm_room};
+    ghost use Rattle.nf_io.specs.Calm.{calm_in, calm_shown, calm_ahead, calm_room};
 
     ghost seen = { calm_in };
+
+    ghost shown = { calm_shown };
 
     ghost ahead = { calm_ahead };
 
@@ -86,6 +88,7 @@ impl Outside for CalmOutside {
         ensures ok { OnOk result (calm_in self.new role ≡ record (calm_in self.old role) { name = Some name.now }) }
         ensures err { OnErr result (calm_in self.new role ≡ calm_in self.old role) }
         ensures others { OthersStay role (calm_in self.old) (calm_in self.new) }
+        ensures shown { (other : Role) (file : List ℕ) → calm_shown self.new other file ≡ calm_shown self.old other file }
         ensures piece { self.new.most ≡ self.old.most }
     {
         let tape = &mut self.tapes[role as usize];

@@ -3,7 +3,8 @@
 //! An [`Outside`] has seven files, one for each [`Role`]. Contracts see it as a function from
 //! roles to a `Meaning`: the bytes left, the bytes written, a count of faults, and the name that
 //! was bound. The main promise: a read or a write fails only where the count of faults of its own
-//! role rose, and a call leaves every other role as it was.
+//! role rose, and a call leaves every other role as it was. A role that gets a name has the bytes
+//! that its file showed under it.
 //!
 //! Only [`FileOutside`] and [`arguments`](arguments::arguments) touch anything outside of the program: the first
 //! named files, the standard output and the standard error, by the four calls of a [`System`] and the reads and
@@ -30,5 +31,5 @@ pub use file::FileOutside;
 pub use memory::MemoryOutside;
 pub use outside::{Failed, Outside, Role};
 pub use streams::{RoleSink, RoleSource, Sink, Source};
-pub use system::{HostSystem, System};
+pub use system::{HostSystem, Process, System};
 pub use transfers::{UptoFault, read_upto, write_all};

@@ -1,5 +1,5 @@
 //! An outside in memory whose calls can be made to fail.
-ghost use Rattle.std.specs.Prelude.{◌≡◌, ◌≢◌, ◌<◌, ◌-◌, ◌^◌, ◌++◌, ◌∷◌, [], false, Some, min, length, is_err, IsTrue, IsErr, IfOk, OnOk, OnErr};
+ghost use Rattle.std.specs.Prelude.{ℕ, List, ◌≡◌, ◌≢◌, ◌<◌, ◌-◌, ◌^◌, ◌++◌, ◌∷◌, [], false, Some, min, length, is_err, IsTrue, IsErr, IfOk, OnOk, OnErr};
 ghost use Rattle.std.specs.Option.{ForSome};
 ghost use Rattle.std.specs.Io.{ReadsAtMost, WritesAtMost};
 ghost use Rattle.std.specs.Io.KnownBytes.{ReadConsumes, WriteAppends, append_known};
@@ -91,10 +91,12 @@ impl MemoryOutside {
 
 impl Outside for MemoryOutside {
     ghost use Rattle.nf_io.specs.Meaning.{HasCause, OthersStay, CanRead, CanWrite, CanBind};
-    ghost use Rattle.nf_io.specs.Memory.{seen_in, plan_in, room_in, CountsCall, SamePlans};
+    ghost use Rattle.nf_io.specs.Memory.{seen_in, shown_in, plan_in, room_in, CountsCall, SamePlans};
     ghost use Rattle.nf_io.specs.Planned.{is_failing};
 
     ghost seen = { seen_in };
+
+    ghost shown = { shown_in };
 
     ghost ahead = { λ _ _. [] };
 
@@ -103,6 +105,7 @@ impl Outside for MemoryOutside {
         ensures ok { OnOk result (seen_in self.new role ≡ record (seen_in self.old role) { name = Some name.now }) }
         ensures err { OnErr result (seen_in self.new role ≡ seen_in self.old role) }
         ensures others { OthersStay role (seen_in self.old) (seen_in self.new) }
+        ensures shown { (other : Role) (file : List ℕ) → shown_in self.new other file ≡ shown_in self.old other file }
         ensures plans { SamePlans self.old self.new }
     {
         let tape = &mut self.tapes[role as usize];

@@ -34,20 +34,24 @@ pub enum Role {
 /// are written; `Report` and `Errors` need no name.
 pub trait Outside {
     ghost use Rattle.nf_io.specs.declared.outside.Role.{Role};
-    ghost use Rattle.nf_io.specs.Meaning.{Meaning, HasCause, OthersStay, CanRead, CanWrite, CanBind};
+    ghost use Rattle.nf_io.specs.Meaning.{Meaning, Shown, HasCause, OthersStay, CanRead, CanWrite, CanBind, with_bytes};
 
-    /// What callers know of each role.
+    /// What callers know of each role. Of a named file they know the bytes once the role has its name.
     ghost seen: { Self → Role → Meaning };
+
+    /// The bytes that a role's file shows under a name, before the role has it.
+    ghost shown: { Self → Role → List ℕ → Shown };
 
     /// The bytes of a role at hand: those that were read ahead and not yet taken.
     ghost ahead: { Self → Role → List ℕ };
 
-    /// Notes the file that a role stands for. It opens nothing.
+    /// Notes the file that a role stands for, whose bytes are then the role's. It opens nothing.
     fn bind(&mut self, role: Role, name: &str) -> Result<(), NoMemory>
         requires { CanBind role (seen self.old role) }
-        ensures ok { OnOk result (seen self.new role ≡ record (seen self.old role) { name = Some name.now }) }
+        ensures ok { OnOk result (seen self.new role ≡ record (with_bytes (shown self.old role name.now) (seen self.old role)) { name = Some name.now }) }
         ensures err { OnErr result (seen self.new role ≡ seen self.old role) }
-        ensures others { OthersStay role (seen self.old) (seen self.new) };
+        ensures others { OthersStay role (seen self.old) (seen self.new) }
+        ensures shown { (other : Role) (file : List ℕ) → shown self.new other file ≡ shown self.old other file };
 
     /// Takes the next bytes of a role into the front of a buffer. `Ok(0)` on a buffer that isn't
     /// empty is the end of input.

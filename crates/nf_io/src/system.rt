@@ -1,9 +1,13 @@
-//! What a run asks of the operating system. Of files and standard streams nothing but these calls is trusted.
-ghost use Rattle.std.specs.Prelude.{take, IfOk, OnErr, ◌≡◌};
+//! What a run asks of the operating system. Of files, standard streams and arguments nothing but these calls is trusted.
+ghost use Rattle.std.specs.Prelude.{◌≡◌, ℕ, List, take, map, string_bytes, Option, None, IfOk, OnErr};
+ghost use Rattle.std.specs.Option.{ForSome};
 ghost use Rattle.std.specs.Io.{WritesAtMost};
 ghost use Rattle.std.specs.Io.KnownBytes.{Keeps, append_known};
 ghost use Rattle.nf_io.specs.System.{SystemBytes, untold_bytes};
 
+use crate::arguments::arguments;
+use basics::NoMemory;
+use std::env::Env;
 use std::io::{ErrorKind, Read, Write};
 use std::rt::Files;
 use std::{fs, io};
@@ -41,7 +45,17 @@ pub trait System {
         ensures err { OnErr result (told self.new ≡ told self.old) };
 }
 
-/// The system that the program runs on. It tells nothing of what its files and streams hold.
+/// What a process is given.
+pub trait Process {
+    /// Its arguments, with the program's name first, where they are told.
+    ghost given: { Self → Option (List (List ℕ)) };
+
+    /// Its arguments.
+    fn arguments(&self) -> Result<Vec<String>, NoMemory>
+        ensures { IfOk result (λ words. ForSome (given self.now) (λ told. map string_bytes words.items ≡ told)) };
+}
+
+/// The system that the program runs on. It tells nothing of what its files and streams hold, nor of its arguments.
 #[derive(Drop)]
 pub struct HostSystem<R: Files + Print + Eprint + Drop> {
     pub rt: R,
@@ -70,5 +84,13 @@ impl<R: Files + Print + Eprint + Drop> System for HostSystem<R> {
         };
         self.rt.eprint(text)?;
         Ok(bytes.len())
+    }
+}
+
+impl<R: Files + Print + Eprint + Env + AllocGlobal + Drop> Process for HostSystem<R> {
+    ghost given = { λ _. None };
+
+    fn arguments(&self) -> Result<Vec<String>, NoMemory> {
+        arguments(&self.rt)
     }
 }

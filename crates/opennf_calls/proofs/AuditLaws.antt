@@ -39,7 +39,7 @@ module _ {R : Type 0} (F : Type 0) (f : Semantics R) (s : NetworkAsked) (g h : S
   begins a site routes packets lines = started a (config_for s site routes) (items packets lines)
 
   -- allocators are alike
-  starts : (a b : Global) → start_for {F = F} (job_for (run_given F f s g)) a ≡ start_for (job_for (run_given F f s h)) b
+  pub starts : (a b : Global) → start_for {F = F} (job_for (run_given F f s g)) a ≡ start_for (job_for (run_given F f s h)) b
   starts a b =
       ap (λ x. begins a x g.script.routes.items g.captured.packets g.script.lines.items) same.site
       ∙ ap (λ x. begins a h.site x g.captured.packets g.script.lines.items) same.routes
@@ -51,8 +51,10 @@ module _ {R : Type 0} (F : Type 0) (f : Semantics R) (s : NetworkAsked) (g h : S
     ends : (b : Global) (cs : List Choice) → cs ≡ made.choices → run (node_step f) cs (start_for {F = F} (job_for (run_given F f s h)) b) ≡ x.world
     ends b cs chose = ap (λ l. run (node_step f) l (start_for {F = F} (job_for (run_given F f s h)) b)) chose ∙ ap (run (node_step f) made.choices) (sym (starts x.alloc b)) ∙ sym x.leads.reached
 
-    reports : (audited : RunResults) (y : IsRunOf (run_given F f s h) None audited) → audited.choices ≡ made.choices → audited.texts Report ≡ made.texts Report
-    reports audited y chose =
+    -- and the report of a second run with these choices is that of the first
+    pub reports : (again : Option Schedule) (audited : RunResults) (y : IsRunOf (run_given F f s h) again audited) → audited.choices ≡ made.choices
+        → audited.texts Report ≡ made.texts Report
+    reports again audited y chose =
         y.report
         ∙ ap (λ w. report_text f (head_for s h.captured) s.summary w) (y.leads.reached ∙ ends y.alloc audited.choices chose)
         ∙ ap (λ c. report_text f (head_for s c) s.summary x.world) (sym same.captured)
@@ -78,7 +80,7 @@ module _ (s : NetworkAsked) (g h : Scenario) (same : AreSame g h) (by : Option S
   same_report : (audited : RunResults) → HasRun s h None audited → audited.choices ≡ made.choices → audited.texts Report ≡ made.texts Report
   same_report audited again chose =
       from_both s.kind (λ R F f. IsRunOf (run_given F f s g) by made) (λ R F f. IsRunOf (run_given F f s h) None audited) (audited.texts Report ≡ made.texts Report)
-      (λ R F f x y. reports F f s g h same by made x audited y chose) ran again
+      (λ R F f x y. reports F f s g h same by made x None audited y chose) ran again
 
   still_runs : (cs : List Choice) → cs ≡ made.choices → (step : ℕ) → HasNoRun s h cs step → ⊥
   still_runs cs chose step told =

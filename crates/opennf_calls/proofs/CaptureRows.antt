@@ -11,12 +11,22 @@ use Rattle.trace_reader.specs.Answers.{AnswersTrace, HasReadCause}
 use Rattle.trace_reader.specs.Records.{capture_of}
 use Rattle.command_words.specs.Requests.{Asked}
 use Rattle.opennf_calls.specs.declared.status.Status.{Status}
-use Rattle.opennf_calls.specs.Command.{file_for, is_input, is_read_before}
-use Rattle.opennf_calls.specs.NetworkRuns.{RunResults}
+use Rattle.opennf_calls.specs.declared.network.Made.{Made}
+use Rattle.opennf_calls.specs.Command.{file_for, is_input, is_read_before, trace_file}
 use Rattle.opennf_calls.specs.Outcome.{AreResults, EarlierAreSound, ForResults, HasEarlier, HasInput, IsBound, IsRefusedCommand, RowOf, earlier_refusal, refusal_of, trace_refusal}
-use Rattle.opennf_calls.specs.Phases.{OnlyRead, ReadAlone}
+use Rattle.opennf_calls.specs.Phases.{GivesReport, OnlyRead, ReadAlone, reports}
 use Rattle.opennf_calls.specs.Status.{trace_status}
 use Rattle.opennf_calls.proofs.RowLemmas.{OneFile, input_alone, not_before, one_read, read_fault, refused, silent}
+
+-- a command that has a capture alone has one file
+pub one_capture : (asked : Asked) (trace : List ℕ) → ((role : Role) → file_for asked role ≡ trace_file trace role) → OneFile asked Trace
+one_capture asked trace files Trace differ = absurd (differ refl)
+one_capture asked trace files Script differ = files Script
+one_capture asked trace files JournalIn differ = files JournalIn
+one_capture asked trace files Report differ = files Report
+one_capture asked trace files JournalOut differ = files JournalOut
+one_capture asked trace files TraceOut differ = files TraceOut
+one_capture asked trace files Errors differ = files Errors
 
 -- the command has one file, a capture, which alone can refuse it
 pub record ReadsCapture (asked : Asked) : Type 0 where
@@ -65,15 +75,15 @@ module _ (asked : Asked) (reads : ReadsCapture asked) (old new : Role → Meanin
   capture_row fault.Read answers cause = (read_fault old new only_capture asked Trace bound reads.named (cause.read refl) first, refl)
   capture_row fault.NoMemory answers cause = (silent old new only_capture, refl)
 
-  -- the capture was read, and this was made of it
-  pub capture_results : (captured : Captured) → AnswersCapture old new (Ok captured) → (made : RunResults)
-      → ((bytes : Role → List ℕ) → capture_of (bytes Trace) ≡ Ok captured → AreResults asked bytes made) → ForResults asked old new (λ g. g ≡ made)
-  capture_results captured answers made are bytes told =
+  -- the capture was read, and these choices and this report were made of it
+  pub capture_report : (captured : Captured) → AnswersCapture old new (Ok captured) → (made : Made)
+      → ((bytes : Role → List ℕ) → capture_of (bytes Trace) ≡ Ok captured → AreResults asked bytes (reports made)) → ForResults asked old new (GivesReport made.choices made.report)
+  capture_report captured answers made are bytes told =
       let read = answers (bytes Trace) (told Trace reads.named) in
       record {
         read = λ role input. subst (λ (r : Role). (new r).left ≡ Some []) (sym (input_alone asked Trace reads.one role input)) read.1;
         sound = reads.refusal bytes ∙ ap trace_refusal read.0;
-        made = made;
+        made = reports made;
         are = are bytes read.0;
-        wrote = refl;
+        wrote = record { is_made = refl; report = refl };
       }

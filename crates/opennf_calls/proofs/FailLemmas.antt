@@ -57,7 +57,8 @@ module _ {R : Type 0} (F : Type 0) (f : Semantics R) (asked : FailAsked) (g : Sc
   }
 
   -- the first choices lead to none
-  pub failover_refused : (e : FailFault) → ((step : ℕ) → e ≡ failing.NotARun step → IsFailCause {F = F} f (started alloc config items) (first_of told asked.after) step)
+  pub failover_refused : (e : FailFault) →
+      ((step : ℕ) → e ≡ failing.NotARun step → IsFailCause {F = F} f (started alloc config items) (first_of told asked.after) step)
       → IsNoFailoverAs (run_given F f asked.network g) asked told (fail_status e)
   failover_refused (failing.NotARun step) cause = record {
     alloc = alloc;
@@ -67,7 +68,9 @@ module _ {R : Type 0} (F : Type 0) (f : Semantics R) (asked : FailAsked) (g : Sc
 
 -- the function is that of the words
 pub failed_kind : (asked : FailAsked) (g : Scenario) (told : List Choice) (r : Result Made Status)
-    → OfKind asked.network.kind (λ R F f. MatchResult r (λ made. IsFailover (run_given F f asked.network g) asked told (reports made)) (IsNoFailoverAs (run_given F f asked.network g) asked told))
+    → OfKind asked.network.kind
+    (λ R F f. MatchResult r (λ made. IsFailover (run_given F f asked.network g) asked told (reports made))
+    (IsNoFailoverAs (run_given F f asked.network g) asked told))
     → MatchResult r (λ made. HasFailover asked g told (reports made)) (IsRefusedFailover asked g told)
 failed_kind asked g told (Ok made) holds = holds
 failed_kind asked g told (Err status) holds = holds

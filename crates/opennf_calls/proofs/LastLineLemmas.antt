@@ -4,7 +4,7 @@ use Rattle.std.specs.Io.KnownBytes.{Appends}
 use Rattle.std.proofs.lemmas.Bool.{and_parts}
 use Rattle.nf_io.specs.declared.outside.Role.{Role}
 use Rattle.nf_io.specs.declared.outside.Role.TheVariants.{Errors}
-use Rattle.nf_io.specs.Meaning.{Meaning, Rose, AppendsFront}
+use Rattle.nf_io.specs.Meaning.{Meaning, Rose, AppendsFront, Shown, as_named}
 use Rattle.actor_net.specs.declared.choice.Choice.{Choice}
 use Rattle.command_words.specs.Requests.{Asked}
 use Rattle.opennf_calls.specs.declared.status.Status.{Status}
@@ -15,6 +15,7 @@ use Rattle.opennf_calls.specs.NetworkRuns.{RunResults}
 use Rattle.opennf_calls.specs.Outcome.{HasInput, ForResults, IsBound, IsDone, IsWriteFault, IsReadFault, IsRefusedCommand, IsNotARun, MayBind, WroteNothing, WroteResultsAlone, Gained, RowOf, CauseOf, PutsLine}
 use Rattle.opennf_calls.specs.Phases.{SameContents, SameNames}
 use Rattle.opennf_calls.specs.Writing.{Written, Wrote, written}
+use Rattle.opennf_calls.proofs.BoundFiles.{same_named}
 use Rattle.opennf_calls.proofs.RoleLemmas.{at_each}
 use Rattle.opennf_calls.proofs.RowLemmas.{not_errors, not_last}
 
@@ -149,25 +150,21 @@ module _ (before old mid new : Role → Meaning) (around : Around before old mid
   cause_around None outcome cause = (cause.0, silent cause.1, cause.2)
   cause_around (Some asked) outcome cause = row_around asked outcome.choices outcome.status cause
 
--- only names changed, and then again
-pub same_after : (old mid new : Role → Meaning) → SameContents old mid → SameContents mid new → SameContents old new
-same_after old mid new first second = record {
-  left = λ role. second.left role ∙ first.left role;
-  written = λ role. second.written role ∙ first.written role;
-  faults = λ role. second.faults role ∙ first.faults role;
-}
-
 -- files were bound before, and no line is written yet
 pub bound_before : (before old new : Role → Meaning) → SameContents before old → Around before old new new
 bound_before before old new contents = record { contents = contents; others = λ role differ. refl; names = λ role. refl }
 
--- a line was written after
-pub line_after : (old mid new : Role → Meaning) (line : Written) → Wrote Errors mid new line → Around old old mid new
-line_after old mid new line wrote = record {
-  contents = record { left = λ role. refl; written = λ role. refl; faults = λ role. refl };
-  others = wrote.others;
-  names = at_each Errors mid new (λ a b. b.name ≡ a.name) wrote.others (λ m. refl) wrote.name;
-}
+-- a line was written after, which changes no name
+pub line_after : (shown : Role → List ℕ → Shown) (old mid new : Role → Meaning) (line : Written) → Wrote Errors mid new line
+    → Around (as_named shown old new) (as_named shown old mid) mid new
+line_after shown old mid new line wrote =
+    let names : SameNames mid new = at_each Errors mid new (λ a b. b.name ≡ a.name) wrote.others (λ m. refl) wrote.name in
+    let same = same_named shown old mid new names in
+    record {
+      contents = record { left = λ role. ap (λ m. m.left) (same role); written = λ role. ap (λ m. m.written) (same role); faults = λ role. refl };
+      others = wrote.others;
+      names = names;
+    }
 
 -- names that were bound are those that the words give, also after a line was written
 pub names_after : (request : Option Asked) (mid new : Role → Meaning) → SameNames mid new → MayBind request mid → MayBind request new

@@ -1,5 +1,7 @@
 pub mod AuditLaws
 pub mod AuditRows
+pub mod BoundFiles
+pub mod CallLaws
 pub mod CaptureRows
 pub mod CompleteLemmas
 pub mod EndedCommands
@@ -20,6 +22,7 @@ pub mod RunsEnd
 pub mod SameInputs
 pub mod SameSites
 pub mod ScriptLemmas
+pub mod StrongRows
 pub mod TwoResults
 pub mod UpdateRows
 pub mod WritingLemmas

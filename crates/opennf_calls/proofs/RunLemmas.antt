@@ -29,9 +29,10 @@ use Rattle.run_report.specs.declared.head.Head.{Head}
 use Rattle.run_report.specs.Audits.{IsAuditCause}
 use Rattle.report_lines.specs.Lines.{by_number, output_in}
 use Rattle.run_report.specs.Lines.{answer_in, report_text}
-use Rattle.run_headline.specs.Headline.{HasHeadline, Subject}
+use Rattle.run_headline.specs.Headline.{Subject}
+use Rattle.run_headline.specs.Text.{HasHeadline}
 use Rattle.run_headline.specs.Law.{IsCompleted, subject}
-use Rattle.run_headline.proofs.HeadlineRuns.{headline}
+use Rattle.run_headline.proofs.HeadlineRuns.{are_told, headline}
 use Rattle.run_headline.proofs.ReportTexts.{has_headline}
 use Rattle.opennf_calls.specs.declared.network.Made.{Made}
 use Rattle.opennf_calls.specs.declared.status.Status.{Status}
@@ -66,18 +67,19 @@ module _ {R : Type 0} (F : Type 0) (f : Semantics R) (s : NetworkAsked) (g : Sce
     pub kind : f.kind ≡ s.kind
 
   -- what the run is of, by the items and by the capture
-  same_subject : subject f (config_for s g.site g.script.routes.items) (items_for g.captured g.script) ≡ subject_for f g
-  same_subject = ap (λ (ps : List Packet). record (subject_for f g) { packets = ps }) (packets_in g.captured.packets g.script.lines.items)
+  same_subject : subject f (config_for s g.site g.script.routes.items) (items_for g.captured g.script) ≡ subject_for (run_given F f s g)
+  same_subject = ap (λ (ps : List Packet). record (subject_for (run_given F f s g)) { packets = ps }) (packets_in g.captured.packets g.script.lines.items)
 
   -- what its report says
   said : (laws : FunctionLaws f) (made : Made) (world : Network (Node F R) Msg Note) → Ran made.choices world → head ≡ head_for s g.captured
-      → made.report ≡ report_text f head s.summary world → s.summary ≡ false → HasHeadline (subject_for f g) (head_for s g.captured) made.report
-  said laws made world ran is_head report whole =
+      → made.report ≡ report_text f head s.summary world → HasHeadline (subject_for (run_given F f s g)) (head_for s g.captured) s.summary made.report
+  said laws made world ran is_head report =
       let c = config_for s g.site g.script.routes.items in
       let l = items_for g.captured g.script in
       let input = moved (IsInput s.kind) ran.input in
       let leads = moved (λ c l. LeadsTo f (started alloc c l) made.choices world) ran.leads in
       let promises = moved (λ c l. Promises f c l world) ran.promises in
+      let verdicts = moved (λ c l. Verdicts {F = F} (job_of f c l) (course_of (started alloc c l) made.choices)) ran.verdicts in
       let completed = moved (λ c l. Completed f c l world) ran.completed in
       let outs = out_numbers f s.kind c l input world completed in
       let answers = answer_numbers f s.kind c l input world completed (end_is_last g.captured.packets g.script.lines.items) promises in
@@ -85,15 +87,17 @@ module _ {R : Type 0} (F : Type 0) (f : Semantics R) (s : NetworkAsked) (g : Sce
         is_input = subst (λ (k : Kind). IsInput k c l) (sym ran.kind) input;
         is_run = leads.is_run;
         promises = subst (Promises f c l) leads.reached promises;
+        verdicts = verdicts;
         completed = subst (Completed f c l) leads.reached completed;
         outs = subst (λ (w : Network (Node F R) Msg Note). map (λ x. x.0) (by_number output_in w.log) ≡ map (λ p. p.number) (packets l)) leads.reached outs;
         answers = subst (λ (w : Network (Node F R) Msg Note). map (λ x. x.0) (by_number answer_in w.log) ≡ map (λ k. k.op) (commands l)) leads.reached answers;
       } in
       let end = run (node_step f) made.choices (started {F = F} {R = R} alloc c l) in
-      let text : made.report ≡ report_text f (head_for s g.captured) false end =
-      report ∙ (λ i. report_text f (is_head i) (whole i) (leads.reached i)) in
-      subst (λ (v : Subject R). HasHeadline v (head_for s g.captured) made.report) same_subject
-      (subst (HasHeadline (subject f c l) (head_for s g.captured)) (sym text) (has_headline f c l (head_for s g.captured) end refl (headline F f laws alloc c l made.choices is)))
+      let text : made.report ≡ report_text f (head_for s g.captured) s.summary end =
+      report ∙ (λ i. report_text f (is_head i) s.summary (leads.reached i)) in
+      subst (λ (v : Subject R). HasHeadline v (head_for s g.captured) s.summary made.report) same_subject
+      (subst (HasHeadline (subject f c l) (head_for s g.captured) s.summary) (sym text)
+      (has_headline f c l (head_for s g.captured) end refl (headline F f laws alloc c l made.choices is) (are_told F f laws alloc c l made.choices is) s.summary))
 
   -- its report is made
   pub run_of : (laws : FunctionLaws f) (by : Option Schedule) (made : Made) (world : Network (Node F R) Msg Note) → Ran made.choices world

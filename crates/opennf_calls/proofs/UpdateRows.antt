@@ -4,7 +4,7 @@ use Rattle.std.specs.Prelude.{All}
 use Rattle.flow_filter.specs.Filter.{IsFilter}
 use Rattle.flow_filter.specs.Limits.{most_packets}
 use Rattle.nf_io.specs.declared.outside.Role.{Role}
-use Rattle.nf_io.specs.declared.outside.Role.TheVariants.{Trace, Script, JournalIn, Report, JournalOut, TraceOut, Errors}
+use Rattle.nf_io.specs.declared.outside.Role.TheVariants.{Trace}
 use Rattle.nf_io.specs.Meaning.{Meaning}
 use Rattle.actor_net.specs.declared.schedule.Schedule.{Schedule}
 use Rattle.trace_reader.specs.declared.trace.Trace.{Trace as Captured}
@@ -16,25 +16,14 @@ use Rattle.net_world.specs.Input.{IsSteered}
 use Rattle.run_input.proofs.ScriptedOrders.{numbers_rise}
 use Rattle.two_phase.specs.Start.{IsUpdateJob}
 use Rattle.opennf_calls.specs.declared.network.Made.{Made}
-use Rattle.opennf_calls.specs.NetworkRuns.{RunResults}
 use Rattle.opennf_calls.specs.Outcome.{ForResults, IsBound}
 use Rattle.opennf_calls.specs.Phases.{GivesReport, ReadAlone, reports}
 use Rattle.opennf_calls.specs.UpdateRuns.{HasUpdate, scene_of, update_for}
-use Rattle.opennf_calls.proofs.CaptureRows.{AnswersCapture, ReadsCapture, capture_results}
-use Rattle.opennf_calls.proofs.RowLemmas.{OneFile}
-
-pub one_file-published : (p : PublishedAsked) (schedule : Schedule) → OneFile (asks_published p schedule) Trace
-one_file-published p schedule Trace differ = absurd (differ refl)
-one_file-published p schedule Script differ = refl
-one_file-published p schedule JournalIn differ = refl
-one_file-published p schedule Report differ = refl
-one_file-published p schedule JournalOut differ = refl
-one_file-published p schedule TraceOut differ = refl
-one_file-published p schedule Errors differ = refl
+use Rattle.opennf_calls.proofs.CaptureRows.{AnswersCapture, ReadsCapture, capture_report, one_capture}
 
 -- an update reads a capture alone
 pub update_reads : (p : PublishedAsked) (schedule : Schedule) → ReadsCapture (asks_published p schedule)
-update_reads p schedule = record { one = one_file-published p schedule; named = refl; refusal = λ bytes. refl; earlier = λ bytes. refl }
+update_reads p schedule = record { one = one_capture (asks_published p schedule) p.trace (λ role. refl); named = refl; refusal = λ bytes. refl; earlier = λ bytes. refl }
 
 -- what was made of the capture is what the command gives
 pub update_results : (asked : Publishing) (schedule : Schedule) (old new : Role → Meaning) → IsBound (asks_published (published_view asked) schedule) old
@@ -43,15 +32,8 @@ pub update_results : (asked : Publishing) (schedule : Schedule) (old new : Role 
     → ForResults (asks_published (published_view asked) schedule) old new (GivesReport made.choices made.report)
 update_results asked schedule old new bound alone captured answers made holds bytes told =
     let p = published_view asked in
-    let found = capture_results (asks_published p schedule) (update_reads p schedule) old new bound alone captured answers (reports made)
-    (λ bytes read. record { scene = scene_of asked captured; is_scene = record { read = read; inside = refl; outside = refl; filter = refl }; holds = holds }) bytes told in
-    record {
-      read = found.read;
-      sound = found.sound;
-      made = found.made;
-      are = found.are;
-      wrote = subst (λ (g : RunResults). GivesReport made.choices made.report g) (sym found.wrote) (record { is_made = refl; report = refl });
-    }
+    capture_report (asks_published p schedule) (update_reads p schedule) old new bound alone captured answers made
+    (λ bytes read. record { scene = scene_of asked captured; is_scene = record { read = read; inside = refl; outside = refl; filter = refl }; holds = holds }) bytes told
 
 -- the packets of a capture, and what the words say, are an update
 pub is_update : (asked : Publishing) (captured : Captured) → asked.site.inside.bits < 2 ^ 32 → IsFilter asked.filter → AreNumbered 1 captured.packets

@@ -3,13 +3,18 @@ use Rattle.std.specs.Prelude.{ℕ, List, Option, None, Some, Bool, true, false, 
 use Rattle.nf_io.specs.declared.outside.Role.{Role}
 use Rattle.nf_io.specs.declared.outside.Role.TheVariants.{Trace, Script, JournalIn, Report, JournalOut, TraceOut, Errors}
 use Rattle.nf_io.specs.Roles.{is_read, same_role}
-use Rattle.command_words.specs.Requests.{Asked, NetworkAsked, asks_sim, asks_run, asks_audit, asks_fail, asks_check, asks_gen, asks_published}
+use Rattle.command_words.specs.Requests.{Asked, NetworkAsked, asks_sim, asks_run, asks_audit, asks_fail, asks_check, asks_gen, asks_published, asks_strong}
 
 -- the capture and the script of a run of the network
 abbrev pub run_file : NetworkAsked → Role → Option (List ℕ)
 run_file s Trace = Some s.trace
 run_file s Script = s.script
 run_file s role = None
+
+-- a capture alone
+abbrev pub trace_file : List ℕ → Role → Option (List ℕ)
+trace_file trace Trace = Some trace
+trace_file trace role = None
 
 -- the roles of journals
 abbrev pub is_journal : Role → Bool
@@ -29,7 +34,8 @@ file_for (asks_audit s) role = with_journal s JournalIn role
 file_for (asks_fail f) role = with_journal f.network JournalIn role
 file_for (asks_check c) Script = Some c.script
 file_for (asks_gen g) TraceOut = Some g.trace
-file_for (asks_published p schedule) Trace = Some p.trace
+file_for (asks_published p schedule) role = trace_file p.trace role
+file_for (asks_strong s schedule) role = trace_file s.trace role
 file_for asked role = None
 
 -- an input of the command: a role that is read, and has a file

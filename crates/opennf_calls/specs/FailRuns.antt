@@ -6,7 +6,7 @@ use Rattle.record_table.specs.Table.{TableView}
 use Rattle.actor_net.specs.declared.choice.Choice.{Choice}
 use Rattle.command_words.specs.Requests.{FailAsked}
 use Rattle.standby_failover.specs.declared.promoted.Promoted.{Promoted}
-use Rattle.standby_failover.specs.declared.reporting.Failing.{Failing}
+use Rattle.standby_failover.specs.declared.promoted.Failing.{Failing}
 use Rattle.standby_failover.specs.Causes.{IsFailCause, IsReached, first_of, world_after}
 use Rattle.standby_failover.specs.Failover.{Failover, HasCaughtUp, IsLeft, IsPromoted, failover_of}
 use Rattle.standby_failover.specs.Lines.{failover_text}

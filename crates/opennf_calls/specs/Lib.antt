@@ -1,4 +1,6 @@
 pub mod Again
+pub mod CaptureScenes
+pub mod Calls
 pub mod Command
 pub mod Ends
 pub mod FailRuns
@@ -7,6 +9,7 @@ pub mod NetworkRuns
 pub mod Outcome
 pub mod Phases
 pub mod Status
+pub mod StrongRuns
 pub mod UpdateRuns
 pub mod Writing
 pub mod LineRoom

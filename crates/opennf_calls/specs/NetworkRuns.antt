@@ -33,7 +33,8 @@ use Rattle.net_world.specs.Start.{started}
 use Rattle.net_world.specs.Window.{AllHome}
 use Rattle.opennf_calls.specs.Functions.{OfKind}
 use Rattle.report_lines.specs.Lines.{by_number, output_in}
-use Rattle.run_headline.specs.Headline.{HasHeadline, Subject}
+use Rattle.run_headline.specs.Headline.{Subject}
+use Rattle.run_headline.specs.Text.{HasHeadline}
 use Rattle.run_report.specs.declared.head.Head.{Head}
 use Rattle.run_report.specs.Audits.{IsAuditCause}
 use Rattle.run_report.specs.Lines.{answer_in, report_text}
@@ -97,12 +98,12 @@ abbrev pub start_for : {F R : Type 0} → Job R → Global → Network (Node F R
 start_for job alloc = started alloc job.config job.items
 
 -- what a report is of
-abbrev pub subject_for : {R : Type 0} → Semantics R → Scenario → Subject R
-subject_for f scenario = record {
-  function = f;
-  site = scenario.site;
-  packets = scenario.captured.packets;
-  commands = commands (items_for scenario.captured scenario.script);
+abbrev pub subject_for : {F R : Type 0} → RunGiven F R → Subject R
+subject_for given = record {
+  function = given.function;
+  config = (job_for given).config;
+  packets = given.scenario.captured.packets;
+  commands = commands (job_for given).items;
 }
 
 module _ {F R : Type 0} (given : RunGiven F R) where
@@ -127,7 +128,7 @@ module _ {F R : Type 0} (given : RunGiven F R) where
     pub outs : map (λ x. x.0) (by_number output_in world.log) ≡ map (λ p. p.number) given.scenario.captured.packets
     pub answers : map (λ x. x.0) (by_number answer_in world.log) ≡ map (λ c. c.op) (commands (job_for given).items)
     -- what the report says of each packet, each unit and each command
-    pub headline : given.words.summary ≡ false → HasHeadline (subject_for given.function given.scenario) (head_for given.words given.scenario.captured) (made.texts Report)
+    pub headline : HasHeadline (subject_for given) (head_for given.words given.scenario.captured) given.words.summary (made.texts Report)
     pub journal : made.texts JournalOut ≡ journal_bytes given.words.kind (length given.words.instances) made.choices
     -- its choices are fewer than a journal may have, so the journal is read as these choices again
     pub few : length made.choices < MOST_CHOICES

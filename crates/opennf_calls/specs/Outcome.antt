@@ -19,7 +19,7 @@ use Rattle.journal_file.specs.declared.fault.JournalFault.{JournalFault}
 use Rattle.journal_file.specs.Reading.{journal_of}
 use Rattle.actor_net.specs.declared.choice.Choice.{Choice}
 use Rattle.actor_net.specs.declared.schedule.Schedule.{Schedule}
-use Rattle.command_words.specs.Requests.{Asked, NetworkAsked, FailAsked, CheckAsked, GenAsked, asks_sim, asks_run, asks_audit, asks_fail, asks_check, asks_gen, asks_published}
+use Rattle.command_words.specs.Requests.{Asked, NetworkAsked, FailAsked, CheckAsked, GenAsked, asks_sim, asks_run, asks_audit, asks_fail, asks_check, asks_gen, asks_published, asks_strong}
 use Rattle.command_words.specs.Values.{names_of}
 use Rattle.opennf_calls.specs.declared.status.Status.{Status}
 use Rattle.opennf_calls.specs.declared.status.Status.TheVariants.{Ok as Done, Usage, BadScript, BadTrace, BadJournal, NotARun, ReadFault, WriteFault, NoMemory}
@@ -28,6 +28,7 @@ use Rattle.opennf_calls.specs.Command.{file_for, is_input, is_read_before, is_re
 use Rattle.opennf_calls.specs.FailRuns.{HasFailover, HasNoFailover}
 use Rattle.opennf_calls.specs.NetworkRuns.{Scenario, RunResults, given_script, HasRun, HasNoRun}
 use Rattle.opennf_calls.specs.Status.{line_of, trace_status, journal_status}
+use Rattle.opennf_calls.specs.StrongRuns.{IsShared}
 use Rattle.opennf_calls.specs.UpdateRuns.{IsUpdated}
 
 -- the site with this inside prefix and this outside address
@@ -116,6 +117,7 @@ refusal_of (asks_fail f) bytes = first_refusal (inputs_refusal f.network bytes) 
 refusal_of (asks_check c) bytes = script_refusal (script_of c.kind (names_of c.instances) (bytes Script))
 refusal_of (asks_gen g) bytes = None
 refusal_of (asks_published p schedule) bytes = trace_refusal (capture_of (bytes Trace))
+refusal_of (asks_strong s schedule) bytes = trace_refusal (capture_of (bytes Trace))
 
 -- the first refusal for what a command reads before this input, if there is one
 abbrev pub earlier_refusal : Asked → Role → (Role → List ℕ) → Option Status
@@ -153,6 +155,7 @@ AreResults (asks_fail f) bytes made = IsFailedOver f bytes made
 AreResults (asks_check c) bytes made = (made.choices ≡ []) × IsCheckText c (bytes Script) (made.texts Report)
 AreResults (asks_gen g) bytes made = (made.choices ≡ []) × AreGenTexts g (made.texts TraceOut) (made.texts Report)
 AreResults (asks_published p schedule) bytes made = IsUpdated p bytes schedule made
+AreResults (asks_strong s schedule) bytes made = IsShared s bytes schedule made
 
 -- the command's inputs hold these bytes, as the outside tells
 abbrev pub HasInput : Asked → (Role → Meaning) → (Role → List ℕ) → Type 0

@@ -4,7 +4,7 @@ use Rattle.std.specs.Prelude.{◌≡◌, ◌≤◌, ℕ, true, false, All, List,
 use Rattle.nf_io.specs.declared.outside.Role.{Role}
 use Rattle.nf_io.specs.declared.outside.Role.TheVariants.{Errors, JournalIn, JournalOut, Report, Script as ScriptRole, Trace as TraceRole}
 use Rattle.nf_io.specs.Roles.{is_read}
-use Rattle.nf_io.specs.Meaning.{Meaning, OthersStay, Rose}
+use Rattle.nf_io.specs.Meaning.{Meaning, OthersStay, Rose, Shown, with_bytes}
 use Rattle.flow_filter.specs.declared.site.Site.{Site}
 use Rattle.flow_filter.specs.Limits.{most_packets}
 use Rattle.trace_reader.specs.Records.{AreNumbered}
@@ -16,24 +16,36 @@ use Rattle.journal_file.specs.Format.{journal_bytes}
 use Rattle.net_world.specs.Input.{IsInput}
 use Rattle.net_length.specs.Length.{IsShort}
 use Rattle.actor_net.specs.declared.choice.Choice.{Choice}
-use Rattle.command_words.specs.Requests.{Asked, FailAsked, NetworkAsked}
+use Rattle.command_words.specs.Requests.{Asked, FailAsked, NetworkAsked, StrongAsked}
 use Rattle.command_words.specs.Values.{names_of}
 use Rattle.opennf_calls.specs.declared.status.Status.{Status}
 use Rattle.opennf_calls.specs.declared.status.Status.TheVariants.{BadScript, BadTrace, NoMemory, NotARun, ReadFault}
 use Rattle.opennf_calls.specs.declared.outcome.Outcome.{Outcome}
 use Rattle.opennf_calls.specs.Command.{run_file}
 use Rattle.opennf_calls.specs.Outcome.{CauseOf, IsScenario, MayBind, RowOf, inputs_refusal, script_refusal}
+use Rattle.strong_share.specs.Start.{IsStrongJob}
 use Rattle.opennf_calls.specs.declared.inputs.Inputs.{Inputs}
 use Rattle.opennf_calls.specs.declared.network.Made.{Made}
 use Rattle.opennf_calls.specs.declared.network.Opening.{Opening}
+use Rattle.opennf_calls.specs.CaptureScenes.{CaptureScene}
 use Rattle.opennf_calls.specs.FailRuns.{IsNoFailover}
 use Rattle.opennf_calls.specs.Functions.{OfKind}
 use Rattle.opennf_calls.specs.NetworkRuns.{Scenario, RunGiven, RunResults, IsNoRun, config_for, given_script, head_for, items_for, run_given}
+use Rattle.opennf_calls.specs.StrongRuns.{sharing_for}
 
--- a role has this name now, and nothing else changed
+-- a role has this name now, and the others are as before
 pub record Named (role : Role) (name : Option (List ℕ)) (old new : Role → Meaning) : Type 0 where
-  pub here : new role ≡ record (old role) { name = name }
+  pub here : (new role).name ≡ name
   pub others : OthersStay role old new
+
+-- a role is as before, or it got a name, and the bytes that its file shows
+pub data KeptOrBound (shown : List ℕ → Shown) (old new : Meaning) : Type 0 where
+  Is_kept : new ≡ old → KeptOrBound shown old new
+  Is_bound : (name : List ℕ) → old.name ≡ None → new ≡ record (with_bytes (shown name) old) { name = Some name } → KeptOrBound shown old new
+
+-- files were bound, and nothing else changed
+abbrev pub Binds : (Role → List ℕ → Shown) → (old new : Role → Meaning) → Type 0
+Binds shown old new = (role : Role) → KeptOrBound (shown role) (old role) (new role)
 
 -- nothing but names changed
 pub record SameContents (old new : Role → Meaning) : Type 0 where
@@ -129,6 +141,11 @@ pub record IsOpening (s : NetworkAsked) (scenario : Scenario) (opening : Opening
   pub head : opening.head ≡ head_for s scenario.captured
   pub is_input : IsInput s.kind opening.config opening.items.items
   pub short : IsShort opening.items.items
+
+-- strong sharing of captured packets, no more than are read
+pub record CanShare (s : StrongAsked) (scene : CaptureScene) : Type 0 where
+  pub job : IsStrongJob s.kind (sharing_for s scene)
+  pub few : length scene.captured.packets ≤ most_packets
 
 -- what a run gives, by role
 abbrev pub result_texts : (journal report : List ℕ) → Role → List ℕ

@@ -1,15 +1,10 @@
 -- What a two-phase update is given, and what comes of it: its complete run by a schedule, and its report. This project's own.
-use Rattle.std.specs.Prelude.{◌≡◌, true, ℕ, List, length, Ok}
+use Rattle.std.specs.Prelude.{◌≡◌, true, ℕ, List, length}
 use Rattle.std.specs.declared.alloc.Global.{Global}
-use Rattle.flow_filter.specs.declared.filter.Filter.{Filter}
-use Rattle.flow_filter.specs.declared.site.Site.{Site}
-use Rattle.flow_filter.specs.FilterText.{fields_of}
-use Rattle.flow_filter.specs.Reading.{prefix_numbers}
 use Rattle.nf_function.specs.Semantics.{Semantics}
 use Rattle.nf_io.specs.declared.outside.Role.{Role}
-use Rattle.nf_io.specs.declared.outside.Role.TheVariants.{Trace, Report}
+use Rattle.nf_io.specs.declared.outside.Role.TheVariants.{Report}
 use Rattle.trace_reader.specs.declared.trace.Trace.{Trace as Captured}
-use Rattle.trace_reader.specs.Records.{capture_of}
 use Rattle.actor_net.specs.declared.schedule.Schedule.{Schedule}
 use Rattle.actor_net.specs.declared.schedule.TheConstants.{MOST_CHOICES}
 use Rattle.actor_net.specs.Network.{Network, is_done, run}
@@ -24,35 +19,23 @@ use Rattle.two_phase.specs.Promises.{Published}
 use Rattle.two_phase.specs.Report.{two_text}
 use Rattle.two_phase.specs.Start.{UpdateJob, two_start}
 use Rattle.two_phase.specs.Tables.{node_ended, node_ready, node_step}
+use Rattle.opennf_calls.specs.CaptureScenes.{CaptureScene, OfCaptureScene, SceneWords}
 use Rattle.opennf_calls.specs.Functions.{OfKind}
 use Rattle.opennf_calls.specs.NetworkRuns.{RunResults}
 
--- what words and capture give an update: the site, the filter, and what was captured
-pub record UpdateScene : Type 0 where
-  pub site : Site
-  pub filter : Filter
-  pub captured : Captured
-
--- the scene is the one that the words and the bytes tell
-pub record IsUpdateScene (p : PublishedAsked) (bytes : Role → List ℕ) (scene : UpdateScene) : Type 0 where
-  pub read : capture_of (bytes Trace) ≡ Ok scene.captured
-  pub inside : prefix_numbers scene.site.inside ≡ p.inside
-  pub outside : scene.site.outside ≡ p.outside
-  pub filter : fields_of scene.filter ≡ p.filter
-
 -- the scene of a request
-abbrev pub scene_of : Publishing → Captured → UpdateScene
+abbrev pub scene_of : Publishing → Captured → CaptureScene
 scene_of asked captured = record { site = asked.site; filter = asked.filter; captured = captured }
 
 -- the update that the words ask for
-abbrev pub update_for : PublishedAsked → UpdateScene → UpdateJob
+abbrev pub update_for : PublishedAsked → CaptureScene → UpdateJob
 update_for p scene = record { site = scene.site; window = p.window; filter = scene.filter; at = p.at; packets = scene.captured.packets }
 
 -- what its report repeats of the words and the capture
 abbrev pub update_head : PublishedAsked → Captured → TwoHead
 update_head p captured = record { kind = p.kind; window = p.window; packets = length captured.packets; skipped = captured.skipped; cut = captured.cut }
 
-module _ {R : Type 0} (F : Type 0) (f : Semantics R) (p : PublishedAsked) (scene : UpdateScene) where
+module _ {R : Type 0} (F : Type 0) (f : Semantics R) (p : PublishedAsked) (scene : CaptureScene) where
   abbrev pub first_world : Global → Network (TwoNode F R) TwoMsg TwoNote
   first_world alloc = two_start alloc (update_for p scene)
 
@@ -67,11 +50,13 @@ module _ {R : Type 0} (F : Type 0) (f : Semantics R) (p : PublishedAsked) (scene
     pub report : made.texts Report ≡ two_text f (update_head p scene.captured) world
 
 -- the update of the function that the words name
-abbrev pub HasUpdate : PublishedAsked → UpdateScene → Schedule → RunResults → Type 0
+abbrev pub HasUpdate : PublishedAsked → CaptureScene → Schedule → RunResults → Type 0
 HasUpdate p scene schedule made = OfKind p.kind (λ R F f. IsUpdateOf F f p scene schedule made)
 
+-- what the words say of its scene
+abbrev pub update_words : PublishedAsked → SceneWords
+update_words p = record { inside = p.inside; outside = p.outside; filter = p.filter }
+
 -- the update that the words ask for, over the capture that the bytes are read as
-pub record IsUpdated (p : PublishedAsked) (bytes : Role → List ℕ) (schedule : Schedule) (made : RunResults) : Type 0 where
-  pub scene : UpdateScene
-  pub is_scene : IsUpdateScene p bytes scene
-  pub holds : HasUpdate p scene schedule made
+abbrev pub IsUpdated : PublishedAsked → (Role → List ℕ) → Schedule → RunResults → Type 0
+IsUpdated p bytes schedule made = OfCaptureScene (update_words p) bytes (λ scene. HasUpdate p scene schedule made)

@@ -12,7 +12,7 @@ use crate::status::Status;
 use actor_net::Choices;
 use command_words::FailRequest;
 use nf_function::Function;
-use standby_failover::{Failing, packets_of, promote, report_failover};
+use standby_failover::{Failing, packets_of, promote_with, report_failover};
 use std::alloc::Global;
 
 /// Takes the first of some choices, and makes the report of what is left where the instance fails.
@@ -52,7 +52,8 @@ impl ForFunction for Failed<'_, '_> {
     ghost may = { λ w kind. (kind ≡ w.asked.now.network.kind) × CanBegin (network_view w.asked.now.network) (scenario_of w.asked.now.network.site w.inputs) };
 
     ghost gives = { λ w R F f r. MatchResult r
-        (λ made. IsFailover (run_given F f (network_view w.asked.now.network) (scenario_of w.asked.now.network.site w.inputs)) (fail_view w.asked.now) w.choices (reports made))
+        (λ made. IsFailover (run_given F f (network_view w.asked.now.network) (scenario_of w.asked.now.network.site w.inputs))
+        (fail_view w.asked.now) w.choices (reports made))
         (IsNoFailoverAs (run_given F f (network_view w.asked.now.network) (scenario_of w.asked.now.network.site w.inputs)) (fail_view w.asked.now) w.choices) };
 
     fn call<F: Function + Send>(self) -> Result<Made, Status>
@@ -73,8 +74,10 @@ fn fail_network<F: Function>(
     requires kind { F.semantics.kind ≡ asked.now.network.kind }
     requires sound { CanBegin (network_view asked.now.network) (scenario_of asked.now.network.site inputs) }
     ensures { MatchResult result
-        (λ made. IsFailover (run_given F.row.Denot F.semantics (network_view asked.now.network) (scenario_of asked.now.network.site inputs)) (fail_view asked.now) choices (reports made))
-        (IsNoFailoverAs (run_given F.row.Denot F.semantics (network_view asked.now.network) (scenario_of asked.now.network.site inputs)) (fail_view asked.now) choices) }
+        (λ made. IsFailover (run_given F.row.Denot F.semantics (network_view asked.now.network) (scenario_of asked.now.network.site inputs))
+        (fail_view asked.now) choices (reports made))
+        (IsNoFailoverAs (run_given F.row.Denot F.semantics (network_view asked.now.network) (scenario_of asked.now.network.site inputs))
+        (fail_view asked.now) choices) }
 {
     let Opening {
         config,
@@ -82,21 +85,15 @@ fn fail_network<F: Function>(
         head,
     } = open(alloc, &asked.network, inputs)?;
     let trace = packets_of(alloc, items.as_slice())?;
-    let FailRequest {
-        failed,
-        to,
-        after,
-        ..
-    } = asked;
-    let promoted = promote::<F>(alloc, &config, items, choices.items(), *after, *failed, *to)?;
     let failing = Failing {
-        failed: *failed,
-        to: *to,
-        after: *after,
+        failed: asked.failed,
+        to: asked.to,
+        after: asked.after,
     };
+    let promoted = promote_with::<F>(alloc, &config, items, &trace, choices.items(), &failing)?;
     let (report, _table) = report_failover(alloc, &head, &failing, promoted, &config, &trace)?;
     let mut taken = choices.into_vec();
-    taken.truncate(*after as usize);
+    taken.truncate(asked.after as usize);
     let choices = Choices::from_vec(taken);
     Ok(Made { choices, report })
 }

@@ -21,7 +21,7 @@ use nf_io::{Outside, Role, RoleSource, UptoFault, read_upto};
 use op_script::{LONGEST_SCRIPT, Script, read_script};
 use run_input::CapturedItems;
 use std::alloc::Global;
-use trace_reader::TraceFault;
+use trace_reader::{Trace, TraceFault, read_trace};
 
 /// The most bytes of a script that are read, but for the one that shows that it is longer.
 pub(crate) const MOST_BYTES: u64 = LONGEST_SCRIPT as u64;
@@ -102,6 +102,24 @@ pub(crate) fn read_capture<O: Outside>(
         role: Role::Trace,
     };
     CapturedItems::read(alloc, &mut source)
+}
+
+/// Reads the capture, for a command whose packets are its whole input.
+pub(crate) fn read_packets<O: Outside>(alloc: Global, outside: &mut O) -> Result<Trace, TraceFault>
+    requires { CanRead TraceRole (O.seen outside.old TraceRole) }
+    ensures trace { ForSome (O.seen outside.old TraceRole).left (λ bytes.
+        AnswersTrace (capture_of bytes) (O.seen outside.new TraceRole).left result) }
+    ensures numbers { IfOk result (λ trace. AreNumbered 1 trace.packets) }
+    ensures steered { IfOk result (λ trace. All (λ packet. is_steered_proto packet.proto ≡ true) trace.packets) }
+    ensures few { IfOk result (λ trace. length trace.packets ≤ most_packets) }
+    ensures cause { HasReadCause (O.seen outside.old TraceRole).faults (O.seen outside.new TraceRole).faults result }
+    ensures alone { ReadAlone TraceRole (O.seen outside.old) (O.seen outside.new) }
+{
+    let mut source = RoleSource {
+        outside,
+        role: Role::Trace,
+    };
+    read_trace(alloc, &mut source)
 }
 
 /// Reads the script, or one byte more than `most` of one that is longer.

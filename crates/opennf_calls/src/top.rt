@@ -1,14 +1,14 @@
 //! The top calls: the words are read once, files are bound, and what the words ask for is done. A further command that starts no threads
 //! has a further line in `bind_files` and in `do_calm`.
-ghost use Rattle.std.specs.Prelude.{◌≡◌, ◌⊎◌, true, false, [], Option, Some, None, option_map, map, codes, string_bytes, OnOk, OnErr};
+ghost use Rattle.std.specs.Prelude.{◌≡◌, ◌⊎◌, ℕ, List, true, false, [], Option, Some, None, option_map, map, codes, string_bytes, OnOk, OnErr};
 ghost use Rattle.nf_io.specs.declared.outside.Role.{Role as TheRole};
-ghost use Rattle.nf_io.specs.Meaning.{Meaning, CanBind};
+ghost use Rattle.nf_io.specs.Meaning.{Meaning, Shown, CanBind, as_named};
 ghost use Rattle.command_words.specs.Requests.{Asked, asks_run, is_command, request_of};
 ghost use Rattle.command_words.specs.RequestViews.{network_view, calm_view};
 ghost use Rattle.opennf_calls.specs.Command.{is_journal, with_journal};
 ghost use Rattle.opennf_calls.specs.Outcome.{IsBound, MayBind, HasOutcome};
 ghost use Rattle.opennf_calls.specs.Status.{words_status};
-ghost use Rattle.opennf_calls.specs.Phases.{HasEnded, Named, Performs, SameContents};
+ghost use Rattle.opennf_calls.specs.Phases.{Binds, HasEnded, Named, Performs};
 
 use crate::audit::audit;
 use crate::check::check;
@@ -20,6 +20,7 @@ use crate::published::publish;
 use crate::run::run;
 use crate::sim::simulate;
 use crate::status::Status;
+use crate::strong::share;
 use crate::writing::put;
 use actor_threads::Gate;
 use basics::NoMemory;
@@ -42,7 +43,8 @@ pub fn opennf_top<R: Threads + Wait + Sync, O: Outside, G: Gate>(
     gate: &G,
 ) -> Outcome
     requires { (role : TheRole) → (O.seen outside.old role).name ≡ None }
-    ensures { HasOutcome (request_of (map string_bytes words.now)) (O.seen outside.old) (O.seen outside.new) result }
+    ensures { HasOutcome (request_of (map string_bytes words.now))
+        (as_named (O.shown outside.old) (O.seen outside.old) (O.seen outside.new)) (O.seen outside.new) result }
 {
     let request = match parse_command(alloc, words) {
         Ok(request) => request,
@@ -64,7 +66,8 @@ pub fn opennf_run<R: Threads + Wait + Sync, O: Outside, G: Gate>(
 ) -> Outcome
     requires unnamed { (role : TheRole) → (O.seen outside.old role).name ≡ None }
     requires command { is_command (codes "run") (map string_bytes words.now) ≡ true }
-    ensures { HasOutcome (request_of (map string_bytes words.now)) (O.seen outside.old) (O.seen outside.new) result }
+    ensures { HasOutcome (request_of (map string_bytes words.now))
+        (as_named (O.shown outside.old) (O.seen outside.old) (O.seen outside.new)) (O.seen outside.new) result }
 {
     match parse_run(alloc, words) {
         Ok(asked) => tell(perform_run(rt, alloc, &asked, outside, gate), outside),
@@ -76,12 +79,22 @@ pub fn opennf_run<R: Threads + Wait + Sync, O: Outside, G: Gate>(
 pub fn opennf_calm<O: Outside>(alloc: Global, words: &[String], outside: &mut O) -> Outcome
     requires unnamed { (role : TheRole) → (O.seen outside.old role).name ≡ None }
     requires command { is_command (codes "run") (map string_bytes words.now) ≡ false }
-    ensures { HasOutcome (request_of (map string_bytes words.now)) (O.seen outside.old) (O.seen outside.new) result }
+    ensures { HasOutcome (request_of (map string_bytes words.now))
+        (as_named (O.shown outside.old) (O.seen outside.old) (O.seen outside.new)) (O.seen outside.new) result }
 {
     match parse_calm(alloc, words) {
         Ok(asked) => tell(perform_calm(alloc, &asked, outside), outside),
         Err(fault) => tell(refuse(alloc, fault), outside),
     }
+}
+
+/// The end where no memory was left to take the words.
+pub fn opennf_unread<O: Outside>(alloc: Global, outside: &mut O) -> Outcome
+    requires { (role : TheRole) → (O.seen outside.old role).name ≡ None }
+    ensures { (request : Option Asked) → HasOutcome request
+        (as_named (O.shown outside.old) (O.seen outside.old) (O.seen outside.new)) (O.seen outside.new) result }
+{
+    tell(refuse(alloc, ArgumentsFault::NoMemory), outside)
 }
 
 /// Binds the files of a run by threads, and runs the network.
@@ -93,7 +106,8 @@ fn perform_run<R: Threads + Wait + Sync, O: Outside, G: Gate>(
     gate: &G,
 ) -> Outcome
     requires { (role : TheRole) → (O.seen outside.old role).name ≡ None }
-    ensures { HasEnded (Some (asks_run (network_view asked.now))) (O.seen outside.old) (O.seen outside.new) result }
+    ensures { HasEnded (Some (asks_run (network_view asked.now)))
+        (as_named (O.shown outside.old) (O.seen outside.old) (O.seen outside.new)) (O.seen outside.new) result }
 {
     match bind_run(asked, Role::JournalOut, outside) {
         Ok(()) => run(rt, alloc, asked, outside, gate),
@@ -104,7 +118,7 @@ fn perform_run<R: Threads + Wait + Sync, O: Outside, G: Gate>(
 /// Binds the files that a command names, and does what it asks for.
 fn perform_calm<O: Outside>(alloc: Global, asked: &CalmRequest<'_>, outside: &mut O) -> Outcome
     requires { (role : TheRole) → (O.seen outside.old role).name ≡ None }
-    ensures { HasEnded (Some (calm_view asked.now)) (O.seen outside.old) (O.seen outside.new) result }
+    ensures { HasEnded (Some (calm_view asked.now)) (as_named (O.shown outside.old) (O.seen outside.old) (O.seen outside.new)) (O.seen outside.new) result }
 {
     match bind_files(asked, outside) {
         Ok(()) => do_calm(alloc, asked, outside),
@@ -124,6 +138,7 @@ fn do_calm<O: Outside>(alloc: Global, asked: &CalmRequest<'_>, outside: &mut O) 
         CalmRequest::Check(asked) => Outcome::without_run(alloc, check(alloc, asked, outside)),
         CalmRequest::Gen(asked) => Outcome::without_run(alloc, generate(alloc, asked, outside)),
         CalmRequest::Published(asked, schedule) => publish(alloc, asked, *schedule, outside),
+        CalmRequest::Strong(asked, schedule) => share(alloc, asked, *schedule, outside),
     }
 }
 
@@ -140,8 +155,9 @@ fn refuse(alloc: Global, fault: ArgumentsFault) -> Outcome
 
 /// Puts the line of an end to the standard error. A failing standard error changes no status.
 fn tell<O: Outside>(outcome: Outcome, outside: &mut O) -> Outcome
-    ensures { (request : Option Asked) (before : TheRole → Meaning) → HasEnded request before (O.seen outside.old) outcome
-        → HasOutcome request before (O.seen outside.new) result }
+    ensures { (request : Option Asked) (shown : TheRole → List ℕ → Shown) (before : TheRole → Meaning)
+        → HasEnded request (as_named shown before (O.seen outside.old)) (O.seen outside.old) outcome
+        → HasOutcome request (as_named shown before (O.seen outside.new)) (O.seen outside.new) result }
 {
     let _ = put(outside, Role::Errors, line(&outcome.status).as_bytes());
     outcome
@@ -152,7 +168,7 @@ fn bind_files<O: Outside>(asked: &CalmRequest<'_>, outside: &mut O) -> Result<()
     requires { (role : TheRole) → (O.seen outside.old role).name ≡ None }
     ensures bound { OnOk result (IsBound (calm_view asked.now) (O.seen outside.new)) }
     ensures names { MayBind (Some (calm_view asked.now)) (O.seen outside.new) }
-    ensures contents { SameContents (O.seen outside.old) (O.seen outside.new) }
+    ensures binds { Binds (O.shown outside.old) (O.seen outside.old) (O.seen outside.new) }
 {
     match asked {
         CalmRequest::Sim(asked, _) => bind_run(asked, Role::JournalOut, outside),
@@ -161,6 +177,7 @@ fn bind_files<O: Outside>(asked: &CalmRequest<'_>, outside: &mut O) -> Result<()
         CalmRequest::Check(asked) => bind_file(outside, Role::Script, Some(asked.script)),
         CalmRequest::Gen(asked) => bind_file(outside, Role::TraceOut, Some(asked.trace)),
         CalmRequest::Published(asked, _) => bind_file(outside, Role::Trace, Some(asked.trace)),
+        CalmRequest::Strong(asked, _) => bind_file(outside, Role::Trace, Some(asked.trace)),
     }
 }
 
@@ -174,7 +191,7 @@ fn bind_run<O: Outside>(
     requires journal { is_journal journal ≡ true }
     ensures bound { OnOk result ((role : TheRole) → (O.seen outside.new role).name ≡ with_journal (network_view asked.now) journal role) }
     ensures names { (role : TheRole) → ((O.seen outside.new role).name ≡ None) ⊎ ((O.seen outside.new role).name ≡ with_journal (network_view asked.now) journal role) }
-    ensures contents { SameContents (O.seen outside.old) (O.seen outside.new) }
+    ensures binds { Binds (O.shown outside.old) (O.seen outside.old) (O.seen outside.new) }
 {
     bind_file(outside, Role::Trace, Some(asked.trace))?;
     bind_file(outside, Role::Script, asked.script)?;
@@ -186,7 +203,8 @@ fn bind_file<O: Outside>(outside: &mut O, role: Role, file: Option<&str>) -> Res
     requires { CanBind role (O.seen outside.old role) }
     ensures ok { OnOk result (Named role (option_map (λ t. t.now) file.entry) (O.seen outside.old) (O.seen outside.new)) }
     ensures err { OnErr result (Named role None (O.seen outside.old) (O.seen outside.new)) }
-    ensures contents { SameContents (O.seen outside.old) (O.seen outside.new) }
+    ensures binds { Binds (O.shown outside.old) (O.seen outside.old) (O.seen outside.new) }
+    ensures shown { (other : TheRole) (name : List ℕ) → O.shown outside.new other name ≡ O.shown outside.old other name }
 {
     match file {
         Some(name) => outside.bind(role, name),

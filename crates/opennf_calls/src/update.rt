@@ -1,22 +1,19 @@
 //! A two-phase update, for each function.
-ghost use Rattle.std.specs.Prelude.{◌≡◌, ◌<◌, ◌≤◌, ◌^◌, true, All, IfOk, length};
-ghost use Rattle.flow_filter.specs.Filter.{IsFilter, IsFlow};
+ghost use Rattle.std.specs.Prelude.{◌≡◌, ◌≤◌, true, All, IfOk, length};
 ghost use Rattle.flow_filter.specs.Limits.{most_packets};
-ghost use Rattle.nf_function.specs.Records.{Fits};
 ghost use Rattle.trace_reader.specs.Records.{AreNumbered};
 ghost use Rattle.trace_reader.specs.Steered.{is_steered_proto};
 ghost use Rattle.command_words.specs.RequestViews.{published_view};
-ghost use Rattle.net_world.specs.Input.{IsSteered};
 ghost use Rattle.two_phase.specs.Start.{IsUpdateJob};
 ghost use Rattle.opennf_calls.specs.Phases.{reports};
 ghost use Rattle.opennf_calls.specs.UpdateRuns.{HasUpdate, IsUpdateOf, scene_of, update_for};
 
 use crate::functions::{ForFunction, for_kind};
 use crate::network::Made;
+use crate::steered::{are_steered, is_filter};
 use actor_net::{Schedule, ScheduleFault};
 use basics::NoMemory;
 use command_words::Publishing;
-use flow_filter::{CapturedPacket, Filter, Flow, Packet, Site, flow_of};
 use nf_function::Function;
 use std::alloc::Global;
 use trace_reader::Trace;
@@ -111,48 +108,3 @@ fn update_network<F: Function>(
     let report = report_two::<F>(alloc, &head, &world)?;
     Ok(Made { choices, report })
 }
-
-/// Packets of TCP and UDP are steered.
-fn are_steered(site: Site, packets: &[CapturedPacket])
-    requires { All (λ packet. is_steered_proto packet.proto ≡ true) packets.now }
-    ensures steered { All (IsSteered site) packets.now }
-    ensures site { site.inside.bits < 2 ^ 32 }
-{
-    for packet in packets {
-        is_steered_when_captured(&site, packet);
-    }
-}
-
-/// A captured packet is steered as any other.
-fn is_steered_when_captured(site: &Site, captured: &CapturedPacket)
-    requires { is_steered_proto captured.now.proto ≡ true }
-    ensures { IsSteered site.now captured.now }
-{
-    is_steered(site, &captured.packet());
-}
-
-/// The numbers of a packet and those of its flow are within their types.
-fn is_steered(site: &Site, packet: &Packet)
-    requires { is_steered_proto packet.now.proto ≡ true }
-    ensures { IsSteered site.now packet.now }
-{
-    fits(*site, *packet);
-    let (flow, _direction) = flow_of(site, packet);
-    is_flow(flow);
-}
-
-/// The numbers of a packet, as those of every value of its type.
-fn fits(_site: Site, _packet: Packet)
-    requires { is_steered_proto _packet.proto ≡ true }
-    ensures { Fits _site _packet }
-{}
-
-/// The numbers of a flow, as those of every value of its type.
-fn is_flow(_flow: Flow)
-    ensures { IsFlow _flow }
-{}
-
-/// The numbers of a filter, as those of every value of its type.
-fn is_filter(_filter: Filter)
-    ensures { IsFilter _filter }
-{}

@@ -17,4 +17,6 @@ mod published_tests;
 #[cfg(test)]
 mod sim_tests;
 #[cfg(test)]
+mod strong_tests;
+#[cfg(test)]
 mod threads_tests;

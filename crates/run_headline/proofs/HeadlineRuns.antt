@@ -37,9 +37,13 @@ use Rattle.whole_joined.proofs.Joined.{Nodes, node_of}
 use Rattle.whole_joined.proofs.StartJoined.{all_fit, count_at_start}
 use Rattle.whole_joined.proofs.RunsJoined.{run_beside, start_world}
 use Rattle.run_headline.specs.Headline.{Subject, Headline, is_covered, packets_of, record_after, records_of}
+use Rattle.run_headline.specs.Text.{AreTold}
 use Rattle.run_headline.specs.Law.{IsCompleted, done_in, lines, subject}
+use Rattle.run_headline.proofs.AnswerCauses.{answers_true}
 use Rattle.run_headline.proofs.CoveredUnits.{uncovered}
-use Rattle.run_headline.proofs.UnitOutputs.{all_found, folds_same, mine, part, processed_all, tests_agree, unit_outputs}
+use Rattle.run_headline.proofs.FoundNumbers.{all_found}
+use Rattle.run_headline.proofs.SummaryCounts.{counts_each, names_under}
+use Rattle.run_headline.proofs.UnitOutputs.{folds_same, mine, part, processed_all, tests_agree, unit_outputs}
 use Rattle.run_headline.proofs.UnitStates.{each_kept, kept_of, live_nth, live_of, none_live, one_live, sorted_kept, under_names}
 
 -- The nodes of a world: a switch, a controller, and instances.
@@ -49,6 +53,7 @@ module _ {F R : Type 0} where
     pub many : length instances ≡ count
     pub in_order : filter_map instance_in nodes ≡ instances
     pub lives : (u : units.Unit) (i : ℕ) → live_in u (slice_get nodes (instance_node i)) ≡ live_nth u instances i
+    pub there : (i : ℕ) (x : InstanceState F R) → slice_get instances i ≡ Some x → (d : Node F R) → get_or nodes (suc (suc i)) d ≡ Instance x
 
   record AreInstances (rest : List (Node F R)) : Type 0 where
     instances : List (InstanceState F R)
@@ -70,6 +75,11 @@ module _ {F R : Type 0} where
   lives_nth u (i ∷ is) zero = refl
   lives_nth u (i ∷ is) (suc k) = lives_nth u is k
 
+  found_nth : (is : List (InstanceState F R)) (k : ℕ) (x : InstanceState F R) → slice_get is k ≡ Some x → (d : Node F R) → get_or (map Instance is) k d ≡ Instance x
+  found_nth [] k x found d = cc
+  found_nth (i ∷ is) zero x found d = let same : i ≡ x = cc in ap Instance same
+  found_nth (i ∷ is) (suc k) x found d = found_nth is k x found d
+
   pub nodes_from : (x : Nodes F R) (nodes : List (Node F R)) (count : ℕ) → length nodes ≡ count + 2 → ((k : ℕ) → k < count + 2 → (d : Node F R)
       → get_or nodes k d ≡ node_of x k) → AreNodes nodes count
   nodes_from x [] count long each = absurd (omega (arith, long))
@@ -87,6 +97,7 @@ module _ {F R : Type 0} where
             ap (λ l. live_in u (slice_get l (instance_node i))) whole
             ∙ ap (λ k. live_in u (slice_get (Switch x.switch ∷ Controller x.controller ∷ map Instance are.instances) k)) node
             ∙ lives_nth u are.instances i);
+        there = λ i y found d. ap (λ l. get_or l (suc (suc i)) d) whole ∙ found_nth are.instances i y found d;
       }
 
 -- What is printed of packets has each number as often as it was processed.
@@ -220,7 +231,7 @@ module _ {R : Type 0} (F : Type 0) (f : Semantics R) (laws : FunctionLaws f) (al
     some_came =
         none_both went (those mine_u (map (λ p. p.number) (packets items))) (λ p. is.completed.each_once u p
         ∙ ap (λ l. times p (those mine_u l)) is.completed.all_came)
-        ∙ any_own (packets items) (tests_agree f c items u (packets items) (all_found 0 (packets items) is.is_input.numbers))
+        ∙ any_own (packets items) (tests_agree f c items u (packets items) (all_found (λ p. p.number) 0 (packets items) is.is_input.numbers))
 
     one_state : length (records_of of u (by_unit true there)) ≡ (if list_any part_u (packets items) then 1 else 0)
     one_state = ap length records_kept ∙ one_kept went ∙ ap (λ b. if b then 1 else 0) some_came
@@ -231,14 +242,21 @@ module _ {R : Type 0} (F : Type 0) (f : Semantics R) (laws : FunctionLaws f) (al
 
       record_is : records_of of u (by_unit true there) ≡ option_to_list (record_after of own)
       record_is = records_kept ∙ ap option_to_list (ap (folds.fold f c items None) (processed_all f c items is.is_input w is.promises is.completed u in_turn)
-          ∙ folds_same f c items u None (packets items) (all_found 0 (packets items) is.is_input.numbers))
+          ∙ folds_same f c items u None (packets items) (all_found (λ p. p.number) 0 (packets items) is.is_input.numbers))
+
+  -- what it tells of the instances is what its lines say
+  pub are_told : AreTold c.names (lines f c items w) there
+  are_told = record {
+    named = ap (λ l. map (λ x. x.name) (map instance_under (zip c.names l))) nodes.in_order ∙ names_under c.names nodes.instances nodes.many;
+    lives = λ name. counts_each name there;
+  }
 
   pub headline : Headline of (lines f c items w)
   headline = record {
     outs = is.outs;
     dones = λ n. dones_times n w.log ∙ all_done f c items w.log is.completed.each_once n ∙ ap (times n) is.completed.all_came
         ∙ sym (packet_times n (packets items));
-    answers = is.answers;
+    answers = answers_true F f laws alloc c items choices is;
     one_state = one_state;
     outputs = λ u off. unit_outputs f c items is.is_input w is.promises is.completed u (in_turn u off) is.outs;
     record_is = record_is;

@@ -1,7 +1,13 @@
 pub mod SortedParts
+pub mod FoundNumbers
+pub mod CommandNotes
+pub mod CommandOrder
+pub mod AnswerLines
+pub mod AnswerCauses
 pub mod UnitOutputs
 pub mod CoveredUnits
 pub mod UnitStates
+pub mod SummaryCounts
 pub mod HeadlineRuns
 pub mod ReportTexts
 pub mod TwoRuns

@@ -1,5 +1,5 @@
 -- The text of a report has the lines of its headline.
-use Rattle.std.proofs.Common.{◌≡◌, ℕ, false, List, [], ◌∷◌, ◌++◌, length, refl, sym, ap, ◌∙◌}
+use Rattle.std.proofs.Common.{◌≡◌, ℕ, Bool, true, false, List, [], ◌∷◌, ◌++◌, length, refl, sym, ap, ◌∙◌}
 use Rattle.std.specs.Prelude.{codes, filter_map}
 use Rattle.std.specs.List.{flat_map}
 use Rattle.std.proofs.lemmas.List.{append_assoc}
@@ -10,10 +10,11 @@ use Rattle.nf_msgs.specs.declared.note.Note.TheVariants as note
 use Rattle.actor_net.specs.Network.{Network}
 use Rattle.net_world.specs.declared.config.Config.{Config}
 use Rattle.net_world.specs.declared.node.Node.{Node}
-use Rattle.report_lines.specs.Lines.{done_line, done_lines, named_line, out_lines, standby_lines, state_lines, tail_lines}
+use Rattle.report_lines.specs.Lines.{NamedInstance, done_line, done_lines, named_line, out_lines, standby_lines, state_lines, tail_lines}
 use Rattle.run_report.specs.declared.head.Head.{Head}
-use Rattle.run_report.specs.Lines.{answer_lines, head_lines, named_instances, packet_lines, record_lines, report_text, whole_lines}
-use Rattle.run_headline.specs.Headline.{HasHeadline, Headline, lines_text}
+use Rattle.run_report.specs.Lines.{answer_lines, head_lines, live_line, named_instances, packet_lines, record_lines, report_text, summary_lines, whole_lines}
+use Rattle.run_headline.specs.Headline.{Headline}
+use Rattle.run_headline.specs.Text.{AreTold, HasHeadline, lines_text, summary_text}
 use Rattle.run_headline.specs.Law.{done_in, lines, subject}
 
 -- the lines of what was processed
@@ -33,18 +34,42 @@ regroup : (h x s b t : List ℕ) → (h ++ (x ++ (s ++ b))) ++ t ≡ (h ++ (x ++
 regroup h x s b t =
     ap (λ l. (h ++ l) ++ t) (sym (append_assoc x s b)) ∙ ap (λ l. l ++ t) (sym (append_assoc h (x ++ s) b)) ∙ append_assoc (h ++ (x ++ s)) b t
 
-module _ {F R : Type 0} (f : Semantics R) (c : Config) (items : List Msg) (head : Head) (w : Network (Node F R) Msg Note) where
-  abbrev bottom : List ℕ
-  bottom = standby_lines f (named_instances head.names w.nodes) ++ tail_lines (length head.names) (named_instances head.names w.nodes)
+module _ {F R : Type 0} (f : Semantics R) (c : Config) (items : List Msg) (head : Head) (w : Network (Node F R) Msg Note) (names : head.names ≡ c.names) where
+  abbrev there : List (List ℕ) → List (NamedInstance R)
+  there ns = named_instances ns w.nodes
 
-  pub text_is : head.names ≡ c.names → report_text f head false w ≡ head_lines head ++ lines_text f head.names (lines f c items w) ++ bottom
+  abbrev tail : List ℕ
+  tail = tail_lines (length c.names) (there c.names)
+
+  text_is : report_text f head false w ≡ head_lines head ++ lines_text f c.names (lines f c items w) ++ (standby_lines f (there head.names) ++ tail)
   unfolding report_text whole_lines packet_lines record_lines
-  text_is names =
-      regroup (head_lines head) ((out_lines f w.log ++ done_lines head.names w.log) ++ answer_lines w.log) (state_lines f (named_instances head.names w.nodes))
-      (standby_lines f (named_instances head.names w.nodes)) (tail_lines (length head.names) (named_instances head.names w.nodes))
-      ∙ ap (λ l. (head_lines head ++ (((out_lines f w.log ++ l) ++ answer_lines w.log) ++ state_lines f (named_instances head.names w.nodes))) ++ bottom) (sym (done_text head.names w.log))
-      ∙ ap (λ ns. (head_lines head ++ (((out_lines f w.log ++ flat_map (named_line (codes "done ") head.names) (filter_map done_in w.log)) ++ answer_lines w.log)
-      ++ state_lines f (named_instances ns w.nodes))) ++ bottom) names
+  text_is =
+      regroup (head_lines head) ((out_lines f w.log ++ done_lines head.names w.log) ++ answer_lines w.log) (state_lines f (there head.names))
+      (standby_lines f (there head.names)) (tail_lines (length head.names) (there head.names))
+      ∙ ap (λ l. (head_lines head ++ (((out_lines f w.log ++ l) ++ answer_lines w.log) ++ state_lines f (there head.names)))
+      ++ (standby_lines f (there head.names) ++ tail_lines (length head.names) (there head.names))) (sym (done_text head.names w.log))
+      ∙ ap (λ ns. (head_lines head ++ (((out_lines f w.log ++ flat_map (named_line (codes "done ") ns) (filter_map done_in w.log)) ++ answer_lines w.log)
+      ++ state_lines f (there ns))) ++ (standby_lines f (there head.names) ++ tail_lines (length ns) (there ns))) names
 
-  pub has_headline : head.names ≡ c.names → Headline (subject f c items) (lines f c items w) → HasHeadline (subject f c items) head (report_text f head false w)
-  has_headline names holds = record { lines = lines f c items w; bottom = bottom; text_is = text_is names; headline = holds }
+  summary_is : report_text f head true w ≡ head_lines head ++ summary_text (lines f c items w) (there c.names) ++ ([] ++ tail)
+  unfolding report_text summary_lines
+  summary_is = ap (λ ns. (head_lines head ++ (answer_lines w.log ++ flat_map live_line (there ns))) ++ tail_lines (length ns) (there ns)) names
+
+  module _ (holds : Headline (subject f c items) (lines f c items w)) (told : AreTold c.names (lines f c items w) (there c.names)) where
+    pub has_headline : (summary : Bool) → HasHeadline (subject f c items) head summary (report_text f head summary w)
+    has_headline true = record {
+      lines = lines f c items w;
+      headline = holds;
+      told = there c.names;
+      are_told = told;
+      standby = [];
+      text_is = summary_is;
+    }
+    has_headline false = record {
+      lines = lines f c items w;
+      headline = holds;
+      told = there c.names;
+      are_told = told;
+      standby = standby_lines f (there head.names);
+      text_is = text_is;
+    }

@@ -1,8 +1,7 @@
 -- The outputs of a unit that no plain move handed on, as they stand among all outputs sorted by the packets' numbers.
-use Rattle.std.proofs.Common.{◌≡◌, ℕ, suc, ◌≤◌, ◌<◌, Bool, true, false, cond, Option, Some, None, List, [], ◌∷◌, map, refl, sym, ap, ◌∙◌, subst, arith}
+use Rattle.std.proofs.Common.{◌≡◌, ℕ, suc, ◌≤◌, Bool, true, false, cond, Option, Some, None, List, [], ◌∷◌, map, refl, sym, ap, ◌∙◌, subst, arith}
 use Rattle.std.specs.Prelude.{◌==◌, filter, filter_map, find, fold, scan, zip, unwrap_or}
 use Rattle.std.specs.List.{AllByRecursion}
-use Rattle.std.proofs.lemmas.Bool.Decides.{nat_tests}
 use Rattle.flow_filter.specs.declared.packet.Packet.{Packet}
 use Rattle.nf_function.specs.declared.output.Output.{Output}
 use Rattle.nf_function.specs.declared.unit.Unit as units
@@ -22,6 +21,7 @@ use Rattle.nf_net.specs.Promises.{Promises, Completed}
 use Rattle.report_lines.specs.Lines.{by_number, output_in}
 use Rattle.run_headline.specs.Headline.{outs_of, outputs_to, packets_of, is_of}
 use Rattle.run_headline.specs.Law.{subject}
+use Rattle.run_headline.proofs.FoundNumbers.{all_found}
 use Rattle.run_headline.proofs.SortedParts.{part_stays, up_rising}
 use Rattle.std.proofs.lemmas.Cmp.{nat_cmp_total}
 
@@ -96,24 +96,6 @@ module _ (mine : ℕ → Bool) where
         | false ↦ more
       ])
 
--- each packet is found by its number
-find_past : (n least : ℕ) (ps : List Packet) (p : Packet) → p.number < n → find (λ q. q.number == n) (p ∷ ps) ≡ find (λ q. q.number == n) ps
-find_past n least ps p low = let off : (p.number == n) ≡ false = grind (arith, nat_tests, low) in rw off refl
-
-all_past : (p : Packet) (least : ℕ) (ps qs : List Packet) → p.number < least → IsRising least (map (λ q. q.number) qs)
-    → AllByRecursion (λ q. find (λ r. r.number == q.number) ps ≡ Some q) qs → AllByRecursion (λ q. find (λ r. r.number == q.number) (p ∷ ps) ≡ Some q) qs
-all_past p least ps [] low rising all = tt
-all_past p least ps (q ∷ qs) low rising all =
-    let first = rising.0 in
-    let less : p.number < q.number = omega (arith, low, first) in
-    (find_past q.number least ps p less ∙ all.0, all_past p (suc q.number) ps qs (omega (arith, less)) rising.1 all.1)
-
-pub all_found : (least : ℕ) (ps : List Packet) → IsRising least (map (λ p. p.number) ps) → AllByRecursion (λ p. find (λ q. q.number == p.number) ps ≡ Some p) ps
-all_found least [] rising = tt
-all_found least (p ∷ ps) rising =
-    let own : (p.number == p.number) ≡ true = grind (arith, nat_tests) in
-    (rw own refl, all_past p (suc p.number) ps ps (omega arith) rising.1 (all_found (suc p.number) ps rising.1))
-
 module _ {R : Type 0} (f : Semantics R) (c : Config) (items : List Msg) (u : units.Unit) where
   abbrev pub mine : ℕ → Bool
   mine = folds.is_of f c items u
@@ -164,7 +146,7 @@ module _ {R : Type 0} (f : Semantics R) (c : Config) (items : List Msg) (u : uni
 module _ {F R : Type 0} (f : Semantics R) (c : Config) (items : List Msg) (is : IsInput f.kind c items) (w : Network (Node F R) Msg Note)
     (promises : Promises f c items w) (completed : Completed f c items w) (u : units.Unit) (loose : is_loose c items u w.log ≡ false) where
   all_there : AllByRecursion (IsThere f c items u) (packets items)
-  all_there = all_found 0 (packets items) is.numbers
+  all_there = all_found (λ p. p.number) 0 (packets items) is.numbers
 
   -- what was processed of the unit is all its packets, in their order
   pub processed_all : folds.went f c items u w.log ≡ those (mine f c items u) (map (λ p. p.number) (packets items))

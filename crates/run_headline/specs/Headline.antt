@@ -1,28 +1,25 @@
 -- What the lines of a report say of each packet, each unit and each command: the theorem of this project in words that name no part of the
 -- network. This project's own.
-use Rattle.std.specs.Prelude.{◌≡◌, ℕ, ◌==◌, ◌++◌, Bool, true, false, not, ◌&&◌, if◌then◌else◌, codes, Option, None, List, map, filter, length}
-use Rattle.std.specs.Prelude.{fold, scan, flat_map, option_to_list, zip}
+use Rattle.std.specs.Prelude.{◌≡◌, ℕ, ◌==◌, Bool, false, not, ◌&&◌, if◌then◌else◌, Option, None, List, map, filter, length, fold, scan, option_to_list, zip}
 use Rattle.std.specs.List.{list_any}
 use Rattle.flow_filter.specs.declared.packet.Packet.{Packet}
-use Rattle.flow_filter.specs.declared.site.Site.{Site}
 use Rattle.nf_function.specs.declared.output.Output.{Output}
 use Rattle.nf_function.specs.declared.unit.Unit as units
 use Rattle.nf_function.specs.Semantics.{Semantics, unit_at, kept_after, output_for}
 use Rattle.nf_function.specs.Units.{takes}
 use Rattle.record_table.specs.Table.{same_unit}
 use Rattle.nf_msgs.specs.declared.answer.Answer.{Answer}
-use Rattle.nf_msgs.specs.declared.answer.Answer.TheVariants.{Done}
 use Rattle.nf_msgs.specs.declared.command.Command.{Command}
 use Rattle.nf_msgs.specs.declared.command.Order.{Order}
 use Rattle.nf_msgs.specs.declared.command.Order.TheVariants.{Move}
-use Rattle.report_lines.specs.Lines.{NamedRecord, named_line, out_line, record_line}
-use Rattle.run_report.specs.declared.head.Head.{Head}
-use Rattle.run_report.specs.Lines.{answer_line, head_lines}
+use Rattle.net_world.specs.declared.config.Config.{Config}
+use Rattle.report_lines.specs.Lines.{NamedRecord}
+use Rattle.run_headline.specs.Causes.{Answered, AreTrue, is_answered, is_done}
 
--- what a report is of: the function, the site, the packets of the capture and the commands of the script
+-- what a report is of: the function, the configuration of the instances, the packets of the capture and the commands of the script
 pub record Subject (R : Type 0) : Type 0 where
   pub function : Semantics R
-  pub site : Site
+  pub config : Config
   pub packets : List Packet
   pub commands : List Command
 
@@ -33,39 +30,27 @@ pub record ReportLines (R : Type 0) : Type 0 where
   pub answers : List (ℕ × Answer)
   pub states : List (NamedRecord R)
 
--- their text
-abbrev pub lines_text : {R : Type 0} → Semantics R → List (List ℕ) → ReportLines R → List ℕ
-lines_text f names lines =
-    (flat_map (out_line f) lines.outs ++ flat_map (named_line (codes "done ") names) lines.dones)
-    ++ flat_map answer_line lines.answers ++ flat_map (record_line f (codes "state ")) lines.states
-
 -- an order for a plain move, which doesn't keep the order of packets, of the unit
 abbrev pub moves_plainly : units.Unit → Order → Bool
 moves_plainly unit (Move source destination taken keep) = not keep && takes taken unit
 moves_plainly unit order = false
 
-abbrev pub is_done : Answer → Bool
-is_done Done = true
-is_done answer = false
-
 module _ {R : Type 0} (subject : Subject R) where
   -- one instance that nothing moves, which gets these packets in turn: the record that it keeps of their unit, and its outputs
   abbrev pub record_after : List Packet → Option R
-  record_after ps = fold (kept_after subject.function subject.site) None ps
+  record_after ps = fold (kept_after subject.function subject.config.site) None ps
 
   abbrev pub outputs_to : List Packet → List Output
-  outputs_to ps = scan (kept_after subject.function subject.site) (output_for subject.function subject.site) None ps
+  outputs_to ps = scan (kept_after subject.function subject.config.site) (output_for subject.function subject.config.site) None ps
 
   -- the unit was covered by a plain move that is done
   abbrev pub is_covered : List (ℕ × Answer) → units.Unit → Bool
-  is_covered answers unit =
-      list_any (λ c. moves_plainly unit c.what && list_any (λ a. (a.0 == c.op) && is_done a.1) answers) subject.commands
+  is_covered answers unit = list_any (λ c. moves_plainly unit c.what && is_answered is_done answers c.op) subject.commands
 
-  -- whether a packet is of the unit
+  -- whether a packet is of the unit, and those that are, in the order of the capture
   abbrev pub is_of : units.Unit → Packet → Bool
-  is_of unit p = same_unit (unit_at subject.function.kind subject.site p) unit
+  is_of unit p = same_unit (unit_at subject.function.kind subject.config.site p) unit
 
-  -- the packets of the unit, in the order of the capture
   abbrev pub packets_of : units.Unit → List Packet
   packets_of unit = filter (is_of unit) subject.packets
 
@@ -76,23 +61,20 @@ module _ {R : Type 0} (subject : Subject R) where
   abbrev pub records_of : units.Unit → List (NamedRecord R) → List R
   records_of unit states = map (λ s. s.kept) (filter (λ s. same_unit s.unit unit) states)
 
+  -- its commands, and the answers in the lines
+  abbrev pub answered : List (ℕ × Answer) → Answered
+  answered answers = record { kind = subject.function.kind; config = subject.config; commands = subject.commands; answers = answers }
+
   -- what the lines of a completed run say
   pub record Headline (lines : ReportLines R) : Type 0 where
     -- each captured packet has one `out` line, in the order of the capture, and one `done` line
     pub outs : map (λ o. o.0) lines.outs ≡ map (λ p. p.number) subject.packets
     pub dones : (n : ℕ) → length (filter (λ d. d.0 == n) lines.dones) ≡ length (filter (λ p. p.number == n) subject.packets)
-    -- each command has one `answer` line, in the order of the script
-    pub answers : map (λ a. a.0) lines.answers ≡ map (λ c. c.op) subject.commands
+    -- each command has one `answer` line, in the order of the script, with its true cause
+    pub answers : AreTrue (answered lines.answers)
     -- each unit with a packet has one `state` line, and no other unit has one
     pub one_state : (unit : units.Unit) → length (records_of unit lines.states) ≡ (if list_any (is_of unit) subject.packets then 1 else 0)
     -- where no completed plain move covered the unit, its outputs and its record are those of one instance that nothing moved
     pub outputs : (unit : units.Unit) → is_covered lines.answers unit ≡ false → outs_of unit lines.outs ≡ outputs_to (packets_of unit)
     pub record_is : (unit : units.Unit) → is_covered lines.answers unit ≡ false
         → records_of unit lines.states ≡ option_to_list (record_after (packets_of unit))
-
--- a text has lines of which this holds, between the head of a report and what it says of records that stand by and of tallies
-pub record HasHeadline {R : Type 0} (subject : Subject R) (head : Head) (text : List ℕ) : Type 0 where
-  pub lines : ReportLines R
-  pub bottom : List ℕ
-  pub text_is : text ≡ head_lines head ++ lines_text subject.function head.names lines ++ bottom
-  pub headline : Headline subject lines

@@ -1,6 +1,6 @@
 -- The laws of headlines: what is printed of each completed run of the network has the lines of the headline, and two runs say the same.
 -- This project's own.
-use Rattle.std.specs.Prelude.{◌≡◌, ℕ, true, false, List, map, filter_map, Option, None, Some}
+use Rattle.std.specs.Prelude.{◌≡◌, ℕ, Bool, true, false, List, map, filter_map, Option, None, Some}
 use Rattle.std.specs.declared.alloc.Global.{Global}
 use Rattle.nf_function.specs.declared.unit.Unit as units
 use Rattle.nf_function.specs.Semantics.{Semantics}
@@ -12,13 +12,15 @@ use Rattle.actor_net.specs.Network.{Network, IsRun, run}
 use Rattle.net_world.specs.declared.config.Config.{Config}
 use Rattle.net_world.specs.declared.node.Node.{Node}
 use Rattle.net_world.specs.Input.{IsInput, packets, commands}
+use Rattle.net_world.specs.Jobs.{course_of, job_of}
 use Rattle.net_world.specs.Nodes.{node_ready, node_step}
 use Rattle.net_world.specs.Start.{started}
-use Rattle.nf_net.specs.Promises.{Promises, Completed}
+use Rattle.nf_net.specs.Promises.{Promises, Completed, Verdicts}
 use Rattle.report_lines.specs.Lines.{by_number, by_unit, output_in}
 use Rattle.run_report.specs.Lines.{answer_in, named_instances, report_text}
 use Rattle.run_report.specs.declared.head.Head.{Head}
-use Rattle.run_headline.specs.Headline.{Subject, ReportLines, HasHeadline, Headline, is_covered, outs_of, records_of}
+use Rattle.run_headline.specs.Headline.{Subject, ReportLines, Headline, is_covered, outs_of, records_of}
+use Rattle.run_headline.specs.Text.{HasHeadline}
 
 -- the number of a packet that was processed, and of the instance at which it was
 abbrev pub done_in : Note → Option (ℕ × ℕ)
@@ -28,7 +30,7 @@ done_in note = None
 module _ {R : Type 0} (f : Semantics R) (config : Config) (items : List Msg) where
   -- what a run is of
   abbrev pub subject : Subject R
-  subject = record { function = f; site = config.site; packets = packets items; commands = commands items }
+  subject = record { function = f; config = config; packets = packets items; commands = commands items }
 
   -- the lines of the report of a world
   abbrev pub lines : {F : Type 0} → Network (Node F R) Msg Note → ReportLines R
@@ -48,6 +50,7 @@ module _ {R : Type 0} (F : Type 0) (f : Semantics R) (alloc : Global) (config : 
     pub is_input : IsInput f.kind config items
     pub is_run : IsRun node_ready (node_step f) choices (started {F = F} {R = R} alloc config items)
     pub promises : Promises f config items (world choices)
+    pub verdicts : Verdicts {F = F} (job_of f config items) (course_of (started alloc config items) choices)
     pub completed : Completed f config items (world choices)
     pub outs : map (λ x. x.0) (by_number output_in (world choices).log) ≡ map (λ p. p.number) (packets items)
     pub answers : map (λ x. x.0) (by_number answer_in (world choices).log) ≡ map (λ c. c.op) (commands items)
@@ -55,15 +58,15 @@ module _ {R : Type 0} (F : Type 0) (f : Semantics R) (alloc : Global) (config : 
 module _ {R : Type 0} (F : Type 0) (f : Semantics R) where
   abbrev pub HeadlineLaw : Type 0
   HeadlineLaw = (alloc : Global) (config : Config) (items : List Msg) (choices : List Choice) → IsCompleted F f alloc config items choices
-      → (head : Head) → head.names ≡ config.names
-      → HasHeadline (subject f config items) head (report_text f head false (run (node_step f) choices (started {F = F} {R = R} alloc config items)))
+      → (head : Head) → head.names ≡ config.names → (summary : Bool)
+      → HasHeadline (subject f config items) head summary (report_text f head summary (run (node_step f) choices (started {F = F} {R = R} alloc config items)))
 
 -- Two runs of a function over one capture at one site, whatever their scripts, schedules and instances.
 module _ {R : Type 0} (f : Semantics R) (one other : Subject R) where
   pub record AreAlike : Type 0 where
     pub first : one.function ≡ f
     pub second : other.function ≡ f
-    pub site : one.site ≡ other.site
+    pub site : one.config.site ≡ other.config.site
     pub packets : one.packets ≡ other.packets
 
 module _ {R : Type 0} (one other : Subject R) where

@@ -1,2 +1,4 @@
+pub mod Causes
 pub mod Headline
+pub mod Text
 pub mod Law

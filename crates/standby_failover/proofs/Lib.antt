@@ -1,6 +1,7 @@
 pub mod ListLemmas
 pub mod NumberedPackets
 pub mod MetNumbers
+pub mod Marks
 pub mod Reflected
 pub mod LostPackets
 pub mod Arrivals

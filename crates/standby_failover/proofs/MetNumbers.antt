@@ -1,12 +1,6 @@
 -- The numbers of packets that a loop over a log or a list has met so far: those of one place more.
 use Rattle.std.proofs.Common.{◌≡◌, ℕ, ◌+◌, ◌<◌, Bool, true, false, List, [], ◌∷◌, ◌++◌, map, take, drop, get_or, length, filter, append-nil, refl, sym, ap, ◌∙◌}
-use Rattle.std.specs.Prelude.{◌==◌, ◌||◌, if◌then◌else◌}
-use Rattle.std.specs.Cmp.{nat_cmp_is, Equal-is}
-use Rattle.std.specs.FinMap.{nat_cmp-IsAntisymmetric}
-use Rattle.std.specs.Ordering.{nat_cmp, is_eq}
-use Rattle.std.specs.declared.cmp.Ordering.TheVariants.{Equal}
-use Rattle.std.proofs.lemmas.Bool.{true≢false}
-use Rattle.std.proofs.lemmas.Bool.Decides.{Decides-eqb}
+use Rattle.std.specs.Prelude.{if◌then◌else◌}
 use Rattle.std.proofs.lemmas.List.{map-append, take_more, drop_more, take-append-drop}
 use Rattle.std.proofs.lemmas.List.Elements.{filter-append}
 use Rattle.nf_msgs.specs.declared.note.Note.{Note}
@@ -15,36 +9,7 @@ use Rattle.nf_function.specs.declared.output.Output.{Output}
 use Rattle.net_world.specs.Log.{arrived, done}
 use Rattle.whole_joined.proofs.LogLemmas.{arrived-append, done-append}
 use Rattle.standby_failover.specs.Failover.{is_in, numbers_done}
-use Rattle.standby_failover.proofs.ListLemmas.{in-append, in_middle}
-
--- the test of a set's key is that of the number
-same_key : (k q : ℕ) → is_eq (nat_cmp k q) ≡ (q == k)
-same_key k q = by_test (q == k) refl
-  where
-    by_order : (b : Bool) → (q == k) ≡ false → is_eq (nat_cmp k q) ≡ b → is_eq (nat_cmp k q) ≡ (q == k)
-    by_order true off e =
-        let same : q ≡ k = sym (nat_cmp-IsAntisymmetric k q ((Equal-is (nat_cmp k q)).0 e)) in
-        absurd (true≢false (sym ((Decides-eqb q k).1 same) ∙ off))
-    by_order false off e = e ∙ sym off
-
-    by_test : (b : Bool) → (q == k) ≡ b → is_eq (nat_cmp k q) ≡ (q == k)
-    by_test true on = ap is_eq (sym (nat_cmp_is k q Equal (sym ((Decides-eqb q k).0 on)))) ∙ sym on
-    by_test false off = by_order (is_eq (nat_cmp k q)) off refl
-
-or_cond : (a b : Bool) → (if a then true else b) ≡ (b || (a || false))
-or_cond true true = refl
-or_cond true false = refl
-or_cond false true = refl
-or_cond false false = refl
-
--- what a set has, with one number more of a list
-pub set_more : (xs : List ℕ) (i d q : ℕ) (old new : Bool) → i < length xs → new ≡ (if is_eq (nat_cmp (get_or xs i d) q) then true else old)
-    → old ≡ is_in q (take i xs) → new ≡ is_in q (take (i + 1) xs)
-set_more xs i d q old new within is so_far =
-    is ∙ ap (λ b. if b then true else old) (same_key (get_or xs i d) q) ∙ or_cond (q == get_or xs i d) old
-    ∙ ap (λ b. b || ((q == get_or xs i d) || false)) so_far
-    ∙ sym (in-append q (take i xs) (get_or xs i d ∷ []))
-    ∙ ap (is_in q) (sym (take_more xs i d within))
+use Rattle.standby_failover.proofs.ListLemmas.{in_middle}
 
 -- the notes up to a place, with one more
 notes_more : (log : List Note) (i : ℕ) (n : Note) → i < length log → n ≡ get_or log i n → take (i + 1) log ≡ take i log ++ n ∷ []

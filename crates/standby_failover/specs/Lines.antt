@@ -8,7 +8,7 @@ use Rattle.record_table.specs.Table.{TableView}
 use Rattle.report_lines.specs.Lines.{end_line, function_line, name_of, record_line, trace_line, unit_text}
 use Rattle.run_report.specs.declared.head.Head.{Head}
 use Rattle.standby_failover.specs.declared.promoted.Promoted.{Promoted}
-use Rattle.standby_failover.specs.declared.reporting.Failing.{Failing}
+use Rattle.standby_failover.specs.declared.promoted.Failing.{Failing}
 
 -- the three lines at the top
 unfoldable pub head_lines : Head → List ℕ

@@ -1,6 +1,6 @@
 -- Steps between code and definition, which nobody has to believe: what the code looks at of a world in which an instance fails, and how it finds
 -- which packets a record has seen.
-use Rattle.std.specs.Prelude.{◌≡◌, ◌≢◌, ◌==◌, ℕ, Bool, true, false, List, Option, None, Some, find, is_some}
+use Rattle.std.specs.Prelude.{◌≡◌, ◌≢◌, ◌==◌, ℕ, Bool, true, false, List, Option, None, Some, find, get_or, is_some}
 use Rattle.std.specs.Option.{option_map_or}
 use Rattle.std.specs.FinMap as finite
 use Rattle.nf_function.specs.Records.{is_newer}
@@ -29,6 +29,10 @@ pub record Stopped (F R : Type 0) : Type 0 where
   pub world : Network (Node F R) Msg Note
   pub failed : ℕ
   pub to : ℕ
+
+-- whether a number is marked in a list of marks, one for each number from 0
+abbrev pub is_marked : List Bool → ℕ → Bool
+is_marked marks q = get_or marks q false
 
 -- what is found of the affected units there is as the definitions say
 pub record AreAffected {F R : Type 0} (x : Failover F R) (a : Affected) : Type 0 where

@@ -5,6 +5,14 @@ use record_table::Table;
 /// Numbers of packets.
 pub type Numbers = Sequence<u32>;
 
+/// Which instance fails, after how many choices, and which one takes over. The instances go by their places among the names.
+#[derive(Clone, Copy, Debug, PartialEq, Eq)]
+pub struct Failing {
+    pub failed: u8,
+    pub to: u8,
+    pub after: u64,
+}
+
 /// What is left where an instance fails and another takes over.
 #[derive(Drop)]
 pub struct Promoted<F: Function> {

@@ -8,10 +8,11 @@ ghost use Rattle.standby_failover.specs.Failover.{IsLeft, IsPromoted, failover_o
 
 use crate::fault::FailFault;
 use crate::packets::packets_of;
-use crate::promoted::Promoted;
+use crate::promoted::{Failing, Promoted};
 use crate::replay::{into_table, table_of, world_after};
 use crate::scene::{Affected, Scene};
 use actor_net::Choice;
+use flow_filter::Packets;
 use net_world::Config;
 use nf_function::Function;
 use nf_msgs::Msg;
@@ -47,17 +48,45 @@ pub fn promote<F: Function>(
     ensures not_a_run { (step : ℕ) → result ≡ Err (FailFault.NotARun step)
         → IsFailCause {F = F.row.Denot} F.semantics (started alloc config.now items.items) (first_of choices.now after) step }
 {
-    let packets = packets_of(alloc, items.as_slice())?;
-    let world = world_after::<F>(alloc, config, items, choices, after)?;
+    let trace = packets_of(alloc, items.as_slice())?;
+    let failing = Failing { failed, to, after };
+    promote_with(alloc, config, items, &trace, choices, &failing)
+}
+
+/// The same, where the packets of the input are at hand.
+pub fn promote_with<F: Function>(
+    alloc: Global,
+    config: &Config,
+    items: Vec<Msg>,
+    trace: &Packets,
+    choices: &[Choice],
+    failing: &Failing,
+) -> Result<Promoted<F>, FailFault>
+    requires input { IsInput F.semantics.kind config.now items.items }
+    requires trace { trace.now ≡ packets items.items }
+    requires numbered { AreNumbered 1 trace.now }
+    requires failed { failing.now.failed < length config.now.names }
+    requires to { failing.now.to < length config.now.names }
+    requires two { failing.now.failed ≢ failing.now.to }
+    ensures reached { IfOk result (λ _. IsReached {F = F.row.Denot} F.semantics (started alloc config.now items.items) (first_of choices.now failing.now.after)) }
+    ensures left { let world = world_after F.semantics (started alloc config.now items.items) (first_of choices.now failing.now.after) in
+        IfOk result (λ _. IsLeft {F = F.row.Denot} (failover_of (job_of F.semantics config.now items.items) world failing.now.failed failing.now.to)) }
+    ensures promoted { let world = world_after F.semantics (started alloc config.now items.items) (first_of choices.now failing.now.after) in
+        IfOk result (IsPromoted {F = F.row.Denot} (failover_of (job_of F.semantics config.now items.items) world failing.now.failed failing.now.to)) }
+    ensures known { IfOk result (λ promoted. All (λ n. IsSome (find (λ p. p.number == n) (packets items.items))) (promoted.order ++ promoted.pending)) }
+    ensures not_a_run { (step : ℕ) → result ≡ Err (FailFault.NotARun step)
+        → IsFailCause {F = F.row.Denot} F.semantics (started alloc config.now items.items) (first_of choices.now failing.now.after) step }
+{
+    let world = world_after::<F>(alloc, config, items, choices, failing.after)?;
     let scene = Scene {
         site: config.site,
-        packets: packets.items(),
+        packets: trace.items(),
         log: world.log(),
-        failed: table_of(&world, failed),
-        to: table_of(&world, to),
+        failed: table_of(&world, failing.failed),
+        to: table_of(&world, failing.to),
     };
     let affected = scene.affected(alloc)?;
-    let mut table = into_table(world, to)?;
+    let mut table = into_table(world, failing.to)?;
     table.promote(&affected.units)?;
     let Affected {
         units,

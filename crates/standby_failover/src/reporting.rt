@@ -16,7 +16,7 @@ ghost use Rattle.standby_failover.specs.Lines.{caught_line, caught_lines, fail_l
 ghost use Rattle.standby_failover.specs.Stepping.{after_packets, packet_among};
 
 use crate::catching_up::catch_up;
-use crate::promoted::Promoted;
+use crate::promoted::{Failing, Promoted};
 use basics::{NoMemory, Text};
 use flow_filter::{Name, Packets};
 use net_world::Config;
@@ -25,14 +25,6 @@ use record_table::Table;
 use report_lines::{push_function_line, push_record, push_trace_line, push_unit};
 use run_report::Head;
 use std::alloc::Global;
-
-/// Which instance fails, after how many choices, and which one takes over. The instances go by their places among the names.
-#[derive(Clone, Copy, Debug, PartialEq, Eq)]
-pub struct Failing {
-    pub failed: u8,
-    pub to: u8,
-    pub after: u64,
-}
 
 /// The report of what is promoted and of its records once they have caught up as by [`crate::catch_up`], and these records.
 #[tactic(auto, unfolding(crate::specs::Lines::failover_text))]

@@ -5,7 +5,7 @@ ghost use Rattle.trace_reader.specs.Records.{AreNumbered};
 ghost use Rattle.standby_failover.specs.Failover.{lost_in_order, open_packets};
 ghost use Rattle.standby_failover.specs.Scenes.{AreAffected, IsSceneOf, Stopped, affects, failover_in, has_seen_more};
 
-use crate::numbers::{came_among, processed, set_of};
+use crate::numbers::{came_among, is_marked, processed};
 use crate::packets::packet_at;
 use crate::promoted::Numbers;
 use basics::NoMemory;
@@ -93,14 +93,13 @@ impl<F: Function> Scene<'_, F> {
         ensures { (v : Stopped F.row.Denot F.Record) → IsSceneOf F.semantics v self.now
             → IfOk result (λ found. found ≡ open_packets (failover_in F.semantics v)) }
     {
-        let processed = processed(alloc, self.log)?;
-        let set = set_of(alloc, processed.items())?;
+        let marks = processed(alloc, self.log)?;
         let mut found = Numbers::open(alloc);
         for note in self.log {
             let Note::Arrived(number) = note else {
                 continue;
             };
-            if !set.contains(number) && self.affects(*number) {
+            if !is_marked(marks.as_slice(), *number) && self.affects(*number) {
                 found.push(*number)?;
             }
         }

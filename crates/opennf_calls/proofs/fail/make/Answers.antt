@@ -41,6 +41,7 @@ returns-clause-row g c =
     let journal = fails_journal f named in
     let answers = counted f.network mid new (Ok c.in_ok-choices.choices) c.len-count.result c.in_ok-choices.ensures.journal (search rules) in
     failed_row f scenario c.in_ok-choices.choices old new c.requires
-    (only f.network (asks_fail f) journal scenario old mid new c.requires c.in_ok-inputs.ensures.only c.in_ok-inputs.ensures.given c.in_ok-choices.ensures.alone)
+    (only f.network (asks_fail f) journal scenario old mid new c.requires c.in_ok-inputs.ensures.only c.in_ok-inputs.ensures.given
+    c.in_ok-choices.ensures.alone)
     (journal_told f.network (asks_fail f) journal scenario old mid new c.requires c.in_ok-inputs.ensures.only c.in_ok-inputs.ensures.given
     c.in_ok-choices.ensures.alone c.in_ok-choices.choices answers) c.run_failed.result c.run_failed.ensures

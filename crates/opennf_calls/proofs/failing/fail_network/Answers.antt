@@ -24,10 +24,16 @@ trace_is g c = c.in_ok-trace.ensures ∙ ap packets c.as_slice.ensures.value
 numbered : (g : Over) (c : In_ok-trace g) → AreNumbered 1 (packets c.in_ok-config.field-0.items.items)
 numbered g c =
     let scenario = scenario_of c.args.asked.now.network.site c.args.inputs in
-    subst (AreNumbered 1) (sym (ap packets c.in_ok-config.ensures.items ∙ packets_in scenario.captured.packets scenario.script.lines.items)) c.requires.sound.numbers
+    subst (AreNumbered 1) (sym (ap packets c.in_ok-config.ensures.items
+    ∙ packets_in scenario.captured.packets scenario.script.lines.items)) c.requires.sound.numbers
 
-pub promote-requires-clause-numbered : goal.promote-requires-clause-numbered
-promote-requires-clause-numbered g c = numbered g (goal.at.promote-requires-clause-numbered g c).In_ok-trace
+pub promote_with-requires-clause-trace : goal.promote_with-requires-clause-trace
+promote_with-requires-clause-trace g c = trace_is g (goal.at.promote_with-requires-clause-trace g c).In_ok-trace
+
+pub promote_with-requires-clause-numbered : goal.promote_with-requires-clause-numbered
+promote_with-requires-clause-numbered g c =
+    let b = (goal.at.promote_with-requires-clause-numbered g c).In_ok-trace in
+    subst (AreNumbered 1) (sym (trace_is g b)) (numbered g b)
 
 pub report_failover-requires-clause-numbered : goal.report_failover-requires-clause-numbered
 report_failover-requires-clause-numbered g c =
@@ -49,10 +55,10 @@ returns-in_err-promoted g c =
     let told : c.items.result.now ≡ c.args.choices = search rules in
     let failed = err_from_is_err_and c.from_residual-in_err-promoted.result c.from_residual-in_err-promoted.ensures.1 in
     rw (failed.1, failed.2)
-    (failover_refused g.row.F.Denot f asked (scenario_of c.args.asked.now.network.site c.args.inputs) c.args.alloc opening.config opening.items.items is.config is.items
-    c.args.choices c.in_err-promoted.field-0.0 (λ step same.
-    subst (λ (cs : List Choice). IsFailCause {F = g.row.F.Denot} f (started c.args.alloc opening.config opening.items.items) (first_of cs asked.after) step) told
-    (c.in_err-promoted.ensures.not_a_run step (ap Err same))))
+    (failover_refused g.row.F.Denot f asked (scenario_of c.args.asked.now.network.site c.args.inputs) c.args.alloc opening.config opening.items.items is.config
+    is.items c.args.choices c.in_err-promoted.field-0.0 (λ step same.
+    subst (λ (cs : List Choice). IsFailCause {F = g.row.F.Denot} f (started c.args.alloc opening.config opening.items.items) (first_of cs asked.after) step)
+    told (c.in_err-promoted.ensures.not_a_run step (ap Err same))))
 
 pub returns : goal.returns
 returns g c =

@@ -5,4 +5,5 @@ use Rattle.opennf_calls.proofs.FailLemmas.{failed_kind}
 use Rattle.opennf_calls.proofs.failing.run_failed.Goals as goal
 
 pub returns : goal.returns
-returns c = failed_kind (fail_view c.args.asked.now) (scenario_of c.args.asked.now.network.site c.args.inputs) c.args.choices c.for_kind.result c.for_kind.ensures
+returns c = failed_kind (fail_view c.args.asked.now) (scenario_of c.args.asked.now.network.site c.args.inputs) c.args.choices c.for_kind.result
+    c.for_kind.ensures

@@ -1,7 +1,13 @@
--- Three times nothing but names changed.
-use Rattle.opennf_calls.proofs.LastLineLemmas.{same_after}
+-- Three files are bound, one after another.
+use Rattle.std.proofs.Common.{◌∙◌}
+use Rattle.opennf_calls.proofs.BoundFiles.{binds_after}
 use Rattle.opennf_calls.proofs.top.bind_run.Goals as goal
 
-pub returns-clause-contents : goal.returns-clause-contents
-returns-clause-contents g c =
-    same_after _ _ _ (same_after _ _ _ c.bind_file.ensures.contents c.bind_file-2.ensures.contents) c.bind_file-3.ensures.contents
+pub returns-clause-binds : goal.returns-clause-binds
+returns-clause-binds g c =
+    binds_after _ _ (λ role name. c.bind_file-2.ensures.shown role name ∙ c.bind_file.ensures.shown role name) _ _ _
+    (binds_after _ _ c.bind_file.ensures.shown _ _ _ c.bind_file.ensures.binds c.bind_file-2.ensures.binds) c.bind_file-3.ensures.binds
+
+pub returns-in_err-bind_file-2-clause-binds : goal.returns-in_err-bind_file-2-clause-binds
+returns-in_err-bind_file-2-clause-binds g c =
+    binds_after _ _ c.bind_file.ensures.shown _ _ _ c.bind_file.ensures.binds c.bind_file-2.ensures.binds

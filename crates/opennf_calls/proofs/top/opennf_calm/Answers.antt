@@ -1,6 +1,7 @@
 -- What a command ends with is what its words ask for.
 use Rattle.std.proofs.Common.{map}
 use Rattle.std.specs.Prelude.{string_bytes}
+use Rattle.nf_io.specs.Meaning.{as_named}
 use Rattle.command_words.specs.Requests.{request_of}
 use Rattle.command_words.specs.RequestViews.{calm_view}
 use Rattle.opennf_calls.proofs.EndedCommands.{ended_words, refused_words}
@@ -9,11 +10,14 @@ use Rattle.opennf_calls.proofs.top.opennf_calm.Goals as goal
 pub returns-in-Ok : goal.returns-in-Ok
 returns-in-Ok g c =
     let request = request_of (map string_bytes c.args.words.now) in
+    let shown = g.O.Outside.shown c.args.outside.now in
     let old = g.O.Outside.seen c.args.outside.now in
-    c.tell.ensures request old (ended_words request (calm_view c.in-Ok.asked) old (g.O.Outside.seen c.perform_calm.new.outside) c.perform_calm.result c.in-Ok.ensures c.perform_calm.ensures)
+    c.tell.ensures request shown old (ended_words request (calm_view c.in-Ok.asked) (as_named shown old (g.O.Outside.seen c.perform_calm.new.outside)) (g.O.Outside.seen c.perform_calm.new.outside) c.perform_calm.result c.in-Ok.ensures c.perform_calm.ensures)
 
 pub returns-in-Err : goal.returns-in-Err
 returns-in-Err g c =
     let request = request_of (map string_bytes c.args.words.now) in
+    let shown = g.O.Outside.shown c.args.outside.now in
     let old = g.O.Outside.seen c.args.outside.now in
-    c.tell-in-Err.ensures request old (refused_words request old c.in-Err.fault c.refuse.result c.in-Err.ensures c.requires.unnamed c.refuse.ensures)
+    c.tell-in-Err.ensures request shown old (refused_words request shown old c.in-Err.fault c.refuse.result c.in-Err.ensures c.requires.unnamed
+    c.refuse.ensures)

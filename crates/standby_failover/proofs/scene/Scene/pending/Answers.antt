@@ -1,12 +1,12 @@
 -- A note of a packet that came adds its number where it is open.
-use Rattle.std.proofs.Common.{rules, ◌≡◌, Bool, true, false, [], ◌∷◌, ◌++◌, refl, sym, ap, ◌∙◌}
+use Rattle.std.proofs.Common.{◌≡◌, Bool, true, false, [], ◌∷◌, ◌++◌, refl, sym, ap, ◌∙◌}
 use Rattle.std.specs.Prelude.{◌&&◌, not}
 use Rattle.standby_failover.specs.Failover.{is_in, is_open, numbers_done}
-use Rattle.standby_failover.specs.Scenes.{affects, failover_in}
+use Rattle.standby_failover.specs.Scenes.{affects, failover_in, is_marked}
 use Rattle.standby_failover.proofs.MetNumbers.{left_out, met_came, picked_next, picked_same}
 use Rattle.standby_failover.proofs.SceneSteps.{open_is}
 use Rattle.standby_failover.proofs.scene.Scene.pending.Goals as goal
-use Rattle.standby_failover.proofs.scene.Scene.pending.Goals.{then-not-contains+then-affects+in_ok-push, else-not-contains, else-not-contains-via-then-not-contains+else-affects, else-not-contains-via-else-not-contains}
+use Rattle.standby_failover.proofs.scene.Scene.pending.Goals.{then-not-is_marked+then-affects+in_ok-push, else-not-is_marked, else-not-is_marked-via-then-not-is_marked+else-affects, else-not-is_marked-via-else-not-is_marked}
 
 and_false : (b : Bool) → (b && false) ≡ false
 and_false true = refl
@@ -26,22 +26,22 @@ loop-note-preserved g c =
     let i = c.loop-note.note-index in
     let log = s.log.now in
     let came = met_came log i c.note-item.result c.loop-note-test.true c.note-item.is number c.in-Arrived.is in
-    let among : c.items.result.now ≡ numbers_done log = search rules in
-    let tested : c.contains.result ≡ is_in number (numbers_done log) = c.contains.ensures ∙ c.in_ok-set.ensures number ∙ ap (is_in number) among in
-    elim c.if-not-contains.branch [
-      | then-not-contains+then-affects+in_ok-push w ↦ λ v is.
-          let out : is_in number (numbers_done log) ≡ false = sym tested ∙ w.if-not-contains.true in
+    let tested : c.is_marked.result ≡ is_in number (numbers_done log) =
+    c.is_marked.ensures ∙ ap (λ ms. is_marked ms number) c.as_slice.ensures.value ∙ c.in_ok-marks.ensures number in
+    elim c.if-not-is_marked.branch [
+      | then-not-is_marked+then-affects+in_ok-push w ↦ λ v is.
+          let out : is_in number (numbers_done log) ≡ false = sym tested ∙ w.if-not-is_marked.true in
           let taken : affects f s number ≡ true = sym w.affects.ensures ∙ w.if-affects.true in
           w.found-is ∙ w.in_ok-push.ensures.ok ∙ ap (λ xs. xs ++ number ∷ []) (c.loop-note.invariant v is)
           ∙ sym (picked_next log i c.note-item.result c.loop-note-test.true c.note-item.is (is_open (failover_in f v)) number c.in-Arrived.is true
           (open_is f v s is number came true (ap (λ b. not b && affects f s number) out ∙ taken)))
-      | else-not-contains w ↦ λ v is.
+      | else-not-is_marked w ↦ λ v is.
           w.found-is ∙ c.loop-note.invariant v is
           ∙ sym (left_out log i c.note-item.result c.loop-note-test.true c.note-item.is (is_open (failover_in f v)) number c.in-Arrived.is
-          (open_is f v s is number came false (elim w.else-not-contains.branch [
-            | else-not-contains-via-then-not-contains+else-affects y ↦
+          (open_is f v s is number came false (elim w.else-not-is_marked.branch [
+            | else-not-is_marked-via-then-not-is_marked+else-affects y ↦
                 ap (λ b. not (is_in number (numbers_done log)) && b) (sym y.affects.ensures ∙ y.if-affects.false)
                 ∙ and_false (not (is_in number (numbers_done log)))
-            | else-not-contains-via-else-not-contains y ↦ ap (λ b. not b && affects f s number) (sym tested ∙ y.if-not-contains.false)
+            | else-not-is_marked-via-else-not-is_marked y ↦ ap (λ b. not b && affects f s number) (sym tested ∙ y.if-not-is_marked.false)
           ])))
     ]

@@ -1,7 +1,7 @@
 -- What is known of the outside once the source over it is gone.
 use Rattle.std.proofs.Common.{rules}
 use Rattle.nf_io.proofs.RolesAfterLoan.{left_written, left_name, left_others}
-use Rattle.opennf_calls.proofs.published.read_packets.Goals as goal
+use Rattle.opennf_calls.proofs.inputs.read_packets.Goals as goal
 
 pub returns-clause-alone : goal.returns-clause-alone
 returns-clause-alone g c = record {

@@ -1,7 +1,7 @@
 -- One packet more, and all of them.
 use Rattle.net_world.specs.Input.{IsSteered}
 use Rattle.run_input.proofs.LoopFacts.{all_more, all_done}
-use Rattle.opennf_calls.proofs.update.are_steered.Goals as goal
+use Rattle.opennf_calls.proofs.steered.are_steered.Goals as goal
 
 pub loop-packet-preserved : goal.loop-packet-preserved
 loop-packet-preserved c = all_more (IsSteered c.args.site) c.args.packets.now c.loop-packet.packet-index c.packet-item.result c.loop-packet-test.true c.packet-item.is c.loop-packet.invariant c.is_steered_when_captured.ensures

@@ -1,0 +1,32 @@
+-- What is made is what the command gives for its capture, or the status has its row.
+use Rattle.std.proofs.Common.{refl}
+use Rattle.std.proofs.lemmas.Result.{err_from_is_err_and}
+use Rattle.nf_io.specs.declared.outside.Role.TheVariants.{Trace}
+use Rattle.command_words.specs.Requests.{asks_strong}
+use Rattle.command_words.specs.RequestViews.{strong_view}
+use Rattle.opennf_calls.proofs.CaptureRows.{capture_row}
+use Rattle.opennf_calls.proofs.RowLemmas.{one_read}
+use Rattle.opennf_calls.proofs.StrongRows.{sharing_reads, sharing_results}
+use Rattle.opennf_calls.proofs.strong.make.Goals as goal
+
+pub returns-in_err-trace-clause-only : goal.returns-in_err-trace-clause-only
+returns-in_err-trace-clause-only g c = one_read Trace _ _ refl c.in_err-trace.ensures.alone
+
+pub returns-in_err-made-clause-only : goal.returns-in_err-made-clause-only
+returns-in_err-made-clause-only g c = one_read Trace _ _ refl c.in_ok-trace.ensures.alone
+
+pub returns-clause-only : goal.returns-clause-only
+returns-clause-only g c = one_read Trace _ _ refl c.in_ok-trace.ensures.alone
+
+pub returns-in_err-trace-clause-row : goal.returns-in_err-trace-clause-row
+returns-in_err-trace-clause-row g c =
+    let s = strong_view c.args.asked.now in
+    let failed = err_from_is_err_and c.from_residual.result c.from_residual.ensures.1 in
+    rw (failed.1, failed.2)
+    (capture_row (asks_strong s c.args.schedule) (sharing_reads s c.args.schedule) (g.O.Outside.seen c.args.outside.now)
+    (g.O.Outside.seen c.read_packets.new.outside) c.requires c.in_err-trace.ensures.alone c.in_err-trace.field-0.0 c.in_err-trace.ensures.trace c.in_err-trace.ensures.cause)
+
+pub returns-clause-row : goal.returns-clause-row
+returns-clause-row g c =
+    sharing_results c.args.asked.now c.args.schedule (g.O.Outside.seen c.args.outside.now) (g.O.Outside.seen c.read_packets.new.outside) c.requires
+    c.in_ok-trace.ensures.alone c.in_ok-trace.trace c.in_ok-trace.ensures.trace c.in_ok-made.made c.in_ok-made.ensures

@@ -1,0 +1,53 @@
+//! The command `strong`: strong sharing by a schedule.
+ghost use Rattle.std.specs.Prelude.{◌≡◌, MatchResult, []};
+ghost use Rattle.command_words.specs.Requests.{asks_strong};
+ghost use Rattle.command_words.specs.RequestViews.{strong_view};
+ghost use Rattle.opennf_calls.specs.Outcome.{IsBound, ForResults, RowOf};
+ghost use Rattle.opennf_calls.specs.Phases.{GivesReport, OnlyRead, Performs};
+
+use crate::inputs::read_packets;
+use crate::network::Made;
+use crate::outcome::Outcome;
+use crate::results::write_report;
+use crate::sharing::run_sharing;
+use crate::status::Status;
+use actor_net::Schedule;
+use command_words::StrongRequest;
+use nf_io::Outside;
+use std::alloc::Global;
+
+/// Reads the capture, whose file is bound, runs strong sharing by the schedule, and writes its report.
+pub fn share<O: Outside>(
+    alloc: Global,
+    asked: &StrongRequest<'_>,
+    schedule: Schedule,
+    outside: &mut O,
+) -> Outcome
+    requires { IsBound (asks_strong (strong_view asked.now) schedule) (O.seen outside.old) }
+    ensures { Performs (asks_strong (strong_view asked.now) schedule) (O.seen outside.old) (O.seen outside.new) result }
+{
+    match make(alloc, asked, schedule, outside) {
+        Ok(made) => write_report(made, outside),
+        Err(status) => Outcome::without_run(alloc, status),
+    }
+}
+
+/// Reads the capture and runs the sharing.
+fn make<O: Outside>(
+    alloc: Global,
+    asked: &StrongRequest<'_>,
+    schedule: Schedule,
+    outside: &mut O,
+) -> Result<Made, Status>
+    requires { IsBound (asks_strong (strong_view asked.now) schedule) (O.seen outside.old) }
+    ensures only { OnlyRead (O.seen outside.old) (O.seen outside.new) }
+
+    // What is made is what the command gives for its capture, or the status has its row.
+    ensures row { MatchResult result
+        (λ made. ForResults (asks_strong (strong_view asked.now) schedule) (O.seen outside.old) (O.seen outside.new) (GivesReport made.choices made.report))
+        (λ status. RowOf (asks_strong (strong_view asked.now) schedule) (O.seen outside.old) (O.seen outside.new) (record { status = status; choices = [] })) }
+{
+    let trace = read_packets(alloc, outside)?;
+    let made = run_sharing(alloc, asked, trace, schedule)?;
+    Ok(made)
+}

@@ -1,0 +1,28 @@
+-- Where the numbers of some things rise, each is found by its number.
+use Rattle.std.proofs.Common.{◌≡◌, ℕ, suc, ◌<◌, false, true, Some, List, [], ◌∷◌, map, refl, ◌∙◌, arith}
+use Rattle.std.specs.Prelude.{◌==◌, find}
+use Rattle.std.specs.List.{AllByRecursion}
+use Rattle.std.proofs.lemmas.Bool.Decides.{nat_tests}
+use Rattle.net_world.specs.Input.{IsRising}
+
+module _ {X : Type 0} (number : X → ℕ) where
+  -- the thing is found by its number
+  abbrev pub IsFound : List X → X → Type 0
+  IsFound xs x = find (λ y. number y == number x) xs ≡ Some x
+
+  find_past : (n : ℕ) (xs : List X) (x : X) → number x < n → find (λ y. number y == n) (x ∷ xs) ≡ find (λ y. number y == n) xs
+  find_past n xs x low = let off : (number x == n) ≡ false = grind (arith, nat_tests, low) in rw off refl
+
+  all_past : (x : X) (least : ℕ) (xs ys : List X) → number x < least → IsRising least (map number ys) → AllByRecursion (IsFound xs) ys
+      → AllByRecursion (IsFound (x ∷ xs)) ys
+  all_past x least xs [] low rising all = tt
+  all_past x least xs (y ∷ ys) low rising all =
+      let first = rising.0 in
+      let less : number x < number y = omega (arith, low, first) in
+      (find_past (number y) xs x less ∙ all.0, all_past x (suc (number y)) xs ys (omega (arith, less)) rising.1 all.1)
+
+  pub all_found : (least : ℕ) (xs : List X) → IsRising least (map number xs) → AllByRecursion (IsFound xs) xs
+  all_found least [] rising = tt
+  all_found least (x ∷ xs) rising =
+      let own : (number x == number x) ≡ true = grind (arith, nat_tests) in
+      (rw own refl, all_past x (suc (number x)) xs xs (omega arith) rising.1 (all_found (suc (number x)) xs rising.1))
