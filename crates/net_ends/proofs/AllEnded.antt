@@ -30,7 +30,7 @@ use Rattle.answer_net.proofs.BusyRuns.{same_controller}
 use Rattle.answer_net.proofs.FirstEntries.{passes, found_passes}
 use Rattle.answer_net.proofs.InstallCounts.{finish}
 use Rattle.answer_net.proofs.EndTables.{flag_full}
-use Rattle.net_ends.proofs.SilentLinks.{all_of, silent_total}
+use Rattle.net_world.proofs.SilentLinks.{all_of, silent_total}
 use Rattle.net_ends.proofs.TokenRuns.{HasEnough, IsCalm, calm}
 use Rattle.net_ends.proofs.NoMoves.{no_move}
 use Rattle.net_ends.proofs.EndSteps.{ending, stop, final}

@@ -44,7 +44,7 @@ use Rattle.path_net.proofs.PathSeats.{there, sides}
 use Rattle.path_net.proofs.SharedOwners.{members_few}
 use Rattle.nf_net.proofs.PacketCounts.{few_done, few_came}
 use Rattle.nf_net.proofs.WindowRuns.{InWindow, items_none}
-use Rattle.net_ends.proofs.SilentLinks.{silent_total}
+use Rattle.net_world.proofs.SilentLinks.{silent_total}
 use Rattle.net_ends.proofs.NoMoves.{quiet_links}
 
 module _ {F R : Type 0} (f : Semantics R) (c : Config) (items : List Msg) (is : IsInput f.kind c items) (n : ℕ) (count : n ≡ length c.names + 2) (w : Network (Node F R) Msg Note) (nodes : length w.nodes ≡ n) (j : Joined f (given f c items is) n w) (in_turn : arrived w.log ++ numbers (waiting w (at 0 0)) ≡ numbers items) (silent : (s r : ℕ) → (r == 0) && (s == 0) ≡ false → waiting w (at r s) ≡ []) where

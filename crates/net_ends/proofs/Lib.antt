@@ -5,7 +5,6 @@ pub mod GroundedWorlds
 pub mod LinkWeights
 pub mod NoMoves
 pub mod NoStuckWorld
-pub mod SilentLinks
 pub mod TallySteps
 pub mod TokenController
 pub mod TokenNodes

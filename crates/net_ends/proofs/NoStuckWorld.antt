@@ -35,7 +35,7 @@ use Rattle.nf_net.proofs.SettleKeeps.{run_settles}
 use Rattle.nf_net.proofs.WindowRuns.{in_window}
 use Rattle.net_length.specs.Length.{ends, IsShort}
 use Rattle.net_length.proofs.ShortRuns.{short_runs}
-use Rattle.net_ends.proofs.SilentLinks.{all_done}
+use Rattle.net_world.proofs.SilentLinks.{all_done}
 use Rattle.net_ends.proofs.TokenRuns.{run_enough}
 use Rattle.net_ends.proofs.EndingRuns.{run_ending}
 use Rattle.net_ends.proofs.AllEnded.{nodes_ended}

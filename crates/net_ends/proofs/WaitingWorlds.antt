@@ -31,7 +31,7 @@ use Rattle.answer_net.proofs.EndTables.{flag}
 use Rattle.answer_net.proofs.ToldCommands.{told, Told, closed_answered}
 use Rattle.nf_net.proofs.SettleCounts.{answered_in, AllAnswered, answered_in-append, commands-append}
 use Rattle.nf_net.proofs.SettleSteps.{Counted, items_none}
-use Rattle.net_ends.proofs.SilentLinks.{silent_total}
+use Rattle.net_world.proofs.SilentLinks.{silent_total}
 use Rattle.net_ends.proofs.TokenRuns.{HasEnough}
 use Rattle.net_ends.proofs.AllEnded.{settled_share}
 

@@ -70,10 +70,10 @@ module _ {F R : Type 0} (f : Semantics R) (job : StrongJob) where
       right = subst (λ l. Each (IsRight job) (entries l)) (sym log) h.ordered.right;
     },
     record {
-      closed = ap (λ ms. weigh end_in ms + weigh end_in y.up + weigh end_in y.down + (if y.switch.closed then 1 else 0)) input
-          ∙ ap (λ ms. weigh end_in x.input + weigh end_in ms + weigh end_in y.down + (if y.switch.closed then 1 else 0)) up
-          ∙ ap (λ ms. weigh end_in x.input + weigh end_in x.up + weigh end_in ms + (if y.switch.closed then 1 else 0)) down
-          ∙ ap (λ s. ends_left job x + (if s.closed then 1 else 0)) switch ∙ h.ends.closed;
+      closed = ap (λ ms. weigh end_in ms + weigh end_in y.up + weigh end_in y.down + (if y.switch.window.closed then 1 else 0)) input
+          ∙ ap (λ ms. weigh end_in x.input + weigh end_in ms + weigh end_in y.down + (if y.switch.window.closed then 1 else 0)) up
+          ∙ ap (λ ms. weigh end_in x.input + weigh end_in x.up + weigh end_in ms + (if y.switch.window.closed then 1 else 0)) down
+          ∙ ap (λ s. ends_left job x + (if s.window.closed then 1 else 0)) switch ∙ h.ends.closed;
       stopped = λ k k_in.
           ap (λ ms. weigh end_in ms + weigh end_in y.up + weigh end_in y.down + weigh stop_in (y.out k) + (if (y.member k).ended then 1 else 0)) input
           ∙ ap (λ ms. weigh end_in x.input + weigh end_in ms + weigh end_in y.down + weigh stop_in (y.out k) + (if (y.member k).ended then 1 else 0)) up

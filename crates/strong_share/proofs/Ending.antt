@@ -39,7 +39,7 @@ use Rattle.strong_share.proofs.Steps.{kept}
 use Rattle.strong_share.proofs.Starts.{start, count, start_world, first_scene, start_shows, start_holds}
 use Rattle.strong_share.proofs.Weights.{weight, queue_weight, cell, final_in, few_sent, ended_below, ended_all}
 use Rattle.strong_share.proofs.Flows.{flow, o}
-use Rattle.strong_share.proofs.SilentLinks.{all_of as all_nodes, silent_total, all_done}
+use Rattle.net_world.proofs.SilentLinks.{all_of as all_nodes, silent_total, all_done}
 
 -- the input weighs what a run may take
 input_weighs : (o : ℕ) (ps : List Packet) → weigh (weight o) (input_of ps) ≡ (2 * o + 6) * length ps + (2 * o + 5)
@@ -68,7 +68,7 @@ module _ (F : Type 0) {R : Type 0} (f : Semantics R) (laws : Laws f) (alloc : Gl
     shows : Shows n w scene
     holds : Holds f job scene
     lighter : length cs + (total (weight beside) w + queue_weight beside scene.controller.queue) ≤ weigh (weight beside) (input_of job.packets)
-    flies : scene.switch.flying ≤ total cell w + length scene.controller.queue
+    flies : scene.switch.window.flying ≤ total cell w + length scene.controller.queue
     stops : ended_below scene.member n ≤ scene.controller.finals + total final_in w
     few : scene.controller.finals ≤ n
 
@@ -225,7 +225,7 @@ module _ (F : Type 0) {R : Type 0} (f : Semantics R) (laws : Laws f) (alloc : Gl
         waiting_input : (v : Network (StrongNode F R) Msg StrongNote) → v.input ≡ waiting v (at 0 0)
         waiting_input v = refl
 
-    rests : x.switch.flying ≡ 0
+    rests : x.switch.window.flying ≡ 0
     rests =
         let flies = counted.flies in
         let cells = silent_total w world.0 silent cell in
@@ -254,7 +254,7 @@ module _ (F : Type 0) {R : Type 0} (f : Semantics R) (laws : Laws f) (alloc : Gl
           where
             takes_all : (m : Msg) → takes_in x.switch m ≡ true
             takes_all (InPacket p) = let cells = counted.holds.labelled.switch.cells in let window = job_is.window.0 in let flying = rests in
-                (Decides-ltb x.switch.flying x.switch.pool.cells).1 (omega (arith, flying, cells, window))
+                (Decides-ltb x.switch.window.flying x.switch.window.pool.cells).1 (omega (arith, flying, cells, window))
             takes_all m = refl
 
     -- the end has come everywhere
@@ -269,8 +269,8 @@ module _ (F : Type 0) {R : Type 0} (f : Semantics R) (laws : Laws f) (alloc : Gl
     is_one true e = refl
     is_one false e = absurd (omega (arith, e))
 
-    closed : x.switch.closed ≡ true
-    closed = let all = counted.holds.ends.closed in let gone = no_ends in is_one x.switch.closed (omega (arith, all, gone))
+    closed : x.switch.window.closed ≡ true
+    closed = let all = counted.holds.ends.closed in let gone = no_ends in is_one x.switch.window.closed (omega (arith, all, gone))
 
     ended : (k : ℕ) → k < n → (x.member k).ended ≡ true
     ended k k_in =
@@ -290,7 +290,7 @@ module _ (F : Type 0) {R : Type 0} (f : Semantics R) (laws : Laws f) (alloc : Gl
         omega (arith, all, stops, few, light, unfinal, members)
 
     switch_ended : node_ended {F = F} {R = R} (Switch x.switch) ≡ true
-    switch_ended = let rest = (Decides-eqb x.switch.flying 0).1 rests in ap (λ b. b && (x.switch.flying == 0)) closed ∙ rest
+    switch_ended = let rest = (Decides-eqb x.switch.window.flying 0).1 rests in ap (λ b. b && (x.switch.window.flying == 0)) closed ∙ rest
 
     controller_ended : node_ended {F = F} {R = R} (Controller x.controller) ≡ true
     controller_ended =

@@ -1,12 +1,13 @@
 -- What each step does to what is counted: it makes the scene lighter, and loses no cell and no member that has stopped.
 use Rattle.std.proofs.Common.{◌≡◌, ℕ, ◌+◌, ◌-◌, ◌*◌, ◌<◌, ◌≤◌, Bool, true, false, List, [], ◌∷◌, length, length-append, refl, sym, ap, subst, ◌∙◌, arith}
-use Rattle.std.specs.Prelude.{if◌then◌else◌, ◌==◌, ◌||◌, not, nat_lt}
-use Rattle.std.proofs.lemmas.Bool.Decides.{nat_tests, Decides-eqb, Decides-ltb}
+use Rattle.std.specs.Prelude.{if◌then◌else◌, ◌==◌, nat_lt}
+use Rattle.std.proofs.lemmas.Bool.Decides.{nat_tests, Decides-ltb}
 use Rattle.flow_filter.specs.declared.packet.Packet.{Packet}
 use Rattle.nf_function.specs.Records.{Laws}
 use Rattle.nf_function.specs.Semantics.{Semantics}
 use Rattle.event_filter.specs.declared.mark.Mark.TheVariants as mark
-use Rattle.packet_pool.specs.Pool.{FullCell, one_more}
+use Rattle.packet_pool.specs.Pool.{FullCell}
+use Rattle.packet_window.proofs.WindowLemmas.{home_flying}
 use Rattle.nf_msgs.specs.declared.msg.Msg.{Msg}
 use Rattle.nf_msgs.specs.declared.msg.Msg.TheVariants.{InPacket, End, Finish, Carry, Stop, Event, Shared, Sync, Synced, Final, Credit}
 use Rattle.nf_msgs.specs.Nodes.{instance_node}
@@ -15,7 +16,7 @@ use Rattle.instance_worker.specs.Instance.{tells, processed as instance_processe
 use Rattle.actor_net.proofs.WeightLaws.{Each, weigh-append, sent_weight, each-append}
 use Rattle.strong_share.specs.declared.queued_packet.QueuedPacket.{QueuedPacket}
 use Rattle.strong_share.specs.Parts.{ControllerState}
-use Rattle.strong_share.specs.Tables.{the_share, is_home, switch_step, switch_still, takes_in, controller_step, controller_still, row_of_member, with_event, serve_step, ControllerStep, SwitchStep}
+use Rattle.strong_share.specs.Tables.{the_share, is_home, switch_step, takes_in, controller_step, controller_still, row_of_member, with_event, serve_step, ControllerStep, SwitchStep}
 use Rattle.strong_share.specs.declared.serving.Serving.TheVariants.{Idle, Syncing}
 use Rattle.strong_share.specs.Start.{StrongJob, IsStrongJob}
 use Rattle.strong_share.specs.Words.{packet_numbered, is_taken, member_of}
@@ -49,14 +50,14 @@ module _ {F R : Type 0} (f : Semantics R) (laws : Laws f) (job : StrongJob) (job
   -- what a step of node `k` that takes `m` and sends this does to what is counted
   pub record Flow (m : Msg) (k : ℕ) (sends : List (ℕ × Msg)) (flying : ℕ) (controller : ControllerState) (member : ℕ → InstanceState F R) : Type 0 where
     pub falls : cost o sends + queue_weight o controller.queue + 1 ≤ weight o m + queue_weight o x.controller.queue
-    pub flies : (t t' : ℕ) → t' + cell m ≡ t + sent_weight cell (n + 2) k sends → x.switch.flying ≤ t + length x.controller.queue
+    pub flies : (t t' : ℕ) → t' + cell m ≡ t + sent_weight cell (n + 2) k sends → x.switch.window.flying ≤ t + length x.controller.queue
         → flying ≤ t' + length controller.queue
     pub stops : (t t' : ℕ) → t' + final_in m ≡ t + sent_weight final_in (n + 2) k sends → ended_below x.member n ≤ x.controller.finals + t
         → ended_below member n ≤ controller.finals + t'
     pub few : x.controller.finals ≤ n → controller.finals ≤ n
 
   abbrev SwitchFlow : Msg → Type 0
-  SwitchFlow m = Flow m 0 (switch_step x.switch m).sends (switch_step x.switch m).node.flying x.controller x.member
+  SwitchFlow m = Flow m 0 (switch_step x.switch m).sends (switch_step x.switch m).node.window.flying x.controller x.member
 
   packet_flow : (p : Packet) → packet_numbered job p.number ≡ p → takes_in x.switch (InPacket p) ≡ true → SwitchFlow (InPacket p)
   packet_flow p label room =
@@ -65,7 +66,7 @@ module _ {F R : Type 0} (f : Semantics R) (laws : Laws f) (job : StrongJob) (job
       let carry : Msg = Carry mark.Plain (record { pool = 0; packet = p }) in
       let one = all_sent cell (n + 2) 0 (instance_node (member_of job p.number)) carry (reaches_member n 0 (member_of job p.number) there) in
       let none = none_sent final_in (n + 2) 0 (instance_node (member_of job p.number)) carry refl in
-      subst (λ (did : SwitchStep). Flow (InPacket p) 0 did.sends did.node.flying x.controller x.member) (sym step) (record {
+      subst (λ (did : SwitchStep). Flow (InPacket p) 0 did.sends did.node.window.flying x.controller x.member) (sym step) (record {
         falls = omega arith;
         flies = λ t t' is low. omega (arith, is, low, one);
         stops = λ t t' is low. omega (arith, is, low, none);
@@ -99,43 +100,18 @@ module _ {F R : Type 0} (f : Semantics R) (laws : Laws f) (job : StrongJob) (job
       }
 
   credit_flow : (c : FullCell) → c.pool ≡ 0 → SwitchFlow (Credit c)
-  credit_flow c pool = by (x.switch.flying == 0) refl
-    where
-      home : not (c.pool == x.switch.pool.name) ≡ false
-      home = let name = h.labelled.switch.name in let same : c.pool ≡ x.switch.pool.name = pool ∙ sym name in
-          ap not ((Decides-eqb c.pool x.switch.pool.name).1 same)
-
-      by : (b : Bool) → (x.switch.flying == 0) ≡ b → SwitchFlow (Credit c)
-      by true e =
-          let none = (Decides-eqb x.switch.flying 0).0 e in
-          subst (λ (did : SwitchStep). Flow (Credit c) 0 did.sends did.node.flying x.controller x.member)
-          (sym (ap (λ b. if b || not (c.pool == x.switch.pool.name) then switch_still x.switch else record
-          { node = record x.switch { pool = one_more x.switch.pool; flying = x.switch.flying - 1 }; sends = []; notes = [] }) e))
-          (record {
-            falls = omega arith;
-            flies = λ t t' is low. omega (arith, none);
-            stops = λ t t' is low. omega (arith, is, low);
-            few = λ low. low;
-          })
-      by false e =
-          subst (λ (did : SwitchStep). Flow (Credit c) 0 did.sends did.node.flying x.controller x.member)
-          (sym (ap (λ b. if b || not (c.pool == x.switch.pool.name) then switch_still x.switch else record
-          { node = record x.switch { pool = one_more x.switch.pool; flying = x.switch.flying - 1 }; sends = []; notes = [] }) e
-          ∙ ap (λ b. if b then switch_still x.switch else record {
-            node = record x.switch { pool = one_more x.switch.pool; flying = x.switch.flying - 1 };
-            sends = [];
-            notes = [];
-          }) home))
-          (record {
-            falls = omega arith;
-            flies = λ t t' is low. omega (arith, is, low);
-            stops = λ t t' is low. omega (arith, is, low);
-            few = λ low. low;
-          })
+  credit_flow c pool =
+      let less = home_flying x.switch.window c (pool ∙ sym h.labelled.switch.name) in
+      record {
+        falls = omega arith;
+        flies = λ t t' is low. omega (arith, is, low, less);
+        stops = λ t t' is low. omega (arith, is, low);
+        few = λ low. low;
+      }
 
   -- the controller
   abbrev ControllerFlow : Msg → ControllerStep → Type 0
-  ControllerFlow m did = Flow m 1 did.sends x.switch.flying did.node x.member
+  ControllerFlow m did = Flow m 1 did.sends x.switch.window.flying did.node x.member
 
   end_flow : ControllerFlow End (controller_step x.controller 0 End)
   end_flow =
@@ -235,7 +211,7 @@ module _ {F R : Type 0} (f : Semantics R) (laws : Laws f) (job : StrongJob) (job
 
   -- a member whose end stays as it is
   abbrev MemberFlow : ℕ → Msg → Step F R → Type 0
-  MemberFlow j m did = Flow m (j + 2) did.sends x.switch.flying x.controller (put x.member j did.node)
+  MemberFlow j m did = Flow m (j + 2) did.sends x.switch.window.flying x.controller (put x.member j did.node)
 
   -- by what it sends
   member_flow : (j : ℕ) → j < job.members → (m : Msg) (did : Step F R) (ended : ℕ) → cost o did.sends + 1 ≤ weight o m
@@ -307,7 +283,7 @@ module _ {F R : Type 0} (f : Semantics R) (laws : Laws f) (job : StrongJob) (job
 
   -- each of them
   pub flow : (g : Goes job.members x) → Flow (message_of job.members x g) (node_of job.members x g) (sends_of f job.members x g)
-      (next_scene f job.members x g).switch.flying (next_scene f job.members x g).controller (next_scene f job.members x g).member
+      (next_scene f job.members x g).switch.window.flying (next_scene f job.members x g).controller (next_scene f job.members x g).member
   flow (From_input m rest is on) = let label = (head_of (in_label job) x.input m rest is h.labelled.input).0 in input_flow m on label (of_input job m label)
   flow (From_down m rest is) = subst SwitchFlow (sym (of_down job m (head_of (down_label job) x.down m rest is h.labelled.down).0)) finish_flow
   flow (From_home j m rest j_in is) = let label = (head_of (home_label job) (x.home j) m rest is (h.labelled.home j j_in)).0 in let e = of_home job m label in

@@ -6,6 +6,7 @@ use Rattle.nf_function.specs.declared.unit.Unit as units
 use Rattle.nf_function.specs.Semantics.{Semantics}
 use Rattle.record_table.specs.Table.{part}
 use Rattle.event_filter.specs.declared.mark.Mark.TheVariants as mark
+use Rattle.packet_window.specs.Window.{IsBalanced}
 use Rattle.nf_msgs.specs.declared.msg.Msg.{Msg}
 use Rattle.nf_msgs.specs.declared.msg.Msg.TheVariants.{InPacket, InEnd, End, Finish, Carry, Stop, Event, Shared, Synced, Final, Credit}
 use Rattle.actor_net.proofs.WeightLaws.{Each, weigh}
@@ -54,9 +55,9 @@ module _ (job : StrongJob) where
     pub filter : s.filter ≡ job.filter
     pub site : s.site ≡ job.site
     pub members : s.members ≡ job.members
-    pub cells : s.pool.cells ≡ job.window
-    pub name : s.pool.name ≡ 0
-    pub balanced : s.flying + s.pool.home ≡ s.pool.cells
+    pub cells : s.window.pool.cells ≡ job.window
+    pub name : s.window.pool.name ≡ 0
+    pub balanced : IsBalanced s.window
 
   -- a packet that was queued was raised by the member to which the switch gave it
   abbrev pub IsRight : ℕ × ℕ → Type 0
@@ -86,7 +87,7 @@ module _ (job : StrongJob) where
     ends_left x = weigh end_in x.input + weigh end_in x.up + weigh end_in x.down
 
     pub record Ends (x : Scene F R) : Type 0 where
-      pub closed : ends_left x + (if x.switch.closed then 1 else 0) ≡ 1
+      pub closed : ends_left x + (if x.switch.window.closed then 1 else 0) ≡ 1
       pub stopped : (k : ℕ) → k < job.members → ends_left x + weigh stop_in (x.out k) + (if (x.member k).ended then 1 else 0) ≡ 1
 
     -- what is looked at of how packets are served

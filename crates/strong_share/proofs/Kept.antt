@@ -1,5 +1,5 @@
 -- What is promised is read off a scene of a run.
-use Rattle.std.proofs.Common.{◌≡◌, ℕ, ◌+◌, ◌-◌, ◌%◌, ◌<◌, ◌≤◌, Bool, true, false, Option, None, Some, List, [], ◌∷◌, ◌++◌, map, length, refl, sym, ap, subst, ◌∙◌, append_assoc, append-nil, arith}
+use Rattle.std.proofs.Common.{◌≡◌, ℕ, suc, ◌+◌, ◌-◌, ◌%◌, ◌<◌, ◌≤◌, Bool, true, false, Option, None, Some, List, [], ◌∷◌, ◌++◌, map, length, refl, sym, ap, subst, ◌∙◌, append_assoc, append-nil, arith}
 use Rattle.std.specs.Prelude.{if◌then◌else◌, ◌==◌, ◌&&◌, not, slice_get, filter, flat_map}
 use Rattle.std.specs.FinMap as finite
 use Rattle.std.proofs.Math.Nat.{mod-lt}
@@ -8,7 +8,6 @@ use Rattle.std.proofs.lemmas.Bool.{and_parts}
 use Rattle.std.proofs.lemmas.List.{nil_from_length}
 use Rattle.std.proofs.lemmas.Option.{slice_get-get_or}
 use Rattle.std.proofs.lemmas.List.Elements.{filter-append}
-use Rattle.flow_filter.specs.declared.packet.Packet.{Packet}
 use Rattle.nf_function.specs.declared.unit.Unit as units
 use Rattle.nf_function.specs.Units.{takes}
 use Rattle.nf_function.specs.Records.{Laws}
@@ -29,29 +28,31 @@ use Rattle.strong_share.specs.Tables.{node_ended, has_closed, is_home, is_idle, 
 use Rattle.strong_share.specs.Start.{StrongJob, IsStrongJob, numbers_of}
 use Rattle.strong_share.specs.Words.{entries, queue_order, events_of, arrived, done_numbers, is_taken, member_of, is_taken_at, is_of, fold, numbers_in, processed_of, queue_of, live_at, standby_at, live_in, standby_in, home_in, cells_at_home, outputs, outputs_of}
 use Rattle.strong_share.specs.Promises.{StrongPromises, StrongCompleted}
-use Rattle.strong_share.proofs.Lists.{filter_among, times-append, times_filter, filter_few}
-use Rattle.strong_share.proofs.Folds.{seen, unit_taken, AreNumberedFrom, numbered_from}
+use Rattle.net_world.specs.Input.{IsRising}
+use Rattle.net_world.proofs.FoundPackets.{one_by_one}
+use Rattle.net_world.proofs.LogLemmas.{times-append}
+use Rattle.strong_share.proofs.Lists.{filter_among, times_filter, filter_few}
+use Rattle.strong_share.proofs.Folds.{seen, unit_taken}
 use Rattle.strong_share.proofs.Scenes.{Scene, Shows}
 use Rattle.strong_share.proofs.ServedPackets.{raised_number, all_of, waits_of, at_rest, Rests}
 use Rattle.strong_share.proofs.Reading.{packet_in, plain_in, event_in}
 use Rattle.strong_share.proofs.Holding.{IsRight, sight, Holds}
 use Rattle.strong_share.proofs.LogLemmas.{entry_numbers, member_numbers}
 
--- numbers that go up by one stand once each
-above : (n p : ℕ) (ps : List Packet) → AreNumberedFrom n ps → p < n → times p (map (λ q. q.number) ps) ≡ 0
+-- numbers that rise stand once each
+above : (n p : ℕ) (ns : List ℕ) → IsRising n ns → p < n → times p ns ≡ 0
 above n p [] h low = refl
 above n p (q ∷ qs) h low =
     let is = h.0 in
-    let off : (p == q.number) ≡ false = grind (arith, nat_tests, is, low) in
-    let rest = above (n + 1) p qs h.1 (omega (arith, low)) in
+    let off : (p == q) ≡ false = grind (arith, nat_tests, is, low) in
+    let rest = above (suc q) p qs h.1 (omega (arith, low, is)) in
     rw off (omega (arith, rest))
 
-pub numbered_once : (n p : ℕ) (ps : List Packet) → AreNumberedFrom n ps → times p (map (λ q. q.number) ps) ≤ 1
+pub numbered_once : (n p : ℕ) (ns : List ℕ) → IsRising n ns → times p ns ≤ 1
 numbered_once n p [] h = omega arith
-numbered_once n p (q ∷ qs) h = elim (p == q.number) as (λ b. (p == q.number) ≡ b → (if b then 1 else 0) + times p (map (λ z. z.number) qs) ≤ 1) [
-  | true ↦ λ on. (let same : p ≡ q.number = (Decides-eqb p q.number).0 on in let is = h.0 in let rest = above (n + 1) p qs h.1 (omega (arith, same, is)) in
-      omega (arith, rest))
-  | false ↦ λ _. (let rest = numbered_once (n + 1) p qs h.1 in omega (arith, rest))
+numbered_once n p (q ∷ qs) h = elim (p == q) as (λ b. (p == q) ≡ b → (if b then 1 else 0) + times p qs ≤ 1) [
+  | true ↦ λ on. (let same : p ≡ q = (Decides-eqb p q).0 on in let rest = above (suc q) p qs h.1 (omega (arith, same)) in omega (arith, rest))
+  | false ↦ λ _. (let rest = numbered_once (suc q) p qs h.1 in omega (arith, rest))
 ] refl
 
 module _ {R : Type 0} (f : Semantics R) (laws : Laws f) (job : StrongJob) (job_is : IsStrongJob f.kind job) where
@@ -119,7 +120,7 @@ module _ {R : Type 0} (f : Semantics R) (laws : Laws f) (job : StrongJob) (job_i
     came_once p =
         let turn = ap (times p) h.ordered.in_turn in
         let more = times-append p (arrived x.log) (flat_map packet_in x.input) in
-        let all = numbered_once 1 p job.packets (numbered_from 1 job.packets job_is.numbers) in
+        let all = numbered_once 1 p (numbers_of job) (one_by_one 1 job.packets job_is.numbers) in
         omega (arith, turn, more, all)
 
     once : (p : ℕ) → times p (done_numbers x.log) ≤ 1
@@ -300,9 +301,10 @@ module _ {R : Type 0} (f : Semantics R) (laws : Laws f) (job : StrongJob) (job_i
           let count = shows.count in
           sym (ap node_ended (shows.switch (Switch x.switch))) ∙ done_node node_ended w done 0 (Switch x.switch) (omega (arith, count))
 
-      home_is : x.switch.pool.home ≡ job.window
+      home_is : x.switch.window.pool.home ≡ job.window
       home_is =
-          let none : x.switch.flying ≡ 0 = (Decides-eqb x.switch.flying 0).0 (and_parts x.switch.closed (x.switch.flying == 0) closed).1 in
+          let rests = (and_parts x.switch.window.closed (x.switch.window.flying == 0) closed).1 in
+          let none : x.switch.window.flying ≡ 0 = (Decides-eqb x.switch.window.flying 0).0 rests in
           let all = h.labelled.switch.balanced in
           let cells = h.labelled.switch.cells in
           omega (arith, none, all, cells)

@@ -24,7 +24,6 @@ pub mod Starts
 pub mod Kept
 pub mod Weights
 pub mod Flows
-pub mod SilentLinks
 pub mod Ending
 pub mod Runs
 pub mod OtherMessages

@@ -29,10 +29,6 @@ filter_one_more mine xs p on = filter-append mine xs (p ∷ []) ∙ ap (λ b. fi
 pub filter_no_more : (mine : ℕ → Bool) (xs : List ℕ) (p : ℕ) → mine p ≡ false → filter mine (xs ++ p ∷ []) ≡ filter mine xs
 filter_no_more mine xs p off = filter-append mine xs (p ∷ []) ∙ ap (λ b. filter mine xs ++ (if b then p ∷ [] else [])) off ∙ append-nil (filter mine xs)
 
-pub times-append : (p : ℕ) (xs ys : List ℕ) → times p (xs ++ ys) ≡ times p xs + times p ys
-times-append p [] ys = omega arith
-times-append p (x ∷ xs) ys = omega (arith, times-append p xs ys)
-
 -- how often one of a kind stands among those of the kind
 pub times_filter : (mine : ℕ → Bool) (p : ℕ) → mine p ≡ true → (xs : List ℕ) → times p (filter mine xs) ≡ times p xs
 times_filter mine p on [] = refl

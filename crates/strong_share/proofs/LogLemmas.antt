@@ -6,8 +6,8 @@ use Rattle.std.proofs.lemmas.List.Elements.{filter-append, filter_map-append}
 use Rattle.nf_function.specs.declared.unit.Unit as units
 use Rattle.nf_function.specs.Semantics.{Semantics}
 use Rattle.nf_msgs.specs.declared.note.Note.{Note}
-use Rattle.nf_msgs.specs.declared.note.Note.TheVariants.{Arrived, Processed}
 use Rattle.net_world.specs.Log as log
+use Rattle.net_world.proofs.LogLemmas as log_lemmas
 use Rattle.strong_share.specs.declared.note.StrongNote.{StrongNote}
 use Rattle.strong_share.specs.declared.note.StrongNote.TheVariants.{Queued}
 use Rattle.strong_share.specs.Start.{StrongJob}
@@ -37,21 +37,11 @@ events_of-queued k p j xs =
     one true = refl
     one false = refl
 
-log_arrived-append : (xs ys : List Note) → log.arrived (xs ++ ys) ≡ log.arrived xs ++ log.arrived ys
-log_arrived-append [] ys = refl
-log_arrived-append (Arrived p ∷ xs) ys = ap (λ z. p ∷ z) (log_arrived-append xs ys)
-log_arrived-append (n ∷ xs) ys = log_arrived-append xs ys
-
-log_done-append : (xs ys : List Note) → log.done (xs ++ ys) ≡ log.done xs ++ log.done ys
-log_done-append [] ys = refl
-log_done-append (Processed p i out ∷ xs) ys = ap (λ z. log.done (Processed p i out ∷ []) ++ z) (log_done-append xs ys)
-log_done-append (n ∷ xs) ys = log_done-append xs ys
-
 pub arrived-append : (xs ys : List StrongNote) → arrived (xs ++ ys) ≡ arrived xs ++ arrived ys
-arrived-append xs ys = ap log.arrived (filter_map-append inner_note xs ys) ∙ log_arrived-append (inner_notes xs) (inner_notes ys)
+arrived-append xs ys = ap log.arrived (filter_map-append inner_note xs ys) ∙ log_lemmas.arrived-append (inner_notes xs) (inner_notes ys)
 
 pub done-append : (xs ys : List StrongNote) → done (xs ++ ys) ≡ done xs ++ done ys
-done-append xs ys = ap log.done (filter_map-append inner_note xs ys) ∙ log_done-append (inner_notes xs) (inner_notes ys)
+done-append xs ys = ap log.done (filter_map-append inner_note xs ys) ∙ log_lemmas.done-append (inner_notes xs) (inner_notes ys)
 
 pub done_numbers-append : (xs ys : List StrongNote) → done_numbers (xs ++ ys) ≡ done_numbers xs ++ done_numbers ys
 done_numbers-append xs ys = ap (map (λ d. d.number)) (done-append xs ys) ∙ map-append (λ (d : log.Done). d.number) (done xs) (done ys)

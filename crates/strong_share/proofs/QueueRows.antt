@@ -83,7 +83,7 @@ module _ {F R : Type 0} (f : Semantics R) (job : StrongJob) where
     tight = h.tight;
     answered = h.answered;
     ends = record {
-      closed = ap (λ e. e + (if x.switch.closed then 1 else 0)) same ∙ h.ends.closed;
+      closed = ap (λ e. e + (if x.switch.window.closed then 1 else 0)) same ∙ h.ends.closed;
       stopped = λ k k_in. ap (λ e. e + weigh stop_in (x.out k) + (if (x.member k).ended then 1 else 0)) same ∙ h.ends.stopped k k_in;
     };
   }
@@ -189,8 +189,9 @@ module _ {F R : Type 0} (f : Semantics R) (job : StrongJob) where
         tight = tight_alike f job (served (sight job x)) (sight job (serve_scene x)) (served_agrees x) front.1;
         answered = h.answered;
         ends = record {
-          closed = ap (λ ms. weigh end_in x.input + weigh end_in x.up + weigh end_in (x.down ++ ms) + (if x.switch.closed then 1 else 0)) no_finish
-              ∙ ap (λ ms. weigh end_in x.input + weigh end_in x.up + weigh end_in ms + (if x.switch.closed then 1 else 0)) (append-nil x.down) ∙ h.ends.closed;
+          closed = ap (λ ms. weigh end_in x.input + weigh end_in x.up + weigh end_in (x.down ++ ms) + (if x.switch.window.closed then 1 else 0)) no_finish
+              ∙ ap (λ ms. weigh end_in x.input + weigh end_in x.up + weigh end_in ms + (if x.switch.window.closed then 1 else 0)) (append-nil x.down)
+              ∙ h.ends.closed;
           stopped = λ k k_in. ap (λ ms. weigh end_in x.input + weigh end_in x.up + weigh end_in (x.down ++ ms) + weigh stop_in (x.out k) +
               (if (x.member k).ended then 1 else 0)) no_finish ∙ ap (λ ms.
               weigh end_in x.input + weigh end_in x.up + weigh end_in ms + weigh stop_in (x.out k) + (if (x.member k).ended then 1 else 0)) (append-nil x.down)

@@ -23,7 +23,7 @@ use Rattle.strong_share.specs.declared.node.StrongNode.{StrongNode}
 use Rattle.strong_share.specs.declared.node.StrongNode.TheVariants.{Instance}
 use Rattle.strong_share.specs.Tables.{node_step, node_ready, is_home}
 use Rattle.strong_share.specs.Start.{StrongJob, IsStrongJob, input_of, first_switch, first_controller, first_member, first_members, strong_start}
-use Rattle.strong_share.proofs.Folds.{found_each, numbered_from}
+use Rattle.net_world.proofs.FoundPackets.{found_each, one_by_one}
 use Rattle.strong_share.proofs.Scenes.{Scene, Shows, next_scene}
 use Rattle.strong_share.proofs.Shown.{found}
 use Rattle.strong_share.proofs.ServedPackets.{Stage.Resting}
@@ -104,7 +104,7 @@ module _ (F : Type 0) {R : Type 0} (f : Semantics R) (laws : Laws f) (alloc : Gl
   pub start_holds : Holds f job first_scene
   start_holds = record {
     labelled = record {
-      input = input_labels job job.packets (found_each 1 job.packets (numbered_from 1 job.packets job_is.numbers));
+      input = input_labels job job.packets (found_each 1 job.packets (one_by_one 1 job.packets job_is.numbers));
       up = tt;
       down = tt;
       out = λ k _. tt;

@@ -1,8 +1,6 @@
 -- The rows of the switch keep what every scene of a run keeps.
 use Rattle.std.proofs.Common.{◌≡◌, ℕ, ◌+◌, ◌-◌, ◌%◌, ◌<◌, Bool, true, false, List, [], ◌∷◌, ◌++◌, map, refl, sym, ap, subst, ◌∙◌, append_assoc, append-nil, arith}
-use Rattle.std.specs.Prelude.{if◌then◌else◌, ◌==◌, ◌&&◌, ◌||◌, not, filter, flat_map}
-use Rattle.std.proofs.lemmas.Bool.{or_parts}
-use Rattle.std.proofs.lemmas.Bool.Decides.{nat_tests, Decides-ltb}
+use Rattle.std.specs.Prelude.{if◌then◌else◌, ◌==◌, ◌&&◌, not, filter, flat_map}
 use Rattle.std.proofs.lemmas.List.Concat.{flat_map-append}
 use Rattle.std.proofs.lemmas.List.Elements.{filter-append}
 use Rattle.flow_filter.specs.declared.packet.Packet.{Packet}
@@ -10,7 +8,9 @@ use Rattle.flow_filter.specs.Filter.{matches}
 use Rattle.flow_filter.specs.Flow.{flow_of}
 use Rattle.nf_function.specs.Semantics.{Semantics}
 use Rattle.event_filter.specs.declared.mark.Mark.TheVariants as mark
-use Rattle.packet_pool.specs.Pool.{FullCell, one_less, one_more}
+use Rattle.packet_pool.specs.Pool.{FullCell}
+use Rattle.packet_window.specs.Window.{has_room, with_one, with_home, with_end}
+use Rattle.packet_window.proofs.WindowLemmas.{one_balanced, home_balanced, home_name, home_cells, home_closed}
 use Rattle.nf_msgs.specs.declared.msg.Msg.{Msg}
 use Rattle.nf_msgs.specs.declared.msg.Msg.TheVariants.{InPacket, InEnd, End, Finish, Carry, Stop, Credit}
 use Rattle.nf_msgs.specs.declared.note.Note.TheVariants.{Arrived}
@@ -18,7 +18,7 @@ use Rattle.nf_msgs.specs.Nodes.{instance_node}
 use Rattle.actor_net.specs.Histories.{sent_for}
 use Rattle.actor_net.proofs.WeightLaws.{Each, each-append, weigh, weigh-append}
 use Rattle.strong_share.specs.declared.note.StrongNote.TheVariants.{Inner}
-use Rattle.strong_share.specs.Tables.{SwitchStep, switch_still, member_for, has_room, on_credit, switch_step}
+use Rattle.strong_share.specs.Tables.{SwitchStep, switch_still, member_for, switch_step}
 use Rattle.strong_share.specs.Start.{StrongJob}
 use Rattle.strong_share.specs.Words.{events_of, arrived, done_numbers, packet_numbered, is_taken, member_of, is_taken_at}
 use Rattle.strong_share.proofs.Lists.{put, two_one, swapped, one_two}
@@ -52,20 +52,20 @@ module _ {F R : Type 0} (f : Semantics R) (job : StrongJob) where
   -- A packet comes.
   abbrev pub arrives_as : Scene F R → Packet → SwitchStep
   arrives_as x p = record {
-    node = record x.switch { pool = one_less x.switch.pool; flying = x.switch.flying + 1 };
+    node = record x.switch { window = with_one x.switch.window };
     sends = (instance_node (member_of job p.number), Carry mark.Plain (record { pool = 0; packet = p })) ∷ [];
     notes = Inner (Arrived p.number) ∷ [];
   }
 
-  pub arrives_is : (x : Scene F R) (p : Packet) → IsSwitch job x.switch → packet_numbered job p.number ≡ p → has_room x.switch ≡ true
+  pub arrives_is : (x : Scene F R) (p : Packet) → IsSwitch job x.switch → packet_numbered job p.number ≡ p → has_room x.switch.window ≡ true
       → switch_step x.switch (InPacket p) ≡ arrives_as x p
   arrives_is x p ok same room =
-      ap (λ b. if b then came (member_for x.switch p) x.switch.pool.name else switch_still x.switch) room
-      ∙ ap (λ i. came i x.switch.pool.name) goes ∙ ap (λ q. came (member_of job p.number) q) ok.name
+      ap (λ b. if b then came (member_for x.switch p) x.switch.window.pool.name else switch_still x.switch) room
+      ∙ ap (λ i. came i x.switch.window.pool.name) goes ∙ ap (λ q. came (member_of job p.number) q) ok.name
     where
       came : ℕ → ℕ → SwitchStep
       came i q = record {
-        node = record x.switch { pool = one_less x.switch.pool; flying = x.switch.flying + 1 };
+        node = record x.switch { window = with_one x.switch.window };
         sends = (instance_node i, Carry mark.Plain (record { pool = q; packet = p })) ∷ [];
         notes = Inner (Arrived p.number) ∷ [];
       }
@@ -80,7 +80,7 @@ module _ {F R : Type 0} (f : Semantics R) (job : StrongJob) where
   abbrev pub came : Scene F R → List Msg → Packet → Scene F R
   came x rest p = record x {
     input = rest;
-    switch = record x.switch { pool = one_less x.switch.pool; flying = x.switch.flying + 1 };
+    switch = record x.switch { window = with_one x.switch.window };
     out = λ k. x.out k ++ (if k == member_of job p.number then Carry mark.Plain (record { pool = 0; packet = p }) ∷ [] else []);
     log = x.log ++ Inner (Arrived p.number) ∷ [];
   }
@@ -88,7 +88,7 @@ module _ {F R : Type 0} (f : Semantics R) (job : StrongJob) where
   pub came_is : (x : Scene F R) (rest : List Msg) (p : Packet) → switch_did (record x { input = rest }) (arrives_as x p) ≡ came x rest p
   came_is x rest p = λ i. record x {
     input = rest;
-    switch = record x.switch { pool = one_less x.switch.pool; flying = x.switch.flying + 1 };
+    switch = record x.switch { window = with_one x.switch.window };
     up = up i;
     out = λ k. x.out k ++ sent_one (member_of job p.number) k (Carry mark.Plain (record { pool = 0; packet = p })) i;
     log = x.log ++ Inner (Arrived p.number) ∷ [];
@@ -98,7 +98,7 @@ module _ {F R : Type 0} (f : Semantics R) (job : StrongJob) where
       up = ap (λ b. x.up ++ ((if b then Carry mark.Plain (record { pool = 0; packet = p }) ∷ [] else []) ++ [])) (two_one (member_of job p.number))
           ∙ append-nil x.up
 
-  pub came_holds : (x : Scene F R) (p : Packet) (rest : List Msg) → Holds f job x → has_room x.switch ≡ true → x.input ≡ InPacket p ∷ rest
+  pub came_holds : (x : Scene F R) (p : Packet) (rest : List Msg) → Holds f job x → has_room x.switch.window ≡ true → x.input ≡ InPacket p ∷ rest
       → Holds f job (came x rest p)
   came_holds x p rest h room is = record {
     labelled = record {
@@ -115,7 +115,7 @@ module _ {F R : Type 0} (f : Semantics R) (job : StrongJob) where
         members = s.members;
         cells = s.cells;
         name = s.name;
-        balanced = let was = s.balanced in let less = (Decides-ltb x.switch.flying x.switch.pool.cells).0 room in omega (arith, was, less);
+        balanced = one_balanced x.switch.window s.balanced room;
       };
       members = h.labelled.members;
       member = h.labelled.member;
@@ -140,7 +140,7 @@ module _ {F R : Type 0} (f : Semantics R) (job : StrongJob) where
     tight = tight_alike f job (sight job x) (sight job (came x rest p)) like h.tight;
     answered = answered_same f job x.log (came x rest p).log quiet h.answered;
     ends = record {
-      closed = ap (λ e. e + weigh end_in x.up + weigh end_in x.down + (if x.switch.closed then 1 else 0)) less ∙ h.ends.closed;
+      closed = ap (λ e. e + weigh end_in x.up + weigh end_in x.down + (if x.switch.window.closed then 1 else 0)) less ∙ h.ends.closed;
       stopped = λ k k_in. ap (λ e. e + weigh end_in x.up + weigh end_in x.down + weigh stop_in ((came x rest p).out k) + (if (x.member k).ended then 1 else 0))
           less ∙ ap (λ e. ends_left job x + e + (if (x.member k).ended then 1 else 0)) (stop_at (x.out k) (k == member_of job q)) ∙ h.ends.stopped k k_in;
     };
@@ -230,7 +230,7 @@ module _ {F R : Type 0} (f : Semantics R) (job : StrongJob) where
     tight = h.tight;
     answered = h.answered;
     ends = record {
-      closed = ap (λ e. e + (if x.switch.closed then 1 else 0)) same ∙ h.ends.closed;
+      closed = ap (λ e. e + (if x.switch.window.closed then 1 else 0)) same ∙ h.ends.closed;
       stopped = λ k k_in. ap (λ e. e + weigh stop_in (x.out k) + (if (x.member k).ended then 1 else 0)) same ∙ h.ends.stopped k k_in;
     };
   }
@@ -246,12 +246,16 @@ module _ {F R : Type 0} (f : Semantics R) (job : StrongJob) where
 
   -- All is done: each member is to stop.
   abbrev pub closed_by : Scene F R → List Msg → Scene F R
-  closed_by x rest = record x { down = rest; switch = record x.switch { closed = true }; out = λ k. x.out k ++ sent_for (k + 2) (stops x.switch.members) }
+  closed_by x rest = record x {
+    down = rest;
+    switch = record x.switch { window = with_end x.switch.window };
+    out = λ k. x.out k ++ sent_for (k + 2) (stops x.switch.members);
+  }
 
   pub closed_is : (x : Scene F R) (rest : List Msg) → switch_did (record x { down = rest }) (switch_step x.switch Finish) ≡ closed_by x rest
   closed_is x rest = λ i. record x {
     down = rest;
-    switch = record x.switch { closed = true };
+    switch = record x.switch { window = with_end x.switch.window };
     up = up i;
     out = λ k. x.out k ++ sent_for (k + 2) (stops x.switch.members);
     log = append-nil x.log i;
@@ -305,65 +309,22 @@ module _ {F R : Type 0} (f : Semantics R) (job : StrongJob) where
       moved : weigh end_in x.input + weigh end_in x.up + weigh end_in rest + 1 ≡ ends_left job x
       moved = let all = ap (weigh end_in) is in omega (arith, all)
 
-      was_open : one_if x.switch.closed ≡ 0
+      was_open : one_if x.switch.window.closed ≡ 0
       was_open = let was = h.ends.closed in omega (arith, was, moved)
 
   -- A cell comes home.
   abbrev pub homed : Scene F R → ℕ → List Msg → FullCell → Scene F R
-  homed x j rest c = record x { home = put x.home j rest; switch = (on_credit x.switch c).node }
-
-  credit_node : (x : Scene F R) (c : FullCell) (b : Bool) → (if b then switch_still x.switch else record
-      { node = record x.switch { pool = one_more x.switch.pool; flying = x.switch.flying - 1 }; sends = []; notes = [] }).sends ≡ []
-  credit_node x c true = refl
-  credit_node x c false = refl
-
-  credit_notes : (x : Scene F R) (c : FullCell) (b : Bool) → (if b then switch_still x.switch else record
-      { node = record x.switch { pool = one_more x.switch.pool; flying = x.switch.flying - 1 }; sends = []; notes = [] }).notes ≡ []
-  credit_notes x c true = refl
-  credit_notes x c false = refl
-
-  credit_switch : (x : Scene F R) (c : FullCell) (b : Bool) → (b ≡ false → (x.switch.flying == 0) ≡ false) → IsSwitch job x.switch
-      → IsSwitch job (if b then switch_still x.switch else record {
-        node = record x.switch { pool = one_more x.switch.pool; flying = x.switch.flying - 1 };
-        sends = [];
-        notes = [];
-      }).node
-  credit_switch x c true some s = s
-  credit_switch x c false some s = record {
-    filter = s.filter;
-    site = s.site;
-    members = s.members;
-    cells = s.cells;
-    name = s.name;
-    balanced = let off = some refl in let out : 0 < x.switch.flying = grind (arith, nat_tests, off) in let was = s.balanced in omega (arith, was, out);
-  }
-
-  credit_closed : (x : Scene F R) (c : FullCell) (b : Bool) → (if b then switch_still x.switch else record
-      { node = record x.switch { pool = one_more x.switch.pool; flying = x.switch.flying - 1 }; sends = []; notes = [] }).node.closed ≡ x.switch.closed
-  credit_closed x c true = refl
-  credit_closed x c false = refl
+  homed x j rest c = record x { home = put x.home j rest; switch = record x.switch { window = with_home x.switch.window c } }
 
   pub homed_is : (x : Scene F R) (j : ℕ) (rest : List Msg) (c : FullCell)
       → switch_did (record x { home = put x.home j rest }) (switch_step x.switch (Credit c)) ≡ homed x j rest c
   homed_is x j rest c = λ i. record x {
     home = put x.home j rest;
-    switch = (on_credit x.switch c).node;
-    up = up i;
-    out = λ k. out k i;
-    log = log_is i;
+    switch = record x.switch { window = with_home x.switch.window c };
+    up = append-nil x.up i;
+    out = λ k. append-nil (x.out k) i;
+    log = append-nil x.log i;
   }
-    where
-      stays : Bool
-      stays = (x.switch.flying == 0) || not (c.pool == x.switch.pool.name)
-
-      up : x.up ++ sent_for 1 (on_credit x.switch c).sends ≡ x.up
-      up = ap (λ ms. x.up ++ sent_for 1 ms) (credit_node x c stays) ∙ append-nil x.up
-
-      out : (k : ℕ) → x.out k ++ sent_for (k + 2) (on_credit x.switch c).sends ≡ x.out k
-      out k = ap (λ ms. x.out k ++ sent_for (k + 2) ms) (credit_node x c stays) ∙ append-nil (x.out k)
-
-      log_is : x.log ++ (on_credit x.switch c).notes ≡ x.log
-      log_is = ap (λ ns. x.log ++ ns) (credit_notes x c stays) ∙ append-nil x.log
 
   pub homed_holds : (x : Scene F R) (j : ℕ) (rest : List Msg) (c : FullCell) → j < job.members → Holds f job x → x.home j ≡ Credit c ∷ rest
       → Holds f job (homed x j rest c)
@@ -375,7 +336,14 @@ module _ {F R : Type 0} (f : Semantics R) (job : StrongJob) where
       out = h.labelled.out;
       back = h.labelled.back;
       home = each_taken (λ k. home_label job) job.members x.home j (Credit c) rest j_in is h.labelled.home;
-      switch = credit_switch x c stays (λ off. (or_parts (x.switch.flying == 0) (not (c.pool == x.switch.pool.name)) off).0) h.labelled.switch;
+      switch = let s = h.labelled.switch in record {
+        filter = s.filter;
+        site = s.site;
+        members = s.members;
+        cells = home_cells x.switch.window c ∙ s.cells;
+        name = home_name x.switch.window c ∙ s.name;
+        balanced = home_balanced x.switch.window c s.balanced;
+      };
       members = h.labelled.members;
       member = h.labelled.member;
     };
@@ -384,10 +352,7 @@ module _ {F R : Type 0} (f : Semantics R) (job : StrongJob) where
     tight = h.tight;
     answered = h.answered;
     ends = record {
-      closed = ap (λ b. ends_left job x + (if b then 1 else 0)) (credit_closed x c stays) ∙ h.ends.closed;
+      closed = ap (λ b. ends_left job x + (if b then 1 else 0)) (home_closed x.switch.window c) ∙ h.ends.closed;
       stopped = h.ends.stopped;
     };
   }
-    where
-      stays : Bool
-      stays = (x.switch.flying == 0) || not (c.pool == x.switch.pool.name)

@@ -1,5 +1,5 @@
 -- Strong sharing: what each node does with each message. This project's own, after the strongly consistent sharing of OpenNF.
-use Rattle.std.specs.Prelude.{ℕ, suc, ◌+◌, ◌-◌, ◌%◌, ◌==◌, ◌&&◌, ◌||◌, Bool, true, false, not, nat_lt, List, [], ◌∷◌, ◌++◌, map, filter, length, if◌then◌else◌, Option, Some, None}
+use Rattle.std.specs.Prelude.{ℕ, suc, ◌+◌, ◌-◌, ◌%◌, ◌==◌, ◌&&◌, Bool, true, false, not, nat_lt, List, [], ◌∷◌, ◌++◌, map, filter, length, if◌then◌else◌, Option, Some, None}
 use Rattle.std.specs.List.{range_with_len}
 use Rattle.flow_filter.specs.declared.packet.Packet.{Packet}
 use Rattle.flow_filter.specs.Filter.{matches}
@@ -7,7 +7,8 @@ use Rattle.flow_filter.specs.Flow.{flow_of}
 use Rattle.nf_function.specs.declared.chunk.Chunk.{Chunk}
 use Rattle.nf_function.specs.Semantics.{Semantics}
 use Rattle.event_filter.specs.declared.mark.Mark.TheVariants as mark
-use Rattle.packet_pool.specs.Pool.{FullCell, one_less, one_more}
+use Rattle.packet_pool.specs.Pool.{FullCell}
+use Rattle.packet_window.specs.Window.{has_room, has_ended, cell_for, with_one, with_home, with_end}
 use Rattle.nf_msgs.specs.declared.msg.Msg.{Msg}
 use Rattle.nf_msgs.specs.declared.msg.Msg.TheVariants.{InPacket, InEnd, End, Finish, Carry, Sync, Event, Shared, Synced, Final, Credit}
 use Rattle.nf_msgs.specs.declared.note.Note.{Note}
@@ -46,40 +47,30 @@ switch_still s = record { node = s; sends = []; notes = [] }
 abbrev pub member_for : SwitchState → Packet → ℕ
 member_for s p = if matches s.filter (flow_of s.site p).0 then (p.number - 1) % s.members else 0
 
--- whether one packet more may be under way
-abbrev pub has_room : SwitchState → Bool
-has_room s = nat_lt s.flying s.pool.cells
-
 -- a packet takes a cell, arrives and goes to its member
 abbrev pub on_packet : SwitchState → Packet → SwitchStep
-on_packet s p = if has_room s then record {
-  node = record s { pool = one_less s.pool; flying = s.flying + 1 };
-  sends = (instance_node (member_for s p), Carry mark.Plain (record { pool = s.pool.name; packet = p })) ∷ [];
+on_packet s p = if has_room s.window then record {
+  node = record s { window = with_one s.window };
+  sends = (instance_node (member_for s p), Carry mark.Plain (cell_for s.window p)) ∷ [];
   notes = Inner (Arrived p.number) ∷ [];
 } else switch_still s
-
--- a cell comes home, if it is one of the pool's
-abbrev pub on_credit : SwitchState → FullCell → SwitchStep
-on_credit s cell =
-    if (s.flying == 0) || not (cell.pool == s.pool.name) then switch_still s
-    else record { node = record s { pool = one_more s.pool; flying = s.flying - 1 }; sends = []; notes = [] }
 
 -- the table of the switch. What it doesn't name comes in no run
 abbrev pub switch_step : SwitchState → Msg → SwitchStep
 switch_step s (InPacket p) = on_packet s p
 switch_step s InEnd = record { node = s; sends = (controller_node, End) ∷ []; notes = [] }
-switch_step s Finish = record { node = record s { closed = true }; sends = stops s.members; notes = [] }
-switch_step s (Credit cell) = on_credit s cell
+switch_step s Finish = record { node = record s { window = with_end s.window }; sends = stops s.members; notes = [] }
+switch_step s (Credit cell) = switch_still (record s { window = with_home s.window cell })
 switch_step s message = switch_still s
 
 -- whether the switch takes an item of the input now
 abbrev pub takes_in : SwitchState → Msg → Bool
-takes_in s (InPacket p) = has_room s
+takes_in s (InPacket p) = has_room s.window
 takes_in s message = true
 
 -- whether the switch has nothing left to do
 abbrev pub has_closed : SwitchState → Bool
-has_closed s = s.closed && (s.flying == 0)
+has_closed s = has_ended s.window
 
 -- the controller
 

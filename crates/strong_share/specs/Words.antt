@@ -116,7 +116,7 @@ module _ {F R : Type 0} where
 
   -- how many cells of the switch's pool are home
   abbrev pub home_in : Option (StrongNode F R) → Option ℕ
-  home_in (Some (Switch s)) = Some s.pool.home
+  home_in (Some (Switch s)) = Some s.window.pool.home
   home_in other = None
 
   abbrev pub cells_at_home : Network (StrongNode F R) Msg StrongNote → Option ℕ

@@ -5,9 +5,9 @@ use Rattle.two_machine.proofs.Machine.{Rule, Free, Drops, Buffers, Target, To_a,
 use Rattle.two_machine.proofs.Tables
 use Rattle.two_machine.proofs.Tables.{System, Msg, Note, Switch, Ctrl, Inst, Step, In_packet, In_start, In_end, Start, End, Copied, Laid, Forward, Lay, Finish, Carry, Pass, Stop, Enable, Get, Delete, Restore, Fence, Enabled, Chunks, Deleted, Restored, Event, Seen, Fenced, Final, Credit, has_room, goes, switch_step, processed, all_processed, ruled, inst_step, ctrl_step, takes_in}
 use Rattle.two_machine.proofs.View.{World, Observer, read, read-append, arrived, item}
-use Rattle.two_machine.proofs.Labels.{IsSelected, In_input, On_sc, On_cs, On_ac, On_bc, On_back}
-use Rattle.two_machine.proofs.Puts.{sent}
-use Rattle.two_machine.proofs.Places.{Place, In, Cs, Aw, Bw, Sc, Ac, Bc, Sa, Ca, Sb, Cb, with_waits, comes, Label, result}
+use Rattle.two_machine.proofs.Labels.{IsSelected, In_input, On_sc, On_cs, On_ac, On_bc, On_back, Label}
+use Rattle.two_machine.proofs.Puts.{sent, result}
+use Rattle.two_machine.proofs.Places.{Place, In, Cs, Aw, Bw, Sc, Ac, Bc, Sa, Ca, Sb, Cb, with_waits, comes}
 use Rattle.two_machine.proofs.Shapes.{copied}
 use Rattle.actor_net.proofs.WeightLaws.{Each, each-append}
 use Rattle.two_machine.proofs.StepLabels.{ctrl_ok, gives_sc, gives_ac, gives_bc}

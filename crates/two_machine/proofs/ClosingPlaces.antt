@@ -4,9 +4,9 @@ use Rattle.std.specs.Prelude.{if◌then◌else◌}
 use Rattle.two_machine.proofs.Machine.{Free, To_a}
 use Rattle.two_machine.proofs.Tables.{System, Msg, Ctrl, In_packet, In_start, In_end, Start, End, Copied, Laid, Forward, Lay, Finish, Carry, Pass, Stop, Enable, Get, Delete, Restore, Fence, Enabled, Chunks, Deleted, Restored, Event, Seen, Fenced, Final, Credit, none, has_room, goes, switch_step, inst_step, soon, ctrl_step}
 use Rattle.two_machine.proofs.View.{World, read}
-use Rattle.two_machine.proofs.Labels.{In_input, On_sa, On_sb, On_sc, On_cs, On_ca, On_cb, On_ac, On_bc, On_back}
-use Rattle.two_machine.proofs.Puts.{sent, put_switch, put_a, put_b}
-use Rattle.two_machine.proofs.Places.{Place, In, Cs, Aw, Bw, Sc, Ac, Bc, Sa, Ca, Sb, Cb, with_waits, Label, result}
+use Rattle.two_machine.proofs.Labels.{In_input, On_sa, On_sb, On_sc, On_cs, On_ca, On_cb, On_ac, On_bc, On_back, Label}
+use Rattle.two_machine.proofs.Puts.{sent, put_switch, put_a, put_b, result}
+use Rattle.two_machine.proofs.Places.{Place, In, Cs, Aw, Bw, Sc, Ac, Bc, Sa, Ca, Sb, Cb, with_waits}
 use Rattle.two_machine.proofs.Closing.{Finish_a, Stop_a, Final_a, Finish_b, Stop_b, Final_b, Closed, ends, on_cs, on_sa, on_sb, on_ac, on_bc, is_sent, is_closed, a_has_stopped, switch_has_closed, b_has_stopped, Closing}
 use Rattle.two_machine.proofs.ClosingController.{step_ok, soon_ok}
 use Rattle.two_machine.proofs.ClosingSteps.{put_end, switch_close, goes_close, less, at_finish, at_stop_a, at_stop_b, at_final_a, at_final_b, put_ends, a_close, b_close, carry_quiet, all_quiet, ctrl_close}

@@ -1,4 +1,4 @@
--- Parts (2) and (4) of the theorem: in a complete run all was processed, each record stands at one instance alone, and the verdict is true.
+-- In a complete run all was processed, each record stands at one instance alone, and the verdict is true.
 use Rattle.std.proofs.Common.{◌≡◌, ℕ, suc, Bool, true, false, Option, None, List, [], ◌∷◌, ◌++◌, length, refl, sym, ap, subst, ◌∙◌, append-nil, arith, ◌⊎◌, inl, inr}
 use Rattle.std.specs.Prelude.{if◌then◌else◌, ◌==◌, ◌&&◌}
 use Rattle.std.specs.List.{list_all}
@@ -255,7 +255,7 @@ module _ {U T C R O : Type 0} (S : System U T C R O) (laws : Laws S) (window : �
       rw here
       (verdict_of v.log right (either_scan (scans S No_low v.log) (shape (frame S Nobody) h.stage).scan scan (over_scan (frame S Nobody) h.stage two.0)))
 
-  -- parts (2) and (4)
+  -- what a complete run keeps
   pub complete : (cs : List Choice) (w : Network (Node T C) (Msg C) (Note O)) → LeadsTo S window early late cs w → is_done (node_ended S) w ≡ true
       → Complete S window early late w
   complete cs w leads done_there =

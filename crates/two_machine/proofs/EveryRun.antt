@@ -1,4 +1,4 @@
--- Parts (1) and (3) of the theorem: order, each packet at most once, true outputs, Low before High, for every run.
+-- Order, each packet at most once, true outputs, Low before High, for every run.
 use Rattle.std.proofs.Common.{◌≡◌, ◌≤◌, ℕ, ◌+◌, Bool, true, false, Option, Some, None, List, [], ◌∷◌, ◌++◌, refl, sym, ap, subst, ◌∙◌, append_assoc, arith}
 use Rattle.std.specs.Prelude.{if◌then◌else◌, ◌==◌}
 use Rattle.std.proofs.lemmas.Bool.{false≢true}
@@ -9,7 +9,8 @@ use Rattle.two_machine.proofs.Machine.{folded}
 use Rattle.two_machine.proofs.Stages.{Stage, Before, Storing, Passing, Turned, Ends, done, path, Rises}
 use Rattle.two_machine.proofs.Tables.{System, Laws, Msg, Note, Node, Arrived, Processed, Low, High, Done, No_packet, node_step, node_ready}
 use Rattle.two_machine.proofs.View.{World, net, read, those, those-append, carries, arrived, ran, Observer, Nobody, Of_unit, IsTaken, frame}
-use Rattle.two_machine.proofs.Places.{Place, choice, with_waits, result}
+use Rattle.two_machine.proofs.Places.{Place, choice, with_waits}
+use Rattle.two_machine.proofs.Puts.{result}
 use Rattle.two_machine.proofs.Arrivals.{coming, Ready}
 use Rattle.two_machine.proofs.Runs.{Holds, known, keeps, next_equal}
 use Rattle.two_machine.proofs.Outputs.{mine, its_frame, told, due, IsRight, right_keeps, cover_mine}
@@ -311,7 +312,7 @@ module _ {U T C R O : Type 0} (S : System U T C R O) (laws : Laws S) (window : �
       let one = times_once p 0 (early ++ late) rises in
       omega (arith, left, right, part, whole, one)
 
-  -- parts (1) and (3)
+  -- what every run keeps
   pub every : (cs : List Choice) (w : Network (Node T C) (Msg C) (Note O)) → LeadsTo S window early late cs w → Every S window early late w
   every cs w leads =
       let reached = leads.reached in

@@ -1,7 +1,8 @@
 -- Which messages stand on which link, and where chunks come from.
-use Rattle.std.proofs.Common.{◌≡◌, List, ◌∷◌}
+use Rattle.std.proofs.Common.{◌≡◌}
 use Rattle.two_machine.proofs.Tables.{System, Msg, In_packet, In_start, In_end, Start, End, Copied, Laid, Forward, Lay, Finish, Carry, Pass, Stop, Enable, Get, Delete, Restore, Fence, Enabled, Chunks, Deleted, Restored, Event, Seen, Fenced, Final, Credit}
 use Rattle.two_machine.proofs.View.{World}
+use Rattle.two_machine.proofs.Places.{Place, In, Cs, Aw, Bw, Sc, Ac, Bc, Sa, Ca, Sb, Cb, waits}
 use Rattle.actor_net.proofs.WeightLaws.{Each}
 
 module _ {U T C R O : Type 0} (S : System U T C R O) where
@@ -71,205 +72,21 @@ module _ {U T C R O : Type 0} (S : System U T C R O) where
   On_back (Credit p) = Unit {0}
   On_back m = ⊥
 
+  -- what stands at a place has this label
+  abbrev pub Label : Place → Msg C → Type 0
+  Label In m = In_input m
+  Label Cs m = On_cs m
+  Label Aw m = On_back m
+  Label Bw m = On_back m
+  Label Sc m = On_sc m
+  Label Ac m = On_ac m
+  Label Bc m = On_bc m
+  Label Sa m = On_sa m
+  Label Ca m = On_ca m
+  Label Sb m = On_sb m
+  Label Cb m = On_cb m
+
+  -- each message is one of its place
   pub record Labels (v : World T C O) : Type 0 where
-    pub input : Each In_input v.input
-    pub sa : Each On_sa v.sa
-    pub sb : Each On_sb v.sb
-    pub sc : Each On_sc v.sc
-    pub cs : Each On_cs v.cs
-    pub ca : Each On_ca v.ca
-    pub cb : Each On_cb v.cb
-    pub ac : Each On_ac v.ac
-    pub bc : Each On_bc v.bc
-    pub aw : Each On_back v.aw
-    pub bw : Each On_back v.bw
+    pub standing : (pl : Place) → Each (Label pl) (waits S pl v)
     pub kept : IsSelected v.ct.kept
-
-  -- a link without its first
-  module _ (v : World T C O) (m : Msg C) (rest : List (Msg C)) where
-    pub less_input : Labels (record v { input = m ∷ rest }) → Labels (record v { input = rest })
-    less_input h =
-        record {
-          input = h.input.1;
-          sa = h.sa;
-          sb = h.sb;
-          sc = h.sc;
-          cs = h.cs;
-          ca = h.ca;
-          cb = h.cb;
-          ac = h.ac;
-          bc = h.bc;
-          aw = h.aw;
-          bw = h.bw;
-          kept = h.kept;
-        }
-
-    pub less_sa : Labels (record v { sa = m ∷ rest }) → Labels (record v { sa = rest })
-    less_sa h =
-        record {
-          input = h.input;
-          sa = h.sa.1;
-          sb = h.sb;
-          sc = h.sc;
-          cs = h.cs;
-          ca = h.ca;
-          cb = h.cb;
-          ac = h.ac;
-          bc = h.bc;
-          aw = h.aw;
-          bw = h.bw;
-          kept = h.kept;
-        }
-
-    pub less_sb : Labels (record v { sb = m ∷ rest }) → Labels (record v { sb = rest })
-    less_sb h =
-        record {
-          input = h.input;
-          sa = h.sa;
-          sb = h.sb.1;
-          sc = h.sc;
-          cs = h.cs;
-          ca = h.ca;
-          cb = h.cb;
-          ac = h.ac;
-          bc = h.bc;
-          aw = h.aw;
-          bw = h.bw;
-          kept = h.kept;
-        }
-
-    pub less_sc : Labels (record v { sc = m ∷ rest }) → Labels (record v { sc = rest })
-    less_sc h =
-        record {
-          input = h.input;
-          sa = h.sa;
-          sb = h.sb;
-          sc = h.sc.1;
-          cs = h.cs;
-          ca = h.ca;
-          cb = h.cb;
-          ac = h.ac;
-          bc = h.bc;
-          aw = h.aw;
-          bw = h.bw;
-          kept = h.kept;
-        }
-
-    pub less_cs : Labels (record v { cs = m ∷ rest }) → Labels (record v { cs = rest })
-    less_cs h =
-        record {
-          input = h.input;
-          sa = h.sa;
-          sb = h.sb;
-          sc = h.sc;
-          cs = h.cs.1;
-          ca = h.ca;
-          cb = h.cb;
-          ac = h.ac;
-          bc = h.bc;
-          aw = h.aw;
-          bw = h.bw;
-          kept = h.kept;
-        }
-
-    pub less_ca : Labels (record v { ca = m ∷ rest }) → Labels (record v { ca = rest })
-    less_ca h =
-        record {
-          input = h.input;
-          sa = h.sa;
-          sb = h.sb;
-          sc = h.sc;
-          cs = h.cs;
-          ca = h.ca.1;
-          cb = h.cb;
-          ac = h.ac;
-          bc = h.bc;
-          aw = h.aw;
-          bw = h.bw;
-          kept = h.kept;
-        }
-
-    pub less_cb : Labels (record v { cb = m ∷ rest }) → Labels (record v { cb = rest })
-    less_cb h =
-        record {
-          input = h.input;
-          sa = h.sa;
-          sb = h.sb;
-          sc = h.sc;
-          cs = h.cs;
-          ca = h.ca;
-          cb = h.cb.1;
-          ac = h.ac;
-          bc = h.bc;
-          aw = h.aw;
-          bw = h.bw;
-          kept = h.kept;
-        }
-
-    pub less_ac : Labels (record v { ac = m ∷ rest }) → Labels (record v { ac = rest })
-    less_ac h =
-        record {
-          input = h.input;
-          sa = h.sa;
-          sb = h.sb;
-          sc = h.sc;
-          cs = h.cs;
-          ca = h.ca;
-          cb = h.cb;
-          ac = h.ac.1;
-          bc = h.bc;
-          aw = h.aw;
-          bw = h.bw;
-          kept = h.kept;
-        }
-
-    pub less_bc : Labels (record v { bc = m ∷ rest }) → Labels (record v { bc = rest })
-    less_bc h =
-        record {
-          input = h.input;
-          sa = h.sa;
-          sb = h.sb;
-          sc = h.sc;
-          cs = h.cs;
-          ca = h.ca;
-          cb = h.cb;
-          ac = h.ac;
-          bc = h.bc.1;
-          aw = h.aw;
-          bw = h.bw;
-          kept = h.kept;
-        }
-
-    pub less_aw : Labels (record v { aw = m ∷ rest }) → Labels (record v { aw = rest })
-    less_aw h =
-        record {
-          input = h.input;
-          sa = h.sa;
-          sb = h.sb;
-          sc = h.sc;
-          cs = h.cs;
-          ca = h.ca;
-          cb = h.cb;
-          ac = h.ac;
-          bc = h.bc;
-          aw = h.aw.1;
-          bw = h.bw;
-          kept = h.kept;
-        }
-
-    pub less_bw : Labels (record v { bw = m ∷ rest }) → Labels (record v { bw = rest })
-    less_bw h =
-        record {
-          input = h.input;
-          sa = h.sa;
-          sb = h.sb;
-          sc = h.sc;
-          cs = h.cs;
-          ca = h.ca;
-          cb = h.cb;
-          ac = h.ac;
-          bc = h.bc;
-          aw = h.aw;
-          bw = h.bw.1;
-          kept = h.kept;
-        }

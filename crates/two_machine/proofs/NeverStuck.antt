@@ -1,4 +1,4 @@
--- Part (5): a world that isn't complete has an enabled choice.
+-- A world that isn't complete has an enabled choice.
 use Rattle.std.proofs.Common.{◌≡◌, ◌<◌, ◌⊎◌, inl, inr, ℕ, Bool, true, false, Option, Some, None, List, [], ◌∷◌, ◌++◌, refl, sym, ap, subst, ◌∙◌, append-nil, arith}
 use Rattle.std.specs.Prelude.{◌==◌, is_some}
 use Rattle.std.proofs.lemmas.Bool.{false≢true}
@@ -13,7 +13,7 @@ use Rattle.two_machine.proofs.Laws.{append_nil_right}
 use Rattle.two_machine.proofs.Tables.{System, Laws, Msg, Note, Node, In_packet, In_start, In_end, has_room, node_step, node_ready, node_ended}
 use Rattle.two_machine.proofs.View.{World, net, read, starts, Nobody, frame, view}
 use Rattle.two_machine.proofs.Labels.{In_input}
-use Rattle.two_machine.proofs.Places.{In, Cs, Aw, Bw, Sc, Ac, Bc, Sa, Ca, Sb, Cb, choice, with_waits}
+use Rattle.two_machine.proofs.Places.{Place, In, Cs, Aw, Bw, Sc, Ac, Bc, Sa, Ca, Sb, Cb, choice, waits, with_waits}
 use Rattle.two_machine.proofs.Arrivals.{One_end, Ends_last, End_at, In_input_still, On_link, Has_come}
 use Rattle.two_machine.proofs.Runs.{Holds, known}
 use Rattle.two_machine.proofs.Closing.{Close, Unsent, Finish_a, Stop_a, Final_a, Finish_b, Stop_b, Final_b, Closed, Closing, ends, is_sent, is_at_end, on_cs, on_sa, on_sb, on_ac, on_bc, a_has_stopped, b_has_stopped, is_closed, switch_has_closed}
@@ -127,67 +127,41 @@ module _ {U T C R O : Type 0} (S : System U T C R O) (laws : Laws S) where
     aw : v.aw ≡ []
     bw : v.bw ≡ []
 
-  look_sa : (v : World T C O) (l : List (Msg C)) → v.sa ≡ l → (v.sa ≡ [] → Goes v ⊎ Links v) → Goes v ⊎ Links v
-  look_sa v [] e more = more e
-  look_sa v (x ∷ l) e more = inl (choice Sa, rw e refl)
+  -- what stands on a link can be taken
+  abbrev IsLink : Place → Type 0
+  IsLink In = ⊥
+  IsLink pl = Unit {0}
 
-  look_sb : (v : World T C O) (l : List (Msg C)) → v.sb ≡ l → (v.sb ≡ [] → Goes v ⊎ Links v) → Goes v ⊎ Links v
-  look_sb v [] e more = more e
-  look_sb v (x ∷ l) e more = inl (choice Sb, rw e refl)
+  takes : (pl : Place) (v : World T C O) (x : Msg C) (l : List (Msg C)) → IsLink pl → waits S pl v ≡ x ∷ l
+      → is_enabled (node_ready S) (net v) (choice pl) ≡ true
+  takes In v x l link e = absurd link
+  takes pl v x l link e = rw e refl
 
-  look_sc : (v : World T C O) (l : List (Msg C)) → v.sc ≡ l → (v.sc ≡ [] → Goes v ⊎ Links v) → Goes v ⊎ Links v
-  look_sc v [] e more = more e
-  look_sc v (x ∷ l) e more = inl (choice Sc, rw e refl)
-
-  look_cs : (v : World T C O) (l : List (Msg C)) → v.cs ≡ l → (v.cs ≡ [] → Goes v ⊎ Links v) → Goes v ⊎ Links v
-  look_cs v [] e more = more e
-  look_cs v (x ∷ l) e more = inl (choice Cs, rw e refl)
-
-  look_ca : (v : World T C O) (l : List (Msg C)) → v.ca ≡ l → (v.ca ≡ [] → Goes v ⊎ Links v) → Goes v ⊎ Links v
-  look_ca v [] e more = more e
-  look_ca v (x ∷ l) e more = inl (choice Ca, rw e refl)
-
-  look_cb : (v : World T C O) (l : List (Msg C)) → v.cb ≡ l → (v.cb ≡ [] → Goes v ⊎ Links v) → Goes v ⊎ Links v
-  look_cb v [] e more = more e
-  look_cb v (x ∷ l) e more = inl (choice Cb, rw e refl)
-
-  look_ac : (v : World T C O) (l : List (Msg C)) → v.ac ≡ l → (v.ac ≡ [] → Goes v ⊎ Links v) → Goes v ⊎ Links v
-  look_ac v [] e more = more e
-  look_ac v (x ∷ l) e more = inl (choice Ac, rw e refl)
-
-  look_bc : (v : World T C O) (l : List (Msg C)) → v.bc ≡ l → (v.bc ≡ [] → Goes v ⊎ Links v) → Goes v ⊎ Links v
-  look_bc v [] e more = more e
-  look_bc v (x ∷ l) e more = inl (choice Bc, rw e refl)
-
-  look_aw : (v : World T C O) (l : List (Msg C)) → v.aw ≡ l → (v.aw ≡ [] → Goes v ⊎ Links v) → Goes v ⊎ Links v
-  look_aw v [] e more = more e
-  look_aw v (x ∷ l) e more = inl (choice Aw, rw e refl)
-
-  look_bw : (v : World T C O) (l : List (Msg C)) → v.bw ≡ l → (v.bw ≡ [] → Goes v ⊎ Links v) → Goes v ⊎ Links v
-  look_bw v [] e more = more e
-  look_bw v (x ∷ l) e more = inl (choice Bw, rw e refl)
+  look : (pl : Place) (v : World T C O) (l : List (Msg C)) → IsLink pl → waits S pl v ≡ l → (waits S pl v ≡ [] → Goes v ⊎ Links v) → Goes v ⊎ Links v
+  look pl v [] link e more = more e
+  look pl v (x ∷ l) link e more = inl (choice pl, takes pl v x l link e)
 
   links_or : (v : World T C O) → Goes v ⊎ Links v
   links_or v =
-      look_sa v v.sa refl
+      look Sa v v.sa tt refl
       (λ e_sa.
-      look_sb v v.sb refl
+      look Sb v v.sb tt refl
       (λ e_sb.
-      look_sc v v.sc refl
+      look Sc v v.sc tt refl
       (λ e_sc.
-      look_cs v v.cs refl
+      look Cs v v.cs tt refl
       (λ e_cs.
-      look_ca v v.ca refl
+      look Ca v v.ca tt refl
       (λ e_ca.
-      look_cb v v.cb refl
+      look Cb v v.cb tt refl
       (λ e_cb.
-      look_ac v v.ac refl
+      look Ac v v.ac tt refl
       (λ e_ac.
-      look_bc v v.bc refl
+      look Bc v v.bc tt refl
       (λ e_bc.
-      look_aw v v.aw refl
+      look Aw v v.aw tt refl
       (λ e_aw.
-      look_bw v v.bw refl
+      look Bw v v.bw tt refl
       (λ e_bw.
       inr
       (record {
@@ -324,7 +298,7 @@ module _ {U T C R O : Type 0} (S : System U T C R O) (laws : Laws S) where
       by (inr links) =
           let bare_there : Bare (shape (frame S Nobody) h.stage) = subst Bare h.alike (bare v links) in
           let w : Waiting (view S Nobody v) = subst Waiting (sym h.alike) (waits_there (frame S Nobody) h.stage h.fits bare_there) in
-          by_input links w (none_flies window v n links w) v.input refl h.labels.input
+          by_input links w (none_flies window v n links w) v.input refl (h.labels.standing In)
 
   -- every run
   module _ (window : ℕ) (early late : List ℕ) (some : 0 < window) (rises : Rises 0 (early ++ late)) where
@@ -354,7 +328,7 @@ module _ {U T C R O : Type 0} (S : System U T C R O) (laws : Laws S) where
         })
         is
 
-    -- part (5): a world that isn't complete has an enabled choice
+    -- a world that isn't complete has an enabled choice
     pub never_stuck : (cs : List Choice) (w : Network (Node T C) (Msg C) (Note O)) → LeadsTo S window early late cs w
         → (is_done (node_ended S) w ≡ true) ⊎ ((c : Choice) × (is_enabled (node_ready S) w c ≡ true))
     never_stuck cs w leads =

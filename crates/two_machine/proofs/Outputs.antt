@@ -8,7 +8,8 @@ use Rattle.two_machine.proofs.Stages.{Stage, Part, Restore_goes, Hold_goes, Befo
 use Rattle.two_machine.proofs.Tables.{System, Laws, Msg, Note, Switch, Inst, In_packet, Lay, Carry, Pass, Stop, Enable, Get, Delete, Restore, Fence, Processed, has_room, goes, switch_step, processed, all_processed, ruled, inst_step, ctrl_step}
 use Rattle.two_machine.proofs.View.{World, read, read-append, those, carries, passes, item, ran, Of_unit, frame, view}
 use Rattle.two_machine.proofs.Labels.{On_sa, On_ca, On_sb, On_cb}
-use Rattle.two_machine.proofs.Places.{Place, In, Cs, Aw, Bw, Sc, Ac, Bc, Sa, Ca, Sb, Cb, with_waits, result}
+use Rattle.two_machine.proofs.Places.{Place, In, Cs, Aw, Bw, Sc, Ac, Bc, Sa, Ca, Sb, Cb, with_waits}
+use Rattle.two_machine.proofs.Puts.{result}
 use Rattle.two_machine.proofs.Runs.{Holds}
 use Rattle.two_machine.proofs.Shapes.{shape}
 use Rattle.actor_net.proofs.WeightLaws.{Each}
@@ -286,12 +287,12 @@ module _ {U T C R O : Type 0} (S : System U T C R O) (laws : Laws S) (u : U) (it
   right_keeps Aw v x rest h right = right_none S laws u v.log (switch_step S v.sw x).notes right (switch_ran S laws u v.sw x)
   right_keeps Bw v x rest h right = right_none S laws u v.log (switch_step S v.sw x).notes right (switch_ran S laws u v.sw x)
   right_keeps Sc v x rest h right =
-      right_none S laws u v.log (ctrl_step S v.ct 0 x).notes right (ctrl_ok S v.ct 0 x h.labels.kept (gives_sc S x h.labels.sc.0)).unrun
+      right_none S laws u v.log (ctrl_step S v.ct 0 x).notes right (ctrl_ok S v.ct 0 x h.labels.kept (gives_sc S x (h.labels.standing Sc).0)).unrun
   right_keeps Ac v x rest h right =
-      right_none S laws u v.log (ctrl_step S v.ct 2 x).notes right (ctrl_ok S v.ct 2 x h.labels.kept (gives_ac S x h.labels.ac.0)).unrun
+      right_none S laws u v.log (ctrl_step S v.ct 2 x).notes right (ctrl_ok S v.ct 2 x h.labels.kept (gives_ac S x (h.labels.standing Ac).0)).unrun
   right_keeps Bc v x rest h right =
-      right_none S laws u v.log (ctrl_step S v.ct 3 x).notes right (ctrl_ok S v.ct 3 x h.labels.kept (gives_bc S x h.labels.bc.0)).unrun
-  right_keeps Sa v x rest h right = right_sa v x rest h.labels.sa.0 h right
-  right_keeps Ca v x rest h right = right_ca v x h.labels.ca.0 right
-  right_keeps Sb v x rest h right = right_sb v x rest h.labels.sb.0 h right
-  right_keeps Cb v x rest h right = right_cb v x rest h.labels.cb.0 h right
+      right_none S laws u v.log (ctrl_step S v.ct 3 x).notes right (ctrl_ok S v.ct 3 x h.labels.kept (gives_bc S x (h.labels.standing Bc).0)).unrun
+  right_keeps Sa v x rest h right = right_sa v x rest (h.labels.standing Sa).0 h right
+  right_keeps Ca v x rest h right = right_ca v x (h.labels.standing Ca).0 right
+  right_keeps Sb v x rest h right = right_sb v x rest (h.labels.standing Sb).0 h right
+  right_keeps Cb v x rest h right = right_cb v x rest (h.labels.standing Cb).0 h right

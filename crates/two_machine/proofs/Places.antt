@@ -1,10 +1,8 @@
--- The places at which a message can be taken: what waits there, which messages stand there, and the world after one was taken.
+-- The places at which a message can be taken, and what waits there.
 use Rattle.std.proofs.Common.{ℕ, List, [], ◌∷◌}
 use Rattle.actor_net.specs.declared.choice.Choice.{Choice}
-use Rattle.two_machine.proofs.Tables.{System, Msg, In_packet, switch_step, inst_step, ctrl_step}
+use Rattle.two_machine.proofs.Tables.{System, Msg, In_packet}
 use Rattle.two_machine.proofs.View.{World}
-use Rattle.two_machine.proofs.Labels.{In_input, On_sa, On_sb, On_sc, On_cs, On_ca, On_cb, On_ac, On_bc, On_back}
-use Rattle.two_machine.proofs.Puts.{put_switch, put_ctrl, put_a, put_b}
 
 pub data Place : Type 0 where
   In : Place
@@ -64,31 +62,3 @@ module _ {U T C R O : Type 0} (S : System U T C R O) where
   with_waits Ca l v = record v { ca = l }
   with_waits Sb l v = record v { sb = l }
   with_waits Cb l v = record v { cb = l }
-
-  -- what stands at a place has this label
-  abbrev pub Label : Place → Msg C → Type 0
-  Label In m = In_input S m
-  Label Cs m = On_cs S m
-  Label Aw m = On_back S m
-  Label Bw m = On_back S m
-  Label Sc m = On_sc S m
-  Label Ac m = On_ac S m
-  Label Bc m = On_bc S m
-  Label Sa m = On_sa S m
-  Label Ca m = On_ca S m
-  Label Sb m = On_sb S m
-  Label Cb m = On_cb S m
-
-  -- the world after its node took this message
-  abbrev pub result : Place → World T C O → Msg C → World T C O
-  result In v m = put_switch S v (switch_step S v.sw m)
-  result Cs v m = put_switch S v (switch_step S v.sw m)
-  result Aw v m = put_switch S v (switch_step S v.sw m)
-  result Bw v m = put_switch S v (switch_step S v.sw m)
-  result Sc v m = put_ctrl S v (ctrl_step S v.ct 0 m)
-  result Ac v m = put_ctrl S v (ctrl_step S v.ct 2 m)
-  result Bc v m = put_ctrl S v (ctrl_step S v.ct 3 m)
-  result Sa v m = put_a S v (inst_step S 0 v.a m)
-  result Ca v m = put_a S v (inst_step S 0 v.a m)
-  result Sb v m = put_b S v (inst_step S 1 v.b m)
-  result Cb v m = put_b S v (inst_step S 1 v.b m)

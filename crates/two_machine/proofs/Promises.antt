@@ -97,14 +97,14 @@ module _ {U T C R O : Type 0} (S : System U T C R O) (window : ℕ) (early late 
   pub record Every (w : Network (Node T C) (Msg C) (Note O)) : Type 0 where
     -- the switch takes the packets in their order
     pub in_turn : IsFront (read arrived w.log) (early ++ late)
-    -- (1)
+    -- what is processed of a unit is a front of its packets, each packet once at most, with the outputs of one instance that nothing moves
     pub front : (u : U) → IsFront (of_unit S u (processed w.log)) (of_unit S u (early ++ late))
     pub once : (p : ℕ) → times p (processed w.log) ≤ 1
     pub answers : (u : U) → given S u w.log ≡ outputs S None (of_unit S u (processed w.log))
-    -- (3)
+    -- the low rule is laid before the high one
     pub laid : LowBeforeHigh S w.log
 
-  -- (5): the run is short, and goes on unless nothing is left to do; and the window stays
+  -- the run is short, and goes on unless nothing is left to do; and the window stays
   pub record Ends (cs : List Choice) (w : Network (Node T C) (Msg C) (Note O)) : Type 0 where
     pub short : length cs ≤ 8 * length (early ++ late) + 32
     pub goes_on : (is_done (node_ended S) w ≡ true) ⊎ ((c : Choice) × (is_enabled (node_ready S) w c ≡ true))
@@ -112,10 +112,10 @@ module _ {U T C R O : Type 0} (S : System U T C R O) (window : ℕ) (early late 
 
   -- what holds besides where nothing is left to do
   pub record Complete (w : Network (Node T C) (Msg C) (Note O)) : Type 0 where
-    -- (2)
+    -- each packet of a unit is processed, and its record is live at one instance alone
     pub all : (u : U) → of_unit S u (processed w.log) ≡ of_unit S u (early ++ late)
     pub live : (u : U) → live_in S u w.nodes ≡ listed (fold S None (of_unit S u (early ++ late))) []
-    -- (4)
+    -- the verdict
     pub verdict : verdicts w.log ≡ (if has_come S.covers (after_low w.log) then Done ∷ [] else No_packet ∷ [])
 
   -- the theorem, of a run from a start

@@ -1,10 +1,12 @@
--- What a step of each node leaves of the world, link by link, is what the core's network leaves, with the labels of its messages.
+-- What a step of each node leaves of the world, link by link, is what the core's network leaves, with the labels of its messages; and the world after
+-- a message of a place was taken.
 use Rattle.std.proofs.Common.{◌≡◌, ℕ, zero, suc, List, [], ◌∷◌, ◌++◌, ap, ◌∙◌, append_assoc, append-nil}
 use Rattle.std.specs.Prelude.{if◌then◌else◌, ◌==◌}
 use Rattle.actor_net.specs.Network.{delivered, after}
-use Rattle.two_machine.proofs.Tables.{System, Msg, Switch, Ctrl, Inst, Is_switch, Is_ctrl, Is_inst, Step, as_node}
+use Rattle.two_machine.proofs.Tables.{System, Msg, Switch, Ctrl, Inst, Is_switch, Is_ctrl, Is_inst, Step, switch_step, inst_step, ctrl_step, as_node}
 use Rattle.two_machine.proofs.View.{World, net, read}
-use Rattle.two_machine.proofs.Labels.{IsSelected, On_sa, On_sb, On_sc, On_cs, On_ca, On_cb, On_ac, On_bc, On_back, Labels}
+use Rattle.two_machine.proofs.Labels.{IsSelected, On_sa, On_sb, On_sc, On_cs, On_ca, On_cb, On_ac, On_bc, On_back, Label, Labels}
+use Rattle.two_machine.proofs.Places.{Place, In, Cs, Aw, Bw, Sc, Ac, Bc, Sa, Ca, Sb, Cb, waits}
 use Rattle.actor_net.proofs.WeightLaws.{Each, each-append}
 
 -- what is sent to a node
@@ -137,74 +139,50 @@ module _ {U T C R O : Type 0} (S : System U T C R O) where
   each_b ((suc (suc k), m) ∷ xs) h = absurd h.0
 
   pub labels_switch : (v : World T C O) (did : Step S Switch) → Labels S v → Each (λ x. From_switch x.0 x.1) did.sends → Labels S (put_switch v did)
-  labels_switch v did l h =
-      let r = each_switch did.sends h in
-      record {
-        input = l.input;
-        cs = l.cs;
-        ca = l.ca;
-        cb = l.cb;
-        ac = l.ac;
-        bc = l.bc;
-        aw = l.aw;
-        bw = l.bw;
-        kept = l.kept;
-        sc = each-append (On_sc S) v.sc (sent 1 did.sends) l.sc r.0;
-        sa = each-append (On_sa S) v.sa (sent 2 did.sends) l.sa r.1;
-        sb = each-append (On_sb S) v.sb (sent 3 did.sends) l.sb r.2;
-      }
+  labels_switch v did l h = record { standing = at; kept = l.kept }
+    where
+      at : (pl : Place) → Each (Label S pl) (waits S pl (put_switch v did))
+      at Sc = each-append (On_sc S) v.sc (sent 1 did.sends) (l.standing Sc) (each_switch did.sends h).0
+      at Sa = each-append (On_sa S) v.sa (sent 2 did.sends) (l.standing Sa) (each_switch did.sends h).1
+      at Sb = each-append (On_sb S) v.sb (sent 3 did.sends) (l.standing Sb) (each_switch did.sends h).2
+      at pl = l.standing pl
 
   pub labels_ctrl : (v : World T C O) (did : Step S (Ctrl C)) → Labels S v → IsSelected S did.node.kept → Each (λ x. From_ctrl x.0 x.1) did.sends
       → Labels S (put_ctrl v did)
-  labels_ctrl v did l kept h =
-      let r = each_ctrl did.sends h in
-      record {
-        input = l.input;
-        sa = l.sa;
-        sb = l.sb;
-        sc = l.sc;
-        ac = l.ac;
-        bc = l.bc;
-        aw = l.aw;
-        bw = l.bw;
-        kept = kept;
-        cs = each-append (On_cs S) v.cs (sent 0 did.sends) l.cs r.0;
-        ca = each-append (On_ca S) v.ca (sent 2 did.sends) l.ca r.1;
-        cb = each-append (On_cb S) v.cb (sent 3 did.sends) l.cb r.2;
-      }
+  labels_ctrl v did l kept h = record { standing = at; kept = kept }
+    where
+      at : (pl : Place) → Each (Label S pl) (waits S pl (put_ctrl v did))
+      at Cs = each-append (On_cs S) v.cs (sent 0 did.sends) (l.standing Cs) (each_ctrl did.sends h).0
+      at Ca = each-append (On_ca S) v.ca (sent 2 did.sends) (l.standing Ca) (each_ctrl did.sends h).1
+      at Cb = each-append (On_cb S) v.cb (sent 3 did.sends) (l.standing Cb) (each_ctrl did.sends h).2
+      at pl = l.standing pl
 
   pub labels_a : (v : World T C O) (did : Step S (Inst T)) → Labels S v → Each (λ x. From_a x.0 x.1) did.sends → Labels S (put_a v did)
-  labels_a v did l h =
-      let r = each_a did.sends h in
-      record {
-        input = l.input;
-        sa = l.sa;
-        sb = l.sb;
-        sc = l.sc;
-        cs = l.cs;
-        ca = l.ca;
-        cb = l.cb;
-        bc = l.bc;
-        bw = l.bw;
-        kept = l.kept;
-        aw = each-append (On_back S) v.aw (sent 0 did.sends) l.aw r.0;
-        ac = each-append (On_ac S) v.ac (sent 1 did.sends) l.ac r.1;
-      }
+  labels_a v did l h = record { standing = at; kept = l.kept }
+    where
+      at : (pl : Place) → Each (Label S pl) (waits S pl (put_a v did))
+      at Aw = each-append (On_back S) v.aw (sent 0 did.sends) (l.standing Aw) (each_a did.sends h).0
+      at Ac = each-append (On_ac S) v.ac (sent 1 did.sends) (l.standing Ac) (each_a did.sends h).1
+      at pl = l.standing pl
 
   pub labels_b : (v : World T C O) (did : Step S (Inst T)) → Labels S v → Each (λ x. From_b x.0 x.1) did.sends → Labels S (put_b v did)
-  labels_b v did l h =
-      let r = each_b did.sends h in
-      record {
-        input = l.input;
-        sa = l.sa;
-        sb = l.sb;
-        sc = l.sc;
-        cs = l.cs;
-        ca = l.ca;
-        cb = l.cb;
-        ac = l.ac;
-        aw = l.aw;
-        kept = l.kept;
-        bw = each-append (On_back S) v.bw (sent 0 did.sends) l.bw r.0;
-        bc = each-append (On_bc S) v.bc (sent 1 did.sends) l.bc r.1;
-      }
+  labels_b v did l h = record { standing = at; kept = l.kept }
+    where
+      at : (pl : Place) → Each (Label S pl) (waits S pl (put_b v did))
+      at Bw = each-append (On_back S) v.bw (sent 0 did.sends) (l.standing Bw) (each_b did.sends h).0
+      at Bc = each-append (On_bc S) v.bc (sent 1 did.sends) (l.standing Bc) (each_b did.sends h).1
+      at pl = l.standing pl
+
+  -- the world after its node took this message
+  abbrev pub result : Place → World T C O → Msg C → World T C O
+  result In v m = put_switch v (switch_step S v.sw m)
+  result Cs v m = put_switch v (switch_step S v.sw m)
+  result Aw v m = put_switch v (switch_step S v.sw m)
+  result Bw v m = put_switch v (switch_step S v.sw m)
+  result Sc v m = put_ctrl v (ctrl_step S v.ct 0 m)
+  result Ac v m = put_ctrl v (ctrl_step S v.ct 2 m)
+  result Bc v m = put_ctrl v (ctrl_step S v.ct 3 m)
+  result Sa v m = put_a v (inst_step S 0 v.a m)
+  result Ca v m = put_a v (inst_step S 0 v.a m)
+  result Sb v m = put_b v (inst_step S 1 v.b m)
+  result Cb v m = put_b v (inst_step S 1 v.b m)

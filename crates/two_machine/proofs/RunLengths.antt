@@ -6,7 +6,8 @@ use Rattle.two_machine.proofs.Machine.{same}
 use Rattle.two_machine.proofs.Stages.{Rises}
 use Rattle.two_machine.proofs.Tables.{System, Laws, Msg, Note, Node, In_end, node_step, node_ready, in_packets, items}
 use Rattle.two_machine.proofs.View.{World, net, Nobody}
-use Rattle.two_machine.proofs.Places.{Place, choice, with_waits, result}
+use Rattle.two_machine.proofs.Places.{Place, choice, with_waits}
+use Rattle.two_machine.proofs.Puts.{result}
 use Rattle.two_machine.proofs.Runs.{Holds, keeps, next_equal}
 use Rattle.two_machine.proofs.Promises.{start, LeadsTo}
 use Rattle.actor_net.proofs.WeightLaws.{weigh}
@@ -64,7 +65,7 @@ module _ {U T C R O : Type 0} (S : System U T C R O) where
   input_weight [] late = omega (arith, late_weight late)
   input_weight (p ∷ early) late = omega (arith, input_weight early late)
 
-  -- part (5): no run has more than eight choices for a packet, and 26
+  -- no run has more than eight choices for a packet, and 26
   pub bound : (laws : Laws S) (window : ℕ) (early late : List ℕ) → Rises 0 (early ++ late) → (cs : List Choice) (w : Network (Node T C) (Msg C) (Note O))
       → LeadsTo S window early late cs w → length cs ≤ 8 * length (early ++ late) + 26
   bound laws window early late rises cs w leads =

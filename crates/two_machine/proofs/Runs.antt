@@ -9,8 +9,9 @@ use Rattle.two_machine.proofs.Laws.{rises_front}
 use Rattle.two_machine.proofs.LateSteps.{goes_on}
 use Rattle.two_machine.proofs.Tables.{System, Laws, Msg, Note, Node, In_packet, End, node_step, node_ready}
 use Rattle.two_machine.proofs.View.{World, net, read, those, those-append, arrived, Observer, IsTaken, frame, view}
-use Rattle.two_machine.proofs.Labels.{Labels}
-use Rattle.two_machine.proofs.Places.{Place, In, Sc, choice, with_waits, comes, Label, result}
+use Rattle.two_machine.proofs.Labels.{Labels, Label}
+use Rattle.two_machine.proofs.Places.{Place, In, Sc, choice, with_waits, comes}
+use Rattle.two_machine.proofs.Puts.{result}
 use Rattle.two_machine.proofs.StageFacts.{Knows, knows, each_those, each_after}
 use Rattle.two_machine.proofs.TurnSees.{moved_by, AllowedBy, brought, Permits, turn}
 use Rattle.two_machine.proofs.Arrivals.{coming, End_at, In_input_still, On_link, Has_come, quiet_copied, Ready, arrivals, end_goes}
@@ -65,7 +66,7 @@ module _ {U T C R O : Type 0} (S : System U T C R O) where
     permits In v (In_packet p) rest ready h l (On_link empty one not_yet) = cc
     permits In v (In_packet p) rest ready h l (Has_come empty quiet has) = cc
     permits Sc v End rest ready h l (In_input_still last quiet not_yet) = absurd quiet.0
-    permits Sc v End rest ready h l (On_link empty one not_yet) = (not_yet, quiet_copied S o rest l.sc one)
+    permits Sc v End rest ready h l (On_link empty one not_yet) = (not_yet, quiet_copied S o rest (l.standing Sc) one)
     permits Sc v End rest ready h l (Has_come empty quiet has) = absurd quiet.0
     permits pl v x rest ready h l e = tt
 

@@ -51,6 +51,12 @@ module _ {U T C R O : Type 0} (S : System U T C R O) where
   never : {X : Type 0} → (ns : List (Note O)) → is_wrong (scans S Wrong ns) ≡ false → X
   never ns right = let wrong = wrong_stays ns in absurd (false≢true (sym (rw wrong at right)))
 
+  -- where a packet leaves the scan as it is, whether the filter matches it or not
+  come_either : (s : Scan) (ns : List (Note O)) (b : Bool) → is_wrong (scans S (if b then s else s) ns) ≡ false
+      → (is_wrong (scans S s ns) ≡ false → true ≡ true → came_by (scans S s ns) ≡ true) → came_by (scans S (if b then s else s) ns) ≡ true
+  come_either s ns true right h = h right refl
+  come_either s ns false right h = h right refl
+
   -- from Low on
   come_since : (s : Scan) (ns : List (Note O)) → is_wrong (scans S s ns) ≡ false → has_low s ≡ true → came_by (scans S s ns) ≡ came_by s || has_come S.covers ns
   come_since No_low ns right low = absurd (false≢true low)
@@ -64,27 +70,9 @@ module _ {U T C R O : Type 0} (S : System U T C R O) where
           → came_by (scans S (if b then Low_came else Low_only) ns) ≡ b || has_come S.covers ns
       by true right h k = h right refl
       by false right h k = k right refl
-  come_since Low_came (Arrived p ∷ ns) right low = by (S.covers p) right (come_since Low_came ns)
-    where
-      by : (b : Bool) → is_wrong (scans S (if b then Low_came else Low_came) ns) ≡ false
-          → (is_wrong (scans S Low_came ns) ≡ false → true ≡ true → came_by (scans S Low_came ns) ≡ true)
-          → came_by (scans S (if b then Low_came else Low_came) ns) ≡ true
-      by true right h = h right refl
-      by false right h = h right refl
-  come_since High_laid (Arrived p ∷ ns) right low = by (S.covers p) right (come_since High_laid ns)
-    where
-      by : (b : Bool) → is_wrong (scans S (if b then High_laid else High_laid) ns) ≡ false
-          → (is_wrong (scans S High_laid ns) ≡ false → true ≡ true → came_by (scans S High_laid ns) ≡ true)
-          → came_by (scans S (if b then High_laid else High_laid) ns) ≡ true
-      by true right h = h right refl
-      by false right h = h right refl
-  come_since Is_done (Arrived p ∷ ns) right low = by (S.covers p) right (come_since Is_done ns)
-    where
-      by : (b : Bool) → is_wrong (scans S (if b then Is_done else Is_done) ns) ≡ false
-          → (is_wrong (scans S Is_done ns) ≡ false → true ≡ true → came_by (scans S Is_done ns) ≡ true)
-          → came_by (scans S (if b then Is_done else Is_done) ns) ≡ true
-      by true right h = h right refl
-      by false right h = h right refl
+  come_since Low_came (Arrived p ∷ ns) right low = come_either Low_came ns (S.covers p) right (come_since Low_came ns)
+  come_since High_laid (Arrived p ∷ ns) right low = come_either High_laid ns (S.covers p) right (come_since High_laid ns)
+  come_since Is_done (Arrived p ∷ ns) right low = come_either Is_done ns (S.covers p) right (come_since Is_done ns)
   come_since Is_none (Arrived p ∷ ns) right low = by (S.covers p) right (come_since Is_none ns)
     where
       by : (b : Bool) → is_wrong (scans S (if b then Wrong else Is_none) ns) ≡ false

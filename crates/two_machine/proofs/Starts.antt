@@ -8,7 +8,8 @@ use Rattle.two_machine.proofs.Machine.{Drops, Move, Arrive, End_comes, State, mo
 use Rattle.two_machine.proofs.Stages.{Before, Not_begun, Rises}
 use Rattle.two_machine.proofs.Tables.{System, Laws, In_end, none, node_step, node_ready, in_packets, fresh, first_nodes, items}
 use Rattle.two_machine.proofs.View.{World, net, read, starts, Observer, Nobody, Of_unit, IsTaken, own}
-use Rattle.two_machine.proofs.Labels.{In_input}
+use Rattle.two_machine.proofs.Places.{Place, In, waits}
+use Rattle.two_machine.proofs.Labels.{In_input, Label}
 use Rattle.two_machine.proofs.ControllerSees.{inside_none}
 use Rattle.two_machine.proofs.Arrivals.{coming, Ends_last, In_input_still}
 use Rattle.two_machine.proofs.Runs.{Holds, Reached, reach}
@@ -82,21 +83,7 @@ module _ {U T C R O : Type 0} (S : System U T C R O) where
         let empty = own_empty o in
         let chunks = inside_none S laws o in
         record {
-          labels =
-              record {
-                input = all_label early late;
-                sa = tt;
-                sb = tt;
-                sc = tt;
-                cs = tt;
-                ca = tt;
-                cb = tt;
-                ac = tt;
-                bc = tt;
-                aw = tt;
-                bw = tt;
-                kept = (S.empty, refl);
-              };
+          labels = record { standing = first_label; kept = (S.empty, refl) };
           end_at = In_input_still (all_last early late) tt refl;
           arrivals_are = all_coming early late;
           stage = Before Not_begun [] [] false;
@@ -104,6 +91,10 @@ module _ {U T C R O : Type 0} (S : System U T C R O) where
           alike = rw (begins, empty, chunks) refl;
           order = refl;
         }
+      where
+        first_label : (pl : Place) → Each (Label S pl) (waits S pl (first_world window early late))
+        first_label In = all_label early late
+        first_label pl = tt
 
     -- every run
     pub every_run : (cs : List Choice) → IsRun (node_ready S) (node_step S) cs (opening (first_nodes S window) (items S early late))

@@ -8,9 +8,10 @@ use Rattle.actor_net.specs.Network.{waiting, takes_first, is_enabled}
 use Rattle.two_machine.proofs.Machine.{Drops}
 use Rattle.two_machine.proofs.Tables.{System, Msg, Node, Is_switch, Is_ctrl, Is_inst, In_packet, In_start, In_end, node_ready}
 use Rattle.two_machine.proofs.View.{World, net, read}
-use Rattle.two_machine.proofs.Labels
-use Rattle.two_machine.proofs.Labels.{IsSelected, In_input, Labels}
-use Rattle.two_machine.proofs.Places.{Place, In, Cs, Aw, Bw, Sc, Ac, Bc, Sa, Ca, Sb, Cb, choice, waits, with_waits, comes, Label, result}
+use Rattle.two_machine.proofs.Labels.{IsSelected, Label, Labels}
+use Rattle.actor_net.proofs.WeightLaws.{Each}
+use Rattle.two_machine.proofs.Places.{Place, In, Cs, Aw, Bw, Sc, Ac, Bc, Sa, Ca, Sb, Cb, choice, waits, with_waits, comes}
+use Rattle.two_machine.proofs.Puts.{result}
 use Rattle.two_machine.proofs.Arrivals.{coming, Ready}
 
 module _ {U T C R O : Type 0} (S : System U T C R O) where
@@ -76,86 +77,47 @@ module _ {U T C R O : Type 0} (S : System U T C R O) where
   finds v (suc (suc (suc (suc k)))) p on = absurd (false≢true on)
 
   -- the labels of what is taken, and of what is left
+  left_standing : (pl at : Place) (v : World T C O) (x : Msg C) (rest : List (Msg C)) → Each (Label S at) (waits S at (with_waits S pl (x ∷ rest) v))
+      → Each (Label S at) (waits S at (with_waits S pl rest v))
+  left_standing In In v x rest e = e.1
+  left_standing Cs Cs v x rest e = e.1
+  left_standing Aw Aw v x rest e = e.1
+  left_standing Bw Bw v x rest e = e.1
+  left_standing Sc Sc v x rest e = e.1
+  left_standing Ac Ac v x rest e = e.1
+  left_standing Bc Bc v x rest e = e.1
+  left_standing Sa Sa v x rest e = e.1
+  left_standing Ca Ca v x rest e = e.1
+  left_standing Sb Sb v x rest e = e.1
+  left_standing Cb Cb v x rest e = e.1
+  left_standing pl at v x rest e = e
+
   pub labels_less : (pl : Place) (v : World T C O) (message : Msg C) (rest : List (Msg C)) → Labels S (with_waits S pl (message ∷ rest) v)
       → Label S pl message × Labels S (with_waits S pl rest v)
-  labels_less In v x rest l = (l.input.0, Labels.less_input S v x rest l)
-  labels_less Cs v x rest l = (l.cs.0, Labels.less_cs S v x rest l)
-  labels_less Aw v x rest l = (l.aw.0, Labels.less_aw S v x rest l)
-  labels_less Bw v x rest l = (l.bw.0, Labels.less_bw S v x rest l)
-  labels_less Sc v x rest l = (l.sc.0, Labels.less_sc S v x rest l)
-  labels_less Ac v x rest l = (l.ac.0, Labels.less_ac S v x rest l)
-  labels_less Bc v x rest l = (l.bc.0, Labels.less_bc S v x rest l)
-  labels_less Sa v x rest l = (l.sa.0, Labels.less_sa S v x rest l)
-  labels_less Ca v x rest l = (l.ca.0, Labels.less_ca S v x rest l)
-  labels_less Sb v x rest l = (l.sb.0, Labels.less_sb S v x rest l)
-  labels_less Cb v x rest l = (l.cb.0, Labels.less_cb S v x rest l)
+  labels_less In v x rest l = ((l.standing In).0, record { standing = λ at. left_standing In at v x rest (l.standing at); kept = l.kept })
+  labels_less pl v x rest l = ((l.standing pl).0, record { standing = λ at. left_standing pl at v x rest (l.standing at); kept = l.kept })
 
   pub kept_there : (pl : Place) (v : World T C O) (xs : List (Msg C)) → Labels S (with_waits S pl xs v) → IsSelected S v.ct.kept
   kept_there In v xs l = l.kept
-  kept_there Cs v xs l = l.kept
-  kept_there Aw v xs l = l.kept
-  kept_there Bw v xs l = l.kept
-  kept_there Sc v xs l = l.kept
-  kept_there Ac v xs l = l.kept
-  kept_there Bc v xs l = l.kept
-  kept_there Sa v xs l = l.kept
-  kept_there Ca v xs l = l.kept
-  kept_there Sb v xs l = l.kept
-  kept_there Cb v xs l = l.kept
+  kept_there pl v xs l = l.kept
 
   -- a world with what waits at a place written out
   pub written : (pl : Place) (v : World T C O) (xs : List (Msg C)) → waits S pl v ≡ xs → v ≡ with_waits S pl xs v
   written In v xs e = ap (λ l. with_waits S In l v) e
-  written Cs v xs e = ap (λ l. with_waits S Cs l v) e
-  written Aw v xs e = ap (λ l. with_waits S Aw l v) e
-  written Bw v xs e = ap (λ l. with_waits S Bw l v) e
-  written Sc v xs e = ap (λ l. with_waits S Sc l v) e
-  written Ac v xs e = ap (λ l. with_waits S Ac l v) e
-  written Bc v xs e = ap (λ l. with_waits S Bc l v) e
-  written Sa v xs e = ap (λ l. with_waits S Sa l v) e
-  written Ca v xs e = ap (λ l. with_waits S Ca l v) e
-  written Sb v xs e = ap (λ l. with_waits S Sb l v) e
-  written Cb v xs e = ap (λ l. with_waits S Cb l v) e
+  written pl v xs e = ap (λ l. with_waits S pl l v) e
 
   -- what of the world a place doesn't change
   pub log_there : (pl : Place) (v : World T C O) (xs : List (Msg C)) → (with_waits S pl xs v).log ≡ v.log
   log_there In v xs = refl
-  log_there Cs v xs = refl
-  log_there Aw v xs = refl
-  log_there Bw v xs = refl
-  log_there Sc v xs = refl
-  log_there Ac v xs = refl
-  log_there Bc v xs = refl
-  log_there Sa v xs = refl
-  log_there Ca v xs = refl
-  log_there Sb v xs = refl
-  log_there Cb v xs = refl
+  log_there pl v xs = refl
 
   pub rule_there : (pl : Place) (v : World T C O) (xs : List (Msg C)) → (with_waits S pl xs v).b.rule ≢ Drops → v.b.rule ≢ Drops
   rule_there In v xs h = h
-  rule_there Cs v xs h = h
-  rule_there Aw v xs h = h
-  rule_there Bw v xs h = h
-  rule_there Sc v xs h = h
-  rule_there Ac v xs h = h
-  rule_there Bc v xs h = h
-  rule_there Sa v xs h = h
-  rule_there Ca v xs h = h
-  rule_there Sb v xs h = h
-  rule_there Cb v xs h = h
+  rule_there pl v xs h = h
 
   pub ready_there : (pl : Place) (v : World T C O) (x : Msg C) (xs : List (Msg C)) → Ready S pl (with_waits S pl xs v) x → Ready S pl v x
   ready_there In v x xs h = h
-  ready_there Cs v x xs h = tt
-  ready_there Aw v x xs h = tt
-  ready_there Bw v x xs h = tt
-  ready_there Sc v x xs h = tt
-  ready_there Ac v x xs h = tt
-  ready_there Bc v x xs h = tt
-  ready_there Sa v x xs h = tt
-  ready_there Ca v x xs h = tt
-  ready_there Sb v x xs h = tt
-  ready_there Cb v x xs h = tt
+  ready_there pl v x xs h = tt
 
   -- the packets that still stand in the input
   pub left_in : (pl : Place) (v : World T C O) (x : Msg C) (xs : List (Msg C)) → Label S pl x
@@ -164,13 +126,4 @@ module _ {U T C R O : Type 0} (S : System U T C R O) where
   left_in In v In_start xs h = refl
   left_in In v In_end xs h = refl
   left_in In v x xs h = absurd h
-  left_in Cs v x xs h = refl
-  left_in Aw v x xs h = refl
-  left_in Bw v x xs h = refl
-  left_in Sc v x xs h = refl
-  left_in Ac v x xs h = refl
-  left_in Bc v x xs h = refl
-  left_in Sa v x xs h = refl
-  left_in Ca v x xs h = refl
-  left_in Sb v x xs h = refl
-  left_in Cb v x xs h = refl
+  left_in pl v x xs h = refl

@@ -1,4 +1,4 @@
--- The theorem of a two-phase update: parts (1) to (5), of every run from a start.
+-- The theorem of a two-phase update, of every run from a start.
 use Rattle.std.proofs.Common.{◌<◌, ℕ, List, ◌++◌, arith}
 use Rattle.actor_net.specs.declared.choice.Choice.{Choice}
 use Rattle.actor_net.specs.Network.{Network}

@@ -5,10 +5,11 @@ use Rattle.two_machine.proofs.Machine.{Rule, Free, Drops, Buffers, Target, To_a,
 use Rattle.two_machine.proofs.Laws.{append_nil_left, append_nil_right}
 use Rattle.two_machine.proofs.Tables.{System, Laws, Msg, In_packet, In_start, In_end, Start, End, Copied, Laid, Forward, Lay, Finish, Carry, Pass, Stop, Enable, Get, Delete, Restore, Fence, Enabled, Chunks, Deleted, Restored, Event, Seen, Fenced, Final, Credit, has_room}
 use Rattle.two_machine.proofs.View.{World, Observer, read, those, starts, frame, own, inside, IsTaken, item, view}
-use Rattle.two_machine.proofs.Labels.{In_input, On_sa, On_sb, On_sc, On_cs, On_ca, On_cb, On_ac, On_bc, On_back}
+use Rattle.two_machine.proofs.Labels.{In_input, On_sa, On_sb, On_sc, On_cs, On_ca, On_cb, On_ac, On_bc, On_back, Label}
 use Rattle.two_machine.proofs.ControllerSees.{reads, step_seen, start_seen, enabled_seen, chunks_seen, deleted_seen, restored_seen, event_seen, laid_seen, copied_seen, fenced_seen, end_seen, told_seen, final_seen}
 use Rattle.two_machine.proofs.InstanceSees.{carry_a, other_a, carry_b, pass_b, fence_b, enable_a, get_a, delete_a, enable_b, restore_b, stop_a, stop_b, arrive, arrive_other, forward_s, lay_s, finish_s, credit_s, end_s}
-use Rattle.two_machine.proofs.Places.{Place, In, Cs, Aw, Bw, Sc, Ac, Bc, Sa, Ca, Sb, Cb, with_waits, comes, Label, result}
+use Rattle.two_machine.proofs.Places.{Place, In, Cs, Aw, Bw, Sc, Ac, Bc, Sa, Ca, Sb, Cb, with_waits, comes}
+use Rattle.two_machine.proofs.Puts.{result}
 use Rattle.two_machine.proofs.StageFacts.{Knows}
 use Rattle.two_machine.proofs.Shapes.{Allowed, brings, copied}
 

@@ -6,9 +6,9 @@ use Rattle.two_machine.proofs.Laws.{folded-append}
 use Rattle.two_machine.proofs.Tables
 use Rattle.two_machine.proofs.Tables.{System, Laws, Msg, Note, Switch, Ctrl, Inst, Node, Step, In_packet, In_start, In_end, Forward, Lay, Finish, Carry, Pass, Stop, Enable, Get, Delete, Restore, Fence, Credit, Arrived, Processed, has_room, goes, switch_step, processed, all_processed, ruled, inst_step, ctrl_step, takes_in}
 use Rattle.two_machine.proofs.View.{World, read, read-append, those, those-append, carries, arrived, ran, Nobody, view}
-use Rattle.two_machine.proofs.Labels.{IsSelected, In_input, On_sa, On_ca, On_sb, On_cb, On_cs, On_back}
-use Rattle.two_machine.proofs.Puts.{sent, put_switch, put_a, put_b}
-use Rattle.two_machine.proofs.Places.{Place, In, Cs, Aw, Bw, Sc, Ac, Bc, Sa, Ca, Sb, Cb, with_waits, Label, result}
+use Rattle.two_machine.proofs.Labels.{IsSelected, In_input, On_sa, On_ca, On_sb, On_cb, On_cs, On_back, Label}
+use Rattle.two_machine.proofs.Puts.{sent, put_switch, put_a, put_b, result}
+use Rattle.two_machine.proofs.Places.{Place, In, Cs, Aw, Bw, Sc, Ac, Bc, Sa, Ca, Sb, Cb, with_waits}
 use Rattle.two_machine.proofs.StageFacts.{Knows}
 use Rattle.two_machine.proofs.Arrivals.{Ready, inst_notes}
 use Rattle.two_machine.proofs.Outputs.{mine, its_frame, told, due, record_by, IsRight, right_more, right_none, right_one, told_other, due_other, folded_other, other_cover, each_other, ran_fence}

@@ -5,9 +5,9 @@ use Rattle.std.proofs.lemmas.List.{length_push}
 use Rattle.two_machine.proofs.Machine.{Rule, Free, Drops, Buffers, Target, To_a, To_both, To_b}
 use Rattle.two_machine.proofs.Tables.{System, Msg, Switch, Ctrl, Inst, Step, In_packet, In_start, In_end, Start, End, Copied, Laid, Forward, Lay, Finish, Carry, Pass, Stop, Enable, Get, Delete, Restore, Fence, Enabled, Chunks, Deleted, Restored, Event, Seen, Fenced, Final, Credit, has_room, goes, switch_step, processed, all_processed, ruled, inst_step, ctrl_step}
 use Rattle.two_machine.proofs.View.{World}
-use Rattle.two_machine.proofs.Labels.{In_input, On_sa, On_sb, On_sc, On_cs, On_ca, On_cb, On_ac, On_bc, On_back}
-use Rattle.two_machine.proofs.Puts.{sent, put_switch, put_ctrl, put_a, put_b}
-use Rattle.two_machine.proofs.Places.{Place, In, Cs, Aw, Bw, Sc, Ac, Bc, Sa, Ca, Sb, Cb, with_waits, Label, result}
+use Rattle.two_machine.proofs.Labels.{In_input, On_sa, On_sb, On_sc, On_cs, On_ca, On_cb, On_ac, On_bc, On_back, Label}
+use Rattle.two_machine.proofs.Puts.{sent, put_switch, put_ctrl, put_a, put_b, result}
+use Rattle.two_machine.proofs.Places.{Place, In, Cs, Aw, Bw, Sc, Ac, Bc, Sa, Ca, Sb, Cb, with_waits}
 use Rattle.actor_net.proofs.WeightLaws.{weigh, weigh-append}
 use Rattle.two_machine.proofs.Weights.{w_in, w_sa, w_sb, w_cs, w_two, w_one, w_ac, w_ctrl, weight, Costs, allowed, step_costs}
 
@@ -20,8 +20,11 @@ module _ {U T C R O : Type 0} (S : System U T C R O) where
       let d = weigh-append w_two v.cb (sent 3 did.sends) in
       omega (arith, a, b, d, cost)
 
-  pub switch_less : (v : World T C O) (did : Step S Switch) (n : ℕ)
-      → weigh w_one (sent 1 did.sends) + weigh w_sa (sent 2 did.sends) + weigh w_sb (sent 3 did.sends) ≤ n → weight S (put_switch S v did) ≤ weight S v + n
+  -- what the switch's messages weigh
+  abbrev switch_costs : Step S Switch → ℕ
+  switch_costs did = weigh w_one (sent 1 did.sends) + weigh w_sa (sent 2 did.sends) + weigh w_sb (sent 3 did.sends)
+
+  switch_less : (v : World T C O) (did : Step S Switch) (n : ℕ) → switch_costs did + 1 ≤ n → weight S (put_switch S v did) + 1 ≤ weight S v + n
   switch_less v did n cost =
       let a = weigh-append w_one v.sc (sent 1 did.sends) in
       let b = weigh-append w_sa v.sa (sent 2 did.sends) in
@@ -44,24 +47,15 @@ module _ {U T C R O : Type 0} (S : System U T C R O) where
       let b = weigh-append w_one v.bc (sent 1 did.sends) in
       omega (arith, a, b, cost)
 
-  goes_costs : (t : Target) (s : Switch) (p : ℕ)
-      → weigh w_one (sent 1 (goes S t s p).sends) + weigh w_sa (sent 2 (goes S t s p).sends) + weigh w_sb (sent 3 (goes S t s p).sends) ≤ 7
+  goes_costs : (t : Target) (s : Switch) (p : ℕ) → switch_costs (goes S t s p) ≤ 7
   goes_costs To_a s p = omega arith
   goes_costs To_both s p = omega arith
   goes_costs To_b s p = omega arith
 
-  in_costs : (s : Switch) (m : Msg C) → In_input S m
-      → weigh w_one (sent 1 (switch_step S s m).sends) + weigh w_sa (sent 2 (switch_step S s m).sends) + weigh w_sb (sent 3 (switch_step S s m).sends) + 1
-      ≤ w_in m
+  in_costs : (s : Switch) (m : Msg C) → In_input S m → switch_costs (switch_step S s m) + 1 ≤ w_in m
   in_costs s (In_packet p) l =
       elim (has_room S s) as (λ b.
-      weigh w_one (sent 1 (if b then goes S (if S.covers p then s.target else To_a) s p else record { node = s; sends = []; notes = [] }).sends)
-      + weigh w_sa
-      (sent 2 (if b then goes S (if S.covers p then s.target else To_a) s p else record { node = s; sends = []; notes = [] }).sends)
-      + weigh w_sb
-      (sent 3 (if b then goes S (if S.covers p then s.target else To_a) s p else record { node = s; sends = []; notes = [] }).sends)
-      + 1
-      ≤ 8) [
+      switch_costs (if b then goes S (if S.covers p then s.target else To_a) s p else record { node = s; sends = []; notes = [] }) + 1 ≤ 8) [
         | true ↦ omega (arith, goes_costs (if S.covers p then s.target else To_a) s p)
         | false ↦ omega arith
       ]
@@ -69,9 +63,7 @@ module _ {U T C R O : Type 0} (S : System U T C R O) where
   in_costs s In_end l = omega arith
   in_costs s m l = absurd l
 
-  cs_costs : (s : Switch) (m : Msg C) → On_cs S m
-      → weigh w_one (sent 1 (switch_step S s m).sends) + weigh w_sa (sent 2 (switch_step S s m).sends) + weigh w_sb (sent 3 (switch_step S s m).sends) + 1
-      ≤ w_cs m
+  cs_costs : (s : Switch) (m : Msg C) → On_cs S m → switch_costs (switch_step S s m) + 1 ≤ w_cs m
   cs_costs s (Forward p) l = omega arith
   cs_costs s (Lay high) l = omega arith
   cs_costs s (Finish to) l =
@@ -84,9 +76,7 @@ module _ {U T C R O : Type 0} (S : System U T C R O) where
       ]
   cs_costs s m l = absurd l
 
-  back_costs : (s : Switch) (m : Msg C) → On_back S m
-      → weigh w_one (sent 1 (switch_step S s m).sends) + weigh w_sa (sent 2 (switch_step S s m).sends) + weigh w_sb (sent 3 (switch_step S s m).sends) + 1
-      ≤ 1
+  back_costs : (s : Switch) (m : Msg C) → On_back S m → switch_costs (switch_step S s m) + 1 ≤ 1
   back_costs s (Credit p) l = omega arith
   back_costs s m l = absurd l
 
@@ -187,34 +177,10 @@ module _ {U T C R O : Type 0} (S : System U T C R O) where
   -- each message taken makes the world lighter
   pub lighter : (pl : Place) (v : World T C O) (m : Msg C) (rest : List (Msg C)) → Label S pl m
       → weight S (result S pl (with_waits S pl rest v) m) + 1 ≤ weight S (with_waits S pl (m ∷ rest) v)
-  lighter In v m rest l =
-      let n =
-      weigh w_one (sent 1 (switch_step S v.sw m).sends) + weigh w_sa (sent 2 (switch_step S v.sw m).sends)
-      + weigh w_sb (sent 3 (switch_step S v.sw m).sends) in
-      let one = switch_less (with_waits S In rest v) (switch_step S v.sw m) n (omega arith) in
-      let two = in_costs v.sw m l in
-      omega (arith, one, two)
-  lighter Cs v m rest l =
-      let n =
-      weigh w_one (sent 1 (switch_step S v.sw m).sends) + weigh w_sa (sent 2 (switch_step S v.sw m).sends)
-      + weigh w_sb (sent 3 (switch_step S v.sw m).sends) in
-      let one = switch_less (with_waits S Cs rest v) (switch_step S v.sw m) n (omega arith) in
-      let two = cs_costs v.sw m l in
-      omega (arith, one, two)
-  lighter Aw v m rest l =
-      let n =
-      weigh w_one (sent 1 (switch_step S v.sw m).sends) + weigh w_sa (sent 2 (switch_step S v.sw m).sends)
-      + weigh w_sb (sent 3 (switch_step S v.sw m).sends) in
-      let one = switch_less (with_waits S Aw rest v) (switch_step S v.sw m) n (omega arith) in
-      let two = back_costs v.sw m l in
-      omega (arith, one, two)
-  lighter Bw v m rest l =
-      let n =
-      weigh w_one (sent 1 (switch_step S v.sw m).sends) + weigh w_sa (sent 2 (switch_step S v.sw m).sends)
-      + weigh w_sb (sent 3 (switch_step S v.sw m).sends) in
-      let one = switch_less (with_waits S Bw rest v) (switch_step S v.sw m) n (omega arith) in
-      let two = back_costs v.sw m l in
-      omega (arith, one, two)
+  lighter In v m rest l = let one = switch_less (with_waits S In rest v) (switch_step S v.sw m) (w_in m) (in_costs v.sw m l) in omega (arith, one)
+  lighter Cs v m rest l = let one = switch_less (with_waits S Cs rest v) (switch_step S v.sw m) (w_cs m) (cs_costs v.sw m l) in omega (arith, one)
+  lighter Aw v m rest l = let one = switch_less (with_waits S Aw rest v) (switch_step S v.sw m) 1 (back_costs v.sw m l) in omega (arith, one)
+  lighter Bw v m rest l = let one = switch_less (with_waits S Bw rest v) (switch_step S v.sw m) 1 (back_costs v.sw m l) in omega (arith, one)
   lighter Sc v m rest l =
       let one = ctrl_less (with_waits S Sc rest v) (ctrl_step S v.ct 0 m) (w_ctrl S v.ct + allowed S m 0) (step_costs S v.ct 0 m) in
       let two = sc_allowed m l in

@@ -208,7 +208,7 @@ module _ {F R : Type 0} (setting : Setting R) where
 
     -- whether nothing is left to do
     ended_same : (x : TwoNode F R) (y : core.Node (Sound f) (Sound f)) → NodeShows x y → node_ended x ≡ core.node_ended (sys setting) y
-    ended_same (Switch s) (core.Is_switch t) k = let one = k.closed in let two = k.flying in rw (one, two) refl
+    ended_same (Switch s) (core.Is_switch t) k = let one = k.window.closed in let two = k.window.flying in rw (one, two) refl
     ended_same (Controller c) (core.Is_ctrl d) k = k.stopped
     ended_same (Instance i) (core.Is_inst index j) k = k.ended
     ended_same (Switch s) (core.Is_ctrl d) k = absurd k

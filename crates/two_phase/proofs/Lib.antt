@@ -5,7 +5,6 @@ pub mod InstanceFollows
 pub mod SwitchFollows
 pub mod ControllerFollows
 pub mod AlikeWorlds
-pub mod WholeFilters
 pub mod NumberedPackets
 pub mod RealRuns
 pub mod Words

@@ -13,6 +13,7 @@ use Rattle.switch_rules.specs.declared.target.Target.{Target}
 use Rattle.switch_rules.specs.declared.target.Target.TheVariants.{Instance as ToInstance, Controller as ToController}
 use Rattle.switch_rules.specs.Rules.{first_match, AreFilters}
 use Rattle.packet_pool.specs.Pool.{FullCell}
+use Rattle.packet_window.specs.Window.{WindowState, IsBalanced}
 use Rattle.nf_msgs.specs.declared.msg.Msg.TheVariants as msg
 use Rattle.nf_msgs.specs.declared.note.Note.TheVariants as inner
 use Rattle.nf_msgs.specs.Exports.{units_in}
@@ -60,6 +61,14 @@ abbrev pub target_shown : m.Target → Target
 target_shown To_a = ToInstance 0
 target_shown To_both = ToController
 target_shown To_b = ToInstance 1
+
+-- a window: its pool is of this many cells, so many packets are under way, and it is closed or not
+pub record WindowShows (w : WindowState) (all away : ℕ) (over : Bool) : Type 0 where
+  pub name : w.pool.name ≡ 0
+  pub cells : w.pool.cells ≡ all
+  pub balanced : IsBalanced w
+  pub flying : w.flying ≡ away
+  pub closed : w.closed ≡ over
 
 module _ {R : Type 0} (setting : Setting R) where
   open setting use {f, site, filter, packet}
@@ -146,9 +155,4 @@ module _ {R : Type 0} (setting : Setting R) where
     pub filter_is : s.filter ≡ filter
     pub filters : AreFilters s.rules
     pub routed : (flow : Flow) → IsFlow flow → first_match s.rules flow ≡ Some (if matches filter flow then target_shown t.target else ToInstance 0)
-    pub name : s.pool.name ≡ 0
-    pub cells : s.pool.cells ≡ t.window
-    -- the cells that aren't with packets under way are at home
-    pub home : s.flying + s.pool.home ≡ s.pool.cells
-    pub flying : s.flying ≡ t.flying
-    pub closed : s.closed ≡ t.closed
+    pub window : WindowShows s.window t.window t.flying t.closed

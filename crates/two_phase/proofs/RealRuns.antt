@@ -23,8 +23,8 @@ use Rattle.two_machine.proofs.Stages.{Rises}
 use Rattle.two_machine.proofs.Tables as core
 use Rattle.two_machine.proofs.Tables.{Fenced, Final}
 use Rattle.two_machine.proofs.View.{World, net, Nobody}
-use Rattle.two_machine.proofs.Labels.{Labels}
-use Rattle.two_machine.proofs.Places.{Place, In, Cs, Aw, Bw, Sc, Ac, Bc, Sa, Ca, Sb, Cb, choice, waits, Label}
+use Rattle.two_machine.proofs.Labels.{Labels, Label}
+use Rattle.two_machine.proofs.Places.{Place, In, Cs, Aw, Bw, Sc, Ac, Bc, Sa, Ca, Sb, Cb, choice, waits}
 use Rattle.two_machine.proofs.TakenMessages.{finds, labels_less, written}
 use Rattle.two_machine.proofs.Runs.{Reached, step_reaches}
 use Rattle.two_machine.proofs.Starts.{first_world, opens, first_holds}
@@ -36,7 +36,7 @@ use Rattle.two_phase.proofs.Outlines
 use Rattle.two_phase.proofs.Outlines.{Shown}
 use Rattle.two_phase.proofs.ControllerFollows.{is_proper}
 use Rattle.two_phase.proofs.AlikeWorlds.{IsProper, Real, Core, AreShown, Outlined, enabled_same, taken_alike}
-use Rattle.two_phase.proofs.WholeFilters.{whole_takes}
+use Rattle.net_world.proofs.WholeFilters.{whole_takes}
 use Rattle.two_phase.proofs.NumberedPackets.{numbers, numbered_fits, rises_from, all_numbered, each_take, each_drop, numbers_split}
 
 -- Fenced stands on the link from the destination alone, and Final on those from the instances
@@ -51,16 +51,7 @@ module _ {U T C R O : Type 0} (S : core.System U T C R O) where
 
   waiting_at : (pl : Place) (v : World T C O) → waiting (net v) (choice pl) ≡ waits S pl v
   waiting_at In v = refl
-  waiting_at Cs v = refl
-  waiting_at Aw v = refl
-  waiting_at Bw v = refl
-  waiting_at Sc v = refl
-  waiting_at Ac v = refl
-  waiting_at Bc v = refl
-  waiting_at Sa v = refl
-  waiting_at Ca v = refl
-  waiting_at Sb v = refl
-  waiting_at Cb v = refl
+  waiting_at pl v = refl
 
   proper_here : (v : World T C O) (c : Choice) → Labels S v → is_enabled (core.node_ready S) (net v) c ≡ true → IsProper c (waiting (net v) c)
   proper_here v c l on =
@@ -107,7 +98,7 @@ module _ (F : Type 0) {R : Type 0} (f : Semantics R) (laws : FunctionLaws f) (al
   rising = subst (Rises 0) (numbers_split job.at job.packets) (rises_from 0 (numbers job.packets) is.numbers)
 
   found : Each (λ p. packet_numbered (items_of job) p.number ≡ p) job.packets
-  found = all_numbered 0 job.packets (rises_from 0 (numbers job.packets) is.numbers)
+  found = all_numbered 1 job.packets is.numbers
 
   start : Real F R
   start = two_start alloc job
@@ -130,11 +121,7 @@ module _ (F : Type 0) {R : Type 0} (f : Semantics R) (laws : FunctionLaws f) (al
         filter_is = refl;
         filters = All-cons (λ r. IsFilter r.0) (any, ToInstance 0) [] any_is (All-nil (λ r. IsFilter r.0));
         routed = λ flow fits. routes (matches job.filter flow);
-        name = refl;
-        cells = refl;
-        home = omega arith;
-        flying = refl;
-        closed = refl;
+        window = record { name = refl; cells = refl; balanced = omega arith; flying = refl; closed = refl };
       },
       (
         record {

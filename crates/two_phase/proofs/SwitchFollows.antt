@@ -1,34 +1,29 @@
 -- The step of the real switch is that of the reduced one.
-use Rattle.std.proofs.Common.{◌≡◌, ◌<◌, ℕ, zero, suc, ◌+◌, ◌-◌, Bool, true, false, Some, [], ◌∷◌, refl, sym, ap, subst, ◌∙◌, arith}
-use Rattle.std.specs.Prelude.{if◌then◌else◌, nat_lt, ◌==◌, ◌&&◌, ◌||◌, not, unwrap_or, option_map}
+use Rattle.std.proofs.Common.{◌≡◌, ℕ, zero, suc, ◌+◌, ◌-◌, Bool, true, false, Some, [], ◌∷◌, refl, sym, ap, subst, ◌∙◌, arith}
+use Rattle.std.specs.Prelude.{if◌then◌else◌, nat_lt, ◌&&◌, unwrap_or, option_map}
 use Rattle.std.proofs.lemmas.Bool.{false≢true}
-use Rattle.std.proofs.lemmas.Bool.Decides.{nat_tests, Decides-ltb}
+use Rattle.std.proofs.lemmas.Bool.Decides.{nat_tests}
 use Rattle.flow_filter.specs.declared.filter.Filter.{Filter}
 use Rattle.flow_filter.specs.declared.flow.Flow.{Flow}
-use Rattle.flow_filter.specs.Filter.{matches, IsFilter}
+use Rattle.flow_filter.specs.Filter.{matches, IsFilter, IsFlow}
 use Rattle.flow_filter.specs.Flow.{flow_of}
 use Rattle.nf_function.proofs.FlowFits.{flow_fits}
 use Rattle.switch_rules.specs.declared.target.Target.{Target}
 use Rattle.switch_rules.specs.declared.target.Target.TheVariants.{Instance as ToInstance, Controller as ToController}
 use Rattle.switch_rules.specs.Rules.{Redirect, first_match, redirected, redirected_target, target_eq}
 use Rattle.switch_rules.proofs.RedirectLaws.{redirected_law, AreFilters-redirected}
-use Rattle.packet_pool.specs.Pool.{FullCell, one_less, one_more}
+use Rattle.packet_pool.specs.Pool.{FullCell}
+use Rattle.packet_window.specs.Window.{WindowState, has_room, cell_for, with_one, with_home, with_end}
+use Rattle.packet_window.proofs.WindowLemmas.{one_balanced, home_balanced, home_name, home_cells, home_closed, home_flying}
 use Rattle.two_phase.specs.declared.msg.TwoMsg.{TwoMsg}
 use Rattle.two_phase.specs.Parts.{SwitchState}
-use Rattle.two_phase.specs.Tables.{Step, still, has_room, target_of, goes_to, on_packet, on_lay, on_finish, on_credit, switch_step, takes_in}
+use Rattle.two_phase.specs.Tables.{Step, still, target_of, goes_to, on_packet, on_lay, on_finish, switch_step, takes_in}
 use Rattle.two_machine.proofs.Machine.{Target as Goes, To_a, To_both, To_b, laid}
 use Rattle.two_machine.proofs.Tables as core
 use Rattle.two_machine.proofs.View.{read}
 use Rattle.two_phase.proofs.RecordLaws.{Sound, Setting, sys}
 use Rattle.two_phase.proofs.Outlines
-use Rattle.two_phase.proofs.Outlines.{outline_note, IsGenuine, Shown, Sends, target_shown, SwitchShows}
-
--- one packet more under way, and one cell less at home; or the other way round
-one_away : (flying home cells : ℕ) → flying + home ≡ cells → flying < cells → flying + 1 + (home - 1) ≡ cells
-one_away flying home cells all room = omega (arith, all, room)
-
-one_back : (flying home cells : ℕ) → flying + home ≡ cells → (flying == 0) ≡ false → flying - 1 + (home + 1) ≡ cells
-one_back flying home cells all some = grind (arith, nat_tests, all, some)
+use Rattle.two_phase.proofs.Outlines.{outline_note, IsGenuine, WindowShows, Shown, Sends, target_shown, SwitchShows}
 
 module _ {R : Type 0} (setting : Setting R) where
   open setting use {site, filter, numbers, packet, fits}
@@ -45,36 +40,45 @@ module _ {R : Type 0} (setting : Setting R) where
   shown_by true to = refl
   shown_by false to = refl
 
-  pub room_same : (s : SwitchState) (t : core.Switch) → SwitchShows setting s t → has_room s ≡ core.has_room (sys setting) t
-  room_same s t h = ap (λ k. nat_lt k s.pool.cells) h.flying ∙ ap (λ k. nat_lt t.flying k) h.cells
+  pub room_same : (s : SwitchState) (t : core.Switch) → SwitchShows setting s t → has_room s.window ≡ core.has_room (sys setting) t
+  room_same s t h = ap (λ k. nat_lt k s.window.pool.cells) h.window.flying ∙ ap (λ k. nat_lt t.flying k) h.window.cells
 
   module _ (s : SwitchState) (t : core.Switch) (h : SwitchShows setting s t) where
     still_follows : FollowsSwitch (still s) (core.still (sys setting) t)
     still_follows = record { node = h; sends = tt; notes = refl }
 
-    -- a packet arrives, where there is room
-    arrived : s.flying < s.pool.cells → SwitchShows setting (record s { pool = one_less s.pool; flying = s.flying + 1 }) (core.with_one (sys setting) t)
-    arrived room = record {
+    -- the same with another window
+    with_window : (w : WindowState) (u : core.Switch) → u.target ≡ t.target → WindowShows w u.window u.flying u.closed
+        → SwitchShows setting (record s { window = w }) u
+    with_window w u same shows = record {
       site_is = h.site_is;
       filter_is = h.filter_is;
       filters = h.filters;
-      routed = h.routed;
-      name = h.name;
-      cells = h.cells;
-      home = one_away s.flying s.pool.home s.pool.cells h.home room;
-      flying = ap (λ k. k + 1) h.flying;
-      closed = h.closed;
+      routed =
+          subst (λ (to : Goes). (flow : Flow) → IsFlow flow → first_match s.rules flow ≡ Some (if matches filter flow then target_shown to else ToInstance 0))
+          (sym same) h.routed;
+      window = shows;
     }
 
-    goes_follow : (n : ℕ) (to : Goes) → (packet n).number ≡ n → s.flying < s.pool.cells
+    -- a packet arrives, where there is room
+    arrived : has_room s.window ≡ true → SwitchShows setting (record s { window = with_one s.window }) (core.with_one (sys setting) t)
+    arrived room = with_window (with_one s.window) (core.with_one (sys setting) t) refl (record {
+      name = h.window.name;
+      cells = h.window.cells;
+      balanced = one_balanced s.window h.window.balanced room;
+      flying = ap (λ k. k + 1) h.window.flying;
+      closed = h.window.closed;
+    })
+
+    goes_follow : (n : ℕ) (to : Goes) → (packet n).number ≡ n → has_room s.window ≡ true
         → FollowsSwitch (goes_to s (packet n) (target_shown to)) (core.goes (sys setting) to t n)
     goes_follow n to number room = by to
       where
         cell : FullCell
-        cell = record { pool = s.pool.name; packet = packet n }
+        cell = cell_for s.window (packet n)
 
         genuine : IsGenuine setting cell n
-        genuine = record { packet_is = refl; number = number; pool = h.name }
+        genuine = record { packet_is = refl; number = number; pool = h.window.name }
 
         by : (to : Goes) → FollowsSwitch (goes_to s (packet n) (target_shown to)) (core.goes (sys setting) to t n)
         by To_a = record { node = arrived room; sends = ((refl, Outlines.Carry cell n genuine), tt); notes = ap (λ k. core.Arrived k ∷ []) number }
@@ -95,28 +99,24 @@ module _ {R : Type 0} (setting : Setting R) where
         in
         let went : Bool → Step SwitchState = λ b. if b then goes_to s (packet n) (target_of s (packet n)) else still s in
         let core_went : Bool → CoreStep = λ b. if b then core.goes (sys setting) to t n else core.still (sys setting) t in
-        subst (λ b. FollowsSwitch (went (has_room s)) (core_went b)) (room_same s t h) (
-        elim (has_room s) as (λ b. has_room s ≡ b → FollowsSwitch (went b) (core_went b)) [
+        subst (λ b. FollowsSwitch (went (has_room s.window)) (core_went b)) (room_same s t h) (
+        elim (has_room s.window) as (λ b. has_room s.window ≡ b → FollowsSwitch (went b) (core_went b)) [
           | true ↦ λ room.
               subst (λ x. FollowsSwitch (goes_to s (packet n) x) (core.goes (sys setting) to t n)) (sym target)
-              (goes_follow n to number ((Decides-ltb s.flying s.pool.cells).0 room))
+              (goes_follow n to number room)
           | false ↦ λ _. still_follows
         ] refl)
 
     finish_follows : (to : ℕ) → nat_lt to 2 ≡ true → FollowsSwitch (on_finish s to) (core.on_finish (sys setting) t to)
     finish_follows zero few = record { node = h; sends = ((refl, Outlines.Stop), tt); notes = refl }
     finish_follows (suc zero) few = record {
-      node = record {
-        site_is = h.site_is;
-        filter_is = h.filter_is;
-        filters = h.filters;
-        routed = h.routed;
-        name = h.name;
-        cells = h.cells;
-        home = h.home;
-        flying = h.flying;
+      node = with_window (with_end s.window) (record t { closed = true }) refl (record {
+        name = h.window.name;
+        cells = h.window.cells;
+        balanced = h.window.balanced;
+        flying = h.window.flying;
         closed = refl;
-      };
+      });
       sends = ((refl, Outlines.Stop), tt);
       notes = refl;
     }
@@ -126,57 +126,18 @@ module _ {R : Type 0} (setting : Setting R) where
         many k = grind (arith, nat_tests)
 
     credit_follows : (cell : FullCell) (n : ℕ) → IsGenuine setting cell n
-        → FollowsSwitch (on_credit s cell) (core.switch_step (sys setting) t (core.Credit n))
-    credit_follows cell n g = by (s.flying == 0) refl
-      where
-        own : not (cell.pool == s.pool.name) ≡ false
-        own = let pool = g.pool in let name = h.name in grind (arith, nat_tests, pool, name)
-
-        goes : Bool → Step SwitchState
-        goes b = if b then still s else still (record s { pool = one_more s.pool; flying = s.flying - 1 })
-
-        test : (b : Bool) → (s.flying == 0) ≡ b → (s.flying == 0) || not (cell.pool == s.pool.name) ≡ b
-        test true e = rw e refl
-        test false e = rw (e, own) refl
-
-        none : (k : ℕ) → (k == 0) ≡ true → k ≡ 0
-        none k e = grind (arith, nat_tests, e)
-
-        by : (b : Bool) → (s.flying == 0) ≡ b → FollowsSwitch (on_credit s cell) (core.switch_step (sys setting) t (core.Credit n))
-        by true e =
-            let zero_flying : s.flying ≡ 0 = none s.flying e in
-            let t_zero : t.flying ≡ 0 = sym h.flying ∙ zero_flying in
-            subst (λ b. FollowsSwitch (goes b) (core.switch_step (sys setting) t (core.Credit n))) (sym (test true e)) (record {
-              node = record {
-                site_is = h.site_is;
-                filter_is = h.filter_is;
-                filters = h.filters;
-                routed = h.routed;
-                name = h.name;
-                cells = h.cells;
-                home = h.home;
-                flying = zero_flying ∙ sym (ap (λ n. n - 1) t_zero);
-                closed = h.closed;
-              };
-              sends = tt;
-              notes = refl;
-            })
-        by false e =
-            subst (λ b. FollowsSwitch (goes b) (core.switch_step (sys setting) t (core.Credit n))) (sym (test false e)) (record {
-              node = record {
-                site_is = h.site_is;
-                filter_is = h.filter_is;
-                filters = h.filters;
-                routed = h.routed;
-                name = h.name;
-                cells = h.cells;
-                home = one_back s.flying s.pool.home s.pool.cells h.home e;
-                flying = ap (λ n. n - 1) h.flying;
-                closed = h.closed;
-              };
-              sends = tt;
-              notes = refl;
-            })
+        → FollowsSwitch (still (record s { window = with_home s.window cell })) (core.switch_step (sys setting) t (core.Credit n))
+    credit_follows cell n g = record {
+      node = with_window (with_home s.window cell) (record t { flying = t.flying - 1 }) refl (record {
+        name = home_name s.window cell ∙ h.window.name;
+        cells = home_cells s.window cell ∙ h.window.cells;
+        balanced = home_balanced s.window cell h.window.balanced;
+        flying = home_flying s.window cell (g.pool ∙ sym h.window.name) ∙ ap (λ k. k - 1) h.window.flying;
+        closed = home_closed s.window cell ∙ h.window.closed;
+      });
+      sends = tt;
+      notes = refl;
+    }
 
   -- a rule is laid
   abbrev redirect_of : Bool → Filter → Redirect
@@ -211,11 +172,7 @@ module _ {R : Type 0} (setting : Setting R) where
             redirected_law r s.rules h.filters (own_numbers high) flow fits
             ∙ ap (option_map (redirected_target r flow)) (h.routed flow fits)
             ∙ ap Some (same_filter high flow ∙ target_after high (matches filter flow) t.target);
-        name = h.name;
-        cells = h.cells;
-        home = h.home;
-        flying = h.flying;
-        closed = h.closed;
+        window = h.window;
       })
     where
       own_numbers : (high : Bool) → IsFilter (redirect_of high filter).filter

@@ -188,10 +188,11 @@ module _ (F : Type 0) {R : Type 0} (f : Semantics R) (laws : FunctionLaws f) (al
 
   -- cells at the switch
   cells_of : (ws : List (TwoNode F R)) (vs : List (core.Node (Sound f) (Sound f))) → Alike (NodeShows (setting F f laws alloc job is)) ws vs
-      → promises.switch_window vs ≡ Some job.window → (s : SwitchState) × (switch_in (slice_get ws 0) ≡ Some s) × (s.flying + s.pool.home ≡ job.window)
+      → promises.switch_window vs ≡ Some job.window
+      → (s : SwitchState) × (switch_in (slice_get ws 0) ≡ Some s) × (s.window.flying + s.window.pool.home ≡ job.window)
   cells_of (Switch s ∷ ws) (core.Is_switch t ∷ vs) h e =
       let window : t.window ≡ job.window = cc in
-      (s, refl, h.0.home ∙ h.0.cells ∙ window)
+      (s, refl, h.0.window.balanced ∙ h.0.window.cells ∙ window)
   cells_of (Switch s ∷ ws) (core.Is_ctrl d ∷ vs) h e = absurd h.0
   cells_of (Switch s ∷ ws) (core.Is_inst n j ∷ vs) h e = absurd h.0
   cells_of ws (core.Is_ctrl d ∷ vs) h e = cc
@@ -253,14 +254,14 @@ module _ (F : Type 0) {R : Type 0} (f : Semantics R) (laws : FunctionLaws f) (al
           window = its.2;
           home =
               λ ended.
-              (let none = (and_parts its.0.closed (its.0.flying == 0) (closed_first w.nodes its.0 its.1 (nodes_ended ended))).1 in
+              (let none = (and_parts its.0.window.closed (its.0.window.flying == 0) (closed_first w.nodes its.0 its.1 (nodes_ended ended))).1 in
               all_home its.0 none its.2);
         }
       where
         nodes_ended : is_done node_ended w ≡ true → list_all node_ended w.nodes ≡ true
         nodes_ended ended = (and_parts ((length w.input == 0) && list_all (λ l. length l == 0) w.links) (list_all node_ended w.nodes) ended).1
 
-        all_home : (s : SwitchState) → (s.flying == 0) ≡ true → s.flying + s.pool.home ≡ job.window → s.pool.home ≡ job.window
+        all_home : (s : SwitchState) → (s.window.flying == 0) ≡ true → s.window.flying + s.window.pool.home ≡ job.window → s.window.pool.home ≡ job.window
         all_home s none all = grind (arith, nat_tests, none, all)
 
     pub in_words : Published f job cs w

@@ -4,17 +4,16 @@ use Rattle.flow_filter.specs.declared.filter.Filter.{Filter}
 use Rattle.flow_filter.specs.declared.site.Site.{Site}
 use Rattle.nf_function.specs.declared.chunk.Chunk.{Chunk}
 use Rattle.switch_rules.specs.Rules.{Rule}
-use Rattle.packet_pool.specs.Pool.{PoolState, FullCell}
+use Rattle.packet_pool.specs.Pool.{FullCell}
+use Rattle.packet_window.specs.Window.{WindowState}
 use Rattle.two_phase.specs.declared.phase.Phase.{Phase}
 
--- the switch: its rules, the filter of the update, how many packets are under way, and whether all is done
+-- the switch: its rules, its window, and the filter of the update
 pub record SwitchState : Type 0 where
   pub rules : List Rule
-  pub pool : PoolState
+  pub window : WindowState
   pub site : Site
   pub filter : Filter
-  pub flying : ℕ
-  pub closed : Bool
 
 -- the controller: the packets that it stores, and the chunks on their way from the source to the destination; the numbers of the last packet
 -- that was copied and of the latest that was seen; whether the input has ended, whether the source is to stop, and whether the destination has

@@ -1,7 +1,6 @@
 -- What every run of a two-phase update keeps, complete or not: each unit's packets are processed in order and once, as by one instance that
--- nothing moves; the low rule is laid before the high one; the run is short, and goes on to its end. Packets go by their numbers. The parts go
--- by the numbers of the theorem; that the start and each step are as the tables say (0) stands on `start`, `TwoNode` and `run_two`. This
--- project's own.
+-- nothing moves; the low rule is laid before the high one; the run is short, and goes on to its end. Packets go by their numbers. That the
+-- start and each step are as the tables say stands on `start`, `TwoNode` and `run_two`. This project's own.
 use Rattle.std.specs.Prelude.{◌≡◌, ◌≤◌, ◌⊎◌, ℕ, ◌+◌, ◌*◌, Bool, true, false, if◌then◌else◌, Option, None, Some, List, [], ◌∷◌, ◌++◌, map, filter, filter_map, length, option_to_list, slice_get}
 use Rattle.std.specs.List.{list_any, after_first}
 use Rattle.std.specs.FinMap as finite
@@ -76,9 +75,9 @@ module _ (job : UpdateJob) where
   pub record Cells {F R : Type 0} (w : Network (TwoNode F R) TwoMsg TwoNote) : Type 0 where
     pub switch : SwitchState
     pub switch_is : switch_in (slice_get w.nodes switch_node) ≡ Some switch
-    pub window : switch.flying + switch.pool.home ≡ job.window
+    pub window : switch.window.flying + switch.window.pool.home ≡ job.window
     -- at the end all are
-    pub home : is_done node_ended w ≡ true → switch.pool.home ≡ job.window
+    pub home : is_done node_ended w ≡ true → switch.window.pool.home ≡ job.window
 
 module _ {R : Type 0} (f : Semantics R) (job : UpdateJob) where
   -- the packets of a unit in the trace
@@ -87,28 +86,28 @@ module _ {R : Type 0} (f : Semantics R) (job : UpdateJob) where
 
   -- what a complete run keeps besides
   pub record UpdateCompleted {F : Type 0} (w : Network (TwoNode F R) TwoMsg TwoNote) : Type 0 where
-    -- (2) each packet of a unit is processed, and its record is live at one instance alone
+    -- each packet of a unit is processed, and its record is live at one instance alone
     pub all_went : (unit : units.Unit) → went f (config_of job) (items_of job) unit (inner_notes w.log) ≡ mine unit
     pub live_is : (unit : units.Unit)
         → filter_map (live_in unit) w.nodes ≡ option_to_list (fold f (config_of job) (items_of job) None (mine unit))
-    -- (4) the update is done where a packet that the filter matches came after the low rule, and else no packet came
+    -- the update is done where a packet that the filter matches came after the low rule, and else no packet came
     pub verdict : verdicts w.log ≡ (if has_come job (after_low w.log) then Done ∷ [] else NoPacket ∷ [])
 
   -- what every run keeps, by these choices
   pub record Published {F : Type 0} (choices : List Choice) (w : Network (TwoNode F R) TwoMsg TwoNote) : Type 0 where
     -- the switch takes the packets of the trace in their order
     pub in_turn : IsFront (arrived (inner_notes w.log)) (trace job)
-    -- (1) what is processed of a unit is a front of its packets, each packet once at most
+    -- what is processed of a unit is a front of its packets, each packet once at most
     pub in_order : (unit : units.Unit) → IsFront (went f (config_of job) (items_of job) unit (inner_notes w.log)) (mine unit)
     pub once : (p : ℕ) → times p (map (λ d. d.number) (done (inner_notes w.log))) ≤ 1
-    -- (2) outputs are those of one instance that nothing moves, and so is the record at the end
+    -- outputs are those of one instance that nothing moves, and so is the record at the end
     pub outputs_are : (unit : units.Unit)
         → given f (config_of job) (items_of job) unit (inner_notes w.log)
         ≡ outputs f (config_of job) (items_of job) None (went f (config_of job) (items_of job) unit (inner_notes w.log))
     pub completed : is_done node_ended w ≡ true → UpdateCompleted w
-    -- (3) the low rule is laid before the high one, and between them a packet that the filter matches arrived
+    -- the low rule is laid before the high one, and between them a packet that the filter matches arrived
     pub laid : (before after : List TwoNote) → w.log ≡ before ++ High ∷ after → has_come job (after_low before) ≡ true
-    -- (5) a run is short, and goes on unless nothing is left to do
+    -- a run is short, and goes on unless nothing is left to do
     pub short : length choices ≤ 8 * length job.packets + 32
     pub goes_on : (is_done node_ended w ≡ true) ⊎ ((c : Choice) × (is_enabled node_ready w c ≡ true))
     -- the window

@@ -7,6 +7,7 @@ use Rattle.flow_filter.specs.declared.site.Site.{Site}
 use Rattle.flow_filter.specs.Limits.{most_packets}
 use Rattle.nf_function.specs.declared.kind.Kind.{Kind}
 use Rattle.switch_rules.specs.Rules.{opened}
+use Rattle.packet_window.specs.Window.{opened as open_window}
 use Rattle.nf_msgs.specs.declared.msg.Msg.{Msg}
 use Rattle.nf_msgs.specs.declared.msg.Msg.TheVariants as msg
 use Rattle.switch_node.specs.declared.switch.TheConstants.{MOST_WINDOW}
@@ -65,14 +66,7 @@ input_at at packets = map InPacket (take at packets) ++ (InStart ∷ (map InPack
 
 -- the switch: all cells are at home, and every flow goes to the source
 abbrev pub first_switch : UpdateJob → SwitchState
-first_switch job = record {
-  rules = opened [];
-  pool = record { name = 0; cells = job.window; home = job.window };
-  site = job.site;
-  filter = job.filter;
-  flying = 0;
-  closed = false;
-}
+first_switch job = record { rules = opened []; window = open_window job.window; site = job.site; filter = job.filter }
 
 abbrev pub first_controller : UpdateJob → ControllerState
 first_controller job = record {

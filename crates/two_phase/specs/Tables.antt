@@ -1,6 +1,6 @@
 -- What each node of a two-phase update does with each message. The switch is node 0, the controller node 1, the source node 2 and the
 -- destination node 3. This project's own, after the published two-phase update.
-use Rattle.std.specs.Prelude.{ℕ, ◌+◌, ◌-◌, ◌==◌, ◌&&◌, ◌||◌, not, nat_lt, Bool, true, false, if◌then◌else◌, List, [], ◌∷◌, ◌++◌, map, Option, None, Some, unwrap_or}
+use Rattle.std.specs.Prelude.{ℕ, ◌==◌, ◌&&◌, not, nat_lt, Bool, true, false, if◌then◌else◌, List, [], ◌∷◌, ◌++◌, map, Option, None, Some, unwrap_or}
 use Rattle.flow_filter.specs.declared.packet.Packet.{Packet}
 use Rattle.flow_filter.specs.Flow.{flow_of}
 use Rattle.nf_function.specs.declared.chunk.Chunk.{Chunk}
@@ -10,7 +10,8 @@ use Rattle.event_filter.specs.declared.mark.Mark.TheVariants.{Plain, Pass}
 use Rattle.switch_rules.specs.declared.target.Target.{Target}
 use Rattle.switch_rules.specs.declared.target.Target.TheVariants.{Instance as ToInstance, Controller as ToController}
 use Rattle.switch_rules.specs.Rules.{first_match, redirected}
-use Rattle.packet_pool.specs.Pool.{FullCell, one_less, one_more}
+use Rattle.packet_pool.specs.Pool.{FullCell}
+use Rattle.packet_window.specs.Window.{has_room, has_ended, cell_for, with_one, with_home, with_end}
 use Rattle.nf_msgs.specs.declared.msg.Msg.{Msg}
 use Rattle.nf_msgs.specs.declared.msg.Msg.TheVariants.{Carry, Stop, Enable, Get, Delete, Restore, Fence, Enabled, Chunks, Deleted, Restored, Event, Seen, Fenced, Final, Credit}
 use Rattle.nf_msgs.specs.declared.note.Note.{Note}
@@ -72,15 +73,11 @@ and_then one next = record {
 abbrev pub target_of : SwitchState → Packet → Target
 target_of s packet = unwrap_or (first_match s.rules (flow_of s.site packet).0) (ToInstance source)
 
--- whether one packet more may be under way
-abbrev pub has_room : SwitchState → Bool
-has_room s = nat_lt s.flying s.pool.cells
-
 -- a packet takes a cell, arrives and goes to an instance; then these messages are sent
 abbrev pub arrives : SwitchState → Packet → ℕ → List (ℕ × TwoMsg) → Step SwitchState
 arrives s packet i more = record {
-  node = record s { pool = one_less s.pool; flying = s.flying + 1 };
-  sends = (instance_node i, Inner (Carry Plain (record { pool = s.pool.name; packet = packet }))) ∷ more;
+  node = record s { window = with_one s.window };
+  sends = (instance_node i, Inner (Carry Plain (cell_for s.window packet))) ∷ more;
   notes = note.Inner (Arrived packet.number) ∷ [];
 }
 
@@ -90,7 +87,7 @@ goes_to s packet ToController = arrives s packet source ((controller_node, Copie
 goes_to s packet (ToInstance i) = if nat_lt i 2 then arrives s packet i [] else still s
 
 abbrev pub on_packet : SwitchState → Packet → Step SwitchState
-on_packet s packet = if has_room s then goes_to s packet (target_of s packet) else still s
+on_packet s packet = if has_room s.window then goes_to s packet (target_of s packet) else still s
 
 -- the low rule: from the source to the controller. The high one: from the controller to the destination
 abbrev pub with_rule : Bool → SwitchState → SwitchState
@@ -104,14 +101,8 @@ on_lay high s = record { node = with_rule high s; sends = (controller_node, Laid
 abbrev pub on_finish : SwitchState → ℕ → Step SwitchState
 on_finish s to =
     if nat_lt to 2
-    then says (record s { closed = if to == destination then true else s.closed }) (instance_node to) (Inner Stop)
+    then says (record s { window = if to == destination then with_end s.window else s.window }) (instance_node to) (Inner Stop)
     else still s
-
--- a cell comes home, if it is one of the pool's
-abbrev pub on_credit : SwitchState → FullCell → Step SwitchState
-on_credit s cell =
-    if (s.flying == 0) || not (cell.pool == s.pool.name) then still s
-    else still (record s { pool = one_more s.pool; flying = s.flying - 1 })
 
 -- the table of the switch. What it doesn't name comes in no run
 abbrev pub switch_step : SwitchState → TwoMsg → Step SwitchState
@@ -121,16 +112,16 @@ switch_step s InEnd = says s controller_node End
 switch_step s (Forward cell) = says s destination_node (Inner (Carry (Pass the_update) cell))
 switch_step s (Lay high) = on_lay high s
 switch_step s (Finish to) = on_finish s to
-switch_step s (Inner (Credit cell)) = on_credit s cell
+switch_step s (Inner (Credit cell)) = still (record s { window = with_home s.window cell })
 switch_step s message = still s
 
 -- whether the switch takes an item of the input now, and whether it has nothing left to do
 abbrev pub takes_in : SwitchState → TwoMsg → Bool
-takes_in s (InPacket packet) = has_room s
+takes_in s (InPacket packet) = has_room s.window
 takes_in s message = true
 
 abbrev pub has_closed : SwitchState → Bool
-has_closed s = s.closed && (s.flying == 0)
+has_closed s = has_ended s.window
 
 -- the controller
 

@@ -1,7 +1,8 @@
 //! The switch of a two-phase update: packets are copied, then go by the low rule, and then by the high one.
-ghost use Rattle.std.specs.Prelude.{◌≡◌, ◌≤◌, ◌<◌, ◌++◌, [], ◌∷◌, false, IfOk, OnOk};
+ghost use Rattle.std.specs.Prelude.{◌≡◌, ◌≤◌, ◌<◌, ◌++◌, [], ◌∷◌, true, IfOk, OnOk};
 ghost use Rattle.switch_rules.specs.Rules.{opened};
-ghost use Rattle.two_phase.specs.Tables.{arrives, destination_node, goes_to, has_closed, has_room, on_credit, on_finish, on_lay, on_packet, switch_step, takes_in, target_of, the_update};
+ghost use Rattle.packet_window.specs.Window.{has_room, opened as open_window};
+ghost use Rattle.two_phase.specs.Tables.{arrives, destination_node, goes_to, has_closed, on_finish, on_lay, on_packet, switch_step, takes_in, target_of, the_update};
 
 use crate::msg::TwoMsg;
 use crate::note::TwoNote;
@@ -11,47 +12,29 @@ use basics::{Boxed, NoMemory};
 use event_filter::Mark;
 use flow_filter::{CapturedPacket, Filter, Packet, Site, flow_of};
 use nf_msgs::{CONTROLLER, Msg, Note, instance_node};
-use packet_pool::{Cell, Pool};
+use packet_pool::Cell;
+use packet_window::Window;
 use std::alloc::Global;
 use std::marker::Model;
 use switch_node::switch::MOST_WINDOW;
 use switch_rules::{Rules, Target};
 
-/// The number of the switch's pool.
-const POOL: u32 = 0;
-
 /// The switch of an update.
 #[derive(Drop)]
 pub struct TwoSwitch {
     rules: Rules,
-    pool: Pool,
-    /// Packets that came home: their room is used again.
-    spare: Vec<Boxed<Packet>>,
+    window: Window,
     site: Site,
     filter: Filter,
-    /// How many packets are under way.
-    flying: u32,
-    /// Whether all is done.
-    closed: bool,
     alloc: Global,
 }
 
 impl Model for TwoSwitch {
-    ghost use Rattle.std.specs.Prelude.{◌≡◌, ◌+◌};
     ghost use Rattle.two_phase.specs.Parts.{SwitchState};
 
     ghost Value = { SwitchState };
 
-    ghost view = { λ s. record {
-      rules = s.rules;
-      pool = s.pool;
-      site = s.site;
-      filter = s.filter;
-      flying = s.flying;
-      closed = s.closed;
-    } };
-
-    ghost invariant = { λ s. s.flying + s.pool.home ≡ s.pool.cells };
+    ghost view = { λ s. record { rules = s.rules; window = s.window; site = s.site; filter = s.filter } };
 }
 
 impl TwoSwitch {
@@ -63,23 +46,13 @@ impl TwoSwitch {
         site: Site,
     ) -> Result<TwoSwitch, NoMemory>
         requires { (1 ≤ window) × (window ≤ MOST_WINDOW) }
-        ensures { IfOk result (λ switch. switch ≡ record {
-          rules = opened [];
-          pool = record { name = POOL; cells = window; home = window };
-          site = site;
-          filter = filter;
-          flying = 0;
-          closed = false;
-        }) }
+        ensures { IfOk result (λ switch. switch ≡ record { rules = opened []; window = open_window window; site = site; filter = filter }) }
     {
         Ok(TwoSwitch {
             rules: Rules::open(alloc, &[])?,
-            pool: Pool::open(POOL, window),
-            spare: Vec::new(alloc),
+            window: Window::open(alloc, window),
             site,
             filter,
-            flying: 0,
-            closed: false,
             alloc,
         })
     }
@@ -89,7 +62,7 @@ impl TwoSwitch {
         ensures { result ≡ takes_in self.now item.now }
     {
         match item {
-            TwoMsg::InPacket(_) => self.has_room(),
+            TwoMsg::InPacket(_) => self.window.has_room(),
             _ => true,
         }
     }
@@ -98,7 +71,7 @@ impl TwoSwitch {
     pub(crate) fn ended(&self) -> bool
         ensures { result ≡ has_closed self.now }
     {
-        self.closed && self.flying == 0
+        self.window.has_ended()
     }
 
     /// Takes a message: its row of the table.
@@ -126,13 +99,6 @@ impl TwoSwitch {
         }
     }
 
-    /// Whether one packet more may be under way.
-    fn has_room(&self) -> bool
-        ensures { result ≡ has_room self.now }
-    {
-        self.flying < self.pool.cells()
-    }
-
     /// Sends a packet to its target.
     fn let_in(
         &mut self,
@@ -143,25 +109,14 @@ impl TwoSwitch {
         ensures sends { OnOk result (out.new.0 ≡ out.old.0 ++ (on_packet self.old captured).sends) }
         ensures notes { OnOk result (out.new.1 ≡ out.old.1 ++ (on_packet self.old captured).notes) }
     {
-        if !self.has_room() {
+        if !self.window.has_room() {
             return Ok(());
         }
-        let packet = self.boxed(captured)?;
+        let packet = self.window.boxed(captured)?;
         match self.target_of(packet.get()) {
             Target::Controller => self.carry_and_copy(packet, out),
             Target::Instance(to) if to < INSTANCES => self.carry(to, packet, out),
             Target::Instance(_) => Ok(()),
-        }
-    }
-
-    /// The packet behind a pointer: in the room that one before it has left, or else in a new one.
-    fn boxed(&mut self, captured: CapturedPacket) -> Result<Boxed<Packet>, NoMemory>
-        ensures packet { IfOk result (λ packet. packet ≡ captured) }
-        ensures same { self.new ≡ self.old }
-    {
-        match self.spare.pop() {
-            Some(room) => Ok(captured.into_room(room)),
-            None => captured.into_boxed(self.alloc),
         }
     }
 
@@ -181,18 +136,13 @@ impl TwoSwitch {
         out: &mut Outbox<TwoMsg, TwoNote>,
     ) -> Result<(), NoMemory>
         requires instance { to < INSTANCES }
-        requires room { self.old.flying < self.old.pool.cells }
+        requires room { has_room self.old.window ≡ true }
         ensures node { OnOk result (self.new ≡ (arrives self.old packet to []).node) }
         ensures sends { OnOk result (out.new.0 ≡ out.old.0 ++ (arrives self.old packet to []).sends) }
         ensures notes { OnOk result (out.new.1 ≡ out.old.1 ++ (arrives self.old packet to []).notes) }
     {
         let number = packet.get().number;
-        let has_room = self.flying < self.pool.cells();
-        prove!(has_room);
-        let Ok(parcel) = self.pool.take(packet) else {
-            unreachable!()
-        };
-        self.flying += 1;
+        let parcel = self.window.let_in(packet);
         out.note(TwoNote::Inner(Note::Arrived(number)))?;
         let message = Msg::Carry {
             mark: Mark::Plain,
@@ -207,7 +157,7 @@ impl TwoSwitch {
         packet: Boxed<Packet>,
         out: &mut Outbox<TwoMsg, TwoNote>,
     ) -> Result<(), NoMemory>
-        requires { self.old.flying < self.old.pool.cells }
+        requires { has_room self.old.window ≡ true }
         ensures node { OnOk result (self.new ≡ (goes_to self.old packet Target.Controller).node) }
         ensures sends { OnOk result (out.new.0 ≡ out.old.0 ++ (goes_to self.old packet Target.Controller).sends) }
         ensures notes { OnOk result (out.new.1 ≡ out.old.1 ++ (goes_to self.old packet Target.Controller).notes) }
@@ -247,7 +197,7 @@ impl TwoSwitch {
             return Ok(());
         }
         if to == DESTINATION {
-            self.closed = true;
+            self.window.close();
         }
         out.send(instance_node(to), TwoMsg::Inner(Msg::Stop))
     }
@@ -257,20 +207,8 @@ impl TwoSwitch {
         ensures { self.new ≡ (switch_step self.old (TwoMsg.Inner message)).node }
     {
         if let Msg::Credit(cell) = message {
-            self.take_home(cell);
+            self.window.take_home(cell);
         }
-    }
-
-    /// Takes a cell home, if it is one of the pool's. Where there is no memory to keep its packet's room, that is dropped.
-    fn take_home(&mut self, cell: Cell)
-        ensures { self.new ≡ (on_credit self.old cell).node }
-    {
-        if self.flying == 0 || cell.pool() != self.pool.name() {
-            return;
-        }
-        self.flying -= 1;
-        let packet = self.pool.give(cell);
-        let _kept = self.spare.push(packet);
     }
 }
 
