@@ -10,7 +10,7 @@ use Rattle.nf_io.specs.declared.outside.Role.TheVariants.{Trace, Script, Journal
 use Rattle.actor_net.specs.declared.schedule.Schedule.{Schedule}
 use Rattle.journal_file.specs.Format.{journal_bytes}
 use Rattle.net_world.specs.Runs.{chosen}
-use Rattle.command_words.specs.Requests.{Asked, NetworkAsked, asks_sim, asks_run, asks_audit, asks_fail, asks_check, asks_gen, asks_published}
+use Rattle.command_words.specs.Requests.{Asked, NetworkAsked, asks_sim, asks_run, asks_audit, asks_fail, asks_check, asks_gen, asks_published, asks_strong}
 use Rattle.run_headline.specs.Text.{HasHeadline}
 use Rattle.opennf_calls.specs.declared.status.Status.{Status}
 use Rattle.opennf_calls.specs.Calls.{Call, OutcomeLaw, SaysHeadline, SimLaw}
@@ -111,3 +111,4 @@ outcome_law (asks_fail t) s bytes call is = cc
 outcome_law (asks_check t) s bytes call is = cc
 outcome_law (asks_gen t) s bytes call is = cc
 outcome_law (asks_published t schedule) s bytes call is = cc
+outcome_law (asks_strong t schedule) s bytes call is = cc

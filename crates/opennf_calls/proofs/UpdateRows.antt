@@ -1,5 +1,5 @@
 -- The rows of a two-phase update, and that what was read is an update.
-use Rattle.std.proofs.Common.{◌≡◌, ◌≤◌, ◌<◌, ◌^◌, ℕ, List, true, Ok, IfOk, length, refl, sym, subst, arith}
+use Rattle.std.proofs.Common.{◌≤◌, ◌<◌, ◌^◌, Ok, length, refl, arith}
 use Rattle.std.specs.Prelude.{All}
 use Rattle.flow_filter.specs.Filter.{IsFilter}
 use Rattle.flow_filter.specs.Limits.{most_packets}

@@ -1,5 +1,5 @@
 -- What is left is that of the words, the script and the capture.
-use Rattle.std.proofs.Common.{rules, ◌≡◌, ◌++◌, ◌==◌, ℕ, Err, List, take, ap, sym, subst, ◌∙◌}
+use Rattle.std.proofs.Common.{rules, ◌≡◌, ◌++◌, ◌==◌, Err, List, take, ap, sym, subst, ◌∙◌}
 use Rattle.std.specs.Prelude.{All, IsSome, find}
 use Rattle.std.proofs.lemmas.Result.{err_from_is_err_and}
 use Rattle.flow_filter.specs.declared.packet.Packet.{Packet}
@@ -7,7 +7,6 @@ use Rattle.trace_reader.specs.Records.{AreNumbered}
 use Rattle.actor_net.specs.declared.choice.Choice.{Choice}
 use Rattle.command_words.specs.RequestViews.{fail_view}
 use Rattle.net_world.specs.Input.{packets}
-use Rattle.net_world.specs.Jobs.{job_of}
 use Rattle.net_world.specs.Start.{started}
 use Rattle.run_input.proofs.SaidCommands.{packets_in}
 use Rattle.standby_failover.specs.Causes.{IsFailCause, first_of, world_after}

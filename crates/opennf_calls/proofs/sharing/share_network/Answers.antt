@@ -1,5 +1,5 @@
 -- The sharing of a schedule is that of the words and the capture. The schedule comes to its end.
-use Rattle.std.proofs.Common.{◌≡◌, Err, ap, arith, subst, sym}
+use Rattle.std.proofs.Common.{◌≡◌, arith, rules, subst, sym}
 use Rattle.nf_function.specs.declared.kind.Kind.{Kind}
 use Rattle.command_words.specs.RequestViews.{strong_view}
 use Rattle.strong_share.specs.Promises.{StrongCompleted, StrongEnds, StrongPromises}
@@ -18,7 +18,7 @@ simulate_strong-ended-requires g c =
 
 pub unreachable-requires : goal.unreachable-requires
 unreachable-requires g c =
-    let more = c.in-Err-Unfinished.ensures.unfinished c.in-Err-Unfinished._step (ap Err c.in-Err-Unfinished.field-0-is) in
+    let more = c.in-Err-Unfinished.ensures-1.unfinished c.in-Err-Unfinished._step (search rules) in
     let few = c.requires.sound.few in
     omega (arith, more, few)
 
