@@ -25,7 +25,8 @@ use Rattle.move_op.specs.Move.{MovePlan, MoveState, MoveRow, row_in, answer_of, 
 use Rattle.ctrl_node.specs.declared.operation.Operation.{Operation}
 use Rattle.ctrl_node.specs.declared.operation.Operation.TheVariants.{Move, Copy, Share}
 use Rattle.ctrl_node.specs.Operations.{turn_of, moved}
-use Rattle.ctrl_node.specs.Controller.{ControllerState, Step, still, place_of, refusal, begins_between, copies_between, begins_share, begins, decided, on_asked, on_diverted, queued, after_turn, takes_turn, handed, numbered, on_event, on_final, instance_at, row as controller_row, may_finish, finish_of, finished, controller_step}
+use Rattle.ctrl_node.specs.Controller.{ControllerState, Step, still, refusal, begins_between, copies_between, begins_share, begins, decided, on_asked, on_diverted, queued, after_turn, takes_turn, handed, numbered, on_event, on_final, instance_at, row as controller_row, may_finish, finish_of, finished, controller_step}
+use Rattle.flow_filter.specs.Name.{place_of}
 use Rattle.event_store.specs.Store.{stored}
 use Rattle.actor_net.proofs.WeightLaws.{EachSent}
 use Rattle.outline_net.proofs.CopyTurns.{CopyTurn, Idle, Hands, Hands_all, Ends, hands, copy_turn}

@@ -29,7 +29,8 @@ use Rattle.ctrl_node.specs.declared.operation.Operation.{Operation}
 use Rattle.ctrl_node.specs.declared.operation.Operation.TheVariants.{Move, Copy, Share}
 use Rattle.ctrl_node.specs.Operations.{turn_of, moved}
 use Rattle.ctrl_node.specs.Controller as controller
-use Rattle.ctrl_node.specs.Controller.{ControllerState, Step, still, refusal, place_of, begins_between, copies_between, begins_share, begins, decided, on_asked, on_diverted, queued, after_turn, takes_turn, handed, numbered, on_event, on_final, instance_at, may_finish, finish_of, finished, controller_step}
+use Rattle.ctrl_node.specs.Controller.{ControllerState, Step, still, refusal, begins_between, copies_between, begins_share, begins, decided, on_asked, on_diverted, queued, after_turn, takes_turn, handed, numbered, on_event, on_final, instance_at, may_finish, finish_of, finished, controller_step}
+use Rattle.flow_filter.specs.Name.{place_of}
 use Rattle.actor_net.specs.Network.{reaches}
 use Rattle.actor_net.proofs.WeightLaws.{sent_weight}
 use Rattle.answer_net.proofs.ControllerCases.{by_operation, by_queue, by_sender, by_stop}

@@ -36,7 +36,8 @@ use Rattle.copy_share.specs.declared.share_phase.SharePhase.TheVariants as phase
 use Rattle.copy_share.specs.Share.{ShareState, is_idle}
 use Rattle.ctrl_node.specs.Operations.{OpenOperations, turn_of, is_quiet, are_quiet}
 use Rattle.ctrl_node.specs.Controller as controller
-use Rattle.ctrl_node.specs.Controller.{ControllerState, Step, still, refusal, place_of, begins_between, copies_between, begins_share, begins, decided, on_asked, on_diverted, queued, takes_turn, handed, numbered, on_event, on_final, instance_at}
+use Rattle.ctrl_node.specs.Controller.{ControllerState, Step, still, refusal, begins_between, copies_between, begins_share, begins, decided, on_asked, on_diverted, queued, takes_turn, handed, numbered, on_event, on_final, instance_at}
+use Rattle.flow_filter.specs.Name.{place_of}
 use Rattle.switch_node.specs.Switch as switch
 use Rattle.switch_node.specs.Switch.{SwitchState, switch_step, stops, sends_to_instance, goes_to, target_of, has_room, is_there}
 use Rattle.answer_net.proofs.ControllerCases.{by_operation, by_queue, by_sender, by_stop}

@@ -29,7 +29,8 @@ use Rattle.actor_net.proofs.WeightLaws.{weigh, total, sent_weight, total_after}
 use Rattle.ctrl_node.specs.declared.operation.Operation.{Operation}
 use Rattle.ctrl_node.specs.declared.operation.Operation.TheVariants.{Move, Copy, Share}
 use Rattle.ctrl_node.specs.Controller as controller
-use Rattle.ctrl_node.specs.Controller.{ControllerState, Step, still, refusal, unknown_name, overlap, place_of, begins_between, copies_between, begins_share, begins, decided, on_asked, controller_step}
+use Rattle.ctrl_node.specs.Controller.{ControllerState, Step, still, refusal, unknown_name, overlap, begins_between, copies_between, begins_share, begins, decided, on_asked, controller_step}
+use Rattle.flow_filter.specs.Name.{place_of}
 use Rattle.switch_node.specs.Switch.{SwitchState, switch_step}
 use Rattle.net_world.specs.declared.config.Config.{Config}
 use Rattle.net_world.specs.declared.node.Node.{Node}

@@ -1,5 +1,5 @@
 -- The asset monitor's table. The flags are those of RFC 9293; the rest is this project's own.
-use Rattle.std.specs.Prelude.{ℕ, ◌+◌, ◌*◌, ◌==◌, ◌&&◌, ◌||◌, nat_lt, bit_and, Bool, false, not, if◌then◌else◌, List, [], take, length, Option, None, Some, unwrap_or, is_some}
+use Rattle.std.specs.Prelude.{ℕ, ◌+◌, ◌*◌, ◌==◌, ◌&&◌, ◌||◌, nat_lt, Bool, false, not, if◌then◌else◌, List, [], take, length, Option, None, Some, unwrap_or, is_some}
 use Rattle.flow_filter.specs.declared.packet.Packet.{Packet}
 use Rattle.flow_filter.specs.declared.site.Site.{Site}
 use Rattle.flow_filter.specs.declared.flow.Direction.{Direction}
@@ -13,20 +13,16 @@ use Rattle.asset_monitor.specs.declared.record.AssetRecord.{AssetRecord}
 use Rattle.asset_monitor.specs.declared.service.Service.{Service}
 use Rattle.asset_monitor.specs.Banners.{banner_in, is_unseen, banner_number}
 use Rattle.asset_monitor.specs.Services.{listed, services_per_host, with_service}
-use Rattle.flow_filter.specs.Packet.{syn, rst, ack}
+use Rattle.flow_filter.specs.Packet.{syn, rst, ack, has_flag}
 
 -- a packet of TCP or UDP that the local host sends. No capture has one of another protocol.
 abbrev pub is_sent : Direction → Packet → Bool
 is_sent Out p = is_transport p.proto
 is_sent In p = false
 
--- a flag of the header is set
-abbrev pub has : ℕ → ℕ → Bool
-has flags flag = not (bit_and flags flag == 0)
-
 -- the flags of a TCP packet that accepts a connection: SYN and ACK without RST
 abbrev pub accepts : ℕ → Bool
-accepts flags = has flags syn && has flags ack && not (has flags rst)
+accepts flags = has_flag flags syn && has_flag flags ack && not (has_flag flags rst)
 
 -- the ports below this one belong to servers
 abbrev pub first_client_port : ℕ

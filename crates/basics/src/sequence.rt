@@ -80,3 +80,13 @@ impl<T: TryCopy> Sequence<T> {
         Ok(other)
     }
 }
+
+impl<T: Copy> Sequence<T> {
+    /// As `copy`, of items that are copied by their bytes: all in one piece.
+    pub fn copy_at_once(&self) -> Result<Self, NoMemory>
+        ensures { IfOk result (λ other. other ≡ self.now) }
+    {
+        let list = Vec::from_slice(*self.list.allocator(), self.list.as_slice())?;
+        Ok(Sequence { list })
+    }
+}

@@ -53,9 +53,10 @@ pub fn dotted(address: u32) -> Dotted
 }
 
 /// The byte of an address that has `shift` bits after it.
-fn byte_of(address: u32, shift: u32) -> u64
+#[inline]
+pub fn byte_of(address: u32, shift: u32) -> u32
     requires { shift < 32 }
     ensures { result ≡ byte_of address shift }
 {
-    u64::from(address >> shift) % 256
+    (address >> shift) % 256
 }

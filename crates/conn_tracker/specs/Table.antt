@@ -1,5 +1,5 @@
 -- The connection tracker's table. The flags are those of RFC 9293; the states are this project's own.
-use Rattle.std.specs.Prelude.{ℕ, ◌-◌, ◌*◌, ◌^◌, ◌≡◌, ◌≤◌, ◌==◌, ◌&&◌, nat_le, nat_lt, Bool, true, false, not, max, bit_and, if◌then◌else◌, List, [], ◌∷◌, slice_get, codes, Option, None, Some}
+use Rattle.std.specs.Prelude.{ℕ, ◌-◌, ◌*◌, ◌^◌, ◌≡◌, ◌≤◌, ◌==◌, ◌&&◌, nat_le, nat_lt, Bool, true, false, not, max, if◌then◌else◌, List, [], ◌∷◌, slice_get, codes, Option, None, Some}
 use Rattle.flow_filter.specs.declared.packet.Packet.{Packet}
 use Rattle.flow_filter.specs.declared.site.Site.{Site}
 use Rattle.flow_filter.specs.declared.flow.Direction.{Direction}
@@ -12,19 +12,15 @@ use Rattle.conn_tracker.specs.declared.state.State.TheVariants.{Opening, Answere
 use Rattle.conn_tracker.specs.declared.class.Class.{Class}
 use Rattle.conn_tracker.specs.declared.class.Class.TheVariants.{Rst, SynAck, Syn, Fin, Other}
 use Rattle.conn_tracker.specs.declared.record.TrackRecord.{TrackRecord}
-use Rattle.flow_filter.specs.Packet.{fin, syn, rst, ack}
-
--- a flag of the header is set
-abbrev pub has : ℕ → ℕ → Bool
-has flags flag = not (bit_and flags flag == 0)
+use Rattle.flow_filter.specs.Packet.{fin, syn, rst, ack, has_flag}
 
 -- the class of a TCP packet, by its flags: the first that holds
 abbrev pub class_of : ℕ → Class
 class_of flags =
-    if has flags rst then Rst
-    else if has flags syn && has flags ack then SynAck
-    else if has flags syn then Syn
-    else if has flags fin then Fin
+    if has_flag flags rst then Rst
+    else if has_flag flags syn && has_flag flags ack then SynAck
+    else if has_flag flags syn then Syn
+    else if has_flag flags fin then Fin
     else Other
 
 -- a row of the table: the states that follow one state. Forward packets go in the opener's direction, reverse ones the other.

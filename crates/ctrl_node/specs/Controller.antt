@@ -1,12 +1,12 @@
 -- The controller: what it holds, and what it does with each message. This project's own.
 use Rattle.std.specs.Prelude.{ℕ, ◌-◌, ◌==◌, ◌&&◌, nat_lt, nat_le, Bool, true, false, not, List, [], ◌∷◌, ◌++◌, map, find, length, is_some, slice_set, Option, None, Some, option_map, option_and_then, if◌then◌else◌}
-use Rattle.std.specs.List.{filter_map, list_all, position}
+use Rattle.std.specs.List.{filter_map, list_all}
 use Rattle.std.specs.Option.{option_or}
-use Rattle.std.specs.Str.{bytes_eq}
 use Rattle.std.specs.FinMap as finite
 use Rattle.flow_filter.specs.declared.site.Site.{Site}
 use Rattle.flow_filter.specs.declared.filter.Filter.{Filter}
 use Rattle.flow_filter.specs.Flow.{flow_of}
+use Rattle.flow_filter.specs.Name.{place_of}
 use Rattle.event_store.specs.Store.{stored, with_parcels}
 use Rattle.event_filter.specs.declared.mark.Mark.TheVariants.{Pass}
 use Rattle.packet_pool.specs.Pool.{FullCell}
@@ -65,10 +65,6 @@ still s = record { node = s; sends = []; notes = [] }
 -- the number of the instance that a port is of
 abbrev pub instance_at : ControllerState → ℕ → Option ℕ
 instance_at s port = if nat_le (instance_node 0) port && nat_lt (port - instance_node 0) (length s.names) then Some (port - instance_node 0) else None
-
--- the number of the instance with a name
-abbrev pub place_of : List (List ℕ) → List ℕ → Option ℕ
-place_of names name = position (λ other. bytes_eq other name) names
 
 -- the names in an order, and its filter
 abbrev pub names_of : Order → List (List ℕ)

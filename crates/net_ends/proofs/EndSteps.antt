@@ -26,7 +26,8 @@ use Rattle.nf_msgs.specs.Nodes.{instance_node}
 use Rattle.nf_msgs.specs.MessageParts.{op_of}
 use Rattle.ctrl_node.specs.Operations.{Turn, turn_of, lasts, share_of, are_quiet}
 use Rattle.ctrl_node.specs.Controller as ctrl
-use Rattle.ctrl_node.specs.Controller.{ControllerState, Step, place_of, may_finish, controller_step}
+use Rattle.ctrl_node.specs.Controller.{ControllerState, Step, may_finish, controller_step}
+use Rattle.flow_filter.specs.Name.{place_of}
 use Rattle.switch_node.specs.Switch as switches
 use Rattle.switch_node.specs.Switch.{SwitchState, switch_step, stops}
 use Rattle.actor_net.specs.Network.{reaches}

@@ -26,7 +26,8 @@ use Rattle.ctrl_node.specs.declared.operation.Operation.{Operation}
 use Rattle.ctrl_node.specs.declared.operation.Operation.TheVariants.{Move, Copy, Share}
 use Rattle.ctrl_node.specs.Operations.{OpenOperations, turn_of, moved, copied}
 use Rattle.ctrl_node.specs.Controller as ctrl
-use Rattle.ctrl_node.specs.Controller.{ControllerState, Step, place_of}
+use Rattle.ctrl_node.specs.Controller.{ControllerState, Step}
+use Rattle.flow_filter.specs.Name.{place_of}
 use Rattle.actor_net.specs.Network.{reaches}
 use Rattle.unit_machine.proofs.Labels.{Each}
 use Rattle.outline_net.proofs.OperationTables.{NotShared, got_insert, got_remove, handed_is, shared_or_not}

@@ -11,7 +11,8 @@ use Rattle.nf_msgs.specs.declared.command.Order.TheVariants.{Share}
 use Rattle.nf_msgs.specs.declared.msg.Msg.{Msg}
 use Rattle.nf_msgs.specs.declared.note.Note.{Note}
 use Rattle.nf_msgs.specs.declared.note.Note.TheVariants.{Begun, Installed, Answered}
-use Rattle.ctrl_node.specs.Controller.{place_of, names_of, filter_of}
+use Rattle.ctrl_node.specs.Controller.{names_of, filter_of}
+use Rattle.flow_filter.specs.Name.{place_of}
 use Rattle.net_world.specs.declared.config.Config.{Config}
 use Rattle.net_world.specs.Input.{order_numbered}
 use Rattle.net_world.specs.Log.{has_begun}

@@ -9,8 +9,7 @@ use Rattle.nf_msgs.specs.declared.msg.Msg.{Msg}
 use Rattle.nf_msgs.specs.declared.msg.Msg.TheVariants.{Carry, Forward, Event, Diverted}
 use Rattle.nf_msgs.specs.declared.note.Note.{Note}
 use Rattle.nf_msgs.specs.Nodes.{switch_node, instance_node}
-use Rattle.ctrl_node.specs.declared.operation.Operation.{Operation}
-use Rattle.ctrl_node.specs.declared.operation.Operation.TheVariants.{Share}
+use Rattle.ctrl_node.specs.Operations.{lasts}
 use Rattle.actor_net.specs.Network.{Network, on_link}
 use Rattle.net_world.specs.declared.node.Node.{Node}
 use Rattle.net_world.specs.declared.node.Node.TheVariants.{Controller, Instance}
@@ -53,19 +52,14 @@ abbrev pub diverted : Msg → List ℕ
 diverted (Diverted cell) = cell.packet.number ∷ []
 diverted message = []
 
--- whether an operation is a share
-abbrev pub is_shared : Option Operation → Bool
-is_shared (Some (Share s)) = true
-is_shared operation = false
-
 module _ {F R : Type 0} where
   -- the packets that a controller stores, operation by operation: for moves, and for shares
   abbrev pub stored_by : Node F R → List ℕ
-  stored_by (Controller c) = all_of (λ e. if is_shared (finite.get c.operations e.0) then [] else numbers e.1) (finite.entries c.store)
+  stored_by (Controller c) = all_of (λ e. if lasts (finite.get c.operations e.0) then [] else numbers e.1) (finite.entries c.store)
   stored_by node = []
 
   abbrev pub queued_by : Node F R → List ℕ
-  queued_by (Controller c) = all_of (λ e. if is_shared (finite.get c.operations e.0) then numbers e.1 else []) (finite.entries c.store)
+  queued_by (Controller c) = all_of (λ e. if lasts (finite.get c.operations e.0) then numbers e.1 else []) (finite.entries c.store)
   queued_by node = []
 
   -- the packets that an instance holds, rule by rule

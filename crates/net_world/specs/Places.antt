@@ -16,7 +16,7 @@ use Rattle.nf_msgs.specs.declared.command.Order.TheVariants.{Move, Share}
 use Rattle.nf_msgs.specs.declared.msg.Msg.{Msg}
 use Rattle.nf_msgs.specs.declared.note.Note.{Note}
 use Rattle.nf_msgs.specs.declared.note.Note.TheVariants.{Arrived, Processed}
-use Rattle.ctrl_node.specs.Controller.{place_of}
+use Rattle.flow_filter.specs.Name.{place_of}
 use Rattle.net_world.specs.declared.config.Config.{Config}
 use Rattle.net_world.specs.Input.{packet_numbered, order_numbered}
 use Rattle.net_world.specs.Jobs.{Job}

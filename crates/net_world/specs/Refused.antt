@@ -12,7 +12,7 @@ use Rattle.nf_msgs.specs.declared.command.Order.TheVariants.{Move}
 use Rattle.nf_msgs.specs.declared.msg.Msg.{Msg}
 use Rattle.nf_msgs.specs.declared.note.Note.{Note}
 use Rattle.nf_msgs.specs.declared.note.Note.TheVariants.{Processed, Begun, Answered}
-use Rattle.ctrl_node.specs.Controller.{place_of}
+use Rattle.flow_filter.specs.Name.{place_of}
 use Rattle.net_world.specs.declared.config.Config.{Config}
 use Rattle.net_world.specs.Input.{order_numbered}
 use Rattle.net_world.specs.Places.{is_at, owner, unit_numbered}

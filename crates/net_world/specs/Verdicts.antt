@@ -16,7 +16,7 @@ use Rattle.nf_msgs.specs.declared.msg.Msg.TheVariants.{Put}
 use Rattle.nf_msgs.specs.declared.note.Note.{Note}
 use Rattle.nf_msgs.specs.declared.note.Note.TheVariants.{Exported}
 use Rattle.nf_msgs.specs.Nodes.{instance_node}
-use Rattle.ctrl_node.specs.Controller.{place_of}
+use Rattle.flow_filter.specs.Name.{place_of}
 use Rattle.actor_net.specs.declared.choice.Choice.{Choice}
 use Rattle.actor_net.specs.Network.{Network, run, waiting}
 use Rattle.net_world.specs.declared.config.Config.{Config}

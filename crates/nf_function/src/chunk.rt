@@ -19,7 +19,7 @@ impl TryCopy for Chunk {
         Ok(Chunk {
             scope: self.scope,
             unit: self.unit,
-            bytes: self.bytes.copy()?,
+            bytes: self.bytes.copy_at_once()?,
         })
     }
 }

@@ -31,7 +31,8 @@ use Rattle.ctrl_node.specs.declared.operation.Operation.{Operation}
 use Rattle.ctrl_node.specs.declared.operation.Operation.TheVariants.{Move, Copy, Share}
 use Rattle.ctrl_node.specs.Operations.{OpenOperations, turn_of, moved}
 use Rattle.ctrl_node.specs.Controller as controller
-use Rattle.ctrl_node.specs.Controller.{ControllerState, Step, still, refusal, place_of, begins_between, copies_between, begins_share, begins, decided, on_asked, on_diverted, after_turn, takes_turn, handed, numbered, on_event, on_final, instance_at, unknown_name, overlap, may_finish, finished, controller_step}
+use Rattle.ctrl_node.specs.Controller.{ControllerState, Step, still, refusal, begins_between, copies_between, begins_share, begins, decided, on_asked, on_diverted, after_turn, takes_turn, handed, numbered, on_event, on_final, instance_at, unknown_name, overlap, may_finish, finished, controller_step}
+use Rattle.flow_filter.specs.Name.{place_of}
 use Rattle.actor_net.proofs.WeightLaws.{EachSent, sent_weight}
 use Rattle.net_world.specs.Commands.{began}
 use Rattle.net_world.specs.Verdicts.{is_refusal}

@@ -21,7 +21,7 @@ use Rattle.nf_msgs.specs.declared.note.Note.TheVariants as note
 use Rattle.nf_msgs.specs.Nodes.{instance_node}
 use Rattle.copy_share.specs.Share.{home}
 use Rattle.ctrl_node.specs.declared.operation.Operation.TheVariants.{Share}
-use Rattle.ctrl_node.specs.Controller.{place_of}
+use Rattle.flow_filter.specs.Name.{place_of}
 use Rattle.actor_net.specs.Network.{Network}
 use Rattle.unit_machine.proofs.Real.{Chunks}
 use Rattle.abstract_net.proofs.Elsewhere.{where_two}

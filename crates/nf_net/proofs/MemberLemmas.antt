@@ -12,7 +12,7 @@ use Rattle.nf_msgs.specs.declared.command.Order.{Order}
 use Rattle.nf_msgs.specs.declared.command.Order.TheVariants as order
 use Rattle.nf_msgs.specs.declared.note.Note.{Note}
 use Rattle.nf_msgs.specs.declared.note.Note.TheVariants as note
-use Rattle.ctrl_node.specs.Controller.{place_of}
+use Rattle.flow_filter.specs.Name.{place_of}
 use Rattle.net_world.specs.Commands.{times_installed}
 use Rattle.net_world.specs.Log.{installed}
 use Rattle.net_world.specs.Places.{is_at, owner_after, handed_on, is_home, shared_among, members_after}

@@ -22,7 +22,8 @@ use Rattle.switch_node.specs.Switch.{switch_step}
 use Rattle.move_op.specs.Move.{MoveState}
 use Rattle.ctrl_node.specs.declared.operation.Operation.{Operation}
 use Rattle.ctrl_node.specs.declared.operation.Operation.TheVariants.{Move, Copy, Share}
-use Rattle.ctrl_node.specs.Controller.{ControllerState, controller_step, opened as opened_controller, place_of}
+use Rattle.ctrl_node.specs.Controller.{ControllerState, controller_step, opened as opened_controller}
+use Rattle.flow_filter.specs.Name.{place_of}
 use Rattle.actor_net.specs.declared.choice.Choice.{Choice}
 use Rattle.actor_net.specs.Network.{Network, Stepped, IsRun, reaches, run, taken}
 use Rattle.actor_net.proofs.EnabledChoices.{at}

@@ -19,6 +19,7 @@ use Rattle.copy_share.specs.Share.{SharePlan}
 use Rattle.copy_share.specs.Share as share
 use Rattle.ctrl_node.specs.declared.operation.Operation.TheVariants.{Share}
 use Rattle.ctrl_node.specs.Operations.{share_of}
+use Rattle.flow_filter.specs.Name.{place_of}
 use Rattle.ctrl_node.specs.Controller as ctrl
 use Rattle.ctrl_node.specs.Controller.{ControllerState, Step}
 
@@ -60,19 +61,19 @@ module _ (c : ControllerState) (Allows : Msg → Step → Type 0) where
     by_final (Some i) = ways.stopped i
 
     by_order : (k : Command) (op : ℕ) (what : Order) → Allows (msg.Asked k) (ctrl.begins c op what)
-    by_order k op (order.Move source destination filter keep) = between (ctrl.place_of c.names source) (ctrl.place_of c.names destination)
+    by_order k op (order.Move source destination filter keep) = between (place_of c.names source) (place_of c.names destination)
       where
         between : (from to : Option ℕ) → Allows (msg.Asked k) (ctrl.begins_between c op filter keep from to)
         between (Some from) (Some to) = ways.moves k op from to filter keep
         between (Some from) None = ways.still (msg.Asked k)
         between None to = ways.still (msg.Asked k)
-    by_order k op (order.Copy source destination filter) = between (ctrl.place_of c.names source) (ctrl.place_of c.names destination)
+    by_order k op (order.Copy source destination filter) = between (place_of c.names source) (place_of c.names destination)
       where
         between : (from to : Option ℕ) → Allows (msg.Asked k) (ctrl.copies_between c op filter from to)
         between (Some from) (Some to) = ways.copies k op from to filter
         between (Some from) None = ways.still (msg.Asked k)
         between None to = ways.still (msg.Asked k)
-    by_order k op (order.Share members filter) = among (filter_map (ctrl.place_of c.names) members)
+    by_order k op (order.Share members filter) = among (filter_map (place_of c.names) members)
       where
         among : (places : List ℕ) → Allows (msg.Asked k) (ctrl.begins_share c op filter places)
         among [] = ways.still (msg.Asked k)

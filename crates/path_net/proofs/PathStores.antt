@@ -28,7 +28,8 @@ use Rattle.net_world.specs.declared.node.Node.{Node}
 use Rattle.net_world.specs.declared.node.Node.TheVariants.{Switch, Controller}
 use Rattle.net_world.specs.Input.{IsInput}
 use Rattle.net_world.specs.Log.{those}
-use Rattle.net_world.specs.Path.{all_of, numbers, is_shared, stored_by, queued_by}
+use Rattle.ctrl_node.specs.Operations.{lasts}
+use Rattle.net_world.specs.Path.{all_of, numbers, stored_by, queued_by}
 use Rattle.outline_net.proofs.ControlOutline.{Sees}
 use Rattle.outline_net.proofs.Outline.{is_sys}
 use Rattle.whole_outline.proofs.OpenShares.{but_shares, both}
@@ -64,10 +65,10 @@ module _ {F R : Type 0} (f : Semantics R) (c : Config) (items : List Msg) (is : 
   -- the parcels of an operation, for a share or for another
   module _ (mine : ℕ → Bool) where
     abbrev pub for_share : ℕ → List FullCell → List ℕ
-    for_share k ps = those mine (if is_shared (got k) then numbers ps else [])
+    for_share k ps = those mine (if lasts (got k) then numbers ps else [])
 
     abbrev pub for_other : ℕ → List FullCell → List ℕ
-    for_other k ps = those mine (if is_shared (got k) then [] else numbers ps)
+    for_other k ps = those mine (if lasts (got k) then [] else numbers ps)
 
     no_cells : (b : Bool) → those mine (if b then [] else []) ≡ []
     no_cells true = refl
@@ -87,18 +88,18 @@ module _ {F R : Type 0} (f : Semantics R) (c : Config) (items : List Msg) (is : 
     pub stored_for : (op : ℕ) → ((k : ℕ) → k ≢ op → for_other k (cells k) ≡ []) → those mine (all_of stored_by w.nodes) ≡ for_other op (cells op)
     stored_for op none =
         at_controller mine stored_by others_store
-        ∙ those-all mine (λ e. if is_shared (got e.0) then [] else numbers e.1) (finite.entries j.nodes.controller.store)
-        ∙ store_of for_other (λ k. no_cells (is_shared (got k))) op j.nodes.controller.store none
+        ∙ those-all mine (λ e. if lasts (got e.0) then [] else numbers e.1) (finite.entries j.nodes.controller.store)
+        ∙ store_of for_other (λ k. no_cells (lasts (got k))) op j.nodes.controller.store none
 
     pub queued_for : (op : ℕ) → ((k : ℕ) → k ≢ op → for_share k (cells k) ≡ []) → those mine (all_of queued_by w.nodes) ≡ for_share op (cells op)
     queued_for op none =
         at_controller mine queued_by others_queue
-        ∙ those-all mine (λ e. if is_shared (got e.0) then numbers e.1 else []) (finite.entries j.nodes.controller.store)
-        ∙ store_of for_share (λ k. no_cells (is_shared (got k))) op j.nodes.controller.store none
+        ∙ those-all mine (λ e. if lasts (got e.0) then numbers e.1 else []) (finite.entries j.nodes.controller.store)
+        ∙ store_of for_share (λ k. no_cells (lasts (got k))) op j.nodes.controller.store none
 
     -- where nothing is open, or a share, nothing is stored for another
     abbrev pub other_at : Option Operation → ℕ → List ℕ
-    other_at o k = those mine (if is_shared o then [] else numbers (cells k))
+    other_at o k = those mine (if lasts o then [] else numbers (cells k))
 
     pub none_seen : (k : ℕ) (o : Option Operation) → got k ≡ o → Sees f (place g) None (but_shares o) (cells k) → other_at o k ≡ []
     none_seen k None e h = ap (λ v. those mine (numbers v)) (j.shown_is.controller.emptied k e)
@@ -118,7 +119,7 @@ module _ {F R : Type 0} (f : Semantics R) (c : Config) (items : List Msg) (is : 
     mine = (frame (S f g) z).mine
 
     -- nothing of it waits for a share
-    queue_at : (k : ℕ) (o : Option Operation) → got k ≡ o → those mine (if is_shared o then numbers (cells k) else []) ≡ []
+    queue_at : (k : ℕ) (o : Option Operation) → got k ≡ o → those mine (if lasts o then numbers (cells k) else []) ≡ []
     queue_at k None e = refl
     queue_at k (Some (Copy y)) e = refl
     queue_at k (Some (Move m)) e = refl

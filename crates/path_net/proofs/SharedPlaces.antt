@@ -29,7 +29,8 @@ use Rattle.net_world.specs.declared.config.Config.{Config}
 use Rattle.net_world.specs.declared.node.Node.{Node}
 use Rattle.net_world.specs.Input.{IsInput}
 use Rattle.net_world.specs.Log.{those}
-use Rattle.net_world.specs.Path.{all_of, numbers, passed, carried, forwarded, handed_over, diverted, is_shared, stored_by, queued_by, held_by, on_links}
+use Rattle.ctrl_node.specs.Operations.{lasts}
+use Rattle.net_world.specs.Path.{all_of, numbers, passed, carried, forwarded, handed_over, diverted, stored_by, queued_by, held_by, on_links}
 use Rattle.outline_net.proofs.ControlOutline.{Sees}
 use Rattle.whole_outline.proofs.OpenShares.{but_shares, both}
 use Rattle.whole_joined.proofs.Given.{Given, place}
@@ -142,7 +143,7 @@ module _ {F R : Type 0} (f : Semantics R) (c : Config) (items : List Msg) (is : 
   abbrev its_got : ℕ → Option Operation
   its_got q = got f c items is n count w nodes j q
 
-  moves_store : (q : ℕ) (o : Open R) → find_op j.world.ops q ≡ Some o → (p : Option Operation) → Sees f (place g) (Some o) (but_shares p) (its_cells q) → those mine (if is_shared p then [] else numbers (its_cells q)) ≡ []
+  moves_store : (q : ℕ) (o : Open R) → find_op j.world.ops q ≡ Some o → (p : Option Operation) → Sees f (place g) (Some o) (but_shares p) (its_cells q) → those mine (if lasts p then [] else numbers (its_cells q)) ≡ []
   moves_store q o found None h = absurd h
   moves_store q o found (Some (Copy y)) h = absurd h
   moves_store q o found (Some (Share s)) h = absurd h
@@ -170,7 +171,7 @@ module _ {F R : Type 0} (f : Semantics R) (c : Config) (items : List Msg) (is : 
   none_those [] h = refl
   none_those (p ∷ ps) h = let off = h.0 in rw off (none_those ps h.1)
 
-  queue_at : (q : ℕ) → (q == x.num) ≡ false → (o : Option Operation) → its_got q ≡ o → those mine (if is_shared o then numbers (its_cells q) else []) ≡ []
+  queue_at : (q : ℕ) → (q == x.num) ≡ false → (o : Option Operation) → its_got q ≡ o → those mine (if lasts o then numbers (its_cells q) else []) ≡ []
   queue_at q off None there = refl
   queue_at q off (Some (Move m)) there = refl
   queue_at q off (Some (Copy y)) there = refl
@@ -184,7 +185,7 @@ module _ {F R : Type 0} (f : Semantics R) (c : Config) (items : List Msg) (is : 
       let r = real f c items is n count w j u x before since k in
       let queue : v.queue ≡ numbers (its_cells x.num) = ap (λ y. y.queue) r.sees.is in
       queued_for f c items is n count w nodes j mine x.num (λ q off. queue_at q (let out : (q == x.num) ≡ false = grind (arith, nat_tests, off) in out) (its_got q) refl)
-      ∙ ap (λ o. those mine (if is_shared o then numbers (its_cells x.num) else [])) r.there
+      ∙ ap (λ o. those mine (if lasts o then numbers (its_cells x.num) else [])) r.there
       ∙ ap (those mine) (sym queue) ∙ those_in v.queue
 
   -- What stands at an instance.

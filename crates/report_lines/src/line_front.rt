@@ -3,6 +3,7 @@ ghost use Rattle.std.specs.Prelude.{◌≡◌, ◌<◌, ◌≤◌, ◌+◌, ◌+
 ghost use Rattle.basics.specs.Address.{address_text, byte_of};
 ghost use Rattle.report_lines.specs.declared.line_front.TheConstants.{ROOM, LONGEST_NUMBER, LONGEST_ADDRESS};
 
+use basics::text::byte_of;
 use std::marker::Model;
 
 /// How many bytes there is room for.
@@ -93,12 +94,4 @@ impl LineFront {
         self.put_byte(b'.');
         self.put_number(byte_of(address, 24));
     }
-}
-
-/// The byte of an address that has `shift` bits after it.
-fn byte_of(address: u32, shift: u32) -> u32
-    requires { shift < 32 }
-    ensures { result ≡ byte_of address shift }
-{
-    (address >> shift) % 256
 }

@@ -20,7 +20,8 @@ use Rattle.copy_share.specs.Share.{ShareState}
 use Rattle.ctrl_node.specs.declared.operation.Operation.{Operation}
 use Rattle.ctrl_node.specs.declared.operation.Operation.TheVariants.{Share}
 use Rattle.ctrl_node.specs.Operations.{turn_of}
-use Rattle.ctrl_node.specs.Controller.{ControllerState, Step, still, place_of, refusal, begins_between, copies_between, begins_share, begins, decided, on_asked}
+use Rattle.ctrl_node.specs.Controller.{ControllerState, Step, still, refusal, begins_between, copies_between, begins_share, begins, decided, on_asked}
+use Rattle.flow_filter.specs.Name.{place_of}
 use Rattle.ctrl_node.specs.Controller.{on_diverted, queued, after_turn, takes_turn, handed, numbered, on_event, on_final, instance_at, row as controller_row, controller_step}
 use Rattle.net_world.specs.Commands.{before_first}
 use Rattle.answer_net.proofs.BusyLemmas.{is_noted}

@@ -20,6 +20,7 @@ use Rattle.copy_share.specs.Copy as copy
 use Rattle.ctrl_node.specs.declared.operation.Operation.{Operation}
 use Rattle.ctrl_node.specs.declared.operation.Operation.TheVariants.{Copy}
 use Rattle.ctrl_node.specs.Operations.{OpenOperations, Turn, turn_of, serving_of, lasts, with_operation}
+use Rattle.flow_filter.specs.Name.{place_of}
 use Rattle.ctrl_node.specs.Controller as ctrl
 use Rattle.ctrl_node.specs.Controller.{ControllerState}
 use Rattle.unit_machine.proofs.Labels.{Each}
@@ -91,19 +92,19 @@ module _ (n op : ℕ) (off : (n == op) ≡ false) where
   handed_at c port m = let t = turn_of (finite.get c.operations op) c.store port m in serves_at (ctrl.takes_turn c op t).node ∙ after_at c t t.answer
 
   begins_at : (c : ControllerState) (what : Order) → finite.get (ctrl.begins c op what).node.operations n ≡ finite.get c.operations n
-  begins_at c (order.Move source destination filter keep) = between (ctrl.place_of c.names source) (ctrl.place_of c.names destination)
+  begins_at c (order.Move source destination filter keep) = between (place_of c.names source) (place_of c.names destination)
     where
       between : (from to : Option ℕ) → finite.get (ctrl.begins_between c op filter keep from to).node.operations n ≡ finite.get c.operations n
       between (Some from) (Some to) = with_at c.operations (Some _)
       between (Some from) None = refl
       between None to = refl
-  begins_at c (order.Copy source destination filter) = between (ctrl.place_of c.names source) (ctrl.place_of c.names destination)
+  begins_at c (order.Copy source destination filter) = between (place_of c.names source) (place_of c.names destination)
     where
       between : (from to : Option ℕ) → finite.get (ctrl.copies_between c op filter from to).node.operations n ≡ finite.get c.operations n
       between (Some from) (Some to) = with_at c.operations (Some _)
       between (Some from) None = refl
       between None to = refl
-  begins_at c (order.Share members filter) = among (filter_map (ctrl.place_of c.names) members)
+  begins_at c (order.Share members filter) = among (filter_map (place_of c.names) members)
     where
       among : (places : List ℕ) → finite.get (ctrl.begins_share c op filter places).node.operations n ≡ finite.get c.operations n
       among [] = refl

@@ -37,6 +37,7 @@ use Rattle.copy_share.specs.Share.{SharePlan, ShareState, home, others as member
 use Rattle.copy_share.specs.Share as share
 use Rattle.ctrl_node.specs.declared.operation.Operation.TheVariants.{Move, Copy, Share}
 use Rattle.ctrl_node.specs.Operations.{Turn, turn_of, serving_of, share_of}
+use Rattle.flow_filter.specs.Name.{place_of}
 use Rattle.ctrl_node.specs.Controller as ctrl
 use Rattle.ctrl_node.specs.Controller.{ControllerState}
 use Rattle.unit_machine.proofs.Labels.{Each, each-append}
@@ -304,9 +305,9 @@ module _ (P : Msg → Type 0) (others : (m : Msg) → is_uncopied m ≡ true →
     shares_sent op filter (member ∷ members) = (others _ refl, tt)
 
     begins_sent : (k : Command) (what : Order) → k.what ≡ what → Begin_so (msg.Asked k) → EachIs (ctrl.begins s k.op what).sends
-    begins_sent k (order.Move source destination filter keep) e its = moves_sent k.op filter keep (ctrl.place_of s.names source) (ctrl.place_of s.names destination)
-    begins_sent k (order.Copy source destination filter) e its = copies_sent k.op filter (ctrl.place_of s.names source) (ctrl.place_of s.names destination) (its k source destination filter refl e)
-    begins_sent k (order.Share members filter) e its = shares_sent k.op filter (filter_map (ctrl.place_of s.names) members)
+    begins_sent k (order.Move source destination filter keep) e its = moves_sent k.op filter keep (place_of s.names source) (place_of s.names destination)
+    begins_sent k (order.Copy source destination filter) e its = copies_sent k.op filter (place_of s.names source) (place_of s.names destination) (its k source destination filter refl e)
+    begins_sent k (order.Share members filter) e its = shares_sent k.op filter (filter_map (place_of s.names) members)
 
     decided_sent : (k : Command) (o : Option Answer) → Begin_so (msg.Asked k) → EachIs (ctrl.decided s k.op k.what o).sends
     decided_sent k (Some a) its = (others (msg.Answered k.op) refl, tt)

@@ -17,7 +17,7 @@ use Rattle.nf_msgs.specs.Nodes.{instance_node}
 use Rattle.move_op.specs.Move.{MovePlan}
 use Rattle.copy_share.specs.Copy.{CopyPlan}
 use Rattle.copy_share.specs.Share.{SharePlan}
-use Rattle.ctrl_node.specs.Controller.{place_of}
+use Rattle.flow_filter.specs.Name.{place_of}
 use Rattle.net_world.specs.Places.{owner_after, loose_after, handed_on, is_home}
 
 -- what a run is given: the site, the packet of each number, the instances' names, the order under each number, and who owns each

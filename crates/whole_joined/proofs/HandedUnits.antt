@@ -13,7 +13,8 @@ use Rattle.event_store.specs.Store.{stored}
 use Rattle.move_op.specs.Move.{MovePlan}
 use Rattle.ctrl_node.specs.declared.operation.Operation.{Operation}
 use Rattle.ctrl_node.specs.declared.operation.Operation.TheVariants.{Move, Copy, Share}
-use Rattle.ctrl_node.specs.Controller.{ControllerState, place_of}
+use Rattle.ctrl_node.specs.Controller.{ControllerState}
+use Rattle.flow_filter.specs.Name.{place_of}
 use Rattle.nf_msgs.specs.declared.command.Order.TheVariants as order
 use Rattle.nf_msgs.specs.declared.note.Note.{Note}
 use Rattle.nf_msgs.specs.declared.note.Note.TheVariants as note

@@ -22,6 +22,7 @@ use Rattle.nf_msgs.specs.MessageParts.{op_of}
 use Rattle.ctrl_node.specs.declared.operation.Operation.{Operation}
 use Rattle.ctrl_node.specs.declared.operation.Operation.TheVariants.{Move, Copy, Share}
 use Rattle.ctrl_node.specs.Operations.{OpenOperations, filter_of, lowest_meeting, meets_operation, lasts, Turn, turn_of, serving_of, share_of, with_operation}
+use Rattle.flow_filter.specs.Name.{place_of}
 use Rattle.ctrl_node.specs.Controller as ctrl
 use Rattle.ctrl_node.specs.Controller.{ControllerState, controller_step}
 use Rattle.outline_net.proofs.OperationTables.{got_insert, got_remove}
@@ -171,9 +172,9 @@ module _ (c : ControllerState) (port : ℕ) where
   shares_apart op filter (member ∷ members) free none apart = begun_apart op _ free none apart
 
   begins_apart : (op : ℕ) (what : Order) → finite.get c.operations op ≡ None → ctrl.overlap c what ≡ None → Keeps_so (ctrl.begins c op what).node
-  begins_apart op (order.Move source destination filter keep) free none = moves_apart op filter keep (ctrl.place_of c.names source) (ctrl.place_of c.names destination) free none
-  begins_apart op (order.Copy source destination filter) free none = copies_apart op filter (ctrl.place_of c.names source) (ctrl.place_of c.names destination) free none
-  begins_apart op (order.Share members filter) free none = shares_apart op filter (filter_map (ctrl.place_of c.names) members) free none
+  begins_apart op (order.Move source destination filter keep) free none = moves_apart op filter keep (place_of c.names source) (place_of c.names destination) free none
+  begins_apart op (order.Copy source destination filter) free none = copies_apart op filter (place_of c.names source) (place_of c.names destination) free none
+  begins_apart op (order.Share members filter) free none = shares_apart op filter (filter_map (place_of c.names) members) free none
 
   decided_apart : (op : ℕ) (what : Order) (o : Option Answer) → ctrl.refusal c what ≡ o → finite.get c.operations op ≡ None → Keeps_so (ctrl.decided c op what o).node
   decided_apart op what (Some why) e free = λ apart. apart

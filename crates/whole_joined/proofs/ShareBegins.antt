@@ -8,7 +8,7 @@ use Rattle.std.proofs.lemmas.List.Quantifiers.{position-Some}
 use Rattle.std.proofs.lemmas.Slice.Eq.{bytes_eq-Decides}
 use Rattle.std.proofs.lemmas.Bool.{not-true, and_parts}
 use Rattle.nf_msgs.specs.Nodes.{instance_node}
-use Rattle.ctrl_node.specs.Controller.{place_of}
+use Rattle.flow_filter.specs.Name.{place_of}
 use Rattle.unit_machine.proofs.Labels.{Each}
 use Rattle.whole_outline.proofs.WholeOutline.{with_member, members_of}
 use Rattle.net_world.specs.Input.{is_unlike, are_unlike}

@@ -18,7 +18,8 @@ use Rattle.copy_share.specs.Share.{SharePlan}
 use Rattle.copy_share.specs.Share as share
 use Rattle.ctrl_node.specs.declared.operation.Operation.{Operation}
 use Rattle.ctrl_node.specs.declared.operation.Operation.TheVariants.{Move, Copy, Share}
-use Rattle.ctrl_node.specs.Controller.{ControllerState, place_of, begins_move, begins_copy, begins_share, begins}
+use Rattle.ctrl_node.specs.Controller.{ControllerState, begins_move, begins_copy, begins_share, begins}
+use Rattle.flow_filter.specs.Name.{place_of}
 use Rattle.abstract_net.proofs.Net.{Open, MoveAsked, find_op, new_op, begin_sends}
 use Rattle.abstract_net.proofs.GlobalShares.{ops_old}
 use Rattle.abstract_net.proofs.ShareLists.{find_old, find_new}

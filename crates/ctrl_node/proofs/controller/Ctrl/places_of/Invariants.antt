@@ -2,7 +2,7 @@
 use Rattle.std.proofs.Common.{◌≡◌, ◌<◌, take}
 use Rattle.std.specs.List.{All, filter_map}
 use Rattle.nf_msgs.specs.declared.nodes.TheConstants.{MOST_INSTANCES}
-use Rattle.ctrl_node.specs.Controller.{place_of}
+use Rattle.flow_filter.specs.Name.{place_of}
 use Rattle.ctrl_node.proofs.controller.Ctrl.places_of.Given as goal
 
 abbrev pub invariant-loop-name : goal.invariant-loop-name

@@ -1,7 +1,7 @@
 -- Each name so far is that of an instance.
 use Rattle.std.proofs.Common.{◌≡◌, drop, not, is_some}
 use Rattle.std.specs.Prelude.{find}
-use Rattle.ctrl_node.specs.Controller.{place_of}
+use Rattle.flow_filter.specs.Name.{place_of}
 use Rattle.ctrl_node.proofs.controller.Ctrl.unknown_among.Given as goal
 
 -- what is found among those that are left is found among all
