@@ -17,6 +17,19 @@ fn a_full_link_hands_the_message_back(rt: HostRuntime) -> Result<(), Fail> {
     Ok(())
 }
 
+// A taker that answered none for good after its first none would keep its clauses, and so would a sender that stayed full.
+#[test]
+fn ends_go_on_after_an_empty_link_and_a_full_one(rt: HostRuntime) -> Result<(), Fail> {
+    let (mut send, mut take) = Link::<u64>::open(rt.alloc(), 1)?;
+    for number in 0u64..3 {
+        assert!(rt; take.take(&rt).is_none());
+        assert!(rt; send.send(&rt, number).is_ok());
+        assert!(rt; send.send(&rt, 9).is_err());
+        assert_eq!(rt; take.take(&rt), Some(number));
+    }
+    Ok(())
+}
+
 fn send_all(rt: &impl Wait, mut send: SendEnd<u64>, count: u64) -> SendEnd<u64>
     ensures { result.link ≡ send.link }
 {
