@@ -1,7 +1,7 @@
 -- The packets under way in a world, place by place: what stands on links, what the controller stores for moves, what instances hold, and
 -- what waits for shares. Read in this order, those of a unit are its packets that came and aren't processed, as they came. Packets go by
 -- their numbers. This project's own.
-use Rattle.std.specs.Prelude.{ℕ, zero, suc, Bool, true, false, ◌==◌, if◌then◌else◌, List, [], ◌∷◌, ◌++◌, map, Option, Some, slice_get}
+use Rattle.std.specs.Prelude.{ℕ, zero, suc, ◌==◌, if◌then◌else◌, List, [], ◌∷◌, ◌++◌, map, Option, Some, slice_get}
 use Rattle.std.specs.FinMap as finite
 use Rattle.event_filter.specs.declared.mark.Mark.TheVariants.{Plain}
 use Rattle.packet_pool.specs.Pool.{FullCell}
