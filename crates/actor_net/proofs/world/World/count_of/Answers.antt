@@ -2,8 +2,8 @@
 use Rattle.std.proofs.Common.{length, true, false, ap, subst, sym, ◌∙◌, arith}
 use Rattle.actor_net.specs.Network.{IsWorld}
 use Rattle.actor_net.proofs.LinkCounts.{count_first, count_other}
-use Rattle.actor_net.proofs.world.choices.World.count_of.Goals as goal
-use Rattle.actor_net.proofs.world.choices.World.count_of.Goals.{else-node-eq0-via-then-node-eq0+else-input_ready, else-node-eq0-via-else-node-eq0}
+use Rattle.actor_net.proofs.world.World.count_of.Goals as goal
+use Rattle.actor_net.proofs.world.World.count_of.Goals.{else-node-eq0-via-then-node-eq0+else-input_ready, else-node-eq0-via-else-node-eq0}
 
 pub returns-then-input_ready : goal.returns-then-input_ready
 returns-then-input_ready g c =

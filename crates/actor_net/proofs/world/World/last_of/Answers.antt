@@ -4,7 +4,7 @@ use Rattle.std.proofs.lemmas.Grind.{common_steps}
 use Rattle.std.proofs.lemmas.Option.{slice_get_past}
 use Rattle.actor_net.specs.Schedules.{ports_below}
 use Rattle.actor_net.proofs.EnabledChoices.{last_here, none_there}
-use Rattle.actor_net.proofs.world.choices.World.last_of.Goals as goal
+use Rattle.actor_net.proofs.world.World.last_of.Goals as goal
 
 pub returns-then-enabled_within : goal.returns-then-enabled_within
 returns-then-enabled_within g c =

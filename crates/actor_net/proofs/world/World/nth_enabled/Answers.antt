@@ -4,7 +4,7 @@ use Rattle.std.proofs.lemmas.Grind.{common_steps}
 use Rattle.std.proofs.lemmas.Option.{slice_get_past}
 use Rattle.actor_net.specs.Schedules.{enabled_choices}
 use Rattle.actor_net.proofs.EnabledChoices.{node_at}
-use Rattle.actor_net.proofs.world.choices.World.nth_enabled.Goals as goal
+use Rattle.actor_net.proofs.world.World.nth_enabled.Goals as goal
 
 pub returns-then-left-count : goal.returns-then-left-count
 returns-then-left-count g c =

@@ -2,7 +2,7 @@
 use Rattle.std.proofs.Common.{length, true, false, ap, subst, sym, ◌∙◌, arith}
 use Rattle.actor_net.specs.Network.{IsWorld}
 use Rattle.actor_net.proofs.LinkCounts.{count_all}
-use Rattle.actor_net.proofs.world.choices.World.count_enabled.Goals as goal
+use Rattle.actor_net.proofs.world.World.count_enabled.Goals as goal
 
 pub returns-then-input_ready : goal.returns-then-input_ready
 returns-then-input_ready g c =

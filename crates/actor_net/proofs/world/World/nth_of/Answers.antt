@@ -5,7 +5,7 @@ use Rattle.std.proofs.lemmas.Option.{slice_get_past}
 use mir.Val.{bool_byte}
 use Rattle.actor_net.specs.Schedules.{ports_below}
 use Rattle.actor_net.proofs.EnabledChoices.{one_if, place_on, found_here}
-use Rattle.actor_net.proofs.world.choices.World.nth_of.Goals as goal
+use Rattle.actor_net.proofs.world.World.nth_of.Goals as goal
 
 byte_is : (b : Bool) → bool_byte b ≡ one_if b
 byte_is true = refl

@@ -8,7 +8,7 @@ use Rattle.actor_net.specs.Network.{IsWorld}
 use Rattle.actor_net.specs.Schedules.{ports_below, nodes_below, enabled_choices}
 use Rattle.actor_net.proofs.EnabledChoices.{last_node, last_first, no_choice, input_alone}
 use Rattle.actor_net.proofs.LinkCounts.{count_all}
-use Rattle.actor_net.proofs.world.choices.World.last_enabled.Goals as goal
+use Rattle.actor_net.proofs.world.World.last_enabled.Goals as goal
 
 pub returns-then-count-eq0 : goal.returns-then-count-eq0
 returns-then-count-eq0 g c =
