@@ -1,5 +1,5 @@
 -- Reading a capture to its end: what was read so far, before what the rest gives, is what the whole gives.
-use Rattle.std.proofs.Common.{◌≡◌, ℕ, zero, suc, ◌+◌, ◌≤◌, true, false, List, [], ◌∷◌, ◌++◌, Option, Some, Result, Ok, Err, length, drop, refl, ap, sym, ◌∙◌, arith, length-drop, append-nil, append_assoc, add-zero, zero-add}
+use Rattle.std.proofs.Common.{◌≡◌, ℕ, zero, suc, ◌+◌, ◌-◌, true, false, List, [], ◌∷◌, ◌++◌, Option, Some, Result, Ok, Err, drop, refl, ap, sym, ◌∙◌, arith, append-nil, append_assoc, add-zero, zero-add}
 use Rattle.flow_filter.specs.declared.packet.Packet.{Packet}
 use Rattle.trace_reader.specs.declared.form.Form.{Form}
 use Rattle.trace_reader.specs.declared.fault.TraceFault.{TraceFault}
@@ -39,9 +39,7 @@ with_front-skipped packets skipped (Err e) = refl
 pub record Progress (whole : Result Trace TraceFault) (now : Reading) (packets : List Packet) (skipped : ℕ) : Type 0 where
   pub rest : List ℕ
   pub is : now.left ≡ Some rest
-  pub most : ℕ
-  pub enough : length rest ≤ most
-  pub same : with_front packets skipped (records_of most now.form now.place now.count rest) ≡ whole
+  pub same : with_front packets skipped (records_of now.form now.place now.count 0 rest) ≡ whole
 
 -- behind the header nothing was read
 pub progress_start : (bytes : List ℕ) (now : Reading) (packets : List Packet) → opened bytes ≡ Ok now.form
@@ -50,78 +48,86 @@ unfolding capture_of
 progress_start bytes now packets due is at none empty = record {
   rest = drop 24 bytes;
   is = is;
-  most = length bytes;
-  enough = omega (arith, length-drop 24 bytes);
-  same = (ap (λ n. with_front packets 0 (records_of (length bytes) now.form n now.count (drop 24 bytes))) at
-      ∙ ap (λ n. with_front packets 0 (records_of (length bytes) now.form 24 n (drop 24 bytes))) none
-      ∙ ap (λ l. with_front l 0 (records_of (length bytes) now.form 24 0 (drop 24 bytes))) empty
+  same = (ap (λ n. with_front packets 0 (records_of now.form n now.count 0 (drop 24 bytes))) at
+      ∙ ap (λ n. with_front packets 0 (records_of now.form 24 n 0 (drop 24 bytes))) none
+      ∙ ap (λ l. with_front l 0 (records_of now.form 24 0 0 (drop 24 bytes))) empty
       ∙ with_front-nothing _ ∙ ap (trace_of bytes) (sym due));
 }
 
+-- what is left of a record is passed over
+passed : (form : Form) (place count left : ℕ) (bytes : List ℕ) → records_of form place count left bytes ≡ records_of form (place + left) count 0 (drop left bytes)
+unfolding records_of
+passed form place count zero bytes = ap (λ n. records_of form n count 0 bytes) (sym (add-zero place))
+passed form place count (suc left) [] = refl
+passed form place count (suc left) (byte ∷ bytes) =
+    let at : place + 1 + left ≡ place + suc left = omega arith in
+    passed form (place + 1) count left bytes ∙ ap (λ n. records_of form n count 0 (drop left bytes)) at
+
+-- the records after one
+after_record : (form : Form) (place count : ℕ) (byte : ℕ) (bytes : List ℕ)
+    → records_of form (place + 1) count (record_size form (byte ∷ bytes) - 1) bytes
+      ≡ records_of form (place + record_size form (byte ∷ bytes)) count 0 (drop (record_size form (byte ∷ bytes)) (byte ∷ bytes))
+after_record form place count byte bytes =
+    let size = record_size form (byte ∷ bytes) in
+    let at : place + 1 + (size - 1) ≡ place + size = omega arith in
+    let whole : suc (size - 1) ≡ size = omega arith in
+    passed form (place + 1) count (size - 1) bytes
+    ∙ ap (λ n. records_of form n count 0 (drop (size - 1) bytes)) at
+    ∙ ap (λ n. records_of form (place + size) count 0 (drop n (byte ∷ bytes))) whole
+
 -- a packet is one more in front
-pub packet_step : (most : ℕ) (form : Form) (place count : ℕ) (rest : List ℕ) (packet : Packet) → length rest ≤ most
-    → next_of form place count rest ≡ Ok (next.Packet packet)
-    → (m : ℕ) × (length (drop (record_size form rest) rest) ≤ m)
-    × (records_of most form place count rest ≡ with_packet packet (records_of m form (place + record_size form rest) (count + 1) (drop (record_size form rest) rest)))
+pub packet_step : (form : Form) (place count : ℕ) (rest : List ℕ) (packet : Packet) → next_of form place count rest ≡ Ok (next.Packet packet)
+    → records_of form place count 0 rest ≡ with_packet packet (records_of form (place + record_size form rest) (count + 1) 0 (drop (record_size form rest) rest))
 unfolding records_of
-packet_step zero form place count rest packet few due = absurd (let end = next_of-end form place count rest (omega arith) in cc)
-packet_step (suc m) form place count rest packet few due = (
-  m,
-  omega (arith, length-drop (record_size form rest) rest),
-  ap (from_next (λ count'. records_of m form (place + record_size form rest) count' (drop (record_size form rest) rest)) count) due,
-)
+packet_step form place count [] packet due = absurd (let end = next_of-end form place count [] refl in cc)
+packet_step form place count (byte ∷ bytes) packet due =
+    ap (from_next (λ count'. records_of form (place + 1) count' (record_size form (byte ∷ bytes) - 1) bytes) count) due
+    ∙ ap (with_packet packet) (after_record form place (count + 1) byte bytes)
 
-skipped_step : (most : ℕ) (form : Form) (place count : ℕ) (rest : List ℕ) → length rest ≤ most
-    → next_of form place count rest ≡ Ok next.Skipped
-    → (m : ℕ) × (length (drop (record_size form rest) rest) ≤ m)
-    × (records_of most form place count rest ≡ with_skipped (records_of m form (place + record_size form rest) count (drop (record_size form rest) rest)))
+skipped_step : (form : Form) (place count : ℕ) (rest : List ℕ) → next_of form place count rest ≡ Ok next.Skipped
+    → records_of form place count 0 rest ≡ with_skipped (records_of form (place + record_size form rest) count 0 (drop (record_size form rest) rest))
 unfolding records_of
-skipped_step zero form place count rest few due = absurd (let end = next_of-end form place count rest (omega arith) in cc)
-skipped_step (suc m) form place count rest few due = (
-  m,
-  omega (arith, length-drop (record_size form rest) rest),
-  ap (from_next (λ count'. records_of m form (place + record_size form rest) count' (drop (record_size form rest) rest)) count) due,
-)
+skipped_step form place count [] due = absurd (let end = next_of-end form place count [] refl in cc)
+skipped_step form place count (byte ∷ bytes) due =
+    ap (from_next (λ count'. records_of form (place + 1) count' (record_size form (byte ∷ bytes) - 1) bytes) count) due
+    ∙ ap with_skipped (after_record form place count byte bytes)
 
-pub end_step : (most : ℕ) (form : Form) (place count : ℕ) (rest : List ℕ) → next_of form place count rest ≡ Ok next.End
-    → records_of most form place count rest ≡ Ok (record { packets = []; skipped = 0; cut = false })
+end_step : (form : Form) (place count : ℕ) (rest : List ℕ) → next_of form place count rest ≡ Ok next.End
+    → records_of form place count 0 rest ≡ Ok (record { packets = []; skipped = 0; cut = false })
 unfolding records_of
-end_step zero form place count rest due = refl
-end_step (suc m) form place count rest due =
-    ap (from_next (λ count'. records_of m form (place + record_size form rest) count' (drop (record_size form rest) rest)) count) due
+end_step form place count [] due = refl
+end_step form place count (byte ∷ bytes) due =
+    ap (from_next (λ count'. records_of form (place + 1) count' (record_size form (byte ∷ bytes) - 1) bytes) count) due
 
-cut_step : (most : ℕ) (form : Form) (place count : ℕ) (rest : List ℕ) → length rest ≤ most → next_of form place count rest ≡ Ok next.Cut
-    → records_of most form place count rest ≡ Ok (record { packets = []; skipped = 0; cut = true })
+cut_step : (form : Form) (place count : ℕ) (rest : List ℕ) → next_of form place count rest ≡ Ok next.Cut
+    → records_of form place count 0 rest ≡ Ok (record { packets = []; skipped = 0; cut = true })
 unfolding records_of
-cut_step zero form place count rest few due = absurd (let end = next_of-end form place count rest (omega arith) in cc)
-cut_step (suc m) form place count rest few due =
-    ap (from_next (λ count'. records_of m form (place + record_size form rest) count' (drop (record_size form rest) rest)) count) due
+cut_step form place count [] due = absurd (let end = next_of-end form place count [] refl in cc)
+cut_step form place count (byte ∷ bytes) due =
+    ap (from_next (λ count'. records_of form (place + 1) count' (record_size form (byte ∷ bytes) - 1) bytes) count) due
 
-fault_step : (most : ℕ) (form : Form) (place count : ℕ) (rest : List ℕ) (e : TraceFault) → length rest ≤ most → next_of form place count rest ≡ Err e
-    → records_of most form place count rest ≡ Err e
+fault_step : (form : Form) (place count : ℕ) (rest : List ℕ) (e : TraceFault) → next_of form place count rest ≡ Err e
+    → records_of form place count 0 rest ≡ Err e
 unfolding records_of
-fault_step zero form place count rest e few due = absurd (let end = next_of-end form place count rest (omega arith) in cc)
-fault_step (suc m) form place count rest e few due =
-    ap (from_next (λ count'. records_of m form (place + record_size form rest) count' (drop (record_size form rest) rest)) count) due
+fault_step form place count [] e due = absurd (let end = next_of-end form place count [] refl in cc)
+fault_step form place count (byte ∷ bytes) e due =
+    ap (from_next (λ count'. records_of form (place + 1) count' (record_size form (byte ∷ bytes) - 1) bytes) count) due
 
 pub progress_packet : (whole : Result Trace TraceFault) (before after : Reading) (packets packets' : List Packet) (skipped : ℕ) (packet : Packet)
     → Progress whole before packets skipped → AnswersNext before after (Ok (next.Packet packet))
     → after.form ≡ before.form → after.count ≡ before.count + 1 → packets' ≡ packets ++ packet ∷ [] → Progress whole after packets' skipped
 progress_packet whole before after packets packets' skipped packet p answers same_form one_more longer =
     let due = answers p.rest p.is in
-    let step = packet_step p.most before.form before.place before.count p.rest packet p.enough due.0 in
     let size = record_size before.form p.rest in
     record {
       rest = drop size p.rest;
       is = due.2;
-      most = step.0;
-      enough = step.1;
-      same = (ap (λ f. with_front packets' skipped (records_of step.0 f after.place after.count (drop size p.rest))) same_form
-          ∙ ap (λ n. with_front packets' skipped (records_of step.0 before.form n after.count (drop size p.rest))) due.1
-          ∙ ap (λ n. with_front packets' skipped (records_of step.0 before.form (before.place + size) n (drop size p.rest))) one_more
-          ∙ ap (λ l. with_front l skipped (records_of step.0 before.form (before.place + size) (before.count + 1) (drop size p.rest))) longer
+      same = (ap (λ f. with_front packets' skipped (records_of f after.place after.count 0 (drop size p.rest))) same_form
+          ∙ ap (λ n. with_front packets' skipped (records_of before.form n after.count 0 (drop size p.rest))) due.1
+          ∙ ap (λ n. with_front packets' skipped (records_of before.form (before.place + size) n 0 (drop size p.rest))) one_more
+          ∙ ap (λ l. with_front l skipped (records_of before.form (before.place + size) (before.count + 1) 0 (drop size p.rest))) longer
           ∙ sym (with_front-packet packets skipped packet _)
-          ∙ ap (with_front packets skipped) (sym step.2)
+          ∙ ap (with_front packets skipped) (sym (packet_step before.form before.place before.count p.rest packet due.0))
           ∙ p.same);
     }
 
@@ -130,18 +136,15 @@ pub progress_skipped : (whole : Result Trace TraceFault) (before after : Reading
     → after.form ≡ before.form → after.count ≡ before.count → Progress whole after packets (skipped + 1)
 progress_skipped whole before after packets skipped p answers same_form as_many =
     let due = answers p.rest p.is in
-    let step = skipped_step p.most before.form before.place before.count p.rest p.enough due.0 in
     let size = record_size before.form p.rest in
     record {
       rest = drop size p.rest;
       is = due.2;
-      most = step.0;
-      enough = step.1;
-      same = (ap (λ f. with_front packets (skipped + 1) (records_of step.0 f after.place after.count (drop size p.rest))) same_form
-          ∙ ap (λ n. with_front packets (skipped + 1) (records_of step.0 before.form n after.count (drop size p.rest))) due.1
-          ∙ ap (λ n. with_front packets (skipped + 1) (records_of step.0 before.form (before.place + size) n (drop size p.rest))) as_many
+      same = (ap (λ f. with_front packets (skipped + 1) (records_of f after.place after.count 0 (drop size p.rest))) same_form
+          ∙ ap (λ n. with_front packets (skipped + 1) (records_of before.form n after.count 0 (drop size p.rest))) due.1
+          ∙ ap (λ n. with_front packets (skipped + 1) (records_of before.form (before.place + size) n 0 (drop size p.rest))) as_many
           ∙ sym (with_front-skipped packets skipped _)
-          ∙ ap (with_front packets skipped) (sym step.2)
+          ∙ ap (with_front packets skipped) (sym (skipped_step before.form before.place before.count p.rest due.0))
           ∙ p.same);
     }
 
@@ -151,7 +154,7 @@ pub progress_end : (whole : Result Trace TraceFault) (before after : Reading) (p
 unfolding with_front
 progress_end whole before after packets skipped p answers =
     let due = answers p.rest p.is in (
-      sym p.same ∙ ap (with_front packets skipped) (end_step p.most before.form before.place before.count p.rest due.0)
+      sym p.same ∙ ap (with_front packets skipped) (end_step before.form before.place before.count p.rest due.0)
           ∙ ap (λ l. Ok (record { packets = l; skipped = skipped + 0; cut = false })) (append-nil packets)
           ∙ ap (λ n. Ok (record { packets = packets; skipped = n; cut = false })) (add-zero skipped),
       due.2,
@@ -163,7 +166,7 @@ pub progress_cut : (whole : Result Trace TraceFault) (before after : Reading) (p
 unfolding with_front
 progress_cut whole before after packets skipped p answers =
     let due = answers p.rest p.is in (
-      sym p.same ∙ ap (with_front packets skipped) (cut_step p.most before.form before.place before.count p.rest p.enough due.0)
+      sym p.same ∙ ap (with_front packets skipped) (cut_step before.form before.place before.count p.rest due.0)
           ∙ ap (λ l. Ok (record { packets = l; skipped = skipped + 0; cut = true })) (append-nil packets)
           ∙ ap (λ n. Ok (record { packets = packets; skipped = n; cut = true })) (add-zero skipped),
       due.2,
@@ -185,7 +188,7 @@ progress_due : (whole : Result Trace TraceFault) (before : Reading) (packets : L
     → (p : Progress whole before packets skipped) → next_of before.form before.place before.count p.rest ≡ Err e → AnswersTrace whole left (Err e)
 unfolding with_front
 progress_due whole before packets skipped left e p due =
-    trace_fault whole left e (sym p.same ∙ ap (with_front packets skipped) (fault_step p.most before.form before.place before.count p.rest e p.enough due))
+    trace_fault whole left e (sym p.same ∙ ap (with_front packets skipped) (fault_step before.form before.place before.count p.rest e due))
 
 pub progress_fault : (whole : Result Trace TraceFault) (before after : Reading) (packets : List Packet) (skipped : ℕ) (left : Option (List ℕ)) (e : TraceFault)
     → Progress whole before packets skipped → AnswersNext before after (Err e) → AnswersTrace whole left (Err e)

@@ -1,5 +1,5 @@
 -- A generated capture is read whole, with all its packets steered.
-use Rattle.std.proofs.Common.{◌≡◌, ◌≤◌, ◌<◌, ℕ, zero, suc, ◌+◌, ◌*◌, ◌^◌, List, [], ◌++◌, length, take, drop, Some, Result, Ok, Err, refl, ap, sym, ◌∙◌, subst, append_assoc, arith}
+use Rattle.std.proofs.Common.{◌≡◌, ◌≤◌, ◌<◌, ℕ, zero, suc, ◌+◌, ◌*◌, ◌^◌, List, ◌++◌, length, take, drop, Some, Result, Ok, Err, refl, ap, sym, ◌∙◌, subst, append_assoc, arith}
 use Rattle.std.specs.Prelude.{if◌then◌else◌}
 use Rattle.std.specs.Option.{option_map}
 use Rattle.std.proofs.Math.Seq.{take-append_seam, drop-append_seam}
@@ -28,8 +28,8 @@ use Rattle.trace_reader.specs.Generated.{drawn, record_head, datagram, record_by
 use Rattle.trace_reader.specs.Making.{IsReadWhole}
 use Rattle.trace_reader.proofs.GeneratedSizes.{record_head-size}
 use Rattle.trace_reader.proofs.MadeHeaders.{headers_of, parts_there}
-use Rattle.trace_reader.proofs.NextRecord.{next_of-end, next_of-whole}
-use Rattle.trace_reader.proofs.CaptureSoFar.{packet_step, end_step}
+use Rattle.trace_reader.proofs.NextRecord.{next_of-whole}
+use Rattle.trace_reader.proofs.CaptureSoFar.{packet_step}
 
 -- the form that the header states
 abbrev the_form : Form
@@ -114,21 +114,19 @@ with_packet-whole : (n : ℕ) (p : Packet) (r : Result Trace TraceFault) → IsR
 with_packet-whole n p (Ok trace) whole = (ap suc whole.0, whole.1, whole.2)
 with_packet-whole n p (Err e) whole = absurd whole
 
-records_whole : (n hosts j s place count most : ℕ) → count + n ≤ 1000000 → place + 56 * n ≤ 2 ^ 32
-    → length (records hosts j (first_words mix_u64 n s)) ≤ most → IsReadWhole n (records_of most the_form place count (records hosts j (first_words mix_u64 n s)))
-unfolding first_words
-records_whole zero hosts j s place count most few fits enough =
-    subst (IsReadWhole 0) (sym (end_step most the_form place count [] (next_of-end the_form place count [] refl))) (refl, refl, refl)
-records_whole (suc n) hosts j s place count most few fits enough =
+records_whole : (n hosts j s place count : ℕ) → count + n ≤ 1000000 → place + 56 * n ≤ 2 ^ 32
+    → IsReadWhole n (records_of the_form place count 0 (records hosts j (first_words mix_u64 n s)))
+unfolding first_words records_of
+records_whole zero hosts j s place count few fits = (refl, refl, refl)
+records_whole (suc n) hosts j s place count few fits =
     let d = drawn hosts (mix_u64 s).0 in
     let rest = records hosts (j + 1) (first_words mix_u64 n (mix_u64 s).1) in
     let reads = reads_record place count j d rest (drawn-small hosts (mix_u64 s).0) (omega arith) (omega arith) in
     let bytes = record_bytes j d ++ rest in
     let size = record_size the_form bytes in
-    let step = packet_step most the_form place count bytes reads.packet enough reads.gives in
-    let left : length rest ≤ step.0 = subst (λ l. length l ≤ step.0) reads.gone step.1 in
-    let again = records_whole n hosts (j + 1) (mix_u64 s).1 (place + size) (count + 1) step.0 (omega arith) (omega (arith, reads.size)) left in
-    subst (IsReadWhole (suc n)) (sym (step.2 ∙ ap (λ l. with_packet reads.packet (records_of step.0 the_form (place + size) (count + 1) l)) reads.gone))
+    let step = packet_step the_form place count bytes reads.packet reads.gives in
+    let again = records_whole n hosts (j + 1) (mix_u64 s).1 (place + size) (count + 1) (omega arith) (omega (arith, reads.size)) in
+    subst (IsReadWhole (suc n)) (sym (step ∙ ap (λ l. with_packet reads.packet (records_of the_form (place + size) (count + 1) 0 l)) reads.gone))
     (with_packet-whole n reads.packet _ again)
 
 behind_header : (rest : List ℕ) → drop 24 (file_header ++ rest) ≡ rest
@@ -140,6 +138,6 @@ unfolding capture capture_of
 read_whole number packets hosts few =
     let recs = records hosts 1 (first_words mix_u64 packets number) in
     let bytes = file_header ++ recs in
-    let whole = records_whole packets hosts 1 number 24 0 (length bytes) (omega arith) (omega arith) (omega (arith, length-append file_header recs)) in
+    let whole = records_whole packets hosts 1 number 24 0 (omega arith) (omega arith) in
     subst (λ form. IsReadWhole packets (trace_of bytes form)) (sym (states_form recs))
-    (subst (λ l. IsReadWhole packets (records_of (length bytes) the_form 24 0 l)) (sym (behind_header recs)) whole)
+    (subst (λ l. IsReadWhole packets (records_of the_form 24 0 0 l)) (sym (behind_header recs)) whole)

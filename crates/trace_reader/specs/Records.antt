@@ -1,6 +1,6 @@
 -- What a capture gives: its records one after the other, and all of them. The records' layout is that of the pcap format
 -- (draft-ietf-opsawg-pcap); the limits, and the order of the checks, are this project's own.
-use Rattle.std.specs.Prelude.{◌≡◌, ℕ, ◌+◌, nat_lt, true, false, List, [], ◌∷◌, length, take, drop, zero, suc, Option, Some, None, Result, Ok, Err, if◌then◌else◌}
+use Rattle.std.specs.Prelude.{◌≡◌, ℕ, ◌+◌, ◌-◌, nat_lt, true, false, List, [], ◌∷◌, length, take, drop, zero, suc, Option, Some, None, Result, Ok, Err, if◌then◌else◌}
 use Rattle.flow_filter.specs.declared.packet.Packet.{Packet}
 use Rattle.trace_reader.specs.declared.form.Form.{Form}
 use Rattle.trace_reader.specs.declared.fault.TraceFault.{TraceFault}
@@ -58,11 +58,12 @@ from_next rest count (Ok next.End) = Ok (record { packets = []; skipped = 0; cut
 from_next rest count (Ok next.Cut) = Ok (record { packets = []; skipped = 0; cut = true })
 from_next rest count (Err e) = Err e
 
--- what these bytes give, at this place, after this many packets; the first number is at least that of the records
-unfoldable pub records_of : ℕ → Form → ℕ → ℕ → List ℕ → Result Trace TraceFault
-records_of zero form place count bytes = Ok (record { packets = []; skipped = 0; cut = false })
-records_of (suc most) form place count bytes =
-    from_next (λ count'. records_of most form (place + record_size form bytes) count' (drop (record_size form bytes) bytes)) count (next_of form place count bytes)
+-- what these bytes give, at this place, after this many packets. So many of the first ones are left of a record that was read.
+unfoldable pub records_of : Form → ℕ → ℕ → ℕ → List ℕ → Result Trace TraceFault
+records_of form place count left [] = Ok (record { packets = []; skipped = 0; cut = false })
+records_of form place count (suc left) (byte ∷ bytes) = records_of form (place + 1) count left bytes
+records_of form place count zero (byte ∷ bytes) =
+    from_next (λ count'. records_of form (place + 1) count' (record_size form (byte ∷ bytes) - 1) bytes) count (next_of form place count (byte ∷ bytes))
 
 -- the form that a capture states in its first 24 bytes, or the first fault there
 abbrev pub opened : List ℕ → Result Form TraceFault
@@ -70,7 +71,7 @@ opened bytes = form_of (take header_size bytes)
 
 -- what the records of a capture of this form give
 abbrev pub trace_of : List ℕ → Result Form TraceFault → Result Trace TraceFault
-trace_of bytes (Ok form) = records_of (length bytes) form header_size 0 (drop header_size bytes)
+trace_of bytes (Ok form) = records_of form header_size 0 0 (drop header_size bytes)
 trace_of bytes (Err e) = Err e
 
 -- the steered packets of a capture in file order, how many records are skipped, and whether it is cut, or the first fault
