@@ -1,6 +1,6 @@
 -- What a run of the network is given: its configuration, whose filters take whole units, and an input of packets and commands in
 -- the order of their numbers. This project's own.
-use Rattle.std.specs.Prelude.{◌≡◌, ◌==◌, ◌≤◌, ◌<◌, ◌-◌, ◌^◌, ℕ, suc, Bool, true, false, not, ◌&&◌, List, [], ◌∷◌, map, find, length, Option, option_map, unwrap_or, All}
+use Rattle.std.specs.Prelude.{◌≡◌, ◌==◌, ◌≤◌, ◌<◌, ◌-◌, ◌^◌, ℕ, suc, Bool, true, false, List, [], ◌∷◌, map, find, length, Option, option_map, unwrap_or, All}
 use Rattle.std.specs.Option.{ForSome}
 use Rattle.std.specs.Str.{bytes_eq}
 use Rattle.flow_filter.specs.declared.filter.Filter.{Filter}
