@@ -36,7 +36,7 @@ use Rattle.net_world.specs.declared.config.Config.{Config}
 use Rattle.net_world.specs.declared.node.Node.{Node}
 use Rattle.net_world.specs.declared.node.Node.TheVariants.{Controller}
 use Rattle.net_world.specs.Commands.{began, has_answered, is_share, keeps_off, answers_of}
-use Rattle.net_world.specs.Input.{IsInput, are_unlike, commands, order_numbered, ends_last}
+use Rattle.net_world.specs.Input.{IsInput, commands, order_numbered, ends_last}
 use Rattle.net_world.specs.Nodes.{node_step, node_ready, node_ended}
 use Rattle.net_world.specs.Start.{first_nodes, started}
 use Rattle.outline_net.proofs.FiltersApart.{is_whole}
@@ -91,7 +91,7 @@ NamesSome (order.Share members filter) = 1 ≤ length members
 NamesSome what = Unit {0}
 
 names_some : {R : Type 0} (f : Semantics R) (g : Given) (what : Order) → is_built f g what ≡ true → NamesSome what
-names_some f g (order.Share members filter) built = let two = (Decides-ltb 1 (length members)).0 (and_parts (nat_lt 1 (length members)) (are_unlike members) (and_parts (is_whole f.kind filter) _ built).1).0 in omega (arith, two)
+names_some f g (order.Share members filter) built = let two = (Decides-ltb 1 (length members)).0 (and_parts (nat_lt 1 (length members)) _ (and_parts (is_whole f.kind filter) _ built).1).0 in omega (arith, two)
 names_some f g what built = tt
 
 -- The controller begins or answers each command that it takes.

@@ -1,6 +1,6 @@
 -- What a run of the network is given: its configuration, whose filters take whole units, and an input of packets and commands in
 -- the order of their numbers. This project's own.
-use Rattle.std.specs.Prelude.{◌≡◌, ◌==◌, ◌≤◌, ◌<◌, ◌-◌, ◌^◌, ℕ, suc, Bool, true, false, not, ◌&&◌, List, [], ◌∷◌, map, find, length, Option, option_map, unwrap_or, All}
+use Rattle.std.specs.Prelude.{◌≡◌, ◌==◌, ◌≤◌, ◌<◌, ◌-◌, ◌^◌, ℕ, suc, Bool, true, false, List, [], ◌∷◌, map, find, length, Option, option_map, unwrap_or, All}
 use Rattle.std.specs.Option.{ForSome}
 use Rattle.std.specs.Str.{bytes_eq}
 use Rattle.flow_filter.specs.declared.filter.Filter.{Filter}
@@ -9,6 +9,7 @@ use Rattle.flow_filter.specs.declared.site.Site.{Site}
 use Rattle.flow_filter.specs.Filter.{IsFilter, IsFlow}
 use Rattle.flow_filter.specs.FilterText.{fields_of}
 use Rattle.flow_filter.specs.Flow.{flow_of}
+use Rattle.flow_filter.specs.Name.{has_twice}
 use Rattle.nf_function.specs.declared.kind.Kind.{Kind}
 use Rattle.nf_function.specs.Records.{Fits}
 use Rattle.nf_function.specs.Units.{splits}
@@ -74,19 +75,10 @@ pub record IsWhole (kind : Kind) (filter : Filter) : Type 0 where
   pub numbers : IsFilter filter
   pub whole : splits kind (fields_of filter) ≡ false
 
--- no two names of some are alike
-abbrev pub is_unlike : List ℕ → List (List ℕ) → Bool
-is_unlike name [] = true
-is_unlike name (other ∷ names) = not (bytes_eq name other) && is_unlike name names
-
-abbrev pub are_unlike : List (List ℕ) → Bool
-are_unlike [] = true
-are_unlike (name ∷ names) = is_unlike name names && are_unlike names
-
--- the members of a share: two names or more, no two alike
+-- the members of a share: two names or more, none of them twice
 pub record AreMembers (names : List (List ℕ)) : Type 0 where
   pub some : fewest_members ≤ length names
-  pub unlike : are_unlike names ≡ true
+  pub once : has_twice names ≡ false
 
 -- an order to move units, to copy their records or, without a filter, the all-flows state, or to share them, with different names
 abbrev pub IsProper : Kind → Order → Type 0

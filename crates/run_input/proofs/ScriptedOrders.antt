@@ -1,16 +1,15 @@
 -- The commands of a script's lines: their numbers rise, and each is of whole units and names different instances.
-use Rattle.std.proofs.Common.{◌≡◌, ℕ, suc, ◌+◌, ◌<◌, ◌≤◌, Bool, true, false, true≢false, ◌&&◌, Some, None, List, [], ◌∷◌, map, length, eqb, eqb-true, leb, Ok, refl, sym, subst, ◌∙◌, arith}
+use Rattle.std.proofs.Common.{◌≡◌, ℕ, suc, ◌+◌, ◌<◌, ◌≤◌, Bool, true, false, ◌&&◌, Some, None, List, [], ◌∷◌, map, length, eqb, eqb-true, leb, Ok, refl, subst, arith}
 use Rattle.std.specs.Prelude.{All, if◌then◌else◌, not}
-use Rattle.std.specs.List.{AllByRecursion, list_any}
+use Rattle.std.specs.List.{AllByRecursion}
 use Rattle.std.specs.Str.{bytes_eq}
 use Rattle.std.proofs.lemmas.Bool.Decides.{nat_tests}
-use Rattle.std.proofs.lemmas.Slice.Eq.{bytes_eq-Decides}
 use Rattle.std.proofs.lemmas.List.Elements.{All-cons, All-nil, All-head, All-tail}
-use Rattle.std.proofs.lemmas.Bool.{and_parts, or_parts}
+use Rattle.std.proofs.lemmas.Bool.{and_parts}
 use Rattle.flow_filter.specs.declared.filter.Filter.{Filter}
 use Rattle.flow_filter.specs.declared.packet.Packet.{Packet}
 use Rattle.flow_filter.specs.Filter.{IsFilter}
-use Rattle.flow_filter.specs.Name.{has_twice, is_name}
+use Rattle.flow_filter.specs.Name.{is_name}
 use Rattle.nf_function.specs.declared.kind.Kind.{Kind}
 use Rattle.nf_function.specs.Units.{splits}
 use Rattle.nf_msgs.specs.declared.command.Command.{Command}
@@ -26,7 +25,7 @@ use Rattle.op_script.specs.Items.{IsFrom}
 use Rattle.op_script.specs.Reading.{ends_of, unless, route_view, line_view, what_view, order_view}
 use Rattle.op_script.specs.Printing.{IsRoute, IsLine, IsWhat, IsOrder, OrderFits, WhatFits, next_after, and_then, follows, what_splits, order_splits}
 use Rattle.op_script.proofs.JudgedLemmas.{unless_Ok}
-use Rattle.net_world.specs.Input.{IsRising, IsWhole, IsProper, is_unlike, are_unlike}
+use Rattle.net_world.specs.Input.{IsRising, IsWhole, IsProper}
 use Rattle.run_input.proofs.SaidCommands.{with_command, line_commands}
 
 -- Numbers that rise.
@@ -88,33 +87,13 @@ names_differ source target is =
     let first = unless_Ok (not (is_name source && is_name target)) bad.Name (unless (bytes_eq source target) bad.SameInstance (Ok (source, target))) (source, target) is in
     (unless_Ok (bytes_eq source target) bad.SameInstance (Ok (source, target)) (source, target) first.1).0
 
--- A share's members.
-turned : (a b : Word) → bytes_eq a b ≡ false → bytes_eq b a ≡ false
-turned a b differ = elim (bytes_eq b a) as (λ c. bytes_eq b a ≡ c → c ≡ false) [
-  | true ↦ λ same. absurd (true≢false (sym ((bytes_eq-Decides a b).1 (sym ((bytes_eq-Decides b a).0 same))) ∙ differ))
-  | false ↦ λ other. refl
-] refl
-
-one_unlike : (name : Word) (more : List Word) → list_any (λ other. bytes_eq other name) more ≡ false → is_unlike name more ≡ true
-one_unlike name [] once = refl
-one_unlike name (other ∷ more) once =
-    let two = or_parts (bytes_eq other name) (list_any (λ other. bytes_eq other name) more) once in
-    let differ : bytes_eq name other ≡ false = turned other name two.0 in
-    rw differ (one_unlike name more two.1)
-
-all_unlike : (names : List Word) → has_twice names ≡ false → are_unlike names ≡ true
-all_unlike [] once = refl
-all_unlike (name ∷ more) once =
-    let two = or_parts (list_any (λ other. bytes_eq other name) more) (has_twice more) once in
-    rw (one_unlike name more two.0) (all_unlike more two.1)
-
 module _ (kind : Kind) where
   is_proper : (o : Order) → IsOrder (order_view o) → order_splits kind (order_view o) ≡ false → OrderFits o → IsProper kind o
   is_proper (Move source destination filter keep) right whole fits = (names_differ source destination right.0, record { numbers = fits; whole = whole })
   is_proper (Copy source destination None) right whole fits = (names_differ source destination right.0, λ filter is. cc)
   is_proper (Copy source destination (Some filter)) right whole fits = (names_differ source destination right.0, λ g is. (let same : filter ≡ g = cc in subst (IsWhole kind) same (record { numbers = fits; whole = whole })))
   is_proper (Share members filter) right whole fits =
-      (record { some = right.0; unlike = all_unlike members right.2 }, record { numbers = fits; whole = whole })
+      (record { some = right.0; once = right.2 }, record { numbers = fits; whole = whole })
 
   proper_with : (w : What) (cs : List Command) → IsWhat (what_view w) → what_splits kind (what_view w) ≡ false → WhatFits w
       → All (λ (c : Command). IsProper kind c.what) cs → All (λ (c : Command). IsProper kind c.what) (with_command w cs)

@@ -4,7 +4,7 @@ use Rattle.std.specs.Prelude.{if◌then◌else◌, ◌&&◌, ◌==◌, nat_lt, i
 use Rattle.std.specs.List.{filter_map, IsDistinct}
 use Rattle.std.specs.FinMap as finite
 use Rattle.std.proofs.lemmas.Bool.Decides.{nat_tests, Decides-ltb}
-use Rattle.std.proofs.lemmas.Bool.{and_parts}
+use Rattle.std.proofs.lemmas.Bool.{and_parts, not-true}
 use Rattle.flow_filter.specs.declared.filter.Filter.{Filter}
 use Rattle.nf_function.specs.Semantics.{Semantics}
 use Rattle.nf_msgs.specs.declared.answer.Answer.{Answer}
@@ -19,7 +19,7 @@ use Rattle.ctrl_node.specs.declared.operation.Operation.{Operation}
 use Rattle.ctrl_node.specs.declared.operation.Operation.TheVariants.{Share}
 use Rattle.ctrl_node.specs.Operations.{lowest_meeting}
 use Rattle.ctrl_node.specs.Controller.{ControllerState, Step, still, refusal, begins_between, copies_between, begins_share, begins, decided, on_asked}
-use Rattle.flow_filter.specs.Name.{place_of}
+use Rattle.flow_filter.specs.Name.{has_twice, place_of}
 use Rattle.unit_machine.proofs.Real.{sent_for}
 use Rattle.unit_machine.proofs.Labels.{Each}
 use Rattle.abstract_net.proofs.Net.{behind}
@@ -36,7 +36,6 @@ use Rattle.whole_joined.proofs.ShareBegins.{place_tells, names_distinct, few_pla
 use Rattle.whole_joined.proofs.ControllerScenes.{links_by, waits}
 use Rattle.whole_joined.proofs.ControllerBegins.{no_overlap, none_unknown, controller_begun, listed_begun, Order_next, Leads_to, stays_still, answered, shares_apart, moves_apart, rises, link_left, link_same, move_begins, copy_begins}
 use Rattle.whole_joined.proofs.Given.{Given, place}
-use Rattle.net_world.specs.Input.{are_unlike}
 use Rattle.whole_joined.proofs.Joined.{Scene, AreShown, IsTaken, IsController, IsShare, S, A, count, shown, is_built, commands, came_by, asked_nums}
 
 module _ {F R : Type 0} (f : Semantics R) (g : Given) (n : ℕ) (x : Scene F f g) (p : ℕ) (cmd : Command) (are : AreShown f g n x) (is : IsTaken f g n x (record { node = 1; port = p; message = msg.Asked cmd })) where
@@ -54,14 +53,17 @@ module _ {F R : Type 0} (f : Semantics R) (g : Given) (n : ℕ) (x : Scene F f g
     known : FirstKnown g.names name others
     known = first_known g.names name others (subst (λ names. unknown names (name ∷ others) ≡ None) are.controller.names (none_unknown c (order.Share (name ∷ others) filter) fine))
 
-    is_shared : is_whole f.kind filter && (nat_lt 1 (length (name ∷ others)) && are_unlike (name ∷ others)) ≡ true
-    is_shared = ap (is_built f g) (sym what) ∙ is.label.2.built
+    its_built : is_whole f.kind filter && (nat_lt 1 (length (name ∷ others)) && not (has_twice (name ∷ others))) ≡ true
+    its_built = ap (is_built f g) (sym what) ∙ is.label.2.built
+
+    members_fine : (nat_lt 1 (length (name ∷ others)) ≡ true) × (not (has_twice (name ∷ others)) ≡ true)
+    members_fine = and_parts (nat_lt 1 (length (name ∷ others))) (not (has_twice (name ∷ others))) (and_parts (is_whole f.kind filter) _ its_built).1
 
     two_names : 1 < length (name ∷ others)
-    two_names = (Decides-ltb 1 (length (name ∷ others))).0 (and_parts (nat_lt 1 (length (name ∷ others))) (are_unlike (name ∷ others)) (and_parts (is_whole f.kind filter) _ is_shared).1).0
+    two_names = (Decides-ltb 1 (length (name ∷ others))).0 members_fine.0
 
-    unlike : are_unlike (name ∷ others) ≡ true
-    unlike = (and_parts (nat_lt 1 (length (name ∷ others))) (are_unlike (name ∷ others)) ((and_parts (is_whole f.kind filter) _ is_shared).1)).1
+    once : has_twice (name ∷ others) ≡ false
+    once = not-true (has_twice (name ∷ others)) members_fine.1
 
     abbrev its : Want_share
     its = record { num = cmd.op; home = instance_node known.home; members = instance_node known.home ∷ known.nodes; filter = filter }
@@ -99,8 +101,8 @@ module _ {F R : Type 0} (f : Semantics R) (g : Given) (n : ℕ) (x : Scene F f g
           op_is = refl;
           few = subst (Each (λ member. nat_lt member (count f g) ≡ true)) known.instances (few_placed g.names (name ∷ others));
           some = omega (arith, many, two);
-          distinct = subst (IsDistinct ◌==◌) known.instances (all_apart g.names (name ∷ others) unlike);
-          whole = (and_parts (is_whole f.kind filter) _ is_shared).0;
+          distinct = subst (IsDistinct ◌==◌) known.instances (all_apart g.names (name ∷ others) once);
+          whole = (and_parts (is_whole f.kind filter) _ its_built).0;
           plan = record { names = name ∷ others; order_is = is.label.2.known ∙ ap Some what; members_are = known.instances; site_is = are.controller.site };
           out = tt;
         }
@@ -119,7 +121,7 @@ module _ {F R : Type 0} (f : Semantics R) (g : Given) (n : ℕ) (x : Scene F f g
     may = record {
       fresh = fresh;
       home_in = let self : (instance_node known.home == instance_node known.home) ≡ true = grind (arith, nat_tests) in rw self refl;
-      apart = members_apart (place g) (place_tells g.names) (name ∷ others) its.members (names_distinct (name ∷ others) unlike) nodes_are;
+      apart = members_apart (place g) (place_tells g.names) (name ∷ others) its.members (names_distinct (name ∷ others) once) nodes_are;
       two = let long = members_long (place g) (name ∷ others) its.members nodes_are in let two = two_names in omega (arith, long, two);
       insts = members_are (place g) (name ∷ others) its.members nodes_are;
       moves_apart = moves_apart f g n x p cmd are is filter apart;

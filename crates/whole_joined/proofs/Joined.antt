@@ -56,7 +56,7 @@ use Rattle.whole_net.proofs.WhereAll.{Came}
 use Rattle.unit_machine.proofs.Real.{sent_for}
 use Rattle.net_world.specs.declared.node.Node.{Node}
 use Rattle.net_world.specs.declared.node.Node.TheVariants.{Switch, Controller, Instance}
-use Rattle.net_world.specs.Input.{are_unlike}
+use Rattle.flow_filter.specs.Name.{has_twice}
 use Rattle.net_world.specs.Log.{Done, arrived, done, installed, those}
 use Rattle.whole_joined.proofs.Given.{Given, place, IsPlan, IsCopyPlan, IsSharePlan, IsChange, target_by, diverted_in, loose_by}
 use Rattle.outline_net.proofs.FiltersApart.{is_whole, unit_fits}
@@ -113,7 +113,7 @@ module _ {R : Type 0} (f : Semantics R) (g : Given) where
   abbrev pub is_built : Order → Bool
   is_built (order.Move src dst filter keep) = is_whole f.kind filter && not (bytes_eq src dst)
   is_built (order.Copy src dst filter) = is_whole_if filter && not (bytes_eq src dst)
-  is_built (order.Share members filter) = is_whole f.kind filter && (nat_lt 1 (length members) && are_unlike members)
+  is_built (order.Share members filter) = is_whole f.kind filter && (nat_lt 1 (length members) && not (has_twice members))
 
   pub record IsCommand (c : Command) : Type 0 where
     pub known : g.orders c.op ≡ Some c.what

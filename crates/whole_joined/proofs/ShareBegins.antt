@@ -1,17 +1,16 @@
 -- A share that may begin: its members have different places, the names of its order are known, and it is one that the abstract network begins.
-use Rattle.std.proofs.Common.{◌≡◌, ◌≢◌, ℕ, suc, true, false, Option, Some, None, List, [], ◌∷◌, length, get_or, refl, sym, ap, ◌∙◌, subst, arith}
-use Rattle.std.specs.Prelude.{if◌then◌else◌, ◌==◌, not, nat_lt, find, is_some}
-use Rattle.std.specs.List.{filter_map, AllByRecursion, IsDistinct}
+use Rattle.std.proofs.Common.{◌≡◌, ◌≢◌, ℕ, suc, true, false, Option, Some, None, List, [], ◌∷◌, length, get_or, refl, sym, ap, ◌∙◌, subst, arith, true≢false}
+use Rattle.std.specs.Prelude.{Bool, if◌then◌else◌, ◌==◌, not, nat_lt, find, is_some}
+use Rattle.std.specs.List.{filter_map, list_any, AllByRecursion, IsDistinct}
 use Rattle.std.specs.Str.{bytes_eq}
 use Rattle.std.proofs.lemmas.Bool.Decides.{nat_tests, Decides-ltb}
 use Rattle.std.proofs.lemmas.List.Quantifiers.{position-Some}
 use Rattle.std.proofs.lemmas.Slice.Eq.{bytes_eq-Decides}
-use Rattle.std.proofs.lemmas.Bool.{not-true, and_parts}
+use Rattle.std.proofs.lemmas.Bool.{or_parts}
 use Rattle.nf_msgs.specs.Nodes.{instance_node}
-use Rattle.flow_filter.specs.Name.{place_of}
+use Rattle.flow_filter.specs.Name.{has_twice, place_of}
 use Rattle.unit_machine.proofs.Labels.{Each}
 use Rattle.whole_outline.proofs.WholeOutline.{with_member, members_of}
-use Rattle.net_world.specs.Input.{is_unlike, are_unlike}
 
 -- a name has one place, and two names have two
 pub place_below : (names : List (List ℕ)) (name : List ℕ) (i : ℕ) → place_of names name ≡ Some i → nat_lt i (length names) ≡ true
@@ -30,15 +29,24 @@ places_apart names a b i j at_a at_b off same =
 pub place_tells : (names : List (List ℕ)) (a b : List ℕ) (i : ℕ) → place_of names a ≡ Some i → place_of names b ≡ Some i → bytes_eq a b ≡ true
 place_tells names a b i at_a at_b = (bytes_eq-Decides a b).1 (sym (place_is names a i at_a) ∙ place_is names b i at_b)
 
--- names that are unlike
-all_unlike : (name : List ℕ) (names : List (List ℕ)) → is_unlike name names ≡ true → AllByRecursion (λ other. bytes_eq name other ≡ false) names
-all_unlike name [] e = tt
-all_unlike name (other ∷ names) e = (not-true (bytes_eq name other) (and_parts (not (bytes_eq name other)) (is_unlike name names) e).0, all_unlike name names (and_parts (not (bytes_eq name other)) (is_unlike name names) e).1)
+-- Names of which none stands twice.
+abbrev stands_in : List ℕ → List (List ℕ) → Bool
+stands_in name names = list_any (λ other. bytes_eq other name) names
 
-pub names_distinct : (names : List (List ℕ)) → are_unlike names ≡ true → IsDistinct bytes_eq names
+turned : (a b : List ℕ) → bytes_eq b a ≡ false → bytes_eq a b ≡ false
+turned a b differ = elim (bytes_eq a b) as (λ c. bytes_eq a b ≡ c → c ≡ false) [
+  | true ↦ λ same. absurd (true≢false (sym ((bytes_eq-Decides b a).1 (sym ((bytes_eq-Decides a b).0 same))) ∙ differ))
+  | false ↦ λ other. refl
+] refl
+
+all_others : (name : List ℕ) (names : List (List ℕ)) → stands_in name names ≡ false → AllByRecursion (λ other. bytes_eq name other ≡ false) names
+all_others name [] e = tt
+all_others name (other ∷ names) e = let two = or_parts (bytes_eq other name) (stands_in name names) e in (turned name other two.0, all_others name names two.1)
+
+pub names_distinct : (names : List (List ℕ)) → has_twice names ≡ false → IsDistinct bytes_eq names
 unfolding IsDistinct
 names_distinct [] e = tt
-names_distinct (name ∷ names) e = (all_unlike name names (and_parts (is_unlike name names) (are_unlike names) e).0, names_distinct names (and_parts (is_unlike name names) (are_unlike names) e).1)
+names_distinct (name ∷ names) e = let two = or_parts (stands_in name names) (has_twice names) e in (all_others name names two.0, names_distinct names two.1)
 
 -- The instances with some names: each is one of a run, they are different, and where no name is unknown there are as many.
 module _ (names : List (List ℕ)) where
@@ -62,28 +70,31 @@ module _ (names : List (List ℕ)) where
       by_place None e rest = rest
       by_place (Some i) e rest = (place_below names name i e, rest)
 
-  one_apart : (name : List ℕ) (i : ℕ) → place_of names name ≡ Some i → (these : List (List ℕ)) → is_unlike name these ≡ true → AllByRecursion (λ j. (i == j) ≡ false) (filter_map (place_of names) these)
+  one_apart : (name : List ℕ) (i : ℕ) → place_of names name ≡ Some i → (these : List (List ℕ)) → stands_in name these ≡ false
+      → AllByRecursion (λ j. (i == j) ≡ false) (filter_map (place_of names) these)
   one_apart name i at [] e = tt
   one_apart name i at (other ∷ others) e =
-      let rest = one_apart name i at others (and_parts (not (bytes_eq name other)) (is_unlike name others) e).1 in
+      let two = or_parts (bytes_eq other name) (stands_in name others) e in
+      let rest = one_apart name i at others two.1 in
       subst (AllByRecursion (λ j. (i == j) ≡ false)) (sym (placed other others)) (by_place (place_of names other) refl rest)
     where
       by_place : (o : Option ℕ) → place_of names other ≡ o → AllByRecursion (λ j. (i == j) ≡ false) (filter_map (place_of names) others) → AllByRecursion (λ j. (i == j) ≡ false) (with_place o (filter_map (place_of names) others))
       by_place None at_other rest = rest
       by_place (Some j) at_other rest =
-          let differ : i ≢ j = places_apart names name other i j at at_other (and_parts (not (bytes_eq name other)) (is_unlike name others) e).0 in
+          let two = or_parts (bytes_eq other name) (stands_in name others) e in
+          let differ : i ≢ j = places_apart names name other i j at at_other (ap not (turned name other two.0)) in
           (grind (arith, nat_tests, differ), rest)
 
-  pub all_apart : (these : List (List ℕ)) → are_unlike these ≡ true → IsDistinct ◌==◌ (filter_map (place_of names) these)
+  pub all_apart : (these : List (List ℕ)) → has_twice these ≡ false → IsDistinct ◌==◌ (filter_map (place_of names) these)
   unfolding IsDistinct
   all_apart [] e = tt
   all_apart (name ∷ others) e =
-      let rest = all_apart others (and_parts (is_unlike name others) (are_unlike others) e).1 in
+      let rest = all_apart others (or_parts (stands_in name others) (has_twice others) e).1 in
       subst (IsDistinct ◌==◌) (sym (placed name others)) (by_place (place_of names name) refl rest)
     where
       by_place : (o : Option ℕ) → place_of names name ≡ o → IsDistinct ◌==◌ (filter_map (place_of names) others) → IsDistinct ◌==◌ (with_place o (filter_map (place_of names) others))
       by_place None at rest = rest
-      by_place (Some i) at rest = (one_apart name i at others (and_parts (is_unlike name others) (are_unlike others) e).0, rest)
+      by_place (Some i) at rest = (one_apart name i at others (or_parts (stands_in name others) (has_twice others) e).0, rest)
 
   -- the nodes of names of which none is unknown
   pub record HaveNodes (these : List (List ℕ)) : Type 0 where

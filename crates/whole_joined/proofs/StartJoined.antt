@@ -115,7 +115,7 @@ module _ {R : Type 0} (f : Semantics R) (c : Config) (items : List Msg) (is : Is
       order_is (order.Move source destination filter keep) h = let apart = h.0 in let whole = whole_is f.kind filter h.1 in rw (whole, apart) refl
       order_is (order.Copy source destination None) h = let apart = h.0 in rw apart refl
       order_is (order.Copy source destination (Some filter)) h = let apart = h.0 in let whole = whole_is f.kind filter (h.1 filter refl) in rw (whole, apart) refl
-      order_is (order.Share members filter) h = let some = (Decides-ltb 1 (length members)).1 h.0.some in let unlike = h.0.unlike in let whole = whole_is f.kind filter h.1 in rw (whole, some, unlike) refl
+      order_is (order.Share members filter) h = let some = (Decides-ltb 1 (length members)).1 h.0.some in let once = h.0.once in let whole = whole_is f.kind filter h.1 in rw (whole, some, once) refl
 
   listed : Each (IsCommand f given) (commands items)
   listed = each_both found_command (commands items) (found_each (λ k. k.op) 0 (commands items) is.ops) (all_each (λ k. IsProper f.kind k.what) (commands items) is.orders)
