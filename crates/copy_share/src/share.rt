@@ -68,7 +68,7 @@ impl ShareOp {
     }
 
     /// What the share does with a message of a node: the row of the table. The answer comes exactly where the share is then set
-    /// up.
+    /// up. Its plan stays, also where memory runs out.
     pub fn on(
         &mut self,
         sender: u8,
@@ -76,6 +76,7 @@ impl ShareOp {
         out: &mut Outbox<Msg, Note>,
     ) -> Result<Option<Answer>, NoMemory>
         ensures phase { OnOk result (self.new ≡ record self.old { phase = (row self.old sender message).phase }) }
+        ensures plan { self.new.plan ≡ self.old.plan }
         ensures sends { OnOk result (out.new.0 ≡ out.old.0 ++ (row self.old sender message).sends) }
         ensures notes { OnOk result (out.new.1 ≡ out.old.1) }
         ensures answer { IfOk result (λ answer. answer ≡ (row self.old sender message).answer) }
@@ -102,13 +103,14 @@ impl ShareOp {
         }
     }
 
-    /// Serves the next packet, where the share is set up, no packet is out and one waits.
+    /// Serves the next packet, where the share is set up, no packet is out and one waits. Its plan stays, also where memory runs out.
     pub fn serve(
         &mut self,
         store: &mut EventStore<Cell>,
         out: &mut Outbox<Msg, Note>,
     ) -> Result<(), NoMemory>
         ensures phase { OnOk result (self.new ≡ record self.old { phase = (served self.old.plan self.old.phase (stored store.old self.old.plan.op)).phase }) }
+        ensures plan { self.new.plan ≡ self.old.plan }
         ensures stored { OnOk result (store.new ≡ store_after store.old self.old.plan.op (served self.old.plan self.old.phase (stored store.old self.old.plan.op)).stored) }
         ensures sends { OnOk result (out.new.0 ≡ out.old.0 ++ (served self.old.plan self.old.phase (stored store.old self.old.plan.op)).sends) }
         ensures notes { OnOk result (out.new.1 ≡ out.old.1) }
@@ -147,6 +149,7 @@ impl ShareOp {
     /// The fence came to the home, which is asked for its records.
     fn fenced(&mut self, out: &mut Outbox<Msg, Note>) -> Result<(), NoMemory>
         ensures phase { OnOk result (self.new ≡ record self.old { phase = (on_fenced self.old.plan self.old.phase).phase }) }
+        ensures plan { self.new.plan ≡ self.old.plan }
         ensures out { OnOk result (out.new ≡ (out.old.0 ++ (on_fenced self.old.plan self.old.phase).sends, out.old.1)) }
     {
         if self.phase != SharePhase::Fencing {
@@ -167,6 +170,7 @@ impl ShareOp {
         out: &mut Outbox<Msg, Note>,
     ) -> Result<Option<Answer>, NoMemory>
         ensures phase { OnOk result (self.new ≡ record self.old { phase = (on_chunks self.old.plan self.old.phase chunks).phase }) }
+        ensures plan { self.new.plan ≡ self.old.plan }
         ensures out { OnOk result (out.new ≡ (out.old.0 ++ (on_chunks self.old.plan self.old.phase chunks).sends, out.old.1)) }
         ensures answer { IfOk result (λ answer. answer ≡ (on_chunks self.old.plan self.old.phase chunks).answer) }
     {
@@ -185,6 +189,7 @@ impl ShareOp {
         out: &mut Outbox<Msg, Note>,
     ) -> Result<(), NoMemory>
         ensures phase { OnOk result (self.new ≡ record self.old { phase = (on_shared self.old.plan self.old.phase sender chunk).phase }) }
+        ensures plan { self.new.plan ≡ self.old.plan }
         ensures out { OnOk result (out.new ≡ (out.old.0 ++ (on_shared self.old.plan self.old.phase sender chunk).sends, out.old.1)) }
     {
         self.phase = self.plan.processed(self.phase, sender, chunk, out)?;

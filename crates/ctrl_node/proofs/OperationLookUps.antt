@@ -22,7 +22,7 @@ abbrev pub Rise : List ℕ → Type 0
 Rise numbers = IsStrictlySortedBy nat_cmp numbers
 
 -- keys that the order calls equal are equal numbers, and no others
-order_test : (a b : ℕ) → eq_by_cmp nat_cmp a b ≡ eqb a b
+pub order_test : (a b : ℕ) → eq_by_cmp nat_cmp a b ≡ eqb a b
 order_test a b = grind (arith, nat_tests)
 
 flipped_test : (a b : ℕ) → eqb a b ≡ eq_by_cmp nat_cmp b a

@@ -16,6 +16,12 @@ pub written : (operations : OpenOperations) (op : ℕ) (was now : Operation) (st
 written operations op was now None found same = ap (finite.insert operations op) (same_Some now was same) ∙ written_again operations op was found
 written operations op was now (Some next) found same = ap (finite.insert operations op) (same_Some now next same)
 
+-- one that becomes what a step says
+pub written_step : (operations : OpenOperations) (op : ℕ) (now : Operation) (step : Option Operation) → Some now ≡ step
+    → finite.insert operations op now ≡ with_operation operations op step
+written_step operations op now None same = cc
+written_step operations op now (Some next) same = ap (finite.insert operations op) (same_Some now next same)
+
 lasts_case : (operations : OpenOperations) (op : ℕ) (store : Store) (sender : ℕ) (message : Msg) → (o : Option Operation) → finite.get operations op ≡ o
     → lasts (finite.get (with_operation operations op (turn_of o store sender message).operation) op) ≡ lasts (turn_of o store sender message).operation
 lasts_case operations op store sender message None found = ap lasts found

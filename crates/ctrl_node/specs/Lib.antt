@@ -1,3 +1,3 @@
 pub mod Operations
-pub mod Lending
+pub mod ShareIndex
 pub mod Controller

@@ -41,6 +41,11 @@ is_quiet store operation = false
 abbrev pub are_quiet : OpenOperations → Store → Bool
 are_quiet operations store = list_all (λ entry. is_quiet store entry.1) (finite.entries operations)
 
+-- the filter of a share
+abbrev pub share_filter : Operation → Option Filter
+share_filter (Share s) = Some s.plan.filter
+share_filter operation = None
+
 -- whether an operation is a share whose filter matches a flow
 abbrev pub is_shared_by : Flow → Operation → Bool
 is_shared_by flow (Share s) = matches s.plan.filter flow

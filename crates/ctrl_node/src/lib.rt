@@ -9,6 +9,7 @@
 mod controller;
 pub mod operation;
 pub mod operations;
+mod share_index;
 
 pub use controller::Ctrl;
 pub use operation::Operation;

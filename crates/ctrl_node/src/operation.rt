@@ -1,7 +1,7 @@
 //! An operation that has begun, a move, a copy or a share, as the controller calls it.
 ghost use Rattle.std.specs.Prelude.{◌≡◌, ◌++◌, Some, OnOk, IfOk};
-ghost use Rattle.std.specs.Option.{option_or};
-ghost use Rattle.ctrl_node.specs.Operations.{is_quiet, is_shared_by, lasts, meets_operation, serving_of, turn_of};
+ghost use Rattle.std.specs.Option.{option_copied, option_or};
+ghost use Rattle.ctrl_node.specs.Operations.{is_quiet, is_shared_by, lasts, meets_operation, serving_of, share_filter, turn_of};
 
 use actor_net::Outbox;
 use basics::NoMemory;
@@ -22,7 +22,7 @@ pub enum Operation {
 
 impl Operation {
     /// What the operation does with a message of a node. The answer comes exactly where it is then over, or a share
-    /// is set up.
+    /// is set up. A share keeps its filter, also where memory runs out.
     pub fn on(
         &mut self,
         sender: u8,
@@ -31,6 +31,7 @@ impl Operation {
         out: &mut Outbox<Msg, Note>,
     ) -> Result<Option<Answer>, NoMemory>
         ensures operation { OnOk result (Some self.new ≡ (turn_of (Some self.old) store.old sender message).operation) }
+        ensures filter { share_filter self.new ≡ share_filter self.old }
         ensures store { OnOk result (store.new ≡ (turn_of (Some self.old) store.old sender message).store) }
         ensures sends { OnOk result (out.new.0 ≡ out.old.0 ++ (turn_of (Some self.old) store.old sender message).sends) }
         ensures notes { OnOk result (out.new.1 ≡ out.old.1) }
@@ -43,13 +44,14 @@ impl Operation {
         }
     }
 
-    /// A share serves its next packet, if it may.
+    /// A share serves its next packet, if it may. It keeps its filter, also where memory runs out.
     pub fn serve(
         &mut self,
         store: &mut EventStore<Cell>,
         out: &mut Outbox<Msg, Note>,
     ) -> Result<(), NoMemory>
         ensures operation { OnOk result (Some self.new ≡ option_or (serving_of (Some self.old) store.old).operation (Some self.old)) }
+        ensures filter { share_filter self.new ≡ share_filter self.old }
         ensures store { OnOk result (store.new ≡ (serving_of (Some self.old) store.old).store) }
         ensures sends { OnOk result (out.new.0 ≡ out.old.0 ++ (serving_of (Some self.old) store.old).sends) }
         ensures notes { OnOk result (out.new.1 ≡ out.old.1) }
@@ -84,6 +86,16 @@ impl Operation {
         match self {
             Operation::Share(share) => share.filter().matches(flow),
             _ => false,
+        }
+    }
+
+    /// The filter, where the operation is a share.
+    pub fn share_filter(&self) -> Option<&Filter>
+        ensures { option_copied result ≡ share_filter self.now }
+    {
+        match self {
+            Operation::Share(share) => Some(share.filter()),
+            _ => None,
         }
     }
 

@@ -1,11 +1,10 @@
 //! The open operations: opened, closed, and looked up by their numbers, in the order of which they stand.
 ghost use Rattle.std.specs.Prelude.{◌≡◌, ◌++◌, OnOk, OnErr, IfOk};
-ghost use Rattle.std.specs.Borrow.{sem};
 ghost use Rattle.std.specs.FinMap as finite;
-ghost use Rattle.std.specs.Option.{option_copied_mut};
 ghost use Rattle.ctrl_node.specs.Operations.{are_quiet, lasts, lowest_meeting, serving_of, share_of, turn_of, with_operation};
 
 use crate::operation::Operation;
+use crate::share_index::ShareIndex;
 use actor_net::Outbox;
 use basics::NoMemory;
 use event_store::EventStore;
@@ -20,6 +19,7 @@ use std::marker::Model;
 #[derive(Drop)]
 pub struct Operations {
     by_number: IndexMap<u32, Operation>,
+    shares: ShareIndex,
 }
 
 impl Model for Operations {
@@ -30,6 +30,7 @@ impl Model for Operations {
     ghost use Rattle.indexmap.specs.IndexMap.{keys};
     ghost use Rattle.ctrl_node.specs.contracts.operation.Operation as operation;
     ghost use Rattle.ctrl_node.specs.Operations.{OpenOperations};
+    ghost use Rattle.ctrl_node.specs.ShareIndex.{AreNoted};
 
     ghost Value = { OpenOperations };
 
@@ -37,18 +38,17 @@ impl Model for Operations {
 
     ghost view = { λ o. finite.from_entries o.by_number.entries };
 
-    ghost invariant = { λ o. IsStrictlySortedBy nat_cmp (keys o.by_number) };
+    ghost invariant = { λ o. IsStrictlySortedBy nat_cmp (keys o.by_number) × AreNoted o.shares (finite.from_entries o.by_number.entries) };
 }
 
 impl Operations {
-    ghost use Rattle.ctrl_node.specs.Lending.{LendsOperation};
-
     /// No operations yet. This takes no memory.
     pub fn new(alloc: Global) -> Self
         ensures { result ≡ finite.empty }
     {
         Operations {
             by_number: IndexMap::new(alloc),
+            shares: ShareIndex::open(alloc),
         }
     }
 
@@ -64,6 +64,7 @@ impl Operations {
         ensures opened { OnOk result (self.new ≡ finite.insert self.old op operation) }
         ensures err { OnErr result (self.new ≡ self.old) }
     {
+        self.shares.note(op, &operation)?;
         self.by_number.insert_sorted(op, operation)?;
         Ok(())
     }
@@ -91,10 +92,10 @@ impl Operations {
         ensures notes { OnOk result (out.new.1 ≡ out.old.1) }
         ensures answer { IfOk result (λ answer. answer ≡ (turn_of (finite.get self.old op) store.old sender message).answer) }
     {
-        match self.at(op) {
-            Some(operation) => operation.on(sender, message, store, out),
-            None => Ok(None),
-        }
+        let Some(operation) = self.by_number.get_mut(&op) else {
+            return Ok(None);
+        };
+        operation.on(sender, message, store, out)
     }
 
     /// The share with this number serves its next packet, if it may.
@@ -109,18 +110,10 @@ impl Operations {
         ensures sends { OnOk result (out.new.0 ≡ out.old.0 ++ (serving_of (finite.get self.old op) store.old).sends) }
         ensures notes { OnOk result (out.new.1 ≡ out.old.1) }
     {
-        match self.at(op) {
-            Some(operation) => operation.serve(store, out),
-            None => Ok(()),
-        }
-    }
-
-    /// The operation with this number, if it is open, where it stands.
-    fn at(&mut self, op: u32) -> Option<&mut Operation>
-        ensures* writes_back { sem 𝓛 (LendsOperation self.entry op result) }
-        ensures value { option_copied_mut result ≡ finite.get self.old op }
-    {
-        self.by_number.get_mut(&op)
+        let Some(operation) = self.by_number.get_mut(&op) else {
+            return Ok(());
+        };
+        operation.serve(store, out)
     }
 
     /// Whether the operation with this number is open, and stays open when it is answered.
@@ -135,6 +128,17 @@ impl Operations {
 
     /// The lowest number of a share whose filter matches this flow.
     pub fn share_of(&self, flow: &Flow) -> Option<u32>
+        ensures { result ≡ share_of self.now flow.now }
+    {
+        let op = self.shares.lowest(flow)?;
+        match self.by_number.get(&op) {
+            Some(operation) if operation.shares(flow) => Some(op),
+            _ => self.first_share(flow),
+        }
+    }
+
+    /// The same, by a look at each operation. It comes where the index knows a share that is closed, and so in no run.
+    fn first_share(&self, flow: &Flow) -> Option<u32>
         ensures { result ≡ share_of self.now flow.now }
     {
         self.by_number

@@ -1,7 +1,8 @@
 pub mod Firsts
 pub mod FilterLists
 pub mod RedirectLaws
-mod MaskLemmas
+pub mod MaskLemmas
+pub mod PassingItems
 mod MaskLists
 mod PlacedRules
 mod GroupLemmas

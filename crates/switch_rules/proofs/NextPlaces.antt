@@ -13,7 +13,8 @@ use Rattle.switch_rules.specs.Masks.{mask_of, values_of, masked, mask_eq}
 use Rattle.switch_rules.specs.Rules.{Redirect, takes, target_eq}
 use Rattle.switch_rules.specs.Spans.{AreNoted, earlier, holds, is_noted, is_up_to, may_take, next_in, next_of, notes, span}
 use Rattle.switch_rules.proofs.MaskLemmas.{mask_eq_same, matches-masked, flow_eq_same}
-use Rattle.switch_rules.proofs.SpanLemmas.{any_weaker, target_eq_same, target_eq_refl}
+use Rattle.switch_rules.proofs.PassingItems.{any_weaker}
+use Rattle.switch_rules.proofs.SpanLemmas.{target_eq_same, target_eq_refl}
 
 next_of_up_to : (o : Option Span) (place i : ℕ) → place ≤ i → holds o i ≡ true → is_up_to (next_of o place) i ≡ true
 next_of_up_to None place i order is = is

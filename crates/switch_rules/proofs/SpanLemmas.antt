@@ -1,8 +1,7 @@
 -- Spans of redirects' places: each redirect that was noted is noted still, and so is the new one.
-use Rattle.std.proofs.Common.{◌≡◌, ℕ, zero, suc, ◌<◌, ◌≤◌, max, min, Bool, true, false, cond, leb, ◌&&◌, List, [], ◌∷◌, ◌++◌, length, set, get_or, Option, None, Some, Result, Ok, Err, inl, inr, refl, ap, ◌∙◌, arith}
+use Rattle.std.proofs.Common.{◌≡◌, ℕ, ◌≤◌, max, min, Bool, true, false, cond, leb, ◌&&◌, List, [], ◌∷◌, ◌++◌, set, get_or, Option, None, Some, Result, refl, ap, ◌∙◌, arith}
 use Rattle.std.specs.Prelude.{position, OnErr, OnOk}
-use Rattle.std.specs.List.{list_any}
-use Rattle.std.proofs.lemmas.Bool.{and_parts, and_from, or_cases, or_left, or_right, le-leb, leb-true, eq-eqb, eqb-true}
+use Rattle.std.proofs.lemmas.Bool.{and_parts, and_from, or_left, or_right, le-leb, leb-true, eq-eqb, eqb-true}
 use Rattle.std.proofs.lemmas.List.Folds.{list_any-append}
 use Rattle.std.proofs.lemmas.List.Quantifiers.{position-Some}
 use Rattle.flow_filter.specs.declared.flow.Flow.{Flow}
@@ -15,6 +14,7 @@ use Rattle.switch_rules.specs.Masks.{mask_of, values_of, mask_eq}
 use Rattle.switch_rules.specs.Rules.{Redirect, target_eq}
 use Rattle.switch_rules.specs.Spans.{holds, is_noted, notes, span, widened}
 use Rattle.switch_rules.proofs.MaskLemmas.{mask_eq_refl, flow_eq_same, flow_eq_refl}
+use Rattle.switch_rules.proofs.PassingItems.{any_set, either_way, set_there}
 
 -- targets that are equal by their test are the same
 pub target_eq_same : (a b : Target) → target_eq a b ≡ true → a ≡ b
@@ -53,30 +53,6 @@ still_held : (key : Flow) (place : ℕ) (g g' : SpanGroup) → IsWidened key pla
     → holds (span g k) i ≡ true → holds (span g' k) i ≡ true
 still_held key place g g' own k i at = ap (λ o. holds o i) (own k) ∙ by_test key place g k i (flow_eq key k) refl at
 
-pub any_weaker : (p q : SpanGroup → Bool) → ((g : SpanGroup) → p g ≡ true → q g ≡ true) → (gs : List SpanGroup) → list_any p gs ≡ true → list_any q gs ≡ true
-any_weaker p q gives [] any = any
-any_weaker p q gives (g ∷ gs) any = elim (or_cases (p g) _ any) [
-  | inl here ↦ or_left _ _ (gives g here)
-  | inr later ↦ or_right _ _ (any_weaker p q gives gs later)
-]
-
-any_set : (p : SpanGroup → Bool) (gs : List SpanGroup) (at : ℕ) (g g' : SpanGroup) → g ≡ get_or gs at g → (p g ≡ true → p g' ≡ true)
-    → list_any p gs ≡ true → list_any p (set gs at g') ≡ true
-any_set p [] at g g' is keeps any = any
-any_set p (x ∷ gs) zero g g' is keeps any = elim (or_cases (p x) _ any) [
-  | inl here ↦ or_left _ _ (keeps (ap p is ∙ here))
-  | inr later ↦ or_right _ _ later
-]
-any_set p (x ∷ gs) (suc at) g g' is keeps any = elim (or_cases (p x) _ any) [
-  | inl here ↦ or_left _ _ here
-  | inr later ↦ or_right _ _ (any_set p gs at g g' is keeps later)
-]
-
-set_there : (p : SpanGroup → Bool) (gs : List SpanGroup) (at : ℕ) (g : SpanGroup) → at < length gs → p g ≡ true → list_any p (set gs at g) ≡ true
-set_there p [] at g within is = absurd (omega (arith, within))
-set_there p (x ∷ gs) zero g within is = or_left _ _ is
-set_there p (x ∷ gs) (suc at) g within is = or_right _ _ (set_there p gs at g (omega (arith, within)) is)
-
 -- the group is that of the redirect's mask and target
 abbrev is_of : Redirect → SpanGroup → Bool
 is_of r g = mask_eq g.mask (mask_of r.filter) && target_eq g.from r.from
@@ -95,10 +71,6 @@ notes_still : (i : ℕ) (r : Redirect) (g g' : SpanGroup) → Keeps g g' → not
 notes_still i r g g' keeps is =
     let both = and_parts (is_of r g) (holds (span g (values_of r.filter)) i) is in
     and_from _ _ (same_group r g g' keeps.mask keeps.from ∙ both.0) (keeps.held (values_of r.filter) i both.1)
-
-either_way : {E P Q A : Type 0} (result : Result (Unit {0}) E) → OnOk result P → OnErr result Q → (P → A) → (Q → A) → A
-either_way (Ok x) p q f g = f p
-either_way (Err e) p q f g = g q
 
 -- what was noted is noted still, where a group is written anew or added
 pub noted_still : {E : Type 0} (result : Result (Unit {0}) E) (gs : List SpanGroup) (at : ℕ) (g g' : SpanGroup) (key : Flow) (place : ℕ) → g ≡ get_or gs at g

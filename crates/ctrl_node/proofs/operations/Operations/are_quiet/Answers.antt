@@ -15,4 +15,4 @@ returns c =
     let quiet = is_quiet c.args.store.now in
     all_from_yields_List quiet _ _ c.all.result c.all.ensures.ran (YieldsList-from_rest (values_of es) c.values.ensures.rest) (λ x b q k. search (rules, tests))
     ∙ list_all-map quiet (λ entry. entry.1) es
-    ∙ ap (list_all (λ entry. quiet entry.1)) (sym (entries-view es c.self.invariant)) ∙ ap (λ m. are_quiet m c.args.store.now) c.self.view_is
+    ∙ ap (list_all (λ entry. quiet entry.1)) (sym (entries-view es c.self.invariant.0)) ∙ ap (λ m. are_quiet m c.args.store.now) c.self.view_is

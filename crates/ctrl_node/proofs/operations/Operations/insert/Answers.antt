@@ -1,12 +1,18 @@
--- The table gains the operation at its place, and so does the map.
+-- The table gains the operation at its place, and so does the map. A share was noted before.
+use Rattle.std.proofs.Common.{refl, sym, subst}
 use Rattle.indexmap.specs.IndexMap.{keys}
-use Rattle.ctrl_node.proofs.OperationLookUps.{inserted, rise_from_sorted, sorted_from_rise}
+use Rattle.ctrl_node.specs.ShareIndex.{AreNoted}
+use Rattle.ctrl_node.proofs.OperationLookUps.{inserted, rise_from_sorted, sorted_from_rise, view}
+use Rattle.ctrl_node.proofs.LowestShares.{noted_with}
 use Rattle.ctrl_node.proofs.operations.Operations.insert.Goals as goal
 
 pub invariant_of-self-2 : goal.invariant_of-self-2
 invariant_of-self-2 c =
-    let done = c.in_ok-insert_sorted.ensures in
-    rise_from_sorted (keys c.insert_sorted.new.self) (done.sorted (sorted_from_rise (keys c.self.inside.by_number) c.self.invariant)) done.unique
+    let done = c.in_ok-insert_sorted.ensures in let old = c.self.inside.by_number.entries in let gs = c.self.inside.shares in (
+      rise_from_sorted (keys c.insert_sorted.new.self) (done.sorted (sorted_from_rise (keys c.self.inside.by_number) c.self.invariant.0)) done.unique,
+      subst (AreNoted c.note.new.self) (sym (inserted old c.insert_sorted.new.self.entries (view old) c.args.op c.args.operation refl done.updates.0))
+      (noted_with gs c.note.new.self (view old) c.args.op c.args.operation c.self.invariant.1 c.note.ensures.kept c.in_ok-note.ensures.noted),
+    )
 
 pub returns-clause-opened : goal.returns-clause-opened
 returns-clause-opened c =

@@ -1,16 +1,24 @@
--- The table's entries are those of the map.
-use Rattle.std.proofs.Common.{◌≡◌, rules, tests, sym, ap, ◌∙◌}
-use Rattle.std.specs.Prelude.{find, option_map}
-use Rattle.std.specs.Map.Iter.{deref_pair}
-use Rattle.std.proofs.lemmas.Iterator.Search.{find_from_yields_List}
-use Rattle.std.proofs.lemmas.Iterator.Consumers.{YieldsList-from_rest}
+-- What the index tells is no greater than the number of any share that matches, and what is open under it and matches is the lowest.
+use Rattle.std.proofs.Common.{◌≡◌, rules, tests, true, eqb, None, Some, sym, subst, ◌∙◌}
+use Rattle.std.specs.Map.{lookup}
+use Rattle.switch_rules.specs.Spans.{is_up_to}
 use Rattle.ctrl_node.specs.Operations.{is_shared_by, share_of}
-use Rattle.ctrl_node.proofs.OperationLookUps.{entries-view}
+use Rattle.ctrl_node.proofs.LowestShares.{no_share, told_share}
 use Rattle.ctrl_node.proofs.operations.Operations.share_of.Goals as goal
 
-pub returns : goal.returns
-returns c =
-    let es = c.self.inside.by_number.entries in
-    let first = find_from_yields_List (λ entry. is_shared_by c.args.flow.now entry.1) _ _ c.find.result c.find.ensures.ran (YieldsList-from_rest es c.iter.ensures.rest) (λ x b q k. search (rules, tests)) in
-    let named : c.map.result ≡ option_map (λ entry. entry.0) (option_map deref_pair c.find.result) = search (rules, tests) in
-    named ∙ ap (option_map (λ entry. entry.0)) (first ∙ ap (find (λ entry. is_shared_by c.args.flow.now entry.1)) (sym (entries-view es c.self.invariant))) ∙ ap (λ m. share_of m c.args.flow.now) c.self.view_is
+pub returns-in_err-op : goal.returns-in_err-op
+returns-in_err-op c =
+    let none : c.lowest.result ≡ None = search (rules, tests) in
+    let given : c.from_residual.result ≡ None = search (rules, tests) in
+    given ∙ sym (subst (λ m. share_of m c.args.flow.now ≡ None) c.self.view_is
+    (no_share c.self.inside.shares c.self.inside.by_number.entries c.args.flow.now c.self.invariant.0 c.self.invariant.1
+    (λ op f noted matched. subst (λ told. is_up_to told op ≡ true) none (c.lowest.ensures op f noted matched))))
+
+pub returns-in-Some : goal.returns-in-Some
+returns-in-Some c =
+    let told : c.lowest.result ≡ Some c.in_ok-op.op = search (rules, tests) in
+    let at : lookup (eqb c.in_ok-op.op) c.self.inside.by_number.entries ≡ Some c.in-Some.operation.now = sym c.in-Some.ensures.value in
+    let shared : is_shared_by c.args.flow.now c.in-Some.operation.now ≡ true = search (rules, tests) in
+    sym (subst (λ m. share_of m c.args.flow.now ≡ Some c.in_ok-op.op) c.self.view_is
+    (told_share c.self.inside.shares c.self.inside.by_number.entries c.args.flow.now c.self.invariant.0 c.self.invariant.1 c.in_ok-op.op c.in-Some.operation.now
+    (λ op f noted matched. subst (λ told. is_up_to told op ≡ true) told (c.lowest.ensures op f noted matched)) at shared))
