@@ -66,7 +66,7 @@ passed form place count (suc left) (byte ∷ bytes) =
 -- the records after one
 after_record : (form : Form) (place count : ℕ) (byte : ℕ) (bytes : List ℕ)
     → records_of form (place + 1) count (record_size form (byte ∷ bytes) - 1) bytes
-      ≡ records_of form (place + record_size form (byte ∷ bytes)) count 0 (drop (record_size form (byte ∷ bytes)) (byte ∷ bytes))
+    ≡ records_of form (place + record_size form (byte ∷ bytes)) count 0 (drop (record_size form (byte ∷ bytes)) (byte ∷ bytes))
 after_record form place count byte bytes =
     let size = record_size form (byte ∷ bytes) in
     let at : place + 1 + (size - 1) ≡ place + size = omega arith in

@@ -4,6 +4,7 @@ ghost use Rattle.std.specs.List.{filter_map, position};
 ghost use Rattle.std.specs.Str.{bytes_eq};
 ghost use Rattle.ctrl_node.specs.Controller.{begins, begins_between, begins_share, copies_between, on_asked, overlap, refusal, unknown_name};
 ghost use Rattle.flow_filter.specs.Name.{place_of};
+
 use super::Ctrl;
 use crate::operation::Operation;
 use actor_net::Outbox;
