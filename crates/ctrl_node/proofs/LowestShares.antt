@@ -39,8 +39,8 @@ module _ {X : Type 0} where
   each_entry P (e ∷ es) rise each = (
     each e.0 e.1 (ap (λ b. cond b (Some e.1) (lookup (eqb e.0) es)) (eq-eqb e.0 e.0 refl)),
     each_entry P es (sorted_tail nat_cmp e.0 (keys_of es) rise) (λ q y at.
-      let less : e.0 < q = found_above e.0 q y es (sorted_head nat_cmp e.0 (keys_of es) rise) at in
-      each q y (ap (λ b. cond b (Some e.1) (lookup (eqb q) es)) (ne_eqb q e.0 (λ same. omega (arith, less, same))) ∙ at)),
+        let less : e.0 < q = found_above e.0 q y es (sorted_head nat_cmp e.0 (keys_of es) rise) at in
+        each q y (ap (λ b. cond b (Some e.1) (lookup (eqb q) es)) (ne_eqb q e.0 (λ same. omega (arith, less, same))) ∙ at)),
   )
 
   none_found : (p : X → Bool) (es : List (ℕ × X)) → AllByRecursion (λ e. p e.1 ≡ true → false ≡ true) es → find (λ e. p e.1) es ≡ None

@@ -11,7 +11,7 @@ invariant_of-self c =
     let old = c.self.inside.by_number.entries in let left = c.shift_remove-closed.ensures in (
       subst (λ es. Rise (keys_of es)) (sym left.entries) (rest_rise (eqb c.args.op) old c.self.invariant.0),
       subst (AreNoted c.self.inside.shares) (sym (removed old c.shift_remove-closed.new.self.entries (view old) c.args.op refl left.updates.0))
-      (noted_without c.self.inside.shares (view old) c.args.op c.self.invariant.1),
+          (noted_without c.self.inside.shares (view old) c.args.op c.self.invariant.1),
     )
 
 pub returns : goal.returns

@@ -20,8 +20,8 @@ invariant_of-self-2 c =
     let through = c.get_mut.follows.holds now in (
       subst Rise (sym through.1) c.self.invariant.0,
       subst (AreNoted c.self.inside.shares)
-      (sym (inserted old (c.get_mut.follows.lender now).entries (view old) c.args.op now refl (through.3 (subst IsSome (sym at) refl)).0))
-      (noted_again c.self.inside.shares (view old) c.args.op was now c.self.invariant.1 (get-view old c.args.op ∙ at) c.serve.ensures.filter),
+          (sym (inserted old (c.get_mut.follows.lender now).entries (view old) c.args.op now refl (through.3 (subst IsSome (sym at) refl)).0))
+          (noted_again c.self.inside.shares (view old) c.args.op was now c.self.invariant.1 (get-view old c.args.op ∙ at) c.serve.ensures.filter),
     )
 
 pub returns-clause-operations : goal.returns-clause-operations
@@ -33,8 +33,8 @@ returns-clause-operations c =
     let turn : Option Operation → Turn = λ o. serving_of o c.args.store.now in
     subst (λ o. OnOk c.serve.result (view new ≡ with_operation c.args.self.now c.args.op (turn o).operation)) (sym found)
     (on_ok_weaker c.serve.result (λ same.
-      inserted old new c.args.self.now c.args.op now c.self.view_is ((c.get_mut.follows.holds now).3 (subst IsSome (sym at) refl)).0
-      ∙ written c.args.self.now c.args.op was now (turn (Some was)).operation found same) c.serve.ensures.operation)
+    inserted old new c.args.self.now c.args.op now c.self.view_is ((c.get_mut.follows.holds now).3 (subst IsSome (sym at) refl)).0
+    ∙ written c.args.self.now c.args.op was now (turn (Some was)).operation found same) c.serve.ensures.operation)
 
 pub returns-in_default-clause-operations : goal.returns-in_default-clause-operations
 returns-in_default-clause-operations c =
