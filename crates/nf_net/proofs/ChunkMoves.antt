@@ -1,5 +1,5 @@
--- In every run each chunk on its way is one of a unit that a move under way takes.
-use Rattle.std.proofs.Common.{◌≡◌, ◌≢◌, ℕ, zero, suc, ◌+◌, ◌<◌, Bool, true, false, cond, Some, List, [], ◌∷◌, map, length, refl, sym, ap, ◌∙◌, subst, arith}
+-- In every run each chunk on its way is one of a unit that its move takes, and that move is under way.
+use Rattle.std.proofs.Common.{◌≡◌, ◌≢◌, ℕ, zero, suc, ◌+◌, ◌<◌, true, false, cond, Some, List, [], ◌∷◌, map, length, refl, sym, ap, ◌∙◌, subst, arith}
 use Rattle.std.specs.Prelude.{◌==◌, ◌&&◌, filter, All}
 use Rattle.std.specs.FinMap as finite
 use Rattle.std.proofs.lemmas.Bool.Decides.{nat_tests}
@@ -34,7 +34,7 @@ use Rattle.net_world.specs.declared.node.Node.TheVariants.{Switch}
 use Rattle.net_world.specs.Input.{IsInput}
 use Rattle.net_world.specs.Path.{all_of, on_links}
 use Rattle.net_world.specs.Places.{IsMoving}
-use Rattle.net_world.specs.Records.{chunks_in, kept_in, kept_for, kept_by, is_chunk_of, spelled_of, chunks_on_way, IsOfMove}
+use Rattle.net_world.specs.Records.{chunks_in, kept_in, kept_for, kept_by, is_chunk_of, spelled_of, chunks_on_way}
 use Rattle.path_net.proofs.ChunkLemmas.{all_chunks, spelled_more}
 use Rattle.path_net.proofs.ChunkPlaces.{good_pieces, free_pieces, none_on_way}
 use Rattle.answer_net.proofs.MovesUnderWay.{AreUnderWay}
@@ -47,12 +47,18 @@ use Rattle.path_net.proofs.PathSums.{each_place, each_link}
 use Rattle.whole_joined.proofs.StartJoined.{given}
 use Rattle.whole_joined.proofs.Given.{Given, place}
 use Rattle.whole_net.proofs.WhereAll.{Where_all, Apart_from_shares, Under_share}
+use Rattle.nf_net.specs.NumberedChunks.{numbered_on_way, IsOfItsMove}
+use Rattle.nf_net.proofs.NumberedChunks.{bare, same_chunks, shorter, IsOwn, own_on_way}
 use Rattle.whole_joined.proofs.Joined.{S, A, came_by, Label, AreGoodChunks, HasPieces, Joined, node_of}
 
 all_from : {X : Type 0} (P : X → Type 0) (xs : List X) → Each P xs → All P xs
 all_from P [] h k d small = absurd (omega (arith, small))
 all_from P (x ∷ xs) h zero d small = h.0
 all_from P (x ∷ xs) h (suc k) d small = all_from P xs h.1 k d (omega (arith, small))
+
+each_from : {X Y : Type 0} (h : X → Y) (P : Y → Type 0) (xs : List X) → Each P (map h xs) → Each (λ x. P (h x)) xs
+each_from h P [] e = tt
+each_from h P (x ∷ xs) e = (e.0, each_from h P xs e.1)
 
 module _ {R : Type 0} (f : Semantics R) (g : Given) where
   -- a chunk that spells a record of its unit
@@ -87,10 +93,6 @@ module _ {R : Type 0} (f : Semantics R) (g : Given) where
 
   -- such chunks, where each unit of which there is one has a fact
   module _ (Q : units.Unit → Type 0) (P : Chunk → Type 0) (has : (c : Chunk) (u : units.Unit) → c.unit ≡ Some u → Q u → P c) where
-    shorter : (b : Bool) (c : Chunk) (cs : List Chunk) → map (spelled f) (cond b (c ∷ cs) cs) ≡ [] → map (spelled f) cs ≡ []
-    shorter true c cs e = cc
-    shorter false c cs e = e
-
     each_has : (cs : List Chunk) → Each Named cs → ((u : units.Unit) → spelled_of f u cs ≢ [] → Q u) → Each P cs
     each_has [] h q = tt
     each_has (c ∷ cs) h q =
@@ -98,7 +100,7 @@ module _ {R : Type 0} (f : Semantics R) (g : Given) where
         let own : same_unit u u ≡ true = same_unit_equiv.refl u in
         let more = spelled_more f u (place g) c cs h.0 in (
           has c u h.0.unit (q u (λ none. (let there : spelled f c ∷ spelled_of f u cs ≡ [] = ap (λ b. map (spelled f) (cond b (c ∷ filter (is_chunk_of u) cs) (filter (is_chunk_of u) cs))) (sym own) ∙ sym more ∙ none in cc))),
-          each_has cs h.1 (λ v some. q v (λ none. some (shorter (is_chunk_of v c) c (filter (is_chunk_of v) cs) none))),
+          each_has cs h.1 (λ v some. q v (λ none. some (shorter f (is_chunk_of v c) c (filter (is_chunk_of v) cs) none))),
         )
 
 module _ {F R : Type 0} (f : Semantics R) (c : Config) (items : List Msg) (is : IsInput f.kind c items) (n : ℕ) (count : n ≡ length c.names + 2) (w : Network (Node F R) Msg Note) (nodes : length w.nodes ≡ n) (j : Joined f (given f c items is) n w) (world : IsWorld w) (busy : AreUnderWay f c items is n w j) where
@@ -117,7 +119,7 @@ module _ {F R : Type 0} (f : Semantics R) (c : Config) (items : List Msg) (is : 
 
   kept_named : (k : ℕ) → Each (Named f g) (kept_by (node_of j.nodes k))
   kept_named zero = tt
-  kept_named (suc zero) = each_entry (Named f g) kept_for j.nodes.controller.operations by_got
+  kept_named (suc zero) = each_entry (Named f g) (λ k o. kept_for o) j.nodes.controller.operations by_got
     where
       by_got : (k : ℕ) (o : Operation) → finite.get j.nodes.controller.operations k ≡ Some o → Each (Named f g) (kept_for o)
       by_got k (Move m) there = phase_named f g m.phase (j.shown_is.controller.moves k m there).pieces
@@ -132,9 +134,12 @@ module _ {F R : Type 0} (f : Semantics R) (c : Config) (items : List Msg) (is : 
       (each_link w world.square (Named f g) (all_of chunks_in) (λ s r hs hr. on_named s r (rw (← nodes) hs) (rw (← nodes) hr)))
       (each_place (Named f g) kept_by w.nodes d (λ i small. subst (λ y. Each (Named f g) (kept_by y)) (sym (j.nodes_are i (rw (← nodes) small) d)) (kept_named i)))
 
-  -- a unit with a chunk on its way has a move
-  abbrev IsMoved : units.Unit → Type 0
-  IsMoved u = IsMoving items u w.log
+  -- a unit with a chunk on its way has an open move
+  record IsMoved (u : units.Unit) : Type 0 where
+    apart : Untaken (S f g) u (A f g) j.world
+    seat : Seated f c items is n count w nodes j u
+    moving : IsMoving items u w.log
+    number : moving.op ≡ seat.op.num
 
   moved : (u : units.Unit) → spelled_of f u (chunks_on_way w) ≢ [] → IsMoved u
   moved u some = by_where (j.shown_is.every.unit u)
@@ -148,12 +153,32 @@ module _ {F R : Type 0} (f : Semantics R) (c : Config) (items : List Msg) (is : 
           by_sides : HasSides f c items is n count w nodes j k.op (seat_shape (S f g).F k.seat) → IsMoved u
           by_sides (Are_there e found src dst) =
               let label = each_found (Op_label (S f g) (see (S f g) (is_sys f g.site g.packet) u k.op k.third)) k.op.num j.world.ops e k.holds.ops found in
-              (open_at f c items is n w j busy u k.op.num e found (label.0.0 ∙ label.1)).moving
+              let on = open_at f c items is n w j busy u k.op.num e found (label.0.0 ∙ label.1) in
+              record { apart = apart; seat = k; moving = on.moving; number = on.number }
           by_sides (Rests none none_b at_a) = absurd (some (none_on_way f c items is n count w nodes j world u apart k.op k.third (seat_shape (S f g).F k.seat) k.holds (third_silent (S f g).F k.seat) none))
 
       by_where : Where_all (S f g) (A f g) (is_sys f g.site g.packet) u j.world (came_by f g w.log u) → IsMoved u
       by_where (Apart_from_shares h none) = by_seat h.is h.untaken
       by_where (Under_share x before b h o i) = absurd (some (none_shared f c items is n count w nodes j world u x before (came_by f g w.log u).diverted h))
 
-  pub chunks_moved : All (IsOfMove items w.log) (chunks_on_way w)
-  chunks_moved = all_from (IsOfMove items w.log) (chunks_on_way w) (each_has f g IsMoved (IsOfMove items w.log) (λ y u is_unit h. record { unit = u; unit_is = is_unit; moving = h }) (chunks_on_way w) all_named moved)
+  -- so has each chunk, by its unit
+  record HasMove (y : Chunk) : Type 0 where
+    unit : units.Unit
+    unit_is : y.unit ≡ Some unit
+    moved_so : IsMoved unit
+
+  all_have : Each (λ x. HasMove x.1) (numbered_on_way w)
+  all_have =
+      each_from bare HasMove (numbered_on_way w)
+      (subst (Each HasMove) (sym (same_chunks w)) (each_has f g IsMoved HasMove (λ y u is_unit h. record { unit = u; unit_is = is_unit; moved_so = h }) (chunks_on_way w) all_named moved))
+
+  -- and that is the move whose number it goes with
+  pub chunks_moved : All (IsOfItsMove items w.log) (numbered_on_way w)
+  chunks_moved i d small =
+      let h = all_from (λ x. HasMove x.1) (numbered_on_way w) all_have i d small in
+      let k = h.moved_so.seat in
+      let own = all_from (IsOwn h.unit k.op.num) (numbered_on_way w) (own_on_way f c items is n count w nodes j world h.unit h.moved_so.apart k) i d small in
+      record {
+        of = record { unit = h.unit; unit_is = h.unit_is; moving = h.moved_so.moving };
+        number = own h.unit_is ∙ ap Some (sym h.moved_so.number);
+      }

@@ -25,6 +25,7 @@ pub mod MemberLemmas
 pub mod MembersServed
 pub mod MoveJudged
 pub mod MovedRecords
+pub mod NumberedChunks
 pub mod NumberedUnits
 pub mod OutputLemmas
 pub mod OutputSteps

@@ -62,17 +62,18 @@ module _ {F R : Type 0} (f : Semantics R) (c : Config) (items : List Msg) (is : 
   gm = given f c items is
 
   module _ (u : units.Unit) where
-    -- an open move of the unit between two instances, as one that is under way
-    pub record IsUnderWay (e : Open R) : Type 0 where
+    -- the open move with this number, of the unit, between two instances, as one that is under way
+    pub record IsUnderWay (k : ℕ) (e : Open R) : Type 0 where
       from : ℕ
       to : ℕ
       pub moving : IsMoving items u w.log
+      pub number : moving.op ≡ k
       from_is : place_of c.names moving.source ≡ Some from
       to_is : place_of c.names moving.destination ≡ Some to
       src : e.op.src ≡ instance_node from
       dst : e.op.dst ≡ instance_node to
 
-    under_way : (k : ℕ) (e : Open R) (o : Option Operation) (events : List FullCell) → finite.get j.nodes.controller.operations k ≡ o → Sees f (place gm) (Some e) (but_shares o) events → takes_whole f.kind e.filter u ≡ true → IsUnderWay e
+    under_way : (k : ℕ) (e : Open R) (o : Option Operation) (events : List FullCell) → finite.get j.nodes.controller.operations k ≡ o → Sees f (place gm) (Some e) (but_shares o) events → takes_whole f.kind e.filter u ≡ true → IsUnderWay k e
     under_way k e (Some (Move m)) events there sees taken =
         let of = busy.plan_is k m there in
         let on = busy.open_busy k m there in
@@ -81,6 +82,7 @@ module _ {F R : Type 0} (f : Semantics R) (c : Config) (items : List Msg) (is : 
           from = m.plan.from;
           to = m.plan.to;
           moving = record { op = k; source = of.source; destination = of.destination; filter = m.plan.filter; keep = m.plan.keep; order = of.order_is; takes_it = takes_it; busy = on };
+          number = refl;
           from_is = of.from_is;
           to_is = of.to_is;
           src = ap (λ o. o.src) sees.op;
@@ -90,7 +92,7 @@ module _ {F R : Type 0} (f : Semantics R) (c : Config) (items : List Msg) (is : 
     under_way k e (Some (Copy y)) events there sees taken = absurd sees
     under_way k e (Some (Share s)) events there sees taken = absurd sees
 
-    pub open_at : (k : ℕ) (e : Open R) → find_op j.world.ops k ≡ Some e → takes_whole f.kind e.filter u ≡ true → IsUnderWay e
+    pub open_at : (k : ℕ) (e : Open R) → find_op j.world.ops k ≡ Some e → takes_whole f.kind e.filter u ≡ true → IsUnderWay k e
     open_at k e there taken = under_way k e (finite.get j.nodes.controller.operations k) (stored j.nodes.controller.store k) refl (subst (λ q. Sees f (place gm) q (but_shares (finite.get j.nodes.controller.operations k)) (stored j.nodes.controller.store k)) there (j.shown_is.controller.opens k).move) taken
 
 module _ {F R : Type 0} (f : Semantics R) (laws : FunctionLaws f) (c : Config) (items : List Msg) (is : IsInput f.kind c items) (n : ℕ) (count_is : n ≡ length c.names + 2) (w : Network (Node F R) Msg Note) (j : Joined f (given f c items is) n w) (apart : AllApart j.nodes.controller.operations) (b : Busy (given f c items is) w) (h : Installs (given f c items is) w) (busy : AreUnderWay f c items is n w j) (says : SaysOfShares f c items w.log) where

@@ -25,13 +25,14 @@ use Rattle.net_world.specs.Log.{arrived, done}
 use Rattle.net_world.specs.Nodes.{node_step}
 use Rattle.net_world.specs.Path.{under_way}
 use Rattle.net_world.specs.Places.{is_loose, owner, ArePlaces, AreAtMembers}
-use Rattle.net_world.specs.Records.{live_at, chunks_on_way, IsOfMove}
+use Rattle.net_world.specs.Records.{live_at}
 use Rattle.net_world.specs.Refused.{StaysAtSource}
 use Rattle.net_world.specs.Seen.{HasRecord}
 use Rattle.net_world.specs.Settles.{Settles}
 use Rattle.net_world.specs.Standby.{standby_at, StandsBy}
 use Rattle.net_world.specs.Verdicts.{IsVerdict, is_refusal, number_live}
 use Rattle.net_world.specs.Window.{Window}
+use Rattle.nf_net.specs.NumberedChunks.{numbered_on_way, IsOfItsMove}
 
 module _ {R : Type 0} (f : Semantics R) (config : Config) (items : List Msg) where
   -- what every run keeps
@@ -53,8 +54,9 @@ module _ {R : Type 0} (f : Semantics R) (config : Config) (items : List Msg) whe
     -- its way, or in both as long as its source is still to remove it; no other unit has any. For a shared unit the last packet may be lacking,
     -- as long as the home is to take the record of another member
     pub record_stands : (unit : units.Unit) → HasRecord (job_of f config items) w unit
-    -- and each chunk on its way is one of a unit that a move under way takes
-    pub chunks_moved : All (IsOfMove items w.log) (chunks_on_way w)
+    -- and each chunk on its way is one of a unit that its move takes: the one whose number its message bears, or for which the controller keeps
+    -- it, and that move is under way
+    pub chunks_moved : All (IsOfItsMove items w.log) (numbered_on_way w)
     -- no more packets are under way than the window says, and at their places, whichever instance is read last, there are as many as came and
     -- aren't processed
     pub window : Window config w

@@ -175,7 +175,7 @@ module _ {R : Type 0} (f : Semantics R) (g : Given) (z : Seeing) (es : List Open
   msg_spells s r m l = record { chunks = refl; given = refl; removed = refl }
 
   -- a message, as the unit sees it
-  abbrev MayBe : ℕ → Option (Any R) → Type 0
+  abbrev pub MayBe : ℕ → Option (Any R) → Type 0
   MayBe s None = Unit {0}
   MayBe s (Some (Old a)) = holding.Label (S f g) z s a
   MayBe s (Some (New a)) = Unit {0}
@@ -185,7 +185,7 @@ module _ {R : Type 0} (f : Semantics R) (g : Given) (z : Seeing) (es : List Open
   shown_read s (Some (Old a)) l = sym (seen_read s a l)
   shown_read s (Some (New a)) l = refl
 
-  first_of_link : (s : ℕ) (o : Option (Any R)) (ms : List (Any R)) → labels.Each (holding.Label (S f g) z s) (olds (cons_option o ms)) → MayBe s o × labels.Each (holding.Label (S f g) z s) (olds ms)
+  pub first_of_link : (s : ℕ) (o : Option (Any R)) (ms : List (Any R)) → labels.Each (holding.Label (S f g) z s) (olds (cons_option o ms)) → MayBe s o × labels.Each (holding.Label (S f g) z s) (olds ms)
   first_of_link s None ms h = (tt, h)
   first_of_link s (Some (Old a)) ms h = (h.0, h.1)
   first_of_link s (Some (New a)) ms h = (tt, h)

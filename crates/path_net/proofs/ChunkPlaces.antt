@@ -256,6 +256,10 @@ module _ {F R : Type 0} (f : Semantics R) (c : Config) (items : List Msg) (is : 
           let other : (e.op.num == op.num) ≡ false = grind (arith, nat_tests, same, off) in
           seen_kept k e (got k) refl (sees_at k (Some e) found) ∙ ap (as_spelled u) (none_kept f g (frame (S f g) z) e.phase (l.0.1 other).0)
 
+  -- so another operation keeps none of it
+  pub none_in_others : (k : ℕ) (o : Operation) → k ≢ op.num → got k ≡ Some o → spelled_of f u (kept_for o) ≡ []
+  none_in_others k o off there = subst (λ y. kept_at y ≡ []) there (other_kept k off)
+
   own_kept : kept_at (got op.num) ≡ as_spelled u (kept_records x.phase)
   own_kept = by_open (find_op j.world.ops op.num) refl
     where

@@ -72,18 +72,18 @@ module _ {V Y : Type 0} (of : ℕ → Option V → List Y) (none : (k : ℕ) →
   map_of m h = entries_of (finite.entries m) (entries_sorted m) (λ k off. ap (of k) (sym (get-entries m k)) ∙ h k off) ∙ ap (of op) (sym (get-entries m op))
 
 -- what holds of all that stands under each key holds of all
-module _ {V Y : Type 0} (P : Y → Type 0) (of : V → List Y) where
-  each_of : (es : List (ℕ × V)) → T (is_sorted nat_cmp es) → ((k : ℕ) (v : V) → find nat_cmp k es ≡ Some v → Each P (of v)) → Each P (all_of (λ e. of e.1) es)
+module _ {V Y : Type 0} (P : Y → Type 0) (of : ℕ → V → List Y) where
+  each_of : (es : List (ℕ × V)) → T (is_sorted nat_cmp es) → ((k : ℕ) (v : V) → find nat_cmp k es ≡ Some v → Each P (of k v)) → Each P (all_of (λ e. of e.0 e.1) es)
   each_of [] up h = tt
   each_of (e ∷ es) up h =
       let gone = absent e.0 es (and_yes (below_all nat_cmp e.0 es) (is_sorted nat_cmp es) up).0 in
       let own = h e.0 e.1 (ap (λ b. cond b (Some e.1) (find nat_cmp e.0 es)) (own_tie e.0)) in
-      each-append P (of e.1) (all_of (λ x. of x.1) es) own (each_of es (and_yes (below_all nat_cmp e.0 es) (is_sorted nat_cmp es) up).1 (λ k v there. h k v (elim (eqb k e.0) as (λ b. eqb k e.0 ≡ b → find nat_cmp k (e ∷ es) ≡ Some v) [
+      each-append P (of e.0 e.1) (all_of (λ x. of x.0 x.1) es) own (each_of es (and_yes (below_all nat_cmp e.0 es) (is_sorted nat_cmp es) up).1 (λ k v there. h k v (elim (eqb k e.0) as (λ b. eqb k e.0 ≡ b → find nat_cmp k (e ∷ es) ≡ Some v) [
         | true ↦ λ is. (let never : None ≡ Some v = sym gone ∙ ap (λ q. find nat_cmp q es) (sym (eqb-true k e.0 is)) ∙ there in cc)
         | false ↦ λ is. ap (λ b. cond b (Some e.1) (find nat_cmp k es)) (order_test k e.0 ∙ is) ∙ there
       ] refl)))
 
-  pub each_entry : (m : finite.FinMap nat_cmp V) → ((k : ℕ) (v : V) → finite.get m k ≡ Some v → Each P (of v)) → Each P (all_of (λ e. of e.1) (finite.entries m))
+  pub each_entry : (m : finite.FinMap nat_cmp V) → ((k : ℕ) (v : V) → finite.get m k ≡ Some v → Each P (of k v)) → Each P (all_of (λ e. of e.0 e.1) (finite.entries m))
   each_entry m h = each_of (finite.entries m) (entries_sorted m) (λ k v there. h k v (get-entries m k ∙ there))
 
 pub store_of : (of : ℕ → List FullCell → List ℕ) → ((k : ℕ) → of k [] ≡ []) → (op : ℕ) (store : finite.FinMap nat_cmp (List FullCell)) → ((k : ℕ) → k ≢ op → of k (stored store k) ≡ []) → all_of (λ e. of e.0 e.1) (finite.entries store) ≡ of op (stored store op)
