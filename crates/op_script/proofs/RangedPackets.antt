@@ -43,7 +43,8 @@ mapped_flow site p = record (inward p) { local = owner_of_port site p.dport }
 abbrev is_from_outside : Site → Packet → Bool
 is_from_outside site p = not (is_inside site p.src) && not (is_inside site p.dst)
 
-mapped_fits : (site : Site) (p : Packet) → site.inside.bits < 2 ^ 32 → IsInRange p → (is_from_outside site p && is_mapped site p) ≡ true → IsFlow (mapped_flow site p)
+mapped_fits : (site : Site) (p : Packet) → site.inside.bits < 2 ^ 32 → IsInRange p → (is_from_outside site p && is_mapped site p) ≡ true
+    → IsFlow (mapped_flow site p)
 mapped_fits site p inside ranges mapped =
     let here = (and_parts (is_from_outside site p) (is_mapped site p) mapped).1 in
     let is_len : site.inside.len ≡ 24 = is_24 site.outside p.dst site.inside.len (leb 1024 p.dport) _ site.translates here in

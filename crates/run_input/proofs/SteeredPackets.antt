@@ -8,7 +8,8 @@ use Rattle.op_script.specs.PacketItems.{IsInRange}
 use Rattle.op_script.proofs.RangedPackets.{fits_site, flow_fits}
 use Rattle.net_world.specs.Input.{IsSteered}
 
-pub are_steered : (site : Site) (ps : List Packet) → site.inside.bits < 2 ^ 32 → All (λ (p : Packet). is_transport p.proto ≡ true) ps → All IsInRange ps → All (IsSteered site) ps
+pub are_steered : (site : Site) (ps : List Packet) → site.inside.bits < 2 ^ 32
+    → All (λ (p : Packet). is_transport p.proto ≡ true) ps → All IsInRange ps → All (IsSteered site) ps
 are_steered site ps inside transport ranges i d below = record {
   fits = fits_site site _ inside (transport i d below) (ranges i d below);
   flow = flow_fits site _ inside (ranges i d below);

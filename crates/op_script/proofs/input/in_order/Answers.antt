@@ -17,6 +17,7 @@ returns c = let ran = c.in_ok-found.ensures.ran in
     let lines : map (λ line. line.now) c.in_ok-found.found.items ≡ c.args.lines.now =
     ap (map (λ line. line.now)) ran.2.0 ∙ items_from_drains ran.0 ran.1 (YieldsList-from_slice c.args.lines.now c.iter.ensures.rest) in
     subst (AreLinesFrom 0 (map (λ line. line.now) c.sort_by_key.new.self.items)) lines
-    (sorted_ahead (λ line. line.now) c.in_ok-found.found.items c.sort_by_key.new.self.items (λ point below. record { ref_ptr = (0, 0); now = settle point below }) (λ point below. refl)
+    (sorted_ahead (λ line. line.now) c.in_ok-found.found.items c.sort_by_key.new.self.items
+    (λ point below. record { ref_ptr = (0, 0); now = settle point below }) (λ point below. refl)
     (IsNonDecreasingBy-from_sort_by_key (λ line. line.now.at) _ c.in_ok-sort_by_key.ensures.sorted (λ a r q k. search rules))
     (c.in_ok-sort_by_key.ensures.stable (λ line. line.now.at) (answers_always _ _ _ (λ q a r next k. search rules))))

@@ -14,4 +14,5 @@ returns-clause-ok c =
     let is = c.self.view_is in
     let seen : packets_of c.self.inside.items.items ≡ c.args.self.now = cc in
     more_packets c.self.inside.items.items c.push.new.self.items c.args.packet.now c.self.invariant.packets
-    (c.in_ok-push.ensures.items ∙ ap (λ p. c.self.inside.items.items ++ InPacket p ∷ []) c.in_ok-captured.ensures.same) ∙ ap (λ l. l ++ c.args.packet.now ∷ []) seen
+    (c.in_ok-push.ensures.items ∙ ap (λ p. c.self.inside.items.items ++ InPacket p ∷ []) c.in_ok-captured.ensures.same)
+    ∙ ap (λ l. l ++ c.args.packet.now ∷ []) seen
