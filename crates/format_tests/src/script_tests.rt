@@ -1,9 +1,12 @@
 //! Tests of `op_script`: scripts that are read, printed, and laid between packets; and instances, packets and what is shown of them for other tests.
 ghost use Rattle.std.specs.Prelude.{◌≡◌, true, vec_len, All, IfOk};
+ghost use Rattle.std.specs.Option.{ForSome};
+ghost use Rattle.flow_filter.specs.Filter.{IsFilter};
 ghost use Rattle.nf_function.specs.Units.{is_transport};
 ghost use Rattle.trace_reader.specs.Records.{AreNumbered};
+ghost use Rattle.op_script.specs.LineFilters.{what_filter};
 
-use flow_filter::{CapturedPacket, Name, Packet};
+use flow_filter::{Name, Packet};
 use nf_function::Kind;
 use nf_msgs::{Command, Msg, Order};
 use op_script::{
@@ -113,7 +116,9 @@ fn lines_in_any_order_stand_after_their_packets(rt: HostRuntime) -> Result<(), F
 }
 
 /// A settle where the number is 0, and else a copy with this number.
-fn what_of(alloc: Global, op: u32) -> Result<What, Fail> {
+fn what_of(alloc: Global, op: u32) -> Result<What, Fail>
+    ensures { IfOk result (λ what. ForSome (what_filter what) IsFilter) }
+{
     if op == 0 {
         return Ok(What::Settle);
     }
@@ -153,8 +158,8 @@ pub(crate) fn two_packets(alloc: Global) -> Result<PacketItems, Fail>
     ensures steered { IfOk result (All (λ packet. is_transport packet.proto ≡ true)) }
 {
     let mut trace = PacketItems::open(alloc);
-    trace.push(CapturedPacket::of(alloc, &packet(1))?)?;
-    trace.push(CapturedPacket::of(alloc, &packet(2))?)?;
+    trace.push(alloc, &packet(1))?;
+    trace.push(alloc, &packet(2))?;
     Ok(trace)
 }
 

@@ -2,8 +2,10 @@ pub mod WrittenTexts
 pub mod JudgedLemmas
 pub mod ScriptLineLemmas
 pub mod StatementLemmas
+pub mod OneMore
 pub mod PacketLists
 pub mod ParsedScripts
+pub mod RangedPackets
 pub mod ItemsSoFar
 pub mod PrintableWords
 pub mod FilterWordLemmas

@@ -1,9 +1,9 @@
 -- Lines in the order of their points: what they say at a point stands first, and what stands after it is in order again.
-use Rattle.std.proofs.Common.{◌≡◌, ◌∙◌, ℕ, suc, ◌+◌, ◌*◌, ◌^◌, ◌<◌, ◌≤◌, Bool, true, false, cond, eqb, List, [], ◌∷◌, map, filter, length, get_or, take, drop, ap, sym, refl, subst, inl, inr, arith, eqb-true}
+use Rattle.std.proofs.Common.{◌≡◌, ◌∙◌, ℕ, suc, ◌+◌, ◌*◌, ◌^◌, ◌<◌, ◌≤◌, Bool, true, false, cond, eqb, List, [], ◌∷◌, map, filter, length, get_or, take, drop, ap, sym, refl, subst, inl, inr, arith, eqb-true, leb}
 use Rattle.std.specs.List.{prefix_len, take-map, drop-map}
 use Rattle.std.specs.List.Sorted.{IsNonDecreasingBy, IsStableByKey, ties}
 use Rattle.std.specs.Ordering.{nat_cmp, is_lt}
-use Rattle.std.proofs.lemmas.Bool.{cases_Bool}
+use Rattle.std.proofs.lemmas.Bool.{cases_Bool, leb-true}
 use Rattle.std.proofs.lemmas.Bool.Decides.{nat_tests}
 use Rattle.std.proofs.lemmas.List.Sorted.{IsNonDecreasingBy-drop}
 use Rattle.std.proofs.lemmas.Simd.{map-map}
@@ -119,11 +119,28 @@ said_by_ties : {X : Type 0} (line : X → Line) (x : X) (xs : List X)
 said_by_ties line x [] = refl
 said_by_ties line x (y ∷ more) = keep_both line _ _ y _ _ (tied line x y) (said_by_ties line x more)
 
+-- no line stands at a point that its number can't name
+none_far : (point : ℕ) → 2 ^ 32 ≤ point → (lines : List Line) → said_at point lines ≡ []
+none_far point far [] = refl
+none_far point far (line ∷ more) =
+    let small : line.at < 2 ^ 32 = line.at_in_range in
+    let other : eqb line.at point ≡ false = grind (arith, nat_tests, far, small) in
+    said_later point line more other ∙ none_far point far more
+
 -- a stable sort by the points
-pub sorted_ahead : {X : Type 0} (line : X → Line) (xs ys : List X) (one : ℕ → X) → ((point : ℕ) → (line (one point)).at ≡ point)
+pub sorted_ahead : {X : Type 0} (line : X → Line) (xs ys : List X) (one : (point : ℕ) → point < 2 ^ 32 → X)
+    → ((point : ℕ) (below : point < 2 ^ 32) → (line (one point below)).at ≡ point)
     → IsNonDecreasingBy (λ x. (line x).at) ys → IsStableByKey (λ x. (line x).at) nat_cmp xs ys → AreLinesFrom 0 (map line ys) (map line xs)
 sorted_ahead line xs ys one at rising stable = record {
   order = in_order_from line 0 ys rising (λ d some. omega arith);
-  same = λ point far. subst (λ at. said_at at (map line ys) ≡ said_at at (map line xs)) (at point)
-      (said_by_ties line (one point) ys ∙ ap (map (λ y. msg_of (line y).what)) (stable (one point)) ∙ sym (said_by_ties line (one point) xs));
+  same = λ point _. elim (cases_Bool (leb (2 ^ 32) point)) [
+    | inl is ↦
+        let far : 2 ^ 32 ≤ point = leb-true (2 ^ 32) point is in
+        none_far point far (map line ys) ∙ sym (none_far point far (map line xs))
+    | inr is ↦
+        let below : point < 2 ^ 32 = grind (arith, nat_tests, is) in
+        subst (λ at. said_at at (map line ys) ≡ said_at at (map line xs)) (at point below)
+            (said_by_ties line (one point below) ys ∙ ap (map (λ y. msg_of (line y).what)) (stable (one point below))
+            ∙ sym (said_by_ties line (one point below) xs))
+  ];
 }

@@ -1,7 +1,7 @@
 -- Items that are the packets of a list: their packets are the list, and one packet more stands after them.
 use Rattle.std.proofs.Common.{◌≡◌, ◌∙◌, ℕ, ◌+◌, ◌<◌, Bool, true, false, eqb, leb, List, [], ◌∷◌, ◌++◌, map, length, refl, ap, sym, subst, arith}
 use Rattle.std.specs.List.{list_all}
-use Rattle.std.specs.Prelude.{◌&&◌}
+use Rattle.std.specs.Prelude.{◌&&◌, All}
 use Rattle.std.proofs.lemmas.Bool.Decides.{nat_tests}
 use Rattle.std.proofs.lemmas.List.{length-map, map-append}
 use Rattle.flow_filter.specs.declared.packet.Packet.{Packet}
@@ -9,7 +9,8 @@ use Rattle.nf_msgs.specs.declared.msg.Msg.{Msg}
 use Rattle.nf_msgs.specs.declared.msg.Msg.TheVariants.{InPacket}
 use Rattle.op_script.specs.declared.script.Line.{Line}
 use Rattle.op_script.specs.Items.{said_where, items_from}
-use Rattle.op_script.specs.PacketItems.{packets_of}
+use Rattle.op_script.specs.PacketItems.{ArePackets, IsInRange, packets_of}
+use Rattle.op_script.proofs.OneMore.{one_more}
 
 pub packets_of-map : (ps : List Packet) → packets_of (map InPacket ps) ≡ ps
 packets_of-map [] = refl
@@ -23,9 +24,16 @@ pub more_packets : (items after : List Msg) (p : Packet) → items ≡ map InPac
     → packets_of after ≡ packets_of items ++ p ∷ []
 more_packets items after p are is = ap packets_of (more_items items after (packets_of items) p are is) ∙ packets_of-map (packets_of items ++ p ∷ [])
 
-pub still_items : (items after : List Msg) (p : Packet) → items ≡ map InPacket (packets_of items) → after ≡ items ++ InPacket p ∷ []
+still_items : (items after : List Msg) (p : Packet) → items ≡ map InPacket (packets_of items) → after ≡ items ++ InPacket p ∷ []
     → after ≡ map InPacket (packets_of after)
 still_items items after p are is = more_items items after (packets_of items) p are is ∙ ap (map InPacket) (sym (more_packets items after p are is))
+
+-- and still they are packets in range
+pub still_packets : (items after : List Msg) (p : Packet) → ArePackets items → after ≡ items ++ InPacket p ∷ [] → IsInRange p → ArePackets after
+still_packets items after p are is here = record {
+  packets = still_items items after p are.packets is;
+  in_range = one_more IsInRange (packets_of items) (packets_of after) p (more_packets items after p are.packets is) are.in_range here;
+}
 
 -- no line stands at a point before all of them
 none_at : (k n : ℕ) (lines : List Line) → k < n → list_all (λ (line : Line). leb n line.at) lines ≡ true → said_where (λ at. eqb at k) lines ≡ []

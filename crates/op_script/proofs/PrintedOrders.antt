@@ -2,6 +2,7 @@
 use Rattle.std.proofs.Common.{◌≡◌, ℕ, ◌<◌, ◌≤◌, ◌^◌, Bool, true, false, not, cond, eqb, leb, ◌&&◌, List, [], ◌∷◌, ◌++◌, length, None, Some, is_some, option_map, Ok, refl, ap, sym, ◌∙◌, arith}
 use Rattle.std.specs.Prelude.{codes}
 use Rattle.std.specs.List.{AllByRecursion, slice_split, join_with_byte, list_all}
+use Rattle.std.specs.Option.{ForSome}
 use Rattle.std.specs.Str.{bytes_eq}
 use Rattle.std.specs.Fmt.{decimal}
 use Rattle.std.proofs.lemmas.Bool.{ne_eqb, and_parts, not-false}
@@ -20,7 +21,8 @@ use Rattle.nf_msgs.specs.declared.command.Order.TheVariants.{Move, Copy, Share}
 use Rattle.op_script.specs.declared.fault.ScriptKind.TheVariants as bad
 use Rattle.op_script.specs.Statements.{Word, Event, Moving, Copying, Sharing, Happening, statement_of}
 use Rattle.op_script.specs.Reading.{unless, ends_of, members_of, filter_of, order_said, order_view}
-use Rattle.op_script.specs.Printing.{order_words, IsOrder, order_splits, OrderFits}
+use Rattle.op_script.specs.LineFilters.{order_filter}
+use Rattle.op_script.specs.Printing.{order_words, IsOrder, order_splits}
 use Rattle.op_script.proofs.JudgedLemmas.{unless_Ok}
 use Rattle.op_script.proofs.PrintableWords.{IsWord, Within-literal, name_word}
 use Rattle.op_script.proofs.FilterWordLemmas.{filter_word, join_word}
@@ -80,27 +82,27 @@ members_again (first ∷ next ∷ more) two are once =
     names_words (name ∷ more) are = let p = and_parts (is_name name) (list_all is_name more) are in (name_word name p.0, names_words more p.1)
 
 -- the words of an order are its event's statement
-pub order_statement : (at : ℕ) (o : Order) → at < 2 ^ 32 → IsOrder (order_view o) → OrderFits o → statement_of (codes "at" ∷ decimal at ∷ order_words o) ≡ Some (Happening at (event_in o))
+pub order_statement : (at : ℕ) (o : Order) → at < 2 ^ 32 → IsOrder (order_view o) → ForSome (order_filter o) IsFilter → statement_of (codes "at" ∷ decimal at ∷ order_words o) ≡ Some (Happening at (event_in o))
 order_statement at (Move source destination filter keep) small is fits = at_statement at (codes "move") _ _ small (move_event source destination (print filter) keep)
 order_statement at (Copy source destination None) small is fits = at_statement at (codes "copy") _ _ small (copy_event source destination (codes "all"))
 order_statement at (Copy source destination (Some filter)) small is fits =
-    let other = not_all (print filter) (fields_of filter) (bytes_eq (print filter) (codes "all")) refl (parse-print filter fits is.1) in
+    let other = not_all (print filter) (fields_of filter) (bytes_eq (print filter) (codes "all")) refl (parse-print filter (fits filter refl) is.1) in
     at_statement at (codes "copy") _ _ small (copy_event source destination (print filter) ∙ ap (λ (test : Bool). Some (Copying source destination (cond test None (Some (print filter))))) other)
 order_statement at (Share members filter) small is fits = at_statement at (codes "share") _ _ small (share_event (join_with_byte 44 members) (print filter) (members_again members is.0 is.1 is.2).1)
 
 -- the event of an order gives the order
-pub order_again : (kind : Kind) (o : Order) → IsOrder (order_view o) → OrderFits o → order_splits kind (order_view o) ≡ false → order_said kind (event_in o) ≡ Ok (Some (order_view o))
+pub order_again : (kind : Kind) (o : Order) → IsOrder (order_view o) → ForSome (order_filter o) IsFilter → order_splits kind (order_view o) ≡ false → order_said kind (event_in o) ≡ Ok (Some (order_view o))
 unfolding order_said
-order_again kind (Move source destination filter keep) is fits whole = rw (is.0, filter_again kind filter fits is.1 whole) refl
+order_again kind (Move source destination filter keep) is fits whole = rw (is.0, filter_again kind filter (fits filter refl) is.1 whole) refl
 order_again kind (Copy source destination None) is fits whole = let ends = is.0 in rw ends refl
-order_again kind (Copy source destination (Some filter)) is fits whole = rw (is.0, filter_again kind filter fits is.1 whole) refl
-order_again kind (Share members filter) is fits whole = rw ((members_again members is.0 is.1 is.2).0, filter_again kind filter fits is.3 whole) refl
+order_again kind (Copy source destination (Some filter)) is fits whole = rw (is.0, filter_again kind filter (fits filter refl) is.1 whole) refl
+order_again kind (Share members filter) is fits whole = rw ((members_again members is.0 is.1 is.2).0, filter_again kind filter (fits filter refl) is.3 whole) refl
 
 -- the words of an order are words
-pub order_words_are : (o : Order) → IsOrder (order_view o) → OrderFits o → AllByRecursion IsWord (order_words o)
+pub order_words_are : (o : Order) → IsOrder (order_view o) → ForSome (order_filter o) IsFilter → AllByRecursion IsWord (order_words o)
 order_words_are (Move source destination filter keep) is fits =
     let names = ends_names source destination (source, destination) is.0 in
-    (record { some = omega arith; seen = Within-literal 33 127 (codes "move") refl }, (name_word source names.0, (name_word destination names.1, (filter_word filter fits, (how_word keep, tt)))))
+    (record { some = omega arith; seen = Within-literal 33 127 (codes "move") refl }, (name_word source names.0, (name_word destination names.1, (filter_word filter (fits filter refl), (how_word keep, tt)))))
   where
     how_word : (keep : Bool) → IsWord (cond keep (codes "order") (codes "lossfree"))
     how_word true = record { some = omega arith; seen = Within-literal 33 127 (codes "order") refl }
@@ -118,13 +120,13 @@ order_words_are (Copy source destination None) is fits =
     )
 order_words_are (Copy source destination (Some filter)) is fits =
     let names = ends_names source destination (source, destination) is.0 in
-    (record { some = omega arith; seen = Within-literal 33 127 (codes "copy") refl }, (name_word source names.0, (name_word destination names.1, (filter_word filter fits, tt))))
+    (record { some = omega arith; seen = Within-literal 33 127 (codes "copy") refl }, (name_word source names.0, (name_word destination names.1, (filter_word filter (fits filter refl), tt))))
 order_words_are (Share members filter) is fits = (
   record { some = omega arith; seen = Within-literal 33 127 (codes "share") refl },
   (
     (members_again members is.0 is.1 is.2).2,
     (
-      filter_word filter fits,
+      filter_word filter (fits filter refl),
       (record { some = omega arith; seen = Within-literal 33 127 (codes "strict") refl }, tt),
     ),
   ),

@@ -4,7 +4,6 @@ use Rattle.std.specs.Prelude.{◌≡◌, ℕ, ◌+◌, ◌<◌, ◌≤◌, ◌^�
 use Rattle.std.specs.List.{AllByRecursion, concat, join_with_byte, list_all, slice_index_or}
 use Rattle.std.specs.Fmt.{decimal}
 use Rattle.flow_filter.specs.declared.filter.Filter.{Filter}
-use Rattle.flow_filter.specs.Filter.{IsFilter}
 use Rattle.flow_filter.specs.Name.{has_twice, is_name}
 use Rattle.flow_filter.specs.FilterText.{Fields, print, is_transport}
 use Rattle.nf_function.specs.declared.kind.Kind.{Kind}
@@ -119,21 +118,3 @@ what_splits kind (Some command) = order_splits kind command.1
 pub record SplitsNone (kind : Kind) (script : ScriptView) : Type 0 where
   pub routes : AllByRecursion (λ route. splits kind route.0 ≡ false) script.0
   pub lines : AllByRecursion (λ line. what_splits kind line.what ≡ false) script.1
-
-abbrev pub CopiedFits : Option Filter → Type 0
-CopiedFits None = Unit {0}
-CopiedFits (Some filter) = IsFilter filter
-
--- the numbers of a filter that an order gives are within their types
-abbrev pub OrderFits : Order → Type 0
-OrderFits (Move source destination filter keep) = IsFilter filter
-OrderFits (Copy source destination filter) = CopiedFits filter
-OrderFits (Share members filter) = IsFilter filter
-
-abbrev pub WhatFits : What → Type 0
-WhatFits (Command command) = OrderFits command.what
-WhatFits Settle = Unit {0}
-
--- the numbers of a line are within their types
-abbrev pub LineFits : Line → Type 0
-LineFits line = (line.at < 2 ^ 32) × WhatFits line.what

@@ -1,7 +1,8 @@
 //! The input of a run: packets and the lines of a script, each line at its point.
-ghost use Rattle.std.specs.Prelude.{◌≡◌, ◌≤◌, [], ◌++◌, ◌==◌, nat_le, length, map, IfOk, OnOk};
+ghost use Rattle.std.specs.Prelude.{◌≡◌, ◌<◌, ◌≤◌, ◌^◌, [], ◌++◌, ◌==◌, nat_le, length, map, All, IfOk, OnOk};
 ghost use Rattle.std.specs.List.{list_all, prefix_len};
 ghost use Rattle.op_script.specs.Items.{msg_of, said_where, items_from, AreLinesFrom, items};
+ghost use Rattle.op_script.specs.PacketItems.{IsInRange};
 
 use crate::packet_items::PacketItems;
 use crate::script::{Line, Script, What};
@@ -13,7 +14,10 @@ use std::collections::VecDeque;
 /// The input of a run: the packets in order, and each line of the script after the packet that it names, or after
 /// the last of a shorter trace; and then the end.
 pub fn items(alloc: Global, packets: PacketItems, script: &Script) -> Result<Vec<Msg>, NoMemory>
-    ensures { IfOk result (λ found. found.items ≡ items packets script.now.lines.items) }
+    ensures items { IfOk result (λ found. found.items ≡ items packets script.now.lines.items) }
+    // As many packets as memory holds.
+    ensures few { length packets < 2 ^ 64 }
+    ensures in_range { All IsInRange packets }
 {
     let lines = script.lines.as_slice();
     let count = packets.items().len() as u64;

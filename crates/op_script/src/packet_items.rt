@@ -1,8 +1,9 @@
-ghost use Rattle.std.specs.Prelude.{◌≡◌, [], ◌∷◌, ◌++◌, OnOk, OnErr, map};
+ghost use Rattle.std.specs.Prelude.{◌≡◌, [], ◌∷◌, ◌++◌, All, IfOk, OnOk, OnErr, map};
 ghost use Rattle.nf_msgs.specs.declared.msg.Msg.TheVariants.{InPacket};
+ghost use Rattle.op_script.specs.PacketItems.{IsInRange};
 
 use basics::NoMemory;
-use flow_filter::CapturedPacket;
+use flow_filter::{CapturedPacket, Packet};
 use nf_msgs::Msg;
 use std::alloc::Global;
 use std::marker::Model;
@@ -14,16 +15,15 @@ pub struct PacketItems {
 }
 
 impl Model for PacketItems {
-    ghost use Rattle.std.specs.Prelude.{◌≡◌, List, map};
+    ghost use Rattle.std.specs.Prelude.{List};
     ghost use Rattle.flow_filter.specs.declared.packet.Packet.{Packet as ThePacket};
-    ghost use Rattle.nf_msgs.specs.declared.msg.Msg.TheVariants.{InPacket};
-    ghost use Rattle.op_script.specs.PacketItems.{packets_of};
+    ghost use Rattle.op_script.specs.PacketItems.{ArePackets, packets_of};
 
     ghost Value = { List ThePacket };
 
     ghost view = { λ p. packets_of p.items.items };
 
-    ghost invariant = { λ p. p.items.items ≡ map InPacket (packets_of p.items.items) };
+    ghost invariant = { λ p. ArePackets p.items.items };
 }
 
 impl PacketItems {
@@ -38,17 +38,19 @@ impl PacketItems {
 
     /// Puts a packet after the others.
     #[inline(always)]
-    pub fn push(&mut self, packet: CapturedPacket) -> Result<(), NoMemory>
-        ensures ok { OnOk result (self.new ≡ self.old ++ packet ∷ []) }
+    pub fn push(&mut self, alloc: Global, packet: &Packet) -> Result<(), NoMemory>
+        ensures ok { OnOk result (self.new ≡ self.old ++ packet.now ∷ []) }
         ensures err { OnErr result (self.new ≡ self.old) }
     {
-        self.items.push(Msg::InPacket(packet))?;
+        let captured = captured(alloc, packet)?;
+        self.items.push(Msg::InPacket(captured))?;
         Ok(())
     }
 
     /// The items, as a slice.
     pub fn items(&self) -> &[Msg]
-        ensures { result.now ≡ map InPacket self.now }
+        ensures items { result.now ≡ map InPacket self.now }
+        ensures in_range { All IsInRange self.now }
     {
         self.items.as_slice()
     }
@@ -59,4 +61,23 @@ impl PacketItems {
     {
         self.items
     }
+}
+
+/// The packet as it is to wait. Its numbers are read once, so that it is known that they are in the ranges of their types.
+#[inline(always)]
+pub fn captured(alloc: Global, packet: &Packet) -> Result<CapturedPacket, NoMemory>
+    ensures same { IfOk result (λ captured. captured ≡ packet.now) }
+    ensures in_range { IsInRange packet.now }
+{
+    let Packet {
+        nanos: _nanos,
+        length: _length,
+        src: _src,
+        sport: _sport,
+        dst: _dst,
+        dport: _dport,
+        proto: _proto,
+        ..
+    } = *packet;
+    CapturedPacket::of(alloc, packet)
 }

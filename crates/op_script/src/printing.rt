@@ -1,12 +1,11 @@
 //! Scripts as texts: each route and each line as it would be written.
 ghost use Rattle.std.specs.Prelude.{false, ◌≡◌, ◌++◌, ◌∷◌, ◌≤◌, [], Ok, IfOk, OnOk, length, option_map, true, codes, if◌then◌else◌};
-ghost use Rattle.std.specs.List.{join_with_byte, list_all};
+ghost use Rattle.std.specs.List.{join_with_byte, slice_index_or};
 ghost use Rattle.flow_filter.specs.FilterText.{after_commas, fields_of, is_printable, print};
-ghost use Rattle.flow_filter.specs.Filter.{IsFilter};
 ghost use Rattle.flow_filter.specs.Name.{has_twice, is_name};
 ghost use Rattle.nf_function.specs.declared.kind.Kind.{Kind};
 ghost use Rattle.op_script.specs.Reading.{script_of, script_view, route_view, line_view, order_view, longest_script};
-ghost use Rattle.op_script.specs.Printing.{route_words, order_words, line_words, copied, line_text, script_text, is_writable, IsRoute, IsOrder, IsLine, IsScript, SplitsNone, CopiedFits, OrderFits, LineFits};
+ghost use Rattle.op_script.specs.Printing.{route_words, order_words, line_words, copied, line_text, script_text, is_writable, IsRoute, IsOrder, IsLine, IsScript, SplitsNone};
 ghost use Rattle.basics.specs.Bytes.{line_feed, space, comma};
 
 use crate::script::{Line, Script, What};
@@ -25,7 +24,6 @@ pub fn print_script(alloc: Global, script: &Script, names: &[Name]) -> Result<Te
     ensures again { IfOk result (λ text. (kind : Kind) → has_twice names.now ≡ false
         → SplitsNone kind (script_view script.now) → length text ≤ longest_script → script_of kind names.now text ≡ Ok (script_view script.now)) }
 {
-    all_are_names(names);
     let mut out = Text::open(alloc);
     for route in script.routes.as_slice() {
         print_route(&mut out, names, route)?;
@@ -36,20 +34,11 @@ pub fn print_script(alloc: Global, script: &Script, names: &[Name]) -> Result<Te
     Ok(out)
 }
 
-/// Each of the names is one, as every value of its type.
-fn all_are_names(names: &[Name])
-    ensures { list_all is_name names.now ≡ true }
-{
-    for name in names {
-        let _bytes = name.items();
-    }
-}
-
 /// Appends the line of an initial rule.
 fn print_route(out: &mut Text, names: &[Name], route: &(Filter, u8)) -> Result<(), NoMemory>
     requires { IsRoute names.now (route_view route.now) }
     ensures text { OnOk result (out.new ≡ out.old ++ line_text (route_words names.now route.now)) }
-    ensures fits { OnOk result (IsFilter route.now.0) }
+    ensures name { OnOk result (is_name (slice_index_or names.now route.now.1 []) ≡ true) }
 {
     let (filter, place) = route;
     out.push_bytes(b"route ")?;
@@ -62,8 +51,7 @@ fn print_route(out: &mut Text, names: &[Name], route: &(Filter, u8)) -> Result<(
 /// Appends an `at` line.
 fn print_line(out: &mut Text, line: &Line) -> Result<(), NoMemory>
     requires { IsLine (line_view line.now) }
-    ensures text { OnOk result (out.new ≡ out.old ++ line_text (line_words line.now)) }
-    ensures fits { OnOk result (LineFits line.now) }
+    ensures { OnOk result (out.new ≡ out.old ++ line_text (line_words line.now)) }
 {
     out.push_bytes(b"at ")?;
     out.push_decimal(u64::from(line.at))?;
@@ -76,8 +64,7 @@ fn print_line(out: &mut Text, line: &Line) -> Result<(), NoMemory>
 /// Appends the text of a filter.
 fn print_filter(out: &mut Text, filter: Filter) -> Result<(), NoMemory>
     requires { is_printable filter ≡ true }
-    ensures text { OnOk result (out.new ≡ out.old ++ print filter) }
-    ensures fits { IsFilter filter }
+    ensures { OnOk result (out.new ≡ out.old ++ print filter) }
 {
     filter.print_to(out)
 }
@@ -85,8 +72,7 @@ fn print_filter(out: &mut Text, filter: Filter) -> Result<(), NoMemory>
 /// Appends the words of an order after a space, and the line's end.
 fn print_order(out: &mut Text, order: &Order) -> Result<(), NoMemory>
     requires { IsOrder (order_view order.now) }
-    ensures text { OnOk result (out.new ≡ out.old ++ space ∷ line_text (order_words order.now)) }
-    ensures fits { OnOk result (OrderFits order.now) }
+    ensures { OnOk result (out.new ≡ out.old ++ space ∷ line_text (order_words order.now)) }
 {
     match order {
         Order::Move {
@@ -168,8 +154,7 @@ fn print_how(out: &mut Text, keep: bool) -> Result<(), NoMemory>
 /// Appends the filter of a copy, or `all`, and the line's end.
 fn print_copied(out: &mut Text, filter: Option<Filter>) -> Result<(), NoMemory>
     requires { is_writable (option_map fields_of filter) ≡ true }
-    ensures text { OnOk result (out.new ≡ out.old ++ (copied filter ++ line_feed ∷ [])) }
-    ensures fits { OnOk result (CopiedFits filter) }
+    ensures { OnOk result (out.new ≡ out.old ++ (copied filter ++ line_feed ∷ [])) }
 {
     match filter {
         Some(filter) => {

@@ -14,12 +14,13 @@ pub struct Reader {
 }
 
 impl Model for Reader {
-    ghost use Rattle.std.specs.Prelude.{◌≡◌, map};
+    ghost use Rattle.std.specs.Prelude.{◌≡◌, All, map};
+    ghost use Rattle.flow_filter.specs.Filter.{IsFilter};
     ghost use Rattle.op_script.specs.Reading.{State, command_count, line_view, route_view};
 
     ghost Value = { State };
 
     ghost view = { λ r. record { routes = map route_view r.routes.items; lines = map line_view r.lines.items; last = r.last } };
 
-    ghost invariant = { λ r. r.commands ≡ command_count (map line_view r.lines.items) };
+    ghost invariant = { λ r. (r.commands ≡ command_count (map line_view r.lines.items)) × All (λ route. IsFilter route.0) r.routes.items };
 }

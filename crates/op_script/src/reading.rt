@@ -1,13 +1,16 @@
 //! How a script is read, line by line: its routes, its commands with their numbers, and the first fault.
-ghost use Rattle.std.specs.Prelude.{◌≡◌, ◌≤◌, ◌==◌, ◌<◌, ◌^◌, map, length, IfOk, Some, None, option_map, if◌then◌else◌};
+ghost use Rattle.std.specs.Prelude.{◌≡◌, ◌≤◌, ◌==◌, ◌<◌, ◌^◌, map, length, IfOk, Ok, Some, None, option_map, if◌then◌else◌};
 ghost use Rattle.std.specs.List.{slice_split, list_all};
+ghost use Rattle.std.specs.Option.{ForSome};
 ghost use Rattle.std.specs.Str.{is_utf8};
 ghost use Rattle.std.specs.Str.Lines.{strip_carriage_return};
+ghost use Rattle.flow_filter.specs.Filter.{IsFilter};
 ghost use Rattle.flow_filter.specs.Name.{is_name};
 ghost use Rattle.flow_filter.specs.FilterText.{fields_of};
 ghost use Rattle.op_script.specs.StatementViews.{event_view, statement_view};
+ghost use Rattle.op_script.specs.LineFilters.{said_filter, what_filter};
 ghost use Rattle.op_script.specs.Printing.{IsScript, SplitsNone};
-ghost use Rattle.op_script.specs.Reading.{ends_of, members_of, filter_of, filter_or_all, order_said, with_route, with_line, numbered_after, is_command, line_view, what_view, with_event, with_statement, with_text, script_of, script_view, order_view, with_lines, start, Says, SaysWhole, Numbered, longest_script};
+ghost use Rattle.op_script.specs.Reading.{ends_of, members_of, filter_of, filter_or_all, order_said, with_route, with_line, numbered_after, is_command, line_view, what_view, with_event, with_statement, with_text, whole, script_of, script_view, order_view, with_lines, start, Says, SaysWhole, Numbered, longest_script};
 ghost use Rattle.basics.specs.Bytes.{line_feed, comma};
 ghost use Rattle.flow_filter.specs.Limits.{most_lines};
 
@@ -174,11 +177,20 @@ fn with_route(
 /// The filter that the text spells, where it splits no unit.
 #[tactic(auto, unfolding(crate::specs::Reading::filter_of))]
 fn filter_of(kind: Kind, text: &[u8]) -> Result<Filter, LineFault>
-    ensures { Says fields_of result (filter_of kind text.now) }
+    ensures said { Says fields_of result (filter_of kind text.now) }
+    ensures in_range { IfOk result IsFilter }
 {
     let Ok(filter) = Filter::parse_bytes(text) else {
         return Err(LineFault::Bad(ScriptKind::Filter));
     };
+    whole(kind, filter)
+}
+
+/// The filter, where it splits no unit.
+fn whole(kind: Kind, filter: Filter) -> Result<Filter, LineFault>
+    ensures said { Says fields_of result (whole kind (Ok (fields_of filter))) }
+    ensures in_range { IfOk result IsFilter }
+{
     if splits(kind, &filter) {
         return Err(LineFault::Bad(ScriptKind::SplitsUnit));
     }
@@ -205,7 +217,8 @@ fn with_event(
 /// The order of an event, or `None` for a settle.
 #[tactic(auto, unfolding(crate::specs::Reading::order_said))]
 fn order_said(alloc: Global, kind: Kind, event: Event<'_>) -> Result<Option<Order>, LineFault>
-    ensures { Says (λ order. option_map order_view order) result (order_said kind (event_view event.entry)) }
+    ensures said { Says (λ order. option_map order_view order) result (order_said kind (event_view event.entry)) }
+    ensures in_range { IfOk result (λ order. ForSome (said_filter order) IsFilter) }
 {
     match event {
         Event::Move {
@@ -260,7 +273,8 @@ fn ends_of(alloc: Global, source: &[u8], destination: &[u8]) -> Result<(Name, Na
 
 /// The filter of a copy, if it has one.
 fn filter_or_all(kind: Kind, text: Option<&[u8]>) -> Result<Option<Filter>, LineFault>
-    ensures { Says (λ f. option_map fields_of f) result (filter_or_all kind (option_map (λ t. t.now) text.entry)) }
+    ensures said { Says (λ f. option_map fields_of f) result (filter_or_all kind (option_map (λ t. t.now) text.entry)) }
+    ensures in_range { IfOk result (λ f. ForSome f IsFilter) }
 {
     match text {
         None => Ok(None),
@@ -301,6 +315,7 @@ fn names_of(alloc: Global, list: &[u8]) -> Result<Option<Names>, NoMemory>
 
 /// The reader with an `at` line more: an order under its number, or a settle.
 fn with_line(reader: Reader, at: u32, order: Option<Order>) -> Result<Reader, LineFault>
+    requires { ForSome (said_filter order) IsFilter }
     ensures { Says (λ s. s) result (with_line reader at (option_map order_view order)) }
 {
     if reader.lines.len() >= MOST_LINES {
@@ -326,8 +341,10 @@ fn with_line(reader: Reader, at: u32, order: Option<Order>) -> Result<Reader, Li
 
 /// An order under the number after so many commands, or a settle.
 fn numbered_order(commands: u32, order: Option<Order>) -> What
-    requires { commands < most_lines }
-    ensures { what_view result ≡ numbered_after commands (option_map order_view order) }
+    requires few { commands < most_lines }
+    requires in_range { ForSome (said_filter order) IsFilter }
+    ensures numbered { what_view result ≡ numbered_after commands (option_map order_view order) }
+    ensures in_range { ForSome (what_filter result) IsFilter }
 {
     match order {
         Some(what) => {

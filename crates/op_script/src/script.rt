@@ -1,3 +1,8 @@
+ghost use Rattle.std.specs.Prelude.{◌<◌, ◌^◌, All};
+ghost use Rattle.std.specs.Option.{ForSome};
+ghost use Rattle.flow_filter.specs.Filter.{IsFilter};
+ghost use Rattle.op_script.specs.LineFilters.{what_filter};
+
 use flow_filter::Filter;
 use nf_msgs::Command;
 
@@ -8,6 +13,7 @@ pub struct Script {
     pub routes: Vec<(Filter, u8)>,
     /// What happens after which packet, in file order.
     pub lines: Vec<Line>,
+    ghost routes_in_range: { All (λ route. IsFilter route.0) routes.items },
 }
 
 /// Something that happens after the packet with the number `at`, or before the first where it is 0.
@@ -15,6 +21,8 @@ pub struct Script {
 pub struct Line {
     pub at: u32,
     pub what: What,
+    ghost at_in_range: { at < 2 ^ 32 },
+    ghost filter_in_range: { ForSome (what_filter what) IsFilter },
 }
 
 /// What happens.

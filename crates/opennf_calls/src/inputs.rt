@@ -8,6 +8,7 @@ ghost use Rattle.trace_reader.specs.Answers.{AnswersTrace, HasReadCause};
 ghost use Rattle.flow_filter.specs.Limits.{most_packets};
 ghost use Rattle.trace_reader.specs.Records.{AreNumbered, capture_of};
 ghost use Rattle.trace_reader.specs.Steered.{is_steered_proto};
+ghost use Rattle.op_script.specs.PacketItems.{IsInRange};
 ghost use Rattle.op_script.specs.Printing.{IsScript, SplitsNone};
 ghost use Rattle.op_script.specs.Reading.{script_view};
 ghost use Rattle.command_words.specs.Values.{names_of};
@@ -19,9 +20,9 @@ use command_words::NetworkRequest;
 use flow_filter::Bytes;
 use nf_io::{Outside, Role, RoleSource, UptoFault, read_upto};
 use op_script::{LONGEST_SCRIPT, Script, read_script};
-use run_input::CapturedItems;
+use run_input::{CapturedItems, read_in_range};
 use std::alloc::Global;
-use trace_reader::{Trace, TraceFault, read_trace};
+use trace_reader::{Trace, TraceFault};
 
 /// The most bytes of a script that are read, but for the one that shows that it is longer.
 pub(crate) const MOST_BYTES: u64 = LONGEST_SCRIPT as u64;
@@ -111,6 +112,7 @@ pub(crate) fn read_packets<O: Outside>(alloc: Global, outside: &mut O) -> Result
         AnswersTrace (capture_of bytes) (O.seen outside.new TraceRole).left result) }
     ensures numbers { IfOk result (λ trace. AreNumbered 1 trace.packets) }
     ensures steered { IfOk result (λ trace. All (λ packet. is_steered_proto packet.proto ≡ true) trace.packets) }
+    ensures in_range { IfOk result (λ trace. All IsInRange trace.packets) }
     ensures few { IfOk result (λ trace. length trace.packets ≤ most_packets) }
     ensures cause { HasReadCause (O.seen outside.old TraceRole).faults (O.seen outside.new TraceRole).faults result }
     ensures alone { ReadAlone TraceRole (O.seen outside.old) (O.seen outside.new) }
@@ -119,7 +121,7 @@ pub(crate) fn read_packets<O: Outside>(alloc: Global, outside: &mut O) -> Result
         outside,
         role: Role::Trace,
     };
-    read_trace(alloc, &mut source)
+    read_in_range(alloc, &mut source)
 }
 
 /// Reads the script, or one byte more than `most` of one that is longer.

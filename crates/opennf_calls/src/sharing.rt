@@ -3,13 +3,14 @@ ghost use Rattle.std.specs.Prelude.{◌≡◌, ◌≤◌, true, All, IfOk, lengt
 ghost use Rattle.flow_filter.specs.Limits.{most_packets};
 ghost use Rattle.trace_reader.specs.Records.{AreNumbered};
 ghost use Rattle.trace_reader.specs.Steered.{is_steered_proto};
+ghost use Rattle.op_script.specs.PacketItems.{IsInRange};
 ghost use Rattle.command_words.specs.RequestViews.{strong_view};
 ghost use Rattle.opennf_calls.specs.Phases.{CanShare, reports};
 ghost use Rattle.opennf_calls.specs.StrongRuns.{HasSharing, IsSharingHead, IsSharingOf, sharing_scene};
 
 use crate::functions::{ForFunction, for_kind};
 use crate::network::Made;
-use crate::steered::{are_steered, is_filter};
+use crate::ranges::are_in_range;
 use actor_net::{Schedule, ScheduleFault};
 use basics::NoMemory;
 use command_words::StrongRequest;
@@ -27,11 +28,11 @@ pub(crate) fn run_sharing(
 ) -> Result<Made, NoMemory>
     requires numbers { AreNumbered 1 trace.packets }
     requires steered { All (λ packet. is_steered_proto packet.proto ≡ true) trace.packets }
+    requires in_range { All IsInRange trace.packets }
     requires few { length trace.packets ≤ most_packets }
     ensures { IfOk result (λ made. HasSharing (strong_view asked.now) (sharing_scene asked.now trace) schedule (reports made)) }
 {
-    are_steered(asked.site, trace.packets.items());
-    is_filter(asked.filter);
+    are_in_range(asked.site, asked.filter);
     let kind = asked.kind;
     let sharing = Sharing {
         alloc,

@@ -10,7 +10,7 @@ use actor_net::{Choice, Choices, World};
 use actor_threads::{Gate, OpenGate};
 use command_words::instances::instances_of;
 use conn_tracker::Conntrack;
-use flow_filter::{CapturedPacket, Name, Packet, Prefix, Site, Text, UDP};
+use flow_filter::{Name, Packet, Prefix, Site, Text, UDP};
 use net_world::{Config, Node};
 use nf_function::Kind;
 use nf_msgs::{Msg, Names, Note};
@@ -66,7 +66,7 @@ fn packets(alloc: Global, count: u32) -> Result<PacketItems, Fail>
     let mut packets = PacketItems::open(alloc);
     for number in 0..count {
         let next = packet(number + 1);
-        packets.push(CapturedPacket::of(alloc, &next)?)?;
+        packets.push(alloc, &next)?;
     }
     Ok(packets)
 }

@@ -1,6 +1,5 @@
 pub mod MadeInput
-pub mod LoopFacts
-pub mod PacketFactLemmas
+pub mod SteeredPackets
 pub mod SaidCommands
 pub mod ScriptedOrders
 pub mod ShortInput

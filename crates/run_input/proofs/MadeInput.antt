@@ -2,16 +2,13 @@
 use Rattle.std.proofs.Common.{◌≡◌, ℕ, ◌<◌, ◌≤◌, ◌^◌, List, length, sym, ◌∙◌, arith}
 use Rattle.std.specs.Prelude.{All}
 use Rattle.std.proofs.lemmas.List.{length-map}
-use Rattle.flow_filter.specs.declared.filter.Filter.{Filter}
 use Rattle.flow_filter.specs.declared.packet.Packet.{Packet}
-use Rattle.flow_filter.specs.Filter.{IsFilter}
 use Rattle.nf_msgs.specs.declared.msg.Msg.{Msg}
 use Rattle.trace_reader.specs.Records.{AreNumbered}
 use Rattle.op_script.specs.declared.script.Script.{Script}
-use Rattle.op_script.specs.declared.script.Line.{Line}
 use Rattle.op_script.specs.Items.{items}
 use Rattle.op_script.specs.Reading.{script_view}
-use Rattle.op_script.specs.Printing.{IsScript, SplitsNone, WhatFits}
+use Rattle.op_script.specs.Printing.{IsScript, SplitsNone}
 use Rattle.net_world.specs.declared.config.Config.{Config}
 use Rattle.net_world.specs.Input.{IsSteered, most_counted, IsInput}
 use Rattle.net_world.specs.Start.{IsConfig}
@@ -30,8 +27,6 @@ pub record IsGiven (setting : Setting) (script : Script) (ps : List Packet) : Ty
   pub steered : All (IsSteered setting.site) ps
   pub few : length ps ≤ most_counted
   pub site : setting.site.inside.bits < 2 ^ 32
-  pub filters : All (λ (route : Filter × ℕ). IsFilter route.0) script.routes.items
-  pub fits : All (λ (line : Line). WhatFits line.what) script.lines.items
 
 is_config : (setting : Setting) (script : Script) (ps : List Packet) → IsGiven setting script ps → IsConfig (config_of setting script.routes.items)
 is_config setting script ps g =
@@ -56,12 +51,12 @@ input_is setting script ps g =
     record {
       is_config = is_config setting script ps g;
       site = g.site;
-      routes = routes_whole setting.kind script.routes.items g.whole.routes g.filters;
+      routes = routes_whole setting.kind script.routes.items g.whole.routes script.routes_in_range;
       only_items = only_items ps lines;
       steered = rw same g.steered;
       numbers = rw same (numbers_rise 1 0 ps (omega arith) g.numbers);
       few = rw same g.few;
-      orders = rw said (all_proper setting.kind lines g.script_is.lines g.whole.lines g.fits);
+      orders = rw said (all_proper setting.kind lines g.script_is.lines g.whole.lines);
       ops = rw said (ops_rise 0 0 1 lines (omega arith) g.script_is.follow);
     }
 

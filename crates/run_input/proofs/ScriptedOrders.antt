@@ -2,6 +2,7 @@
 use Rattle.std.proofs.Common.{◌≡◌, ℕ, suc, ◌+◌, ◌<◌, ◌≤◌, Bool, true, false, ◌&&◌, Some, None, List, [], ◌∷◌, map, length, eqb, eqb-true, leb, Ok, refl, subst, arith}
 use Rattle.std.specs.Prelude.{All, if◌then◌else◌, not}
 use Rattle.std.specs.List.{AllByRecursion}
+use Rattle.std.specs.Option.{ForSome}
 use Rattle.std.specs.Str.{bytes_eq}
 use Rattle.std.proofs.lemmas.Bool.Decides.{nat_tests}
 use Rattle.std.proofs.lemmas.List.Elements.{All-cons, All-nil, All-head, All-tail}
@@ -23,7 +24,8 @@ use Rattle.op_script.specs.declared.script.What.TheVariants as what
 use Rattle.op_script.specs.Statements.{Word}
 use Rattle.op_script.specs.Items.{IsFrom}
 use Rattle.op_script.specs.Reading.{ends_of, unless, route_view, line_view, what_view, order_view}
-use Rattle.op_script.specs.Printing.{IsRoute, IsLine, IsWhat, IsOrder, OrderFits, WhatFits, next_after, and_then, follows, what_splits, order_splits}
+use Rattle.op_script.specs.LineFilters.{order_filter, what_filter}
+use Rattle.op_script.specs.Printing.{IsRoute, IsLine, IsWhat, IsOrder, next_after, and_then, follows, what_splits, order_splits}
 use Rattle.op_script.proofs.JudgedLemmas.{unless_Ok}
 use Rattle.net_world.specs.Input.{IsRising, IsWhole, IsProper}
 use Rattle.run_input.proofs.SaidCommands.{with_command, line_commands}
@@ -88,24 +90,24 @@ names_differ source target is =
     (unless_Ok (bytes_eq source target) bad.SameInstance (Ok (source, target)) (source, target) first.1).0
 
 module _ (kind : Kind) where
-  is_proper : (o : Order) → IsOrder (order_view o) → order_splits kind (order_view o) ≡ false → OrderFits o → IsProper kind o
-  is_proper (Move source destination filter keep) right whole fits = (names_differ source destination right.0, record { numbers = fits; whole = whole })
+  is_proper : (o : Order) → IsOrder (order_view o) → order_splits kind (order_view o) ≡ false → ForSome (order_filter o) IsFilter → IsProper kind o
+  is_proper (Move source destination filter keep) right whole fits = (names_differ source destination right.0, record { numbers = fits filter refl; whole = whole })
   is_proper (Copy source destination None) right whole fits = (names_differ source destination right.0, λ filter is. cc)
-  is_proper (Copy source destination (Some filter)) right whole fits = (names_differ source destination right.0, λ g is. (let same : filter ≡ g = cc in subst (IsWhole kind) same (record { numbers = fits; whole = whole })))
+  is_proper (Copy source destination (Some filter)) right whole fits = (names_differ source destination right.0, λ g is. (let same : filter ≡ g = cc in subst (IsWhole kind) same (record { numbers = fits filter refl; whole = whole })))
   is_proper (Share members filter) right whole fits =
-      (record { some = right.0; once = right.2 }, record { numbers = fits; whole = whole })
+      (record { some = right.0; once = right.2 }, record { numbers = fits filter refl; whole = whole })
 
-  proper_with : (w : What) (cs : List Command) → IsWhat (what_view w) → what_splits kind (what_view w) ≡ false → WhatFits w
+  proper_with : (w : What) (cs : List Command) → IsWhat (what_view w) → what_splits kind (what_view w) ≡ false → ForSome (what_filter w) IsFilter
       → All (λ (c : Command). IsProper kind c.what) cs → All (λ (c : Command). IsProper kind c.what) (with_command w cs)
   proper_with what.Settle cs right whole fits rest = rest
   proper_with (what.Command command) cs right whole fits rest = All-cons (λ (c : Command). IsProper kind c.what) command cs (is_proper command.what right whole fits) rest
 
   -- each command is one that a run may be given
   pub all_proper : (lines : List Line) → AllByRecursion IsLine (map line_view lines) → AllByRecursion (λ line. what_splits kind line.what ≡ false) (map line_view lines)
-      → All (λ (line : Line). WhatFits line.what) lines → All (λ (c : Command). IsProper kind c.what) (line_commands lines)
-  all_proper [] right whole fits = All-nil (λ (c : Command). IsProper kind c.what)
-  all_proper (line ∷ more) right whole fits = proper_with line.what (line_commands more) right.0 whole.0 (All-head (λ (line : Line). WhatFits line.what) line more fits)
-      (all_proper more right.1 whole.1 (All-tail (λ (line : Line). WhatFits line.what) line more fits))
+      → All (λ (c : Command). IsProper kind c.what) (line_commands lines)
+  all_proper [] right whole = All-nil (λ (c : Command). IsProper kind c.what)
+  all_proper (line ∷ more) right whole =
+      proper_with line.what (line_commands more) right.0 whole.0 line.filter_in_range (all_proper more right.1 whole.1)
 
   -- Routes.
   pub routes_whole : (routes : List (Filter × ℕ)) → AllByRecursion (λ route. splits kind route.0 ≡ false) (map route_view routes)

@@ -8,7 +8,7 @@ use Rattle.op_script.proofs.input.with_lines.Goals as goal
 
 pub returns-then-stand_after : goal.returns-then-stand_after
 returns-then-stand_after c =
-    all_after c.args.packets c.args.lines.now c.items.result.now c.into_items.result.items c.stand_after.result c.items.ensures c.into_items.ensures c.stand_after.ensures c.if-stand_after.true
+    all_after c.args.packets c.args.lines.now c.items.result.now c.into_items.result.items c.stand_after.result c.items.ensures.items c.into_items.ensures c.stand_after.ensures c.if-stand_after.true
 
 pub returns : goal.returns
 returns c = all_written (record { packets = c.args.packets; lines = c.args.lines.now }) c.loop-item.point c.loop-item.waiting.items _ c.loop-item.out.items

@@ -1,16 +1,14 @@
 -- Each loop writes a line more, and together the loops write them all.
-use Rattle.std.proofs.Common.{◌≡◌, ℕ, ◌≤◌, ◌++◌, [], List, length, map, take, sym, ◌∙◌, append-nil, true, false, Ok}
-use Rattle.std.specs.List.{concat, AllByRecursion, list_all}
+use Rattle.std.proofs.Common.{◌≡◌, ℕ, ◌≤◌, ◌++◌, [], List, length, map, take, sym, ◌∙◌, append-nil, false, Ok}
+use Rattle.std.specs.List.{concat, AllByRecursion}
 use Rattle.std.proofs.lemmas.List.{take_all}
-use Rattle.flow_filter.specs.declared.filter.Filter.{Filter}
-use Rattle.flow_filter.specs.Filter.{IsFilter}
-use Rattle.flow_filter.specs.Name.{is_name, has_twice}
+use Rattle.flow_filter.specs.Name.{has_twice}
 use Rattle.nf_function.specs.declared.kind.Kind.{Kind}
 use Rattle.op_script.specs.declared.script.Script.{Script}
 use Rattle.op_script.specs.Statements.{Word}
-use Rattle.op_script.specs.Printing.{line_text, route_words, line_words, script_text, IsRoute, IsLine, IsScript, SplitsNone, LineFits}
+use Rattle.op_script.specs.Printing.{line_text, route_words, line_words, script_text, IsRoute, IsLine, IsScript, SplitsNone}
 use Rattle.op_script.specs.Reading.{route_view, line_view, script_view, script_of}
-use Rattle.op_script.proofs.PrintedScripts.{script_again}
+use Rattle.op_script.proofs.PrintedScripts.{IsNamed, script_again}
 use Rattle.op_script.proofs.WrittenTexts.{lines_more, all_written, at_item, fits_more}
 use Rattle.op_script.proofs.printing.print_script.Goals as goal
 
@@ -19,10 +17,10 @@ written : (names : List Word) (script : Script) (out : List ℕ) (i : ℕ) → l
 unfolding script_text
 written names script out i over text = all_written line_text (route_words names) line_words out script.routes.items script.lines.items i over text
 
-again_of : (kind : Kind) (names : List Word) (script : Script) (out : List ℕ) → IsScript names (script_view script) → list_all is_name names ≡ true → has_twice names ≡ false
-    → AllByRecursion (λ (route : Filter × ℕ). IsFilter route.0) script.routes.items → AllByRecursion LineFits script.lines.items → SplitsNone kind (script_view script)
+again_of : (kind : Kind) (names : List Word) (script : Script) (out : List ℕ) → IsScript names (script_view script) → AllByRecursion (IsNamed names) script.routes.items → has_twice names ≡ false
+    → SplitsNone kind (script_view script)
     → out ≡ script_text names script → length out ≤ 1048576 → script_of kind names out ≡ Ok (script_view script)
-again_of kind names script out is are once routes lines whole text short = rw text (script_again kind names script is are once routes lines whole (rw text at short))
+again_of kind names script out is named once whole text short = rw text (script_again kind names script is named once whole (rw text at short))
 
 pub loop-route-preserved : goal.loop-route-preserved
 loop-route-preserved c =
@@ -31,7 +29,7 @@ loop-route-preserved c =
     record {
       text = lines_more line_text (route_words c.args.names.now) [] _ _ c.args.script.now.routes.items c.loop-route.route-index c.route-item.result
           below is c.loop-route.invariant.text c.in_ok-print_route.ensures.text;
-      fits = fits_more (λ (route : Filter × ℕ). IsFilter route.0) c.args.script.now.routes.items c.loop-route.route-index c.route-item.result below is c.loop-route.invariant.fits c.in_ok-print_route.ensures.fits;
+      named = fits_more (IsNamed c.args.names.now) c.args.script.now.routes.items c.loop-route.route-index c.route-item.result below is c.loop-route.invariant.named c.in_ok-print_route.ensures.name;
     }
 
 pub loop-line-init : goal.loop-line-init
@@ -39,8 +37,7 @@ loop-line-init c =
     let all = take_all c.loop-route.route-index c.args.script.now.routes.items (rw c.as_slice-route-items.ensures.value at c.loop-route-test.false) in
     record {
       text = (rw all at c.loop-route.invariant.text) ∙ sym (append-nil (concat (map line_text (map (route_words c.args.names.now) c.args.script.now.routes.items))));
-      routes = rw all at c.loop-route.invariant.fits;
-      fits = tt;
+      named = rw all at c.loop-route.invariant.named;
     }
 
 pub loop-line-preserved : goal.loop-line-preserved
@@ -49,19 +46,17 @@ loop-line-preserved c =
     let is = rw c.as_slice-line-items.ensures.value at c.line-item.is in
     record {
       text = lines_more line_text line_words _ _ _ c.args.script.now.lines.items c.loop-line.line-index c.line-item.result
-          below is c.loop-line.invariant.text c.in_ok-print_line.ensures.text;
-      routes = c.loop-line.invariant.routes;
-      fits = fits_more LineFits c.args.script.now.lines.items c.loop-line.line-index c.line-item.result below is c.loop-line.invariant.fits c.in_ok-print_line.ensures.fits;
+          below is c.loop-line.invariant.text c.in_ok-print_line.ensures;
+      named = c.loop-line.invariant.named;
     }
 
 pub returns : goal.returns
 returns c =
     let over = rw c.as_slice-line-items.ensures.value at c.loop-line-test.false in
     let is = written c.args.names.now c.args.script.now c.loop-line.out c.loop-line.line-index over c.loop-line.invariant.text in
-    let fits = rw (take_all c.loop-line.line-index c.args.script.now.lines.items over) at c.loop-line.invariant.fits in
     record {
       text = is;
-      again = λ kind once whole short. again_of kind c.args.names.now c.args.script.now c.loop-line.out c.requires c.all_are_names.ensures once c.loop-line.invariant.routes fits whole is short;
+      again = λ kind once whole short. again_of kind c.args.names.now c.args.script.now c.loop-line.out c.requires c.loop-line.invariant.named once whole is short;
     }
 
 pub print_route-requires : goal.print_route-requires

@@ -1,15 +1,15 @@
 -- The routes and lines that were written so far.
 use Rattle.std.proofs.Common.{◌≡◌, ◌++◌, take, map}
 use Rattle.std.specs.List.{concat, AllByRecursion}
-use Rattle.flow_filter.specs.Filter.{IsFilter}
-use Rattle.op_script.specs.Printing.{line_text, route_words, line_words, LineFits}
+use Rattle.op_script.specs.Printing.{line_text, route_words, line_words}
+use Rattle.op_script.proofs.PrintedScripts.{IsNamed}
 use Rattle.op_script.proofs.printing.print_script.Given as goal
 
 -- the routes so far are written
 abbrev pub invariant-loop-route : goal.invariant-loop-route
 invariant-loop-route l = record {
   text : l.out ≡ concat (map line_text (map (route_words l.names) (take l.route-index l.script.routes.items)));
-  fits : AllByRecursion (λ route. IsFilter route.0) (take l.route-index l.script.routes.items);
+  named : AllByRecursion (IsNamed l.names) (take l.route-index l.script.routes.items);
 }
 
 -- the routes are written, and the lines so far
@@ -17,6 +17,5 @@ abbrev pub invariant-loop-line : goal.invariant-loop-line
 invariant-loop-line l = record {
   text : l.out ≡ concat (map line_text (map (route_words l.names) l.script.routes.items))
       ++ concat (map line_text (map line_words (take l.line-index l.script.lines.items)));
-  routes : AllByRecursion (λ route. IsFilter route.0) l.script.routes.items;
-  fits : AllByRecursion LineFits (take l.line-index l.script.lines.items);
+  named : AllByRecursion (IsNamed l.names) l.script.routes.items;
 }

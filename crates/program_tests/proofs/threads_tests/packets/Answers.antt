@@ -16,7 +16,7 @@ loop-number-preserved c =
     let ps = c.loop-number.packets in
     let p = c.packet-next.result in
     let so_far = c.loop-number.invariant in
-    let pushed : c.push.new.self ≡ ps ++ p ∷ [] = c.in_ok-push.ensures.ok ∙ ap (λ q. ps ++ q ∷ []) c.in_ok-of.ensures in
+    let pushed : c.push.new.self ≡ ps ++ p ∷ [] = c.in_ok-push.ensures.ok in
     let number = c.packet-next.ensures.number in
     let count = so_far.count in
     record {

@@ -1,14 +1,18 @@
 -- One packet more stands after the others, as an item.
 use Rattle.std.proofs.Common.{◌≡◌, ◌∙◌, [], ◌∷◌, ◌++◌, ap}
+use Rattle.nf_msgs.specs.declared.msg.Msg.TheVariants.{InPacket}
 use Rattle.op_script.specs.PacketItems.{packets_of}
-use Rattle.op_script.proofs.PacketLists.{more_packets, still_items}
+use Rattle.op_script.proofs.PacketLists.{more_packets, still_packets}
 use Rattle.op_script.proofs.packet_items.PacketItems.push.Goals as goal
 
 pub invariant_of-self-2 : goal.invariant_of-self-2
-invariant_of-self-2 c = still_items c.self.inside.items.items c.push.new.self.items c.args.packet c.self.invariant c.in_ok-push.ensures.items
+invariant_of-self-2 c = still_packets c.self.inside.items.items c.push.new.self.items c.args.packet.now c.self.invariant
+    (c.in_ok-push.ensures.items ∙ ap (λ p. c.self.inside.items.items ++ InPacket p ∷ []) c.in_ok-captured.ensures.same) c.captured.ensures.in_range
 
 pub returns-clause-ok : goal.returns-clause-ok
 returns-clause-ok c =
     let is = c.self.view_is in
     let seen : packets_of c.self.inside.items.items ≡ c.args.self.now = cc in
-    more_packets c.self.inside.items.items c.push.new.self.items c.args.packet c.self.invariant c.in_ok-push.ensures.items ∙ ap (λ l. l ++ c.args.packet ∷ []) seen
+    more_packets c.self.inside.items.items c.push.new.self.items c.args.packet.now c.self.invariant.packets
+    (c.in_ok-push.ensures.items ∙ ap (λ p. c.self.inside.items.items ++ InPacket p ∷ []) c.in_ok-captured.ensures.same)
+    ∙ ap (λ l. l ++ c.args.packet.now ∷ []) seen

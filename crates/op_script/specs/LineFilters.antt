@@ -1,0 +1,23 @@
+-- The filter that a line of a script gives, if it gives one. This project's own.
+use Rattle.std.specs.Prelude.{Option, None, Some}
+use Rattle.flow_filter.specs.declared.filter.Filter.{Filter}
+use Rattle.nf_msgs.specs.declared.command.Order.{Order}
+use Rattle.nf_msgs.specs.declared.command.Order.TheVariants.{Move, Copy, Share}
+use Rattle.op_script.specs.declared.script.What.{What}
+use Rattle.op_script.specs.declared.script.What.TheVariants.{Command, Settle}
+
+-- the filter of an order
+abbrev pub order_filter : Order → Option Filter
+order_filter (Move source destination filter keep) = Some filter
+order_filter (Copy source destination filter) = filter
+order_filter (Share members filter) = Some filter
+
+-- the filter of what was said: an order, or a settle
+abbrev pub said_filter : Option Order → Option Filter
+said_filter None = None
+said_filter (Some order) = order_filter order
+
+-- the filter of what happens
+abbrev pub what_filter : What → Option Filter
+what_filter (Command command) = order_filter command.what
+what_filter Settle = None
