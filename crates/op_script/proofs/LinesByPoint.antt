@@ -140,7 +140,7 @@ sorted_ahead line xs ys one at rising stable = record {
     | inr is ↦
         let below : point < 2 ^ 32 = grind (arith, nat_tests, is) in
         subst (λ at. said_at at (map line ys) ≡ said_at at (map line xs)) (at point below)
-            (said_by_ties line (one point below) ys ∙ ap (map (λ y. msg_of (line y).what)) (stable (one point below))
-            ∙ sym (said_by_ties line (one point below) xs))
+        (said_by_ties line (one point below) ys ∙ ap (map (λ y. msg_of (line y).what)) (stable (one point below))
+        ∙ sym (said_by_ties line (one point below) xs))
   ];
 }

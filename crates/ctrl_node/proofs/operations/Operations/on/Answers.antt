@@ -1,5 +1,5 @@
 -- The operation is written where it stands. A share keeps its filter, and so it is noted still.
-use Rattle.std.proofs.Common.{◌≡◌, eqb, Option, None, Some, refl, sym, ap, subst, ◌∙◌}
+use Rattle.std.proofs.Common.{◌≡◌, eqb, Option, None, Some, refl, sym, ap, subst, ◌++◌, append-nil, ◌∙◌}
 use Rattle.std.proofs.lemmas.Result.{on_ok_weaker}
 use Rattle.std.specs.Prelude.{IsSome, OnOk, IfOk}
 use Rattle.std.specs.FinMap as finite
@@ -57,3 +57,31 @@ returns-clause-answer c =
     let at : lookup (eqb c.args.op) old ≡ Some was = sym c.get_mut.ensures.value ∙ ap option_copied_mut c.in-Some.is in
     let found : finite.get c.args.self.now c.args.op ≡ Some was = ap (λ m. finite.get m c.args.op) (sym c.self.view_is) ∙ (get-view old c.args.op ∙ at) in
     subst (λ o. IfOk c.on.result (λ answer. answer ≡ (turn_of o c.args.store.now c.args.sender c.args.message).answer)) (sym found) c.on.ensures.answer
+
+pub returns-in_default-clause-store : goal.returns-in_default-clause-store
+returns-in_default-clause-store c =
+    let old = c.self.inside.by_number.entries in
+    let none : lookup (eqb c.args.op) old ≡ None = sym c.get_mut.ensures.value ∙ ap option_copied_mut c.in_default.is in
+    let absent : finite.get c.args.self.now c.args.op ≡ None = ap (λ m. finite.get m c.args.op) (sym c.self.view_is) ∙ (get-view old c.args.op ∙ none) in
+    subst (λ o. c.args.store.now ≡ (turn_of o c.args.store.now c.args.sender c.args.message).store) (sym absent) refl
+
+pub returns-in_default-clause-sends : goal.returns-in_default-clause-sends
+returns-in_default-clause-sends c =
+    let old = c.self.inside.by_number.entries in
+    let none : lookup (eqb c.args.op) old ≡ None = sym c.get_mut.ensures.value ∙ ap option_copied_mut c.in_default.is in
+    let absent : finite.get c.args.self.now c.args.op ≡ None = ap (λ m. finite.get m c.args.op) (sym c.self.view_is) ∙ (get-view old c.args.op ∙ none) in
+    subst (λ o. c.args.out.now.0 ≡ c.args.out.now.0 ++ (turn_of o c.args.store.now c.args.sender c.args.message).sends) (sym absent) (sym (append-nil c.args.out.now.0))
+
+pub returns-clause-store : goal.returns-clause-store
+returns-clause-store c =
+    let old = c.self.inside.by_number.entries in let was = c.in-Some.operation.now in
+    let at : lookup (eqb c.args.op) old ≡ Some was = sym c.get_mut.ensures.value ∙ ap option_copied_mut c.in-Some.is in
+    let found : finite.get c.args.self.now c.args.op ≡ Some was = ap (λ m. finite.get m c.args.op) (sym c.self.view_is) ∙ (get-view old c.args.op ∙ at) in
+    subst (λ o. OnOk c.on.result (c.on.new.store ≡ (turn_of o c.args.store.now c.args.sender c.args.message).store)) (sym found) c.on.ensures.store
+
+pub returns-clause-sends : goal.returns-clause-sends
+returns-clause-sends c =
+    let old = c.self.inside.by_number.entries in let was = c.in-Some.operation.now in
+    let at : lookup (eqb c.args.op) old ≡ Some was = sym c.get_mut.ensures.value ∙ ap option_copied_mut c.in-Some.is in
+    let found : finite.get c.args.self.now c.args.op ≡ Some was = ap (λ m. finite.get m c.args.op) (sym c.self.view_is) ∙ (get-view old c.args.op ∙ at) in
+    subst (λ o. OnOk c.on.result (c.on.new.out.0 ≡ c.args.out.now.0 ++ (turn_of o c.args.store.now c.args.sender c.args.message).sends)) (sym found) c.on.ensures.sends
