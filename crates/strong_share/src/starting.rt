@@ -3,6 +3,7 @@ ghost use Rattle.nf_msgs.specs.declared.nodes.TheConstants.{MOST_INSTANCES as MO
 ghost use Rattle.strong_share.specs.Start.{IsStrongJob, first_nodes, input_of, job_of, member_at_start, strong_start};
 
 use crate::controller::{StrongCtrl, THE_SHARE};
+use crate::member::Member;
 use crate::node::StrongNode;
 use crate::switch::StrongSwitch;
 use actor_net::World;
@@ -55,7 +56,7 @@ fn first_nodes<F: Function>(
     nodes.push(StrongNode::Ctrl(controller))?;
     for index in 0..members {
         let member = first_member(alloc, index, filter, site)?;
-        nodes.push(StrongNode::Instance(member))?;
+        nodes.push(StrongNode::Instance(Member::of(member)))?;
     }
     Ok(nodes)
 }
