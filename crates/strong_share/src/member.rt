@@ -76,10 +76,7 @@ impl<F: Function> Member<F> {
 }
 
 /// Sends what was sent, in order.
-fn send_all(
-    own: &mut Outbox<Msg, Note>,
-    out: &mut Outbox<Msg, StrongNote>,
-) -> Result<(), NoMemory>
+fn send_all(own: &mut Outbox<Msg, Note>, out: &mut Outbox<Msg, StrongNote>) -> Result<(), NoMemory>
     ensures sent { OnOk result (out.new ≡ (out.old.0 ++ own.old.0, out.old.1)) }
     ensures notes { OnOk result (own.new.1 ≡ own.old.1) }
 {
