@@ -56,7 +56,7 @@ fn first_nodes<F: Function>(
     nodes.push(StrongNode::Ctrl(controller))?;
     for index in 0..members {
         let member = first_member(alloc, index, filter, site)?;
-        nodes.push(StrongNode::Instance(Member::of(member)))?;
+        nodes.push(StrongNode::Instance(member))?;
     }
     Ok(nodes)
 }
@@ -67,13 +67,13 @@ fn first_member<F: Function>(
     index: u8,
     filter: Filter,
     site: Site,
-) -> Result<Instance<F>, NoMemory>
+) -> Result<Member<F>, NoMemory>
     requires { index < MOST }
     ensures { IfOk result (λ member. member ≡ member_at_start alloc filter site index) }
 {
     let mut member = Instance::open(alloc, index, MEMBER_LIMIT, false, site);
     member.enable(THE_SHARE, filter, Action::Drop)?;
-    Ok(member)
+    Ok(Member::of(member))
 }
 
 /// The input: all packets, and then the end.
