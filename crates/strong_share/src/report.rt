@@ -169,6 +169,7 @@ fn named_members<'a, F: Function>(
         let [name, more @ ..] = left else {
             break;
         };
+        let member = member.instance();
         found.push(NamedInstance::new(name.items(), member.table(), member.tally()))?;
         left = more;
     }

@@ -3,6 +3,7 @@ ghost use Rattle.nf_msgs.specs.declared.nodes.TheConstants.{MOST_INSTANCES as MO
 ghost use Rattle.strong_share.specs.Start.{IsStrongJob, first_nodes, input_of, job_of, member_at_start, strong_start};
 
 use crate::controller::{StrongCtrl, THE_SHARE};
+use crate::member::Member;
 use crate::node::StrongNode;
 use crate::switch::StrongSwitch;
 use actor_net::World;
@@ -66,13 +67,13 @@ fn first_member<F: Function>(
     index: u8,
     filter: Filter,
     site: Site,
-) -> Result<Instance<F>, NoMemory>
+) -> Result<Member<F>, NoMemory>
     requires { index < MOST }
     ensures { IfOk result (λ member. member ≡ member_at_start alloc filter site index) }
 {
     let mut member = Instance::open(alloc, index, MEMBER_LIMIT, false, site);
     member.enable(THE_SHARE, filter, Action::Drop)?;
-    Ok(member)
+    Ok(Member::of(member))
 }
 
 /// The input: all packets, and then the end.
