@@ -32,8 +32,7 @@ use Rattle.run_report.specs.Lines.{answer_in, report_text}
 use Rattle.run_headline.specs.Headline.{Subject}
 use Rattle.run_headline.specs.Text.{HasHeadline}
 use Rattle.run_headline.specs.Law.{IsCompleted, subject}
-use Rattle.run_headline.proofs.HeadlineRuns.{are_told, headline}
-use Rattle.run_headline.proofs.ReportTexts.{has_headline}
+use Rattle.run_headline.proofs.ReportTexts.{reported}
 use Rattle.opennf_calls.specs.declared.network.Made.{Made}
 use Rattle.opennf_calls.specs.declared.status.Status.{Status}
 use Rattle.opennf_calls.specs.Functions.{OfKind}
@@ -97,7 +96,7 @@ module _ {R : Type 0} (F : Type 0) (f : Semantics R) (s : NetworkAsked) (g : Sce
       report ∙ (λ i. report_text f (is_head i) s.summary (leads.reached i)) in
       subst (λ (v : Subject R). HasHeadline v (head_for s g.captured) s.summary made.report) same_subject
       (subst (HasHeadline (subject f c l) (head_for s g.captured) s.summary) (sym text)
-      (has_headline f c l (head_for s g.captured) end refl (headline F f laws alloc c l made.choices is) (are_told F f laws alloc c l made.choices is) s.summary))
+      (reported F f laws alloc c l made.choices is (head_for s g.captured) refl s.summary))
 
   -- its report is made
   pub run_of : (laws : FunctionLaws f) (by : Option Schedule) (made : Made) (world : Network (Node F R) Msg Note) → Ran made.choices world

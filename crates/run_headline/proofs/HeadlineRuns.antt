@@ -153,7 +153,7 @@ module _ {R : Type 0} (F : Type 0) (f : Semantics R) (laws : FunctionLaws f) (al
   abbrev there : List (NamedInstance R)
   there = named_instances c.names w.nodes
 
-  nodes : AreNodes w.nodes (length c.names)
+  pub nodes : AreNodes w.nodes (length c.names)
   nodes =
       let joined = (run_beside F f laws alloc c items is.is_input choices is.is_run).joined in
       let reached = run_world node_ready (node_step f) (length c.names + 2) first (start_world F f laws alloc c items is.is_input) (count_at_start F f alloc c items is.is_input) choices is.is_run in

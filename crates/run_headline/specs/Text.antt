@@ -8,6 +8,7 @@ use Rattle.report_lines.specs.Lines.{NamedInstance, named_line, out_line, record
 use Rattle.run_report.specs.declared.head.Head.{Head}
 use Rattle.run_report.specs.Lines.{answer_line, head_lines, live_line}
 use Rattle.run_headline.specs.Headline.{Headline, ReportLines, Subject}
+use Rattle.run_headline.specs.Instances.{AreTallies}
 
 -- the lines of packets, commands and records
 abbrev pub lines_text : {R : Type 0} → Semantics R → List (List ℕ) → ReportLines R → List ℕ
@@ -24,12 +25,13 @@ pub record AreTold {R : Type 0} (names : List (List ℕ)) (lines : ReportLines R
   pub named : map (λ i. i.name) told ≡ names
   pub lives : (name : List ℕ) → sum_by (λ i. if bytes_eq i.name name then len i.table.live else 0) told ≡ count_by (λ s. bytes_eq s.name name) lines.states
 
--- a text says what such lines say, in full or as a summary, between the head of a report and what it says of records that stand by and of tallies
+-- a text says what such lines say, in full or as a summary, between the head of a report and what it says of records that stand by; and then the tallies
 pub record HasHeadline {R : Type 0} (subject : Subject R) (head : Head) (summary : Bool) (text : List ℕ) : Type 0 where
   pub lines : ReportLines R
   pub headline : Headline subject lines
   pub told : List (NamedInstance R)
   pub are_told : AreTold subject.config.names lines told
+  pub tallies : AreTallies subject lines told
   pub standby : List ℕ
   pub text_is : text ≡ head_lines head ++ (if summary then summary_text lines told else lines_text subject.function subject.config.names lines)
       ++ (standby ++ tail_lines (length subject.config.names) told)
