@@ -85,8 +85,10 @@ module _ {R : Type 0} (F : Type 0) (f : Semantics R) (s : NetworkAsked) (g : Sce
       let is : IsCompleted F f alloc c l made.choices = record {
         is_input = subst (λ (k : Kind). IsInput k c l) (sym ran.kind) input;
         is_run = leads.is_run;
+        is_ended = subst (λ (w : Network (Node F R) Msg Note). is_done node_ended w ≡ true) leads.reached ran.complete;
         promises = subst (Promises f c l) leads.reached promises;
         verdicts = verdicts;
+        standbys = moved (λ c l. Standbys {F = F} (job_of f c l) (course_of (started alloc c l) made.choices)) ran.standbys;
         completed = subst (Completed f c l) leads.reached completed;
         outs = subst (λ (w : Network (Node F R) Msg Note). map (λ x. x.0) (by_number output_in w.log) ≡ map (λ p. p.number) (packets l)) leads.reached outs;
         answers = subst (λ (w : Network (Node F R) Msg Note). map (λ x. x.0) (by_number answer_in w.log) ≡ map (λ k. k.op) (commands l)) leads.reached answers;

@@ -11,7 +11,9 @@ pub mod SummaryCounts
 pub mod OwnTallies
 pub mod TallyRuns
 pub mod TallyLines
+pub mod RecordsUnder
 pub mod HeadlineRuns
+pub mod SharedStandbys
 pub mod InstanceLines
 pub mod ReportTexts
 pub mod TwoRuns

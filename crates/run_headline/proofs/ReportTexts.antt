@@ -15,13 +15,13 @@ use Rattle.net_world.specs.declared.config.Config.{Config}
 use Rattle.net_world.specs.declared.node.Node.{Node}
 use Rattle.net_world.specs.Nodes.{node_step}
 use Rattle.net_world.specs.Start.{started}
-use Rattle.report_lines.specs.Lines.{NamedInstance, done_line, done_lines, named_line, out_lines, standby_lines, state_lines, tail_lines}
+use Rattle.report_lines.specs.Lines.{NamedInstance, by_unit, done_line, done_lines, named_line, out_lines, standby_lines, state_lines, tail_lines}
 use Rattle.run_report.specs.declared.head.Head.{Head}
 use Rattle.run_report.specs.Lines.{answer_lines, head_lines, live_line, named_instances, packet_lines, record_lines, report_text, summary_lines, whole_lines}
 use Rattle.run_headline.specs.Text.{HasHeadline, lines_text, summary_text}
 use Rattle.run_headline.specs.Law.{HeadlineLaw, IsCompleted, done_in, lines, subject}
 use Rattle.run_headline.proofs.HeadlineRuns.{are_told, headline}
-use Rattle.run_headline.proofs.InstanceLines.{tallies}
+use Rattle.run_headline.proofs.InstanceLines.{are_standbys, tallies}
 
 -- the lines of what was processed
 done_text : (names : List (List ℕ)) (log : List Note) → flat_map (named_line (codes "done ") names) (filter_map done_in log) ≡ done_lines names log
@@ -80,7 +80,8 @@ module _ {R : Type 0} (F : Type 0) (f : Semantics R) (laws : FunctionLaws f) (al
     told = named_instances c.names end.nodes;
     are_told = are_told F f laws alloc c items choices is;
     tallies = tallies F f laws alloc c items choices is;
-    standby = if summary then [] else standby_lines f (named_instances c.names end.nodes);
+    standbys = by_unit false (named_instances c.names end.nodes);
+    are_standbys = are_standbys F f laws alloc c items choices is;
     text_is = its_text f c items head end names summary;
   }
 
