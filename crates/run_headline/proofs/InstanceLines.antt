@@ -1,11 +1,11 @@
 -- What the report of every completed run says of its instances: their tallies, and the records that stand by.
-use Rattle.std.proofs.Common.{◌≡◌, ◌≢◌, ℕ, zero, suc, ◌+◌, ◌<◌, ◌≤◌, Bool, true, false, not, Option, Some, None, List, [], ◌∷◌, ◌++◌, length, map, take, get_or}
+use Rattle.std.proofs.Common.{◌≡◌, ◌≢◌, ℕ, zero, suc, ◌+◌, ◌<◌, ◌≤◌, Bool, true, false, not, Option, Some, None, List, [], ◌∷◌, ◌++◌, length, map, take}
 use Rattle.std.proofs.Common.{refl, sym, ap, ◌∙◌, subst, slice_index, arith}
-use Rattle.std.specs.Prelude.{◌==◌, if◌then◌else◌, filter, filter_map, find, is_some, option_map, option_to_list, slice_get, zip}
-use Rattle.std.specs.List.{AllByRecursion, take-map}
+use Rattle.std.specs.Prelude.{◌==◌, if◌then◌else◌, filter_map, find, is_some, option_map, option_to_list, slice_get, zip}
+use Rattle.std.specs.List.{AllByRecursion, list_any, take-map}
 use Rattle.std.specs.Str.{bytes_eq}
 use Rattle.std.specs.declared.alloc.Global.{Global}
-use Rattle.std.proofs.lemmas.Bool.{and_parts}
+use Rattle.std.proofs.lemmas.Bool.{or_parts}
 use Rattle.std.proofs.lemmas.Bool.Decides.{Decides-eqb, nat_tests}
 use Rattle.std.proofs.lemmas.List.Elements.{recursion_from_All}
 use Rattle.std.proofs.lemmas.List.Quantifiers.{position-Some}
@@ -36,7 +36,7 @@ use Rattle.net_world.specs.declared.config.Config.{Config}
 use Rattle.net_world.specs.declared.node.Node.{Node}
 use Rattle.net_world.specs.Commands.{began}
 use Rattle.net_world.specs.Fold as folds
-use Rattle.net_world.specs.Input.{IsProper, commands, is_unlike, order_numbered, packets}
+use Rattle.net_world.specs.Input.{IsProper, commands, order_numbered, packets}
 use Rattle.net_world.specs.Log.{Done, done, done_of}
 use Rattle.net_world.specs.Nodes.{node_ended, node_ready, node_step}
 use Rattle.net_world.specs.Places.{is_at, is_home, owner, unit_numbered}
@@ -240,7 +240,7 @@ module _ {R : Type 0} (F : Type 0) (f : Semantics R) (laws : FunctionLaws f) (al
       at_home : is_home c.names (order_numbered items) (home ∷ others) (owner c items u w.log) ≡ true
       at_home = ap (λ o. is_at o (owner c items u w.log)) first.at ∙ (Decides-eqb (owner c items u w.log) first.home).1 (sym owns)
 
-      member_kept : (i : ℕ) → has (map instance_node (filter_map (place_of c.names) (home ∷ others))) (instance_node i) ≡ true → first.home ≢ i → standby_at w i u ≡ Some r
+      member_kept : (i : ℕ) → has (map instance_node (filter_map (place_of c.names) (home ∷ others))) (instance_node i) ≡ true → i ≢ first.home → standby_at w i u ≡ Some r
       member_kept i inside apart =
           let run = run_beside F f laws alloc c items is.is_input choices is.is_run in
           let busy = run_busy F f laws alloc c items is.is_input choices is.is_run in
@@ -254,11 +254,11 @@ module _ {R : Type 0} (F : Type 0) (f : Semantics R) (laws : FunctionLaws f) (al
           ∙ ap (filter_map (shown f (given f c items is.is_input))) (done_waiting node_ended w is.is_ended (at b a)))
           (instance_node i) inside off ∙ kept
 
-      one_other : (name : List ℕ) (i : ℕ) → place_of c.names name ≡ Some i → not (bytes_eq home name) ≡ true
+      one_other : (name : List ℕ) (i : ℕ) → place_of c.names name ≡ Some i → bytes_eq name home ≡ false
           → has (map instance_node (filter_map (place_of c.names) (home ∷ others))) (instance_node i) ≡ true → records_under u name standbys ≡ r ∷ []
       one_other name i place other inside =
           let at = position-Some (λ x. bytes_eq x name) c.names i [] place in
-          let stands = member_kept i inside (places_apart c.names home name first.home i first.at place other) in
+          let stands = member_kept i inside (places_apart c.names name home i first.home place first.at (ap not other)) in
           ap (λ l. records_under u name (by_unit false l)) told_is ∙ under_name u name false c.names here.instances i here.many once at.0 at.1
           ∙ ap option_to_list (sym (here.stands u i) ∙ stands)
 
@@ -273,14 +273,14 @@ module _ {R : Type 0} (F : Type 0) (f : Semantics R) (laws : FunctionLaws f) (al
             | false ↦ λ more. more
           ] none
 
-      each_other : (rest : List (List ℕ)) → find (λ x. not (is_some (place_of c.names x))) rest ≡ None → is_unlike home rest ≡ true
+      each_other : (rest : List (List ℕ)) → find (λ x. not (is_some (place_of c.names x))) rest ≡ None → list_any (λ other. bytes_eq other home) rest ≡ false
           → ((k : ℕ) → has (map instance_node (filter_map (place_of c.names) rest)) k ≡ true
           → has (map instance_node (filter_map (place_of c.names) (home ∷ others))) k ≡ true)
           → AllByRecursion (λ name. records_under u name standbys ≡ r ∷ []) rest
-      each_other [] none unlike inside = tt
-      each_other (name ∷ rest) none unlike inside =
+      each_other [] none apart inside = tt
+      each_other (name ∷ rest) none apart inside =
           let one = first_known c.names name rest none in
-          let parts = and_parts (not (bytes_eq home name)) (is_unlike home rest) unlike in
+          let parts = or_parts (bytes_eq name home) (list_any (λ other. bytes_eq other home) rest) apart in
           let same : map instance_node (filter_map (place_of c.names) (name ∷ rest)) ≡ instance_node one.home ∷ map instance_node (filter_map (place_of c.names) rest) =
           ap (map instance_node) one.instances in
           let own : (instance_node one.home == instance_node one.home) ≡ true = grind (arith, nat_tests) in
@@ -292,10 +292,10 @@ module _ {R : Type 0} (F : Type 0) (f : Semantics R) (laws : FunctionLaws f) (al
             (λ k at_rest. inside k (ap (λ ks. has ks k) same ∙ has_more (instance_node one.home) k (map instance_node (filter_map (place_of c.names) rest)) at_rest)),
           )
 
-    share_stands : is_unlike home others ≡ true → IsShared said.states standbys (Share (home ∷ others) taken)
-    share_stands unlike = λ u r on live.
+    share_stands : list_any (λ other. bytes_eq other home) others ≡ false → IsShared said.states standbys (Share (home ∷ others) taken)
+    share_stands apart = λ u r on live.
         let one = first in
-        each_other u r on live others (rest_known u r on live home others known) unlike
+        each_other u r on live others (rest_known u r on live home others known) apart
         (λ k inside. ap (λ ks. has (map instance_node ks) k) one.instances
         ∙ has_more u r on live (instance_node one.home) k (map instance_node (filter_map (place_of c.names) others)) inside)
 
@@ -305,7 +305,7 @@ module _ {R : Type 0} (F : Type 0) (f : Semantics R) (laws : FunctionLaws f) (al
   shared_by once op (Copy source destination taken) order proper is_answer = tt
   shared_by once op (Share [] taken) order proper is_answer = tt
   shared_by once op (Share (home ∷ others) taken) order proper is_answer =
-      share_stands once op home others taken order is_answer (and_parts (is_unlike home others) _ proper.0.unlike).0
+      share_stands once op home others taken order is_answer (or_parts (list_any (λ other. bytes_eq other home) others) (has_twice others) proper.0.once).0
 
   shared : has_twice c.names ≡ false → (ks : List Command) → AllByRecursion (IsFound (λ k. k.op) (commands items)) ks → AllByRecursion (λ k. IsProper f.kind k.what) ks
       → AllByRecursion (λ k. is_answered is_done said.answers k.op ≡ true → IsShared said.states standbys k.what) ks

@@ -1,7 +1,7 @@
 -- In every run the own count of an instance in its tally is the number of packets that it has processed, and no tally counts more of another.
-use Rattle.std.proofs.Common.{◌≡◌, ◌≢◌, ℕ, zero, suc, ◌+◌, ◌<◌, ◌≤◌, Bool, true, false, Option, Some, None, Ok, List, [], ◌∷◌, ◌++◌, length, get_or, replicate, slice_index}
+use Rattle.std.proofs.Common.{◌≡◌, ◌≢◌, ℕ, zero, suc, ◌+◌, ◌<◌, ◌≤◌, true, false, Option, Some, None, Ok, List, [], ◌∷◌, ◌++◌, length, get_or, replicate, slice_index}
 use Rattle.std.proofs.Common.{refl, sym, ap, ◌∙◌, subst, arith}
-use Rattle.std.specs.Prelude.{◌==◌, max, min}
+use Rattle.std.specs.Prelude.{◌==◌, min}
 use Rattle.std.specs.declared.alloc.Global.{Global}
 use Rattle.std.specs.FinMap as finite
 use Rattle.std.proofs.lemmas.List.{length-replicate}
@@ -9,7 +9,6 @@ use Rattle.std.proofs.lemmas.Bool.Decides.{nat_tests}
 use Rattle.nf_function.specs.declared.chunk.Chunk.{Chunk}
 use Rattle.nf_function.specs.Records.{Laws as FunctionLaws}
 use Rattle.nf_function.specs.Semantics.{Semantics}
-use Rattle.nf_function.specs.Tally.{merged}
 use Rattle.nf_function.proofs.MergeLemmas.{merge_laws}
 use Rattle.state_chunk.specs.Format.{IsTally, tally_chunk}
 use Rattle.state_chunk.specs.Reading.{tally_read}
@@ -30,25 +29,25 @@ use Rattle.actor_net.proofs.EnabledChoices.{at}
 use Rattle.actor_net.proofs.OpeningWorlds.{opening_on_links}
 use Rattle.actor_net.proofs.RunInduction.{Taking, run_induction}
 use Rattle.actor_net.proofs.StepOutcome.{Takes, taken_outcome}
-use Rattle.actor_net.proofs.WeightLaws.{Each, OnLinks, EachSent, each-append, on_links_after}
+use Rattle.actor_net.proofs.WeightLaws.{Each, OnLinks, EachSent, on_links_after}
 use Rattle.unit_machine.proofs.Labels.{each_map}
 use Rattle.net_world.specs.declared.config.Config.{Config}
 use Rattle.net_world.specs.declared.node.Node.{Node}
-use Rattle.net_world.specs.declared.node.Node.TheVariants.{Controller, Instance}
+use Rattle.net_world.specs.declared.node.Node.TheVariants.{Instance}
 use Rattle.net_world.specs.Input.{IsInput}
 use Rattle.net_world.specs.Nodes.{node_step, node_ready}
-use Rattle.net_world.specs.Start.{first_instance, first_instances, first_nodes, started}
+use Rattle.net_world.specs.Start.{first_instance, first_nodes, started}
 use Rattle.whole_joined.proofs.BesideRuns.{its_label, its_takes}
 use Rattle.whole_joined.proofs.CopyAnswers.{is_uncopied}
 use Rattle.whole_joined.proofs.CopySends.{Begin_so, Turn_so, controller_sent}
 use Rattle.whole_joined.proofs.Given.{Given}
 use Rattle.whole_joined.proofs.Joined.{Joined, Label, count, node_of}
-use Rattle.whole_joined.proofs.PlaceNotes.{AreUnprocessed, controller_uninstalled, switch_unprocessed, uninstalled_unprocessed}
+use Rattle.whole_joined.proofs.PlaceNotes.{controller_uninstalled, switch_unprocessed, uninstalled_unprocessed}
 use Rattle.whole_joined.proofs.RunsJoined.{Runs, runs_at_start, runs_next, start_world}
 use Rattle.whole_joined.proofs.StartJoined.{all_fit, count_at_start, given, instance_found}
 use Rattle.net_ends.proofs.TallySteps.{IsTallyChunk, reads}
 use Rattle.net_ends.proofs.TokenRuns.{HasEnough, TallyLabel, enough_at_start, enough_next}
-use Rattle.run_headline.proofs.OwnTallies.{Counted, HasCount, NoTallies, NoTally, done_append, done_at, instance_counted, is_of_tally, most, none_done}
+use Rattle.run_headline.proofs.OwnTallies.{Counted, HasCount, NoTallies, NoTally, done_append, done_at, instance_counted, most, none_done}
 
 -- no count is more than what the instance has processed
 abbrev pub Below : List Note → List ℕ → Type 0
