@@ -32,8 +32,7 @@ use Rattle.run_report.specs.Lines.{answer_in, report_text}
 use Rattle.run_headline.specs.Headline.{Subject}
 use Rattle.run_headline.specs.Text.{HasHeadline}
 use Rattle.run_headline.specs.Law.{IsCompleted, subject}
-use Rattle.run_headline.proofs.HeadlineRuns.{are_told, headline}
-use Rattle.run_headline.proofs.ReportTexts.{has_headline}
+use Rattle.run_headline.proofs.ReportTexts.{reported}
 use Rattle.opennf_calls.specs.declared.network.Made.{Made}
 use Rattle.opennf_calls.specs.declared.status.Status.{Status}
 use Rattle.opennf_calls.specs.Functions.{OfKind}
@@ -86,8 +85,10 @@ module _ {R : Type 0} (F : Type 0) (f : Semantics R) (s : NetworkAsked) (g : Sce
       let is : IsCompleted F f alloc c l made.choices = record {
         is_input = subst (λ (k : Kind). IsInput k c l) (sym ran.kind) input;
         is_run = leads.is_run;
+        is_ended = subst (λ (w : Network (Node F R) Msg Note). is_done node_ended w ≡ true) leads.reached ran.complete;
         promises = subst (Promises f c l) leads.reached promises;
         verdicts = verdicts;
+        standbys = moved (λ c l. Standbys {F = F} (job_of f c l) (course_of (started alloc c l) made.choices)) ran.standbys;
         completed = subst (Completed f c l) leads.reached completed;
         outs = subst (λ (w : Network (Node F R) Msg Note). map (λ x. x.0) (by_number output_in w.log) ≡ map (λ p. p.number) (packets l)) leads.reached outs;
         answers = subst (λ (w : Network (Node F R) Msg Note). map (λ x. x.0) (by_number answer_in w.log) ≡ map (λ k. k.op) (commands l)) leads.reached answers;
@@ -97,7 +98,7 @@ module _ {R : Type 0} (F : Type 0) (f : Semantics R) (s : NetworkAsked) (g : Sce
       report ∙ (λ i. report_text f (is_head i) s.summary (leads.reached i)) in
       subst (λ (v : Subject R). HasHeadline v (head_for s g.captured) s.summary made.report) same_subject
       (subst (HasHeadline (subject f c l) (head_for s g.captured) s.summary) (sym text)
-      (has_headline f c l (head_for s g.captured) end refl (headline F f laws alloc c l made.choices is) (are_told F f laws alloc c l made.choices is) s.summary))
+      (reported F f laws alloc c l made.choices is (head_for s g.captured) refl s.summary))
 
   -- its report is made
   pub run_of : (laws : FunctionLaws f) (by : Option Schedule) (made : Made) (world : Network (Node F R) Msg Note) → Ran made.choices world

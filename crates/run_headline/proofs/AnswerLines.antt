@@ -19,6 +19,7 @@ use Rattle.report_lines.specs.Sorting.{put_in, sorted_by}
 use Rattle.run_report.specs.Lines.{answer_in}
 use Rattle.answer_net.proofs.BusyLemmas.{answers_of-append}
 use Rattle.run_headline.specs.Causes.{is_answered}
+use Rattle.run_headline.proofs.SortedParts.{all_sorted}
 
 -- an answer with the number of its command
 abbrev pub Line : Type 0
@@ -51,18 +52,6 @@ module _ (p : Line → Bool) where
   pub any_sorted : (xs : List Line) → list_any p (sorted_by (λ a. a.0) nat_cmp xs) ≡ list_any p xs
   any_sorted [] = refl
   any_sorted (x ∷ xs) = any_put x (sorted_by (λ a. a.0) nat_cmp xs) ∙ ap (λ b. p x || b) (any_sorted xs)
-
-module _ (P : Line → Type 0) where
-  all_put : (x : Line) (ys : List Line) → P x → AllByRecursion P ys → AllByRecursion P (put_in (λ a. a.0) nat_cmp x ys)
-  all_put x [] holds all = (holds, tt)
-  all_put x (y ∷ ys) holds all = elim (is_lt (nat_cmp y.0 x.0)) as (λ b. AllByRecursion P (cond b (y ∷ put_in (λ a. a.0) nat_cmp x ys) (x ∷ y ∷ ys))) [
-    | true ↦ (all.0, all_put x ys holds all.1)
-    | false ↦ (holds, all)
-  ]
-
-  pub all_sorted : (xs : List Line) → AllByRecursion P xs → AllByRecursion P (sorted_by (λ a. a.0) nat_cmp xs)
-  all_sorted [] all = tt
-  all_sorted (x ∷ xs) all = all_put x (sorted_by (λ a. a.0) nat_cmp xs) all.0 (all_sorted xs all.1)
 
 any_number : (op : ℕ) (xs : List Line) → has_answer op xs ≡ some op (map (λ a. a.0) xs)
 any_number op [] = refl
@@ -107,6 +96,46 @@ module _ (so : Answer → Bool) (a : Answer) (is_so : so a ≡ true) where
 
   pub so_answered : (op : ℕ) (log : List Note) → answers_of op log ≡ a ∷ [] → is_answered so (by_number answer_in log) op ≡ true
   so_answered op log h = any_sorted (λ x. (x.0 == op) && so x.1) (filter_map answer_in log) ∙ so_there op log h
+
+-- and what stands there so is it
+module _ (so : Answer → Bool) (a : Answer) where
+  is_so : (op : ℕ) (log : List Note) → answers_of op log ≡ a ∷ [] → is_answered so (filter_map answer_in log) op ≡ true → so a ≡ true
+  is_so op [] told h = cc
+  is_so op (note.Answered k answer ∷ log) told h = elim (k == op) as (λ b. (if b then answer ∷ answers_of op log else answers_of op log) ≡ a ∷ []
+      → ((b && so answer) || is_answered so (filter_map answer_in log) op) ≡ true → so a ≡ true) [
+        | true ↦ λ is there.
+            let same : answer ≡ a = cc in
+            let none : answers_of op log ≡ [] = cc in
+            let off : is_answered so (filter_map answer_in log) op ≡ false = unanswered op log none in
+            ap so (sym same) ∙ sym (or-false (so answer)) ∙ ap (λ b. so answer || b) (sym off) ∙ there
+        | false ↦ λ is there. is_so op log is there
+      ] told h
+    where
+      unanswered : (op : ℕ) (log : List Note) → answers_of op log ≡ [] → is_answered so (filter_map answer_in log) op ≡ false
+      unanswered op [] none = refl
+      unanswered op (note.Answered k answer ∷ log) none = elim (k == op) as (λ b. (if b then answer ∷ answers_of op log else answers_of op log) ≡ []
+          → ((b && so answer) || is_answered so (filter_map answer_in log) op) ≡ false) [ true ↦ λ is. cc | false ↦ λ is. unanswered op log is ] none
+      unanswered op (note.Processed number instance output ∷ log) none = unanswered op log none
+      unanswered op (note.Arrived number ∷ log) none = unanswered op log none
+      unanswered op (note.Begun k ∷ log) none = unanswered op log none
+      unanswered op (note.Exported k instance us ∷ log) none = unanswered op log none
+      unanswered op (note.Imported k instance us ∷ log) none = unanswered op log none
+      unanswered op (note.Kept k instance us ∷ log) none = unanswered op log none
+      unanswered op (note.Installed k ∷ log) none = unanswered op log none
+
+      or-false : (b : Bool) → (b || false) ≡ b
+      or-false true = refl
+      or-false false = refl
+  is_so op (note.Processed number instance output ∷ log) told h = is_so op log told h
+  is_so op (note.Arrived number ∷ log) told h = is_so op log told h
+  is_so op (note.Begun k ∷ log) told h = is_so op log told h
+  is_so op (note.Exported k instance us ∷ log) told h = is_so op log told h
+  is_so op (note.Imported k instance us ∷ log) told h = is_so op log told h
+  is_so op (note.Kept k instance us ∷ log) told h = is_so op log told h
+  is_so op (note.Installed k ∷ log) told h = is_so op log told h
+
+  pub answered_so : (op : ℕ) (log : List Note) → answers_of op log ≡ a ∷ [] → is_answered so (by_number answer_in log) op ≡ true → so a ≡ true
+  answered_so op log told h = is_so op log told (sym (any_sorted (λ x. (x.0 == op) && so x.1) (filter_map answer_in log)) ∙ h)
 
 -- the one answer of a list
 one_answer : (found : List Answer) → 1 ≤ length found → length found ≤ 1 → (a : Answer) × (found ≡ a ∷ [])
@@ -166,7 +195,7 @@ module _ (log : List Note) (once : (op : ℕ) → length (answers_of op log) ≤
   only_noted front (note.Installed k ∷ rest) is = only_noted (front ++ note.Installed k ∷ []) rest (is ∙ sym (append_assoc front (note.Installed k ∷ []) rest))
 
   pub only : AllByRecursion IsOnly (by_number answer_in log)
-  only = all_sorted IsOnly (filter_map answer_in log) (only_noted [] log refl)
+  only = all_sorted (λ a. a.0) nat_cmp IsOnly (filter_map answer_in log) (only_noted [] log refl)
 
   -- each command has an answer in the log
   pub answer_to : (items : List Msg) → map (λ x. x.0) (by_number answer_in log) ≡ map (λ k. k.op) (commands items) → (op : ℕ) (what : Order)

@@ -28,6 +28,7 @@ use Rattle.net_world.specs.Input.{packet_numbered, packets}
 use Rattle.net_world.specs.Log.{done, those}
 use Rattle.net_world.specs.Nodes.{node_ready, node_step}
 use Rattle.net_world.specs.Records.{live_at, live_in}
+use Rattle.net_world.specs.Standby.{standby_in}
 use Rattle.net_world.specs.Start.{started}
 use Rattle.nf_net.proofs.PacketCounts.{all_done}
 use Rattle.net_world.specs.Places.{is_loose}
@@ -44,7 +45,7 @@ use Rattle.run_headline.proofs.CoveredUnits.{uncovered}
 use Rattle.run_headline.proofs.FoundNumbers.{all_found}
 use Rattle.run_headline.proofs.SummaryCounts.{counts_each, names_under}
 use Rattle.run_headline.proofs.UnitOutputs.{folds_same, mine, part, processed_all, tests_agree, unit_outputs}
-use Rattle.run_headline.proofs.UnitStates.{each_kept, kept_of, live_nth, live_of, none_live, one_live, sorted_kept, under_names}
+use Rattle.run_headline.proofs.UnitStates.{each_kept, kept_nth, kept_of, live_nth, live_of, none_live, one_live, sorted_kept, under_names}
 
 -- The nodes of a world: a switch, a controller, and instances.
 module _ {F R : Type 0} where
@@ -53,6 +54,7 @@ module _ {F R : Type 0} where
     pub many : length instances ≡ count
     pub in_order : filter_map instance_in nodes ≡ instances
     pub lives : (u : units.Unit) (i : ℕ) → live_in u (slice_get nodes (instance_node i)) ≡ live_nth u instances i
+    pub stands : (u : units.Unit) (i : ℕ) → standby_in u (slice_get nodes (instance_node i)) ≡ kept_nth u false instances i
     pub there : (i : ℕ) (x : InstanceState F R) → slice_get instances i ≡ Some x → (d : Node F R) → get_or nodes (suc (suc i)) d ≡ Instance x
 
   record AreInstances (rest : List (Node F R)) : Type 0 where
@@ -75,6 +77,16 @@ module _ {F R : Type 0} where
   lives_nth u (i ∷ is) zero = refl
   lives_nth u (i ∷ is) (suc k) = lives_nth u is k
 
+  stands_nth : (u : units.Unit) (is : List (InstanceState F R)) (k : ℕ) → standby_in u (slice_get (map Instance is) k) ≡ kept_nth u false is k
+  stands_nth u [] k = refl
+  stands_nth u (i ∷ is) zero = refl
+  stands_nth u (i ∷ is) (suc k) = stands_nth u is k
+
+  -- what is read at an instance's node
+  nth_node : {X : Type 0} (g : Option (Node F R) → X) (s c : Node F R) (is : List (InstanceState F R)) (i : ℕ)
+      → g (slice_get (s ∷ c ∷ map Instance is) (instance_node i)) ≡ g (slice_get (map Instance is) i)
+  nth_node g s c is i = let node : instance_node i ≡ suc (suc i) = omega arith in ap (λ k. g (slice_get (s ∷ c ∷ map Instance is) k)) node
+
   found_nth : (is : List (InstanceState F R)) (k : ℕ) (x : InstanceState F R) → slice_get is k ≡ Some x → (d : Node F R) → get_or (map Instance is) k d ≡ Instance x
   found_nth [] k x found d = cc
   found_nth (i ∷ is) zero x found d = let same : i ≡ x = cc in ap Instance same
@@ -93,10 +105,10 @@ module _ {F R : Type 0} where
         instances = are.instances;
         many = (let same = ap length are.are ∙ length-map are.instances _ in omega (arith, same, long));
         in_order = ap (filter_map instance_in) whole ∙ picked are.instances;
-        lives = λ u i. (let node : instance_node i ≡ suc (suc i) = omega arith in
-            ap (λ l. live_in u (slice_get l (instance_node i))) whole
-            ∙ ap (λ k. live_in u (slice_get (Switch x.switch ∷ Controller x.controller ∷ map Instance are.instances) k)) node
-            ∙ lives_nth u are.instances i);
+        lives = λ u i. ap (λ l. live_in u (slice_get l (instance_node i))) whole
+            ∙ nth_node (live_in u) (Switch x.switch) (Controller x.controller) are.instances i ∙ lives_nth u are.instances i;
+        stands = λ u i. ap (λ l. standby_in u (slice_get l (instance_node i))) whole
+            ∙ nth_node (standby_in u) (Switch x.switch) (Controller x.controller) are.instances i ∙ stands_nth u are.instances i;
         there = λ i y found d. ap (λ l. get_or l (suc (suc i)) d) whole ∙ found_nth are.instances i y found d;
       }
 
@@ -144,16 +156,16 @@ module _ {R : Type 0} (F : Type 0) (f : Semantics R) (laws : FunctionLaws f) (al
   abbrev first : Network (Node F R) Msg Note
   first = started alloc c items
 
-  abbrev w : Network (Node F R) Msg Note
+  abbrev pub w : Network (Node F R) Msg Note
   w = run (node_step f) choices first
 
   abbrev of : Subject R
   of = subject f c items
 
-  abbrev there : List (NamedInstance R)
+  abbrev pub there : List (NamedInstance R)
   there = named_instances c.names w.nodes
 
-  nodes : AreNodes w.nodes (length c.names)
+  pub nodes : AreNodes w.nodes (length c.names)
   nodes =
       let joined = (run_beside F f laws alloc c items is.is_input choices is.is_run).joined in
       let reached = run_world node_ready (node_step f) (length c.names + 2) first (start_world F f laws alloc c items is.is_input) (count_at_start F f alloc c items is.is_input) choices is.is_run in

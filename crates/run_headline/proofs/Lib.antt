@@ -8,6 +8,12 @@ pub mod UnitOutputs
 pub mod CoveredUnits
 pub mod UnitStates
 pub mod SummaryCounts
+pub mod OwnTallies
+pub mod TallyRuns
+pub mod TallyLines
+pub mod RecordsUnder
 pub mod HeadlineRuns
+pub mod SharedStandbys
+pub mod InstanceLines
 pub mod ReportTexts
 pub mod TwoRuns

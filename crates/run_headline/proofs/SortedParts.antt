@@ -1,14 +1,14 @@
--- A part of a sorted list: what stood in order stands as it was, and what stood alone.
+-- A part of a sorted list: what stood in order stands as it was, and what stood alone; and what all of it have.
 use Rattle.std.proofs.Common.{◌≡◌, ℕ, suc, ◌<◌, ◌≤◌, Bool, true, false, cond, List, [], ◌∷◌, length, map, refl, sym, ap, ◌∙◌, arith}
 use Rattle.std.specs.Prelude.{nat_le, filter}
-use Rattle.std.specs.Ordering.{nat_cmp}
+use Rattle.std.specs.Ordering.{is_lt, nat_cmp}
 use Rattle.std.specs.declared.cmp.Ordering.{Ordering}
 use Rattle.std.specs.List.{AllByRecursion}
 use Rattle.std.specs.List.Sorted.{ties}
 use Rattle.std.specs.Cmp.{IsTotalOrder, IsStrictWeakOrder}
 use Rattle.std.proofs.lemmas.List.Sorted.{ranks_by}
 use Rattle.net_world.specs.Input.{IsRising}
-use Rattle.report_lines.specs.Sorting.{sorted_by}
+use Rattle.report_lines.specs.Sorting.{put_in, sorted_by}
 use Rattle.report_lines.proofs.SortLemmas.{IsUp, less, one_sort, up_sort, same_sort}
 use Rattle.report_lines.proofs.SortedAlready.{not_less}
 
@@ -31,7 +31,7 @@ module _ {X : Type 0} where
       filter_first p q x (q x) (filter q xs) ∙ both_ways p q (p x) (q x) x (filter p (filter q xs)) (filter q (filter p xs)) (filters_commute p q xs)
       ∙ sym (filter_first q p x (p x) (filter p xs))
 
-  all_filter : (P : X → Type 0) (q : X → Bool) (xs : List X) → AllByRecursion P xs → AllByRecursion P (filter q xs)
+  pub all_filter : (P : X → Type 0) (q : X → Bool) (xs : List X) → AllByRecursion P xs → AllByRecursion P (filter q xs)
   all_filter P q [] all = tt
   all_filter P q (x ∷ xs) all = elim (q x) as (λ b. AllByRecursion P (cond b (x ∷ filter q xs) (filter q xs))) [
     | true ↦ (all.0, all_filter P q xs all.1)
@@ -64,6 +64,19 @@ module _ {X K : Type 0} (key : X → K) (cmp : K → K → Ordering) (total : Is
 
   pub one_stays : (q : X → Bool) (xs : List X) → length (filter q xs) ≤ 1 → filter q (sorted_by key cmp xs) ≡ filter q xs
   one_stays q xs few = part_stays q xs (up_alone (filter q xs) few)
+
+-- what all of some have, all of them sorted have
+module _ {X K : Type 0} (key : X → K) (cmp : K → K → Ordering) (P : X → Type 0) where
+  all_put : (x : X) (ys : List X) → P x → AllByRecursion P ys → AllByRecursion P (put_in key cmp x ys)
+  all_put x [] holds all = (holds, tt)
+  all_put x (y ∷ ys) holds all = elim (is_lt (cmp (key y) (key x))) as (λ b. AllByRecursion P (cond b (y ∷ put_in key cmp x ys) (x ∷ y ∷ ys))) [
+    | true ↦ (all.0, all_put x ys holds all.1)
+    | false ↦ (holds, all)
+  ]
+
+  pub all_sorted : (xs : List X) → AllByRecursion P xs → AllByRecursion P (sorted_by key cmp xs)
+  all_sorted [] all = tt
+  all_sorted (x ∷ xs) all = all_put x (sorted_by key cmp xs) all.0 (all_sorted xs all.1)
 
 -- numbers that rise stand in order
 module _ {X : Type 0} where

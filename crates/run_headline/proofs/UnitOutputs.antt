@@ -22,7 +22,7 @@ use Rattle.report_lines.specs.Lines.{by_number, output_in}
 use Rattle.run_headline.specs.Headline.{outs_of, outputs_to, packets_of, is_of}
 use Rattle.run_headline.specs.Law.{subject}
 use Rattle.run_headline.proofs.FoundNumbers.{all_found}
-use Rattle.run_headline.proofs.SortedParts.{part_stays, up_rising}
+use Rattle.run_headline.proofs.SortedParts.{all_filter, part_stays, up_rising}
 use Rattle.std.proofs.lemmas.Cmp.{nat_cmp_total}
 
 abbrev Outs : Type 0
@@ -129,19 +129,28 @@ module _ {R : Type 0} (f : Semantics R) (c : Config) (items : List Msg) (u : uni
         | false ↦ outputs_same kept ps all.1
       ])
 
+  -- the numbers of its packets
+  pub those_numbers : (ps : List Packet) → AllByRecursion IsThere ps → those mine (map (λ p. p.number) ps) ≡ map (λ p. p.number) (filter part ps)
+  those_numbers [] all = refl
+  those_numbers (p ∷ ps) all =
+      subst (λ b. cond b (p.number ∷ those mine (map (λ q. q.number) ps)) (those mine (map (λ q. q.number) ps))
+      ≡ map (λ q. q.number) (cond (part p) (p ∷ filter part ps) (filter part ps))) (sym (ap part (numbered p all.0)))
+      (elim (part p) as (λ b. cond b (p.number ∷ those mine (map (λ q. q.number) ps)) (those mine (map (λ q. q.number) ps))
+      ≡ map (λ q. q.number) (cond b (p ∷ filter part ps) (filter part ps))) [
+        | true ↦ ap (λ l. p.number ∷ l) (those_numbers ps all.1)
+        | false ↦ those_numbers ps all.1
+      ])
+
+  pub folds_numbers : (kept : Option R) (ps : List Packet) → AllByRecursion IsThere ps
+      → folds.fold f c items kept (map (λ p. p.number) ps) ≡ fold (kept_after f c.site) kept ps
+  folds_numbers kept [] all = refl
+  folds_numbers kept (p ∷ ps) all =
+      subst (λ (q : Packet). folds.fold f c items (kept_after f c.site kept q) (map (λ r. r.number) ps) ≡ fold (kept_after f c.site) (kept_after f c.site kept p) ps)
+      (sym (numbered p all.0)) (folds_numbers (kept_after f c.site kept p) ps all.1)
+
   pub folds_same : (kept : Option R) (ps : List Packet) → AllByRecursion IsThere ps
       → folds.fold f c items kept (those mine (map (λ p. p.number) ps)) ≡ fold (kept_after f c.site) kept (filter part ps)
-  folds_same kept [] all = refl
-  folds_same kept (p ∷ ps) all =
-      let is : packet_numbered items p.number ≡ p = numbered p all.0 in
-      subst (λ (q : Packet). folds.fold f c items kept (cond (part q) (p.number ∷ those mine (map (λ r. r.number) ps)) (those mine (map (λ r. r.number) ps)))
-      ≡ fold (kept_after f c.site) kept (cond (part p) (p ∷ filter part ps) (filter part ps))) (sym is)
-      (elim (part p) as (λ b. folds.fold f c items kept (cond b (p.number ∷ those mine (map (λ r. r.number) ps)) (those mine (map (λ r. r.number) ps)))
-      ≡ fold (kept_after f c.site) kept (cond b (p ∷ filter part ps) (filter part ps))) [
-        | true ↦ subst (λ (q : Packet). folds.fold f c items (kept_after f c.site kept q) (those mine (map (λ r. r.number) ps))
-            ≡ fold (kept_after f c.site) (kept_after f c.site kept p) (filter part ps)) (sym is) (folds_same (kept_after f c.site kept p) ps all.1)
-        | false ↦ folds_same kept ps all.1
-      ])
+  folds_same kept ps all = ap (folds.fold f c items kept) (those_numbers ps all) ∙ folds_numbers kept (filter part ps) (all_filter IsThere part ps all)
 
 module _ {F R : Type 0} (f : Semantics R) (c : Config) (items : List Msg) (is : IsInput f.kind c items) (w : Network (Node F R) Msg Note)
     (promises : Promises f c items w) (completed : Completed f c items w) (u : units.Unit) (loose : is_loose c items u w.log ≡ false) where

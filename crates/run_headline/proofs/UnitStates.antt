@@ -1,5 +1,5 @@
 -- The records of a unit among those of all instances, sorted by their units: at most one, which is that of one instance that nothing moved.
-use Rattle.std.proofs.Common.{◌≡◌, ℕ, zero, suc, ◌≤◌, true, false, cond, Option, Some, None, List, [], ◌∷◌, ◌++◌, length, map}
+use Rattle.std.proofs.Common.{◌≡◌, ℕ, zero, suc, ◌≤◌, Bool, true, false, cond, Option, Some, None, List, [], ◌∷◌, ◌++◌, length, map}
 use Rattle.std.proofs.Common.{refl, sym, ap, ◌∙◌, subst, arith}
 use Rattle.std.specs.Prelude.{T, filter, option_to_list, zip}
 use Rattle.std.specs.List.{flat_map}
@@ -13,7 +13,7 @@ use Rattle.std.proofs.Math.Facts.{and_yes}
 use Rattle.nf_function.specs.declared.unit.Unit as units
 use Rattle.nf_function.specs.Units.{unit_cmp}
 use Rattle.nf_function.specs.UnitOrder.{units_total}
-use Rattle.record_table.specs.Table.{same_unit}
+use Rattle.record_table.specs.Table.{part, same_unit}
 use Rattle.record_table.proofs.UnitOrder.{same_unit-true, same_unit_equiv}
 use Rattle.instance_worker.specs.declared.instance.Instance.{Instance as InstanceState}
 use Rattle.report_lines.specs.Lines.{NamedInstance, NamedRecord, named_records}
@@ -22,7 +22,7 @@ use Rattle.run_report.specs.Lines.{instance_under}
 use Rattle.run_headline.proofs.SortedParts.{one_stays}
 
 -- what is its own reverse isn't less
-no_less : (o : Ordering) → o ≡ ordering_reverse o → T (is_lt o) → ⊥
+pub no_less : (o : Ordering) → o ≡ ordering_reverse o → T (is_lt o) → ⊥
 no_less Less same h = cc
 no_less Equal same h = h
 no_less Greater same h = h
@@ -104,11 +104,14 @@ module _ {R : Type 0} (u : units.Unit) where
     under_names (name ∷ names) [] same = absurd (omega (arith, same))
     under_names (name ∷ names) (i ∷ is) same = ap (λ l. live_of i ++ l) (under_names names is (omega (arith, same)))
 
-    -- what is live at the instance with a number
+    -- what is kept, and what is live, at the instance with a number
+    abbrev pub kept_nth : Bool → List (InstanceState F R) → ℕ → Option R
+    kept_nth live [] k = None
+    kept_nth live (i ∷ is) zero = finite.get (part i.table live) u
+    kept_nth live (i ∷ is) (suc k) = kept_nth live is k
+
     abbrev pub live_nth : List (InstanceState F R) → ℕ → Option R
-    live_nth [] k = None
-    live_nth (i ∷ is) zero = finite.get i.table.live u
-    live_nth (i ∷ is) (suc k) = live_nth is k
+    live_nth is k = kept_nth true is k
 
     pub none_live : (is : List (InstanceState F R)) → ((k : ℕ) → live_nth is k ≡ None) → flat_map live_of is ≡ []
     none_live [] none = refl

@@ -8,14 +8,14 @@ use Rattle.nf_msgs.specs.declared.msg.Msg.{Msg}
 use Rattle.nf_msgs.specs.declared.note.Note.{Note}
 use Rattle.nf_msgs.specs.declared.note.Note.TheVariants.{Processed}
 use Rattle.actor_net.specs.declared.choice.Choice.{Choice}
-use Rattle.actor_net.specs.Network.{Network, IsRun, run}
+use Rattle.actor_net.specs.Network.{Network, IsRun, is_done, run}
 use Rattle.net_world.specs.declared.config.Config.{Config}
 use Rattle.net_world.specs.declared.node.Node.{Node}
 use Rattle.net_world.specs.Input.{IsInput, packets, commands}
 use Rattle.net_world.specs.Jobs.{course_of, job_of}
-use Rattle.net_world.specs.Nodes.{node_ready, node_step}
+use Rattle.net_world.specs.Nodes.{node_ended, node_ready, node_step}
 use Rattle.net_world.specs.Start.{started}
-use Rattle.nf_net.specs.Promises.{Promises, Completed, Verdicts}
+use Rattle.nf_net.specs.Promises.{Promises, Completed, Standbys, Verdicts}
 use Rattle.report_lines.specs.Lines.{by_number, by_unit, output_in}
 use Rattle.run_report.specs.Lines.{answer_in, named_instances, report_text}
 use Rattle.run_report.specs.declared.head.Head.{Head}
@@ -49,8 +49,10 @@ module _ {R : Type 0} (F : Type 0) (f : Semantics R) (alloc : Global) (config : 
   pub record IsCompleted (choices : List Choice) : Type 0 where
     pub is_input : IsInput f.kind config items
     pub is_run : IsRun node_ready (node_step f) choices (started {F = F} {R = R} alloc config items)
+    pub is_ended : is_done node_ended (world choices) ≡ true
     pub promises : Promises f config items (world choices)
     pub verdicts : Verdicts {F = F} (job_of f config items) (course_of (started alloc config items) choices)
+    pub standbys : Standbys {F = F} (job_of f config items) (course_of (started alloc config items) choices)
     pub completed : Completed f config items (world choices)
     pub outs : map (λ x. x.0) (by_number output_in (world choices).log) ≡ map (λ p. p.number) (packets items)
     pub answers : map (λ x. x.0) (by_number answer_in (world choices).log) ≡ map (λ c. c.op) (commands items)

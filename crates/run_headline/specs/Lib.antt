@@ -1,4 +1,5 @@
 pub mod Causes
 pub mod Headline
+pub mod Instances
 pub mod Text
 pub mod Law

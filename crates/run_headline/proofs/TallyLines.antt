@@ -1,0 +1,72 @@
+-- At the end of a run the own count of an instance in its tally is the number of lines of packets that it has processed, and it counts no more of others.
+use Rattle.std.proofs.Common.{◌≡◌, ℕ, suc, ◌+◌, ◌<◌, ◌≤◌, Bool, true, false, cond, List, [], ◌∷◌, length, get_or, slice_index}
+use Rattle.std.proofs.Common.{refl, ap, ◌∙◌, subst, arith}
+use Rattle.std.specs.Prelude.{◌==◌, filter, filter_map, min}
+use Rattle.std.specs.declared.alloc.Global.{Global}
+use Rattle.std.proofs.lemmas.List.{length-map}
+use Rattle.nf_function.specs.Records.{Laws as FunctionLaws}
+use Rattle.nf_function.specs.Semantics.{Semantics}
+use Rattle.nf_msgs.specs.declared.msg.Msg.{Msg}
+use Rattle.nf_msgs.specs.declared.note.Note.{Note}
+use Rattle.nf_msgs.specs.declared.note.Note.TheVariants as note
+use Rattle.instance_worker.specs.declared.instance.Instance.{Instance as InstanceState}
+use Rattle.actor_net.specs.declared.choice.Choice.{Choice}
+use Rattle.actor_net.specs.Network.{Network, run}
+use Rattle.net_world.specs.declared.config.Config.{Config}
+use Rattle.net_world.specs.declared.node.Node.{Node}
+use Rattle.net_world.specs.declared.node.Node.TheVariants.{Instance}
+use Rattle.net_world.specs.Input.{packets}
+use Rattle.net_world.specs.Log.{done}
+use Rattle.net_world.specs.Nodes.{node_step}
+use Rattle.net_world.specs.Start.{started}
+use Rattle.run_headline.specs.Law.{IsCompleted, done_in}
+use Rattle.run_headline.proofs.OwnTallies.{done_at, most}
+use Rattle.run_headline.proofs.TallyRuns.{AtNode, IsTallied, run_tallied}
+
+-- there are as many lines as packets that were processed
+lines_done : (log : List Note) → length (filter_map done_in log) ≡ length (done log)
+lines_done [] = refl
+lines_done (note.Processed number instance output ∷ log) = ap suc (lines_done log)
+lines_done (note.Arrived number ∷ log) = lines_done log
+lines_done (note.Begun op ∷ log) = lines_done log
+lines_done (note.Exported op instance us ∷ log) = lines_done log
+lines_done (note.Imported op instance us ∷ log) = lines_done log
+lines_done (note.Kept op instance us ∷ log) = lines_done log
+lines_done (note.Installed op ∷ log) = lines_done log
+lines_done (note.Answered op answer ∷ log) = lines_done log
+
+few_pass : {X : Type 0} (p : X → Bool) (xs : List X) → length (filter p xs) ≤ length xs
+few_pass p [] = omega arith
+few_pass p (x ∷ xs) = elim (p x) as (λ b. length (cond b (x ∷ filter p xs) (filter p xs)) ≤ suc (length xs)) [
+  | true ↦ (let rest = few_pass p xs in omega (arith, rest))
+  | false ↦ (let rest = few_pass p xs in omega (arith, rest))
+]
+
+module _ {R : Type 0} (F : Type 0) (f : Semantics R) (laws : FunctionLaws f) (alloc : Global) (c : Config) (items : List Msg) (choices : List Choice) (is : IsCompleted F f alloc c items choices) where
+  abbrev w : Network (Node F R) Msg Note
+  w = run (node_step f) choices (started alloc c items)
+
+  -- what the tally of an instance counts
+  pub record HasCounts (i : ℕ) (x : InstanceState F R) : Type 0 where
+    pub low : i < length x.tally.slots
+    pub own : slice_index x.tally.slots i ≡ done_at i w.log
+    pub others : (j : ℕ) → slice_index x.tally.slots j ≤ done_at j w.log
+
+  pub has_counts : (i : ℕ) (x : InstanceState F R) → i < length c.names → ((d : Node F R) → get_or w.nodes (suc (suc i)) d ≡ Instance x) → HasCounts i x
+  has_counts i x low there =
+      let within : suc (suc i) < length c.names + 2 = omega (arith, low) in
+      let tallied = run_tallied F f laws alloc c items is.is_input choices is.is_run in
+      let it : IsTallied f w.log (suc (suc i)) x = subst (AtNode f w.log (suc (suc i))) (there (Instance x)) (tallied.at_nodes (suc (suc i)) within (Instance x)) in
+      let node = it.node in
+      let index : x.index ≡ i = omega (arith, node) in
+      let own : slice_index x.tally.slots i ≡ min (done_at i w.log) most = subst (λ k. slice_index x.tally.slots k ≡ min (done_at k w.log) most) index it.count.own in
+      let lines = lines_done w.log in
+      let pass = few_pass (λ d. d.1 == i) (filter_map done_in w.log) in
+      let parcels = is.promises.parcels 0 in
+      let came = ap length is.completed.all_came ∙ length-map (packets items) (λ p. p.number) in
+      let few = is.is_input.few in
+      record {
+        low = (let long = it.count.low in omega (arith, long, index));
+        own = omega (arith, own, lines, pass, parcels, came, few);
+        others = λ j. (let below = it.below j in omega (arith, below));
+      }
