@@ -181,8 +181,7 @@ module _ {R : Type 0} (F : Type 0) (f : Semantics R) (laws : FunctionLaws f) (al
       let whole : s.front ++ s.is_front.rest ≡ map (λ p. p.number) mine = s.is_front.whole ∙ all ∙ those_numbers f c items u (packets items) packets_found in
       let front : map (λ p. p.number) (take count mine) ≡ s.front =
       sym (take-map (λ (p : Packet). p.number) count mine) ∙ ap (take count) (sym whole) ∙ take_front s.front s.is_front.rest in
-      let found = all_take (IsThere f c items u) count mine (all_filter (IsThere f c items u) (part f c items u) (packets items) packets_found) in
-      (
+      let found = all_take (IsThere f c items u) count mine (all_filter (IsThere f c items u) (part f c items u) (packets items) packets_found) in (
         count,
         sym (folds_numbers f c items u None (take count mine) found) ∙ ap (folds.fold f c items None) front ∙ s.folds ∙ sym s.there ∙ there,
       )
@@ -285,11 +284,10 @@ module _ {R : Type 0} (F : Type 0) (f : Semantics R) (laws : FunctionLaws f) (al
           ap (map instance_node) one.instances in
           let own : (instance_node one.home == instance_node one.home) ≡ true = grind (arith, nat_tests) in
           let first_in : has (map instance_node (filter_map (place_of c.names) (name ∷ rest))) (instance_node one.home) ≡ true =
-          ap (λ ks. has ks (instance_node one.home)) same ∙ ap (λ b. if b then true else has (map instance_node (filter_map (place_of c.names) rest)) (instance_node one.home)) own in
-          (
+          ap (λ ks. has ks (instance_node one.home)) same ∙ ap (λ b. if b then true else has (map instance_node (filter_map (place_of c.names) rest)) (instance_node one.home)) own in (
             one_other name one.home one.at parts.0 (inside (instance_node one.home) first_in),
             each_other rest (rest_known name rest none) parts.1
-            (λ k at_rest. inside k (ap (λ ks. has ks k) same ∙ has_more (instance_node one.home) k (map instance_node (filter_map (place_of c.names) rest)) at_rest)),
+                (λ k at_rest. inside k (ap (λ ks. has ks k) same ∙ has_more (instance_node one.home) k (map instance_node (filter_map (place_of c.names) rest)) at_rest)),
           )
 
     share_stands : list_any (λ other. bytes_eq other home) others ≡ false → IsShared said.states standbys (Share (home ∷ others) taken)

@@ -148,8 +148,7 @@ module _ {R : Type 0} where
       → AllByRecursion (IsEntry (x ∷ all)) es
   entries_past x all [] below h = tt
   entries_past x all (e ∷ es) below h =
-      let parts = and_yes (is_lt (unit_cmp x.0 e.0)) (below_all unit_cmp x.0 es) below in
-      (
+      let parts = and_yes (is_lt (unit_cmp x.0 e.0)) (below_all unit_cmp x.0 es) below in (
         elim (same_unit e.0 x.0) as (λ b. same_unit e.0 x.0 ≡ b → cond b (Some x.1) (find unit_cmp e.0 all) ≡ Some e.1) [
           | true ↦ λ is.
               let same : e.0 ≡ x.0 = same_unit-true e.0 x.0 is in
@@ -162,8 +161,7 @@ module _ {R : Type 0} where
   each_entry : (es : List (units.Unit × R)) → T (is_sorted unit_cmp es) → AllByRecursion (IsEntry es) es
   each_entry [] up = tt
   each_entry (e ∷ es) up =
-      let parts = and_yes (below_all unit_cmp e.0 es) (is_sorted unit_cmp es) up in
-      (
+      let parts = and_yes (below_all unit_cmp e.0 es) (is_sorted unit_cmp es) up in (
         subst (λ b. cond b (Some e.1) (find unit_cmp e.0 es) ≡ Some e.1) (sym (same_unit_equiv.refl e.0)) refl,
         entries_past e es es parts.0 (each_entry es parts.1),
       )

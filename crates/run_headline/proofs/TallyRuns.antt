@@ -155,8 +155,7 @@ module _ {F R : Type 0} (f : Semantics R) where
         let long = c.long in
         let low = h.count.low in
         let all = done_append i.index log did.notes in
-        let own : slice_index did.node.tally.slots i.index ≡ min (done_at i.index (log ++ did.notes)) most = (let is = c.own in omega (arith, is, all)) in
-        (
+        let own : slice_index did.node.tally.slots i.index ≡ min (done_at i.index (log ++ did.notes)) most = (let is = c.own in omega (arith, is, all)) in (
           record {
             node = ap instance_node index ∙ h.node;
             count = record {
@@ -165,7 +164,7 @@ module _ {F R : Type 0} (f : Semantics R) where
             };
             below = λ j. elim (j == i.index) as (λ b. (j == i.index) ≡ b → slice_index did.node.tally.slots j ≤ min (done_at j (log ++ did.notes)) most) [
               | true ↦ λ on. (let same : i.index ≡ j = grind (arith, nat_tests, on) in
-                subst (λ x. slice_index did.node.tally.slots x ≤ min (done_at x (log ++ did.notes)) most) same (omega (arith, own)))
+                  subst (λ x. slice_index did.node.tally.slots x ≤ min (done_at x (log ++ did.notes)) most) same (omega (arith, own)))
               | false ↦ λ off. (let was = below_more log did.notes i.tally.slots h.below j in let is = c.others j off in omega (arith, was, is))
             ] refl;
           },
@@ -186,8 +185,7 @@ module _ {F R : Type 0} (f : Semantics R) where
     taken_left slots op tally other low =
         let same : length i.tally.slots ≡ length slots = tally.size ∙ sym other.size in
         let long = merge_laws.slots i.tally.slots slots same in
-        let index = h.count.low in
-        (
+        let index = h.count.low in (
           record {
             node = h.node;
             count = record {
@@ -225,9 +223,9 @@ module _ {F R : Type 0} (f : Semantics R) (g : Given) (n : ℕ) (w : Network (No
           way = subst (λ l. OnLinks (Bounded f l) after) (sym left.log) (on_links_after (Bounded f log) step n w k p (node_of j.nodes k) m rest takes before sent);
           at_nodes = λ i low d. subst (λ l. AtNode f l i (get_or after.nodes i d)) (sym left.log) (elim (i == k) as (λ b. (i == k) ≡ b → AtNode f log i (get_or after.nodes i d)) [
             | true ↦ λ on. (let same : i ≡ k = grind (arith, nat_tests, on) in
-              subst (λ y. AtNode f log y (get_or after.nodes y d)) (sym same) (subst (AtNode f log k) (sym (left.own d)) own))
+                subst (λ y. AtNode f log y (get_or after.nodes y d)) (sym same) (subst (AtNode f log k) (sym (left.own d)) own))
             | false ↦ λ off. (let apart : i ≢ k = grind (arith, nat_tests, off) in
-              subst (AtNode f log i) (sym (left.others i d apart)) (other_notes f w.log did.notes i (get_or w.nodes i d) (λ x is. none x (λ same. apart (sym is ∙ same))) (h.at_nodes i low d)))
+                subst (AtNode f log i) (sym (left.others i d apart)) (other_notes f w.log did.notes i (get_or w.nodes i d) (λ x is. none x (λ same. apart (sym is ∙ same))) (h.at_nodes i low d)))
           ] refl);
         }
 
