@@ -101,12 +101,13 @@ small_prop at = hlevel props
 range_prop : (w : What) → IsProp (ForSome (what_filter w) IsFilter)
 range_prop w = hlevel props
 
-with_parts : (l : Line) (at : ℕ) (w : What) → l.at ≡ at → l.what ≡ w → (small : at < 2 ^ 32) (range : ForSome (what_filter w) IsFilter)
+abbrev IsLineOf : Line → ℕ → What → Type 0
+IsLineOf l at w = (small : at < 2 ^ 32) (range : ForSome (what_filter w) IsFilter)
     → l ≡ record { at = at; what = w; at_in_range = small; filter_in_range = range }
-with_parts l at w e f =
-    subst (λ n. (small : n < 2 ^ 32) (range : ForSome (what_filter w) IsFilter) → l ≡ record { at = n; what = w; at_in_range = small; filter_in_range = range }) e
-    (subst (λ v. (small : l.at < 2 ^ 32) (range : ForSome (what_filter v) IsFilter) → l ≡ record { at = l.at; what = v; at_in_range = small; filter_in_range = range }) f
-    (λ small range. subst (λ x. l ≡ record { at = l.at; what = l.what; at_in_range = x; filter_in_range = range }) (small_prop l.at l.at_in_range small)
+
+with_parts : (l : Line) (at : ℕ) (w : What) → l.at ≡ at → l.what ≡ w → IsLineOf l at w
+with_parts l at w e f = subst (λ n. IsLineOf l n w) e (subst (λ v. IsLineOf l l.at v) f (λ small range.
+    subst (λ x. l ≡ record { at = l.at; what = l.what; at_in_range = x; filter_in_range = range }) (small_prop l.at l.at_in_range small)
     (subst (λ y. l ≡ record { at = l.at; what = l.what; at_in_range = l.at_in_range; filter_in_range = y }) (range_prop l.what l.filter_in_range range) refl)))
 
 same_line : (a b : Line) → line_view a ≡ line_view b → a ≡ b
