@@ -1,8 +1,11 @@
 -- The same bytes give a run the same: the site, the capture, the routes and the lines.
-use Rattle.std.proofs.Common.{◌≡◌, ℕ, Option, Some, None, List, [], ◌∷◌, map, Ok, refl, ap, sym, ◌∙◌, subst}
+use Rattle.std.proofs.Common.{◌≡◌, ◌<◌, ◌^◌, ℕ, Option, Some, None, List, [], ◌∷◌, map, Ok, refl, ap, sym, ◌∙◌, subst}
 use Rattle.std.specs.Prelude.{option_map}
+use Rattle.std.specs.Option.{ForSome}
+use Rattle.std.proofs.Props.{props}
 use Rattle.flow_filter.specs.declared.filter.Filter.{Filter}
 use Rattle.flow_filter.specs.declared.prefix.Prefix.{Prefix}
+use Rattle.flow_filter.specs.Filter.{IsFilter}
 use Rattle.flow_filter.specs.FilterText.{fields_of}
 use Rattle.flow_filter.specs.Reading.{prefix_numbers}
 use Rattle.nf_io.specs.declared.outside.Role.{Role}
@@ -14,6 +17,7 @@ use Rattle.trace_reader.specs.Records.{capture_of}
 use Rattle.op_script.specs.declared.script.Line.{Line}
 use Rattle.op_script.specs.declared.script.What.{What}
 use Rattle.op_script.specs.declared.script.What.TheVariants as what
+use Rattle.op_script.specs.LineFilters.{what_filter}
 use Rattle.op_script.specs.Reading.{OrderView, line_view, order_view, route_view, script_view, what_view}
 use Rattle.command_words.specs.Requests.{NetworkAsked}
 use Rattle.opennf_calls.specs.NetworkRuns.{Scenario, given_script}
@@ -90,11 +94,24 @@ same_what (what.Command c) (what.Command d) e =
 same_what what.Settle (what.Command d) e = cc
 same_what (what.Command c) what.Settle e = cc
 
+-- what a line keeps of its numbers is no part of which line it is
+small_prop : (at : ℕ) → IsProp (at < 2 ^ 32)
+small_prop at = hlevel props
+
+range_prop : (w : What) → IsProp (ForSome (what_filter w) IsFilter)
+range_prop w = hlevel props
+
+abbrev IsLineOf : Line → ℕ → What → Type 0
+IsLineOf l at w = (small : at < 2 ^ 32) (range : ForSome (what_filter w) IsFilter)
+    → l ≡ record { at = at; what = w; at_in_range = small; filter_in_range = range }
+
+with_parts : (l : Line) (at : ℕ) (w : What) → l.at ≡ at → l.what ≡ w → IsLineOf l at w
+with_parts l at w e f = subst (λ n. IsLineOf l n w) e (subst (λ v. IsLineOf l l.at v) f (λ small range.
+    subst (λ x. l ≡ record { at = l.at; what = l.what; at_in_range = x; filter_in_range = range }) (small_prop l.at l.at_in_range small)
+    (subst (λ y. l ≡ record { at = l.at; what = l.what; at_in_range = l.at_in_range; filter_in_range = y }) (range_prop l.what l.filter_in_range range) refl)))
+
 same_line : (a b : Line) → line_view a ≡ line_view b → a ≡ b
-same_line a b e =
-    let at : a.at ≡ b.at = ap (λ l. l.at) e in
-    let happens : a.what ≡ b.what = same_what a.what b.what (ap (λ l. l.what) e) in
-    subst (λ x. a ≡ record { at = x; what = b.what }) at (subst (λ x. a ≡ record { at = a.at; what = x }) happens refl)
+same_line a b e = with_parts a b.at b.what (ap (λ l. l.at) e) (same_what a.what b.what (ap (λ l. l.what) e)) b.at_in_range b.filter_in_range
 
 same_route : (a b : Filter × ℕ) → route_view a ≡ route_view b → a ≡ b
 same_route a b e =
