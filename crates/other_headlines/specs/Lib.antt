@@ -1,0 +1,2 @@
+pub mod Strong
+pub mod StrongLaw
