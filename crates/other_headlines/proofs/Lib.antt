@@ -9,3 +9,6 @@ pub mod StrongWorlds
 pub mod StrongTurns
 pub mod StrongStates
 pub mod StrongTexts
+pub mod TwoNodes
+pub mod TwoVerdicts
+pub mod TwoHeadlines
