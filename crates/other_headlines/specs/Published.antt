@@ -1,5 +1,5 @@
 -- What the lines of a report of a two-phase update say: those of a report of a run without commands, and what the update came to. This project's own.
-use Rattle.std.specs.Prelude.{◌≡◌, ℕ, ◌++◌, Bool, true, false, List, [], codes, flat_map, length, map}
+use Rattle.std.specs.Prelude.{◌≡◌, ℕ, ◌++◌, Bool, true, false, List, codes, flat_map, length, map}
 use Rattle.std.specs.List.{list_any}
 use Rattle.flow_filter.specs.declared.filter.Filter.{Filter}
 use Rattle.flow_filter.specs.declared.packet.Packet.{Packet}
