@@ -13,7 +13,6 @@ pub mod JournalRows
 pub mod LastLineLemmas
 pub mod LoggedNumbers
 pub mod MakingLemmas
-pub mod NumberedLines
 pub mod RoleLemmas
 pub mod RowLemmas
 pub mod RunLemmas

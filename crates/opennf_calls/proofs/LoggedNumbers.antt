@@ -16,24 +16,12 @@ use Rattle.net_world.specs.declared.node.Node.{Node}
 use Rattle.net_world.specs.Commands.{answers_of}
 use Rattle.net_world.specs.Fold.{times}
 use Rattle.net_world.specs.Input.{IsInput, IsRising, commands, ends_last, order_numbered, packets}
-use Rattle.net_world.specs.Log.{done}
 use Rattle.nf_net.specs.Promises.{Completed, Promises}
 use Rattle.nf_net.proofs.PacketCounts.{all_done}
 use Rattle.report_lines.specs.Lines.{by_number, output_in}
 use Rattle.run_report.specs.Lines.{answer_in}
-use Rattle.opennf_calls.proofs.NumberedLines.{rising_above, rising_sorted}
-
--- what the log has an output for is what was processed
-processed : (log : List Note) → map (λ x. x.0) (filter_map output_in log) ≡ map (λ d. d.number) (done log)
-processed [] = refl
-processed (note.Processed number instance output ∷ log) = ap (λ ns. number ∷ ns) (processed log)
-processed (note.Arrived number ∷ log) = processed log
-processed (note.Begun op ∷ log) = processed log
-processed (note.Exported instance op us ∷ log) = processed log
-processed (note.Imported instance op us ∷ log) = processed log
-processed (note.Kept instance op us ∷ log) = processed log
-processed (note.Installed op ∷ log) = processed log
-processed (note.Answered op answer ∷ log) = processed log
+use Rattle.other_headlines.proofs.LoggedOutputs.{noted}
+use Rattle.other_headlines.proofs.NumberedLines.{rising_above, rising_sorted}
 
 -- a number has as many answers in the log as a list of all answers has for it
 answers_times : (op : ℕ) (log : List Note) → times op (map (λ x. x.0) (filter_map answer_in log)) ≡ length (answers_of op log)
@@ -71,7 +59,7 @@ module _ {F R : Type 0} (f : Semantics R) (kind : Kind) (c : Config) (items : Li
   -- each number was processed as often as it came
   processed_times : (p : ℕ) → times p (map (λ x. x.0) (filter_map output_in w.log)) ≡ times p (map (λ q. q.number) (packets items))
   processed_times p =
-      ap (times p) (processed w.log) ∙ all_done f c items w.log completed.each_once p ∙ ap (times p) completed.all_came
+      ap (times p) (noted w.log) ∙ all_done f c items w.log completed.each_once p ∙ ap (times p) completed.all_came
 
   -- the lines of outputs have each packet's number once, in order
   pub out_numbers : map (λ x. x.0) (by_number output_in w.log) ≡ map (λ q. q.number) (packets items)

@@ -18,6 +18,8 @@ use Rattle.strong_share.specs.Report.{strong_text}
 use Rattle.strong_share.specs.Runs.{LeadsTo, chosen}
 use Rattle.strong_share.specs.Start.{StrongJob, job_of, strong_start}
 use Rattle.strong_share.specs.Tables.{node_ended}
+use Rattle.other_headlines.specs.Strong.{HasStrongHeadline}
+use Rattle.other_headlines.specs.StrongLaw.{strong_subject}
 use Rattle.opennf_calls.specs.CaptureScenes.{CaptureScene, OfCaptureScene, SceneWords}
 use Rattle.opennf_calls.specs.Functions.{OfKind}
 use Rattle.opennf_calls.specs.NetworkRuns.{RunResults}
@@ -56,6 +58,8 @@ module _ {R : Type 0} (F : Type 0) (f : Semantics R) (s : StrongAsked) (scene : 
     pub head : StrongHead
     pub is_head : IsSharingHead s scene.captured head
     pub report : made.texts Report ≡ strong_text f head world
+    -- what the report says of each packet and each unit
+    pub headline : HasStrongHeadline (strong_subject f s.names (sharing_for s scene)) scene.filter head (made.texts Report)
 
 -- the sharing of the function that the words name
 abbrev pub HasSharing : StrongAsked → CaptureScene → Schedule → RunResults → Type 0

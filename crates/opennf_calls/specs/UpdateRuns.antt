@@ -19,6 +19,8 @@ use Rattle.two_phase.specs.Promises.{Published}
 use Rattle.two_phase.specs.Report.{two_text}
 use Rattle.two_phase.specs.Start.{UpdateJob, two_start}
 use Rattle.two_phase.specs.Tables.{node_ended, node_ready, node_step}
+use Rattle.other_headlines.specs.Published.{HasPublishedHeadline}
+use Rattle.other_headlines.specs.PublishedLaw.{two_subject}
 use Rattle.opennf_calls.specs.CaptureScenes.{CaptureScene, OfCaptureScene, SceneWords}
 use Rattle.opennf_calls.specs.Functions.{OfKind}
 use Rattle.opennf_calls.specs.NetworkRuns.{RunResults}
@@ -48,6 +50,8 @@ module _ {R : Type 0} (F : Type 0) (f : Semantics R) (p : PublishedAsked) (scene
     pub complete : is_done node_ended world ≡ true
     pub published : Published f (update_for p scene) made.choices world
     pub report : made.texts Report ≡ two_text f (update_head p scene.captured) world
+    -- what the report says of each packet and each unit
+    pub headline : HasPublishedHeadline (two_subject f (update_for p scene)) scene.filter (update_head p scene.captured) (made.texts Report)
 
 -- the update of the function that the words name
 abbrev pub HasUpdate : PublishedAsked → CaptureScene → Schedule → RunResults → Type 0

@@ -1,10 +1,13 @@
 -- The sharing of a schedule is that of the words and the capture. The schedule comes to its end.
-use Rattle.std.proofs.Common.{◌≡◌, arith, rules, subst, sym}
+use Rattle.std.proofs.Common.{◌≡◌, arith, refl, rules, subst, sym}
 use Rattle.nf_function.specs.declared.kind.Kind.{Kind}
 use Rattle.command_words.specs.RequestViews.{strong_view}
 use Rattle.strong_share.specs.Promises.{StrongCompleted, StrongEnds, StrongPromises}
 use Rattle.strong_share.specs.Runs.{LeadsTo, chosen}
 use Rattle.strong_share.specs.Start.{IsStrongJob, StrongJob, strong_start}
+use Rattle.other_headlines.specs.Strong.{HasStrongHeadline}
+use Rattle.other_headlines.specs.StrongLaw.{IsStrongRun, strong_subject}
+use Rattle.other_headlines.proofs.StrongTexts.{strong_law}
 use Rattle.opennf_calls.specs.StrongRuns.{sharing_for, sharing_scene}
 use Rattle.opennf_calls.proofs.StrongRows.{same_sharing}
 use Rattle.opennf_calls.proofs.sharing.share_network.Goals as goal
@@ -26,12 +29,25 @@ pub returns : goal.returns
 returns g c =
     let f = g.F.Function.semantics in
     let alloc = c.args.alloc in
-    let same = same_sharing (strong_view c.args.asked.now) (sharing_scene c.args.asked.now c.args.trace) c.member_count-members.result c.member_count-members.ensures in
+    let s = strong_view c.args.asked.now in
+    let scene = sharing_scene c.args.asked.now c.args.trace in
+    let job = sharing_for s scene in
+    let same = same_sharing s scene c.member_count-members.result c.member_count-members.ensures in
+    let leads : LeadsTo f (strong_start alloc job) c.in-Ok.ended.1 c.in-Ok.ended.0 =
+    subst (λ (j : StrongJob). LeadsTo f (strong_start alloc j) c.in-Ok.ended.1 c.in-Ok.ended.0) same c.in-Ok.ensures.leads in
+    let is : IsStrongRun g.row.F.Denot f s.names job c.in-Ok.ended.0 = record {
+      is_job = subst (λ (k : Kind). IsStrongJob k job) (sym c.requires.kind) c.requires.sound.job;
+      members = refl;
+      alloc = alloc;
+      choices = c.in-Ok.ended.1;
+      leads = leads;
+      complete = c.in-Ok.ensures.complete;
+    } in
     record {
       alloc = alloc;
       world = c.in-Ok.ended.0;
       scheduled = subst (λ (j : StrongJob). c.in-Ok.ended.1 ≡ chosen {F = g.row.F.Denot} f (strong_start alloc j) c.args.schedule) same c.in-Ok.ensures.choices;
-      leads = subst (λ (j : StrongJob). LeadsTo f (strong_start alloc j) c.in-Ok.ended.1 c.in-Ok.ended.0) same c.in-Ok.ensures.leads;
+      leads = leads;
       complete = c.in-Ok.ensures.complete;
       promises = subst (λ (j : StrongJob). StrongPromises f j c.in-Ok.ended.0) same c.in-Ok.ensures.promises;
       completed = subst (λ (j : StrongJob). StrongCompleted f j c.in-Ok.ended.0) same c.in-Ok.ensures.completed;
@@ -39,4 +55,6 @@ returns g c =
       head = c.in_ok-head.head;
       is_head = c.in_ok-head.ensures;
       report = c.in_ok-report.ensures;
+      headline = subst (HasStrongHeadline (strong_subject f s.names job) scene.filter c.in_ok-head.head) (sym c.in_ok-report.ensures)
+          (strong_law g.row.F.Denot f g.met.F.Function.laws s.names job c.in-Ok.ended.0 is c.in_ok-head.head c.in_ok-head.ensures.names);
     }

@@ -1,0 +1,14 @@
+pub mod PacketNumbers
+pub mod NumberedLines
+pub mod LineNumbers
+pub mod UnitLines
+pub mod NumberedOutputs
+pub mod LoggedOutputs
+pub mod MemberLines
+pub mod StrongWorlds
+pub mod StrongTurns
+pub mod StrongStates
+pub mod StrongTexts
+pub mod TwoNodes
+pub mod TwoVerdicts
+pub mod TwoHeadlines

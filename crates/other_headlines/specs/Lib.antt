@@ -1,0 +1,4 @@
+pub mod Strong
+pub mod StrongLaw
+pub mod Published
+pub mod PublishedLaw
