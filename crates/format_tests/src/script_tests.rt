@@ -101,14 +101,13 @@ fn the_canonical_text_has_one_space_between_words(rt: HostRuntime) -> Result<(),
 
 #[test]
 fn lines_in_any_order_stand_after_their_packets(rt: HostRuntime) -> Result<(), Fail> {
-    let mut script = Script {
-        routes: Vec::new(rt.alloc()),
-        lines: Vec::new(rt.alloc()),
-    };
+    let mut lines = Vec::new(rt.alloc());
     for (at, op) in [(1, 0), (0, 1), (9, 0), (1, 2), (7, 3)] {
         let what = what_of(rt.alloc(), op)?;
-        script.lines.push(Line { at, what })?;
+        lines.push(Line { at, what })?;
     }
+    let routes = Vec::new(rt.alloc());
+    let script = Script { routes, lines };
     let input = items(rt.alloc(), two_packets(rt.alloc())?, &script)?;
     let (kinds, _numbers) = shown(rt.alloc(), input.as_slice())?;
     assert_eq!(rt; kinds.as_slice(), b"cpscpsce".as_slice());
