@@ -1,5 +1,5 @@
 #!/usr/bin/env python3
-"""Runs the program core_speed, and prints the choices that it takes in a second, the time of a world like the program's network,
+"""Runs the program speed_core, and prints the choices that it takes in a second, the time of a world like the program's network,
 and the memory that a choice takes.
 
 Use: core.py PROGRAM

@@ -11,10 +11,10 @@
 # when they are merged. This is no part of the gate. It writes no file.
 set -eu
 bench=$(cd "$(dirname "${BASH_SOURCE[0]}")" && pwd)
-program=${1:-$bench/../crates/core_speed/out/core_speed}
+program=${1:-$bench/../crates/speed_core/out/speed_core}
 
 if [ ! -x "$program" ]; then
-    echo "bench/core.sh: $program isn't there: build it first, by 'rt run -- ring first 5 1 1000' in crates/core_speed" >&2
+    echo "bench/core.sh: $program isn't there: build it first, by 'rt run -- ring first 5 1 1000' in crates/speed_core" >&2
     exit 1
 fi
 echo "load $(cut -d ' ' -f 1-3 /proc/loadavg), processors $(nproc)"

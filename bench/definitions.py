@@ -3,16 +3,18 @@
 
     bench/definitions.py run_headline:Text:HasHeadline [CRATE:MODULE:NAME ..]
     bench/definitions.py --list CRATE:MODULE:NAME ..
+    bench/definitions.py --files CRATE:MODULE:NAME ..
 
 A definition's lines are those that it stands in, but for comments and blank lines. What is imported is followed, also through a module's short name. Words
-of std, and the types and constants of programs, are not counted. With --list each definition has a line of its own."""
+of std, and the types and constants of programs, are not counted. With --list each definition has a line of its own, and with --files each file: its lines that
+count, and its definitions with theirs."""
 import os
 import re
 import sys
 
 CRATES = os.path.join(os.path.dirname(os.path.abspath(__file__)), os.pardir, "crates")
-BEGIN = re.compile(r" *(?:(?:abbrev|unfoldable)(?: pub)?|(?:pub )?(?:record|data)) (\S+)")
-IMPORT = re.compile(r"^ *(?:pub )?use Rattle\.(\w+)\.specs\.([\w.]+?)(?:\.\{(.*)\}| as (\w+))$")
+BEGIN = re.compile(r" *(?:(?:abbrev|unfoldable)(?: pub)?|(?:pub )?(?:record|data)) ([^\s{]+)")
+IMPORT = re.compile(r"^ *(?:pub )?use Rattle\.(?:\w+\.specs\.)*(\w+)\.specs\.([\w.]+?)(?:\.\{(.*)\}| as (\w+))$")
 WORD = re.compile(r"[A-Za-z_][\w']*(?:\.[A-Za-z_][\w']*)*")
 
 
@@ -105,11 +107,23 @@ def count(names):
     return len(found), sum(map(lines_of, found)), len({one[:2] for one in found})
 
 
+def by_file(names):
+    """The files in which these stand, with the definitions of each: those with the most lines first."""
+    files = {}
+    for one in reached(tuple(name.split(":")) for name in names):
+        files.setdefault(one[:2], []).append(one)
+    return sorted(files.items(), key=lambda file: (-sum(map(lines_of, file[1])), file[0]))
+
+
 if __name__ == "__main__":
     words = sys.argv[1:]
     if words[:1] == ["--list"]:
         for one in sorted(reached(tuple(name.split(":")) for name in words[1:])):
             print(lines_of(one), ":".join(one))
+    elif words[:1] == ["--files"]:
+        for file, found in by_file(words[1:]):
+            each = sorted(found, key=lambda one: (-lines_of(one), one))
+            print(sum(map(lines_of, found)), ":".join(file), " ".join(f"{one[2]}:{lines_of(one)}" for one in each))
     elif words:
         print("{} definitions, {} lines, {} files".format(*count(words)))
     else:

@@ -271,7 +271,7 @@ class Move:
     """A move under way. Its phases in order are freezing, streaming, holding, passing and ending; without an order to keep,
     there is no holding. After a refusal restoring, returning and undoing follow on streaming.
 
-    The records come in pieces. A piece is frozen while the source is to delete its records, then free until it is put. The door
+    The records come in pieces. A piece is to remove while the source is to delete its records, then removed until it is put. The door
     is shut until the first piece is put, asked until that is answered, and then open or refused."""
 
     def __init__(self, command, source, destination):
@@ -282,8 +282,8 @@ class Move:
         self.destination = destination
         self.phase = "freezing"
         self.door = "shut"
-        self.frozen = deque()
-        self.free = deque()
+        self.to_remove = deque()
+        self.removed = deque()
         self.all_came = False
         self.asked_last = False  # the piece at the door is the last one
         self.why = None  # the answer after a refusal
@@ -310,15 +310,15 @@ class Move:
 
     def push(self, step):
         put = node_of(self.destination), "put", self.op
-        if self.door == "shut" and self.free:
-            piece = self.free.popleft()
+        if self.door == "shut" and self.removed:
+            piece = self.removed.popleft()
             self.door, self.asked_last = "asked", piece.is_last
             step.send(*put, piece, True)
         elif self.door == "open":
-            while self.free:
-                step.send(*put, self.free.popleft(), False)
-        elif self.door == "refused" and self.all_came and not self.frozen:
-            chunks = [chunk for piece in self.free for chunk in piece.chunks]
+            while self.removed:
+                step.send(*put, self.removed.popleft(), False)
+        elif self.door == "refused" and self.all_came and not self.to_remove:
+            chunks = [chunk for piece in self.removed for chunk in piece.chunks]
             step.send(node_of(self.source), "restore", self.op, chunks)
             self.phase = "restoring"
 
@@ -334,11 +334,11 @@ class Move:
                 step.send(node_of(self.source), "stream", self.op, self.flows)
                 self.phase = "streaming"
             case "streaming", "source", ("piece", _, piece):
-                self.frozen.append(piece)
+                self.to_remove.append(piece)
                 self.all_came = piece.is_last
                 step.send(node_of(self.source), "delete", self.op, [unit for unit, _ in piece.chunks])
             case "streaming", "source", ("deleted", _):
-                self.free.append(self.frozen.popleft())
+                self.removed.append(self.to_remove.popleft())
                 self.push(step)
             case "streaming", "destination", ("put ok", _):
                 if self.door == "asked" and not self.asked_last:
@@ -351,7 +351,7 @@ class Move:
                     self.release(step)
             case "streaming", "destination", ("put no", _, why, piece):
                 self.door, self.why = "refused", why
-                self.free.appendleft(piece)
+                self.removed.appendleft(piece)
                 self.push(step)
             case "holding", "destination", ("enabled", _):
                 self.release(step)

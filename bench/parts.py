@@ -55,17 +55,17 @@ def print_row(text, first, second, unit, scale):
 def main(arguments):
     if len(arguments) != 4:
         sys.exit("use: parts.py FOLDER PART_SPEED OPENNF YARDSTICK")
-    folder, part_speed, opennf, yardstick = arguments
+    folder, speed_parts, opennf, yardstick = arguments
     for flows in 32_768, 1_000_000:
-        ours, sip, folding = beyond([[part_speed, "step"], [yardstick, "sip"], [yardstick, "step"]], flows, 1, PACKETS)
+        ours, sip, folding = beyond([[speed_parts, "step"], [yardstick, "sip"], [yardstick, "step"]], flows, 1, PACKETS)
         for hash, theirs in ("its own hash", sip), ("a hash of two multiplications", folding):
             print_row(f"a step of the tracker in a table of {flows} flows, beside a HashMap with {hash}", ours, theirs, "ns", 1e9 / PACKETS)
     for part, masks in ("target", "one mask"), ("target-4", "four masks"):
-        times = least([[part_speed, part, str(routes), str(LOOKUPS)] for routes in (1000, 2)], same=False)
+        times = least([[speed_parts, part, str(routes), str(LOOKUPS)] for routes in (1000, 2)], same=False)
         print_row(f"a flow's target with 1000 routes of {masks}, beside 2", *times, "ns", 1e9 / LOOKUPS)
-    select = beyond([[part_speed, "select"], [yardstick, "select"]], 1_000_000, 1, ROUNDS + 1)
+    select = beyond([[speed_parts, "select"], [yardstick, "select"]], 1_000_000, 1, ROUNDS + 1)
     print_row("select 100000 of 1000000 flows", *select, "ms", 1e3 / ROUNDS)
-    whole = beyond([[part_speed, "import"], [yardstick, "import"]], 1_000_000, 1, ROUNDS + 1)
+    whole = beyond([[speed_parts, "import"], [yardstick, "import"]], 1_000_000, 1, ROUNDS + 1)
     print_row("select and import them", *whole, "ms", 1e3 / ROUNDS)
     files = [os.path.join(folder, f"generated-{place}.pcap") for place in range(2)]
     words = "gen 7 --packets 1000000 --hosts 256".split()

@@ -1,7 +1,7 @@
-// The yardstick of the network's parts: what `part_speed` does for its words, and `opennf gen NUMBER --packets N --hosts H TRACE`, by
+// The yardstick of the network's parts: what `speed_parts` does for its words, and `opennf gen NUMBER --packets N --hosts H TRACE`, by
 // plain Rust with nothing proved.
 //
-// Build: rustc --edition 2021 -O parts.rs. Words: `step SIZE COUNT`, `select SIZE COUNT`, `import SIZE COUNT` as of part_speed, and `sip SIZE COUNT`,
+// Build: rustc --edition 2021 -O parts.rs. Words: `step SIZE COUNT`, `select SIZE COUNT`, `import SIZE COUNT` as of speed_parts, and `sip SIZE COUNT`,
 // which is `step` with the hash that a HashMap has by itself; and those of `gen`, in that order. A table is one HashMap, a chunk a
 // vector of bytes.
 use std::collections::HashMap;

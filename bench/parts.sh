@@ -5,11 +5,11 @@
 # This is no part of the gate. What it makes stands in bench/out.
 set -eu
 bench=$(cd "$(dirname "${BASH_SOURCE[0]}")" && pwd)
-part_speed=${1:-$bench/../crates/part_speed/out/part_speed}
+speed_parts=${1:-$bench/../crates/speed_parts/out/speed_parts}
 opennf=${2:-$bench/../crates/opennf/out/opennf}
 out=$bench/out
 mkdir -p "$out"
-for program in "$part_speed" "$opennf"; do
+for program in "$speed_parts" "$opennf"; do
     if [ ! -x "$program" ]; then
         echo "bench/parts.sh: $program isn't there: build it first, by 'rt ci' at the top" >&2
         exit 1
@@ -17,4 +17,4 @@ for program in "$part_speed" "$opennf"; do
 done
 rustc --edition 2021 -O -o "$out/parts" "$bench/parts.rs"
 echo "load $(cut -d ' ' -f 1-3 /proc/loadavg), processors $(nproc)"
-python3 "$bench/parts.py" "$out" "$part_speed" "$opennf" "$out/parts"
+python3 "$bench/parts.py" "$out" "$speed_parts" "$opennf" "$out/parts"

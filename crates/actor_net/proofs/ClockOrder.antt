@@ -5,8 +5,9 @@ use Rattle.std.specs.Prelude.{if◌then◌else◌, ◌==◌}
 use Rattle.std.proofs.lemmas.Bool.Decides.{nat_tests, Decides-eqb}
 use Rattle.actor_net.specs.declared.choice.Choice.{Choice}
 use Rattle.actor_net.specs.declared.stamped.Stamped.{Stamped}
-use Rattle.actor_net.specs.Network.{Network, Stepped, waiting, run, IsRun, reaches}
-use Rattle.actor_net.specs.Histories.{NodeStep, messages, does, node_after, taken_at, sent_for, stamped, sent_to, put_between, notes_of, PortsBelow, WasReady, dealt}
+use Rattle.actor_net.specs.Network.{Network, Stepped, queue_at, run, IsRun, reaches}
+use Rattle.actor_net.specs.Histories.{NodeStep, messages, does, node_after, taken_at, sent_for, with_clock}
+use Rattle.actor_net.specs.Histories.{sent_to, put_between, notes_of, PortsBelow, WasReady, notes_of_choices}
 use Rattle.actor_net.proofs.EnabledChoices.{at}
 use Rattle.actor_net.proofs.WaitingMessages.{less_first}
 
@@ -34,14 +35,16 @@ module _ {M : Type 0} where
   -- these steps, each with its node, are those of the histories, and none has a smaller clock than one before it
   abbrev pub InClockOrder : (ℕ → List (NodeStep M)) → List (ℕ × NodeStep M) → Type 0
   InClockOrder hs [] = (k : ℕ) → hs k ≡ []
-  InClockOrder hs (m ∷ ms) = (es : List (NodeStep M)) × (hs m.0 ≡ m.1 ∷ es) × ((j : ℕ) → NoClockBelow m.1.clock (hs j)) × InClockOrder (with_history hs m.0 es) ms
+  InClockOrder hs (m ∷ ms) =
+      (es : List (NodeStep M)) × (hs m.0 ≡ m.1 ∷ es) × ((j : ℕ) → NoClockBelow m.1.clock (hs j)) × InClockOrder (with_history hs m.0 es) ms
 
   -- the choices that these steps were
   abbrev pub choices_of : List (ℕ × NodeStep M) → List Choice
   choices_of ms = map (λ m. at m.0 m.1.port) ms
 
   -- a fact of the histories with another one at k
-  pub at_history : (hs : ℕ → List (NodeStep M)) (k : ℕ) (es : List (NodeStep M)) (P : ℕ → List (NodeStep M) → Type 0) (j : ℕ) → P k es → (j ≢ k → P j (hs j)) → P j (with_history hs k es j)
+  pub at_history : (hs : ℕ → List (NodeStep M)) (k : ℕ) (es : List (NodeStep M)) (P : ℕ → List (NodeStep M) → Type 0) (j : ℕ) → P k es
+      → (j ≢ k → P j (hs j)) → P j (with_history hs k es j)
   at_history hs k es P j here others =
       elim (j == k) as (λ b. (j == k) ≡ b → P j (if b then es else hs j)) [
         | true ↦ λ t. let same : j ≡ k = (Decides-eqb j k).0 t in subst (λ y. P y es) (sym same) here
@@ -58,8 +61,9 @@ module _ {A M N : Type 0} (ready : A → M → Bool) (step : A → ℕ → M →
   pub record FitsWorld (w : Network A M N) (hs : ℕ → List (NodeStep M)) (holds left : ℕ → ℕ → List (Stamped M)) : Type 0 where
     pub some : 0 < length w.nodes
     pub square : length w.links ≡ length w.nodes * length w.nodes
-    pub shows : (s r : ℕ) → s < length w.nodes → r < length w.nodes → waiting w (at r s) ≡ messages (holds s r)
-    pub whole : (s r : ℕ) → s < length w.nodes → r < length w.nodes → taken_at s (hs r) ++ left s r ≡ holds s r ++ put_between step (length w.nodes) s r (node_of w s) (hs s)
+    pub shows : (s r : ℕ) → s < length w.nodes → r < length w.nodes → queue_at w (at r s) ≡ messages (holds s r)
+    pub whole : (s r : ℕ) → s < length w.nodes → r < length w.nodes
+        → taken_at s (hs r) ++ left s r ≡ holds s r ++ put_between step (length w.nodes) s r (node_of w s) (hs s)
     pub within : (j : ℕ) → length w.nodes ≤ j → hs j ≡ []
     pub ports : (j : ℕ) → PortsBelow (length w.nodes) (hs j)
     pub was_ready : (j : ℕ) → j ≡ 0 → WasReady ready step (node_of w j) (hs j)
@@ -69,17 +73,19 @@ module _ {A M N : Type 0} (ready : A → M → Bool) (step : A → ℕ → M →
     pub is_run : IsRun ready step cs w
     pub count : length (run step cs w).nodes ≡ length w.nodes
     pub nodes : (j : ℕ) → node_of (run step cs w) j ≡ node_after step (node_of w j) (hs j)
-    pub waits : (s r : ℕ) → s < length w.nodes → r < length w.nodes → waiting (run step cs w) (at r s) ≡ messages (left s r)
-    pub log : (run step cs w).log ≡ w.log ++ dealt (λ j. notes_of step (node_of w j) (hs j)) cs
+    pub waits : (s r : ℕ) → s < length w.nodes → r < length w.nodes → queue_at (run step cs w) (at r s) ≡ messages (left s r)
+    pub log : (run step cs w).log ≡ w.log ++ notes_of_choices (λ j. notes_of step (node_of w j) (hs j)) cs
     pub links : length (run step cs w).links ≡ length w.links
     pub loop : get_or (run step cs w).links 0 [] ≡ get_or w.links 0 []
 
 -- the first of a list that is two joined, where the second begins with what is later
-pub head_held : {M : Type 0} (x : Stamped M) (xs ys zs : List (Stamped M)) → x ∷ xs ≡ ys ++ zs → ((z : Stamped M) (rest : List (Stamped M)) → zs ≡ z ∷ rest → x.clock < z.clock) → (rest : List (Stamped M)) × (ys ≡ x ∷ rest)
+pub head_held : {M : Type 0} (x : Stamped M) (xs ys zs : List (Stamped M)) → x ∷ xs ≡ ys ++ zs
+    → ((z : Stamped M) (rest : List (Stamped M)) → zs ≡ z ∷ rest → x.clock < z.clock) → (rest : List (Stamped M)) × (ys ≡ x ∷ rest)
 head_held x xs [] zs is later = let never = later x xs (sym is) in absurd (omega arith)
 head_held x xs (y ∷ ys) zs is later = (ys, cc)
 
-stamped_head : {M : Type 0} (c clock : ℕ) (ms : List M) (more : List (Stamped M)) (z : Stamped M) (rest : List (Stamped M)) → c ≤ clock → stamped clock ms ++ more ≡ z ∷ rest → (more ≡ z ∷ rest → c ≤ z.clock) → c ≤ z.clock
+stamped_head : {M : Type 0} (c clock : ℕ) (ms : List M) (more : List (Stamped M)) (z : Stamped M) (rest : List (Stamped M)) → c ≤ clock
+    → with_clock clock ms ++ more ≡ z ∷ rest → (more ≡ z ∷ rest → c ≤ z.clock) → c ≤ z.clock
 stamped_head c clock [] more z rest first is later = later is
 stamped_head c clock (m ∷ ms) more z rest first is later =
     let same : clock ≡ z.clock = cc in
@@ -87,19 +93,22 @@ stamped_head c clock (m ∷ ms) more z rest first is later =
 
 module _ {A M N : Type 0} (step : A → ℕ → M → Stepped A M N) where
   -- what is sent carries a clock that is no smaller
-  sent_late : (c r : ℕ) (a : A) (es : List (NodeStep M)) (z : Stamped M) (rest : List (Stamped M)) → NoClockBelow c es → sent_to step r a es ≡ z ∷ rest → c ≤ z.clock
+  sent_late : (c r : ℕ) (a : A) (es : List (NodeStep M)) (z : Stamped M) (rest : List (Stamped M)) → NoClockBelow c es → sent_to step r a es ≡ z ∷ rest
+      → c ≤ z.clock
   sent_late c r a [] z rest over is = cc
   sent_late c r a (e ∷ es) z rest over is =
-      stamped_head c e.clock (sent_for r (does step a e).sends) (sent_to step r (does step a e).node es) z rest over.0 is (sent_late c r (does step a e).node es z rest over.1)
+      stamped_head c e.clock (sent_for r (does step a e).sends) (sent_to step r (does step a e).node es) z rest over.0 is
+      (sent_late c r (does step a e).node es z rest over.1)
 
-  pub put_late : (c n s r : ℕ) (a : A) (es : List (NodeStep M)) (z : Stamped M) (rest : List (Stamped M)) → NoClockBelow c es → put_between step n s r a es ≡ z ∷ rest → c ≤ z.clock
+  pub put_late : (c n s r : ℕ) (a : A) (es : List (NodeStep M)) (z : Stamped M) (rest : List (Stamped M)) → NoClockBelow c es
+      → put_between step n s r a es ≡ z ∷ rest → c ≤ z.clock
   put_late c n s r a es z rest over is =
       elim (reaches n s r) as (λ b. (if b then sent_to step r a es else []) ≡ z ∷ rest → c ≤ z.clock) [
         | true ↦ λ sent. sent_late c r a es z rest over sent
         | false ↦ λ never. cc
       ] is
 
-pub messages-stamped : {M : Type 0} (clock : ℕ) (ms : List M) → messages (stamped clock ms) ≡ ms
+pub messages-stamped : {M : Type 0} (clock : ℕ) (ms : List M) → messages (with_clock clock ms) ≡ ms
 messages-stamped clock [] = refl
 messages-stamped clock (m ∷ ms) = ap (λ xs. m ∷ xs) (messages-stamped clock ms)
 

@@ -8,13 +8,14 @@ use Rattle.std.proofs.lemmas.List.{append_cancel_left, map-append, get_or_defaul
 use Rattle.std.proofs.lemmas.Option.{slice_get-get_or}
 use Rattle.std.proofs.Math.Bool.{and-false}
 use Rattle.actor_net.specs.declared.stamped.Stamped.{Stamped}
-use Rattle.actor_net.specs.Network.{Network, Stepped, waiting, is_enabled, takes_first, taken, reaches}
-use Rattle.actor_net.specs.Histories.{NodeStep, messages, does, taken_at, sent_for, stamped, sent_to, put_between, PortsBelow, WasReady}
+use Rattle.actor_net.specs.Network.{Network, Stepped, queue_at, is_enabled, takes_first, world_next, reaches}
+use Rattle.actor_net.specs.Histories.{NodeStep, messages, does, taken_at, sent_for, with_clock, sent_to, put_between, PortsBelow, WasReady}
 use Rattle.actor_net.proofs.EnabledChoices.{at}
 use Rattle.actor_net.proofs.LinkLemmas.{put_on_link}
 use Rattle.actor_net.proofs.WaitingMessages.{less_first}
 use Rattle.actor_net.proofs.StepOutcome.{Takes, Outcome, taken_outcome}
-use Rattle.actor_net.proofs.ClockOrder.{NoClockBelow, SentBefore, with_history, at_history, same_test, other_test, head_held, put_late, messages-stamped, messages-less_first, node_of, FitsWorld}
+use Rattle.actor_net.proofs.ClockOrder.{NoClockBelow, SentBefore, with_history, at_history, same_test, other_test}
+use Rattle.actor_net.proofs.ClockOrder.{head_held, put_late, messages-stamped, messages-less_first, node_of, FitsWorld}
 
 test_swap : (a b : ℕ) → (a == b) ≡ (b == a) && true
 test_swap a b =
@@ -23,7 +24,8 @@ test_swap a b =
       | false ↦ λ off. other_test a b (λ same. let yes = (Decides-eqb b a).1 (sym same) in let never : false ≡ true = sym off ∙ yes in cc)
     ] refl
 
-module _ {A M N : Type 0} (ready : A → M → Bool) (step : A → ℕ → M → Stepped A M N) (d : A) (w : Network A M N) (hs : ℕ → List (NodeStep M)) (holds left : ℕ → ℕ → List (Stamped M)) (k : ℕ) (e : NodeStep M) (es : List (NodeStep M)) where
+module _ {A M N : Type 0} (ready : A → M → Bool) (step : A → ℕ → M → Stepped A M N) (d : A) (w : Network A M N) (hs : ℕ → List (NodeStep M))
+    (holds left : ℕ → ℕ → List (Stamped M)) (k : ℕ) (e : NodeStep M) (es : List (NodeStep M)) where
   -- the next step in order, of node k
   pub record NextStep : Type 0 where
     pub fits : FitsWorld ready step d w hs holds left
@@ -38,7 +40,7 @@ module _ {A M N : Type 0} (ready : A → M → Bool) (step : A → ℕ → M →
   did = does step (node_of ready step d w k) e
 
   abbrev pub next : Network A M N
-  next = taken step w (at k e.port)
+  next = world_next step w (at k e.port)
 
   -- the histories after it
   abbrev pub rest : ℕ → List (NodeStep M)
@@ -46,7 +48,7 @@ module _ {A M N : Type 0} (ready : A → M → Bool) (step : A → ℕ → M →
 
   -- what the links hold after it
   abbrev pub gain : ℕ → ℕ → List (Stamped M)
-  gain s r = stamped e.clock (put_on_link n k s r did.sends)
+  gain s r = with_clock e.clock (put_on_link n k s r did.sends)
 
   abbrev pub holds' : ℕ → ℕ → List (Stamped M)
   holds' s r = less_first ((s == e.port) && (r == k)) (holds s r) ++ gain s r
@@ -66,7 +68,8 @@ module _ {A M N : Type 0} (ready : A → M → Bool) (step : A → ℕ → M →
       let first : e.took ∷ (taken_at e.port es ++ left e.port k) ≡ holds e.port k ++ put_between step n e.port k (node_of ready step d w e.port) (hs e.port) =
       ap (λ xs. xs ++ left e.port k) (sym (ap (λ xs. taken_at e.port xs) is ∙ takes)) ∙ h.fits.whole e.port k (sender h) (receiver h) in
       head_held e.took (taken_at e.port es ++ left e.port k) (holds e.port k) (put_between step n e.port k (node_of ready step d w e.port) (hs e.port)) first
-      (λ z more sent. let late = put_late step e.clock n e.port k (node_of ready step d w e.port) (hs e.port) z more (h.over e.port) sent in let early = (rw is at (h.past k)).0 in omega arith)
+      (λ z more sent. let late = put_late step e.clock n e.port k (node_of ready step d w e.port) (hs e.port) z more (h.over e.port) sent in
+      let early = (rw is at (h.past k)).0 in omega arith)
 
   takes : (h : NextStep) → Takes step n w k e.port (node_of ready step d w k) e.took.message (messages (held h).0)
   takes h = record {
@@ -84,9 +87,10 @@ module _ {A M N : Type 0} (ready : A → M → Bool) (step : A → ℕ → M →
       let is = h.is in
       let there : slice_get w.nodes k ≡ Some (node_of ready step d w k) = slice_get-get_or w.nodes k d (receiver h) in
       let was : k ≡ 0 → e.port ≡ 0 → ready (node_of ready step d w k) e.took.message ≡ true = λ first. (rw is at (h.fits.was_ready k first)).0 in
-      ap (λ o. takes_first ready (at k e.port) o (waiting w (at k e.port))) there
+      ap (λ o. takes_first ready (at k e.port) o (queue_at w (at k e.port))) there
       ∙ ap (λ ms. takes_first ready (at k e.port) (Some (node_of ready step d w k)) ms) (takes h).waits
-      ∙ elim ((k == 0) && (e.port == 0)) as (λ b. (k == 0) && (e.port == 0) ≡ b → (if b then ready (node_of ready step d w k) e.took.message else true) ≡ true) [
+      ∙ elim ((k == 0) && (e.port == 0))
+      as (λ b. (k == 0) && (e.port == 0) ≡ b → (if b then ready (node_of ready step d w k) e.took.message else true) ≡ true) [
         | true ↦ λ on. was (grind (arith, nat_tests)) (grind (arith, nat_tests))
         | false ↦ λ _. refl
       ] refl
@@ -100,12 +104,16 @@ module _ {A M N : Type 0} (ready : A → M → Bool) (step : A → ℕ → M →
   pub node_other : NextStep → (j : ℕ) → j ≢ k → node_of ready step d next j ≡ node_of ready step d w j
   node_other h j other = (outcome_by h).others j d other
 
-  shows' : NextStep → (s r : ℕ) → s < n → r < n → waiting next (at r s) ≡ messages (holds' s r)
+  shows' : NextStep → (s r : ℕ) → s < n → r < n → queue_at next (at r s) ≡ messages (holds' s r)
   shows' h s r hs' hr =
       let test = (s == e.port) && (r == k) in
       (outcome_by h).waits s r
       ∙ ap (λ xs. less_first test xs ++ put_on_link n k s r did.sends) (h.fits.shows s r hs' hr)
-      ∙ sym (rw (map-append (λ x. x.message) (less_first test (holds s r)) (gain s r), messages-less_first test (holds s r), messages-stamped e.clock (put_on_link n k s r did.sends)) refl)
+      ∙ sym (rw (
+        map-append (λ x. x.message) (less_first test (holds s r)) (gain s r),
+        messages-less_first test (holds s r),
+        messages-stamped e.clock (put_on_link n k s r did.sends),
+      ) refl)
 
   -- what this step takes from a link
   abbrev head : ℕ → ℕ → List (Stamped M)
@@ -129,13 +137,16 @@ module _ {A M N : Type 0} (ready : A → M → Bool) (step : A → ℕ → M →
         | false ↦ λ _. refl
       ] refl
 
-  sent_here : NextStep → (s r : ℕ) → put_between step n s r (node_of ready step d w s) (hs s) ≡ gain s r ++ put_between step n s r (node_of ready step d next s) (rest s)
+  sent_here : NextStep → (s r : ℕ)
+      → put_between step n s r (node_of ready step d w s) (hs s) ≡ gain s r ++ put_between step n s r (node_of ready step d next s) (rest s)
   sent_here h s r =
       let is = h.is in
       let own = node_own h in
-      at_history hs k es (λ y xs. put_between step n y r (node_of ready step d w y) (hs y) ≡ gain y r ++ put_between step n y r (node_of ready step d next y) xs) s
+      at_history hs k es
+      (λ y xs. put_between step n y r (node_of ready step d w y) (hs y) ≡ gain y r ++ put_between step n y r (node_of ready step d next y) xs) s
       (let same = same_test k in
-      rw (is, own, same) (elim (reaches n k r) as (λ b. (if b then sent_to step r (node_of ready step d w k) (e ∷ es) else []) ≡ stamped e.clock (if b then sent_for r did.sends else []) ++ (if b then sent_to step r did.node es else [])) [ true ↦ refl | false ↦ refl ]))
+      rw (is, own, same) (elim (reaches n k r) as (λ b. (if b then sent_to step r (node_of ready step d w k) (e ∷ es) else [])
+      ≡ with_clock e.clock (if b then sent_for r did.sends else []) ++ (if b then sent_to step r did.node es else [])) [ true ↦ refl | false ↦ refl ]))
       (λ other. let off = other_test s k other in let node = node_other h s other in rw (off, node) refl)
 
   whole' : NextStep → (s r : ℕ) → s < n → r < n → taken_at s (rest r) ++ left s r ≡ holds' s r ++ put_between step n s r (node_of ready step d next s) (rest s)
@@ -163,7 +174,8 @@ module _ {A M N : Type 0} (ready : A → M → Bool) (step : A → ℕ → M →
         square = (outcome_by h).links ∙ rw count refl;
         shows = λ s r hs' hr. shows' h s r (rw count at hs') (rw count at hr);
         whole = λ s r hs' hr. rw count (whole' h s r (rw count at hs') (rw count at hr));
-        within = rw count (λ j past. at_history hs k es (λ y xs. n ≤ y → xs ≡ []) j (λ over. let small = receiver h in absurd (omega arith)) (λ _. h.fits.within j) past);
+        within = rw count (λ j past. at_history hs k es (λ y xs. n ≤ y → xs ≡ []) j (λ over. let small = receiver h in absurd (omega arith))
+            (λ _. h.fits.within j) past);
         ports = rw count (λ j. at_history hs k es (λ y xs. PortsBelow n xs) j (rw is at (h.fits.ports k)).1 (λ _. h.fits.ports j));
         was_ready = λ j. at_history hs k es (λ y xs. y ≡ 0 → WasReady ready step (node_of ready step d next y) xs) j
             (rw own (λ first. (rw is at (h.fits.was_ready k first)).1))

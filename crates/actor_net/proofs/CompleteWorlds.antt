@@ -6,7 +6,7 @@ use Rattle.std.proofs.lemmas.Bool.Decides.{Decides-eqb}
 use Rattle.std.proofs.lemmas.List.{nil_from_length}
 use Rattle.std.proofs.lemmas.Bool.{and_parts}
 use Rattle.actor_net.specs.declared.choice.Choice.{Choice}
-use Rattle.actor_net.specs.Network.{Network, is_input, on_link, waiting, takes_first, is_enabled, is_done}
+use Rattle.actor_net.specs.Network.{Network, is_input, on_link, queue_at, takes_first, is_enabled, is_done}
 use Rattle.actor_net.proofs.WeightLaws.{weigh, total}
 
 empty_one : {M : Type 0} (l : List M) → (length l == 0) ≡ true → l ≡ []
@@ -49,17 +49,18 @@ apart ended w done =
     }
 
 module _ {A M N : Type 0} (ended : A → Bool) (w : Network A M N) (done : is_done ended w ≡ true) where
-  pub done_waiting : (c : Choice) → waiting w c ≡ []
+  pub done_waiting : (c : Choice) → queue_at w c ≡ []
   done_waiting c =
       let parts = apart ended w done in
       let link = empty_there w.links (c.port * length w.nodes + c.node) parts.links in
       elim (is_input c) as (λ b. (if b then w.input else on_link w c.port c.node) ≡ []) [
         | true ↦ parts.input
-        | false ↦ elim (nat_lt c.port (length w.nodes) && nat_lt c.node (length w.nodes)) as (λ b. (if b then get_or w.links (c.port * length w.nodes + c.node) [] else []) ≡ []) [ true ↦ link | false ↦ refl ]
+        | false ↦ elim (nat_lt c.port (length w.nodes) && nat_lt c.node (length w.nodes))
+            as (λ b. (if b then get_or w.links (c.port * length w.nodes + c.node) [] else []) ≡ []) [ true ↦ link | false ↦ refl ]
       ]
 
   pub done_disabled : (ready : A → M → Bool) (c : Choice) → is_enabled ready w c ≡ false
-  done_disabled ready c = takes_nothing ready c (slice_get w.nodes c.node) (waiting w c) (done_waiting c)
+  done_disabled ready c = takes_nothing ready c (slice_get w.nodes c.node) (queue_at w c) (done_waiting c)
 
   pub done_weight : (f : M → ℕ) → total f w ≡ 0
   done_weight f =

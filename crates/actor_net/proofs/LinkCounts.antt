@@ -1,5 +1,6 @@
 -- How many links hold something: after one of them changes, and against the enabled choices.
-use Rattle.std.proofs.Common.{◌≡◌, ◌≢◌, ℕ, zero, suc, ◌+◌, ◌*◌, ◌^◌, ◌<◌, ◌≤◌, Bool, true, false, None, Some, List, [], ◌∷◌, ◌++◌, length, length-append, get_or, set, replicate, refl, sym, ap, subst, ◌∙◌, arith, inl, inr}
+use Rattle.std.proofs.Common.{◌≡◌, ◌≢◌, ℕ, zero, suc, ◌+◌, ◌*◌, ◌^◌, ◌<◌, ◌≤◌, Bool, true, false, None, Some, List, [], ◌∷◌}
+use Rattle.std.proofs.Common.{◌++◌, length, length-append, get_or, set, replicate, refl, sym, ap, subst, ◌∙◌, arith, inl, inr}
 use Rattle.std.specs.Prelude.{◌==◌, ◌&&◌, slice_get}
 use Rattle.std.proofs.lemmas.Bool.{cases_lt, cases_eq}
 use Rattle.std.proofs.lemmas.Bool.Decides.{nat_tests}
@@ -7,7 +8,7 @@ use Rattle.std.proofs.lemmas.List.{get_or-set_same, get_or-set_other, get_or-rep
 use Rattle.std.proofs.lemmas.Option.{slice_get-get_or}
 use Rattle.actor_net.specs.declared.choice.Choice.{Choice}
 use Rattle.actor_net.specs.LinkTable.{LinkLists, IsWithin, link_of, with_link, one_if_held, held_below, all_held, AreCounts}
-use Rattle.actor_net.specs.Network.{Network, IsWorld, is_input, waiting, takes_first, is_enabled}
+use Rattle.actor_net.specs.Network.{Network, IsWorld, is_input, queue_at, takes_first, is_enabled}
 use Rattle.actor_net.specs.Schedules.{ports_below, nodes_below, enabled_choices}
 use Rattle.actor_net.proofs.EnabledChoices.{at, one_if, ports_counted}
 use Rattle.actor_net.proofs.LinkLemmas.{inside, other_place, empty_link}
@@ -82,7 +83,8 @@ module _ {M : Type 0} where
     at_own = get_or-set_same t.lists (c.port * t.nodes + c.node) new [] (rw square (inside t.nodes c.port c.node within.sender within.receiver))
 
     at_other : (s k : ℕ) → k < t.nodes → (s ≡ c.port → c.node ≡ k → ⊥) → get_or after.lists (s * t.nodes + k) [] ≡ get_or t.lists (s * t.nodes + k) []
-    at_other s k small other = get_or-set_other t.lists (c.port * t.nodes + c.node) (s * t.nodes + k) new [] (other_place t.nodes c.port c.node s k within.receiver small other)
+    at_other s k small other =
+        get_or-set_other t.lists (c.port * t.nodes + c.node) (s * t.nodes + k) new [] (other_place t.nodes c.port c.node s k within.receiver small other)
 
     -- at another node as many as before
     held_other : (k p : ℕ) → k < t.nodes → c.node ≢ k → held_below after k p ≡ held_below t k p
@@ -107,8 +109,10 @@ module _ {M : Type 0} where
           | inr over ↦
               let same : c.port ≡ p = omega arith in
               let rest = held_before p (omega arith) in
-              let here : one_if_held (get_or after.lists (p * t.nodes + c.node) []) ≡ one_if_held new = subst (λ i. one_if_held (get_or after.lists (i * t.nodes + c.node) []) ≡ one_if_held new) same (ap one_if_held at_own) in
-              let was : one_if_held (get_or t.lists (p * t.nodes + c.node) []) ≡ one_if_held (link_of t c) = subst (λ i. one_if_held (get_or t.lists (i * t.nodes + c.node) []) ≡ one_if_held (link_of t c)) same refl in
+              let here : one_if_held (get_or after.lists (p * t.nodes + c.node) []) ≡ one_if_held new =
+              subst (λ i. one_if_held (get_or after.lists (i * t.nodes + c.node) []) ≡ one_if_held new) same (ap one_if_held at_own) in
+              let was : one_if_held (get_or t.lists (p * t.nodes + c.node) []) ≡ one_if_held (link_of t c) =
+              subst (λ i. one_if_held (get_or t.lists (i * t.nodes + c.node) []) ≡ one_if_held (link_of t c)) same refl in
               omega (arith, rest, here, was)
         ]
 
@@ -127,12 +131,15 @@ module _ {M : Type 0} where
           | inr over ↦
               let same : c.node ≡ m = omega arith in
               let rest = all_before m (omega arith) in
-              let here : held_below after m t.nodes + one_if_held (link_of t c) ≡ held_below t m t.nodes + one_if_held new = subst (λ i. held_below after i t.nodes + one_if_held (link_of t c) ≡ held_below t i t.nodes + one_if_held new) same (held_own t.nodes within.sender) in
+              let here : held_below after m t.nodes + one_if_held (link_of t c) ≡ held_below t m t.nodes + one_if_held new = subst (λ i.
+              held_below after i t.nodes + one_if_held (link_of t c) ≡ held_below t i t.nodes + one_if_held new) same (held_own t.nodes within.sender) in
               omega (arith, rest, here)
         ]
 
     -- the counts of a table, where one link changes
-    pub counts_after : (counts : List ℕ) (all count all' : ℕ) → length counts ≡ t.nodes → AreCounts t counts all → count + one_if_held (link_of t c) ≡ get_or counts c.node 0 + one_if_held new → all' + one_if_held (link_of t c) ≡ all + one_if_held new → AreCounts after (set counts c.node count) all'
+    pub counts_after : (counts : List ℕ) (all count all' : ℕ) → length counts ≡ t.nodes → AreCounts t counts all
+        → count + one_if_held (link_of t c) ≡ get_or counts c.node 0 + one_if_held new → all' + one_if_held (link_of t c) ≡ all + one_if_held new
+        → AreCounts after (set counts c.node count) all'
     counts_after counts all count all' length_is are own whole = record {
       few = are.few;
       square = length-set_links ∙ are.square;
@@ -151,9 +158,11 @@ module _ {M : Type 0} where
         length-set_links = length-set t.lists (c.port * t.nodes + c.node) new
 
     -- where it holds something as before, they stay
-    pub counts_stay : (counts : List ℕ) (all : ℕ) → length counts ≡ t.nodes → AreCounts t counts all → one_if_held (link_of t c) ≡ one_if_held new → AreCounts after counts all
+    pub counts_stay : (counts : List ℕ) (all : ℕ) → length counts ≡ t.nodes → AreCounts t counts all → one_if_held (link_of t c) ≡ one_if_held new
+        → AreCounts after counts all
     counts_stay counts all length_is are same =
-        subst (λ cs. AreCounts after cs all) (set-get_or counts c.node 0) (counts_after counts all (get_or counts c.node 0) all length_is are (omega (arith, same)) (omega (arith, same)))
+        subst (λ cs. AreCounts after cs all) (set-get_or counts c.node 0)
+        (counts_after counts all (get_or counts c.node 0) all length_is are (omega (arith, same)) (omega (arith, same)))
 
 -- links that hold nothing
 abbrev none : (M : Type 0) → ℕ → LinkLists M
@@ -227,17 +236,20 @@ module _ {M : Type 0} (ls : List (List M)) (counts : List ℕ) (all place : ℕ)
 
     pub room_for_one : IsRead → one_if_held old ≡ 0 → count + 1 < 2 ^ 8
     room_for_one r none =
-        let room : held_below now c.node (length counts) < length counts = held_room now c.node (length counts) c.port r.within.sender (ap one_if_held (read_list r) ∙ none) in
+        let room : held_below now c.node (length counts) < length counts = held_room now c.node (length counts) c.port r.within.sender
+        (ap one_if_held (read_list r) ∙ none) in
         omega (arith, room, read_count r, r.are.few)
 
-    pub counted_anew : (value all' : ℕ) → IsRead → value + one_if_held old ≡ count + one_if_held new → all' + one_if_held old ≡ all + one_if_held new → AreCounts (counted value) (set counts c.node value) all'
+    pub counted_anew : (value all' : ℕ) → IsRead → value + one_if_held old ≡ count + one_if_held new → all' + one_if_held old ≡ all + one_if_held new
+        → AreCounts (counted value) (set counts c.node value) all'
     counted_anew value all' r own whole =
         let within = r.within in
         let list = read_list r in
         let was = count_is ∙ get_or_default counts c.node count 0 within.receiver in
         let count' : length (set counts c.node value) ≡ length counts = length-set counts c.node value in
         let place' = r.place_is in
-        rw (count', place') (counts_after now c new r.are.square within counts all value all' refl r.are (omega (arith, own, was, ap one_if_held list)) (omega (arith, whole, ap one_if_held list)))
+        rw (count', place') (counts_after now c new r.are.square within counts all value all' refl r.are (omega (arith, own, was, ap one_if_held list))
+        (omega (arith, whole, ap one_if_held list)))
 
 -- the links of a world
 abbrev pub links_of : {A M N : Type 0} → Network A M N → LinkLists M
@@ -254,9 +266,10 @@ module _ {A M N : Type 0} (ready : A → M → Bool) (w : Network A M N) (world 
   -- a choice that isn't the input is enabled where its link holds something
   link_enabled : (k p : ℕ) → k < n → p < n → (k == 0) && (p == 0) ≡ false → one_if (is_enabled ready w (at k p)) ≡ one_if_held (get_or w.links (p * n + k) [])
   link_enabled k p hk hp off =
-      elim (slice_get w.nodes k) as (λ o. slice_get w.nodes k ≡ o → one_if (takes_first ready (at k p) o (waiting w (at k p))) ≡ one_if_held (get_or w.links (p * n + k) [])) [
+      elim (slice_get w.nodes k)
+      as (λ o. slice_get w.nodes k ≡ o → one_if (takes_first ready (at k p) o (queue_at w (at k p))) ≡ one_if_held (get_or w.links (p * n + k) [])) [
         | None ↦ λ none. absurd (past none)
-        | Some node ↦ λ _. takes_one (at k p) node (waiting w (at k p)) off ∙ ap one_if_held (waiting_is w p k hp hk ∙ rw off refl)
+        | Some node ↦ λ _. takes_one (at k p) node (queue_at w (at k p)) off ∙ ap one_if_held (waiting_is w p k hp hk ∙ rw off refl)
       ] refl
     where
       past : slice_get w.nodes k ≡ None → ⊥
@@ -304,9 +317,11 @@ module _ {A M N : Type 0} (ready : A → M → Bool) (w : Network A M N) (world 
     count_other k held small other is =
         is ∙ sym (ports_other k n small other (omega arith) ∙ ap (λ l. held_below l k l.nodes) kept_links)
 
-    pub count_first : (k : ℕ) (b : Bool) (held : ℕ) → k ≡ 0 → is_enabled ready w (at 0 0) ≡ b → held ≡ held_below t k t.nodes → held + one_if b ≡ length (ports_below ready w k n)
+    pub count_first : (k : ℕ) (b : Bool) (held : ℕ) → k ≡ 0 → is_enabled ready w (at 0 0) ≡ b → held ≡ held_below t k t.nodes
+        → held + one_if b ≡ length (ports_below ready w k n)
     count_first k b held at_first on is =
-        rw (← on, is, at_first) (sym (ports_first n world.some_node (omega arith) ∙ ap (λ l. held_below l 0 l.nodes + one_if (is_enabled ready w (at 0 0))) kept_links))
+        rw (← on, is, at_first)
+        (sym (ports_first n world.some_node (omega arith) ∙ ap (λ l. held_below l 0 l.nodes + one_if (is_enabled ready w (at 0 0))) kept_links))
 
     -- and so many in all
     pub count_all : (b : Bool) (held : ℕ) → is_enabled ready w (at 0 0) ≡ b → held ≡ all_held t t.nodes → held + one_if b ≡ length (enabled_choices ready w)

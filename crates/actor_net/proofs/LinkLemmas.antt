@@ -1,11 +1,12 @@
 -- Links after a step: what stands on each of them, and that there are as many.
-use Rattle.std.proofs.Common.{◌≡◌, ◌≢◌, ℕ, zero, suc, ◌+◌, ◌*◌, ◌<◌, Bool, true, false, List, [], ◌∷◌, ◌++◌, length, get_or, set, replicate, refl, sym, ap, subst, ◌∙◌, append_assoc, append-nil, arith}
+use Rattle.std.proofs.Common.{◌≡◌, ◌≢◌, ℕ, zero, suc, ◌+◌, ◌*◌, ◌<◌, Bool, true, false, List, [], ◌∷◌, ◌++◌, length}
+use Rattle.std.proofs.Common.{get_or, set, replicate, refl, sym, ap, subst, ◌∙◌, append_assoc, append-nil, arith}
 use Rattle.std.specs.Prelude.{if◌then◌else◌, ◌==◌, ◌&&◌}
 use Rattle.std.proofs.lemmas.Grind.{common_steps, rows}
 use Rattle.std.proofs.lemmas.Bool.Decides.{nat_tests, Decides-eqb}
 use Rattle.std.proofs.lemmas.Nat.{same_from_place}
 use Rattle.std.proofs.lemmas.List.{get_or-set_same, get_or-set_other, length-set}
-use Rattle.actor_net.specs.Network.{put_on, delivered, reaches}
+use Rattle.actor_net.specs.Network.{put_on, links_after, reaches}
 use Rattle.actor_net.specs.Histories.{sent_for}
 use Rattle.actor_net.proofs.WorldStepLemmas.{loop_stays}
 
@@ -26,7 +27,7 @@ length-put_on n from x ls =
       | false ↦ refl
     ]
 
-pub length-delivered : {M : Type 0} (n from : ℕ) (sends : List (ℕ × M)) (ls : List (List M)) → length (delivered n from sends ls) ≡ length ls
+pub length-delivered : {M : Type 0} (n from : ℕ) (sends : List (ℕ × M)) (ls : List (List M)) → length (links_after n from sends ls) ≡ length ls
 length-delivered n from [] ls = refl
 length-delivered n from (x ∷ xs) ls = length-delivered n from xs (put_on n from x ls) ∙ length-put_on n from x ls
 
@@ -44,24 +45,29 @@ pub neither : {X : Type 0} (b : Bool) → ◌≡◌ {A = List X} (if b then [] e
 neither true = refl
 neither false = refl
 
-arrives : {M : Type 0} (n from : ℕ) (x : ℕ × M) (ls : List (List M)) (s r : ℕ) → length ls ≡ n * n → from < n → r < n → reaches n from x.0 ≡ true → get_or (set ls (from * n + x.0) (get_or ls (from * n + x.0) [] ++ x.1 ∷ [])) (s * n + r) [] ≡ get_or ls (s * n + r) [] ++ put_on_link n from s r (x ∷ [])
+arrives : {M : Type 0} (n from : ℕ) (x : ℕ × M) (ls : List (List M)) (s r : ℕ) → length ls ≡ n * n → from < n → r < n → reaches n from x.0 ≡ true
+    → get_or (set ls (from * n + x.0) (get_or ls (from * n + x.0) [] ++ x.1 ∷ [])) (s * n + r) []
+    ≡ get_or ls (s * n + r) [] ++ put_on_link n from s r (x ∷ [])
 arrives {M} n from x ls s r square hf hr is =
     let new = get_or ls (from * n + x.0) [] ++ x.1 ∷ [] in
     let there = within n from x.0 is in
-    let other : (s ≡ from → x.0 ≡ r → ⊥) → get_or (set ls (from * n + x.0) new) (s * n + r) [] ≡ get_or ls (s * n + r) [] = λ no. get_or-set_other ls (from * n + x.0) (s * n + r) new [] (other_place n from x.0 s r there hr no) in
-    elim (s == from) as (λ b. (s == from) ≡ b → get_or (set ls (from * n + x.0) new) (s * n + r) [] ≡ get_or ls (s * n + r) [] ++ (if b && reaches n from r then (if x.0 == r then x.1 ∷ [] else []) ++ [] else [])) [
-      | true ↦ λ e. elim (x.0 == r) as (λ b. (x.0 == r) ≡ b → get_or (set ls (from * n + x.0) new) (s * n + r) [] ≡ get_or ls (s * n + r) [] ++ (if reaches n from r then (if b then x.1 ∷ [] else []) ++ [] else [])) [
-        | true ↦ λ t.
-            let here : s ≡ from = (Decides-eqb s from).0 e in
-            let this : x.0 ≡ r = (Decides-eqb x.0 r).0 t in
-            let on : reaches n from r ≡ true = subst (λ y. reaches n from y ≡ true) this is in
-            let place : s * n + r ≡ from * n + x.0 = rw (here, this) refl in
-            let small : from * n + x.0 < length ls = rw square (inside n from x.0 hf there) in
-            rw (on, place) (get_or-set_same ls (from * n + x.0) new [] small)
-        | false ↦ λ f.
-            let no : s ≡ from → x.0 ≡ r → ⊥ = λ _ q. let yes = (Decides-eqb x.0 r).1 q in let never : false ≡ true = sym f ∙ yes in cc in
-            rw (neither {X = M} (reaches n from r), append-nil (get_or ls (s * n + r) [])) (other no)
-      ] refl
+    let other : (s ≡ from → x.0 ≡ r → ⊥) → get_or (set ls (from * n + x.0) new) (s * n + r) [] ≡ get_or ls (s * n + r) [] = λ no. get_or-set_other ls
+    (from * n + x.0) (s * n + r) new [] (other_place n from x.0 s r there hr no) in
+    elim (s == from) as (λ b. (s == from) ≡ b → get_or (set ls (from * n + x.0) new) (s * n + r) []
+    ≡ get_or ls (s * n + r) [] ++ (if b && reaches n from r then (if x.0 == r then x.1 ∷ [] else []) ++ [] else [])) [
+      | true ↦ λ e. elim (x.0 == r) as (λ b. (x.0 == r) ≡ b → get_or (set ls (from * n + x.0) new) (s * n + r) []
+          ≡ get_or ls (s * n + r) [] ++ (if reaches n from r then (if b then x.1 ∷ [] else []) ++ [] else [])) [
+            | true ↦ λ t.
+                let here : s ≡ from = (Decides-eqb s from).0 e in
+                let this : x.0 ≡ r = (Decides-eqb x.0 r).0 t in
+                let on : reaches n from r ≡ true = subst (λ y. reaches n from y ≡ true) this is in
+                let place : s * n + r ≡ from * n + x.0 = rw (here, this) refl in
+                let small : from * n + x.0 < length ls = rw square (inside n from x.0 hf there) in
+                rw (on, place) (get_or-set_same ls (from * n + x.0) new [] small)
+            | false ↦ λ f.
+                let no : s ≡ from → x.0 ≡ r → ⊥ = λ _ q. let yes = (Decides-eqb x.0 r).1 q in let never : false ≡ true = sym f ∙ yes in cc in
+                rw (neither {X = M} (reaches n from r), append-nil (get_or ls (s * n + r) [])) (other no)
+          ] refl
       | false ↦ λ f.
           let no : s ≡ from → x.0 ≡ r → ⊥ = λ q _. let yes = (Decides-eqb s from).1 q in let never : false ≡ true = sym f ∙ yes in cc in
           rw (append-nil (get_or ls (s * n + r) [])) (other no)
@@ -78,23 +84,29 @@ nothing_there {M} n from x s r off =
     ] refl
 
 -- one message more
-put_one : {M : Type 0} (n from : ℕ) (x : ℕ × M) (ls : List (List M)) (s r : ℕ) → length ls ≡ n * n → from < n → r < n → get_or (put_on n from x ls) (s * n + r) [] ≡ get_or ls (s * n + r) [] ++ put_on_link n from s r (x ∷ [])
+put_one : {M : Type 0} (n from : ℕ) (x : ℕ × M) (ls : List (List M)) (s r : ℕ) → length ls ≡ n * n → from < n → r < n
+    → get_or (put_on n from x ls) (s * n + r) [] ≡ get_or ls (s * n + r) [] ++ put_on_link n from s r (x ∷ [])
 put_one n from x ls s r square hf hr =
-    elim (reaches n from x.0) as (λ b. reaches n from x.0 ≡ b → get_or (if b then set ls (from * n + x.0) (get_or ls (from * n + x.0) [] ++ x.1 ∷ []) else ls) (s * n + r) [] ≡ get_or ls (s * n + r) [] ++ put_on_link n from s r (x ∷ [])) [
+    elim (reaches n from x.0)
+    as (λ b. reaches n from x.0 ≡ b → get_or (if b then set ls (from * n + x.0) (get_or ls (from * n + x.0) [] ++ x.1 ∷ []) else ls) (s * n + r) []
+    ≡ get_or ls (s * n + r) [] ++ put_on_link n from s r (x ∷ [])) [
       | true ↦ arrives n from x ls s r square hf hr
       | false ↦ λ off. rw (nothing_there n from x s r off, append-nil (get_or ls (s * n + r) [])) refl
     ] refl
 
 -- one message, and then more
-put_on_link_more : {M : Type 0} (n from s r : ℕ) (x : ℕ × M) (xs : List (ℕ × M)) → put_on_link n from s r (x ∷ xs) ≡ put_on_link n from s r (x ∷ []) ++ put_on_link n from s r xs
+put_on_link_more : {M : Type 0} (n from s r : ℕ) (x : ℕ × M) (xs : List (ℕ × M))
+    → put_on_link n from s r (x ∷ xs) ≡ put_on_link n from s r (x ∷ []) ++ put_on_link n from s r xs
 put_on_link_more n from s r x xs =
-    elim ((s == from) && reaches n from r) as (λ b. (if b then (if x.0 == r then x.1 ∷ [] else []) ++ sent_for r xs else []) ≡ (if b then (if x.0 == r then x.1 ∷ [] else []) ++ [] else []) ++ (if b then sent_for r xs else [])) [
+    elim ((s == from) && reaches n from r) as (λ b. (if b then (if x.0 == r then x.1 ∷ [] else []) ++ sent_for r xs else [])
+    ≡ (if b then (if x.0 == r then x.1 ∷ [] else []) ++ [] else []) ++ (if b then sent_for r xs else [])) [
       | true ↦ rw (append-nil (if x.0 == r then x.1 ∷ [] else [])) refl
       | false ↦ refl
     ]
 
 -- all that a node sends stands at the ends of its links, and the other links are as they were
-pub link_after_sends : {M : Type 0} (n from : ℕ) (sends : List (ℕ × M)) (ls : List (List M)) (s r : ℕ) → length ls ≡ n * n → from < n → r < n → get_or (delivered n from sends ls) (s * n + r) [] ≡ get_or ls (s * n + r) [] ++ put_on_link n from s r sends
+pub link_after_sends : {M : Type 0} (n from : ℕ) (sends : List (ℕ × M)) (ls : List (List M)) (s r : ℕ) → length ls ≡ n * n → from < n → r < n
+    → get_or (links_after n from sends ls) (s * n + r) [] ≡ get_or ls (s * n + r) [] ++ put_on_link n from s r sends
 link_after_sends n from [] ls s r square hf hr =
     rw (neither ((s == from) && reaches n from r), append-nil (get_or ls (s * n + r) [])) refl
 link_after_sends n from (x ∷ xs) ls s r square hf hr =
@@ -106,13 +118,15 @@ link_after_sends n from (x ∷ xs) ls s r square hf hr =
 -- the link of node 0 to itself stays as it was
 loop_after_one : {M : Type 0} (n from : ℕ) (x : ℕ × M) (ls : List (List M)) → 0 < n → get_or (put_on n from x ls) 0 [] ≡ get_or ls 0 []
 loop_after_one n from x ls some =
-    elim (reaches n from x.0) as (λ b. reaches n from x.0 ≡ b → get_or (if b then set ls (from * n + x.0) (get_or ls (from * n + x.0) [] ++ x.1 ∷ []) else ls) 0 [] ≡ get_or ls 0 []) [
+    elim (reaches n from x.0) as (λ b. reaches n from x.0 ≡ b
+    → get_or (if b then set ls (from * n + x.0) (get_or ls (from * n + x.0) [] ++ x.1 ∷ []) else ls) 0 [] ≡ get_or ls 0 []) [
       | true ↦ λ is.
           let other : (x.0 == 0) && (from == 0) ≡ false = grind (arith, nat_tests) in
           loop_stays n from x.0 ls (get_or ls (from * n + x.0) [] ++ x.1 ∷ []) some other
       | false ↦ λ _. refl
     ] refl
 
-pub loop_after_sends : {M : Type 0} (n from : ℕ) (sends : List (ℕ × M)) (ls : List (List M)) → 0 < n → get_or (delivered n from sends ls) 0 [] ≡ get_or ls 0 []
+pub loop_after_sends : {M : Type 0} (n from : ℕ) (sends : List (ℕ × M)) (ls : List (List M)) → 0 < n
+    → get_or (links_after n from sends ls) 0 [] ≡ get_or ls 0 []
 loop_after_sends n from [] ls some = refl
 loop_after_sends n from (x ∷ xs) ls some = loop_after_sends n from xs (put_on n from x ls) some ∙ loop_after_one n from x ls some

@@ -3,7 +3,7 @@ use Rattle.std.proofs.Common.{◌≡◌, ℕ, zero, suc, ◌+◌, ◌*◌, ◌<�
 use Rattle.std.specs.Prelude.{◌==◌, ◌&&◌, if◌then◌else◌, nat_lt}
 use Rattle.std.proofs.lemmas.Bool.Decides.{nat_tests}
 use Rattle.std.proofs.lemmas.List.{length-replicate}
-use Rattle.actor_net.specs.Network.{Network, IsWorld, waiting}
+use Rattle.actor_net.specs.Network.{Network, IsWorld, queue_at}
 use Rattle.actor_net.specs.Opening.{opening}
 use Rattle.actor_net.proofs.EnabledChoices.{at}
 use Rattle.actor_net.proofs.LinkLemmas.{empty_link}
@@ -29,12 +29,14 @@ module _ {A M : Type 0} (N : Type 0) (nodes : List A) (items : List M) where
   w = opening nodes items
 
   -- the input waits, and nothing else
-  pub opening_waiting : 0 < length nodes → (s r : ℕ) → waiting w (at r s) ≡ (if (r == 0) && (s == 0) then items else [])
+  pub opening_waiting : 0 < length nodes → (s r : ℕ) → queue_at w (at r s) ≡ (if (r == 0) && (s == 0) then items else [])
   opening_waiting some s r =
-      elim (nat_lt s (length nodes) && nat_lt r (length nodes)) as (λ b. nat_lt s (length nodes) && nat_lt r (length nodes) ≡ b → waiting w (at r s) ≡ (if (r == 0) && (s == 0) then items else [])) [
+      elim (nat_lt s (length nodes) && nat_lt r (length nodes))
+      as (λ b. nat_lt s (length nodes) && nat_lt r (length nodes) ≡ b → queue_at w (at r s) ≡ (if (r == 0) && (s == 0) then items else [])) [
         | true ↦ λ on.
             let there = both_below s r (length nodes) on in
-            waiting_is w s r there.0 there.1 ∙ elim ((r == 0) && (s == 0)) as (λ b. (if b then items else get_or w.links (s * length nodes + r) []) ≡ (if b then items else [])) [ true ↦ refl | false ↦ empty_link M (length nodes * length nodes) (s * length nodes + r) ]
+            waiting_is w s r there.0 there.1 ∙ elim ((r == 0) && (s == 0)) as (λ b. (if b then items else get_or w.links (s * length nodes + r) [])
+            ≡ (if b then items else [])) [ true ↦ refl | false ↦ empty_link M (length nodes * length nodes) (s * length nodes + r) ]
         | false ↦ λ off.
             let link : (r == 0) && (s == 0) ≡ false = grind (arith, nat_tests) in
             waiting_outside w s r some off ∙ rw link refl
@@ -43,7 +45,8 @@ module _ {A M : Type 0} (N : Type 0) (nodes : List A) (items : List M) where
   -- a fact of each item of the input is one of each message that stands anywhere
   pub opening_on_links : (P : ℕ → ℕ → M → Type 0) → 0 < length nodes → Each (P 0 0) items → OnLinks P w
   opening_on_links P some each s r hs hr =
-      subst (λ ms. Each (P s r) ms) (sym (opening_waiting some s r)) (elim ((r == 0) && (s == 0)) as (λ b. (r == 0) && (s == 0) ≡ b → Each (P s r) (if b then items else [])) [
+      subst (λ ms. Each (P s r) ms) (sym (opening_waiting some s r))
+      (elim ((r == 0) && (s == 0)) as (λ b. (r == 0) && (s == 0) ≡ b → Each (P s r) (if b then items else [])) [
         | true ↦ λ on.
             let s_zero : s ≡ 0 = grind (arith, nat_tests) in
             let r_zero : r ≡ 0 = grind (arith, nat_tests) in

@@ -4,7 +4,7 @@ use Rattle.std.proofs.Common.{◌≡◌, ℕ, Bool, true, Option, None, Some, Li
 use Rattle.std.specs.Prelude.{slice_get}
 use Rattle.std.proofs.lemmas.Option.{get_or_from_slice_get}
 use Rattle.actor_net.specs.declared.choice.Choice.{Choice}
-use Rattle.actor_net.specs.Network.{Network, Stepped, IsWorld, is_input, waiting, takes_first, is_enabled, taken, run, IsRun}
+use Rattle.actor_net.specs.Network.{Network, Stepped, IsWorld, is_input, queue_at, takes_first, is_enabled, world_next, run, IsRun}
 use Rattle.actor_net.proofs.ScheduleLaws.{enabled_within}
 use Rattle.actor_net.proofs.RunLaws.{run_more, IsRun_more}
 use Rattle.actor_net.proofs.StepOutcome.{Takes, taken_outcome}
@@ -34,7 +34,7 @@ module _ {A M N : Type 0} (ready : A → M → Bool) (step : A → ℕ → M →
   pub taking : (w : Network A M N) (c : Choice) → IsWorld w → length w.nodes ≡ n → is_enabled ready w c ≡ true → Taking w c
   taking w c world count on =
       let there = enabled_within ready w c world.some_node on in
-      let first = found ready c (slice_get w.nodes c.node) (waiting w c) on in
+      let first = found ready c (slice_get w.nodes c.node) (queue_at w c) on in
       record {
         node = first.node;
         message = first.message;
@@ -52,7 +52,7 @@ module _ {A M N : Type 0} (ready : A → M → Bool) (step : A → ℕ → M →
       }
 
   -- a choice leaves a world
-  pub taken_world : (w : Network A M N) (c : Choice) → IsWorld w → Taking w c → IsWorld (taken step w c)
+  pub taken_world : (w : Network A M N) (c : Choice) → IsWorld w → Taking w c → IsWorld (world_next step w c)
   taken_world w c world t =
       let left = taken_outcome step n w c.node c.port t.node t.message t.rest t.takes in
       let count = left.count ∙ sym t.takes.count in
@@ -70,22 +70,26 @@ module _ {A M N : Type 0} (ready : A → M → Bool) (step : A → ℕ → M →
     pub is_run : IsRun ready step cs start
     pub taking : Taking w c
 
-  module _ (P : List Choice → Network A M N → Type 0) (start : Network A M N) (keeps : (cs : List Choice) (w : Network A M N) (c : Choice) → NextChoice start cs w c → P cs w → P (cs ++ c ∷ []) (taken step w c)) where
-    goes_on : (cs : List Choice) (w : Network A M N) (ds : List Choice) → IsWorld w → length w.nodes ≡ n → w ≡ run step cs start → IsRun ready step cs start → P cs w → IsRun ready step ds w → P (cs ++ ds) (run step ds w)
+  module _ (P : List Choice → Network A M N → Type 0) (start : Network A M N)
+      (keeps : (cs : List Choice) (w : Network A M N) (c : Choice) → NextChoice start cs w c → P cs w → P (cs ++ c ∷ []) (world_next step w c)) where
+    goes_on : (cs : List Choice) (w : Network A M N) (ds : List Choice) → IsWorld w → length w.nodes ≡ n → w ≡ run step cs start → IsRun ready step cs start
+        → P cs w → IsRun ready step ds w → P (cs ++ ds) (run step ds w)
     goes_on cs w [] world count reached is_run holds is = subst (λ xs. P xs w) (sym (append-nil cs)) holds
     goes_on cs w (d ∷ ds) world count reached is_run holds is =
         let t = taking w d world count is.0 in
         let next = keeps cs w d (record { world = world; reached = reached; is_run = is_run; taking = t }) holds in
         let left = taken_outcome step n w d.node d.port t.node t.message t.rest t.takes in
-        subst (λ xs. P xs (run step ds (taken step w d))) (append_assoc cs (d ∷ []) ds)
-        (goes_on (cs ++ d ∷ []) (taken step w d) ds (taken_world w d world t) left.count (run_more step cs d start w reached) (IsRun_more ready step cs d start w reached is_run is.0) next is.1)
+        subst (λ xs. P xs (run step ds (world_next step w d))) (append_assoc cs (d ∷ []) ds)
+        (goes_on (cs ++ d ∷ []) (world_next step w d) ds (taken_world w d world t) left.count (run_more step cs d start w reached)
+        (IsRun_more ready step cs d start w reached is_run is.0) next is.1)
 
     -- what holds at the start, and goes on with each choice that is enabled, holds of every run and the world that it reaches
     pub run_induction : IsWorld start → length start.nodes ≡ n → P [] start → (cs : List Choice) → IsRun ready step cs start → P cs (run step cs start)
     run_induction world count holds cs is = goes_on [] start cs world count refl tt holds is
 
   -- a run leaves a world of as many nodes
-  pub run_world : (start : Network A M N) → IsWorld start → length start.nodes ≡ n → (cs : List Choice) → IsRun ready step cs start → IsWorld (run step cs start) × (length (run step cs start).nodes ≡ n)
+  pub run_world : (start : Network A M N) → IsWorld start → length start.nodes ≡ n → (cs : List Choice) → IsRun ready step cs start
+      → IsWorld (run step cs start) × (length (run step cs start).nodes ≡ n)
   run_world start world count =
       run_induction (λ cs w. IsWorld w × (length w.nodes ≡ n)) start (λ cs w c next _. (
         taken_world w c next.world next.taking,

@@ -4,7 +4,7 @@ use Rattle.std.specs.Prelude.{if◌then◌else◌, ◌==◌, ◌&&◌, nat_lt, s
 use Rattle.std.proofs.lemmas.Bool.Decides.{nat_tests}
 use Rattle.std.proofs.lemmas.List.{get_or-set_same, get_or-set_other, length-set}
 use Rattle.std.proofs.lemmas.Option.{slice_get-get_or}
-use Rattle.actor_net.specs.Network.{Network, Stepped, waiting, without_first, after, taken_from, taken, reaches}
+use Rattle.actor_net.specs.Network.{Network, Stepped, queue_at, without_first, after, world_after_step, world_next, reaches}
 use Rattle.actor_net.proofs.EnabledChoices.{at}
 use Rattle.actor_net.proofs.LinkLemmas.{put_on_link, length-delivered, loop_after_sends}
 use Rattle.actor_net.proofs.WorldStepLemmas.{loop_stays}
@@ -32,22 +32,22 @@ module _ {A M N : Type 0} (step : A → ℕ → M → Stepped A M N) (n : ℕ) (
     pub receiver : k < n
     pub sender : p < n
     pub node_is : (d : A) → get_or w.nodes k d ≡ node
-    pub waits : waiting w (at k p) ≡ m ∷ rest
+    pub waits : queue_at w (at k p) ≡ m ∷ rest
 
   abbrev pub did : Stepped A M N
   did = step node p m
 
-  pub taken_is : Takes → taken step w (at k p) ≡ after (without_first w (at k p)) k did
+  pub taken_is : Takes → world_next step w (at k p) ≡ after (without_first w (at k p)) k did
   taken_is h =
       let count = h.count in
       let there : slice_get w.nodes k ≡ Some node = slice_get-get_or w.nodes k node (rw count h.receiver) ∙ ap Some (h.node_is node) in
-      ap (λ o. taken_from step w (at k p) o (waiting w (at k p))) there ∙ ap (λ ms. taken_from step w (at k p) (Some node) ms) h.waits
+      ap (λ o. world_after_step step w (at k p) o (queue_at w (at k p))) there ∙ ap (λ ms. world_after_step step w (at k p) (Some node) ms) h.waits
 
   from_input : Network A M N
   from_input = record { nodes = w.nodes; links = w.links; input = drop 1 w.input; log = w.log }
 
   from_link : Network A M N
-  from_link = record { nodes = w.nodes; links = set w.links (p * length w.nodes + k) (drop 1 (waiting w (at k p))); input = w.input; log = w.log }
+  from_link = record { nodes = w.nodes; links = set w.links (p * length w.nodes + k) (drop 1 (queue_at w (at k p))); input = w.input; log = w.log }
 
   -- the nodes, the log and the number of links stay when a message leaves, and so does the link of node 0 to itself
   pub record Kept (v : Network A M N) : Type 0 where
@@ -64,8 +64,8 @@ module _ {A M N : Type 0} (step : A → ℕ → M → Stepped A M N) (n : ℕ) (
         | false ↦ λ off. record {
           nodes = refl;
           log = refl;
-          links = length-set w.links (p * length w.nodes + k) (drop 1 (waiting w (at k p)));
-          loop = loop_stays (length w.nodes) p k w.links (drop 1 (waiting w (at k p))) some off;
+          links = length-set w.links (p * length w.nodes + k) (drop 1 (queue_at w (at k p)));
+          loop = loop_stays (length w.nodes) p k w.links (drop 1 (queue_at w (at k p))) some off;
         }
       ] refl
 
@@ -75,12 +75,12 @@ module _ {A M N : Type 0} (step : A → ℕ → M → Stepped A M N) (n : ℕ) (
     pub count : length v.nodes ≡ n
     pub own : (d : A) → get_or v.nodes k d ≡ did.node
     pub others : (j : ℕ) (d : A) → j ≢ k → get_or v.nodes j d ≡ get_or w.nodes j d
-    pub waits : (s r : ℕ) → waiting v (at r s) ≡ less_first ((s == p) && (r == k)) (waiting w (at r s)) ++ put_on_link n k s r did.sends
+    pub waits : (s r : ℕ) → queue_at v (at r s) ≡ less_first ((s == p) && (r == k)) (queue_at w (at r s)) ++ put_on_link n k s r did.sends
     pub log : v.log ≡ w.log ++ did.notes
     pub links : length v.links ≡ n * n
     pub loop : get_or v.links 0 [] ≡ get_or w.links 0 []
 
-  pub taken_outcome : Takes → Outcome (taken step w (at k p))
+  pub taken_outcome : Takes → Outcome (world_next step w (at k p))
   taken_outcome h =
       let is = taken_is h in
       let count = h.count in
@@ -96,17 +96,20 @@ module _ {A M N : Type 0} (step : A → ℕ → M → Stepped A M N) (n : ℕ) (
         own = λ d. get_or-set_same without.nodes k did.node d small;
         others = λ j d other. get_or-set_other without.nodes k j did.node d other ∙ ap (λ xs. get_or xs j d) nodes;
         waits = λ s r.
-            elim (nat_lt s n && nat_lt r n) as (λ b. nat_lt s n && nat_lt r n ≡ b → waiting (after without k did) (at r s) ≡ less_first ((s == p) && (r == k)) (waiting w (at r s)) ++ put_on_link n k s r did.sends) [
+            elim (nat_lt s n && nat_lt r n) as (λ b. nat_lt s n && nat_lt r n ≡ b
+            → queue_at (after without k did) (at r s) ≡ less_first ((s == p) && (r == k)) (queue_at w (at r s)) ++ put_on_link n k s r did.sends) [
               | true ↦ λ on.
                   let there = both_below s r n on in
                   waiting-after without k s r did square small (rw (nodes, count) there.0) (rw (nodes, count) there.1)
-                  ∙ ap (λ xs. xs ++ put_on_link (length without.nodes) k s r did.sends) (waiting-without_first w p k s r (rw count h.square) (rw count h.sender) (rw count h.receiver) (rw count there.0) (rw count there.1))
-                  ∙ ap (λ i. less_first ((s == p) && (r == k)) (waiting w (at r s)) ++ put_on_link i k s r did.sends) (ap length nodes ∙ count)
+                  ∙ ap (λ xs. xs ++ put_on_link (length without.nodes) k s r did.sends)
+                  (waiting-without_first w p k s r (rw count h.square) (rw count h.sender) (rw count h.receiver) (rw count there.0) (rw count there.1))
+                  ∙ ap (λ i. less_first ((s == p) && (r == k)) (queue_at w (at r s)) ++ put_on_link i k s r did.sends) (ap length nodes ∙ count)
               | false ↦ λ off.
-                  let none : waiting w (at r s) ≡ [] = waiting_outside w s r some (rw count off) in
+                  let none : queue_at w (at r s) ≡ [] = waiting_outside w s r some (rw count off) in
                   let put = put_outside n k s r did.sends h.receiver off in
                   waiting_outside (after without k did) s r (rw count' h.some) (rw count' off)
-                  ∙ sym (ap (λ xs. less_first ((s == p) && (r == k)) (waiting w (at r s)) ++ xs) put ∙ ap (λ xs. less_first ((s == p) && (r == k)) xs ++ []) none ∙ ap (λ xs. xs ++ []) (less_first-nil ((s == p) && (r == k))))
+                  ∙ sym (ap (λ xs. less_first ((s == p) && (r == k)) (queue_at w (at r s)) ++ xs) put
+                  ∙ ap (λ xs. less_first ((s == p) && (r == k)) xs ++ []) none ∙ ap (λ xs. xs ++ []) (less_first-nil ((s == p) && (r == k))))
             ] refl;
         log = ap (λ xs. xs ++ did.notes) stays.log;
         links = length-delivered (length without.nodes) k did.sends without.links ∙ stays.links ∙ h.square;

@@ -4,7 +4,7 @@ use Rattle.std.specs.Prelude.{if◌then◌else◌, ◌==◌, ◌&&◌, nat_lt}
 use Rattle.std.proofs.lemmas.Bool.Decides.{nat_tests, Decides-ltb}
 use Rattle.std.proofs.lemmas.List.{get_or-set_same, get_or-set_other, length-set}
 use Rattle.std.proofs.Math.Bool.{and_comm}
-use Rattle.actor_net.specs.Network.{Network, Stepped, waiting, without_first, after, delivered, reaches}
+use Rattle.actor_net.specs.Network.{Network, Stepped, queue_at, without_first, after, links_after, reaches}
 use Rattle.actor_net.proofs.EnabledChoices.{at}
 use Rattle.actor_net.proofs.LinkLemmas.{put_on_link, link_after_sends, inside, other_place}
 
@@ -19,7 +19,8 @@ apart s r p k off here this = grind (arith, nat_tests)
 alike : (s r p k : ℕ) → (s == p) && (r == k) ≡ true → (s ≡ p) × (r ≡ k)
 alike s r p k on = (grind (arith, nat_tests), grind (arith, nat_tests))
 
-link_without : {M : Type 0} (n : ℕ) (ls : List (List M)) (p k s r : ℕ) → length ls ≡ n * n → p < n → k < n → s < n → r < n → get_or (set ls (p * n + k) (drop 1 (get_or ls (p * n + k) []))) (s * n + r) [] ≡ less_first ((s == p) && (r == k)) (get_or ls (s * n + r) [])
+link_without : {M : Type 0} (n : ℕ) (ls : List (List M)) (p k s r : ℕ) → length ls ≡ n * n → p < n → k < n → s < n → r < n
+    → get_or (set ls (p * n + k) (drop 1 (get_or ls (p * n + k) []))) (s * n + r) [] ≡ less_first ((s == p) && (r == k)) (get_or ls (s * n + r) [])
 link_without n ls p k s r square hp hk hs hr =
     let new = drop 1 (get_or ls (p * n + k) []) in
     elim ((s == p) && (r == k)) as (λ b. (s == p) && (r == k) ≡ b → get_or (set ls (p * n + k) new) (s * n + r) [] ≡ less_first b (get_or ls (s * n + r) [])) [
@@ -39,32 +40,42 @@ put_on_input n k s r sends on =
 
 module _ {A M N : Type 0} where
   -- what waits at a choice of two nodes that are there
-  pub waiting_is : (w : Network A M N) (s r : ℕ) → s < length w.nodes → r < length w.nodes → waiting w (at r s) ≡ (if (r == 0) && (s == 0) then w.input else get_or w.links (s * length w.nodes + r) [])
+  pub waiting_is : (w : Network A M N) (s r : ℕ) → s < length w.nodes → r < length w.nodes
+      → queue_at w (at r s) ≡ (if (r == 0) && (s == 0) then w.input else get_or w.links (s * length w.nodes + r) [])
   waiting_is w s r hs hr =
       let s_there = (Decides-ltb s (length w.nodes)).1 hs in
       let r_there = (Decides-ltb r (length w.nodes)).1 hr in
       rw (s_there, r_there) refl
 
   -- nothing waits at a choice of a node that isn't there
-  pub waiting_outside : (w : Network A M N) (s r : ℕ) → 0 < length w.nodes → nat_lt s (length w.nodes) && nat_lt r (length w.nodes) ≡ false → waiting w (at r s) ≡ []
+  pub waiting_outside : (w : Network A M N) (s r : ℕ) → 0 < length w.nodes → nat_lt s (length w.nodes) && nat_lt r (length w.nodes) ≡ false
+      → queue_at w (at r s) ≡ []
   waiting_outside w s r some off =
       let link : (r == 0) && (s == 0) ≡ false = grind (arith, nat_tests) in
       rw (link, off) refl
 
   -- without its first message, a choice has what stands after it; the others have what they had
-  pub waiting-without_first : (w : Network A M N) (p k s r : ℕ) → length w.links ≡ length w.nodes * length w.nodes → p < length w.nodes → k < length w.nodes → s < length w.nodes → r < length w.nodes → waiting (without_first w (at k p)) (at r s) ≡ less_first ((s == p) && (r == k)) (waiting w (at r s))
+  pub waiting-without_first : (w : Network A M N) (p k s r : ℕ) → length w.links ≡ length w.nodes * length w.nodes → p < length w.nodes → k < length w.nodes
+      → s < length w.nodes → r < length w.nodes → queue_at (without_first w (at k p)) (at r s) ≡ less_first ((s == p) && (r == k)) (queue_at w (at r s))
   waiting-without_first w p k s r square hp hk hs hr =
       let n = length w.nodes in
-      rw (waiting_is w s r hs hr) (elim ((k == 0) && (p == 0)) as (λ b. (k == 0) && (p == 0) ≡ b → waiting (if b then record { nodes = w.nodes; links = w.links; input = drop 1 w.input; log = w.log } else record { nodes = w.nodes; links = set w.links (p * n + k) (drop 1 (waiting w (at k p))); input = w.input; log = w.log }) (at r s) ≡ less_first ((s == p) && (r == k)) (if (r == 0) && (s == 0) then w.input else get_or w.links (s * n + r) [])) [
+      rw (waiting_is w s r hs hr) (elim ((k == 0) && (p == 0))
+      as (λ b. (k == 0) && (p == 0) ≡ b → queue_at (if b then record { nodes = w.nodes; links = w.links; input = drop 1 w.input; log = w.log }
+      else record { nodes = w.nodes; links = set w.links (p * n + k) (drop 1 (queue_at w (at k p))); input = w.input; log = w.log }) (at r s)
+      ≡ less_first ((s == p) && (r == k)) (if (r == 0) && (s == 0) then w.input else get_or w.links (s * n + r) [])) [
         | true ↦ λ on.
             let first : Network A M N = record { nodes = w.nodes; links = w.links; input = drop 1 w.input; log = w.log } in
             let zeros = alike k p 0 0 on in
             let test : (s == p) && (r == k) ≡ (r == 0) && (s == 0) = rw (zeros.0, zeros.1) (and_comm (s == 0) (r == 0)) in
-            rw (waiting_is first s r hs hr, test) (elim ((r == 0) && (s == 0)) as (λ b. (if b then drop 1 w.input else get_or w.links (s * n + r) []) ≡ less_first b (if b then w.input else get_or w.links (s * n + r) [])) [ true ↦ refl | false ↦ refl ])
+            rw (waiting_is first s r hs hr, test) (elim ((r == 0) && (s == 0)) as (λ b. (if b then drop 1 w.input else get_or w.links (s * n + r) [])
+            ≡ less_first b (if b then w.input else get_or w.links (s * n + r) [])) [ true ↦ refl | false ↦ refl ])
         | false ↦ λ off.
-            let here : waiting w (at k p) ≡ get_or w.links (p * n + k) [] = waiting_is w p k hp hk ∙ rw off refl in
-            let rest : Network A M N = record { nodes = w.nodes; links = set w.links (p * n + k) (drop 1 (get_or w.links (p * n + k) [])); input = w.input; log = w.log } in
-            rw (here, waiting_is rest s r hs hr) (elim ((r == 0) && (s == 0)) as (λ b. (r == 0) && (s == 0) ≡ b → (if b then w.input else get_or (set w.links (p * n + k) (drop 1 (get_or w.links (p * n + k) []))) (s * n + r) []) ≡ less_first ((s == p) && (r == k)) (if b then w.input else get_or w.links (s * n + r) [])) [
+            let here : queue_at w (at k p) ≡ get_or w.links (p * n + k) [] = waiting_is w p k hp hk ∙ rw off refl in
+            let rest : Network A M N =
+            record { nodes = w.nodes; links = set w.links (p * n + k) (drop 1 (get_or w.links (p * n + k) [])); input = w.input; log = w.log } in
+            rw (here, waiting_is rest s r hs hr) (elim ((r == 0) && (s == 0)) as (λ b. (r == 0) && (s == 0) ≡ b
+            → (if b then w.input else get_or (set w.links (p * n + k) (drop 1 (get_or w.links (p * n + k) []))) (s * n + r) [])
+            ≡ less_first ((s == p) && (r == k)) (if b then w.input else get_or w.links (s * n + r) [])) [
               | true ↦ λ zero.
                   let other : (s == p) && (r == k) ≡ false = grind (arith, nat_tests) in
                   rw other refl
@@ -73,11 +84,14 @@ module _ {A M N : Type 0} where
       ] refl)
 
   -- after a step at node k, what it sent stands after what waited
-  pub waiting-after : (w : Network A M N) (k s r : ℕ) (did : Stepped A M N) → length w.links ≡ length w.nodes * length w.nodes → k < length w.nodes → s < length w.nodes → r < length w.nodes → waiting (after w k did) (at r s) ≡ waiting w (at r s) ++ put_on_link (length w.nodes) k s r did.sends
+  pub waiting-after : (w : Network A M N) (k s r : ℕ) (did : Stepped A M N) → length w.links ≡ length w.nodes * length w.nodes → k < length w.nodes
+      → s < length w.nodes → r < length w.nodes → queue_at (after w k did) (at r s) ≡ queue_at w (at r s) ++ put_on_link (length w.nodes) k s r did.sends
   waiting-after w k s r did square hk hs hr =
       let n = length w.nodes in
       let count : length (set w.nodes k did.node) ≡ n = length-set w.nodes k did.node in
-      rw (waiting_is (after w k did) s r (rw count hs) (rw count hr), waiting_is w s r hs hr, count) (elim ((r == 0) && (s == 0)) as (λ b. (r == 0) && (s == 0) ≡ b → (if b then w.input else get_or (delivered n k did.sends w.links) (s * n + r) []) ≡ (if b then w.input else get_or w.links (s * n + r) []) ++ put_on_link n k s r did.sends) [
+      rw (waiting_is (after w k did) s r (rw count hs) (rw count hr), waiting_is w s r hs hr, count)
+      (elim ((r == 0) && (s == 0)) as (λ b. (r == 0) && (s == 0) ≡ b → (if b then w.input else get_or (links_after n k did.sends w.links) (s * n + r) [])
+      ≡ (if b then w.input else get_or w.links (s * n + r) []) ++ put_on_link n k s r did.sends) [
         | true ↦ λ zero. rw (put_on_input n k s r did.sends zero, append-nil w.input) refl
         | false ↦ λ _. link_after_sends n k did.sends w.links s r square hk hr
       ] refl)

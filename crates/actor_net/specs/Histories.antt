@@ -17,8 +17,8 @@ abbrev pub messages : {M : Type 0} → List (Stamped M) → List M
 messages xs = map (λ x. x.message) xs
 
 -- the steps as a history notes them: each with its clock and its port
-abbrev pub noted : {M : Type 0} → List (NodeStep M) → List (ℕ × ℕ)
-noted es = map (λ e. (e.clock, e.port)) es
+abbrev pub history_of : {M : Type 0} → List (NodeStep M) → List (ℕ × ℕ)
+history_of es = map (λ e. (e.clock, e.port)) es
 
 -- what a node does at one step
 abbrev pub does : {A M N : Type 0} → (A → ℕ → M → Stepped A M N) → A → NodeStep M → Stepped A M N
@@ -40,14 +40,14 @@ sent_for to [] = []
 sent_for to (sent ∷ rest) = (if sent.0 == to then sent.1 ∷ [] else []) ++ sent_for to rest
 
 -- messages with the clock of the step that sent them
-abbrev pub stamped : {M : Type 0} → ℕ → List M → List (Stamped M)
-stamped clock ms = map (λ m. record { clock = clock; message = m }) ms
+abbrev pub with_clock : {M : Type 0} → ℕ → List M → List (Stamped M)
+with_clock clock ms = map (λ m. record { clock = clock; message = m }) ms
 
 -- what these steps sent to one receiver, in order
 abbrev pub sent_to : {A M N : Type 0} → (A → ℕ → M → Stepped A M N) → ℕ → A → List (NodeStep M) → List (Stamped M)
 sent_to step to node [] = []
 sent_to step to node (e ∷ es) =
-    stamped e.clock (sent_for to (does step node e).sends) ++ sent_to step to (does step node e).node es
+    with_clock e.clock (sent_for to (does step node e).sends) ++ sent_to step to (does step node e).node es
 
 -- what these steps of one node put on its link to another, of n nodes: what doesn't arrive is dropped
 abbrev pub put_between : {A M N : Type 0} → (A → ℕ → M → Stepped A M N) → ℕ → ℕ → ℕ → A → List (NodeStep M) → List (Stamped M)
@@ -85,7 +85,7 @@ first_list [] = []
 first_list (x ∷ xs) = x
 
 -- the notes of all nodes in the order of the choices: each choice takes the next of its node's
-abbrev pub dealt : {N : Type 0} → (ℕ → List (List N)) → List Choice → List N
-dealt queues [] = []
-dealt queues (c ∷ cs) =
-    first_list (queues c.node) ++ dealt (λ j. if j == c.node then without_first_list (queues j) else queues j) cs
+abbrev pub notes_of_choices : {N : Type 0} → (ℕ → List (List N)) → List Choice → List N
+notes_of_choices queues [] = []
+notes_of_choices queues (c ∷ cs) =
+    first_list (queues c.node) ++ notes_of_choices (λ j. if j == c.node then without_first_list (queues j) else queues j) cs

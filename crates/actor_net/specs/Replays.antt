@@ -11,8 +11,8 @@ world_or_fault None w = Ok w
 world_or_fault (Some index) w = Err (NotEnabled index)
 
 -- what a replay gives: the world after the choices, or the place of the first of them that isn't enabled in its turn
-abbrev pub replayed : {A M N : Type 0} → (A → M → Bool) → (A → ℕ → M → Stepped A M N) → List Choice → Network A M N → Result (Network A M N) ReplayFault
-replayed ready step cs w = world_or_fault (fault_from ready step 0 cs w) (run step cs w)
+abbrev pub replay_of : {A M N : Type 0} → (A → M → Bool) → (A → ℕ → M → Stepped A M N) → List Choice → Network A M N → Result (Network A M N) ReplayFault
+replay_of ready step cs w = world_or_fault (fault_from ready step 0 cs w) (run step cs w)
 
 -- a place among choices, from 0
 pub record ChoicePlace : Type 0 where

@@ -8,7 +8,7 @@ use Rattle.actor_net.specs.declared.schedule.Schedule.{Schedule}
 use Rattle.actor_net.specs.declared.schedule.Schedule.TheVariants.{First, Last, Number}
 use Rattle.actor_net.specs.declared.schedule.Picker.{Picker}
 use Rattle.actor_net.specs.declared.schedule.Picker.TheVariants.{First as First', Last as Last', Word}
-use Rattle.actor_net.specs.Network.{Network, Stepped, is_enabled, taken, is_done}
+use Rattle.actor_net.specs.Network.{Network, Stepped, is_enabled, world_next, is_done}
 
 -- the enabled ones of a node's ports below p, in order
 abbrev pub ports_below : {A M N : Type 0} → (A → M → Bool) → Network A M N → ℕ → ℕ → List Choice
@@ -39,8 +39,8 @@ later Last = Last
 later (Number state) = Number (next_state state)
 
 -- the choice that a schedule takes in a world
-abbrev pub picked : {A M N : Type 0} → (A → M → Bool) → Schedule → Network A M N → Option Choice
-picked ready schedule w =
+abbrev pub pick_of : {A M N : Type 0} → (A → M → Bool) → Schedule → Network A M N → Option Choice
+pick_of ready schedule w =
     slice_get (enabled_choices ready w) (place_in schedule (length (enabled_choices ready w)))
 
 -- a choice and those after it, or none
@@ -54,7 +54,7 @@ scheduled ready ended step zero schedule w = []
 scheduled ready ended step (suc most) schedule w =
     if is_done ended w
     then []
-    else taken_then (picked ready schedule w) (λ c. scheduled ready ended step most (later schedule) (taken step w c))
+    else taken_then (pick_of ready schedule w) (λ c. scheduled ready ended step most (later schedule) (world_next step w c))
 
 -- a schedule that stops short after so many choices: the world there isn't complete, and no choice is enabled or no more may
 -- be taken

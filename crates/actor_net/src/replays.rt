@@ -1,5 +1,5 @@
 ghost use Rattle.std.specs.Prelude.{◌≡◌, ◌≢◌};
-ghost use Rattle.actor_net.specs.Replays.{replayed};
+ghost use Rattle.actor_net.specs.Replays.{replay_of};
 
 use super::actor::Actor;
 use super::choice::Choice;
@@ -8,7 +8,7 @@ use thiserror::Error;
 
 /// Takes the choices in order. What isn't handed back is dropped.
 pub fn replay<A: Actor>(world: World<A>, choices: &[Choice]) -> Result<World<A>, ReplayFault>
-    ensures { result ≢ Err ReplayFault.NoMemory → result ≡ replayed A.is_ready A.stepped choices.now world }
+    ensures { result ≢ Err ReplayFault.NoMemory → result ≡ replay_of A.is_ready A.stepped choices.now world }
 {
     let mut world = world;
     for (index, choice) in choices.iter().enumerate() {

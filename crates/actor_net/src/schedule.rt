@@ -1,7 +1,7 @@
 //! Schedules: how a simulated run picks each of its choices.
 ghost use Rattle.std.specs.Prelude.{◌≡◌, ℕ, length, true, Err, IfOk, OnSome};
 ghost use Rattle.actor_net.specs.Network.{run, IsRun, is_done};
-ghost use Rattle.actor_net.specs.Schedules.{later, picked, scheduled, schedule_of, StopsShort};
+ghost use Rattle.actor_net.specs.Schedules.{later, pick_of, scheduled, schedule_of, StopsShort};
 
 use super::actor::Actor;
 use super::choice::{Choice, Choices};
@@ -103,7 +103,7 @@ impl Picker {
     /// The choice that the schedule takes.
     #[inline(always)]
     fn pick<A: Actor>(&mut self, world: &World<A>, remainders: &Remainders) -> Option<Choice>
-        ensures choice { result ≡ picked A.is_ready (schedule_of self.old) world.now }
+        ensures choice { result ≡ pick_of A.is_ready (schedule_of self.old) world.now }
         ensures later { OnSome result (schedule_of self.new ≡ later (schedule_of self.old)) }
     {
         match self {

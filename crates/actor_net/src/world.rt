@@ -1,7 +1,8 @@
 //! Worlds: which choices are enabled, and what each choice leaves of the nodes, the links, the input and the log.
 ghost use Rattle.std.specs.Prelude.{◌≡◌, ◌==◌, ◌<◌, ◌*◌, true, false, [], ◌∷◌, length, drop, slice_get, slice_index_or, Some, OnOk, IfOk, IsErrOf};
 ghost use Rattle.std.specs.List.{list_all};
-ghost use Rattle.actor_net.specs.Network.{Network, node_numbers, IsWorld, is_enabled, taken, is_done, waiting, without_first, after, delivered, put_on};
+ghost use Rattle.actor_net.specs.Network.{Network, node_numbers, IsWorld, is_input, is_enabled, world_next};
+ghost use Rattle.actor_net.specs.Network.{is_done, queue_at, without_first, after, links_after, put_on};
 
 mod choices;
 
@@ -33,7 +34,8 @@ impl<A: Actor> Model for World<A> {
 
     ghost view = { λ w. record { nodes = w.nodes.items; links = w.links.lists; input = w.input; log = w.outbox.1 } };
 
-    ghost invariant = { λ w. IsWorld (record { nodes = w.nodes.items; links = w.links.lists; input = w.input; log = w.outbox.1 }) × (w.links.nodes ≡ length w.nodes.items) × (w.outbox.0 ≡ []) };
+    ghost invariant = { λ w. IsWorld (record { nodes = w.nodes.items; links = w.links.lists; input = w.input; log = w.outbox.1 })
+        × (w.links.nodes ≡ length w.nodes.items) × (w.outbox.0 ≡ []) };
 }
 
 impl<A: Actor> World<A> {
@@ -124,7 +126,7 @@ impl<A: Actor> World<A> {
 
     /// Takes one step. Where memory runs out the world is only taken apart afterwards.
     pub fn take(&mut self, choice: Choice) -> Result<(), TakeFault>
-        ensures ok { OnOk result (self.new ≡ taken A.stepped self.old choice) }
+        ensures ok { OnOk result (self.new ≡ world_next A.stepped self.old choice) }
         ensures enabled { OnOk result (is_enabled A.is_ready self.old choice ≡ true) }
         ensures not_enabled { IsErrOf result TakeFault.NotEnabled → (is_enabled A.is_ready self.old choice ≡ false) × (self.new ≡ self.old) }
     {
@@ -139,9 +141,13 @@ impl<A: Actor> World<A> {
     #[inline(always)]
     pub(crate) fn take_enabled(&mut self, choice: Choice) -> Result<(), NoMemory>
         requires { is_enabled A.is_ready self.old choice ≡ true }
-        ensures { OnOk result (self.new ≡ taken A.stepped self.old choice) }
+        ensures { OnOk result (self.new ≡ world_next A.stepped self.old choice) }
     {
-        let message = self.take_first(choice);
+        if choice.is_input() {
+            let message = self.take_item(choice);
+            return self.step(choice, message);
+        }
+        let message = self.take_sent(choice);
         self.step(choice, message)
     }
 
@@ -152,19 +158,29 @@ impl<A: Actor> World<A> {
         self.input.is_empty() && self.links.all_empty() && all_ended(self.nodes.as_slice())
     }
 
-    /// The message that an enabled choice takes, taken out.
+    /// The item that an enabled choice of the input takes, taken out.
     #[inline(always)]
-    fn take_first(&mut self, choice: Choice) -> A::Message
-        requires { is_enabled A.is_ready self.old choice ≡ true }
-        ensures first { waiting self.old choice ≡ result ∷ drop 1 (waiting self.old choice) }
+    fn take_item(&mut self, choice: Choice) -> A::Message
+        requires enabled { is_enabled A.is_ready self.old choice ≡ true }
+        requires input { is_input choice ≡ true }
+        ensures first { queue_at self.old choice ≡ result ∷ drop 1 (queue_at self.old choice) }
         ensures rest { self.new ≡ without_first self.old choice }
     {
-        let first = if choice.is_input() {
-            self.input.pop_for_good()
-        } else {
-            self.links.pop(choice)
-        };
-        match first {
+        match self.input.pop_for_good() {
+            Some(item) => item,
+            None => unreachable!(),
+        }
+    }
+
+    /// The message that an enabled choice of a link takes, taken out.
+    #[inline(always)]
+    fn take_sent(&mut self, choice: Choice) -> A::Message
+        requires enabled { is_enabled A.is_ready self.old choice ≡ true }
+        requires link { is_input choice ≡ false }
+        ensures first { queue_at self.old choice ≡ result ∷ drop 1 (queue_at self.old choice) }
+        ensures rest { self.new ≡ without_first self.old choice }
+    {
+        match self.links.pop(choice) {
             Some(message) => message,
             None => unreachable!(),
         }
@@ -174,7 +190,8 @@ impl<A: Actor> World<A> {
     #[inline(always)]
     fn step(&mut self, choice: Choice, message: A::Message) -> Result<(), NoMemory>
         requires { choice.node < length self.old.nodes }
-        ensures { OnOk result ((node : A) → slice_get self.old.nodes choice.node ≡ Some node → self.new ≡ after self.old choice.node (A.stepped node choice.port message)) }
+        ensures { OnOk result
+            ((node : A) → slice_get self.old.nodes choice.node ≡ Some node → self.new ≡ after self.old choice.node (A.stepped node choice.port message)) }
     {
         let node = &mut self.nodes[choice.node as usize];
         let Ok(()) = node.step(choice.port, message, &mut self.outbox) else {
@@ -248,7 +265,7 @@ fn deliver<M: Drop, N>(
 ) -> Result<(), NoMemory>
     requires nodes { (from < nodes) × (nodes < node_numbers) }
     requires square { (links.old.nodes ≡ nodes) × (length links.old.lists ≡ nodes * nodes) }
-    ensures links { OnOk result (links.new.lists ≡ delivered nodes from outbox.old.0 links.old.lists) }
+    ensures links { OnOk result (links.new.lists ≡ links_after nodes from outbox.old.0 links.old.lists) }
     ensures outbox { outbox.new ≡ ([], outbox.old.1) }
     ensures count { (links.new.nodes ≡ nodes) × (length links.new.lists ≡ nodes * nodes) }
     ensures loop_link { slice_index_or links.new.lists 0 [] ≡ slice_index_or links.old.lists 0 [] }
@@ -277,7 +294,7 @@ fn deliver_rest<M: Drop, N>(
 ) -> Result<(), NoMemory>
     requires nodes { (from < nodes) × (nodes < node_numbers) }
     requires square { (links.old.nodes ≡ nodes) × (length links.old.lists ≡ nodes * nodes) }
-    ensures links { OnOk result (links.new.lists ≡ delivered nodes from outbox.old.0 links.old.lists) }
+    ensures links { OnOk result (links.new.lists ≡ links_after nodes from outbox.old.0 links.old.lists) }
     ensures outbox { outbox.new ≡ ([], outbox.old.1) }
     ensures count { (links.new.nodes ≡ nodes) × (length links.new.lists ≡ nodes * nodes) }
     ensures loop_link { slice_index_or links.new.lists 0 [] ≡ slice_index_or links.old.lists 0 [] }

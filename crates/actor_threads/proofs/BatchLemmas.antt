@@ -15,7 +15,8 @@ module _ {M : Type 0} where
   unpacked_more batches batch = unpacked-append batches (batch ∷ []) ∙ ap (λ l. unpacked batches ++ l) (append-nil batch)
 
   -- the same without stamps, after others
-  pub messages_more : (before : List M) (batches : List (List (Stamped M))) (batch : List (Stamped M)) → (before ++ messages (unpacked batches)) ++ messages batch ≡ before ++ messages (unpacked (batches ++ batch ∷ []))
+  pub messages_more : (before : List M) (batches : List (List (Stamped M))) (batch : List (Stamped M))
+      → (before ++ messages (unpacked batches)) ++ messages batch ≡ before ++ messages (unpacked (batches ++ batch ∷ []))
   messages_more before batches batch = append_assoc before (messages (unpacked batches)) (messages batch)
       ∙ ap (λ l. before ++ l) (sym (map-append (λ x. x.message) (unpacked batches) batch) ∙ ap messages (sym (unpacked_more batches batch)))
 

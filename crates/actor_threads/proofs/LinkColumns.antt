@@ -8,16 +8,19 @@ use Rattle.actor_threads.proofs.LinkTableLemmas.{last_of, same_or}
 module _ {X : Type 0} (links : List (List X)) (place count port node : ℕ) (v : List X) (is : place ≡ port * count + node) (hn : node < count) where
   -- the other columns stay
   pub other_column : (p j : ℕ) → j < count → j ≢ node → row_at (slice_set links place v) (p * count + j) ≡ row_at links (p * count + j)
-  other_column p j hj other = get_or-set_other links place (p * count + j) v [] (λ e. other_place count port node p j hn hj (λ _ same. other (sym same)) (e ∙ is))
+  other_column p j hj other =
+      get_or-set_other links place (p * count + j) v [] (λ e. other_place count port node p j hn hj (λ _ same. other (sym same)) (e ∙ is))
 
   -- the other rows of this column stay
   pub other_row : (p : ℕ) → p ≢ port → row_at (slice_set links place v) (p * count + node) ≡ row_at links (p * count + node)
   other_row p other = get_or-set_other links place (p * count + node) v [] (λ e. other_place count port node p node hn hn (λ same _. other same) (e ∙ is))
 
 -- one list more
-pub lists_more : {V X : Type 0} (f : V → List X) (kept : List V) (new : V) (from : ℕ → List X) (k : ℕ) → length kept ≡ k → ((p : ℕ) → p < k → row_at (map f kept) p ≡ from p) → f new ≡ from k → (p : ℕ) → p < k + 1 → row_at (map f (kept ++ new ∷ [])) p ≡ from p
+pub lists_more : {V X : Type 0} (f : V → List X) (kept : List V) (new : V) (from : ℕ → List X) (k : ℕ) → length kept ≡ k
+    → ((p : ℕ) → p < k → row_at (map f kept) p ≡ from p) → f new ≡ from k → (p : ℕ) → p < k + 1 → row_at (map f (kept ++ new ∷ [])) p ≡ from p
 lists_more f kept new from k count before last p h =
     ap (λ l. row_at l p) (map-append f kept (new ∷ []))
     ∙ same_or p k (row_at (map f kept ++ f new ∷ []) p ≡ from p)
     (λ e. subst (λ q. row_at (map f kept ++ f new ∷ []) q ≡ from q) (sym e) (last_of (map f kept) (f new) [] k (length-map kept f ∙ count) ∙ last))
-    (λ other. let less : p < k = omega arith in get_or_append_left (map f kept) (f new ∷ []) [] p (omega (arith, length-map kept f, count, less)) ∙ before p less)
+    (λ other.
+    let less : p < k = omega arith in get_or_append_left (map f kept) (f new ∷ []) [] p (omega (arith, length-map kept f, count, less)) ∙ before p less)

@@ -1,7 +1,7 @@
 -- What more steps after a history add to its steps, messages and clocks.
 use Rattle.std.proofs.Common.{◌≡◌, ◌==◌, ℕ, Bool, true, false, if◌then◌else◌, List, [], ◌∷◌, ◌++◌, sym, ◌∙◌, ap, refl, append-nil, append_assoc}
 use Rattle.actor_net.specs.Network.{Stepped, reaches}
-use Rattle.actor_net.specs.Histories.{NodeStep, does, node_after, notes_of, taken_at, sent_for, stamped, sent_to, put_between, PortsBelow, WasReady}
+use Rattle.actor_net.specs.Histories.{NodeStep, does, node_after, notes_of, taken_at, sent_for, with_clock, sent_to, put_between, PortsBelow, WasReady}
 use Rattle.actor_threads.specs.Work.{Ticks, clock_after, put_for}
 
 module _ {M : Type 0} where
@@ -31,10 +31,11 @@ module _ {A M N : Type 0} (step : A → ℕ → M → Stepped A M N) where
   notes_of-append a [] more = refl
   notes_of-append a (x ∷ xs) more = ap (λ l. (does step a x).notes ∷ l) (notes_of-append (does step a x).node xs more)
 
-  sent_to-append : (r : ℕ) (a : A) (es more : List (NodeStep M)) → sent_to step r a (es ++ more) ≡ sent_to step r a es ++ sent_to step r (node_after step a es) more
+  sent_to-append : (r : ℕ) (a : A) (es more : List (NodeStep M))
+      → sent_to step r a (es ++ more) ≡ sent_to step r a es ++ sent_to step r (node_after step a es) more
   sent_to-append r a [] more = refl
-  sent_to-append r a (x ∷ xs) more = ap (λ l. stamped x.clock (sent_for r (does step a x).sends) ++ l) (sent_to-append r (does step a x).node xs more)
-      ∙ sym (append_assoc (stamped x.clock (sent_for r (does step a x).sends)) (sent_to step r (does step a x).node xs) _)
+  sent_to-append r a (x ∷ xs) more = ap (λ l. with_clock x.clock (sent_for r (does step a x).sends) ++ l) (sent_to-append r (does step a x).node xs more)
+      ∙ sym (append_assoc (with_clock x.clock (sent_for r (does step a x).sends)) (sent_to step r (does step a x).node xs) _)
 
   pub put_nothing : (n k r : ℕ) (a : A) → put_between step n k r a [] ≡ []
   put_nothing n k r a = elim (reaches n k r) as (λ b. (if b then sent_to step r a [] else []) ≡ []) [ true ↦ refl | false ↦ refl ]
@@ -42,7 +43,7 @@ module _ {A M N : Type 0} (step : A → ℕ → M → Stepped A M N) where
   -- what one step puts
   pub put_one : (n k r : ℕ) (a : A) (e : NodeStep M) → put_between step n k r a (e ∷ []) ≡ put_for n k r e.clock (does step a e).sends
   put_one n k r a e =
-      elim (reaches n k r) as (λ b. (if b then sent_to step r a (e ∷ []) else []) ≡ (if b then stamped e.clock (sent_for r (does step a e).sends) else [])) [
+      elim (reaches n k r) as (λ b. (if b then sent_to step r a (e ∷ []) else []) ≡ (if b then with_clock e.clock (sent_for r (does step a e).sends) else [])) [
         | true ↦ append-nil _
         | false ↦ refl
       ]
@@ -50,11 +51,13 @@ module _ {A M N : Type 0} (step : A → ℕ → M → Stepped A M N) where
   pub put_between-append : (n k r : ℕ) (a : A) (es more : List (NodeStep M))
       → put_between step n k r a (es ++ more) ≡ put_between step n k r a es ++ put_between step n k r (node_after step a es) more
   put_between-append n k r a es more =
-      elim (reaches n k r) as (λ b. (if b then sent_to step r a (es ++ more) else []) ≡ (if b then sent_to step r a es else []) ++ (if b then sent_to step r (node_after step a es) more else [])) [
+      elim (reaches n k r) as (λ b. (if b then sent_to step r a (es ++ more) else [])
+      ≡ (if b then sent_to step r a es else []) ++ (if b then sent_to step r (node_after step a es) more else [])) [
         | true ↦ sent_to-append r a es more
         | false ↦ refl
       ]
 
-  pub ready-append : (ready : A → M → Bool) (a : A) (es more : List (NodeStep M)) → WasReady ready step a es → WasReady ready step (node_after step a es) more → WasReady ready step a (es ++ more)
+  pub ready-append : (ready : A → M → Bool) (a : A) (es more : List (NodeStep M)) → WasReady ready step a es
+      → WasReady ready step (node_after step a es) more → WasReady ready step a (es ++ more)
   ready-append ready a [] more w h = h
   ready-append ready a (x ∷ xs) more w h = (w.0, ready-append ready (does step a x).node xs more w.1 h)

@@ -16,16 +16,19 @@ zeros_more (suc k) = ap (λ l. 0 ∷ l) (zeros_more k)
 
 counts_more : (runs : List Run) (silent : ℕ) → counts_of runs (suc silent) ≡ counts_of runs silent ++ 0 ∷ []
 counts_more [] silent = zeros_more silent
-counts_more (r ∷ rs) silent = ap (λ l. zeros_then r.silent (r.count ∷ l)) (counts_more rs silent) ∙ sym (zeros-append r.silent (r.count ∷ counts_of rs silent) (0 ∷ []))
+counts_more (r ∷ rs) silent =
+    ap (λ l. zeros_then r.silent (r.count ∷ l)) (counts_more rs silent) ∙ sym (zeros-append r.silent (r.count ∷ counts_of rs silent) (0 ∷ []))
 
 -- one more step without notes
 pub counts_one : (runs : List Run) (silent : ℕ) → counts_of runs (silent + 1) ≡ counts_of runs silent ++ 0 ∷ []
 counts_one runs silent = let e : silent + 1 ≡ suc silent = omega arith in rw e (counts_more runs silent)
 
 -- one more run
-pub counts_run : (runs : List Run) (silent count : ℕ) → counts_of (runs ++ record { silent = silent; count = count } ∷ []) 0 ≡ counts_of runs silent ++ count ∷ []
+pub counts_run : (runs : List Run) (silent count : ℕ)
+    → counts_of (runs ++ record { silent = silent; count = count } ∷ []) 0 ≡ counts_of runs silent ++ count ∷ []
 counts_run [] silent count = sym (zeros-append silent [] (count ∷ []))
-counts_run (r ∷ rs) silent count = ap (λ l. zeros_then r.silent (r.count ∷ l)) (counts_run rs silent count) ∙ sym (zeros-append r.silent (r.count ∷ counts_of rs silent) (count ∷ []))
+counts_run (r ∷ rs) silent count =
+    ap (λ l. zeros_then r.silent (r.count ∷ l)) (counts_run rs silent count) ∙ sym (zeros-append r.silent (r.count ∷ counts_of rs silent) (count ∷ []))
 
 -- the first of some zeros
 zeros_first : (n : ℕ) (xs : List ℕ) → 0 < n → zeros_then n xs ≡ 0 ∷ zeros_then (n - 1) xs
@@ -42,9 +45,12 @@ module _ {N : Type 0} where
   none (x ∷ xs) e = absurd (omega arith)
 
   -- one more list after the others
-  pub by_counts-snoc : (counts : List ℕ) (all more : List N) (count : ℕ) → sum counts ≡ length all → count ≡ length more → by_counts (counts ++ count ∷ []) (all ++ more) ≡ by_counts counts all ++ more ∷ []
+  pub by_counts-snoc : (counts : List ℕ) (all more : List N) (count : ℕ) → sum counts ≡ length all → count ≡ length more
+      → by_counts (counts ++ count ∷ []) (all ++ more) ≡ by_counts counts all ++ more ∷ []
   by_counts-snoc [] all more count s c = rw (none all s, c, take-length more)
-  by_counts-snoc (k ∷ ks) all more count s c = let first = sum_by-cons (λ x. x) k ks in let within : k ≤ length all = omega (arith, first) in let rest : sum ks ≡ length (drop k all) = omega (arith, first, length-drop k all) in
+  by_counts-snoc (k ∷ ks) all more count s c =
+      let first = sum_by-cons (λ x. x) k ks in
+      let within : k ≤ length all = omega (arith, first) in let rest : sum ks ≡ length (drop k all) = omega (arith, first, length-drop k all) in
       rw (take-append-le k all more within, drop-append-le k all more within, by_counts-snoc ks (drop k all) more count rest c)
 
   -- one more item of a list

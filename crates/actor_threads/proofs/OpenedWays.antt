@@ -3,7 +3,7 @@ use Rattle.std.proofs.Common.{◌≡◌, ◌≢◌, ◌==◌, ℕ, true, false, 
 use Rattle.std.proofs.lemmas.Bool.Decides.{Decides-eqb}
 use Rattle.actor_net.specs.declared.stamped.Stamped.{Stamped}
 use Rattle.fifo_link.specs.Ends.{End}
-use Rattle.actor_threads.specs.Work.{all_in, waits}
+use Rattle.actor_threads.specs.Work.{all_in, queues_at}
 
 module _ {M : Type 0} where
   pub length-all_in : (takes : List (End (List (Stamped M)))) (kept : List (List M)) → length kept ≡ length takes → length (all_in takes kept) ≡ length takes
@@ -12,7 +12,8 @@ module _ {M : Type 0} where
   length-all_in (t ∷ ts) (k ∷ ks) e = ap suc (length-all_in ts ks (cc))
 
   -- at another node than 0 nothing changes
-  pub waits_other : (number : ℕ) (input : List M) (kept : List (List M)) → number ≢ 0 → waits number input kept ≡ kept
+  pub waits_other : (number : ℕ) (input : List M) (kept : List (List M)) → number ≢ 0 → queues_at number input kept ≡ kept
   waits_other number input [] other = refl
   waits_other number input (k ∷ ks) other =
-      elim (number == 0) as (λ b. (number == 0) ≡ b → (if b then input else k) ∷ ks ≡ k ∷ ks) [ true ↦ λ t. absurd (other ((Decides-eqb number 0).0 t)) | false ↦ λ _. refl ] refl
+      elim (number == 0) as (λ b. (number == 0) ≡ b → (if b then input else k) ∷ ks ≡ k ∷ ks)
+      [ true ↦ λ t. absurd (other ((Decides-eqb number 0).0 t)) | false ↦ λ _. refl ] refl

@@ -1,5 +1,6 @@
 -- A whole round, from what its members did: the choices are a run, and the world left is its replay.
-use Rattle.std.proofs.Common.{◌≡◌, ◌<◌, ℕ, zero, suc, Bool, true, false, true≢false, List, [], ◌∷◌, length, slice_index_or, map, sym, ◌∙◌, ap, refl, subst, arith}
+use Rattle.std.proofs.Common.{◌≡◌, ◌<◌, ℕ, zero, suc, Bool, true, false, true≢false, List, []}
+use Rattle.std.proofs.Common.{◌∷◌, length, slice_index_or, map, sym, ◌∙◌, ap, refl, subst, arith}
 use Rattle.std.specs.List.{list_all}
 use Rattle.std.proofs.lemmas.List.{length-map, get_or-map}
 use Rattle.std.proofs.lemmas.Bool.{and_parts}
@@ -32,11 +33,13 @@ module _ {A M N : Type 0} where
   abbrev pub workers : List (Member A M N) → List (WorkerView A M N)
   workers members = map (λ (s : Member A M N). s.worker) members
 
-  pub of_workers : {X : Type 0} (f : WorkerView A M N → X) (members : List (Member A M N)) → map (λ (s : Member A M N). f s.worker) members ≡ map f (workers members)
+  pub of_workers : {X : Type 0} (f : WorkerView A M N → X) (members : List (Member A M N))
+      → map (λ (s : Member A M N). f s.worker) members ≡ map f (workers members)
   of_workers f [] = refl
   of_workers f (s ∷ ss) = ap (λ l. f s.worker ∷ l) (of_workers f ss)
 
-module _ {A M N : Type 0} (ready : A → M → Bool) (step : A → ℕ → M → Stepped A M N) (w : Network A M N) (is : IsWorld w) (before after : List (Member A M N)) (all : AllStart w (workers before))
+module _ {A M N : Type 0} (ready : A → M → Bool) (step : A → ℕ → M → Stepped A M N) (w : Network A M N) (is : IsWorld w)
+    (before after : List (Member A M N)) (all : AllStart w (workers before))
     (round : AllInRound ready step before after) (done : list_all has_run after ≡ true) (same : length after ≡ length before) where
   d : A
   d = some_node w.nodes is.some_node
@@ -55,10 +58,14 @@ module _ {A M N : Type 0} (ready : A → M → Bool) (step : A → ℕ → M →
       let member : Member A M N = record { worker = e; looked = false; moved = false; failed = false } in
       let inside : j < length before = subst (λ m. j < m) (sym member_count) h in
       let there : j < length after = subst (λ m. j < m) (sym same) inside in
-      subst (λ (v : WorkerView A M N × WorkerView A M N). Ran ready step v.0 v.1) (λ i. (sym (get_or-map (λ (s : Member A M N). s.worker) before j member e inside) i, sym (get_or-map (λ (s : Member A M N). s.worker) after j member e there) i))
+      subst (λ (v : WorkerView A M N × WorkerView A M N). Ran ready step v.0 v.1) (λ i. (
+        sym (get_or-map (λ (s : Member A M N). s.worker) before j member e inside) i,
+        sym (get_or-map (λ (s : Member A M N). s.worker) after j member e there) i,
+      ))
       (ran ready step _ _ (round j member inside) (all_at has_run after j member done there))
 
-  pub can_close_members : CanCloseAll (length w.nodes) (map (λ (s : WorkerView A M N). s.ins) (workers after)) (map (λ (s : WorkerView A M N). s.outs) (workers after))
+  pub can_close_members : CanCloseAll (length w.nodes) (map (λ (s : WorkerView A M N). s.ins) (workers after))
+      (map (λ (s : WorkerView A M N). s.outs) (workers after))
   can_close_members = can_close_all ready step w (workers before) (workers after) d is all each count
 
   -- what the workers leave
@@ -78,10 +85,13 @@ module _ {A M N : Type 0} (ready : A → M → Bool) (step : A → ℕ → M →
     closed : AllClosed (length w.nodes) (length w.nodes) left_over.ways g.links
     closed = subst (λ n. AllClosed n n left_over.ways g.links) nodes g.closed
 
-    replayed : RunLeaves ready step d w (node_steps ready step w (workers before) (workers after) d is all each count) (left ready step w (workers before) (workers after) d is all each count g.links closed.count closed.closed) cs
+    replayed : RunLeaves ready step d w (node_steps ready step w (workers before) (workers after) d is all each count)
+        (left ready step w (workers before) (workers after) d is all each count g.links closed.count closed.closed) cs
     replayed = merged ready step d w (map history_of (workers after)) cs (node_steps ready step w (workers before) (workers after) d is all each count)
-        (holds ready step w (workers before) (workers after) d is all each count) (left ready step w (workers before) (workers after) d is all each count g.links closed.count closed.closed)
-        g.merged (matches ready step w (workers before) (workers after) d is all each count) (rise_is ready step w (workers before) (workers after) d is all each count)
+        (holds ready step w (workers before) (workers after) d is all each count)
+        (left ready step w (workers before) (workers after) d is all each count g.links closed.count closed.closed)
+        g.merged (matches ready step w (workers before) (workers after) d is all each count)
+        (rise_is ready step w (workers before) (workers after) d is all each count)
         (fits ready step w (workers before) (workers after) d is all each count g.links closed.count closed.closed)
 
     -- the choices are a run
@@ -97,27 +107,33 @@ module _ {A M N : Type 0} (ready : A → M → Bool) (step : A → ℕ → M →
     -- with no choice none was enabled
     pub none_enabled : cs ≡ [] → (c : Choice) → is_enabled ready w c ≡ false
     none_enabled none = all_quiet ready w d (λ j. slice_index_or (workers before) j blank) all.names is.some_node (λ j h. all.each j blank h) (λ j h.
-        (each j blank h).moves (ap (λ l. length l) (no_steps blank (workers after) cs g.merged none j (subst (λ m. j < m) (sym count) h)) ∙ sym (ap (λ l. length l) (all.each j blank h).steps)))
+        (each j blank h).moves (ap (λ l. length l) (no_steps blank (workers after) cs g.merged none j (subst (λ m. j < m) (sym count) h))
+        ∙ sym (ap (λ l. length l) (all.each j blank h).steps)))
 
 -- where none is enabled a run has no choice
-pub no_choice : {A M N : Type 0} (ready : A → M → Bool) (step : A → ℕ → M → Stepped A M N) (w : Network A M N) (cs : List Choice) → IsRun ready step cs w → ((c : Choice) → is_enabled ready w c ≡ false) → cs ≡ []
+pub no_choice : {A M N : Type 0} (ready : A → M → Bool) (step : A → ℕ → M → Stepped A M N) (w : Network A M N) (cs : List Choice) → IsRun ready step cs w
+    → ((c : Choice) → is_enabled ready w c ≡ false) → cs ≡ []
 no_choice ready step w [] r none = refl
 no_choice ready step w (c ∷ cs) r none = absurd (true≢false (sym r.0 ∙ none c))
 
 -- what is gathered, by other names for its parts
-pub regather : {A M N : Type 0} {nodes nodes' : List A} {hs hs' : List History} {notes notes' : List (List (List N))} {ins ins' : List (List (Incoming M))} {outs outs' : List (List (Outgoing M))} {log log' : List N} {v : Network A M N} {cs : List Choice}
+pub regather : {A M N : Type 0} {nodes nodes' : List A} {hs hs' : List History} {notes notes' : List (List (List N))} {ins ins' : List (List (Incoming M))}
+    {outs outs' : List (List (Outgoing M))} {log log' : List N} {v : Network A M N} {cs : List Choice}
     → nodes ≡ nodes' → hs ≡ hs' → notes ≡ notes' → ins ≡ ins' → outs ≡ outs' → log ≡ log'
     → Gathered (record { nodes = nodes; histories = hs; notes = notes; ways = ways_of ins outs; log = log }) v cs
     → Gathered (record { nodes = nodes'; histories = hs'; notes = notes'; ways = ways_of ins' outs'; log = log' }) v cs
 regather {A} {M} {N} {nodes} {nodes'} {hs} {hs'} {notes} {notes'} {ins} {ins'} {outs} {outs'} {log} {log'} {v} {cs} a b c d e f g =
     subst (λ (left : RoundLeft A M N). Gathered left v cs) (λ i. record { nodes = a i; histories = b i; notes = c i; ways = ways_of (d i) (e i); log = f i }) g
 
-pub reclose : {M : Type 0} {n n' : ℕ} {ins ins' : List (List (Incoming M))} {outs outs' : List (List (Outgoing M))} → n ≡ n' → ins ≡ ins' → outs ≡ outs' → CanCloseAll n ins outs → CanCloseAll n' ins' outs'
-reclose {M} {n} {n'} {ins} {ins'} {outs} {outs'} a b c g = subst (λ (t : ℕ × List (List (Incoming M)) × List (List (Outgoing M))). CanCloseAll t.0 t.1 t.2) (λ i. (a i, b i, c i)) g
+pub reclose : {M : Type 0} {n n' : ℕ} {ins ins' : List (List (Incoming M))} {outs outs' : List (List (Outgoing M))} → n ≡ n' → ins ≡ ins' → outs ≡ outs'
+    → CanCloseAll n ins outs → CanCloseAll n' ins' outs'
+reclose {M} {n} {n'} {ins} {ins'} {outs} {outs'} a b c g =
+    subst (λ (t : ℕ × List (List (Incoming M)) × List (List (Outgoing M))). CanCloseAll t.0 t.1 t.2) (λ i. (a i, b i, c i)) g
 
 module _ {A M N : Type 0} where
   -- what the workers show, by the list of the members
-  pub seen : {X : Type 0} (f : WorkerView A M N → X) (after : List (Member A M N)) (list : List X) → list ≡ map (λ (m : Member A M N). f m.worker) after → list ≡ map f (workers after)
+  pub seen : {X : Type 0} (f : WorkerView A M N → X) (after : List (Member A M N)) (list : List X) → list ≡ map (λ (m : Member A M N). f m.worker) after
+      → list ≡ map f (workers after)
   seen f after list e = e ∙ of_workers f after
 
   -- each member has a worker for its node

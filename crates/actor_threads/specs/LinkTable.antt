@@ -72,7 +72,8 @@ module _ {M : Type 0} where
   pub record RowClosed (k : ℕ) (row : List (Outgoing M)) (old new : Closing M) : Type 0 where
     pub rows : length new.ins ≡ length old.ins
     pub count : length new.lists ≡ length old.lists + k
-    pub closed : (r : ℕ) → r < k → (way : Incoming M) × ((row_at old.ins r ≡ way ∷ row_at new.ins r) × Closed way (out_at row r) (slice_index_or new.lists (length old.lists + r) []))
+    pub closed : (r : ℕ) → r < k → (way : Incoming M)
+        × ((row_at old.ins r ≡ way ∷ row_at new.ins r) × Closed way (out_at row r) (slice_index_or new.lists (length old.lists + r) []))
     pub same : (r : ℕ) → k ≤ r → row_at new.ins r ≡ row_at old.ins r
     pub kept : (i : ℕ) → i < length old.lists → slice_index_or new.lists i [] ≡ slice_index_or old.lists i []
 

@@ -5,16 +5,17 @@ use Rattle.atomic_table.specs.Seated.{TableId}
 use Rattle.actor_net.specs.declared.stamped.Stamped.{Stamped}
 use Rattle.actor_net.specs.declared.choice.Choice.{Choice}
 use Rattle.actor_net.specs.declared.histories.History.{History}
-use Rattle.actor_net.specs.Network.{Network, waiting}
-use Rattle.actor_net.specs.Histories.{dealt}
+use Rattle.actor_net.specs.Network.{Network, queue_at}
+use Rattle.actor_net.specs.Histories.{notes_of_choices}
 use Rattle.actor_net.specs.Merging.{IsMerge}
 use Rattle.fifo_link.specs.Ends.{End}
 use Rattle.actor_threads.specs.Ways.{Incoming, Outgoing, with_stamp_0}
-use Rattle.actor_threads.specs.Work.{WorkerView, in_at, out_at, opened, waits}
+use Rattle.actor_threads.specs.Work.{WorkerView, in_at, out_at, fresh_worker, queues_at}
 use Rattle.actor_threads.specs.LinkTable.{row_at, Closed, WayTable}
 
 module _ {A M N : Type 0} where
-  -- the worker of node j at the start of a round: no step, on each way in what waits in the world, and nothing sent; the link from s to r has the name `names s r`
+  -- the worker of node j at the start of a round: no step, on each way in what waits in the world, and nothing sent;
+  -- the link from s to r has the name `names s r`
   pub record StartsAs (w : Network A M N) (names : ℕ → ℕ → TableId) (j : ℕ) (worker : WorkerView A M N) : Type 0 where
     pub number : worker.number ≡ j
     pub node : (d : A) → worker.node ≡ slice_index_or w.nodes j d
@@ -23,7 +24,8 @@ module _ {A M N : Type 0} where
     pub notes : worker.notes ≡ []
     pub count_ins : length worker.ins ≡ length w.nodes
     pub count_outs : length worker.outs ≡ length w.nodes
-    pub ins : (p : ℕ) → p < length w.nodes → in_at worker.ins p ≡ record { link = names p j; done = []; kept = with_stamp_0 (waiting w (record { node = j; port = p })) }
+    pub ins : (p : ℕ) → p < length w.nodes
+        → in_at worker.ins p ≡ record { link = names p j; done = []; kept = with_stamp_0 (queue_at w (record { node = j; port = p })) }
     pub outs : (r : ℕ) → r < length w.nodes → out_at worker.outs r ≡ record { link = names j r; all = [] }
 
   -- the workers of all nodes at the start of a round
@@ -46,7 +48,7 @@ pub record OpenedWith {A M N : Type 0} (parts : WorkerParts A M) (worker : Worke
   pub kept : List (List M)
   pub count : length kept ≡ length parts.takes
   pub lists : (p : ℕ) → p < length parts.takes → row_at kept p ≡ row_at parts.links (p * length parts.takes + parts.number)
-  pub is : worker ≡ opened parts.number parts.node (waits parts.number parts.input kept) parts.takes parts.sends
+  pub is : worker ≡ fresh_worker parts.number parts.node (queues_at parts.number parts.input kept) parts.takes parts.sends
 
 module _ {M : Type 0} where
   -- of n nodes each way in has the link of the way out at its other end
@@ -70,9 +72,15 @@ pub record RoundLeft (A M N : Type 0) : Type 0 where
   pub ways : WayTable M
   pub log : List N
 
--- what is gathered after a round: the choices are the merge of the histories, each link has its list, that of the first is the input, and the notes stand after the log
+-- what is gathered after a round: the choices are the merge of the histories, each link has its list, that of the first is the input,
+-- and the notes stand after the log
 pub record Gathered {A M N : Type 0} (left : RoundLeft A M N) (world : Network A M N) (choices : List Choice) : Type 0 where
   pub links : List (List M)
   pub closed : AllClosed (length left.nodes) (length left.nodes) left.ways links
   pub merged : IsMerge left.histories choices
-  pub is : world ≡ record { nodes = left.nodes; links = slice_set links 0 []; input = row_at links 0; log = left.log ++ dealt (λ j. row_at left.notes j) choices }
+  pub is : world ≡ record {
+    nodes = left.nodes;
+    links = slice_set links 0 [];
+    input = row_at links 0;
+    log = left.log ++ notes_of_choices (λ j. row_at left.notes j) choices;
+  }

@@ -5,7 +5,7 @@ use Rattle.std.specs.Prelude.{◌≡◌, ◌==◌, ◌&&◌, ◌<◌, ◌≤◌,
 use Rattle.atomic_table.specs.Seated.{TableId}
 use Rattle.actor_net.specs.declared.stamped.Stamped.{Stamped}
 use Rattle.actor_net.specs.Network.{Stepped, reaches}
-use Rattle.actor_net.specs.Histories.{NodeStep, noted, node_after, notes_of, taken_at, sent_for, stamped, put_between, PortsBelow, WasReady}
+use Rattle.actor_net.specs.Histories.{NodeStep, history_of, node_after, notes_of, taken_at, sent_for, with_clock, put_between, PortsBelow, WasReady}
 use Rattle.fifo_link.specs.Ends.{End}
 use Rattle.actor_threads.specs.Ways.{Incoming, Outgoing, Draws, Sends, unpacked, with_stamp_0, last_clock}
 
@@ -55,9 +55,9 @@ module _ {M : Type 0} where
   all_out send = record { link = send.link; all = unpacked send.done }
 
   -- what waits at each port before the round: at node 0 the input stands first
-  abbrev pub waits : ℕ → List M → List (List M) → List (List M)
-  waits number input [] = []
-  waits number input (first ∷ rest) = (if number == 0 then input else first) ∷ rest
+  abbrev pub queues_at : ℕ → List M → List (List M) → List (List M)
+  queues_at number input [] = []
+  queues_at number input (first ∷ rest) = (if number == 0 then input else first) ∷ rest
 
   -- the clock of a step: one more than the greater of the node's clock and the stamp of what is taken
   abbrev pub tick : ℕ → Stamped M → ℕ
@@ -75,7 +75,7 @@ module _ {M : Type 0} where
 
   -- what a step of one node puts on its way to another, of n nodes: what doesn't arrive is dropped
   abbrev pub put_for : ℕ → ℕ → ℕ → ℕ → List (ℕ × M) → List (Stamped M)
-  put_for n from to clock sends = if reaches n from to then stamped clock (sent_for to sends) else []
+  put_for n from to clock sends = if reaches n from to then with_clock clock (sent_for to sends) else []
 
   -- what was drawn from a port; from the input only what was kept
   pub record DrawsAt (input : Bool) (old new : Incoming M) (used : List (Stamped M)) : Type 0 where
@@ -84,8 +84,9 @@ module _ {M : Type 0} where
 
 module _ {A M N : Type 0} where
   -- a worker without steps
-  abbrev pub opened : ℕ → A → List (List M) → List (End (List (Stamped M))) → List (End (List (Stamped M))) → WorkerView A M N
-  opened number node kept takes sends = record { number = number; node = node; clock = 0; steps = []; notes = []; ins = all_in takes kept; outs = map all_out sends }
+  abbrev pub fresh_worker : ℕ → A → List (List M) → List (End (List (Stamped M))) → List (End (List (Stamped M))) → WorkerView A M N
+  fresh_worker number node kept takes sends =
+      record { number = number; node = node; clock = 0; steps = []; notes = []; ins = all_in takes kept; outs = map all_out sends }
 
   -- nothing was done: what was taken is kept
   pub record Idled (old new : WorkerView A M N) : Type 0 where
@@ -114,7 +115,8 @@ module _ {A M N : Type 0} where
       outs = new.outs;
     }
     pub count : length new.outs ≡ length old.outs
-    pub sent : (r : ℕ) → r < length old.outs → Sends (out_at old.outs r) (out_at new.outs r) (put_for (length old.outs) old.number r (tick old.clock took.1) (step old.node took.0 took.1.message).sends)
+    pub sent : (r : ℕ) → r < length old.outs → Sends (out_at old.outs r) (out_at new.outs r)
+        (put_for (length old.outs) old.number r (tick old.clock took.1) (step old.node took.0 took.1.message).sends)
 
   -- a message was found, and a step was done with it
   pub record DoesStep (ready : A → M → Bool) (step : A → ℕ → M → Stepped A M N) (old new : WorkerView A M N) : Type 0 where
@@ -133,17 +135,19 @@ module _ {A M N : Type 0} where
   abbrev pub IsQuiet : (A → M → Bool) → WorkerView A M N → Type 0
   IsQuiet ready w = (p : ℕ) → p < length w.ins → IsQuietAt ready w p
 
-  -- a worker did these steps: its node is their result, on each port they took a prefix of what was kept and then taken, and what they sent, with their clocks as stamps, stands after what was sent before
+  -- a worker did these steps: its node is their result, on each port they took a prefix of what was kept and then taken, and what they sent,
+  -- with their clocks as stamps, stands after what was sent before
   pub record Worked (ready : A → M → Bool) (step : A → ℕ → M → Stepped A M N) (old new : WorkerView A M N) : Type 0 where
     pub node_steps : List (NodeStep M)
     pub number : new.number ≡ old.number
     pub node : new.node ≡ node_after step old.node node_steps
-    pub steps : new.steps ≡ old.steps ++ noted node_steps
+    pub steps : new.steps ≡ old.steps ++ history_of node_steps
     pub notes : new.notes ≡ old.notes ++ notes_of step old.node node_steps
     pub count_ins : length new.ins ≡ length old.ins
     pub count_outs : length new.outs ≡ length old.outs
     pub taken : (p : ℕ) → p < length old.ins → DrawsAt (is_input_of old.number p) (in_at old.ins p) (in_at new.ins p) (taken_at p node_steps)
-    pub sent : (r : ℕ) → r < length old.outs → Sends (out_at old.outs r) (out_at new.outs r) (put_between step (length old.outs) old.number r old.node node_steps)
+    pub sent : (r : ℕ) → r < length old.outs
+        → Sends (out_at old.outs r) (out_at new.outs r) (put_between step (length old.outs) old.number r old.node node_steps)
     pub ports : PortsBelow (length old.ins) node_steps
     pub was_ready : old.number ≡ 0 → WasReady ready step old.node node_steps
     pub ticks : Ticks old.clock node_steps

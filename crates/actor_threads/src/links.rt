@@ -60,7 +60,8 @@ pub fn close_row<M: Drop, R: Wait>(
     links: &mut Vec<Sequence<M>>,
 ) -> Result<(), NoMemory>
     requires { CanClose row.items (map (λ v. v.items) ins.old.items) }
-    ensures { OnOk result (RowClosed (length row.items) row.items (closing (map (λ v. v.items) ins.old.items) links.old.items) (closing (map (λ v. v.items) ins.new.items) links.new.items)) }
+    ensures { OnOk result (RowClosed (length row.items) row.items (closing (map (λ v. v.items) ins.old.items) links.old.items)
+        (closing (map (λ v. v.items) ins.new.items) links.new.items)) }
 {
     let mut receiver = 0;
     while let Some(way_out) = row.pop_front() {

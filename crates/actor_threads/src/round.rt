@@ -2,7 +2,7 @@
 ghost use Rattle.std.specs.Prelude.{◌≡◌, ◌≢◌, ◌↔◌, false, ◌<◌, ◌+◌, ◌*◌, ◌++◌, ℕ, List, true, [], ◌∷◌, length, map, IfOk, OnOk, All};
 ghost use Rattle.std.specs.List.{list_all};
 ghost use Rattle.actor_net.specs.Network.{node_numbers, IsWorld, IsRun, run, is_enabled, is_done};
-ghost use Rattle.actor_net.specs.Histories.{dealt};
+ghost use Rattle.actor_net.specs.Histories.{notes_of_choices};
 ghost use Rattle.actor_net.specs.declared.choice.Choice.{Choice};
 ghost use Rattle.actor_threads.specs.Groups.{IsInRound, has_run};
 ghost use Rattle.actor_threads.specs.LinkTable.{row_at, ways_of};
@@ -149,8 +149,10 @@ fn worker_of<A: Actor>(
     requires square { length links.old.items ≡ length takes.items * length takes.items }
     requires ends { length sends.items ≡ length takes.items }
     requires input { (number ≡ 0 → row_at links.old.items 0 ≡ []) × (number ≢ 0 → input.items ≡ []) }
-    ensures worker { IfOk result (λ w. OpenedWith (record { number = number; node = node; links = links.old.items; input = input.items; takes = takes.items; sends = sends.items }) w) }
-    ensures others { (p j : ℕ) → j < length takes.items → j ≢ number → row_at links.new.items (p * length takes.items + j) ≡ row_at links.old.items (p * length takes.items + j) }
+    ensures worker { IfOk result
+        (λ w. OpenedWith (record { number = number; node = node; links = links.old.items; input = input.items; takes = takes.items; sends = sends.items }) w) }
+    ensures others { (p j : ℕ) → j < length takes.items → j ≢ number
+        → row_at links.new.items (p * length takes.items + j) ≡ row_at links.old.items (p * length takes.items + j) }
     ensures square { length links.new.items ≡ length links.old.items }
 {
     let kept = column(alloc, links, takes.len(), number)?;
@@ -299,7 +301,8 @@ fn close_all<M: Drop, R: Wait>(
     outs: Vec<VecDeque<WayOut<M>>>,
 ) -> Result<Vec<Sequence<M>>, NoMemory>
     requires { CanCloseAll (length ins.items) (map (λ v. v.items) ins.items) (map (λ v. v.items) outs.items) }
-    ensures { IfOk result (λ links. AllClosed (length ins.items) (length ins.items) (ways_of (map (λ v. v.items) ins.items) (map (λ v. v.items) outs.items)) links.items) }
+    ensures { IfOk result
+        (λ links. AllClosed (length ins.items) (length ins.items) (ways_of (map (λ v. v.items) ins.items) (map (λ v. v.items) outs.items)) links.items) }
 {
     let mut outs = VecDeque::from_vec(outs);
     let mut links = Vec::new(alloc);
@@ -318,7 +321,7 @@ fn deal_all<N: Drop>(
     notes: &mut Vec<NoteQueue<N>>,
     log: &mut Vec<N>,
 ) -> Result<(), NoMemory>
-    ensures { OnOk result (log.new.items ≡ log.old.items ++ dealt (λ j. row_at notes.old.items j) choices.now) }
+    ensures { OnOk result (log.new.items ≡ log.old.items ++ notes_of_choices (λ j. row_at notes.old.items j) choices.now) }
 {
     for choice in choices {
         deal_one(*choice, notes, log)?;
@@ -332,7 +335,8 @@ fn deal_one<N: Drop>(
     notes: &mut Vec<NoteQueue<N>>,
     log: &mut Vec<N>,
 ) -> Result<(), NoMemory>
-    ensures { OnOk result ((cs : List Choice) → log.new.items ++ dealt (λ j. row_at notes.new.items j) cs ≡ log.old.items ++ dealt (λ j. row_at notes.old.items j) (choice ∷ cs)) }
+    ensures { OnOk result ((cs : List Choice) → log.new.items ++ notes_of_choices (λ j. row_at notes.new.items j) cs
+        ≡ log.old.items ++ notes_of_choices (λ j. row_at notes.old.items j) (choice ∷ cs)) }
 {
     let node = choice.node as usize;
     if node >= notes.len() {

@@ -51,7 +51,8 @@ impl<M: Drop> WayIn<M> {
     /// The first of what is kept, if a step could take it.
     #[inline(always)]
     pub fn first(&self) -> Option<&M>
-        ensures { MatchOption result (IsBlocked self.now) (λ x. (clock : ℕ) × (rest : List (Stamped M)) × (self.now.kept ≡ record { clock = clock; message = x.now } ∷ rest)) }
+        ensures { MatchOption result (IsBlocked self.now)
+            (λ x. (clock : ℕ) × (rest : List (Stamped M)) × (self.now.kept ≡ record { clock = clock; message = x.now } ∷ rest)) }
     {
         if let Some(message) = front(&self.kept) {
             return Some(message);

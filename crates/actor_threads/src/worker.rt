@@ -2,7 +2,7 @@
 ghost use Rattle.std.specs.Prelude.{◌≡◌, ◌<◌, ◌+◌, ◌≢◌, ℕ, true, false, Ok, [], length, max, map, slice_index_or, IfOk, OnOk};
 ghost use Rattle.actor_net.specs.Network.{node_numbers};
 ghost use Rattle.actor_threads.specs.Ways.{Sends, last_clock};
-ghost use Rattle.actor_threads.specs.Work.{opened, waits, all_in, all_out, out_at, put_for, Idled, Acted, IsQuiet, DoesStep, Worked};
+ghost use Rattle.actor_threads.specs.Work.{fresh_worker, queues_at, all_in, all_out, out_at, put_for, Idled, Acted, IsQuiet, DoesStep, Worked};
 
 mod look;
 
@@ -54,7 +54,8 @@ impl<A: Actor> Model for Worker<A> {
 
     ghost Value = { WorkerView A A.Message A.Note };
 
-    ghost view = { λ w. record { number = w.number; node = w.node; clock = w.clock; steps = w.steps.items; notes = w.notes; ins = w.ins.items; outs = w.outs.items } };
+    ghost view = { λ w.
+        record { number = w.number; node = w.node; clock = w.clock; steps = w.steps.items; notes = w.notes; ins = w.ins.items; outs = w.outs.items } };
 
     ghost invariant = { λ w. (length w.ins.items < node_numbers) × (length w.outs.items ≡ length w.ins.items) };
 }
@@ -86,7 +87,7 @@ impl<A: Actor> Worker<A> {
         requires few { length takes.items < node_numbers }
         requires node { number < length takes.items }
         requires input { (number ≡ 0 → slice_index_or (map (λ v. v.items) kept.items) 0 [] ≡ []) × (number ≢ 0 → input.items ≡ []) }
-        ensures { IfOk result (λ w. w ≡ opened number node (waits number input.items (map (λ v. v.items) kept.items)) takes.items sends.items) }
+        ensures { IfOk result (λ w. w ≡ fresh_worker number node (queues_at number input.items (map (λ v. v.items) kept.items)) takes.items sends.items) }
     {
         let kept = with_input(number, input, VecDeque::from_vec(kept))?;
         let ins = ways_in(alloc, VecDeque::from_vec(takes), kept)?;
@@ -111,7 +112,15 @@ impl<A: Actor> Worker<A> {
 
     /// All that the worker holds.
     pub fn parts(self) -> WorkerParts<A>
-        ensures { self ≡ record { number = result.number; node = result.node; clock = self.clock; steps = result.steps.items; notes = result.notes; ins = result.ins.items; outs = result.outs.items } }
+        ensures { self ≡ record {
+          number = result.number;
+          node = result.node;
+          clock = self.clock;
+          steps = result.steps.items;
+          notes = result.notes;
+          ins = result.ins.items;
+          outs = result.outs.items;
+        } }
     {
         WorkerParts {
             number: self.number,
@@ -237,7 +246,7 @@ fn with_input<M: Drop>(
     mut kept: VecDeque<Vec<M>>,
 ) -> Result<VecDeque<Vec<M>>, NoMemory>
     requires { 0 < length kept.items }
-    ensures lists { IfOk result (λ lists. map (λ v. v.items) lists.items ≡ waits number input.items (map (λ v. v.items) kept.items)) }
+    ensures lists { IfOk result (λ lists. map (λ v. v.items) lists.items ≡ queues_at number input.items (map (λ v. v.items) kept.items)) }
     ensures count { IfOk result (λ lists. length lists.items ≡ length kept.items) }
 {
     if number != 0 {
@@ -300,7 +309,8 @@ fn put_all<R: Wait, M: Drop, N>(
     outbox: &mut Outbox<M, N>,
     outs: &mut Vec<WayOut<M>>,
 ) -> Result<(), NoMemory>
-    ensures sent { OnOk result ((r : ℕ) → r < length outs.old.items → Sends (out_at outs.old.items r) (out_at outs.new.items r) (put_for (length outs.old.items) from r clock outbox.old.0)) }
+    ensures sent { OnOk result ((r : ℕ) → r < length outs.old.items
+        → Sends (out_at outs.old.items r) (out_at outs.new.items r) (put_for (length outs.old.items) from r clock outbox.old.0)) }
     ensures count { length outs.new.items ≡ length outs.old.items }
 {
     while let Some((to, message)) = outbox.next_sent() {

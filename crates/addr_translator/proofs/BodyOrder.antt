@@ -78,15 +78,18 @@ body_cmp a b v w =
     let few : length a.mappings ≤ ports_per_host = v.short in
     let less : length b.mappings ≤ ports_per_host = w.short in
     rw (body_parts a, body_parts b)
-    (slice_cmp-number_bytes 2 (length a.mappings) (length b.mappings) (flat_map mapping_bytes a.mappings ++ (number_bytes 8 a.packets ++ (number_bytes 8 a.drops ++ [])))
+    (slice_cmp-number_bytes 2 (length a.mappings) (length b.mappings)
+    (flat_map mapping_bytes a.mappings ++ (number_bytes 8 a.packets ++ (number_bytes 8 a.drops ++ [])))
     (flat_map mapping_bytes b.mappings ++ (number_bytes 8 b.packets ++ (number_bytes 8 b.drops ++ []))) (omega arith) (omega arith)
     ∙ rest_cmp a b (nat_cmp (length a.mappings) (length b.mappings)) refl v w)
 
 -- records compare by their packets, and then by the parts in the order of their bodies
 pub age_by_parts : (a b : Translation) → Within a → Within b
     → age_cmp nat a b
-    ≡ ordering_then (ordering_then (nat_cmp a.packets b.packets) (ordering_then (nat_cmp (length a.mappings) (length b.mappings)) (slice_cmp mapping_cmp a.mappings b.mappings)))
+    ≡ ordering_then (ordering_then (nat_cmp a.packets b.packets)
+    (ordering_then (nat_cmp (length a.mappings) (length b.mappings)) (slice_cmp mapping_cmp a.mappings b.mappings)))
     (nat_cmp a.drops b.drops)
 age_by_parts a b v w =
     ap (ordering_then (nat_cmp a.packets b.packets)) (body_cmp a b v w)
-    ∙ ordering_then-again (nat_cmp a.packets b.packets) (nat_cmp (length a.mappings) (length b.mappings)) (slice_cmp mapping_cmp a.mappings b.mappings) (nat_cmp a.drops b.drops)
+    ∙ ordering_then-again (nat_cmp a.packets b.packets) (nat_cmp (length a.mappings) (length b.mappings)) (slice_cmp mapping_cmp a.mappings b.mappings)
+    (nat_cmp a.drops b.drops)

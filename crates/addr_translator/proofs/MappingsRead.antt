@@ -1,5 +1,6 @@
 -- The loop that reads mappings: those read so far, and the bytes that are left.
-use Rattle.std.proofs.Common.{◌≡◌, ◌∙◌, ◌≤◌, ◌<◌, ◌-◌, ◌+◌, ◌++◌, ℕ, suc, List, [], ◌∷◌, length, Option, None, Some, option_map, option_and_then, refl, sym, ap, arith, append-nil, length-append}
+use Rattle.std.proofs.Common.{◌≡◌, ◌∙◌, ◌≤◌, ◌<◌, ◌-◌, ◌+◌, ◌++◌, ℕ, suc, List, [], ◌∷◌, length, Option, None}
+use Rattle.std.proofs.Common.{Some, option_map, option_and_then, refl, sym, ap, arith, append-nil, length-append}
 use Rattle.std.proofs.lemmas.List.{append_assoc}
 use Rattle.addr_translator.specs.declared.mapping.Mapping.{Mapping}
 use Rattle.addr_translator.specs.Mappings.{Translation}
@@ -22,7 +23,8 @@ unfolding mappings_in
 first_read n front bytes first h = rw h (by_more (mappings_in n first.1))
   where
     by_more : (more : Option (List Mapping × List ℕ))
-        → option_map (joined front) (option_and_then (λ (m : List Mapping × List ℕ). Some (first.0 ∷ m.0, m.1)) more) ≡ option_map (joined (front ++ first.0 ∷ [])) more
+        → option_map (joined front) (option_and_then (λ (m : List Mapping × List ℕ). Some (first.0 ∷ m.0, m.1)) more)
+        ≡ option_map (joined (front ++ first.0 ∷ [])) more
     by_more None = refl
     by_more (Some m) = rw (append_assoc front (first.0 ∷ []) m.0) refl
 

@@ -1,5 +1,6 @@
 -- Ends that were seen, a bit for each: to see one sets its bit and no other, and none stands twice where each is new.
-use Rattle.std.proofs.Common.{◌≡◌, ◌≢◌, ◌<◌, ◌≤◌, ◌*◌, ◌/◌, ◌%◌, ◌^◌, ◌==◌, ◌&&◌, ◌||◌, ℕ, zero, suc, Bool, true, false, not, List, [], ◌∷◌, length, set, get_or, drop, replicate, bit_and, bit_or, refl, arith}
+use Rattle.std.proofs.Common.{◌≡◌, ◌≢◌, ◌<◌, ◌≤◌, ◌*◌, ◌/◌, ◌%◌, ◌^◌, ◌==◌, ◌&&◌, ◌||◌, ℕ, zero, suc, Bool, true, false}
+use Rattle.std.proofs.Common.{not, List, [], ◌∷◌, length, set, get_or, drop, replicate, bit_and, bit_or, refl, arith}
 use Rattle.std.specs.Int.{w64, bit_at}
 use Rattle.std.specs.List.{list_all, list_any}
 use Rattle.std.proofs.lemmas.Bool.{and_parts, eqb-true, ltb-true}
@@ -36,7 +37,8 @@ left_all p (suc n) (x ∷ xs) h = left_all p n xs (and_parts (p x) (list_all p x
 pub is_fresh : (words : List ℕ) (n : ℕ) → (bit_and (get_or words (n / 64) 0) (1 * 2 ^ (n % 64) % 2 ^ 64) == 0) ≡ not (has_bit words n)
 is_fresh words n =
     rw (small (2 ^ (n % 64)) (pow-lt {i = n % 64} {j = 64} (omega arith)), and_pow (get_or words (n / 64) 0) (n % 64))
-    (by_bit (bit_at (get_or words (n / 64) 0) (n % 64)) (2 ^ (n % 64)) (bit_at-lt (get_or words (n / 64) 0) (n % 64)) (pow_mono {i = 0} {j = n % 64} (omega arith)))
+    (by_bit (bit_at (get_or words (n / 64) 0) (n % 64)) (2 ^ (n % 64)) (bit_at-lt (get_or words (n / 64) 0) (n % 64))
+    (pow_mono {i = 0} {j = n % 64} (omega arith)))
   where
     small : (power : ℕ) → power < 2 ^ 64 → 1 * power % 2 ^ 64 ≡ power
     small power h = omega arith
@@ -89,7 +91,8 @@ sees_end words end h within other is = rw (← number_eq other end is h) (has_bi
 
 -- where one more is seen, others are apart from it and from those before
 apart_more : (before after : List ℕ) (end : Mapping) (more : List Mapping) → IsAdded end before after → list_all is_mapping more ≡ true
-    → list_all (λ other. not (has_end after other)) more ≡ (not (list_any (λ other. mapping_eq other end) more) && list_all (λ other. not (has_end before other)) more)
+    → list_all (λ other. not (has_end after other)) more
+    ≡ (not (list_any (λ other. mapping_eq other end) more) && list_all (λ other. not (has_end before other)) more)
 apart_more before after end [] added h = refl
 apart_more before after end (m ∷ more) added h =
     let parts = and_parts (is_mapping m) (list_all is_mapping more) h in

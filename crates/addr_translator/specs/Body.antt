@@ -61,9 +61,9 @@ abbrev pub few : ℕ × List ℕ → Option (ℕ × List ℕ)
 few used = if nat_le used.0 ports_per_host then Some used else None
 
 -- nothing comes after
-abbrev pub ended : List ℕ → Translation → Option Translation
-ended [] r = Some r
-ended (byte ∷ more) r = None
+abbrev pub at_end : List ℕ → Translation → Option Translation
+at_end [] r = Some r
+at_end (byte ∷ more) r = None
 
 -- the record that bytes spell
 unfoldable pub spelled : List ℕ → Option Translation
@@ -72,7 +72,7 @@ spelled body = do
   mappings ← mappings_in used.0 used.1
   packets ← first_number 8 mappings.1
   drops ← first_number 8 packets.1
-  ended drops.1 (record { mappings = mappings.0; packets = packets.0; drops = drops.0 })
+  at_end drops.1 (record { mappings = mappings.0; packets = packets.0; drops = drops.0 })
 
 -- the record, where it is valid for the unit
 abbrev pub valid_only : units.Unit → Translation → Option Translation

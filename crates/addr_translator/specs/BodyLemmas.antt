@@ -1,6 +1,7 @@
 -- Steps between code and definition, which nobody has to believe: what a translator's record is stored as is read again, and only that. It
 -- stands in specs/ since the laws of a trait may cite nothing else.
-use Rattle.std.proofs.Common.{◌≡◌, ◌∙◌, ◌<◌, ◌≤◌, ◌+◌, ◌*◌, ◌^◌, ◌&&◌, ℕ, zero, suc, true, List, [], ◌∷◌, ◌++◌, length, Option, Some, option_and_then, refl, sym, ap, arith, nat_lt, nat_le, append-nil, length-append}
+use Rattle.std.proofs.Common.{◌≡◌, ◌∙◌, ◌<◌, ◌≤◌, ◌+◌, ◌*◌, ◌^◌, ◌&&◌, ℕ, zero, suc, true, List, [], ◌∷◌, ◌++◌, length}
+use Rattle.std.proofs.Common.{Option, Some, option_and_then, refl, sym, ap, arith, nat_lt, nat_le, append-nil, length-append}
 use Rattle.std.specs.List.{flat_map, list_all}
 use Rattle.std.proofs.lemmas.List.{append_assoc}
 use Rattle.std.proofs.lemmas.Option.{option_and_then_some, cond_some, same_Some}
@@ -12,7 +13,8 @@ use Rattle.nf_function.specs.Units.{is_transport}
 use Rattle.nf_function.proofs.StoredNumbers.{first_number-number_bytes, first_number-some, length-number_bytes, IsBytes-tail}
 use Rattle.addr_translator.specs.declared.mapping.Mapping.{Mapping}
 use Rattle.addr_translator.specs.Mappings.{Translation}
-use Rattle.addr_translator.specs.Body.{is_mapping, is_distinct, are_mappings, is_valid, mapping_bytes, body_of, first_mapping, mappings_in, few, ended, spelled, valid_only, record_in}
+use Rattle.addr_translator.specs.Body.{is_mapping, is_distinct, are_mappings, is_valid, mapping_bytes, body_of}
+use Rattle.addr_translator.specs.Body.{first_mapping, mappings_in, few, at_end, spelled, valid_only, record_in}
 use Rattle.flow_filter.specs.Flow.{ports_per_host}
 
 -- what is true of a record that is valid for a host
@@ -88,7 +90,8 @@ spelled-body_of host r v =
     let drops : r.drops < 2 ^ 64 = let most : r.drops ≤ r.packets = v.drops in omega arith in
     rw (
       body_parts r,
-      first_number-number_bytes 2 (length r.mappings) (flat_map mapping_bytes r.mappings ++ (number_bytes 8 r.packets ++ (number_bytes 8 r.drops ++ []))) (omega arith),
+      first_number-number_bytes 2 (length r.mappings) (flat_map mapping_bytes r.mappings ++ (number_bytes 8 r.packets ++ (number_bytes 8 r.drops ++ [])))
+          (omega arith),
       le-leb (length r.mappings) ports_per_host short,
       mappings_in-flat_map r.mappings (number_bytes 8 r.packets ++ (number_bytes 8 r.drops ++ [])) v.each,
       first_number-number_bytes 8 r.packets (number_bytes 8 r.drops ++ []) packets,
@@ -152,7 +155,7 @@ mappings_in-some (suc n) bytes read are h =
 few-some : (used kept : ℕ × List ℕ) → few used ≡ Some kept → used ≡ kept
 few-some used kept h = (cond_some (nat_le used.0 ports_per_host) used kept h).1
 
-ended-some : (bytes : List ℕ) (r s : Translation) → ended bytes r ≡ Some s → (bytes ≡ []) × (r ≡ s)
+ended-some : (bytes : List ℕ) (r s : Translation) → at_end bytes r ≡ Some s → (bytes ≡ []) × (r ≡ s)
 ended-some [] r s h = (refl, cc)
 ended-some (byte ∷ more) r s h = cc
 

@@ -1,5 +1,7 @@
 pub mod Mappings
 pub mod Table
+pub mod Passages
+pub mod Outputs
 pub mod Text
 pub mod Body
 pub mod Ends

@@ -1,7 +1,9 @@
--- Steps between code and definition, which nobody has to believe: what a step of the translator keeps of a record, and all its laws
--- together. It stands in specs/ since the laws of a trait may cite nothing else.
-use Rattle.std.proofs.Common.{◌≡◌, ◌<◌, ◌≤◌, ◌-◌, ◌%◌, ◌^◌, ◌&&◌, ◌==◌, ℕ, Bool, true, false, cond, not, List, [], ◌∷◌, ◌++◌, length, Option, None, Some, slice_get, unwrap_or, refl, arith, nat_lt, length-append}
+-- Steps between code and definition, which nobody has to believe: the table by how a packet passes, what a step of the translator keeps
+-- of a record, and all its laws together. It stands in specs/ since the laws of a trait may cite nothing else.
+use Rattle.std.proofs.Common.{◌≡◌, ◌<◌, ◌≤◌, ◌-◌, ◌%◌, ◌^◌, ◌&&◌, ◌==◌, ℕ, Bool, true, false, cond, not, List, [], ◌∷◌}
+use Rattle.std.proofs.Common.{◌++◌, length, Option, None, Some, slice_get, unwrap_or, refl, arith, nat_lt, length-append}
 use Rattle.std.specs.List.{list_all, list_any, position}
+use Rattle.std.specs.Option.{option_map_or}
 use Rattle.std.proofs.lemmas.Bool.Decides.{nat_tests}
 use Rattle.std.proofs.lemmas.List.Folds.{list_all-append, list_any-append}
 use Rattle.std.proofs.lemmas.Bool.{and_parts, and_from, or_parts, not-true}
@@ -9,19 +11,21 @@ use Rattle.std.proofs.lemmas.Cmp.{nat_eq_equiv}
 use Rattle.basics.proofs.ListLemmas.{none_passes}
 use Rattle.flow_filter.specs.declared.packet.Packet.{Packet}
 use Rattle.flow_filter.specs.declared.site.Site.{Site}
-use Rattle.flow_filter.specs.Flow.{flow_of, first_port, ports_per_host}
+use Rattle.flow_filter.specs.Flow.{flow_of, is_inside, is_mapped, first_port, ports_per_host}
 use Rattle.nf_function.specs.declared.kind.Kind.TheVariants.{Nat}
 use Rattle.nf_function.specs.declared.unit.Unit as units
 use Rattle.nf_function.specs.declared.unit.Unit.TheVariants.{Flow as OfFlow, Host as OfHost}
 use Rattle.nf_function.specs.Units.{is_unit, is_transport}
-use Rattle.nf_function.specs.Semantics.{count, kept_after, is_sound, packets_in, unit_at}
+use Rattle.nf_function.specs.Semantics.{Step, count, kept_after, is_sound, packets_in, unit_at}
 use Rattle.nf_function.specs.Records.{Fits, Laws}
 use Rattle.nf_function.proofs.FlowFits.{flow_fits}
 use Rattle.addr_translator.specs.declared.mapping.Mapping.{Mapping}
 use Rattle.addr_translator.specs.declared.passage.Passage.{Passage}
 use Rattle.addr_translator.specs.declared.passage.Passage.TheVariants.{Leaves, Returns, Direct, Other}
-use Rattle.addr_translator.specs.Mappings.{Translation, no_mappings, mapping_eq}
-use Rattle.addr_translator.specs.Table.{counted, dropped, left, mapped, opened, returned, source, stepped, translated}
+use Rattle.addr_translator.specs.Mappings.{Translation, mapping_eq}
+use Rattle.addr_translator.specs.Outputs.{no_mappings, counted}
+use Rattle.addr_translator.specs.Table.{drop_step, left, mapped, return_step, step_of}
+use Rattle.addr_translator.specs.Passages.{passage_of, source, translated}
 use Rattle.addr_translator.specs.Body.{is_mapping, is_distinct, is_valid}
 use Rattle.addr_translator.specs.Nat.{nat}
 use Rattle.addr_translator.specs.BodyLemmas.{IsValid, valid_facts, valid_from, record_in-body_of, record_in-some, known_by_body, length-body_of}
@@ -49,10 +53,10 @@ module _ (host : ℕ) (r : Translation) (has : HasRoom host r) where
   kept_valid : is_valid (OfHost host) r ≡ true
   kept_valid = valid_from host r has.valid
 
-  dropped_valid : (reason : ℕ) → is_valid (OfHost host) (dropped r reason).kept ≡ true
+  dropped_valid : (reason : ℕ) → is_valid (OfHost host) (drop_step r reason).kept ≡ true
   dropped_valid reason =
       let v = has.valid in
-      valid_from host (dropped r reason).kept (record {
+      valid_from host (drop_step r reason).kept (record {
         address = v.address;
         short = v.short;
         each = v.each;
@@ -69,7 +73,8 @@ module _ (host : ℕ) (r : Translation) (has : HasRoom host r) where
       valid_from host (record r { mappings = r.mappings ++ end ∷ [] }) (record {
         address = v.address;
         short = rw (length-append r.mappings (end ∷ [])) (omega arith);
-        each = rw (list_all-append is_mapping r.mappings (end ∷ [])) (and_from (list_all is_mapping r.mappings) (is_mapping end && true) v.each (and_from (is_mapping end) true is refl));
+        each = rw (list_all-append is_mapping r.mappings (end ∷ []))
+            (and_from (list_all is_mapping r.mappings) (is_mapping end && true) v.each (and_from (is_mapping end) true is refl));
         distinct = is_distinct-append r.mappings end v.distinct new;
         counted = v.counted;
         drops = v.drops;
@@ -77,11 +82,12 @@ module _ (host : ℕ) (r : Translation) (has : HasRoom host r) where
       })
 
   opened_valid : (outside : ℕ) (end : Mapping) → is_mapping end ≡ true → list_any (λ m. mapping_eq m end) r.mappings ≡ false
-      → is_valid (OfHost host) (opened outside host r end).kept ≡ true
+      → is_valid (OfHost host) (left outside host r end None).kept ≡ true
   opened_valid outside end is new = by_room (nat_lt (length r.mappings) ports_per_host) refl
     where
       by_room : (free : Bool) → nat_lt (length r.mappings) ports_per_host ≡ free
-          → is_valid (OfHost host) (cond free (record { kept = record r { mappings = r.mappings ++ end ∷ [] }; output = mapped outside host (length r.mappings) }) (dropped r 3)).kept ≡ true
+          → is_valid (OfHost host) (cond free
+          (record { kept = record r { mappings = r.mappings ++ end ∷ [] }; output = mapped outside host (length r.mappings) }) (drop_step r 3)).kept ≡ true
       by_room true e = added_valid end (let h = e in grind (arith, nat_tests)) is new
       by_room false e = dropped_valid 3
 
@@ -90,11 +96,12 @@ module _ (host : ℕ) (r : Translation) (has : HasRoom host r) where
   left_valid outside end (Some number) is at = kept_valid
   left_valid outside end None is at = opened_valid outside end is (none_passes (λ m. mapping_eq m end) r.mappings at)
 
-  returned_valid : (p : Packet) (found : Option Mapping) → is_valid (OfHost host) (returned host r p found).kept ≡ true
+  returned_valid : (p : Packet) (found : Option Mapping) → is_valid (OfHost host) (return_step host r p found).kept ≡ true
   returned_valid p None = dropped_valid 4
   returned_valid p (Some m) = by_proto (m.proto == p.proto)
     where
-      by_proto : (same : Bool) → is_valid (OfHost host) (cond same (record { kept = r; output = record { code = 2; a = host; b = m.port } }) (dropped r 4)).kept ≡ true
+      by_proto : (same : Bool)
+          → is_valid (OfHost host) (cond same (record { kept = r; output = record { code = 2; a = host; b = m.port } }) (drop_step r 4)).kept ≡ true
       by_proto true = kept_valid
       by_proto false = dropped_valid 4
 
@@ -109,46 +116,96 @@ module _ (host : ℕ) (r : Translation) (has : HasRoom host r) where
 pub counted_has_room : (host : ℕ) (kept : Option Translation) → nat_lt host (2 ^ 32) ≡ true → is_sound nat (OfHost host) kept ≡ true
     → HasRoom host (counted (unwrap_or kept no_mappings))
 counted_has_room host None address h =
-    record { valid = record { address = address; short = omega arith; each = refl; distinct = refl; counted = omega arith; drops = omega arith; packets = omega arith }; room = omega arith }
+    record {
+      valid = record {
+        address = address;
+        short = omega arith;
+        each = refl;
+        distinct = refl;
+        counted = omega arith;
+        drops = omega arith;
+        packets = omega arith;
+      };
+      room = omega arith;
+    }
 counted_has_room host (Some r) address h =
     let v = valid_facts host r h in
     let drops : r.drops ≤ r.packets = v.drops in
     let counted : 1 ≤ r.packets = v.counted in
     let packets : r.packets < 2 ^ 64 = v.packets in
     record {
-      valid = record { address = address; short = v.short; each = v.each; distinct = v.distinct; counted = omega arith; drops = omega arith; packets = omega arith };
+      valid = record {
+        address = address;
+        short = v.short;
+        each = v.each;
+        distinct = v.distinct;
+        counted = omega arith;
+        drops = omega arith;
+        packets = omega arith;
+      };
       room = omega arith;
     }
 
+-- the table is the step of a packet that passes so
+module _ (host : ℕ) (r : Translation) (p : Packet) where
+  abbrev passes : Step Translation
+  passes = record { kept = r; output = record { code = 0; a = 0; b = 0 } }
+
+  abbrev leaves : Option ℕ → Step Translation
+  leaves outside = option_map_or (λ outside. left outside host r (source p) (position (λ m. mapping_eq m (source p)) r.mappings)) outside passes
+
+  abbrev returns : Step Translation
+  returns = return_step host r p (slice_get r.mappings ((p.dport - first_port) % ports_per_host))
+
+  by_passage : (transport from to returning : Bool) (outside : Option ℕ)
+      → cond (not transport) passes (cond (from && not to) (leaves outside) (cond (to && not from) (drop_step r 5)
+      (cond (not from && not to && returning) returns passes)))
+      ≡ translated (cond (not transport) Other (cond (from && not to) (option_map_or Leaves outside Other) (cond (to && not from) Direct
+      (cond (not from && not to && returning) Returns Other)))) host r p
+  by_passage false from to returning outside = refl
+  by_passage true true true returning outside = refl
+  by_passage true true false returning None = refl
+  by_passage true true false returning (Some address) = refl
+  by_passage true false true returning outside = refl
+  by_passage true false false true outside = refl
+  by_passage true false false false outside = refl
+
+pub step_of_passage : (site : Site) (kept : Option Translation) (p : Packet)
+    → step_of site kept p ≡ translated (passage_of site p) (flow_of site p).0.local (counted (unwrap_or kept no_mappings)) p
+unfolding step_of passage_of
+step_of_passage site kept p =
+    by_passage (flow_of site p).0.local (counted (unwrap_or kept no_mappings)) p (is_transport p.proto) (is_inside site p.src) (is_inside site p.dst)
+    (is_mapped site p) site.outside
+
 -- a step keeps what is valid for the packet's host
 step_valid : (site : Site) (host : ℕ) (kept : Option Translation) (p : Packet) → (flow_of site p).0.local ≡ host → nat_lt host (2 ^ 32) ≡ true
-    → is_mapping (source p) ≡ true → is_sound nat (OfHost host) kept ≡ true → is_valid (OfHost host) (stepped site kept p).kept ≡ true
-unfolding stepped
+    → is_mapping (source p) ≡ true → is_sound nat (OfHost host) kept ≡ true → is_valid (OfHost host) (step_of site kept p).kept ≡ true
 step_valid site host kept p of address is h =
-    rw of (translated_valid host (counted (unwrap_or kept no_mappings)) (counted_has_room host kept address h) _ p is)
+    rw (step_of_passage site kept p, of) (translated_valid host (counted (unwrap_or kept no_mappings)) (counted_has_room host kept address h) _ p is)
 
 -- and so does a packet that may be none of TCP or UDP
 pub kept_sound : (site : Site) (host : ℕ) (kept : Option Translation) (p : Packet) → (flow_of site p).0.local ≡ host → nat_lt host (2 ^ 32) ≡ true
     → p.sport < 2 ^ 16 → is_sound nat (OfHost host) kept ≡ true → is_sound nat (OfHost host) (kept_after nat site kept p) ≡ true
 kept_sound site host kept p of address port h = by_proto (is_transport p.proto) refl
   where
-    by_proto : (transport : Bool) → is_transport p.proto ≡ transport → is_sound nat (OfHost host) (cond transport (Some (stepped site kept p).kept) kept) ≡ true
+    by_proto : (transport : Bool) → is_transport p.proto ≡ transport → is_sound nat (OfHost host) (cond transport (Some (step_of site kept p).kept) kept) ≡ true
     by_proto true e = step_valid site host kept p of address (and_from _ _ e (let low = port in grind (arith, nat_tests))) h
     by_proto false e = h
 
 stays_valid : (site : Site) (kept : Option Translation) (p : Packet) → Fits site p → is_sound nat (unit_at Nat site p) kept ≡ true
-    → is_valid (unit_at Nat site p) (stepped site kept p).kept ≡ true
+    → is_valid (unit_at Nat site p) (step_of site kept p).kept ≡ true
 stays_valid site kept p fits h =
     let flow = flow_fits site p fits in
     let address : nat_lt (flow_of site p).0.local (2 ^ 32) ≡ true = let low = flow.local in grind (arith, nat_tests) in
     step_valid site (flow_of site p).0.local kept p refl address (and_from _ _ fits.transport (let low = fits.sport in grind (arith, nat_tests))) h
 
 -- each step counts one packet, however the packet passes
-packets-opened : (outside host : ℕ) (r : Translation) (end : Mapping) → (opened outside host r end).kept.packets ≡ r.packets
+packets-opened : (outside host : ℕ) (r : Translation) (end : Mapping) → (left outside host r end None).kept.packets ≡ r.packets
 packets-opened outside host r end = by_room (nat_lt (length r.mappings) ports_per_host)
   where
     by_room : (free : Bool)
-        → (cond free (record { kept = record r { mappings = r.mappings ++ end ∷ [] }; output = mapped outside host (length r.mappings) }) (dropped r 3)).kept.packets ≡ r.packets
+        → (cond free (record { kept = record r { mappings = r.mappings ++ end ∷ [] }; output = mapped outside host (length r.mappings) })
+        (drop_step r 3)).kept.packets ≡ r.packets
     by_room true = refl
     by_room false = refl
 
@@ -156,11 +213,11 @@ packets-left : (outside host : ℕ) (r : Translation) (end : Mapping) (place : O
 packets-left outside host r end (Some number) = refl
 packets-left outside host r end None = packets-opened outside host r end
 
-packets-returned : (host : ℕ) (r : Translation) (p : Packet) (found : Option Mapping) → (returned host r p found).kept.packets ≡ r.packets
+packets-returned : (host : ℕ) (r : Translation) (p : Packet) (found : Option Mapping) → (return_step host r p found).kept.packets ≡ r.packets
 packets-returned host r p None = refl
 packets-returned host r p (Some m) = by_proto (m.proto == p.proto)
   where
-    by_proto : (same : Bool) → (cond same (record { kept = r; output = record { code = 2; a = host; b = m.port } }) (dropped r 4)).kept.packets ≡ r.packets
+    by_proto : (same : Bool) → (cond same (record { kept = r; output = record { code = 2; a = host; b = m.port } }) (drop_step r 4)).kept.packets ≡ r.packets
     by_proto true = refl
     by_proto false = refl
 
@@ -170,9 +227,8 @@ packets-translated Returns host r p = packets-returned host r p _
 packets-translated Direct host r p = refl
 packets-translated Other host r p = refl
 
-counts_one : (site : Site) (kept : Option Translation) (p : Packet) → (stepped site kept p).kept.packets ≡ count (packets_in nat kept) 1
-unfolding stepped
-counts_one site kept p = rw (packets-translated _ _ (counted (unwrap_or kept no_mappings)) p) (by_kept kept)
+counts_one : (site : Site) (kept : Option Translation) (p : Packet) → (step_of site kept p).kept.packets ≡ count (packets_in nat kept) 1
+counts_one site kept p = rw (step_of_passage site kept p, packets-translated _ _ (counted (unwrap_or kept no_mappings)) p) (by_kept kept)
   where
     by_kept : (kept : Option Translation) → count (unwrap_or kept no_mappings).packets 1 ≡ count (packets_in nat kept) 1
     by_kept None = refl

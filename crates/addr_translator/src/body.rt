@@ -2,7 +2,8 @@
 ghost use Rattle.std.specs.Prelude.{◌≡◌, ◌≤◌, ◌++◌, true, length, option_map, OnOk};
 ghost use Rattle.std.specs.List.{flat_map, list_all};
 ghost use Rattle.nf_function.specs.Records.{age_cmp};
-ghost use Rattle.addr_translator.specs.Body.{is_mapping, is_distinct, are_mappings, is_valid, mapping_bytes, body_of, first_mapping, mappings_in, with_mappings, spelled, record_in};
+ghost use Rattle.addr_translator.specs.Body.{is_mapping, is_distinct, are_mappings, is_valid, mapping_bytes};
+ghost use Rattle.addr_translator.specs.Body.{body_of, first_mapping, mappings_in, with_mappings, spelled, record_in};
 ghost use Rattle.addr_translator.specs.Nat.{nat};
 ghost use Rattle.flow_filter.specs.Flow.{ports_per_host};
 

@@ -1,5 +1,5 @@
 ghost use Rattle.std.specs.Prelude.{◌≡◌};
-ghost use Rattle.addr_translator.specs.Table.{source};
+ghost use Rattle.addr_translator.specs.Passages.{source};
 
 use flow_filter::Packet;
 

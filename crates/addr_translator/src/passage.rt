@@ -1,6 +1,7 @@
 ghost use Rattle.std.specs.Prelude.{◌≡◌, false};
+ghost use Rattle.std.specs.Option.{option_map_or};
 ghost use Rattle.nf_function.specs.Units.{is_transport};
-ghost use Rattle.addr_translator.specs.Table.{passage_of, leaving};
+ghost use Rattle.addr_translator.specs.Passages.{passage_of};
 
 use flow_filter::{FIRST_PORT, Packet, Site};
 use nf_function::is_transport;
@@ -20,7 +21,7 @@ pub enum Passage {
 
 impl Passage {
     /// How the packet passes the site's border.
-    #[tactic(auto, unfolding(crate::specs::Table::passage_of))]
+    #[tactic(auto, unfolding(crate::specs::Passages::passage_of))]
     pub fn of(site: &Site, packet: &Packet) -> Passage
         ensures value { result ≡ passage_of site.now packet.now }
         ensures other { is_transport packet.now.proto ≡ false → result ≡ Passage.Other }
@@ -41,7 +42,7 @@ impl Passage {
 
 /// An inside host's packet leaves where the site has an outside address.
 fn leaving(outside: Option<u32>) -> Passage
-    ensures { result ≡ leaving outside }
+    ensures { result ≡ option_map_or Passage.Leaves outside Passage.Other }
 {
     outside.map_or(Passage::Other, Passage::Leaves)
 }

@@ -2,8 +2,8 @@
 ghost use Rattle.std.specs.Prelude.{◌≡◌, ◌<◌, ◌≤◌, ◌++◌, ◌∷◌, [], nat_lt, length};
 ghost use Rattle.std.specs.List.{All, position};
 ghost use Rattle.nf_function.specs.Semantics.{count};
-ghost use Rattle.addr_translator.specs.Mappings.{HasPort, no_mappings, mapping_eq};
-ghost use Rattle.addr_translator.specs.Table.{counted};
+ghost use Rattle.addr_translator.specs.Mappings.{HasPort, mapping_eq};
+ghost use Rattle.addr_translator.specs.Outputs.{no_mappings, counted};
 ghost use Rattle.flow_filter.specs.Flow.{ports_per_host};
 
 use crate::mapping::Mapping;

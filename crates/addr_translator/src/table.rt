@@ -1,10 +1,12 @@
 //! The translator's table: what a packet changes of its host's mappings, and the output.
-ghost use Rattle.std.specs.Prelude.{◌≡◌, ◌<◌, ◌^◌, Some, if◌then◌else◌};
+ghost use Rattle.std.specs.Prelude.{◌≡◌, ◌<◌, ◌^◌, Some, None, if◌then◌else◌};
 ghost use Rattle.std.specs.List.{position};
 ghost use Rattle.flow_filter.specs.Flow.{flow_of, ports_per_host};
 ghost use Rattle.nf_function.specs.Units.{is_transport};
 ghost use Rattle.addr_translator.specs.Mappings.{mapping_eq};
-ghost use Rattle.addr_translator.specs.Table.{code, counted, dropped, left, opened, mapped, source as source_of, stepped, translated};
+ghost use Rattle.addr_translator.specs.Table.{drop_step, left, mapped, step_of};
+ghost use Rattle.addr_translator.specs.Passages.{source as source_of, translated};
+ghost use Rattle.addr_translator.specs.Outputs.{code, counted};
 
 use crate::mapping::Mapping;
 use crate::passage::Passage;
@@ -33,19 +35,19 @@ const DIRECT: u8 = 5;
 /// Takes a packet into what is kept of its host, and gives the output. A packet that is neither of TCP nor of UDP changes
 /// nothing.
 pub fn step(site: &Site, kept: &mut Option<NatRecord>, packet: &Packet) -> Output
-    ensures kept { kept.new ≡ (if is_transport packet.now.proto then Some (stepped site.now kept.old packet.now).kept else kept.old) }
-    ensures output { result ≡ (stepped site.now kept.old packet.now).output }
+    ensures kept { kept.new ≡ (if is_transport packet.now.proto then Some (step_of site.now kept.old packet.now).kept else kept.old) }
+    ensures output { result ≡ (step_of site.now kept.old packet.now).output }
 {
     let (flow, _) = flow_of(site, packet);
     step_of_host(site, flow.local, kept, packet)
 }
 
 /// Takes a packet, whose host is at hand, into what is kept of that host, and gives the output.
-#[tactic(auto, unfolding(crate::specs::Table::stepped))]
+#[tactic(auto, using(crate::specs::StepLemmas::step_of_passage))]
 pub fn step_of_host(site: &Site, host: u32, kept: &mut Option<NatRecord>, packet: &Packet) -> Output
     requires { host ≡ (flow_of site.now packet.now).0.local }
-    ensures kept { kept.new ≡ (if is_transport packet.now.proto then Some (stepped site.now kept.old packet.now).kept else kept.old) }
-    ensures output { result ≡ (stepped site.now kept.old packet.now).output }
+    ensures kept { kept.new ≡ (if is_transport packet.now.proto then Some (step_of site.now kept.old packet.now).kept else kept.old) }
+    ensures output { result ≡ (step_of site.now kept.old packet.now).output }
     ensures port { packet.now.sport < 2 ^ 16 }
 {
     let source = Mapping::source(packet);
@@ -98,8 +100,8 @@ fn leave(kept: &mut NatRecord, outside: u32, host: u32, source: Mapping) -> Outp
 
 /// The next free port is given to a source.
 fn open(kept: &mut NatRecord, outside: u32, host: u32, source: Mapping) -> Output
-    ensures kept { kept.new ≡ (opened outside host kept.old source).kept }
-    ensures output { result ≡ (opened outside host kept.old source).output }
+    ensures kept { kept.new ≡ (left outside host kept.old source None).kept }
+    ensures output { result ≡ (left outside host kept.old source None).output }
 {
     if !kept.has_room() {
         return drop_packet(kept, NO_PORT);
@@ -140,8 +142,8 @@ fn come_back(kept: &mut NatRecord, host: u32, packet: &Packet) -> Output
 
 /// Counts a dropped packet. The output says why.
 fn drop_packet(kept: &mut NatRecord, reason: u8) -> Output
-    ensures kept { kept.new ≡ (dropped kept.old reason).kept }
-    ensures output { result ≡ (dropped kept.old reason).output }
+    ensures kept { kept.new ≡ (drop_step kept.old reason).kept }
+    ensures output { result ≡ (drop_step kept.old reason).output }
 {
     kept.count_drop();
     output(reason)

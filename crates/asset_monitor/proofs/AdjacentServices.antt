@@ -19,7 +19,8 @@ rising_from_adjacent (x ∷ y ∷ more) h =
     let first : is_lt (end_cmp x y) ≡ true = sym (h 0 x (omega arith)) in
     and_from _ _ (before_all x y more first rest) rest
 
-not_rising : (xs : List Service) (k : ℕ) → k + 1 < length xs → ((d : Service) → false ≡ is_lt (end_cmp (get_or xs k d) (get_or xs (k + 1) d))) → (b : Bool) → is_rising xs ≡ b
+not_rising : (xs : List Service) (k : ℕ) → k + 1 < length xs → ((d : Service) → false ≡ is_lt (end_cmp (get_or xs k d) (get_or xs (k + 1) d))) → (b : Bool)
+    → is_rising xs ≡ b
     → false ≡ b
 not_rising xs k in_range h false e = refl
 not_rising [] k in_range h true e = absurd (omega (arith, in_range))

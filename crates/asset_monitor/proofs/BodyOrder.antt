@@ -50,10 +50,12 @@ services_cmp (x ∷ xs) (y ∷ ys) l p q =
     rw (
       append_assoc (number_bytes 2 x.port) (banner_number x.banner ∷ []) (flat_map service_bytes xs),
       append_assoc (number_bytes 2 y.port) (banner_number y.banner ∷ []) (flat_map service_bytes ys),
-      slice_cmp-number_bytes 2 x.port y.port (banner_number x.banner ∷ flat_map service_bytes xs) (banner_number y.banner ∷ flat_map service_bytes ys) mine theirs,
+      slice_cmp-number_bytes 2 x.port y.port (banner_number x.banner ∷ flat_map service_bytes xs) (banner_number y.banner ∷ flat_map service_bytes ys) mine
+          theirs,
       services_cmp xs ys (omega (arith, l)) first.1 second.1,
       by_numbers x.banner y.banner,
-      ordering_then-assoc (nat_cmp x.proto y.proto) (ordering_then (nat_cmp x.port y.port) (nat_cmp (banner_number x.banner) (banner_number y.banner))) (slice_cmp services.cmp-value.it xs ys),
+      ordering_then-assoc (nat_cmp x.proto y.proto) (ordering_then (nat_cmp x.port y.port) (nat_cmp (banner_number x.banner) (banner_number y.banner)))
+          (slice_cmp services.cmp-value.it xs ys),
       ordering_then-assoc (nat_cmp x.port y.port) (nat_cmp (banner_number x.banner) (banner_number y.banner)) (slice_cmp services.cmp-value.it xs ys),
     ) refl
 
@@ -74,21 +76,27 @@ rest_cmp : (a b : AssetRecord) (sizes : Ordering) → nat_cmp (length a.services
 rest_cmp a b Less e v w = refl
 rest_cmp a b Greater e v w = refl
 rest_cmp a b Equal e v w =
-    services_cmp a.services b.services (exact_unsigned (length a.services) (length b.services) e) (all_services a.services v.services) (all_services b.services w.services)
+    services_cmp a.services b.services (exact_unsigned (length a.services) (length b.services) e) (all_services a.services v.services)
+    (all_services b.services w.services)
 
 body_cmp : (a b : AssetRecord) → Within a → Within b
     → slice_cmp nat_cmp (body_of a) (body_of b)
-    ≡ ordering_then (nat_cmp a.packets b.packets) (ordering_then (nat_cmp (length a.services) (length b.services)) (slice_cmp services.cmp-value.it a.services b.services))
+    ≡ ordering_then (nat_cmp a.packets b.packets)
+    (ordering_then (nat_cmp (length a.services) (length b.services)) (slice_cmp services.cmp-value.it a.services b.services))
 unfolding body_of
 body_cmp a b v w =
-    slice_cmp-number_bytes 8 a.packets b.packets (length a.services ∷ flat_map service_bytes a.services) (length b.services ∷ flat_map service_bytes b.services) v.packets w.packets
+    slice_cmp-number_bytes 8 a.packets b.packets (length a.services ∷ flat_map service_bytes a.services)
+    (length b.services ∷ flat_map service_bytes b.services) v.packets w.packets
     ∙ ap (ordering_then (nat_cmp a.packets b.packets)) (rest_cmp a b (nat_cmp (length a.services) (length b.services)) refl v w)
 
 -- records compare by their packets, and then by the parts in the order of their bodies
 pub age_by_parts : (a b : AssetRecord) → Within a → Within b
     → age_cmp monitor a b
-    ≡ ordering_then (ordering_then (nat_cmp a.packets b.packets) (nat_cmp (length a.services) (length b.services))) (slice_cmp services.cmp-value.it a.services b.services)
+    ≡ ordering_then (ordering_then (nat_cmp a.packets b.packets) (nat_cmp (length a.services) (length b.services)))
+    (slice_cmp services.cmp-value.it a.services b.services)
 age_by_parts a b v w =
     ap (ordering_then (nat_cmp a.packets b.packets)) (body_cmp a b v w)
-    ∙ twice (nat_cmp a.packets b.packets) (ordering_then (nat_cmp (length a.services) (length b.services)) (slice_cmp services.cmp-value.it a.services b.services))
-    ∙ sym (ordering_then-assoc (nat_cmp a.packets b.packets) (nat_cmp (length a.services) (length b.services)) (slice_cmp services.cmp-value.it a.services b.services))
+    ∙ twice (nat_cmp a.packets b.packets)
+    (ordering_then (nat_cmp (length a.services) (length b.services)) (slice_cmp services.cmp-value.it a.services b.services))
+    ∙ sym (ordering_then-assoc (nat_cmp a.packets b.packets) (nat_cmp (length a.services) (length b.services))
+    (slice_cmp services.cmp-value.it a.services b.services))

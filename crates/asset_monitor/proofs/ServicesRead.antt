@@ -1,5 +1,6 @@
 -- The loop that reads services: those read so far, and the bytes that are left.
-use Rattle.std.proofs.Common.{◌≡◌, ◌∙◌, ◌≤◌, ◌<◌, ◌-◌, ◌+◌, ◌++◌, ℕ, suc, List, [], ◌∷◌, length, Option, None, Some, option_map, option_and_then, refl, sym, ap, arith, append-nil}
+use Rattle.std.proofs.Common.{◌≡◌, ◌∙◌, ◌≤◌, ◌<◌, ◌-◌, ◌+◌, ◌++◌, ℕ, suc, List, [], ◌∷◌, length, Option}
+use Rattle.std.proofs.Common.{None, Some, option_map, option_and_then, refl, sym, ap, arith, append-nil}
 use Rattle.std.proofs.lemmas.List.{append_assoc}
 use Rattle.asset_monitor.specs.declared.service.Service.{Service}
 use Rattle.asset_monitor.specs.Body.{first_service, services_in}
@@ -14,7 +15,8 @@ unfolding services_in
 first_read n front bytes first h = rw h (by_more (services_in n first.1))
   where
     by_more : (more : Option (List Service))
-        → option_map (λ more. front ++ more) (option_and_then (λ (m : List Service). Some (first.0 ∷ m)) more) ≡ option_map (λ more. (front ++ first.0 ∷ []) ++ more) more
+        → option_map (λ more. front ++ more) (option_and_then (λ (m : List Service). Some (first.0 ∷ m)) more)
+        ≡ option_map (λ more. (front ++ first.0 ∷ []) ++ more) more
     by_more None = refl
     by_more (Some m) = rw (append_assoc front (first.0 ∷ []) m) refl
 

@@ -8,7 +8,8 @@ use Rattle.nf_function.specs.declared.unit.Unit.TheVariants.{Flow as OfFlow, Hos
 use Rattle.nf_function.specs.Stored.{number_bytes, first_byte, first_number}
 use Rattle.asset_monitor.specs.declared.record.AssetRecord.{AssetRecord}
 use Rattle.asset_monitor.specs.declared.service.Service.{Service}
-use Rattle.asset_monitor.specs.Banners.{banner_of, banner_number}
+use Rattle.asset_monitor.specs.Banners.{banner_number}
+use Rattle.asset_monitor.specs.BannerNumbers.{banner_of}
 use Rattle.asset_monitor.specs.Services.{are_services, services_per_host}
 
 -- a record of the host: it has counted a packet, and its services are ones that a host can have

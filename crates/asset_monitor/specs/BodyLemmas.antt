@@ -1,6 +1,7 @@
 -- Steps between code and definition, which nobody has to believe: what a monitor's record is stored as is read again, and only that. It
 -- stands in specs/ since the laws of a trait may cite nothing else.
-use Rattle.std.proofs.Common.{◌≡◌, ◌∙◌, ◌<◌, ◌≤◌, ◌+◌, ◌*◌, ◌^◌, ◌&&◌, ℕ, zero, suc, true, List, [], ◌∷◌, ◌++◌, length, Some, option_and_then, refl, sym, ap, arith, nat_lt, nat_le, length-append}
+use Rattle.std.proofs.Common.{◌≡◌, ◌∙◌, ◌<◌, ◌≤◌, ◌+◌, ◌*◌, ◌^◌, ◌&&◌, ℕ, zero, suc, true, List, [], ◌∷◌, ◌++◌}
+use Rattle.std.proofs.Common.{length, Some, option_and_then, refl, sym, ap, arith, nat_lt, nat_le, length-append}
 use Rattle.std.specs.List.{flat_map, list_all}
 use Rattle.std.proofs.lemmas.Bool.{ltb-true, lt-ltb, leb-true, le-leb, and_parts, and_from}
 use Rattle.std.proofs.lemmas.List.{append_assoc}
@@ -14,7 +15,8 @@ use Rattle.asset_monitor.specs.declared.banner.Banner.{Banner}
 use Rattle.asset_monitor.specs.declared.banner.Banner.TheVariants.{Unseen, Ssh, Http, Greeting, Pop3, Imap}
 use Rattle.asset_monitor.specs.declared.record.AssetRecord.{AssetRecord}
 use Rattle.asset_monitor.specs.declared.service.Service.{Service}
-use Rattle.asset_monitor.specs.Banners.{banner_of, banner_number}
+use Rattle.asset_monitor.specs.Banners.{banner_number}
+use Rattle.asset_monitor.specs.BannerNumbers.{banner_of}
 use Rattle.asset_monitor.specs.Services.{are_services, is_service, services_per_host}
 use Rattle.asset_monitor.specs.ServiceLemmas.{all_services, few_services}
 use Rattle.asset_monitor.specs.Body.{body_of, few, first_service, is_valid, record_in, service_bytes, services_in, spelled, valid_only}
@@ -73,7 +75,8 @@ first_service-service_bytes s rest h =
       banner_of-banner_number s.banner,
     ) refl
 
-services_in-flat_map : (services : List Service) → list_all is_service services ≡ true → services_in (length services) (flat_map service_bytes services) ≡ Some services
+services_in-flat_map : (services : List Service) → list_all is_service services ≡ true
+    → services_in (length services) (flat_map service_bytes services) ≡ Some services
 unfolding services_in
 services_in-flat_map [] h = refl
 services_in-flat_map (s ∷ more) h =

@@ -1,6 +1,8 @@
 pub mod Banners
+pub mod BannerNumbers
 pub mod Services
 pub mod Table
+pub mod Outputs
 pub mod Text
 pub mod Body
 pub mod Monitor

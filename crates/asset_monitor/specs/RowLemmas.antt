@@ -10,10 +10,11 @@ use Rattle.asset_monitor.specs.declared.record.AssetRecord.{AssetRecord}
 use Rattle.asset_monitor.specs.declared.service.Service.{Service}
 use Rattle.asset_monitor.specs.Banners.{banner_in, is_unseen}
 use Rattle.asset_monitor.specs.Places.{IsAt, IsGap}
-use Rattle.asset_monitor.specs.Rows.{new_row, sent_row, greeting_row, quiet_row}
+use Rattle.asset_monitor.specs.Rows.{new_row, sent_row, greeting_row, quiet_row, is_bare, payload}
 use Rattle.asset_monitor.specs.ServiceLemmas.{listed_at, listed_gap}
-use Rattle.asset_monitor.specs.Services.{listed, services_per_host}
-use Rattle.asset_monitor.specs.Table.{announces, counted, found, full, greeted, is_bare, keeping, payload, source, watched}
+use Rattle.asset_monitor.specs.Services.{service_like, services_per_host}
+use Rattle.asset_monitor.specs.Table.{announces, keeping, watched}
+use Rattle.asset_monitor.specs.Outputs.{source, counted, found, full, greeted}
 
 -- the rows by the three that change something and by what decides between them
 module _ (new filled greeting still : Step AssetRecord) where
@@ -59,7 +60,8 @@ one_more-cond false x y = refl
 
 new_row-counted : (r : AssetRecord) (s : Service) → new_row (counted r) s ≡ one_more (new_row r s)
 unfolding new_row
-new_row-counted r s = one_more-cond (nat_lt (length r.services) services_per_host) (record { kept = keeping r s; output = found s }) (record { kept = r; output = full })
+new_row-counted r s =
+    one_more-cond (nat_lt (length r.services) services_per_host) (record { kept = keeping r s; output = found s }) (record { kept = r; output = full })
 
 greeting_row-counted : (r : AssetRecord) (s : Service) → greeting_row (counted r) s ≡ one_more (greeting_row r s)
 unfolding greeting_row
@@ -81,33 +83,35 @@ sent_row_by_known r p None = refl
 sent_row_by_known r p (Some s) = refl
 
 -- a packet that it sends
-pub watched_sent : (r : AssetRecord) (p : Packet) → is_transport p.proto ≡ true → watched Out r p ≡ sent_row r p (listed r.services (source p))
+pub watched_sent : (r : AssetRecord) (p : Packet) → is_transport p.proto ≡ true → watched Out r p ≡ sent_row r p (service_like r.services (source p))
 unfolding watched
 watched_sent r p h =
     rw h
     (rows_of (record { kept = keeping r (source p); output = found (source p) }) (record { kept = r; output = full })
     (record { kept = keeping r (greeting_of p); output = greeted (greeting_of p) }) (quiet_row r)
-    (announces p) (nat_lt (length r.services) services_per_host) (is_unseen (banner_in (payload p))) (listed r.services (source p))
-    ∙ sent_row_by_known r p (listed r.services (source p)))
+    (announces p) (nat_lt (length r.services) services_per_host) (is_unseen (banner_in (payload p))) (service_like r.services (source p))
+    ∙ sent_row_by_known r p (service_like r.services (source p)))
 
-pub watched_out : (r : AssetRecord) (p : Packet) → is_transport p.proto ≡ true → watched Out (counted r) p ≡ one_more (sent_row r p (listed r.services (source p)))
-watched_out r p h = watched_sent (counted r) p h ∙ sent_row-counted r p (listed r.services (source p))
+pub watched_out : (r : AssetRecord) (p : Packet) → is_transport p.proto ≡ true
+    → watched Out (counted r) p ≡ one_more (sent_row r p (service_like r.services (source p)))
+watched_out r p h = watched_sent (counted r) p h ∙ sent_row-counted r p (service_like r.services (source p))
 
 -- what a search for the packet's source tells
 module _ (r : AssetRecord) (p : Packet) (s : Service) (is : s ≡ source p) (i : ℕ) where
-  pub sent_new : IsGap r.services s i → true ≡ announces p → sent_row r p (listed r.services s) ≡ new_row r s
+  pub sent_new : IsGap r.services s i → true ≡ announces p → sent_row r p (service_like r.services s) ≡ new_row r s
   unfolding sent_row
   sent_new gap h = rw (listed_gap r.services s i gap, ← h, is) refl
 
-  pub sent_unannounced : IsGap r.services s i → false ≡ announces p → sent_row r p (listed r.services s) ≡ quiet_row r
+  pub sent_unannounced : IsGap r.services s i → false ≡ announces p → sent_row r p (service_like r.services s) ≡ quiet_row r
   unfolding sent_row
   sent_unannounced gap h = rw (listed_gap r.services s i gap, ← h) refl
 
   module _ (xs : List Service) (are : xs ≡ r.services) (d : Service) (at : IsAt r.services s i) where
-    pub sent_bare : true ≡ is_unseen (get_or xs i d).banner → sent_row r p (listed r.services s) ≡ greeting_row r (record s { banner = banner_in (payload p) })
+    pub sent_bare : true ≡ is_unseen (get_or xs i d).banner
+        → sent_row r p (service_like r.services s) ≡ greeting_row r (record s { banner = banner_in (payload p) })
     unfolding sent_row
     sent_bare h = let bare = rw are at h in rw (listed_at r.services s i at d, ← bare, is) refl
 
-    pub sent_greeted : false ≡ is_unseen (get_or xs i d).banner → sent_row r p (listed r.services s) ≡ quiet_row r
+    pub sent_greeted : false ≡ is_unseen (get_or xs i d).banner → sent_row r p (service_like r.services s) ≡ quiet_row r
     unfolding sent_row
     sent_greeted h = let seen = rw are at h in rw (listed_at r.services s i at d, ← seen) refl

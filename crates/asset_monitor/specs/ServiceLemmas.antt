@@ -1,6 +1,7 @@
 -- Steps between code and definition, which nobody has to believe: services in order: where one stands, and what one more leaves. It stands
 -- in specs/ since the laws of a trait may cite nothing else.
-use Rattle.std.proofs.Common.{◌≡◌, ◌∙◌, inl, inr, subst, ◌<◌, ◌≤◌, ◌+◌, ◌&&◌, ℕ, zero, suc, Bool, true, false, cond, List, [], ◌∷◌, ◌++◌, length, get_or, take, drop, set, None, Some, is_some, Result, Ok, Err, IfOk, IfErr, refl, sym, ap, arith, nat_le, length-append}
+use Rattle.std.proofs.Common.{◌≡◌, ◌∙◌, inl, inr, subst, ◌<◌, ◌≤◌, ◌+◌, ◌&&◌, ℕ, zero, suc, Bool, true, false, cond, List, [], ◌∷◌, ◌++◌, length}
+use Rattle.std.proofs.Common.{get_or, take, drop, set, None, Some, is_some, Result, Ok, Err, IfOk, IfErr, refl, sym, ap, arith, nat_le, length-append}
 use Rattle.std.specs.List.{AllWithin, HoldsAt, filter, find, insert, list_all}
 use Rattle.std.specs.List.Sorted.{IsSearchInRange, IsBinarySearchResult}
 use Rattle.std.specs.Ordering.{is_lt, is_eq, is_gt, ordering_reverse}
@@ -15,7 +16,7 @@ use Rattle.std.proofs.lemmas.List.Sorted.{searchable_from_sorted}
 use Rattle.std.proofs.lemmas.List.Folds.{list_all-append}
 use Rattle.asset_monitor.specs.declared.service.Service.{Service}
 use Rattle.asset_monitor.specs.Places.{IsAt, IsGap}
-use Rattle.asset_monitor.specs.Services.{are_services, end_cmp, is_rising, is_service, listed, services_per_host, with_service}
+use Rattle.asset_monitor.specs.Services.{are_services, end_cmp, is_rising, is_service, service_like, services_per_host, with_service}
 
 pub end_total : IsTotalOrder end_cmp
 end_total = then_total (on_total (λ (s : Service). s.proto) nat_cmp_total) (on_total (λ (s : Service). s.port) nat_cmp_total)
@@ -90,7 +91,8 @@ after_same x y z less same =
 tail_within : {X : Type 0} (P : X → Type 0) (x : X) (xs : List X) (low high : ℕ) → AllWithin P (x ∷ xs) (suc low) (suc high) → AllWithin P xs low high
 tail_within P x xs low high h k d l m = h (suc k) d (omega arith) (omega arith)
 
-filter_front : {X : Type 0} (p : X → Bool) (xs : List X) (i : ℕ) → i ≤ length xs → AllWithin (λ x. p x ≡ true) xs 0 i → AllWithin (λ x. p x ≡ false) xs i (length xs)
+filter_front : {X : Type 0} (p : X → Bool) (xs : List X) (i : ℕ) → i ≤ length xs → AllWithin (λ x. p x ≡ true) xs 0 i
+    → AllWithin (λ x. p x ≡ false) xs i (length xs)
     → filter p xs ≡ take i xs
 filter_front p [] zero low pass fail = refl
 filter_front p [] (suc i) low pass fail = refl
@@ -99,9 +101,13 @@ filter_front p (x ∷ xs) zero low pass fail =
     rw first (filter_front p xs zero (omega arith) (λ k d l m. absurd (omega (arith, m))) (λ k d l m. fail (suc k) d (omega arith) (omega arith)))
 filter_front p (x ∷ xs) (suc i) low pass fail =
     let first : p x ≡ true = pass 0 x (omega arith) (omega arith) in
-    rw (first, filter_front p xs i (omega arith) (λ k d l m. pass (suc k) d (omega arith) (omega arith)) (λ k d l m. fail (suc k) d (omega arith) (omega arith))) refl
+    rw (
+      first,
+      filter_front p xs i (omega arith) (λ k d l m. pass (suc k) d (omega arith) (omega arith)) (λ k d l m. fail (suc k) d (omega arith) (omega arith)),
+    ) refl
 
-filter_back : {X : Type 0} (p : X → Bool) (xs : List X) (i : ℕ) → i ≤ length xs → AllWithin (λ x. p x ≡ false) xs 0 i → AllWithin (λ x. p x ≡ true) xs i (length xs)
+filter_back : {X : Type 0} (p : X → Bool) (xs : List X) (i : ℕ) → i ≤ length xs → AllWithin (λ x. p x ≡ false) xs 0 i
+    → AllWithin (λ x. p x ≡ true) xs i (length xs)
     → filter p xs ≡ drop i xs
 filter_back p [] zero low fail pass = refl
 filter_back p [] (suc i) low fail pass = refl
@@ -128,7 +134,8 @@ find_none p (x ∷ xs) fail =
 
 -- the service at a place, and those on its two sides
 module _ (xs : List Service) (s : Service) (i : ℕ) (at : IsAt xs s i) where
-  here_or_after : (p : Ordering → Bool) → p Equal ≡ false → p Greater ≡ false → (k : ℕ) (d : Service) → i ≤ k → k < length xs → p (end_cmp (get_or xs k d) s) ≡ false
+  here_or_after : (p : Ordering → Bool) → p Equal ≡ false → p Greater ≡ false → (k : ℕ) (d : Service) → i ≤ k → k < length xs
+      → p (end_cmp (get_or xs k d) s) ≡ false
   here_or_after p same more k d low high = elim (cases_lt i k) [
     | inl less ↦ ap p (at.after k d (omega arith) high) ∙ more
     | inr le ↦ let is : i ≡ k = omega arith in ap p (subst (λ n. end_cmp (get_or xs n d) s ≡ Equal) is (at.here d)) ∙ same
@@ -147,10 +154,11 @@ module _ (xs : List Service) (s : Service) (i : ℕ) (at : IsAt xs s i) where
       let front : filter (λ other. is_lt (end_cmp other s)) xs ≡ take i xs =
       filter_front (λ other. is_lt (end_cmp other s)) xs i (omega arith) (λ k d l m. ap is_lt (at.before k d l m)) (here_or_after is_lt refl refl) in
       let back : filter (λ other. is_gt (end_cmp other s)) xs ≡ drop (suc i) xs =
-      filter_back (λ other. is_gt (end_cmp other s)) xs (suc i) (omega arith) (λ k d l m. here_or_before is_gt refl refl k d m) (λ k d l m. ap is_gt (at.after k d (omega arith) m)) in
+      filter_back (λ other. is_gt (end_cmp other s)) xs (suc i) (omega arith) (λ k d l m. here_or_before is_gt refl refl k d m)
+      (λ k d l m. ap is_gt (at.after k d (omega arith) m)) in
       rw (front, back, set_split xs i s in_range) refl
 
-  pub listed_at : (d : Service) → listed xs s ≡ Some (get_or xs i d)
+  pub listed_at : (d : Service) → service_like xs s ≡ Some (get_or xs i d)
   listed_at d = find_at (λ other. is_eq (end_cmp other s)) xs i at.in_range (λ k e l m. ap is_eq (at.before k e l m)) (λ e. ap is_eq (at.here e)) d
 
 module _ (xs : List Service) (s : Service) (i : ℕ) (gap : IsGap xs s i) where
@@ -163,7 +171,7 @@ module _ (xs : List Service) (s : Service) (i : ℕ) (gap : IsGap xs s i) where
       filter_back (λ other. is_gt (end_cmp other s)) xs i gap.in_range (λ k d l m. ap is_gt (gap.before k d l m)) (λ k d l m. ap is_gt (gap.after k d l m)) in
       rw (front, back) refl
 
-  pub listed_gap : listed xs s ≡ None
+  pub listed_gap : service_like xs s ≡ None
   listed_gap = find_none (λ other. is_eq (end_cmp other s)) xs (λ k d l m. elim (cases_lt k i) [
     | inl lower ↦ ap is_eq (gap.before k d l lower)
     | inr le ↦ ap is_eq (gap.after k d le m)
@@ -192,9 +200,11 @@ is_rising-with (x ∷ xs) s h =
     front_of : (ys : List Service) → list_all (λ later. is_lt (end_cmp s later)) ys ≡ true → is_rising ys ≡ true
         → is_rising (filter (λ other. is_lt (end_cmp other s)) ys ++ s ∷ filter (λ other. is_gt (end_cmp other s)) ys) ≡ true
     front_of ys after rising =
-        let none : filter (λ other. is_lt (end_cmp other s)) ys ≡ [] = filter_none (λ other. is_lt (end_cmp other s)) (λ later. is_lt (end_cmp s later)) after_is_not_less ys after in
+        let none : filter (λ other. is_lt (end_cmp other s)) ys ≡ [] = filter_none (λ other. is_lt (end_cmp other s)) (λ later. is_lt (end_cmp s later))
+        after_is_not_less ys after in
         let all : filter (λ other. is_gt (end_cmp other s)) ys ≡ ys =
-        filter_all (λ other. is_gt (end_cmp other s)) ys (list_all-weaker (λ later. is_lt (end_cmp s later)) (λ other. is_gt (end_cmp other s)) after_is_greater ys after) in
+        filter_all (λ other. is_gt (end_cmp other s)) ys
+        (list_all-weaker (λ later. is_lt (end_cmp s later)) (λ other. is_gt (end_cmp other s)) after_is_greater ys after) in
         rw (none, all) (and_from (list_all (λ later. is_lt (end_cmp s later)) ys) (is_rising ys) after rising)
 
     by_order : (o : Ordering) → end_cmp x s ≡ o → list_all (λ later. is_lt (end_cmp x later)) xs ≡ true → is_rising xs ≡ true
@@ -229,15 +239,16 @@ are_services-with xs s all is few =
     (is_rising-with xs s parts.1)
 
 -- one more service takes one more place, or none where its end is listed
-pub length-with : (xs : List Service) (s : Service) → length (with_service xs s) + cond (is_some (listed xs s)) 1 0 ≤ length xs + 1
+pub length-with : (xs : List Service) (s : Service) → length (with_service xs s) + cond (is_some (service_like xs s)) 1 0 ≤ length xs + 1
 length-with [] s = omega arith
 length-with (x ∷ xs) s = by_order (end_cmp x s) (length-with xs s)
   where
     by_order : (o : Ordering)
-        → length (filter (λ other. is_lt (end_cmp other s)) xs ++ s ∷ filter (λ other. is_gt (end_cmp other s)) xs) + cond (is_some (listed xs s)) 1 0 ≤ length xs + 1
+        → length (filter (λ other. is_lt (end_cmp other s)) xs ++ s ∷ filter (λ other. is_gt (end_cmp other s)) xs) + cond (is_some (service_like xs s)) 1 0
+        ≤ length xs + 1
         → length (cond (is_lt o) (x ∷ filter (λ other. is_lt (end_cmp other s)) xs) (filter (λ other. is_lt (end_cmp other s)) xs)
         ++ s ∷ cond (is_gt o) (x ∷ filter (λ other. is_gt (end_cmp other s)) xs) (filter (λ other. is_gt (end_cmp other s)) xs))
-        + cond (is_some (cond (is_eq o) (Some x) (listed xs s))) 1 0 ≤ suc (length xs) + 1
+        + cond (is_some (cond (is_eq o) (Some x) (service_like xs s))) 1 0 ≤ suc (length xs) + 1
     by_order Less rest = omega (arith, rest)
     by_order Equal rest = omega (arith, rest)
     by_order Greater rest =

@@ -28,8 +28,8 @@ abbrev pub are_services : List Service → Bool
 are_services services = nat_le (length services) services_per_host && list_all is_service services && is_rising services
 
 -- the service with the protocol and the port of another, if there is one
-abbrev pub listed : List Service → Service → Option Service
-listed services s = find (λ other. is_eq (end_cmp other s)) services
+abbrev pub service_like : List Service → Service → Option Service
+service_like services s = find (λ other. is_eq (end_cmp other s)) services
 
 -- the services with this one at its protocol and port: those before it, it, and those after it
 abbrev pub with_service : List Service → Service → List Service

@@ -17,9 +17,10 @@ use Rattle.nf_function.proofs.FlowFits.{flow_fits}
 use Rattle.asset_monitor.specs.declared.record.AssetRecord.{AssetRecord}
 use Rattle.asset_monitor.specs.declared.service.Service.{Service}
 use Rattle.asset_monitor.specs.Banners.{is_unseen}
-use Rattle.asset_monitor.specs.Services.{is_service, listed, services_per_host, with_service}
+use Rattle.asset_monitor.specs.Services.{is_service, service_like, services_per_host, with_service}
 use Rattle.asset_monitor.specs.ServiceLemmas.{are_services-with, few_services, length-with}
-use Rattle.asset_monitor.specs.Table.{announces, counted, found, full, greeted, keeping, nothing, source, stepped, watched}
+use Rattle.asset_monitor.specs.Table.{announces, keeping, step_of, watched}
+use Rattle.asset_monitor.specs.Outputs.{nothing, source, counted, found, full, greeted}
 use Rattle.asset_monitor.specs.Rows.{new_row, sent_row, greeting_row, quiet_row}
 use Rattle.asset_monitor.specs.RowLemmas.{greeting_of, watched_in, watched_sent}
 use Rattle.asset_monitor.specs.Body.{is_valid}
@@ -47,7 +48,7 @@ module _ (host : ℕ) (r : AssetRecord) (valid : IsValid host r) where
           keeping_valid s is (omega (arith, length-with r.services s))
       by_room false h = valid
 
-  greeting_row_valid : (s : Service) → is_service s ≡ true → is_some (listed r.services s) ≡ true → IsValid host (greeting_row r s).kept
+  greeting_row_valid : (s : Service) → is_service s ≡ true → is_some (service_like r.services s) ≡ true → IsValid host (greeting_row r s).kept
   unfolding greeting_row
   greeting_row_valid s is known = by_banner (is_unseen s.banner)
     where
@@ -56,7 +57,8 @@ module _ (host : ℕ) (r : AssetRecord) (valid : IsValid host r) where
       by_banner false =
           let few = few_services r.services valid.services in let one = rw known at (length-with r.services s) in keeping_valid s is (omega arith)
 
-  sent_row_valid : (p : Packet) (known : Option Service) → is_service (source p) ≡ true → listed r.services (source p) ≡ known → IsValid host (sent_row r p known).kept
+  sent_row_valid : (p : Packet) (known : Option Service) → is_service (source p) ≡ true → service_like r.services (source p) ≡ known
+      → IsValid host (sent_row r p known).kept
   unfolding sent_row
   sent_row_valid p None is h = by_row (announces p)
     where
@@ -74,7 +76,7 @@ module _ (host : ℕ) (r : AssetRecord) (valid : IsValid host r) where
   watched_valid In p transport port = rw (watched_in r p) valid
   watched_valid Out p transport port =
       let is : is_service (source p) ≡ true = and_from _ _ transport (lt-ltb p.sport (2 ^ 16) port) in
-      rw (watched_sent r p transport) (sent_row_valid p (listed r.services (source p)) is refl)
+      rw (watched_sent r p transport) (sent_row_valid p (service_like r.services (source p)) is refl)
 
 -- a record that was valid, or none, is valid with one packet more
 counted_valid : (host : ℕ) (kept : Option AssetRecord) → nat_lt host (2 ^ 32) ≡ true → is_sound monitor (OfHost host) kept ≡ true
@@ -97,8 +99,8 @@ kept_sound direction host kept p address port h = by_proto (is_transport p.proto
     by_proto false e = h
 
 stays_valid : (site : Site) (kept : Option AssetRecord) (p : Packet) → Fits site p → is_sound monitor (unit_at kinds.Monitor site p) kept ≡ true
-    → is_valid (unit_at kinds.Monitor site p) (stepped site kept p).kept ≡ true
-unfolding stepped
+    → is_valid (unit_at kinds.Monitor site p) (step_of site kept p).kept ≡ true
+unfolding step_of
 stays_valid site kept p fits h =
     let flow = flow_fits site p fits in
     let address = lt-ltb (flow_of site p).0.local (2 ^ 32) flow.local in
@@ -114,8 +116,8 @@ packets-watched : (direction : Direction) (r : AssetRecord) (p : Packet) → (wa
 unfolding watched
 packets-watched direction r p = search packets-cond
 
-counts_one : (site : Site) (kept : Option AssetRecord) (p : Packet) → (stepped site kept p).kept.packets ≡ count (packets_in monitor kept) 1
-unfolding stepped
+counts_one : (site : Site) (kept : Option AssetRecord) (p : Packet) → (step_of site kept p).kept.packets ≡ count (packets_in monitor kept) 1
+unfolding step_of
 counts_one site kept p = rw (packets-watched _ (counted (unwrap_or kept nothing)) p) (by_kept kept)
   where
     by_kept : (kept : Option AssetRecord) → count (unwrap_or kept nothing).packets 1 ≡ count (packets_in monitor kept) 1

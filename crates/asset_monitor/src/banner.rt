@@ -1,5 +1,7 @@
 ghost use Rattle.std.specs.Prelude.{◌≡◌, ◌≤◌, length};
-ghost use Rattle.asset_monitor.specs.Banners.{all_banners, banner_in, banner_of, is_unseen, name_of, banner_number};
+ghost use Rattle.asset_monitor.specs.Banners.{banner_in, is_unseen, banner_number};
+ghost use Rattle.asset_monitor.specs.Outputs.{name_of};
+ghost use Rattle.asset_monitor.specs.BannerNumbers.{all_banners, banner_of};
 ghost use Rattle.asset_monitor.specs.WordRoom.{banner_room};
 
 /// What a service's packets were seen to begin with.

@@ -24,7 +24,7 @@ impl Function for Monitor {
 
     const KIND: Kind = Kind::Monitor;
 
-    #[tactic(auto, unfolding(crate::specs::Table::stepped))]
+    #[tactic(auto, unfolding(crate::specs::Table::step_of))]
     fn step_along(
         alloc: Global,
         _site: &Site,

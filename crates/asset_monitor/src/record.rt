@@ -1,5 +1,5 @@
 ghost use Rattle.std.specs.Prelude.{◌≡◌};
-ghost use Rattle.asset_monitor.specs.Table.{counted, nothing};
+ghost use Rattle.asset_monitor.specs.Outputs.{nothing, counted};
 
 use crate::services::Services;
 use std::alloc::Global;

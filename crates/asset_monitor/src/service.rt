@@ -1,7 +1,8 @@
 ghost use Rattle.std.specs.Prelude.{◌≡◌};
 ghost use Rattle.asset_monitor.specs.Banners.{banner_in};
 ghost use Rattle.asset_monitor.specs.Services.{end_cmp};
-ghost use Rattle.asset_monitor.specs.Table.{payload, source};
+ghost use Rattle.asset_monitor.specs.Outputs.{source};
+ghost use Rattle.asset_monitor.specs.Rows.{payload};
 
 use crate::banner::Banner;
 use flow_filter::Packet;

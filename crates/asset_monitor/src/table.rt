@@ -2,9 +2,10 @@
 ghost use Rattle.std.specs.Prelude.{◌≡◌, ◌<◌, ◌^◌, true, Some, if◌then◌else◌, unwrap_or, IfOk, OnOk, OnErr};
 ghost use Rattle.nf_function.specs.Units.{is_transport};
 ghost use Rattle.asset_monitor.specs.Places.{IsAt, IsGap};
-ghost use Rattle.asset_monitor.specs.Services.{is_service, listed};
-ghost use Rattle.asset_monitor.specs.Table.{accepts, announces, counted, nothing, source as source_of, watched};
-ghost use Rattle.asset_monitor.specs.Rows.{greeting_row, new_row, sent_row};
+ghost use Rattle.asset_monitor.specs.Services.{is_service, service_like};
+ghost use Rattle.asset_monitor.specs.Table.{announces, watched};
+ghost use Rattle.asset_monitor.specs.Outputs.{nothing, source as source_of, counted};
+ghost use Rattle.asset_monitor.specs.Rows.{accepts, greeting_row, new_row, sent_row};
 
 use crate::record::AssetRecord;
 use crate::service::Service;
@@ -37,7 +38,8 @@ pub fn step_of_host(
     kept: &mut Option<AssetRecord>,
     packet: &Packet,
 ) -> Result<Output, NoMemory>
-    ensures kept { OnOk result (kept.new ≡ (if is_transport packet.now.proto then Some (watched direction (counted (unwrap_or kept.old nothing)) packet.now).kept else kept.old)) }
+    ensures kept { OnOk result
+        (kept.new ≡ (if is_transport packet.now.proto then Some (watched direction (counted (unwrap_or kept.old nothing)) packet.now).kept else kept.old)) }
     ensures output { IfOk result (λ output. output ≡ (watched direction (counted (unwrap_or kept.old nothing)) packet.now).output) }
     ensures err { OnErr result (kept.new ≡ kept.old) }
     ensures port { packet.now.sport < 2 ^ 16 }
@@ -82,8 +84,8 @@ fn watch(
 fn watch_sent(kept: &mut AssetRecord, service: Service, packet: &Packet) -> Result<Output, NoMemory>
     requires transport { is_transport packet.now.proto ≡ true }
     requires source { service ≡ source_of packet.now }
-    ensures kept { OnOk result (kept.new ≡ (sent_row kept.old packet.now (listed kept.old.services service)).kept) }
-    ensures output { IfOk result (λ output. output ≡ (sent_row kept.old packet.now (listed kept.old.services service)).output) }
+    ensures kept { OnOk result (kept.new ≡ (sent_row kept.old packet.now (service_like kept.old.services service)).kept) }
+    ensures output { IfOk result (λ output. output ≡ (sent_row kept.old packet.now (service_like kept.old.services service)).output) }
     ensures err { OnErr result (kept.new ≡ kept.old) }
 {
     match kept.services.place_of(&service) {

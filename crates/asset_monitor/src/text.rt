@@ -1,11 +1,10 @@
 //! The texts of outputs and records.
 ghost use Rattle.std.specs.Prelude.{◌≡◌, ◌≤◌, ◌++◌, [], length, IfOk, OnOk, OnErr};
-ghost use Rattle.std.specs.List.{flat_map};
-ghost use Rattle.std.specs.Option.{option_map_or};
+ghost use Rattle.std.specs.List.{flat_map, slice_index_or};
 ghost use Rattle.flow_filter.specs.FilterText.{protocol_text};
-ghost use Rattle.asset_monitor.specs.Banners.{banner_of, name_of};
-ghost use Rattle.asset_monitor.specs.WordRoom.{banner_room, protocol_room};
-ghost use Rattle.asset_monitor.specs.Text.{found_text, greeted_text, next_text, output_text, record_text, service_text, services_text};
+ghost use Rattle.asset_monitor.specs.Banners.{banner_names};
+ghost use Rattle.asset_monitor.specs.WordRoom.{banner_room, protocol_room, next_text};
+ghost use Rattle.asset_monitor.specs.Text.{found_text, greeted_text, output_text, record_text, service_text, services_text};
 
 use crate::banner::Banner;
 use crate::record::AssetRecord;
@@ -65,7 +64,7 @@ fn greeted_text(output: &Output) -> OutputText
 
 /// The name of the banner with this number, if there is one.
 fn name_of(number: u8) -> &'static str
-    ensures name { result.now ≡ option_map_or name_of (banner_of number) [] }
+    ensures name { result.now ≡ slice_index_or banner_names number [] }
     ensures short { length result.now ≤ banner_room }
 {
     match Banner::numbered(number) {

@@ -1,5 +1,6 @@
 -- Numbers in text: what `decimal` writes is read again, and nothing else is read.
-use Rattle.std.proofs.Common.{◌≡◌, ℕ, ◌^◌, ◌<◌, ◌≤◌, Bool, true, false, cond, eqb, leb, ◌&&◌, List, [], ◌∷◌, length, get_or, drop, None, Some, refl, ap, sym, ◌∙◌, arith, rules, lit<, zero, suc}
+use Rattle.std.proofs.Common.{◌≡◌, ℕ, ◌^◌, ◌<◌, ◌≤◌, Bool, true, false, cond, eqb, leb, ◌&&◌, List, [], ◌∷◌}
+use Rattle.std.proofs.Common.{length, get_or, drop, None, Some, refl, ap, sym, ◌∙◌, arith, rules, lit<, zero, suc}
 use Rattle.std.specs.Str.{bytes_eq, IsUtf8, IsAscii}
 use Rattle.std.specs.Int.{IsInRange}
 use Rattle.std.specs.Str.Parse.{digits_value, without_leading_plus, IsNumeral, AllDigits}
@@ -10,7 +11,8 @@ use Rattle.std.proofs.lemmas.Bool.{leb-true, eqb-true}
 use Rattle.std.proofs.lemmas.Slice.Eq.{bytes_eq-Decides}
 use Rattle.std.proofs.lemmas.Str.{IsUtf8-from_ascii}
 use Rattle.std.proofs.lemmas.Str.Parse.{IsNumeralModel, numerals_by_value, tells_by_index, without_leading_plus_none}
-use Rattle.std.proofs.lemmas.Fmt.{digits_value-decimal, decimal-digits_value, digits_decimal, decimal_nonempty, first_decimal, IsAscii-from_digits, decimal_is_IsNumeral, decimal_digit}
+use Rattle.std.proofs.lemmas.Fmt.{digits_value-decimal, decimal-digits_value, digits_decimal, decimal_nonempty}
+use Rattle.std.proofs.lemmas.Fmt.{first_decimal, IsAscii-from_digits, decimal_is_IsNumeral, decimal_digit}
 use Rattle.basics.specs.Parsing.{parse_number}
 
 -- texts of digits, and their value
@@ -26,7 +28,8 @@ no_number true false n never = refl
 no_number false below n never = refl
 
 -- a text that is no decimal below 2 ^ 64 is no number
-pub parse_number-None : (most : ℕ) (text : List ℕ) → most < 2 ^ 64 → (digits_value 10 text < 2 ^ 64 → text ≡ decimal (digits_value 10 text) → ⊥) → parse_number most text ≡ None
+pub parse_number-None : (most : ℕ) (text : List ℕ) → most < 2 ^ 64 → (digits_value 10 text < 2 ^ 64 → text ≡ decimal (digits_value 10 text) → ⊥)
+    → parse_number most text ≡ None
 unfolding parse_number
 parse_number-None most text small never =
     no_number (bytes_eq text (decimal (digits_value 10 text))) (leb (digits_value 10 text) most) (digits_value 10 text) (λ same below.
@@ -42,7 +45,8 @@ pub parse_number-decimal : (most n : ℕ) (text : List ℕ) → n < 2 ^ 64 → t
 unfolding parse_number
 parse_number-decimal most n text small is =
     let value : digits_value 10 text ≡ n = rw is (digits_value-decimal own n small) in
-    let same : bytes_eq text (decimal (digits_value 10 text)) ≡ true = (bytes_eq-Decides text (decimal (digits_value 10 text))).1 (is ∙ ap decimal (sym value)) in
+    let same : bytes_eq text (decimal (digits_value 10 text)) ≡ true = (bytes_eq-Decides text (decimal (digits_value 10 text))).1
+    (is ∙ ap decimal (sym value)) in
     rw (same, value) (chosen (leb n most) n)
 
 single : (n : ℕ) → n < 2 ^ 64 → get_or (decimal n) 0 0 ≡ 48 → length (decimal n) ≡ 1
@@ -57,7 +61,8 @@ decimal_plain n text small is =
 
 -- a plain text that is read as digits is the decimal of its value
 pub plain_decimal : (text : List ℕ) (n : ℕ) → 0 < length text → IsInRange 48 57 (get_or text 0 0) → (get_or text 0 0 ≡ 48 → length text ≡ 1)
-    → SomeIff (Some n) (IsNumeral 10 (without_leading_plus text) × (digits_value 10 (without_leading_plus text) < 2 ^ 64)) (digits_value 10 (without_leading_plus text))
+    → SomeIff (Some n) (IsNumeral 10 (without_leading_plus text) × (digits_value 10 (without_leading_plus text) < 2 ^ 64))
+    (digits_value 10 (without_leading_plus text))
     → (n < 2 ^ 64) × (text ≡ decimal n)
 plain_decimal text n some first zeros read =
     let bare : without_leading_plus text ≡ text = without_leading_plus_none text (omega arith) in

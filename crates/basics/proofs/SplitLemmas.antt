@@ -1,5 +1,6 @@
 -- Where a text is split at a separator.
-use Rattle.std.proofs.Common.{◌≡◌, ℕ, ◌+◌, ◌-◌, suc, Bool, true, false, not, ◌&&◌, cond, eqb, ltb, List, [], ◌∷◌, ◌++◌, length, take, drop, Option, None, Some, option_map, refl, ap, sym, ◌∙◌, arith, length-drop}
+use Rattle.std.proofs.Common.{◌≡◌, ℕ, ◌+◌, ◌-◌, suc, Bool, true, false, not, ◌&&◌, cond, eqb, ltb, List, [], ◌∷◌, ◌++◌}
+use Rattle.std.proofs.Common.{length, take, drop, Option, None, Some, option_map, refl, ap, sym, ◌∙◌, arith, length-drop}
 use Rattle.std.specs.Prelude.{◌==◌}
 use Rattle.std.specs.List.{position, position_or_len, prefix_len, slice_split, onto_first}
 use Rattle.std.proofs.Math.Dec.{leb-suc-suc}
@@ -27,7 +28,8 @@ ltb-next a b = let next : 1 + a ≡ suc a = omega arith in rw next (leb-suc-suc 
 
 -- by the first byte
 split_once-step : (separator byte : ℕ) (more : List ℕ) (same : Bool) → eqb byte separator ≡ same
-    → split_once separator more ≡ split_at_place more (prefix_len (λ b. not (eqb b separator)) more) (ltb (prefix_len (λ b. not (eqb b separator)) more) (length more))
+    → split_once separator more
+    ≡ split_at_place more (prefix_len (λ b. not (eqb b separator)) more) (ltb (prefix_len (λ b. not (eqb b separator)) more) (length more))
     → cond same (Some ([], more)) (option_map (λ (p : List ℕ × List ℕ). (byte ∷ p.0, p.1)) (split_once separator more))
     ≡ split_at_place (byte ∷ more) (cond (not same) (1 + prefix_len (λ b. not (eqb b separator)) more) 0)
     (ltb (cond (not same) (1 + prefix_len (λ b. not (eqb b separator)) more) 0) (suc (length more)))
@@ -37,14 +39,17 @@ split_once-step separator byte more true is before =
 split_once-step separator byte more false is before =
     ap (option_map (λ (p : List ℕ × List ℕ). (byte ∷ p.0, p.1))) before
     ∙ shifted byte more (prefix_len (λ b. not (eqb b separator)) more) (ltb (prefix_len (λ b. not (eqb b separator)) more) (length more))
-    ∙ ap (split_at_place (byte ∷ more) (1 + prefix_len (λ b. not (eqb b separator)) more)) (sym (ltb-next (prefix_len (λ b. not (eqb b separator)) more) (length more)))
+    ∙ ap (split_at_place (byte ∷ more) (1 + prefix_len (λ b. not (eqb b separator)) more))
+    (sym (ltb-next (prefix_len (λ b. not (eqb b separator)) more) (length more)))
 
-pub split_once-place : (separator : ℕ) (text : List ℕ) → split_once separator text ≡ split_at_place text (position_or_len (λ b. eqb b separator) text) (ltb (position_or_len (λ b. eqb b separator) text) (length text))
+pub split_once-place : (separator : ℕ) (text : List ℕ) → split_once separator text
+    ≡ split_at_place text (position_or_len (λ b. eqb b separator) text) (ltb (position_or_len (λ b. eqb b separator) text) (length text))
 split_once-place separator [] = refl
 split_once-place separator (byte ∷ more) = split_once-step separator byte more (eqb byte separator) refl (split_once-place separator more)
 
 -- the place that `position` gives
-place-Some : (text : List ℕ) (n i : ℕ) (within : Bool) → cond within (Some n) None ≡ Some i → split_at_place text n within ≡ Some (take i text, drop (i + 1) text)
+place-Some : (text : List ℕ) (n i : ℕ) (within : Bool) → cond within (Some n) None ≡ Some i
+    → split_at_place text n within ≡ Some (take i text, drop (i + 1) text)
 place-Some text n i true at = let same : n ≡ i = cc in rw same refl
 place-Some text n i false at = absurd cc
 
@@ -84,23 +89,27 @@ Lacks-append separator (byte ∷ a) b in_a in_b = (in_a.0, Lacks-append separato
 -- a text is split after a part that lacks the separator
 pub split_once-append : (separator : ℕ) (front rest : List ℕ) → Lacks separator front → split_once separator (front ++ separator ∷ rest) ≡ Some (front, rest)
 split_once-append separator [] rest lacks = rw (eq-eqb separator separator refl) refl
-split_once-append separator (byte ∷ front) rest lacks = let isnt = lacks.0 in rw isnt (ap (option_map (λ (p : List ℕ × List ℕ). (byte ∷ p.0, p.1))) (split_once-append separator front rest lacks.1))
+split_once-append separator (byte ∷ front) rest lacks =
+    let isnt = lacks.0 in rw isnt (ap (option_map (λ (p : List ℕ × List ℕ). (byte ∷ p.0, p.1))) (split_once-append separator front rest lacks.1))
 
 pub split_once-lacks : (separator : ℕ) (text : List ℕ) → Lacks separator text → split_once separator text ≡ None
 split_once-lacks separator [] lacks = refl
-split_once-lacks separator (byte ∷ text) lacks = let isnt = lacks.0 in rw isnt (ap (option_map (λ (p : List ℕ × List ℕ). (byte ∷ p.0, p.1))) (split_once-lacks separator text lacks.1))
+split_once-lacks separator (byte ∷ text) lacks =
+    let isnt = lacks.0 in rw isnt (ap (option_map (λ (p : List ℕ × List ℕ). (byte ∷ p.0, p.1))) (split_once-lacks separator text lacks.1))
 
 -- the pieces between the marks, by the first split
 abbrev pub pieces_of : List ℕ → Option (List ℕ × List ℕ) → ℕ → List (List ℕ)
 pieces_of text None separator = text ∷ []
 pieces_of text (Some p) separator = p.0 ∷ slice_split (λ b. eqb b separator) p.1
 
-split_step : (separator byte : ℕ) (more : List ℕ) (r : Option (List ℕ × List ℕ)) → split_once separator more ≡ r → slice_split (λ b. eqb b separator) more ≡ pieces_of more r separator
+split_step : (separator byte : ℕ) (more : List ℕ) (r : Option (List ℕ × List ℕ)) → split_once separator more ≡ r
+    → slice_split (λ b. eqb b separator) more ≡ pieces_of more r separator
     → onto_first byte (slice_split (λ b. eqb b separator) more) ≡ pieces_of (byte ∷ more) (option_map (λ (p : List ℕ × List ℕ). (byte ∷ p.0, p.1)) r) separator
 split_step separator byte more None is before = rw before refl
 split_step separator byte more (Some p) is before = rw before refl
 
-split_by : (separator byte : ℕ) (more : List ℕ) (same : Bool) → eqb byte separator ≡ same → slice_split (λ b. eqb b separator) more ≡ pieces_of more (split_once separator more) separator
+split_by : (separator byte : ℕ) (more : List ℕ) (same : Bool) → eqb byte separator ≡ same
+    → slice_split (λ b. eqb b separator) more ≡ pieces_of more (split_once separator more) separator
     → slice_split (λ b. eqb b separator) (byte ∷ more) ≡ pieces_of (byte ∷ more) (split_once separator (byte ∷ more)) separator
 split_by separator byte more true is before = rw is refl
 split_by separator byte more false is before = rw is (split_step separator byte more (split_once separator more) refl before)

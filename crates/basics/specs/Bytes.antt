@@ -16,9 +16,6 @@ number_sign = 35
 abbrev pub comma : ℕ
 comma = 44
 
-abbrev pub dot : ℕ
-dot = 46
-
 abbrev pub slash : ℕ
 slash = 47
 
@@ -33,9 +30,3 @@ colon = 58
 
 abbrev pub equals_sign : ℕ
 equals_sign = 61
-
-abbrev pub letter_a : ℕ
-letter_a = 97
-
-abbrev pub letter_z : ℕ
-letter_z = 122

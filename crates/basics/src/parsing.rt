@@ -22,7 +22,8 @@ pub fn parse_number(text: &[u8], most: u64) -> Option<u64>
 
 /// Whether a text begins as a number does: with a digit, and not with a zero before others.
 fn is_plain(text: &[u8]) -> bool
-    ensures { IsTrue result ↔ ((0 < length text.now) × (IsInRange digit_zero digit_nine (slice_index text.now 0)) × (slice_index text.now 0 ≡ digit_zero → length text.now ≡ 1)) }
+    ensures { IsTrue result
+        ↔ ((0 < length text.now) × (IsInRange digit_zero digit_nine (slice_index text.now 0)) × (slice_index text.now 0 ≡ digit_zero → length text.now ≡ 1)) }
 {
     match text {
         [b'0', _, ..] => false,

@@ -1,5 +1,6 @@
 ghost use Rattle.std.specs.Prelude.{◌≡◌, ◌++◌, ◌<◌, OnOk, OnErr, decimal};
-ghost use Rattle.basics.specs.Address.{address_text, byte_of};
+ghost use Rattle.basics.specs.Address.{address_text};
+ghost use Rattle.basics.specs.AddressSteps.{byte_of};
 
 use crate::sequence::{NoMemory, Text};
 use arrayvec::ArrayString;

@@ -1,2 +1,11 @@
 pub mod ArgumentTables
 pub mod ClapRefusals
+pub mod WordShapes
+pub mod ClapLookups
+pub mod PairLemmas
+pub mod ClapRows
+pub mod ClapEnd
+pub mod ClapTurns
+pub mod SameTexts
+pub mod SameWords
+pub mod GivenTexts

@@ -2,10 +2,10 @@
 use Rattle.std.specs.Prelude.{ℕ, ◌==◌, not, ◌&&◌, List, Option, Some, is_some, codes}
 use Rattle.std.specs.List.{position}
 use Rattle.std.specs.Str.{bytes_eq}
-use Rattle.clap.specs.Words.{Row, Text}
 use Rattle.basics.specs.Options.{◌>>=◌}
 use Rattle.command_words.specs.declared.request.InstanceWords.{InstanceWords}
-use Rattle.command_words.specs.Grammar.{value_of}
+use Rattle.command_words.specs.Arguments.{Text}
+use Rattle.command_words.specs.Grammar.{Texts, value_of}
 use Rattle.command_words.specs.NetworkWords.{NetworkAsked, network_values}
 use Rattle.command_words.specs.Values.{given_number, only}
 
@@ -21,7 +21,7 @@ abbrev pub place_of : List InstanceWords → Text → Option ℕ
 place_of instances name = position (λ (i : InstanceWords). bytes_eq i.name name) instances
 
 -- the values of `fail`: a journal, and two different instances of the list
-unfoldable pub fail_values : List Row → Option FailAsked
+unfoldable pub fail_values : Texts → Option FailAsked
 fail_values given = do
   network ← network_values given
   failed ← value_of (codes "failed") given >>= place_of network.instances

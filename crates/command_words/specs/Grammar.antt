@@ -1,106 +1,89 @@
--- Which option or place each word of a command belongs to. The grammar of words is that of `clap`'s simple commands, at
--- the lists of arguments written here; the lists are this project's own.
-use Rattle.std.specs.Prelude.{Bool, true, false, List, [], ◌∷◌, Option, Some, None, option_map, codes, slice_get}
-use Rattle.std.specs.List.{filter_map}
-use Rattle.std.specs.Str.{bytes_eq}
-use Rattle.clap.specs.Words.{App, Rule, Row, Text, new_app, new_rule, fault_of, matches_of, first_of}
-use Rattle.clap.specs.Simple.{on_top}
-use Rattle.clap.specs.declared.builder.action.ArgAction.TheVariants.{SetTrue}
-use Rattle.clap.specs.declared.error.ErrorKind.{ErrorKind}
-use Rattle.command_words.specs.declared.forms.ArgumentKind.{ArgumentKind}
-use Rattle.command_words.specs.declared.forms.ArgumentKind.TheVariants.{Positional, OptionalPositional, Required, Optional, Flag}
+-- Which words a command takes, and what they give: texts for its places in their order, options as `--NAME VALUE` or `--NAME=VALUE`, and flags as
+-- `--NAME`, among each other as the user likes. After `--` there are texts alone. This project's own.
+use Rattle.std.specs.Prelude.{ℕ, Bool, true, not, ◌&&◌, ◌||◌, ◌==◌, nat_le, if◌then◌else◌, List, []}
+use Rattle.std.specs.Prelude.{◌∷◌, map, drop, length, slice_get, Option, Some, None, option_map, codes}
+use Rattle.std.specs.List.{find, list_any, list_all, before_first, after_first, zip}
+use Rattle.std.specs.Option.{is_none, option_map_or}
+use Rattle.std.specs.Str.{bytes_eq, chars}
+use Rattle.basics.specs.Bytes.{equals_sign}
+use Rattle.basics.specs.Options.{◌>>=◌}
+use Rattle.flow_filter.specs.Name.{has_twice}
+use Rattle.command_words.specs.declared.forms.ArgumentKind.TheVariants.{Flag}
 use Rattle.command_words.specs.declared.forms.Form.{Form}
-use Rattle.command_words.specs.declared.forms.Form.TheVariants.{Run, Sim, Fail, Check, Gen, Published, Strong}
+use Rattle.command_words.specs.Arguments.{Text, Argument, is_place, is_required, place_names, arguments_of}
+use Rattle.command_words.specs.Values.{only}
 
--- an argument by its name: a place, an option or a flag, and whether it must be there
-abbrev pub rule_by : ArgumentKind → Text → Rule
-rule_by Positional name = record (new_rule name) { required = true }
-rule_by OptionalPositional name = new_rule name
-rule_by Required name = record (new_rule name) { long = Some name; required = true }
-rule_by Optional name = record (new_rule name) { long = Some name }
-rule_by Flag name = record (new_rule name) { long = Some name; action = Some SetTrue }
+-- names of arguments, each with the text that is given for it
+abbrev pub Pairs : Type 0
+Pairs = List (Text × Text)
 
--- a command without help, that reads the words after its name
-abbrev pub bare_app : App
-bare_app = on_top (λ s. record s { no_binary_name = true; disable_help_flag = true }) (new_app (codes "opennf"))
+abbrev pub hyphen : ℕ
+hyphen = 45
 
--- a command with these arguments
-unfoldable pub app_with : List Rule → App
-app_with rules = record { top = record bare_app.top { rules = rules }; subs = [] }
+-- what stands after a hyphen at the front
+abbrev pub after_hyphen : Text → Option Text
+after_hyphen [] = None
+after_hyphen (byte ∷ more) = if byte == hyphen then Some more else None
 
--- FUNCTION --instances LIST --inside PREFIX [--outside ADDR] [--window W] [--journal FILE] [--summary] TRACE [SCRIPT]
-abbrev pub run_rules : List Rule
-run_rules = rule_by Positional (codes "function") ∷ rule_by Required (codes "instances") ∷ rule_by Required (codes "inside")
-    ∷ rule_by Optional (codes "outside") ∷ rule_by Optional (codes "window") ∷ rule_by Optional (codes "journal")
-    ∷ rule_by Flag (codes "summary") ∷ rule_by Positional (codes "trace") ∷ rule_by OptionalPositional (codes "script") ∷ []
+-- the word is a text: it doesn't begin with a hyphen, or is one alone
+abbrev pub is_text : Text → Bool
+is_text word = option_map_or (λ more. is_none (slice_get (chars more) 0)) (after_hyphen word) true
 
--- FUNCTION --instances LIST --inside PREFIX [--outside ADDR] [--window W] [--schedule S] [--journal FILE] [--summary] TRACE [SCRIPT]
-abbrev pub sim_rules : List Rule
-sim_rules = rule_by Positional (codes "function") ∷ rule_by Required (codes "instances") ∷ rule_by Required (codes "inside")
-    ∷ rule_by Optional (codes "outside") ∷ rule_by Optional (codes "window") ∷ rule_by Optional (codes "schedule") ∷ rule_by Optional (codes "journal")
-    ∷ rule_by Flag (codes "summary") ∷ rule_by Positional (codes "trace") ∷ rule_by OptionalPositional (codes "script") ∷ []
+abbrev pub is_equals : ℕ → Bool
+is_equals byte = byte == equals_sign
 
--- FUNCTION --instances LIST --inside PREFIX [--outside ADDR] [--window W] --journal FILE --failed NAME --to NAME --after J TRACE [SCRIPT]
-abbrev pub fail_rules : List Rule
-fail_rules = rule_by Positional (codes "function") ∷ rule_by Required (codes "instances") ∷ rule_by Required (codes "inside")
-    ∷ rule_by Optional (codes "outside") ∷ rule_by Optional (codes "window") ∷ rule_by Required (codes "journal")
-    ∷ rule_by Required (codes "failed") ∷ rule_by Required (codes "to") ∷ rule_by Required (codes "after")
-    ∷ rule_by Positional (codes "trace") ∷ rule_by OptionalPositional (codes "script") ∷ []
+-- the option or the flag that is written so after `--`, as NAME or NAME=VALUE, and its VALUE
+abbrev pub option_of : List Argument → Text → Option Argument
+option_of arguments written = find (λ (a : Argument). not (is_place a) && bytes_eq a.1 (before_first is_equals written)) arguments
 
--- FUNCTION --instances LIST SCRIPT
-abbrev pub check_rules : List Rule
-check_rules = rule_by Positional (codes "function") ∷ rule_by Required (codes "instances") ∷ rule_by Positional (codes "script") ∷ []
+abbrev pub value_in : Text → Option Text
+value_in written = if list_any is_equals written then Some (after_first is_equals written) else None
 
--- NUMBER --packets N --hosts H TRACE
-abbrev pub gen_rules : List Rule
-gen_rules = rule_by Positional (codes "number") ∷ rule_by Required (codes "packets") ∷ rule_by Required (codes "hosts") ∷ rule_by Positional (codes "trace") ∷ []
+-- a text for a name, and then more
+abbrev pub also : Text → Text → Option Pairs → Option Pairs
+also name text more = option_map (λ pairs. (name, text) ∷ pairs) more
 
--- FUNCTION --inside PREFIX [--outside ADDR] [--window W] [--schedule S] TRACE K FILTER
-abbrev pub published_rules : List Rule
-published_rules = rule_by Positional (codes "function") ∷ rule_by Required (codes "inside") ∷ rule_by Optional (codes "outside")
-    ∷ rule_by Optional (codes "window") ∷ rule_by Optional (codes "schedule") ∷ rule_by Positional (codes "trace")
-    ∷ rule_by Positional (codes "at") ∷ rule_by Positional (codes "filter") ∷ []
+-- a flag has no value; an option has one, in its word or else in the next
+abbrev pub with_option : Argument → Option Text → (Option Text → Option Pairs) → Option Pairs
+with_option (Flag, name) None next = also name (codes "true") (next None)
+with_option (Flag, name) (Some value) next = None
+with_option (kind, name) (Some value) next = also name value (next None)
+with_option (kind, name) None next = next (Some name)
 
--- FUNCTION --instances LIST --inside PREFIX [--outside ADDR] [--window W] [--schedule S] TRACE [FILTER]
-abbrev pub strong_rules : List Rule
-strong_rules = rule_by Positional (codes "function") ∷ rule_by Required (codes "instances") ∷ rule_by Required (codes "inside")
-    ∷ rule_by Optional (codes "outside") ∷ rule_by Optional (codes "window") ∷ rule_by Optional (codes "schedule")
-    ∷ rule_by Positional (codes "trace") ∷ rule_by OptionalPositional (codes "filter") ∷ []
+-- what words give where places with these names are free, and an option with this name waits for its value
+unfoldable pub read_words : List Argument → List Text → Option Text → List Text → Option Pairs
+read_words arguments free None [] = Some []
+read_words arguments free (Some option) [] = None
+read_words arguments free (Some option) (word ∷ more) = only (is_text word) (also option word (read_words arguments free None more))
+read_words arguments free None (word ∷ more) =
+    if bytes_eq word (codes "--") then only (nat_le (length more) (length free)) (Some (zip free more))
+    else if is_text word then (slice_get free 0 >>= λ name. also name word (read_words arguments (drop 1 free) None more))
+    else (after_hyphen word >>= after_hyphen >>= λ written. option_of arguments written >>= λ a.
+    with_option a (value_in written) (λ option. read_words arguments free option more))
 
--- the arguments of each form
-abbrev pub rules_of : Form → List Rule
-rules_of Run = run_rules
-rules_of Sim = sim_rules
-rules_of Fail = fail_rules
-rules_of Check = check_rules
-rules_of Gen = gen_rules
-rules_of Published = published_rules
-rules_of Strong = strong_rules
+-- a name is given
+abbrev pub is_given : Text → Pairs → Bool
+is_given name pairs = list_any (λ (p : Text × Text). bytes_eq p.0 name) pairs
 
-abbrev pub form_app : Form → App
-form_app form = app_with (rules_of form)
+-- no name is given twice, and each that is required is given
+abbrev pub is_whole : List Argument → Pairs → Bool
+is_whole arguments pairs =
+    not (has_twice (map (λ (p : Text × Text). p.0) pairs)) && list_all (λ (a : Argument). not (is_required a) || is_given a.1 pairs) arguments
 
--- the values of words that have no fault
-abbrev pub taken : List ErrorKind → List Row → Option (List Row)
-taken [] rows = Some rows
-taken (kind ∷ kinds) rows = None
+-- what the words of a form give, in their order
+unfoldable pub pairs_of : Form → List Text → Option Pairs
+pairs_of form words = let arguments = arguments_of form in
+    read_words arguments (place_names arguments) None words >>= λ pairs. only (is_whole arguments pairs) (Some pairs)
 
-unfoldable pub rows_taken : App → List Text → Option (List Row)
-rows_taken app words = taken (fault_of app words) (matches_of app words)
+-- the text that is given for each name
+abbrev pub Texts : Type 0
+Texts = Text → Option Text
 
--- what the words of a command give, as rows with a name and texts, or None where the words aren't in its grammar
-unfoldable pub given_arguments : Form → List Text → Option (List Row)
-given_arguments form words = rows_taken (form_app form) words
+abbrev pub texts_of : Pairs → Texts
+texts_of pairs name = option_map (λ (p : Text × Text). p.1) (find (λ (p : Text × Text). bytes_eq p.0 name) pairs)
 
--- the text that is given for a name
-unfoldable pub value_of : Text → List Row → Option Text
-value_of name given = first_of name given
+unfoldable pub given_arguments : Form → List Text → Option Texts
+given_arguments form words = option_map texts_of (pairs_of form words)
 
--- a flag was given: clap's own value of a flag is `true` or `false`
-abbrev pub is_on : Option Text → Bool
-is_on None = false
-is_on (Some text) = bytes_eq text (codes "true")
-
--- all names that have a text, each with its text, in the order of the rows
-abbrev pub named_texts : List Row → List (Text × Text)
-named_texts given = filter_map (λ (row : Row). option_map (λ text. (row.id, text)) (slice_get row.values 0)) given
+unfoldable pub value_of : Text → Texts → Option Text
+value_of name given = given name

@@ -1,5 +1,6 @@
-pub mod Grammar
+pub mod Arguments
 pub mod Values
+pub mod Grammar
 pub mod NetworkWords
 pub mod FailWords
 pub mod UpdateWords
@@ -7,3 +8,4 @@ pub mod StrongWords
 pub mod Requests
 pub mod Views
 pub mod RequestViews
+pub mod ClapArguments

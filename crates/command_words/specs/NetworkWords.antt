@@ -1,11 +1,11 @@
 -- What the words of a run of the network give, which several commands share. This project's own.
-use Rattle.std.specs.Prelude.{ℕ, Bool, List, Option, Some, codes}
-use Rattle.clap.specs.Words.{Row, Text}
+use Rattle.std.specs.Prelude.{ℕ, Bool, List, Option, Some, is_some, codes}
 use Rattle.basics.specs.Options.{◌>>=◌}
 use Rattle.nf_function.specs.declared.kind.Kind.{Kind}
 use Rattle.nf_function.specs.Names.{function_named}
 use Rattle.command_words.specs.declared.request.InstanceWords.{InstanceWords}
-use Rattle.command_words.specs.Grammar.{value_of, is_on}
+use Rattle.command_words.specs.Arguments.{Text}
+use Rattle.command_words.specs.Grammar.{Texts, value_of}
 use Rattle.command_words.specs.Values.{instances_of, inside_of, outside_of, window_of, file_of, file_if}
 
 -- what `sim`, `run` and `audit` ask for, and `fail` of the run
@@ -24,7 +24,7 @@ pub record NetworkAsked : Type 0 where
   pub script : Option Text
 
 -- the values of the words that `run`, `sim`, `audit` and `fail` share
-unfoldable pub network_values : List Row → Option NetworkAsked
+unfoldable pub network_values : Texts → Option NetworkAsked
 network_values given = do
   kind ← value_of (codes "function") given >>= function_named
   instances ← value_of (codes "instances") given >>= instances_of
@@ -41,7 +41,7 @@ network_values given = do
     outside = outside;
     window = window;
     journal = journal;
-    summary = is_on (value_of (codes "summary") given);
+    summary = is_some (value_of (codes "summary") given);
     trace = trace;
     script = script;
   })

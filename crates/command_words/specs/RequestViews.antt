@@ -10,7 +10,8 @@ use Rattle.command_words.specs.declared.request.Request.{Request}
 use Rattle.command_words.specs.declared.request.Request.TheVariants.{Run, Calm}
 use Rattle.command_words.specs.declared.request.CalmRequest.{CalmRequest}
 use Rattle.command_words.specs.declared.request.CalmRequest.TheVariants.{Sim, Audit, Fail, Check, Gen, Published, Strong}
-use Rattle.command_words.specs.Requests.{NetworkAsked, FailAsked, CheckAsked, GenAsked, Asked, asks_sim, asks_run, asks_audit, asks_fail, asks_check, asks_gen, PublishedAsked, asks_published, StrongAsked, asks_strong}
+use Rattle.command_words.specs.Requests.{NetworkAsked, FailAsked, CheckAsked, GenAsked, Asked, asks_sim, asks_run, asks_audit}
+use Rattle.command_words.specs.Requests.{asks_fail, asks_check, asks_gen, PublishedAsked, asks_published, StrongAsked, asks_strong}
 use Rattle.command_words.specs.declared.request.Publishing.{Publishing}
 use Rattle.command_words.specs.declared.request.StrongRequest.{StrongRequest}
 

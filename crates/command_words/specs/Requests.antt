@@ -2,7 +2,6 @@
 -- own grammar.
 use Rattle.std.specs.Prelude.{ℕ, Bool, false, if◌then◌else◌, List, ◌∷◌, Option, None, Some, is_some, codes}
 use Rattle.std.specs.Str.{bytes_eq}
-use Rattle.clap.specs.Words.{Row, Text}
 use Rattle.basics.specs.Options.{◌>>=◌}
 use Rattle.flow_filter.specs.Limits.{most_packets, most_hosts}
 use Rattle.nf_function.specs.declared.kind.Kind.{Kind}
@@ -10,7 +9,8 @@ use Rattle.nf_function.specs.Names.{function_named}
 use Rattle.actor_net.specs.declared.schedule.Schedule.{Schedule}
 use Rattle.command_words.specs.declared.forms.Form.TheVariants as forms
 use Rattle.command_words.specs.declared.request.InstanceWords.{InstanceWords}
-use Rattle.command_words.specs.Grammar.{given_arguments, value_of}
+use Rattle.command_words.specs.Arguments.{Text}
+use Rattle.command_words.specs.Grammar.{Texts, given_arguments, value_of}
 use Rattle.command_words.specs.Values.{only, instances_of, count_of, given_number, schedule_of, file_of}
 pub use Rattle.command_words.specs.NetworkWords.{NetworkAsked, network_values}
 pub use Rattle.command_words.specs.FailWords.{FailAsked, fail_values}
@@ -42,7 +42,7 @@ pub data Asked : Type 0 where
   asks_strong : StrongAsked → Schedule → Asked
 
 -- the values of `check`
-unfoldable pub check_values : List Row → Option CheckAsked
+unfoldable pub check_values : Texts → Option CheckAsked
 check_values given = do
   kind ← value_of (codes "function") given >>= function_named
   instances ← value_of (codes "instances") given >>= instances_of
@@ -50,7 +50,7 @@ check_values given = do
   Some (record { kind = kind; instances = instances; script = script })
 
 -- the values of `gen`: 1 to 1,000,000 packets, and 1 to 256 hosts
-unfoldable pub gen_values : List Row → Option GenAsked
+unfoldable pub gen_values : Texts → Option GenAsked
 gen_values given = do
   number ← value_of (codes "number") given >>= given_number
   packets ← value_of (codes "packets") given >>= count_of most_packets
@@ -82,7 +82,8 @@ published_of words =
     given_arguments forms.Published words >>= λ g. published_values g >>= λ p. schedule_of (value_of (codes "schedule") g) >>= λ s. Some (asks_published p s)
 
 abbrev pub strong_of : List Text → Option Asked
-strong_of words = given_arguments forms.Strong words >>= λ g. strong_values g >>= λ v. schedule_of (value_of (codes "schedule") g) >>= λ s. Some (asks_strong v s)
+strong_of words =
+    given_arguments forms.Strong words >>= λ g. strong_values g >>= λ v. schedule_of (value_of (codes "schedule") g) >>= λ s. Some (asks_strong v s)
 
 -- the commands that start no threads
 unfoldable pub calm_of : Text → List Text → Option Asked

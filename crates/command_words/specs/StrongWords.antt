@@ -1,6 +1,5 @@
 -- The words of strong sharing: the members, the site, the window, and the filter of what they share. This project's own.
 use Rattle.std.specs.Prelude.{ℕ, not, nat_le, List, length, Option, None, Some, is_some, codes}
-use Rattle.clap.specs.Words.{Row, Text}
 use Rattle.basics.specs.Bytes.{colon}
 use Rattle.basics.specs.Options.{◌>>=◌}
 use Rattle.basics.specs.Parsing.{split_once}
@@ -8,7 +7,8 @@ use Rattle.flow_filter.specs.FilterText.{Fields, nothing}
 use Rattle.nf_function.specs.declared.kind.Kind.{Kind}
 use Rattle.nf_function.specs.Names.{function_named}
 use Rattle.command_words.specs.declared.strong.TheConstants.{FEWEST_MEMBERS}
-use Rattle.command_words.specs.Grammar.{value_of}
+use Rattle.command_words.specs.Arguments.{Text}
+use Rattle.command_words.specs.Grammar.{Texts, value_of}
 use Rattle.command_words.specs.UpdateWords.{filter_of}
 use Rattle.command_words.specs.Values.{only, instances_of, names_of, inside_of, outside_of, window_of, file_of}
 
@@ -36,7 +36,7 @@ filter_if kind None = Some nothing
 filter_if kind (Some text) = filter_of kind text
 
 -- the values of `strong`
-unfoldable pub strong_values : List Row → Option StrongAsked
+unfoldable pub strong_values : Texts → Option StrongAsked
 strong_values given = do
   kind ← value_of (codes "function") given >>= function_named
   names ← value_of (codes "instances") given >>= members_of

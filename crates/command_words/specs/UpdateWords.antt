@@ -1,6 +1,5 @@
 -- The words of a two-phase update: the site, the window, after how many packets it starts, and the filter of what it moves. This project's own.
-use Rattle.std.specs.Prelude.{ℕ, not, List, Option, None, Some, Result, Ok, Err, codes}
-use Rattle.clap.specs.Words.{Row, Text}
+use Rattle.std.specs.Prelude.{ℕ, not, Option, None, Some, Result, Ok, Err, codes}
 use Rattle.basics.specs.Options.{◌>>=◌}
 use Rattle.basics.specs.Parsing.{parse_number}
 use Rattle.flow_filter.specs.FilterText.{Fields, parse}
@@ -9,7 +8,8 @@ use Rattle.nf_function.specs.declared.kind.Kind.{Kind}
 use Rattle.nf_function.specs.Names.{function_named}
 use Rattle.nf_function.specs.Units.{splits}
 use Rattle.command_words.specs.declared.published.TheConstants.{MOST_AT}
-use Rattle.command_words.specs.Grammar.{value_of}
+use Rattle.command_words.specs.Arguments.{Text}
+use Rattle.command_words.specs.Grammar.{Texts, value_of}
 use Rattle.command_words.specs.Values.{only, inside_of, outside_of, window_of, file_of}
 
 -- what `published` asks for
@@ -34,7 +34,7 @@ unfoldable pub filter_of : Kind → Text → Option Fields
 filter_of kind text = unsplit kind (parse text)
 
 -- the values of `published`
-unfoldable pub published_values : List Row → Option PublishedAsked
+unfoldable pub published_values : Texts → Option PublishedAsked
 published_values given = do
   kind ← value_of (codes "function") given >>= function_named
   inside ← value_of (codes "inside") given >>= inside_of

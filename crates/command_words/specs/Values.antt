@@ -1,8 +1,8 @@
 -- The values that single words spell. This project's own grammar; numbers are decimal without leading zeros.
-use Rattle.std.specs.Prelude.{ℕ, Bool, true, false, not, ◌&&◌, ◌==◌, nat_le, if◌then◌else◌, List, [], ◌∷◌, length, map, Option, None, Some, is_some, option_map, codes}
+use Rattle.std.specs.Prelude.{ℕ, Bool, true, false, not, ◌&&◌, ◌==◌, nat_le, if◌then◌else◌, List}
+use Rattle.std.specs.Prelude.{[], ◌∷◌, length, map, Option, None, Some, is_some, option_map, codes}
 use Rattle.std.specs.List.{slice_split}
 use Rattle.std.specs.Str.{bytes_eq}
-use Rattle.clap.specs.Words.{Text}
 use Rattle.basics.specs.Bytes.{comma, slash, colon}
 use Rattle.basics.specs.Options.{◌>>=◌}
 use Rattle.basics.specs.Parsing.{split_once, parse_number}
@@ -15,6 +15,7 @@ use Rattle.nf_function.specs.declared.kind.Kind.TheVariants.{Conntrack, Nat, Mon
 use Rattle.actor_net.specs.declared.schedule.Schedule.{Schedule}
 use Rattle.actor_net.specs.declared.schedule.Schedule.TheVariants.{First, Last, Number}
 use Rattle.command_words.specs.declared.request.InstanceWords.{InstanceWords}
+use Rattle.command_words.specs.Arguments.{Text}
 
 -- only where the test is true
 abbrev pub only : {A : Type 0} → Bool → Option A → Option A

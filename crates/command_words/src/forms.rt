@@ -1,6 +1,6 @@
 //! The forms of the commands: which places, options and flags the words of each may have. A further command has a further table here.
 ghost use Rattle.std.specs.Prelude.{◌≡◌, map};
-ghost use Rattle.command_words.specs.Grammar.{rule_by, rules_of};
+ghost use Rattle.command_words.specs.Arguments.{arguments_of};
 
 /// What an argument is, and whether it must be there.
 #[derive(Clone, Copy, Debug)]
@@ -113,7 +113,7 @@ static GEN: [(ArgumentKind, &str); 4] = [
 impl Form {
     /// Its arguments, by their names.
     pub fn arguments(self) -> &'static [(ArgumentKind, &'static str)]
-        ensures { map (λ e. rule_by e.0 e.1.now) result.now ≡ rules_of self }
+        ensures { map (λ e. (e.0, e.1.now)) result.now ≡ arguments_of self }
     {
         match self {
             Form::Run => RUN.as_slice(),

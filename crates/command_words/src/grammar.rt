@@ -1,14 +1,19 @@
 //! The words of a command by clap: one reader for every form.
-ghost use Rattle.std.specs.Prelude.{Some, None, codes, ◌≡◌, ◌++◌, ◌∷◌, [], true, false, List, map, IfOk, option_map, string_bytes};
-ghost use Rattle.clap.specs.Words.{Rule, Text, app_of, rule_of, rows_of, found_of, is_simple_and_free};
+ghost use Rattle.std.specs.Prelude.{Some, None, codes, not, ◌≡◌, ◌++◌, ◌∷◌, [], true, false, List, map, IfOk, option_map, string_bytes};
+ghost use Rattle.clap.specs.Facts.{explicit_source};
+ghost use Rattle.clap.specs.Words.{Rule, app_of, rule_of, rows_of, found_of, is_simple_and_free};
+ghost use Rattle.command_words.specs.declared.forms.Form.{Form as AnyForm};
 ghost use Rattle.command_words.specs.declared.forms.Form.TheVariants.{Run as RunForm, Sim as SimForm, Fail as FailForm, Check as CheckForm, Gen as GenForm};
-ghost use Rattle.command_words.specs.Grammar.{rule_by, app_with, form_app, rows_taken, value_of, is_on, given_arguments, named_texts};
+ghost use Rattle.command_words.specs.Arguments.{Text};
+ghost use Rattle.command_words.specs.ClapArguments.{rule_by, app_with, form_app, given_in, rows_taken};
+ghost use Rattle.command_words.specs.Grammar.{value_of, given_arguments, pairs_of};
 ghost use Rattle.command_words.specs.Views.{Reads, given_view};
 
 use crate::fault::ArgumentsFault;
 use crate::forms::{ArgumentKind, Form};
 use basics::NoMemory;
 use clap::error::ErrorKind;
+use clap::parser::ValueSource;
 use clap::{Arg, ArgAction, ArgMatches, Command};
 use std::alloc::Global;
 
@@ -19,7 +24,7 @@ pub struct Given<'a> {
 }
 
 /// What the words after a command give, by the command's form.
-#[tactic(auto, unfolding(crate::specs::Grammar::given_arguments))]
+#[tactic(auto, using(crate::proofs::GivenTexts::words_taken, crate::proofs::GivenTexts::words_refused))]
 pub fn read<'a>(alloc: Global, form: Form, words: &'a [String]) -> Result<Given<'a>, ArgumentsFault>
     ensures { Reads given_view result (given_arguments form (map string_bytes words.entry.now)) }
 {
@@ -29,63 +34,79 @@ pub fn read<'a>(alloc: Global, form: Form, words: &'a [String]) -> Result<Given<
 }
 
 impl<'a> Given<'a> {
-    ghost use Rattle.std.specs.Prelude.{◌≡◌, option_map};
-    ghost use Rattle.command_words.specs.Grammar.{value_of, is_on};
+    ghost use Rattle.std.specs.Prelude.{◌≡◌, option_map, is_some};
+    ghost use Rattle.command_words.specs.Grammar.{value_of};
     ghost use Rattle.command_words.specs.Views.{given_view};
 
     /// The text that is given for a name, if there is one.
     pub fn text(&self, name: &str) -> Option<&'a str>
         ensures { option_map (λ t. t.now) result ≡ value_of name.now (given_view self.now) }
     {
+        if is_default(self.matches.value_source(name)) {
+            return None;
+        }
         self.matches.get_str(name)
     }
 
     /// Whether the flag with this name is given.
     pub fn has_flag(&self, name: &str) -> bool
-        ensures { result ≡ is_on (value_of name.now (given_view self.now)) }
+        ensures { result ≡ is_some (value_of name.now (given_view self.now)) }
     {
-        match self.text(name) {
-            Some(text) => text == "true",
-            None => false,
-        }
+        self.text(name).is_some()
     }
 }
 
-/// Laws of the grammar, for words with any texts in them: which names the texts are given for, and what is refused. Where a command may
-/// have a flag that isn't given, its text is `false`.
+/// The law that clap's grammar is this crate's: at the commands as they stand, clap's definitions take exactly the words that the grammar
+/// takes, and give each name the same text.
+pub fn same_as_clap()
+    ensures { (form : AnyForm) (words : List Text) → option_map given_in (rows_taken (form_app form) words) ≡ given_arguments form words }
+{}
+
+/// Laws of the grammar, for words with any texts in them: which names the texts are given for, and what is refused. The text of a flag is `true`.
 pub fn written_words()
-    ensures sim { (f l p t : Text) → option_map named_texts (given_arguments SimForm ((codes "--instances=" ++ l) ∷ (codes "--inside=" ++ p) ∷ codes "--" ∷ f ∷ t ∷ []))
-        ≡ Some ((codes "instances", l) ∷ (codes "inside", p) ∷ (codes "function", f) ∷ (codes "trace", t) ∷ (codes "summary", codes "false") ∷ []) }
-    ensures options { (f l p o w s t c : Text) → option_map named_texts (given_arguments SimForm ((codes "--schedule=" ++ s) ∷ (codes "--window=" ++ w)
-        ∷ (codes "--outside=" ++ o) ∷ (codes "--inside=" ++ p) ∷ (codes "--instances=" ++ l) ∷ codes "--" ∷ f ∷ t ∷ c ∷ []))
+    ensures sim { (f l p t : Text) → pairs_of SimForm ((codes "--instances=" ++ l) ∷ (codes "--inside=" ++ p) ∷ codes "--" ∷ f ∷ t ∷ [])
+        ≡ Some ((codes "instances", l) ∷ (codes "inside", p) ∷ (codes "function", f) ∷ (codes "trace", t) ∷ []) }
+    ensures options { (f l p o w s t c : Text) → pairs_of SimForm ((codes "--schedule=" ++ s) ∷ (codes "--window=" ++ w)
+        ∷ (codes "--outside=" ++ o) ∷ (codes "--inside=" ++ p) ∷ (codes "--instances=" ++ l) ∷ codes "--" ∷ f ∷ t ∷ c ∷ [])
         ≡ Some ((codes "schedule", s) ∷ (codes "window", w) ∷ (codes "outside", o) ∷ (codes "inside", p) ∷ (codes "instances", l)
-        ∷ (codes "function", f) ∷ (codes "trace", t) ∷ (codes "script", c) ∷ (codes "summary", codes "false") ∷ []) }
-    ensures run { (f l p j t c : Text) → option_map named_texts (given_arguments RunForm ((codes "--instances=" ++ l) ∷ (codes "--inside=" ++ p)
-        ∷ (codes "--journal=" ++ j) ∷ codes "--summary" ∷ codes "--" ∷ f ∷ t ∷ c ∷ []))
+        ∷ (codes "function", f) ∷ (codes "trace", t) ∷ (codes "script", c) ∷ []) }
+    ensures run { (f l p j t c : Text) → pairs_of RunForm ((codes "--instances=" ++ l) ∷ (codes "--inside=" ++ p)
+        ∷ (codes "--journal=" ++ j) ∷ codes "--summary" ∷ codes "--" ∷ f ∷ t ∷ c ∷ [])
         ≡ Some ((codes "instances", l) ∷ (codes "inside", p) ∷ (codes "journal", j) ∷ (codes "summary", codes "true")
         ∷ (codes "function", f) ∷ (codes "trace", t) ∷ (codes "script", c) ∷ []) }
-    ensures fail { (f l p j a b n t c : Text) → option_map named_texts (given_arguments FailForm ((codes "--after=" ++ n) ∷ (codes "--to=" ++ b) ∷ (codes "--failed=" ++ a)
-        ∷ (codes "--journal=" ++ j) ∷ (codes "--inside=" ++ p) ∷ (codes "--instances=" ++ l) ∷ codes "--" ∷ f ∷ t ∷ c ∷ []))
+    ensures fail { (f l p j a b n t c : Text) → pairs_of FailForm ((codes "--after=" ++ n) ∷ (codes "--to=" ++ b) ∷ (codes "--failed=" ++ a)
+        ∷ (codes "--journal=" ++ j) ∷ (codes "--inside=" ++ p) ∷ (codes "--instances=" ++ l) ∷ codes "--" ∷ f ∷ t ∷ c ∷ [])
         ≡ Some ((codes "after", n) ∷ (codes "to", b) ∷ (codes "failed", a) ∷ (codes "journal", j) ∷ (codes "inside", p) ∷ (codes "instances", l)
         ∷ (codes "function", f) ∷ (codes "trace", t) ∷ (codes "script", c) ∷ []) }
-    ensures check { (f l s : Text) → option_map named_texts (given_arguments CheckForm ((codes "--instances=" ++ l) ∷ codes "--" ∷ f ∷ s ∷ []))
+    ensures check { (f l s : Text) → pairs_of CheckForm ((codes "--instances=" ++ l) ∷ codes "--" ∷ f ∷ s ∷ [])
         ≡ Some ((codes "instances", l) ∷ (codes "function", f) ∷ (codes "script", s) ∷ []) }
-    ensures capture { (n p h t : Text) → option_map named_texts (given_arguments GenForm ((codes "--packets=" ++ p) ∷ (codes "--hosts=" ++ h) ∷ codes "--" ∷ n ∷ t ∷ []))
+    ensures capture { (n p h t : Text) → pairs_of GenForm ((codes "--packets=" ++ p) ∷ (codes "--hosts=" ++ h) ∷ codes "--" ∷ n ∷ t ∷ [])
         ≡ Some ((codes "packets", p) ∷ (codes "hosts", h) ∷ (codes "number", n) ∷ (codes "trace", t) ∷ []) }
-    ensures missing { (f l t : Text) → given_arguments SimForm ((codes "--instances=" ++ l) ∷ codes "--" ∷ f ∷ t ∷ []) ≡ None }
-    ensures hosts { (n p t : Text) → given_arguments GenForm ((codes "--packets=" ++ p) ∷ codes "--" ∷ n ∷ t ∷ []) ≡ None }
-    ensures twice { (f l p t : Text) → given_arguments SimForm ((codes "--instances=" ++ l) ∷ (codes "--inside=" ++ p) ∷ (codes "--inside=" ++ p) ∷ codes "--" ∷ f ∷ t ∷ []) ≡ None }
-    ensures valued { (f l p x t : Text) → given_arguments RunForm ((codes "--instances=" ++ l) ∷ (codes "--inside=" ++ p) ∷ (codes "--summary=" ++ x) ∷ codes "--" ∷ f ∷ t ∷ []) ≡ None }
-    ensures again { (f l p t : Text) → given_arguments RunForm ((codes "--instances=" ++ l) ∷ (codes "--inside=" ++ p) ∷ codes "--summary" ∷ codes "--summary" ∷ codes "--" ∷ f ∷ t ∷ []) ≡ None }
-    ensures scheduled { (f l p s t : Text) → given_arguments RunForm ((codes "--instances=" ++ l) ∷ (codes "--inside=" ++ p) ∷ (codes "--schedule=" ++ s) ∷ codes "--" ∷ f ∷ t ∷ []) ≡ None }
-    ensures counted { (f l p j a b n t : Text) → given_arguments FailForm ((codes "--after=" ++ n) ∷ (codes "--to=" ++ b) ∷ (codes "--failed=" ++ a)
+    ensures missing { (f l t : Text) → pairs_of SimForm ((codes "--instances=" ++ l) ∷ codes "--" ∷ f ∷ t ∷ []) ≡ None }
+    ensures hosts { (n p t : Text) → pairs_of GenForm ((codes "--packets=" ++ p) ∷ codes "--" ∷ n ∷ t ∷ []) ≡ None }
+    ensures twice { (f l p t : Text)
+        → pairs_of SimForm ((codes "--instances=" ++ l) ∷ (codes "--inside=" ++ p) ∷ (codes "--inside=" ++ p) ∷ codes "--" ∷ f ∷ t ∷ []) ≡ None }
+    ensures valued { (f l p x t : Text)
+        → pairs_of RunForm ((codes "--instances=" ++ l) ∷ (codes "--inside=" ++ p) ∷ (codes "--summary=" ++ x) ∷ codes "--" ∷ f ∷ t ∷ []) ≡ None }
+    ensures again { (f l p t : Text)
+        → pairs_of RunForm ((codes "--instances=" ++ l) ∷ (codes "--inside=" ++ p) ∷ codes "--summary" ∷ codes "--summary" ∷ codes "--" ∷ f ∷ t ∷ []) ≡ None }
+    ensures scheduled { (f l p s t : Text)
+        → pairs_of RunForm ((codes "--instances=" ++ l) ∷ (codes "--inside=" ++ p) ∷ (codes "--schedule=" ++ s) ∷ codes "--" ∷ f ∷ t ∷ []) ≡ None }
+    ensures counted { (f l p j a b n t : Text) → pairs_of FailForm ((codes "--after=" ++ n) ∷ (codes "--to=" ++ b) ∷ (codes "--failed=" ++ a)
         ∷ (codes "--journal=" ++ j) ∷ (codes "--inside=" ++ p) ∷ (codes "--instances=" ++ l) ∷ codes "--summary" ∷ codes "--" ∷ f ∷ t ∷ []) ≡ None }
-    ensures untold { (f l p a b n t : Text) → given_arguments FailForm ((codes "--after=" ++ n) ∷ (codes "--to=" ++ b) ∷ (codes "--failed=" ++ a)
+    ensures untold { (f l p a b n t : Text) → pairs_of FailForm ((codes "--after=" ++ n) ∷ (codes "--to=" ++ b) ∷ (codes "--failed=" ++ a)
         ∷ (codes "--inside=" ++ p) ∷ (codes "--instances=" ++ l) ∷ codes "--" ∷ f ∷ t ∷ []) ≡ None }
-    ensures stray { (f l s more : Text) → given_arguments CheckForm ((codes "--instances=" ++ l) ∷ codes "--" ∷ f ∷ s ∷ more ∷ []) ≡ None }
-    ensures unknown { (f l s : Text) → given_arguments CheckForm ((codes "--instances=" ++ l) ∷ codes "--summary" ∷ codes "--" ∷ f ∷ s ∷ []) ≡ None }
-    ensures help { (f l s : Text) → given_arguments CheckForm ((codes "--instances=" ++ l) ∷ codes "--help" ∷ codes "--" ∷ f ∷ s ∷ []) ≡ None }
+    ensures stray { (f l s more : Text) → pairs_of CheckForm ((codes "--instances=" ++ l) ∷ codes "--" ∷ f ∷ s ∷ more ∷ []) ≡ None }
+    ensures unknown { (f l s : Text) → pairs_of CheckForm ((codes "--instances=" ++ l) ∷ codes "--summary" ∷ codes "--" ∷ f ∷ s ∷ []) ≡ None }
+    ensures help { (f l s : Text) → pairs_of CheckForm ((codes "--instances=" ++ l) ∷ codes "--help" ∷ codes "--" ∷ f ∷ s ∷ []) ≡ None }
 {}
+
+/// Whether what was found is a default, and not of the words.
+fn is_default(source: Option<ValueSource>) -> bool
+    ensures { result ≡ not (explicit_source source) }
+{
+    matches!(source, Some(ValueSource::DefaultValue))
+}
 
 /// The command with the arguments of a form.
 fn command_of<'a>(alloc: Global, form: Form) -> Result<Command<'a>, NoMemory>
@@ -110,7 +131,7 @@ fn bare<'a>(alloc: Global) -> Command<'a>
 }
 
 /// The command with an argument more.
-#[tactic(auto, unfolding(crate::specs::Grammar::app_with))]
+#[tactic(auto, unfolding(crate::specs::ClapArguments::app_with))]
 fn with<'a>(
     alloc: Global,
     command: Command<'a>,

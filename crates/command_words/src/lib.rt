@@ -2,7 +2,8 @@
 //!
 //! Contracts see a [`Request`] through `request_view` of `specs/RequestViews.antt`. The main promise is that of
 //! [`parse_command`]: it gives exactly what the definition `request_of` reads, and answers [`ArgumentsFault::Usage`] exactly where
-//! that reads nothing, or that memory ran out. The crate touches nothing outside of memory.
+//! that reads nothing, or that memory ran out. Which words a command takes is a grammar of this crate (`specs/Grammar.antt`), and clap reads
+//! them: [`grammar::same_as_clap`] is the law that clap's definitions agree with it. The crate touches nothing outside of memory.
 #![tactic(auto)]
 
 mod fail;

@@ -56,7 +56,8 @@ pub fn site_of(kind: Kind, inside: Prefix, outside: Option<&str>) -> Option<Site
 
 /// The site that translates to an address outside its /24.
 fn translating(inside: Prefix, outside: u32) -> Option<Site>
-    ensures outside { option_map (λ s. s.outside) result ≡ (if inside.len == translated_bits && not (in_prefix inside.bits inside.len outside) then Some (Some outside) else None) }
+    ensures outside { option_map (λ s. s.outside) result
+        ≡ (if inside.len == translated_bits && not (in_prefix inside.bits inside.len outside) then Some (Some outside) else None) }
     ensures inside { IfSome result (λ s. s.inside ≡ inside) }
 {
     if inside.len == TRANSLATED_BITS && !inside.holds(outside) {

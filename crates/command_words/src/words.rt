@@ -1,6 +1,7 @@
 //! The words of the command line, read once: what they ask for. A further command has a further line in `ask`.
 ghost use Rattle.std.specs.Prelude.{◌≡◌, true, false, map, codes, option_map, string_bytes};
-ghost use Rattle.command_words.specs.Requests.{asks_run, request_of, is_command, calm_of, sim_of, run_of, audit_of, check_of, gen_of, network_values, check_values, gen_values};
+ghost use Rattle.command_words.specs.Requests.{asks_run, request_of, is_command, calm_of, sim_of, run_of, audit_of};
+ghost use Rattle.command_words.specs.Requests.{check_of, gen_of, network_values, check_values, gen_values};
 ghost use Rattle.command_words.specs.Views.{Reads, given_view};
 ghost use Rattle.command_words.specs.RequestViews.{request_view, calm_view, network_view, check_view, gen_view};
 

@@ -56,10 +56,14 @@ pub body_cmp : (a b : TrackRecord) → Within a → Within b
     (ordering_then (nat_cmp a.packets b.packets) (ordering_then (nat_cmp a.bytes b.bytes) (nat_cmp a.seen b.seen))))
 unfolding body_of
 body_cmp a b v w =
-    ap (λ o. ordering_then (nat_cmp (state_number a.state) (state_number b.state)) (ordering_then (nat_cmp (direction_number a.opener) (direction_number b.opener)) o))
-    (ap (λ (bytes : List ℕ). slice_cmp nat_cmp bytes (number_bytes 8 b.packets ++ number_bytes 8 b.bytes ++ seen_bytes b.seen)) (append_assoc (number_bytes 8 a.packets) (number_bytes 8 a.bytes) (seen_bytes a.seen))
-    ∙ ap (slice_cmp nat_cmp (number_bytes 8 a.packets ++ (number_bytes 8 a.bytes ++ seen_bytes a.seen))) (append_assoc (number_bytes 8 b.packets) (number_bytes 8 b.bytes) (seen_bytes b.seen))
-    ∙ slice_cmp-number_bytes 8 a.packets b.packets (number_bytes 8 a.bytes ++ seen_bytes a.seen) (number_bytes 8 b.bytes ++ seen_bytes b.seen) v.packets w.packets
+    ap (λ o. ordering_then (nat_cmp (state_number a.state) (state_number b.state))
+    (ordering_then (nat_cmp (direction_number a.opener) (direction_number b.opener)) o))
+    (ap (λ (bytes : List ℕ). slice_cmp nat_cmp bytes (number_bytes 8 b.packets ++ number_bytes 8 b.bytes ++ seen_bytes b.seen))
+    (append_assoc (number_bytes 8 a.packets) (number_bytes 8 a.bytes) (seen_bytes a.seen))
+    ∙ ap (slice_cmp nat_cmp (number_bytes 8 a.packets ++ (number_bytes 8 a.bytes ++ seen_bytes a.seen)))
+    (append_assoc (number_bytes 8 b.packets) (number_bytes 8 b.bytes) (seen_bytes b.seen))
+    ∙ slice_cmp-number_bytes 8 a.packets b.packets (number_bytes 8 a.bytes ++ seen_bytes a.seen) (number_bytes 8 b.bytes ++ seen_bytes b.seen) v.packets
+    w.packets
     ∙ ap (ordering_then (nat_cmp a.packets b.packets))
     (slice_cmp-number_bytes 8 a.bytes b.bytes (seen_bytes a.seen) (seen_bytes b.seen) v.bytes w.bytes
     ∙ ap (ordering_then (nat_cmp a.bytes b.bytes)) (seen_cmp a.seen b.seen v.seen w.seen)))
@@ -67,9 +71,11 @@ body_cmp a b v w =
 -- records compare by their packets, and then by the fields in the order of their bodies
 pub age_by_fields : (a b : TrackRecord) → Within a → Within b
     → age_cmp conntrack a b
-    ≡ ordering_then (ordering_then (nat_cmp a.packets b.packets) (ordering_then (nat_cmp (state_number a.state) (state_number b.state)) (nat_cmp (direction_number a.opener) (direction_number b.opener))))
+    ≡ ordering_then (ordering_then (nat_cmp a.packets b.packets)
+    (ordering_then (nat_cmp (state_number a.state) (state_number b.state)) (nat_cmp (direction_number a.opener) (direction_number b.opener))))
     (ordering_then (nat_cmp a.bytes b.bytes) (nat_cmp a.seen b.seen))
 age_by_fields a b v w =
     ap (ordering_then (nat_cmp a.packets b.packets)) (body_cmp a b v w)
-    ∙ ordering_then-again (nat_cmp a.packets b.packets) (nat_cmp (state_number a.state) (state_number b.state)) (nat_cmp (direction_number a.opener) (direction_number b.opener))
+    ∙ ordering_then-again (nat_cmp a.packets b.packets) (nat_cmp (state_number a.state) (state_number b.state))
+    (nat_cmp (direction_number a.opener) (direction_number b.opener))
     (ordering_then (nat_cmp a.bytes b.bytes) (nat_cmp a.seen b.seen))

@@ -10,7 +10,8 @@ use Rattle.nf_function.specs.Stored.{number_bytes, first_byte, first_number}
 use Rattle.nf_function.specs.Units.{is_tcp, is_transport_flow}
 use Rattle.conn_tracker.specs.declared.record.TrackRecord.{TrackRecord}
 use Rattle.conn_tracker.specs.declared.state.State.{State}
-use Rattle.conn_tracker.specs.Table.{state_number, state_of, is_udp_state}
+use Rattle.conn_tracker.specs.Table.{state_number, is_udp_state}
+use Rattle.conn_tracker.specs.States.{state_of}
 
 -- the directions by their numbers
 abbrev pub direction_number : Direction → ℕ

@@ -1,6 +1,7 @@
 -- Steps between code and definition, which nobody has to believe: what a tracker's record is stored as is read again, and only that. It
 -- stands in specs/ since the laws of a trait may cite nothing else.
-use Rattle.std.proofs.Common.{◌≡◌, ◌∙◌, ◌<◌, ◌≤◌, ◌^◌, ◌&&◌, eqb, ℕ, Bool, true, false, cond, List, [], ◌∷◌, ◌++◌, length, Option, None, Some, option_and_then, refl, sym, ap, arith, zero, suc, nat_lt, nat_le, append-nil, length-append}
+use Rattle.std.proofs.Common.{◌≡◌, ◌∙◌, ◌<◌, ◌≤◌, ◌^◌, ◌&&◌, eqb, ℕ, Bool, true, false, cond, List, [], ◌∷◌, ◌++◌, length, Option}
+use Rattle.std.proofs.Common.{None, Some, option_and_then, refl, sym, ap, arith, zero, suc, nat_lt, nat_le, append-nil, length-append}
 use Rattle.std.proofs.lemmas.Bool.Decides.{nat_tests}
 use Rattle.std.proofs.lemmas.List.{append_assoc}
 use Rattle.std.proofs.lemmas.Option.{option_and_then_some, cond_some}
@@ -16,8 +17,10 @@ use Rattle.nf_function.proofs.StoredNumbers.{IsFirst, first_number-number_bytes,
 use Rattle.conn_tracker.specs.declared.record.TrackRecord.{TrackRecord}
 use Rattle.conn_tracker.specs.declared.state.State.{State}
 use Rattle.conn_tracker.specs.declared.state.State.TheVariants.{Opening, Answered, Established, FinFwd, FinRev, Closed, Reset, Loose, Single, Both}
-use Rattle.conn_tracker.specs.Table.{state_number, state_of}
-use Rattle.conn_tracker.specs.Body.{direction_number, direction_of, suits, is_within, is_valid, seen_bytes, seen_in, last_time, body_of, spelled, valid_only, record_in}
+use Rattle.conn_tracker.specs.Table.{state_number}
+use Rattle.conn_tracker.specs.States.{state_of}
+use Rattle.conn_tracker.specs.Body.{direction_number, direction_of, suits, is_within, is_valid, seen_bytes}
+use Rattle.conn_tracker.specs.Body.{seen_in, last_time, body_of, spelled, valid_only, record_in}
 
 -- what is true of a record that is valid for a flow
 pub record IsValid (f : Flow) (r : TrackRecord) : Type 0 where
@@ -156,7 +159,8 @@ seen_bytes-time (byte ∷ more) n are h =
 
 -- the parts of a body, joined
 joined : (s w : ℕ) (named : State) (direction : Direction) (packets bytes seen : ℕ) (rest more last : List ℕ) (r : TrackRecord)
-    → state_number named ≡ s → direction_number direction ≡ w → rest ≡ number_bytes 8 packets ++ more → more ≡ number_bytes 8 bytes ++ last → seen_bytes seen ≡ last
+    → state_number named ≡ s → direction_number direction ≡ w → rest ≡ number_bytes 8 packets ++ more → more ≡ number_bytes 8 bytes ++ last
+    → seen_bytes seen ≡ last
     → Some (record { packets = packets; bytes = bytes; seen = seen; state = named; opener = direction }) ≡ Some r
     → body_of r ≡ s ∷ w ∷ rest
 unfolding body_of
@@ -178,7 +182,8 @@ body_of-spelled (s ∷ w ∷ rest) r are h =
     let first = first_number-some 8 rest packets.0 packets.1 (IsBytes-tail w rest (IsBytes-tail s (w ∷ rest) are)) read_packets in
     let second = first_number-some 8 packets.1 bytes.0 bytes.1 first.rest_bytes read_bytes in
     let third = seen_bytes-time bytes.1 seen second.rest_bytes read_seen in
-    joined s w named direction packets.0 bytes.0 seen rest packets.1 bytes.1 r (state_number-state s named is_named) (direction_number-direction w direction is_way)
+    joined s w named direction packets.0 bytes.0 seen rest packets.1 bytes.1 r (state_number-state s named is_named)
+    (direction_number-direction w direction is_way)
     first.spelled second.spelled third last)))))
 
 -- what is read is valid, and stored as the same bytes

@@ -3,14 +3,13 @@ use Rattle.std.specs.Prelude.{nat_le, false}
 use Rattle.nf_function.specs.declared.kind.Kind.TheVariants.{Conntrack}
 use Rattle.nf_function.specs.Semantics.{Semantics}
 use Rattle.conn_tracker.specs.declared.record.TrackRecord.{TrackRecord}
-use Rattle.conn_tracker.specs.Table.{stepped}
-use Rattle.conn_tracker.specs.Text.{output_of, output_text, record_text}
+use Rattle.conn_tracker.specs.Text.{answered, output_text, record_text}
 use Rattle.conn_tracker.specs.Body.{is_valid, body_of, record_in}
 
 abbrev pub conntrack : Semantics TrackRecord
 conntrack = record {
   kind = Conntrack;
-  stepped = λ site kept p. let r = stepped site kept p in record { kept = r; output = output_of r };
+  stepped = answered;
   packets_of = λ r. r.packets;
   is_valid = is_valid;
   body_of = body_of;

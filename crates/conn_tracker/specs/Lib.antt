@@ -1,4 +1,5 @@
 pub mod Table
+pub mod States
 pub mod Text
 pub mod Body
 pub mod Conntrack

@@ -1,6 +1,6 @@
 -- Steps between code and definition, which nobody has to believe: what a step of the tracker keeps of a record, and all laws of the tracker
 -- together. It stands in specs/ since the laws of a trait may cite nothing else.
-use Rattle.std.proofs.Common.{◌≡◌, ◌<◌, ◌≤◌, ◌^◌, ◌||◌, ℕ, Bool, true, false, cond, not, max, Option, None, Some, refl, sym, ap, arith, nat_le}
+use Rattle.std.proofs.Common.{◌≡◌, ◌<◌, ◌≤◌, ◌^◌, ◌||◌, ℕ, Bool, true, false, cond, not, max, Option, None, Some, refl, sym, ap, subst, arith, nat_le}
 use Rattle.std.proofs.lemmas.Bool.Decides.{nat_tests}
 use Rattle.std.proofs.lemmas.Bool.{not-true}
 use Rattle.std.proofs.Math.Bool.{or-false}
@@ -22,74 +22,124 @@ use Rattle.conn_tracker.specs.declared.class.Class.{Class}
 use Rattle.conn_tracker.specs.declared.class.Class.TheVariants.{Rst, SynAck, Syn, Fin, Other}
 use Rattle.conn_tracker.specs.declared.state.State.{State}
 use Rattle.conn_tracker.specs.declared.state.State.TheVariants.{Opening, Answered, Established, FinFwd, FinRev, Closed, Reset, Loose, Single, Both}
-use Rattle.conn_tracker.specs.Table.{StateRow, row, cell, class_of, first_tcp, first_state, first_record, next_udp, next_state, next_record, is_idle, is_same_direction, is_udp_state, stepped}
+use Rattle.conn_tracker.specs.Table.{next_tcp, class_of, first_tcp, first_record, next_udp, next_record, is_same_direction, is_udp_state, step_of}
+use Rattle.conn_tracker.specs.States.{state_of_first, first_opener, first_state, opener_of_first, is_idle, next_state, next_opener}
 use Rattle.conn_tracker.specs.Body.{is_valid, suits}
 use Rattle.conn_tracker.specs.Conntrack.{conntrack}
 use Rattle.conn_tracker.specs.BodyLemmas.{valid_facts, valid_from, record_in-body_of, record_in-some, known_by_body, length-body_of}
 
--- the eight cells of a row are states of TCP
-record IsTcpRow (w : StateRow) : Type 0 where
-  rst : is_udp_state w.rst ≡ false
-  syn : is_udp_state w.syn ≡ false
-  syn_ack_forward : is_udp_state w.syn_ack_forward ≡ false
-  syn_ack_reverse : is_udp_state w.syn_ack_reverse ≡ false
-  fin_forward : is_udp_state w.fin_forward ≡ false
-  fin_reverse : is_udp_state w.fin_reverse ≡ false
-  other_forward : is_udp_state w.other_forward ≡ false
-  other_reverse : is_udp_state w.other_reverse ≡ false
+-- the state and the opener of a first packet, apart
+first_parts : (tcp : Bool) (c : Class) (direction : Direction)
+    → cond {A = State × Direction} tcp (first_tcp c direction) (Single, direction)
+    ≡ (cond tcp (state_of_first c) Single, cond tcp (first_opener c direction) direction)
+first_parts false c direction = refl
+first_parts true Rst direction = refl
+first_parts true SynAck direction = refl
+first_parts true Syn direction = refl
+first_parts true Fin direction = refl
+first_parts true Other direction = refl
 
-tcp_row : (s : State) → is_udp_state s ≡ false → IsTcpRow (row s)
-tcp_row Opening h = record { rst = refl; syn = refl; syn_ack_forward = refl; syn_ack_reverse = refl; fin_forward = refl; fin_reverse = refl; other_forward = refl; other_reverse = refl }
-tcp_row Answered h = record { rst = refl; syn = refl; syn_ack_forward = refl; syn_ack_reverse = refl; fin_forward = refl; fin_reverse = refl; other_forward = refl; other_reverse = refl }
-tcp_row Established h = record { rst = refl; syn = refl; syn_ack_forward = refl; syn_ack_reverse = refl; fin_forward = refl; fin_reverse = refl; other_forward = refl; other_reverse = refl }
-tcp_row FinFwd h = record { rst = refl; syn = refl; syn_ack_forward = refl; syn_ack_reverse = refl; fin_forward = refl; fin_reverse = refl; other_forward = refl; other_reverse = refl }
-tcp_row FinRev h = record { rst = refl; syn = refl; syn_ack_forward = refl; syn_ack_reverse = refl; fin_forward = refl; fin_reverse = refl; other_forward = refl; other_reverse = refl }
-tcp_row Closed h = record { rst = refl; syn = refl; syn_ack_forward = refl; syn_ack_reverse = refl; fin_forward = refl; fin_reverse = refl; other_forward = refl; other_reverse = refl }
-tcp_row Reset h = record { rst = refl; syn = refl; syn_ack_forward = refl; syn_ack_reverse = refl; fin_forward = refl; fin_reverse = refl; other_forward = refl; other_reverse = refl }
-tcp_row Loose h = record { rst = refl; syn = refl; syn_ack_forward = refl; syn_ack_reverse = refl; fin_forward = refl; fin_reverse = refl; other_forward = refl; other_reverse = refl }
-tcp_row Single h = cc
-tcp_row Both h = cc
+-- a first record and a further one, field by field
+abbrev pub first_apart : Packet → Direction → TrackRecord
+first_apart p direction = record { packets = 1; bytes = p.length; seen = p.nanos; state = first_state p; opener = opener_of_first p direction }
 
-tcp_cell : (c : Class) (forward : Bool) (w : StateRow) → IsTcpRow w → is_udp_state (cell c forward w) ≡ false
-tcp_cell Rst forward w t = t.rst
-tcp_cell Syn forward w t = t.syn
-tcp_cell SynAck true w t = t.syn_ack_forward
-tcp_cell SynAck false w t = t.syn_ack_reverse
-tcp_cell Fin true w t = t.fin_forward
-tcp_cell Fin false w t = t.fin_reverse
-tcp_cell Other true w t = t.other_forward
-tcp_cell Other false w t = t.other_reverse
+abbrev pub next_apart : TrackRecord → Packet → Direction → TrackRecord
+next_apart r p direction = record {
+  packets = count r.packets 1;
+  bytes = count r.bytes p.length;
+  seen = max r.seen p.nanos;
+  state = cond (is_idle r p) (first_state p) (next_state r p direction);
+  opener = cond (is_idle r p) (opener_of_first p direction) (next_opener r p direction);
+}
 
-tcp_first : (c : Class) → is_udp_state (first_tcp c) ≡ false
+pub first_is : (p : Packet) (direction : Direction) → first_record p direction ≡ first_apart p direction
+first_is p direction =
+    ap (λ (first : State × Direction). record { packets = 1; bytes = p.length; seen = p.nanos; state = first.0; opener = first.1 })
+    (first_parts (is_tcp p.proto) (class_of p.flags) direction)
+
+pub next_is : (r : TrackRecord) (p : Packet) (direction : Direction) → next_record r p direction ≡ next_apart r p direction
+next_is r p direction =
+    ap
+    (λ (first : State × Direction). record {
+      packets = count r.packets 1;
+      bytes = count r.bytes p.length;
+      seen = max r.seen p.nanos;
+      state = cond (is_idle r p) first.0 (next_state r p direction);
+      opener = cond (is_idle r p) first.1 (next_opener r p direction);
+    })
+    (first_parts (is_tcp p.proto) (class_of p.flags) direction)
+
+-- what holds of each class and direction
+by_packet : (P : Class → Bool → Type 0) → ((c : Class) → P c true) → ((c : Class) → P c false) → (c : Class) (forward : Bool) → P c forward
+by_packet P forward reverse c true = forward c
+by_packet P forward reverse c false = reverse c
+
+by_class : (P : Class → Type 0) → P Rst → P SynAck → P Syn → P Fin → P Other → (c : Class) → P c
+by_class P rst syn_ack syn fin other Rst = rst
+by_class P rst syn_ack syn fin other SynAck = syn_ack
+by_class P rst syn_ack syn fin other Syn = syn
+by_class P rst syn_ack syn fin other Fin = fin
+by_class P rst syn_ack syn fin other Other = other
+
+-- a packet of TCP leaves a state of TCP
+tcp_next : (s : State) → is_udp_state s ≡ false → (c : Class) (forward : Bool) → is_udp_state (next_tcp s c forward) ≡ false
+tcp_next s is = by_packet (λ c forward. is_udp_state (next_tcp s c forward) ≡ false) (tcp_forward s is) (tcp_reverse s is)
+  where
+    tcp_forward : (s : State) → is_udp_state s ≡ false → (c : Class) → is_udp_state (next_tcp s c true) ≡ false
+    tcp_forward Opening is = by_class (λ c. is_udp_state (next_tcp Opening c true) ≡ false) refl refl refl refl refl
+    tcp_forward Answered is = by_class (λ c. is_udp_state (next_tcp Answered c true) ≡ false) refl refl refl refl refl
+    tcp_forward Established is = by_class (λ c. is_udp_state (next_tcp Established c true) ≡ false) refl refl refl refl refl
+    tcp_forward FinFwd is = by_class (λ c. is_udp_state (next_tcp FinFwd c true) ≡ false) refl refl refl refl refl
+    tcp_forward FinRev is = by_class (λ c. is_udp_state (next_tcp FinRev c true) ≡ false) refl refl refl refl refl
+    tcp_forward Closed is = by_class (λ c. is_udp_state (next_tcp Closed c true) ≡ false) refl refl refl refl refl
+    tcp_forward Reset is = by_class (λ c. is_udp_state (next_tcp Reset c true) ≡ false) refl refl refl refl refl
+    tcp_forward Loose is = by_class (λ c. is_udp_state (next_tcp Loose c true) ≡ false) refl refl refl refl refl
+    tcp_forward Single is = cc
+    tcp_forward Both is = cc
+
+    tcp_reverse : (s : State) → is_udp_state s ≡ false → (c : Class) → is_udp_state (next_tcp s c false) ≡ false
+    tcp_reverse Opening is = by_class (λ c. is_udp_state (next_tcp Opening c false) ≡ false) refl refl refl refl refl
+    tcp_reverse Answered is = by_class (λ c. is_udp_state (next_tcp Answered c false) ≡ false) refl refl refl refl refl
+    tcp_reverse Established is = by_class (λ c. is_udp_state (next_tcp Established c false) ≡ false) refl refl refl refl refl
+    tcp_reverse FinFwd is = by_class (λ c. is_udp_state (next_tcp FinFwd c false) ≡ false) refl refl refl refl refl
+    tcp_reverse FinRev is = by_class (λ c. is_udp_state (next_tcp FinRev c false) ≡ false) refl refl refl refl refl
+    tcp_reverse Closed is = by_class (λ c. is_udp_state (next_tcp Closed c false) ≡ false) refl refl refl refl refl
+    tcp_reverse Reset is = by_class (λ c. is_udp_state (next_tcp Reset c false) ≡ false) refl refl refl refl refl
+    tcp_reverse Loose is = by_class (λ c. is_udp_state (next_tcp Loose c false) ≡ false) refl refl refl refl refl
+    tcp_reverse Single is = cc
+    tcp_reverse Both is = cc
+
+tcp_first : (c : Class) → is_udp_state (state_of_first c) ≡ false
 tcp_first Rst = refl
 tcp_first SynAck = refl
 tcp_first Syn = refl
 tcp_first Fin = refl
 tcp_first Other = refl
 
-udp_next : (forward : Bool) (s : State) → is_udp_state s ≡ true → is_udp_state (next_udp forward s) ≡ true
-udp_next true Single h = refl
-udp_next false Single h = refl
-udp_next true Both h = refl
-udp_next false Both h = refl
-udp_next forward Opening h = cc
-udp_next forward Answered h = cc
-udp_next forward Established h = cc
-udp_next forward FinFwd h = cc
-udp_next forward FinRev h = cc
-udp_next forward Closed h = cc
-udp_next forward Reset h = cc
-udp_next forward Loose h = cc
+udp_next : (s : State) → is_udp_state s ≡ true → (forward : Bool) → is_udp_state (next_udp s forward) ≡ true
+udp_next Single h true = refl
+udp_next Single h false = refl
+udp_next Both h forward = refl
+udp_next Opening h forward = cc
+udp_next Answered h forward = cc
+udp_next Established h forward = cc
+udp_next FinFwd h forward = cc
+udp_next FinRev h forward = cc
+udp_next Closed h forward = cc
+udp_next Reset h forward = cc
+udp_next Loose h forward = cc
 
 -- a state that the flow's own table leaves suits the flow's protocol
-suits_first : (tcp : Bool) (c : Class) → cond tcp (not (is_udp_state (cond tcp (first_tcp c) Single))) (is_udp_state (cond tcp (first_tcp c) Single)) ≡ true
+suits_first : (tcp : Bool) (c : Class)
+    → cond tcp (not (is_udp_state (cond tcp (state_of_first c) Single))) (is_udp_state (cond tcp (state_of_first c) Single)) ≡ true
 suits_first true c = ap not (tcp_first c)
 suits_first false c = refl
 
 suits_next : (tcp : Bool) (c : Class) (forward : Bool) (s : State) → cond tcp (not (is_udp_state s)) (is_udp_state s) ≡ true
-    → cond tcp (not (is_udp_state (cond tcp (cell c forward (row s)) (next_udp forward s)))) (is_udp_state (cond tcp (cell c forward (row s)) (next_udp forward s))) ≡ true
-suits_next true c forward s h = ap not (tcp_cell c forward (row s) (tcp_row s (not-true (is_udp_state s) h)))
-suits_next false c forward s h = udp_next forward s h
+    → cond tcp (not (is_udp_state (cond tcp (next_tcp s c forward) (next_udp s forward))))
+    (is_udp_state (cond tcp (next_tcp s c forward) (next_udp s forward))) ≡ true
+suits_next true c forward s h = ap not (tcp_next s (not-true (is_udp_state s) h) c forward)
+suits_next false c forward s h = udp_next s h forward
 
 suits_cond : (proto : ℕ) (test : Bool) (s t : State) → suits proto s ≡ true → suits proto t ≡ true → suits proto (cond test s t) ≡ true
 suits_cond proto true s t first second = first
@@ -108,14 +158,14 @@ first_valid f p direction of =
     let time : p.nanos < 2 ^ 64 = of.nanos in
     let long : p.length < 2 ^ 32 = of.length in
     let proto : f.proto ≡ p.proto = of.proto in
-    valid_from f (first_record p direction) (record {
+    subst (λ (r : TrackRecord). is_valid (OfFlow f) r ≡ true) (sym (first_is p direction)) (valid_from f (first_apart p direction) (record {
       flow = of.flow;
       counted = omega arith;
       fits = rw proto (suits_first (is_tcp p.proto) (class_of p.flags));
       packets = omega arith;
       bytes = omega arith;
       seen = time;
-    })
+    }))
 
 -- a further packet leaves a valid record
 next_valid : (f : Flow) (r : TrackRecord) (p : Packet) (direction : Direction) → IsOf f p → is_valid (OfFlow f) r ≡ true
@@ -127,7 +177,7 @@ next_valid f r p direction of h =
     let one : 1 ≤ r.packets = v.counted in
     let seen : r.seen < 2 ^ 64 = v.seen in
     let suited : suits p.proto r.state ≡ true = rw (← proto) v.fits in
-    valid_from f (next_record r p direction) (record {
+    subst (λ (r : TrackRecord). is_valid (OfFlow f) r ≡ true) (sym (next_is r p direction)) (valid_from f (next_apart r p direction) (record {
       flow = of.flow;
       counted = omega arith;
       fits = rw proto (suits_cond p.proto (is_idle r p) (first_state p) (next_state r p direction) (suits_first (is_tcp p.proto) (class_of p.flags))
@@ -135,19 +185,19 @@ next_valid f r p direction of h =
       packets = omega arith;
       bytes = omega arith;
       seen = omega arith;
-    })
+    }))
 
 fitting : (site : Site) (p : Packet) → Fits site p → IsOf (flow_of site p).0 p
 fitting site p fits = record { flow = transport_flow site p fits; proto = proto-flow_of site p; nanos = fits.nanos; length = fits.length }
 
 stays_valid : (site : Site) (kept : Option TrackRecord) (p : Packet) → Fits site p → is_sound conntrack (unit_at Conntrack site p) kept ≡ true
-    → is_valid (unit_at Conntrack site p) (stepped site kept p) ≡ true
-unfolding stepped
+    → is_valid (unit_at Conntrack site p) (step_of site kept p) ≡ true
+unfolding step_of
 stays_valid site None p fits h = first_valid (flow_of site p).0 p (flow_of site p).1 (fitting site p fits)
 stays_valid site (Some r) p fits h = next_valid (flow_of site p).0 r p (flow_of site p).1 (fitting site p fits) h
 
-counts_one : (site : Site) (kept : Option TrackRecord) (p : Packet) → (stepped site kept p).packets ≡ count (packets_in conntrack kept) 1
-unfolding stepped
+counts_one : (site : Site) (kept : Option TrackRecord) (p : Packet) → (step_of site kept p).packets ≡ count (packets_in conntrack kept) 1
+unfolding step_of
 counts_one site None p = refl
 counts_one site (Some r) p = refl
 
@@ -156,8 +206,8 @@ max_known : (a b : ℕ) → nat_le 1 (max a b) ≡ (nat_le 1 b || nat_le 1 a)
 max_known a b = grind (arith, nat_tests)
 
 times_known : (site : Site) (kept : Option TrackRecord) (p : Packet)
-    → nat_le 1 (stepped site kept p).seen ≡ (nat_le 1 p.nanos || is_timed_kept conntrack kept)
-unfolding stepped
+    → nat_le 1 (step_of site kept p).seen ≡ (nat_le 1 p.nanos || is_timed_kept conntrack kept)
+unfolding step_of
 times_known site None p = sym (or-false (nat_le 1 p.nanos))
 times_known site (Some r) p = max_known r.seen p.nanos
 

@@ -41,7 +41,8 @@ pub fn push_body(bytes: &mut Bytes, kept: &TrackRecord) -> Result<(), NoMemory>
 /// What stands before the time.
 #[tactic(auto, unfolding(nf_function::specs::Stored::number_bytes))]
 fn untimed(kept: &TrackRecord) -> [u8; 18]
-    ensures { result ≡ (state_number kept.now.state ∷ direction_number kept.now.opener ∷ []) ++ number_bytes 8 kept.now.packets ++ number_bytes 8 kept.now.bytes }
+    ensures { result
+        ≡ (state_number kept.now.state ∷ direction_number kept.now.opener ∷ []) ++ number_bytes 8 kept.now.packets ++ number_bytes 8 kept.now.bytes }
 {
     let [p, p_2, p_3, p_4, p_5, p_6, p_7, p_8] = kept.packets.to_be_bytes();
     let [b, b_2, b_3, b_4, b_5, b_6, b_7, b_8] = kept.bytes.to_be_bytes();

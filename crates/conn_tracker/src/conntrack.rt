@@ -24,7 +24,7 @@ impl Function for Conntrack {
 
     const KIND: Kind = Kind::Conntrack;
 
-    #[tactic(auto, unfolding(crate::specs::Table::stepped))]
+    #[tactic(auto, unfolding(crate::specs::Table::step_of))]
     fn step_along(
         _alloc: Global,
         _site: &Site,

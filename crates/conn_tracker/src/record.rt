@@ -1,5 +1,5 @@
 ghost use Rattle.std.specs.Prelude.{◌≡◌};
-ghost use Rattle.conn_tracker.specs.Text.{output_of};
+ghost use Rattle.conn_tracker.specs.States.{output_of};
 
 use crate::state::State;
 use flow_filter::Direction;

@@ -1,6 +1,7 @@
 //! The states of a connection, and which of them comes after a packet.
 ghost use Rattle.std.specs.Prelude.{◌≡◌, ◌≤◌, length};
-ghost use Rattle.conn_tracker.specs.Table.{cell, row, first_tcp, next_udp, restarts, all_states, name_of, state_number, state_of};
+ghost use Rattle.conn_tracker.specs.Table.{next_tcp, next_udp, restarts, state_number};
+ghost use Rattle.conn_tracker.specs.States.{name_of, all_states, state_of, state_of_first};
 ghost use Rattle.conn_tracker.specs.RecordRoom.{state_room};
 ghost use Rattle.conn_tracker.specs.declared.class.Class.TheVariants.{Fin};
 
@@ -62,7 +63,7 @@ impl State {
 
     /// The state of a TCP connection whose first packet has this class.
     pub fn first(class: Class) -> State
-        ensures { result ≡ first_tcp class }
+        ensures { result ≡ state_of_first class }
     {
         match class {
             Class::Rst => State::Reset,
@@ -75,7 +76,7 @@ impl State {
 
     /// The state of a TCP connection after a packet.
     pub fn after(self, class: Class, is_forward: bool) -> State
-        ensures { result ≡ cell class is_forward (row self) }
+        ensures { result ≡ next_tcp self class is_forward }
     {
         match (self, class) {
             (State::Single | State::Both, _) => self,
@@ -92,7 +93,7 @@ impl State {
 
     /// The state of a TCP connection after a FIN.
     fn after_fin(self, is_forward: bool) -> State
-        ensures { result ≡ cell Fin is_forward (row self) }
+        ensures { result ≡ next_tcp self Fin is_forward }
     {
         match self {
             State::FinFwd if !is_forward => State::Closed,
@@ -110,7 +111,7 @@ impl State {
 
     /// The state of a UDP flow after a packet.
     pub fn after_udp(self, is_forward: bool) -> State
-        ensures { result ≡ next_udp is_forward self }
+        ensures { result ≡ next_udp self is_forward }
     {
         match self {
             State::Single if !is_forward => State::Both,

@@ -1,5 +1,6 @@
 ghost use Rattle.std.specs.Prelude.{◌≡◌, ◌≤◌, ◌+◌, ◌++◌, length, OnOk, OnErr, IfOk};
-ghost use Rattle.conn_tracker.specs.Text.{direction_text, output_text, record_text, seen_text};
+ghost use Rattle.conn_tracker.specs.Text.{output_text, record_text};
+ghost use Rattle.conn_tracker.specs.RecordRoom.{direction_text, seen_text};
 ghost use Rattle.conn_tracker.specs.RecordRoom.{record_room, seen_room, direction_room};
 
 use crate::record::TrackRecord;

@@ -1,8 +1,8 @@
 //! The tracker's step: the record of a flow's first packet, and the record after a further one.
 ghost use Rattle.std.specs.Prelude.{◌≡◌, true, Some};
-ghost use Rattle.conn_tracker.specs.Table.{first_record, next_record, stepped, first_state, opener_of_first, is_idle, next_state, next_opener, is_same_direction, first_opener, IsTrackRecord};
+ghost use Rattle.conn_tracker.specs.Table.{first_record, next_record, step_of, is_same_direction, IsTrackRecord};
+ghost use Rattle.conn_tracker.specs.States.{is_idle, next_state, next_opener, first_opener, first_state, opener_of_first, output_of};
 ghost use Rattle.conn_tracker.specs.Body.{is_within};
-ghost use Rattle.conn_tracker.specs.Text.{output_of};
 
 use crate::class::Class;
 use crate::record::TrackRecord;
@@ -16,10 +16,10 @@ pub const IDLE_NANOS: u64 = 300_000_000_000;
 /// Takes a packet into what is kept of its flow, and gives the output.
 ///
 /// The output's code is the number of the new state, and its other numbers are 0.
-#[tactic(auto, unfolding(crate::specs::Table::stepped))]
+#[tactic(auto, unfolding(crate::specs::Table::step_of))]
 pub fn step(site: &Site, kept: &mut Option<TrackRecord>, packet: &Packet) -> Output
-    ensures kept { kept.new ≡ Some (stepped site.now kept.old packet.now) }
-    ensures output { result ≡ output_of (stepped site.now kept.old packet.now) }
+    ensures kept { kept.new ≡ Some (step_of site.now kept.old packet.now) }
+    ensures output { result ≡ output_of (step_of site.now kept.old packet.now) }
 {
     let (_, direction) = flow_of(site, packet);
     let next = match kept {
@@ -31,6 +31,7 @@ pub fn step(site: &Site, kept: &mut Option<TrackRecord>, packet: &Packet) -> Out
 }
 
 /// The record of a flow's first packet, which goes in this direction.
+#[tactic(auto, using(crate::specs::StepLemmas::first_is))]
 pub fn first_record(packet: &Packet, direction: Direction) -> TrackRecord
     ensures value { result ≡ first_record packet.now direction }
     ensures fits { IsTrackRecord packet.now.proto result }
@@ -64,6 +65,7 @@ pub fn next_record(before: &TrackRecord, packet: &Packet, direction: Direction) 
 }
 
 /// The record after a further packet, which goes in this direction, of whatever protocol the record is.
+#[tactic(auto, using(crate::specs::StepLemmas::next_is))]
 pub fn record_after(before: &TrackRecord, packet: &Packet, direction: Direction) -> TrackRecord
     ensures value { result ≡ next_record before.now packet.now direction }
     ensures fits { IsTrackRecord packet.now.proto before.now → IsTrackRecord packet.now.proto result }

@@ -28,12 +28,12 @@ pub record CopyRow : Type 0 where
   pub phase : CopyPhase
   pub sends : List (ℕ × Msg)
 
-abbrev pub goes : CopyPhase → List (ℕ × Msg) → CopyRow
-goes phase sends = record { phase = phase; sends = sends }
+abbrev pub next_phase : CopyPhase → List (ℕ × Msg) → CopyRow
+next_phase phase sends = record { phase = phase; sends = sends }
 
 -- a copy begins: the source is asked for what is to be copied
-abbrev pub begun : CopyPlan → CopyState
-begun plan = record { plan = plan; phase = Getting }
+abbrev pub copy_at_start : CopyPlan → CopyState
+copy_at_start plan = record { plan = plan; phase = Getting }
 
 abbrev pub asks : ℕ → Option Filter → Msg
 asks op None = msg.GetAll op
@@ -44,21 +44,21 @@ begin_sends plan = (instance_node plan.from, asks plan.op plan.filter) ∷ []
 
 -- a message of the source: what it gives goes on to the destination
 abbrev pub from_source : CopyPlan → CopyPhase → Msg → CopyRow
-from_source plan Getting (msg.Chunks op chunks) = goes Keeping ((instance_node plan.to, msg.Standby plan.op chunks) ∷ [])
-from_source plan Getting (msg.AllChunk op chunk) = goes Keeping ((instance_node plan.to, msg.PutAll plan.op chunk) ∷ [])
-from_source plan phase message = goes phase []
+from_source plan Getting (msg.Chunks op chunks) = next_phase Keeping ((instance_node plan.to, msg.Standby plan.op chunks) ∷ [])
+from_source plan Getting (msg.AllChunk op chunk) = next_phase Keeping ((instance_node plan.to, msg.PutAll plan.op chunk) ∷ [])
+from_source plan phase message = next_phase phase []
 
 -- a message of the destination: it keeps what came
 abbrev pub from_destination : CopyPlan → CopyPhase → Msg → CopyRow
-from_destination plan Keeping (msg.Kept op) = goes Over []
-from_destination plan phase message = goes phase []
+from_destination plan Keeping (msg.Kept op) = next_phase Over []
+from_destination plan phase message = next_phase phase []
 
 -- the table of a copy. What it doesn't name comes in no run
 abbrev pub row : CopyState → ℕ → Msg → CopyRow
 row s sender message =
     if sender == instance_node s.plan.from then from_source s.plan s.phase message
     else if sender == instance_node s.plan.to then from_destination s.plan s.phase message
-    else goes s.phase []
+    else next_phase s.phase []
 
 -- the answer of a copy that is over
 abbrev pub answer_of : CopyPhase → Option Answer

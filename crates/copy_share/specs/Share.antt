@@ -1,11 +1,11 @@
 -- A strict share: instances that process the packets of the same units one at a time, in the controller's order, each with the
 -- others' state. Its phases, what it does with each message, and which packet it serves next. This project's own, after the strictly
 -- consistent shares of OpenNF.
-use Rattle.std.specs.Prelude.{ℕ, ◌+◌, ◌-◌, ◌%◌, ◌==◌, Bool, true, false, not, List, [], ◌∷◌, map, length, filter, Option, None, Some, slice_index, if◌then◌else◌}
+use Rattle.std.specs.Prelude.{ℕ, ◌-◌, ◌==◌, Bool, true, false, not, List, [], ◌∷◌, map, length, filter, Option, None, Some, slice_index, if◌then◌else◌}
 use Rattle.flow_filter.specs.declared.filter.Filter.{Filter}
 use Rattle.flow_filter.specs.declared.flow.Flow.{Flow}
 use Rattle.flow_filter.specs.declared.site.Site.{Site}
-use Rattle.flow_filter.specs.Flow.{flow_of}
+use Rattle.flow_filter.specs.Flow.{flow_of, place_among}
 use Rattle.nf_function.specs.declared.chunk.Chunk.{Chunk}
 use Rattle.event_filter.specs.declared.mark.Mark.TheVariants.{Shared}
 use Rattle.switch_rules.specs.declared.target.Target.TheVariants.{Controller}
@@ -37,8 +37,8 @@ pub record ShareRow : Type 0 where
   pub sends : List (ℕ × Msg)
   pub answer : Option Answer
 
-abbrev pub goes : SharePhase → List (ℕ × Msg) → ShareRow
-goes phase sends = record { phase = phase; sends = sends; answer = None }
+abbrev pub next_phase : SharePhase → List (ℕ × Msg) → ShareRow
+next_phase phase sends = record { phase = phase; sends = sends; answer = None }
 
 -- the first member: there the records of the units are live, and at the others they stand by
 abbrev pub home : SharePlan → ℕ
@@ -53,8 +53,8 @@ abbrev pub syncs : SharePlan → ℕ → List Chunk → List (ℕ × Msg)
 syncs plan one chunks = map (λ member. (instance_node member, msg.Sync (member == home plan) plan.op chunks)) (others plan one)
 
 -- a share begins: the packets of its units are to come to the controller
-abbrev pub begun : SharePlan → ShareState
-begun plan = record { plan = plan; phase = Fencing }
+abbrev pub share_at_start : SharePlan → ShareState
+share_at_start plan = record { plan = plan; phase = Fencing }
 
 abbrev pub begin_sends : SharePlan → List (ℕ × Msg)
 begin_sends plan = (switch_node, msg.Install plan.op plan.filter (home plan) Controller) ∷ []
@@ -63,46 +63,46 @@ begin_sends plan = (switch_node, msg.Install plan.op plan.filter (home plan) Con
 abbrev pub setting : ℕ → List (ℕ × Msg) → ShareRow
 setting left sends =
     if left == 0 then record { phase = Idle; sends = sends; answer = Some Done }
-    else goes (Setting left) sends
+    else next_phase (Setting left) sends
 
 -- so many members have yet to take the records after a packet: with none no packet is out
 abbrev pub syncing : ℕ → List (ℕ × Msg) → ShareRow
-syncing left sends = goes (if left == 0 then Idle else Syncing left) sends
+syncing left sends = next_phase (if left == 0 then Idle else Syncing left) sends
 
 -- the fence came to the home: what it processed before is all that isn't shared
 abbrev pub on_fenced : SharePlan → SharePhase → ShareRow
-on_fenced plan Fencing = goes Getting ((instance_node (home plan), msg.Get plan.op plan.filter) ∷ [])
-on_fenced plan phase = goes phase []
+on_fenced plan Fencing = next_phase Getting ((instance_node (home plan), msg.Get plan.op plan.filter) ∷ [])
+on_fenced plan phase = next_phase phase []
 
 -- the first records come from the home
 abbrev pub on_chunks : SharePlan → SharePhase → List Chunk → ShareRow
 on_chunks plan Getting chunks = setting (length (others plan (home plan))) (syncs plan (home plan) chunks)
-on_chunks plan phase chunks = goes phase []
+on_chunks plan phase chunks = next_phase phase []
 
 -- a member has processed the packet that is out at it
 abbrev pub on_shared : SharePlan → SharePhase → ℕ → Chunk → ShareRow
 on_shared plan (Out member) sender chunk =
     if sender == instance_node member then syncing (length (others plan member)) (syncs plan member (chunk ∷ []))
-    else goes (Out member) []
-on_shared plan phase sender chunk = goes phase []
+    else next_phase (Out member) []
+on_shared plan phase sender chunk = next_phase phase []
 
 -- a member has taken the records
 abbrev pub on_synced : SharePhase → ShareRow
 on_synced (Setting left) = setting (left - 1) []
 on_synced (Syncing left) = syncing (left - 1) []
-on_synced phase = goes phase []
+on_synced phase = next_phase phase []
 
 -- the table of a share. What it doesn't name comes in no run
 abbrev pub row : ShareState → ℕ → Msg → ShareRow
-row s sender (msg.Fenced op) = if sender == instance_node (home s.plan) then on_fenced s.plan s.phase else goes s.phase []
-row s sender (msg.Chunks op chunks) = if sender == instance_node (home s.plan) then on_chunks s.plan s.phase chunks else goes s.phase []
+row s sender (msg.Fenced op) = if sender == instance_node (home s.plan) then on_fenced s.plan s.phase else next_phase s.phase []
+row s sender (msg.Chunks op chunks) = if sender == instance_node (home s.plan) then on_chunks s.plan s.phase chunks else next_phase s.phase []
 row s sender (msg.Shared op chunk) = on_shared s.plan s.phase sender chunk
 row s sender (msg.Synced op) = on_synced s.phase
-row s sender message = goes s.phase []
+row s sender message = next_phase s.phase []
 
--- the member that a flow's packets go to: by the two ports and the remote address, modulo the number of members
+-- the member that a flow's packets go to
 abbrev pub member_for : SharePlan → Flow → ℕ
-member_for plan flow = slice_index plan.members ((flow.lport + flow.rport + flow.remote) % length plan.members)
+member_for plan flow = slice_index plan.members (place_among flow (length plan.members))
 
 abbrev pub member_of : SharePlan → FullCell → ℕ
 member_of plan cell = member_for plan (flow_of plan.site cell.packet).0
@@ -114,17 +114,17 @@ pub record Served : Type 0 where
   pub stored : Option (List FullCell)
 
 -- the next packet goes to its member
-abbrev pub serves : SharePlan → FullCell → List FullCell → Served
-serves plan cell cells = let member = member_of plan cell in record {
+abbrev pub service_of : SharePlan → FullCell → List FullCell → Served
+service_of plan cell cells = let member = member_of plan cell in record {
   phase = Out member;
   sends = (switch_node, msg.Forward member (Shared plan.op (member == home plan)) cell) ∷ [];
   stored = Some cells;
 }
 
 -- a packet is served only where the share is set up, none is out, and one waits
-abbrev pub served : SharePlan → SharePhase → List FullCell → Served
-served plan Idle (cell ∷ cells) = serves plan cell cells
-served plan phase cells = record { phase = phase; sends = []; stored = None }
+abbrev pub service_if_idle : SharePlan → SharePhase → List FullCell → Served
+service_if_idle plan Idle (cell ∷ cells) = service_of plan cell cells
+service_if_idle plan phase cells = record { phase = phase; sends = []; stored = None }
 
 -- whether a share has nothing to do: it is set up, no packet is out, and none waits
 abbrev pub is_idle : SharePhase → List FullCell → Bool

@@ -1,6 +1,6 @@
 //! A copy that has begun, and its row for each message.
 ghost use Rattle.std.specs.Prelude.{◌≡◌, ◌<◌, [], ◌++◌, option_map, OnOk, IfOk};
-ghost use Rattle.copy_share.specs.Copy.{answer_of, asks, begin_sends, begun, from_destination, from_source, row};
+ghost use Rattle.copy_share.specs.Copy.{answer_of, asks, begin_sends, copy_at_start, from_destination, from_source, row};
 
 use crate::copy_phase::CopyPhase;
 use actor_net::Outbox;
@@ -45,7 +45,7 @@ impl CopyOp {
     ) -> Result<CopyOp, NoMemory>
         requires from { from < MOST_INSTANCES }
         requires to { to < MOST_INSTANCES }
-        ensures value { IfOk result (λ c. c ≡ begun (record { op = op; from = from; to = to; filter = filter })) }
+        ensures value { IfOk result (λ c. c ≡ copy_at_start (record { op = op; from = from; to = to; filter = filter })) }
         ensures out { OnOk result (out.new ≡ (out.old.0 ++ begin_sends (record { op = op; from = from; to = to; filter = filter }), out.old.1)) }
     {
         let message = asks(alloc, op, filter)?;

@@ -1,7 +1,7 @@
 //! What is to be shared, and what a share sends to its members.
 ghost use Rattle.std.specs.Prelude.{◌≡◌, ◌<◌, ◌∷◌, [], ◌++◌, OnOk, IfOk, All, length, ◌==◌};
 ghost use Rattle.nf_msgs.specs.Nodes.{instance_node};
-ghost use Rattle.copy_share.specs.Share.{home, member_for, member_of, on_shared, others, serves, syncing, syncs};
+ghost use Rattle.copy_share.specs.Share.{home, member_for, member_of, on_shared, others, service_of, syncing, syncs};
 
 use crate::share_phase::SharePhase;
 use actor_net::Outbox;
@@ -43,8 +43,8 @@ impl Plan {
         parcel: Cell,
         out: &mut Outbox<Msg, Note>,
     ) -> Result<SharePhase, NoMemory>
-        ensures phase { IfOk result (λ next. next ≡ (serves self.now parcel []).phase) }
-        ensures out { OnOk result (out.new ≡ (out.old.0 ++ (serves self.now parcel []).sends, out.old.1)) }
+        ensures phase { IfOk result (λ next. next ≡ (service_of self.now parcel []).phase) }
+        ensures out { OnOk result (out.new ≡ (out.old.0 ++ (service_of self.now parcel []).sends, out.old.1)) }
     {
         let member = self.member_of(&parcel);
         let mark = Mark::Shared {

@@ -1,7 +1,7 @@
 //! A share that has begun: how it is set up, and how it serves one packet after the other.
 ghost use Rattle.std.specs.Prelude.{◌≡◌, ◌<◌, [], ◌++◌, All, length, OnOk, IfOk};
-ghost use Rattle.event_store.specs.Store.{store_after, stored};
-ghost use Rattle.copy_share.specs.Share.{begin_sends, begun, is_idle, on_chunks, on_fenced, on_shared, on_synced, row, served, setting};
+ghost use Rattle.event_store.specs.Store.{store_after, stored_of};
+ghost use Rattle.copy_share.specs.Share.{begin_sends, share_at_start, is_idle, on_chunks, on_fenced, on_shared, on_synced, row, service_if_idle, setting};
 
 use crate::plan::{Plan, syncing};
 use crate::share_phase::SharePhase;
@@ -44,8 +44,9 @@ impl ShareOp {
     ) -> Result<ShareOp, NoMemory>
         requires some { 0 < length members.items }
         requires instances { All (λ member. member < MOST_INSTANCES) members.items }
-        ensures value { IfOk result (λ s. s ≡ begun (record { op = op; members = members.items; filter = filter.now; site = site })) }
-        ensures out { OnOk result (out.new ≡ (out.old.0 ++ begin_sends (record { op = op; members = members.items; filter = filter.now; site = site }), out.old.1)) }
+        ensures value { IfOk result (λ s. s ≡ share_at_start (record { op = op; members = members.items; filter = filter.now; site = site })) }
+        ensures out { OnOk result
+            (out.new ≡ (out.old.0 ++ begin_sends (record { op = op; members = members.items; filter = filter.now; site = site }), out.old.1)) }
     {
         let plan = Plan {
             op,
@@ -109,10 +110,12 @@ impl ShareOp {
         store: &mut EventStore<Cell>,
         out: &mut Outbox<Msg, Note>,
     ) -> Result<(), NoMemory>
-        ensures phase { OnOk result (self.new ≡ record self.old { phase = (served self.old.plan self.old.phase (stored store.old self.old.plan.op)).phase }) }
+        ensures phase { OnOk result
+            (self.new ≡ record self.old { phase = (service_if_idle self.old.plan self.old.phase (stored_of store.old self.old.plan.op)).phase }) }
         ensures plan { self.new.plan ≡ self.old.plan }
-        ensures stored { OnOk result (store.new ≡ store_after store.old self.old.plan.op (served self.old.plan self.old.phase (stored store.old self.old.plan.op)).stored) }
-        ensures sends { OnOk result (out.new.0 ≡ out.old.0 ++ (served self.old.plan self.old.phase (stored store.old self.old.plan.op)).sends) }
+        ensures stored { OnOk result
+            (store.new ≡ store_after store.old self.old.plan.op (service_if_idle self.old.plan self.old.phase (stored_of store.old self.old.plan.op)).stored) }
+        ensures sends { OnOk result (out.new.0 ≡ out.old.0 ++ (service_if_idle self.old.plan self.old.phase (stored_of store.old self.old.plan.op)).sends) }
         ensures notes { OnOk result (out.new.1 ≡ out.old.1) }
     {
         if self.phase != SharePhase::Idle || store.len(self.plan.op) == 0 {
@@ -127,7 +130,7 @@ impl ShareOp {
 
     /// Whether the share has nothing to do: it is set up, no packet is out, and none waits.
     pub fn idle(&self, store: &EventStore<Cell>) -> bool
-        ensures { result ≡ is_idle self.now.phase (stored store.now self.now.plan.op) }
+        ensures { result ≡ is_idle self.now.phase (stored_of store.now self.now.plan.op) }
     {
         self.phase == SharePhase::Idle && store.len(self.plan.op) == 0
     }

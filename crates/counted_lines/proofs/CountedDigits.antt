@@ -1,11 +1,12 @@
--- A number's digits, where only the last one changes when it is counted up.
-use Rattle.std.proofs.Common.{◌≡◌, ◌≤◌, ◌<◌, ℕ, ◌+◌, ◌/◌, ◌%◌, ◌^◌, zero, suc, nat_lt, List, [], ◌∷◌, ◌++◌, ◌-◌, length, take, ap, sym, ◌∙◌, append_assoc, decimal, arith, inl, inr}
+-- A number's digits, where only the last one changes when it is counted up, or the one before it and then a 0.
+use Rattle.std.proofs.Common.{◌≡◌, ◌≤◌, ◌<◌, ℕ, ◌+◌, ◌/◌, ◌%◌, ◌^◌, zero, suc, nat_lt, List, [], ◌∷◌, ◌++◌}
+use Rattle.std.proofs.Common.{◌-◌, length, length-take, take, ap, sym, subst, ◌∙◌, append_assoc, decimal, arith, inl, inr}
 use Rattle.std.specs.Prelude.{if◌then◌else◌}
 use Rattle.std.proofs.Math.Seq.{take-append_seam}
 use Rattle.std.proofs.lemmas.List.{length-append}
 use Rattle.std.proofs.lemmas.Bool.{cases_lt}
 use Rattle.std.proofs.lemmas.Bool.Decides.{nat_tests}
-use Rattle.std.proofs.lemmas.Fmt.{AppendsLastDigit, decimal_from_appends, decimal_digit, length-decimal-le}
+use Rattle.std.proofs.lemmas.Fmt.{AppendsLastDigit, decimal_from_appends, decimal_digit, decimal_step, decimal_nonempty, length-decimal-le}
 
 -- the last k digits of n at most
 by_last : ℕ → ℕ → List ℕ
@@ -87,3 +88,36 @@ next_last word front n small some is =
     let same : front ≡ word ++ next.front = same_front front (word ++ next.front) (48 + n % 10)
     (is ∙ ap (λ l. word ++ l) next.before ∙ sym (append_assoc word next.front ((48 + n % 10) ∷ []))) in
     ap (λ l. l ++ (48 + (n + 1) % 10) ∷ []) same ∙ append_assoc word next.front ((48 + (n + 1) % 10) ∷ []) ∙ ap (λ l. word ++ l) (sym next.after)
+
+-- counting up to a number that ends in a 0, where the digit before it isn't 0
+module _ (word block : List ℕ) (n : ℕ) (small : n + 1 < 2 ^ 64) (many : 20 ≤ n + 1) (ends : (n + 1) % 10 ≡ 0)
+    (is : take (length block - 1) block ++ (48 + n % 10) ∷ [] ≡ word ++ decimal n) where
+  before_last : take (length block - 1) block ≡ word ++ decimal (n / 10)
+  before_last =
+      same_front (take (length block - 1) block) (word ++ decimal (n / 10)) (48 + n % 10)
+      (is ∙ ap (λ l. word ++ l) (decimal_step n (omega (arith, many)) (omega (arith, small)))
+      ∙ sym (append_assoc word (decimal (n / 10)) ((48 + n % 10) ∷ [])))
+
+  -- there is a digit before the last
+  pub two_digits : 1 < length block
+  two_digits =
+      let some : 0 < length (decimal (n / 10)) = decimal_nonempty (n / 10) (omega (arith, small)) in
+      omega (arith, length-take (length block - 1) block, ap length before_last, length-append word (decimal (n / 10)), some)
+
+  -- that one counts up, and the last is written again
+  pub next_carried : (new : List ℕ) → 0 < (n + 1) / 10 % 10
+      → ((front : List ℕ) (last : ℕ) → take (length block - 1) block ≡ front ++ last ∷ []
+      → take (length new - 1) new ≡ front ++ (48 + (n + 1) / 10 % 10) ∷ [])
+      → take (length new - 1) new ++ (48 + (n + 1) % 10) ∷ [] ≡ word ++ decimal (n + 1)
+  next_carried new some set =
+      let up : (n + 1) / 10 ≡ n / 10 + 1 = omega (arith, ends) in
+      let next = next_digit (n / 10) (omega (arith, small)) (subst (λ k. 0 < k % 10) up some) in
+      let tens = 48 + (n + 1) / 10 % 10 in
+      let placed : take (length new - 1) new ≡ (word ++ next.front) ++ tens ∷ [] =
+      set (word ++ next.front) (48 + n / 10 % 10)
+      (before_last ∙ ap (λ l. word ++ l) next.before ∙ sym (append_assoc word next.front ((48 + n / 10 % 10) ∷ []))) in
+      let fronts : next.front ++ tens ∷ [] ≡ decimal ((n + 1) / 10) =
+      ap (λ k. next.front ++ (48 + k % 10) ∷ []) up ∙ sym next.after ∙ ap decimal (sym up) in
+      let ones = 48 + (n + 1) % 10 in
+      ap (λ l. l ++ ones ∷ []) (placed ∙ append_assoc word next.front (tens ∷ []) ∙ ap (λ l. word ++ l) fronts)
+      ∙ append_assoc word (decimal ((n + 1) / 10)) (ones ∷ []) ∙ ap (λ l. word ++ l) (sym (decimal_step (n + 1) (omega (arith, many)) small))

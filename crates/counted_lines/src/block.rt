@@ -1,5 +1,5 @@
 //! Short texts in blocks of one size. A block is copied as a whole, which takes a step or two, and not a loop.
-ghost use Rattle.std.specs.Prelude.{◌≡◌, ◌≤◌, ◌+◌, ◌++◌, length, take, codes, decimal};
+ghost use Rattle.std.specs.Prelude.{◌≡◌, ◌<◌, ◌≤◌, ◌+◌, ◌-◌, ◌++◌, ℕ, List, [], ◌∷◌, length, take, codes, decimal};
 ghost use Rattle.counted_lines.specs.declared.block.TheConstants.{LONGEST_END};
 
 use itoa::Buffer;
@@ -81,6 +81,17 @@ impl Block {
         ensures bound { result ≤ BLOCK }
     {
         self.len
+    }
+
+    /// Puts another byte in place of the last but one.
+    #[inline(always)]
+    pub fn set_before_last(&mut self, byte: u8)
+        requires { 1 < length self.old }
+        ensures text { (front : List ℕ) (last : ℕ) → take (length self.old - 1) self.old ≡ front ++ last ∷ []
+            → take (length self.new - 1) self.new ≡ front ++ byte ∷ [] }
+        ensures size { length self.new ≡ length self.old }
+    {
+        self.bytes[self.len - 2] = byte;
     }
 
     /// Copies the block to a place of its size, the text in front.

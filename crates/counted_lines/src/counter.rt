@@ -78,11 +78,30 @@ impl Counter {
         let next = self.number + 1;
         let digit = (next % 10) as u8;
         if digit == 0 {
-            self.restart(next);
+            self.carry();
             return;
         }
         self.number = next;
         self.digit = digit;
+    }
+
+    /// Counts up to a number whose last digit is 0. Where the one before it isn't, no other changes.
+    #[inline(never)]
+    fn carry(&mut self)
+        requires within { self.old.number + 1 < 2 ^ 64 }
+        requires carries { (self.old.number + 1) % 10 ≡ 0 }
+        ensures word { self.new.word.now ≡ self.old.word.now }
+        ensures number { self.new.number ≡ self.old.number + 1 }
+    {
+        let next = self.number + 1;
+        let digit = (next / 10 % 10) as u8;
+        if digit == 0 || next < 20 {
+            self.restart(next);
+            return;
+        }
+        self.block.set_before_last(b'0' + digit);
+        self.number = next;
+        self.digit = 0;
     }
 
     /// Begins with a number again.

@@ -40,7 +40,8 @@ impl Page {
         count: &Counter,
         end: &Block,
     ) -> Result<(), NoMemory>
-        ensures text { OnOk result (text.new ++ page_text self.new ≡ (text.old ++ page_text self.old) ++ (count.now.word.now ++ decimal count.now.number ++ end.now)) }
+        ensures text { OnOk result
+            (text.new ++ page_text self.new ≡ (text.old ++ page_text self.old) ++ (count.now.word.now ++ decimal count.now.number ++ end.now)) }
         ensures err { OnErr result (page_text self.new ≡ page_text self.old) }
         ensures text_err { OnErr result (text.new ≡ text.old) }
     {

@@ -8,13 +8,13 @@ use Rattle.nf_msgs.specs.declared.note.Note.TheVariants as note
 use Rattle.nf_msgs.specs.Nodes.{switch_node}
 use Rattle.move_op.specs.Move.{Store}
 use Rattle.ctrl_node.specs.Operations.{OpenOperations, Turn, lasts, turn_of, with_operation}
-use Rattle.ctrl_node.specs.Controller.{ControllerState, Step, after_turn, takes_turn, turned, closed}
+use Rattle.ctrl_node.specs.Controller.{ControllerState, Step, after_turn, takes_turn, with_turn, without_operation}
 use Rattle.ctrl_node.proofs.WrittenOperations.{lasts_after}
 
 -- the step of an operation that answers, and lasts or not
 abbrev pub answered_as : ControllerState → ℕ → Turn → Answer → Bool → Step
 answered_as s op turn answer lasts = record {
-  node = cond lasts (turned s op turn) (closed (turned s op turn) op);
+  node = cond lasts (with_turn s op turn) (without_operation (with_turn s op turn) op);
   sends = turn.sends ++ (switch_node, Answered op) ∷ [];
   notes = note.Answered op answer ∷ [];
 }
@@ -23,7 +23,7 @@ pub answered : (s : ControllerState) (op port : ℕ) (message : Msg) (answer : A
     → (turn_of (finite.get s.operations op) s.store port message).answer ≡ Some answer
     → takes_turn s op (turn_of (finite.get s.operations op) s.store port message)
     ≡ answered_as s op (turn_of (finite.get s.operations op) s.store port message) answer
-    (lasts (finite.get (turned s op (turn_of (finite.get s.operations op) s.store port message)).operations op))
+    (lasts (finite.get (with_turn s op (turn_of (finite.get s.operations op) s.store port message)).operations op))
 answered s op port message answer e =
     let turn = turn_of (finite.get s.operations op) s.store port message in
     ap (after_turn s op turn) e ∙ ap (answered_as s op turn answer) (sym (lasts_after s.operations op s.store port message))
@@ -33,14 +33,17 @@ pub node_of : (s after : ControllerState) (op port : ℕ) (message : Msg) (answe
     → operations ≡ with_operation s.operations op (turn_of (finite.get s.operations op) s.store port message).operation
     → store ≡ (turn_of (finite.get s.operations op) s.store port message).store
     → (turn_of (finite.get s.operations op) s.store port message).answer ≡ Some answer
-    → after ≡ cond (lasts (finite.get operations op)) (record s { operations = operations; store = store }) (closed (record s { operations = operations; store = store }) op)
+    → after ≡ cond (lasts (finite.get operations op)) (record s { operations = operations; store = store })
+    (without_operation (record s { operations = operations; store = store }) op)
     → after ≡ (takes_turn s op (turn_of (finite.get s.operations op) s.store port message)).node
 node_of s after op port message answer operations store changed kept some is =
     let turn = turn_of (finite.get s.operations op) s.store port message in
     is
-    ∙ ap (λ o. cond (lasts (finite.get o op)) (record s { operations = o; store = store }) (closed (record s { operations = o; store = store }) op)) changed
-    ∙ ap (λ st. cond (lasts (finite.get (with_operation s.operations op turn.operation) op)) (record s { operations = with_operation s.operations op turn.operation; store = st })
-    (closed (record s { operations = with_operation s.operations op turn.operation; store = st }) op)) kept
+    ∙ ap (λ o. cond (lasts (finite.get o op)) (record s { operations = o; store = store })
+    (without_operation (record s { operations = o; store = store }) op)) changed
+    ∙ ap (λ st. cond (lasts (finite.get (with_operation s.operations op turn.operation) op))
+    (record s { operations = with_operation s.operations op turn.operation; store = st })
+    (without_operation (record s { operations = with_operation s.operations op turn.operation; store = st }) op)) kept
     ∙ sym (ap (λ step. step.node) (answered s op port message answer some))
 
 -- what it sends: what the operation sent, and the answer

@@ -122,8 +122,10 @@ pub noted_with : (gs gs' : List ShareGroup) (operations : OpenOperations) (op : 
     → ((n : ℕ) (f : Filter) → is_noted gs n f ≡ true → is_noted gs' n f ≡ true) → ((f : Filter) → share_filter now ≡ Some f → is_noted gs' op f ≡ true)
     → AreNoted gs' (finite.insert operations op now)
 noted_with gs gs' operations op now noted kept one q operation f at is =
-    elim (eq_by_cmp nat_cmp q op) as (λ b. eq_by_cmp nat_cmp q op ≡ b → cond b (Some now) (finite.get operations q) ≡ Some operation → is_noted gs' q f ≡ true) [
-      | true ↦ λ here same. ap (λ n. is_noted gs' n f) (eqb-true q op (sym (order_test q op) ∙ here)) ∙ one f (ap share_filter (same_Some now operation same) ∙ is)
+    elim (eq_by_cmp nat_cmp q op)
+    as (λ b. eq_by_cmp nat_cmp q op ≡ b → cond b (Some now) (finite.get operations q) ≡ Some operation → is_noted gs' q f ≡ true) [
+      | true ↦ λ here same. ap (λ n. is_noted gs' n f) (eqb-true q op (sym (order_test q op) ∙ here))
+          ∙ one f (ap share_filter (same_Some now operation same) ∙ is)
       | false ↦ λ other same. kept q f (noted q operation f same is)
     ] refl (sym (get-insert nat_cmp_total operations op now q) ∙ at)
 

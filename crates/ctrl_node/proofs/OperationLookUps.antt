@@ -33,7 +33,8 @@ not_less a b less = grind (arith, nat_tests)
 
 -- numbers that rise are sorted, and sorted numbers of which no two are equal rise
 pub sorted_from_rise : (numbers : List ℕ) → Rise numbers → IsSorted nat_cmp numbers
-sorted_from_rise numbers rise k d from to = not_less (get_or numbers k d) (get_or numbers (k + 1) d) (below_from_sorted numbers k (k + 1) d rise (omega arith) to)
+sorted_from_rise numbers rise k d from to =
+    not_less (get_or numbers k d) (get_or numbers (k + 1) d) (below_from_sorted numbers k (k + 1) d rise (omega arith) to)
 
 pub rise_from_sorted : (numbers : List ℕ) → IsSorted nat_cmp numbers → IsDistinct eqb numbers → Rise numbers
 rise_from_sorted numbers sorted unique =
@@ -58,7 +59,8 @@ module _ {X : Type 0} where
   sorted_from : (es : List (ℕ × X)) → Rise (keys_of es) → T (is_sorted nat_cmp es)
   sorted_from [] s = tt
   sorted_from (e ∷ es) s =
-      yes_and (below_all nat_cmp e.0 es) (is_sorted nat_cmp es) (below_from e.0 es (sorted_head nat_cmp e.0 (keys_of es) s)) (sorted_from es (sorted_tail nat_cmp e.0 (keys_of es) s))
+      yes_and (below_all nat_cmp e.0 es) (is_sorted nat_cmp es) (below_from e.0 es (sorted_head nat_cmp e.0 (keys_of es) s))
+      (sorted_from es (sorted_tail nat_cmp e.0 (keys_of es) s))
 
   -- its entries are these
   pub entries-view : (es : List (ℕ × X)) → Rise (keys_of es) → finite.entries (view es) ≡ es
@@ -90,14 +92,16 @@ module _ {X : Type 0} where
       → AllByRecursion (λ y. nat_cmp k y ≡ Less) (keys_of (remove_entry test es))
   below_rest k test [] all = all
   below_rest k test (e ∷ es) all =
-      elim (test e.0) as (λ b. AllByRecursion (λ y. nat_cmp k y ≡ Less) (keys_of (cond b es (e ∷ remove_entry test es)))) [ true ↦ all.1 | false ↦ (all.0, below_rest k test es all.1) ]
+      elim (test e.0) as (λ b. AllByRecursion (λ y. nat_cmp k y ≡ Less) (keys_of (cond b es (e ∷ remove_entry test es))))
+      [ true ↦ all.1 | false ↦ (all.0, below_rest k test es all.1) ]
 
   -- without one the others still rise
   pub rest_rise : (test : ℕ → Bool) (es : List (ℕ × X)) → Rise (keys_of es) → Rise (keys_of (remove_entry test es))
   unfolding IsStrictlySortedBy
   rest_rise test [] rise = rise
   rest_rise test (e ∷ es) rise =
-      elim (test e.0) as (λ b. Rise (keys_of (cond b es (e ∷ remove_entry test es)))) [ true ↦ rise.1 | false ↦ (below_rest e.0 test es rise.0, rest_rise test es rise.1) ]
+      elim (test e.0) as (λ b. Rise (keys_of (cond b es (e ∷ remove_entry test es))))
+      [ true ↦ rise.1 | false ↦ (below_rest e.0 test es rise.0, rest_rise test es rise.1) ]
 
   -- what was written under a number is found there
   pub found_again : (m : finite.FinMap nat_cmp X) (op : ℕ) (x : X) → finite.get (finite.insert m op x) op ≡ Some x

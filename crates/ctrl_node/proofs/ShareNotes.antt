@@ -1,5 +1,6 @@
 -- Shares by the masks of their filters: each that was noted is noted still, and so is the new one; no share that matches a flow is below what is told of it.
-use Rattle.std.proofs.Common.{◌≡◌, ℕ, ◌≤◌, min, Bool, true, false, cond, List, [], ◌∷◌, ◌++◌, set, get_or, Option, None, Some, Result, refl, ap, sym, ◌∙◌, arith}
+use Rattle.std.proofs.Common.{◌≡◌, ℕ, ◌≤◌, min, Bool, true, false, cond, List, [], ◌∷◌, ◌++◌}
+use Rattle.std.proofs.Common.{set, get_or, Option, None, Some, Result, refl, ap, sym, ◌∙◌, arith}
 use Rattle.std.specs.Prelude.{position, OnErr, OnOk}
 use Rattle.std.specs.List.{list_any}
 use Rattle.std.proofs.lemmas.Bool.{and_parts, and_from, or_left, or_right, le-leb, leb-true}
@@ -53,10 +54,12 @@ noted_before gs g n f is = list_any-append (notes n f) gs (g ∷ []) ∙ or_left
 
 up_to_here : (key : Flow) (op : ℕ) (g g' : ShareGroup) → IsLowered key op g g' → is_up_to (lowest_at g' key) op ≡ true
 up_to_here key op g g' own =
-    ap (λ o. is_up_to o op) (own key ∙ ap (λ b. cond b (Some (lower (lowest_at g key) op)) (lowest_at g key)) (flow_eq_refl key)) ∙ lower_here (lowest_at g key) op
+    ap (λ o. is_up_to o op) (own key ∙ ap (λ b. cond b (Some (lower (lowest_at g key) op)) (lowest_at g key)) (flow_eq_refl key))
+    ∙ lower_here (lowest_at g key) op
 
 -- the new share is noted, in the group of its mask or in one of its own
-pub noted_here : (gs : List ShareGroup) (at op : ℕ) (f : Filter) (g g' : ShareGroup) → position (λ x. mask_eq x.mask (mask_of f)) gs ≡ Some at → g ≡ get_or gs at g
+pub noted_here : (gs : List ShareGroup) (at op : ℕ) (f : Filter) (g g' : ShareGroup) → position (λ x. mask_eq x.mask (mask_of f)) gs ≡ Some at
+    → g ≡ get_or gs at g
     → g'.mask ≡ g.mask → IsLowered (values_of f) op g g' → is_noted (set gs at g') op f ≡ true
 noted_here gs at op f g g' found is mask own =
     let here = position-Some (λ x. mask_eq x.mask (mask_of f)) gs at g found in

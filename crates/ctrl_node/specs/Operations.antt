@@ -9,7 +9,7 @@ use Rattle.flow_filter.specs.Filter.{matches, meets}
 use Rattle.nf_msgs.specs.declared.answer.Answer.{Answer}
 use Rattle.nf_msgs.specs.declared.msg.Msg.{Msg}
 use Rattle.flow_filter.specs.declared.flow.Flow.{Flow}
-use Rattle.event_store.specs.Store.{stored}
+use Rattle.event_store.specs.Store.{stored_of}
 use Rattle.move_op.specs.Move.{MoveState, MoveRow, Store, row_in, store_after, answer_of}
 use Rattle.copy_share.specs.Copy.{CopyState, CopyRow}
 use Rattle.copy_share.specs.Copy as copy
@@ -35,7 +35,7 @@ lasts operation = false
 
 -- whether an operation needs nothing more to be done: a move or a copy does as long as it is open, a share until it is idle
 abbrev pub is_quiet : Store → Operation → Bool
-is_quiet store (Share s) = share.is_idle s.phase (stored store s.plan.op)
+is_quiet store (Share s) = share.is_idle s.phase (stored_of store s.plan.op)
 is_quiet store operation = false
 
 abbrev pub are_quiet : OpenOperations → Store → Bool
@@ -70,24 +70,24 @@ pub record Turn : Type 0 where
   pub sends : List (ℕ × Msg)
   pub answer : Option Answer
 
-abbrev pub moved : MoveState → Store → MoveRow → Turn
-moved m store row = record {
+abbrev pub turn_of_move : MoveState → Store → MoveRow → Turn
+turn_of_move m store row = record {
   operation = Some (Move (record m { phase = row.next.phase }));
   store = store_after store m.plan.op row.stored;
   sends = row.next.sends;
   answer = answer_of row.next.phase;
 }
 
-abbrev pub copied : CopyState → Store → CopyRow → Turn
-copied c store row = record {
+abbrev pub turn_of_copy : CopyState → Store → CopyRow → Turn
+turn_of_copy c store row = record {
   operation = Some (Copy (record c { phase = row.phase }));
   store = store;
   sends = row.sends;
   answer = copy.answer_of row.phase;
 }
 
-abbrev pub shared : ShareState → Store → ShareRow → Turn
-shared s store row = record {
+abbrev pub turn_of_share : ShareState → Store → ShareRow → Turn
+turn_of_share s store row = record {
   operation = Some (Share (record s { phase = row.phase }));
   store = store;
   sends = row.sends;
@@ -100,13 +100,13 @@ idly store = record { operation = None; store = store; sends = []; answer = None
 
 abbrev pub turn_of : Option Operation → Store → ℕ → Msg → Turn
 turn_of None store sender message = idly store
-turn_of (Some (Move m)) store sender message = moved m store (row_in m store sender message)
-turn_of (Some (Copy c)) store sender message = copied c store (copy.row c sender message)
-turn_of (Some (Share s)) store sender message = shared s store (share.row s sender message)
+turn_of (Some (Move m)) store sender message = turn_of_move m store (row_in m store sender message)
+turn_of (Some (Copy c)) store sender message = turn_of_copy c store (copy.row c sender message)
+turn_of (Some (Share s)) store sender message = turn_of_share s store (share.row s sender message)
 
 -- a share serves the next packet, if it may
-abbrev pub served : ShareState → Store → Served → Turn
-served s store next = record {
+abbrev pub turn_of_serving : ShareState → Store → Served → Turn
+turn_of_serving s store next = record {
   operation = Some (Share (record s { phase = next.phase }));
   store = store_after store s.plan.op next.stored;
   sends = next.sends;
@@ -114,7 +114,7 @@ served s store next = record {
 }
 
 abbrev pub serving_of : Option Operation → Store → Turn
-serving_of (Some (Share s)) store = served s store (share.served s.plan s.phase (stored store s.plan.op))
+serving_of (Some (Share s)) store = turn_of_serving s store (share.service_if_idle s.plan s.phase (stored_of store s.plan.op))
 serving_of operation store = idly store
 
 -- the operations, with one that has changed

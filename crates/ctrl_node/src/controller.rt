@@ -1,7 +1,8 @@
 //! The controller as a node: what it holds, and the row of each message.
 ghost use Rattle.std.specs.Prelude.{◌≡◌, ◌≤◌, ◌<◌, ◌++◌, length, if◌then◌else◌, IfOk, IfSome, OnOk};
 ghost use Rattle.std.specs.FinMap as finite;
-ghost use Rattle.ctrl_node.specs.Controller.{answers, closed, finish_of, handed, instance_at, on_diverted, on_event, on_final, opened, row, serves, takes_turn, with_finish};
+ghost use Rattle.ctrl_node.specs.Controller.{answers, without_operation, finish_of, hand_step, instance_at, on_diverted};
+ghost use Rattle.ctrl_node.specs.Controller.{on_event, on_final, controller_at_start, row, serve_step, takes_turn, with_finish};
 ghost use Rattle.ctrl_node.specs.Operations.{lasts, turn_of};
 
 mod commands;
@@ -43,7 +44,8 @@ impl Model for Ctrl {
 
     ghost Value = { ControllerState };
 
-    ghost coded = { Prim.hlevel (codes, finite.code {R = nat_cmp} coded_ℕ operation.the_row.coded, finite.code {R = nat_cmp} coded_ℕ (coded_list cell.the_row.coded)) };
+    ghost coded = { Prim.hlevel
+        (codes, finite.code {R = nat_cmp} coded_ℕ operation.the_row.coded, finite.code {R = nat_cmp} coded_ℕ (coded_list cell.the_row.coded)) };
 
     ghost view = { λ c. record {
       names = c.names;
@@ -95,7 +97,7 @@ impl Ctrl {
     /// A controller for the instances with these names, that was told nothing yet.
     pub fn open(alloc: Global, names: Names, site: Site) -> Result<Ctrl, NoMemory>
         requires instances { length names ≤ MOST_INSTANCES }
-        ensures { IfOk result (λ controller. controller ≡ opened names site) }
+        ensures { IfOk result (λ controller. controller ≡ controller_at_start names site) }
     {
         let mut stopped = Vec::new(alloc);
         for _name in names.items() {
@@ -208,9 +210,9 @@ impl Ctrl {
         message: Msg,
         out: &mut Outbox<Msg, Note>,
     ) -> Result<(), NoMemory>
-        ensures node { OnOk result (self.new ≡ (handed self.old op port message).node) }
-        ensures sends { OnOk result (out.new.0 ≡ out.old.0 ++ (handed self.old op port message).sends) }
-        ensures notes { OnOk result (out.new.1 ≡ out.old.1 ++ (handed self.old op port message).notes) }
+        ensures node { OnOk result (self.new ≡ (hand_step self.old op port message).node) }
+        ensures sends { OnOk result (out.new.0 ≡ out.old.0 ++ (hand_step self.old op port message).sends) }
+        ensures notes { OnOk result (out.new.1 ≡ out.old.1 ++ (hand_step self.old op port message).notes) }
     {
         self.turn(op, port, message, out)?;
         self.serve(op, out)
@@ -225,8 +227,10 @@ impl Ctrl {
         out: &mut Outbox<Msg, Note>,
     ) -> Result<(), NoMemory>
         ensures node { OnOk result (self.new ≡ (takes_turn self.old op (turn_of (finite.get self.old.operations op) self.old.store port message)).node) }
-        ensures sends { OnOk result (out.new.0 ≡ out.old.0 ++ (takes_turn self.old op (turn_of (finite.get self.old.operations op) self.old.store port message)).sends) }
-        ensures notes { OnOk result (out.new.1 ≡ out.old.1 ++ (takes_turn self.old op (turn_of (finite.get self.old.operations op) self.old.store port message)).notes) }
+        ensures sends { OnOk result
+            (out.new.0 ≡ out.old.0 ++ (takes_turn self.old op (turn_of (finite.get self.old.operations op) self.old.store port message)).sends) }
+        ensures notes { OnOk result
+            (out.new.1 ≡ out.old.1 ++ (takes_turn self.old op (turn_of (finite.get self.old.operations op) self.old.store port message)).notes) }
     {
         let answer = self.operations.on(op, port, message, &mut self.store, out)?;
         let Some(answer) = answer else {
@@ -238,7 +242,7 @@ impl Ctrl {
 
     /// Closes an operation that is answered, if it doesn't last.
     fn close(&mut self, op: u32)
-        ensures { self.new ≡ (if lasts (finite.get self.old.operations op) then self.old else closed self.old op) }
+        ensures { self.new ≡ (if lasts (finite.get self.old.operations op) then self.old else without_operation self.old op) }
     {
         if self.operations.lasts(op) {
             return;
@@ -248,8 +252,8 @@ impl Ctrl {
 
     /// A share serves its next packet, if it may.
     fn serve(&mut self, op: u32, out: &mut Outbox<Msg, Note>) -> Result<(), NoMemory>
-        ensures node { OnOk result (self.new ≡ (serves self.old op).node) }
-        ensures sends { OnOk result (out.new.0 ≡ out.old.0 ++ (serves self.old op).sends) }
+        ensures node { OnOk result (self.new ≡ (serve_step self.old op).node) }
+        ensures sends { OnOk result (out.new.0 ≡ out.old.0 ++ (serve_step self.old op).sends) }
         ensures notes { OnOk result (out.new.1 ≡ out.old.1) }
     {
         self.operations.serve(op, &mut self.store, out)

@@ -104,7 +104,8 @@ impl ShareGroup {
     /// Notes the number of a share at a masked flow.
     fn note(&mut self, key: Flow, op: u32) -> Result<(), NoMemory>
         ensures mask { self.new.mask ≡ self.old.mask }
-        ensures lowest { OnOk result ((k : EachFlow) → lowest_at self.new k ≡ (if flow_eq key k then Some (lower (lowest_at self.old key) op) else lowest_at self.old k)) }
+        ensures lowest { OnOk result
+            ((k : EachFlow) → lowest_at self.new k ≡ (if flow_eq key k then Some (lower (lowest_at self.old key) op) else lowest_at self.old k)) }
         ensures err { OnErr result ((k : EachFlow) → lowest_at self.new k ≡ lowest_at self.old k) }
     {
         let lowest = match self.lowest.get(&key) {

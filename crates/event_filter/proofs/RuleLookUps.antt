@@ -8,7 +8,7 @@ use Rattle.std.proofs.lemmas.Cmp.{nat_eq_equiv}
 use Rattle.flow_filter.specs.declared.filter.Filter.{Filter}
 use Rattle.event_filter.specs.declared.action.Action.{Action}
 use Rattle.event_filter.specs.declared.rule.Rule.{Rule}
-use Rattle.event_filter.specs.Rules.{rule_at, held_at, changed, ruled_by, holding, with_rule, with_held, without_rule}
+use Rattle.event_filter.specs.Rules.{rule_at, held_at, with_change, with_rule_of, holding, with_rule, with_held, without_rule}
 
 module _ {P : Type 0} where
   -- a change that keeps the operation's number is seen at that operation alone
@@ -19,9 +19,10 @@ module _ {P : Type 0} where
   keep_other x op q change rest new keeps e = grind (arith, nat_tests)
 
   pub rule_at-changed : (rules : List (Rule P)) (op q : ℕ) (change : Rule P → Rule P) → ((r : Rule P) → (change r).op ≡ r.op)
-      → rule_at (changed rules op change) q ≡ cond (eqb q op) (option_map change (rule_at rules q)) (rule_at rules q)
+      → rule_at (with_change rules op change) q ≡ cond (eqb q op) (option_map change (rule_at rules q)) (rule_at rules q)
   rule_at-changed [] op q change keeps = elim (eqb q op) as (λ b. None ≡ cond b (option_map change None) None) [ true ↦ refl | false ↦ refl ]
-  rule_at-changed (x ∷ rules) op q change keeps = keep_other x op q change (rule_at rules q) (rule_at (changed rules op change) q) (keeps x) (rule_at-changed rules op q change keeps)
+  rule_at-changed (x ∷ rules) op q change keeps =
+      keep_other x op q change (rule_at rules q) (rule_at (with_change rules op change) q) (keeps x) (rule_at-changed rules op q change keeps)
 
   -- one more rule behind the others
   push_case : (b : Bool) (x : Rule P) (rest new other : Option (Rule P)) → new ≡ cond (is_some rest) rest other
@@ -32,7 +33,8 @@ module _ {P : Type 0} where
   pub rule_at-push : (rules : List (Rule P)) (r : Rule P) (q : ℕ)
       → rule_at (rules ++ r ∷ []) q ≡ cond (is_some (rule_at rules q)) (rule_at rules q) (cond (eqb r.op q) (Some r) None)
   rule_at-push [] r q = refl
-  rule_at-push (x ∷ rules) r q = push_case (eqb x.op q) x (rule_at rules q) (rule_at (rules ++ r ∷ []) q) (cond (eqb r.op q) (Some r) None) (rule_at-push rules r q)
+  rule_at-push (x ∷ rules) r q =
+      push_case (eqb x.op q) x (rule_at rules q) (rule_at (rules ++ r ∷ []) q) (cond (eqb r.op q) (Some r) None) (rule_at-push rules r q)
 
   -- a rule that is found by its operation is of it
   pub op-rule_at : (rules : List (Rule P)) (q : ℕ) (r : Rule P) → rule_at rules q ≡ Some r → r.op ≡ q
@@ -57,7 +59,8 @@ module _ {P : Type 0} where
   put_first : (rules : List (Rule P)) (op q : ℕ) (f : Filter) (act : Action) → rule_at rules op ≡ None
       → rule_at (rules ++ (record { op = op; filter = f; action = act; held = [] }) ∷ []) q ≡ cond (eqb q op) (Some (set_to rules op f act)) (rule_at rules q)
   put_first rules op q f act none = rule_at-push rules (record { op = op; filter = f; action = act; held = [] }) q
-      ∙ put_case (rule_at rules q) (rule_at rules op) (record { op = op; filter = f; action = act; held = [] }) (set_to rules op f act) op q none (λ e. ap (rule_at rules) e) (rw none refl)
+      ∙ put_case (rule_at rules q) (rule_at rules op) (record { op = op; filter = f; action = act; held = [] }) (set_to rules op f act) op q none
+      (λ e. ap (rule_at rules) e) (rw none refl)
 
   replace_case : (o : Option (Rule P)) (r s : Rule P) (op q : ℕ) (change : Rule P → Rule P) → (q ≡ op → o ≡ Some r) → change r ≡ s
       → cond (eqb q op) (option_map change o) o ≡ cond (eqb q op) (Some s) o
@@ -69,11 +72,12 @@ module _ {P : Type 0} where
   pub rule_at-with_rule : (rules : List (Rule P)) (op q : ℕ) (f : Filter) (act : Action)
       → rule_at (with_rule rules op f act) q ≡ cond (eqb q op) (Some (set_to rules op f act)) (rule_at rules q)
   rule_at-with_rule rules op q f act = elim (rule_at rules op) as (λ o. rule_at rules op ≡ o
-      → rule_at (cond (is_some o) (changed rules op (ruled_by f act)) (rules ++ (record { op = op; filter = f; action = act; held = [] }) ∷ [])) q
+      → rule_at (cond (is_some o) (with_change rules op (with_rule_of f act)) (rules ++ (record { op = op; filter = f; action = act; held = [] }) ∷ [])) q
       ≡ cond (eqb q op) (Some (set_to rules op f act)) (rule_at rules q)) [
         | None ↦ λ none. put_first rules op q f act none
-        | Some r ↦ λ is. rule_at-changed rules op q (ruled_by f act) (λ x. refl)
-            ∙ replace_case (rule_at rules q) r (set_to rules op f act) op q (ruled_by f act) (λ e. ap (rule_at rules) e ∙ is) (rw (op-rule_at rules op r is, is) refl)
+        | Some r ↦ λ is. rule_at-changed rules op q (with_rule_of f act) (λ x. refl)
+            ∙ replace_case (rule_at rules q) r (set_to rules op f act) op q (with_rule_of f act) (λ e. ap (rule_at rules) e ∙ is)
+            (rw (op-rule_at rules op r is, is) refl)
       ] refl
 
   -- what is held stays where a rule is set
@@ -93,17 +97,19 @@ module _ {P : Type 0} where
   pub held_at-with_held : (rules : List (Rule P)) (op q : ℕ) (parcel : P) → IsSome (rule_at rules op)
       → held_at (with_held rules op parcel) q ≡ cond (eqb q op) (held_at rules q ++ parcel ∷ []) (held_at rules q)
   held_at-with_held rules op q parcel some = ap (λ o. option_map_or (λ r. r.held) o []) (rule_at-changed rules op q (holding parcel) (λ x. refl))
-      ∙ elim (eqb q op) as (λ b. eqb q op ≡ b → option_map_or (λ r. r.held) (cond b (option_map (holding parcel) (rule_at rules q)) (rule_at rules q)) [] ≡ cond b (held_at rules q ++ parcel ∷ []) (held_at rules q)) [
+      ∙ elim (eqb q op) as (λ b. eqb q op ≡ b → option_map_or (λ r. r.held) (cond b (option_map (holding parcel) (rule_at rules q)) (rule_at rules q)) []
+      ≡ cond b (held_at rules q ++ parcel ∷ []) (held_at rules q)) [
         | true ↦ λ e. grown (rule_at rules q) parcel (ap (λ n. is_some (rule_at rules n)) (eqb-true q op e) ∙ some)
         | false ↦ λ e. refl
       ] refl
 
   left_out : (x : Rule P) (op q : ℕ) (o : Option (Rule P)) (rest : List (Rule P)) → rule_at rest q ≡ cond (eqb q op) None o
       → rule_at (cond (not (eqb x.op op)) (x ∷ rest) rest) q ≡ cond (eqb q op) None (cond (eqb x.op q) (Some x) o)
-  left_out x op q o rest e = elim (eqb x.op op) as (λ b. eqb x.op op ≡ b → rule_at (cond (not b) (x ∷ rest) rest) q ≡ cond (eqb q op) None (cond (eqb x.op q) (Some x) o)) [
-    | true ↦ λ here. grind (arith, nat_tests)
-    | false ↦ λ off. grind (arith, nat_tests)
-  ] refl
+  left_out x op q o rest e =
+      elim (eqb x.op op) as (λ b. eqb x.op op ≡ b → rule_at (cond (not b) (x ∷ rest) rest) q ≡ cond (eqb q op) None (cond (eqb x.op q) (Some x) o)) [
+        | true ↦ λ here. grind (arith, nat_tests)
+        | false ↦ λ off. grind (arith, nat_tests)
+      ] refl
 
   -- the rules of other operations are found as before
   pub rule_at-without : (rules : List (Rule P)) (op q : ℕ) → rule_at (without_rule rules op) q ≡ cond (eqb q op) None (rule_at rules q)

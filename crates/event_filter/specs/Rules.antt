@@ -55,12 +55,12 @@ module _ {P : Type 0} where
   HaveOneEach rules = IsDistinct nat_eq (map (λ r. r.op) rules)
 
   -- an operation's rule changed in its place
-  abbrev pub changed : List (Rule P) → ℕ → (Rule P → Rule P) → List (Rule P)
-  changed rules op change = map (λ r. if r.op == op then change r else r) rules
+  abbrev pub with_change : List (Rule P) → ℕ → (Rule P → Rule P) → List (Rule P)
+  with_change rules op change = map (λ r. if r.op == op then change r else r) rules
 
   -- a rule with another filter and action
-  abbrev pub ruled_by : Filter → Action → Rule P → Rule P
-  ruled_by f act r = record r { filter = f; action = act }
+  abbrev pub with_rule_of : Filter → Action → Rule P → Rule P
+  with_rule_of f act r = record r { filter = f; action = act }
 
   -- a rule with one more parcel after those that it holds
   abbrev pub holding : P → Rule P → Rule P
@@ -69,12 +69,12 @@ module _ {P : Type 0} where
   -- an operation's rule set in its place, where it has one, and else last; what is held for it stays
   abbrev pub with_rule : List (Rule P) → ℕ → Filter → Action → List (Rule P)
   with_rule rules op f act =
-      if is_some (rule_at rules op) then changed rules op (ruled_by f act)
+      if is_some (rule_at rules op) then with_change rules op (with_rule_of f act)
       else rules ++ (record { op = op; filter = f; action = act; held = [] }) ∷ []
 
   -- one more parcel held for an operation, after the others
   abbrev pub with_held : List (Rule P) → ℕ → P → List (Rule P)
-  with_held rules op parcel = changed rules op (holding parcel)
+  with_held rules op parcel = with_change rules op (holding parcel)
 
   -- the rules of the other operations
   abbrev pub without_rule : List (Rule P) → ℕ → List (Rule P)

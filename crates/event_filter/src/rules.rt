@@ -1,5 +1,6 @@
 //! The event rules of an instance, with the packets that each of them holds.
-ghost use Rattle.std.specs.Prelude.{◌≡◌, ◌==◌, ◌↔◌, ℕ, true, false, if◌then◌else◌, [], ◌∷◌, ◌++◌, option_map, IsSome, IfSome, IsTrue, OnOk, OnErr, IfErr, None, Some, position};
+ghost use Rattle.std.specs.Prelude.{◌≡◌, ◌==◌, ◌↔◌, ℕ, true, false, if◌then◌else◌, [], ◌∷◌, ◌++◌, option_map};
+ghost use Rattle.std.specs.Prelude.{IsSome, IfSome, IsTrue, OnOk, OnErr, IfErr, None, Some, position};
 ghost use Rattle.std.specs.Option.{option_copied};
 ghost use Rattle.flow_filter.specs.Filter.{matches};
 ghost use Rattle.flow_filter.specs.declared.flow.Flow.{Flow as EachFlow};

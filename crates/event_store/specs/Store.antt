@@ -6,8 +6,8 @@ use Rattle.std.specs.FinMap as map
 
 module _ {P : Type 0} where
   -- the parcels of an operation: none where it isn't noted
-  abbrev pub stored : map.FinMap nat_cmp (List P) → ℕ → List P
-  stored store op = unwrap_or (map.get store op) []
+  abbrev pub stored_of : map.FinMap nat_cmp (List P) → ℕ → List P
+  stored_of store op = unwrap_or (map.get store op) []
 
   -- the store with these parcels for an operation, which isn't noted where there are none
   abbrev pub with_parcels : map.FinMap nat_cmp (List P) → ℕ → List P → map.FinMap nat_cmp (List P)

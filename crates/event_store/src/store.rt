@@ -1,7 +1,7 @@
 //! Parcels that operations keep for later, a queue for each.
 ghost use Rattle.std.specs.Prelude.{◌≡◌, ◌==◌, ℕ, if◌then◌else◌, [], ◌∷◌, ◌++◌, length, drop, min, slice_get, OnOk, OnErr, IfErr};
 ghost use Rattle.std.specs.FinMap as map;
-ghost use Rattle.event_store.specs.Store.{stored, with_parcels};
+ghost use Rattle.event_store.specs.Store.{stored_of, with_parcels};
 ghost use Rattle.event_store.specs.Queues.{queued};
 
 use crate::queue::Queue;
@@ -48,9 +48,9 @@ impl<P> EventStore<P> {
     pub fn put(&mut self, op: u32, parcel: P) -> Result<(), (NoMemory, P)>
     where
         P: Drop,
-        ensures store { OnOk result (self.new ≡ with_parcels self.old op (stored self.old op ++ parcel ∷ [])) }
-        ensures each { OnOk result ((q : ℕ) → stored self.new q ≡ (if q == op
-            then stored self.old q ++ parcel ∷ [] else stored self.old q)) }
+        ensures store { OnOk result (self.new ≡ with_parcels self.old op (stored_of self.old op ++ parcel ∷ [])) }
+        ensures each { OnOk result ((q : ℕ) → stored_of self.new q ≡ (if q == op
+            then stored_of self.old q ++ parcel ∷ [] else stored_of self.old q)) }
         ensures back { IfErr result (λ refused. refused.1 ≡ parcel) }
         ensures err { OnErr result (self.new ≡ self.old) }
     {
@@ -59,25 +59,25 @@ impl<P> EventStore<P> {
 
     /// Takes the first parcel of an operation.
     pub fn first(&mut self, op: u32) -> Option<P>
-        ensures value { result ≡ slice_get (stored self.old op) 0 }
-        ensures store { self.new ≡ with_parcels self.old op (drop 1 (stored self.old op)) }
-        ensures each { (q : ℕ) → stored self.new q ≡ (if q == op then drop 1 (stored self.old q) else stored self.old q) }
+        ensures value { result ≡ slice_get (stored_of self.old op) 0 }
+        ensures store { self.new ≡ with_parcels self.old op (drop 1 (stored_of self.old op)) }
+        ensures each { (q : ℕ) → stored_of self.new q ≡ (if q == op then drop 1 (stored_of self.old q) else stored_of self.old q) }
     {
         pop(&mut self.queues, op)
     }
 
     /// Takes all parcels of an operation, in order. This takes no memory.
     pub fn drain(&mut self, op: u32) -> Vec<P>
-        ensures parcels { result.items ≡ stored self.old op }
+        ensures parcels { result.items ≡ stored_of self.old op }
         ensures store { self.new ≡ with_parcels self.old op [] }
-        ensures each { (q : ℕ) → stored self.new q ≡ (if q == op then [] else stored self.old q) }
+        ensures each { (q : ℕ) → stored_of self.new q ≡ (if q == op then [] else stored_of self.old q) }
     {
         drain(&mut self.queues, self.alloc, op)
     }
 
     /// How many parcels an operation has. The number stays at its greatest.
     pub fn len(&self, op: u32) -> u32
-        ensures { result ≡ min (length (stored self.now op)) u32.MAX }
+        ensures { result ≡ min (length (stored_of self.now op)) u32.MAX }
     {
         u32::try_from(count(&self.queues, op)).unwrap_or(u32::MAX)
     }

@@ -39,7 +39,8 @@ module _ {M : Type 0} where
 
   -- where messages were only sent, the same were taken
   pub same_taken : (known all : List (Transfer M)) → SentSince known all → taken_in all ≡ taken_in known
-  same_taken known all t = ap taken_in t.1 ∙ taken_in-append known (map Sent t.0) ∙ ap (λ l. taken_in known ++ l) (taken_in-sent t.0) ∙ append-nil (taken_in known)
+  same_taken known all t =
+      ap taken_in t.1 ∙ taken_in-append known (map Sent t.0) ∙ ap (λ l. taken_in known ++ l) (taken_in-sent t.0) ∙ append-nil (taken_in known)
 
   -- where messages were only sent, they were sent after the others
   pub more_sent : (known all : List (Transfer M)) (t : SentSince known all) → sent_in all ≡ sent_in known ++ t.0
@@ -57,10 +58,16 @@ module _ {M : Type 0} where
 
   -- the same was done since then, and one thing more
   pub sent_more : (known all : List (Transfer M)) (x : M) → SentSince known all → SentSince known (all ++ Sent x ∷ [])
-  sent_more known all x t = (t.0 ++ x ∷ [], ap (λ l. l ++ Sent x ∷ []) t.1 ∙ append_assoc known (map Sent t.0) (Sent x ∷ []) ∙ ap (λ l. known ++ l) (sym (map-append Sent t.0 (x ∷ []))))
+  sent_more known all x t = (
+    t.0 ++ x ∷ [],
+    ap (λ l. l ++ Sent x ∷ []) t.1 ∙ append_assoc known (map Sent t.0) (Sent x ∷ []) ∙ ap (λ l. known ++ l) (sym (map-append Sent t.0 (x ∷ []))),
+  )
 
   pub taken_more : (known all : List (Transfer M)) (x : M) → TakenSince known all → TakenSince known (all ++ Taken x ∷ [])
-  taken_more known all x t = (t.0 ++ x ∷ [], ap (λ l. l ++ Taken x ∷ []) t.1 ∙ append_assoc known (map Taken t.0) (Taken x ∷ []) ∙ ap (λ l. known ++ l) (sym (map-append Taken t.0 (x ∷ []))))
+  taken_more known all x t = (
+    t.0 ++ x ∷ [],
+    ap (λ l. l ++ Taken x ∷ []) t.1 ∙ append_assoc known (map Taken t.0) (Taken x ∷ []) ∙ ap (λ l. known ++ l) (sym (map-append Taken t.0 (x ∷ []))),
+  )
 
   -- nothing was done since then
   pub none_sent : (all : List (Transfer M)) → SentSince all all

@@ -11,7 +11,8 @@ use Rattle.fifo_link.specs.declared.ends.TakeEnd.TheInside as taker
 module _ {M : Type 0} where
   -- a send end
   abbrev pub send_view : sender.Inside M → End M
-  send_view s = record { link = s.hand.table_id; capacity = ruled_capacity (arc_value s.line); done = sent_in (view s.hand).sender; known = (view s.hand).sender }
+  send_view s =
+      record { link = s.hand.table_id; capacity = ruled_capacity (arc_value s.line); done = sent_in (view s.hand).sender; known = (view s.hand).sender }
 
   -- it holds the right to send on its link
   abbrev pub SendHolds : sender.Inside M → Type 0
@@ -19,8 +20,10 @@ module _ {M : Type 0} where
 
   -- a take end
   abbrev pub take_view : taker.Inside M → End M
-  take_view t = record { link = t.hand.table_id; capacity = ruled_capacity (arc_value t.line); done = taken_in (view t.hand).taker; known = (view t.hand).taker }
+  take_view t =
+      record { link = t.hand.table_id; capacity = ruled_capacity (arc_value t.line); done = taken_in (view t.hand).taker; known = (view t.hand).taker }
 
   -- it holds the right to take on its link, and room for all that can be left at the end
   abbrev pub TakeHolds : taker.Inside M → Type 0
-  TakeHolds t = IsPassOf (arc_value t.line) t.hand × ((view t.hand).takes ≡ true) × (t.room.items ≡ []) × (ruled_capacity (arc_value t.line) ≤ vec_capacity t.room)
+  TakeHolds t =
+      IsPassOf (arc_value t.line) t.hand × ((view t.hand).takes ≡ true) × (t.room.items ≡ []) × (ruled_capacity (arc_value t.line) ≤ vec_capacity t.room)

@@ -106,7 +106,8 @@ impl<M: Drop> SendEnd<M> {
     /// full at a moment since the last message that was sent.
     pub fn send<R: Wait>(&mut self, rt: &R, message: M) -> Result<(), Full<M>>
         ensures same { (self.new.link ≡ self.old.link) × (self.new.capacity ≡ self.old.capacity) }
-        ensures sent { MatchResult result (λ _. self.new.done ≡ self.old.done ++ message ∷ []) (λ full. (full.message ≡ message) × (self.new.done ≡ self.old.done)) }
+        ensures sent { MatchResult result (λ _. self.new.done ≡ self.old.done ++ message ∷ [])
+            (λ full. (full.message ≡ message) × (self.new.done ≡ self.old.done)) }
         ensures known { MatchResult result (λ _. IsSent self.old.known message self.new.known) (λ _. self.new.known ≡ self.old.known) }
         ensures full { IfErr result (λ _. WasFull self.old.capacity self.old.known) }
     {

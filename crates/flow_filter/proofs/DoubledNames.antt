@@ -28,7 +28,8 @@ member_by_name name x (y ∷ xs) =
     cc
 
 -- one key more, which is among the others or isn't
-count_more : {K : Type 0} (x : K) (distinct : List K) (n : ℕ) (member among twice : Bool) → member ≡ among → length distinct ≤ n → ltb (length distinct) n ≡ twice
+count_more : {K : Type 0} (x : K) (distinct : List K) (n : ℕ) (member among twice : Bool) → member ≡ among → length distinct ≤ n
+    → ltb (length distinct) n ≡ twice
     → ltb (length (cond member distinct (x ∷ distinct))) (suc n) ≡ (among || twice)
 count_more x distinct n true true twice is fits same = grind (arith, nat_tests)
 count_more x distinct n false false twice is fits same = grind (arith, nat_tests)

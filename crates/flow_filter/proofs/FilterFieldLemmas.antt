@@ -1,5 +1,6 @@
 -- What one field of two filters says, for numbers and prefixes alike.
-use Rattle.std.proofs.Common.{◌≡◌, ℕ, ◌+◌, ◌-◌, ◌/◌, ◌%◌, ◌^◌, ◌<◌, ◌≤◌, ◌==◌, Bool, true, false, cond, eqb, leb, ◌&&◌, Option, None, Some, refl, ap, sym, ◌∙◌, arith, inl, inr, zero, suc, lit<}
+use Rattle.std.proofs.Common.{◌≡◌, ℕ, ◌+◌, ◌-◌, ◌/◌, ◌%◌, ◌^◌, ◌<◌, ◌≤◌, ◌==◌, Bool, true, false, cond, eqb, leb}
+use Rattle.std.proofs.Common.{◌&&◌, Option, None, Some, refl, ap, sym, ◌∙◌, arith, inl, inr, zero, suc, lit<}
 use Rattle.std.specs.Prelude.{nat_eq}
 use Rattle.std.specs.Option.{ForSome}
 use Rattle.std.proofs.lemmas.Bool.{eqb-true, eq-eqb, eqb-false, ne_eqb, leb-true, leb-false, and_cases, and_parts, both_ways}

@@ -31,8 +31,10 @@ fields f g flow both =
     each_passes (both_tests (tests_of f flow) (tests_of g flow)) (all_both (tests_of f flow) (tests_of g flow) ∙ both)
 
 -- the meet by its five fields
-joined : (f g : Filter) (proto : Option (Option ℕ)) (local : Option (Option Prefix)) (lport : Option (Option ℕ)) (remote : Option (Option Prefix)) (rport : Option (Option ℕ))
-    → MeetsField (number_below (2 ^ 8)) f.proto g.proto proto → MeetsField address f.local g.local local → MeetsField (number_below (2 ^ 16)) f.lport g.lport lport
+joined : (f g : Filter) (proto : Option (Option ℕ)) (local : Option (Option Prefix)) (lport : Option (Option ℕ)) (remote : Option (Option Prefix))
+    (rport : Option (Option ℕ))
+    → MeetsField (number_below (2 ^ 8)) f.proto g.proto proto → MeetsField address f.local g.local local
+    → MeetsField (number_below (2 ^ 16)) f.lport g.lport lport
     → MeetsField address f.remote g.remote remote → MeetsField (number_below (2 ^ 16)) f.rport g.rport rport
     → IsMeetOf f g (proto >>= λ a. local >>= λ b. lport >>= λ c. remote >>= λ d. rport >>= λ e.
     Some (record { proto = a; local = b; lport = c; remote = d; rport = e }))
@@ -107,19 +109,24 @@ module _ (f g : Filter) (covered : FieldTests) (laws : CoversFields f g covered)
       record {
         proto = true_from_ne_false covered.proto (λ is. let far = laws.of_proto.never is in
             both_ways _ far.3 (agreed (record { proto = far.0; local = l.0; lport = lp.0; remote = r.0; rport = rp.0 })
-            (record { proto = far.1; local = l.1; lport = lp.1; remote = r.1; rport = rp.1 }) (record { proto = far.2; local = l.2; lport = lp.2; remote = r.2; rport = rp.2 })).proto);
+            (record { proto = far.1; local = l.1; lport = lp.1; remote = r.1; rport = rp.1 })
+            (record { proto = far.2; local = l.2; lport = lp.2; remote = r.2; rport = rp.2 })).proto);
         local = true_from_ne_false covered.local (λ is. let far = laws.of_local.never is in
             both_ways _ far.3 (agreed (record { proto = p.0; local = far.0; lport = lp.0; remote = r.0; rport = rp.0 })
-            (record { proto = p.1; local = far.1; lport = lp.1; remote = r.1; rport = rp.1 }) (record { proto = p.2; local = far.2; lport = lp.2; remote = r.2; rport = rp.2 })).local);
+            (record { proto = p.1; local = far.1; lport = lp.1; remote = r.1; rport = rp.1 })
+            (record { proto = p.2; local = far.2; lport = lp.2; remote = r.2; rport = rp.2 })).local);
         lport = true_from_ne_false covered.lport (λ is. let far = laws.of_lport.never is in
             both_ways _ far.3 (agreed (record { proto = p.0; local = l.0; lport = far.0; remote = r.0; rport = rp.0 })
-            (record { proto = p.1; local = l.1; lport = far.1; remote = r.1; rport = rp.1 }) (record { proto = p.2; local = l.2; lport = far.2; remote = r.2; rport = rp.2 })).lport);
+            (record { proto = p.1; local = l.1; lport = far.1; remote = r.1; rport = rp.1 })
+            (record { proto = p.2; local = l.2; lport = far.2; remote = r.2; rport = rp.2 })).lport);
         remote = true_from_ne_false covered.remote (λ is. let far = laws.of_remote.never is in
             both_ways _ far.3 (agreed (record { proto = p.0; local = l.0; lport = lp.0; remote = far.0; rport = rp.0 })
-            (record { proto = p.1; local = l.1; lport = lp.1; remote = far.1; rport = rp.1 }) (record { proto = p.2; local = l.2; lport = lp.2; remote = far.2; rport = rp.2 })).remote);
+            (record { proto = p.1; local = l.1; lport = lp.1; remote = far.1; rport = rp.1 })
+            (record { proto = p.2; local = l.2; lport = lp.2; remote = far.2; rport = rp.2 })).remote);
         rport = true_from_ne_false covered.rport (λ is. let far = laws.of_rport.never is in
             both_ways _ far.3 (agreed (record { proto = p.0; local = l.0; lport = lp.0; remote = r.0; rport = far.0 })
-            (record { proto = p.1; local = l.1; lport = lp.1; remote = r.1; rport = far.1 }) (record { proto = p.2; local = l.2; lport = lp.2; remote = r.2; rport = far.2 })).rport);
+            (record { proto = p.1; local = l.1; lport = lp.1; remote = r.1; rport = far.1 })
+            (record { proto = p.2; local = l.2; lport = lp.2; remote = r.2; rport = far.2 })).rport);
       }
     where
       -- a flow that agrees with g agrees with f

@@ -7,7 +7,7 @@ use Rattle.std.proofs.lemmas.Cmp.{nat_eq_equiv}
 use Rattle.basics.specs.Options.{◌>>=◌}
 use Rattle.flow_filter.specs.declared.prefix.Prefix.{Prefix}
 use Rattle.flow_filter.specs.declared.filter.Filter.{Filter}
-use Rattle.flow_filter.specs.Filter.{holds, meet, meet_value, meet_prefix, meets, numbers_agree, prefixes_agree}
+use Rattle.flow_filter.specs.Filter.{holds, meet, meet_value, meet_prefix, meets, both_agree, overlap}
 
 -- a chain gives something where each link does
 some-chain : {A B : Type 0} (o : Option A) (f : A → Option B) (b : Bool) → ((x : A) → is_some (f x) ≡ b) → is_some (o >>= f) ≡ (is_some o && b)
@@ -18,7 +18,7 @@ some-cond : {A : Type 0} (test : Bool) (x : A) → is_some (cond test (Some x) N
 some-cond true x = refl
 some-cond false x = refl
 
-some-number : (x y : Option ℕ) → is_some (meet_value nat_eq x y) ≡ numbers_agree x y
+some-number : (x y : Option ℕ) → is_some (meet_value nat_eq x y) ≡ both_agree nat_eq x y
 some-number None None = refl
 some-number None (Some y) = refl
 some-number (Some x) None = refl
@@ -43,7 +43,7 @@ by_length p q true true le ge =
 by_length p q false true le ge = some-cond (holds q p.bits) (Some p)
 by_length p q false false le ge = let up = leb-false p.len q.len le in let down = leb-false q.len p.len ge in absurd (omega arith)
 
-some-prefix : (x y : Option Prefix) → is_some (meet_prefix x y) ≡ prefixes_agree x y
+some-prefix : (x y : Option Prefix) → is_some (meet_prefix x y) ≡ both_agree overlap x y
 some-prefix None None = refl
 some-prefix None (Some q) = refl
 some-prefix (Some p) None = refl

@@ -7,7 +7,9 @@ use Rattle.std.specs.Str.{bytes_eq}
 use Rattle.flow_filter.specs.declared.filter.Filter.{Filter}
 use Rattle.flow_filter.specs.declared.filter_text.FilterFault.{FilterFault}
 use Rattle.basics.specs.Parsing.{split_once}
-use Rattle.flow_filter.specs.FilterText.{Fields, Answer, nothing, parse, once, protocol_of, with_named, with_sides, with_field, with_fields, and_fields, fields_of, is_printable, is_transport, AgreesBy}
+use Rattle.basics.specs.Results.{◌>>=◌}
+use Rattle.flow_filter.specs.FilterText.{Fields, nothing, parse, once, protocol_of, with_named, with_fields, fields_of, is_printable, is_transport, AgreesBy}
+use Rattle.flow_filter.specs.FieldSteps.{Answer, with_sides, with_field}
 
 -- what a field gives is what `put` makes of a value that was read
 record Put {X : Type 0} (new : Option X) (put : X → Fields) (g : Fields) : Type 0 where
@@ -15,10 +17,10 @@ record Put {X : Type 0} (new : Option X) (put : X → Fields) (g : Fields) : Typ
   is_read : new ≡ Some value
   is_put : put value ≡ g
 
-once_put : {X : Type 0} → (given : Bool) (new : Option X) (wrong : FilterFault) (put : X → Fields) (g : Fields) → once given new wrong put ≡ Ok g → Put new put g
-once_put true new wrong put g is = absurd cc
-once_put false None wrong put g is = absurd cc
-once_put false (Some x) wrong put g is = record { value = x; is_read = refl; is_put = cc }
+once_put : {X : Type 0} → (given new : Option X) (wrong : FilterFault) (put : X → Fields) (g : Fields) → once given new wrong put ≡ Ok g → Put new put g
+once_put (Some y) new wrong put g is = absurd cc
+once_put None None wrong put g is = absurd cc
+once_put None (Some x) wrong put g is = record { value = x; is_read = refl; is_put = cc }
 
 -- one answer or another
 either : (test : Bool) (a b : Answer) (g : Fields) (P : Type 0) → (a ≡ Ok g → P) → (b ≡ Ok g → P) → cond test a b ≡ Ok g → P
@@ -40,7 +42,8 @@ named_printable f g name value so_far is =
     rw (← proto) (protocol_named _ _ put.value put.is_read))
     (either (bytes_eq name (codes "local")) _ _ g _ (λ at. kept (ap (λ (h : Fields). h.proto) (once_put _ _ _ (λ x. record f { local = Some x }) g at).is_put))
     (either (bytes_eq name (codes "lport")) _ _ g _ (λ at. kept (ap (λ (h : Fields). h.proto) (once_put _ _ _ (λ x. record f { lport = Some x }) g at).is_put))
-    (either (bytes_eq name (codes "remote")) _ _ g _ (λ at. kept (ap (λ (h : Fields). h.proto) (once_put _ _ _ (λ x. record f { remote = Some x }) g at).is_put))
+    (either (bytes_eq name (codes "remote")) _ _ g _
+    (λ at. kept (ap (λ (h : Fields). h.proto) (once_put _ _ _ (λ x. record f { remote = Some x }) g at).is_put))
     (either (bytes_eq name (codes "rport")) _ _ g _ (λ at. kept (ap (λ (h : Fields). h.proto) (once_put _ _ _ (λ x. record f { rport = Some x }) g at).is_put))
     (λ at. absurd cc))))) is
 
@@ -49,7 +52,7 @@ sides_printable f g None so_far is = absurd cc
 sides_printable f g (Some sides) so_far is = named_printable f g sides.0 sides.1 so_far is
 
 and_printable : (a : Answer) (g : Fields) (more : Fields → Answer) → ((f : Fields) → a ≡ Ok f → is_transport f.proto ≡ true)
-    → ((f : Fields) → is_transport f.proto ≡ true → more f ≡ Ok g → is_transport g.proto ≡ true) → and_fields a more ≡ Ok g → is_transport g.proto ≡ true
+    → ((f : Fields) → is_transport f.proto ≡ true → more f ≡ Ok g → is_transport g.proto ≡ true) → (a >>= more) ≡ Ok g → is_transport g.proto ≡ true
 and_printable (Ok f) g more first rest is = rest f (first f refl) is
 and_printable (Err fault) g more first rest is = absurd cc
 

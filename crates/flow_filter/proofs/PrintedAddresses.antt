@@ -42,10 +42,12 @@ address-dotted a b c d in_a in_b in_c in_d =
 pub address-text : (bits : ℕ) → bits < 2 ^ 32 → address_of (address_text bits) ≡ Some bits
 unfolding address_text
 address-text bits small =
-    address-dotted (bits / 16777216 % 256) (bits / 65536 % 256) (bits / 256 % 256) (bits / 1 % 256) (omega arith) (omega arith) (omega arith) (omega arith) ∙ ap (λ n. Some (from_be_bytes w32 (bits / 16777216 % 256 ∷ bits / 65536 % 256 ∷ bits / 256 % 256 ∷ n % 256 ∷ []))) (div-one bits)
+    address-dotted (bits / 16777216 % 256) (bits / 65536 % 256) (bits / 256 % 256) (bits / 1 % 256) (omega arith) (omega arith) (omega arith) (omega arith)
+    ∙ ap (λ n. Some (from_be_bytes w32 (bits / 16777216 % 256 ∷ bits / 65536 % 256 ∷ bits / 256 % 256 ∷ n % 256 ∷ []))) (div-one bits)
     ∙ ap (λ n. Some n) (from_be_bytes-to_be_bytes_4 bits small)
 
-Lacks-address : (separator a b c d : ℕ) → (IsInRange 48 57 separator → ⊥) → eqb 46 separator ≡ false → a < 256 → b < 256 → c < 256 → d < 256 → Lacks separator (dotted_text a b c d)
+Lacks-address : (separator a b c d : ℕ) → (IsInRange 48 57 separator → ⊥) → eqb 46 separator ≡ false → a < 256 → b < 256 → c < 256 → d < 256
+    → Lacks separator (dotted_text a b c d)
 Lacks-address separator a b c d other dot in_a in_b in_c in_d = rw (nested a b c d)
     (Lacks-append separator (decimal a) _ (Lacks-decimal separator a other (omega arith)) (
       dot,
@@ -61,14 +63,17 @@ unfolding prefix_of address_text
 prefix-text p small =
     let slash : IsInRange 48 57 47 → ⊥ = λ range. omega arith in
     let at = split_once-append 47 (address_text p.bits) (decimal p.len)
-    (Lacks-address 47 (p.bits / 16777216 % 256) (p.bits / 65536 % 256) (p.bits / 256 % 256) (p.bits / 1 % 256) slash refl (omega arith) (omega arith) (omega arith) (omega arith)) in
+    (Lacks-address 47 (p.bits / 16777216 % 256) (p.bits / 65536 % 256) (p.bits / 256 % 256) (p.bits / 1 % 256) slash refl (omega arith) (omega arith)
+    (omega arith) (omega arith)) in
     let within : p.len ≤ 32 = p.within in
     let aligned : eqb (p.bits % 2 ^ (32 - p.len)) 0 ≡ true = eq-eqb _ _ p.aligned in
     rw (at, address-text p.bits small, parse_number-printed 32 p.len within (omega arith), aligned) refl
 
 -- the comma, the equals sign and a blank stand in no number, address or prefix
-pub Lacks-prefix : (separator : ℕ) (p : Prefix) → (IsInRange 48 57 separator → ⊥) → eqb 46 separator ≡ false → eqb 47 separator ≡ false → Lacks separator (prefix_text p)
+pub Lacks-prefix : (separator : ℕ) (p : Prefix) → (IsInRange 48 57 separator → ⊥) → eqb 46 separator ≡ false → eqb 47 separator ≡ false
+    → Lacks separator (prefix_text p)
 unfolding address_text
 Lacks-prefix separator p other dot slash = Lacks-append separator (address_text p.bits) _
-    (Lacks-address separator (p.bits / 16777216 % 256) (p.bits / 65536 % 256) (p.bits / 256 % 256) (p.bits / 1 % 256) other dot (omega arith) (omega arith) (omega arith) (omega arith))
+    (Lacks-address separator (p.bits / 16777216 % 256) (p.bits / 65536 % 256) (p.bits / 256 % 256) (p.bits / 1 % 256) other dot (omega arith) (omega arith)
+    (omega arith) (omega arith))
     (slash, Lacks-decimal separator p.len other (let within : p.len ≤ 32 = p.within in omega arith))

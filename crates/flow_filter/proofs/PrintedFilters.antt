@@ -1,5 +1,6 @@
 -- The text of a filter is read as the filter.
-use Rattle.std.proofs.Common.{◌≡◌, ℕ, ◌<◌, ◌^◌, Bool, true, false, cond, eqb, List, [], ◌∷◌, ◌++◌, Option, None, Some, Ok, Err, option_map, refl, ap, sym, ◌∙◌, arith, inl, inr}
+use Rattle.std.proofs.Common.{◌≡◌, ℕ, ◌<◌, ◌^◌, Bool, true, false, cond, eqb, List, [], ◌∷◌, ◌++◌, Option}
+use Rattle.std.proofs.Common.{None, Some, Ok, Err, option_map, refl, ap, sym, ◌∙◌, arith, inl, inr}
 use Rattle.std.specs.Prelude.{codes}
 use Rattle.std.specs.Option.{ForSome}
 use Rattle.std.specs.List.{slice_split, join_with_byte}
@@ -12,24 +13,27 @@ use Rattle.flow_filter.specs.declared.prefix.Prefix.{Prefix}
 use Rattle.flow_filter.specs.declared.filter.Filter.{Filter}
 use Rattle.flow_filter.specs.Filter.{IsFilter}
 use Rattle.flow_filter.specs.Reading.{prefix_numbers}
-use Rattle.flow_filter.specs.FilterText.{Fields, Answer, nothing, parse, print, pieces, piece, joined, protocol_of, protocol_text, prefix_text, with_named, with_field, with_fields, and_fields, fields_of, is_printable, is_transport}
+use Rattle.flow_filter.specs.FilterText.{Fields, nothing, parse, print, pieces, piece, joined, protocol_of, protocol_text}
+use Rattle.flow_filter.specs.FilterText.{prefix_text, with_named, with_fields, fields_of, is_printable, is_transport}
+use Rattle.flow_filter.specs.FieldSteps.{Answer, with_field}
+use Rattle.basics.specs.Results.{◌>>=◌}
 use Rattle.basics.proofs.SplitLemmas.{Lacks, Lacks-append, Lacks-literal, split_once-append, split_once-lacks, split-Some, split-None}
 use Rattle.basics.proofs.PrintedNumbers.{parse_number-printed, Lacks-decimal}
 use Rattle.flow_filter.proofs.PrintedAddresses.{prefix-text, Lacks-prefix}
 
 -- fields after fields
-and_fields-twice : (a : Answer) (xs ys : List (List ℕ)) → ((g : Fields) → with_fields g (xs ++ ys) ≡ and_fields (with_fields g xs) (λ h. with_fields h ys))
-    → and_fields a (λ g. with_fields g (xs ++ ys)) ≡ and_fields (and_fields a (λ g. with_fields g xs)) (λ g. with_fields g ys)
-and_fields-twice (Ok f) xs ys before = before f
-and_fields-twice (Err fault) xs ys before = refl
+then-twice : (a : Answer) (xs ys : List (List ℕ)) → ((g : Fields) → with_fields g (xs ++ ys) ≡ (with_fields g xs >>= λ h. with_fields h ys))
+    → (a >>= λ g. with_fields g (xs ++ ys)) ≡ ((a >>= λ g. with_fields g xs) >>= λ g. with_fields g ys)
+then-twice (Ok f) xs ys before = before f
+then-twice (Err fault) xs ys before = refl
 
-with_fields-append : (f : Fields) (xs ys : List (List ℕ)) → with_fields f (xs ++ ys) ≡ and_fields (with_fields f xs) (λ g. with_fields g ys)
+with_fields-append : (f : Fields) (xs ys : List (List ℕ)) → with_fields f (xs ++ ys) ≡ (with_fields f xs >>= λ g. with_fields g ys)
 with_fields-append f [] ys = refl
-with_fields-append f (x ∷ xs) ys = and_fields-twice (with_field f x) xs ys (λ g. with_fields-append g xs ys)
+with_fields-append f (x ∷ xs) ys = then-twice (with_field f x) xs ys (λ g. with_fields-append g xs ys)
 
 -- a step from what is read so far
 and_then : (f g h : Fields) (xs ys : List (List ℕ)) → with_fields f xs ≡ Ok g → with_fields g ys ≡ Ok h → with_fields f (xs ++ ys) ≡ Ok h
-and_then f g h xs ys first second = with_fields-append f xs ys ∙ ap (λ a. and_fields a (λ g. with_fields g ys)) first ∙ second
+and_then f g h xs ys first second = with_fields-append f xs ys ∙ ap (λ (a : Answer). a >>= λ g. with_fields g ys) first ∙ second
 
 -- the state after each field
 abbrev given : Option ℕ → Option (ℕ × ℕ) → Option ℕ → Option (ℕ × ℕ) → Option ℕ → Fields
@@ -45,7 +49,8 @@ read_proto (Some n) known = elim (or_cases (eqb n 6) (eqb n 17) known) [
 ]
 
 read_local : (a : Option ℕ) (local : Option Prefix) → ForSome local (λ p. p.bits < 2 ^ 32)
-    → with_fields (given a None None None None) (piece (codes "local=") (option_map prefix_text local)) ≡ Ok (given a (option_map prefix_numbers local) None None None)
+    → with_fields (given a None None None None) (piece (codes "local=") (option_map prefix_text local))
+    ≡ Ok (given a (option_map prefix_numbers local) None None None)
 unfolding with_named
 read_local a None fits = refl
 read_local a (Some p) fits = rw (prefix-text p (fits p refl)) refl
@@ -82,7 +87,8 @@ read_pieces f fits known =
     let first = read_proto f.proto known in
     let second = and_then nothing _ (given f.proto local None None None) one two first (read_local f.proto f.local fits.local) in
     let third = and_then nothing _ (given f.proto local f.lport None None) (one ++ two) three second (read_lport f.proto local f.lport fits.lport) in
-    let fourth = and_then nothing _ (given f.proto local f.lport remote None) (one ++ two ++ three) four third (read_remote f.proto local f.lport f.remote fits.remote) in
+    let fourth = and_then nothing _ (given f.proto local f.lport remote None) (one ++ two ++ three) four third
+    (read_remote f.proto local f.lport f.remote fits.remote) in
     and_then nothing _ (fields_of f) (one ++ two ++ three ++ four) five fourth (read_rport f.proto local f.lport remote f.rport fits.rport)
 
 -- no piece has a comma
@@ -113,15 +119,18 @@ Lack-pieces f fits =
     Lack-append _ _ (Lack-append _ _ (Lack-append _ _ (Lack-append _ _
     (Lack-piece protocol_text (codes "proto=") f.proto (Lacks-literal 44 (codes "proto=") refl) (λ n is. Lacks-protocol n (eqb n 6)))
     (Lack-piece prefix_text (codes "local=") f.local (Lacks-literal 44 (codes "local=") refl) (λ p is. Lacks-prefix 44 p lacks_comma refl refl)))
-    (Lack-piece decimal (codes "lport=") f.lport (Lacks-literal 44 (codes "lport=") refl) (λ n is. let small : n < 2 ^ 16 = fits.lport n is in Lacks-decimal 44 n lacks_comma (omega arith))))
+    (Lack-piece decimal (codes "lport=") f.lport (Lacks-literal 44 (codes "lport=") refl) (λ n is.
+    let small : n < 2 ^ 16 = fits.lport n is in Lacks-decimal 44 n lacks_comma (omega arith))))
     (Lack-piece prefix_text (codes "remote=") f.remote (Lacks-literal 44 (codes "remote=") refl) (λ p is. Lacks-prefix 44 p lacks_comma refl refl)))
-    (Lack-piece decimal (codes "rport=") f.rport (Lacks-literal 44 (codes "rport=") refl) (λ n is. let small : n < 2 ^ 16 = fits.rport n is in Lacks-decimal 44 n lacks_comma (omega arith)))
+    (Lack-piece decimal (codes "rport=") f.rport (Lacks-literal 44 (codes "rport=") refl) (λ n is.
+    let small : n < 2 ^ 16 = fits.rport n is in Lacks-decimal 44 n lacks_comma (omega arith)))
 
 -- joined pieces are split at the commas between them
 split-join : (first : List ℕ) (more : List (List ℕ)) → Lack (first ∷ more) → slice_split (λ b. eqb b 44) (join_with_byte 44 (first ∷ more)) ≡ first ∷ more
 split-join first [] lack = split-None 44 first (sym (split_once-lacks 44 first lack.0))
 split-join first (next ∷ more) lack =
-    split-Some 44 (first ++ (44 ∷ join_with_byte 44 (next ∷ more))) first (join_with_byte 44 (next ∷ more)) (sym (split_once-append 44 first (join_with_byte 44 (next ∷ more)) lack.0))
+    split-Some 44 (first ++ (44 ∷ join_with_byte 44 (next ∷ more))) first (join_with_byte 44 (next ∷ more))
+    (sym (split_once-append 44 first (join_with_byte 44 (next ∷ more)) lack.0))
     ∙ ap (λ t. first ∷ t) (split-join next more lack.1)
 
 -- the text of some fields isn't `any`, since `any` is no field

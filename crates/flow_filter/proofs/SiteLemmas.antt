@@ -1,7 +1,7 @@
 -- What the ghost field of a site says, where the site translates.
 use Rattle.std.proofs.Common.{◌≡◌, ℕ, ◌+◌, ◌-◌, ◌%◌, ◌^◌, ◌<◌, Bool, true, ◌&&◌, Option, None, Some, arith, refl}
 use Rattle.std.specs.Option.{ForSome}
-use Rattle.flow_filter.specs.Flow.{is_outside_address}
+use Rattle.flow_filter.specs.FieldSteps.{is_outside_address}
 
 -- a site that maps some packet is a /24
 pub is_24 : (outside : Option ℕ) (address len : ℕ) (test : Bool) (Q : ℕ → Type 0)

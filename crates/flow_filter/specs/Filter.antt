@@ -50,22 +50,19 @@ meet f g = do
   rport ← meet_value nat_eq f.rport g.rport
   Some (record { proto = proto; local = local; lport = lport; remote = remote; rport = rport })
 
--- two numbers that are both given are equal
-abbrev pub numbers_agree : Option ℕ → Option ℕ → Bool
-numbers_agree (Some x) (Some y) = x == y
-numbers_agree None y = true
-numbers_agree (Some x) None = true
+-- two fields agree where they aren't both given, or the test of the two passes
+abbrev pub both_agree : {X : Type 0} → (X → X → Bool) → Option X → Option X → Bool
+both_agree test (Some x) (Some y) = test x y
+both_agree test _ _ = true
 
--- of two prefixes that are both given, one holds the other
-abbrev pub prefixes_agree : Option Prefix → Option Prefix → Bool
-prefixes_agree (Some p) (Some q) = (nat_le p.len q.len && holds p q.bits) || (nat_le q.len p.len && holds q p.bits)
-prefixes_agree None q = true
-prefixes_agree (Some p) None = true
+-- one of two prefixes holds the other
+abbrev pub overlap : Prefix → Prefix → Bool
+overlap p q = (nat_le p.len q.len && holds p q.bits) || (nat_le q.len p.len && holds q p.bits)
 
 -- the filters agree in every field that both give
 abbrev pub meets : Filter → Filter → Bool
-meets f g = numbers_agree f.proto g.proto && prefixes_agree f.local g.local && numbers_agree f.lport g.lport
-    && prefixes_agree f.remote g.remote && numbers_agree f.rport g.rport
+meets f g = both_agree nat_eq f.proto g.proto && both_agree overlap f.local g.local && both_agree nat_eq f.lport g.lport
+    && both_agree overlap f.remote g.remote && both_agree nat_eq f.rport g.rport
 
 -- a given value covers an equal one
 abbrev pub covers_value : {X : Type 0} → (X → X → Bool) → Option X → Option X → Bool

@@ -1,7 +1,10 @@
 -- Filters in text. This project's own grammar: `any`, or fields joined by commas, each at most once.
 -- The first field from the left that breaks a rule is refused, by the first rule that it breaks.
-use Rattle.std.specs.Prelude.{◌≡◌, ℕ, Bool, true, false, ◌||◌, ◌==◌, if◌then◌else◌, List, [], ◌∷◌, ◌++◌, Option, None, Some, is_some, option_map, Result, Ok, Err, codes}
+use Rattle.std.specs.Prelude.{◌≡◌, ℕ, Bool, true, false, ◌||◌, ◌==◌, if◌then◌else◌, List, [], ◌∷◌}
+use Rattle.std.specs.Prelude.{◌++◌, Option, None, Some, is_some, ok_or, option_map, Result, Ok, Err, codes}
+use Prim.Native.Char.{code}
 use Rattle.std.specs.List.{slice_split, join_with_byte}
+use Rattle.std.specs.Option.{option_map_or}
 use Rattle.std.specs.Str.{bytes_eq}
 use Rattle.std.specs.Fmt.{decimal}
 use Rattle.basics.specs.Address.{address_text}
@@ -10,8 +13,9 @@ use Rattle.flow_filter.specs.declared.filter.Filter.{Filter}
 use Rattle.flow_filter.specs.declared.filter_text.FilterFault.{FilterFault}
 use Rattle.flow_filter.specs.declared.filter_text.FilterFault.TheVariants.{Field, Twice, Number, Prefix as BadPrefix}
 use Rattle.basics.specs.Parsing.{parse_number, split_once}
+use Rattle.basics.specs.Results.{◌>>=◌}
 use Rattle.flow_filter.specs.Reading.{prefix_of, prefix_numbers}
-use Rattle.basics.specs.Bytes.{comma, slash, equals_sign}
+use Rattle.basics.specs.Bytes.{comma, slash}
 use Rattle.flow_filter.specs.Packet.{tcp, udp, most_port}
 
 -- what a filter gives, with each prefix as its two numbers
@@ -24,71 +28,39 @@ pub record Fields : Type 0 where
 
 -- the fields of a filter
 abbrev pub fields_of : Filter → Fields
-fields_of f = record { proto = f.proto; local = option_map prefix_numbers f.local; lport = f.lport; remote = option_map prefix_numbers f.remote; rport = f.rport }
+fields_of f =
+    record { proto = f.proto; local = option_map prefix_numbers f.local; lport = f.lport; remote = option_map prefix_numbers f.remote; rport = f.rport }
 
 -- the fields of the filter that gives none
 abbrev pub nothing : Fields
 nothing = record { proto = None; local = None; lport = None; remote = None; rport = None }
 
-abbrev pub Answer : Type 0
-Answer = Result Fields FilterFault
-
 -- a field that is given already is refused first, and then a value that can't be read
-abbrev pub once : {X : Type 0} → Bool → Option X → FilterFault → (X → Fields) → Answer
-once true new wrong put = Err Twice
-once false None wrong put = Err wrong
-once false (Some x) wrong put = Ok (put x)
+abbrev pub once : {X : Type 0} → Option X → Option X → FilterFault → (X → Fields) → Result Fields FilterFault
+once given new wrong put = if is_some given then Err Twice else option_map_or (λ x. Ok (put x)) new (Err wrong)
 
 -- the number of a protocol's name
 unfoldable pub protocol_of : List ℕ → Option ℕ
 protocol_of text = if bytes_eq text (codes "tcp") then Some tcp else if bytes_eq text (codes "udp") then Some udp else None
 
-abbrev pub with_proto : Fields → List ℕ → Answer
-with_proto f value = once (is_some f.proto) (protocol_of value) Number (λ x. record f { proto = Some x })
-
-abbrev pub with_local : Fields → List ℕ → Answer
-with_local f value = once (is_some f.local) (prefix_of value) BadPrefix (λ x. record f { local = Some x })
-
-abbrev pub with_lport : Fields → List ℕ → Answer
-with_lport f value = once (is_some f.lport) (parse_number most_port value) Number (λ x. record f { lport = Some x })
-
-abbrev pub with_remote : Fields → List ℕ → Answer
-with_remote f value = once (is_some f.remote) (prefix_of value) BadPrefix (λ x. record f { remote = Some x })
-
-abbrev pub with_rport : Fields → List ℕ → Answer
-with_rport f value = once (is_some f.rport) (parse_number most_port value) Number (λ x. record f { rport = Some x })
-
 -- the field with this name and value
-unfoldable pub with_named : Fields → List ℕ → List ℕ → Answer
+unfoldable pub with_named : Fields → List ℕ → List ℕ → Result Fields FilterFault
 with_named f name value =
-    if bytes_eq name (codes "proto") then with_proto f value
-    else if bytes_eq name (codes "local") then with_local f value
-    else if bytes_eq name (codes "lport") then with_lport f value
-    else if bytes_eq name (codes "remote") then with_remote f value
-    else if bytes_eq name (codes "rport") then with_rport f value
+    if bytes_eq name (codes "proto") then once f.proto (protocol_of value) Number (λ x. record f { proto = Some x })
+    else if bytes_eq name (codes "local") then once f.local (prefix_of value) BadPrefix (λ x. record f { local = Some x })
+    else if bytes_eq name (codes "lport") then once f.lport (parse_number most_port value) Number (λ x. record f { lport = Some x })
+    else if bytes_eq name (codes "remote") then once f.remote (prefix_of value) BadPrefix (λ x. record f { remote = Some x })
+    else if bytes_eq name (codes "rport") then once f.rport (parse_number most_port value) Number (λ x. record f { rport = Some x })
     else Err Field
 
--- the two sides of an equals sign
-abbrev pub with_sides : Fields → Option (List ℕ × List ℕ) → Answer
-with_sides f None = Err Field
-with_sides f (Some sides) = with_named f sides.0 sides.1
-
--- one field more
-abbrev pub with_field : Fields → List ℕ → Answer
-with_field f text = with_sides f (split_once equals_sign text)
-
-abbrev pub and_fields : Answer → (Fields → Answer) → Answer
-and_fields (Ok f) more = more f
-and_fields (Err fault) more = Err fault
-
--- the fields in turn
-abbrev pub with_fields : Fields → List (List ℕ) → Answer
+-- the fields in turn, each a name, an equals sign and a value
+abbrev pub with_fields : Fields → List (List ℕ) → Result Fields FilterFault
 with_fields f [] = Ok f
-with_fields f (text ∷ more) = and_fields (with_field f text) (λ g. with_fields g more)
+with_fields f (text ∷ more) = (ok_or (split_once (code "=") text) Field >>= λ sides. with_named f sides.0 sides.1) >>= λ g. with_fields g more
 
 -- the filter that a text spells, or the fault of its first field that breaks a rule
-unfoldable pub parse : List ℕ → Answer
-parse text = if bytes_eq text (codes "any") then Ok nothing else with_fields nothing (slice_split (λ b. b == comma) text)
+unfoldable pub parse : List ℕ → Result Fields FilterFault
+parse text = if bytes_eq text (codes "any") then Ok nothing else with_fields nothing (slice_split (λ b. b == code ",") text)
 
 -- a protocol that has a name, or none
 abbrev pub is_transport : Option ℕ → Bool

@@ -1,6 +1,7 @@
 -- The flow of a packet, seen from a site: which end is local, and which way the packet goes.
 -- This project's own rule. The outside ports are those of the address translator.
-use Rattle.std.specs.Prelude.{ℕ, ◌+◌, ◌-◌, ◌/◌, ◌==◌, ◌&&◌, ◌||◌, nat_lt, nat_le, Bool, false, not, if◌then◌else◌, Option, None, Some}
+use Rattle.std.specs.Prelude.{ℕ, ◌+◌, ◌-◌, ◌/◌, ◌%◌, ◌==◌, ◌&&◌, ◌||◌, nat_lt, nat_le, Bool, false, not, if◌then◌else◌, Option, None, Some}
+use Rattle.std.specs.Option.{option_map_or}
 use Rattle.std.specs.Ordering.{nat_cmp, on, then_cmp}
 use Rattle.std.specs.declared.cmp.Ordering.{Ordering}
 use Rattle.flow_filter.specs.declared.packet.Packet.{Packet}
@@ -20,6 +21,10 @@ flow_cmp =
     then_cmp (on (λ f. f.proto) nat_cmp) (then_cmp (on (λ f. f.local) nat_cmp)
     (then_cmp (on (λ f. f.lport) nat_cmp) (then_cmp (on (λ f. f.remote) nat_cmp) (on (λ f. f.rport) nat_cmp))))
 
+-- the place of a flow among so many: by its two ports and the remote address
+abbrev pub place_among : Flow → ℕ → ℕ
+place_among flow many = (flow.lport + flow.rport + flow.remote) % many
+
 -- the address is one of the site's
 abbrev pub is_inside : Site → ℕ → Bool
 is_inside site address = in_prefix site.inside.bits site.inside.len address
@@ -32,11 +37,6 @@ outward p = record { proto = p.proto; local = p.src; lport = p.sport; remote = p
 abbrev pub inward : Packet → Flow
 inward p = record { proto = p.proto; local = p.dst; lport = p.dport; remote = p.src; rport = p.sport }
 
--- the address is the site's outside address
-abbrev pub is_outside_address : Option ℕ → ℕ → Bool
-is_outside_address None address = false
-is_outside_address (Some outside) address = address == outside
-
 -- the first port of the outside address that belongs to an inside host
 abbrev pub first_port : ℕ
 first_port = 1024
@@ -47,22 +47,15 @@ ports_per_host = 252
 
 -- the packet goes to a port of the outside address that belongs to an inside host
 abbrev pub is_mapped : Site → Packet → Bool
-is_mapped site p = is_outside_address site.outside p.dst && nat_le first_port p.dport
+is_mapped site p = option_map_or (λ outside. p.dst == outside) site.outside false && nat_le first_port p.dport
 
--- the inside host that a port of the outside address belongs to
-abbrev pub owner_of_port : Site → ℕ → ℕ
-owner_of_port site port = site.inside.bits + (port - first_port) / ports_per_host
-
--- the source is the smaller end by address and then port, or the ends are equal
-abbrev pub is_source_first : Packet → Bool
-is_source_first p = nat_lt p.src p.dst || (p.src == p.dst && nat_le p.sport p.dport)
-
--- the first case that applies
+-- the first case that applies: one end is inside; the packet goes to an outside port, which belongs to an inside host; the source is the smaller end by
+-- address and then port, or the ends are equal
 unfoldable pub flow_of : Site → Packet → Flow × Direction
 flow_of site p =
     if is_inside site p.src && not (is_inside site p.dst) then (outward p, Out)
     else if is_inside site p.dst && not (is_inside site p.src) then (inward p, In)
     else if not (is_inside site p.src) && not (is_inside site p.dst) && is_mapped site p
-    then (record (inward p) { local = owner_of_port site p.dport }, In)
-    else if is_source_first p then (outward p, Out)
+    then (record (inward p) { local = site.inside.bits + (p.dport - first_port) / ports_per_host }, In)
+    else if nat_lt p.src p.dst || (p.src == p.dst && nat_le p.sport p.dport) then (outward p, Out)
     else (inward p, In)

@@ -7,4 +7,5 @@ pub mod Captured
 pub mod Filter
 pub mod Reading
 pub mod FilterText
+pub mod FieldSteps
 pub mod FilterRoom

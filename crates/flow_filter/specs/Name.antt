@@ -2,19 +2,15 @@
 use Rattle.std.specs.Prelude.{ℕ, Bool, ◌&&◌, ◌||◌, nat_le, false, List, [], ◌∷◌, length, Option}
 use Rattle.std.specs.List.{list_all, list_any, position}
 use Rattle.std.specs.Str.{bytes_eq}
-use Rattle.basics.specs.Bytes.{digit_zero, digit_nine, letter_a, letter_z}
+use Prim.Native.Char.{code}
 
 -- a lower-case letter or a digit, in ASCII
 abbrev pub is_name_byte : ℕ → Bool
-is_name_byte b = (nat_le letter_a b && nat_le b letter_z) || (nat_le digit_zero b && nat_le b digit_nine)
-
--- the most bytes of a name
-abbrev pub longest_name : ℕ
-longest_name = 16
+is_name_byte b = (nat_le (code "a") b && nat_le b (code "z")) || (nat_le (code "0") b && nat_le b (code "9"))
 
 -- 1 to 16 of them
 abbrev pub is_name : List ℕ → Bool
-is_name bytes = nat_le 1 (length bytes) && nat_le (length bytes) longest_name && list_all is_name_byte bytes
+is_name bytes = nat_le 1 (length bytes) && nat_le (length bytes) 16 && list_all is_name_byte bytes
 
 -- some name stands twice in the list
 abbrev pub has_twice : List (List ℕ) → Bool

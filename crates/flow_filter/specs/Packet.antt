@@ -1,6 +1,7 @@
 -- What the numbers in a packet stand for: protocols as IPv4's header has them (IANA's list of protocol numbers), the flags of TCP (RFC 9293), and
 -- how much of a payload is kept, which is this project's own.
-use Rattle.std.specs.Prelude.{ℕ, ◌==◌, Bool, not, bit_and}
+use Rattle.std.specs.Prelude.{ℕ, ◌==◌, ◌<◌, ◌^◌, Bool, not, bit_and}
+use Rattle.flow_filter.specs.declared.packet.Packet.{Packet}
 
 abbrev pub tcp : ℕ
 tcp = 6
@@ -31,3 +32,13 @@ most_port = 65535
 -- the most bytes of a payload that a packet keeps
 abbrev pub most_held : ℕ
 most_held = 64
+
+-- the numbers of the packet that make its flow, its time and its length are within their types
+pub record IsInRange (p : Packet) : Type 0 where
+  pub nanos : p.nanos < 2 ^ 64
+  pub length : p.length < 2 ^ 32
+  pub src : p.src < 2 ^ 32
+  pub sport : p.sport < 2 ^ 16
+  pub dst : p.dst < 2 ^ 32
+  pub dport : p.dport < 2 ^ 16
+  pub proto : p.proto < 2 ^ 8

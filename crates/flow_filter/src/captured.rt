@@ -1,7 +1,7 @@
 //! A packet as a capture has it, without room for a payload that it doesn't have.
 ghost use Rattle.std.specs.Prelude.{◌≡◌, true, replicate, IfOk};
 ghost use Rattle.flow_filter.specs.Captured.{bare_packet, header_of};
-ghost use Rattle.flow_filter.specs.Packet.{most_held};
+ghost use Rattle.flow_filter.specs.Packet.{most_held, IsInRange};
 
 use crate::packet::Packet;
 use basics::{Boxed, NoMemory, Sequence};
@@ -55,11 +55,22 @@ impl Model for CapturedPacket {
 }
 
 impl CapturedPacket {
-    /// The packet as it is to wait.
+    /// The packet as it is to wait. Its numbers are read once, so that it is known that they are in the ranges of their types.
     #[inline(always)]
     pub fn of(alloc: Global, packet: &Packet) -> Result<Self, NoMemory>
-        ensures { IfOk result (λ captured. captured ≡ packet.now) }
+        ensures same { IfOk result (λ captured. captured ≡ packet.now) }
+        ensures in_range { IsInRange packet.now }
     {
+        let Packet {
+            nanos: _nanos,
+            length: _length,
+            src: _src,
+            sport: _sport,
+            dst: _dst,
+            dport: _dport,
+            proto: _proto,
+            ..
+        } = *packet;
         if is_zero(&packet.head) {
             let form = CapturedForm::Bare(Header::of(packet));
             return Ok(CapturedPacket { form });

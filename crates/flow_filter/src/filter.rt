@@ -1,6 +1,7 @@
 //! Filters as values: which flows they match, when two of them meet, and when one covers another.
 ghost use Rattle.std.specs.Prelude.{◌≡◌, ◌↔◌, IsTrue, is_some, OnSome, IfSome, IfNone};
-ghost use Rattle.flow_filter.specs.Filter.{matches, meet, meets, meet_value, meet_prefix, longer, covers, covers_value, covers_prefix, IsFilter, Meet, IsMeet, Covers};
+ghost use Rattle.flow_filter.specs.Filter.{matches, meet, meets, meet_value, meet_prefix, longer, covers};
+ghost use Rattle.flow_filter.specs.Filter.{covers_value, covers_prefix, IsFilter, Meet, IsMeet, Covers};
 
 use crate::flow::Flow;
 use crate::prefix::Prefix;

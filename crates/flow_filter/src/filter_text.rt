@@ -1,9 +1,12 @@
 //! Filters as texts: how they are read, and how they are printed.
-ghost use Rattle.std.specs.Prelude.{◌≡◌, ◌≤◌, ◌<◌, ◌+◌, true, false, ◌++◌, ◌∷◌, ◌==◌, ◌||◌, if◌then◌else◌, IfOk, OnOk, OnErr, codes, length, option_map, is_some};
+ghost use Rattle.std.specs.Prelude.{◌≡◌, ◌≤◌, ◌<◌, ◌+◌, true, false, ◌++◌, ◌∷◌, ◌==◌, ◌||◌};
+ghost use Rattle.std.specs.Prelude.{if◌then◌else◌, IfOk, OnOk, OnErr, codes, length, option_map, is_some};
 ghost use Rattle.std.specs.Fmt.{decimal};
 ghost use Rattle.std.specs.List.{slice_split};
 ghost use Rattle.basics.specs.Parsing.{parse_number};
-ghost use Rattle.flow_filter.specs.FilterText.{parse, with_fields, with_field, with_named, with_proto, with_local, with_lport, with_remote, with_rport, protocol_of, fields_of, AgreesBy, print, is_printable, is_transport, after_commas, piece, protocol_text, prefix_text};
+ghost use Rattle.flow_filter.specs.FilterText.{parse, with_fields, with_named, protocol_of, fields_of, AgreesBy, print};
+ghost use Rattle.flow_filter.specs.FilterText.{is_printable, is_transport, after_commas, piece, protocol_text, prefix_text};
+ghost use Rattle.flow_filter.specs.FieldSteps.{with_field, with_proto, with_local, with_lport, with_remote, with_rport};
 ghost use Rattle.flow_filter.specs.FilterRoom.{text_room, protocol_room, name_room, prefix_room, port_room};
 ghost use Rattle.basics.specs.Bytes.{comma};
 ghost use Rattle.flow_filter.specs.Packet.{most_port};

@@ -1,6 +1,7 @@
 //! Flows: the two ends of a packet's conversation as the site sees them, and the order of flows.
 ghost use Rattle.std.specs.Prelude.{◌≡◌, ◌+◌, ◌*◌, ◌^◌, ◌<◌, true};
-ghost use Rattle.flow_filter.specs.Flow.{flow_of, inward, outward, owner_of_port, is_mapped, is_source_first};
+ghost use Rattle.flow_filter.specs.Flow.{flow_of, inward, outward, is_mapped};
+ghost use Rattle.flow_filter.specs.FieldSteps.{owner_of_port, is_source_first};
 
 use crate::packet::Packet;
 use crate::site::Site;

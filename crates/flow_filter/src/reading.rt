@@ -1,6 +1,7 @@
 ghost use Rattle.std.specs.Prelude.{◌≡◌, ◌≤◌, ◌%◌, ◌-◌, ◌^◌, ◌==◌, option_map};
 ghost use Rattle.basics.specs.Parsing.{parse_number};
-ghost use Rattle.flow_filter.specs.Reading.{address_of, aligned_prefix, with_length, prefix_of, prefix_numbers, most_byte};
+ghost use Rattle.flow_filter.specs.Reading.{address_of, with_length, prefix_of, prefix_numbers};
+ghost use Rattle.flow_filter.specs.FieldSteps.{aligned_prefix, most_byte};
 ghost use Rattle.flow_filter.specs.Prefixes.{address_bits};
 
 use crate::prefix::Prefix;

@@ -7,7 +7,7 @@ use Rattle.packet_pool.specs.Pool.{FullCell}
 use Rattle.nf_msgs.specs.declared.msg.Msg.{Msg}
 use Rattle.nf_msgs.specs.declared.note.Note.{Note}
 use Rattle.instance_worker.specs.declared.instance.Instance.{Instance}
-use Rattle.instance_worker.specs.Instance.{processed, all_processed}
+use Rattle.instance_worker.specs.Instance.{process_step, all_processed}
 
 -- an instance in the midst of its packets: itself, what it sent and what it noted
 pub record Midst (F R : Type 0) : Type 0 where
@@ -30,8 +30,8 @@ module _ {F R : Type 0} (f : Semantics R) where
 
   -- one more packet is processed
   pub one_packet : (now next end : Midst F R) (cell : FullCell) (cells all : List FullCell) → LeadsTo now all end → all ≡ cell ∷ cells
-      → next.node ≡ (processed f now.node Plain cell).node → next.sent ≡ now.sent ++ (processed f now.node Plain cell).sends
-      → next.noted ≡ now.noted ++ (processed f now.node Plain cell).notes → LeadsTo next cells end
+      → next.node ≡ (process_step f now.node Plain cell).node → next.sent ≡ now.sent ++ (process_step f now.node Plain cell).sends
+      → next.noted ≡ now.noted ++ (process_step f now.node Plain cell).notes → LeadsTo next cells end
   unfolding all_processed
   one_packet now next end cell cells all leads front node sent noted =
       let begun : LeadsTo now (cell ∷ cells) end = rw front at leads in

@@ -1,5 +1,6 @@
 -- What is left to send after one more piece, and how many chunks are selected at most.
-use Rattle.std.proofs.Common.{◌≡◌, ℕ, zero, suc, ◌<◌, ◌≤◌, true, false, List, [], ◌∷◌, ◌++◌, map, length, take, drop, refl, sym, ap, ◌∙◌, arith, append_assoc, length-drop}
+use Rattle.std.proofs.Common.{◌≡◌, ℕ, zero, suc, ◌<◌, ◌≤◌, true, false, List, [], ◌∷◌, ◌++◌, map}
+use Rattle.std.proofs.Common.{length, take, drop, refl, sym, ap, ◌∙◌, arith, append_assoc, length-drop}
 use Rattle.std.specs.Prelude.{nat_le}
 use Rattle.std.proofs.lemmas.Bool.Decides.{nat_tests}
 use Rattle.std.proofs.lemmas.List.{length-map, take-append-le, drop-append-le, take_all, drop_all}
@@ -19,7 +20,7 @@ use Rattle.record_table.proofs.SortedEntries.{len_parts}
 use Rattle.instance_worker.specs.declared.pieces.WholePieces.{WholePieces}
 use Rattle.instance_worker.specs.declared.pieces.TheConstants.{MOST_CHUNKS}
 use Rattle.instance_worker.specs.Pieces.{pieces_from, newest_version, piece_of}
-use Rattle.instance_worker.specs.Instance.{told}
+use Rattle.instance_worker.specs.Instance.{to_controller}
 
 pub at_most : (a b : ℕ) → a ≤ b → nat_le a b ≡ true
 at_most a b h = grind (arith, nat_tests)
@@ -50,27 +51,31 @@ pub record Sending : Type 0 where
 pub record IsLeft (sending : Sending) (left : List Chunk) (sent : List (ℕ × Msg)) : Type 0 where
   pub most : ℕ
   pub enough : length left ≤ most
-  pub sends : sent ++ told (map (Piece sending.op) (pieces_from sending.whole most left)) ≡ sending.all
+  pub sends : sent ++ to_controller (map (Piece sending.op) (pieces_from sending.whole most left)) ≡ sending.all
 
 module _ (sending : Sending) (left : List Chunk) (sent : List (ℕ × Msg)) where
   -- one more piece is sent
-  pub left_more : (next chunks : List Chunk) (piece : APiece) (more : List (ℕ × Msg)) → IsLeft sending left sent → MOST_CHUNKS < length left → next ≡ drop MOST_CHUNKS left
-      → chunks ≡ take MOST_CHUNKS left → piece ≡ piece_of sending.whole false chunks → more ≡ sent ++ told (Piece sending.op piece ∷ []) → IsLeft sending next more
+  pub left_more : (next chunks : List Chunk) (piece : APiece) (more : List (ℕ × Msg)) → IsLeft sending left sent → MOST_CHUNKS < length left
+      → next ≡ drop MOST_CHUNKS left
+      → chunks ≡ take MOST_CHUNKS left → piece ≡ piece_of sending.whole false chunks → more ≡ sent ++ to_controller (Piece sending.op piece ∷ [])
+      → IsLeft sending next more
   left_more next chunks piece more is long rest first made sends = by is.most is.enough is.sends
     where
-      by : (n : ℕ) → length left ≤ n → sent ++ told (map (Piece sending.op) (pieces_from sending.whole n left)) ≡ sending.all → IsLeft sending next more
+      by : (n : ℕ) → length left ≤ n → sent ++ to_controller (map (Piece sending.op) (pieces_from sending.whole n left)) ≡ sending.all
+          → IsLeft sending next more
       by zero enough e = absurd (omega arith)
       by (suc n) enough e = record {
         most = n;
         enough = rw rest (omega (arith, length-drop MOST_CHUNKS left));
-        sends = rw (sends, made, first, rest) (append_assoc sent _ _ ∙ ap (λ ps. sent ++ told (map (Piece sending.op) ps)) (sym (cut_long sending.whole n left long)) ∙ e);
+        sends = rw (sends, made, first, rest)
+            (append_assoc sent _ _ ∙ ap (λ ps. sent ++ to_controller (map (Piece sending.op) ps)) (sym (cut_long sending.whole n left long)) ∙ e);
       }
 
   -- the last piece is sent
   pub left_last : (chunks : List Chunk) (piece : APiece) (more : List (ℕ × Msg)) → IsLeft sending left sent → length left ≤ MOST_CHUNKS → chunks ≡ left
-      → piece ≡ piece_of sending.whole true chunks → more ≡ sent ++ told (Piece sending.op piece ∷ []) → more ≡ sending.all
+      → piece ≡ piece_of sending.whole true chunks → more ≡ sent ++ to_controller (Piece sending.op piece ∷ []) → more ≡ sending.all
   left_last chunks piece more is short same made sends =
-      rw (sends, made, same) (ap (λ ps. sent ++ told (map (Piece sending.op) ps)) (sym (cut_short sending.whole is.most left short)) ∙ is.sends)
+      rw (sends, made, same) (ap (λ ps. sent ++ to_controller (map (Piece sending.op) ps)) (sym (cut_short sending.whole is.most left short)) ∙ is.sends)
 
 -- no more chunks are selected than records are live
 pub few_selected : {R : Type 0} (f : Semantics R) (filter : Filter) (m : Records R) → length (chunks_of f (taken_by filter m)) ≤ finite.len m

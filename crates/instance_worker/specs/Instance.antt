@@ -1,5 +1,6 @@
 -- An instance: what it does with each message. This project's own.
-use Rattle.std.specs.Prelude.{ℕ, ◌+◌, ◌&&◌, ◌||◌, nat_lt, Bool, true, if◌then◌else◌, List, [], ◌∷◌, ◌++◌, map, length, Option, None, Some, option_map, Result, Ok, Err}
+use Rattle.std.specs.Prelude.{ℕ, ◌+◌, ◌&&◌, ◌||◌, nat_lt, Bool, true, if◌then◌else◌, List, [], ◌∷◌}
+use Rattle.std.specs.Prelude.{◌++◌, map, length, Option, None, Some, option_map, Result, Ok, Err}
 use Rattle.std.specs.FinMap as finite
 use Rattle.flow_filter.specs.declared.packet.Packet.{Packet}
 use Rattle.flow_filter.specs.declared.filter.Filter.{Filter}
@@ -7,7 +8,7 @@ use Rattle.flow_filter.specs.Flow.{flow_of}
 use Rattle.nf_function.specs.declared.chunk.Chunk.{Chunk}
 use Rattle.nf_function.specs.declared.unit.Unit as units
 use Rattle.nf_function.specs.Semantics.{Semantics, output_for, unit_at}
-use Rattle.nf_function.specs.Tally.{counted, merged}
+use Rattle.nf_function.specs.Tally.{with_packet_counted, merged}
 use Rattle.state_chunk.specs.declared.fault.ChunkFault.{ChunkFault}
 use Rattle.state_chunk.specs.Format.{record_chunk, tally_chunk}
 use Rattle.state_chunk.specs.Reading.{tally_read}
@@ -25,7 +26,9 @@ use Rattle.nf_msgs.specs.declared.answer.Answer.{Answer}
 use Rattle.nf_msgs.specs.declared.answer.Answer.TheVariants.{Import, Old}
 use Rattle.nf_msgs.specs.declared.msg.Piece.{Piece as APiece}
 use Rattle.nf_msgs.specs.declared.msg.Msg.{Msg}
-use Rattle.nf_msgs.specs.declared.msg.Msg.TheVariants.{Carry, Fence, Stop, Enable, Get, Stream, GetAll, Delete, Put, Restore, Standby, PutAll, Sync, Enabled, Chunks, Piece, AllChunk, Deleted, PutOk, PutNo, Restored, Kept, Event, Seen, Fenced, Shared, Synced, Final, Credit}
+use Rattle.nf_msgs.specs.declared.msg.Msg.TheVariants.{Carry, Fence, Stop, Enable, Get, Stream, GetAll, Delete, Put, Restore}
+use Rattle.nf_msgs.specs.declared.msg.Msg.TheVariants.{Standby, PutAll, Sync, Enabled, Chunks, Piece, AllChunk, Deleted, PutOk}
+use Rattle.nf_msgs.specs.declared.msg.Msg.TheVariants.{PutNo, Restored, Kept, Event, Seen, Fenced, Shared, Synced, Final, Credit}
 use Rattle.nf_msgs.specs.declared.note.Note.{Note}
 use Rattle.nf_msgs.specs.declared.note.Note.TheVariants.{Processed, Exported, Imported}
 use Rattle.nf_msgs.specs.declared.note.Note.TheVariants as note
@@ -47,8 +50,8 @@ is_live (mark.Pass op) = true
 is_live (mark.Shared op home) = home
 
 -- what is sent to the controller
-abbrev pub told : List Msg → List (ℕ × Msg)
-told messages = map (λ message. (controller_node, message)) messages
+abbrev pub to_controller : List Msg → List (ℕ × Msg)
+to_controller messages = map (λ message. (controller_node, message)) messages
 
 -- the message of a share with the chunk of a unit, where the unit has a record
 abbrev pub chunk_told : ℕ → Option Chunk → List Msg
@@ -61,12 +64,12 @@ module _ {F R : Type 0} where
   still i = record { node = i; sends = []; notes = [] }
 
   -- the instance is this from now on, and tells the controller something
-  abbrev pub tells : Instance F R → Msg → Step F R
-  tells i message = record { node = i; sends = told (message ∷ []); notes = [] }
+  abbrev pub tell_step : Instance F R → Msg → Step F R
+  tell_step i message = record { node = i; sends = to_controller (message ∷ []); notes = [] }
 
   -- the same with a note
   abbrev pub tells_and_notes : Instance F R → Msg → Note → Step F R
-  tells_and_notes i message note = record { node = i; sends = told (message ∷ []); notes = note ∷ [] }
+  tells_and_notes i message note = record { node = i; sends = to_controller (message ∷ []); notes = note ∷ [] }
 
   -- one step and then another
   abbrev pub and_then : Step F R → (Instance F R → Step F R) → Step F R
@@ -78,7 +81,7 @@ module _ {F R : Type 0} where
 
   -- one packet more in the instance's own slot of the tally
   abbrev pub with_count : Instance F R → Instance F R
-  with_count i = record i { tally = record i.tally { slots = counted i.tally.slots i.index } }
+  with_count i = record i { tally = record i.tally { slots = with_packet_counted i.tally.slots i.index } }
 
   -- the table after a packet with this mark
   abbrev pub table_after : Semantics R → Instance F R → Mark → Packet → TableView R
@@ -90,70 +93,70 @@ module _ {F R : Type 0} where
       Processed p.number i.index (output_for f i.site (finite.get (part i.table (is_live mark)) (unit_at f.kind i.site p)) p)
 
   -- what a share is told of a unit after a packet with this mark
-  abbrev pub shared : Semantics R → Instance F R → Mark → units.Unit → List Msg
-  shared f i (mark.Shared op home) unit = chunk_told op (option_map (record_chunk f unit) (finite.get (part i.table home) unit))
-  shared f i mark unit = []
+  abbrev pub share_message : Semantics R → Instance F R → Mark → units.Unit → List Msg
+  share_message f i (mark.Shared op home) unit = chunk_told op (option_map (record_chunk f unit) (finite.get (part i.table home) unit))
+  share_message f i mark unit = []
 
   -- a packet is processed, and its cell goes back to the switch
-  unfoldable pub processed : Semantics R → Instance F R → Mark → FullCell → Step F R
-  processed f i mark cell =
+  unfoldable pub process_step : Semantics R → Instance F R → Mark → FullCell → Step F R
+  process_step f i mark cell =
       let after = with_count (record i { table = table_after f i mark cell.packet }) in
       record {
         node = after;
-        sends = told (shared f after mark (unit_at f.kind i.site cell.packet)) ++ (switch_node, Credit cell) ∷ [];
+        sends = to_controller (share_message f after mark (unit_at f.kind i.site cell.packet)) ++ (switch_node, Credit cell) ∷ [];
         notes = processed_note f i mark cell.packet ∷ [];
       }
 
   -- packets are processed in order, each with the mark Plain
   unfoldable pub all_processed : Semantics R → Instance F R → List FullCell → Step F R
   all_processed f i [] = still i
-  all_processed f i (cell ∷ cells) = and_then (processed f i mark.Plain cell) (λ j. all_processed f j cells)
+  all_processed f i (cell ∷ cells) = and_then (process_step f i mark.Plain cell) (λ j. all_processed f j cells)
 
   -- what is decided of a packet is done
-  abbrev pub carried : Semantics R → Instance F R → Mark → FullCell → Decide → Step F R
-  carried f i mark cell decide.Process = processed f i mark cell
-  carried f i mark cell (decide.ProcessAndEvent op) = and_then (processed f i mark cell) (λ j. tells j (Seen op cell.packet))
-  carried f i mark cell (decide.Event op) = tells i (Event op cell)
-  carried f i mark cell (decide.Buffer op) = still (record i { rules = with_held i.rules op cell })
+  abbrev pub carry_step : Semantics R → Instance F R → Mark → FullCell → Decide → Step F R
+  carry_step f i mark cell decide.Process = process_step f i mark cell
+  carry_step f i mark cell (decide.ProcessAndEvent op) = and_then (process_step f i mark cell) (λ j. tell_step j (Seen op cell.packet))
+  carry_step f i mark cell (decide.Event op) = tell_step i (Event op cell)
+  carry_step f i mark cell (decide.Buffer op) = still (record i { rules = with_held i.rules op cell })
 
   -- a packet comes: the event rules decide
   unfoldable pub on_carry : Semantics R → Instance F R → Mark → FullCell → Step F R
-  on_carry f i mark cell = carried f i mark cell (rules.decide i.rules (flow_of i.site cell.packet).0 mark)
+  on_carry f i mark cell = carry_step f i mark cell (rules.decide i.rules (flow_of i.site cell.packet).0 mark)
 
   -- the old path is empty: what is held for the operation is processed
   unfoldable pub on_fence : Semantics R → Instance F R → ℕ → Step F R
   on_fence f i op =
-      and_then (all_processed f (record i { rules = rules.without_rule i.rules op }) (held_at i.rules op)) (λ j. tells j (Fenced op))
+      and_then (all_processed f (record i { rules = rules.without_rule i.rules op }) (held_at i.rules op)) (λ j. tell_step j (Fenced op))
 
   abbrev pub on_stop : Instance F R → Step F R
-  on_stop i = tells (record i { ended = true }) Final
+  on_stop i = tell_step (record i { ended = true }) Final
 
   abbrev pub on_enable : Instance F R → ℕ → Filter → Action → Step F R
-  on_enable i op filter action = tells (record i { rules = with_rule i.rules op filter action }) (Enabled op)
+  on_enable i op filter action = tell_step (record i { rules = with_rule i.rules op filter action }) (Enabled op)
 
   -- the chunks of the live records of the units that a filter takes, in the order of the units
-  abbrev pub selected : Semantics R → Instance F R → Filter → List Chunk
-  selected f i filter = chunks_of f (taken_by filter i.table.live)
+  abbrev pub selected_chunks : Semantics R → Instance F R → Filter → List Chunk
+  selected_chunks f i filter = chunks_of f (taken_by filter i.table.live)
 
   -- the note that these chunks were given
-  abbrev pub exported : Instance F R → ℕ → List Chunk → Note
-  exported i op chunks = Exported i.index op (units_in chunks)
+  abbrev pub export_note : Instance F R → ℕ → List Chunk → Note
+  export_note i op chunks = Exported i.index op (units_in chunks)
 
   unfoldable pub on_get : Semantics R → Instance F R → ℕ → Filter → Step F R
   on_get f i op filter =
-      let chunks = selected f i filter in tells_and_notes i (Chunks op chunks) (exported i op chunks)
+      let chunks = selected_chunks f i filter in tells_and_notes i (Chunks op chunks) (export_note i op chunks)
 
   -- the same in pieces, with one note
   unfoldable pub on_stream : Semantics R → Instance F R → ℕ → Filter → Step F R
   on_stream f i op filter =
-      let chunks = selected f i filter in
-      record { node = i; sends = told (map (Piece op) (pieces chunks)); notes = exported i op chunks ∷ [] }
+      let chunks = selected_chunks f i filter in
+      record { node = i; sends = to_controller (map (Piece op) (pieces chunks)); notes = export_note i op chunks ∷ [] }
 
   abbrev pub on_get_all : Semantics R → Instance F R → ℕ → Step F R
-  on_get_all f i op = tells i (AllChunk op (tally_chunk f.kind i.tally.slots))
+  on_get_all f i op = tell_step i (AllChunk op (tally_chunk f.kind i.tally.slots))
 
   abbrev pub on_delete : Instance F R → ℕ → List units.Unit → Step F R
-  on_delete i op gone = tells (record i { table = record i.table { live = without gone i.table.live } }) (Deleted op)
+  on_delete i op gone = tell_step (record i { table = record i.table { live = without gone i.table.live } }) (Deleted op)
 
   -- the instance with the chunks' records live: the newer of each unit's two
   abbrev pub with_live : Semantics R → Instance F R → List Chunk → Instance F R
@@ -173,8 +176,8 @@ module _ {F R : Type 0} where
   imported i op chunks = Imported i.index op (units_in chunks)
 
   -- the note that these chunks' records are kept
-  abbrev pub kept : Instance F R → ℕ → List Chunk → Note
-  kept i op chunks = note.Kept i.index op (units_in chunks)
+  abbrev pub keep_note : Instance F R → ℕ → List Chunk → Note
+  keep_note i op chunks = note.Kept i.index op (units_in chunks)
 
   -- the step where no chunk is bad; else the instance stays as it is
   abbrev pub where_good : Semantics R → Instance F R → List Chunk → Step F R → Step F R
@@ -189,10 +192,10 @@ module _ {F R : Type 0} where
 
   -- a piece is put: it is refused, or its records become live
   abbrev pub piece_put : Semantics R → Instance F R → ℕ → APiece → Bool → Option Answer → Step F R
-  piece_put f i op piece answered (Some why) = tells i (PutNo op (record { why = why; chunks = piece.chunks }))
+  piece_put f i op piece answered (Some why) = tell_step i (PutNo op (record { why = why; chunks = piece.chunks }))
   piece_put f i op piece answered None = where_good f i piece.chunks (record {
     node = with_live f i piece.chunks;
-    sends = told (if answered then PutOk op ∷ [] else []);
+    sends = to_controller (if answered then PutOk op ∷ [] else []);
     notes = imported i op piece.chunks ∷ [];
   })
 
@@ -208,15 +211,15 @@ module _ {F R : Type 0} where
 
   unfoldable pub on_standby : Semantics R → Instance F R → ℕ → List Chunk → Step F R
   on_standby f i op chunks =
-      where_good f i chunks (tells_and_notes (with_standby f i chunks) (Kept op) (kept i op chunks))
+      where_good f i chunks (tells_and_notes (with_standby f i chunks) (Kept op) (keep_note i op chunks))
 
   unfoldable pub on_sync : Semantics R → Instance F R → Bool → ℕ → List Chunk → Step F R
   on_sync f i home op chunks =
-      where_good f i chunks (tells_and_notes (with_records f i home chunks) (Synced op) (kept i op chunks))
+      where_good f i chunks (tells_and_notes (with_records f i home chunks) (Synced op) (keep_note i op chunks))
 
   -- a tally that was read is merged into the instance's own
   abbrev pub tally_put : Instance F R → ℕ → Result (List ℕ) ChunkFault → Step F R
-  tally_put i op (Ok slots) = tells (record i { tally = record i.tally { slots = merged i.tally.slots slots } }) (Kept op)
+  tally_put i op (Ok slots) = tell_step (record i { tally = record i.tally { slots = merged i.tally.slots slots } }) (Kept op)
   tally_put i op (Err fault) = still i
 
   unfoldable pub on_put_all : Semantics R → Instance F R → ℕ → Chunk → Step F R

@@ -1,5 +1,6 @@
 -- The pieces in which the chunks of a move are sent. This project's own.
-use Rattle.std.specs.Prelude.{◌≡◌, ◌≤◌, ℕ, zero, suc, max, nat_le, Bool, true, false, if◌then◌else◌, List, [], ◌∷◌, map, length, take, drop, slice_index, replicate, ◌++◌}
+use Rattle.std.specs.Prelude.{◌≡◌, ◌≤◌, ℕ, zero, suc, max, nat_le, Bool, true, false, if◌then◌else◌}
+use Rattle.std.specs.Prelude.{List, [], ◌∷◌, map, length, take, drop, slice_index, replicate, ◌++◌}
 use Rattle.std.specs.List.{All, flat_map}
 use Rattle.nf_function.specs.declared.chunk.Chunk.{Chunk}
 use Rattle.nf_msgs.specs.declared.msg.Piece.{Piece}

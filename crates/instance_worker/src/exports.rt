@@ -2,7 +2,7 @@
 ghost use Rattle.std.specs.Prelude.{◌≡◌, ◌++◌, ◌<◌, ◌^◌, ◌∷◌, [], map, length, OnOk};
 ghost use Rattle.nf_msgs.specs.declared.msg.Msg.TheVariants.{Piece as OnePiece};
 ghost use Rattle.instance_worker.specs.Pieces.{pieces};
-ghost use Rattle.instance_worker.specs.Instance.{exported, on_get, on_get_all, on_stream, told};
+ghost use Rattle.instance_worker.specs.Instance.{export_note, on_get, on_get_all, on_stream, to_controller};
 
 use crate::instance::Instance;
 use crate::pieces::{MOST_CHUNKS, WholePieces, next_chunks};
@@ -40,7 +40,7 @@ impl<F: Function> Instance<F> {
         out: &mut Outbox<Msg, Note>,
     ) -> Result<(), NoMemory>
         ensures sends { OnOk result (out.new.0 ≡ out.old.0) }
-        ensures notes { OnOk result (out.new.1 ≡ out.old.1 ++ exported self.now op chunks.now ∷ []) }
+        ensures notes { OnOk result (out.new.1 ≡ out.old.1 ++ export_note self.now op chunks.now ∷ []) }
     {
         let units = Boxed::new(self.alloc, units_in(self.alloc, chunks.items())?)?;
         out.note(Note::Exported {
@@ -77,7 +77,7 @@ impl<F: Function> Instance<F> {
         out: &mut Outbox<Msg, Note>,
     ) -> Result<(), NoMemory>
         requires { length chunks < 2 ^ 32 }
-        ensures sends { OnOk result (out.new.0 ≡ out.old.0 ++ told (map (OnePiece op) (pieces chunks))) }
+        ensures sends { OnOk result (out.new.0 ≡ out.old.0 ++ to_controller (map (OnePiece op) (pieces chunks))) }
         ensures notes { OnOk result (out.new.1 ≡ out.old.1) }
     {
         let whole = WholePieces::of(&chunks);
@@ -91,7 +91,7 @@ impl<F: Function> Instance<F> {
     }
 
     fn send_piece(&self, op: u32, piece: Piece, out: &mut Outbox<Msg, Note>) -> Result<(), NoMemory>
-        ensures sends { OnOk result (out.new.0 ≡ out.old.0 ++ told (OnePiece op piece ∷ [])) }
+        ensures sends { OnOk result (out.new.0 ≡ out.old.0 ++ to_controller (OnePiece op piece ∷ [])) }
         ensures notes { OnOk result (out.new.1 ≡ out.old.1) }
     {
         let piece = Boxed::new(self.alloc, piece)?;

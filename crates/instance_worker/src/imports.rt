@@ -5,13 +5,14 @@ ghost use Rattle.nf_msgs.specs.declared.msg.Msg.TheVariants.{PutNo as Refusing};
 ghost use Rattle.nf_msgs.specs.declared.note.Note.TheVariants.{Imported as ImportedNote, Kept as KeptNote};
 ghost use Rattle.record_table.specs.Chunks.{are_good};
 ghost use Rattle.instance_worker.specs.Taking.{AreTaken};
-ghost use Rattle.instance_worker.specs.Instance.{on_put, on_put_all, on_restore, on_standby, on_sync, piece_put, piece_refusal, told, with_live, with_records, with_standby};
+ghost use Rattle.instance_worker.specs.Instance.{on_put, on_put_all, on_restore, on_standby, on_sync, piece_put};
+ghost use Rattle.instance_worker.specs.Instance.{piece_refusal, to_controller, with_live, with_records, with_standby};
 
 use crate::instance::Instance;
 use actor_net::Outbox;
 use basics::{Boxed, NoMemory};
 use nf_function::{Chunk, Chunks, Function, Units};
-use nf_msgs::{Answer, CONTROLLER, Msg, Note, Piece, Refused, units_in};
+use nf_msgs::{Answer, CONTROLLER, KeptUnits, Msg, Note, Piece, Refused, units_in};
 use record_table::ImportFault;
 use state_chunk::header::PLAIN;
 use state_chunk::{ChunkFault, decode_tally};
@@ -72,7 +73,7 @@ impl<F: Function> Instance<F> {
         chunks: Chunks,
         out: &mut Outbox<Msg, Note>,
     ) -> Result<(), NoMemory>
-        ensures sends { OnOk result (out.new.0 ≡ out.old.0 ++ told (Refusing op (record { why = why; chunks = chunks }) ∷ [])) }
+        ensures sends { OnOk result (out.new.0 ≡ out.old.0 ++ to_controller (Refusing op (record { why = why; chunks = chunks }) ∷ [])) }
         ensures notes { OnOk result (out.new.1 ≡ out.old.1) }
     {
         let refused = Boxed::new(self.alloc, Refused { why, chunks })?;
@@ -156,7 +157,7 @@ impl<F: Function> Instance<F> {
         ensures sends { OnOk result (out.new.0 ≡ out.old.0 ++ (on_standby F.semantics self.old op chunks).sends) }
         ensures notes { OnOk result (out.new.1 ≡ out.old.1 ++ (on_standby F.semantics self.old op chunks).notes) }
     {
-        let units = units_in(self.alloc, chunks.items())?;
+        let units = KeptUnits::of(self.alloc, chunks.items())?;
         if !self.take_standby(chunks)? {
             return Ok(());
         }
@@ -177,7 +178,7 @@ impl<F: Function> Instance<F> {
         ensures sends { OnOk result (out.new.0 ≡ out.old.0 ++ (on_sync F.semantics self.old home op chunks).sends) }
         ensures notes { OnOk result (out.new.1 ≡ out.old.1 ++ (on_sync F.semantics self.old home op chunks).notes) }
     {
-        let units = units_in(self.alloc, chunks.items())?;
+        let units = KeptUnits::of(self.alloc, chunks.items())?;
         if !self.take_records(home, chunks)? {
             return Ok(());
         }
@@ -225,10 +226,14 @@ impl<F: Function> Instance<F> {
     }
 
     /// Notes that the records of these units are kept.
-    fn note_kept(&self, op: u32, units: Units, out: &mut Outbox<Msg, Note>) -> Result<(), NoMemory>
+    fn note_kept(
+        &self,
+        op: u32,
+        units: KeptUnits,
+        out: &mut Outbox<Msg, Note>,
+    ) -> Result<(), NoMemory>
         ensures { OnOk result (out.new ≡ (out.old.0, out.old.1 ++ KeptNote self.now.index op units ∷ [])) }
     {
-        let units = Boxed::new(self.alloc, units)?;
         out.note(Note::Kept {
             instance: self.index.get(),
             op,

@@ -50,6 +50,7 @@ impl<F: Function> Actor for Instance<F> {
         true
     }
 
+    #[inline(always)]
     fn step(
         &mut self,
         _port: u8,
@@ -58,24 +59,7 @@ impl<F: Function> Actor for Instance<F> {
     ) -> Result<(), NoMemory> {
         match message {
             Msg::Carry { mark, parcel } => self.carry(mark, parcel, out),
-            Msg::Fence { op } => self.fence(op, out),
-            Msg::Stop => self.stop(out),
-            Msg::Enable { op, filter, action } => self.enable_and_tell(
-                op,
-                filter.get(),
-                action,
-                out,
-            ),
-            Msg::Get { op, filter } => self.get(op, filter.get(), out),
-            Msg::Stream { op, filter } => self.stream(op, filter.get(), out),
-            Msg::GetAll { op } => self.get_all(op, out),
-            Msg::Delete { op, units } => self.delete(op, &units, out),
-            Msg::Put { op, piece, first } => self.put(op, piece.into_inner(), first, out),
-            Msg::Restore { op, chunks } => self.restore(op, chunks, out),
-            Msg::Standby { op, chunks } => self.standby(op, chunks, out),
-            Msg::PutAll { op, chunk } => self.put_all(op, chunk.get(), out),
-            Msg::Sync { home, op, chunks } => self.sync(home, op, chunks, out),
-            _ => Ok(()),
+            message => self.obey(message, out),
         }
     }
 
@@ -85,7 +69,7 @@ impl<F: Function> Actor for Instance<F> {
 }
 
 impl<F: Function> Instance<F> {
-    ghost use Rattle.instance_worker.specs.Instance.{on_delete, on_enable, on_stop};
+    ghost use Rattle.instance_worker.specs.Instance.{instance_step, on_delete, on_enable, on_stop};
 
     /// An instance without records and rules. This takes no memory.
     pub fn open(alloc: Global, index: u8, limit: u32, marked: bool, site: Site) -> Self
@@ -127,6 +111,37 @@ impl<F: Function> Instance<F> {
         ensures { result ≡ self.now.tally }
     {
         self.tally
+    }
+
+    /// Does what any message asks. Most messages carry packets; they don't come here, so that nothing which the others need is made ready for
+    /// them.
+    #[inline(never)]
+    fn obey(&mut self, message: Msg, out: &mut Outbox<Msg, Note>) -> Result<(), NoMemory>
+        ensures node { OnOk result (self.new ≡ (instance_step F.semantics self.old message).node) }
+        ensures sends { OnOk result (out.new.0 ≡ out.old.0 ++ (instance_step F.semantics self.old message).sends) }
+        ensures notes { OnOk result (out.new.1 ≡ out.old.1 ++ (instance_step F.semantics self.old message).notes) }
+    {
+        match message {
+            Msg::Carry { mark, parcel } => self.carry(mark, parcel, out),
+            Msg::Fence { op } => self.fence(op, out),
+            Msg::Stop => self.stop(out),
+            Msg::Enable { op, filter, action } => self.enable_and_tell(
+                op,
+                filter.get(),
+                action,
+                out,
+            ),
+            Msg::Get { op, filter } => self.get(op, filter.get(), out),
+            Msg::Stream { op, filter } => self.stream(op, filter.get(), out),
+            Msg::GetAll { op } => self.get_all(op, out),
+            Msg::Delete { op, units } => self.delete(op, &units, out),
+            Msg::Put { op, piece, first } => self.put(op, piece.into_inner(), first, out),
+            Msg::Restore { op, chunks } => self.restore(op, chunks, out),
+            Msg::Standby { op, chunks } => self.standby(op, chunks, out),
+            Msg::PutAll { op, chunk } => self.put_all(op, chunk.get(), out),
+            Msg::Sync { home, op, chunks } => self.sync(home, op, chunks, out),
+            _ => Ok(()),
+        }
     }
 
     /// Tells the controller that this was the last message.

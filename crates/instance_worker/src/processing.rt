@@ -1,21 +1,26 @@
 //! What an instance does with packets.
 ghost use Rattle.std.specs.Prelude.{◌≡◌, ◌++◌, OnOk, IsSome};
 ghost use Rattle.flow_filter.specs.Flow.{flow_of};
+ghost use Rattle.event_filter.specs.declared.decide.Decide.TheVariants.{ProcessAndEvent};
+ghost use Rattle.event_filter.specs.declared.mark.Mark.TheVariants.{Shared};
 ghost use Rattle.event_filter.specs.Rules.{rule_at, with_held};
-ghost use Rattle.instance_worker.specs.Instance.{all_processed, is_live, on_carry, on_fence, processed, shared, told, with_count};
+ghost use Rattle.nf_function.specs.Units.{unit_of};
+ghost use Rattle.instance_worker.specs.Instance.{all_processed, carry_step, is_live, on_carry, on_fence, process_step, share_message};
+ghost use Rattle.instance_worker.specs.Instance.{to_controller, with_count};
 
 use crate::instance::Instance;
 use actor_net::Outbox;
 use basics::{Boxed, NoMemory};
 use event_filter::{Decide, Mark};
 use flow_filter::{Direction, Flow, flow_of};
-use nf_function::{Function, Unit};
+use nf_function::Function;
 use nf_msgs::{CONTROLLER, Msg, Note, SWITCH};
 use packet_pool::Cell;
 use std::collections::VecDeque;
 
 impl<F: Function> Instance<F> {
     /// Does with a packet what the rules decide of it.
+    #[inline(always)]
     #[tactic(auto, unfolding(crate::specs::Instance::on_carry))]
     pub(crate) fn carry(
         &mut self,
@@ -31,16 +36,36 @@ impl<F: Function> Instance<F> {
         match self.rules.decide(&flow, &mark) {
             Decide::Process => self.process_along(flow, direction, mark, cell, out),
             Decide::ProcessAndEvent(op) => {
-                let packet = Boxed::new(self.alloc, *cell.packet())?;
-                self.process_along(flow, direction, mark, cell, out)?;
-                out.send(CONTROLLER, Msg::Seen { op, packet })
+                self.process_and_tell(op, flow, direction, mark, cell, out)
             }
             Decide::Event(op) => out.send(CONTROLLER, Msg::Event { op, parcel: cell }),
             Decide::Buffer(op) => self.hold(op, cell),
         }
     }
 
+    /// Processes a packet, and tells an operation which it was.
+    #[inline(never)]
+    fn process_and_tell(
+        &mut self,
+        op: u32,
+        flow: Flow,
+        direction: Direction,
+        mark: Mark,
+        cell: Cell,
+        out: &mut Outbox<Msg, Note>,
+    ) -> Result<(), NoMemory>
+        requires { (flow, direction) ≡ flow_of self.old.site cell.packet }
+        ensures node { OnOk result (self.new ≡ (carry_step F.semantics self.old mark cell (ProcessAndEvent op)).node) }
+        ensures sends { OnOk result (out.new.0 ≡ out.old.0 ++ (carry_step F.semantics self.old mark cell (ProcessAndEvent op)).sends) }
+        ensures notes { OnOk result (out.new.1 ≡ out.old.1 ++ (carry_step F.semantics self.old mark cell (ProcessAndEvent op)).notes) }
+    {
+        let packet = Boxed::new(self.alloc, *cell.packet())?;
+        self.process_along(flow, direction, mark, cell, out)?;
+        out.send(CONTROLLER, Msg::Seen { op, packet })
+    }
+
     /// Holds a packet for an operation.
+    #[inline(never)]
     fn hold(&mut self, op: u32, cell: Cell) -> Result<(), NoMemory>
         requires { IsSome (rule_at self.old.rules op) }
         ensures { OnOk result (self.new ≡ record self.old { rules = with_held self.old.rules op cell }) }
@@ -81,7 +106,8 @@ impl<F: Function> Instance<F> {
     }
 
     /// Processes a packet whose flow and direction are at hand.
-    #[tactic(auto, unfolding(crate::specs::Instance::processed))]
+    #[inline(always)]
+    #[tactic(auto, unfolding(crate::specs::Instance::process_step))]
     fn process_along(
         &mut self,
         flow: Flow,
@@ -91,9 +117,9 @@ impl<F: Function> Instance<F> {
         out: &mut Outbox<Msg, Note>,
     ) -> Result<(), NoMemory>
         requires { (flow, direction) ≡ flow_of self.old.site cell.packet }
-        ensures node { OnOk result (self.new ≡ (processed F.semantics self.old mark cell).node) }
-        ensures sends { OnOk result (out.new.0 ≡ out.old.0 ++ (processed F.semantics self.old mark cell).sends) }
-        ensures notes { OnOk result (out.new.1 ≡ out.old.1 ++ (processed F.semantics self.old mark cell).notes) }
+        ensures node { OnOk result (self.new ≡ (process_step F.semantics self.old mark cell).node) }
+        ensures sends { OnOk result (out.new.0 ≡ out.old.0 ++ (process_step F.semantics self.old mark cell).sends) }
+        ensures notes { OnOk result (out.new.1 ≡ out.old.1 ++ (process_step F.semantics self.old mark cell).notes) }
     {
         let live = is_live(mark);
         let packet = cell.packet();
@@ -107,7 +133,7 @@ impl<F: Function> Instance<F> {
             instance: self.index.get(),
             output: stepped.output,
         })?;
-        self.share(mark, &stepped.unit, out)?;
+        self.share(mark, &flow, out)?;
         out.send(SWITCH, Msg::Credit(cell))
     }
 
@@ -119,14 +145,31 @@ impl<F: Function> Instance<F> {
     }
 
     /// Tells a share what its packet left of the unit.
-    fn share(&self, mark: Mark, unit: &Unit, out: &mut Outbox<Msg, Note>) -> Result<(), NoMemory>
-        ensures sends { OnOk result (out.new.0 ≡ out.old.0 ++ told (shared F.semantics self.now mark unit.now)) }
+    #[inline(always)]
+    fn share(&self, mark: Mark, flow: &Flow, out: &mut Outbox<Msg, Note>) -> Result<(), NoMemory>
+        ensures sends { OnOk result (out.new.0 ≡ out.old.0 ++ to_controller (share_message F.semantics self.now mark (unit_of F.semantics.kind flow.now))) }
         ensures notes { OnOk result (out.new.1 ≡ out.old.1) }
     {
         let Mark::Shared { op, home } = mark else {
             return Ok(());
         };
-        let Some(chunk) = self.table.one(unit, home)? else {
+        self.tell_share(op, home, flow, out)
+    }
+
+    /// Tells the share of an operation what its packet left of the unit.
+    #[inline(never)]
+    fn tell_share(
+        &self,
+        op: u32,
+        home: bool,
+        flow: &Flow,
+        out: &mut Outbox<Msg, Note>,
+    ) -> Result<(), NoMemory>
+        ensures sends { OnOk result
+            (out.new.0 ≡ out.old.0 ++ to_controller (share_message F.semantics self.now (Shared op home) (unit_of F.semantics.kind flow.now))) }
+        ensures notes { OnOk result (out.new.1 ≡ out.old.1) }
+    {
+        let Some(chunk) = self.table.one(&F::unit(flow), home)? else {
             return Ok(());
         };
         let chunk = Boxed::new(self.alloc, chunk)?;

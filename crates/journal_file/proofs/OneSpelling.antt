@@ -1,5 +1,6 @@
 -- A journal that is read has one spelling.
-use Rattle.std.proofs.Common.{◌≡◌, ◌∙◌, ◌≤◌, ◌*◌, ◌==◌, not, ℕ, Bool, true, false, List, [], ◌∷◌, ◌++◌, length, take, drop, slice_index, Ok, Err, refl, ap, sym, arith, nat_lt, if◌then◌else◌, IfOk, length-drop, append-nil}
+use Rattle.std.proofs.Common.{◌≡◌, ◌∙◌, ◌≤◌, ◌*◌, ◌==◌, not, ℕ, Bool, true, false, List, [], ◌∷◌, ◌++◌, length, take, drop}
+use Rattle.std.proofs.Common.{slice_index, Ok, Err, refl, ap, sym, arith, nat_lt, if◌then◌else◌, IfOk, length-drop, append-nil}
 use Rattle.std.proofs.lemmas.Bool.Decides.{Decides-eqb, nat_tests}
 use Rattle.std.proofs.lemmas.List.{append_assoc, length-take-le, take-append-drop, drop-drop}
 use Rattle.std.proofs.lemmas.Slice.Eq.{starts_is}
@@ -52,7 +53,8 @@ header_spelled kind instances count header are size h =
     let number : big_number 8 (drop 8 header) ≡ count = same_ok (big_number 8 (drop 8 header)) count few.1 in
     let front : header ≡ letters ++ drop 4 header = (starts_is Decides-eqb header letters _ refl).0 magic.0 in
     let after_letters : drop 4 header ≡ number_bytes 2 version ++ drop 6 header =
-    number_first 2 version (drop 4 header) (IsBytes-drop 4 header are) (omega (arith, size, length-drop 4 header)) (eqb-true (big_number 2 (drop 4 header)) version one.0)
+    number_first 2 version (drop 4 header) (IsBytes-drop 4 header are) (omega (arith, size, length-drop 4 header))
+    (eqb-true (big_number 2 (drop 4 header)) version one.0)
     ∙ ap (λ (l : List ℕ). number_bytes 2 version ++ l) (drop-drop 2 4 header) in
     let after_version : drop 6 header ≡ kind_number kind ∷ drop 7 header =
     drop-cons header 6 0 (omega (arith, size)) ∙ ap (λ (k : ℕ). k ∷ drop 7 header) (eqb-true (slice_index header 6) (kind_number kind) kinds.0) in
@@ -60,7 +62,8 @@ header_spelled kind instances count header are size h =
     drop-cons header 7 0 (omega (arith, size)) ∙ ap (λ (n : ℕ). n ∷ drop 8 header) (eqb-true (slice_index header 7) instances asked.0) in
     let after_instances : drop 8 header ≡ number_bytes 8 count =
     number_first 8 count (drop 8 header) (IsBytes-drop 8 header are) (omega (arith, size, length-drop 8 header)) number
-    ∙ ap (λ (l : List ℕ). number_bytes 8 count ++ l) (drop-drop 8 8 header ∙ drop_of_length-le header {i = 16} (omega (arith, size))) ∙ append-nil (number_bytes 8 count) in
+    ∙ ap (λ (l : List ℕ). number_bytes 8 count ++ l) (drop-drop 8 8 header ∙ drop_of_length-le header {i = 16} (omega (arith, size)))
+    ∙ append-nil (number_bytes 8 count) in
     front ∙ ap (λ (l : List ℕ). letters ++ l)
     (after_letters ∙ ap (λ (l : List ℕ). number_bytes 2 version ++ l)
     (after_version ∙ ap (λ (l : List ℕ). kind_number kind ∷ l) (after_kind ∙ ap (λ (l : List ℕ). instances ∷ l) after_instances))
@@ -88,13 +91,15 @@ journal_spelled kind instances bytes choices are h = told (count_of kind instanc
     told (Ok count) is k =
         let whole = failed (nat_lt (length bytes) header_size) fault.Short (count_in kind instances (take header_size bytes)) count is in
         let long : header_size ≤ length bytes = grind (arith, nat_tests, whole.0) in
-        let head = header_spelled kind instances count (take header_size bytes) (IsBytes-take header_size bytes are) (length-take-le header_size bytes long) whole.1 in
+        let head = header_spelled kind instances count (take header_size bytes) (IsBytes-take header_size bytes are) (length-take-le header_size bytes long)
+        whole.1 in
         let rest = rest_spelled count (drop header_size bytes) choices k in
         sym (take-append-drop header_size bytes) ∙ ap (λ (l : List ℕ). l ++ drop header_size bytes) (head ∙ ap (header_bytes kind instances) (sym rest.0))
         ∙ ap (λ (l : List ℕ). header_bytes kind instances (length choices) ++ l) rest.1
 
 -- so is one that a call gave
-pub given_spelled : (kind : Kind) (instances : ℕ) (bytes : List ℕ) (result : Read (List Choice)) → IsBytes bytes → AnswersWith (journal_of kind instances bytes) result
+pub given_spelled : (kind : Kind) (instances : ℕ) (bytes : List ℕ) (result : Read (List Choice)) → IsBytes bytes
+    → AnswersWith (journal_of kind instances bytes) result
     → IfOk result (λ choices. bytes ≡ journal_bytes kind instances choices)
 given_spelled kind instances bytes (Ok choices) are given = journal_spelled kind instances bytes choices are given
 given_spelled kind instances bytes (Err e) are given = tt

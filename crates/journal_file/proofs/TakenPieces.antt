@@ -1,5 +1,6 @@
 -- What a source gives piece by piece is what its bytes spell.
-use Rattle.std.proofs.Common.{◌≡◌, ◌∙◌, ◌<◌, ◌≤◌, ◌+◌, ◌*◌, ◌-◌, ℕ, true, false, List, [], ◌++◌, length, take, drop, Option, Some, Ok, Err, refl, ap, sym, subst, arith, nat_lt, length-drop}
+use Rattle.std.proofs.Common.{◌≡◌, ◌∙◌, ◌<◌, ◌≤◌, ◌+◌, ◌*◌, ◌-◌, ℕ, true, false, List, [], ◌++◌, length, take}
+use Rattle.std.proofs.Common.{drop, Option, Some, Ok, Err, refl, ap, sym, subst, arith, nat_lt, length-drop}
 use Rattle.std.proofs.lemmas.Bool.Decides.{nat_tests}
 use Rattle.std.proofs.lemmas.List.{length-take-le, length-take, drop-drop, take-take}
 use Rattle.std.proofs.Math.ListN.{drop_of_length-le}

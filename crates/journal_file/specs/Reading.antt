@@ -1,5 +1,6 @@
 -- How a journal is read: check by check, and the first that fails decides. This project's own format.
-use Rattle.std.specs.Prelude.{◌≡◌, ℕ, ◌+◌, ◌*◌, ◌≤◌, ◌==◌, not, nat_lt, if◌then◌else◌, List, [], ◌∷◌, length, take, drop, slice_index, Option, Some, Result, Ok, Err}
+use Rattle.std.specs.Prelude.{◌≡◌, ℕ, ◌+◌, ◌*◌, ◌≤◌, ◌==◌, not, nat_lt, if◌then◌else◌, List, []}
+use Rattle.std.specs.Prelude.{◌∷◌, length, take, drop, slice_index, Option, Some, Result, Ok, Err}
 use Rattle.std.specs.List.{starts_with}
 use Rattle.byteorder.specs.Endian.{big_number}
 use Rattle.actor_net.specs.declared.choice.Choice.{Choice}
@@ -56,7 +57,8 @@ abbrev pub AnswersWith : {X : Type 0} → Read X → Read X → Type 0
 AnswersWith due (Err fault.NoMemory) = Unit {0}
 AnswersWith due result = due ≡ result
 
--- a call over a source that has `left` bytes afterwards gave what is due. At Ok none is left, and at a fault of the bytes those that weren't looked at. A fault of reading and out of memory are free
+-- a call over a source that has `left` bytes afterwards gave what is due. At Ok none is left, and at a fault of the bytes those that weren't looked at.
+-- A fault of reading and out of memory are free
 abbrev pub GivesFrom : {X : Type 0} → Read X → List ℕ → Option (List ℕ) → Read X → Type 0
 GivesFrom due unseen left (Ok x) = (due ≡ Ok x) × (left ≡ Some [])
 GivesFrom due unseen left (Err fault.Read) = Unit {0}

@@ -6,13 +6,13 @@ use Rattle.nf_msgs.specs.declared.msg.Refused as refused
 use Rattle.nf_msgs.specs.declared.msg.Msg.{Msg}
 use Rattle.nf_msgs.specs.declared.msg.Msg.TheVariants as msg
 use Rattle.move_op.specs.Phases.{Phase}
-use Rattle.move_op.specs.Move.{MovePlan, goes, keeps, from_source, from_destination}
+use Rattle.move_op.specs.Move.{MovePlan, next_phase, keeps, from_source, from_destination}
 
 pub other_of_source : (plan : MovePlan) (phase : Phase) (events : List FullCell) (message : Msg)
     → ((op : ℕ) → message ≡ msg.Enabled op → ⊥) → ((op : ℕ) (p : piece.Piece) → message ≡ msg.Piece op p → ⊥)
     → ((op : ℕ) → message ≡ msg.Deleted op → ⊥) → ((op : ℕ) → message ≡ msg.Restored op → ⊥)
     → ((op : ℕ) (parcel : FullCell) → message ≡ msg.Event op parcel → ⊥) → ((op : ℕ) → message ≡ msg.Fenced op → ⊥)
-    → from_source plan phase events message ≡ keeps (goes phase [])
+    → from_source plan phase events message ≡ keeps (next_phase phase [])
 other_of_source plan phase events (msg.Enabled op) a b c d e f = absurd (a op refl)
 other_of_source plan phase events (msg.Piece op p) a b c d e f = absurd (b op p refl)
 other_of_source plan phase events (msg.Deleted op) a b c d e f = absurd (c op refl)
@@ -24,7 +24,7 @@ other_of_source plan phase events message a b c d e f = refl
 pub other_of_destination : (plan : MovePlan) (phase : Phase) (events : List FullCell) (message : Msg)
     → ((op : ℕ) → message ≡ msg.PutOk op → ⊥) → ((op : ℕ) (r : refused.Refused) → message ≡ msg.PutNo op r → ⊥)
     → ((op : ℕ) → message ≡ msg.Enabled op → ⊥) → ((op : ℕ) → message ≡ msg.Fenced op → ⊥)
-    → from_destination plan phase events message ≡ keeps (goes phase [])
+    → from_destination plan phase events message ≡ keeps (next_phase phase [])
 other_of_destination plan phase events (msg.PutOk op) a b c d = absurd (a op refl)
 other_of_destination plan phase events (msg.PutNo op r) a b c d = absurd (b op r refl)
 other_of_destination plan phase events (msg.Enabled op) a b c d = absurd (c op refl)

@@ -1,6 +1,6 @@
 -- A move of the state and the packets of units from one instance to another: its phases, and what it does with each message.
 -- This project's own, after the moves of OpenNF that lose no packet and keep the order of packets.
-use Rattle.std.specs.Prelude.{ℕ, ◌==◌, ◌&&◌, ◌||◌, Bool, true, false, List, [], ◌∷◌, ◌++◌, map, length, Option, None, Some, is_some, if◌then◌else◌}
+use Rattle.std.specs.Prelude.{ℕ, ◌==◌, Bool, true, false, List, [], ◌∷◌, ◌++◌, map, Option, None, Some, is_some, if◌then◌else◌}
 use Rattle.std.specs.List.{flat_map, list_all}
 use Rattle.std.specs.Ordering.{nat_cmp}
 use Rattle.std.specs.FinMap as finite
@@ -9,7 +9,7 @@ use Rattle.nf_function.specs.declared.chunk.Chunk.{Chunk}
 use Rattle.event_filter.specs.declared.action.Action as actions
 use Rattle.event_filter.specs.declared.action.Action.TheVariants as action
 use Rattle.event_filter.specs.declared.mark.Mark.TheVariants.{Pass}
-use Rattle.event_store.specs.Store.{stored}
+use Rattle.event_store.specs.Store.{stored_of}
 pub use Rattle.event_store.specs.Store.{store_after}
 use Rattle.switch_rules.specs.declared.target.Target.TheVariants.{Instance}
 use Rattle.packet_pool.specs.Pool.{FullCell}
@@ -20,9 +20,10 @@ use Rattle.nf_msgs.specs.declared.msg.Msg.{Msg}
 use Rattle.nf_msgs.specs.declared.msg.Msg.TheVariants as msg
 use Rattle.nf_msgs.specs.Exports.{units_in}
 use Rattle.nf_msgs.specs.Nodes.{switch_node, instance_node}
-use Rattle.move_op.specs.declared.door.Door.{Door}
-use Rattle.move_op.specs.declared.door.Door.TheVariants.{Shut, Asked, Open, Refused}
-use Rattle.move_op.specs.Phases.{Phase, Freezing, Streaming, Holding, Passing, Ending, Restoring, Returning, Undoing, Over}
+use Rattle.move_op.specs.Phases.{Phase, Freezing, Over}
+use Rattle.move_op.specs.Table.{Words, Said, Nothing, Stream, Remove, Restore, Hold_at_source, Ask, Put, Hold_at_destination, Forward, Release, Give_back}
+use Rattle.move_op.specs.Table.{Fence, on_event, on_source_enabled, on_piece, on_deleted, on_restored, on_source_fenced, on_put_ok, on_put_no}
+use Rattle.move_op.specs.Table.{on_destination_enabled, on_destination_fenced}
 
 -- what is to be moved: the command's number, the source and the destination, the filter, and whether packets keep their order
 pub record MovePlan : Type 0 where
@@ -47,8 +48,8 @@ pub record MoveRow : Type 0 where
   pub next : MoveNext
   pub stored : Option (List FullCell)
 
-abbrev pub goes : Phase → List (ℕ × Msg) → MoveNext
-goes phase sends = record { phase = phase; sends = sends }
+abbrev pub next_phase : Phase → List (ℕ × Msg) → MoveNext
+next_phase phase sends = record { phase = phase; sends = sends }
 
 -- the stored parcels stay
 abbrev pub keeps : MoveNext → MoveRow
@@ -90,123 +91,65 @@ abbrev pub forward_to : MovePlan → ℕ → FullCell → ℕ × Msg
 forward_to plan to parcel = (switch_node, msg.Forward to (Pass plan.op) parcel)
 
 -- a move begins: the source is to hand out the packets
-abbrev pub begun : MovePlan → MoveState
-begun plan = record { plan = plan; phase = Freezing }
+abbrev pub move_at_start : MovePlan → MoveState
+move_at_start plan = record { plan = plan; phase = Freezing }
 
 abbrev pub begin_sends : MovePlan → List (ℕ × Msg)
 begin_sends plan = enable_at plan (source plan) action.Drop ∷ []
 
--- the first piece that is free asks whether all of them are taken
-abbrev pub asked : MovePlan → List Piece → List Piece → Bool → MoveNext
-asked plan frozen [] came = goes (Streaming frozen [] came Shut) []
-asked plan frozen (piece ∷ free) came = goes (Streaming frozen free came (Asked piece.last)) (put_to plan true piece ∷ [])
+-- what a row says, as messages with their receivers
+abbrev pub messages_of : MovePlan → Said FullCell Piece → List (ℕ × Msg)
+messages_of plan Nothing = []
+messages_of plan Stream = (source plan, msg.Stream plan.op plan.filter) ∷ []
+messages_of plan (Remove piece) = (source plan, msg.Delete plan.op (units_in piece.chunks)) ∷ []
+messages_of plan (Restore pieces) = (source plan, msg.Restore plan.op (chunks_of pieces)) ∷ []
+messages_of plan Hold_at_source = enable_at plan (source plan) action.Buffer ∷ []
+messages_of plan (Ask piece) = put_to plan true piece ∷ []
+messages_of plan (Put pieces) = map (put_to plan false) pieces
+messages_of plan Hold_at_destination = enable_at plan (destination plan) action.Buffer ∷ []
+messages_of plan (Forward parcel) = forward_to plan plan.to parcel ∷ []
+messages_of plan (Release stored) =
+    map (forward_to plan plan.to) stored ++ (switch_node, msg.Install plan.op plan.filter plan.from (Instance plan.to)) ∷ []
+messages_of plan (Give_back stored) = map (forward_to plan plan.from) stored ++ (switch_node, msg.FenceTo plan.op plan.from) ∷ []
+messages_of plan Fence = (switch_node, msg.FenceTo plan.op plan.to) ∷ []
 
--- the pieces that are free go on as the door says: one of them, all of them, or back to the source once there are no others
-abbrev pub pushed : MovePlan → List Piece → List Piece → Bool → Door → MoveNext
-pushed plan frozen free came Shut = asked plan frozen free came
-pushed plan frozen free came (Asked last) = goes (Streaming frozen free came (Asked last)) []
-pushed plan frozen free came Open = goes (Streaming frozen [] came Open) (map (put_to plan false) free)
-pushed plan frozen free came (Refused why) =
-    if came && (length frozen == 0) then goes (Restoring why) ((source plan, msg.Restore plan.op (chunks_of free)) ∷ [])
-    else goes (Streaming frozen free came (Refused why)) []
-
--- the stored parcels go to the destination, and then all that comes goes there
-abbrev pub released : MovePlan → List FullCell → MoveRow
-released plan events = stores [] (goes Passing (map (forward_to plan plan.to) events
-    ++ (switch_node, msg.Install plan.op plan.filter plan.from (Instance plan.to)) ∷ []))
-
--- the stored parcels go back to the source
-abbrev pub returned : MovePlan → Answer → List FullCell → MoveRow
-returned plan why events = stores [] (goes (Undoing why) (map (forward_to plan plan.from) events
-    ++ (switch_node, msg.FenceTo plan.op plan.from) ∷ []))
-
--- all pieces are put
-abbrev pub all_put : MovePlan → List FullCell → Bool → MoveRow
-all_put plan events true = keeps (goes Holding (enable_at plan (destination plan) action.Buffer ∷ []))
-all_put plan events false = released plan events
-
--- an event of the source
-abbrev pub on_event : MovePlan → Phase → List FullCell → FullCell → MoveRow
-on_event plan Passing events parcel = keeps (goes Passing (forward_to plan plan.to parcel ∷ []))
-on_event plan phase events parcel = stores (events ++ parcel ∷ []) (goes phase [])
-
--- the source has set its event rule
-abbrev pub on_source_enabled : MovePlan → Phase → List FullCell → MoveRow
-on_source_enabled plan Freezing events =
-    keeps (goes (Streaming [] [] false Shut) ((source plan, msg.Stream plan.op plan.filter) ∷ []))
-on_source_enabled plan (Returning why) events = returned plan why events
-on_source_enabled plan phase events = keeps (goes phase [])
-
--- the next piece of the source
-abbrev pub on_piece : MovePlan → Phase → Piece → MoveNext
-on_piece plan (Streaming frozen free came door) piece =
-    if have_units piece.chunks
-    then goes (Streaming (frozen ++ piece ∷ []) free (came || piece.last) door) ((source plan, msg.Delete plan.op (units_in piece.chunks)) ∷ [])
-    else goes (Streaming frozen free came door) []
-on_piece plan phase piece = goes phase []
-
--- the source has removed the records of the first piece that is frozen
-abbrev pub on_deleted : MovePlan → Phase → MoveNext
-on_deleted plan (Streaming (piece ∷ frozen) free came door) = pushed plan frozen (free ++ piece ∷ []) came door
-on_deleted plan phase = goes phase []
-
--- the source has its records again
-abbrev pub on_restored : MovePlan → Phase → MoveNext
-on_restored plan (Restoring why) = goes (Returning why) (enable_at plan (source plan) action.Buffer ∷ [])
-on_restored plan phase = goes phase []
-
--- the fence came to the source
-abbrev pub on_source_fenced : MovePlan → Phase → MoveNext
-on_source_fenced plan Passing = goes Ending ((switch_node, msg.FenceTo plan.op plan.to) ∷ [])
-on_source_fenced plan (Undoing why) = goes (Over why) []
-on_source_fenced plan phase = goes phase []
-
--- the destination took the piece that asked, or the last one
-abbrev pub on_put_ok : MovePlan → Phase → List FullCell → MoveRow
-on_put_ok plan (Streaming frozen free came (Asked last)) events =
-    if last then all_put plan events plan.keep else keeps (pushed plan frozen free came Open)
-on_put_ok plan (Streaming frozen free came Open) events = all_put plan events plan.keep
-on_put_ok plan phase events = keeps (goes phase [])
-
--- the destination refused the piece that asked
-abbrev pub on_put_no : MovePlan → Phase → Answer → List Chunk → MoveNext
-on_put_no plan (Streaming frozen free came (Asked last)) why chunks = pushed plan frozen (put_back chunks last ∷ free) came (Refused why)
-on_put_no plan phase why chunks = goes phase []
-
--- the destination has set its event rule
-abbrev pub on_destination_enabled : MovePlan → Phase → List FullCell → MoveRow
-on_destination_enabled plan Holding events = released plan events
-on_destination_enabled plan phase events = keeps (goes phase [])
-
--- the fence came to the destination
-abbrev pub on_destination_fenced : MovePlan → Phase → MoveNext
-on_destination_fenced plan Ending = goes (Over Done) []
-on_destination_fenced plan phase = goes phase []
+-- the words of the table: a move ends with its answer, and of what it says messages come
+abbrev pub words : MovePlan → Words FullCell Piece Answer MoveNext MoveRow
+words plan = record {
+  keep = plan.keep;
+  is_last = λ piece. piece.last;
+  has_units = λ piece. have_units piece.chunks;
+  done = Done;
+  refused = λ why. why;
+  next = λ phase said. next_phase phase (messages_of plan said);
+  keeps = keeps;
+  stores = stores;
+}
 
 -- a message of the source
 abbrev pub from_source : MovePlan → Phase → List FullCell → Msg → MoveRow
-from_source plan phase events (msg.Event op parcel) = on_event plan phase events parcel
-from_source plan phase events (msg.Enabled op) = on_source_enabled plan phase events
-from_source plan phase events (msg.Piece op piece) = keeps (on_piece plan phase piece)
-from_source plan phase events (msg.Deleted op) = keeps (on_deleted plan phase)
-from_source plan phase events (msg.Restored op) = keeps (on_restored plan phase)
-from_source plan phase events (msg.Fenced op) = keeps (on_source_fenced plan phase)
-from_source plan phase events message = keeps (goes phase [])
+from_source plan phase stored (msg.Event op parcel) = on_event (words plan) phase stored parcel
+from_source plan phase stored (msg.Enabled op) = on_source_enabled (words plan) phase stored
+from_source plan phase stored (msg.Piece op piece) = keeps (on_piece (words plan) phase piece)
+from_source plan phase stored (msg.Deleted op) = keeps (on_deleted (words plan) phase)
+from_source plan phase stored (msg.Restored op) = keeps (on_restored (words plan) phase)
+from_source plan phase stored (msg.Fenced op) = keeps (on_source_fenced (words plan) phase)
+from_source plan phase stored message = keeps (next_phase phase [])
 
 -- a message of the destination
 abbrev pub from_destination : MovePlan → Phase → List FullCell → Msg → MoveRow
-from_destination plan phase events (msg.PutOk op) = on_put_ok plan phase events
-from_destination plan phase events (msg.PutNo op refused) = keeps (on_put_no plan phase refused.why refused.chunks)
-from_destination plan phase events (msg.Enabled op) = on_destination_enabled plan phase events
-from_destination plan phase events (msg.Fenced op) = keeps (on_destination_fenced plan phase)
-from_destination plan phase events message = keeps (goes phase [])
+from_destination plan phase stored (msg.PutOk op) = on_put_ok (words plan) phase stored
+from_destination plan phase stored (msg.PutNo op refused) = keeps (on_put_no (words plan) phase refused.why (put_back refused.chunks))
+from_destination plan phase stored (msg.Enabled op) = on_destination_enabled (words plan) phase stored
+from_destination plan phase stored (msg.Fenced op) = keeps (on_destination_fenced (words plan) phase)
+from_destination plan phase stored message = keeps (next_phase phase [])
 
 -- the table of a move, with the parcels that are stored for it. What it doesn't name comes in no run
 abbrev pub row : MoveState → List FullCell → ℕ → Msg → MoveRow
-row s events sender message =
-    if sender == source s.plan then from_source s.plan s.phase events message
-    else if sender == destination s.plan then from_destination s.plan s.phase events message
-    else keeps (goes s.phase [])
+row s stored sender message =
+    if sender == source s.plan then from_source s.plan s.phase stored message
+    else if sender == destination s.plan then from_destination s.plan s.phase stored message
+    else keeps (next_phase s.phase [])
 
 -- the parcels of each operation
 abbrev pub Store : Type 0
@@ -214,7 +157,7 @@ Store = finite.FinMap nat_cmp (List FullCell)
 
 -- the row, with what a store has for the move
 abbrev pub row_in : MoveState → Store → ℕ → Msg → MoveRow
-row_in s store sender message = row s (stored store s.plan.op) sender message
+row_in s store sender message = row s (stored_of store s.plan.op) sender message
 
 -- the answer of a move that is over
 abbrev pub answer_of : Phase → Option Answer

@@ -1,7 +1,8 @@
 //! The rows of a move for what its destination says.
 ghost use Rattle.std.specs.Prelude.{◌≡◌, ◌∷◌, ◌++◌, OnOk, IfOk};
-ghost use Rattle.event_store.specs.Store.{stored};
-ghost use Rattle.move_op.specs.Move.{all_put, from_destination, on_destination_enabled, on_destination_fenced, on_put_no, on_put_ok, store_after};
+ghost use Rattle.event_store.specs.Store.{stored_of};
+ghost use Rattle.move_op.specs.Move.{from_destination, put_back, store_after, words};
+ghost use Rattle.move_op.specs.Table.{all_put, on_destination_enabled, on_destination_fenced, on_put_no, on_put_ok};
 ghost use Rattle.move_op.specs.Phases.{phase_of};
 
 use crate::door::Door;
@@ -22,9 +23,12 @@ impl Plan {
         store: &mut EventStore<Cell>,
         out: &mut Outbox<Msg, Note>,
     ) -> Result<Phase, NoMemory>
-        ensures phase { IfOk result (λ next. phase_of next ≡ (from_destination self.now (phase_of phase) (stored store.old self.now.op) message).next.phase) }
-        ensures stored { OnOk result (store.new ≡ store_after store.old self.now.op (from_destination self.now (phase_of phase) (stored store.old self.now.op) message).stored) }
-        ensures out { OnOk result (out.new ≡ (out.old.0 ++ (from_destination self.now (phase_of phase) (stored store.old self.now.op) message).next.sends, out.old.1)) }
+        ensures phase { IfOk result
+            (λ next. phase_of next ≡ (from_destination self.now (phase_of phase) (stored_of store.old self.now.op) message).next.phase) }
+        ensures stored { OnOk result
+            (store.new ≡ store_after store.old self.now.op (from_destination self.now (phase_of phase) (stored_of store.old self.now.op) message).stored) }
+        ensures out { OnOk result
+            (out.new ≡ (out.old.0 ++ (from_destination self.now (phase_of phase) (stored_of store.old self.now.op) message).next.sends, out.old.1)) }
     {
         match message {
             Msg::PutOk { .. } => self.put_ok(phase, store, out),
@@ -42,9 +46,11 @@ impl Plan {
         store: &mut EventStore<Cell>,
         out: &mut Outbox<Msg, Note>,
     ) -> Result<Phase, NoMemory>
-        ensures phase { IfOk result (λ next. phase_of next ≡ (on_put_ok self.now (phase_of phase) (stored store.old self.now.op)).next.phase) }
-        ensures stored { OnOk result (store.new ≡ store_after store.old self.now.op (on_put_ok self.now (phase_of phase) (stored store.old self.now.op)).stored) }
-        ensures out { OnOk result (out.new ≡ (out.old.0 ++ (on_put_ok self.now (phase_of phase) (stored store.old self.now.op)).next.sends, out.old.1)) }
+        ensures phase { IfOk result (λ next. phase_of next ≡ (on_put_ok (words self.now) (phase_of phase) (stored_of store.old self.now.op)).next.phase) }
+        ensures stored { OnOk result
+            (store.new ≡ store_after store.old self.now.op (on_put_ok (words self.now) (phase_of phase) (stored_of store.old self.now.op)).stored) }
+        ensures out { OnOk result
+            (out.new ≡ (out.old.0 ++ (on_put_ok (words self.now) (phase_of phase) (stored_of store.old self.now.op)).next.sends, out.old.1)) }
     {
         match phase {
             Phase::Streaming(stream) => match stream.door {
@@ -62,9 +68,10 @@ impl Plan {
         store: &mut EventStore<Cell>,
         out: &mut Outbox<Msg, Note>,
     ) -> Result<Phase, NoMemory>
-        ensures phase { IfOk result (λ next. phase_of next ≡ (all_put self.now (stored store.old self.now.op) self.now.keep).next.phase) }
-        ensures stored { OnOk result (store.new ≡ store_after store.old self.now.op (all_put self.now (stored store.old self.now.op) self.now.keep).stored) }
-        ensures out { OnOk result (out.new ≡ (out.old.0 ++ (all_put self.now (stored store.old self.now.op) self.now.keep).next.sends, out.old.1)) }
+        ensures phase { IfOk result (λ next. phase_of next ≡ (all_put (words self.now) (stored_of store.old self.now.op) self.now.keep).next.phase) }
+        ensures stored { OnOk result
+            (store.new ≡ store_after store.old self.now.op (all_put (words self.now) (stored_of store.old self.now.op) self.now.keep).stored) }
+        ensures out { OnOk result (out.new ≡ (out.old.0 ++ (all_put (words self.now) (stored_of store.old self.now.op) self.now.keep).next.sends, out.old.1)) }
     {
         if !self.keep {
             return self.release(store, out);
@@ -80,8 +87,9 @@ impl Plan {
         refused: Refused,
         out: &mut Outbox<Msg, Note>,
     ) -> Result<Phase, NoMemory>
-        ensures phase { IfOk result (λ next. phase_of next ≡ (on_put_no self.now (phase_of phase) refused.why refused.chunks).phase) }
-        ensures out { OnOk result (out.new ≡ (out.old.0 ++ (on_put_no self.now (phase_of phase) refused.why refused.chunks).sends, out.old.1)) }
+        ensures phase { IfOk result (λ next. phase_of next ≡ (on_put_no (words self.now) (phase_of phase) refused.why (put_back refused.chunks)).phase) }
+        ensures out { OnOk result
+            (out.new ≡ (out.old.0 ++ (on_put_no (words self.now) (phase_of phase) refused.why (put_back refused.chunks)).sends, out.old.1)) }
     {
         match phase {
             Phase::Streaming(stream) => match stream.door {
@@ -99,9 +107,13 @@ impl Plan {
         store: &mut EventStore<Cell>,
         out: &mut Outbox<Msg, Note>,
     ) -> Result<Phase, NoMemory>
-        ensures phase { IfOk result (λ next. phase_of next ≡ (on_destination_enabled self.now (phase_of phase) (stored store.old self.now.op)).next.phase) }
-        ensures stored { OnOk result (store.new ≡ store_after store.old self.now.op (on_destination_enabled self.now (phase_of phase) (stored store.old self.now.op)).stored) }
-        ensures out { OnOk result (out.new ≡ (out.old.0 ++ (on_destination_enabled self.now (phase_of phase) (stored store.old self.now.op)).next.sends, out.old.1)) }
+        ensures phase { IfOk result
+            (λ next. phase_of next ≡ (on_destination_enabled (words self.now) (phase_of phase) (stored_of store.old self.now.op)).next.phase) }
+        ensures stored { OnOk result
+            (store.new ≡ store_after store.old self.now.op
+            (on_destination_enabled (words self.now) (phase_of phase) (stored_of store.old self.now.op)).stored) }
+        ensures out { OnOk result
+            (out.new ≡ (out.old.0 ++ (on_destination_enabled (words self.now) (phase_of phase) (stored_of store.old self.now.op)).next.sends, out.old.1)) }
     {
         match phase {
             Phase::Holding => self.release(store, out),
@@ -115,8 +127,8 @@ impl Plan {
         phase: Phase,
         out: &mut Outbox<Msg, Note>,
     ) -> Result<Phase, NoMemory>
-        ensures phase { IfOk result (λ next. phase_of next ≡ (on_destination_fenced self.now (phase_of phase)).phase) }
-        ensures out { OnOk result (out.new ≡ (out.old.0 ++ (on_destination_fenced self.now (phase_of phase)).sends, out.old.1)) }
+        ensures phase { IfOk result (λ next. phase_of next ≡ (on_destination_fenced (words self.now) (phase_of phase)).phase) }
+        ensures out { OnOk result (out.new ≡ (out.old.0 ++ (on_destination_fenced (words self.now) (phase_of phase)).sends, out.old.1)) }
     {
         match phase {
             Phase::Ending => Ok(Phase::Over(Answer::Done)),

@@ -1,6 +1,6 @@
 //! A move that has begun: a plan and a phase, as its callers see it.
 ghost use Rattle.std.specs.Prelude.{◌≡◌, ◌<◌, ◌++◌, OnOk, IfOk};
-ghost use Rattle.move_op.specs.Move.{answer_of, begin_sends, begun, row_in, store_after};
+ghost use Rattle.move_op.specs.Move.{answer_of, begin_sends, move_at_start, row_in, store_after};
 ghost use Rattle.move_op.specs.Phases.{phase_of};
 
 use crate::phase::Phase;
@@ -46,8 +46,9 @@ impl MoveOp {
     ) -> Result<MoveOp, NoMemory>
         requires from { from < MOST_INSTANCES }
         requires to { to < MOST_INSTANCES }
-        ensures value { IfOk result (λ m. m ≡ begun (record { op = op; from = from; to = to; filter = filter.now; keep = keep })) }
-        ensures out { OnOk result (out.new ≡ (out.old.0 ++ begin_sends (record { op = op; from = from; to = to; filter = filter.now; keep = keep }), out.old.1)) }
+        ensures value { IfOk result (λ m. m ≡ move_at_start (record { op = op; from = from; to = to; filter = filter.now; keep = keep })) }
+        ensures out { OnOk result
+            (out.new ≡ (out.old.0 ++ begin_sends (record { op = op; from = from; to = to; filter = filter.now; keep = keep }), out.old.1)) }
     {
         let plan = Plan {
             op,

@@ -1,5 +1,6 @@
-ghost use Rattle.std.specs.Prelude.{◌≡◌, [], ◌∷◌, ◌++◌, length, MatchOption, IfOk, OnOk, OnErr, ◌==◌};
+ghost use Rattle.std.specs.Prelude.{◌≡◌, [], ◌∷◌, ◌++◌, MatchOption, IfOk, OnOk, OnErr};
 ghost use Rattle.move_op.specs.Move.{chunks_of};
+ghost use Rattle.move_op.specs.Table.{is_nil};
 
 use basics::{Boxed, NoMemory};
 use nf_function::Chunks;
@@ -35,7 +36,7 @@ impl Pieces {
 
     /// Whether there are none.
     pub fn is_empty(&self) -> bool
-        ensures { result ≡ (length self.now == 0) }
+        ensures { result ≡ is_nil self.now }
     {
         self.pieces.is_empty()
     }

@@ -1,7 +1,8 @@
 //! What a move is asked for, and its row for each message: which phase comes next, and what is sent.
 ghost use Rattle.std.specs.Prelude.{◌≡◌, ◌∷◌, [], ◌++◌, false, map, OnOk, IfOk};
-ghost use Rattle.event_store.specs.Store.{stored};
-ghost use Rattle.move_op.specs.Move.{chunks_of, destination, enable_at, forward_to, put_to, released, row_in, source, store_after};
+ghost use Rattle.event_store.specs.Store.{stored_of};
+ghost use Rattle.move_op.specs.Move.{chunks_of, destination, enable_at, forward_to, put_to, row_in, source, store_after, words};
+ghost use Rattle.move_op.specs.Table.{release_row};
 ghost use Rattle.move_op.specs.Phases as stages;
 ghost use Rattle.move_op.specs.Phases.{phase_of};
 
@@ -51,9 +52,12 @@ impl Plan {
         store: &mut EventStore<Cell>,
         out: &mut Outbox<Msg, Note>,
     ) -> Result<Phase, NoMemory>
-        ensures phase { IfOk result (λ next. phase_of next ≡ (row_in (record { plan = self.now; phase = phase_of phase }) store.old sender message).next.phase) }
-        ensures stored { OnOk result (store.new ≡ store_after store.old self.now.op (row_in (record { plan = self.now; phase = phase_of phase }) store.old sender message).stored) }
-        ensures out { OnOk result (out.new ≡ (out.old.0 ++ (row_in (record { plan = self.now; phase = phase_of phase }) store.old sender message).next.sends, out.old.1)) }
+        ensures phase { IfOk result
+            (λ next. phase_of next ≡ (row_in (record { plan = self.now; phase = phase_of phase }) store.old sender message).next.phase) }
+        ensures stored { OnOk result
+            (store.new ≡ store_after store.old self.now.op (row_in (record { plan = self.now; phase = phase_of phase }) store.old sender message).stored) }
+        ensures out { OnOk result
+            (out.new ≡ (out.old.0 ++ (row_in (record { plan = self.now; phase = phase_of phase }) store.old sender message).next.sends, out.old.1)) }
     {
         if sender == self.source() {
             return self.from_source(phase, message, store, out);
@@ -70,9 +74,9 @@ impl Plan {
         store: &mut EventStore<Cell>,
         out: &mut Outbox<Msg, Note>,
     ) -> Result<Phase, NoMemory>
-        ensures phase { IfOk result (λ next. phase_of next ≡ (released self.now (stored store.old self.now.op)).next.phase) }
-        ensures stored { OnOk result (store.new ≡ store_after store.old self.now.op (released self.now (stored store.old self.now.op)).stored) }
-        ensures out { OnOk result (out.new ≡ (out.old.0 ++ (released self.now (stored store.old self.now.op)).next.sends, out.old.1)) }
+        ensures phase { IfOk result (λ next. phase_of next ≡ (release_row (words self.now) (stored_of store.old self.now.op)).next.phase) }
+        ensures stored { OnOk result (store.new ≡ store_after store.old self.now.op (release_row (words self.now) (stored_of store.old self.now.op)).stored) }
+        ensures out { OnOk result (out.new ≡ (out.old.0 ++ (release_row (words self.now) (stored_of store.old self.now.op)).next.sends, out.old.1)) }
     {
         self.forward_all(self.to, store.drain(self.op), out)?;
         let filter = Boxed::new(self.alloc, self.filter)?;
@@ -90,13 +94,13 @@ impl Plan {
     pub(crate) fn restore(
         &self,
         why: Answer,
-        free: Pieces,
+        removed: Pieces,
         out: &mut Outbox<Msg, Note>,
     ) -> Result<Phase, NoMemory>
         ensures phase { IfOk result (λ next. phase_of next ≡ stages.Restoring why) }
-        ensures out { OnOk result (out.new ≡ (out.old.0 ++ (source self.now, Msg.Restore self.now.op (chunks_of free)) ∷ [], out.old.1)) }
+        ensures out { OnOk result (out.new ≡ (out.old.0 ++ (source self.now, Msg.Restore self.now.op (chunks_of removed)) ∷ [], out.old.1)) }
     {
-        let chunks = free.into_chunks(self.alloc)?;
+        let chunks = removed.into_chunks(self.alloc)?;
         out.send(
             self.source(),
             Msg::Restore {

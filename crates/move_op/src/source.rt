@@ -1,7 +1,8 @@
 //! The rows of a move for what its source says.
 ghost use Rattle.std.specs.Prelude.{◌≡◌, [], ◌++◌, OnOk, IfOk};
-ghost use Rattle.event_store.specs.Store.{stored};
-ghost use Rattle.move_op.specs.Move.{from_source, on_deleted, on_event, on_piece, on_restored, on_source_enabled, on_source_fenced, returned, store_after};
+ghost use Rattle.event_store.specs.Store.{stored_of};
+ghost use Rattle.move_op.specs.Move.{from_source, store_after, words};
+ghost use Rattle.move_op.specs.Table.{on_deleted, on_event, on_piece, on_restored, on_source_enabled, on_source_fenced, return_of};
 ghost use Rattle.move_op.specs.Phases as stages;
 ghost use Rattle.move_op.specs.Phases.{phase_of};
 
@@ -24,9 +25,11 @@ impl Plan {
         store: &mut EventStore<Cell>,
         out: &mut Outbox<Msg, Note>,
     ) -> Result<Phase, NoMemory>
-        ensures phase { IfOk result (λ next. phase_of next ≡ (from_source self.now (phase_of phase) (stored store.old self.now.op) message).next.phase) }
-        ensures stored { OnOk result (store.new ≡ store_after store.old self.now.op (from_source self.now (phase_of phase) (stored store.old self.now.op) message).stored) }
-        ensures out { OnOk result (out.new ≡ (out.old.0 ++ (from_source self.now (phase_of phase) (stored store.old self.now.op) message).next.sends, out.old.1)) }
+        ensures phase { IfOk result (λ next. phase_of next ≡ (from_source self.now (phase_of phase) (stored_of store.old self.now.op) message).next.phase) }
+        ensures stored { OnOk result
+            (store.new ≡ store_after store.old self.now.op (from_source self.now (phase_of phase) (stored_of store.old self.now.op) message).stored) }
+        ensures out { OnOk result
+            (out.new ≡ (out.old.0 ++ (from_source self.now (phase_of phase) (stored_of store.old self.now.op) message).next.sends, out.old.1)) }
     {
         match message {
             Msg::Event { parcel, .. } => self.take_event(phase, parcel, store, out),
@@ -47,9 +50,11 @@ impl Plan {
         store: &mut EventStore<Cell>,
         out: &mut Outbox<Msg, Note>,
     ) -> Result<Phase, NoMemory>
-        ensures phase { IfOk result (λ next. phase_of next ≡ (on_event self.now (phase_of phase) (stored store.old self.now.op) parcel).next.phase) }
-        ensures stored { OnOk result (store.new ≡ store_after store.old self.now.op (on_event self.now (phase_of phase) (stored store.old self.now.op) parcel).stored) }
-        ensures out { OnOk result (out.new ≡ (out.old.0 ++ (on_event self.now (phase_of phase) (stored store.old self.now.op) parcel).next.sends, out.old.1)) }
+        ensures phase { IfOk result (λ next. phase_of next ≡ (on_event (words self.now) (phase_of phase) (stored_of store.old self.now.op) parcel).next.phase) }
+        ensures stored { OnOk result
+            (store.new ≡ store_after store.old self.now.op (on_event (words self.now) (phase_of phase) (stored_of store.old self.now.op) parcel).stored) }
+        ensures out { OnOk result
+            (out.new ≡ (out.old.0 ++ (on_event (words self.now) (phase_of phase) (stored_of store.old self.now.op) parcel).next.sends, out.old.1)) }
     {
         match phase {
             Phase::Passing => {
@@ -70,9 +75,12 @@ impl Plan {
         store: &mut EventStore<Cell>,
         out: &mut Outbox<Msg, Note>,
     ) -> Result<Phase, NoMemory>
-        ensures phase { IfOk result (λ next. phase_of next ≡ (on_source_enabled self.now (phase_of phase) (stored store.old self.now.op)).next.phase) }
-        ensures stored { OnOk result (store.new ≡ store_after store.old self.now.op (on_source_enabled self.now (phase_of phase) (stored store.old self.now.op)).stored) }
-        ensures out { OnOk result (out.new ≡ (out.old.0 ++ (on_source_enabled self.now (phase_of phase) (stored store.old self.now.op)).next.sends, out.old.1)) }
+        ensures phase { IfOk result
+            (λ next. phase_of next ≡ (on_source_enabled (words self.now) (phase_of phase) (stored_of store.old self.now.op)).next.phase) }
+        ensures stored { OnOk result
+            (store.new ≡ store_after store.old self.now.op (on_source_enabled (words self.now) (phase_of phase) (stored_of store.old self.now.op)).stored) }
+        ensures out { OnOk result
+            (out.new ≡ (out.old.0 ++ (on_source_enabled (words self.now) (phase_of phase) (stored_of store.old self.now.op)).next.sends, out.old.1)) }
     {
         match phase {
             Phase::Freezing => self.stream(out),
@@ -83,8 +91,8 @@ impl Plan {
 
     /// Asks the source for its state, by pieces.
     fn stream(&self, out: &mut Outbox<Msg, Note>) -> Result<Phase, NoMemory>
-        ensures phase { IfOk result (λ next. phase_of next ≡ (on_source_enabled self.now stages.Freezing []).next.phase) }
-        ensures out { OnOk result (out.new ≡ (out.old.0 ++ (on_source_enabled self.now stages.Freezing []).next.sends, out.old.1)) }
+        ensures phase { IfOk result (λ next. phase_of next ≡ (on_source_enabled (words self.now) stages.Freezing []).next.phase) }
+        ensures out { OnOk result (out.new ≡ (out.old.0 ++ (on_source_enabled (words self.now) stages.Freezing []).next.sends, out.old.1)) }
     {
         let filter = Boxed::new(self.alloc, self.filter)?;
         let message = Msg::Stream {
@@ -102,9 +110,9 @@ impl Plan {
         store: &mut EventStore<Cell>,
         out: &mut Outbox<Msg, Note>,
     ) -> Result<Phase, NoMemory>
-        ensures phase { IfOk result (λ next. phase_of next ≡ (returned self.now why (stored store.old self.now.op)).next.phase) }
-        ensures stored { OnOk result (store.new ≡ store_after store.old self.now.op (returned self.now why (stored store.old self.now.op)).stored) }
-        ensures out { OnOk result (out.new ≡ (out.old.0 ++ (returned self.now why (stored store.old self.now.op)).next.sends, out.old.1)) }
+        ensures phase { IfOk result (λ next. phase_of next ≡ (return_of (words self.now) why (stored_of store.old self.now.op)).next.phase) }
+        ensures stored { OnOk result (store.new ≡ store_after store.old self.now.op (return_of (words self.now) why (stored_of store.old self.now.op)).stored) }
+        ensures out { OnOk result (out.new ≡ (out.old.0 ++ (return_of (words self.now) why (stored_of store.old self.now.op)).next.sends, out.old.1)) }
     {
         self.forward_all(self.from, store.drain(self.op), out)?;
         let message = Msg::FenceTo {
@@ -122,8 +130,8 @@ impl Plan {
         piece: Boxed<Piece>,
         out: &mut Outbox<Msg, Note>,
     ) -> Result<Phase, NoMemory>
-        ensures phase { IfOk result (λ next. phase_of next ≡ (on_piece self.now (phase_of phase) piece).phase) }
-        ensures out { OnOk result (out.new ≡ (out.old.0 ++ (on_piece self.now (phase_of phase) piece).sends, out.old.1)) }
+        ensures phase { IfOk result (λ next. phase_of next ≡ (on_piece (words self.now) (phase_of phase) piece).phase) }
+        ensures out { OnOk result (out.new ≡ (out.old.0 ++ (on_piece (words self.now) (phase_of phase) piece).sends, out.old.1)) }
     {
         match phase {
             Phase::Streaming(mut stream) if have_units(piece.get().chunks.items()) => {
@@ -136,21 +144,21 @@ impl Plan {
         }
     }
 
-    /// The first piece that was frozen is free.
+    /// The records of the first piece that was to remove are removed.
     fn deleted(&self, phase: Phase, out: &mut Outbox<Msg, Note>) -> Result<Phase, NoMemory>
-        ensures phase { IfOk result (λ next. phase_of next ≡ (on_deleted self.now (phase_of phase)).phase) }
-        ensures out { OnOk result (out.new ≡ (out.old.0 ++ (on_deleted self.now (phase_of phase)).sends, out.old.1)) }
+        ensures phase { IfOk result (λ next. phase_of next ≡ (on_deleted (words self.now) (phase_of phase)).phase) }
+        ensures out { OnOk result (out.new ≡ (out.old.0 ++ (on_deleted (words self.now) (phase_of phase)).sends, out.old.1)) }
     {
         match phase {
-            Phase::Streaming(stream) => stream.removed(self, out),
+            Phase::Streaming(stream) => stream.deleted(self, out),
             phase => Ok(phase),
         }
     }
 
     /// The source is to hold what comes.
     fn restored(&self, phase: Phase, out: &mut Outbox<Msg, Note>) -> Result<Phase, NoMemory>
-        ensures phase { IfOk result (λ next. phase_of next ≡ (on_restored self.now (phase_of phase)).phase) }
-        ensures out { OnOk result (out.new ≡ (out.old.0 ++ (on_restored self.now (phase_of phase)).sends, out.old.1)) }
+        ensures phase { IfOk result (λ next. phase_of next ≡ (on_restored (words self.now) (phase_of phase)).phase) }
+        ensures out { OnOk result (out.new ≡ (out.old.0 ++ (on_restored (words self.now) (phase_of phase)).sends, out.old.1)) }
     {
         match phase {
             Phase::Restoring(why) => {
@@ -163,8 +171,8 @@ impl Plan {
 
     /// The source has processed what came by the old rules, or what it held.
     fn source_fenced(&self, phase: Phase, out: &mut Outbox<Msg, Note>) -> Result<Phase, NoMemory>
-        ensures phase { IfOk result (λ next. phase_of next ≡ (on_source_fenced self.now (phase_of phase)).phase) }
-        ensures out { OnOk result (out.new ≡ (out.old.0 ++ (on_source_fenced self.now (phase_of phase)).sends, out.old.1)) }
+        ensures phase { IfOk result (λ next. phase_of next ≡ (on_source_fenced (words self.now) (phase_of phase)).phase) }
+        ensures out { OnOk result (out.new ≡ (out.old.0 ++ (on_source_fenced (words self.now) (phase_of phase)).sends, out.old.1)) }
     {
         match phase {
             Phase::Passing => {

@@ -5,7 +5,7 @@ use Rattle.std.specs.List.{list_all}
 use Rattle.std.proofs.lemmas.Bool.Decides.{nat_tests}
 use Rattle.std.proofs.lemmas.Nat.{div-add-mod'}
 use Rattle.std.proofs.Math.Nat.{mod-lt, div-lt_iff_lt-mul}
-use Rattle.actor_net.specs.Network.{Network, IsWorld, waiting, is_done}
+use Rattle.actor_net.specs.Network.{Network, IsWorld, queue_at, is_done}
 use Rattle.actor_net.proofs.EnabledChoices.{at}
 use Rattle.actor_net.proofs.WaitingMessages.{waiting_is}
 use Rattle.actor_net.proofs.WeightLaws.{weigh, total}
@@ -23,7 +23,7 @@ pub all_of : {X : Type 0} (test : X → Bool) (xs : List X) (d : X) → ((i : �
 all_of test [] d h = refl
 all_of test (x ∷ xs) d h = let first = h 0 (omega arith) in let rest = all_of test xs d (λ i less. h (suc i) (omega (arith, less))) in rw (first, rest) refl
 
-module _ {A M N : Type 0} (w : Network A M N) (world : IsWorld w) (silent : (s r : ℕ) → (r == 0) && (s == 0) ≡ false → waiting w (at r s) ≡ []) where
+module _ {A M N : Type 0} (w : Network A M N) (world : IsWorld w) (silent : (s r : ℕ) → (r == 0) && (s == 0) ≡ false → queue_at w (at r s) ≡ []) where
   abbrev n : ℕ
   n = length w.nodes
 

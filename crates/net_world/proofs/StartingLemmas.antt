@@ -8,9 +8,11 @@ use Rattle.net_world.specs.Start.{IsConfig, first_instance, first_instances, fir
 
 pub length-first_instances : (F R : Type 0) (alloc : Global) (c : Config) (i : ℕ) → length (first_instances {F = F} {R = R} alloc c i) ≡ i
 length-first_instances F R alloc c zero = refl
-length-first_instances F R alloc c (suc i) = length-append (first_instances {F = F} {R = R} alloc c i) (Instance (first_instance alloc c i) ∷ []) ∙ ap (λ n. n + 1) (length-first_instances F R alloc c i) ∙ add-one i
+length-first_instances F R alloc c (suc i) = length-append (first_instances {F = F} {R = R} alloc c i) (Instance (first_instance alloc c i) ∷ [])
+    ∙ ap (λ n. n + 1) (length-first_instances F R alloc c i) ∙ add-one i
 
-pub few_nodes : {F R : Type 0} (alloc : Global) (c : Config) (nodes : List (Node F R)) → IsConfig c → nodes ≡ first_nodes alloc c → (0 < length nodes) × (length nodes < 256)
+pub few_nodes : {F R : Type 0} (alloc : Global) (c : Config) (nodes : List (Node F R)) → IsConfig c → nodes ≡ first_nodes alloc c
+    → (0 < length nodes) × (length nodes < 256)
 few_nodes {F = F} {R = R} alloc c nodes is same =
     let count = length-first_instances F R alloc c (length c.names) in
     let few = is.few in

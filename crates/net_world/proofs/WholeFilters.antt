@@ -9,7 +9,8 @@ use Rattle.flow_filter.specs.Reading.{prefix_numbers}
 use Rattle.nf_function.specs.declared.kind.Kind.{Kind}
 use Rattle.nf_function.specs.declared.kind.Kind.TheVariants.{Conntrack, Nat, Monitor}
 use Rattle.nf_function.specs.declared.unit.Unit.TheVariants.{Host as OfHost}
-use Rattle.nf_function.specs.Units.{gives_more_than_local, splits, takes, TakesWhole}
+use Rattle.nf_function.specs.Units.{splits, takes, TakesWhole}
+use Rattle.nf_function.specs.UnitSteps.{gives_more_than_local}
 
 none_is : {X : Type 0} (o : Option X) → is_some o ≡ false → o ≡ None
 none_is None h = refl

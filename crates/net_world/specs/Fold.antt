@@ -1,6 +1,7 @@
 -- One instance that nothing moves: what is kept of a unit and answered after packets; and which packets of a unit a log and a world name.
 -- Packets go by their numbers. This project's own.
-use Rattle.std.specs.Prelude.{◌≡◌, ℕ, ◌+◌, ◌==◌, Bool, if◌then◌else◌, List, [], ◌∷◌, ◌++◌, map, length, Option}
+use Rattle.std.specs.Prelude.{◌≡◌, ℕ, ◌+◌, ◌==◌, Bool, if◌then◌else◌, List, [], ◌∷◌, ◌++◌, filter, map, scan, length, Option}
+use Rattle.std.specs.List.{fold as fold_over}
 use Rattle.nf_function.specs.declared.output.Output.{Output}
 use Rattle.nf_function.specs.declared.unit.Unit as units
 use Rattle.nf_function.specs.Semantics.{Semantics, unit_at, kept_after, output_for}
@@ -11,19 +12,19 @@ use Rattle.actor_net.specs.Network.{Network}
 use Rattle.net_world.specs.declared.config.Config.{Config}
 use Rattle.net_world.specs.declared.node.Node.{Node}
 use Rattle.net_world.specs.Input.{packet_numbered}
-use Rattle.net_world.specs.Log.{arrived, done, those, done_of}
-use Rattle.net_world.specs.Path.{under_way}
+use Rattle.net_world.specs.Log.{arrivals_in, dones_in, done_where}
+use Rattle.net_world.specs.Path.{in_flight}
 use Rattle.net_world.specs.Places.{owner}
-
--- how often a number stands in a list
-abbrev pub times : ℕ → List ℕ → ℕ
-times p [] = 0
-times p (q ∷ qs) = (if p == q then 1 else 0) + times p qs
 
 -- a list and more after it
 pub record IsFront (front all : List ℕ) : Type 0 where
   pub rest : List ℕ
   pub whole : front ++ rest ≡ all
+
+-- how often a number stands in a list
+abbrev pub times : ℕ → List ℕ → ℕ
+times p [] = 0
+times p (q ∷ qs) = (if p == q then 1 else 0) + times p qs
 
 module _ {R : Type 0} (f : Semantics R) (config : Config) (items : List Msg) where
   -- the packets of a unit among some
@@ -32,23 +33,23 @@ module _ {R : Type 0} (f : Semantics R) (config : Config) (items : List Msg) whe
 
   -- one instance that nothing moves: what is kept of a unit after these packets, and the outputs to them
   abbrev pub fold : Option R → List ℕ → Option R
-  fold kept [] = kept
-  fold kept (p ∷ ps) = fold (kept_after f config.site kept (packet_numbered items p)) ps
+  fold kept ps = fold_over (λ before p. kept_after f config.site before (packet_numbered items p)) kept ps
 
   abbrev pub outputs : Option R → List ℕ → List Output
-  outputs kept [] = []
-  outputs kept (p ∷ ps) = output_for f config.site kept (packet_numbered items p) ∷ outputs (kept_after f config.site kept (packet_numbered items p)) ps
+  outputs kept ps =
+      scan (λ before p. kept_after f config.site before (packet_numbered items p))
+      (λ before p. output_for f config.site before (packet_numbered items p)) kept ps
 
   -- the unit's packets that the switch took in, and that were processed, with their outputs
-  abbrev pub came : units.Unit → List Note → List ℕ
-  came unit log = those (is_of unit) (arrived log)
+  abbrev pub arrived_of : units.Unit → List Note → List ℕ
+  arrived_of unit log = filter (is_of unit) (arrivals_in log)
 
-  abbrev pub went : units.Unit → List Note → List ℕ
-  went unit log = map (λ d. d.number) (done_of (is_of unit) (done log))
+  abbrev pub processed_of : units.Unit → List Note → List ℕ
+  processed_of unit log = map (λ d. d.number) (done_where (is_of unit) (dones_in log))
 
-  abbrev pub given : units.Unit → List Note → List Output
-  given unit log = map (λ d. d.output) (done_of (is_of unit) (done log))
+  abbrev pub outputs_noted : units.Unit → List Note → List Output
+  outputs_noted unit log = map (λ d. d.output) (done_where (is_of unit) (dones_in log))
 
   -- its packets under way, of which those at its owner come last
-  abbrev pub path : {F : Type 0} → units.Unit → Network (Node F R) Msg Note → List ℕ
-  path unit w = those (is_of unit) (under_way w (length config.names) (owner config items unit w.log))
+  abbrev pub in_flight_of : {F : Type 0} → units.Unit → Network (Node F R) Msg Note → List ℕ
+  in_flight_of unit w = filter (is_of unit) (in_flight w (length config.names) (owner config items unit w.log))

@@ -1,6 +1,7 @@
 -- What a run of the network is given: its configuration, whose filters take whole units, and an input of packets and commands in
 -- the order of their numbers. This project's own.
-use Rattle.std.specs.Prelude.{◌≡◌, ◌==◌, ◌≤◌, ◌<◌, ◌-◌, ◌^◌, ℕ, suc, Bool, true, false, List, [], ◌∷◌, map, find, length, Option, option_map, unwrap_or, All}
+use Rattle.std.specs.Prelude.{◌≡◌, ◌==◌, ◌≤◌, ◌<◌, ◌-◌, ◌^◌, ℕ, suc, Bool, true, false, List, [], ◌∷◌, map, filter_map, find, length, Option, None, Some}
+use Rattle.std.specs.Prelude.{option_map, unwrap_or, All}
 use Rattle.std.specs.Option.{ForSome}
 use Rattle.std.specs.Str.{bytes_eq}
 use Rattle.flow_filter.specs.declared.filter.Filter.{Filter}
@@ -32,16 +33,20 @@ is_item InEnd = true
 is_item message = false
 
 -- the packets of an input, in order
+abbrev pub packet_in : Msg → Option Packet
+packet_in (InPacket packet) = Some packet
+packet_in item = None
+
 abbrev pub packets : List Msg → List Packet
-packets [] = []
-packets (InPacket packet ∷ items) = packet ∷ packets items
-packets (item ∷ items) = packets items
+packets items = filter_map packet_in items
 
 -- its commands, in order
+abbrev pub command_in : Msg → Option Command
+command_in (InCommand command) = Some command
+command_in item = None
+
 abbrev pub commands : List Msg → List Command
-commands [] = []
-commands (InCommand command ∷ items) = command ∷ commands items
-commands (item ∷ items) = commands items
+commands items = filter_map command_in items
 
 -- whether no command stands after the end
 abbrev pub ends_last : List Msg → Bool

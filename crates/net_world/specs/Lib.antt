@@ -16,3 +16,4 @@ pub mod Standby
 pub mod Start
 pub mod Verdicts
 pub mod Window
+pub mod Length

@@ -2,6 +2,7 @@
 -- what waits for shares. Read in this order, those of a unit are its packets that came and aren't processed, as they came. Packets go by
 -- their numbers. This project's own.
 use Rattle.std.specs.Prelude.{ℕ, zero, suc, ◌==◌, if◌then◌else◌, List, [], ◌∷◌, ◌++◌, map, Option, Some, slice_get}
+use Rattle.std.specs.List.{flat_map}
 use Rattle.std.specs.FinMap as finite
 use Rattle.event_filter.specs.declared.mark.Mark.TheVariants.{Plain}
 use Rattle.packet_pool.specs.Pool.{FullCell}
@@ -14,11 +15,6 @@ use Rattle.actor_net.specs.Network.{Network, on_link}
 use Rattle.net_world.specs.declared.node.Node.{Node}
 use Rattle.net_world.specs.declared.node.Node.TheVariants.{Controller, Instance}
 
--- what each of these has, one after the other
-abbrev pub all_of : {X Y : Type 0} → (X → List Y) → List X → List Y
-all_of of [] = []
-all_of of (x ∷ xs) = of x ++ all_of of xs
-
 -- what each of the first numbers has, but for one of them
 abbrev pub all_but : ℕ → (ℕ → List ℕ) → ℕ → List ℕ
 all_but one of zero = []
@@ -29,54 +25,55 @@ abbrev pub numbers : List FullCell → List ℕ
 numbers cells = map (λ cell. cell.packet.number) cells
 
 -- the packet of a message to an instance: one that comes by the rules of the switch, or one that the controller handed on
-abbrev pub carried : Msg → List ℕ
-carried (Carry Plain cell) = cell.packet.number ∷ []
-carried message = []
+abbrev pub carried_in : Msg → List ℕ
+carried_in (Carry Plain cell) = cell.packet.number ∷ []
+carried_in message = []
 
-abbrev pub passed : Msg → List ℕ
-passed (Carry Plain cell) = []
-passed (Carry mark cell) = cell.packet.number ∷ []
-passed message = []
+abbrev pub passed_in : Msg → List ℕ
+passed_in (Carry Plain cell) = []
+passed_in (Carry mark cell) = cell.packet.number ∷ []
+passed_in message = []
 
 -- the packet that the controller hands on by the switch, and the packet of an event
-abbrev pub forwarded : Msg → List ℕ
-forwarded (Forward to mark cell) = cell.packet.number ∷ []
-forwarded message = []
+abbrev pub forwarded_in : Msg → List ℕ
+forwarded_in (Forward to mark cell) = cell.packet.number ∷ []
+forwarded_in message = []
 
-abbrev pub handed_over : Msg → List ℕ
-handed_over (Event op cell) = cell.packet.number ∷ []
-handed_over message = []
+abbrev pub handed_over_in : Msg → List ℕ
+handed_over_in (Event op cell) = cell.packet.number ∷ []
+handed_over_in message = []
 
 -- the packet that the switch sends to the controller, for a share
-abbrev pub diverted : Msg → List ℕ
-diverted (Diverted cell) = cell.packet.number ∷ []
-diverted message = []
+abbrev pub diverted_in : Msg → List ℕ
+diverted_in (Diverted cell) = cell.packet.number ∷ []
+diverted_in message = []
 
 module _ {F R : Type 0} where
   -- the packets that a controller stores, operation by operation: for moves, and for shares
   abbrev pub stored_by : Node F R → List ℕ
-  stored_by (Controller c) = all_of (λ e. if lasts (finite.get c.operations e.0) then [] else numbers e.1) (finite.entries c.store)
+  stored_by (Controller c) = flat_map (λ e. if lasts (finite.get c.operations e.0) then [] else numbers e.1) (finite.entries c.store)
   stored_by node = []
 
   abbrev pub queued_by : Node F R → List ℕ
-  queued_by (Controller c) = all_of (λ e. if lasts (finite.get c.operations e.0) then numbers e.1 else []) (finite.entries c.store)
+  queued_by (Controller c) = flat_map (λ e. if lasts (finite.get c.operations e.0) then numbers e.1 else []) (finite.entries c.store)
   queued_by node = []
 
   -- the packets that an instance holds, rule by rule
   abbrev pub held_by : Option (Node F R) → List ℕ
-  held_by (Some (Instance i)) = all_of (λ rule. numbers rule.held) i.rules
+  held_by (Some (Instance i)) = flat_map (λ rule. numbers rule.held) i.rules
   held_by other = []
 
 module _ {F R : Type 0} (w : Network (Node F R) Msg Note) where
   -- what all messages have of one kind, link by link
   abbrev pub on_links : {Y : Type 0} → (Msg → List Y) → List Y
-  on_links of = all_of (all_of of) w.links
+  on_links of = flat_map (flat_map of) w.links
 
   -- what an instance holds, and after it what comes to it by the rules of the switch
   abbrev pub at_instance : ℕ → List ℕ
-  at_instance i = held_by (slice_get w.nodes (instance_node i)) ++ all_of carried (on_link w switch_node (instance_node i))
+  at_instance i = held_by (slice_get w.nodes (instance_node i)) ++ flat_map carried_in (on_link w switch_node (instance_node i))
 
   -- all packets under way, of so many instances; those at one of them, the owner, come after those at others, and what waits for shares last
-  abbrev pub under_way : (instances owner : ℕ) → List ℕ
-  under_way instances owner =
-      on_links passed ++ (on_links forwarded ++ (all_of stored_by w.nodes ++ (on_links handed_over ++ (all_but owner at_instance instances ++ (at_instance owner ++ (all_of queued_by w.nodes ++ on_links diverted))))))
+  abbrev pub in_flight : (instances owner : ℕ) → List ℕ
+  in_flight instances owner =
+      on_links passed_in ++ (on_links forwarded_in ++ (flat_map stored_by w.nodes
+      ++ (on_links handed_over_in ++ (all_but owner at_instance instances ++ (at_instance owner ++ (flat_map queued_by w.nodes ++ on_links diverted_in))))))

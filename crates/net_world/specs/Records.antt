@@ -2,6 +2,7 @@
 -- the messages that take a move's state from its source to its destination or back, and while the controller keeps it. What a copy or a
 -- share sends isn't on its way in this sense: it leaves the live record where it is. This project's own.
 use Rattle.std.specs.Prelude.{◌≡◌, ℕ, Bool, true, false, ◌||◌, List, [], ◌∷◌, ◌++◌, map, filter, Option, None, Some, slice_get}
+use Rattle.std.specs.List.{flat_map}
 use Rattle.std.specs.Option.{option_map_or}
 use Rattle.std.specs.FinMap as finite
 use Rattle.nf_function.specs.declared.chunk.Chunk.{Chunk}
@@ -22,7 +23,7 @@ use Rattle.ctrl_node.specs.declared.operation.Operation.TheVariants.{Move}
 use Rattle.actor_net.specs.Network.{Network, on_link}
 use Rattle.net_world.specs.declared.node.Node.{Node}
 use Rattle.net_world.specs.declared.node.Node.TheVariants.{Controller, Instance}
-use Rattle.net_world.specs.Path.{all_of, on_links}
+use Rattle.net_world.specs.Path.{on_links}
 use Rattle.net_world.specs.Places.{IsMoving}
 
 -- the record of a unit that is live at an instance of a world
@@ -43,7 +44,7 @@ chunks_in message = []
 
 -- the chunks that the controller keeps for a move in a phase
 abbrev pub kept_in : Phase → List Chunk
-kept_in (Streaming frozen free came door) = chunks_of frozen ++ chunks_of free
+kept_in (Streaming to_remove removed came door) = chunks_of to_remove ++ chunks_of removed
 kept_in phase = []
 
 abbrev pub kept_for : Operation → List Chunk
@@ -51,7 +52,7 @@ kept_for (Move m) = kept_in m.phase
 kept_for operation = []
 
 abbrev pub kept_by : {F R : Type 0} → Node F R → List Chunk
-kept_by (Controller c) = all_of (λ e. kept_for e.1) (finite.entries c.operations)
+kept_by (Controller c) = flat_map (λ e. kept_for e.1) (finite.entries c.operations)
 kept_by node = []
 
 -- the units whose records a source gives, and those whose records it is told to remove
@@ -83,21 +84,21 @@ spelled_of f unit chunks = map (spelled f) (filter (is_chunk_of unit) chunks)
 module _ {F R : Type 0} (w : Network (Node F R) Msg Note) where
   -- all chunks on their way: in messages, link by link, and at the controller, move by move
   abbrev pub chunks_on_way : List Chunk
-  chunks_on_way = on_links w chunks_in ++ all_of kept_by w.nodes
+  chunks_on_way = on_links w chunks_in ++ flat_map kept_by w.nodes
 
   -- whether an instance is still to remove the record of the unit that it has given: the record stands in a piece on the link from the
   -- instance, or its unit in a Delete on the link to it
   abbrev pub is_to_remove : units.Unit → ℕ → Bool
   is_to_remove unit i =
-      is_among (all_of given_in (on_link w (instance_node i) controller_node)) unit
-      || is_among (all_of removed_by (on_link w controller_node (instance_node i))) unit
+      is_among (flat_map given_in (on_link w (instance_node i) controller_node)) unit
+      || is_among (flat_map removed_by (on_link w controller_node (instance_node i))) unit
 
   -- whether the home of a share is still to take the record of the unit from a member that has processed a packet: the record stands on the link
   -- from the member, or on the link to the home
   abbrev pub is_to_take : units.Unit → (home member : ℕ) → Bool
   is_to_take unit home member =
-      is_among (all_of shared_in (on_link w (instance_node member) controller_node)) unit
-      || is_among (all_of synced_in (on_link w controller_node (instance_node home))) unit
+      is_among (flat_map shared_in (on_link w (instance_node member) controller_node)) unit
+      || is_among (flat_map synced_in (on_link w controller_node (instance_node home))) unit
 
   abbrev pub IsNowhereLive : units.Unit → Type 0
   IsNowhereLive unit = (i : ℕ) → live_at w i unit ≡ None

@@ -33,4 +33,8 @@ moves_away config order unit i = false
 module _ (config : Config) (items : List Msg) (kind : Kind) where
   -- each packet of a unit that a refused move was to take away from its owner was processed at that owner
   abbrev pub StaysAtSource : List Note → Type 0
-  StaysAtSource log = (op : ℕ) (first between before after : List Note) (number instance : ℕ) (output : Output) → IsRefused op log first between → between ≡ before ++ Processed number instance output ∷ after → moves_away config (order_numbered items op) (unit_numbered config items kind number) (owner config items (unit_numbered config items kind number) first) ≡ true → instance ≡ owner config items (unit_numbered config items kind number) first
+  StaysAtSource log = (op : ℕ) (first between before after : List Note) (number instance : ℕ) (output : Output) → IsRefused op log first between
+      → between ≡ before ++ Processed number instance output ∷ after
+      → moves_away config (order_numbered items op) (unit_numbered config items kind number) (owner config items (unit_numbered config items kind number) first)
+      ≡ true
+      → instance ≡ owner config items (unit_numbered config items kind number) first

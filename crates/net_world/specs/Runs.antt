@@ -18,15 +18,15 @@ module _ {F R : Type 0} (f : Semantics R) (start : Network (Node F R) Msg Note) 
     pub reached : w ≡ run (node_step f) choices start
 
   -- the choices of a schedule
-  abbrev pub chosen : Schedule → List Choice
-  chosen schedule = scheduled node_ready node_ended (node_step f) MOST_CHOICES schedule start
+  abbrev pub choices_of : Schedule → List Choice
+  choices_of schedule = scheduled node_ready node_ended (node_step f) MOST_CHOICES schedule start
 
   -- a schedule's choices lead to this world, in which nothing is left to do
   pub record EndsIn (schedule : Schedule) (w : Network (Node F R) Msg Note) : Type 0 where
-    pub leads : LeadsTo (chosen schedule) w
+    pub leads : LeadsTo (choices_of schedule) w
     pub complete : is_done node_ended w ≡ true
 
   -- a schedule's choices stop before that, after so many
   pub record StopsAt (schedule : Schedule) (step : ℕ) : Type 0 where
-    pub count : length (chosen schedule) ≡ step
-    pub short : StopsShort node_ready node_ended (run (node_step f) (chosen schedule) start) step
+    pub count : length (choices_of schedule) ≡ step
+    pub short : StopsShort node_ready node_ended (run (node_step f) (choices_of schedule) start) step

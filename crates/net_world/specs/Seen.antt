@@ -6,7 +6,7 @@ use Rattle.nf_msgs.specs.declared.msg.Msg.{Msg}
 use Rattle.nf_msgs.specs.declared.note.Note.{Note}
 use Rattle.actor_net.specs.Network.{Network}
 use Rattle.net_world.specs.declared.node.Node.{Node}
-use Rattle.net_world.specs.Fold.{fold, went}
+use Rattle.net_world.specs.Fold.{fold, processed_of}
 use Rattle.net_world.specs.Jobs.{Job}
 use Rattle.net_world.specs.Places.{owner, goes_to}
 use Rattle.net_world.specs.Records.{HasOneRecord, is_to_take}
@@ -15,7 +15,7 @@ use Rattle.net_world.specs.Standby.{standby_at}
 module _ {F R : Type 0} (job : Job R) (w : Network (Node F R) Msg Note) where
   -- the packets of the unit that were processed
   abbrev processed : units.Unit → List ℕ
-  processed unit = went job.function job.config job.items unit w.log
+  processed unit = processed_of job.function job.config job.items unit w.log
 
   -- a member of a share other than its home has processed the last packet of the unit after these; the record after it stands by there,
   -- and is on its way to the home

@@ -9,7 +9,7 @@ use Rattle.nf_msgs.specs.declared.note.Note.{Note}
 use Rattle.nf_msgs.specs.declared.note.Note.TheVariants.{Processed}
 use Rattle.net_world.specs.declared.config.Config.{Config}
 use Rattle.net_world.specs.Input.{packets, commands}
-use Rattle.net_world.specs.Commands.{began}
+use Rattle.net_world.specs.Commands.{is_begun}
 use Rattle.net_world.specs.Places.{goes_to}
 
 -- what stands after a settle of an input
@@ -23,9 +23,11 @@ has_packet number items = is_some (find (λ p. p.number == number) (packets item
 
 -- none of the commands among these items has begun
 abbrev pub NoneBegan : List Msg → List Note → Type 0
-NoneBegan items log = All (λ command. began command.op log ≡ false) (commands items)
+NoneBegan items log = All (λ command. is_begun command.op log ≡ false) (commands items)
 
 -- a packet after a settle that is processed before any command after it begins is processed where the rules of the switch send it: at its
 -- member of the share that has its unit, and else at the owner
 abbrev pub Settles : Config → List Msg → Kind → List Note → Type 0
-Settles config items kind log = (later : List Msg) (before after : List Note) (number instance : ℕ) (output : Output) → IsAfterSettle items later → has_packet number later ≡ true → log ≡ before ++ Processed number instance output ∷ after → NoneBegan later before → goes_to config items kind number before ≡ Some instance
+Settles config items kind log = (later : List Msg) (before after : List Note) (number instance : ℕ) (output : Output) → IsAfterSettle items later
+    → has_packet number later ≡ true → log ≡ before ++ Processed number instance output ∷ after → NoneBegan later before
+    → goes_to config items kind number before ≡ Some instance

@@ -9,7 +9,7 @@ use Rattle.nf_msgs.specs.Nodes.{instance_node}
 use Rattle.actor_net.specs.Network.{Network}
 use Rattle.net_world.specs.declared.node.Node.{Node}
 use Rattle.net_world.specs.declared.node.Node.TheVariants.{Instance}
-use Rattle.net_world.specs.Fold.{IsFront, fold, went}
+use Rattle.net_world.specs.Fold.{IsFront, fold, processed_of}
 use Rattle.net_world.specs.Jobs.{Job}
 
 -- the record of a unit that stands by at an instance of a world
@@ -25,5 +25,5 @@ pub record StandsBy {F R : Type 0} (job : Job R) (w : Network (Node F R) Msg Not
   pub front : List ℕ
   pub kept : R
   pub there : standby_at w i unit ≡ Some kept
-  pub is_front : IsFront front (went job.function job.config job.items unit w.log)
+  pub is_front : IsFront front (processed_of job.function job.config job.items unit w.log)
   pub folds : fold job.function job.config job.items None front ≡ Some kept

@@ -59,8 +59,8 @@ module _ {F R : Type 0} (alloc : Global) (c : Config) where
   first_instances (suc i) = first_instances i ++ Instance (first_instance i) ∷ []
 
   abbrev pub first_nodes : List (Node F R)
-  first_nodes = Switch (first_switch c) ∷ Controller (controller.opened c.names c.site) ∷ first_instances (length c.names)
+  first_nodes = Switch (first_switch c) ∷ Controller (controller.controller_at_start c.names c.site) ∷ first_instances (length c.names)
 
   -- the world at the start: nothing stands on a link, and nothing is noted
-  abbrev pub started : List Msg → Network (Node F R) Msg Note
-  started items = opening first_nodes items
+  abbrev pub started_with : List Msg → Network (Node F R) Msg Note
+  started_with items = opening first_nodes items

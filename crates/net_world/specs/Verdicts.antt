@@ -1,7 +1,9 @@
 -- Why a command that began is answered as it is: a move is judged once, when its destination takes the first piece of its state, and a
 -- copy is done. This project's own.
-use Rattle.std.specs.Prelude.{◌≡◌, ℕ, ◌+◌, ◌==◌, ◌&&◌, nat_lt, nat_le, Bool, true, false, if◌then◌else◌, List, [], ◌∷◌, ◌++◌, length, Option, None, Some, slice_get, slice_index, slice_index_or}
-use Rattle.std.specs.List.{list_any}
+use Rattle.std.specs.Prelude.{◌≡◌, ℕ, ◌+◌, ◌==◌, ◌&&◌, nat_lt, nat_le, Bool, true, false, if◌then◌else◌, List, ◌∷◌, ◌++◌, filter_map, find, length, Option}
+use Rattle.std.specs.Prelude.{None, Some, option_map, slice_get, slice_index, slice_index_or}
+use Rattle.std.specs.List.{before_first, list_any}
+use Rattle.std.specs.Option.{option_map_or}
 use Rattle.std.specs.FinMap as finite
 use Rattle.nf_function.specs.declared.unit.Unit as units
 use Rattle.nf_function.specs.Semantics.{Semantics}
@@ -18,7 +20,7 @@ use Rattle.nf_msgs.specs.declared.note.Note.TheVariants.{Exported}
 use Rattle.nf_msgs.specs.Nodes.{instance_node}
 use Rattle.flow_filter.specs.Name.{place_of}
 use Rattle.actor_net.specs.declared.choice.Choice.{Choice}
-use Rattle.actor_net.specs.Network.{Network, run, waiting}
+use Rattle.actor_net.specs.Network.{Network, run, queue_at}
 use Rattle.net_world.specs.declared.config.Config.{Config}
 use Rattle.net_world.specs.declared.node.Node.{Node}
 use Rattle.net_world.specs.declared.node.Node.TheVariants.{Instance}
@@ -26,7 +28,7 @@ use Rattle.net_world.specs.Input.{packet_numbered, order_numbered}
 use Rattle.net_world.specs.Jobs.{Course, Job}
 use Rattle.net_world.specs.Lives.{lives}
 use Rattle.net_world.specs.Nodes.{node_step}
-use Rattle.net_world.specs.Fold.{went}
+use Rattle.net_world.specs.Fold.{processed_of}
 use Rattle.nf_function.specs.Stored.{plain_version, timed_version}
 
 -- what is weighed of a move: how many units are live at the destination, how many come, how many it takes at most, whether it is
@@ -51,17 +53,18 @@ is_refusal (Unknown name) = true
 is_refusal (Overlap op) = true
 is_refusal answer = false
 
+-- the command for which an instance gave state, and the units
+abbrev pub export_in : Note → Option (ℕ × List units.Unit)
+export_in (Exported instance op us) = Some (op, us)
+export_in note = None
+
 -- the units whose state an instance gave for a command, by the first note of it
-abbrev pub exported : ℕ → List Note → Option (List units.Unit)
-exported op [] = None
-exported op (Exported instance k us ∷ notes) = if k == op then Some us else exported op notes
-exported op (n ∷ notes) = exported op notes
+abbrev pub exported_for : ℕ → List Note → Option (List units.Unit)
+exported_for op log = option_map (λ one. one.1) (find (λ one. one.0 == op) (filter_map export_in log))
 
 -- the log before that note
 abbrev pub before_export : ℕ → List Note → List Note
-before_export op [] = []
-before_export op (Exported instance k us ∷ notes) = if k == op then [] else Exported instance k us ∷ before_export op notes
-before_export op (n ∷ notes) = n ∷ before_export op notes
+before_export op log = before_first (λ n. option_map_or (λ one. one.0 == op) (export_in n) false) log
 
 -- how many units are live at an instance of a world
 abbrev pub live_number : {F R : Type 0} → Option (Node F R) → ℕ
@@ -79,14 +82,14 @@ receiver_of config other = None
 module _ {R : Type 0} (f : Semantics R) (config : Config) (items : List Msg) where
   -- the function keeps times, and some packet of the unit that was processed came later than at time 0
   abbrev pub is_timed : units.Unit → List Note → Bool
-  is_timed unit log = has_times f.kind && list_any (λ p. nat_le 1 (packet_numbered items p).nanos) (went f config items unit log)
+  is_timed unit log = has_times f.kind && list_any (λ p. nat_le 1 (packet_numbered items p).nanos) (processed_of f config items unit log)
 
 -- what is weighed of a move in a world
 pub record IsWeighed {F R : Type 0} (job : Job R) (op : ℕ) (w : Network (Node F R) Msg Note) (x : Weighed) : Type 0 where
   pub destination : ℕ
   pub destination_is : receiver_of job.config (order_numbered job.items op) ≡ Some destination
   pub units : List units.Unit
-  pub units_are : exported op w.log ≡ Some units
+  pub units_are : exported_for op w.log ≡ Some units
   pub held : x.held ≡ number_live w destination
   pub coming : x.coming ≡ length units
   pub limit : x.limit ≡ slice_index job.config.limits destination
@@ -101,7 +104,7 @@ module _ {F R : Type 0} (f : Semantics R) (course : Course F R) where
     pub whole : front ++ choice ∷ back ≡ course.choices
     pub piece : Piece
     pub rest : List Msg
-    pub waits : waiting (run (node_step f) front course.start) choice ≡ Put op piece true ∷ rest
+    pub waits : queue_at (run (node_step f) front course.start) choice ≡ Put op piece true ∷ rest
 
 -- a move was judged once, so
 pub record IsVerdict {F R : Type 0} (job : Job R) (course : Course F R) (op : ℕ) (answer : Answer) : Type 0 where

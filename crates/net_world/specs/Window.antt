@@ -10,7 +10,7 @@ use Rattle.actor_net.specs.Network.{Network}
 use Rattle.net_world.specs.declared.config.Config.{Config}
 use Rattle.net_world.specs.declared.node.Node.{Node}
 use Rattle.net_world.specs.declared.node.Node.TheVariants.{Switch}
-use Rattle.net_world.specs.Log.{arrived, done}
+use Rattle.net_world.specs.Log.{arrivals_in, dones_in}
 use Rattle.net_world.specs.Path.{on_links}
 
 -- the switch of a world
@@ -29,17 +29,17 @@ homeward message = []
 -- what every run keeps
 pub record Window (config : Config) {F R : Type 0} (w : Network (Node F R) Msg Note) : Type 0 where
   -- the packets that came and aren't processed are the window's number at most
-  pub under_way : length (arrived w.log) ≤ length (done w.log) + config.window
+  pub under_way : length (arrivals_in w.log) ≤ length (dones_in w.log) + config.window
   -- the packets that the switch counts as under way, and its cells at home, are the window
   pub switch : SwitchState
   pub switch_is : switch_of w ≡ Some switch
   pub cells : switch.flying + switch.pool.home ≡ config.window
   -- and these are the packets that came and aren't processed, and the cells on their way home
-  pub balance : length (done w.log) + switch.flying ≡ length (arrived w.log) + length (on_links w homeward)
+  pub balance : length (dones_in w.log) + switch.flying ≡ length (arrivals_in w.log) + length (on_links w homeward)
 
 -- what a complete run has: as many packets are processed as came, and all cells are at home
 pub record AllHome (config : Config) {F R : Type 0} (w : Network (Node F R) Msg Note) : Type 0 where
-  pub none_under_way : length (arrived w.log) ≡ length (done w.log)
+  pub none_under_way : length (arrivals_in w.log) ≡ length (dones_in w.log)
   pub switch : SwitchState
   pub switch_is : switch_of w ≡ Some switch
   pub cells : switch.pool.home ≡ config.window

@@ -1,5 +1,5 @@
 ghost use Rattle.std.specs.Prelude.{◌≡◌, ◌<◌, length, IfOk};
-ghost use Rattle.net_world.specs.Start.{IsConfig, first_instance, first_nodes, started};
+ghost use Rattle.net_world.specs.Start.{IsConfig, first_instance, first_nodes, started_with};
 
 use crate::config::Config;
 use crate::node::Node;
@@ -20,7 +20,7 @@ pub fn start<F: Function>(
     items: Vec<Msg>,
 ) -> Result<World<Node<F>>, NoMemory>
     requires { IsConfig config.now }
-    ensures { IfOk result (λ world. world ≡ started alloc config.now items.items) }
+    ensures { IfOk result (λ world. world ≡ started_with alloc config.now items.items) }
 {
     let nodes = first_nodes::<F>(alloc, config)?;
     World::start(alloc, nodes, items)

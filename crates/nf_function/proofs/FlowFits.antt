@@ -8,7 +8,8 @@ use Rattle.flow_filter.specs.declared.flow.Flow.{Flow}
 use Rattle.flow_filter.specs.declared.flow.Direction.{Direction}
 use Rattle.flow_filter.specs.declared.flow.Direction.TheVariants.{Out, In}
 use Rattle.flow_filter.specs.Filter.{IsFlow}
-use Rattle.flow_filter.specs.Flow.{flow_of, is_inside, is_mapped, is_source_first, inward, outward, owner_of_port}
+use Rattle.flow_filter.specs.Flow.{flow_of, is_inside, is_mapped, inward, outward}
+use Rattle.flow_filter.specs.FieldSteps.{is_source_first, owner_of_port}
 use Rattle.flow_filter.proofs.FieldTests.{FieldTests, all_from}
 use Rattle.flow_filter.proofs.FlowLemmas.{proto-flow_of}
 use Rattle.flow_filter.proofs.SiteLemmas.{is_24, last_byte_fits}
@@ -43,7 +44,8 @@ module _ (site : Site) (p : Packet) (fits : Fits site p) where
   flow_fits =
       IsFlow-cond (is_inside site p.src && not (is_inside site p.dst)) (outward p, Out) _ (λ _. outward_fits)
       (IsFlow-cond (is_inside site p.dst && not (is_inside site p.src)) (inward p, In) _ (λ _. inward_fits)
-      (IsFlow-cond (not (is_inside site p.src) && not (is_inside site p.dst) && is_mapped site p) (record (inward p) { local = owner_of_port site p.dport }, In) _
+      (IsFlow-cond (not (is_inside site p.src) && not (is_inside site p.dst) && is_mapped site p)
+      (record (inward p) { local = owner_of_port site p.dport }, In) _
       (λ h. mapped_fits (and_parts (not (is_inside site p.src) && not (is_inside site p.dst)) (is_mapped site p) h).1)
       (IsFlow-cond (is_source_first p) (outward p, Out) (inward p, In) (λ _. outward_fits) inward_fits)))
 

@@ -1,5 +1,6 @@
 -- Numbers in stored bytes: each number has one spelling, and spellings compare as their numbers do.
-use Rattle.std.proofs.Common.{◌≡◌, ◌∙◌, ◌<◌, ◌≤◌, ◌+◌, ◌*◌, ◌^◌, ℕ, zero, suc, Bool, true, false, cond, List, [], ◌∷◌, ◌++◌, length, take, drop, Option, None, Some, refl, sym, ap, arith, nat_lt, length-append, append-nil, eqb}
+use Rattle.std.proofs.Common.{◌≡◌, ◌∙◌, ◌<◌, ◌≤◌, ◌+◌, ◌*◌, ◌^◌, ℕ, zero, suc, Bool, true, false, cond, List, [], ◌∷◌, ◌++◌}
+use Rattle.std.proofs.Common.{length, take, drop, Option, None, Some, refl, sym, ap, arith, nat_lt, length-append, append-nil, eqb}
 use Rattle.std.proofs.lemmas.Option.{some_pair_parts}
 use Rattle.std.proofs.Math.Nat.{mul-le-mul_right}
 use Rattle.std.proofs.lemmas.Bool.Decides.{nat_tests}
@@ -50,7 +51,8 @@ same_bytes zero (x ∷ xs) ys l m p q h = absurd (omega (arith, l))
 same_bytes (suc n) [] ys l m p q h = absurd (omega (arith, l))
 same_bytes (suc n) (x ∷ xs) [] l m p q h = absurd (omega (arith, m))
 same_bytes (suc n) (x ∷ xs) (y ∷ ys) l m p q h =
-    let parts = same_from_place x (big_number n xs) y (big_number n ys) (256 ^ n) (big_from-lt 0 n xs (IsBytes-tail x xs p)) (big_from-lt 0 n ys (IsBytes-tail y ys q))
+    let parts = same_from_place x (big_number n xs) y (big_number n ys) (256 ^ n) (big_from-lt 0 n xs (IsBytes-tail x xs p))
+    (big_from-lt 0 n ys (IsBytes-tail y ys q))
     (sym (big_number-cons n x xs) ∙ h ∙ big_number-cons n y ys) in
     let rest = same_bytes n xs ys (omega (arith, l)) (omega (arith, m)) (IsBytes-tail x xs p) (IsBytes-tail y ys q) parts.1 in
     rw (parts.0, rest) refl
@@ -159,14 +161,16 @@ cmp_by_numbers (suc n) (x ∷ xs) (y ∷ ys) us vs l m p q =
     ∙ sym (ordering_then-assoc (nat_cmp x y) (nat_cmp (big_number n xs) (big_number n ys)) (slice_cmp nat_cmp us vs))
     ∙ ap (λ o. ordering_then o (slice_cmp nat_cmp us vs))
     (sym (nat_cmp-place x y (big_number n xs) (big_number n ys) (256 ^ n) (big_from-lt 0 n xs (IsBytes-tail x xs p)) (big_from-lt 0 n ys (IsBytes-tail y ys q)))
-    ∙ ap (λ a. nat_cmp a (y * 256 ^ n + big_number n ys)) (sym (big_number-cons n x xs)) ∙ ap (nat_cmp (big_number (suc n) (x ∷ xs))) (sym (big_number-cons n y ys)))
+    ∙ ap (λ a. nat_cmp a (y * 256 ^ n + big_number n ys)) (sym (big_number-cons n x xs))
+    ∙ ap (nat_cmp (big_number (suc n) (x ∷ xs))) (sym (big_number-cons n y ys)))
 
 -- spellings compare as their numbers do, and then comes the rest
 pub slice_cmp-number_bytes : (n x y : ℕ) (us vs : List ℕ) → x < 256 ^ n → y < 256 ^ n
     → slice_cmp nat_cmp (number_bytes n x ++ us) (number_bytes n y ++ vs) ≡ ordering_then (nat_cmp x y) (slice_cmp nat_cmp us vs)
 unfolding number_bytes
 slice_cmp-number_bytes n x y us vs p q =
-    cmp_by_numbers n (big_bytes n x) (big_bytes n y) us vs (length-bytes_high_first n x) (length-bytes_high_first n y) (IsBytes-big_bytes n x) (IsBytes-big_bytes n y)
+    cmp_by_numbers n (big_bytes n x) (big_bytes n y) us vs (length-bytes_high_first n x) (length-bytes_high_first n y) (IsBytes-big_bytes n x)
+    (IsBytes-big_bytes n y)
     ∙ ap (λ a. ordering_then (nat_cmp a (big_number n (big_bytes n y))) (slice_cmp nat_cmp us vs)) (value n x p)
     ∙ ap (λ b. ordering_then (nat_cmp x b) (slice_cmp nat_cmp us vs)) (value n y q)
   where

@@ -1,4 +1,5 @@
 pub mod Units
+pub mod UnitSteps
 pub mod Names
 pub mod UnitOrder
 pub mod Stored

@@ -3,8 +3,8 @@ use Rattle.std.specs.Prelude.{◌≡◌, ℕ, max, List, [], ◌∷◌, length, 
 use Rattle.nf_function.specs.Semantics.{count}
 
 -- one packet more in an instance's slot
-abbrev pub counted : List ℕ → ℕ → List ℕ
-counted slots instance = slice_set slots instance (count (slice_index slots instance) 1)
+abbrev pub with_packet_counted : List ℕ → ℕ → List ℕ
+with_packet_counted slots instance = slice_set slots instance (count (slice_index slots instance) 1)
 
 -- the greater of two counts in each slot
 abbrev pub merged : List ℕ → List ℕ → List ℕ

@@ -11,7 +11,7 @@ use Rattle.flow_filter.specs.Filter.{matches, agrees, holds}
 use Rattle.flow_filter.specs.Flow.{flow_cmp}
 use Rattle.flow_filter.specs.FilterText.{Fields}
 use Rattle.nf_function.specs.declared.kind.Kind.{Kind}
-use Rattle.nf_function.specs.declared.kind.Kind.TheVariants.{Conntrack, Nat, Monitor}
+use Rattle.nf_function.specs.declared.kind.Kind.TheVariants.{Conntrack}
 use Rattle.nf_function.specs.declared.unit.Unit as units
 use Rattle.nf_function.specs.declared.unit.Unit.TheVariants.{Flow as OfFlow, Host as OfHost}
 use Rattle.flow_filter.specs.Packet.{tcp, udp}
@@ -19,20 +19,17 @@ use Rattle.flow_filter.specs.Packet.{tcp, udp}
 -- the function keeps its records for local hosts
 abbrev pub has_hosts : Kind → Bool
 has_hosts Conntrack = false
-has_hosts Nat = true
-has_hosts Monitor = true
+has_hosts _ = true
 
 -- the function's records hold a time
 abbrev pub has_times : Kind → Bool
 has_times Conntrack = true
-has_times Nat = false
-has_times Monitor = false
+has_times _ = false
 
 -- the unit that a flow belongs to: itself, or its local host
 abbrev pub unit_of : Kind → Flow → units.Unit
 unit_of Conntrack flow = OfFlow flow
-unit_of Nat flow = OfHost flow.local
-unit_of Monitor flow = OfHost flow.local
+unit_of _ flow = OfHost flow.local
 
 abbrev pub is_tcp : ℕ → Bool
 is_tcp proto = proto == tcp
@@ -42,7 +39,7 @@ is_udp proto = proto == udp
 
 -- the functions work on TCP and UDP alone
 abbrev pub is_transport : ℕ → Bool
-is_transport proto = is_tcp proto || is_udp proto
+is_transport proto = proto == tcp || proto == udp
 
 -- a flow of TCP or UDP, each number within its type
 abbrev pub is_transport_flow : Flow → Bool
@@ -71,13 +68,9 @@ abbrev pub takes : Filter → units.Unit → Bool
 takes f (OfFlow flow) = matches f flow
 takes f (OfHost host) = agrees holds f.local host
 
--- a field is given besides `local`
-abbrev pub gives_more_than_local : Fields → Bool
-gives_more_than_local f = is_some f.proto || is_some f.lport || is_some f.remote || is_some f.rport
-
--- the filter may match some flows of a unit and not others
+-- the filter may match some flows of a unit and not others: a field is given besides `local`, where units are hosts
 abbrev pub splits : Kind → Fields → Bool
-splits kind f = has_hosts kind && gives_more_than_local f
+splits kind f = has_hosts kind && (is_some f.proto || is_some f.lport || is_some f.remote || is_some f.rport)
 
 -- the filter takes the unit of a flow exactly where it matches the flow
 abbrev pub TakesWhole : Kind → Filter → Type 0

@@ -51,7 +51,8 @@ pub trait Function {
     ) -> Result<Output, NoMemory>
         ensures kept { OnOk result (kept.new ≡ kept_after semantics site.now kept.old packet.now) }
         ensures output { IfOk result (λ output. output ≡ output_for semantics site.now kept.old packet.now) }
-        ensures sound { let unit = unit_of semantics.kind (flow_of site.now packet.now).0 in is_sound semantics unit kept.old ≡ true → is_sound semantics unit kept.new ≡ true }
+        ensures sound { let unit = unit_of semantics.kind (flow_of site.now packet.now).0 in
+            is_sound semantics unit kept.old ≡ true → is_sound semantics unit kept.new ≡ true }
         ensures err { OnErr result (kept.new ≡ kept.old) }
         ensures never { semantics.takes_memory ≡ false → IsOk result }
     {

@@ -3,7 +3,8 @@ ghost use Rattle.std.specs.Prelude.{◌≡◌, Some};
 ghost use Rattle.std.specs.Bool.{OnFalse};
 ghost use Rattle.flow_filter.specs.FilterText.{fields_of};
 ghost use Rattle.nf_function.specs.Names.{function_name, function_named};
-ghost use Rattle.nf_function.specs.Units.{has_hosts, has_times, unit_of, gives_more_than_local, splits, TakesWhole};
+ghost use Rattle.nf_function.specs.Units.{has_hosts, has_times, unit_of, splits, TakesWhole};
+ghost use Rattle.nf_function.specs.UnitSteps.{gives_more_than_local};
 
 use crate::unit::Unit;
 use flow_filter::{Filter, Flow};

@@ -1,5 +1,5 @@
 ghost use Rattle.std.specs.Prelude.{◌≡◌, ℕ, ◌<◌, slice_index, max, replicate};
-ghost use Rattle.nf_function.specs.Tally.{counted, merged, MergeLaws};
+ghost use Rattle.nf_function.specs.Tally.{with_packet_counted, merged, MergeLaws};
 
 /// How many instances a network may have.
 pub const INSTANCES: usize = 16;
@@ -21,7 +21,7 @@ impl Tally {
     /// Counts one packet for an instance. The count stays at its greatest number.
     pub fn count(&mut self, instance: u8)
         requires { instance < INSTANCES }
-        ensures { self.new.slots ≡ counted self.old.slots instance }
+        ensures { self.new.slots ≡ with_packet_counted self.old.slots instance }
     {
         let slot = &mut self.slots[usize::from(instance)];
         *slot = slot.saturating_add(1);

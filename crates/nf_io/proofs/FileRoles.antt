@@ -29,7 +29,8 @@ abbrev by_file : Role → ℕ → Option (List ℕ) → Option (List ℕ) → Me
 by_file role faults bytes name = record { left = (of_role role bytes).left; written = (of_role role bytes).written; faults = faults; name = name }
 
 -- a role that got a name has the bytes that its file shows
-pub bound_file : {F E : Type 0} (told : SystemBytes) (before after : Role → Option (List ℕ)) (faults : List ℕ) (old new : NamedFiles F) (role : Role) (name : List ℕ) (r : Result (Unit {0}) E)
+pub bound_file : {F E : Type 0} (told : SystemBytes) (before after : Role → Option (List ℕ)) (faults : List ℕ) (old new : NamedFiles F) (role : Role)
+    (name : List ℕ) (r : Result (Unit {0}) E)
     → OnOk r (after role ≡ begun told role name) → OnOk r (name_in new role ≡ Some name)
     → OnOk r (seen_of after faults new role ≡ record (with_bytes (shown_of told role name) (seen_of before faults old role)) { name = Some name })
 bound_file told before after faults old new role name (Ok done) bytes named =

@@ -1,6 +1,7 @@
 -- What several reads or writes in a row do together.
 use Rattle.std.proofs.lemmas.List.{length-take-le, take-append-drop, drop-drop}
-use Rattle.std.proofs.Common.{◌≡◌, ℕ, ◌+◌, ◌-◌, ◌≤◌, List, ◌++◌, Option, length, take, drop, ap, sym, ◌∙◌, subst, length-drop, append-nil, append_assoc, None, Some}
+use Rattle.std.proofs.Common.{◌≡◌, ℕ, ◌+◌, ◌-◌, ◌≤◌, List, ◌++◌, Option, length, take, drop, ap}
+use Rattle.std.proofs.Common.{sym, ◌∙◌, subst, length-drop, append-nil, append_assoc, None, Some}
 use Rattle.std.proofs.Math.Seq.{take-length, take-add, take-append_seam}
 use Rattle.std.specs.Io.KnownBytes.{Appends, Consumes, Keeps, prepend_known}
 use Rattle.std.proofs.KnownBytes.{Appends-trans, Appends-kept}
@@ -47,6 +48,7 @@ appended_nothing (Some x) None bytes n none p = absurd p
 appended_nothing (Some x) (Some y) bytes n none p = p ∙ ap (λ m. x ++ take m bytes) none ∙ append-nil x
 
 -- the first n bytes of those in front of known bytes were taken
-pub prepended_less : (known : Option (List ℕ)) (bytes : List ℕ) (n : ℕ) → Consumes (prepend_known bytes known) (prepend_known (drop n bytes) known) (take n bytes)
+pub prepended_less : (known : Option (List ℕ)) (bytes : List ℕ) (n : ℕ)
+    → Consumes (prepend_known bytes known) (prepend_known (drop n bytes) known) (take n bytes)
 prepended_less None bytes n = tt
 prepended_less (Some left) bytes n = ap (λ l. l ++ left) (sym (take-append-drop n bytes)) ∙ append_assoc (take n bytes) (drop n bytes) left

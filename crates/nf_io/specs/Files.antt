@@ -1,4 +1,5 @@
--- What an outside over files tells of each role: its count of faults, its name, and the bytes of its own file or stream where the system tells them. This project's own.
+-- What an outside over files tells of each role: its count of faults, its name, and the bytes of its own file or stream where the system tells them.
+-- This project's own.
 use Rattle.std.specs.Prelude.{ℕ, List, Option, None, if◌then◌else◌, option_map, option_and_then, slice_index}
 use Rattle.nf_io.specs.declared.outside.Role.{Role}
 use Rattle.nf_io.specs.declared.outside.Role.TheVariants.{Trace, Script, JournalIn, Report, JournalOut, TraceOut, Errors}

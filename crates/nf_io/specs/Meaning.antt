@@ -1,5 +1,6 @@
 -- What callers know of the outside, role by role, and of a source or a sink. This project's own.
-use Rattle.std.specs.Prelude.{◌≡◌, ◌≢◌, ℕ, ◌+◌, ◌-◌, ◌^◌, ◌≤◌, min, false, List, [], length, take, Option, None, Some, if◌then◌else◌, option_map, unwrap_or, IsTrue, IsSome, Result, OnErr}
+use Rattle.std.specs.Prelude.{◌≡◌, ◌≢◌, ℕ, ◌+◌, ◌-◌, ◌^◌, ◌≤◌, min, false, List, [], length, take, Option}
+use Rattle.std.specs.Prelude.{None, Some, if◌then◌else◌, option_map, unwrap_or, IsTrue, IsSome, Result, OnErr}
 use Rattle.std.specs.Io.KnownBytes.{Appends}
 use Rattle.nf_io.specs.declared.outside.Role.{Role}
 use Rattle.nf_io.specs.Roles.{is_read, needs_name, same_role}

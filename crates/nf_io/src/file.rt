@@ -50,7 +50,8 @@ impl<S: System> FileOutside<S> {
 }
 
 impl<S: System> Outside for FileOutside<S> {
-    ghost seen = { λ outside. seen_of (told_in (views S.File.Read.remaining S.File.Write.contents) (S.told outside.system) outside.files) outside.faults outside.files };
+    ghost seen = { λ outside. seen_of (told_in (views S.File.Read.remaining S.File.Write.contents) (S.told outside.system) outside.files) outside.faults
+        outside.files };
 
     ghost shown = { λ outside. shown_of (S.told outside.system) };
 

@@ -1,9 +1,12 @@
 -- What tests are told of a message: its kind, and the numbers that it names. This project's own.
 use Rattle.std.specs.Prelude.{ℕ, ◌++◌, List, [], codes, Option, None, Some, option_map}
 use Rattle.flow_filter.specs.declared.packet.Packet.{Packet}
-use Rattle.nf_msgs.specs.Answers.{numbered}
+use Rattle.nf_msgs.specs.AnswerSteps.{numbered}
 use Rattle.nf_msgs.specs.declared.msg.Msg.{Msg}
-use Rattle.nf_msgs.specs.declared.msg.Msg.TheVariants.{InPacket, InCommand, InSettle, InEnd, Asked, Diverted, End, Forward, Install, FenceTo, Answered, Finish, Carry, Fence, Stop, Enable, Get, Stream, GetAll, Delete, Put, Restore, Standby, PutAll, Sync, Enabled, Chunks, Piece, AllChunk, Deleted, PutOk, PutNo, Restored, Kept, Event, Seen, Fenced, Shared, Synced, Final, Credit}
+use Rattle.nf_msgs.specs.declared.msg.Msg.TheVariants.{InPacket, InCommand, InSettle, InEnd, Asked, Diverted, End, Forward, Install}
+use Rattle.nf_msgs.specs.declared.msg.Msg.TheVariants.{FenceTo, Answered, Finish, Carry, Fence, Stop, Enable, Get, Stream, GetAll, Delete}
+use Rattle.nf_msgs.specs.declared.msg.Msg.TheVariants.{Put, Restore, Standby, PutAll, Sync, Enabled, Chunks, Piece, AllChunk, Deleted}
+use Rattle.nf_msgs.specs.declared.msg.Msg.TheVariants.{PutOk, PutNo, Restored, Kept, Event, Seen, Fenced, Shared, Synced, Final, Credit}
 
 -- the name of a message's kind
 abbrev pub kind_name : Msg → List ℕ
@@ -101,12 +104,12 @@ receiver_of (FenceTo op to) = Some to
 receiver_of message = None
 
 -- a number after a word, where there is one
-abbrev pub noted : List ℕ → Option ℕ → List ℕ
-noted word None = []
-noted word (Some number) = numbered word number
+abbrev pub with_number : List ℕ → Option ℕ → List ℕ
+with_number word None = []
+with_number word (Some number) = numbered word number
 
 -- all that is told of a message
-abbrev pub shown : Msg → List ℕ
-shown message =
-    kind_name message ++ noted (codes " op ") (op_of message)
-    ++ noted (codes " packet ") (option_map (λ p. p.number) (packet_carried message)) ++ noted (codes " to ") (receiver_of message)
+abbrev pub telling : Msg → List ℕ
+telling message =
+    kind_name message ++ with_number (codes " op ") (op_of message)
+    ++ with_number (codes " packet ") (option_map (λ p. p.number) (packet_carried message)) ++ with_number (codes " to ") (receiver_of message)

@@ -1,5 +1,6 @@
 ghost use Rattle.std.specs.Prelude.{◌≡◌, ◌++◌, IfOk, OnOk};
-ghost use Rattle.nf_msgs.specs.Answers.{answer_text, numbered};
+ghost use Rattle.nf_msgs.specs.Answers.{answer_text};
+ghost use Rattle.nf_msgs.specs.AnswerSteps.{numbered};
 
 use crate::answer::Answer;
 use basics::{NoMemory, Text};

@@ -1,6 +1,6 @@
 //! Messages as texts, for tests and whoever looks at a link; and which operation and packet a message is of.
 ghost use Rattle.std.specs.Prelude.{◌≡◌, ◌++◌, option_map, IfOk, OnOk};
-ghost use Rattle.nf_msgs.specs.MessageParts.{kind_name, noted, op_of, packet_carried, receiver_of, shown};
+ghost use Rattle.nf_msgs.specs.MessageParts.{kind_name, with_number, op_of, packet_carried, receiver_of, telling};
 
 use crate::answer_text::push_numbered;
 use crate::msg::Msg;
@@ -8,9 +8,9 @@ use basics::{NoMemory, Text};
 use std::alloc::Global;
 
 /// A message's kind, the numbers of its operation and of its packet, and the instance that the switch is to send to. For tests.
-#[tactic(auto, unfolding(crate::specs::MessageParts::shown))]
+#[tactic(auto, unfolding(crate::specs::MessageParts::telling))]
 pub fn show(alloc: Global, message: &Msg) -> Result<Text, NoMemory>
-    ensures { IfOk result (λ text. text ≡ shown message.now) }
+    ensures { IfOk result (λ text. text ≡ telling message.now) }
 {
     let number = message.packet_number();
     let mut text = Text::open(alloc);
@@ -23,7 +23,7 @@ pub fn show(alloc: Global, message: &Msg) -> Result<Text, NoMemory>
 
 /// Puts a number after a word, where there is one.
 fn push_noted(text: &mut Text, word: &[u8], number: Option<u32>) -> Result<(), NoMemory>
-    ensures { OnOk result (text.new ≡ text.old ++ noted word.now number) }
+    ensures { OnOk result (text.new ≡ text.old ++ with_number word.now number) }
 {
     match number {
         Some(number) => push_numbered(text, word, number),

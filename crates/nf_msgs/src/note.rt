@@ -1,8 +1,9 @@
 use crate::answer::Answer;
+use crate::kept::KeptUnits;
 use basics::Boxed;
 use nf_function::{Output, Units};
 
-/// What a step writes into the log. Units stand behind a pointer, so that a note takes 24 bytes.
+/// What a step writes into the log. Units stand behind a pointer, or one in place, so that a note takes 24 bytes.
 ///
 /// `op` is the number of the operation, and `instance` that of the instance, from 0.
 #[derive(Debug, Drop)]
@@ -33,7 +34,7 @@ pub enum Note {
     Kept {
         instance: u8,
         op: u32,
-        units: Boxed<Units>,
+        units: KeptUnits,
     },
     /// The switch changed its rules for the command with this number.
     Installed(u32),

@@ -1,6 +1,7 @@
 -- In every run, a packet that came when a share had its unit is processed at its member.
 use Rattle.std.proofs.Common.{◌≡◌, ℕ, ◌+◌, ◌≤◌, Bool, true, false, Some, List, [], ◌∷◌, ◌++◌, length, append_assoc, refl, sym, ap, ◌∙◌, arith}
 use Rattle.std.specs.Prelude.{if◌then◌else◌, ◌==◌, is_some}
+use Rattle.std.specs.List.{filter}
 use Rattle.std.specs.declared.alloc.Global.{Global}
 use Rattle.std.proofs.lemmas.Bool.Decides.{nat_tests}
 use Rattle.nf_function.specs.declared.output.Output.{Output}
@@ -14,48 +15,54 @@ use Rattle.nf_msgs.specs.declared.note.Note.TheVariants as note
 use Rattle.nf_msgs.specs.Nodes.{instance_node}
 use Rattle.actor_net.specs.declared.choice.Choice.{Choice}
 use Rattle.actor_net.specs.Network.{Network, IsRun, run}
-use Rattle.share_machine.proofs.Share.{Ran}
-use Rattle.unit_machine.proofs.Stages as stages
-use Rattle.abstract_net.proofs.Shares.{ran_of}
+use Rattle.proof_machines.proofs.share.Share.{Ran}
+use Rattle.proof_machines.proofs.unit.Stages as stages
+use Rattle.proof_machines.proofs.net.Shares.{ran_of}
 use Rattle.net_world.specs.declared.config.Config.{Config}
 use Rattle.net_world.specs.declared.node.Node.{Node}
 use Rattle.net_world.specs.Commands.{times_installed}
 use Rattle.net_world.specs.Fold.{times, is_of}
 use Rattle.net_world.specs.Input.{IsInput, packet_numbered}
-use Rattle.net_world.specs.Log.{arrived, done, installed, those}
+use Rattle.net_world.specs.Log.{arrivals_in, dones_in, installs_in}
 use Rattle.net_world.specs.Nodes.{node_step, node_ready}
 use Rattle.net_world.specs.Places.{first_owner, members, member_for, unit_numbered, AreAtMembers}
-use Rattle.outline_net.proofs.Outline.{is_sys}
-use Rattle.whole_joined.proofs.Given.{Given, is_diverted, diverted_in}
-use Rattle.whole_joined.proofs.Joined.{S, A, by_node, came_by, Joined}
-use Rattle.whole_joined.proofs.LogLemmas.{done-append, by_node-append, diverted_in-append}
-use Rattle.whole_joined.proofs.OperationsApart.{AllApart}
-use Rattle.whole_joined.proofs.RunsJoined.{Runs, run_beside, times-append, same_times}
-use Rattle.whole_joined.proofs.StartJoined.{given}
-use Rattle.whole_net.proofs.Fronts.{ran_more}
-use Rattle.answer_net.proofs.ArrivalLemmas.{arrivals_run}
-use Rattle.answer_net.proofs.BusyRuns.{Busy}
-use Rattle.answer_net.proofs.CommandPromises.{run_busy}
-use Rattle.answer_net.proofs.InstallRuns.{Installs, run_installs}
-use Rattle.path_net.proofs.PathPromises.{came_once}
-use Rattle.nf_net.proofs.MemberLemmas.{IsSharedBy, shared_by, members_diverted, Installed_in, installed_in, times_there}
-use Rattle.nf_net.proofs.MembersServed.{Done_at, done_at}
+use Rattle.net_world.proofs.LogLemmas.{done-append}
+use Rattle.net_world.proofs.NumberCounts.{times-append}
+use Rattle.proof_outlines.proofs.outline.Outline.{is_sys}
+use Rattle.proof_outlines.proofs.joined.Given.{Given, is_diverted, diverted_in}
+use Rattle.proof_outlines.proofs.joined.Joined.{S, A, by_node, came_by, Joined}
+use Rattle.proof_outlines.proofs.joined.LogLemmas.{by_node-append, diverted_in-append}
+use Rattle.proof_outlines.proofs.joined.OperationsApart.{AllApart}
+use Rattle.proof_outlines.proofs.joined.RunsJoined.{Runs, run_beside, same_times}
+use Rattle.proof_outlines.proofs.joined.StartJoined.{given}
+use Rattle.proof_machines.proofs.whole.Fronts.{ran_more}
+use Rattle.nf_net.proofs.answers.ArrivalLemmas.{arrivals_run}
+use Rattle.nf_net.proofs.answers.BusyRuns.{Busy}
+use Rattle.nf_net.proofs.answers.CommandPromises.{run_busy}
+use Rattle.nf_net.proofs.answers.InstallRuns.{Installs, run_installs}
+use Rattle.nf_net.proofs.paths.PathPromises.{came_once}
+use Rattle.nf_net.proofs.MemberLemmas.{IsSharedBy, shared_by, members_diverted, InstalledIn, installed_in, times_there}
+use Rattle.nf_net.proofs.MembersServed.{DoneAt, done_at}
 use Rattle.nf_net.proofs.NumberedUnits.{units_fit}
 use Rattle.nf_net.proofs.RunKeeps.{start, count}
 use Rattle.nf_net.proofs.UnitShares.{IsOpenShare, open_installed, member_is}
 
-pub times_those : (mine : ℕ → Bool) (p : ℕ) (qs : List ℕ) → times p (those mine qs) ≤ times p qs
+pub times_those : (mine : ℕ → Bool) (p : ℕ) (qs : List ℕ) → times p (filter mine qs) ≤ times p qs
 times_those mine p [] = omega arith
-times_those mine p (q ∷ qs) = elim (mine q) as (λ b. times p (if b then q ∷ those mine qs else those mine qs) ≤ (if p == q then 1 else 0) + times p qs) [
+times_those mine p (q ∷ qs) = elim (mine q) as (λ b. times p (if b then q ∷ filter mine qs else filter mine qs) ≤ (if p == q then 1 else 0) + times p qs) [
   | true ↦ (let rest = times_those mine p qs in omega (arith, rest))
   | false ↦ (let rest = times_those mine p qs in omega (arith, rest))
 ]
 
-module _ {F R : Type 0} (f : Semantics R) (c : Config) (items : List Msg) (is : IsInput f.kind c items) (n : ℕ) (count_is : n ≡ length c.names + 2) (w : Network (Node F R) Msg Note) (j : Joined f (given f c items is) n w) (apart : AllApart j.nodes.controller.operations) (b : Busy (given f c items is) w) (h : Installs (given f c items is) w) (few : (p : ℕ) → times p (arrived w.log) ≤ 1) where
+module _ {F R : Type 0} (f : Semantics R) (c : Config) (items : List Msg) (is : IsInput f.kind c items) (n : ℕ) (count_is : n ≡ length c.names + 2)
+    (w : Network (Node F R) Msg Note) (j : Joined f (given f c items is) n w) (apart : AllApart j.nodes.controller.operations)
+    (b : Busy (given f c items is) w) (h : Installs (given f c items is) w) (few : (p : ℕ) → times p (arrivals_in w.log) ≤ 1) where
   abbrev g : Given
   g = given f c items is
 
-  module _ (before between after : List Note) (number i : ℕ) (output : Output) (names : List (List ℕ)) (whole : w.log ≡ before ++ note.Arrived number ∷ (between ++ note.Processed number i output ∷ after)) (shared : members c items (unit_numbered c items f.kind number) before ≡ Some names) where
+  module _ (before between after : List Note) (number i : ℕ) (output : Output) (names : List (List ℕ))
+      (whole : w.log ≡ before ++ note.Arrived number ∷ (between ++ note.Processed number i output ∷ after))
+      (shared : members c items (unit_numbered c items f.kind number) before ≡ Some names) where
     abbrev u : units.Unit
     u = unit_numbered c items f.kind number
 
@@ -69,23 +76,29 @@ module _ {F R : Type 0} (f : Semantics R) (c : Config) (items : List Msg) (is : 
     rest = between ++ note.Processed number i output ∷ after
 
     -- it came once, while the unit's packets were diverted
-    once : stages.times number (those mine (arrived w.log)) ≤ 1
-    once = let same = same_times number (those mine (arrived w.log)) in let less = times_those mine number (arrived w.log) in let one = few number in omega (arith, same, less, one)
+    once : stages.times number (filter mine (arrivals_in w.log)) ≤ 1
+    once = let same = same_times number (filter mine (arrivals_in w.log)) in
+        let less = times_those mine number (arrivals_in w.log) in let one = few number in omega (arith, same, less, one)
 
-    diverted : is_diverted g u (installed before) ≡ true
-    diverted = sym (members_diverted g u (first_owner u c.routes) (installed before)) ∙ ap is_some shared
+    diverted : is_diverted g u (installs_in before) ≡ true
+    diverted = sym (members_diverted g u (first_owner u c.routes) (installs_in before)) ∙ ap is_some shared
 
     came : 1 ≤ stages.times number (diverted_in g mine u [] w.log)
     came =
-        let split : diverted_in g mine u [] w.log ≡ diverted_in g mine u [] before ++ diverted_in g mine u (installed before) (note.Arrived number ∷ rest) = ap (diverted_in g mine u []) whole ∙ diverted_in-append g mine u [] before (note.Arrived number ∷ rest) in
+        let split : diverted_in g mine u [] w.log
+        ≡ diverted_in g mine u [] before ++ diverted_in g mine u (installs_in before) (note.Arrived number ∷ rest) =
+        ap (diverted_in g mine u []) whole ∙ diverted_in-append g mine u [] before (note.Arrived number ∷ rest) in
         let mine_is = own in
         let diverted_is = diverted in
-        let head : diverted_in g mine u (installed before) (note.Arrived number ∷ rest) ≡ number ∷ diverted_in g mine u (installed before) rest = rw (mine_is, diverted_is) refl in
+        let head : diverted_in g mine u (installs_in before) (note.Arrived number ∷ rest) ≡ number ∷ diverted_in g mine u (installs_in before) rest =
+        rw (mine_is, diverted_is) refl in
         let same = same_times number (diverted_in g mine u [] w.log) in
         let all = ap (times number) (split ∙ ap (λ v. diverted_in g mine u [] before ++ v) head) in
-        let two = times-append number (diverted_in g mine u [] before) (number ∷ diverted_in g mine u (installed before) rest) in
+        let two = times-append number (diverted_in g mine u [] before) (number ∷ diverted_in g mine u (installs_in before) rest) in
         let self : (number == number) ≡ true = grind (arith, nat_tests) in
-        let one : times number (number ∷ diverted_in g mine u (installed before) rest) ≡ 1 + times number (diverted_in g mine u (installed before) rest) = rw self refl in
+        let one : times number (number ∷ diverted_in g mine u (installs_in before) rest)
+        ≡ 1 + times number (diverted_in g mine u (installs_in before) rest) =
+        rw self refl in
         omega (arith, same, all, two, one)
 
     -- and was done
@@ -93,7 +106,7 @@ module _ {F R : Type 0} (f : Semantics R) (c : Config) (items : List Msg) (is : 
     front = before ++ note.Arrived number ∷ between
 
     abbrev ran : List Note → List Ran
-    ran log = ran_of (S f g) (A f g) u (by_node f g (done log))
+    ran log = ran_of (S f g) (A f g) u (by_node f g (dones_in log))
 
     log_is : w.log ≡ front ++ note.Processed number i output ∷ after
     log_is = whole ∙ sym (append_assoc before (note.Arrived number ∷ between) (note.Processed number i output ∷ after))
@@ -101,29 +114,41 @@ module _ {F R : Type 0} (f : Semantics R) (c : Config) (items : List Msg) (is : 
     done_there : ran_of (S f g) (A f g) u j.world.done ≡ ran front ++ (number, instance_node i) ∷ ran after
     done_there =
         let mine_is = own in
-        let here : ran_of (S f g) (A f g) u (by_node f g (done (note.Processed number i output ∷ after))) ≡ (number, instance_node i) ∷ ran after = rw mine_is refl in
-        ap (ran_of (S f g) (A f g) u) (j.shown_is.done_is ∙ ap (λ log. by_node f g (done log)) log_is ∙ ap (by_node f g) (done-append front (note.Processed number i output ∷ after)) ∙ by_node-append f g (done front) (done (note.Processed number i output ∷ after)))
-        ∙ ran_more (S f g) (A f g) (is_sys f g.site g.packet) u (by_node f g (done front)) (by_node f g (done (note.Processed number i output ∷ after)))
+        let here : ran_of (S f g) (A f g) u (by_node f g (dones_in (note.Processed number i output ∷ after))) ≡ (number, instance_node i) ∷ ran after =
+        rw mine_is refl in
+        ap (ran_of (S f g) (A f g) u)
+        (j.shown_is.done_is ∙ ap (λ log. by_node f g (dones_in log)) log_is ∙ ap (by_node f g) (done-append front (note.Processed number i output ∷ after))
+        ∙ by_node-append f g (dones_in front) (dones_in (note.Processed number i output ∷ after)))
+        ∙ ran_more (S f g) (A f g) (is_sys f g.site g.packet) u (by_node f g (dones_in front)) (by_node f g (dones_in (note.Processed number i output ∷ after)))
         ∙ ap (λ v. ran front ++ v) here
 
-    at : Done_at (S f g) (A f g) (is_sys f g.site g.packet) u j.world (came_by f g w.log u) number (instance_node i) once came (ran front) (ran after) done_there
-    at = done_at (S f g) (A f g) (is_sys f g.site g.packet) u j.world (came_by f g w.log u) number (instance_node i) once came (ran front) (ran after) done_there (j.shown_is.every.unit u)
+    at : DoneAt (S f g) (A f g) (is_sys f g.site g.packet) u j.world (came_by f g w.log u) number (instance_node i) once came (ran front) (ran after) done_there
+    at = done_at (S f g) (A f g) (is_sys f g.site g.packet) u j.world (came_by f g w.log u) number (instance_node i) once came (ran front) (ran after)
+        done_there (j.shown_is.every.unit u)
 
     -- the share of the log is that of the network
     pub its_member : member_for c items names (packet_numbered items number) ≡ Some i
     its_member =
-        let r : IsSharedBy g u (first_owner u c.routes) (installed before) names = shared_by g u (first_owner u c.routes) (installed before) names shared in
-        let there : Installed_in before r.front r.op = installed_in before r.front r.op r.back r.whole in
-        let log : w.log ≡ there.first ++ note.Installed r.op ∷ (there.rest ++ note.Arrived number ∷ rest) = whole ∙ ap (λ v. v ++ note.Arrived number ∷ rest) there.whole ∙ append_assoc there.first (note.Installed r.op ∷ there.rest) (note.Arrived number ∷ rest) in
-        let some : 1 ≤ times_installed r.op w.log = let is_there = ap (times_installed r.op) log ∙ times_there r.op there.first (there.rest ++ note.Arrived number ∷ rest) in omega (arith, is_there) in
-        let o : IsOpenShare f c items is n count_is w j apart b r.op names r.its.filter = open_installed f c items is n count_is w j apart b h r.op names r.its.filter r.its.order_is some in
-        member_is f c items is n count_is w j apart b u (units_fit f c items is number) r.op names r.its.filter o r.its.takes_it at.share at.its number i (sym at.at)
+        let r : IsSharedBy g u (first_owner u c.routes) (installs_in before) names = shared_by g u (first_owner u c.routes) (installs_in before) names shared in
+        let there : InstalledIn before r.front r.op = installed_in before r.front r.op r.back r.whole in
+        let log : w.log ≡ there.first ++ note.Installed r.op ∷ (there.rest ++ note.Arrived number ∷ rest) = whole
+        ∙ ap (λ v. v ++ note.Arrived number ∷ rest) there.whole
+        ∙ append_assoc there.first (note.Installed r.op ∷ there.rest) (note.Arrived number ∷ rest) in
+        let some : 1 ≤ times_installed r.op w.log =
+        let is_there = ap (times_installed r.op) log ∙ times_there r.op there.first (there.rest ++ note.Arrived number ∷ rest) in omega (arith, is_there) in
+        let o : IsOpenShare f c items is n count_is w j apart b r.op names r.its.filter = open_installed f c items is n count_is w j apart b h r.op names
+        r.its.filter r.its.order_is some in
+        member_is f c items is n count_is w j apart b u (units_fit f c items is number) r.op names r.its.filter o r.its.takes_it at.share at.its number i
+        (sym at.at)
 
-module _ (F : Type 0) {R : Type 0} (f : Semantics R) (laws : FunctionLaws f) (alloc : Global) (c : Config) (items : List Msg) (is : IsInput f.kind c items) where
+module _ (F : Type 0) {R : Type 0} (f : Semantics R) (laws : FunctionLaws f) (alloc : Global) (c : Config) (items : List Msg)
+    (is : IsInput f.kind c items) where
   abbrev first : Network (Node F R) Msg Note
   first = start F f laws alloc c items is
 
   pub at_members : (cs : List Choice) → IsRun node_ready (node_step f) cs first → AreAtMembers c items f.kind (run (node_step f) cs first).log
   at_members cs run_is before between after number instance output names whole shared =
       let r : Runs F f laws alloc c items is (run (node_step f) cs first) = run_beside F f laws alloc c items is cs run_is in
-      its_member f c items is (count F f laws alloc c items is) refl (run (node_step f) cs first) r.joined r.beside.kept.apart (run_busy F f laws alloc c items is cs run_is).1 (run_installs F f laws alloc c items is cs run_is) (came_once f c items is (run (node_step f) cs first) (arrivals_run F f laws alloc c items is cs run_is)) before between after number instance output names whole shared
+      its_member f c items is (count F f laws alloc c items is) refl (run (node_step f) cs first) r.joined r.beside.kept.apart
+      (run_busy F f laws alloc c items is cs run_is).1 (run_installs F f laws alloc c items is cs run_is) (came_once f c items is
+      (run (node_step f) cs first) (arrivals_run F f laws alloc c items is cs run_is)) before between after number instance output names whole shared

@@ -1,6 +1,7 @@
 -- In every run each chunk on its way is one of a unit that its move takes, and that move is under way.
 use Rattle.std.proofs.Common.{◌≡◌, ◌≢◌, ℕ, zero, suc, ◌+◌, ◌<◌, true, false, cond, Some, List, [], ◌∷◌, map, length, refl, sym, ap, ◌∙◌, subst, arith}
 use Rattle.std.specs.Prelude.{◌==◌, ◌&&◌, filter, All}
+use Rattle.std.specs.List.{flat_map}
 use Rattle.std.specs.FinMap as finite
 use Rattle.std.proofs.lemmas.Bool.Decides.{nat_tests}
 use Rattle.nf_net.proofs.PlaceSteps.{open_at}
@@ -21,35 +22,35 @@ use Rattle.ctrl_node.specs.declared.operation.Operation.{Operation}
 use Rattle.ctrl_node.specs.declared.operation.Operation.TheVariants.{Move, Copy, Share}
 use Rattle.actor_net.specs.Network.{Network, IsWorld, on_link}
 use Rattle.actor_net.proofs.WeightLaws.{Each as EachOn}
-use Rattle.unit_machine.proofs.Labels.{Each, each-append}
-use Rattle.unit_machine.proofs.Seats.{seat_shape}
-use Rattle.unit_machine.proofs.ToRemove.{third_silent}
-use Rattle.abstract_net.proofs.Ctrl.{each_found}
-use Rattle.abstract_net.proofs.Holding.{Op_label}
-use Rattle.abstract_net.proofs.Units.{see}
-use Rattle.abstract_net.proofs.Untaken.{Untaken}
+use Rattle.proof_machines.proofs.unit.Labels.{Each, each-append}
+use Rattle.proof_machines.proofs.unit.Seats.{seat_shape}
+use Rattle.proof_machines.proofs.unit.ToRemove.{third_silent}
+use Rattle.proof_machines.proofs.net.Ctrl.{each_found}
+use Rattle.proof_machines.proofs.net.Holding.{OpLabel}
+use Rattle.proof_machines.proofs.net.Units.{see}
+use Rattle.proof_machines.proofs.net.Untaken.{Untaken}
 use Rattle.net_world.specs.declared.config.Config.{Config}
 use Rattle.net_world.specs.declared.node.Node.{Node}
 use Rattle.net_world.specs.declared.node.Node.TheVariants.{Switch}
 use Rattle.net_world.specs.Input.{IsInput}
-use Rattle.net_world.specs.Path.{all_of, on_links}
+use Rattle.net_world.specs.Path.{on_links}
 use Rattle.net_world.specs.Places.{IsMoving}
 use Rattle.net_world.specs.Records.{chunks_in, kept_in, kept_for, kept_by, is_chunk_of, spelled_of, chunks_on_way}
-use Rattle.path_net.proofs.ChunkLemmas.{all_chunks, spelled_more}
-use Rattle.path_net.proofs.ChunkPlaces.{good_pieces, free_pieces, none_on_way}
-use Rattle.answer_net.proofs.MovesUnderWay.{AreUnderWay}
-use Rattle.outline_net.proofs.MoveOutline.{IsChunk}
-use Rattle.outline_net.proofs.Outline.{is_sys}
-use Rattle.path_net.proofs.PathNodes.{each_entry}
-use Rattle.path_net.proofs.PathSeats.{labels, loop_is, AsMoves, Seated, seated, HasSides, Are_there, Rests}
-use Rattle.path_net.proofs.SharedChunks.{none_on_way as none_shared}
-use Rattle.path_net.proofs.PathSums.{each_place, each_link}
-use Rattle.whole_joined.proofs.StartJoined.{given}
-use Rattle.whole_joined.proofs.Given.{Given, place}
-use Rattle.whole_net.proofs.WhereAll.{Where_all, Apart_from_shares, Under_share}
+use Rattle.nf_net.proofs.paths.ChunkLemmas.{all_chunks, spelled_more}
+use Rattle.nf_net.proofs.paths.ChunkPlaces.{good_pieces, free_pieces, none_on_way}
+use Rattle.nf_net.proofs.answers.MovesUnderWay.{AreUnderWay}
+use Rattle.proof_outlines.proofs.outline.MoveOutline.{IsChunk}
+use Rattle.proof_outlines.proofs.outline.Outline.{is_sys}
+use Rattle.nf_net.proofs.paths.PathNodes.{each_entry}
+use Rattle.nf_net.proofs.paths.PathSeats.{labels, loop_is, AsMoves, Seated, seated, HasSides, Are_there, Rests}
+use Rattle.nf_net.proofs.paths.SharedChunks.{none_on_way as none_shared}
+use Rattle.nf_net.proofs.paths.PathSums.{each_place, each_link}
+use Rattle.proof_outlines.proofs.joined.StartJoined.{given}
+use Rattle.proof_outlines.proofs.joined.Given.{Given, place}
+use Rattle.proof_machines.proofs.whole.WhereAll.{WhereAll, Apart_from_shares, Under_share}
 use Rattle.nf_net.specs.NumberedChunks.{numbered_on_way, IsOfItsMove}
 use Rattle.nf_net.proofs.NumberedChunks.{bare, same_chunks, shorter, IsOwn, own_on_way}
-use Rattle.whole_joined.proofs.Joined.{S, A, came_by, Label, AreGoodChunks, HasPieces, Joined, node_of}
+use Rattle.proof_outlines.proofs.joined.Joined.{S, A, came_by, Label, AreGoodChunks, HasPieces, Joined, node_of}
 
 all_from : {X : Type 0} (P : X → Type 0) (xs : List X) → Each P xs → All P xs
 all_from P [] h k d small = absurd (omega (arith, small))
@@ -72,16 +73,17 @@ module _ {R : Type 0} (f : Semantics R) (g : Given) where
   msg_named s r (msg.PutNo op refused) l = all_chunks f g refused.chunks l.1
   msg_named s r m l = tt
 
-  link_named : (s r : ℕ) (ms : List Msg) → EachOn (Label f g s r) ms → Each Named (all_of chunks_in ms)
+  link_named : (s r : ℕ) (ms : List Msg) → EachOn (Label f g s r) ms → Each Named (flat_map chunks_in ms)
   link_named s r [] h = tt
-  link_named s r (m ∷ ms) h = each-append Named (chunks_in m) (all_of chunks_in ms) (msg_named s r m h.0) (link_named s r ms h.1)
+  link_named s r (m ∷ ms) h = each-append Named (chunks_in m) (flat_map chunks_in ms) (msg_named s r m h.0) (link_named s r ms h.1)
 
   pieces_named : (ps : List Piece) → Each (λ p. AreGoodChunks f g p.chunks) ps → Each Named (chunks_of ps)
   pieces_named [] h = tt
   pieces_named (p ∷ ps) h = each-append Named p.chunks (chunks_of ps) (all_chunks f g p.chunks h.0) (pieces_named ps h.1)
 
   phase_named : (p : Phase) → HasPieces f g p → Each Named (kept_in p)
-  phase_named (phase.Streaming frozen free came d) h = each-append Named (chunks_of frozen) (chunks_of free) (pieces_named frozen (good_pieces f g frozen h.0)) (pieces_named free (free_pieces f g d free h.1))
+  phase_named (phase.Streaming frozen free came d) h = each-append Named (chunks_of frozen) (chunks_of free)
+      (pieces_named frozen (good_pieces f g frozen h.0)) (pieces_named free (free_pieces f g d free h.1))
   phase_named phase.Freezing h = tt
   phase_named phase.Holding h = tt
   phase_named phase.Passing h = tt
@@ -99,21 +101,26 @@ module _ {R : Type 0} (f : Semantics R) (g : Given) where
         let u = h.0.entry.0 in
         let own : same_unit u u ≡ true = same_unit_equiv.refl u in
         let more = spelled_more f u (place g) c cs h.0 in (
-          has c u h.0.unit (q u (λ none. (let there : spelled f c ∷ spelled_of f u cs ≡ [] = ap (λ b. map (spelled f) (cond b (c ∷ filter (is_chunk_of u) cs) (filter (is_chunk_of u) cs))) (sym own) ∙ sym more ∙ none in cc))),
+          has c u h.0.unit (q u (λ none. (let there : spelled f c ∷ spelled_of f u cs ≡ [] =
+              ap (λ b. map (spelled f) (cond b (c ∷ filter (is_chunk_of u) cs) (filter (is_chunk_of u) cs))) (sym own) ∙ sym more ∙ none in
+              cc))),
           each_has cs h.1 (λ v some. q v (λ none. some (shorter f (is_chunk_of v c) c (filter (is_chunk_of v) cs) none))),
         )
 
-module _ {F R : Type 0} (f : Semantics R) (c : Config) (items : List Msg) (is : IsInput f.kind c items) (n : ℕ) (count : n ≡ length c.names + 2) (w : Network (Node F R) Msg Note) (nodes : length w.nodes ≡ n) (j : Joined f (given f c items is) n w) (world : IsWorld w) (busy : AreUnderWay f c items is n w j) where
+module _ {F R : Type 0} (f : Semantics R) (c : Config) (items : List Msg) (is : IsInput f.kind c items) (n : ℕ) (count : n ≡ length c.names + 2)
+    (w : Network (Node F R) Msg Note) (nodes : length w.nodes ≡ n) (j : Joined f (given f c items is) n w) (world : IsWorld w)
+    (busy : AreUnderWay f c items is n w j) where
   abbrev g : Given
   g = given f c items is
 
   -- all chunks on their way are of units
-  on_named : (s r : ℕ) → s < n → r < n → Each (Named f g) (all_of chunks_in (on_link w s r))
-  on_named s r hs hr = elim ((s == 0) && (r == 0)) as (λ t. (s == 0) && (r == 0) ≡ t → Each (Named f g) (all_of chunks_in (on_link w s r))) [
+  on_named : (s r : ℕ) → s < n → r < n → Each (Named f g) (flat_map chunks_in (on_link w s r))
+  on_named s r hs hr = elim ((s == 0) && (r == 0)) as (λ t. (s == 0) && (r == 0) ≡ t → Each (Named f g) (flat_map chunks_in (on_link w s r))) [
     | true ↦ λ both.
         let zs : s ≡ 0 = grind (arith, nat_tests) in
         let zr : r ≡ 0 = grind (arith, nat_tests) in
-        subst (λ ms. Each (Named f g) (all_of chunks_in ms)) (sym (ap (λ k. on_link w k r) zs ∙ ap (λ k. on_link w 0 k) zr ∙ loop_is f c items is n count w nodes j world)) tt
+        subst (λ ms. Each (Named f g) (flat_map chunks_in ms))
+        (sym (ap (λ k. on_link w k r) zs ∙ ap (λ k. on_link w 0 k) zr ∙ loop_is f c items is n count w nodes j world)) tt
     | false ↦ λ off. link_named f g s r (on_link w s r) (labels f c items is n count w nodes j world s r hs hr off)
   ] refl
 
@@ -130,9 +137,10 @@ module _ {F R : Type 0} (f : Semantics R) (c : Config) (items : List Msg) (is : 
   all_named : Each (Named f g) (chunks_on_way w)
   all_named =
       let d : Node F R = Switch j.nodes.switch in
-      each-append (Named f g) (on_links w chunks_in) (all_of kept_by w.nodes)
-      (each_link w world.square (Named f g) (all_of chunks_in) (λ s r hs hr. on_named s r (rw (← nodes) hs) (rw (← nodes) hr)))
-      (each_place (Named f g) kept_by w.nodes d (λ i small. subst (λ y. Each (Named f g) (kept_by y)) (sym (j.nodes_are i (rw (← nodes) small) d)) (kept_named i)))
+      each-append (Named f g) (on_links w chunks_in) (flat_map kept_by w.nodes)
+      (each_link w world.square (Named f g) (flat_map chunks_in) (λ s r hs hr. on_named s r (rw (← nodes) hs) (rw (← nodes) hr)))
+      (each_place (Named f g) kept_by w.nodes d
+      (λ i small. subst (λ y. Each (Named f g) (kept_by y)) (sym (j.nodes_are i (rw (← nodes) small) d)) (kept_named i)))
 
   -- a unit with a chunk on its way has an open move
   record IsMoved (u : units.Unit) : Type 0 where
@@ -152,12 +160,13 @@ module _ {F R : Type 0} (f : Semantics R) (c : Config) (items : List Msg) (is : 
 
           by_sides : HasSides f c items is n count w nodes j k.op (seat_shape (S f g).F k.seat) → IsMoved u
           by_sides (Are_there e found src dst) =
-              let label = each_found (Op_label (S f g) (see (S f g) (is_sys f g.site g.packet) u k.op k.third)) k.op.num j.world.ops e k.holds.ops found in
+              let label = each_found (OpLabel (S f g) (see (S f g) (is_sys f g.site g.packet) u k.op k.third)) k.op.num j.world.ops e k.holds.ops found in
               let on = open_at f c items is n w j busy u k.op.num e found (label.0.0 ∙ label.1) in
               record { apart = apart; seat = k; moving = on.moving; number = on.number }
-          by_sides (Rests none none_b at_a) = absurd (some (none_on_way f c items is n count w nodes j world u apart k.op k.third (seat_shape (S f g).F k.seat) k.holds (third_silent (S f g).F k.seat) none))
+          by_sides (Rests none none_b at_a) = absurd (some (none_on_way f c items is n count w nodes j world u apart k.op k.third
+              (seat_shape (S f g).F k.seat) k.holds (third_silent (S f g).F k.seat) none))
 
-      by_where : Where_all (S f g) (A f g) (is_sys f g.site g.packet) u j.world (came_by f g w.log u) → IsMoved u
+      by_where : WhereAll (S f g) (A f g) (is_sys f g.site g.packet) u j.world (came_by f g w.log u) → IsMoved u
       by_where (Apart_from_shares h none) = by_seat h.is h.untaken
       by_where (Under_share x before b h o i) = absurd (some (none_shared f c items is n count w nodes j world u x before (came_by f g w.log u).diverted h))
 
@@ -170,7 +179,8 @@ module _ {F R : Type 0} (f : Semantics R) (c : Config) (items : List Msg) (is : 
   all_have : Each (λ x. HasMove x.1) (numbered_on_way w)
   all_have =
       each_from bare HasMove (numbered_on_way w)
-      (subst (Each HasMove) (sym (same_chunks w)) (each_has f g IsMoved HasMove (λ y u is_unit h. record { unit = u; unit_is = is_unit; moved_so = h }) (chunks_on_way w) all_named moved))
+      (subst (Each HasMove) (sym (same_chunks w))
+      (each_has f g IsMoved HasMove (λ y u is_unit h. record { unit = u; unit_is = is_unit; moved_so = h }) (chunks_on_way w) all_named moved))
 
   -- and that is the move whose number it goes with
   pub chunks_moved : All (IsOfItsMove items w.log) (numbered_on_way w)

@@ -1,8 +1,9 @@
 -- In the world of a complete run each packet of the input was processed, and each unit that has a record has it at its owner.
-use Rattle.std.proofs.Common.{◌≡◌, ℕ, ◌+◌, ◌-◌, ◌<◌, ◌≤◌, Bool, true, false, Option, Some, None, List, [], ◌∷◌, ◌++◌, map, length, append-nil, refl, sym, ap, ◌∙◌, subst, arith}
+use Rattle.std.proofs.Common.{◌≡◌, ℕ, ◌+◌, ◌-◌, ◌<◌, ◌≤◌, Bool, true, false, Option, Some, None, List}
+use Rattle.std.proofs.Common.{[], ◌∷◌, ◌++◌, map, length, append-nil, refl, sym, ap, ◌∙◌, subst, arith}
 use Rattle.std.specs.Prelude.{if◌then◌else◌, ◌&&◌, ◌==◌, nat_lt, slice_get}
 use Rattle.std.specs.declared.alloc.Global.{Global}
-use Rattle.std.specs.List.{filter_map}
+use Rattle.std.specs.List.{filter, filter_map}
 use Rattle.std.specs.FinMap as finite
 use Rattle.std.proofs.lemmas.Bool.Decides.{Decides-eqb}
 use Rattle.std.proofs.lemmas.Option.{slice_get_within, slice_get-get_or}
@@ -23,58 +24,58 @@ use Rattle.nf_msgs.specs.declared.note.Note.{Note}
 use Rattle.nf_msgs.specs.Nodes.{instance_node}
 use Rattle.switch_node.specs.Switch.{is_there}
 use Rattle.actor_net.specs.declared.choice.Choice.{Choice}
-use Rattle.actor_net.specs.Network.{Network, IsRun, is_done, run, waiting}
+use Rattle.actor_net.specs.Network.{Network, IsRun, is_done, run, queue_at}
 use Rattle.actor_net.proofs.CompleteWorlds.{done_waiting}
 use Rattle.actor_net.proofs.EnabledChoices.{at}
 use Rattle.actor_net.proofs.RunInduction.{run_world}
-use Rattle.unit_machine.proofs.Labels.{Each}
-use Rattle.unit_machine.proofs.Lists.{firsts}
-use Rattle.unit_machine.proofs.UnitPieces.{nil_right}
-use Rattle.unit_machine.proofs.Stages as stages
-use Rattle.unit_machine.proofs.Ends.{same_of}
-use Rattle.unit_machine.proofs.Loose.{none_in}
-use Rattle.unit_machine.proofs.Rests.{exactly}
-use Rattle.abstract_net.proofs.Net.{IsSys}
-use Rattle.abstract_net.proofs.Rest.{done_u}
-use Rattle.abstract_net.proofs.Readings as readings
-use Rattle.abstract_net.proofs.Readings.{fold_runs, not_both}
-use Rattle.abstract_net.proofs.AtEnd.{At_end, at_end}
-use Rattle.abstract_net.proofs.Shares.{Open_share, find_share, moves_of, olds}
-use Rattle.whole_net.proofs.EndAll.{Share_rests, Ends_all, As_moves, At_share, end_all}
-use Rattle.whole_net.proofs.WhereAll.{Where_all, Apart_from_shares, Under_share, order_same}
+use Rattle.proof_machines.proofs.unit.Labels.{Each}
+use Rattle.proof_machines.proofs.unit.Lists.{firsts}
+use Rattle.proof_machines.proofs.unit.UnitPieces.{nil_right}
+use Rattle.proof_machines.proofs.unit.Stages as stages
+use Rattle.proof_machines.proofs.unit.Ends.{same_of}
+use Rattle.proof_machines.proofs.unit.Loose.{none_in}
+use Rattle.proof_machines.proofs.unit.Rests.{exactly}
+use Rattle.proof_machines.proofs.net.Net.{IsSys}
+use Rattle.proof_machines.proofs.net.Rest.{done_u}
+use Rattle.proof_machines.proofs.net.Readings as readings
+use Rattle.proof_machines.proofs.net.Readings.{fold_runs, not_both}
+use Rattle.proof_machines.proofs.net.AtEnd.{AtEnd, at_end}
+use Rattle.proof_machines.proofs.net.Shares.{OpenShare, find_share, moves_of, olds}
+use Rattle.proof_machines.proofs.whole.EndAll.{ShareRests, EndsAll, As_moves, At_share, end_all}
+use Rattle.proof_machines.proofs.whole.WhereAll.{WhereAll, Apart_from_shares, Under_share, order_same}
 use Rattle.net_world.specs.declared.config.Config.{Config}
 use Rattle.net_world.specs.declared.node.Node.{Node}
 use Rattle.net_world.specs.declared.node.Node.TheVariants.{Instance}
 use Rattle.net_world.specs.Input.{packets, order_numbered, ends_last, IsInput}
 use Rattle.net_world.specs.Commands.{answers_of, times_installed}
-use Rattle.net_world.specs.Log.{arrived, those}
+use Rattle.net_world.specs.Log.{arrivals_in}
 use Rattle.net_world.specs.Places.{is_loose, owner, unit_numbered}
 use Rattle.net_world.specs.Nodes.{node_step, node_ready, node_ended}
-use Rattle.net_world.specs.Fold.{times, is_of, fold, came, went}
+use Rattle.net_world.specs.Fold.{times, is_of, fold, arrived_of, processed_of}
 use Rattle.nf_net.specs.Promises.{Completed}
 use Rattle.net_world.specs.Records.{live_in, live_at}
-use Rattle.net_world.specs.Start.{started}
-use Rattle.answer_net.proofs.ArrivalLemmas.{numbers, runs_joined}
-use Rattle.answer_net.proofs.CommandPromises.{run_busy}
-use Rattle.answer_net.proofs.InstallRuns.{run_installs, done_installed}
-use Rattle.answer_net.proofs.InstallSteps.{is_moving}
-use Rattle.outline_net.proofs.FiltersApart.{unit_fits}
-use Rattle.outline_net.proofs.Outline.{is_sys}
-use Rattle.whole_outline.proofs.OpenShares.{real_share}
-use Rattle.whole_outline.proofs.SwitchAll.{target_node}
-use Rattle.whole_joined.proofs.Given.{Given, place}
-use Rattle.whole_joined.proofs.Joined.{GenuinePacket, S, A, shown, came_by, Joined}
-use Rattle.whole_joined.proofs.RunsJoined.{done_same, same_times, start_world, run_beside}
-use Rattle.whole_joined.proofs.StartJoined.{given, count_at_start, genuine}
-use Rattle.path_net.proofs.PathSeats.{there, sides}
-use Rattle.path_net.proofs.RecordPromises.{instance_of, one_place}
-use Rattle.path_net.proofs.SharedOwners.{HomesOwn, members_few}
+use Rattle.net_world.specs.Start.{started_with}
+use Rattle.nf_net.proofs.answers.ArrivalLemmas.{numbers, runs_joined}
+use Rattle.nf_net.proofs.answers.CommandPromises.{run_busy}
+use Rattle.nf_net.proofs.answers.InstallRuns.{run_installs, done_installed}
+use Rattle.nf_net.proofs.answers.InstallSteps.{is_moving}
+use Rattle.proof_outlines.proofs.outline.FiltersApart.{unit_fits}
+use Rattle.proof_outlines.proofs.outline.Outline.{is_sys}
+use Rattle.proof_outlines.proofs.whole.OpenShares.{real_share}
+use Rattle.proof_outlines.proofs.whole.SwitchAll.{target_node}
+use Rattle.proof_outlines.proofs.joined.Given.{Given, place}
+use Rattle.proof_outlines.proofs.joined.Joined.{GenuinePacket, S, A, shown, came_by, Joined}
+use Rattle.proof_outlines.proofs.joined.RunsJoined.{done_same, same_times, start_world, run_beside}
+use Rattle.proof_outlines.proofs.joined.StartJoined.{given, count_at_start, genuine}
+use Rattle.nf_net.proofs.paths.PathSeats.{there, sides}
+use Rattle.nf_net.proofs.paths.RecordPromises.{instance_of, one_place}
+use Rattle.nf_net.proofs.paths.SharedOwners.{HomesOwn, members_few}
 use Rattle.nf_net.proofs.FoldLemmas.{fold_is}
 use Rattle.nf_net.proofs.NumberedUnits.{units_fit}
 use Rattle.nf_net.proofs.SharedHomes.{run_homes}
 use Rattle.nf_net.proofs.StandbyFronts.{IsOfFront, still_some, lives_front}
 use Rattle.nf_net.proofs.UnitShares.{owner_goes}
-use Rattle.answer_net.proofs.ToldCommands.{each_answered}
+use Rattle.nf_net.proofs.answers.ToldCommands.{each_answered}
 
 module _ {R : Type 0} (f : Semantics R) (c : Config) (items : List Msg) (is : IsInput f.kind c items) where
   abbrev g : Given
@@ -83,15 +84,17 @@ module _ {R : Type 0} (f : Semantics R) (c : Config) (items : List Msg) (is : Is
   abbrev laws_of : IsSys (S f g)
   laws_of = is_sys f g.site g.packet
 
-  module _ {F : Type 0} (n : ℕ) (count : n ≡ length c.names + 2) (w : Network (Node F R) Msg Note) (nodes : length w.nodes ≡ n) (j : Joined f g n w) (in_turn : arrived w.log ++ numbers (waiting w (at 0 0)) ≡ numbers items) (done : is_done node_ended w ≡ true) (told : HomesOwn f c items is n count w j) where
-    all_came : arrived w.log ≡ numbers items
-    all_came = sym (append-nil (arrived w.log)) ∙ ap (λ xs. arrived w.log ++ numbers xs) (sym (done_waiting node_ended w done (at 0 0))) ∙ in_turn
+  module _ {F : Type 0} (n : ℕ) (count : n ≡ length c.names + 2) (w : Network (Node F R) Msg Note) (nodes : length w.nodes ≡ n)
+      (j : Joined f g n w) (in_turn : arrivals_in w.log ++ numbers (queue_at w (at 0 0)) ≡ numbers items) (done : is_done node_ended w ≡ true)
+      (told : HomesOwn f c items is n count w j) where
+    all_came : arrivals_in w.log ≡ numbers items
+    all_came = sym (append-nil (arrivals_in w.log)) ∙ ap (λ xs. arrivals_in w.log ++ numbers xs) (sym (done_waiting node_ended w done (at 0 0))) ∙ in_turn
 
     quiet : (i k : ℕ) → i < n → k < n → (i == 0) && (k == 0) ≡ false → j.world.link i k ≡ []
     quiet i k hi hk off = j.links i k hi hk off ∙ ap (filter_map (shown f g)) (done_waiting node_ended w done (at k i))
 
     -- the home of an open share is an instance
-    home_two : (e : Open_share) → find_share j.world.shares e.num ≡ Some e → 2 ≤ e.home
+    home_two : (e : OpenShare) → find_share j.world.shares e.num ≡ Some e → 2 ≤ e.home
     home_two e found =
         let r = real_share f (place g) g.site j.world.ops j.world.shares j.nodes.controller e.num e j.shown_is.controller.opens found in
         let at = ap (λ x. x.home) r.sees.is in
@@ -101,17 +104,19 @@ module _ {R : Type 0} (f : Semantics R) (c : Config) (items : List Msg) (is : Is
       -- what was processed of the unit is all that came, and its record is at an instance
       record Ended : Type 0 where
         flag : Bool
-        order : stages.IsOrderedAs flag (went f c items u w.log) (came f c items u w.log)
+        order : stages.IsOrderedAs flag (processed_of f c items u w.log) (arrived_of f c items u w.log)
         flag_is : flag ≡ true → is_loose c items u w.log ≡ true
-        place : (r : R) → fold f c items None (went f c items u w.log) ≡ Some r → (i : ℕ) × (live_at w i u ≡ Some r)
+        place : (r : R) → fold f c items None (processed_of f c items u w.log) ≡ Some r → (i : ℕ) × (live_at w i u ≡ Some r)
 
       -- what is live at an instance that is there
       live_same : (k : ℕ) → 2 ≤ k → k < n → (live : Option R) → finite.get (j.world.inst k).live u ≡ live → live_at w (k - 2) u ≡ live
       live_same k two few live is_live =
           let node = Instance (j.nodes.instance k) in
-          let found : slice_get w.nodes k ≡ Some node = slice_get-get_or w.nodes k node (rw nodes few) ∙ ap Some (j.nodes_are k few node ∙ instance_of j.nodes k two) in
+          let found : slice_get w.nodes k ≡ Some node = slice_get-get_or w.nodes k node (rw nodes few)
+          ∙ ap Some (j.nodes_are k few node ∙ instance_of j.nodes k two) in
           let number : instance_node (k - 2) ≡ k = omega (arith, two) in
-          ap (λ y. live_in u (slice_get w.nodes y)) number ∙ ap (live_in u) found ∙ ap (λ x. finite.get x.live u) (j.shown_is.instances k two few).outline_is ∙ is_live
+          ap (λ y. live_in u (slice_get w.nodes y)) number ∙ ap (live_in u) found
+          ∙ ap (λ x. finite.get x.live u) (j.shown_is.instances k two few).outline_is ∙ is_live
 
       -- where something is live is an instance that is there
       few_live : (i : ℕ) (r : R) → live_at w i u ≡ Some r → instance_node i < n
@@ -121,25 +126,28 @@ module _ {R : Type 0} (f : Semantics R) (c : Config) (items : List Msg) (is : Is
           by_node None e h = cc
           by_node (Some node) e h = let there = slice_get_within w.nodes (instance_node i) node e in rw (← nodes) there
 
-      done_is : done_u (S f g) u j.world.done ≡ went f c items u w.log
+      done_is : done_u (S f g) u j.world.done ≡ processed_of f c items u w.log
       done_is = done_same f c items is n w j u
 
       -- the fold of what was done
-      folds : (r : R) → fold f c items None (went f c items u w.log) ≡ Some r → readings.fold (S f g).F None (done_u (S f g) u j.world.done) ≡ Some r
-      folds r h = ap (readings.fold (S f g).F None) done_is ∙ sym (fold_is f c items is None (went f c items u w.log)) ∙ h
+      folds : (r : R) → fold f c items None (processed_of f c items u w.log) ≡ Some r → readings.fold (S f g).F None (done_u (S f g) u j.world.done) ≡ Some r
+      folds r h = ap (readings.fold (S f g).F None) done_is ∙ sym (fold_is f c items is None (processed_of f c items u w.log)) ∙ h
 
-      came_is : came f c items u w.log ≡ those (is_of f c items u) (numbers items)
-      came_is = ap (those (is_of f c items u)) all_came
+      came_is : arrived_of f c items u w.log ≡ filter (is_of f c items u) (numbers items)
+      came_is = ap (filter (is_of f c items u)) all_came
 
       -- a unit that a packet of the input has is one that packets may have, and goes to an instance that is there, where it goes to one
       record Has_packet : Type 0 where
         fits : unit_fits f.kind u ≡ true
         few : 2 ≤ j.world.target u → j.world.target u < n
 
-      has_packet : (qs : List Packet) → Each (GenuinePacket f g) qs → (p : ℕ) (ps : List ℕ) → those (is_of f c items u) (map (λ q. q.number) qs) ≡ p ∷ ps → Has_packet
+      has_packet : (qs : List Packet) → Each (GenuinePacket f g) qs → (p : ℕ) (ps : List ℕ) → filter (is_of f c items u) (map (λ q. q.number) qs) ≡ p ∷ ps
+          → Has_packet
       has_packet [] h p ps e = cc
       has_packet (q ∷ qs) h p ps e =
-          elim (is_of f c items u q.number) as (λ b. is_of f c items u q.number ≡ b → (if b then q.number ∷ those (is_of f c items u) (map (λ x. x.number) qs) else those (is_of f c items u) (map (λ x. x.number) qs)) ≡ p ∷ ps → Has_packet) [
+          elim (is_of f c items u q.number) as (λ b. is_of f c items u q.number ≡ b
+          → (if b then q.number ∷ filter (is_of f c items u) (map (λ x. x.number) qs) else filter (is_of f c items u) (map (λ x. x.number) qs)) ≡ p ∷ ps
+          → Has_packet) [
             | true ↦ λ mine _.
                 let way = j.shown_is.switch.routes (flow_of c.site q).0 h.0.fits in
                 let same : unit_numbered c items f.kind q.number ≡ u = same_unit-true (unit_numbered c items f.kind q.number) u mine in
@@ -153,44 +161,48 @@ module _ {R : Type 0} (f : Semantics R) (c : Config) (items : List Msg) (is : Is
         where
           by_target : 2 ≤ j.world.target u → (t : Target) → j.world.target u ≡ target_node t → is_there j.nodes.switch t ≡ true → j.world.target u < n
           by_target two target.Controller at inside = absurd (omega (arith, two, at))
-          by_target two (target.Instance i) at inside = subst (λ k. k < n) (sym at) (there f c items is n count w nodes j i (subst (λ k. nat_lt i k ≡ true) j.shown_is.switch.instances inside))
+          by_target two (target.Instance i) at inside =
+              subst (λ k. k < n) (sym at) (there f c items is n count w nodes j i (subst (λ k. nat_lt i k ≡ true) j.shown_is.switch.instances inside))
 
       -- a unit that no share has
-      module _ (e : At_end (S f g) laws_of u n (moves_of (S f g) (A f g) j.world) (came f c items u w.log) (is_loose c items u w.log)) where
+      module _ (e : AtEnd (S f g) laws_of u n (moves_of (S f g) (A f g) j.world) (arrived_of f c items u w.log) (is_loose c items u w.log)) where
         -- nothing came of it, or it has a packet
         by_came : {P : Type 0} → (firsts e.ran ++ e.left ≡ [] → P) → (Has_packet → P) → P
-        by_came {P = P} none some = by_list (came f c items u w.log) refl
+        by_came {P = P} none some = by_list (arrived_of f c items u w.log) refl
           where
-            by_list : (ps : List ℕ) → came f c items u w.log ≡ ps → P
-            by_list [] k = none (none_in (firsts e.ran ++ e.left) (λ p. same_of e.flag (firsts e.ran ++ e.left) (came f c items u w.log) e.order p ∙ ap (stages.times p) k))
+            by_list : (ps : List ℕ) → arrived_of f c items u w.log ≡ ps → P
+            by_list [] k = none (none_in (firsts e.ran ++ e.left)
+                (λ p. same_of e.flag (firsts e.ran ++ e.left) (arrived_of f c items u w.log) e.order p ∙ ap (stages.times p) k))
             by_list (p ∷ ps) k = some (has_packet (packets items) (genuine f c items is) p ps (sym came_is ∙ k))
 
         -- no packet is left
         left_none : e.left ≡ []
         left_none = by_came (nil_right (firsts e.ran) e.left) (λ has. e.none (has.few e.two))
 
-        ran_is : firsts e.ran ≡ went f c items u w.log
+        ran_is : firsts e.ran ≡ processed_of f c items u w.log
         ran_is = sym e.done ∙ done_is
 
-        went_is : firsts e.ran ++ e.left ≡ went f c items u w.log
+        went_is : firsts e.ran ++ e.left ≡ processed_of f c items u w.log
         went_is = ap (λ xs. firsts e.ran ++ xs) left_none ∙ append-nil (firsts e.ran) ∙ ran_is
 
-        by_record : {P : Type 0} (r : R) → fold f c items None (went f c items u w.log) ≡ Some r → (Has_packet → P) → P
-        by_record r h some = by_came (λ none. let went_none : went f c items u w.log ≡ [] = sym went_is ∙ none in let never : None ≡ Some r = ap (fold f c items None) (sym went_none) ∙ h in cc) some
+        by_record : {P : Type 0} (r : R) → fold f c items None (processed_of f c items u w.log) ≡ Some r → (Has_packet → P) → P
+        by_record r h some = by_came (λ none. let went_none : processed_of f c items u w.log ≡ [] = sym went_is ∙ none in
+            let never : None ≡ Some r = ap (fold f c items None) (sym went_none) ∙ h in cc) some
 
-        at_target : (r : R) → fold f c items None (went f c items u w.log) ≡ Some r → live_at w (j.world.target u - 2) u ≡ Some r
-        at_target r h = by_record r h (λ has. live_same (j.world.target u) e.two (has.few e.two) (Some r) (e.live ∙ fold_runs (S f g).F None e.ran ∙ ap (readings.fold (S f g).F None) (sym e.done) ∙ folds r h))
+        at_target : (r : R) → fold f c items None (processed_of f c items u w.log) ≡ Some r → live_at w (j.world.target u - 2) u ≡ Some r
+        at_target r h = by_record r h (λ has. live_same (j.world.target u) e.two (has.few e.two) (Some r)
+            (e.live ∙ fold_runs (S f g).F None e.ran ∙ ap (readings.fold (S f g).F None) (sym e.done) ∙ folds r h))
 
         moves_ended : Ended
         moves_ended = record {
           flag = e.flag;
-          order = order_same e.flag (firsts e.ran ++ e.left) (went f c items u w.log) (came f c items u w.log) went_is e.order;
+          order = order_same e.flag (firsts e.ran ++ e.left) (processed_of f c items u w.log) (arrived_of f c items u w.log) went_is e.order;
           flag_is = e.flag_is;
           place = λ r h. (j.world.target u - 2, at_target r h);
         }
 
         -- its record is at its owner
-        moves_own : (i : ℕ) (r : R) → fold f c items None (went f c items u w.log) ≡ Some r → live_at w i u ≡ Some r → i ≡ owner c items u w.log
+        moves_own : (i : ℕ) (r : R) → fold f c items None (processed_of f c items u w.log) ≡ Some r → live_at w i u ≡ Some r → i ≡ owner c items u w.log
         moves_own i r h live = by_record r h (λ has.
             let same : i ≡ j.world.target u - 2 = one_place f c items is n w nodes j u i (j.world.target u - 2) r r live (at_target r h) in
             let two = e.two in
@@ -198,37 +210,46 @@ module _ {R : Type 0} (f : Semantics R) (c : Config) (items : List Msg) (is : Is
             omega (arith, same, two, goes))
 
       -- a unit of a share
-      share_ended : (e : Open_share) → Share_rests (S f g) (A f g) laws_of u n j.world (came_by f g w.log u) e → Ended
+      share_ended : (e : OpenShare) → ShareRests (S f g) (A f g) laws_of u n j.world (came_by f g w.log u) e → Ended
       share_ended e s =
           record {
             flag = s.flag;
-            order = order_same s.flag (done_u (S f g) u j.world.done) (went f c items u w.log) (came f c items u w.log) done_is s.order;
+            order = order_same s.flag (done_u (S f g) u j.world.done) (processed_of f c items u w.log) (arrived_of f c items u w.log) done_is s.order;
             flag_is = s.flag_is;
-            place = λ r h. (e.home - 2, live_same e.home (home_two e s.its.found) (members_few f c items is n count w j e s.its.found e.home s.its.home_in) (Some r) (s.live ∙ folds r h));
+            place = λ r h. (
+              e.home - 2,
+              live_same e.home (home_two e s.its.found) (members_few f c items is n count w j e s.its.found e.home s.its.home_in) (Some r)
+                  (s.live ∙ folds r h),
+            );
           }
 
       ended : Ended
-      ended = by_end (end_all (S f g) (A f g) laws_of u n j.world (omega (arith, count)) quiet (sides f c items is n count w nodes j) (members_few f c items is n count w j) (came_by f g w.log u) (j.shown_is.every.unit u))
+      ended = by_end (end_all (S f g) (A f g) laws_of u n j.world (omega (arith, count)) quiet (sides f c items is n count w nodes j)
+          (members_few f c items is n count w j) (came_by f g w.log u) (j.shown_is.every.unit u))
         where
-          by_end : Ends_all (S f g) (A f g) laws_of u n j.world (came_by f g w.log u) → Ended
+          by_end : EndsAll (S f g) (A f g) laws_of u n j.world (came_by f g w.log u) → Ended
           by_end (As_moves e) = moves_ended e
           by_end (At_share e s) = share_ended e s
 
-      all_went : is_loose c items u w.log ≡ false → went f c items u w.log ≡ came f c items u w.log
-      all_went off = exactly ended.flag (went f c items u w.log) (came f c items u w.log) (not_both ended.flag (is_loose c items u w.log) ended.flag_is off) ended.order
+      all_went : is_loose c items u w.log ≡ false → processed_of f c items u w.log ≡ arrived_of f c items u w.log
+      all_went off = exactly ended.flag (processed_of f c items u w.log) (arrived_of f c items u w.log)
+          (not_both ended.flag (is_loose c items u w.log) ended.flag_is off) ended.order
 
-      each_once : (p : ℕ) → times p (went f c items u w.log) ≡ times p (came f c items u w.log)
-      each_once p = sym (same_times p (went f c items u w.log)) ∙ same_of ended.flag (went f c items u w.log) (came f c items u w.log) ended.order p ∙ same_times p (came f c items u w.log)
+      each_once : (p : ℕ) → times p (processed_of f c items u w.log) ≡ times p (arrived_of f c items u w.log)
+      each_once p = sym (same_times p (processed_of f c items u w.log))
+          ∙ same_of ended.flag (processed_of f c items u w.log) (arrived_of f c items u w.log) ended.order p ∙ same_times p (arrived_of f c items u w.log)
 
       -- a live record has seen a front of what was processed, and the unit has no other: so it is the one that has seen all
-      live_is : (i : ℕ) (r : R) → live_at w i u ≡ Some r → fold f c items None (went f c items u w.log) ≡ Some r
-      live_is i r live = by_fold (fold f c items None (went f c items u w.log)) refl
+      live_is : (i : ℕ) (r : R) → live_at w i u ≡ Some r → fold f c items None (processed_of f c items u w.log) ≡ Some r
+      live_is i r live = by_fold (fold f c items None (processed_of f c items u w.log)) refl
         where
-          front : IsOfFront f c items (went f c items u w.log) (Some r)
-          front = subst (λ o. IsOfFront f c items (went f c items u w.log) o) live (lives_front f c items is n w nodes j i u)
+          front : IsOfFront f c items (processed_of f c items u w.log) (Some r)
+          front = subst (λ o. IsOfFront f c items (processed_of f c items u w.log) o) live (lives_front f c items is n w nodes j i u)
 
-          by_fold : (o : Option R) → fold f c items None (went f c items u w.log) ≡ o → fold f c items None (went f c items u w.log) ≡ Some r
-          by_fold None e = let more = still_some f c items front.front (went f c items u w.log) r front.is_front front.folds in let never : None ≡ Some more.0 = sym e ∙ more.1 in cc
+          by_fold : (o : Option R) → fold f c items None (processed_of f c items u w.log) ≡ o → fold f c items None (processed_of f c items u w.log) ≡ Some r
+          by_fold None e =
+              let more = still_some f c items front.front (processed_of f c items u w.log) r front.is_front front.folds in
+              let never : None ≡ Some more.0 = sym e ∙ more.1 in cc
           by_fold (Some s) e =
               let at = ended.place s e in
               let same : i ≡ at.0 = one_place f c items is n w nodes j u i at.0 r s live at.1 in
@@ -238,31 +259,51 @@ module _ {R : Type 0} (f : Semantics R) (c : Config) (items : List Msg) (is : Is
       at_owner : (i : ℕ) (r : R) → live_at w i u ≡ Some r → i ≡ owner c items u w.log
       at_owner i r live = by_where (j.shown_is.every.unit u)
         where
-          by_where : Where_all (S f g) (A f g) laws_of u j.world (came_by f g w.log u) → i ≡ owner c items u w.log
-          by_where (Apart_from_shares h none) = moves_own (at_end (S f g) laws_of u n (moves_of (S f g) (A f g) j.world) (omega (arith, count)) (λ a b x y off. ap olds (quiet a b x y off)) (sides f c items is n count w nodes j) (came f c items u w.log) (is_loose c items u w.log) h.is) i r (live_is i r live) live
+          by_where : WhereAll (S f g) (A f g) laws_of u j.world (came_by f g w.log u) → i ≡ owner c items u w.log
+          by_where (Apart_from_shares h none) =
+              moves_own (at_end (S f g) laws_of u n (moves_of (S f g) (A f g) j.world) (omega (arith, count)) (λ a b x y off. ap olds (quiet a b x y off))
+              (sides f c items is n count w nodes j) (arrived_of f c items u w.log) (is_loose c items u w.log) h.is) i r (live_is i r live) live
           by_where (Under_share x before b h o t) = elim (instance_node i == x.home) as (λ q. (instance_node i == x.home) ≡ q → i ≡ owner c items u w.log) [
-            | true ↦ λ on. (let home : instance_node i ≡ x.home = (Decides-eqb (instance_node i) x.home).0 on in let own : instance_node (owner c items u w.log) ≡ x.home = told u x before (came_by f g w.log u).diverted h in omega (arith, home, own))
+            | true ↦ λ on. (let home : instance_node i ≡ x.home = (Decides-eqb (instance_node i) x.home).0 on in
+                let own : instance_node (owner c items u w.log) ≡ x.home = told u x before (came_by f g w.log u).diverted h in omega (arith, home, own))
             | false ↦ λ off.
                 let number : instance_node i - 2 ≡ i = omega arith in
-                let none : live_at w i u ≡ None = ap (λ k. live_at w k u) (sym number) ∙ live_same (instance_node i) (omega arith) (few_live i r live) None (h.away (instance_node i) off) in
+                let none : live_at w i u ≡ None = ap (λ k. live_at w k u) (sym number)
+                ∙ live_same (instance_node i) (omega arith) (few_live i r live) None (h.away (instance_node i) off) in
                 let never : None ≡ Some r = sym none ∙ live in
                 cc
           ] refl
 
-    pub completed : (ends_last items ≡ true → (op : ℕ) (what : Order) → order_numbered items op ≡ Some what → length (answers_of op w.log) ≡ 1) → ((op : ℕ) (source destination : List ℕ) (filter : Filter) (keep : Bool) → order_numbered items op ≡ Some (order.Move source destination filter keep) → answers_of op w.log ≡ Done ∷ [] → times_installed op w.log ≡ 1) → Completed f c items w
-    completed answered installed = record { all_came = all_came; all_went = all_went; each_once = each_once; records_are = live_is; has_record = λ u. (ended u).place; at_owner = at_owner; answered = answered; installed = installed }
+    pub completed : (ends_last items ≡ true → (op : ℕ) (what : Order) → order_numbered items op ≡ Some what → length (answers_of op w.log) ≡ 1)
+        → ((op : ℕ) (source destination : List ℕ) (filter : Filter) (keep : Bool)
+        → order_numbered items op ≡ Some (order.Move source destination filter keep) → answers_of op w.log ≡ Done ∷ [] → times_installed op w.log ≡ 1)
+        → Completed f c items w
+    completed answered installed = record {
+      all_came = all_came;
+      all_went = all_went;
+      each_once = each_once;
+      records_are = live_is;
+      has_record = λ u. (ended u).place;
+      at_owner = at_owner;
+      answered = answered;
+      installed = installed;
+    }
 
 module _ {F R : Type 0} (f : Semantics R) (laws : FunctionLaws f) (alloc : Global) (c : Config) (items : List Msg) (is : IsInput f.kind c items) where
   abbrev start : Network (Node F R) Msg Note
-  start = started alloc c items
+  start = started_with alloc c items
 
   -- of every run that is complete
-  pub complete_run : (cs : List Choice) → IsRun node_ready (node_step f) cs start → is_done node_ended (run (node_step f) cs start) ≡ true → Completed f c items (run (node_step f) cs start)
+  pub complete_run : (cs : List Choice) → IsRun node_ready (node_step f) cs start → is_done node_ended (run (node_step f) cs start) ≡ true
+      → Completed f c items (run (node_step f) cs start)
   complete_run cs ok done =
       let h = runs_joined F f laws alloc c items is cs ok in
-      let world = run_world node_ready (node_step f) (length c.names + 2) start (start_world F f laws alloc c items is) (count_at_start F f alloc c items is) cs ok in
+      let world = run_world node_ready (node_step f) (length c.names + 2) start (start_world F f laws alloc c items is)
+      (count_at_start F f alloc c items is) cs ok in
       let busy = run_busy F f laws alloc c items is cs ok in
       let changes = run_installs F f laws alloc c items is cs ok in
-      completed f c items is (length c.names + 2) refl (run (node_step f) cs start) world.1 (run_beside F f laws alloc c items is cs ok).joined h.in_turn done (run_homes F f laws alloc c items is cs ok)
+      completed f c items is (length c.names + 2) refl (run (node_step f) cs start) world.1 (run_beside F f laws alloc c items is cs ok).joined h.in_turn
+      done (run_homes F f laws alloc c items is cs ok)
       (λ last. each_answered F f laws alloc c items is last cs ok done)
-      (λ op source destination filter keep known is_done_so. done_installed f (given f c items is) (length c.names + 2) refl (run (node_step f) cs start) busy.0 busy.1 changes op (ap is_moving known) done is_done_so)
+      (λ op source destination filter keep known is_done_so. done_installed f (given f c items is) (length c.names + 2) refl (run (node_step f) cs start)
+      busy.0 busy.1 changes op (ap is_moving known) done is_done_so)

@@ -9,10 +9,10 @@ use Rattle.actor_net.specs.declared.choice.Choice.{Choice}
 use Rattle.actor_net.specs.declared.schedule.Schedule.{Schedule}
 use Rattle.actor_net.specs.declared.replays.ReplayFault.{ReplayFault}
 use Rattle.actor_net.specs.declared.replays.ReplayFault.TheVariants.{NoMemory}
-use Rattle.actor_net.specs.Replays.{replayed}
+use Rattle.actor_net.specs.Replays.{replay_of}
 use Rattle.actor_net.proofs.ReplayLaws.{replayed_ok}
 use Rattle.actor_net.specs.Schedules.{StopsShort}
-use Rattle.net_world.specs.Runs.{LeadsTo, chosen, EndsIn, StopsAt}
+use Rattle.net_world.specs.Runs.{LeadsTo, choices_of, EndsIn, StopsAt}
 use Rattle.actor_net.specs.Network.{Network, IsRun, is_done, run}
 use Rattle.net_world.specs.declared.config.Config.{Config}
 use Rattle.net_world.specs.declared.node.Node.{Node}
@@ -20,18 +20,18 @@ use Rattle.net_world.specs.Input.{IsInput}
 use Rattle.net_world.specs.Jobs.{course_of, job_of}
 use Rattle.net_world.specs.Nodes.{node_step, node_ready, node_ended}
 use Rattle.nf_net.specs.Promises.{Completed, Promises, Standbys, Verdicts}
-use Rattle.net_world.specs.Start.{started}
+use Rattle.net_world.specs.Start.{started_with}
 use Rattle.net_world.specs.Window.{AllHome}
-use Rattle.answer_net.proofs.ArrivalLemmas.{arrivals_run}
+use Rattle.nf_net.proofs.answers.ArrivalLemmas.{arrivals_run}
 use Rattle.nf_net.proofs.AtMembers.{at_members}
 use Rattle.nf_net.proofs.ChunkMoves.{chunks_moved}
 use Rattle.nf_net.proofs.CompleteRuns.{complete_run}
 use Rattle.nf_net.proofs.OutputSteps.{outputs_run}
-use Rattle.path_net.proofs.RecordPromises.{one_place}
-use Rattle.answer_net.proofs.CommandPromises.{run_answers, no_rules, none_noted}
+use Rattle.nf_net.proofs.paths.RecordPromises.{one_place}
+use Rattle.nf_net.proofs.answers.CommandPromises.{run_answers, no_rules, none_noted}
 use Rattle.nf_net.proofs.JudgedRuns.{verdicts}
-use Rattle.answer_net.proofs.MovesUnderWay.{moves_under_way}
-use Rattle.path_net.proofs.PathPromises.{in_place, each_in_place, came_once}
+use Rattle.nf_net.proofs.answers.MovesUnderWay.{moves_under_way}
+use Rattle.nf_net.proofs.paths.PathPromises.{in_place, each_in_place, came_once}
 use Rattle.nf_net.proofs.ParcelCounts.{parcels_are}
 use Rattle.nf_net.proofs.PlaceRuns.{places}
 use Rattle.nf_net.proofs.RecordStands.{records_stand}
@@ -40,18 +40,20 @@ use Rattle.nf_net.proofs.SharedHomes.{run_homes}
 use Rattle.nf_net.proofs.SourceRuns.{stays_at_source}
 use Rattle.nf_net.proofs.StandbyRuns.{standbys}
 use Rattle.nf_net.proofs.WindowRuns.{window_kept, all_home}
-use Rattle.whole_joined.proofs.StartJoined.{count_at_start}
+use Rattle.proof_outlines.proofs.joined.StartJoined.{count_at_start}
 use Rattle.actor_net.proofs.RunInduction.{run_world}
-use Rattle.whole_joined.proofs.RunsJoined.{run_beside, start_world, in_order, once}
+use Rattle.proof_outlines.proofs.joined.RunsJoined.{run_beside, start_world, in_order, once}
 
-module _ (F : Type 0) {R : Type 0} (f : Semantics R) (laws : FunctionLaws f) (alloc : Global) (c : Config) (items : List Msg) (is : IsInput f.kind c items) (cs : List Choice) where
+module _ (F : Type 0) {R : Type 0} (f : Semantics R) (laws : FunctionLaws f) (alloc : Global) (c : Config) (items : List Msg) (is : IsInput f.kind c items)
+    (cs : List Choice) where
   abbrev w : Network (Node F R) Msg Note
-  w = run (node_step f) cs (started {F = F} {R = R} alloc c items)
+  w = run (node_step f) cs (started_with {F = F} {R = R} alloc c items)
 
-  pub every_run : IsRun node_ready (node_step f) cs (started {F = F} {R = R} alloc c items) → Promises f c items w
+  pub every_run : IsRun node_ready (node_step f) cs (started_with {F = F} {R = R} alloc c items) → Promises f c items w
   every_run runs =
       let j = (run_beside F f laws alloc c items is cs runs).joined in
-      let reached = run_world node_ready (node_step f) (length c.names + 2) (started {F = F} {R = R} alloc c items) (start_world F f laws alloc c items is) (count_at_start F f alloc c items is) cs runs in
+      let reached = run_world node_ready (node_step f) (length c.names + 2) (started_with {F = F} {R = R} alloc c items)
+      (start_world F f laws alloc c items is) (count_at_start F f alloc c items is) cs runs in
       let counted = reached.1 in
       let turn = arrivals_run F f laws alloc c items is cs runs in
       let told = run_homes F f laws alloc c items is cs runs in
@@ -77,22 +79,25 @@ module _ (F : Type 0) {R : Type 0} (f : Semantics R) (laws : FunctionLaws f) (al
         chunks_moved = chunks_moved f c items is (length c.names + 2) refl w counted j reached.0 (moves_under_way F f laws alloc c items is cs runs j);
       }
 
-  pub every_end : IsRun node_ready (node_step f) cs (started {F = F} {R = R} alloc c items) → is_done node_ended w ≡ true → Completed f c items w
+  pub every_end : IsRun node_ready (node_step f) cs (started_with {F = F} {R = R} alloc c items) → is_done node_ended w ≡ true → Completed f c items w
   every_end runs done = complete_run f laws alloc c items is cs runs done
 
-  pub every_home : IsRun node_ready (node_step f) cs (started {F = F} {R = R} alloc c items) → is_done node_ended w ≡ true → AllHome c w
+  pub every_home : IsRun node_ready (node_step f) cs (started_with {F = F} {R = R} alloc c items) → is_done node_ended w ≡ true → AllHome c w
   every_home runs done = all_home F f laws alloc c items is cs runs done
 
 -- What a run from the start to a world in which nothing is left to do keeps, whoever made its choices.
-module _ (F : Type 0) {R : Type 0} (f : Semantics R) (laws : FunctionLaws f) (alloc : Global) (c : Config) (items : List Msg) (is : IsInput f.kind c items) where
+module _ (F : Type 0) {R : Type 0} (f : Semantics R) (laws : FunctionLaws f) (alloc : Global) (c : Config) (items : List Msg)
+    (is : IsInput f.kind c items) where
   pub record KeepsAll (w : Network (Node F R) Msg Note) : Type 0 where
     pub promises : Promises f c items w
     pub completed : Completed f c items w
     pub home : AllHome c w
 
-  pub keeps_all : (cs : List Choice) (w : Network (Node F R) Msg Note) → LeadsTo f (started {F = F} {R = R} alloc c items) cs w → is_done node_ended w ≡ true → KeepsAll w
+  pub keeps_all : (cs : List Choice) (w : Network (Node F R) Msg Note) → LeadsTo f (started_with {F = F} {R = R} alloc c items) cs w
+      → is_done node_ended w ≡ true → KeepsAll w
   keeps_all cs w leads complete =
-      let done : is_done node_ended (run (node_step f) cs (started {F = F} {R = R} alloc c items)) ≡ true = ap (is_done node_ended) (sym leads.reached) ∙ complete in
+      let done : is_done node_ended (run (node_step f) cs (started_with {F = F} {R = R} alloc c items)) ≡ true = ap (is_done node_ended) (sym leads.reached)
+      ∙ complete in
       subst KeepsAll (sym leads.reached) (record {
         promises = every_run F f laws alloc c items is cs leads.is_run;
         completed = every_end F f laws alloc c items is cs leads.is_run done;
@@ -100,12 +105,13 @@ module _ (F : Type 0) {R : Type 0} (f : Semantics R) (laws : FunctionLaws f) (al
       })
 
 -- What a schedule's run of a network from its start keeps, if it ends.
-module _ (F : Type 0) {R : Type 0} (f : Semantics R) (laws : FunctionLaws f) (alloc : Global) (c : Config) (items : List Msg) (is : IsInput f.kind c items) (schedule : Schedule) where
+module _ (F : Type 0) {R : Type 0} (f : Semantics R) (laws : FunctionLaws f) (alloc : Global) (c : Config) (items : List Msg) (is : IsInput f.kind c items)
+    (schedule : Schedule) where
   abbrev first : Network (Node F R) Msg Note
-  first = started alloc c items
+  first = started_with alloc c items
 
   pub record Keeps (r : Network (Node F R) Msg Note × List Choice) : Type 0 where
-    pub choices : r.1 ≡ chosen f first schedule
+    pub choices : r.1 ≡ choices_of f first schedule
     pub end : EndsIn f first schedule r.0
     pub promises : Promises f c items r.0
     pub verdicts : Verdicts (job_of f c items) (course_of first r.1)
@@ -115,7 +121,7 @@ module _ (F : Type 0) {R : Type 0} (f : Semantics R) (laws : FunctionLaws f) (al
 
   -- what `run_schedule` says of its world and choices, for a world at its start
   pub record Scheduled (w : Network (Node F R) Msg Note) (r : Network (Node F R) Msg Note × List Choice) : Type 0 where
-    pub choices : r.1 ≡ chosen f w schedule
+    pub choices : r.1 ≡ choices_of f w schedule
     pub world : r.0 ≡ run (node_step f) r.1 w
     pub is_run : IsRun node_ready (node_step f) r.1 w
     pub complete : is_done node_ended r.0 ≡ true
@@ -124,12 +130,15 @@ module _ (F : Type 0) {R : Type 0} (f : Semantics R) (laws : FunctionLaws f) (al
   keeps w start r h =
       let runs : IsRun node_ready (node_step f) r.1 first = subst (λ v. IsRun node_ready (node_step f) r.1 v) start h.is_run in
       let reached : r.0 ≡ run (node_step f) r.1 first = h.world ∙ ap (run (node_step f) r.1) start in
-      let choices : r.1 ≡ chosen f first schedule = h.choices ∙ ap (λ v. chosen f v schedule) start in
+      let choices : r.1 ≡ choices_of f first schedule = h.choices ∙ ap (λ v. choices_of f v schedule) start in
       let all = keeps_all F f laws alloc c items is r.1 r.0 (record { is_run = runs; reached = reached }) h.complete in
       record {
         choices = choices;
         end = record {
-          leads = record { is_run = subst (λ cs. IsRun node_ready (node_step f) cs first) choices runs; reached = reached ∙ ap (λ cs. run (node_step f) cs first) choices };
+          leads = record {
+            is_run = subst (λ cs. IsRun node_ready (node_step f) cs first) choices runs;
+            reached = reached ∙ ap (λ cs. run (node_step f) cs first) choices;
+          };
           complete = h.complete;
         };
         promises = all.promises;
@@ -140,58 +149,83 @@ module _ (F : Type 0) {R : Type 0} (f : Semantics R) (laws : FunctionLaws f) (al
       }
 
 -- What is said of a world that is handed back: the same facts of the result.
-module _ (F : Type 0) {R : Type 0} (f : Semantics R) (laws : FunctionLaws f) (alloc : Global) (c : Config) (items : List Msg) (is : IsInput f.kind c items) (schedule : Schedule) where
+module _ (F : Type 0) {R : Type 0} (f : Semantics R) (laws : FunctionLaws f) (alloc : Global) (c : Config) (items : List Msg) (is : IsInput f.kind c items)
+    (schedule : Schedule) where
   pub record Ends {E : Type 0} (result : Result (Network (Node F R) Msg Note × List Choice) E) : Type 0 where
-    pub choices : IfOk result (λ r. r.1 ≡ chosen f (started {F = F} {R = R} alloc c items) schedule)
-    pub end : IfOk result (λ r. EndsIn f (started alloc c items) schedule r.0)
+    pub choices : IfOk result (λ r. r.1 ≡ choices_of f (started_with {F = F} {R = R} alloc c items) schedule)
+    pub end : IfOk result (λ r. EndsIn f (started_with alloc c items) schedule r.0)
     pub promises : IfOk result (λ r. Promises f c items r.0)
-    pub verdicts : IfOk result (λ r. Verdicts (job_of f c items) (course_of (started {F = F} {R = R} alloc c items) r.1))
-    pub standbys : IfOk result (λ r. Standbys (job_of f c items) (course_of (started {F = F} {R = R} alloc c items) r.1))
+    pub verdicts : IfOk result (λ r. Verdicts (job_of f c items) (course_of (started_with {F = F} {R = R} alloc c items) r.1))
+    pub standbys : IfOk result (λ r. Standbys (job_of f c items) (course_of (started_with {F = F} {R = R} alloc c items) r.1))
     pub completed : IfOk result (λ r. Completed f c items r.0)
     pub home : IfOk result (λ r. AllHome c r.0)
 
-  pub ends : {E : Type 0} (result : Result (Network (Node F R) Msg Note × List Choice) E) (w : Network (Node F R) Msg Note) → w ≡ started alloc c items → IfOk result (λ r. r.1 ≡ chosen f w schedule) → IfOk result (λ r. r.0 ≡ run (node_step f) r.1 w) → IfOk result (λ r. IsRun node_ready (node_step f) r.1 w) → IfOk result (λ r. is_done node_ended r.0 ≡ true) → Ends result
+  pub ends : {E : Type 0} (result : Result (Network (Node F R) Msg Note × List Choice) E) (w : Network (Node F R) Msg Note)
+      → w ≡ started_with alloc c items → IfOk result (λ r. r.1 ≡ choices_of f w schedule) → IfOk result (λ r. r.0 ≡ run (node_step f) r.1 w)
+      → IfOk result (λ r. IsRun node_ready (node_step f) r.1 w) → IfOk result (λ r. is_done node_ended r.0 ≡ true) → Ends result
   ends (Err e) w start a b d h = record { choices = tt; end = tt; promises = tt; verdicts = tt; standbys = tt; completed = tt; home = tt }
   ends (Ok r) w start a b d h =
       let k = keeps F f laws alloc c items is schedule w start r (record { choices = a; world = b; is_run = d; complete = h }) in
       record { choices = k.choices; end = k.end; promises = k.promises; verdicts = k.verdicts; standbys = k.standbys; completed = k.completed; home = k.home }
 
-  pub stops : (w : Network (Node F R) Msg Note) → w ≡ started alloc c items → (step : ℕ) → length (chosen f w schedule) ≡ step → StopsShort node_ready node_ended (run (node_step f) (chosen f w schedule) w) step → StopsAt f (started {F = F} {R = R} alloc c items) schedule step
+  pub stops : (w : Network (Node F R) Msg Note) → w ≡ started_with alloc c items → (step : ℕ) → length (choices_of f w schedule) ≡ step
+      → StopsShort node_ready node_ended (run (node_step f) (choices_of f w schedule) w) step
+      → StopsAt f (started_with {F = F} {R = R} alloc c items) schedule step
   stops w start step count short = subst (λ v. StopsAt f v schedule step) start (record { count = count; short = short })
 
 -- the same of a replay: where it hands a world back, the choices are a run
-pub replay_keeps : (F : Type 0) {R : Type 0} (f : Semantics R) (laws : FunctionLaws f) (alloc : Global) (c : Config) (items : List Msg) (is : IsInput f.kind c items) (cs : List Choice) (w : Network (Node F R) Msg Note) (result : Result (Network (Node F R) Msg Note) ReplayFault) → w ≡ started alloc c items → (result ≢ Err NoMemory → result ≡ replayed node_ready (node_step f) cs w) → IfOk result (λ reached. Promises f c items reached)
+pub replay_keeps : (F : Type 0) {R : Type 0} (f : Semantics R) (laws : FunctionLaws f) (alloc : Global) (c : Config) (items : List Msg)
+    (is : IsInput f.kind c items) (cs : List Choice) (w : Network (Node F R) Msg Note) (result : Result (Network (Node F R) Msg Note) ReplayFault)
+    → w ≡ started_with alloc c items → (result ≢ Err NoMemory → result ≡ replay_of node_ready (node_step f) cs w)
+    → IfOk result (λ reached. Promises f c items reached)
 replay_keeps F f laws alloc c items is cs w (Err e) start h = tt
 replay_keeps F {R = R} f laws alloc c items is cs w (Ok reached) start h =
     let ok = replayed_ok node_ready (node_step f) cs w reached (sym (h (λ bad. cc))) in
-    let runs : IsRun node_ready (node_step f) cs (started {F = F} {R = R} alloc c items) = subst (λ v. IsRun node_ready (node_step f) cs v) start ok.0 in
+    let runs : IsRun node_ready (node_step f) cs (started_with {F = F} {R = R} alloc c items) = subst (λ v. IsRun node_ready (node_step f) cs v) start ok.0 in
     subst (λ v. Promises f c items v) (sym (ok.1 ∙ ap (run (node_step f) cs) start)) (every_run F f laws alloc c items is cs runs)
 
-pub replay_judges : (F : Type 0) {R : Type 0} (f : Semantics R) (laws : FunctionLaws f) (alloc : Global) (c : Config) (items : List Msg) (is : IsInput f.kind c items) (cs : List Choice) (w : Network (Node F R) Msg Note) (result : Result (Network (Node F R) Msg Note) ReplayFault) → w ≡ started alloc c items → (result ≢ Err NoMemory → result ≡ replayed node_ready (node_step f) cs w) → IfOk result (λ reached. Verdicts (job_of f c items) (course_of w cs))
+pub replay_judges : (F : Type 0) {R : Type 0} (f : Semantics R) (laws : FunctionLaws f) (alloc : Global) (c : Config) (items : List Msg)
+    (is : IsInput f.kind c items) (cs : List Choice) (w : Network (Node F R) Msg Note) (result : Result (Network (Node F R) Msg Note) ReplayFault)
+    → w ≡ started_with alloc c items → (result ≢ Err NoMemory → result ≡ replay_of node_ready (node_step f) cs w)
+    → IfOk result (λ reached. Verdicts (job_of f c items) (course_of w cs))
 replay_judges F f laws alloc c items is cs w (Err e) start h = tt
 replay_judges F {R = R} f laws alloc c items is cs w (Ok reached) start h =
     let ok = replayed_ok node_ready (node_step f) cs w reached (sym (h (λ bad. cc))) in
-    let runs : IsRun node_ready (node_step f) cs (started {F = F} {R = R} alloc c items) = subst (λ v. IsRun node_ready (node_step f) cs v) start ok.0 in
+    let runs : IsRun node_ready (node_step f) cs (started_with {F = F} {R = R} alloc c items) = subst (λ v. IsRun node_ready (node_step f) cs v) start ok.0 in
     subst (λ v. Verdicts (job_of f c items) (course_of v cs)) (sym start) (verdicts F f laws alloc c items is cs runs)
 
-pub replay_stands : (F : Type 0) {R : Type 0} (f : Semantics R) (laws : FunctionLaws f) (alloc : Global) (c : Config) (items : List Msg) (is : IsInput f.kind c items) (cs : List Choice) (w : Network (Node F R) Msg Note) (result : Result (Network (Node F R) Msg Note) ReplayFault) → w ≡ started alloc c items → (result ≢ Err NoMemory → result ≡ replayed node_ready (node_step f) cs w) → IfOk result (λ reached. Standbys (job_of f c items) (course_of w cs))
+pub replay_stands : (F : Type 0) {R : Type 0} (f : Semantics R) (laws : FunctionLaws f) (alloc : Global) (c : Config) (items : List Msg)
+    (is : IsInput f.kind c items) (cs : List Choice) (w : Network (Node F R) Msg Note) (result : Result (Network (Node F R) Msg Note) ReplayFault)
+    → w ≡ started_with alloc c items → (result ≢ Err NoMemory → result ≡ replay_of node_ready (node_step f) cs w)
+    → IfOk result (λ reached. Standbys (job_of f c items) (course_of w cs))
 replay_stands F f laws alloc c items is cs w (Err e) start h = tt
 replay_stands F {R = R} f laws alloc c items is cs w (Ok reached) start h =
     let ok = replayed_ok node_ready (node_step f) cs w reached (sym (h (λ bad. cc))) in
-    let runs : IsRun node_ready (node_step f) cs (started {F = F} {R = R} alloc c items) = subst (λ v. IsRun node_ready (node_step f) cs v) start ok.0 in
+    let runs : IsRun node_ready (node_step f) cs (started_with {F = F} {R = R} alloc c items) = subst (λ v. IsRun node_ready (node_step f) cs v) start ok.0 in
     subst (λ v. Standbys (job_of f c items) (course_of v cs)) (sym start) (standbys F f laws alloc c items is cs runs)
 
 -- and what its end keeps, where nothing is left to do in the world
-replay_ends : (F : Type 0) {R : Type 0} (f : Semantics R) (laws : FunctionLaws f) (alloc : Global) (c : Config) (items : List Msg) (is : IsInput f.kind c items) (cs : List Choice) (w reached : Network (Node F R) Msg Note) → w ≡ started alloc c items → replayed node_ready (node_step f) cs w ≡ Ok reached → is_done node_ended reached ≡ true → KeepsAll F f laws alloc c items is reached
+replay_ends : (F : Type 0) {R : Type 0} (f : Semantics R) (laws : FunctionLaws f) (alloc : Global) (c : Config) (items : List Msg)
+    (is : IsInput f.kind c items) (cs : List Choice) (w reached : Network (Node F R) Msg Note)
+    → w ≡ started_with alloc c items → replay_of node_ready (node_step f) cs w ≡ Ok reached → is_done node_ended reached ≡ true
+    → KeepsAll F f laws alloc c items is reached
 replay_ends F {R = R} f laws alloc c items is cs w reached start replay done =
     let ok = replayed_ok node_ready (node_step f) cs w reached replay in
-    let runs : IsRun node_ready (node_step f) cs (started {F = F} {R = R} alloc c items) = subst (λ v. IsRun node_ready (node_step f) cs v) start ok.0 in
+    let runs : IsRun node_ready (node_step f) cs (started_with {F = F} {R = R} alloc c items) = subst (λ v. IsRun node_ready (node_step f) cs v) start ok.0 in
     keeps_all F f laws alloc c items is cs reached (record { is_run = runs; reached = ok.1 ∙ ap (run (node_step f) cs) start }) done
 
-pub replay_completes : (F : Type 0) {R : Type 0} (f : Semantics R) (laws : FunctionLaws f) (alloc : Global) (c : Config) (items : List Msg) (is : IsInput f.kind c items) (cs : List Choice) (w : Network (Node F R) Msg Note) (result : Result (Network (Node F R) Msg Note) ReplayFault) → w ≡ started alloc c items → (result ≢ Err NoMemory → result ≡ replayed node_ready (node_step f) cs w) → IfOk result (λ reached. is_done node_ended reached ≡ true → Completed f c items reached)
+pub replay_completes : (F : Type 0) {R : Type 0} (f : Semantics R) (laws : FunctionLaws f) (alloc : Global) (c : Config) (items : List Msg)
+    (is : IsInput f.kind c items) (cs : List Choice) (w : Network (Node F R) Msg Note) (result : Result (Network (Node F R) Msg Note) ReplayFault)
+    → w ≡ started_with alloc c items → (result ≢ Err NoMemory → result ≡ replay_of node_ready (node_step f) cs w)
+    → IfOk result (λ reached. is_done node_ended reached ≡ true → Completed f c items reached)
 replay_completes F f laws alloc c items is cs w (Err e) start h = tt
-replay_completes F f laws alloc c items is cs w (Ok reached) start h = λ done. (replay_ends F f laws alloc c items is cs w reached start (sym (h (λ bad. cc))) done).completed
+replay_completes F f laws alloc c items is cs w (Ok reached) start h =
+    λ done. (replay_ends F f laws alloc c items is cs w reached start (sym (h (λ bad. cc))) done).completed
 
-pub replay_homes : (F : Type 0) {R : Type 0} (f : Semantics R) (laws : FunctionLaws f) (alloc : Global) (c : Config) (items : List Msg) (is : IsInput f.kind c items) (cs : List Choice) (w : Network (Node F R) Msg Note) (result : Result (Network (Node F R) Msg Note) ReplayFault) → w ≡ started alloc c items → (result ≢ Err NoMemory → result ≡ replayed node_ready (node_step f) cs w) → IfOk result (λ reached. is_done node_ended reached ≡ true → AllHome c reached)
+pub replay_homes : (F : Type 0) {R : Type 0} (f : Semantics R) (laws : FunctionLaws f) (alloc : Global) (c : Config) (items : List Msg)
+    (is : IsInput f.kind c items) (cs : List Choice) (w : Network (Node F R) Msg Note) (result : Result (Network (Node F R) Msg Note) ReplayFault)
+    → w ≡ started_with alloc c items → (result ≢ Err NoMemory → result ≡ replay_of node_ready (node_step f) cs w)
+    → IfOk result (λ reached. is_done node_ended reached ≡ true → AllHome c reached)
 replay_homes F f laws alloc c items is cs w (Err e) start h = tt
-replay_homes F f laws alloc c items is cs w (Ok reached) start h = λ done. (replay_ends F f laws alloc c items is cs w reached start (sym (h (λ bad. cc))) done).home
+replay_homes F f laws alloc c items is cs w (Ok reached) start h =
+    λ done. (replay_ends F f laws alloc c items is cs w reached start (sym (h (λ bad. cc))) done).home

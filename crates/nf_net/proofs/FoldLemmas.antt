@@ -2,13 +2,16 @@
 use Rattle.std.proofs.Common.{◌≡◌, ℕ, Option, Some, List, [], ◌∷◌, refl}
 use Rattle.nf_function.specs.Semantics.{Semantics}
 use Rattle.nf_msgs.specs.declared.msg.Msg.{Msg}
-use Rattle.abstract_net.proofs.Readings as readings
+use Rattle.proof_machines.proofs.net.Readings as readings
 use Rattle.net_world.specs.declared.config.Config.{Config}
 use Rattle.net_world.specs.Input.{packet_numbered, IsInput}
 use Rattle.net_world.specs.Fold.{fold}
-use Rattle.whole_joined.proofs.Joined.{S}
-use Rattle.whole_joined.proofs.StartJoined.{given, all_fit}
+use Rattle.proof_outlines.proofs.joined.Joined.{S}
+use Rattle.proof_outlines.proofs.joined.StartJoined.{given, all_fit}
 
-pub fold_is : {R : Type 0} (f : Semantics R) (c : Config) (items : List Msg) (is : IsInput f.kind c items) (kept : Option R) (ps : List ℕ) → fold f c items kept ps ≡ readings.fold (S f (given f c items is)).F kept ps
+pub fold_is : {R : Type 0} (f : Semantics R) (c : Config) (items : List Msg) (is : IsInput f.kind c items) (kept : Option R) (ps : List ℕ)
+    → fold f c items kept ps ≡ readings.fold (S f (given f c items is)).F kept ps
 fold_is f c items is kept [] = refl
-fold_is f c items is kept (p ∷ ps) = let transport = (all_fit f c items is p).transport in rw transport (fold_is f c items is (Some (f.stepped c.site kept (packet_numbered items p)).kept) ps)
+fold_is f c items is kept (p ∷ ps) =
+    let transport = (all_fit f c items is p).transport in
+    rw transport (fold_is f c items is (Some (f.stepped c.site kept (packet_numbered items p)).kept) ps)

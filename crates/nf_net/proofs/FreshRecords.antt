@@ -3,26 +3,29 @@
 use Rattle.std.proofs.Common.{◌≡◌, ◌≢◌, ℕ, Bool, true, false, Option, Some, None, List, [], ◌∷◌, ◌⊎◌, inl, inr, refl, ap, ◌∙◌}
 use Rattle.std.specs.Prelude.{if◌then◌else◌, ◌==◌}
 use Rattle.std.proofs.lemmas.Bool.Decides.{Decides-eqb}
-use Rattle.unit_machine.proofs.Real as Real
-use Rattle.unit_machine.proofs.Real.{M_fenced, M_install, M_fence_to, where_true, add}
-use Rattle.share_machine.proofs.Share.{Item, Item.Carry, Item.Fence, Item.Shared, Item.Diverted, Item.Install, Item.Forward, Item.Get, Item.Sync, Item.Fenced, Item.Chunks, Item.Chunk, Item.Synced, Item.Stray, UnitShare, runs}
-use Rattle.share_machine.proofs.Stages.{shape}
-use Rattle.share_machine.proofs.Heads.{Meets, to_members, meets_sw, meets_to}
-use Rattle.abstract_net.proofs.Net.{Msg, Msg.In_packet, Msg.Asked, Msg.Carry_on, Msg.Pass_on, Msg.Fence_on, Msg.Mv, Sys, IsSys, inst_step, at_node}
-use Rattle.abstract_net.proofs.Rest.{none_mine, done_u}
-use Rattle.abstract_net.proofs.Readings.{fold}
-use Rattle.abstract_net.proofs.GlobalAll.{Global_all}
-use Rattle.abstract_net.proofs.ShareViews.{mine, share_expect, unit_share, move_seen, old_seen, share_seen, share_items, own_at}
-use Rattle.abstract_net.proofs.MemberSteps.{does}
-use Rattle.abstract_net.proofs.UnderInst.{heads, inst_from}
-use Rattle.abstract_net.proofs.Under.{Under, inst_keeps}
-use Rattle.abstract_net.proofs.UnderStarts.{seeing}
-use Rattle.abstract_net.proofs.UnderReadings.{Fresh_at, under_fresh}
-use Rattle.abstract_net.proofs.Shares.{Any, Any.Old, Any.New, Share_msg.Shared_on, olds, Sharing, IsSharing, Want_share, WholeWorld, moves_of, ran_of, Seeing_share}
-use Rattle.whole_net.proofs.WhereAll.{Came, Where_all, Apart_from_shares, Under_share}
-use Rattle.whole_net.proofs.Readings.{fold_done}
-use Rattle.whole_net.proofs.FrontSteps.{table_seen}
-use Rattle.whole_net.proofs.MovePlaces.{processed_where}
+use Rattle.proof_machines.proofs.unit.Real as Real
+use Rattle.proof_machines.proofs.unit.Real.{M_fenced, M_install, M_fence_to, where_true, add}
+use Rattle.proof_machines.proofs.share.Share.{Item, Item.Carry, Item.Fence, Item.Shared, Item.Diverted, Item.Install, Item.Forward, Item.Get}
+use Rattle.proof_machines.proofs.share.Share.{Item.Sync, Item.Fenced, Item.Chunks, Item.Chunk, Item.Synced, Item.Stray, UnitShare, runs}
+use Rattle.proof_machines.proofs.share.Stages.{shape}
+use Rattle.proof_machines.proofs.share.Heads.{Meets, to_members, meets_sw, meets_to}
+use Rattle.proof_machines.proofs.net.Net.{Msg, Msg.In_packet, Msg.Asked, Msg.Carry_on, Msg.Pass_on, Msg.Fence_on, Msg.Mv, Sys, IsSys, inst_step, at_node}
+use Rattle.proof_machines.proofs.net.Rest.{none_mine, done_u}
+use Rattle.proof_machines.proofs.net.Readings.{fold}
+use Rattle.proof_machines.proofs.net.GlobalAll.{GlobalAll}
+use Rattle.proof_machines.proofs.net.ShareViews.{mine, share_expect, unit_share, move_seen, old_seen, share_seen, share_items, own_at}
+use Rattle.proof_machines.proofs.net.MemberSteps.{does}
+use Rattle.proof_machines.proofs.net.UnderInst.{heads, inst_from}
+use Rattle.proof_machines.proofs.net.Under.{Under}
+use Rattle.proof_machines.proofs.net.UnderSteps.{inst_keeps}
+use Rattle.proof_machines.proofs.net.UnderStarts.{seeing}
+use Rattle.proof_machines.proofs.net.UnderReadings.{FreshAt, under_fresh}
+use Rattle.proof_machines.proofs.net.Shares.{Any, Any.Old, Any.New, ShareMsg.Shared_on, olds, Sharing}
+use Rattle.proof_machines.proofs.net.Shares.{IsSharing, WantShare, WholeWorld, moves_of, ran_of, SeeingShare}
+use Rattle.proof_machines.proofs.whole.WhereAll.{Came, WhereAll, Apart_from_shares, Under_share}
+use Rattle.proof_machines.proofs.whole.Readings.{fold_done}
+use Rattle.proof_machines.proofs.whole.FrontSteps.{table_seen}
+use Rattle.proof_machines.proofs.whole.MovePlaces.{processed_where}
 use Rattle.nf_function.specs.declared.unit.Unit as units
 use Rattle.record_table.specs.Table.{same_unit}
 
@@ -30,23 +33,24 @@ module _ {R : Type 0} (S : Sys R) (A : Sharing S) (laws : IsSys S) (u : units.Un
   -- where none of a unit ran, none of its packets did
   none_of : (y : ℕ) (ps : List ℕ) → ran_of S A u (at_node y ps) ≡ [] → none_mine S u ps ≡ []
   none_of y [] e = refl
-  none_of y (p ∷ ps) e = elim (same_unit (S.packet_unit p) u) as (λ b. (if b then (p, y) ∷ ran_of S A u (at_node y ps) else ran_of S A u (at_node y ps)) ≡ [] → (if b then p ∷ none_mine S u ps else none_mine S u ps) ≡ []) [
-    | true ↦ λ k. cc
-    | false ↦ λ k. none_of y ps k
-  ] e
+  none_of y (p ∷ ps) e = elim (same_unit (S.packet_unit p) u) as (λ b.
+      (if b then (p, y) ∷ ran_of S A u (at_node y ps) else ran_of S A u (at_node y ps)) ≡ [] → (if b then p ∷ none_mine S u ps else none_mine S u ps) ≡ []) [
+        | true ↦ λ k. cc
+        | false ↦ λ k. none_of y ps k
+      ] e
 
   -- a message of a move is no packet of a share
   not_shared : (b : Bool) (it : Item R) (q : ℕ) → (it ≡ Shared q → ⊥) → where_true b it ≡ Some (Shared q) → ⊥
   not_shared true it q other e = let same : it ≡ Shared q = cc in other same
   not_shared false it q other e = cc
 
-  move_unshared : (z : Seeing_share) (m : Real.Msg R) (q : ℕ) → move_seen S A z m ≡ Some (Shared q) → ⊥
+  move_unshared : (z : SeeingShare) (m : Real.Msg R) (q : ℕ) → move_seen S A z m ≡ Some (Shared q) → ⊥
   move_unshared z (M_fenced n) q e = not_shared (n == z.num) Fenced q (λ s. cc) e
   move_unshared z (M_install n from to) q e = not_shared (n == z.num) Stray q (λ s. cc) e
   move_unshared z (M_fence_to n to) q e = not_shared (n == z.num) Stray q (λ s. cc) e
   move_unshared z m q e = cc
 
-  old_unshared : (z : Seeing_share) (m : Msg R) (q : ℕ) → old_seen S A z m ≡ Some (Shared q) → ⊥
+  old_unshared : (z : SeeingShare) (m : Msg R) (q : ℕ) → old_seen S A z m ≡ Some (Shared q) → ⊥
   old_unshared z (Carry_on p) q e = not_shared (mine S A z p) (Carry p) q (λ s. cc) e
   old_unshared z (Pass_on p) q e = not_shared (mine S A z p) Stray q (λ s. cc) e
   old_unshared z (Fence_on n) q e = not_shared (n == z.num) Fence q (λ s. cc) e
@@ -54,15 +58,16 @@ module _ {R : Type 0} (S : Sys R) (A : Sharing S) (laws : IsSys S) (u : units.Un
   old_unshared z (In_packet p) q e = cc
   old_unshared z (Asked x) q e = cc
 
-  module _ (ok : IsSharing S A) (w : WholeWorld S A) (k : Came) (g : Global_all S A w) (p y : ℕ) (rest : List (Any R)) (y0 : (y == 0) ≡ false) (y1 : (y == 1) ≡ false) where
+  module _ (ok : IsSharing S A) (w : WholeWorld S A) (k : Came) (g : GlobalAll S A w) (p y : ℕ) (rest : List (Any R)) (y0 : (y == 0) ≡ false)
+      (y1 : (y == 1) ≡ false) where
     -- a message of a move
     module _ (m : Msg R) (waits : w.link p y ≡ Old m ∷ rest) (some : none_mine S u (inst_step S (w.inst y) m).ran ≢ []) where
       some_ran : ran_of S A u (at_node y (inst_step S (w.inst y) m).ran) ≢ []
       some_ran none = some (none_of y (inst_step S (w.inst y) m).ran none)
 
       -- where a share has the unit, it comes to the home
-      module _ (x : Want_share) (before since : List ℕ) (h : Under S A (seeing S A u x) w before since) where
-        abbrev z : Seeing_share
+      module _ (x : WantShare) (before since : List ℕ) (h : Under S A (seeing S A u x) w before since) where
+        abbrev z : SeeingShare
         z = seeing S A u x
 
         abbrev f : UnitShare R
@@ -71,7 +76,7 @@ module _ {R : Type 0} (S : Sys R) (A : Sharing S) (laws : IsSys S) (u : units.Un
         abbrev left : List (Item R)
         left = share_items S A z y rest
 
-        own_fresh : Fresh_at S A z w before since h laws ok g y p (Old m) rest y0 y1 waits some_ran
+        own_fresh : FreshAt S A z w before since h laws ok g y p (Old m) rest y0 y1 waits some_ran
         own_fresh = under_fresh S A z w before since h laws ok g y p (Old m) rest y0 y1 waits some_ran
 
         abbrev Has_run : Option (Item R) → Type 0
@@ -95,27 +100,33 @@ module _ {R : Type 0} (S : Sys R) (A : Sharing S) (laws : IsSys S) (u : units.Un
         meets_home Synced e r n = absurd (r refl)
         meets_home Stray e r n = absurd (r refl)
 
-        by_link : (it : Item R) → share_seen S A z y (Old m) ≡ Some it → Has_run (Some it) → ((shape f h.stage).sw y ≡ it ∷ left) × (p ≡ 0) ⊎ ((shape f h.stage).to y ≡ it ∷ left) × (p ≡ 1) → y ≡ x.home
+        by_link : (it : Item R) → share_seen S A z y (Old m) ≡ Some it → Has_run (Some it)
+            → ((shape f h.stage).sw y ≡ it ∷ left) × (p ≡ 0) ⊎ ((shape f h.stage).to y ≡ it ∷ left) × (p ≡ 1) → y ≡ x.home
         by_link it e r (inl a) = meets_home it e r (meets_sw f h.stage y it left a.0)
         by_link it e r (inr a) = meets_home it e r (meets_to f h.stage h.fits y own_fresh.inside it left a.0)
 
         by_item : (o : Option (Item R)) → share_seen S A z y (Old m) ≡ o → Has_run o → add o left ≡ share_expect (shape f h.stage) p y → y ≡ x.home
         by_item None e r a = absurd (r refl)
-        by_item (Some it) e r a = by_link it e r (inst_from S A laws z w (shape f h.stage) h.holds (to_members f h.is h.stage h.fits) y p (Old m) rest y0 y1 waits it a)
+        by_item (Some it) e r a =
+            by_link it e r (inst_from S A laws z w (shape f h.stage) h.holds (to_members f h.is h.stage h.fits) y p (Old m) rest y0 y1 waits it a)
 
         at_home : y ≡ x.home
-        at_home = by_item (share_seen S A z y (Old m)) refl has_run (heads S A laws z w (shape f h.stage) h.holds (to_members f h.is h.stage h.fits) y p (Old m) rest y0 y1 waits)
+        at_home = by_item (share_seen S A z y (Old m)) refl has_run
+            (heads S A laws z w (shape f h.stage) h.holds (to_members f h.is h.stage h.fits) y p (Old m) rest y0 y1 waits)
 
         fresh_home : S.B.at u (w.inst y).live ≡ runs S.F None (ran_of S A u w.done)
         fresh_home = home_own ((Decides-eqb y x.home).1 at_home) own_fresh.own
           where
-            home_own : (y == x.home) ≡ true → own_at S A z w y ≡ runs S.F None (ran_of S A u w.done) → S.B.at u (w.inst y).live ≡ runs S.F None (ran_of S A u w.done)
+            home_own : (y == x.home) ≡ true → own_at S A z w y ≡ runs S.F None (ran_of S A u w.done)
+                → S.B.at u (w.inst y).live ≡ runs S.F None (ran_of S A u w.done)
             home_own on own = rw on at own
 
-      pub fresh_live : Where_all S A laws u w k → S.B.at u (w.inst y).live ≡ fold S.F None (done_u S u w.done)
-      fresh_live (Apart_from_shares h none) = (processed_where S laws u (moves_of S A w) p y m (olds rest) y0 y1 (ap olds waits) some k.all k.bared g.moves h.is).live
+      pub fresh_live : WhereAll S A laws u w k → S.B.at u (w.inst y).live ≡ fold S.F None (done_u S u w.done)
+      fresh_live (Apart_from_shares h none) =
+          (processed_where S laws u (moves_of S A w) p y m (olds rest) y0 y1 (ap olds waits) some k.all k.bared g.moves h.is).live
       fresh_live (Under_share x before b h o i) = fresh_home x before k.diverted h ∙ fold_done S A laws u None w.done
 
     -- a packet of a share
-    pub fresh_shared : (n : ℕ) (home : Bool) (q : ℕ) → w.link p y ≡ New (Shared_on n home q) ∷ rest → same_unit (S.packet_unit q) u ≡ true → Where_all S A laws u w k → S.B.at u (if home then (w.inst y).live else w.standby y) ≡ fold S.F None (done_u S u w.done)
+    pub fresh_shared : (n : ℕ) (home : Bool) (q : ℕ) → w.link p y ≡ New (Shared_on n home q) ∷ rest → same_unit (S.packet_unit q) u ≡ true
+        → WhereAll S A laws u w k → S.B.at u (if home then (w.inst y).live else w.standby y) ≡ fold S.F None (done_u S u w.done)
     fresh_shared n home q waits on h = table_seen S A laws u ok w k g p y rest y0 y1 h n home q waits on ∙ fold_done S A laws u None w.done

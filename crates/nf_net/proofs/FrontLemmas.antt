@@ -1,5 +1,6 @@
 -- Of two fronts of what was processed of a unit the newer record is that of the longer, and equal records are those of one front.
-use Rattle.std.proofs.Common.{◌≡◌, ℕ, ◌+◌, ◌<◌, ◌≤◌, Bool, true, false, Option, Some, None, List, [], ◌∷◌, ◌++◌, length, length-append, append_assoc, append-nil, refl, sym, ap, ◌∙◌, arith}
+use Rattle.std.proofs.Common.{◌≡◌, ℕ, ◌+◌, ◌<◌, ◌≤◌, Bool, true, false, Option, Some, None, List, [], ◌∷◌}
+use Rattle.std.proofs.Common.{◌++◌, length, length-append, append_assoc, append-nil, refl, sym, ap, ◌∙◌, arith}
 use Rattle.std.specs.Prelude.{if◌then◌else◌, nat_le}
 use Rattle.std.specs.Cmp.{nat_cmp_is}
 use Rattle.std.specs.Cmp.Lexicographic.{slice_cmp}
@@ -15,7 +16,7 @@ use Rattle.nf_msgs.specs.declared.msg.Msg.{Msg}
 use Rattle.net_world.specs.declared.config.Config.{Config}
 use Rattle.net_world.specs.Input.{packet_numbered, most_counted, IsInput}
 use Rattle.net_world.specs.Fold.{IsFront, fold}
-use Rattle.whole_joined.proofs.StartJoined.{all_fit}
+use Rattle.proof_outlines.proofs.joined.StartJoined.{all_fit}
 
 -- Fronts.
 pub front_same : (xs : List ℕ) → IsFront xs xs
@@ -63,7 +64,8 @@ module _ {R : Type 0} (f : Semantics R) where
   fewer_older a b fewer = sym (ap (by_packets a b) (nat_cmp_is (f.packets_of a) (f.packets_of b) Less fewer))
 
   -- the newer of what is held and what comes, where what comes has no fewer packets
-  coming_newest : (held coming : Option R) → packets_in f held ≤ packets_in f coming → (packets_in f held ≡ packets_in f coming → held ≡ coming) → either (newest f) held coming ≡ coming
+  coming_newest : (held coming : Option R) → packets_in f held ≤ packets_in f coming → (packets_in f held ≡ packets_in f coming → held ≡ coming)
+      → either (newest f) held coming ≡ coming
   coming_newest None None few same = refl
   coming_newest None (Some b) few same = refl
   coming_newest (Some a) None few same = same (omega (arith, few))
@@ -88,7 +90,8 @@ module _ {R : Type 0} (f : Semantics R) where
     kept_of ps = fold f c items None ps
 
     -- a fold counts its packets
-    fold_counts : (kept : Option R) (ps : List ℕ) → packets_in f kept + length ps ≤ most_counted → packets_in f (fold f c items kept ps) ≡ packets_in f kept + length ps
+    fold_counts : (kept : Option R) (ps : List ℕ) → packets_in f kept + length ps ≤ most_counted
+        → packets_in f (fold f c items kept ps) ≡ packets_in f kept + length ps
     fold_counts kept [] room = omega arith
     fold_counts kept (p ∷ ps) room =
         let transport = (all_fit f c items is p).transport in
@@ -113,6 +116,7 @@ module _ {R : Type 0} (f : Semantics R) where
         pub front : List ℕ
         pub is_front : IsFront front all
         pub behind : IsFront xs front
+        pub since : IsFront ys front
         pub kept : either (newest f) (kept_of xs) (kept_of ys) ≡ kept_of front
 
       -- the newer of two records is that of the longer front
@@ -132,8 +136,15 @@ module _ {R : Type 0} (f : Semantics R) where
                 front = ys;
                 is_front = g;
                 behind = shorter xs ys all h g short;
+                since = front_same ys;
                 kept = coming_newest (kept_of xs) (kept_of ys) (omega (arith, a, b, short)) (λ same. ap kept_of (one_length xs ys all h g (sym a ∙ same ∙ b)));
               }
           by_length false off =
               let long : length ys < length xs = grind (arith, nat_tests, off) in
-              record { front = xs; is_front = h; behind = front_same xs; kept = held_newest (kept_of xs) (kept_of ys) (omega (arith, a, b, long)) }
+              record {
+                front = xs;
+                is_front = h;
+                behind = front_same xs;
+                since = shorter ys xs all g h (omega (arith, long));
+                kept = held_newest (kept_of xs) (kept_of ys) (omega (arith, a, b, long));
+              }

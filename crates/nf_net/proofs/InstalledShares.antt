@@ -1,6 +1,7 @@
 -- What the log of every run says of shares: the home of the share that has a unit owns it for good; and a share that the switch installs has begun,
 -- and isn't answered before, if its home owns a unit that it takes.
-use Rattle.std.proofs.Common.{◌≡◌, ℕ, zero, suc, ◌+◌, ◌≤◌, true, false, Option, Some, None, List, [], ◌∷◌, ◌++◌, length, append-nil, refl, sym, ap, ◌∙◌, subst, arith}
+use Rattle.std.proofs.Common.{◌≡◌, ℕ, zero, suc, ◌+◌, ◌≤◌, true, false, Option, Some, None, List}
+use Rattle.std.proofs.Common.{[], ◌∷◌, ◌++◌, length, append-nil, refl, sym, ap, ◌∙◌, subst, arith}
 use Rattle.std.specs.Option.{option_or}
 use Rattle.std.specs.declared.alloc.Global.{Global}
 use Rattle.flow_filter.specs.declared.filter.Filter.{Filter}
@@ -17,45 +18,46 @@ use Rattle.switch_node.specs.Switch.{switch_step}
 use Rattle.ctrl_node.specs.declared.operation.Operation.TheVariants.{Share}
 use Rattle.ctrl_node.specs.Controller.{controller_step}
 use Rattle.actor_net.specs.declared.choice.Choice.{Choice}
-use Rattle.actor_net.specs.Network.{Network, IsRun, run, taken, waiting}
+use Rattle.actor_net.specs.Network.{Network, IsRun, run, world_next, queue_at}
 use Rattle.actor_net.proofs.EnabledChoices.{at as at_node}
 use Rattle.actor_net.proofs.RunInduction.{Taking}
 use Rattle.actor_net.proofs.StepOutcome.{taken_outcome}
-use Rattle.unit_machine.proofs.Real as real
-use Rattle.unit_machine.proofs.Rests.{behind_nil}
-use Rattle.abstract_net.proofs.Net as net
-use Rattle.abstract_net.proofs.Elsewhere.{where_two}
-use Rattle.abstract_net.proofs.GlobalAll.{Of_share}
-use Rattle.abstract_net.proofs.NewMessages.{new_head}
-use Rattle.abstract_net.proofs.Shares.{Any, Old, S_install, moves_of}
-use Rattle.abstract_net.proofs.UnderStarts.{seeing}
-use Rattle.whole_net.proofs.UnderMoves.{no_change}
-use Rattle.whole_net.proofs.WhereAll.{Where_all, Apart_from_shares, Under_share}
+use Rattle.proof_machines.proofs.unit.Real as real
+use Rattle.proof_machines.proofs.unit.Rests.{behind_nil}
+use Rattle.proof_machines.proofs.net.Net as net
+use Rattle.proof_machines.proofs.net.Elsewhere.{where_two}
+use Rattle.proof_machines.proofs.net.GlobalAll.{OfShare}
+use Rattle.proof_machines.proofs.net.NewMessages.{new_head}
+use Rattle.proof_machines.proofs.net.Shares.{Any, Old, S_install, moves_of}
+use Rattle.proof_machines.proofs.net.UnderStarts.{seeing}
+use Rattle.proof_machines.proofs.whole.UnderMoves.{no_change}
+use Rattle.proof_machines.proofs.whole.WhereAll.{WhereAll, Apart_from_shares, Under_share}
 use Rattle.net_world.specs.declared.config.Config.{Config}
 use Rattle.net_world.specs.declared.node.Node.{Node}
-use Rattle.net_world.specs.Commands.{began, has_answered, times_installed}
+use Rattle.net_world.specs.Commands.{is_begun, has_answered, times_installed}
 use Rattle.net_world.specs.Input.{IsInput, order_numbered}
-use Rattle.net_world.specs.Log.{installed}
+use Rattle.net_world.specs.Log.{installs_in}
 use Rattle.net_world.specs.Nodes.{node_step, node_ready}
-use Rattle.net_world.specs.Places.{first_owner, handed_on, owner_after, is_home, shared_among, members_after, owner, members}
-use Rattle.outline_net.proofs.FiltersApart.{is_whole, unit_fits, takes_whole, takes_same}
-use Rattle.outline_net.proofs.Outline.{is_sys}
-use Rattle.whole_outline.proofs.OpenShares.{real_share}
-use Rattle.whole_joined.proofs.BesideRuns.{its_takes, its_taken}
-use Rattle.whole_joined.proofs.Given.{Given, place}
-use Rattle.whole_joined.proofs.HandedUnits.{owner_next}
-use Rattle.whole_joined.proofs.Joined.{S, A, Joined, came_by, Scene, IsTaken, node_of}
-use Rattle.whole_joined.proofs.JoinedSteps.{scene}
-use Rattle.whole_joined.proofs.NodeSteps.{Wants, node_leads}
-use Rattle.whole_joined.proofs.OperationsApart.{AllApart}
-use Rattle.whole_joined.proofs.OwnerLemmas.{installed-append, installed_same, installed_quiet, installed_none, Stands, In_first, In_second, stands}
-use Rattle.whole_joined.proofs.PlaceNotes.{instance_quiet, controller_uninstalled}
-use Rattle.whole_joined.proofs.RunsJoined.{Runs, run_beside}
-use Rattle.whole_joined.proofs.StartJoined.{given, all_fit}
-use Rattle.answer_net.proofs.BusyRuns.{Busy, open_began}
-use Rattle.answer_net.proofs.CommandPromises.{run_busy}
-use Rattle.answer_net.proofs.InstallRuns.{Installs, run_installs}
-use Rattle.nf_net.proofs.MemberLemmas.{Shares_it, shares_it, members-append}
+use Rattle.net_world.specs.Places.{first_owner, owner_after_order, owner_after, is_home, shared_among, members_after, owner, members}
+use Rattle.net_world.proofs.LogLemmas.{installed-append}
+use Rattle.proof_outlines.proofs.outline.FiltersApart.{is_whole, unit_fits, takes_whole, takes_same}
+use Rattle.proof_outlines.proofs.outline.Outline.{is_sys}
+use Rattle.proof_outlines.proofs.whole.OpenShares.{real_share}
+use Rattle.proof_outlines.proofs.joined.BesideRuns.{its_takes, its_taken}
+use Rattle.proof_outlines.proofs.joined.Given.{Given, place}
+use Rattle.proof_outlines.proofs.joined.HandedUnits.{owner_next}
+use Rattle.proof_outlines.proofs.joined.Joined.{S, A, Joined, came_by, Scene, IsTaken, node_of}
+use Rattle.proof_outlines.proofs.joined.JoinedSteps.{scene}
+use Rattle.proof_outlines.proofs.joined.NodeSteps.{Wants, node_leads}
+use Rattle.proof_outlines.proofs.joined.OperationsApart.{AllApart}
+use Rattle.proof_outlines.proofs.joined.OwnerLemmas.{installed_same, installed_quiet, installed_none, Stands, In_first, In_second, stands}
+use Rattle.proof_outlines.proofs.joined.PlaceNotes.{instance_quiet, controller_uninstalled}
+use Rattle.proof_outlines.proofs.joined.RunsJoined.{Runs, run_beside}
+use Rattle.proof_outlines.proofs.joined.StartJoined.{given, all_fit}
+use Rattle.nf_net.proofs.answers.BusyRuns.{Busy, open_began}
+use Rattle.nf_net.proofs.answers.CommandPromises.{run_busy}
+use Rattle.nf_net.proofs.answers.InstallRuns.{Installs, run_installs}
+use Rattle.nf_net.proofs.MemberLemmas.{SharesIt, shares_it, members-append}
 use Rattle.nf_net.proofs.RuleSteps.{Changed, No_rule, Moves_on, Diverts, changed}
 use Rattle.nf_net.proofs.RunKeeps.{start, count, run_keeps}
 use Rattle.nf_net.proofs.UnitShares.{members_go, set_up_installed}
@@ -73,8 +75,9 @@ alone x y [] back e = let same : x ≡ y = cc in let none : [] ≡ back = cc in 
 alone x y (z ∷ []) back e = cc
 alone x y (z ∷ (v ∷ front)) back e = cc
 
-installed_nowhere : (notes cs back : List Note) (op : ℕ) → installed notes ≡ [] → notes ≡ cs ++ note.Installed op ∷ back → ⊥
-installed_nowhere notes cs back op none e = behind_nil (installed cs) op (installed back) (sym (sym none ∙ ap installed e ∙ installed-append cs (note.Installed op ∷ back)))
+installed_nowhere : (notes cs back : List Note) (op : ℕ) → installs_in notes ≡ [] → notes ≡ cs ++ note.Installed op ∷ back → ⊥
+installed_nowhere notes cs back op none e =
+    behind_nil (installs_in cs) op (installs_in back) (sym (sym none ∙ ap installs_in e ∙ installed-append cs (note.Installed op ∷ back)))
 
 abbrev op_in : ℕ → Note → ℕ
 op_in d (note.Installed op) = op
@@ -83,57 +86,71 @@ op_in d n = d
 module _ {R : Type 0} (f : Semantics R) (c : Config) (items : List Msg) where
   -- where the switch installs a share: the log up to there
   pub record IsInstalledShare (first : List Note) (op : ℕ) (ms : List (List ℕ)) (filter : Filter) : Type 0 where
-    pub begun : began op first ≡ true
-    pub set_up : (u : units.Unit) → unit_fits f.kind u ≡ true → takes filter u ≡ true → is_home c.names (order_numbered items) ms (owner c items u first) ≡ true → has_answered op first ≡ true → 1 ≤ times_installed op first
+    pub begun : is_begun op first ≡ true
+    pub set_up : (u : units.Unit) → unit_fits f.kind u ≡ true → takes filter u ≡ true
+        → is_home c.names (order_numbered items) ms (owner c items u first) ≡ true → has_answered op first ≡ true → 1 ≤ times_installed op first
 
   pub record SaysOfShares (log : List Note) : Type 0 where
-    pub homes : (u : units.Unit) → unit_fits f.kind u ≡ true → (ms : List (List ℕ)) → members c items u log ≡ Some ms → is_home c.names (order_numbered items) ms (owner c items u log) ≡ true
-    pub installs : (first rest : List Note) (op : ℕ) (ms : List (List ℕ)) (filter : Filter) → log ≡ first ++ note.Installed op ∷ rest → order_numbered items op ≡ Some (order.Share ms filter) → IsInstalledShare first op ms filter
+    pub homes : (u : units.Unit) → unit_fits f.kind u ≡ true → (ms : List (List ℕ)) → members c items u log ≡ Some ms
+        → is_home c.names (order_numbered items) ms (owner c items u log) ≡ true
+    pub installs : (first rest : List Note) (op : ℕ) (ms : List (List ℕ)) (filter : Filter) → log ≡ first ++ note.Installed op ∷ rest
+        → order_numbered items op ≡ Some (order.Share ms filter) → IsInstalledShare first op ms filter
 
   -- notes of no change of the rules
-  quiet_says : (log notes : List Note) → installed notes ≡ [] → SaysOfShares log → SaysOfShares (log ++ notes)
+  quiet_says : (log notes : List Note) → installs_in notes ≡ [] → SaysOfShares log → SaysOfShares (log ++ notes)
   quiet_says log notes none h = record {
     homes = λ u fits ms e.
         let same = installed_same log notes none in
-        ap (λ ops. is_home c.names (order_numbered items) ms (owner_after c.names (order_numbered items) u (first_owner u c.routes) ops)) same ∙ h.homes u fits ms (ap (members_after c.names (order_numbered items) u (first_owner u c.routes)) (sym same) ∙ e);
+        ap (λ ops. is_home c.names (order_numbered items) ms (owner_after c.names (order_numbered items) u (first_owner u c.routes) ops)) same
+        ∙ h.homes u fits ms (ap (members_after c.names (order_numbered items) u (first_owner u c.routes)) (sym same) ∙ e);
     installs = λ first rest op ms filter e what. by_place first rest op ms filter what (stands log notes first (note.Installed op) rest e);
   }
     where
-      by_place : (first rest : List Note) (op : ℕ) (ms : List (List ℕ)) (filter : Filter) → order_numbered items op ≡ Some (order.Share ms filter) → Stands log notes (record { before = first; item = note.Installed op; after = rest }) → IsInstalledShare first op ms filter
+      by_place : (first rest : List Note) (op : ℕ) (ms : List (List ℕ)) (filter : Filter) → order_numbered items op ≡ Some (order.Share ms filter)
+          → Stands log notes (record { before = first; item = note.Installed op; after = rest }) → IsInstalledShare first op ms filter
       by_place first rest op ms filter what (In_first cs here) = h.installs first cs op ms filter here what
       by_place first rest op ms filter what (In_second cs from there) = absurd (installed_nowhere notes cs rest op none there)
 
   -- a change of the rules
-  module _ (log : List Note) (k : ℕ) (h : SaysOfShares log) (new : (ms : List (List ℕ)) (filter : Filter) → order_numbered items k ≡ Some (order.Share ms filter) → IsInstalledShare log k ms filter) where
-    installs_more : (first rest : List Note) (op : ℕ) (ms : List (List ℕ)) (filter : Filter) → log ++ note.Installed k ∷ [] ≡ first ++ note.Installed op ∷ rest → order_numbered items op ≡ Some (order.Share ms filter) → IsInstalledShare first op ms filter
+  module _ (log : List Note) (k : ℕ) (h : SaysOfShares log)
+      (new : (ms : List (List ℕ)) (filter : Filter) → order_numbered items k ≡ Some (order.Share ms filter) → IsInstalledShare log k ms filter) where
+    installs_more : (first rest : List Note) (op : ℕ) (ms : List (List ℕ)) (filter : Filter)
+        → log ++ note.Installed k ∷ [] ≡ first ++ note.Installed op ∷ rest → order_numbered items op ≡ Some (order.Share ms filter)
+        → IsInstalledShare first op ms filter
     installs_more first rest op ms filter e what = by_place (stands log (note.Installed k ∷ []) first (note.Installed op) rest e)
       where
         by_alone : (cs : List Note) → first ≡ log ++ cs → Alone (note.Installed k) (note.Installed op) cs rest → IsInstalledShare first op ms filter
         by_alone cs from (Is_it same none last) =
             let op_is : k ≡ op = ap (op_in 0) same in
             let at : log ≡ first = sym (from ∙ ap (λ xs. log ++ xs) none ∙ append-nil log) in
-            subst (λ xs. IsInstalledShare xs op ms filter) at (subst (λ q. IsInstalledShare log q ms filter) op_is (new ms filter (ap (order_numbered items) op_is ∙ what)))
+            subst (λ xs. IsInstalledShare xs op ms filter) at
+            (subst (λ q. IsInstalledShare log q ms filter) op_is (new ms filter (ap (order_numbered items) op_is ∙ what)))
 
         by_place : Stands log (note.Installed k ∷ []) (record { before = first; item = note.Installed op; after = rest }) → IsInstalledShare first op ms filter
         by_place (In_first cs here) = h.installs first cs op ms filter here what
         by_place (In_second cs from there) = by_alone cs from (alone (note.Installed k) (note.Installed op) cs rest there)
 
-module _ {F R : Type 0} (f : Semantics R) (c : Config) (items : List Msg) (is : IsInput f.kind c items) (n : ℕ) (count_is : n ≡ length c.names + 2) (w : Network (Node F R) Msg Note) (j : Joined f (given f c items is) n w) (apart : AllApart j.nodes.controller.operations) (b : Busy (given f c items is) w) (i : Installs (given f c items is) w) (h : SaysOfShares f c items w.log) where
+module _ {F R : Type 0} (f : Semantics R) (c : Config) (items : List Msg) (is : IsInput f.kind c items) (n : ℕ) (count_is : n ≡ length c.names + 2)
+    (w : Network (Node F R) Msg Note) (j : Joined f (given f c items is) n w) (apart : AllApart j.nodes.controller.operations)
+    (b : Busy (given f c items is) w) (i : Installs (given f c items is) w) (h : SaysOfShares f c items w.log) where
   abbrev g : Given
   g = given f c items is
 
   -- the members of a unit after a change more
-  members_next : (u : units.Unit) (k : ℕ) → members c items u (w.log ++ note.Installed k ∷ []) ≡ option_or (members c items u w.log) (shared_among c.names (order_numbered items) u (order_numbered items k) (owner c items u w.log))
+  members_next : (u : units.Unit) (k : ℕ) → members c items u (w.log ++ note.Installed k ∷ [])
+      ≡ option_or (members c items u w.log) (shared_among c.names (order_numbered items) u (order_numbered items k) (owner c items u w.log))
   members_next u k =
       ap (members_after c.names (order_numbered items) u (first_owner u c.routes)) (installed-append w.log (note.Installed k ∷ []))
-      ∙ members-append g u (first_owner u c.routes) (installed w.log) (k ∷ [])
+      ∙ members-append g u (first_owner u c.routes) (installs_in w.log) (k ∷ [])
       ∙ ap (option_or (members c items u w.log)) (none_or (shared_among c.names (order_numbered items) u (order_numbered items k) (owner c items u w.log)))
 
   -- a move takes no unit that a share has
-  not_moved : (u : units.Unit) → unit_fits f.kind u ≡ true → (ms : List (List ℕ)) → members c items u w.log ≡ Some ms → (k : ℕ) (filter : Filter) (from dst : ℕ) (rest : List (Any R)) → is_whole f.kind filter ≡ true → j.world.link 1 0 ≡ Old (net.Mv filter (real.M_install k from dst)) ∷ rest → takes filter u ≡ false
+  not_moved : (u : units.Unit) → unit_fits f.kind u ≡ true → (ms : List (List ℕ)) → members c items u w.log ≡ Some ms
+      → (k : ℕ) (filter : Filter) (from dst : ℕ) (rest : List (Any R)) → is_whole f.kind filter ≡ true
+      → j.world.link 1 0 ≡ Old (net.Mv filter (real.M_install k from dst)) ∷ rest → takes filter u ≡ false
   not_moved u fits ms e k filter from dst rest whole waits = sym (takes_same f.kind filter u whole fits) ∙ by_where (j.shown_is.every.unit u)
     where
-      by_where : Where_all (S f g) (A f g) (is_sys f g.site g.packet) u j.world (came_by f g w.log u) → takes_whole f.kind filter u ≡ false
+      by_where : WhereAll (S f g) (A f g) (is_sys f g.site g.packet) u j.world (came_by f g w.log u) → takes_whole f.kind filter u ≡ false
       by_where (Apart_from_shares q none) =
           let two = where_two (S f g) (is_sys f g.site g.packet) u (moves_of (S f g) (A f g) j.world) _ _ q.is in
           let one = members_go f c items is n w j u fits ms e in
@@ -141,52 +158,68 @@ module _ {F R : Type 0} (f : Semantics R) (c : Config) (items : List Msg) (is : 
       by_where (Under_share x before d q o m) = no_change (S f g) (A f g) (seeing (S f g) (A f g) u x) j.world before _ q k from dst filter rest waits
 
   -- the same owner and members, or the first ones
-  module _ (k : ℕ) (u : units.Unit) (fits : unit_fits f.kind u ≡ true) (ms : List (List ℕ)) (e : members c items u (w.log ++ note.Installed k ∷ []) ≡ Some ms) where
-    home_by : (stays : (old : List (List ℕ)) → members c items u w.log ≡ Some old → handed_on c.names (order_numbered items) u (order_numbered items k) (owner c items u w.log) ≡ owner c items u w.log) (begins : Shares_it g u (order_numbered items k) (owner c items u w.log) ms → handed_on c.names (order_numbered items) u (order_numbered items k) (owner c items u w.log) ≡ owner c items u w.log) → is_home c.names (order_numbered items) ms (owner c items u (w.log ++ note.Installed k ∷ [])) ≡ true
+  module _ (k : ℕ) (u : units.Unit) (fits : unit_fits f.kind u ≡ true) (ms : List (List ℕ))
+      (e : members c items u (w.log ++ note.Installed k ∷ []) ≡ Some ms) where
+    home_by : (stays : (old : List (List ℕ)) → members c items u w.log ≡ Some old
+        → owner_after_order c.names (order_numbered items) u (order_numbered items k) (owner c items u w.log) ≡ owner c items u w.log)
+        (begins : SharesIt g u (order_numbered items k) (owner c items u w.log) ms
+        → owner_after_order c.names (order_numbered items) u (order_numbered items k) (owner c items u w.log) ≡ owner c items u w.log)
+        → is_home c.names (order_numbered items) ms (owner c items u (w.log ++ note.Installed k ∷ [])) ≡ true
     home_by stays begins = by_old (members c items u w.log) refl (sym (members_next u k) ∙ e)
       where
         i' : ℕ
         i' = owner c items u w.log
 
-        at_owner : handed_on c.names (order_numbered items) u (order_numbered items k) i' ≡ i' → is_home c.names (order_numbered items) ms i' ≡ true → is_home c.names (order_numbered items) ms (owner c items u (w.log ++ note.Installed k ∷ [])) ≡ true
+        at_owner : owner_after_order c.names (order_numbered items) u (order_numbered items k) i' ≡ i' → is_home c.names (order_numbered items) ms i' ≡ true
+            → is_home c.names (order_numbered items) ms (owner c items u (w.log ++ note.Installed k ∷ [])) ≡ true
         at_owner same on = ap (is_home c.names (order_numbered items) ms) (owner_next g u w.log k ∙ same) ∙ on
 
-        by_old : (o : Option (List (List ℕ))) → members c items u w.log ≡ o → option_or o (shared_among c.names (order_numbered items) u (order_numbered items k) i') ≡ Some ms → is_home c.names (order_numbered items) ms (owner c items u (w.log ++ note.Installed k ∷ [])) ≡ true
+        by_old : (o : Option (List (List ℕ))) → members c items u w.log ≡ o
+            → option_or o (shared_among c.names (order_numbered items) u (order_numbered items k) i') ≡ Some ms
+            → is_home c.names (order_numbered items) ms (owner c items u (w.log ++ note.Installed k ∷ [])) ≡ true
         by_old (Some old) at found = let same : old ≡ ms = cc in at_owner (stays old at) (h.homes u fits ms (at ∙ ap Some same))
         by_old None at found = let its = shares_it g u (order_numbered items k) i' ms found in at_owner (begins its) its.home
 
   -- a step of the switch
-  module _ (p : ℕ) (m : Msg) (it : IsTaken f g n (record { nodes = j.nodes; world = j.world; log = w.log; input = waiting w (at_node 0 0) }) (record { node = 0; port = p; message = m })) where
+  module _ (p : ℕ) (m : Msg) (it : IsTaken f g n (record { nodes = j.nodes; world = j.world; log = w.log; input = queue_at w (at_node 0 0) })
+      (record { node = 0; port = p; message = m })) where
     abbrev here : Scene F f g
-    here = record { nodes = j.nodes; world = j.world; log = w.log; input = waiting w (at_node 0 0) }
+    here = record { nodes = j.nodes; world = j.world; log = w.log; input = queue_at w (at_node 0 0) }
 
     says_after : Changed f g n here j.shown_is p m it → SaysOfShares f c items (w.log ++ (switch_step j.nodes.switch m).notes)
     says_after (No_rule none) = quiet_says f c items w.log (switch_step j.nodes.switch m).notes none h
     says_after (Moves_on k filter from dst rest noted its whole waits) = subst (λ ns. SaysOfShares f c items (w.log ++ ns)) (sym noted) (record {
-      homes = λ u fits ms e. home_by k u fits ms e (λ old at. unmoved u (not_moved u fits old at k filter (instance_node from) (instance_node dst) rest whole waits)) (λ s. let never = sym order_is ∙ s.order_is in cc);
+      homes = λ u fits ms e. home_by k u fits ms e (λ old at. unmoved u
+          (not_moved u fits old at k filter (instance_node from) (instance_node dst) rest whole waits)) (λ s. let never = sym order_is ∙ s.order_is in cc);
       installs = installs_more f c items w.log k h (λ ms flt what. let never = sym order_is ∙ what in cc);
     })
       where
         order_is : order_numbered items k ≡ Some (order.Move its.plan_is.source its.plan_is.destination filter its.plan.keep)
         order_is = its.plan_is.order_is ∙ ap (λ y. Some (order.Move its.plan_is.source its.plan_is.destination y its.plan.keep)) its.filter_is
 
-        unmoved : (u : units.Unit) → takes filter u ≡ false → handed_on c.names (order_numbered items) u (order_numbered items k) (owner c items u w.log) ≡ owner c items u w.log
+        unmoved : (u : units.Unit) → takes filter u ≡ false
+            → owner_after_order c.names (order_numbered items) u (order_numbered items k) (owner c items u w.log) ≡ owner c items u w.log
         unmoved u off = let what = order_is in rw (what, off) refl
     says_after (Diverts k filter from rest noted its whole waits) = subst (λ ns. SaysOfShares f c items (w.log ++ ns)) (sym noted) (record {
       homes = λ u fits ms e. home_by k u fits ms e (λ old at. unmoved u) (λ s. unmoved u);
-      installs = installs_more f c items w.log k h (λ ms flt what. record { begun = begun; set_up = λ u fits on home answered. set_up_installed f c items is n count_is w j apart b u fits i k ms flt what on home answered begun });
+      installs = installs_more f c items w.log k h (λ ms flt what. record {
+        begun = begun;
+        set_up = λ u fits on home answered. set_up_installed f c items is n count_is w j apart b u fits i k ms flt what on home answered begun;
+      });
     })
       where
-        unmoved : (u : units.Unit) → handed_on c.names (order_numbered items) u (order_numbered items k) (owner c items u w.log) ≡ owner c items u w.log
+        unmoved : (u : units.Unit) → owner_after_order c.names (order_numbered items) u (order_numbered items k) (owner c items u w.log) ≡ owner c items u w.log
         unmoved u = let what = its.order_is in rw what refl
 
-        begun : began k w.log ≡ true
+        begun : is_begun k w.log ≡ true
         begun =
-            let of = new_head (λ r m. Of_share (S f g) j.world.shares r m) j.world.link j.shown_is.every.global.messages 1 0 (S_install k filter (instance_node from)) rest refl waits in
+            let of = new_head (λ r m. OfShare (S f g) j.world.shares r m) j.world.link j.shown_is.every.global.messages 1 0
+            (S_install k filter (instance_node from)) rest refl waits in
             let s = real_share f (place g) g.site j.world.ops j.world.shares j.nodes.controller k of.share j.shown_is.controller.opens of.found in
             open_began f g n count_is w j b k (Share s.s) s.there
 
-module _ (F : Type 0) {R : Type 0} (f : Semantics R) (laws : FunctionLaws f) (alloc : Global) (c : Config) (items : List Msg) (is : IsInput f.kind c items) where
+module _ (F : Type 0) {R : Type 0} (f : Semantics R) (laws : FunctionLaws f) (alloc : Global) (c : Config) (items : List Msg)
+    (is : IsInput f.kind c items) where
   abbrev gr : Given
   gr = given f c items is
 
@@ -197,13 +230,19 @@ module _ (F : Type 0) {R : Type 0} (f : Semantics R) (laws : FunctionLaws f) (al
   first = start F f laws alloc c items is
 
   module _ (w : Network (Node F R) Msg Note) (r : Runs F f laws alloc c items is w) (b : Busy gr w) (i : Installs gr w) (h : SaysOfShares f c items w.log) where
-    step_says : (k p : ℕ) (m : Msg) → IsTaken f gr n (scene f gr n refl (Wants f gr) (node_leads f laws gr (all_fit f c items is) n) w r.joined) (record { node = k; port = p; message = m }) → SaysOfShares f c items (w.log ++ (node_step f (node_of r.joined.nodes k) p m).notes)
+    step_says : (k p : ℕ) (m : Msg) → IsTaken f gr n (scene f gr n refl (Wants f gr) (node_leads f laws gr (all_fit f c items is) n) w r.joined)
+        (record { node = k; port = p; message = m })
+        → SaysOfShares f c items (w.log ++ (node_step f (node_of r.joined.nodes k) p m).notes)
     step_says zero p m it = says_after f c items is n refl w r.joined r.beside.kept.apart b i h p m it (changed f gr n _ r.joined.shown_is p m it)
-    step_says (suc zero) p m it = quiet_says f c items w.log (controller_step r.joined.nodes.controller p m).notes (installed_none _ (controller_uninstalled r.joined.nodes.controller p m)) h
-    step_says (suc (suc y)) p m it = quiet_says f c items w.log (node_step f (node_of r.joined.nodes (suc (suc y))) p m).notes (installed_quiet (r.joined.nodes.instance (suc (suc y))).index _ (instance_quiet f (r.joined.nodes.instance (suc (suc y))) m)) h
+    step_says (suc zero) p m it = quiet_says f c items w.log (controller_step r.joined.nodes.controller p m).notes
+        (installed_none _ (controller_uninstalled r.joined.nodes.controller p m)) h
+    step_says (suc (suc y)) p m it = quiet_says f c items w.log (node_step f (node_of r.joined.nodes (suc (suc y))) p m).notes
+        (installed_quiet (r.joined.nodes.instance (suc (suc y))).index _ (instance_quiet f (r.joined.nodes.instance (suc (suc y))) m)) h
 
-    next_says : (d : Choice) → Taking node_ready (node_step f) n w d → SaysOfShares f c items (taken (node_step f) w d).log
-    next_says d t = subst (SaysOfShares f c items) (sym (taken_outcome (node_step f) n w d.node d.port (node_of r.joined.nodes d.node) t.message t.rest (its_takes f laws gr (all_fit f c items is) n refl w d t r.joined r.beside)).log) (step_says d.node d.port t.message (its_taken f laws gr (all_fit f c items is) n refl w d t r.joined r.beside))
+    next_says : (d : Choice) → Taking node_ready (node_step f) n w d → SaysOfShares f c items (world_next (node_step f) w d).log
+    next_says d t = subst (SaysOfShares f c items) (sym (taken_outcome (node_step f) n w d.node d.port (node_of r.joined.nodes d.node) t.message t.rest
+        (its_takes f laws gr (all_fit f c items is) n refl w d t r.joined r.beside)).log)
+        (step_says d.node d.port t.message (its_taken f laws gr (all_fit f c items is) n refl w d t r.joined r.beside))
 
   says_at_start : SaysOfShares f c items []
   says_at_start = record {
@@ -216,4 +255,6 @@ module _ (F : Type 0) {R : Type 0} (f : Semantics R) (laws : FunctionLaws f) (al
       nowhere (x ∷ before) rest op e = cc
 
   pub says_of_shares : (cs : List Choice) → IsRun node_ready (node_step f) cs first → SaysOfShares f c items (run (node_step f) cs first).log
-  says_of_shares cs run_is = run_keeps F f laws alloc c items is (λ w. SaysOfShares f c items w.log) says_at_start (λ ds ok d t h. next_says (run (node_step f) ds first) (run_beside F f laws alloc c items is ds ok) (run_busy F f laws alloc c items is ds ok).1 (run_installs F f laws alloc c items is ds ok) h d t) cs run_is
+  says_of_shares cs run_is = run_keeps F f laws alloc c items is (λ w. SaysOfShares f c items w.log) says_at_start
+      (λ ds ok d t h. next_says (run (node_step f) ds first) (run_beside F f laws alloc c items is ds ok) (run_busy F f laws alloc c items is ds ok).1
+      (run_installs F f laws alloc c items is ds ok) h d t) cs run_is

@@ -1,5 +1,5 @@
 -- The controller's step keeps what is known of open moves and of their answers, asks once for a command's state, and puts one piece of it first.
-use Rattle.std.proofs.Common.{◌≡◌, ℕ, ◌+◌, ◌≤◌, Bool, true, false, cond, Option, Some, None, List, [], ◌∷◌, ◌++◌, refl, sym, ap, ◌∙◌, subst, arith}
+use Rattle.std.proofs.Common.{◌≡◌, ℕ, ◌+◌, ◌≤◌, Bool, true, false, cond, Option, Some, None, List, [], ◌∷◌, ◌++◌, refl, sym, ap, ◌∙◌, subst, arith, map}
 use Rattle.std.specs.Prelude.{if◌then◌else◌, ◌==◌, is_some, option_map, unwrap_or}
 use Rattle.std.specs.List.{filter_map}
 use Rattle.std.specs.Option.{option_or}
@@ -25,28 +25,31 @@ use Rattle.copy_share.specs.Copy.{CopyPlan, CopyState}
 use Rattle.copy_share.specs.Copy as copy
 use Rattle.copy_share.specs.Share.{SharePlan, ShareState}
 use Rattle.copy_share.specs.Share as share
-use Rattle.move_op.specs.Move.{MovePlan, MoveState, MoveRow, row_in, begun, answer_of, destination}
-use Rattle.event_store.specs.Store.{stored}
+use Rattle.move_op.specs.Move.{MovePlan, MoveState, MoveRow, row_in, move_at_start, answer_of, destination}
+use Rattle.event_store.specs.Store.{stored_of}
 use Rattle.ctrl_node.specs.declared.operation.Operation.{Operation}
 use Rattle.ctrl_node.specs.declared.operation.Operation.TheVariants.{Move, Copy, Share}
-use Rattle.ctrl_node.specs.Operations.{OpenOperations, turn_of, moved}
+use Rattle.ctrl_node.specs.Operations.{OpenOperations, turn_of, turn_of_move}
 use Rattle.ctrl_node.specs.Controller as controller
-use Rattle.ctrl_node.specs.Controller.{ControllerState, Step, still, refusal, begins_between, copies_between, begins_share, begins, decided, on_asked, on_diverted, after_turn, takes_turn, handed, numbered, on_event, on_final, instance_at, unknown_name, overlap, may_finish, finished, controller_step}
+use Rattle.ctrl_node.specs.Controller.{ControllerState, Step, still, refusal, move_between, copy_between, share_begin, begin_step}
+use Rattle.ctrl_node.specs.Controller.{decision_step, on_asked, on_diverted, after_turn, takes_turn, hand_step, numbered, on_event}
+use Rattle.ctrl_node.specs.Controller.{on_final, instance_at, unknown_name, overlap, may_finish, step_and_finish, controller_step}
 use Rattle.flow_filter.specs.Name.{place_of}
 use Rattle.actor_net.proofs.WeightLaws.{EachSent, sent_weight}
-use Rattle.net_world.specs.Commands.{began}
+use Rattle.net_world.specs.Commands.{is_begun}
 use Rattle.net_world.specs.Verdicts.{is_refusal}
-use Rattle.outline_net.proofs.OperationTables.{got_insert, got_remove, gone_twice, NotShared}
-use Rattle.answer_net.proofs.ControllerCases.{by_operation, by_queue, by_sender, by_stop}
-use Rattle.answer_net.proofs.ControllerActs.{other_there}
+use Rattle.net_world.proofs.SentMessages.{sent-append}
+use Rattle.proof_outlines.proofs.outline.OperationTables.{got_insert, got_remove, gone_twice, NotShared}
+use Rattle.nf_net.proofs.answers.ControllerCases.{by_operation, by_queue, by_sender, by_stop}
+use Rattle.nf_net.proofs.answers.ControllerActs.{other_there}
 use Rattle.nf_net.proofs.JudgedShares.{handed_shared, queued_shared}
 use Rattle.nf_net.proofs.JudgedTables as tables
 use Rattle.nf_net.proofs.JudgedTables.{used, By_verdict}
-use Rattle.outline_net.proofs.CopyTurns.{copy_turn}
-use Rattle.answer_net.proofs.BusyLemmas.{began_same, first_is}
-use Rattle.answer_net.proofs.CreditCounts.{sent_weight-append}
-use Rattle.nf_net.proofs.MoveJudged.{Said, Knows, answer_known, row_follows, sent-append}
-use Rattle.answer_net.proofs.MoveOnce.{once, spent, spent_few, NoneOnce, no_one, at_most, few_counts, row_spends}
+use Rattle.proof_outlines.proofs.outline.CopyTurns.{copy_turn}
+use Rattle.nf_net.proofs.answers.BusyLemmas.{began_same, first_is}
+use Rattle.nf_net.proofs.answers.CreditCounts.{sent_weight-append}
+use Rattle.nf_net.proofs.MoveJudged.{Said, Knows, answer_known, row_follows}
+use Rattle.nf_net.proofs.answers.MoveOnce.{once, spent, spent_few, NoneOnce, no_one, at_most, few_counts, row_spends}
 
 -- a refusal
 refused_is : (u : Option (List ℕ)) (q : Option ℕ) (a : Answer) → option_or (option_map Unknown u) (option_map Overlap q) ≡ Some a → is_refusal a ≡ true
@@ -56,14 +59,15 @@ refused_is None None a is = cc
 
 -- a command that a message brings didn't begin
 abbrev pub IsNew : List Note → Msg → Type 0
-IsNew log (msg.Asked a) = began a.op log ≡ false
+IsNew log (msg.Asked a) = is_begun a.op log ≡ false
 IsNew log m = Unit {0}
 
 abbrev move_in : MoveState → Option Operation → MoveState
 move_in d (Some (Move m)) = m
 move_in d o = d
 
-module _ (Part : ℕ → Piece → Type 0) (Verdict : ℕ → Answer → Type 0) (Goes : ℕ → ℕ → Type 0) (Still : ℕ → Type 0) (log : List Note) (n : ℕ) (c : ControllerState) where
+module _ (Part : ℕ → Piece → Type 0) (Verdict : ℕ → Answer → Type 0) (Goes : ℕ → ℕ → Type 0) (Still : ℕ → Type 0) (log : List Note) (n : ℕ)
+    (c : ControllerState) where
   abbrev IsFound : ℕ → Answer → Type 0
   IsFound = tables.IsFound Part Verdict Goes Still log n c
 
@@ -74,16 +78,21 @@ module _ (Part : ℕ → Piece → Type 0) (Verdict : ℕ → Answer → Type 0)
   StepIs = tables.StepIs Part Verdict Goes Still log n c
 
   -- the finish behind all else
-  finished_is : (did : Step) → StepIs did → StepIs (finished did)
+  finished_is : (did : Step) → StepIs did → StepIs (step_and_finish did)
   finished_is did h = by_finish (may_finish did.node)
     where
-      by_finish : (b : Bool) → StepIs (record { node = if b then record did.node { finish_sent = true } else did.node; sends = did.sends ++ (if b then (0, msg.Finish) ∷ [] else []); notes = did.notes })
+      by_finish : (b : Bool) → StepIs (record {
+        node = if b then record did.node { finish_sent = true } else did.node;
+        sends = did.sends ++ (if b then (0, msg.Finish) ∷ [] else []);
+        notes = did.notes;
+      })
       by_finish true = record {
         knows = h.knows;
         says = sent-append (Said Part Verdict Goes) 1 did.sends ((0, msg.Finish) ∷ []) h.says (tt, tt);
         found = h.found;
         own = h.own;
-        once = λ op first. (let both = sent_weight-append (once first op) n 1 did.sends ((0, msg.Finish) ∷ []) in let none = no_one n 1 first 0 msg.Finish (λ y. refl) op in let own = h.once op first in omega (arith, both, none, own));
+        once = λ op first. (let both = sent_weight-append (once first op) n 1 did.sends ((0, msg.Finish) ∷ []) in
+            let none = no_one n 1 first 0 msg.Finish (λ y. refl) op in let own = h.once op first in omega (arith, both, none, own));
       }
       by_finish false = record {
         knows = h.knows;
@@ -94,7 +103,8 @@ module _ (Part : ℕ → Piece → Type 0) (Verdict : ℕ → Answer → Type 0)
       }
 
   module _ (knows : AllKnow c.operations) where
-    quiet_is : (s : ControllerState) (sends : List (ℕ × Msg)) → s.operations ≡ c.operations → EachSent (Said Part Verdict Goes) 1 sends → ((first : Bool) → NoneOnce n 1 first sends) → StepIs (record { node = s; sends = sends; notes = [] })
+    quiet_is : (s : ControllerState) (sends : List (ℕ × Msg)) → s.operations ≡ c.operations → EachSent (Said Part Verdict Goes) 1 sends
+        → ((first : Bool) → NoneOnce n 1 first sends) → StepIs (record { node = s; sends = sends; notes = [] })
     quiet_is = tables.quiet_is Part Verdict Goes Still log n c knows
 
     still_is : StepIs (still c)
@@ -104,12 +114,17 @@ module _ (Part : ℕ → Piece → Type 0) (Verdict : ℕ → Answer → Type 0)
     knows_insert : (op : ℕ) (m : MoveState) → Knows Part Verdict Goes op m.phase → AllKnow (finite.insert c.operations op (Move m))
     knows_insert op m h k x there =
         elim (k == op) as (λ b. (k == op) ≡ b → cond b (Some (Move m)) (finite.get c.operations k) ≡ Some (Move x) → Knows Part Verdict Goes k x.phase) [
-          | true ↦ λ on e. subst (λ j. Knows Part Verdict Goes j x.phase) (sym ((Decides-eqb k op).0 on)) (subst (λ y. Knows Part Verdict Goes op y.phase) (ap (move_in m) e) h)
+          | true ↦ λ on e. subst (λ j. Knows Part Verdict Goes j x.phase) (sym ((Decides-eqb k op).0 on))
+              (subst (λ y. Knows Part Verdict Goes op y.phase) (ap (move_in m) e) h)
           | false ↦ λ off e. knows k x e
         ] refl (sym (got_insert c.operations op k (Move m)) ∙ there)
 
-    module _ (moves : (op : ℕ) (m : MoveState) → finite.get c.operations op ≡ Some (Move m) → (m.plan.op ≡ op) × Goes op (destination m.plan)) (copies : (op : ℕ) (y : CopyState) → finite.get c.operations op ≡ Some (Copy y) → (copy.answer_of y.phase ≡ None) × Still op) (shares : (op : ℕ) (s : ShareState) → finite.get c.operations op ≡ Some (Share s) → (s.plan.op ≡ op) × Still op) (busy : (op : ℕ) (o : Operation) → finite.get c.operations op ≡ Some o → began op log ≡ true) where
-      module _ (op port : ℕ) (m : Msg) (mv : MoveState) (there : finite.get c.operations op ≡ Some (Move mv)) (own : op_of m ≡ Some op) (label : Said Part Verdict Goes port 1 m) where
+    module _ (moves : (op : ℕ) (m : MoveState) → finite.get c.operations op ≡ Some (Move m) → (m.plan.op ≡ op) × Goes op (destination m.plan))
+        (copies : (op : ℕ) (y : CopyState) → finite.get c.operations op ≡ Some (Copy y) → (copy.answer_of y.phase ≡ None) × Still op)
+        (shares : (op : ℕ) (s : ShareState) → finite.get c.operations op ≡ Some (Share s) → (s.plan.op ≡ op) × Still op)
+        (busy : (op : ℕ) (o : Operation) → finite.get c.operations op ≡ Some o → is_begun op log ≡ true) where
+      module _ (op port : ℕ) (m : Msg) (mv : MoveState) (there : finite.get c.operations op ≡ Some (Move mv)) (own : op_of m ≡ Some op)
+          (label : Said Part Verdict Goes port 1 m) where
         abbrev r : MoveRow
         r = row_in mv c.store port m
 
@@ -120,26 +135,34 @@ module _ (Part : ℕ → Piece → Type 0) (Verdict : ℕ → Answer → Type 0)
         same = (moves op mv there).0
 
         knows_next : Knows Part Verdict Goes op r.next.phase
-        knows_next = subst (λ k. Knows Part Verdict Goes k r.next.phase) same (row_follows Part Verdict Goes mv.plan (subst (λ k. Goes k (destination mv.plan)) (sym same) (moves op mv there).1) (stored c.store mv.plan.op) mv.phase port m (subst (λ k. Knows Part Verdict Goes k mv.phase) (sym same) (knows op mv there)) (own ∙ ap Some (sym same)) label).knows
+        knows_next = subst (λ k. Knows Part Verdict Goes k r.next.phase) same (row_follows Part Verdict Goes mv.plan
+            (subst (λ k. Goes k (destination mv.plan)) (sym same) (moves op mv there).1) (stored_of c.store mv.plan.op) mv.phase port m
+            (subst (λ k. Knows Part Verdict Goes k mv.phase) (sym same) (knows op mv there)) (own ∙ ap Some (sym same)) label).knows
 
         says_next : EachSent (Said Part Verdict Goes) 1 r.next.sends
-        says_next = (row_follows Part Verdict Goes mv.plan (subst (λ k. Goes k (destination mv.plan)) (sym same) (moves op mv there).1) (stored c.store mv.plan.op) mv.phase port m (subst (λ k. Knows Part Verdict Goes k mv.phase) (sym same) (knows op mv there)) (own ∙ ap Some (sym same)) label).says
+        says_next = (row_follows Part Verdict Goes mv.plan (subst (λ k. Goes k (destination mv.plan)) (sym same) (moves op mv there).1)
+            (stored_of c.store mv.plan.op) mv.phase port m (subst (λ k. Knows Part Verdict Goes k mv.phase) (sym same) (knows op mv there))
+            (own ∙ ap Some (sym same)) label).says
 
         -- what is sent once, where the operation then counts for so many
-        spends : (k : ℕ) (first : Bool) (after : ℕ) → spent r.next.phase first ≤ after → sent_weight (once first k) n 1 r.next.sends + used (finite.get c.operations k) (began k log) first ≤ (if k == op then after else used (finite.get c.operations k) (began k log) first)
-        spends k first after few = elim (k == op) as (λ b. (k == op) ≡ b → sent_weight (once first k) n 1 r.next.sends + used (finite.get c.operations k) (began k log) first ≤ (if b then after else used (finite.get c.operations k) (began k log) first)) [
-          | true ↦ λ on.
-              let it : mv.plan.op ≡ k = same ∙ sym ((Decides-eqb k op).0 on) in
-              let sent = subst (λ y. sent_weight (once first y) n 1 r.next.sends + spent mv.phase first ≤ spent r.next.phase first) it (row_spends n first mv.plan (stored c.store mv.plan.op) mv.phase port m).own in
-              let before : used (finite.get c.operations k) (began k log) first ≡ spent mv.phase first = ap (λ y. used (finite.get c.operations y) (began k log) first) ((Decides-eqb k op).0 on) ∙ ap (λ o. used o (began k log) first) there in
-              omega (arith, few, sent, before)
-          | false ↦ λ off.
-              let apart : (mv.plan.op == k) ≡ false = grind (arith, nat_tests, off, same) in
-              let none = (row_spends n first mv.plan (stored c.store mv.plan.op) mv.phase port m).other k apart in
-              omega (arith, none)
-        ] refl
+        spends : (k : ℕ) (first : Bool) (after : ℕ) → spent r.next.phase first ≤ after → sent_weight (once first k) n 1 r.next.sends
+            + used (finite.get c.operations k) (is_begun k log) first ≤ (if k == op then after else used (finite.get c.operations k) (is_begun k log) first)
+        spends k first after few = elim (k == op) as (λ b. (k == op) ≡ b → sent_weight (once first k) n 1 r.next.sends
+            + used (finite.get c.operations k) (is_begun k log) first ≤ (if b then after else used (finite.get c.operations k) (is_begun k log) first)) [
+              | true ↦ λ on.
+                  let it : mv.plan.op ≡ k = same ∙ sym ((Decides-eqb k op).0 on) in
+                  let sent = subst (λ y. sent_weight (once first y) n 1 r.next.sends + spent mv.phase first ≤ spent r.next.phase first) it
+                  (row_spends n first mv.plan (stored_of c.store mv.plan.op) mv.phase port m).own in
+                  let before : used (finite.get c.operations k) (is_begun k log) first ≡ spent mv.phase first =
+                  ap (λ y. used (finite.get c.operations y) (is_begun k log) first) ((Decides-eqb k op).0 on) ∙ ap (λ o. used o (is_begun k log) first) there in
+                  omega (arith, few, sent, before)
+              | false ↦ λ off.
+                  let apart : (mv.plan.op == k) ≡ false = grind (arith, nat_tests, off, same) in
+                  let none = (row_spends n first mv.plan (stored_of c.store mv.plan.op) mv.phase port m).other k apart in
+                  omega (arith, none)
+            ] refl
 
-        turn_by : (a : Option Answer) → answer_of r.next.phase ≡ a → StepIs (after_turn c op (moved mv c.store r) a)
+        turn_by : (a : Option Answer) → answer_of r.next.phase ≡ a → StepIs (after_turn c op (turn_of_move mv c.store r) a)
         turn_by None e = record {
           knows = knows_insert op x knows_next;
           says = says_next;
@@ -147,10 +170,13 @@ module _ (Part : ℕ → Piece → Type 0) (Verdict : ℕ → Answer → Type 0)
           own = tt;
           once = λ k first.
               let sent = spends k first (spent r.next.phase first) (omega arith) in
-              let begun = began_same k log [] refl in
-              let here : used (finite.get (finite.insert c.operations op (Move x)) k) (began k (log ++ [])) first ≡ (if k == op then spent r.next.phase first else used (finite.get c.operations k) (began k log) first) =
-              ap (λ o. used o (began k (log ++ [])) first) (got_insert c.operations op k (Move x)) ∙ ap (λ b. used (cond (k == op) (Some (Move x)) (finite.get c.operations k)) b first) begun
-              ∙ elim (k == op) as (λ b. used (cond b (Some (Move x)) (finite.get c.operations k)) (began k log) first ≡ (if b then spent r.next.phase first else used (finite.get c.operations k) (began k log) first)) [ true ↦ refl | false ↦ refl ] in
+              let move_at_start = began_same k log [] refl in
+              let here : used (finite.get (finite.insert c.operations op (Move x)) k) (is_begun k (log ++ [])) first
+              ≡ (if k == op then spent r.next.phase first else used (finite.get c.operations k) (is_begun k log) first) =
+              ap (λ o. used o (is_begun k (log ++ [])) first) (got_insert c.operations op k (Move x))
+              ∙ ap (λ b. used (cond (k == op) (Some (Move x)) (finite.get c.operations k)) b first) move_at_start
+              ∙ elim (k == op) as (λ b. used (cond b (Some (Move x)) (finite.get c.operations k)) (is_begun k log) first
+              ≡ (if b then spent r.next.phase first else used (finite.get c.operations k) (is_begun k log) first)) [ true ↦ refl | false ↦ refl ] in
               omega (arith, sent, here);
         }
         turn_by (Some a) e = record {
@@ -159,7 +185,7 @@ module _ (Part : ℕ → Piece → Type 0) (Verdict : ℕ → Answer → Type 0)
             | false ↦ λ was. knows k y was
           ] (sym (gone k) ∙ got);
           says = sent-append (Said Part Verdict Goes) 1 r.next.sends ((0, msg.Answered op) ∷ []) says_next (tt, tt);
-          found = λ k b is. elim (op == k) as (λ t. (op == k) ≡ t → (if t then a ∷ [] else []) ≡ b ∷ [] → IsFound k b) [
+          found = λ k b is. elim (op == k) as (λ t. (op == k) ≡ t → map (λ (one : ℕ × Answer). one.1) (if t then (op, a) ∷ [] else []) ≡ b ∷ [] → IsFound k b) [
             | true ↦ λ on given.
                 let it : op ≡ k = (Decides-eqb op k).0 on in
                 let its : a ≡ b = first_is a b given in
@@ -174,93 +200,112 @@ module _ (Part : ℕ → Piece → Type 0) (Verdict : ℕ → Answer → Type 0)
               let both = sent_weight-append (once first k) n 1 r.next.sends ((0, msg.Answered op) ∷ []) in
               let none = no_one n 1 first 0 (msg.Answered op) (λ y. refl) k in
               let sent = spends k first 1 (spent_few r.next.phase first) in
-              let begun = began_same k log (note.Answered op a ∷ []) refl in
-              let here : used (finite.get (finite.remove (finite.insert c.operations op (Move x)) op) k) (began k (log ++ note.Answered op a ∷ [])) first ≡ (if k == op then 1 else used (finite.get c.operations k) (began k log) first) =
-              ap (λ o. used o (began k (log ++ note.Answered op a ∷ [])) first) (gone k) ∙ ap (λ b. used (cond (k == op) None (finite.get c.operations k)) b first) begun
-              ∙ elim (k == op) as (λ b. (k == op) ≡ b → used (cond b None (finite.get c.operations k)) (began k log) first ≡ (if b then 1 else used (finite.get c.operations k) (began k log) first)) [
-                | true ↦ λ on. (let has : began k log ≡ true = ap (λ j. began j log) ((Decides-eqb k op).0 on) ∙ busy op (Move mv) there in rw has refl)
+              let move_at_start = began_same k log (note.Answered op a ∷ []) refl in
+              let here : used (finite.get (finite.remove (finite.insert c.operations op (Move x)) op) k) (is_begun k (log ++ note.Answered op a ∷ [])) first
+              ≡ (if k == op then 1 else used (finite.get c.operations k) (is_begun k log) first) =
+              ap (λ o. used o (is_begun k (log ++ note.Answered op a ∷ [])) first) (gone k)
+              ∙ ap (λ b. used (cond (k == op) None (finite.get c.operations k)) b first) move_at_start
+              ∙ elim (k == op) as (λ b. (k == op) ≡ b → used (cond b None (finite.get c.operations k)) (is_begun k log) first
+              ≡ (if b then 1 else used (finite.get c.operations k) (is_begun k log) first)) [
+                | true ↦ λ on. (let has : is_begun k log ≡ true = ap (λ j. is_begun j log) ((Decides-eqb k op).0 on) ∙ busy op (Move mv) there in rw has refl)
                 | false ↦ λ off. refl
               ] refl in
               omega (arith, both, none, sent, here);
         }
           where
             gone : (k : ℕ) → finite.get (finite.remove (finite.insert c.operations op (Move x)) op) k ≡ cond (k == op) None (finite.get c.operations k)
-            gone k = got_remove (finite.insert c.operations op (Move x)) op k ∙ ap (λ o. cond (k == op) None o) (got_insert c.operations op k (Move x)) ∙ gone_twice (k == op) (Some (Move x)) (finite.get c.operations k)
+            gone k = got_remove (finite.insert c.operations op (Move x)) op k ∙ ap (λ o. cond (k == op) None o) (got_insert c.operations op k (Move x))
+                ∙ gone_twice (k == op) (Some (Move x)) (finite.get c.operations k)
 
-      turn_is : (op port : ℕ) (m : Msg) (o : Option Operation) → finite.get c.operations op ≡ o → NotShared o → op_of m ≡ Some op → Said Part Verdict Goes port 1 m → StepIs (takes_turn c op (turn_of o c.store port m))
+      turn_is : (op port : ℕ) (m : Msg) (o : Option Operation) → finite.get c.operations op ≡ o → NotShared o → op_of m ≡ Some op
+          → Said Part Verdict Goes port 1 m → StepIs (takes_turn c op (turn_of o c.store port m))
       turn_is op port m (Some (Share s)) is no_share own label = absurd no_share
       turn_is op port m None is no_share own label = quiet_is (record c { operations = c.operations; store = c.store }) [] refl tt (λ first k. refl)
-      turn_is op port m (Some (Copy y)) is no_share own label = tables.copy_is Part Verdict Goes Still log n c knows op y is (copies op y is).1 (busy op (Copy y) is) m _ (copy_turn c op y (copies op y is).0 is port m)
+      turn_is op port m (Some (Copy y)) is no_share own label = tables.copy_is Part Verdict Goes Still log n c knows op y is (copies op y is).1
+          (busy op (Copy y) is) m _ (copy_turn c op y (copies op y is).0 is port m)
       turn_is op port m (Some (Move mv)) is no_share own label = turn_by op port m mv is own label (answer_of (row_in mv c.store port m).next.phase) refl
 
-      handed_is : (op port : ℕ) (m : Msg) → op_of m ≡ Some op → Said Part Verdict Goes port 1 m → StepIs (handed c op port m)
+      handed_is : (op port : ℕ) (m : Msg) → op_of m ≡ Some op → Said Part Verdict Goes port 1 m → StepIs (hand_step c op port m)
       handed_is op port m own label = by_operation StepIs c op port m
           (λ no_share. turn_is op port m (finite.get c.operations op) refl no_share own label)
           (λ s is. (let it = shares op s is in handed_shared Part Verdict Goes Still log n c knows op s is it.1 (busy op (Share s) is) it.0 port m))
 
       diverted_is : (cell : FullCell) → StepIs (on_diverted c cell)
-      diverted_is cell = by_queue StepIs c cell still_is (λ op s is. let it = shares op s is in queued_shared Part Verdict Goes Still log n c knows op s is it.1 (busy op (Share s) is) it.0 cell)
+      diverted_is cell = by_queue StepIs c cell still_is (λ op s is.
+          let it = shares op s is in queued_shared Part Verdict Goes Still log n c knows op s is it.1 (busy op (Share s) is) it.0 cell)
 
       numbered_is : (port : ℕ) (m : Msg) (o : Option ℕ) → op_of m ≡ o → Said Part Verdict Goes port 1 m → StepIs (numbered c port m o)
       numbered_is port m None own label = still_is
       numbered_is port m (Some op) own label = handed_is op port m own label
 
       event_is : (port op : ℕ) (cell : FullCell) (i : Option ℕ) → StepIs (on_event c port op cell i)
-      event_is port op cell i = by_sender StepIs c port op cell i still_is (handed_is op port (msg.Event op cell) refl tt) (λ k. quiet_is c ((0, msg.Forward k (Pass op) cell) ∷ []) refl (tt, tt) (λ first. no_one n 1 first 0 (msg.Forward k (Pass op) cell) (λ y. refl)))
+      event_is port op cell i = by_sender StepIs c port op cell i still_is (handed_is op port (msg.Event op cell) refl tt)
+          (λ k. quiet_is c ((0, msg.Forward k (Pass op) cell) ∷ []) refl (tt, tt) (λ first. no_one n 1 first 0 (msg.Forward k (Pass op) cell) (λ y. refl)))
 
       final_is : (i : Option ℕ) → StepIs (on_final c i)
       final_is i = by_stop StepIs c i still_is (λ k. quiet_is _ [] refl tt (λ first op. refl))
 
       -- a command that waits, of which nothing is noted
-      module _ (op : ℕ) (new : began op log ≡ false) (none : finite.get c.operations op ≡ None) where
+      module _ (op : ℕ) (new : is_begun op log ≡ false) (none : finite.get c.operations op ≡ None) where
         -- before it began nothing was sent once for it
-        opened_more : (o : Operation) (k : ℕ) (first b : Bool) → (k == op) ≡ b → used (finite.get c.operations k) (began k log) first ≤ used (cond b (Some o) (finite.get c.operations k)) (began k (log ++ note.Begun op ∷ [])) first
+        opened_more : (o : Operation) (k : ℕ) (first b : Bool) → (k == op) ≡ b → used (finite.get c.operations k) (is_begun k log) first
+            ≤ used (cond b (Some o) (finite.get c.operations k)) (is_begun k (log ++ note.Begun op ∷ [])) first
         opened_more o k first true on =
             let it : k ≡ op = (Decides-eqb k op).0 on in
-            let zero : used (finite.get c.operations k) (began k log) first ≡ 0 = ap (λ j. used (finite.get c.operations j) (began j log) first) it ∙ ap (λ q. used q (began op log) first) none ∙ ap (λ b. if b then 1 else 0) new in
+            let zero : used (finite.get c.operations k) (is_begun k log) first ≡ 0 = ap (λ j. used (finite.get c.operations j) (is_begun j log) first) it
+            ∙ ap (λ q. used q (is_begun op log) first) none ∙ ap (λ b. if b then 1 else 0) new in
             omega (arith, zero)
         opened_more o k first false off =
             let turned : (op == k) ≡ false = grind (arith, nat_tests, off) in
-            let same : began k (log ++ note.Begun op ∷ []) ≡ began k log = began_same k log (note.Begun op ∷ []) (rw turned refl) in
+            let same : is_begun k (log ++ note.Begun op ∷ []) ≡ is_begun k log = began_same k log (note.Begun op ∷ []) (rw turned refl) in
             rw same (omega arith)
 
-        between_is : (filter : Filter) (keep : Bool) (a b : Option ℕ) → StepIs (begins_between c op filter keep a b)
+        between_is : (filter : Filter) (keep : Bool) (a b : Option ℕ) → StepIs (move_between c op filter keep a b)
         between_is filter keep (Some from) (Some to) =
             let plan : MovePlan = record { op = op; from = from; to = to; filter = filter; keep = keep } in
             record {
-              knows = knows_insert op (begun plan) tt;
+              knows = knows_insert op (move_at_start plan) tt;
               says = (tt, tt);
               found = λ k a is. cc;
               own = (refl, tt);
               once = λ k first.
                   let sent = no_one n 1 first (from + 2) (msg.Enable op filter action.Drop) (λ y. refl) k in
-                  let here : used (finite.get c.operations k) (began k log) first ≤ used (finite.get (finite.insert c.operations op (Move (begun plan))) k) (began k (log ++ note.Begun op ∷ [])) first =
-                  subst (λ o. used (finite.get c.operations k) (began k log) first ≤ used o (began k (log ++ note.Begun op ∷ [])) first) (sym (got_insert c.operations op k (Move (begun plan)))) (opened_more (Move (begun plan)) k first (k == op) refl) in
+                  let here : used (finite.get c.operations k) (is_begun k log) first
+                  ≤ used (finite.get (finite.insert c.operations op (Move (move_at_start plan))) k) (is_begun k (log ++ note.Begun op ∷ [])) first =
+                  subst (λ o. used (finite.get c.operations k) (is_begun k log) first ≤ used o (is_begun k (log ++ note.Begun op ∷ [])) first)
+                  (sym (got_insert c.operations op k (Move (move_at_start plan)))) (opened_more (Move (move_at_start plan)) k first (k == op) refl) in
                   omega (arith, sent, here);
             }
         between_is filter keep None b = still_is
         between_is filter keep (Some from) None = still_is
 
-        copies_is : (filter : Option Filter) (a b : Option ℕ) → StepIs (copies_between c op filter a b)
+        copies_is : (filter : Option Filter) (a b : Option ℕ) → StepIs (copy_between c op filter a b)
         copies_is filter (Some from) (Some to) =
             let plan : CopyPlan = record { op = op; from = from; to = to; filter = filter } in
             record {
-              knows = λ k x e. knows k x (other_there (k == op) (Some (Copy (copy.begun plan))) (finite.get c.operations k) x tt (sym (got_insert c.operations op k (Copy (copy.begun plan))) ∙ e));
+              knows = λ k x e. knows k x (other_there (k == op) (Some (Copy (copy.copy_at_start plan))) (finite.get c.operations k) x tt
+                  (sym (got_insert c.operations op k (Copy (copy.copy_at_start plan))) ∙ e));
               says = (asks_said filter, tt);
               found = λ k a is. cc;
               own = (refl, tt);
               once = λ k first.
                   let most = at_most n 1 first (instance_node from) (copy.asks op filter) k in
                   let few = few_counts (copy.asks op filter) first k in
-                  let here : once first k (copy.asks op filter) + used (finite.get c.operations k) (began k log) first ≤ used (finite.get (finite.insert c.operations op (Copy (copy.begun plan))) k) (began k (log ++ note.Begun op ∷ [])) first =
-                  subst (λ o. once first k (copy.asks op filter) + used (finite.get c.operations k) (began k log) first ≤ used o (began k (log ++ note.Begun op ∷ [])) first) (sym (got_insert c.operations op k (Copy (copy.begun plan)))) (elim (k == op) as (λ b. (k == op) ≡ b → once first k (copy.asks op filter) + used (finite.get c.operations k) (began k log) first ≤ used (cond b (Some (Copy (copy.begun plan))) (finite.get c.operations k)) (began k (log ++ note.Begun op ∷ [])) first) [
+                  let here : once first k (copy.asks op filter) + used (finite.get c.operations k) (is_begun k log) first
+                  ≤ used (finite.get (finite.insert c.operations op (Copy (copy.copy_at_start plan))) k) (is_begun k (log ++ note.Begun op ∷ [])) first =
+                  subst (λ o. once first k (copy.asks op filter) + used (finite.get c.operations k) (is_begun k log) first
+                  ≤ used o (is_begun k (log ++ note.Begun op ∷ [])) first) (sym (got_insert c.operations op k (Copy (copy.copy_at_start plan))))
+                  (elim (k == op) as (λ b. (k == op) ≡ b → once first k (copy.asks op filter) + used (finite.get c.operations k) (is_begun k log) first
+                  ≤ used (cond b (Some (Copy (copy.copy_at_start plan))) (finite.get c.operations k)) (is_begun k (log ++ note.Begun op ∷ [])) first) [
                     | true ↦ λ on.
                         let it : k ≡ op = (Decides-eqb k op).0 on in
-                        let zero : used (finite.get c.operations k) (began k log) first ≡ 0 = ap (λ j. used (finite.get c.operations j) (began j log) first) it ∙ ap (λ o. used o (began op log) first) none ∙ ap (λ b. if b then 1 else 0) new in
+                        let zero : used (finite.get c.operations k) (is_begun k log) first ≡ 0 =
+                        ap (λ j. used (finite.get c.operations j) (is_begun j log) first) it ∙ ap (λ o. used o (is_begun op log) first) none
+                        ∙ ap (λ b. if b then 1 else 0) new in
                         omega (arith, zero, few)
                     | false ↦ λ off.
                         let turned : (op == k) ≡ false = grind (arith, nat_tests, off) in
-                        let same : began k (log ++ note.Begun op ∷ []) ≡ began k log = began_same k log (note.Begun op ∷ []) (rw turned refl) in
+                        let same : is_begun k (log ++ note.Begun op ∷ []) ≡ is_begun k log = began_same k log (note.Begun op ∷ []) (rw turned refl) in
                         let apart = asks_apart filter first k turned in
                         rw same (omega (arith, apart))
                   ] refl) in
@@ -278,41 +323,47 @@ module _ (Part : ℕ → Piece → Type 0) (Verdict : ℕ → Answer → Type 0)
         copies_is filter None b = still_is
         copies_is filter (Some from) None = still_is
 
-        shares_is : (filter : Filter) (members : List ℕ) → StepIs (begins_share c op filter members)
+        shares_is : (filter : Filter) (members : List ℕ) → StepIs (share_begin c op filter members)
         shares_is filter [] = still_is
         shares_is filter (home ∷ others) =
             let plan : SharePlan = record { op = op; members = home ∷ others; filter = filter; site = c.site } in
             record {
-              knows = λ k x e. knows k x (other_there (k == op) (Some (Share (share.begun plan))) (finite.get c.operations k) x tt (sym (got_insert c.operations op k (Share (share.begun plan))) ∙ e));
+              knows = λ k x e. knows k x (other_there (k == op) (Some (Share (share.share_at_start plan))) (finite.get c.operations k) x tt
+                  (sym (got_insert c.operations op k (Share (share.share_at_start plan))) ∙ e));
               says = (tt, tt);
               found = λ k a is. cc;
               own = (refl, tt);
               once = λ k first.
                   let sent = no_one n 1 first 0 (msg.Install op filter home target.Controller) (λ y. refl) k in
-                  let here : used (finite.get c.operations k) (began k log) first ≤ used (finite.get (finite.insert c.operations op (Share (share.begun plan))) k) (began k (log ++ note.Begun op ∷ [])) first =
-                  subst (λ o. used (finite.get c.operations k) (began k log) first ≤ used o (began k (log ++ note.Begun op ∷ [])) first) (sym (got_insert c.operations op k (Share (share.begun plan)))) (opened_more (Share (share.begun plan)) k first (k == op) refl) in
+                  let here : used (finite.get c.operations k) (is_begun k log) first
+                  ≤ used (finite.get (finite.insert c.operations op (Share (share.share_at_start plan))) k) (is_begun k (log ++ note.Begun op ∷ [])) first =
+                  subst (λ o. used (finite.get c.operations k) (is_begun k log) first ≤ used o (is_begun k (log ++ note.Begun op ∷ [])) first)
+                  (sym (got_insert c.operations op k (Share (share.share_at_start plan))))
+                  (opened_more (Share (share.share_at_start plan)) k first (k == op) refl) in
                   omega (arith, sent, here);
             }
 
-        begins_is : (what : Order) → StepIs (begins c op what)
+        begins_is : (what : Order) → StepIs (begin_step c op what)
         begins_is (order.Move source destination filter keep) = between_is filter keep (place_of c.names source) (place_of c.names destination)
         begins_is (order.Copy source destination filter) = copies_is filter (place_of c.names source) (place_of c.names destination)
         begins_is (order.Share members filter) = shares_is filter (filter_map (place_of c.names) members)
 
-        decided_is : (what : Order) → (o : Option Answer) → refusal c what ≡ o → StepIs (decided c op what o)
+        decided_is : (what : Order) → (o : Option Answer) → refusal c what ≡ o → StepIs (decision_step c op what o)
         decided_is what None is = begins_is what
         decided_is what (Some a) is =
             let cause = refused_is (unknown_name c what) (overlap c what) a is in
             record {
               knows = knows;
               says = (tt, tt);
-              found = λ k b given. elim (op == k) as (λ t. (op == k) ≡ t → (if t then a ∷ [] else []) ≡ b ∷ [] → IsFound k b) [
-                | true ↦ λ on e.
-                    let it : op ≡ k = (Decides-eqb op k).0 on in
-                    let its : a ≡ b = first_is a b e in
-                    subst (λ j. IsFound j b) it (subst (λ z. IsFound op z) its (record { known = λ never. (let on = sym new ∙ never in cc); refused = λ _. cause }))
-                | false ↦ λ off never. cc
-              ] refl given;
+              found = λ k b given.
+                  elim (op == k) as (λ t. (op == k) ≡ t → map (λ (one : ℕ × Answer). one.1) (if t then (op, a) ∷ [] else []) ≡ b ∷ [] → IsFound k b) [
+                    | true ↦ λ on e.
+                        let it : op ≡ k = (Decides-eqb op k).0 on in
+                        let its : a ≡ b = first_is a b e in
+                        subst (λ j. IsFound j b) it
+                        (subst (λ z. IsFound op z) its (record { known = λ never. (let on = sym new ∙ never in cc); refused = λ _. cause }))
+                    | false ↦ λ off never. cc
+                  ] refl given;
               own = (refl, tt);
               once = λ k first.
                   let sent = no_one n 1 first 0 (msg.Answered op) (λ y. refl) k in
@@ -321,17 +372,20 @@ module _ (Part : ℕ → Piece → Type 0) (Verdict : ℕ → Answer → Type 0)
                   omega (arith, sent, here);
             }
 
-      asked_is : (op : ℕ) (what : Order) → began op log ≡ false → StepIs (on_asked c (record { op = op; what = what }))
+      asked_is : (op : ℕ) (what : Order) → is_begun op log ≡ false → StepIs (on_asked c (record { op = op; what = what }))
       asked_is op what new = by_got (finite.get c.operations op) refl
         where
-          by_got : (o : Option Operation) → finite.get c.operations op ≡ o → StepIs (if is_some o then still c else decided c op what (refusal c what))
+          by_got : (o : Option Operation) → finite.get c.operations op ≡ o → StepIs (if is_some o then still c else decision_step c op what (refusal c what))
           by_got None is = decided_is op new is what (refusal c what) refl
           by_got (Some x) is = still_is
 
       row_is : (port : ℕ) (m : Msg) → Said Part Verdict Goes port 1 m → IsNew log m → StepIs (controller.row c port m)
-      row_is port (msg.Asked a) label new = elim (port == 0) as (λ b. StepIs (if b then on_asked c a else still c)) [ true ↦ asked_is a.op a.what new | false ↦ still_is ]
-      row_is port (msg.Diverted cell) label new = elim (port == 0) as (λ b. StepIs (if b then on_diverted c cell else still c)) [ true ↦ diverted_is cell | false ↦ still_is ]
-      row_is port msg.End label new = elim (port == 0) as (λ b. StepIs (if b then still (record c { end_came = true }) else still c)) [ true ↦ quiet_is _ [] refl tt (λ first op. refl) | false ↦ still_is ]
+      row_is port (msg.Asked a) label new =
+          elim (port == 0) as (λ b. StepIs (if b then on_asked c a else still c)) [ true ↦ asked_is a.op a.what new | false ↦ still_is ]
+      row_is port (msg.Diverted cell) label new =
+          elim (port == 0) as (λ b. StepIs (if b then on_diverted c cell else still c)) [ true ↦ diverted_is cell | false ↦ still_is ]
+      row_is port msg.End label new = elim (port == 0) as (λ b. StepIs (if b then still (record c { end_came = true }) else still c))
+          [ true ↦ quiet_is _ [] refl tt (λ first op. refl) | false ↦ still_is ]
       row_is port (msg.Event op cell) label new = event_is port op cell (instance_at c port)
       row_is port msg.Final label new = final_is (instance_at c port)
       row_is port m label new = numbered_is port m (op_of m) refl label

@@ -19,17 +19,17 @@ use Rattle.instance_worker.specs.Instance.{piece_refusal}
 use Rattle.actor_net.specs.declared.choice.Choice.{Choice}
 use Rattle.actor_net.specs.Network.{Network, run}
 use Rattle.actor_net.proofs.WeightLaws.{Each, OnLinks}
-use Rattle.unit_machine.proofs.Labels as labels
+use Rattle.proof_machines.proofs.unit.Labels as labels
 use Rattle.net_world.specs.declared.config.Config.{Config}
 use Rattle.net_world.specs.declared.node.Node.{Node}
-use Rattle.net_world.specs.Commands.{began}
+use Rattle.net_world.specs.Commands.{is_begun}
 use Rattle.net_world.specs.Input.{order_numbered}
 use Rattle.net_world.specs.Jobs.{course_of, job_of}
 use Rattle.net_world.specs.Nodes.{node_step}
-use Rattle.net_world.specs.Verdicts.{Weighed, verdict, is_refusal, exported, before_export, is_timed, receiver_of, IsWeighed, IsTakenAfter}
-use Rattle.answer_net.proofs.InstallSteps.{is_moving}
+use Rattle.net_world.specs.Verdicts.{Weighed, verdict, is_refusal, exported_for, before_export, is_timed, receiver_of, IsWeighed, IsTakenAfter}
+use Rattle.net_world.proofs.LogLemmas.{has_begun-append}
+use Rattle.nf_net.proofs.answers.InstallSteps.{is_moving}
 use Rattle.nf_net.proofs.JudgedInstance.{answer_by}
-use Rattle.whole_joined.proofs.LogLemmas.{has_begun-append}
 use Rattle.nf_net.proofs.MoveJudged.{Said, Knows}
 use Rattle.nf_net.proofs.VerdictLemmas.{exported_kept, before_export_kept, taken_more}
 use Rattle.move_op.specs.declared.door.Door.TheVariants as door
@@ -37,14 +37,18 @@ use Rattle.move_op.specs.Phases.{Phase}
 use Rattle.move_op.specs.Phases as phase
 
 -- an instance's answer is the verdict by what it holds, and by what the piece says
-pub answer_is : {F R : Type 0} (i : Instance F R) (piece : Piece) (timed : Bool) → piece.newest ≡ version_number timed → answer_by (piece_refusal i piece) ≡ verdict (record { held = finite.len i.table.live; coming = piece.total; limit = i.limit; marked = i.marked; timed = timed })
+pub answer_is : {F R : Type 0} (i : Instance F R) (piece : Piece) (timed : Bool) → piece.newest ≡ version_number timed → answer_by (piece_refusal i piece)
+    ≡ verdict (record { held = finite.len i.table.live; coming = piece.total; limit = i.limit; marked = i.marked; timed = timed })
 answer_is i piece timed newest =
-    elim (nat_lt i.limit (finite.len i.table.live + piece.total)) as (λ b. answer_by (if b then Some (Import (finite.len i.table.live) piece.total i.limit) else if i.marked && nat_lt 1 piece.newest then Some (Old piece.newest 1) else None) ≡ (if b then Import (finite.len i.table.live) piece.total i.limit else if i.marked && timed then Old 2 1 else Done)) [
+    elim (nat_lt i.limit (finite.len i.table.live + piece.total)) as (λ b. answer_by (if b then Some (Import (finite.len i.table.live) piece.total i.limit)
+    else if i.marked && nat_lt 1 piece.newest then Some (Old piece.newest 1) else None)
+    ≡ (if b then Import (finite.len i.table.live) piece.total i.limit else if i.marked && timed then Old 2 1 else Done)) [
       | true ↦ refl
       | false ↦ by_version i.marked timed piece.newest newest
     ]
   where
-    by_version : (marked t : Bool) (version : ℕ) → version ≡ version_number t → answer_by (if marked && nat_lt 1 version then Some (Old version 1) else None) ≡ (if marked && t then Old 2 1 else Done)
+    by_version : (marked t : Bool) (version : ℕ) → version ≡ version_number t
+        → answer_by (if marked && nat_lt 1 version then Some (Old version 1) else None) ≡ (if marked && t then Old 2 1 else Done)
     by_version true true version e = rw e refl
     by_version true false version e = rw e refl
     by_version false t version e = refl
@@ -53,7 +57,7 @@ module _ {F R : Type 0} (f : Semantics R) (c : Config) (items : List Msg) (start
   -- a piece says how many units are given for its command, and whether one of them has a record with a time
   pub record IsPart (log : List Note) (op : ℕ) (piece : Piece) : Type 0 where
     pub units : List units.Unit
-    pub units_are : exported op log ≡ Some units
+    pub units_are : exported_for op log ≡ Some units
     pub total : piece.total ≡ length units
     pub newest : piece.newest ≡ version_number (list_any (λ unit. is_timed f c items unit (before_export op log)) units)
 
@@ -81,29 +85,39 @@ module _ {F R : Type 0} (f : Semantics R) (c : Config) (items : List Msg) (start
     units = h.units;
     units_are = exported_kept op log notes h.units h.units_are;
     total = h.total;
-    newest = h.newest ∙ ap (λ l. version_number (list_any (λ unit. is_timed f c items unit l) h.units)) (sym (before_export_kept op log notes h.units h.units_are));
+    newest = h.newest
+        ∙ ap (λ l. version_number (list_any (λ unit. is_timed f c items unit l) h.units)) (sym (before_export_kept op log notes h.units h.units_are));
   }
 
   pub verdict_kept : (cs : List Choice) (d : Choice) (op : ℕ) (answer : Answer) → HasVerdict cs op answer → HasVerdict (cs ++ d ∷ []) op answer
   unfolding taken_more
-  verdict_kept cs d op answer h = record { front = h.front; is_taken = taken_more f op start cs h.front d h.is_taken; weighed = h.weighed; are_weighed = h.are_weighed; at_destination = h.at_destination; answer_is = h.answer_is }
+  verdict_kept cs d op answer h = record {
+    front = h.front;
+    is_taken = taken_more f op start cs h.front d h.is_taken;
+    weighed = h.weighed;
+    are_weighed = h.are_weighed;
+    at_destination = h.at_destination;
+    answer_is = h.answer_is;
+  }
 
   -- a command was refused, or it began and is answered by its verdict, or that it is done, where it moves no units
   pub data IsFound (cs : List Choice) (log : List Note) (op : ℕ) (answer : Answer) : Type 0 where
     Was_refused : is_refusal answer ≡ true → IsFound cs log op answer
-    Was_judged : began op log ≡ true → HasVerdict cs op answer → IsFound cs log op answer
-    Was_still : began op log ≡ true → IsStill op → answer ≡ Done → IsFound cs log op answer
+    Was_judged : is_begun op log ≡ true → HasVerdict cs op answer → IsFound cs log op answer
+    Was_still : is_begun op log ≡ true → IsStill op → answer ≡ Done → IsFound cs log op answer
 
-  pub began_kept : (op : ℕ) (log notes : List Note) → began op log ≡ true → began op (log ++ notes) ≡ true
-  began_kept op log notes h = has_begun-append (λ k. k == op) log notes ∙ or_left (began op log) (began op notes) h
+  pub began_kept : (op : ℕ) (log notes : List Note) → is_begun op log ≡ true → is_begun op (log ++ notes) ≡ true
+  began_kept op log notes h = has_begun-append (λ k. k == op) log notes ∙ or_left (is_begun op log) (is_begun op notes) h
 
-  pub found_kept : (cs : List Choice) (d : Choice) (log notes : List Note) (op : ℕ) (answer : Answer) → IsFound cs log op answer → IsFound (cs ++ d ∷ []) (log ++ notes) op answer
+  pub found_kept : (cs : List Choice) (d : Choice) (log notes : List Note) (op : ℕ) (answer : Answer) → IsFound cs log op answer
+      → IsFound (cs ++ d ∷ []) (log ++ notes) op answer
   found_kept cs d log notes op answer (Was_refused h) = Was_refused h
   found_kept cs d log notes op answer (Was_still b h e) = Was_still (began_kept op log notes b) h e
   found_kept cs d log notes op answer (Was_judged b h) = Was_judged (began_kept op log notes b) (verdict_kept cs d op answer h)
 
 -- What is known goes on with the facts that it is made of.
-module _ (P P' : ℕ → Piece → Type 0) (V V' : ℕ → Answer → Type 0) (G : ℕ → ℕ → Type 0) (part : (op : ℕ) (piece : Piece) → P op piece → P' op piece) (judged : (op : ℕ) (answer : Answer) → V op answer → V' op answer) where
+module _ (P P' : ℕ → Piece → Type 0) (V V' : ℕ → Answer → Type 0) (G : ℕ → ℕ → Type 0) (part : (op : ℕ) (piece : Piece) → P op piece → P' op piece)
+    (judged : (op : ℕ) (answer : Answer) → V op answer → V' op answer) where
   pub said_kept : (s r : ℕ) (m : Msg) → Said P V G s r m → Said P' V' G s r m
   said_kept s r (msg.Piece op piece) h = part op piece h
   said_kept s r (msg.Put op piece true) h = (part op piece h.0, h.1)

@@ -1,5 +1,6 @@
 -- Each node's step keeps what is known of moves: an instance weighs the first piece that comes, by what it holds and by what the piece says.
-use Rattle.std.proofs.Common.{◌≡◌, ℕ, zero, suc, ◌+◌, ◌-◌, ◌<◌, ◌≤◌, Bool, true, false, Some, None, List, [], ◌∷◌, ◌++◌, length, get_or, append-nil, refl, sym, ap, ◌∙◌, subst, arith}
+use Rattle.std.proofs.Common.{◌≡◌, ℕ, zero, suc, ◌+◌, ◌-◌, ◌<◌, ◌≤◌, Bool, true, false, Some, None, List}
+use Rattle.std.proofs.Common.{[], ◌∷◌, ◌++◌, length, get_or, append-nil, refl, sym, ap, ◌∙◌, subst, arith}
 use Rattle.std.specs.Prelude.{if◌then◌else◌, ◌&&◌, ◌||◌, ◌==◌, not, nat_lt, slice_get, slice_index, slice_index_or}
 use Rattle.std.specs.List.{list_any}
 use Rattle.std.specs.declared.alloc.Global.{Global}
@@ -18,7 +19,7 @@ use Rattle.packet_pool.specs.Pool.{FullCell, one_more}
 use Rattle.event_filter.specs.declared.mark.Mark.TheVariants.{Plain}
 use Rattle.switch_rules.specs.declared.target.Target.{Target}
 use Rattle.switch_rules.specs.declared.target.Target.TheVariants as target
-use Rattle.switch_rules.specs.Rules.{redirected}
+use Rattle.switch_rules.specs.Rules.{rules_redirected}
 use Rattle.nf_msgs.specs.declared.answer.Answer.{Answer}
 use Rattle.nf_msgs.specs.declared.msg.Piece.{Piece}
 use Rattle.nf_msgs.specs.declared.msg.Msg.{Msg}
@@ -36,48 +37,48 @@ use Rattle.ctrl_node.specs.Controller.{controller_step}
 use Rattle.switch_node.specs.Switch as switches
 use Rattle.switch_node.specs.Switch.{SwitchState, switch_step, sends_to_instance, on_packet, on_credit, on_install}
 use Rattle.instance_worker.specs.declared.instance.Instance.{Instance as InstanceState}
-use Rattle.instance_worker.specs.Instance.{piece_refusal, selected, on_stream, instance_step}
+use Rattle.instance_worker.specs.Instance.{piece_refusal, selected_chunks, on_stream, instance_step}
 use Rattle.instance_worker.specs.Pieces.{pieces, whole_of}
 use Rattle.actor_net.specs.declared.choice.Choice.{Choice}
-use Rattle.actor_net.specs.Network.{Network, Stepped, IsRun, run, taken}
+use Rattle.actor_net.specs.Network.{Network, Stepped, IsRun, run, world_next}
 use Rattle.actor_net.proofs.EnabledChoices.{at}
 use Rattle.actor_net.proofs.RunInduction.{run_world}
 use Rattle.actor_net.proofs.StepOutcome.{Takes, taken_outcome}
 use Rattle.actor_net.proofs.WeightLaws.{EachSent, total_after, sent_weight}
-use Rattle.unit_machine.proofs.Labels.{Each}
+use Rattle.proof_machines.proofs.unit.Labels.{Each}
 use Rattle.net_world.specs.declared.config.Config.{Config}
 use Rattle.net_world.specs.declared.node.Node.{Node}
 use Rattle.net_world.specs.declared.node.Node.TheVariants.{Controller, Instance}
-use Rattle.net_world.specs.Commands.{began, has_answered}
+use Rattle.net_world.specs.Commands.{is_begun, has_answered}
 use Rattle.net_world.specs.Input.{IsInput}
 use Rattle.net_world.specs.Nodes.{node_step, node_ready}
-use Rattle.net_world.specs.Fold.{went}
+use Rattle.net_world.specs.Fold.{processed_of}
 use Rattle.net_world.specs.Records.{live_in}
-use Rattle.net_world.specs.Verdicts.{before_export, is_timed, exported, live_number, receiver_of}
-use Rattle.answer_net.proofs.BusyLemmas.{or_off}
-use Rattle.answer_net.proofs.BusyNodes.{switch_hands, instance_says}
-use Rattle.answer_net.proofs.BusyController.{told_in}
-use Rattle.answer_net.proofs.BusyOperations.{IsBusy}
-use Rattle.answer_net.proofs.BusyRuns.{Busy, same_controller, open_began, plan_is}
-use Rattle.answer_net.proofs.InstallSteps.{is_moving}
-use Rattle.answer_net.proofs.CommandPromises.{run_busy}
+use Rattle.net_world.specs.Verdicts.{before_export, is_timed, exported_for, live_number, receiver_of}
+use Rattle.nf_net.proofs.answers.BusyLemmas.{or_off}
+use Rattle.nf_net.proofs.answers.BusyNodes.{switch_hands, instance_says}
+use Rattle.nf_net.proofs.answers.BusyController.{told_in}
+use Rattle.nf_net.proofs.answers.BusyOperations.{IsBusy}
+use Rattle.nf_net.proofs.answers.BusyRuns.{Busy, same_controller, open_began, plan_is}
+use Rattle.nf_net.proofs.answers.InstallSteps.{is_moving}
+use Rattle.nf_net.proofs.answers.CommandPromises.{run_busy}
 use Rattle.nf_net.proofs.StreamedUnits.{IsOf, pieces_of, GivesState, record_timed}
 use Rattle.nf_net.proofs.MovedRecords.{streamed_record, taken_give}
-use Rattle.whole_joined.proofs.Given.{Given}
-use Rattle.whole_joined.proofs.Joined.{Label, Joined, node_of}
-use Rattle.outline_net.proofs.FiltersApart.{is_whole}
+use Rattle.proof_outlines.proofs.joined.Given.{Given}
+use Rattle.proof_outlines.proofs.joined.Joined.{Label, Joined, node_of}
+use Rattle.proof_outlines.proofs.outline.FiltersApart.{is_whole}
 use Rattle.nf_net.proofs.JudgedController.{IsNew, controller_judges}
 use Rattle.nf_net.proofs.JudgedTables.{used, used_few, is_own, IsDue, By_verdict, By_still}
 use Rattle.nf_net.proofs.JudgedFacts.{answer_is, IsStill, IsFound, Was_refused, Was_judged, Was_still, began_kept, knows_kept}
 use Rattle.nf_net.proofs.JudgedInstance.{answer_by, IsReady, instance_does}
 use Rattle.nf_net.proofs.JudgedSteps as steps
 use Rattle.nf_net.proofs.JudgedSteps.{Judging, Leaves, IsFixed, no_stream_to, none_once}
-use Rattle.answer_net.proofs.LinePicks.{at_controller as way_at_controller}
+use Rattle.nf_net.proofs.answers.LinePicks.{at_controller as way_at_controller}
 use Rattle.nf_net.proofs.MoveJudged.{Said, Knows}
-use Rattle.answer_net.proofs.MoveOnce.{once}
-use Rattle.whole_joined.proofs.RunsJoined.{run_beside, start_world}
-use Rattle.whole_joined.proofs.StartJoined.{given, all_fit, count_at_start}
-use Rattle.nf_net.proofs.VerdictLemmas.{times_given, none_exported, exported_new, before_export_new}
+use Rattle.nf_net.proofs.answers.MoveOnce.{once}
+use Rattle.proof_outlines.proofs.joined.RunsJoined.{run_beside, start_world}
+use Rattle.proof_outlines.proofs.joined.StartJoined.{given, all_fit, count_at_start}
+use Rattle.nf_net.proofs.VerdictLemmas.{times_given, none_exported, exported_new, before_export_new, before_own}
 
 -- The switch and the controller note nothing of state that is given.
 module _ (op : ℕ) where
@@ -85,26 +86,35 @@ module _ (op : ℕ) where
   NoneGiven notes = times_given op notes ≡ 0
 
   sends_given : (s : SwitchState) (to : ℕ) (m : Msg) → NoneGiven (sends_to_instance s to m).notes
-  sends_given s to m = elim (nat_lt to s.instances) as (λ b. NoneGiven (if b then switches.sends_on s (to + 2) m else switches.still s).notes) [ true ↦ refl | false ↦ refl ]
+  sends_given s to m =
+      elim (nat_lt to s.instances) as (λ b. NoneGiven (if b then switches.sends_on s (to + 2) m else switches.still s).notes) [ true ↦ refl | false ↦ refl ]
 
   goes_given : (s : SwitchState) (p : Packet) (t : Target) → NoneGiven (switches.goes_to s p t).notes
   goes_given s p target.Controller = refl
-  goes_given s p (target.Instance i) = elim (nat_lt i s.instances) as (λ b. NoneGiven (if b then switches.arrives s p (i + 2) (msg.Carry Plain) else switches.still s).notes) [ true ↦ refl | false ↦ refl ]
+  goes_given s p (target.Instance i) = elim (nat_lt i s.instances)
+      as (λ b. NoneGiven (if b then switches.arrival_step s p (i + 2) (msg.Carry Plain) else switches.still s).notes) [ true ↦ refl | false ↦ refl ]
 
   packet_given : (s : SwitchState) (p : Packet) → NoneGiven (on_packet s p).notes
-  packet_given s p = elim (switches.has_room s) as (λ b. NoneGiven (if b then switches.goes_to s p (switches.target_of s p) else switches.still s).notes) [ true ↦ goes_given s p (switches.target_of s p) | false ↦ refl ]
+  packet_given s p = elim (switches.has_room s) as (λ b. NoneGiven (if b then switches.goes_to s p (switches.target_of s p) else switches.still s).notes)
+      [ true ↦ goes_given s p (switches.target_of s p) | false ↦ refl ]
 
   credit_given : (s : SwitchState) (cell : FullCell) → NoneGiven (on_credit s cell).notes
-  credit_given s cell = elim ((s.flying == 0) || not (cell.pool == s.pool.name)) as (λ b. NoneGiven (if b then switches.still s else record { node = record s { pool = one_more s.pool; flying = s.flying - 1 }; sends = []; notes = [] }).notes) [ true ↦ refl | false ↦ refl ]
+  credit_given s cell = elim ((s.flying == 0) || not (cell.pool == s.pool.name)) as (λ b.
+      NoneGiven (if b then switches.still s else record { node = record s { pool = one_more s.pool; flying = s.flying - 1 }; sends = []; notes = [] }).notes)
+      [ true ↦ refl | false ↦ refl ]
 
   install_given : (s : SwitchState) (j : ℕ) (filter : Filter) (from : ℕ) (to : Target) → NoneGiven (on_install s j filter from to).notes
   install_given s j filter from to = by_test (nat_lt from s.instances && switches.is_there s to)
     where
-      by_test : (b : Bool) → NoneGiven (if b then record { node = record s { rules = redirected (record { filter = filter; from = target.Instance from; to = to }) s.rules }; sends = (from + 2, msg.Fence j) ∷ []; notes = note.Installed j ∷ [] } else switches.still s).notes
+      by_test : (b : Bool) → NoneGiven (if b then record {
+        node = record s { rules = rules_redirected (record { filter = filter; from = target.Instance from; to = to }) s.rules };
+        sends = (from + 2, msg.Fence j) ∷ [];
+        notes = note.Installed j ∷ [];
+      } else switches.still s).notes
       by_test true = refl
       by_test false = refl
 
-  switch_given : (s : SwitchState) (m : Msg) → NoneGiven (switch_step s m).notes
+  pub switch_given : (s : SwitchState) (m : Msg) → NoneGiven (switch_step s m).notes
   switch_given s (msg.InPacket p) = packet_given s p
   switch_given s (msg.Forward to m cell) = sends_given s to (msg.Carry m cell)
   switch_given s (msg.Install j filter from to) = install_given s j filter from to
@@ -112,7 +122,7 @@ module _ (op : ℕ) where
   switch_given s (msg.Credit cell) = credit_given s cell
   switch_given s m = refl
 
-  own_given : (notes : List Note) → Each (λ x. is_own x ≡ true) notes → NoneGiven notes
+  pub own_given : (notes : List Note) → Each (λ x. is_own x ≡ true) notes → NoneGiven notes
   own_given [] h = refl
   own_given (note.Begun j ∷ notes) h = own_given notes h.1
   own_given (note.Answered j answer ∷ notes) h = own_given notes h.1
@@ -128,7 +138,7 @@ module _ {R : Type 0} (f : Semantics R) (g : Given) (P : ℕ → Piece → Type 
   switch_said r (msg.PutNo op refused) label = absurd (let never = label.0.0 in omega (arith, never))
   switch_said r m label = tt
 
-  switch_says : (sends : List (ℕ × Msg)) → EachSent (Label f g) 0 sends → EachSent (Said P V G) 0 sends
+  pub switch_says : (sends : List (ℕ × Msg)) → EachSent (Label f g) 0 sends → EachSent (Said P V G) 0 sends
   switch_says [] h = tt
   switch_says (x ∷ xs) h = (switch_said x.0 x.1 h.0, switch_says xs h.1)
 
@@ -137,221 +147,10 @@ module _ {F R : Type 0} where
   instance_in d (Instance i) = i
   instance_in d other = d
 
-  same_instance : (a b : InstanceState F R) → Instance a ≡ Instance b → a ≡ b
+  pub same_instance : (a b : InstanceState F R) → Instance a ≡ Instance b → a ≡ b
   same_instance a b e = ap (instance_in a) e
 
-  stream_notes : (f : Semantics R) (i : InstanceState F R) (op : ℕ) (filter : Filter) → (on_stream f i op filter).notes ≡ note.Exported i.index op (units_in (selected f i filter)) ∷ []
+  pub stream_notes : (f : Semantics R) (i : InstanceState F R) (op : ℕ) (filter : Filter)
+      → (on_stream f i op filter).notes ≡ note.Exported i.index op (units_in (selected_chunks f i filter)) ∷ []
   unfolding on_stream
   stream_notes f i op filter = refl
-
-module _ (F : Type 0) {R : Type 0} (f : Semantics R) (laws : FunctionLaws f) (alloc : Global) (c : Config) (items : List Msg) (is : IsInput f.kind c items) (cs : List Choice) (run_is : IsRun node_ready (node_step f) cs (steps.start F f alloc c items is)) where
-  abbrev g : Given
-  g = given f c items is
-
-  abbrev n : ℕ
-  n = length c.names + 2
-
-  abbrev step : Node F R → ℕ → Msg → Stepped (Node F R) Msg Note
-  step = node_step f
-
-  abbrev w : Network (Node F R) Msg Note
-  w = run step cs (steps.start F f alloc c items is)
-
-  abbrev j : Joined f g n w
-  j = (run_beside F f laws alloc c items is cs run_is).joined
-
-  abbrev b : Busy g w
-  b = (run_busy F f laws alloc c items is cs run_is).1
-
-  abbrev Part : List Note → ℕ → Piece → Type 0
-  Part = steps.Part F f alloc c items is
-
-  abbrev Verdict : List Choice → ℕ → Answer → Type 0
-  Verdict = steps.Verdict F f alloc c items is
-
-  abbrev Goes : ℕ → ℕ → Type 0
-  Goes = steps.Goes F f alloc c items is
-
-  module _ (h : Judging F f alloc c items is cs w w.log) (p : ℕ) (rest : List Msg) where
-    abbrev Leads : (k : ℕ) (m : Msg) → Takes step n w k p (node_of j.nodes k) m rest → Type 0
-    Leads k m takes = Leaves F f alloc c items is cs w refl h k p (node_of j.nodes k) m rest takes
-
-    abbrev AreLabelled : ℕ → Msg → Type 0
-    AreLabelled k m = EachSent (Label f g) k (step (node_of j.nodes k) p m).sends
-
-    at_switch : (m : Msg) (takes : Takes step n w 0 p (node_of j.nodes 0) m rest) → Label f g p 0 m → AreLabelled 0 m → Leads 0 m takes
-    at_switch m takes labelled labels =
-        let s = j.nodes.switch in
-        steps.leaves_other F f alloc c items is cs w refl h 0 p (node_of j.nodes 0) m rest takes (λ never. cc) (switch_hands f g s p m labelled).notes_are labels
-        (switch_says f g (Part (w.log ++ (switch_step s m).notes)) (Verdict (cs ++ at 0 p ∷ [])) Goes (switch_step s m).sends labels)
-        (λ op. switch_given op s m ∙ sym (no_stream_to f g op p 0 m (omega arith) labelled))
-        (λ i small x e. steps.fixed_other F f alloc c items is cs w refl h 0 p (node_of j.nodes 0) m rest takes i (λ never. absurd (omega (arith, never))) small x e)
-
-    -- The controller.
-    moves : (op : ℕ) (x : MoveState) → finite.get j.nodes.controller.operations op ≡ Some (Move x) → (x.plan.op ≡ op) × Goes op (destination x.plan)
-    moves op x there =
-        let plan = plan_is f g n refl w j b op x there in
-        ((j.shown_is.controller.moves op x there).op_is, record { destination = x.plan.to; destination_is = ap (receiver_of c) plan.order_is ∙ plan.to_is; node_is = refl })
-
-    new_of : (m : Msg) (takes : Takes step n w 1 p (node_of j.nodes 1) m rest) → Label f g p 1 m → IsNew w.log m
-    new_of (msg.Asked a) takes labelled =
-        let from : told_in (msg.Asked a) ≡ (if 0 == p then told_in (msg.Asked a) else []) = (let sender = labelled.0 in rw sender refl) in
-        let same = way_at_controller told_in step n (omega arith) w p (node_of j.nodes 1) (msg.Asked a) rest takes from in
-        let first = subst (λ xs. IsBusy g b.controller.operations w.log xs) same b.is in
-        (or_off (began a.op w.log) (has_answered a.op w.log) (first.unnoted a.op first.rising.0)).0
-    new_of m takes labelled = tt
-
-    abbrev Still : ℕ → Type 0
-    Still = IsStill f c items (steps.start F f alloc c items is)
-
-    copies : (op : ℕ) (x : CopyState) → finite.get j.nodes.controller.operations op ≡ Some (Copy x) → (copy.answer_of x.phase ≡ None) × Still op
-    copies op x there =
-        let it = j.shown_is.controller.copies op x there in
-        (it.going, ap is_moving (ap g.orders (sym it.op_is) ∙ it.plan.order_is))
-
-    shares : (op : ℕ) (x : ShareState) → finite.get j.nodes.controller.operations op ≡ Some (Share x) → (x.plan.op ≡ op) × Still op
-    shares op x there =
-        let it = j.shown_is.controller.shared op x there in
-        (it.op_is, ap is_moving (ap g.orders (sym it.op_is) ∙ it.plan.order_is))
-
-    due_found : (later : List Choice) (log : List Note) (op : ℕ) (a : Answer) → began op log ≡ true → IsDue (Part log) (Verdict later) Goes Still w.log n j.nodes.controller op a → IsFound f c items (steps.start F f alloc c items is) later log op a
-    due_found later log op a on (By_verdict v) = Was_judged on v
-    due_found later log op a on (By_still still done) = Was_still on still done
-
-    at_controller : (m : Msg) (takes : Takes step n w 1 p (node_of j.nodes 1) m rest) → Label f g p 1 m → Leads 1 m takes
-    at_controller m takes labelled =
-        let s = j.nodes.controller in
-        let log = w.log ++ (controller_step s p m).notes in
-        let later = cs ++ at 1 p ∷ [] in
-        let same : h.controller ≡ s = same_controller {F = F} {R = R} h.controller s (sym (h.controller_is (Controller h.controller)) ∙ j.nodes_are 1 takes.receiver (Controller h.controller)) in
-        let part = steps.part F f alloc c items is cs w refl h 1 p (node_of j.nodes 1) m rest takes in
-        let judged = steps.judged F f alloc c items is cs w refl h 1 p (node_of j.nodes 1) m rest takes in
-        let known : (op : ℕ) (x : MoveState) → finite.get s.operations op ≡ Some (Move x) → Knows (Part log) (Verdict later) Goes op x.phase = λ op x there. knows_kept (Part w.log) (Part log) (Verdict cs) (Verdict later) Goes part judged op x.phase (h.knows op x (ap (λ y. finite.get y.operations op) same ∙ there)) in
-        let did = controller_judges (Part log) (Verdict later) Goes Still w.log n s known moves copies shares (open_began f g n refl w j b) p m (steps.said_later F f alloc c items is cs w refl h 1 p (node_of j.nodes 1) m rest takes) (new_of m takes labelled) in
-        record {
-          controller = (controller_step s p m).node;
-          controller_is = (taken_outcome step n w 1 p (node_of j.nodes 1) m rest takes).own;
-          knows = did.knows;
-          says = did.says;
-          found = λ op a e. elim (began op w.log) as (λ t. began op w.log ≡ t → IsFound f c items (steps.start F f alloc c items is) later log op a) [
-            | true ↦ λ on. due_found later log op a (began_kept f c items (steps.start F f alloc c items is) op w.log (controller_step s p m).notes on) ((did.found op a e).known on)
-            | false ↦ λ off. Was_refused ((did.found op a e).refused off)
-          ] refl;
-          spends = λ op first. subst (λ y. sent_weight (once first op) n 1 (controller_step s p m).sends + used (finite.get y.operations op) (began op w.log) first ≤ used (finite.get (controller_step s p m).node.operations op) (began op log) first) (sym same) (did.once op first);
-          given = λ op. own_given op (controller_step s p m).notes did.own ∙ sym (no_stream_to f g op p 1 m (omega arith) labelled);
-          fixed = λ i small x e. steps.fixed_other F f alloc c items is cs w refl h 1 p (node_of j.nodes 1) m rest takes i (λ never. absurd (omega (arith, never))) small x e;
-        }
-
-    -- An instance.
-    module _ (y : ℕ) where
-      abbrev k : ℕ
-      k = suc (suc y)
-
-      abbrev i : InstanceState F R
-      i = j.nodes.instance k
-
-      module _ (small : k < n) where
-        counted : length w.nodes ≡ n
-        counted = (run_world node_ready step n (steps.start F f alloc c items is) (start_world F f laws alloc c items is) (count_at_start F f alloc c items is) cs run_is).1
-
-        there : slice_get w.nodes (instance_node y) ≡ Some (Instance i)
-        there =
-            let number : instance_node y ≡ k = omega arith in
-            subst (λ z. slice_get w.nodes z ≡ Some (Instance i)) (sym number) (slice_get-get_or w.nodes k (Instance i) (rw counted small) ∙ ap Some (j.nodes_are k small (Instance i)))
-
-        fixed_here : IsFixed F f alloc c items is y i
-        fixed_here = h.fixed y (omega (arith, small)) i (λ d. j.nodes_are k small d)
-
-        -- whether a live record of a unit that is asked for has a time
-        timed_is : (op : ℕ) (filter : Filter) → Takes step n w k p (Instance i) (msg.Stream op filter) rest → is_whole f.kind filter ≡ true → (u : units.Unit) (r : R) → filters.takes filter u ≡ true → finite.get i.table.live u ≡ Some r → f.is_timed r ≡ is_timed f c items u w.log
-        timed_is op filter takes whole u r on got = record_timed f laws c items (all_fit f c items is) (went f c items u w.log) r (streamed_record f c items is n w j counted k p (omega arith) small takes.sender op filter rest takes.waits whole u y r on got (ap (live_in u) there ∙ got))
-
-        part_of : (op : ℕ) (chunks : List Chunk) (log : List Note) → exported op log ≡ Some (units_in chunks) → before_export op log ≡ w.log → GivesState f laws (λ u. is_timed f c items u w.log) chunks → (ps : List Piece) → Each (IsOf (whole_of chunks)) ps → Each (Part log op) ps
-        part_of op chunks log units_are before gives [] each = tt
-        part_of op chunks log units_are before gives (q ∷ qs) each = (
-          record {
-            units = units_in chunks;
-            units_are = units_are;
-            total = each.0.0 ∙ sym gives.number;
-            newest = each.0.1 ∙ gives.version ∙ ap (λ l. version_number (list_any (λ u. is_timed f c items u l) (units_in chunks))) (sym before);
-          },
-          part_of op chunks log units_are before gives qs each.1,
-        )
-
-        -- the pieces of a stream say what is noted that is given
-        streamed : (op : ℕ) (filter : Filter) → Takes step n w k p (Instance i) (msg.Stream op filter) rest → is_whole f.kind filter ≡ true → exported op w.log ≡ None → Each (Part (w.log ++ (instance_step f i (msg.Stream op filter)).notes) op) (pieces (selected f i filter))
-        streamed op filter takes whole none =
-            let chunks = selected f i filter in
-            let notes = note.Exported i.index op (units_in chunks) ∷ [] in
-            let own : (op == op) ≡ true = grind (arith, nat_tests) in
-            let units_are : exported op (w.log ++ notes) ≡ Some (units_in chunks) = exported_new op w.log notes none ∙ rw own refl in
-            let before : before_export op (w.log ++ notes) ≡ w.log = before_export_new op w.log notes none ∙ ap (λ t. w.log ++ (if t then [] else notes)) own ∙ append-nil w.log in
-            subst (λ ns. Each (Part (w.log ++ ns) op) (pieces chunks)) (sym (stream_notes f i op filter)) (part_of op chunks (w.log ++ notes) units_are before (taken_give filter f laws i.table.live (λ u. is_timed f c items u w.log) (timed_is op filter takes whole)) (pieces chunks) (pieces_of chunks))
-
-      -- nothing was given before a stream is taken
-      none_before : (op : ℕ) (filter : Filter) (takes : Takes step n w k p (Instance i) (msg.Stream op filter) rest) → AreLabelled k (msg.Stream op filter) → exported op w.log ≡ None
-      none_before op filter takes labels =
-          let m = msg.Stream op filter in
-          let weight = total_after step n w k p (Instance i) m rest takes (once false op) in
-          let none = none_once f g op false n k (step (Instance i) p m).sends (λ never. absurd (omega (arith, never))) labels in
-          let own : (op == op) ≡ true = grind (arith, nat_tests) in
-          let one : once false op m ≡ 1 = rw own refl in
-          let most = h.once op false in
-          let few = used_few (finite.get h.controller.operations op) (began op w.log) false in
-          none_exported op w.log (omega (arith, weight, none, one, most, few))
-
-      -- the verdict on a piece that is put first
-      judged_first : (op : ℕ) (piece : Piece) (takes : Takes step n w k p (Instance i) (msg.Put op piece true) rest) → Part w.log op piece → Goes op k → Verdict (cs ++ at k p ∷ []) op (answer_by (piece_refusal i piece))
-      judged_first op piece takes part going =
-          let same : going.destination ≡ y = (let at_node = going.node_is in omega (arith, at_node)) in
-          let fixed = fixed_here takes.receiver in
-          let timed = list_any (λ u. is_timed f c items u (before_export op w.log)) part.units in
-          record {
-            front = cs;
-            is_taken = record { choice = at k p; back = []; whole = refl; piece = piece; rest = rest; waits = takes.waits };
-            weighed = record { held = finite.len i.table.live; coming = piece.total; limit = i.limit; marked = i.marked; timed = timed };
-            are_weighed = record {
-              destination = going.destination;
-              destination_is = going.destination_is;
-              units = part.units;
-              units_are = part.units_are;
-              held = ap live_number (sym (there takes.receiver)) ∙ ap (λ z. live_number (slice_get w.nodes (instance_node z))) (sym same);
-              coming = part.total;
-              limit = fixed.limit ∙ ap (λ z. slice_index c.limits z) (sym same);
-              marked = fixed.marked ∙ ap (λ z. slice_index_or c.marked z false) (sym same);
-              timed = refl;
-            };
-            at_destination = going.node_is;
-            answer_is = answer_is i piece timed part.newest;
-          }
-
-      ready_for : (m : Msg) (takes : Takes step n w k p (Instance i) m rest) → AreLabelled k m → Label f g p k m → steps.SaidBy F f alloc c items is cs w.log p k m → steps.SaidBy F f alloc c items is (cs ++ at k p ∷ []) (w.log ++ (instance_step f i m).notes) p k m → IsReady (Part (w.log ++ (instance_step f i m).notes)) (Verdict (cs ++ at k p ∷ [])) Goes k f i m
-      ready_for (msg.Stream op filter) takes labels labelled said later = streamed takes.receiver op filter takes labelled.1 (none_before op filter takes labels)
-      ready_for (msg.Put op piece true) takes labels labelled said later = judged_first op piece takes said.0 said.1
-      ready_for (msg.Put op piece false) takes labels labelled said later = later
-      ready_for m takes labels labelled said later = tt
-
-      at_instance : (m : Msg) (takes : Takes step n w k p (Instance i) m rest) → Label f g p k m → AreLabelled k m → Leads k m takes
-      at_instance m takes labelled labels =
-          let log = w.log ++ (instance_step f i m).notes in
-          let later = cs ++ at k p ∷ [] in
-          let does = instance_does (Part log) (Verdict later) Goes k f i m (ready_for m takes labels labelled (steps.said F f alloc c items is cs w refl h k p (Instance i) m rest takes) (steps.said_later F f alloc c items is cs w refl h k p (Instance i) m rest takes)) in
-          let left = taken_outcome step n w k p (Instance i) m rest takes in
-          let fixed = fixed_here takes.receiver in
-          steps.leaves_other F f alloc c items is cs w refl h k p (Instance i) m rest takes (λ never. absurd (omega (arith, never))) (instance_says f g k i m).notes_are labels does.says does.given
-          (λ z small x e. elim (z == y) as (λ t. (z == y) ≡ t → IsFixed F f alloc c items is z x) [
-            | true ↦ λ on.
-                let same : z ≡ y = (Decides-eqb z y).0 on in
-                let own : (instance_step f i m).node ≡ x = same_instance (instance_step f i m).node x (sym (left.own (Instance x)) ∙ subst (λ q. get_or (taken step w (at k p)).nodes (suc (suc q)) (Instance x) ≡ Instance x) same (e (Instance x))) in
-                record {
-                  limit = ap (λ q. q.limit) (sym own) ∙ does.limit ∙ fixed.limit ∙ ap (λ q. slice_index c.limits q) (sym same);
-                  marked = ap (λ q. q.marked) (sym own) ∙ does.marked ∙ fixed.marked ∙ ap (λ q. slice_index_or c.marked q false) (sym same);
-                }
-            | false ↦ λ off. steps.fixed_other F f alloc c items is cs w refl h k p (Instance i) m rest takes z (λ e'. (let bad : z ≡ y = omega (arith, e') in let never : true ≡ false = sym ((Decides-eqb z y).1 bad) ∙ off in cc)) small x e
-          ] refl)
-
-    -- a choice that is taken
-    pub judging_next : (k : ℕ) (m : Msg) (takes : Takes step n w k p (node_of j.nodes k) m rest) → Label f g p k m → AreLabelled k m → Judging F f alloc c items is (cs ++ at k p ∷ []) (taken step w (at k p)) (taken step w (at k p)).log
-    judging_next zero m takes labelled labels = steps.leaves F f alloc c items is cs w refl h 0 p (node_of j.nodes 0) m rest takes (at_switch m takes labelled labels)
-    judging_next (suc zero) m takes labelled labels = steps.leaves F f alloc c items is cs w refl h 1 p (node_of j.nodes 1) m rest takes (at_controller m takes labelled)
-    judging_next (suc (suc y)) m takes labelled labels = steps.leaves F f alloc c items is cs w refl h (suc (suc y)) p (node_of j.nodes (suc (suc y))) m rest takes (at_instance y m takes labelled labels)

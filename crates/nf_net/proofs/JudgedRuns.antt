@@ -16,38 +16,38 @@ use Rattle.nf_msgs.specs.declared.msg.Msg.{Msg}
 use Rattle.nf_msgs.specs.declared.msg.Msg.TheVariants as msg
 use Rattle.nf_msgs.specs.declared.note.Note.{Note}
 use Rattle.actor_net.specs.declared.choice.Choice.{Choice}
-use Rattle.actor_net.specs.Network.{Network, Stepped, IsRun, run, taken}
+use Rattle.actor_net.specs.Network.{Network, Stepped, IsRun, run, world_next}
 use Rattle.actor_net.proofs.OpeningWorlds.{opening_on_links, opening_weight}
 use Rattle.actor_net.proofs.RunInduction.{Taking, run_induction}
 use Rattle.actor_net.proofs.RunLaws.{run_splits}
 use Rattle.actor_net.proofs.WeightLaws.{total, weigh}
-use Rattle.unit_machine.proofs.Labels.{Each}
+use Rattle.proof_machines.proofs.unit.Labels.{Each}
 use Rattle.ctrl_node.specs.declared.operation.Operation.{Operation}
-use Rattle.ctrl_node.specs.Controller.{opened as opened_controller}
+use Rattle.ctrl_node.specs.Controller.{controller_at_start as opened_controller, unknown_in}
 use Rattle.instance_worker.specs.declared.instance.Instance.{Instance as InstanceState}
 use Rattle.net_world.specs.declared.config.Config.{Config}
 use Rattle.net_world.specs.declared.node.Node.{Node}
 use Rattle.net_world.specs.declared.node.Node.TheVariants.{Instance}
-use Rattle.net_world.specs.Commands.{began, answers_of, before_first, overlaps, unknown_in, IsCause, MayBegin}
+use Rattle.net_world.specs.Commands.{is_begun, answers_of, before_command, overlaps, IsCause, MayBegin}
 use Rattle.net_world.specs.Input.{is_item, order_numbered, IsInput}
 use Rattle.net_world.specs.Jobs.{course_of, job_of}
 use Rattle.net_world.specs.Nodes.{node_step, node_ready}
-use Rattle.net_world.specs.Start.{first_instance, first_nodes, started}
+use Rattle.net_world.specs.Start.{first_instance, first_nodes, started_with}
 use Rattle.net_world.specs.Verdicts.{is_refusal, receiver_of, IsVerdict}
 use Rattle.nf_net.specs.Promises.{Verdicts}
-use Rattle.answer_net.proofs.CommandPromises.{run_answers}
-use Rattle.answer_net.proofs.InstallSteps.{is_moving}
+use Rattle.nf_net.proofs.answers.CommandPromises.{run_answers}
+use Rattle.nf_net.proofs.answers.InstallSteps.{is_moving}
 use Rattle.nf_net.proofs.JudgedTables.{used, used_few}
 use Rattle.nf_net.proofs.JudgedFacts.{HasVerdict, IsFound, Was_refused, Was_judged, Was_still}
-use Rattle.nf_net.proofs.JudgedNodes.{judging_next}
+use Rattle.nf_net.proofs.JudgedWorlds.{judging_next}
 use Rattle.nf_net.proofs.JudgedSteps.{Part, Verdict, Goes, Judging, SaidBy, happened}
 use Rattle.nf_net.proofs.LiveRuns.{run_lived, lives_number}
 use Rattle.nf_net.proofs.MoveJudged.{Said}
-use Rattle.answer_net.proofs.MoveOnce.{once}
-use Rattle.whole_joined.proofs.BesideRuns.{its_takes, its_label, its_labels}
-use Rattle.whole_joined.proofs.RunsJoined.{Runs, run_beside, start_world}
-use Rattle.whole_joined.proofs.StartJoined.{given, all_fit, count_at_start, instance_found}
-use Rattle.outline_net.proofs.StateOutline.{all_each}
+use Rattle.nf_net.proofs.answers.MoveOnce.{once}
+use Rattle.proof_outlines.proofs.joined.BesideRuns.{its_takes, its_label, its_labels}
+use Rattle.proof_outlines.proofs.joined.RunsJoined.{Runs, run_beside, start_world}
+use Rattle.proof_outlines.proofs.joined.StartJoined.{given, all_fit, count_at_start, instance_found}
+use Rattle.proof_outlines.proofs.outline.StateOutline.{all_each}
 use Rattle.nf_net.proofs.VerdictLemmas.{once_taken, times_taken}
 
 -- An input says nothing of moves.
@@ -69,16 +69,18 @@ items_weigh first op (msg.InEnd ∷ items) ok = let rest = items_weigh first op 
 items_weigh first op (m ∷ items) ok = let never : false ≡ true = ok.0 in cc
 
 -- what may begin isn't refused
-not_both : (c : Config) (items : List Msg) (a : Answer) (what : Order) (log : List Note) → is_refusal a ≡ true → MayBegin c.names (order_numbered items) what log → IsCause a (unknown_in c.names what) (overlaps c.names (order_numbered items) what log) → ⊥
+not_both : (c : Config) (items : List Msg) (a : Answer) (what : Order) (log : List Note) → is_refusal a ≡ true
+    → MayBegin c.names (order_numbered items) what log → IsCause a (unknown_in c.names what) (overlaps c.names (order_numbered items) what log) → ⊥
 not_both c items (answer.Unknown name) what log refusal may cause = let never = sym may.known ∙ cause in cc
 not_both c items (answer.Overlap op) what log refusal may cause = let never = sym (may.apart op) ∙ cause.1.picked in cc
 not_both c items answer.Done what log refusal may cause = cc
 not_both c items (answer.Import a b d) what log refusal may cause = cc
 not_both c items (answer.Old a b) what log refusal may cause = cc
 
-module _ (F : Type 0) {R : Type 0} (f : Semantics R) (laws : FunctionLaws f) (alloc : Global) (c : Config) (items : List Msg) (is : IsInput f.kind c items) where
+module _ (F : Type 0) {R : Type 0} (f : Semantics R) (laws : FunctionLaws f) (alloc : Global) (c : Config) (items : List Msg)
+    (is : IsInput f.kind c items) where
   abbrev start : Network (Node F R) Msg Note
-  start = started alloc c items
+  start = started_with alloc c items
 
   abbrev n : ℕ
   n = length c.names + 2
@@ -99,35 +101,45 @@ module _ (F : Type 0) {R : Type 0} (f : Semantics R) (laws : FunctionLaws f) (al
     controller = opened_controller c.names c.site;
     controller_is = λ d. refl;
     knows = λ op m there. (let never = sym there ∙ finite.get-empty {X = Operation} nat_cmp op in cc);
-    says = opening_on_links Note (first_nodes {F = F} {R = R} alloc c) items (SaidBy F f alloc c items is [] []) (let count = count_at_start F f alloc c items is in omega (arith, count)) (items_said (Part F f alloc c items is []) (Verdict F f alloc c items is []) (Goes F f alloc c items is) items only);
+    says = opening_on_links Note (first_nodes {F = F} {R = R} alloc c) items (SaidBy F f alloc c items is [] [])
+        (let count = count_at_start F f alloc c items is in omega (arith, count))
+        (items_said (Part F f alloc c items is []) (Verdict F f alloc c items is []) (Goes F f alloc c items is) items only);
     found = λ op a e. cc;
     once = λ op first.
         let none = opening_weight Note (first_nodes {F = F} {R = R} alloc c) items (once first op) in
         let zero = items_weigh first op items only in
         by_first first op (omega (arith, none, zero));
     fixed = λ i small s e.
-        let own : first_instance alloc c i ≡ s = same_instance (first_instance alloc c i) s (sym (instance_found F f alloc c items is (length c.names) i (Instance s) small) ∙ e (Instance s)) in
+        let own : first_instance alloc c i ≡ s = same_instance (first_instance alloc c i) s
+        (sym (instance_found F f alloc c items is (length c.names) i (Instance s) small) ∙ e (Instance s)) in
         record { limit = ap (λ x. x.limit) (sym own); marked = ap (λ x. x.marked) (sym own) };
   }
     where
       only : Each (λ item. is_item item ≡ true) items
       only = all_each (λ item. is_item item ≡ true) items is.only_items
 
-      by_first : (first : Bool) (op : ℕ) → total (once first op) start ≡ 0 → total (once first op) start + happened F f alloc c items is first [] [] op ≤ used (finite.get (opened_controller c.names c.site).operations op) false first
+      by_first : (first : Bool) (op : ℕ) → total (once first op) start ≡ 0 → total (once first op) start + happened F f alloc c items is first [] [] op
+          ≤ used (finite.get (opened_controller c.names c.site).operations op) false first
       by_first true op none = omega (arith, none)
       by_first false op none = omega (arith, none)
 
   -- every run keeps what is known
   pub run_judging : (cs : List Choice) → IsRun node_ready step cs start → Judging F f alloc c items is cs (run step cs start) (run step cs start).log
   run_judging cs run_is = run_induction node_ready step n (λ ds w. Judging F f alloc c items is ds w w.log) start
-      (λ ds w d next h. subst (λ v. Taking node_ready step n v d → Judging F f alloc c items is ds v v.log → Judging F f alloc c items is (ds ++ d ∷ []) (taken step v d) (taken step v d).log) (sym next.reached) (λ t x. next_judging ds next.is_run d t x) next.taking h)
+      (λ ds w d next h. subst (λ v. Taking node_ready step n v d → Judging F f alloc c items is ds v v.log
+      → Judging F f alloc c items is (ds ++ d ∷ []) (world_next step v d) (world_next step v d).log)
+      (sym next.reached) (λ t x. next_judging ds next.is_run d t x) next.taking h)
       (start_world F f laws alloc c items is) (count_at_start F f alloc c items is) start_judging cs run_is
     where
-      next_judging : (ds : List Choice) (ds_is : IsRun node_ready step ds start) (d : Choice) → Taking node_ready step n (run step ds start) d → Judging F f alloc c items is ds (run step ds start) (run step ds start).log → Judging F f alloc c items is (ds ++ d ∷ []) (taken step (run step ds start) d) (taken step (run step ds start) d).log
+      next_judging : (ds : List Choice) (ds_is : IsRun node_ready step ds start) (d : Choice)
+          → Taking node_ready step n (run step ds start) d → Judging F f alloc c items is ds (run step ds start) (run step ds start).log
+          → Judging F f alloc c items is (ds ++ d ∷ []) (world_next step (run step ds start) d) (world_next step (run step ds start) d).log
       next_judging ds ds_is d t h =
           let r : Runs F f laws alloc c items is (run step ds start) = run_beside F f laws alloc c items is ds ds_is in
           let fitting = all_fit f c items is in
-          judging_next F f laws alloc c items is ds ds_is h d.port t.rest d.node t.message (its_takes f laws (given f c items is) fitting n refl (run step ds start) d t r.joined r.beside) (its_label f laws (given f c items is) fitting n refl (run step ds start) d t r.joined r.beside) (its_labels f laws (given f c items is) fitting n refl (run step ds start) d t r.joined r.beside)
+          judging_next F f laws alloc c items is ds ds_is h d.port t.rest d.node t.message (its_takes f laws (given f c items is) fitting n refl
+          (run step ds start) d t r.joined r.beside) (its_label f laws (given f c items is) fitting n refl (run step ds start) d t r.joined r.beside)
+          (its_labels f laws (given f c items is) fitting n refl (run step ds start) d t r.joined r.beside)
 
   -- and so its answers are as is promised
   module _ (cs : List Choice) (run_is : IsRun node_ready step cs start) where
@@ -150,30 +162,37 @@ module _ (F : Type 0) {R : Type 0} (f : Semantics R) (laws : FunctionLaws f) (al
       are_weighed = v.are_weighed;
       at_destination = v.at_destination;
       answer_is = v.answer_is;
-      by_history = v.are_weighed.held ∙ sym (lives_number F f laws alloc c items is v.front (is_front v.front (v.is_taken.choice ∷ v.is_taken.back) v.is_taken.whole) v.are_weighed.destination);
+      by_history = v.are_weighed.held ∙ sym (lives_number F f laws alloc c items is v.front
+          (is_front v.front (v.is_taken.choice ∷ v.is_taken.back) v.is_taken.whole) v.are_weighed.destination);
     }
       where
         few : times_taken f op cs start ≤ 1
-        few = let most = h.once op true in let one = used_few (finite.get h.controller.operations op) (began op w.log) true in omega (arith, most, one)
+        few = let most = h.once op true in let one = used_few (finite.get h.controller.operations op) (is_begun op w.log) true in omega (arith, most, one)
 
     -- what began isn't refused
-    not_refused : (op : ℕ) (what : Order) (a : Answer) → order_numbered items op ≡ Some what → began op w.log ≡ true → answers_of op w.log ≡ a ∷ [] → is_refusal a ≡ true → ⊥
+    not_refused : (op : ℕ) (what : Order) (a : Answer) → order_numbered items op ≡ Some what → is_begun op w.log ≡ true → answers_of op w.log ≡ a ∷ []
+        → is_refusal a ≡ true → ⊥
     not_refused op what a known on e refusal =
         let said = run_answers F f laws alloc c items is cs run_is in
-        not_both c items a what (before_first op w.log) refusal (said.begins op what known on) (said.causes op what a known e)
+        not_both c items a what (before_command op w.log) refusal (said.begins op what known on) (said.causes op what a known e)
 
-    by_found : (op : ℕ) (source destination : List ℕ) (filter : Filter) (keep : Bool) (a : Answer) → order_numbered items op ≡ Some (order.Move source destination filter keep) → began op w.log ≡ true → answers_of op w.log ≡ a ∷ [] → IsFound f c items start cs w.log op a → IsVerdict (job_of f c items) (course_of start cs) op a
-    by_found op source destination filter keep a known on e (Was_refused refusal) = absurd (not_refused op (order.Move source destination filter keep) a known on e refusal)
+    by_found : (op : ℕ) (source destination : List ℕ) (filter : Filter) (keep : Bool) (a : Answer)
+        → order_numbered items op ≡ Some (order.Move source destination filter keep) → is_begun op w.log ≡ true → answers_of op w.log ≡ a ∷ []
+        → IsFound f c items start cs w.log op a → IsVerdict (job_of f c items) (course_of start cs) op a
+    by_found op source destination filter keep a known on e (Was_refused refusal) =
+        absurd (not_refused op (order.Move source destination filter keep) a known on e refusal)
     by_found op source destination filter keep a known on e (Was_judged begun v) = verdict_of op a v
     by_found op source destination filter keep a known on e (Was_still begun still done) = let never : true ≡ false = ap is_moving (sym known) ∙ still in cc
 
     -- a command that moves no units and began is done
-    still_found : (op : ℕ) (what : Order) (a : Answer) → receiver_of c (Some what) ≡ None → order_numbered items op ≡ Some what → began op w.log ≡ true → answers_of op w.log ≡ a ∷ [] → IsFound f c items start cs w.log op a → a ≡ answer.Done
+    still_found : (op : ℕ) (what : Order) (a : Answer) → receiver_of c (Some what) ≡ None → order_numbered items op ≡ Some what → is_begun op w.log ≡ true
+        → answers_of op w.log ≡ a ∷ [] → IsFound f c items start cs w.log op a → a ≡ answer.Done
     still_found op what a none known on e (Was_refused refusal) = absurd (not_refused op what a known on e refusal)
-    still_found op what a none known on e (Was_judged begun v) = let never : None ≡ Some v.are_weighed.destination = sym none ∙ ap (receiver_of c) (sym known) ∙ v.are_weighed.destination_is in cc
+    still_found op what a none known on e (Was_judged begun v) =
+        let never : None ≡ Some v.are_weighed.destination = sym none ∙ ap (receiver_of c) (sym known) ∙ v.are_weighed.destination_is in cc
     still_found op what a none known on e (Was_still begun still done) = done
 
-    refused_by : (op : ℕ) (a : Answer) → began op w.log ≡ false → IsFound f c items start cs w.log op a → is_refusal a ≡ true
+    refused_by : (op : ℕ) (a : Answer) → is_begun op w.log ≡ false → IsFound f c items start cs w.log op a → is_refusal a ≡ true
     refused_by op a off (Was_refused refusal) = refusal
     refused_by op a off (Was_judged begun v) = let never = sym begun ∙ off in cc
     refused_by op a off (Was_still begun still done) = let never = sym begun ∙ off in cc

@@ -1,59 +1,69 @@
 -- An open share's step keeps what is known of open moves and of answers, and asks once for the share's state: it is answered that it is done, where
 -- it is set up.
-use Rattle.std.proofs.Common.{◌≡◌, ℕ, ◌+◌, ◌≤◌, Bool, true, false, cond, Option, Some, None, List, [], ◌∷◌, ◌++◌, refl, sym, ap, ◌∙◌, subst, arith}
+use Rattle.std.proofs.Common.{◌≡◌, ℕ, ◌+◌, ◌≤◌, Bool, true, false, cond, Option, Some, None, List, [], ◌∷◌, ◌++◌, refl, sym, ap, ◌∙◌, subst, arith, map}
 use Rattle.std.specs.Prelude.{if◌then◌else◌, ◌==◌}
 use Rattle.std.specs.FinMap as finite
 use Rattle.std.proofs.lemmas.Bool.Decides.{Decides-eqb}
-use Rattle.event_store.specs.Store.{stored}
+use Rattle.event_store.specs.Store.{stored_of}
 use Rattle.packet_pool.specs.Pool.{FullCell}
 use Rattle.nf_msgs.specs.declared.answer.Answer.{Answer}
 use Rattle.nf_msgs.specs.declared.msg.Piece.{Piece}
 use Rattle.nf_msgs.specs.declared.msg.Msg.{Msg}
 use Rattle.nf_msgs.specs.declared.msg.Msg.TheVariants as msg
 use Rattle.nf_msgs.specs.declared.note.Note.{Note}
-use Rattle.copy_share.specs.Share.{ShareState, ShareRow, goes, row, served}
+use Rattle.copy_share.specs.Share.{ShareState, ShareRow, next_phase, row, service_if_idle}
 use Rattle.ctrl_node.specs.declared.operation.Operation.TheVariants.{Share}
-use Rattle.ctrl_node.specs.Controller.{ControllerState, Step, handed, queued}
+use Rattle.ctrl_node.specs.Controller.{ControllerState, Step, hand_step, queue_step}
 use Rattle.actor_net.proofs.WeightLaws.{EachSent, sent_weight}
-use Rattle.unit_machine.proofs.Labels.{Each}
-use Rattle.net_world.specs.Commands.{began, answers_of}
-use Rattle.whole_outline.proofs.ShareLeft.{OpenAt, answered, noted, next_share, ShareLeaves, handed_leaves, queued_leaves}
-use Rattle.answer_net.proofs.BusyLemmas.{began_same, first_is}
-use Rattle.answer_net.proofs.ControllerActs.{other_there}
-use Rattle.answer_net.proofs.ShareTells.{is_set_up, is_of_share, AreOfShare, Tells, ShareStep, handed_share, queued_share}
-use Rattle.answer_net.proofs.MoveOnce.{once}
+use Rattle.proof_machines.proofs.unit.Labels.{Each}
+use Rattle.net_world.specs.Commands.{is_begun, answers_of}
+use Rattle.net_world.proofs.SentMessages.{sent-append}
+use Rattle.proof_outlines.proofs.whole.ShareLeft.{OpenAt, answered, noted, next_share, ShareLeaves, handed_leaves, queued_leaves}
+use Rattle.nf_net.proofs.answers.BusyLemmas.{began_same, first_is}
+use Rattle.nf_net.proofs.answers.ControllerActs.{other_there}
+use Rattle.nf_net.proofs.answers.ShareTells.{is_set_up, is_of_share, AreOfShare, Tells, ShareStep, handed_share, queued_share}
+use Rattle.nf_net.proofs.answers.MoveOnce.{once}
 use Rattle.nf_net.proofs.JudgedTables as tables
 use Rattle.nf_net.proofs.JudgedTables.{used, is_own, By_still}
-use Rattle.nf_net.proofs.MoveJudged.{Said, sent-append}
+use Rattle.nf_net.proofs.MoveJudged.{Said}
 use Rattle.nf_net.proofs.ShareAsks.{asked, Asks, row_asks, none_asked, leaves_own, leaves_other}
 
 -- an answer begins no command
-noted_none : (k op : ℕ) (a : Option Answer) → began k (noted op a) ≡ false
+noted_none : (k op : ℕ) (a : Option Answer) → is_begun k (noted op a) ≡ false
 noted_none k op None = refl
 noted_none k op (Some why) = refl
 
 -- What a row of an open share sends once, and what was sent once before and after it.
-module _ (n : ℕ) (log : List Note) (x : OpenAt) (op_is : x.share.plan.op ≡ x.num) (there : finite.get x.node.operations x.num ≡ Some (Share x.share)) (r : ShareRow) (did : Step) (l : ShareLeaves x r did) where
+module _ (n : ℕ) (log : List Note) (x : OpenAt) (op_is : x.share.plan.op ≡ x.num) (there : finite.get x.node.operations x.num ≡ Some (Share x.share))
+    (r : ShareRow) (did : Step) (l : ShareLeaves x r did) where
   abbrev AllOnce : Type 0
-  AllOnce = (k : ℕ) (first : Bool) → sent_weight (once first k) n 1 did.sends + used (finite.get x.node.operations k) (began k log) first ≤ used (finite.get did.node.operations k) (began k (log ++ did.notes)) first
+  AllOnce = (k : ℕ) (first : Bool) → sent_weight (once first k) n 1 did.sends + used (finite.get x.node.operations k) (is_begun k log) first
+      ≤ used (finite.get did.node.operations k) (is_begun k (log ++ did.notes)) first
 
   spends_once : ((first : Bool) → Asks n first x.share.plan x.share.phase r) → AllOnce
   spends_once asks k first =
-      let begun : began k (log ++ did.notes) ≡ began k log = began_same k log did.notes (ap (began k) l.notes ∙ noted_none k x.num r.answer) in
-      let after : used (finite.get did.node.operations k) (began k (log ++ did.notes)) first ≡ used (cond (k == x.num) (Some (next_share x r)) (finite.get x.node.operations k)) (began k log) first =
-      ap (λ o. used o (began k (log ++ did.notes)) first) (l.operations k) ∙ ap (λ b. used (cond (k == x.num) (Some (next_share x r)) (finite.get x.node.operations k)) b first) begun in
+      let begun : is_begun k (log ++ did.notes) ≡ is_begun k log = began_same k log did.notes (ap (is_begun k) l.notes ∙ noted_none k x.num r.answer) in
+      let after : used (finite.get did.node.operations k) (is_begun k (log ++ did.notes)) first
+      ≡ used (cond (k == x.num) (Some (next_share x r)) (finite.get x.node.operations k)) (is_begun k log) first =
+      ap (λ o. used o (is_begun k (log ++ did.notes)) first) (l.operations k)
+      ∙ ap (λ b. used (cond (k == x.num) (Some (next_share x r)) (finite.get x.node.operations k)) b first) begun in
       let here = by_number first k (k == x.num) refl in
       omega (arith, after, here)
     where
-      by_number : (first : Bool) (k : ℕ) (b : Bool) → (k == x.num) ≡ b → sent_weight (once first k) n 1 did.sends + used (finite.get x.node.operations k) (began k log) first ≤ used (cond b (Some (next_share x r)) (finite.get x.node.operations k)) (began k log) first
+      by_number : (first : Bool) (k : ℕ) (b : Bool) → (k == x.num) ≡ b
+          → sent_weight (once first k) n 1 did.sends + used (finite.get x.node.operations k) (is_begun k log) first
+          ≤ used (cond b (Some (next_share x r)) (finite.get x.node.operations k)) (is_begun k log) first
       by_number first k true on =
           let it : k ≡ x.num = (Decides-eqb k x.num).0 on in
-          let was : used (finite.get x.node.operations k) (began k log) first ≡ asked x.share.phase = ap (λ j. used (finite.get x.node.operations j) (began k log) first) it ∙ ap (λ o. used o (began k log) first) there in
-          let own = subst (λ j. sent_weight (once first j) n 1 did.sends + asked x.share.phase ≤ asked (served x.share.plan r.phase x.cells).phase) (sym it) (leaves_own n first x op_is r did l (asks first)) in
+          let was : used (finite.get x.node.operations k) (is_begun k log) first ≡ asked x.share.phase =
+          ap (λ j. used (finite.get x.node.operations j) (is_begun k log) first) it ∙ ap (λ o. used o (is_begun k log) first) there in
+          let own = subst (λ j. sent_weight (once first j) n 1 did.sends + asked x.share.phase ≤ asked (service_if_idle x.share.plan r.phase x.cells).phase)
+          (sym it) (leaves_own n first x op_is r did l (asks first)) in
           omega (arith, was, own)
       by_number first k false off = let none = leaves_other n first x op_is r did l (asks first) k off in omega (arith, none)
 
-module _ (Part : ℕ → Piece → Type 0) (Verdict : ℕ → Answer → Type 0) (Goes : ℕ → ℕ → Type 0) (Still : ℕ → Type 0) (log : List Note) (n : ℕ) (c : ControllerState) where
+module _ (Part : ℕ → Piece → Type 0) (Verdict : ℕ → Answer → Type 0) (Goes : ℕ → ℕ → Type 0) (Still : ℕ → Type 0) (log : List Note) (n : ℕ)
+    (c : ControllerState) where
   abbrev IsFound : ℕ → Answer → Type 0
   IsFound = tables.IsFound Part Verdict Goes Still log n c
 
@@ -80,22 +90,28 @@ module _ (Part : ℕ → Piece → Type 0) (Verdict : ℕ → Answer → Type 0)
   own_noted op None = tt
   own_noted op (Some why) = (refl, tt)
 
-  module _ (knows : tables.AllKnow Part Verdict Goes Still log n c c.operations) (op : ℕ) (s : ShareState) (there : finite.get c.operations op ≡ Some (Share s)) (its : Still op) (begun_is : began op log ≡ true) where
+  module _ (knows : tables.AllKnow Part Verdict Goes Still log n c c.operations) (op : ℕ) (s : ShareState)
+      (there : finite.get c.operations op ≡ Some (Share s)) (its : Still op) (begun_is : is_begun op log ≡ true) where
     -- where it is set up it is answered that it is done
     found_by : (now : Bool) (a : Option Answer) → Tells (is_set_up s.phase) now a → (k : ℕ) (b : Answer) → answers_of k (noted op a) ≡ b ∷ [] → IsFound k b
     found_by now None tells k b is = cc
-    found_by now (Some why) tells k b is = elim (op == k) as (λ t. (op == k) ≡ t → (if t then why ∷ [] else []) ≡ b ∷ [] → IsFound k b) [
-      | true ↦ λ on given. subst (λ j. IsFound j b) ((Decides-eqb op k).0 on) (record {
-        known = λ _. By_still its (sym (first_is why b given) ∙ tells.0);
-        refused = λ never. (let on = sym begun_is ∙ never in cc);
-      })
-      | false ↦ λ off never. cc
-    ] refl is
+    found_by now (Some why) tells k b is =
+        elim (op == k) as (λ t. (op == k) ≡ t → map (λ (one : ℕ × Answer). one.1) (if t then (op, why) ∷ [] else []) ≡ b ∷ [] → IsFound k b) [
+          | true ↦ λ on given. subst (λ j. IsFound j b) ((Decides-eqb op k).0 on) (record {
+            known = λ _. By_still its (sym (first_is why b given) ∙ tells.0);
+            refused = λ never. (let on = sym begun_is ∙ never in cc);
+          })
+          | false ↦ λ off never. cc
+        ] refl is
 
-    share_is : (did : Step) → ShareStep c op s did → ((k : ℕ) (first : Bool) → sent_weight (once first k) n 1 did.sends + used (finite.get c.operations k) (began k log) first ≤ used (finite.get did.node.operations k) (began k (log ++ did.notes)) first) → StepIs did
+    share_is : (did : Step) → ShareStep c op s did → ((k : ℕ) (first : Bool) → sent_weight (once first k) n 1 did.sends
+        + used (finite.get c.operations k) (is_begun k log) first ≤ used (finite.get did.node.operations k) (is_begun k (log ++ did.notes)) first)
+        → StepIs did
     share_is did l all_once = record {
-      knows = λ k x e. knows k x (other_there (k == op) (Some (Share (record s { phase = l.after }))) (finite.get c.operations k) x tt (sym (l.operations k) ∙ e));
-      says = subst (EachSent (Said Part Verdict Goes) 1) (sym l.sends_are) (sent-append (Said Part Verdict Goes) 1 (answered op l.answer l.first) l.second (answered_said op l.answer l.first l.first_own) (shares_said l.second l.second_own));
+      knows = λ k x e. knows k x
+          (other_there (k == op) (Some (Share (record s { phase = l.after }))) (finite.get c.operations k) x tt (sym (l.operations k) ∙ e));
+      says = subst (EachSent (Said Part Verdict Goes) 1) (sym l.sends_are) (sent-append (Said Part Verdict Goes) 1 (answered op l.answer l.first) l.second
+          (answered_said op l.answer l.first l.first_own) (shares_said l.second l.second_own));
       found = λ k b is. found_by (is_set_up l.after) l.answer l.tells k b (ap (answers_of k) (sym l.notes_are) ∙ is);
       own = subst (Each (λ x. is_own x ≡ true)) (sym l.notes_are) (own_noted op l.answer);
       once = all_once;
@@ -103,14 +119,16 @@ module _ (Part : ℕ → Piece → Type 0) (Verdict : ℕ → Answer → Type 0)
 
     module _ (op_is : s.plan.op ≡ op) where
       -- a message of its number
-      pub handed_shared : (port : ℕ) (m : Msg) → StepIs (handed c op port m)
+      pub handed_shared : (port : ℕ) (m : Msg) → StepIs (hand_step c op port m)
       handed_shared port m =
-          let x : OpenAt = record { node = c; num = op; share = s; cells = stored c.store op } in
+          let x : OpenAt = record { node = c; num = op; share = s; cells = stored_of c.store op } in
           let r : ShareRow = row s port m in
-          share_is (handed c op port m) (handed_share c op s there op_is port m) (spends_once n log x op_is there r (handed c op port m) (handed_leaves x r op_is port m there refl refl) (λ first. row_asks n first s.plan s.phase port m))
+          share_is (hand_step c op port m) (handed_share c op s there op_is port m) (spends_once n log x op_is there r (hand_step c op port m)
+          (handed_leaves x r op_is port m there refl refl) (λ first. row_asks n first s.plan s.phase port m))
 
       -- a packet behind its queue
-      pub queued_shared : (cell : FullCell) → StepIs (queued c cell (Some op))
+      pub queued_shared : (cell : FullCell) → StepIs (queue_step c cell (Some op))
       queued_shared cell =
-          let x : OpenAt = record { node = c; num = op; share = s; cells = stored c.store op ++ cell ∷ [] } in
-          share_is (queued c cell (Some op)) (queued_share c op s there op_is cell) (spends_once n log x op_is there (goes s.phase []) (queued c cell (Some op)) (queued_leaves c op s cell there op_is) (λ first. none_asked n first s.plan s.phase))
+          let x : OpenAt = record { node = c; num = op; share = s; cells = stored_of c.store op ++ cell ∷ [] } in
+          share_is (queue_step c cell (Some op)) (queued_share c op s there op_is cell) (spends_once n log x op_is there (next_phase s.phase [])
+          (queue_step c cell (Some op)) (queued_leaves c op s cell there op_is) (λ first. none_asked n first s.plan s.phase))

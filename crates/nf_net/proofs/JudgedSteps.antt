@@ -3,7 +3,7 @@ use Rattle.std.proofs.Common.{◌≡◌, ◌≢◌, ℕ, suc, ◌+◌, ◌<◌, 
 use Rattle.std.specs.Prelude.{if◌then◌else◌, slice_index, slice_index_or}
 use Rattle.std.specs.declared.alloc.Global.{Global}
 use Rattle.std.specs.FinMap as finite
-use Rattle.share_machine.proofs.Lists.{cond-same}
+use Rattle.proof_machines.proofs.share.Lists.{cond-same}
 use Rattle.nf_function.specs.Semantics.{Semantics}
 use Rattle.nf_msgs.specs.declared.answer.Answer.{Answer}
 use Rattle.nf_msgs.specs.declared.msg.Piece.{Piece}
@@ -15,34 +15,35 @@ use Rattle.ctrl_node.specs.declared.operation.Operation.TheVariants.{Move}
 use Rattle.ctrl_node.specs.Controller.{ControllerState}
 use Rattle.instance_worker.specs.declared.instance.Instance.{Instance as InstanceState}
 use Rattle.actor_net.specs.declared.choice.Choice.{Choice}
-use Rattle.actor_net.specs.Network.{Network, Stepped, reaches, run, taken, waiting}
+use Rattle.actor_net.specs.Network.{Network, Stepped, reaches, run, world_next, queue_at}
 use Rattle.actor_net.proofs.EnabledChoices.{at}
 use Rattle.actor_net.proofs.StepOutcome.{Takes, Outcome, taken_outcome}
 use Rattle.actor_net.proofs.WeightLaws.{OnLinks, EachSent, on_links_after, total, total_after, sent_weight}
-use Rattle.unit_machine.proofs.Labels.{Each}
+use Rattle.proof_machines.proofs.unit.Labels.{Each}
 use Rattle.net_world.specs.declared.config.Config.{Config}
 use Rattle.net_world.specs.declared.node.Node.{Node}
 use Rattle.net_world.specs.declared.node.Node.TheVariants.{Controller, Instance}
-use Rattle.net_world.specs.Commands.{began, answers_of}
+use Rattle.net_world.specs.Commands.{is_begun, answers_of}
 use Rattle.net_world.specs.Input.{IsInput}
 use Rattle.net_world.specs.Nodes.{node_step}
-use Rattle.net_world.specs.Start.{started}
-use Rattle.answer_net.proofs.BusyLemmas.{AreOther, answers_of-append, none_answered, other_not_answered, other_not_begun, began_same}
+use Rattle.net_world.specs.Start.{started_with}
+use Rattle.net_world.proofs.LogLemmas.{answers_of-append}
+use Rattle.nf_net.proofs.answers.BusyLemmas.{AreOther, none_answered, other_not_answered, other_not_begun, began_same}
 use Rattle.nf_net.proofs.JudgedTables.{used}
 use Rattle.nf_net.proofs.JudgedFacts.{IsPart, IsGoing, HasVerdict, IsFound, part_kept, verdict_kept, found_kept, said_kept, knows_kept, links_kept}
 use Rattle.nf_net.proofs.MoveJudged.{Said, Knows}
-use Rattle.answer_net.proofs.MoveOnce.{once, counts}
-use Rattle.whole_joined.proofs.Given.{Given}
-use Rattle.whole_joined.proofs.Joined.{Label}
-use Rattle.whole_joined.proofs.StartJoined.{given}
+use Rattle.nf_net.proofs.answers.MoveOnce.{once, counts}
+use Rattle.proof_outlines.proofs.joined.Given.{Given}
+use Rattle.proof_outlines.proofs.joined.Joined.{Label}
+use Rattle.proof_outlines.proofs.joined.StartJoined.{given}
 use Rattle.nf_net.proofs.VerdictLemmas.{times_given, times_given-append, is_first_piece, times_taken, times_taken-append}
 
 -- a list that is two has its one element in the first or in the second
-data OneOf (xs ys : List Answer) (a : Answer) : Type 0 where
+pub data OneOf (xs ys : List Answer) (a : Answer) : Type 0 where
   In_first : xs ≡ a ∷ [] → OneOf xs ys a
   In_second : ys ≡ a ∷ [] → OneOf xs ys a
 
-one_of : (xs ys : List Answer) (a : Answer) → xs ++ ys ≡ a ∷ [] → OneOf xs ys a
+pub one_of : (xs ys : List Answer) (a : Answer) → xs ++ ys ≡ a ∷ [] → OneOf xs ys a
 one_of [] ys a is = In_second is
 one_of (x ∷ []) [] a is = In_first is
 one_of (x ∷ []) (y ∷ ys) a is = cc
@@ -78,7 +79,7 @@ module _ {R : Type 0} (f : Semantics R) (g : Given) (op : ℕ) where
 
 module _ (F : Type 0) {R : Type 0} (f : Semantics R) (alloc : Global) (c : Config) (items : List Msg) (is : IsInput f.kind c items) where
   abbrev pub start : Network (Node F R) Msg Note
-  start = started alloc c items
+  start = started_with alloc c items
 
   abbrev pub nodes : ℕ
   nodes = length c.names + 2
@@ -117,11 +118,12 @@ module _ (F : Type 0) {R : Type 0} (f : Semantics R) (alloc : Global) (c : Confi
     pub knows : (op : ℕ) (m : MoveState) → finite.get controller.operations op ≡ Some (Move m) → Knows (Part log) (Verdict cs) Goes op m.phase
     pub says : OnLinks (SaidBy cs log) w
     pub found : (op : ℕ) (a : Answer) → answers_of op log ≡ a ∷ [] → IsFound f c items start cs log op a
-    pub once : (op : ℕ) (first : Bool) → total (once first op) w + happened first cs log op ≤ used (finite.get controller.operations op) (began op log) first
+    pub once : (op : ℕ) (first : Bool) → total (once first op) w + happened first cs log op ≤ used (finite.get controller.operations op) (is_begun op log) first
     pub fixed : (i : ℕ) → i < length c.names → (s : InstanceState F R) → ((d : Node F R) → get_or w.nodes (suc (suc i)) d ≡ Instance s) → IsFixed i s
 
   -- A choice after these.
-  module _ (cs : List Choice) (w : Network (Node F R) Msg Note) (reached : w ≡ run step cs start) (h : Judging cs w w.log) (k p : ℕ) (node : Node F R) (m : Msg) (rest : List Msg) (takes : Takes step nodes w k p node m rest) where
+  module _ (cs : List Choice) (w : Network (Node F R) Msg Note) (reached : w ≡ run step cs start) (h : Judging cs w w.log) (k p : ℕ) (node : Node F R)
+      (m : Msg) (rest : List Msg) (takes : Takes step nodes w k p node m rest) where
     abbrev pub did : Stepped (Node F R) Msg Note
     did = step node p m
 
@@ -132,13 +134,14 @@ module _ (F : Type 0) {R : Type 0} (f : Semantics R) (alloc : Global) (c : Confi
     log = w.log ++ did.notes
 
     abbrev v : Network (Node F R) Msg Note
-    v = taken step w (at k p)
+    v = world_next step w (at k p)
 
     left : Outcome step nodes w k p node m rest v
     left = taken_outcome step nodes w k p node m rest takes
 
     pub said : SaidBy cs w.log p k m
-    said = (subst (λ ms. Each (SaidBy cs w.log p k) ms) takes.waits (h.says p k (let n = takes.count in rw n takes.sender) (let n = takes.count in rw n takes.receiver))).0
+    said = (subst (λ ms. Each (SaidBy cs w.log p k) ms) takes.waits
+        (h.says p k (let n = takes.count in rw n takes.sender) (let n = takes.count in rw n takes.receiver))).0
 
     pub part : (op : ℕ) (piece : Piece) → Part w.log op piece → Part log op piece
     part op piece x = part_kept f c items start w.log did.notes op piece x
@@ -157,18 +160,21 @@ module _ (F : Type 0) {R : Type 0} (f : Semantics R) (alloc : Global) (c : Confi
       pub knows : (op : ℕ) (x : MoveState) → finite.get controller.operations op ≡ Some (Move x) → Knows (Part log) (Verdict later) Goes op x.phase
       pub says : EachSent (SaidBy later log) k did.sends
       pub found : (op : ℕ) (a : Answer) → answers_of op did.notes ≡ a ∷ [] → IsFound f c items start later log op a
-      pub spends : (op : ℕ) (first : Bool) → sent_weight (once first op) nodes k did.sends + used (finite.get h.controller.operations op) (began op w.log) first ≤ used (finite.get controller.operations op) (began op log) first
+      pub spends : (op : ℕ) (first : Bool) → sent_weight (once first op) nodes k did.sends
+          + used (finite.get h.controller.operations op) (is_begun op w.log) first ≤ used (finite.get controller.operations op) (is_begun op log) first
       pub given : (op : ℕ) → times_given op did.notes ≡ counts m false op
       pub fixed : (i : ℕ) → i < length c.names → (s : InstanceState F R) → ((d : Node F R) → get_or v.nodes (suc (suc i)) d ≡ Instance s) → IsFixed i s
 
     taken_now : (op : ℕ) → times_taken f op later start ≡ times_taken f op cs start + counts m true op
     taken_now op =
         let both = times_taken-append f op cs (at k p ∷ []) start in
-        let here : (if is_first_piece op (waiting (run step cs start) (at k p)) then 1 else 0) ≡ counts m true op =
-        ap (λ u. if is_first_piece op (waiting u (at k p)) then 1 else 0) (sym reached) ∙ ap (λ ms. if is_first_piece op ms then 1 else 0) takes.waits ∙ first_counts op m rest in
+        let here : (if is_first_piece op (queue_at (run step cs start) (at k p)) then 1 else 0) ≡ counts m true op =
+        ap (λ u. if is_first_piece op (queue_at u (at k p)) then 1 else 0) (sym reached) ∙ ap (λ ms. if is_first_piece op ms then 1 else 0) takes.waits
+        ∙ first_counts op m rest in
         omega (arith, both, here)
 
-    happens : (op : ℕ) (first : Bool) → times_given op did.notes ≡ counts m false op → happened first later log op ≡ happened first cs w.log op + counts m first op
+    happens : (op : ℕ) (first : Bool) → times_given op did.notes ≡ counts m false op
+        → happened first later log op ≡ happened first cs w.log op + counts m first op
     happens op true given = taken_now op
     happens op false given = let both = times_given-append op w.log did.notes in omega (arith, both, given)
 
@@ -177,7 +183,8 @@ module _ (F : Type 0) {R : Type 0} (f : Semantics R) (alloc : Global) (c : Confi
       controller = l.controller;
       controller_is = l.controller_is;
       knows = l.knows;
-      says = on_links_after (SaidBy later log) step nodes w k p node m rest takes (links_kept (Part w.log) (Part log) (Verdict cs) (Verdict later) Goes part judged w h.says) l.says;
+      says = on_links_after (SaidBy later log) step nodes w k p node m rest takes
+          (links_kept (Part w.log) (Part log) (Verdict cs) (Verdict later) Goes part judged w h.says) l.says;
       found = λ op a e. by_one op a (one_of (answers_of op w.log) (answers_of op did.notes) a (sym (answers_of-append op w.log did.notes) ∙ e));
       once = λ op first.
           let weight = total_after step nodes w k p node m rest takes (once first op) in
@@ -193,7 +200,8 @@ module _ (F : Type 0) {R : Type 0} (f : Semantics R) (alloc : Global) (c : Confi
         by_one op a (In_second x) = l.found op a x
 
     -- an instance that didn't take the message keeps its limit and its mark
-    pub fixed_other : (i : ℕ) → suc (suc i) ≢ k → i < length c.names → (s : InstanceState F R) → ((d : Node F R) → get_or v.nodes (suc (suc i)) d ≡ Instance s) → IsFixed i s
+    pub fixed_other : (i : ℕ) → suc (suc i) ≢ k → i < length c.names → (s : InstanceState F R)
+        → ((d : Node F R) → get_or v.nodes (suc (suc i)) d ≡ Instance s) → IsFixed i s
     fixed_other i off small s e = h.fixed i small s (λ d. sym (left.others (suc (suc i)) d off) ∙ e d)
 
     -- a node that isn't the controller
@@ -201,13 +209,15 @@ module _ (F : Type 0) {R : Type 0} (f : Semantics R) (alloc : Global) (c : Confi
       no_answer : (op : ℕ) (a : Answer) → answers_of op did.notes ≡ a ∷ [] → IsFound f c items start later log op a
       no_answer op a e = let none = none_answered op did.notes (other_not_answered op did.notes other) in let never = sym none ∙ e in cc
 
-      spends_other : (op : ℕ) (first : Bool) → sent_weight (once first op) nodes k did.sends + used (finite.get h.controller.operations op) (began op w.log) first ≤ used (finite.get h.controller.operations op) (began op log) first
+      spends_other : (op : ℕ) (first : Bool) → sent_weight (once first op) nodes k did.sends
+          + used (finite.get h.controller.operations op) (is_begun op w.log) first ≤ used (finite.get h.controller.operations op) (is_begun op log) first
       spends_other op first =
           let none = none_once f (given f c items is) op first nodes k did.sends (λ e. off (sym e)) labels in
           let same = ap (λ b. used (finite.get h.controller.operations op) b first) (began_same op w.log did.notes (other_not_begun op did.notes other)) in
           omega (arith, none, same)
 
-      pub leaves_other : EachSent (SaidBy later log) k did.sends → ((op : ℕ) → times_given op did.notes ≡ counts m false op) → ((i : ℕ) → i < length c.names → (s : InstanceState F R) → ((d : Node F R) → get_or v.nodes (suc (suc i)) d ≡ Instance s) → IsFixed i s) → Leaves
+      pub leaves_other : EachSent (SaidBy later log) k did.sends → ((op : ℕ) → times_given op did.notes ≡ counts m false op)
+          → ((i : ℕ) → i < length c.names → (s : InstanceState F R) → ((d : Node F R) → get_or v.nodes (suc (suc i)) d ≡ Instance s) → IsFixed i s) → Leaves
       leaves_other says given fixed = record {
         controller = h.controller;
         controller_is = λ d. left.others 1 d off ∙ h.controller_is d;

@@ -1,6 +1,8 @@
 -- What an instance's step leaves live: what was and isn't removed, and the units that it gains by what it notes.
-use Rattle.std.proofs.Common.{◌≡◌, ℕ, Bool, true, false, cond, Option, Some, None, List, [], ◌∷◌, ◌++◌, map, append-nil, append_assoc, refl, sym, ap, ◌∙◌, subst}
+use Rattle.std.proofs.Common.{◌≡◌, ℕ, Bool, true, false, cond, Option, Some, None, List, [], ◌∷◌}
+use Rattle.std.proofs.Common.{◌++◌, map, append-nil, append_assoc, refl, sym, ap, ◌∙◌, subst}
 use Rattle.std.specs.Prelude.{if◌then◌else◌, ◌&&◌, ◌||◌, not, is_some, Ok, Err}
+use Rattle.std.specs.List.{flat_map}
 use Rattle.std.specs.FinMap as finite
 use Rattle.std.proofs.Math.Bool.{or-false}
 use Rattle.std.proofs.lemmas.Bool.{or_right, or_left}
@@ -11,7 +13,7 @@ use Rattle.nf_function.specs.declared.chunk.Chunk.{Chunk}
 use Rattle.nf_function.specs.declared.unit.Unit as units
 use Rattle.nf_function.specs.Records.{newest, Laws as FunctionLaws}
 use Rattle.nf_function.specs.Semantics.{Semantics, kept_after, unit_at}
-use Rattle.record_table.specs.Table.{Records, same_unit, is_among, either, joined, after_packet}
+use Rattle.record_table.specs.Table.{Records, same_unit, is_among, either, union_of, after_packet}
 use Rattle.record_table.specs.Chunks.{records_of}
 use Rattle.record_table.proofs.RecordLookUps.{get-after_packet, get-joined, get-without}
 use Rattle.record_table.proofs.UnitOrder.{same_unit_equiv}
@@ -30,20 +32,21 @@ use Rattle.nf_msgs.specs.declared.msg.Msg.TheVariants as msg
 use Rattle.nf_msgs.specs.declared.note.Note.{Note}
 use Rattle.nf_msgs.specs.Exports.{units_in}
 use Rattle.instance_worker.specs.declared.instance.Instance.{Instance as InstanceState}
-use Rattle.instance_worker.specs.Instance.{Step, still, told, and_then, tells, tells_and_notes, with_live, with_standby, with_records, imported, kept, where_good, is_live, processed, all_processed, carried, on_carry, on_fence, on_stream, on_get, on_put, on_restore, on_standby, on_sync, on_put_all, tally_put, piece_put, piece_refusal, instance_step}
-use Rattle.unit_machine.proofs.Labels.{Each}
+use Rattle.instance_worker.specs.Instance.{Step, still, to_controller, and_then, tell_step, tells_and_notes, with_live, with_standby, with_records}
+use Rattle.instance_worker.specs.Instance.{imported, keep_note, where_good, is_live, process_step, all_processed, carry_step, on_carry, on_fence, on_stream}
+use Rattle.instance_worker.specs.Instance.{on_get, on_put, on_restore, on_standby, on_sync, on_put_all, tally_put, piece_put, piece_refusal, instance_step}
+use Rattle.proof_machines.proofs.unit.Labels.{Each}
 use Rattle.net_world.specs.declared.config.Config.{Config}
 use Rattle.net_world.specs.Input.{IsInput, order_numbered}
-use Rattle.net_world.specs.Lives.{gained, is_first_of, is_shared_away}
-use Rattle.net_world.specs.Path.{all_of}
+use Rattle.net_world.specs.Lives.{gained_by, is_first_of, is_shared_away}
 use Rattle.net_world.specs.Places.{unit_numbered}
 use Rattle.net_world.specs.Records.{removed_by}
-use Rattle.outline_net.proofs.Outline.{number}
-use Rattle.path_net.proofs.ChunkLemmas.{good_units}
-use Rattle.whole_joined.proofs.Given.{Given}
-use Rattle.whole_joined.proofs.InstanceKeeps.{chunks_good}
-use Rattle.whole_joined.proofs.Joined.{Genuine, AreGoodChunks, IsGoodPiece}
-use Rattle.whole_joined.proofs.StartJoined.{given}
+use Rattle.proof_outlines.proofs.outline.Outline.{number}
+use Rattle.nf_net.proofs.paths.ChunkLemmas.{good_units}
+use Rattle.proof_outlines.proofs.joined.Given.{Given}
+use Rattle.proof_outlines.proofs.joined.InstanceKeeps.{chunks_good}
+use Rattle.proof_outlines.proofs.joined.Joined.{Genuine, AreGoodChunks, IsGoodPiece}
+use Rattle.proof_outlines.proofs.joined.StartJoined.{given}
 use Rattle.nf_net.proofs.StandbySteps.{brought_is}
 
 or_true : (a : Bool) → true ≡ a || true
@@ -81,7 +84,7 @@ module _ {R : Type 0} (f : Semantics R) (laws : FunctionLaws f) (c : Config) (it
   is_away u = is_shared_away c items u y log
 
   abbrev pub gains : List Note → List units.Unit
-  gains notes = all_of (gained c items f.kind y log) notes
+  gains notes = flat_map (gained_by c items f.kind y log) notes
 
   -- the unit of a packet is gained, where no share has it elsewhere
   own_gain : (k : ℕ) → is_away (numbered_unit k) ≡ false → (if is_away (numbered_unit k) then [] else numbered_unit k ∷ []) ≡ numbered_unit k ∷ []
@@ -91,7 +94,8 @@ module _ {R : Type 0} (f : Semantics R) (laws : FunctionLaws f) (c : Config) (it
   no_gain k on = rw on refl
 
   -- A packet that steps a live record
-  after_live : (live : Records R) (site : Site) (cell : FullCell) → site ≡ c.site → Genuine f g cell → (u : units.Unit) → is_some (finite.get (after_packet f site live cell.packet) u) ≡ is_some (finite.get live u) || is_among (numbered_unit (number cell) ∷ []) u
+  after_live : (live : Records R) (site : Site) (cell : FullCell) → site ≡ c.site → Genuine f g cell → (u : units.Unit)
+      → is_some (finite.get (after_packet f site live cell.packet) u) ≡ is_some (finite.get live u) || is_among (numbered_unit (number cell) ∷ []) u
   after_live live site cell at genuine u =
       let v = unit_at f.kind site cell.packet in
       let same : v ≡ numbered_unit (number cell) = ap (λ s. unit_at f.kind s cell.packet) at ∙ ap (unit_at f.kind c.site) genuine.same in
@@ -109,50 +113,57 @@ module _ {R : Type 0} (f : Semantics R) (laws : FunctionLaws f) (c : Config) (it
 
   gains_more : (xs ys : List Note) → gains (xs ++ ys) ≡ gains xs ++ gains ys
   gains_more [] ys = refl
-  gains_more (x ∷ xs) ys = ap (λ v. gained c items f.kind y log x ++ v) (gains_more xs ys) ∙ sym (append_assoc (gained c items f.kind y log x) (gains xs) (gains ys))
+  gains_more (x ∷ xs) ys =
+      ap (λ v. gained_by c items f.kind y log x ++ v) (gains_more xs ys) ∙ sym (append_assoc (gained_by c items f.kind y log x) (gains xs) (gains ys))
 
   module _ {F : Type 0} where
     abbrev is_in : InstanceState F R → units.Unit → Bool
     is_in i u = is_some (finite.get i.table.live u)
 
-    live_processed : (i : InstanceState F R) (m : Mark) (cell : FullCell) → is_live m ≡ true → i.site ≡ c.site → Genuine f g cell → (u : units.Unit) → is_in (processed f i m cell).node u ≡ is_in i u || is_among (numbered_unit (number cell) ∷ []) u
-    unfolding processed
+    live_processed : (i : InstanceState F R) (m : Mark) (cell : FullCell) → is_live m ≡ true → i.site ≡ c.site → Genuine f g cell → (u : units.Unit)
+        → is_in (process_step f i m cell).node u ≡ is_in i u || is_among (numbered_unit (number cell) ∷ []) u
+    unfolding process_step
     live_processed i mark.Plain cell on at genuine u = after_live i.table.live i.site cell at genuine u
     live_processed i (mark.Pass op) cell on at genuine u = after_live i.table.live i.site cell at genuine u
     live_processed i (mark.Shared op true) cell on at genuine u = after_live i.table.live i.site cell at genuine u
     live_processed i (mark.Shared op false) cell on at genuine u = cc
 
-    standby_processed : (i : InstanceState F R) (op : ℕ) (cell : FullCell) → (processed f i (mark.Shared op false) cell).node.table.live ≡ i.table.live
-    unfolding processed
+    standby_processed : (i : InstanceState F R) (op : ℕ) (cell : FullCell) → (process_step f i (mark.Shared op false) cell).node.table.live ≡ i.table.live
+    unfolding process_step
     standby_processed i op cell = refl
 
-    processed_gains : (i : InstanceState F R) (m : Mark) (cell : FullCell) → gains (processed f i m cell).notes ≡ (if is_away (numbered_unit (number cell)) then [] else numbered_unit (number cell) ∷ []) ++ []
-    unfolding processed
+    processed_gains : (i : InstanceState F R) (m : Mark) (cell : FullCell)
+        → gains (process_step f i m cell).notes ≡ (if is_away (numbered_unit (number cell)) then [] else numbered_unit (number cell) ∷ []) ++ []
+    unfolding process_step
     processed_gains i m cell = refl
 
-    processed_site : (i : InstanceState F R) (m : Mark) (cell : FullCell) → (processed f i m cell).node.site ≡ i.site
-    unfolding processed
+    processed_site : (i : InstanceState F R) (m : Mark) (cell : FullCell) → (process_step f i m cell).node.site ≡ i.site
+    unfolding process_step
     processed_site i m cell = refl
 
-    all_live : (i : InstanceState F R) (cells : List FullCell) → i.site ≡ c.site → Each (Genuine f g) cells → (u : units.Unit) → is_in (all_processed f i cells).node u ≡ is_in i u || is_among (units_of cells) u
+    all_live : (i : InstanceState F R) (cells : List FullCell) → i.site ≡ c.site → Each (Genuine f g) cells → (u : units.Unit)
+        → is_in (all_processed f i cells).node u ≡ is_in i u || is_among (units_of cells) u
     unfolding all_processed
     all_live i [] at h u = sym (or-false (is_in i u))
     all_live i (cell ∷ cells) at h u =
-        let next = (processed f i mark.Plain cell).node in
+        let next = (process_step f i mark.Plain cell).node in
         let v = numbered_unit (number cell) in
         all_live next cells (processed_site i mark.Plain cell ∙ at) h.1 u
         ∙ ap (λ t. t || is_among (units_of cells) u) (live_processed i mark.Plain cell refl at h.0 u)
         ∙ or_assoc (is_in i u) (same_unit u v || false) (is_among (units_of cells) u)
         ∙ ap (λ t. is_in i u || (t || is_among (units_of cells) u)) (sym (sym (or-false (same_unit u v))))
 
-    all_gains : (i : InstanceState F R) (cells : List FullCell) → ((k : ℕ) → is_among (units_of cells) (numbered_unit k) ≡ true → is_away (numbered_unit k) ≡ false) → gains (all_processed f i cells).notes ≡ units_of cells
+    all_gains : (i : InstanceState F R) (cells : List FullCell)
+        → ((k : ℕ) → is_among (units_of cells) (numbered_unit k) ≡ true → is_away (numbered_unit k) ≡ false)
+        → gains (all_processed f i cells).notes ≡ units_of cells
     unfolding all_processed
     all_gains i [] free = refl
     all_gains i (cell ∷ cells) free =
-        let next = (processed f i mark.Plain cell).node in
+        let next = (process_step f i mark.Plain cell).node in
         let v = numbered_unit (number cell) in
-        gains_more (processed f i mark.Plain cell).notes (all_processed f next cells).notes
-        ∙ ap (λ us. us ++ gains (all_processed f next cells).notes) (processed_gains i mark.Plain cell ∙ append-nil _ ∙ own_gain (number cell) (free (number cell) (or_left (same_unit v v) (is_among (units_of cells) v) (same_unit_equiv.refl v))))
+        gains_more (process_step f i mark.Plain cell).notes (all_processed f next cells).notes
+        ∙ ap (λ us. us ++ gains (all_processed f next cells).notes) (processed_gains i mark.Plain cell ∙ append-nil _
+        ∙ own_gain (number cell) (free (number cell) (or_left (same_unit v v) (is_among (units_of cells) v) (same_unit_equiv.refl v))))
         ∙ ap (λ us. v ∷ us) (all_gains next cells (λ k e. free k (or_right (same_unit (numbered_unit k) v) (is_among (units_of cells) (numbered_unit k)) e)))
 
     -- An instance
@@ -166,7 +177,8 @@ module _ {R : Type 0} (f : Semantics R) (laws : FunctionLaws f) (c : Config) (it
       Free did = (k : ℕ) → is_in did.node (numbered_unit k) ≡ true → is_away (numbered_unit k) ≡ false
 
       -- a step that removes nothing
-      grows : (m : Msg) (did : Step F R) (vs : List units.Unit) → removed_by m ≡ [] → ((u : units.Unit) → is_in did.node u ≡ is_in i u || is_among vs u) → gains did.notes ≡ vs → Lives m did
+      grows : (m : Msg) (did : Step F R) (vs : List units.Unit) → removed_by m ≡ [] → ((u : units.Unit) → is_in did.node u ≡ is_in i u || is_among vs u)
+          → gains did.notes ≡ vs → Lives m did
       grows m did vs none new named u =
           new u
           ∙ ap (λ t. t || is_among vs u) (and_true (is_in i u))
@@ -181,32 +193,41 @@ module _ {R : Type 0} (f : Semantics R) (laws : FunctionLaws f) (c : Config) (it
         abbrev message : Msg
         message = msg.Carry m cell
 
-        live_carried : is_live m ≡ true → (d : Decide) → Free (carried f i m cell d) → Lives message (carried f i m cell d)
+        live_carried : is_live m ≡ true → (d : Decide) → Free (carry_step f i m cell d) → Lives message (carry_step f i m cell d)
         live_carried on decide.Process free =
             let own = live_processed i m cell on at genuine in
             let v = numbered_unit (number cell) in
             let off = free (number cell) (own v ∙ or_right (is_in i v) (same_unit v v || false) (or_left (same_unit v v) false (same_unit_equiv.refl v))) in
-            grows message (processed f i m cell) (v ∷ []) refl own (processed_gains i m cell ∙ append-nil _ ∙ own_gain (number cell) off)
+            grows message (process_step f i m cell) (v ∷ []) refl own (processed_gains i m cell ∙ append-nil _ ∙ own_gain (number cell) off)
         live_carried on (decide.ProcessAndEvent op) free =
             let own = live_processed i m cell on at genuine in
             let v = numbered_unit (number cell) in
             let off = free (number cell) (own v ∙ or_right (is_in i v) (same_unit v v || false) (or_left (same_unit v v) false (same_unit_equiv.refl v))) in
-            grows message (and_then (processed f i m cell) (λ j. tells j (msg.Seen op cell.packet))) (v ∷ []) refl own (ap gains (append-nil (processed f i m cell).notes) ∙ processed_gains i m cell ∙ append-nil _ ∙ own_gain (number cell) off)
-        live_carried on (decide.Event op) free = stays message (carried f i m cell (decide.Event op)) refl refl refl
-        live_carried on (decide.Buffer op) free = stays message (carried f i m cell (decide.Buffer op)) refl refl refl
+            grows message (and_then (process_step f i m cell) (λ j. tell_step j (msg.Seen op cell.packet))) (v ∷ []) refl own
+            (ap gains (append-nil (process_step f i m cell).notes) ∙ processed_gains i m cell ∙ append-nil _ ∙ own_gain (number cell) off)
+        live_carried on (decide.Event op) free = stays message (carry_step f i m cell (decide.Event op)) refl refl refl
+        live_carried on (decide.Buffer op) free = stays message (carry_step f i m cell (decide.Buffer op)) refl refl refl
 
         pub carry_lives : is_live m ≡ true → Free (on_carry f i m cell) → Lives message (on_carry f i m cell)
         unfolding on_carry
         carry_lives on free = live_carried on (rules.decide i.rules (flow_of i.site cell.packet).0 m) free
 
       -- one of a share, away from its home
-      away_carried : (op : ℕ) (cell : FullCell) → is_away (numbered_unit (number cell)) ≡ true → (d : Decide) → Lives (msg.Carry (mark.Shared op false) cell) (carried f i (mark.Shared op false) cell d)
-      away_carried op cell on decide.Process = stays (msg.Carry (mark.Shared op false) cell) (processed f i (mark.Shared op false) cell) refl (standby_processed i op cell) (processed_gains i (mark.Shared op false) cell ∙ append-nil _ ∙ no_gain (number cell) on)
-      away_carried op cell on (decide.ProcessAndEvent k) = stays (msg.Carry (mark.Shared op false) cell) (and_then (processed f i (mark.Shared op false) cell) (λ j. tells j (msg.Seen k cell.packet))) refl (standby_processed i op cell) (ap gains (append-nil (processed f i (mark.Shared op false) cell).notes) ∙ processed_gains i (mark.Shared op false) cell ∙ append-nil _ ∙ no_gain (number cell) on)
-      away_carried op cell on (decide.Event k) = stays (msg.Carry (mark.Shared op false) cell) (carried f i (mark.Shared op false) cell (decide.Event k)) refl refl refl
-      away_carried op cell on (decide.Buffer k) = stays (msg.Carry (mark.Shared op false) cell) (carried f i (mark.Shared op false) cell (decide.Buffer k)) refl refl refl
+      away_carried : (op : ℕ) (cell : FullCell) → is_away (numbered_unit (number cell)) ≡ true → (d : Decide)
+          → Lives (msg.Carry (mark.Shared op false) cell) (carry_step f i (mark.Shared op false) cell d)
+      away_carried op cell on decide.Process = stays (msg.Carry (mark.Shared op false) cell) (process_step f i (mark.Shared op false) cell) refl
+          (standby_processed i op cell) (processed_gains i (mark.Shared op false) cell ∙ append-nil _ ∙ no_gain (number cell) on)
+      away_carried op cell on (decide.ProcessAndEvent k) = stays (msg.Carry (mark.Shared op false) cell)
+          (and_then (process_step f i (mark.Shared op false) cell) (λ j. tell_step j (msg.Seen k cell.packet))) refl (standby_processed i op cell)
+          (ap gains (append-nil (process_step f i (mark.Shared op false) cell).notes) ∙ processed_gains i (mark.Shared op false) cell ∙ append-nil _
+          ∙ no_gain (number cell) on)
+      away_carried op cell on (decide.Event k) =
+          stays (msg.Carry (mark.Shared op false) cell) (carry_step f i (mark.Shared op false) cell (decide.Event k)) refl refl refl
+      away_carried op cell on (decide.Buffer k) =
+          stays (msg.Carry (mark.Shared op false) cell) (carry_step f i (mark.Shared op false) cell (decide.Buffer k)) refl refl refl
 
-      pub away_lives : (op : ℕ) (cell : FullCell) → is_away (numbered_unit (number cell)) ≡ true → Lives (msg.Carry (mark.Shared op false) cell) (on_carry f i (mark.Shared op false) cell)
+      pub away_lives : (op : ℕ) (cell : FullCell) → is_away (numbered_unit (number cell)) ≡ true
+          → Lives (msg.Carry (mark.Shared op false) cell) (on_carry f i (mark.Shared op false) cell)
       unfolding on_carry
       away_lives op cell on = away_carried op cell on (rules.decide i.rules (flow_of i.site cell.packet).0 (mark.Shared op false))
 
@@ -218,14 +239,16 @@ module _ {R : Type 0} (f : Semantics R) (laws : FunctionLaws f) (c : Config) (it
           let cells = rules.held_at i.rules op in
           let all = all_processed f before cells in
           let new = all_live before cells at genuine in
-          grows (msg.Fence op) (and_then all (λ j. tells j (msg.Fenced op))) (units_of cells) refl new
-          (ap gains (append-nil all.notes) ∙ all_gains before cells (λ k e. free k (new (numbered_unit k) ∙ or_right (is_in i (numbered_unit k)) (is_among (units_of cells) (numbered_unit k)) e)))
+          grows (msg.Fence op) (and_then all (λ j. tell_step j (msg.Fenced op))) (units_of cells) refl new
+          (ap gains (append-nil all.notes) ∙ all_gains before cells
+          (λ k e. free k (new (numbered_unit k) ∙ or_right (is_in i (numbered_unit k)) (is_among (units_of cells) (numbered_unit k)) e)))
 
       pub delete_lives : (op : ℕ) (gone : List units.Unit) → Lives (msg.Delete op gone) (instance_step f i (msg.Delete op gone))
       delete_lives op gone u = ap is_some (get-without gone i.table.live u) ∙ taken_out (is_among gone u) (finite.get i.table.live u)
 
       -- Chunks that come in
-      joined_lives : (choose : R → R → R) (chunks : List Chunk) → AreGoodChunks f g chunks → (u : units.Unit) → is_some (finite.get (joined choose i.table.live (records_of f chunks)) u) ≡ is_in i u || is_among (units_in chunks) u
+      joined_lives : (choose : R → R → R) (chunks : List Chunk) → AreGoodChunks f g chunks → (u : units.Unit)
+          → is_some (finite.get (union_of choose i.table.live (records_of f chunks)) u) ≡ is_in i u || is_among (units_in chunks) u
       joined_lives choose chunks good u =
           ap is_some (get-joined choose i.table.live (records_of f chunks) u)
           ∙ some_either choose (finite.get i.table.live u) (finite.get (records_of f chunks) u)
@@ -236,38 +259,50 @@ module _ {R : Type 0} (f : Semantics R) (laws : FunctionLaws f) (c : Config) (it
       where_lives : (m : Msg) (chunks : List Chunk) (taken : Step F R) → AreGoodChunks f g chunks → Lives m taken → Lives m (where_good f i chunks taken)
       where_lives m chunks taken good h = subst (λ b. Lives m (if b then taken else still i)) (sym (chunks_good f laws g chunks good)) h
 
-      put_piece : (op : ℕ) (piece : Piece) (first answered : Bool) (o : Option Answer) → IsGoodPiece f g piece → Lives (msg.Put op piece first) (piece_put f i op piece answered o)
+      put_piece : (op : ℕ) (piece : Piece) (first answered : Bool) (o : Option Answer) → IsGoodPiece f g piece
+          → Lives (msg.Put op piece first) (piece_put f i op piece answered o)
       put_piece op piece first answered (Some why) good = stays (msg.Put op piece first) (piece_put f i op piece answered (Some why)) refl refl refl
       put_piece op piece first answered None good =
-          let taken : Step F R = record { node = with_live f i piece.chunks; sends = told (if answered then msg.PutOk op ∷ [] else []); notes = imported i op piece.chunks ∷ [] } in
-          where_lives (msg.Put op piece first) piece.chunks taken good.good (grows (msg.Put op piece first) taken (units_in piece.chunks) refl (joined_lives (newest f) piece.chunks good.good) (append-nil (units_in piece.chunks)))
+          let taken : Step F R = record {
+            node = with_live f i piece.chunks;
+            sends = to_controller (if answered then msg.PutOk op ∷ [] else []);
+            notes = imported i op piece.chunks ∷ [];
+          } in
+          where_lives (msg.Put op piece first) piece.chunks taken good.good (grows (msg.Put op piece first) taken (units_in piece.chunks) refl
+          (joined_lives (newest f) piece.chunks good.good) (append-nil (units_in piece.chunks)))
 
       pub put_lives : (op : ℕ) (piece : Piece) (first : Bool) → IsGoodPiece f g piece → Lives (msg.Put op piece first) (on_put f i op piece first)
       unfolding on_put
-      put_lives op piece first good = let few = good.few in rw few (put_piece op piece first (first || piece.last) (if first then piece_refusal i piece else None) good)
+      put_lives op piece first good =
+          let few = good.few in rw few (put_piece op piece first (first || piece.last) (if first then piece_refusal i piece else None) good)
 
       pub restore_lives : (op : ℕ) (chunks : List Chunk) → AreGoodChunks f g chunks → Lives (msg.Restore op chunks) (on_restore f i op chunks)
       unfolding on_restore
       restore_lives op chunks good =
           let taken : Step F R = tells_and_notes (with_live f i chunks) (msg.Restored op) (imported i op chunks) in
-          where_lives (msg.Restore op chunks) chunks taken good (grows (msg.Restore op chunks) taken (units_in chunks) refl (joined_lives (newest f) chunks good) (append-nil (units_in chunks)))
+          where_lives (msg.Restore op chunks) chunks taken good
+          (grows (msg.Restore op chunks) taken (units_in chunks) refl (joined_lives (newest f) chunks good) (append-nil (units_in chunks)))
 
-      kept_gains : (op : ℕ) (us : List units.Unit) (t : Bool) → is_first_of c items (order_numbered items op) y ≡ t → (if is_first_of c items (order_numbered items op) y then us else []) ++ [] ≡ (if t then us else [])
+      kept_gains : (op : ℕ) (us : List units.Unit) (t : Bool) → is_first_of c items (order_numbered items op) y ≡ t
+          → (if is_first_of c items (order_numbered items op) y then us else []) ++ [] ≡ (if t then us else [])
       kept_gains op us t e = append-nil _ ∙ ap (λ b. if b then us else []) e
 
-      pub standby_lives : (op : ℕ) (chunks : List Chunk) → AreGoodChunks f g chunks → is_first_of c items (order_numbered items op) y ≡ false → Lives (msg.Standby op chunks) (on_standby f i op chunks)
+      pub standby_lives : (op : ℕ) (chunks : List Chunk) → AreGoodChunks f g chunks → is_first_of c items (order_numbered items op) y ≡ false
+          → Lives (msg.Standby op chunks) (on_standby f i op chunks)
       unfolding on_standby
       standby_lives op chunks good off =
-          let taken : Step F R = tells_and_notes (with_standby f i chunks) (msg.Kept op) (kept i op chunks) in
+          let taken : Step F R = tells_and_notes (with_standby f i chunks) (msg.Kept op) (keep_note i op chunks) in
           where_lives (msg.Standby op chunks) chunks taken good (stays (msg.Standby op chunks) taken refl refl (kept_gains op (units_in chunks) false off))
 
-      pub sync_lives : (home : Bool) (op : ℕ) (chunks : List Chunk) → AreGoodChunks f g chunks → is_first_of c items (order_numbered items op) y ≡ home → Lives (msg.Sync home op chunks) (on_sync f i home op chunks)
+      pub sync_lives : (home : Bool) (op : ℕ) (chunks : List Chunk) → AreGoodChunks f g chunks → is_first_of c items (order_numbered items op) y ≡ home
+          → Lives (msg.Sync home op chunks) (on_sync f i home op chunks)
       unfolding on_sync
       sync_lives true op chunks good e =
-          let taken : Step F R = tells_and_notes (with_records f i true chunks) (msg.Synced op) (kept i op chunks) in
-          where_lives (msg.Sync true op chunks) chunks taken good (grows (msg.Sync true op chunks) taken (units_in chunks) refl (joined_lives (λ held coming. coming) chunks good) (kept_gains op (units_in chunks) true e))
+          let taken : Step F R = tells_and_notes (with_records f i true chunks) (msg.Synced op) (keep_note i op chunks) in
+          where_lives (msg.Sync true op chunks) chunks taken good (grows (msg.Sync true op chunks) taken (units_in chunks) refl
+          (joined_lives (λ held coming. coming) chunks good) (kept_gains op (units_in chunks) true e))
       sync_lives false op chunks good e =
-          let taken : Step F R = tells_and_notes (with_records f i false chunks) (msg.Synced op) (kept i op chunks) in
+          let taken : Step F R = tells_and_notes (with_records f i false chunks) (msg.Synced op) (keep_note i op chunks) in
           where_lives (msg.Sync false op chunks) chunks taken good (stays (msg.Sync false op chunks) taken refl refl (kept_gains op (units_in chunks) false e))
 
       -- What moves no live record

@@ -1,6 +1,7 @@
 -- At every point of a run the units that the history says are live at an instance are those with a live record there, each once.
-use Rattle.std.proofs.Common.{◌≡◌, ◌≢◌, ℕ, zero, suc, ◌+◌, ◌<◌, true, false, Option, Some, None, List, [], ◌∷◌, ◌++◌, length, refl, sym, ap, ◌∙◌, subst, arith}
+use Rattle.std.proofs.Common.{◌≡◌, ◌≢◌, ℕ, zero, suc, ◌<◌, true, false, Option, Some, None, List, [], ◌∷◌, ◌++◌, length, refl, sym, ap, ◌∙◌, subst, arith}
 use Rattle.std.specs.Prelude.{if◌then◌else◌, ◌&&◌, ◌||◌, ◌==◌, not, drop, is_some, slice_get}
+use Rattle.std.specs.List.{flat_map}
 use Rattle.std.specs.declared.alloc.Global.{Global}
 use Rattle.std.specs.FinMap as finite
 use Rattle.std.proofs.lemmas.Bool.Decides.{nat_tests, Decides-eqb}
@@ -20,7 +21,7 @@ use Rattle.nf_msgs.specs.Nodes.{instance_node}
 use Rattle.instance_worker.specs.declared.instance.Instance.{Instance as InstanceState}
 use Rattle.instance_worker.specs.Instance.{Step, instance_step}
 use Rattle.actor_net.specs.declared.choice.Choice.{Choice}
-use Rattle.actor_net.specs.Network.{Network, IsRun, run, taken, waiting}
+use Rattle.actor_net.specs.Network.{Network, IsRun, run, world_next, queue_at}
 use Rattle.actor_net.proofs.EnabledChoices.{at}
 use Rattle.actor_net.proofs.RunInduction.{Taking, run_induction, run_world}
 use Rattle.actor_net.proofs.RunLaws.{run_more}
@@ -28,24 +29,23 @@ use Rattle.actor_net.proofs.StepOutcome.{Takes, Outcome, taken_outcome}
 use Rattle.net_world.specs.declared.config.Config.{Config}
 use Rattle.net_world.specs.declared.node.Node.{Node}
 use Rattle.net_world.specs.declared.node.Node.TheVariants.{Switch, Controller, Instance}
-use Rattle.net_world.specs.Fold.{fold, went}
+use Rattle.net_world.specs.Fold.{fold, processed_of}
 use Rattle.net_world.specs.Input.{IsInput, order_numbered}
-use Rattle.net_world.specs.Lives.{with_units, without_units, lost_by, gained, is_first_of, is_shared_away, lives, lives_next, lives_from}
+use Rattle.net_world.specs.Lives.{with_units, without_units, lost_by, gained_by, is_first_of, is_shared_away, lives, lives_next, lives_from}
 use Rattle.net_world.specs.Nodes.{node_step, node_ready}
-use Rattle.net_world.specs.Path.{all_of}
 use Rattle.net_world.specs.Places.{unit_numbered}
 use Rattle.net_world.specs.Records.{live_in, live_at, removed_by}
 use Rattle.net_world.specs.Verdicts.{live_number, number_live}
-use Rattle.whole_joined.proofs.BesideRuns.{its_takes, its_taken}
-use Rattle.whole_joined.proofs.CopyTokens.{token_open}
-use Rattle.whole_joined.proofs.Given.{Given}
-use Rattle.whole_joined.proofs.Joined.{node_of, IsTaken}
-use Rattle.whole_joined.proofs.JoinedSteps.{scene}
-use Rattle.whole_joined.proofs.NodeSteps.{Wants, node_leads}
-use Rattle.whole_joined.proofs.PlaceNotes.{instance_quiet}
-use Rattle.whole_joined.proofs.RunsJoined.{Runs, run_beside, start_world}
-use Rattle.whole_joined.proofs.StartJoined.{given, all_fit, count_at_start}
-use Rattle.answer_net.proofs.CommandPromises.{run_busy}
+use Rattle.proof_outlines.proofs.joined.BesideRuns.{its_takes, its_taken}
+use Rattle.proof_outlines.proofs.joined.CopyTokens.{token_open}
+use Rattle.proof_outlines.proofs.joined.Given.{Given}
+use Rattle.proof_outlines.proofs.joined.Joined.{node_of, IsTaken}
+use Rattle.proof_outlines.proofs.joined.JoinedSteps.{scene}
+use Rattle.proof_outlines.proofs.joined.NodeSteps.{Wants, node_leads}
+use Rattle.proof_outlines.proofs.joined.PlaceNotes.{instance_quiet}
+use Rattle.proof_outlines.proofs.joined.RunsJoined.{Runs, run_beside, start_world}
+use Rattle.proof_outlines.proofs.joined.StartJoined.{given, all_fit, count_at_start}
+use Rattle.nf_net.proofs.answers.CommandPromises.{run_busy}
 use Rattle.nf_net.proofs.LiveRows.{Free, Lives}
 use Rattle.nf_net.proofs.LiveShares.{nothing_live}
 use Rattle.nf_net.proofs.LiveSteps.{away_quiet, step_lives}
@@ -67,7 +67,8 @@ other_node i y off = grind (arith, nat_tests, off)
 no_instance : (k i : ℕ) → k < 2 → (k == instance_node i) ≡ false
 no_instance k i low = grind (arith, nat_tests, low)
 
-module _ (F : Type 0) {R : Type 0} (f : Semantics R) (laws : FunctionLaws f) (alloc : Global) (c : Config) (items : List Msg) (is : IsInput f.kind c items) where
+module _ (F : Type 0) {R : Type 0} (f : Semantics R) (laws : FunctionLaws f) (alloc : Global) (c : Config) (items : List Msg)
+    (is : IsInput f.kind c items) where
   abbrev g : Given
   g = given f c items is
 
@@ -86,24 +87,29 @@ module _ (F : Type 0) {R : Type 0} (f : Semantics R) (laws : FunctionLaws f) (al
     pub once : (i : ℕ) → AreOnce (by i cs)
 
   -- one choice more at the end
-  lives_more : (i : ℕ) (cs : List Choice) (d : Choice) (w : Network (Node F R) Msg Note) (us : List units.Unit) → lives_from f c items i w (cs ++ d ∷ []) us ≡ lives_next f c items i (run (node_step f) cs w) d (lives_from f c items i w cs us)
+  lives_more : (i : ℕ) (cs : List Choice) (d : Choice) (w : Network (Node F R) Msg Note) (us : List units.Unit)
+      → lives_from f c items i w (cs ++ d ∷ []) us ≡ lives_next f c items i (run (node_step f) cs w) d (lives_from f c items i w cs us)
   lives_more i [] d w us = refl
-  lives_more i (x ∷ cs) d w us = lives_more i cs d (taken (node_step f) w x) (lives_next f c items i w x us)
+  lives_more i (x ∷ cs) d w us = lives_more i cs d (world_next (node_step f) w x) (lives_next f c items i w x us)
 
   count_of : (cs : List Choice) → IsRun node_ready (node_step f) cs first → length (run (node_step f) cs first).nodes ≡ n
   count_of cs runs = (run_world node_ready (node_step f) n first (start_world F f laws alloc c items is) (count_at_start F f alloc c items is) cs runs).1
 
   -- where a share has a packet's unit elsewhere, it isn't live
-  away_nothing : (cs : List Choice) → IsRun node_ready (node_step f) cs first → (y k : ℕ) → is_shared_away c items (unit_numbered c items f.kind k) y (run (node_step f) cs first).log ≡ true → live_at (run (node_step f) cs first) y (unit_numbered c items f.kind k) ≡ None
+  away_nothing : (cs : List Choice) → IsRun node_ready (node_step f) cs first → (y k : ℕ)
+      → is_shared_away c items (unit_numbered c items f.kind k) y (run (node_step f) cs first).log ≡ true
+      → live_at (run (node_step f) cs first) y (unit_numbered c items f.kind k) ≡ None
   away_nothing cs runs y k away =
       let r : Runs F f laws alloc c items is (run (node_step f) cs first) = run_beside F f laws alloc c items is cs runs in
-      nothing_live f c items is n refl (run (node_step f) cs first) r.joined r.beside.kept.apart (run_busy F f laws alloc c items is cs runs).1 (unit_numbered c items f.kind k) (units_fit f c items is k) (owners_stay F f laws alloc c items is cs runs) (count_of cs runs) y away
+      nothing_live f c items is n refl (run (node_step f) cs first) r.joined r.beside.kept.apart (run_busy F f laws alloc c items is cs runs).1
+      (unit_numbered c items f.kind k) (units_fit f c items is k) (owners_stay F f laws alloc c items is cs runs) (count_of cs runs) y away
 
   -- nothing is live at the start
   none_live : (i : ℕ) (u : units.Unit) → live_at first i u ≡ None
   none_live i u =
       let r : Runs F f laws alloc c items is first = run_beside F f laws alloc c items is [] tt in
-      let h : IsOfFront f c items (went f c items u []) (live_at first i u) = lives_front f c items is n first (count_at_start F f alloc c items is) r.joined i u in
+      let h : IsOfFront f c items (processed_of f c items u []) (live_at first i u) = lives_front f c items is n first (count_at_start F f alloc c items is)
+      r.joined i u in
       let none : h.front ≡ [] = none_before h.front h.is_front.rest h.is_front.whole in
       sym h.folds ∙ ap (fold f c items None) none
 
@@ -111,12 +117,13 @@ module _ (F : Type 0) {R : Type 0} (f : Semantics R) (laws : FunctionLaws f) (al
   start_lived = record { same = λ i u. sym (ap is_some (none_live i u)); once = λ i. tt }
 
   -- A choice of a run
-  module _ (cs : List Choice) (runs : IsRun node_ready (node_step f) cs first) (d : Choice) (more : IsRun node_ready (node_step f) (cs ++ d ∷ []) first) (h : Lived cs (run (node_step f) cs first)) where
+  module _ (cs : List Choice) (runs : IsRun node_ready (node_step f) cs first) (d : Choice) (more : IsRun node_ready (node_step f) (cs ++ d ∷ []) first)
+      (h : Lived cs (run (node_step f) cs first)) where
     abbrev w : Network (Node F R) Msg Note
     w = run (node_step f) cs first
 
     abbrev v : Network (Node F R) Msg Note
-    v = taken (node_step f) w d
+    v = world_next (node_step f) w d
 
     r : Runs F f laws alloc c items is w
     r = run_beside F f laws alloc c items is cs runs
@@ -134,18 +141,24 @@ module _ (F : Type 0) {R : Type 0} (f : Semantics R) (laws : FunctionLaws f) (al
         ap (λ us. is_among us u) (next_is i ∙ unchanged) ∙ h.same i u ∙ sym (ap is_some (stays u))
 
     once_next : (i : ℕ) → AreOnce (by i (cs ++ d ∷ []))
-    once_next i = subst AreOnce (sym (next_is i)) (elim (d.node == instance_node i) as (λ t. AreOnce (if t then with_units (without_units (lost_by (waiting w d)) (by i cs)) (all_of (gained c items f.kind i w.log) (drop (length w.log) v.log)) else by i cs)) [
-      | true ↦ with_once (without_units (lost_by (waiting w d)) (by i cs)) (all_of (gained c items f.kind i w.log) (drop (length w.log) v.log)) (without_once (lost_by (waiting w d)) (by i cs) (h.once i))
-      | false ↦ h.once i
-    ])
+    once_next i = subst AreOnce (sym (next_is i)) (elim (d.node == instance_node i) as (λ t. AreOnce (if t then with_units
+        (without_units (lost_by (queue_at w d)) (by i cs)) (flat_map (gained_by c items f.kind i w.log) (drop (length w.log) v.log)) else by i cs)) [
+          | true ↦ with_once (without_units (lost_by (queue_at w d)) (by i cs)) (flat_map (gained_by c items f.kind i w.log) (drop (length w.log) v.log))
+              (without_once (lost_by (queue_at w d)) (by i cs) (h.once i))
+          | false ↦ h.once i
+        ])
 
     module _ (p : ℕ) (m : Msg) (rest : List Msg) where
-      stays_at : (k : ℕ) (takes : Takes (node_step f) n w k p (node_of r.joined.nodes k) m rest) (i : ℕ) → instance_node i ≢ k → (u : units.Unit) → live_at (taken (node_step f) w (at k p)) i u ≡ live_at w i u
+      stays_at : (k : ℕ) (takes : Takes (node_step f) n w k p (node_of r.joined.nodes k) m rest) (i : ℕ) → instance_node i ≢ k → (u : units.Unit)
+          → live_at (world_next (node_step f) w (at k p)) i u ≡ live_at w i u
       stays_at k takes i off u =
           let left = taken_outcome (node_step f) n w k p (node_of r.joined.nodes k) m rest takes in
-          ap (live_in u) (same_place w.nodes (taken (node_step f) w (at k p)).nodes (instance_node i) (takes.count ∙ sym left.count) (λ x. left.others (instance_node i) x off))
+          ap (live_in u) (same_place w.nodes (world_next (node_step f) w (at k p)).nodes (instance_node i) (takes.count ∙ sym left.count)
+          (λ x. left.others (instance_node i) x off))
 
-      module _ (y : ℕ) (takes : Takes (node_step f) n w (suc (suc y)) p (node_of r.joined.nodes (suc (suc y))) m rest) (t : IsTaken f g n (scene f g n refl (Wants f g) (node_leads f laws g (all_fit f c items is) n) w r.joined) (record { node = suc (suc y); port = p; message = m })) (d_is : d ≡ at (suc (suc y)) p) where
+      module _ (y : ℕ) (takes : Takes (node_step f) n w (suc (suc y)) p (node_of r.joined.nodes (suc (suc y))) m rest) (t : IsTaken f g n
+          (scene f g n refl (Wants f g) (node_leads f laws g (all_fit f c items is) n) w r.joined) (record { node = suc (suc y); port = p; message = m }))
+          (d_is : d ≡ at (suc (suc y)) p) where
         abbrev own : InstanceState F R
         own = r.joined.nodes.instance (suc (suc y))
 
@@ -153,7 +166,7 @@ module _ (F : Type 0) {R : Type 0} (f : Semantics R) (laws : FunctionLaws f) (al
         did = instance_step f own m
 
         abbrev u_at : Network (Node F R) Msg Note
-        u_at = taken (node_step f) w (at (suc (suc y)) p)
+        u_at = world_next (node_step f) w (at (suc (suc y)) p)
 
         out : Outcome (node_step f) n w (suc (suc y)) p (node_of r.joined.nodes (suc (suc y))) m rest u_at
         out = taken_outcome (node_step f) n w (suc (suc y)) p (node_of r.joined.nodes (suc (suc y))) m rest takes
@@ -162,13 +175,16 @@ module _ (F : Type 0) {R : Type 0} (f : Semantics R) (laws : FunctionLaws f) (al
         node_is = omega arith
 
         there : slice_get w.nodes (instance_node y) ≡ Some (Instance own)
-        there = subst (λ z. slice_get w.nodes z ≡ Some (Instance own)) (sym node_is) (slice_get-get_or w.nodes (suc (suc y)) (Instance own) (let small = takes.receiver in let count = takes.count in rw count small) ∙ ap Some (r.joined.nodes_are (suc (suc y)) takes.receiver (Instance own)))
+        there = subst (λ z. slice_get w.nodes z ≡ Some (Instance own)) (sym node_is)
+            (slice_get-get_or w.nodes (suc (suc y)) (Instance own) (let small = takes.receiver in let count = takes.count in rw count small)
+            ∙ ap Some (r.joined.nodes_are (suc (suc y)) takes.receiver (Instance own)))
 
         after : slice_get u_at.nodes (instance_node y) ≡ Some (Instance did.node)
-        after = subst (λ z. slice_get u_at.nodes z ≡ Some (Instance did.node)) (sym node_is) (slice_get-get_or u_at.nodes (suc (suc y)) (Instance did.node) (let small = takes.receiver in let count = out.count in rw count small) ∙ ap Some (out.own (Instance did.node)))
+        after = subst (λ z. slice_get u_at.nodes z ≡ Some (Instance did.node)) (sym node_is) (slice_get-get_or u_at.nodes (suc (suc y)) (Instance did.node)
+            (let small = takes.receiver in let count = out.count in rw count small) ∙ ap Some (out.own (Instance did.node)))
 
         v_is : v ≡ u_at
-        v_is = ap (taken (node_step f) w) d_is
+        v_is = ap (world_next (node_step f) w) d_is
 
         now_live : (u : units.Unit) → live_at v y u ≡ finite.get did.node.table.live u
         now_live u = ap (λ x. live_at x y u) v_is ∙ ap (live_in u) after
@@ -178,39 +194,49 @@ module _ (F : Type 0) {R : Type 0} (f : Semantics R) (laws : FunctionLaws f) (al
 
         -- what is live then of a packet's unit no share has elsewhere
         free : Free f laws c items is y w.log own (r.joined.shown_is.instances (suc (suc y)) (omega arith) takes.receiver).rules.at did
-        free k on = elim (is_shared_away c items (unit_numbered c items f.kind k) y w.log) as (λ b. is_shared_away c items (unit_numbered c items f.kind k) y w.log ≡ b → b ≡ false) [
-          | true ↦ λ away.
-              let u = unit_numbered c items f.kind k in
-              let reached : v ≡ run (node_step f) (cs ++ d ∷ []) first = run_more (node_step f) cs d first w refl in
-              let still : is_shared_away c items u y (run (node_step f) (cs ++ d ∷ []) first).log ≡ true = ap (λ x. is_shared_away c items u y x.log) (sym reached) ∙ ap (is_shared_away c items u y) log_is ∙ away_quiet c items u y own.index w.log did.notes (instance_quiet f own m) ∙ away in
-              let none : live_at v y u ≡ None = ap (λ x. live_at x y u) reached ∙ away_nothing (cs ++ d ∷ []) more y k still in
-              let never : true ≡ false = sym on ∙ ap is_some (sym (now_live u) ∙ none) in
-              cc
-          | false ↦ λ _. refl
-        ] refl
+        free k on = elim (is_shared_away c items (unit_numbered c items f.kind k) y w.log)
+            as (λ b. is_shared_away c items (unit_numbered c items f.kind k) y w.log ≡ b → b ≡ false) [
+              | true ↦ λ away.
+                  let u = unit_numbered c items f.kind k in
+                  let reached : v ≡ run (node_step f) (cs ++ d ∷ []) first = run_more (node_step f) cs d first w refl in
+                  let still : is_shared_away c items u y (run (node_step f) (cs ++ d ∷ []) first).log ≡ true = ap (λ x. is_shared_away c items u y x.log)
+                  (sym reached) ∙ ap (is_shared_away c items u y) log_is ∙ away_quiet c items u y own.index w.log did.notes (instance_quiet f own m) ∙ away in
+                  let none : live_at v y u ≡ None = ap (λ x. live_at x y u) reached ∙ away_nothing (cs ++ d ∷ []) more y k still in
+                  let never : true ≡ false = sym on ∙ ap is_some (sym (now_live u) ∙ none) in
+                  cc
+              | false ↦ λ _. refl
+            ] refl
 
         -- a copy's chunks are of a copy's number
         copied : (op : ℕ) (chunks : List Chunk) → m ≡ msg.Standby op chunks → is_first_of c items (order_numbered items op) y ≡ false
         copied op chunks is_so =
             let some = takes.receiver in
-            let open_so = token_open f g n w r.joined (suc (suc y)) p op chunks rest (omega (arith, some)) (subst (λ x. Takes (node_step f) n w (suc (suc y)) p (node_of r.joined.nodes (suc (suc y))) x rest) is_so takes) r.beside.tokens in
+            let open_so = token_open f g n w r.joined (suc (suc y)) p op chunks rest (omega (arith, some))
+            (subst (λ x. Takes (node_step f) n w (suc (suc y)) p (node_of r.joined.nodes (suc (suc y))) x rest) is_so takes) r.beside.tokens in
             let its = r.joined.shown_is.controller.copies op open_so.copy open_so.there in
-            let what : order_numbered items op ≡ Some (order.Copy its.plan.source its.plan.destination open_so.copy.plan.filter) = ap (order_numbered items) (sym its.op_is) ∙ its.plan.order_is in
+            let what : order_numbered items op ≡ Some (order.Copy its.plan.source its.plan.destination open_so.copy.plan.filter) =
+            ap (order_numbered items) (sym its.op_is) ∙ its.plan.order_is in
             ap (λ o. is_first_of c items o y) what
 
         goes : Lives f laws c items is y w.log own (r.joined.shown_is.instances (suc (suc y)) (omega arith) takes.receiver).rules.at m did
         unfolding r
-        goes = step_lives f laws c items is n refl w r.joined r.beside.kept.apart (run_busy F f laws alloc c items is cs runs).1 (run_homes F f laws alloc c items is cs runs) (owners_stay F f laws alloc c items is cs runs) p y takes.receiver m t copied free
+        goes = step_lives f laws c items is n refl w r.joined r.beside.kept.apart (run_busy F f laws alloc c items is cs runs).1
+            (run_homes F f laws alloc c items is cs runs) (owners_stay F f laws alloc c items is cs runs) p y takes.receiver m t copied free
 
         own_same : Same y
         own_same u =
-            let on : (d.node == instance_node y) ≡ true = ap (λ x. x.node == instance_node y) d_is ∙ (Decides-eqb (suc (suc y)) (instance_node y)).1 (sym node_is) in
+            let on : (d.node == instance_node y) ≡ true = ap (λ x. x.node == instance_node y) d_is
+            ∙ (Decides-eqb (suc (suc y)) (instance_node y)).1 (sym node_is) in
             let us = by y cs in
-            let gains = all_of (gained c items f.kind y w.log) in
+            let gains = flat_map (gained_by c items f.kind y w.log) in
             let noted : drop (length w.log) v.log ≡ did.notes = ap (drop (length w.log)) log_is ∙ drop-append_seam w.log did.notes in
-            let waits : waiting w d ≡ m ∷ rest = ap (waiting w) d_is ∙ takes.waits in
-            let changed : lives_next f c items y w d us ≡ with_units (without_units (lost_by (waiting w d)) us) (gains (drop (length w.log) v.log)) = rw on refl in
-            let now : with_units (without_units (lost_by (waiting w d)) us) (gains (drop (length w.log) v.log)) ≡ with_units (without_units (removed_by m) us) (gains did.notes) = ap (λ ms. with_units (without_units (lost_by ms) us) (gains (drop (length w.log) v.log))) waits ∙ ap (λ ns. with_units (without_units (removed_by m) us) (gains ns)) noted in
+            let waits : queue_at w d ≡ m ∷ rest = ap (queue_at w) d_is ∙ takes.waits in
+            let changed : lives_next f c items y w d us ≡ with_units (without_units (lost_by (queue_at w d)) us) (gains (drop (length w.log) v.log)) =
+            rw on refl in
+            let now : with_units (without_units (lost_by (queue_at w d)) us) (gains (drop (length w.log) v.log))
+            ≡ with_units (without_units (removed_by m) us) (gains did.notes) =
+            ap (λ ms. with_units (without_units (lost_by ms) us) (gains (drop (length w.log) v.log))) waits
+            ∙ ap (λ ns. with_units (without_units (removed_by m) us) (gains ns)) noted in
             ap (λ xs. is_among xs u) (next_is y ∙ changed ∙ now)
             ∙ with_in (without_units (removed_by m) us) (gains did.notes) u
             ∙ ap (λ b. b || is_among (gains did.notes) u) (without_in (removed_by m) us u)
@@ -222,26 +248,33 @@ module _ (F : Type 0) {R : Type 0} (f : Semantics R) (laws : FunctionLaws f) (al
         at_instance i = elim (i == y) as (λ b. (i == y) ≡ b → Same i) [
           | true ↦ λ on. subst Same (sym ((Decides-eqb i y).0 on)) own_same
           | false ↦ λ off.
-              let apart : instance_node i ≢ suc (suc y) = λ e. (let bad : i ≡ y = omega (arith, e) in let never : true ≡ false = sym ((Decides-eqb i y).1 bad) ∙ off in cc) in
+              let apart : instance_node i ≢ suc (suc y) =
+              λ e. (let bad : i ≡ y = omega (arith, e) in let never : true ≡ false = sym ((Decides-eqb i y).1 bad) ∙ off in cc) in
               let other : (d.node == instance_node i) ≡ false = ap (λ x. x.node == instance_node i) d_is ∙ other_node i y off in
               other_same i other (λ u. ap (λ x. live_at x i u) v_is ∙ stays_at (suc (suc y)) takes i apart u)
         ] refl
 
-      each_same : (k : ℕ) → Takes (node_step f) n w k p (node_of r.joined.nodes k) m rest → IsTaken f g n (scene f g n refl (Wants f g) (node_leads f laws g (all_fit f c items is) n) w r.joined) (record { node = k; port = p; message = m }) → d ≡ at k p → (i : ℕ) → Same i
-      each_same zero takes t d_is i = other_same i (ap (λ x. x.node == instance_node i) d_is ∙ no_instance 0 i (omega arith)) (λ u. ap (λ x. live_at x i u) (ap (taken (node_step f) w) d_is) ∙ stays_at 0 takes i (λ e. absurd (omega (arith, e))) u)
-      each_same (suc zero) takes t d_is i = other_same i (ap (λ x. x.node == instance_node i) d_is ∙ no_instance 1 i (omega arith)) (λ u. ap (λ x. live_at x i u) (ap (taken (node_step f) w) d_is) ∙ stays_at 1 takes i (λ e. absurd (omega (arith, e))) u)
+      each_same : (k : ℕ) → Takes (node_step f) n w k p (node_of r.joined.nodes k) m rest → IsTaken f g n
+          (scene f g n refl (Wants f g) (node_leads f laws g (all_fit f c items is) n) w r.joined) (record { node = k; port = p; message = m })
+          → d ≡ at k p → (i : ℕ) → Same i
+      each_same zero takes t d_is i = other_same i (ap (λ x. x.node == instance_node i) d_is ∙ no_instance 0 i (omega arith))
+          (λ u. ap (λ x. live_at x i u) (ap (world_next (node_step f) w) d_is) ∙ stays_at 0 takes i (λ e. absurd (omega (arith, e))) u)
+      each_same (suc zero) takes t d_is i = other_same i (ap (λ x. x.node == instance_node i) d_is ∙ no_instance 1 i (omega arith))
+          (λ u. ap (λ x. live_at x i u) (ap (world_next (node_step f) w) d_is) ∙ stays_at 1 takes i (λ e. absurd (omega (arith, e))) u)
       each_same (suc (suc y)) takes t d_is i = at_instance y takes t d_is i
 
     lived_next : Taking node_ready (node_step f) n w d → Lived (cs ++ d ∷ []) v
     lived_next t = record {
-      same = each_same d.port t.message t.rest d.node (its_takes f laws g (all_fit f c items is) n refl w d t r.joined r.beside) (its_taken f laws g (all_fit f c items is) n refl w d t r.joined r.beside) refl;
+      same = each_same d.port t.message t.rest d.node (its_takes f laws g (all_fit f c items is) n refl w d t r.joined r.beside)
+          (its_taken f laws g (all_fit f c items is) n refl w d t r.joined r.beside) refl;
       once = once_next;
     }
 
   -- every run keeps it
   pub run_lived : (cs : List Choice) → IsRun node_ready (node_step f) cs first → Lived cs (run (node_step f) cs first)
   run_lived cs run_is = run_induction node_ready (node_step f) n (λ ds w. IsRun node_ready (node_step f) ds first → Lived ds w) first
-      (λ ds w d next h more. subst (λ v. Taking node_ready (node_step f) n v d → Lived ds v → Lived (ds ++ d ∷ []) (taken (node_step f) v d)) (sym next.reached) (λ t k. lived_next ds next.is_run d more k t) next.taking (h next.is_run))
+      (λ ds w d next h more. subst (λ v. Taking node_ready (node_step f) n v d → Lived ds v → Lived (ds ++ d ∷ []) (world_next (node_step f) v d))
+      (sym next.reached) (λ t k. lived_next ds next.is_run d more k t) next.taking (h next.is_run))
       (start_world F f laws alloc c items is) (count_at_start F f alloc c items is) (λ _. start_lived) cs run_is run_is
 
   -- and so they are as many as the records

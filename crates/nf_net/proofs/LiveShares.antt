@@ -2,7 +2,7 @@
 -- records of a share, the log says the same of it.
 use Rattle.std.proofs.Common.{◌≡◌, ℕ, ◌+◌, ◌<◌, Bool, true, false, Option, Some, None, List, [], ◌∷◌, length, refl, sym, ap, ◌∙◌, subst, arith}
 use Rattle.std.specs.Prelude.{if◌then◌else◌, ◌&&◌, ◌||◌, ◌==◌, not, find, is_some, slice_get, slice_index}
-use Rattle.std.specs.List.{filter_map}
+use Rattle.std.specs.List.{filter_map, list_any}
 use Rattle.std.specs.Option.{option_map_or}
 use Rattle.std.specs.FinMap as finite
 use Rattle.std.proofs.lemmas.Bool.Decides.{nat_tests, Decides-eqb}
@@ -17,83 +17,75 @@ use Rattle.nf_msgs.specs.declared.command.Order.{Order}
 use Rattle.nf_msgs.specs.declared.command.Order.TheVariants as order
 use Rattle.nf_msgs.specs.declared.msg.Msg.{Msg}
 use Rattle.nf_msgs.specs.declared.note.Note.{Note}
-use Rattle.nf_msgs.specs.declared.note.Note.TheVariants as note
 use Rattle.nf_msgs.specs.Nodes.{instance_node}
 use Rattle.copy_share.specs.Share.{home}
 use Rattle.ctrl_node.specs.declared.operation.Operation.TheVariants.{Share}
 use Rattle.flow_filter.specs.Name.{place_of}
 use Rattle.actor_net.specs.Network.{Network}
-use Rattle.unit_machine.proofs.Real.{Chunks}
-use Rattle.abstract_net.proofs.Elsewhere.{where_two}
-use Rattle.abstract_net.proofs.GlobalAll.{Of_share}
-use Rattle.abstract_net.proofs.NewMessages.{new_head}
-use Rattle.abstract_net.proofs.ShareLabels.{label_of}
-use Rattle.abstract_net.proofs.ShareLists.{found_each}
-use Rattle.abstract_net.proofs.ShareViews.{unit_share}
-use Rattle.abstract_net.proofs.Shares.{Any, New, Shared_on, S_sync, same, Open_share, Want_share, find_share, moves_of}
-use Rattle.abstract_net.proofs.Under.{Under}
-use Rattle.abstract_net.proofs.UnderStarts.{seeing}
-use Rattle.abstract_net.proofs.Untaken.{Elsewhere_home, head_none}
-use Rattle.share_machine.proofs.Stages.{shape}
-use Rattle.whole_net.proofs.Readings.{Its_share, its_share}
-use Rattle.whole_net.proofs.WhereAll.{Where_all, Apart_from_shares, Under_share}
+use Rattle.proof_machines.proofs.unit.Real.{Chunks}
+use Rattle.proof_machines.proofs.net.Elsewhere.{where_two}
+use Rattle.proof_machines.proofs.net.GlobalAll.{OfShare}
+use Rattle.proof_machines.proofs.net.NewMessages.{new_head}
+use Rattle.proof_machines.proofs.net.ShareLabels.{label_of}
+use Rattle.proof_machines.proofs.net.ShareLists.{found_each}
+use Rattle.proof_machines.proofs.net.ShareViews.{unit_share}
+use Rattle.proof_machines.proofs.net.Shares.{Any, New, Shared_on, S_sync, same, OpenShare, WantShare, find_share, moves_of}
+use Rattle.proof_machines.proofs.net.Under.{Under}
+use Rattle.proof_machines.proofs.net.UnderStarts.{seeing}
+use Rattle.proof_machines.proofs.net.Untaken.{ElsewhereHome, head_none}
+use Rattle.proof_machines.proofs.share.Stages.{shape}
+use Rattle.proof_machines.proofs.whole.Readings.{ItsShare, its_share}
+use Rattle.proof_machines.proofs.whole.WhereAll.{WhereAll, Apart_from_shares, Under_share}
 use Rattle.net_world.specs.declared.config.Config.{Config}
 use Rattle.net_world.specs.declared.node.Node.{Node}
 use Rattle.net_world.specs.declared.node.Node.TheVariants.{Switch, Controller, Instance}
-use Rattle.net_world.specs.Commands.{began}
+use Rattle.net_world.specs.Commands.{is_begun}
 use Rattle.net_world.specs.Input.{IsInput, order_numbered}
 use Rattle.net_world.specs.Lives.{before_begun, is_first_of, is_shared_away}
-use Rattle.net_world.specs.Log.{has_begun}
+use Rattle.net_world.specs.Log.{has_begun, begins_in}
 use Rattle.net_world.specs.Places.{is_at, is_home, owner, shared_among}
 use Rattle.net_world.specs.Records.{live_in, live_at}
-use Rattle.outline_net.proofs.FiltersApart.{unit_fits, is_whole, takes_whole}
-use Rattle.outline_net.proofs.Outline.{is_sys}
-use Rattle.outline_net.proofs.SwitchOutline.{same_node}
-use Rattle.whole_outline.proofs.OpenShares.{Both, Real_share, real_share}
-use Rattle.whole_joined.proofs.Given.{Given, place}
-use Rattle.whole_joined.proofs.Joined.{S, A, IsShare, Joined, came_by}
-use Rattle.whole_joined.proofs.OperationsApart.{AllApart}
-use Rattle.whole_joined.proofs.StartJoined.{given}
-use Rattle.answer_net.proofs.BusyRuns.{Busy, open_began}
-use Rattle.path_net.proofs.RecordPromises.{instance_of}
-use Rattle.path_net.proofs.SharedOwners.{HomesOwn}
-use Rattle.nf_net.proofs.MemberLemmas.{Shares_it, shares_it, home_first}
+use Rattle.proof_outlines.proofs.outline.FiltersApart.{unit_fits, is_whole, takes_whole}
+use Rattle.proof_outlines.proofs.outline.Outline.{is_sys}
+use Rattle.proof_outlines.proofs.outline.SwitchOutline.{same_node}
+use Rattle.proof_outlines.proofs.whole.OpenShares.{Both, RealShare, real_share}
+use Rattle.proof_outlines.proofs.joined.Given.{Given, place}
+use Rattle.proof_outlines.proofs.joined.Joined.{S, A, IsShare, Joined, came_by}
+use Rattle.proof_outlines.proofs.joined.OperationsApart.{AllApart}
+use Rattle.proof_outlines.proofs.joined.StartJoined.{given}
+use Rattle.nf_net.proofs.answers.BusyRuns.{Busy, open_began}
+use Rattle.nf_net.proofs.paths.RecordPromises.{instance_of}
+use Rattle.nf_net.proofs.paths.SharedOwners.{HomesOwn}
+use Rattle.nf_net.proofs.MemberLemmas.{SharesIt, shares_it, home_first}
 use Rattle.nf_net.proofs.ShareOwners.{OwnersStay, begun_open, begun_seen, begun_takes}
 use Rattle.nf_net.proofs.UnitShares.{owner_goes, IsOpenShare, number_is}
 
--- which of the commands that began is one of these
-pub record BegunOne (these : ℕ → Bool) (log : List Note) : Type 0 where
+-- which of these commands is one of some
+pub record BegunOne (these : ℕ → Bool) (ops : List ℕ) : Type 0 where
   pub op : ℕ
-  pub begun : began op log ≡ true
+  pub begun : list_any (λ k. k == op) ops ≡ true
   pub such : these op ≡ true
 
-pub begun_one : (these : ℕ → Bool) (log : List Note) → has_begun these log ≡ true → BegunOne these log
-begun_one these [] e = cc
-begun_one these (note.Begun op ∷ log) e = elim (these op) as (λ t. these op ≡ t → t || has_begun these log ≡ true → BegunOne these (note.Begun op ∷ log)) [
+one_among : (these : ℕ → Bool) (ops : List ℕ) → list_any these ops ≡ true → BegunOne these ops
+one_among these [] e = cc
+one_among these (op ∷ ops) e = elim (these op) as (λ t. these op ≡ t → t || list_any these ops ≡ true → BegunOne these (op ∷ ops)) [
   | true ↦ λ on _. record { op = op; begun = (let self : (op == op) ≡ true = grind (arith, nat_tests) in rw self refl); such = on }
-  | false ↦ λ _ rest. (let r = begun_one these log rest in record { op = r.op; begun = or_right (op == r.op) (began r.op log) r.begun; such = r.such })
+  | false ↦ λ _ rest.
+      (let r = one_among these ops rest in record { op = r.op; begun = or_right (op == r.op) (list_any (λ k. k == r.op) ops) r.begun; such = r.such })
 ] refl e
-begun_one these (note.Arrived k ∷ log) e = let r = begun_one these log e in record { op = r.op; begun = r.begun; such = r.such }
-begun_one these (note.Processed k i output ∷ log) e = let r = begun_one these log e in record { op = r.op; begun = r.begun; such = r.such }
-begun_one these (note.Exported i k us ∷ log) e = let r = begun_one these log e in record { op = r.op; begun = r.begun; such = r.such }
-begun_one these (note.Imported i k us ∷ log) e = let r = begun_one these log e in record { op = r.op; begun = r.begun; such = r.such }
-begun_one these (note.Kept i k us ∷ log) e = let r = begun_one these log e in record { op = r.op; begun = r.begun; such = r.such }
-begun_one these (note.Installed k ∷ log) e = let r = begun_one these log e in record { op = r.op; begun = r.begun; such = r.such }
-begun_one these (note.Answered k answer ∷ log) e = let r = begun_one these log e in record { op = r.op; begun = r.begun; such = r.such }
 
-pub has_one : (these : ℕ → Bool) (log : List Note) (op : ℕ) → began op log ≡ true → these op ≡ true → has_begun these log ≡ true
-has_one these [] op e on = cc
-has_one these (note.Begun k ∷ log) op e on = elim (k == op) as (λ t. (k == op) ≡ t → t || began op log ≡ true → these k || has_begun these log ≡ true) [
+pub begun_one : (these : ℕ → Bool) (log : List Note) → has_begun these log ≡ true → BegunOne these (begins_in log)
+begun_one these log e = one_among these (begins_in log) e
+
+among_one : (these : ℕ → Bool) (ops : List ℕ) (op : ℕ) → list_any (λ k. k == op) ops ≡ true → these op ≡ true → list_any these ops ≡ true
+among_one these [] op e on = cc
+among_one these (k ∷ ops) op e on = elim (k == op) as (λ t. (k == op) ≡ t → t || list_any (λ j. j == op) ops ≡ true → these k || list_any these ops ≡ true) [
   | true ↦ λ same _. (let at : k ≡ op = (Decides-eqb k op).0 same in let here : these k ≡ true = ap these at ∙ on in rw here refl)
-  | false ↦ λ _ rest. or_right (these k) (has_begun these log) (has_one these log op rest on)
+  | false ↦ λ _ rest. or_right (these k) (list_any these ops) (among_one these ops op rest on)
 ] refl e
-has_one these (note.Arrived k ∷ log) op e on = has_one these log op e on
-has_one these (note.Processed k i output ∷ log) op e on = has_one these log op e on
-has_one these (note.Exported i k us ∷ log) op e on = has_one these log op e on
-has_one these (note.Imported i k us ∷ log) op e on = has_one these log op e on
-has_one these (note.Kept i k us ∷ log) op e on = has_one these log op e on
-has_one these (note.Installed k ∷ log) op e on = has_one these log op e on
-has_one these (note.Answered k answer ∷ log) op e on = has_one these log op e on
+
+pub has_one : (these : ℕ → Bool) (log : List Note) (op : ℕ) → is_begun op log ≡ true → these op ≡ true → has_begun these log ≡ true
+has_one these log op e on = among_one these (begins_in log) op e on
 
 -- the flag of a message that says whether its receiver is the home
 same_is : (a b : Bool) → same a b ≡ true → a ≡ b
@@ -103,21 +95,29 @@ same_is false true e = cc
 same_is false false e = refl
 
 -- an instance is the first of some names that are all known where it has the first place of theirs
-home_test : (names : List (List ℕ)) (orders : ℕ → Option Order) (ms : List (List ℕ)) → 0 < length (filter_map (place_of names) ms) → find (λ name. not (is_some (place_of names name))) ms ≡ None → (i : ℕ) → is_home names orders ms i ≡ (i == slice_index (filter_map (place_of names) ms) 0)
+home_test : (names : List (List ℕ)) (orders : ℕ → Option Order) (ms : List (List ℕ))
+    → 0 < length (filter_map (place_of names) ms) → find (λ name. not (is_some (place_of names name))) ms ≡ None → (i : ℕ)
+    → is_home names orders ms i ≡ (i == slice_index (filter_map (place_of names) ms) 0)
 home_test names orders [] some known i = absurd (omega (arith, some))
 home_test names orders (name ∷ others) some known i = by_place (place_of names name) refl known
   where
-    by_place : (o : Option ℕ) → place_of names name ≡ o → (if not (is_some o) then Some name else find (λ name. not (is_some (place_of names name))) others) ≡ None → is_at o i ≡ (i == slice_index (filter_map (place_of names) (name ∷ others)) 0)
+    by_place : (o : Option ℕ) → place_of names name ≡ o
+        → (if not (is_some o) then Some name else find (λ name. not (is_some (place_of names name))) others) ≡ None
+        → is_at o i ≡ (i == slice_index (filter_map (place_of names) (name ∷ others)) 0)
     by_place None at e = cc
-    by_place (Some k) at e = let first : filter_map (place_of names) (name ∷ others) ≡ k ∷ filter_map (place_of names) others = rw at refl in ap (λ v. i == slice_index v 0) (sym first)
+    by_place (Some k) at e =
+        let first : filter_map (place_of names) (name ∷ others) ≡ k ∷ filter_map (place_of names) others = rw at refl in
+        ap (λ v. i == slice_index v 0) (sym first)
 
-module _ {F R : Type 0} (f : Semantics R) (c : Config) (items : List Msg) (is : IsInput f.kind c items) (n : ℕ) (count_is : n ≡ length c.names + 2) (w : Network (Node F R) Msg Note) (j : Joined f (given f c items is) n w) (apart : AllApart j.nodes.controller.operations) (b : Busy (given f c items is) w) where
+module _ {F R : Type 0} (f : Semantics R) (c : Config) (items : List Msg) (is : IsInput f.kind c items) (n : ℕ) (count_is : n ≡ length c.names + 2)
+    (w : Network (Node F R) Msg Note) (j : Joined f (given f c items is) n w) (apart : AllApart j.nodes.controller.operations)
+    (b : Busy (given f c items is) w) where
   abbrev g : Given
   g = given f c items is
 
   -- An open share, as its order says it.
-  module _ (op : ℕ) (e : Open_share) (found : find_share j.world.shares op ≡ Some e) where
-    real : Real_share f (place g) g.site j.nodes.controller op e
+  module _ (op : ℕ) (e : OpenShare) (found : find_share j.world.shares op ≡ Some e) where
+    real : RealShare f (place g) g.site j.nodes.controller op e
     real = real_share f (place g) g.site j.world.ops j.world.shares j.nodes.controller op e j.shown_is.controller.opens found
 
     its : IsShare f g op real.s
@@ -126,14 +126,16 @@ module _ {F R : Type 0} (f : Semantics R) (c : Config) (items : List Msg) (is : 
     ordered : order_numbered items op ≡ Some (order.Share its.plan.names real.s.plan.filter)
     ordered = ap (order_numbered items) (sym its.op_is) ∙ its.plan.order_is
 
-    on : began op w.log ≡ true
+    on : is_begun op w.log ≡ true
     on = open_began f g n count_is w j b op (Share real.s) real.there
 
     -- its home is the first of its names
     pub first_is_home : (y : ℕ) → is_first_of c items (order_numbered items op) y ≡ (instance_node y == e.home)
     first_is_home y =
-        let some : 0 < length (filter_map (place_of c.names) its.plan.names) = subst (λ v. 0 < length v) (sym its.plan.members_are) (let two = its.some in omega (arith, two)) in
-        let known : find (λ name. not (is_some (place_of c.names name))) its.plan.names ≡ None = ((b.is.answered op).begins (order.Share its.plan.names real.s.plan.filter) ordered on).known in
+        let some : 0 < length (filter_map (place_of c.names) its.plan.names) = subst (λ v. 0 < length v) (sym its.plan.members_are)
+        (let two = its.some in omega (arith, two)) in
+        let known : find (λ name. not (is_some (place_of c.names name))) its.plan.names ≡ None =
+        ((b.is.answered op).begins (order.Share its.plan.names real.s.plan.filter) ordered on).known in
         let home_is : e.home ≡ instance_node (home real.s.plan) = ap (λ x. x.home) real.sees.is in
         ap (λ o. is_first_of c items o y) ordered
         ∙ home_test c.names (order_numbered items) its.plan.names some known y
@@ -144,18 +146,19 @@ module _ {F R : Type 0} (f : Semantics R) (c : Config) (items : List Msg) (is : 
   -- Of the units that packets may have.
   module _ (u : units.Unit) (fits : unit_fits f.kind u ≡ true) (kept : OwnersStay f c items w.log) where
     abbrev Where : Type 0
-    Where = Where_all (S f g) (A f g) (is_sys f g.site g.packet) u j.world (came_by f g w.log u)
+    Where = WhereAll (S f g) (A f g) (is_sys f g.site g.packet) u j.world (came_by f g w.log u)
 
     -- A share that began and whose first member owns the unit
-    module _ (op : ℕ) (ms : List (List ℕ)) (filter : Filter) (what : order_numbered items op ≡ Some (order.Share ms filter)) (takes_it : takes filter u ≡ true) (at_home : is_home c.names (order_numbered items) ms (owner c items u w.log) ≡ true) (begun : began op w.log ≡ true) where
+    module _ (op : ℕ) (ms : List (List ℕ)) (filter : Filter) (what : order_numbered items op ≡ Some (order.Share ms filter)) (takes_it : takes filter u
+        ≡ true) (at_home : is_home c.names (order_numbered items) ms (owner c items u w.log) ≡ true) (begins_in : is_begun op w.log ≡ true) where
       abbrev own : IsOpenShare f c items is n count_is w j apart b op ms filter
-      own = begun_open f c items is n count_is w j apart b op ms filter what begun
+      own = begun_open f c items is n count_is w j apart b op ms filter what begins_in
 
       abbrev seen : Both f (place g) g.site j.world.shares j.nodes.controller op own.state
-      seen = begun_seen f c items is n count_is w j apart b op ms filter what begun
+      seen = begun_seen f c items is n count_is w j apart b op ms filter what begins_in
 
       its_own : (S f g).takes seen.e.filter u ≡ true
-      its_own = begun_takes f c items is n count_is w j apart b op ms filter what begun u fits takes_it
+      its_own = begun_takes f c items is n count_is w j apart b op ms filter what begins_in u fits takes_it
 
       home_so : seen.e.home ≡ instance_node (owner c items u w.log)
       home_so =
@@ -166,15 +169,17 @@ module _ {F R : Type 0} (f : Semantics R) (c : Config) (items : List Msg) (is : 
       live_none : (y : ℕ) → is_home c.names (order_numbered items) ms y ≡ false → Where → finite.get (j.world.inst (instance_node y)).live u ≡ None
       live_none y off (Apart_from_shares k none) =
           let two = where_two (S f g) (is_sys f g.site g.packet) u (moves_of (S f g) (A f g) j.world) _ _ k.is in
-          let away = found_each (Elsewhere_home (S f g) u j.world.target) j.world.shares op seen.e k.untaken.homes seen.there its_own in
+          let away = found_each (ElsewhereHome (S f g) u j.world.target) j.world.shares op seen.e k.untaken.homes seen.there its_own in
           let same : seen.e.home ≡ j.world.target u = home_so ∙ sym (owner_goes f c items is n w j u fits two) in
           let never : (seen.e.home == j.world.target u) ≡ true = (Decides-eqb seen.e.home (j.world.target u)).1 same in
           cc
       live_none y off (Under_share x before d k o m) =
-          let here : Open_share = its_share (S f g) (A f g) (is_sys f g.site g.packet) u j.world x before _ k in
-          let its_here : Its_share (S f g) (A f g) (is_sys f g.site g.packet) u j.world here = record { found = k.holds.share; takes = k.covered; home_in = k.is.home_in } in
+          let here : OpenShare = its_share (S f g) (A f g) (is_sys f g.site g.packet) u j.world x before _ k in
+          let its_here : ItsShare (S f g) (A f g) (is_sys f g.site g.packet) u j.world here =
+          record { found = k.holds.share; takes = k.covered; home_in = k.is.home_in } in
           let number : op ≡ here.num = number_is f c items is n count_is w j apart b u fits op ms filter own takes_it here its_here in
-          k.away (instance_node y) (sym (first_is_home here.num here its_here.found y) ∙ ap (λ q. is_first_of c items (order_numbered items q) y) (sym number) ∙ ap (λ o. is_first_of c items o y) what ∙ off)
+          k.away (instance_node y) (sym (first_is_home here.num here its_here.found y)
+          ∙ ap (λ q. is_first_of c items (order_numbered items q) y) (sym number) ∙ ap (λ o. is_first_of c items o y) what ∙ off)
 
     abbrev sharing : ℕ → Option (List (List ℕ))
     sharing op = shared_among c.names (order_numbered items) u (order_numbered items op) (owner c items u (before_begun op w.log))
@@ -182,12 +187,16 @@ module _ {F R : Type 0} (f : Semantics R) (c : Config) (items : List Msg) (is : 
     abbrev these : ℕ → ℕ → Bool
     these y op = option_map_or (λ members. not (is_home c.names (order_numbered items) members y)) (sharing op) false
 
-    by_sharing : (y op : ℕ) → began op w.log ≡ true → (o : Option (List (List ℕ))) → sharing op ≡ o → option_map_or (λ members. not (is_home c.names (order_numbered items) members y)) o false ≡ true → finite.get (j.world.inst (instance_node y)).live u ≡ None
-    by_sharing y op begun None at e = cc
-    by_sharing y op begun (Some ms) at e =
-        let s : Shares_it g u (order_numbered items op) (owner c items u (before_begun op w.log)) ms = shares_it g u (order_numbered items op) (owner c items u (before_begun op w.log)) ms at in
-        let at_home : is_home c.names (order_numbered items) ms (owner c items u w.log) ≡ true = ap (is_home c.names (order_numbered items) ms) (sym (kept op ms s.filter u s.order_is begun fits s.takes_it)) ∙ s.home in
-        live_none op ms s.filter s.order_is s.takes_it at_home begun y (not-true (is_home c.names (order_numbered items) ms y) e) (j.shown_is.every.unit u)
+    by_sharing : (y op : ℕ) → is_begun op w.log ≡ true → (o : Option (List (List ℕ))) → sharing op ≡ o
+        → option_map_or (λ members. not (is_home c.names (order_numbered items) members y)) o false ≡ true
+        → finite.get (j.world.inst (instance_node y)).live u ≡ None
+    by_sharing y op begins_in None at e = cc
+    by_sharing y op begins_in (Some ms) at e =
+        let s : SharesIt g u (order_numbered items op) (owner c items u (before_begun op w.log)) ms = shares_it g u (order_numbered items op)
+        (owner c items u (before_begun op w.log)) ms at in
+        let at_home : is_home c.names (order_numbered items) ms (owner c items u w.log) ≡ true =
+        ap (is_home c.names (order_numbered items) ms) (sym (kept op ms s.filter u s.order_is begins_in fits s.takes_it)) ∙ s.home in
+        live_none op ms s.filter s.order_is s.takes_it at_home begins_in y (not-true (is_home c.names (order_numbered items) ms y) e) (j.shown_is.every.unit u)
 
     -- where a share has the unit, and an instance isn't its first member, nothing of the unit is live there
     away_none : (y : ℕ) → is_shared_away c items u y w.log ≡ true → finite.get (j.world.inst (instance_node y)).live u ≡ None
@@ -202,16 +211,20 @@ module _ {F R : Type 0} (f : Semantics R) (c : Config) (items : List Msg) (is : 
         by_node (Some (Controller s)) e = refl
         by_node (Some (Instance s)) e =
             let few : instance_node y < n = (let there = slice_get_within w.nodes (instance_node y) (Instance s) e in rw (← count) there) in
-            let got : ◌≡◌ {A = Node F R} (Instance (j.nodes.instance (instance_node y))) (Instance s) = sym (instance_of j.nodes (instance_node y) (omega arith)) ∙ sym (j.nodes_are (instance_node y) few (Instance s)) ∙ get_or_from_slice_get w.nodes (instance_node y) (Instance s) (Instance s) e in
+            let got : ◌≡◌ {A = Node F R} (Instance (j.nodes.instance (instance_node y))) (Instance s) =
+            sym (instance_of j.nodes (instance_node y) (omega arith)) ∙ sym (j.nodes_are (instance_node y) few (Instance s))
+            ∙ get_or_from_slice_get w.nodes (instance_node y) (Instance s) (Instance s) e in
             let same_state : j.nodes.instance (instance_node y) ≡ s = cc in
-            ap (λ x. finite.get x.table.live u) (sym same_state) ∙ ap (λ x. finite.get x.live u) (j.shown_is.instances (instance_node y) (omega arith) few).outline_is ∙ away_none y away
+            ap (λ x. finite.get x.table.live u) (sym same_state)
+            ∙ ap (λ x. finite.get x.live u) (j.shown_is.instances (instance_node y) (omega arith) few).outline_is ∙ away_none y away
 
     -- Under a share the log has it so at every instance but home
-    module _ (told : HomesOwn f c items is n count_is w j) (x : Want_share) (before since : List ℕ) (k : Under (S f g) (A f g) (seeing (S f g) (A f g) u x) j.world before since) where
-      abbrev here : Open_share
+    module _ (told : HomesOwn f c items is n count_is w j) (x : WantShare) (before since : List ℕ)
+        (k : Under (S f g) (A f g) (seeing (S f g) (A f g) u x) j.world before since) where
+      abbrev here : OpenShare
       here = its_share (S f g) (A f g) (is_sys f g.site g.packet) u j.world x before since k
 
-      abbrev at : Real_share f (place g) g.site j.nodes.controller x.num here
+      abbrev at : RealShare f (place g) g.site j.nodes.controller x.num here
       at = real x.num here k.holds.share
 
       abbrev share : IsShare f g x.num at.s
@@ -233,29 +246,41 @@ module _ {F R : Type 0} (f : Semantics R) (c : Config) (items : List Msg) (is : 
       away_there y off =
           let what = what_is in
           let takes_it = taken in
-          let own_home : is_home c.names (order_numbered items) share.plan.names (owner c items u (before_begun x.num w.log)) ≡ true = ap (is_home c.names (order_numbered items) share.plan.names) (kept x.num share.plan.names at.s.plan.filter u what (on x.num here k.holds.share) fits takes_it) ∙ home_at (owner c items u w.log) ∙ (Decides-eqb (instance_node (owner c items u w.log)) x.home).1 (told u x before since k) in
+          let own_home : is_home c.names (order_numbered items) share.plan.names (owner c items u (before_begun x.num w.log)) ≡ true = ap (is_home c.names
+          (order_numbered items) share.plan.names) (kept x.num share.plan.names at.s.plan.filter u what (on x.num here k.holds.share) fits takes_it)
+          ∙ home_at (owner c items u w.log) ∙ (Decides-eqb (instance_node (owner c items u w.log)) x.home).1 (told u x before since k) in
           let not_home : is_home c.names (order_numbered items) share.plan.names y ≡ false = home_at y ∙ off in
           let such : these y x.num ≡ true = rw (what, takes_it, own_home, not_home) refl in
           has_one (these y) w.log x.num (on x.num here k.holds.share) such
 
     -- a packet of the unit that comes marked as one of a share away from its home
-    pub away_marked : HomesOwn f c items is n count_is w j → (p y : ℕ) (op q : ℕ) (rest : List (Any R)) → (p == 0) && (instance_node y == 0) ≡ false → j.world.link p (instance_node y) ≡ New (Shared_on op false q) ∷ rest → same_unit ((S f g).packet_unit q) u ≡ true → is_shared_away c items u y w.log ≡ true
+    pub away_marked : HomesOwn f c items is n count_is w j → (p y : ℕ) (op q : ℕ) (rest : List (Any R)) → (p == 0) && (instance_node y == 0) ≡ false
+        → j.world.link p (instance_node y) ≡ New (Shared_on op false q) ∷ rest → same_unit ((S f g).packet_unit q) u ≡ true
+        → is_shared_away c items u y w.log ≡ true
     away_marked told p y op q rest off waits mine = by_where (j.shown_is.every.unit u)
       where
         by_where : Where → is_shared_away c items u y w.log ≡ true
-        by_where (Apart_from_shares h none) = let never : same_unit ((S f g).packet_unit q) u ≡ false = head_none (S f g) u (A f g) j.world p (instance_node y) (New (Shared_on op false q)) rest off waits h.untaken in let bad : true ≡ false = sym mine ∙ never in cc
+        by_where (Apart_from_shares h none) =
+            let never : same_unit ((S f g).packet_unit q) u ≡ false = head_none (S f g) u (A f g) j.world p (instance_node y) (New (Shared_on op false q))
+            rest off waits h.untaken in
+            let bad : true ≡ false = sym mine ∙ never in cc
         by_where (Under_share x before d h o t) =
             let z = seeing (S f g) (A f g) u x in
             let v = shape (unit_share (S f g) (A f g) z) h.stage in
-            let of = new_head (λ r m. Of_share (S f g) j.world.shares r m) j.world.link j.shown_is.every.global.messages p (instance_node y) (Shared_on op false q) rest off waits in
-            let label = label_of (S f g) (A f g) z j.world j.shown_is.every.global h.covered v.phase v.queue h.holds.share (instance_node y) (Shared_on op false q) of in
+            let of = new_head (λ r m. OfShare (S f g) j.world.shares r m) j.world.link j.shown_is.every.global.messages p (instance_node y)
+            (Shared_on op false q) rest off waits in
+            let label = label_of (S f g) (A f g) z j.world j.shown_is.every.global h.covered v.phase v.queue h.holds.share (instance_node y)
+            (Shared_on op false q) of in
             elim (op == x.num) as (λ t. (op == x.num) ≡ t → is_shared_away c items u y w.log ≡ true) [
-              | true ↦ λ its_own. away_there told x before (came_by f g w.log u).diverted h y (sym (same_is false (instance_node y == x.home) (label.0 its_own)))
+              | true ↦ λ its_own. away_there told x before (came_by f g w.log u).diverted h y
+                  (sym (same_is false (instance_node y == x.home) (label.0 its_own)))
               | false ↦ λ other. (let never : true ≡ false = sym mine ∙ label.1 other in cc)
             ] refl
 
   -- records of a share that come to an instance say whether it is the first member
-  pub first_synced : (p y : ℕ) (op : ℕ) (at_home : Bool) (cs : Chunks R) (rest : List (Any R)) → (p == 0) && (instance_node y == 0) ≡ false → j.world.link p (instance_node y) ≡ New (S_sync op at_home cs) ∷ rest → is_first_of c items (order_numbered items op) y ≡ at_home
+  pub first_synced : (p y : ℕ) (op : ℕ) (at_home : Bool) (cs : Chunks R) (rest : List (Any R)) → (p == 0) && (instance_node y == 0) ≡ false
+      → j.world.link p (instance_node y) ≡ New (S_sync op at_home cs) ∷ rest → is_first_of c items (order_numbered items op) y ≡ at_home
   first_synced p y op at_home cs rest off waits =
-      let of = new_head (λ r m. Of_share (S f g) j.world.shares r m) j.world.link j.shown_is.every.global.messages p (instance_node y) (S_sync op at_home cs) rest off waits in
+      let of = new_head (λ r m. OfShare (S f g) j.world.shares r m) j.world.link j.shown_is.every.global.messages p (instance_node y) (S_sync op at_home cs)
+      rest off waits in
       first_is_home op of.share of.found y ∙ sym (same_is at_home (instance_node y == of.share.home) of.says.1)

@@ -2,6 +2,7 @@
 use Rattle.std.proofs.Common.{◌≡◌, ℕ, suc, ◌+◌, ◌<◌, Bool, true, false, List, [], ◌∷◌, ◌++◌, length, refl, ap, ◌∙◌, arith}
 use Rattle.std.specs.Prelude.{◌&&◌, ◌||◌, ◌==◌, not}
 use Rattle.std.specs.Option.{option_map_or}
+use Rattle.std.specs.List.{list_any}
 use Rattle.std.proofs.lemmas.Bool.Decides.{nat_tests}
 use Rattle.nf_function.specs.declared.chunk.Chunk.{Chunk}
 use Rattle.nf_function.specs.declared.unit.Unit as units
@@ -13,67 +14,68 @@ use Rattle.packet_pool.specs.Pool.{FullCell}
 use Rattle.nf_msgs.specs.declared.msg.Msg.{Msg}
 use Rattle.nf_msgs.specs.declared.msg.Msg.TheVariants as msg
 use Rattle.nf_msgs.specs.declared.note.Note.{Note}
-use Rattle.nf_msgs.specs.declared.note.Note.TheVariants as note
 use Rattle.nf_msgs.specs.Nodes.{instance_node}
 use Rattle.instance_worker.specs.declared.instance.Instance.{Instance as InstanceState}
 use Rattle.instance_worker.specs.Instance.{instance_step}
-use Rattle.actor_net.specs.Network.{Network, waiting}
+use Rattle.actor_net.specs.Network.{Network, queue_at}
 use Rattle.actor_net.proofs.EnabledChoices.{at as at_node}
-use Rattle.unit_machine.proofs.Labels.{Each}
-use Rattle.abstract_net.proofs.Shares.{New, Shared_on, S_sync}
+use Rattle.proof_machines.proofs.unit.Labels.{Each}
+use Rattle.proof_machines.proofs.net.Shares.{New, Shared_on, S_sync}
 use Rattle.net_world.specs.declared.config.Config.{Config}
 use Rattle.net_world.specs.declared.node.Node.{Node}
 use Rattle.net_world.specs.Input.{IsInput, order_numbered}
 use Rattle.net_world.specs.Lives.{before_begun, is_first_of, is_shared_away}
-use Rattle.net_world.specs.Log.{has_begun, installed}
+use Rattle.net_world.specs.Log.{has_begun, installs_in, begins_in}
 use Rattle.net_world.specs.Places.{first_owner, is_home, owner_after, shared_among, unit_numbered}
-use Rattle.outline_net.proofs.InstanceOutline.{held_genuine}
-use Rattle.outline_net.proofs.Outline.{number, entries}
-use Rattle.path_net.proofs.SharedOwners.{HomesOwn}
-use Rattle.whole_joined.proofs.Given.{Given}
-use Rattle.whole_joined.proofs.InstanceSteps.{Rows, by_message}
-use Rattle.whole_joined.proofs.Joined.{Genuine, IsInstanceAt, IsTaken, Joined, Scene}
-use Rattle.whole_joined.proofs.OperationsApart.{AllApart}
-use Rattle.whole_joined.proofs.OwnerLemmas.{installed_quiet, begun_quiet}
-use Rattle.whole_joined.proofs.PlaceNotes.{IsQuiet}
-use Rattle.whole_joined.proofs.StartJoined.{given}
-use Rattle.answer_net.proofs.BusyRuns.{Busy}
-use Rattle.nf_net.proofs.LiveRows.{Lives, Free, carry_lives, away_lives, fence_lives, delete_lives, put_lives, restore_lives, standby_lives, sync_lives, stream_lives, get_lives, put_all_lives, stop_lives, enable_lives, get_all_lives}
+use Rattle.proof_outlines.proofs.outline.InstanceOutline.{held_genuine}
+use Rattle.proof_outlines.proofs.outline.Outline.{number, entries}
+use Rattle.nf_net.proofs.paths.SharedOwners.{HomesOwn}
+use Rattle.proof_outlines.proofs.joined.Given.{Given}
+use Rattle.proof_outlines.proofs.joined.InstanceMessages.{Rows, by_message}
+use Rattle.proof_outlines.proofs.joined.Joined.{Genuine, IsInstanceAt, IsTaken, Joined, Scene}
+use Rattle.proof_outlines.proofs.joined.OperationsApart.{AllApart}
+use Rattle.proof_outlines.proofs.joined.OwnerLemmas.{installed_quiet, begun_quiet}
+use Rattle.proof_outlines.proofs.joined.PlaceNotes.{IsQuiet}
+use Rattle.proof_outlines.proofs.joined.StartJoined.{given}
+use Rattle.nf_net.proofs.answers.BusyRuns.{Busy}
+use Rattle.nf_net.proofs.LiveRows.{Lives, Free, carry_lives, away_lives, fence_lives, delete_lives, put_lives, restore_lives, standby_lives}
+use Rattle.nf_net.proofs.LiveRows.{sync_lives, stream_lives, get_lives, put_all_lives, stop_lives, enable_lives, get_all_lives}
 use Rattle.nf_net.proofs.LiveShares.{away_marked, first_synced}
 use Rattle.nf_net.proofs.NumberedUnits.{units_fit}
 use Rattle.nf_net.proofs.ShareOwners.{OwnersStay, installed_before}
 
 same_begun : (these those : ℕ → Bool) → ((op : ℕ) → these op ≡ those op) → (log : List Note) → has_begun these log ≡ has_begun those log
-same_begun these those same [] = refl
-same_begun these those same (note.Begun op ∷ log) = ap (λ t. t || has_begun these log) (same op) ∙ ap (λ t. those op || t) (same_begun these those same log)
-same_begun these those same (note.Arrived k ∷ log) = same_begun these those same log
-same_begun these those same (note.Processed k i output ∷ log) = same_begun these those same log
-same_begun these those same (note.Exported i k us ∷ log) = same_begun these those same log
-same_begun these those same (note.Imported i k us ∷ log) = same_begun these those same log
-same_begun these those same (note.Kept i k us ∷ log) = same_begun these those same log
-same_begun these those same (note.Installed k ∷ log) = same_begun these those same log
-same_begun these those same (note.Answered k answer ∷ log) = same_begun these those same log
+same_begun these those same log = along (begins_in log)
+  where
+    along : (ops : List ℕ) → list_any these ops ≡ list_any those ops
+    along [] = refl
+    along (op ∷ ops) = ap (λ t. t || list_any these ops) (same op) ∙ ap (λ t. those op || t) (along ops)
 
 -- what an instance notes changes nothing of which share has a unit
-pub away_quiet : (c : Config) (items : List Msg) (u : units.Unit) (y k : ℕ) (xs ys : List Note) → Each (IsQuiet k) ys → is_shared_away c items u y (xs ++ ys) ≡ is_shared_away c items u y xs
+pub away_quiet : (c : Config) (items : List Msg) (u : units.Unit) (y k : ℕ) (xs ys : List Note) → Each (IsQuiet k) ys
+    → is_shared_away c items u y (xs ++ ys) ≡ is_shared_away c items u y xs
 away_quiet c items u y k xs ys quiet =
     same_begun (covers_at (xs ++ ys)) (covers_at xs) each (xs ++ ys) ∙ begun_quiet (covers_at xs) k xs ys quiet
   where
     by_owner : ℕ → List ℕ → Bool
-    by_owner op ops = option_map_or (λ members. not (is_home c.names (order_numbered items) members y)) (shared_among c.names (order_numbered items) u (order_numbered items op) (owner_after c.names (order_numbered items) u (first_owner u c.routes) ops)) false
+    by_owner op ops = option_map_or (λ members. not (is_home c.names (order_numbered items) members y)) (shared_among c.names (order_numbered items) u
+        (order_numbered items op) (owner_after c.names (order_numbered items) u (first_owner u c.routes) ops)) false
 
     covers_at : List Note → ℕ → Bool
-    covers_at log op = by_owner op (installed (before_begun op log))
+    covers_at log op = by_owner op (installs_in (before_begun op log))
 
     each : (op : ℕ) → covers_at (xs ++ ys) op ≡ covers_at xs op
     each op = ap (by_owner op) (installed_before op xs ys (installed_quiet k ys quiet))
 
-module _ {F R : Type 0} (f : Semantics R) (laws : FunctionLaws f) (c : Config) (items : List Msg) (is : IsInput f.kind c items) (n : ℕ) (count_is : n ≡ length c.names + 2) (w : Network (Node F R) Msg Note) (j : Joined f (given f c items is) n w) (apart : AllApart j.nodes.controller.operations) (b : Busy (given f c items is) w) (told : HomesOwn f c items is n count_is w j) (kept : OwnersStay f c items w.log) (p y : ℕ) (few : suc (suc y) < n) where
+module _ {F R : Type 0} (f : Semantics R) (laws : FunctionLaws f) (c : Config) (items : List Msg) (is : IsInput f.kind c items)
+    (n : ℕ) (count_is : n ≡ length c.names + 2) (w : Network (Node F R) Msg Note) (j : Joined f (given f c items is) n w)
+    (apart : AllApart j.nodes.controller.operations) (b : Busy (given f c items is) w) (told : HomesOwn f c items is n count_is w j)
+    (kept : OwnersStay f c items w.log) (p y : ℕ) (few : suc (suc y) < n) where
   abbrev g : Given
   g = given f c items is
 
   abbrev scene : Scene F f g
-  scene = record { nodes = j.nodes; world = j.world; log = w.log; input = waiting w (at_node 0 0) }
+  scene = record { nodes = j.nodes; world = j.world; log = w.log; input = queue_at w (at_node 0 0) }
 
   abbrev k : ℕ
   k = suc (suc y)
@@ -104,13 +106,16 @@ module _ {F R : Type 0} (f : Semantics R) (laws : FunctionLaws f) (c : Config) (
   OfCopy m = (op : ℕ) (chunks : List Chunk) → m ≡ msg.Standby op chunks → is_first_of c items (order_numbered items op) y ≡ false
 
   abbrev Now : Msg → Type 0
-  Now m = IsTakenHere m → OfCopy m → Free f laws c items is y w.log i site (instance_step f i m) → Lives f laws c items is y w.log i site m (instance_step f i m)
+  Now m = IsTakenHere m → OfCopy m → Free f laws c items is y w.log i site (instance_step f i m)
+      → Lives f laws c items is y w.log i site m (instance_step f i m)
 
   shared_lives : (op : ℕ) (home : Bool) (cell : FullCell) → Genuine f g cell → Now (msg.Carry (mark.Shared op home) cell)
   shared_lives op true cell e t copied free = carry_lives f laws c items is y w.log i site (mark.Shared op true) cell e refl free
   shared_lives op false cell e t copied free =
       let u = unit_numbered c items f.kind (number cell) in
-      away_lives f laws c items is y w.log i site op cell (away_marked f c items is n count_is w j apart b u (units_fit f c items is (number cell)) kept told p y op (number cell) t.rest no_input (ap (j.world.link p) node_is ∙ t.head not_input (New (Shared_on op false (number cell))) refl) (same_unit_equiv.refl u))
+      away_lives f laws c items is y w.log i site op cell
+      (away_marked f c items is n count_is w j apart b u (units_fit f c items is (number cell)) kept told p y op (number cell) t.rest no_input
+      (ap (j.world.link p) node_is ∙ t.head not_input (New (Shared_on op false (number cell))) refl) (same_unit_equiv.refl u))
 
   rows : Rows f g Now
   rows = record {
@@ -128,8 +133,11 @@ module _ {F R : Type 0} (f : Semantics R) (laws : FunctionLaws f) (c : Config) (
     get_all = λ op t copied free. get_all_lives f laws c items is y w.log i site op;
     standby = λ op chunks good t copied free. standby_lives f laws c items is y w.log i site op chunks good (copied op chunks refl);
     put_all = λ op chunk t copied free. put_all_lives f laws c items is y w.log i site op chunk;
-    sync = λ home op chunks good t copied free. sync_lives f laws c items is y w.log i site home op chunks good (first_synced f c items is n count_is w j apart b p y op home (entries f chunks) t.rest no_input (ap (j.world.link p) node_is ∙ t.head not_input (New (S_sync op home (entries f chunks))) refl));
+    sync = λ home op chunks good t copied free. sync_lives f laws c items is y w.log i site home op chunks good
+        (first_synced f c items is n count_is w j apart b p y op home (entries f chunks) t.rest no_input
+        (ap (j.world.link p) node_is ∙ t.head not_input (New (S_sync op home (entries f chunks))) refl));
   }
 
-  pub step_lives : (m : Msg) → IsTakenHere m → OfCopy m → Free f laws c items is y w.log i site (instance_step f i m) → Lives f laws c items is y w.log i site m (instance_step f i m)
+  pub step_lives : (m : Msg) → IsTakenHere m → OfCopy m → Free f laws c items is y w.log i site (instance_step f i m)
+      → Lives f laws c items is y w.log i site m (instance_step f i m)
   step_lives m t = by_message f g Now p y rows m t.label t

@@ -34,30 +34,35 @@ pub with_in : (us more : List units.Unit) (q : units.Unit) → is_among (with_un
 with_in us [] q = sym (or-false (is_among us q))
 with_in us (u ∷ more) q =
     with_in (if is_among us u then us else u ∷ us) more q
-    ∙ elim (is_among us u) as (λ t. is_among us u ≡ t → is_among (if t then us else u ∷ us) q || is_among more q ≡ is_among us q || (same_unit q u || is_among more q)) [
+    ∙ elim (is_among us u)
+    as (λ t. is_among us u ≡ t → is_among (if t then us else u ∷ us) q || is_among more q ≡ is_among us q || (same_unit q u || is_among more q)) [
       | true ↦ λ on. found (same_unit q u) (is_among us q) (is_among more q) (among_same us u q on)
       | false ↦ λ _. turned (same_unit q u) (is_among us q) (is_among more q)
     ] refl
 
 pub with_once : (us more : List units.Unit) → AreOnce us → AreOnce (with_units us more)
 with_once us [] h = h
-with_once us (u ∷ more) h = with_once (if is_among us u then us else u ∷ us) more (elim (is_among us u) as (λ t. is_among us u ≡ t → AreOnce (if t then us else u ∷ us)) [
-  | true ↦ λ _. h
-  | false ↦ λ off. (off, h)
-] refl)
+with_once us (u ∷ more) h =
+    with_once (if is_among us u then us else u ∷ us) more (elim (is_among us u) as (λ t. is_among us u ≡ t → AreOnce (if t then us else u ∷ us)) [
+      | true ↦ λ _. h
+      | false ↦ λ off. (off, h)
+    ] refl)
 
 pub without_in : (gone us : List units.Unit) (q : units.Unit) → is_among (without_units gone us) q ≡ is_among us q && not (is_among gone q)
 without_in gone [] q = refl
-without_in gone (u ∷ us) q = elim (is_among gone u) as (λ t. is_among gone u ≡ t → is_among (cond (not t) (u ∷ without_units gone us) (without_units gone us)) q ≡ (same_unit q u || is_among us q) && not (is_among gone q)) [
-  | true ↦ λ on. without_in gone us q ∙ elim (same_unit q u) as (λ t. same_unit q u ≡ t → is_among us q && not (is_among gone q) ≡ (t || is_among us q) && not (is_among gone q)) [
-    | true ↦ λ same. (let there : is_among gone q ≡ true = among_same gone u q on same in rw there (and-false (is_among us q)))
-    | false ↦ λ _. refl
-  ] refl
-  | false ↦ λ off. ap (λ b. same_unit q u || b) (without_in gone us q) ∙ elim (same_unit q u) as (λ t. same_unit q u ≡ t → t || (is_among us q && not (is_among gone q)) ≡ (t || is_among us q) && not (is_among gone q)) [
-    | true ↦ λ same. (let there : is_among gone q ≡ false = ap (is_among gone) (same_unit-true q u same) ∙ off in rw there refl)
-    | false ↦ λ _. refl
-  ] refl
-] refl
+without_in gone (u ∷ us) q = elim (is_among gone u) as (λ t. is_among gone u ≡ t
+    → is_among (cond (not t) (u ∷ without_units gone us) (without_units gone us)) q ≡ (same_unit q u || is_among us q) && not (is_among gone q)) [
+      | true ↦ λ on. without_in gone us q
+          ∙ elim (same_unit q u) as (λ t. same_unit q u ≡ t → is_among us q && not (is_among gone q) ≡ (t || is_among us q) && not (is_among gone q)) [
+            | true ↦ λ same. (let there : is_among gone q ≡ true = among_same gone u q on same in rw there (and-false (is_among us q)))
+            | false ↦ λ _. refl
+          ] refl
+      | false ↦ λ off. ap (λ b. same_unit q u || b) (without_in gone us q)
+          ∙ elim (same_unit q u) as (λ t. same_unit q u ≡ t → t || (is_among us q && not (is_among gone q)) ≡ (t || is_among us q) && not (is_among gone q)) [
+            | true ↦ λ same. (let there : is_among gone q ≡ false = ap (is_among gone) (same_unit-true q u same) ∙ off in rw there refl)
+            | false ↦ λ _. refl
+          ] refl
+    ] refl
 
 pub without_once : (gone us : List units.Unit) → AreOnce us → AreOnce (without_units gone us)
 without_once gone [] h = tt
@@ -82,7 +87,8 @@ module _ {R : Type 0} where
       by_entries [] e = refl
       by_entries (x ∷ es) e =
           let self : same_unit x.0 x.0 ≡ true = same_unit_equiv.refl x.0 in
-          let keys : finite.contains_key m x.0 ≡ is_among (map (λ y. y.0) (x ∷ es)) x.0 = contains_key-keys m x.0 ∙ ap (λ zs. is_among (map (λ y. y.0) zs) x.0) e in
+          let keys : finite.contains_key m x.0 ≡ is_among (map (λ y. y.0) (x ∷ es)) x.0 = contains_key-keys m x.0
+          ∙ ap (λ zs. is_among (map (λ y. y.0) zs) x.0) e in
           let on : is_among (map (λ y. y.0) (x ∷ es)) x.0 ≡ true = rw self refl in
           let never : false ≡ true = sym (h x.0) ∙ keys ∙ on in
           cc

@@ -1,34 +1,38 @@
 -- Where one packet of a unit that a share has is processed: at its member, if it came while the unit's packets were diverted, and else at home.
-use Rattle.std.proofs.Common.{◌≡◌, ◌≢◌, ℕ, ◌+◌, ◌≤◌, Bool, true, false, cond, Option, Some, None, List, [], ◌∷◌, ◌++◌, map, ◌⊎◌, inl, inr, refl, sym, ap, ◌∙◌, subst, arith}
+use Rattle.std.proofs.Common.{◌≡◌, ◌≢◌, ℕ, ◌+◌, ◌≤◌, Bool, true, false, cond, Option, Some, None, List}
+use Rattle.std.proofs.Common.{[], ◌∷◌, ◌++◌, map, ◌⊎◌, inl, inr, refl, sym, ap, ◌∙◌, subst, arith}
 use Rattle.std.specs.Prelude.{if◌then◌else◌, ◌&&◌, ◌==◌}
 use Rattle.std.proofs.lemmas.Bool.Decides.{nat_tests, Decides-eqb}
-use Rattle.unit_machine.proofs.Real.{add}
-use Rattle.unit_machine.proofs.Stages.{times, IsOrderedAs}
-use Rattle.unit_machine.proofs.Loose.{times-append}
-use Rattle.unit_machine.proofs.Ends.{same_of}
-use Rattle.share_machine.proofs.Share.{Ran, Item, Item.Carry, UnitShare}
-use Rattle.share_machine.proofs.Stages.{Stage, Stage.Diverting, Stage.Fence_goes, Stage.Fenced_comes, Stage.Get_goes, Stage.Chunks_come, Stage.Spreads, Stage.Resting, Stage.Forwards, Stage.Carries, Stage.Chunk_comes, packets, served, shape}
-use Rattle.share_machine.proofs.Order.{Parts, parts}
-use Rattle.share_machine.proofs.Heads.{to_members}
-use Rattle.share_machine.proofs.Places.{At_places}
-use Rattle.abstract_net.proofs.Net.{Sys, IsSys, at_node}
-use Rattle.abstract_net.proofs.Rest.{none_mine}
-use Rattle.abstract_net.proofs.GlobalAll.{Global_all}
-use Rattle.abstract_net.proofs.Untaken.{No_share, head_none}
-use Rattle.abstract_net.proofs.ShareViews.{share_expect, unit_share, share_seen, share_items, own_at}
-use Rattle.abstract_net.proofs.MemberSteps.{does}
-use Rattle.abstract_net.proofs.UnderInst.{did_at, heads, inst_from}
-use Rattle.abstract_net.proofs.Under.{Under, inst_keeps}
-use Rattle.abstract_net.proofs.UnderStarts.{seeing}
-use Rattle.abstract_net.proofs.UnderReadings.{all_done}
-use Rattle.abstract_net.proofs.Shares.{Any, Any.Old, Any.New, Share_msg, Share_msg.Shared_on, Share_msg.S_sync, olds, Sharing, IsSharing, Open_share, Want_share, member_step, WholeWorld, moves_of, ran_of, Seeing_share}
-use Rattle.whole_net.proofs.WhereAll.{Came, Where_all, Apart_from_shares, Under_share}
-use Rattle.whole_net.proofs.Readings.{Its_share, its_share}
-use Rattle.whole_net.proofs.PlacesAll.{ran_by, Processes, As_moves, At_member, processes_all}
-use Rattle.whole_net.proofs.MovePlaces.{May_run, processed_where}
+use Rattle.proof_machines.proofs.unit.Real.{add}
+use Rattle.proof_machines.proofs.unit.Stages.{times, IsOrderedAs}
+use Rattle.proof_machines.proofs.unit.Loose.{times-append}
+use Rattle.proof_machines.proofs.unit.Ends.{same_of}
+use Rattle.proof_machines.proofs.share.Share.{Ran, Item, Item.Carry, UnitShare}
+use Rattle.proof_machines.proofs.share.Stages.{Stage, Stage.Diverting, Stage.Fence_goes, Stage.Fenced_comes, Stage.Get_goes, Stage.Chunks_come}
+use Rattle.proof_machines.proofs.share.Stages.{Stage.Spreads, Stage.Resting, Stage.Forwards, Stage.Carries, Stage.Chunk_comes, packets, served, shape}
+use Rattle.proof_machines.proofs.share.Order.{Parts, parts}
+use Rattle.proof_machines.proofs.share.Heads.{to_members}
+use Rattle.proof_machines.proofs.share.Places.{At_places}
+use Rattle.proof_machines.proofs.net.Net.{Sys, IsSys, at_node}
+use Rattle.proof_machines.proofs.net.Rest.{none_mine}
+use Rattle.proof_machines.proofs.net.GlobalAll.{GlobalAll}
+use Rattle.proof_machines.proofs.net.Untaken.{NoShare, head_none}
+use Rattle.proof_machines.proofs.net.ShareViews.{share_expect, unit_share, share_seen, share_items, own_at}
+use Rattle.proof_machines.proofs.net.MemberSteps.{does}
+use Rattle.proof_machines.proofs.net.UnderInst.{did_at, heads, inst_from}
+use Rattle.proof_machines.proofs.net.Under.{Under}
+use Rattle.proof_machines.proofs.net.UnderSteps.{inst_keeps}
+use Rattle.proof_machines.proofs.net.UnderStarts.{seeing}
+use Rattle.proof_machines.proofs.net.UnderReadings.{all_done}
+use Rattle.proof_machines.proofs.net.Shares.{Any, Any.Old, Any.New, ShareMsg, ShareMsg.Shared_on, ShareMsg.S_sync, olds, Sharing}
+use Rattle.proof_machines.proofs.net.Shares.{IsSharing, OpenShare, WantShare, member_step, WholeWorld, moves_of, ran_of, SeeingShare}
+use Rattle.proof_machines.proofs.whole.WhereAll.{Came, WhereAll, Apart_from_shares, Under_share}
+use Rattle.proof_machines.proofs.whole.Readings.{ItsShare, its_share}
+use Rattle.proof_machines.proofs.whole.PlacesAll.{ran_by, Processes, As_moves, At_member, processes_all}
+use Rattle.proof_machines.proofs.whole.MovePlaces.{MayRun, processed_where}
 use Rattle.nf_function.specs.declared.unit.Unit as units
 use Rattle.record_table.specs.Table.{same_unit}
-use Rattle.whole_joined.proofs.OwnerLemmas.{Stands, In_first, In_second, stands}
+use Rattle.proof_outlines.proofs.joined.OwnerLemmas.{Stands, In_first, In_second, stands}
 
 -- A packet among some, with its node.
 pub some_times : (front back : List Ran) (p y : ℕ) → 1 ≤ times p (packets (front ++ (p, y) ∷ back))
@@ -81,31 +85,41 @@ module _ {R : Type 0} (f : UnitShare R) where
 
 module _ {R : Type 0} (S : Sys R) (A : Sharing S) (laws : IsSys S) (u : units.Unit) where
   -- a packet of the unit where an instance processes some
-  ran_there : (y q : ℕ) → same_unit (S.packet_unit q) u ≡ true → (front back : List ℕ) → (before : List Ran) × (after : List Ran) × (ran_of S A u (at_node y (front ++ q ∷ back)) ≡ before ++ (q, y) ∷ after)
+  ran_there : (y q : ℕ) → same_unit (S.packet_unit q) u ≡ true → (front back : List ℕ)
+      → (before : List Ran) × (after : List Ran) × (ran_of S A u (at_node y (front ++ q ∷ back)) ≡ before ++ (q, y) ∷ after)
   ran_there y q mine [] back = ([], ran_of S A u (at_node y back), rw mine refl)
   ran_there y q mine (p ∷ front) back =
       let r = ran_there y q mine front back in
-      elim (same_unit (S.packet_unit p) u) as (λ b. (before : List Ran) × (after : List Ran) × ((if b then (p, y) ∷ ran_of S A u (at_node y (front ++ q ∷ back)) else ran_of S A u (at_node y (front ++ q ∷ back))) ≡ before ++ (q, y) ∷ after)) [
+      elim (same_unit (S.packet_unit p) u) as (λ b. (before : List Ran) × (after : List Ran)
+      × ((if b then (p, y) ∷ ran_of S A u (at_node y (front ++ q ∷ back)) else ran_of S A u (at_node y (front ++ q ∷ back))) ≡ before ++ (q, y) ∷ after)) [
         | true ↦ ((p, y) ∷ r.0, r.1, ap (λ v. (p, y) ∷ v) r.2)
         | false ↦ r
       ]
 
   pub mine_there : (q : ℕ) → same_unit (S.packet_unit q) u ≡ true → (front back : List ℕ) → none_mine S u (front ++ q ∷ back) ≢ []
   mine_there q mine [] back none = let some : q ∷ none_mine S u back ≡ [] = rw mine at none in cc
-  mine_there q mine (p ∷ front) back none = elim (same_unit (S.packet_unit p) u) as (λ b. (if b then p ∷ none_mine S u (front ++ q ∷ back) else none_mine S u (front ++ q ∷ back)) ≡ [] → ⊥) [
-    | true ↦ λ never. cc
-    | false ↦ λ rest. mine_there q mine front back rest
-  ] none
+  mine_there q mine (p ∷ front) back none =
+      elim (same_unit (S.packet_unit p) u) as (λ b. (if b then p ∷ none_mine S u (front ++ q ∷ back) else none_mine S u (front ++ q ∷ back)) ≡ [] → ⊥) [
+        | true ↦ λ never. cc
+        | false ↦ λ rest. mine_there q mine front back rest
+      ] none
 
   -- A packet of the unit that came while its packets were diverted, once, and was done
-  module _ (w : WholeWorld S A) (k : Came) (p y : ℕ) (once : times p k.all ≤ 1) (came : 1 ≤ times p k.diverted) (front back : List Ran) (there : ran_of S A u w.done ≡ front ++ (p, y) ∷ back) where
-    pub record Done_at : Type 0 where
-      pub share : Open_share
-      pub its : Its_share S A laws u w share
+  module _ (w : WholeWorld S A) (k : Came) (p y : ℕ) (once : times p k.all ≤ 1) (came : 1 ≤ times p k.diverted) (front back : List Ran)
+      (there : ran_of S A u w.done ≡ front ++ (p, y) ∷ back) where
+    pub record DoneAt : Type 0 where
+      pub share : OpenShare
+      pub its : ItsShare S A laws u w share
       pub at : y ≡ A.member share.members p
 
-    done_under : (x : Want_share) (before : List ℕ) (b : Bool) → Under S A (seeing S A u x) w before k.diverted → IsOrderedAs b (before ++ k.diverted) k.all → Done_at
-    done_under x before b h o = record { share = its_share S A laws u w x before k.diverted h; its = record { found = h.holds.share; takes = h.covered; home_in = h.is.home_in }; at = by_place (stands parted.before (served fr parted.since) front (p, y) back (sym parted.done ∙ sym (all_done S A (seeing S A u x) w before k.diverted h) ∙ there)) }
+    done_under : (x : WantShare) (before : List ℕ) (b : Bool) → Under S A (seeing S A u x) w before k.diverted → IsOrderedAs b (before ++ k.diverted) k.all
+        → DoneAt
+    done_under x before b h o = record {
+      share = its_share S A laws u w x before k.diverted h;
+      its = record { found = h.holds.share; takes = h.covered; home_in = h.is.home_in };
+      at = by_place (stands parted.before (served fr parted.since) front (p, y) back
+          (sym parted.done ∙ sym (all_done S A (seeing S A u x) w before k.diverted h) ∙ there));
+    }
       where
         fr : UnitShare R
         fr = unit_share S A (seeing S A u x)
@@ -118,19 +132,22 @@ module _ {R : Type 0} (S : Sys R) (A : Sharing S) (laws : IsSys S) (u : units.Un
         not_before =
             let all : times p (before ++ k.diverted) ≡ times p k.all = same_of b (before ++ k.diverted) k.all o p in
             let two = times-append p before k.diverted in
-            let first : times p before ≡ times p (packets parted.before) + times p parted.early_waits = ap (times p) (h.before_is ∙ parted.early_is) ∙ times-append p (packets parted.before) parted.early_waits in
+            let first : times p before ≡ times p (packets parted.before) + times p parted.early_waits = ap (times p) (h.before_is ∙ parted.early_is)
+            ∙ times-append p (packets parted.before) parted.early_waits in
             omega (arith, all, two, first, once, came)
 
         by_place : Stands parted.before (served fr parted.since) (record { before = front; item = (p, y); after = back }) → y ≡ A.member x.members p
-        by_place (In_first cs here) = let some = some_times front cs p y in let none = not_before in let same = ap (λ ds. times p (packets ds)) here in absurd (omega (arith, some, none, same))
+        by_place (In_first cs here) =
+            let some = some_times front cs p y in
+            let none = not_before in let same = ap (λ ds. times p (packets ds)) here in absurd (omega (arith, some, none, same))
         by_place (In_second cs from at) = served_at fr parted.since cs back p y at
 
-    pub done_at : Where_all S A laws u w k → Done_at
+    pub done_at : WhereAll S A laws u w k → DoneAt
     done_at (Apart_from_shares h none) = let zero = ap (times p) none in absurd (omega (arith, came, zero))
     done_at (Under_share x before b h o f) = done_under x before b h o
 
   -- What an instance that no share's packet comes to processes on a message of a share: nothing of the unit
-  pub unseen_ran : (es : List Open_share) (live standby : S.B.T) (m : Share_msg R) → No_share S u es m → none_mine S u (member_step S A live standby m).ran ≡ []
+  pub unseen_ran : (es : List OpenShare) (live standby : S.B.T) (m : ShareMsg R) → NoShare S u es m → none_mine S u (member_step S A live standby m).ran ≡ []
   unseen_ran es live standby (Shared_on n true p) off = rw off refl
   unseen_ran es live standby (Shared_on n false p) off = rw off refl
   unseen_ran es live standby (S_sync n true cs) off = refl
@@ -138,8 +155,11 @@ module _ {R : Type 0} (S : Sys R) (A : Sharing S) (laws : IsSys S) (u : units.Un
   unseen_ran es live standby m off = refl
 
   -- under a share that doesn't divert yet it is home that processes
-  module _ (ok : IsSharing S A) (w : WholeWorld S A) (x : Want_share) (before since : List ℕ) (h : Under S A (seeing S A u x) w before since) (g : Global_all S A w) (y p : ℕ) (m : Any R) (rest : List (Any R)) (y0 : (y == 0) ≡ false) (y1 : (y == 1) ≡ false) (waits : w.link p y ≡ m ∷ rest) (some : ran_of S A u (at_node y (did_at S A laws (seeing S A u x) w y m).ran) ≢ []) (off : (shape (unit_share S A (seeing S A u x)) h.stage).diverts ≡ false) where
-    abbrev z : Seeing_share
+  module _ (ok : IsSharing S A) (w : WholeWorld S A) (x : WantShare) (before since : List ℕ) (h : Under S A (seeing S A u x) w before since)
+      (g : GlobalAll S A w) (y p : ℕ) (m : Any R) (rest : List (Any R)) (y0 : (y == 0) ≡ false) (y1 : (y == 1) ≡ false)
+      (waits : w.link p y ≡ m ∷ rest) (some : ran_of S A u (at_node y (did_at S A laws (seeing S A u x) w y m).ran) ≢ [])
+      (off : (shape (unit_share S A (seeing S A u x)) h.stage).diverts ≡ false) where
+    abbrev z : SeeingShare
     z = seeing S A u x
 
     abbrev fr : UnitShare R
@@ -163,57 +183,67 @@ module _ {R : Type 0} (S : Sys R) (A : Sharing S) (laws : IsSys S) (u : units.Un
     by_item (Some it) r e = by_link it (inst_from S A laws z w (shape fr h.stage) h.holds (to_members fr h.is h.stage h.fits) y p m rest y0 y1 waits it e)
 
     undiverted_home : y ≡ x.home
-    undiverted_home = by_item (share_seen S A z y m) ran (heads S A laws z w (shape fr h.stage) h.holds (to_members fr h.is h.stage h.fits) y p m rest y0 y1 waits)
+    undiverted_home =
+        by_item (share_seen S A z y m) ran (heads S A laws z w (shape fr h.stage) h.holds (to_members fr h.is h.stage h.fits) y p m rest y0 y1 waits)
 
   -- Where an instance processes a packet of the unit: as moves know it, at the home of its share, or at its member while its packets are diverted
-  pub data Processes_one (w : WholeWorld S A) (y q : ℕ) : Type 0 where
-    By_move : May_run S (moves_of S A w) u y → Processes_one w y q
-    By_home : (e : Open_share) → Its_share S A laws u w e → (w.target u ≡ 1) ⊎ (w.target u ≡ e.home) → y ≡ e.home → Processes_one w y q
-    By_member : (e : Open_share) → Its_share S A laws u w e → w.target u ≡ 1 → y ≡ A.member e.members q → Processes_one w y q
+  pub data ProcessesOne (w : WholeWorld S A) (y q : ℕ) : Type 0 where
+    By_move : MayRun S (moves_of S A w) u y → ProcessesOne w y q
+    By_home : (e : OpenShare) → ItsShare S A laws u w e → (w.target u ≡ 1) ⊎ (w.target u ≡ e.home) → y ≡ e.home → ProcessesOne w y q
+    By_member : (e : OpenShare) → ItsShare S A laws u w e → w.target u ≡ 1 → y ≡ A.member e.members q → ProcessesOne w y q
 
-  module _ (ok : IsSharing S A) (w : WholeWorld S A) (k : Came) (g : Global_all S A w) (p y : ℕ) (m : Any R) (rest : List (Any R)) (y0 : (y == 0) ≡ false) (y1 : (y == 1) ≡ false) (waits : w.link p y ≡ m ∷ rest) (q : ℕ) (mine : same_unit (S.packet_unit q) u ≡ true) (front back : List ℕ) (ran : ran_by S A laws w y m ≡ front ++ q ∷ back) where
+  module _ (ok : IsSharing S A) (w : WholeWorld S A) (k : Came) (g : GlobalAll S A w) (p y : ℕ) (m : Any R) (rest : List (Any R)) (y0 : (y == 0) ≡ false)
+      (y1 : (y == 1) ≡ false) (waits : w.link p y ≡ m ∷ rest) (q : ℕ) (mine : same_unit (S.packet_unit q) u ≡ true) (front back : List ℕ)
+      (ran : ran_by S A laws w y m ≡ front ++ q ∷ back) where
     some_mine : none_mine S u (ran_by S A laws w y m) ≢ []
     some_mine = subst (λ v. none_mine S u v ≢ []) (sym ran) (mine_there q mine front back)
 
     its_ran : (before : List Ran) × (after : List Ran) × (ran_of S A u (at_node y (ran_by S A laws w y m)) ≡ before ++ (q, y) ∷ after)
-    its_ran = subst (λ v. (before : List Ran) × (after : List Ran) × (ran_of S A u (at_node y v) ≡ before ++ (q, y) ∷ after)) (sym ran) (ran_there y q mine front back)
+    its_ran = subst (λ v. (before : List Ran) × (after : List Ran) × (ran_of S A u (at_node y v) ≡ before ++ (q, y) ∷ after)) (sym ran)
+        (ran_there y q mine front back)
 
     none_left : (xs ys : List Ran) → xs ++ (q, y) ∷ ys ≡ [] → ⊥
     none_left [] ys e = cc
     none_left (x ∷ xs) ys e = cc
 
-    some_ran : (z : Seeing_share) (n : Any R) → m ≡ n → ran_of S A u (at_node y (did_at S A laws z w y n).ran) ≢ []
+    some_ran : (z : SeeingShare) (n : Any R) → m ≡ n → ran_of S A u (at_node y (did_at S A laws z w y n).ran) ≢ []
     some_ran z (Old o) same none = none_left its_ran.0 its_ran.1 (sym its_ran.2 ∙ ap (λ v. ran_of S A u (at_node y (ran_by S A laws w y v))) same ∙ none)
     some_ran z (New o) same none = none_left its_ran.0 its_ran.1 (sym its_ran.2 ∙ ap (λ v. ran_of S A u (at_node y (ran_by S A laws w y v))) same ∙ none)
 
-    under_one : (x : Want_share) (before since : List ℕ) → Under S A (seeing S A u x) w before since → Processes S A laws w u y (ran_by S A laws w y m) → Processes_one w y q
+    under_one : (x : WantShare) (before since : List ℕ) → Under S A (seeing S A u x) w before since → Processes S A laws w u y (ran_by S A laws w y m)
+        → ProcessesOne w y q
     under_one x before since h (As_moves may live) = By_move may
     under_one x before since h (At_member e its inside places own) = by_diverts (shape (unit_share S A (seeing S A u x)) h.stage).diverts refl
       where
-        here : Open_share
+        here : OpenShare
         here = its_share S A laws u w x before since h
 
-        its_here : Its_share S A laws u w here
+        its_here : ItsShare S A laws u w here
         its_here = record { found = h.holds.share; takes = h.covered; home_in = h.is.home_in }
 
-        by_diverts : (d : Bool) → (shape (unit_share S A (seeing S A u x)) h.stage).diverts ≡ d → Processes_one w y q
-        by_diverts false off = By_home here its_here (inr (h.holds.target ∙ ap (λ b. if b then 1 else x.home) off)) (undiverted_home ok w x before since h g y p m rest y0 y1 waits (some_ran (seeing S A u x) m refl) off)
-        by_diverts true on = by_place (placed_at (unit_share S A (record { unit = u; num = e.num; home = e.home; members = e.members; filter = e.filter })) its_ran.0 its_ran.1 q y (subst (At_places (unit_share S A (record { unit = u; num = e.num; home = e.home; members = e.members; filter = e.filter }))) its_ran.2 places))
+        by_diverts : (d : Bool) → (shape (unit_share S A (seeing S A u x)) h.stage).diverts ≡ d → ProcessesOne w y q
+        by_diverts false off = By_home here its_here (inr (h.holds.target ∙ ap (λ b. if b then 1 else x.home) off))
+            (undiverted_home ok w x before since h g y p m rest y0 y1 waits (some_ran (seeing S A u x) m refl) off)
+        by_diverts true on = by_place (placed_at (unit_share S A (record { unit = u; num = e.num; home = e.home; members = e.members; filter = e.filter }))
+            its_ran.0 its_ran.1 q y
+            (subst (At_places (unit_share S A (record { unit = u; num = e.num; home = e.home; members = e.members; filter = e.filter }))) its_ran.2 places))
           where
             one : w.target u ≡ 1
             one = h.holds.target ∙ ap (λ b. if b then 1 else x.home) on
 
-            by_place : (y ≡ e.home) ⊎ (y ≡ A.member e.members q) → Processes_one w y q
+            by_place : (y ≡ e.home) ⊎ (y ≡ A.member e.members q) → ProcessesOne w y q
             by_place (inl at) = By_home e its (inl one) at
             by_place (inr at) = By_member e its one at
 
-    apart_one : (n : Any R) → m ≡ n → Where_all S A laws u w k → Processes S A laws w u y (ran_by S A laws w y m) → Processes_one w y q
+    apart_one : (n : Any R) → m ≡ n → WhereAll S A laws u w k → Processes S A laws w u y (ran_by S A laws w y m) → ProcessesOne w y q
     apart_one n same h (As_moves may live) = By_move may
     apart_one n same (Under_share x before b h o f) its = under_one x before k.diverted h its
-    apart_one (Old o) same (Apart_from_shares h none) its = By_move (processed_where S laws u (moves_of S A w) p y o (olds rest) y0 y1 (ap olds (waits ∙ ap (λ v. v ∷ rest) same)) (subst (λ v. none_mine S u (ran_by S A laws w y v) ≢ []) same some_mine) k.all k.bared g.moves h.is).place
+    apart_one (Old o) same (Apart_from_shares h none) its = By_move (processed_where S laws u (moves_of S A w) p y o (olds rest) y0 y1 (ap olds
+        (waits ∙ ap (λ v. v ∷ rest) same)) (subst (λ v. none_mine S u (ran_by S A laws w y v) ≢ []) same some_mine) k.all k.bared g.moves h.is).place
     apart_one (New o) same (Apart_from_shares h none) its =
         let off : (p == 0) && (y == 0) ≡ false = rw y0 (elim (p == 0) as (λ b. b && false ≡ false) [ true ↦ refl | false ↦ refl ]) in
-        absurd (some_mine (ap (λ v. none_mine S u (ran_by S A laws w y v)) same ∙ unseen_ran w.shares (w.inst y).live (w.standby y) o (head_none S u A w p y (New o) rest off (waits ∙ ap (λ v. v ∷ rest) same) h.untaken)))
+        absurd (some_mine (ap (λ v. none_mine S u (ran_by S A laws w y v)) same
+        ∙ unseen_ran w.shares (w.inst y).live (w.standby y) o (head_none S u A w p y (New o) rest off (waits ∙ ap (λ v. v ∷ rest) same) h.untaken)))
 
-    pub processes_one : Where_all S A laws u w k → Processes_one w y q
+    pub processes_one : WhereAll S A laws u w k → ProcessesOne w y q
     processes_one h = apart_one m refl h (processes_all S A laws u ok w k g h p y m rest y0 y1 waits some_mine)

@@ -17,46 +17,49 @@ use Rattle.record_table.proofs.UnitOrder.{one_unit}
 use Rattle.nf_msgs.specs.declared.msg.Msg.{Msg}
 use Rattle.nf_msgs.specs.declared.msg.Msg.TheVariants as msg
 use Rattle.nf_msgs.specs.declared.note.Note.{Note}
-use Rattle.actor_net.specs.Network.{Network, waiting}
+use Rattle.actor_net.specs.Network.{Network, queue_at}
 use Rattle.actor_net.proofs.EnabledChoices.{at}
-use Rattle.unit_machine.proofs.Labels.{Each}
-use Rattle.unit_machine.proofs.Real.{M_stream}
-use Rattle.abstract_net.proofs.Net.{Mv, Sys, IsSys}
-use Rattle.abstract_net.proofs.Rest.{Nothing_of}
-use Rattle.abstract_net.proofs.Readings as readings
-use Rattle.abstract_net.proofs.Units.{Where}
-use Rattle.abstract_net.proofs.Shares.{Any, Any.Old, olds, Sharing, WholeWorld, moves_of}
-use Rattle.whole_net.proofs.WhereAll.{Came, Where_all, Apart_from_shares, Under_share}
+use Rattle.proof_machines.proofs.unit.Labels.{Each}
+use Rattle.proof_machines.proofs.unit.Real.{M_stream}
+use Rattle.proof_machines.proofs.net.Net.{Mv, Sys, IsSys}
+use Rattle.proof_machines.proofs.net.Rest.{NothingOf}
+use Rattle.proof_machines.proofs.net.Readings as readings
+use Rattle.proof_machines.proofs.net.Units.{Where}
+use Rattle.proof_machines.proofs.net.Shares.{Any, Any.Old, olds, Sharing, WholeWorld, moves_of}
+use Rattle.proof_machines.proofs.whole.WhereAll.{Came, WhereAll, Apart_from_shares, Under_share}
 use Rattle.net_world.specs.declared.config.Config.{Config}
 use Rattle.net_world.specs.declared.node.Node.{Node}
 use Rattle.net_world.specs.Input.{IsInput}
-use Rattle.net_world.specs.Fold.{went, fold}
+use Rattle.net_world.specs.Fold.{processed_of, fold}
 use Rattle.net_world.specs.Records.{live_at}
-use Rattle.outline_net.proofs.FiltersApart.{is_whole, takes_same}
-use Rattle.outline_net.proofs.Outline.{is_sys}
-use Rattle.whole_joined.proofs.Given.{Given}
-use Rattle.whole_joined.proofs.Joined.{S, A, shown, came_by, Joined}
-use Rattle.whole_joined.proofs.RunsJoined.{done_same}
-use Rattle.whole_joined.proofs.StartJoined.{given}
-use Rattle.path_net.proofs.RecordPromises.{record_is}
+use Rattle.proof_outlines.proofs.outline.FiltersApart.{is_whole, takes_same}
+use Rattle.proof_outlines.proofs.outline.Outline.{is_sys}
+use Rattle.proof_outlines.proofs.joined.Given.{Given}
+use Rattle.proof_outlines.proofs.joined.Joined.{S, A, shown, came_by, Joined}
+use Rattle.proof_outlines.proofs.joined.RunsJoined.{done_same}
+use Rattle.proof_outlines.proofs.joined.StartJoined.{given}
+use Rattle.nf_net.proofs.paths.RecordPromises.{record_is}
 use Rattle.nf_net.proofs.FoldLemmas.{fold_is}
 use Rattle.nf_net.proofs.StreamedUnits.{GivesState, selected_give}
 
 module _ {R : Type 0} (S : Sys R) (laws : IsSys S) (u : units.Unit) where
   -- no share has a unit that is asked for
-  stream_apart : (A : Sharing S) (w : WholeWorld S A) (k : Came) → Where_all S A laws u w k → (i y n : ℕ) (g : Filter) (rest : List (Any R)) → (i == 0) && (y == 0) ≡ false → w.link i y ≡ Old (Mv g (M_stream n)) ∷ rest → S.takes g u ≡ true → Where S laws u (moves_of S A w) k.all k.bared
+  stream_apart : (A : Sharing S) (w : WholeWorld S A) (k : Came) → WhereAll S A laws u w k → (i y n : ℕ) (g : Filter) (rest : List (Any R))
+      → (i == 0) && (y == 0) ≡ false → w.link i y ≡ Old (Mv g (M_stream n)) ∷ rest → S.takes g u ≡ true → Where S laws u (moves_of S A w) k.all k.bared
   stream_apart A w k (Apart_from_shares h none) i y n g rest off waits on = h.is
   stream_apart A w k (Under_share x before b h o f) i y n g rest off waits on =
-      let nothing = (subst (λ ms. Each (Nothing_of S u i) (olds ms)) waits (h.labels i y off)).0 in
+      let nothing = (subst (λ ms. Each (NothingOf S u i) (olds ms)) waits (h.labels i y off)).0 in
       let never : true ≡ false = sym on ∙ nothing.1 in
       cc
 
 -- So in a world of a run where a Stream is taken.
-module _ {F R : Type 0} (f : Semantics R) (c : Config) (items : List Msg) (is : IsInput f.kind c items) (n : ℕ) (w : Network (Node F R) Msg Note) (j : Joined f (given f c items is) n w) where
+module _ {F R : Type 0} (f : Semantics R) (c : Config) (items : List Msg) (is : IsInput f.kind c items) (n : ℕ) (w : Network (Node F R) Msg Note)
+    (j : Joined f (given f c items is) n w) where
   abbrev g : Given
   g = given f c items is
 
-  module _ (count : length w.nodes ≡ n) (k p : ℕ) (two : 2 ≤ k) (few : k < n) (sends : p < n) (op : ℕ) (filter : Filter) (rest : List Msg) (waits : waiting w (at k p) ≡ msg.Stream op filter ∷ rest) (whole : is_whole f.kind filter ≡ true) where
+  module _ (count : length w.nodes ≡ n) (k p : ℕ) (two : 2 ≤ k) (few : k < n) (sends : p < n) (op : ℕ) (filter : Filter) (rest : List Msg)
+      (waits : queue_at w (at k p) ≡ msg.Stream op filter ∷ rest) (whole : is_whole f.kind filter ≡ true) where
     off : (p == 0) && (k == 0) ≡ false
     off = grind (arith, nat_tests, two)
 
@@ -64,12 +67,14 @@ module _ {F R : Type 0} (f : Semantics R) (c : Config) (items : List Msg) (is : 
     shown_so = j.links p k sends few off ∙ ap (filter_map (shown f g)) waits
 
     -- a live record of a unit that it takes is that of all the unit's packets
-    pub streamed_record : (u : units.Unit) (i : ℕ) (r : R) → takes filter u ≡ true → finite.get (j.nodes.instance k).table.live u ≡ Some r → live_at w i u ≡ Some r → fold f c items None (went f c items u w.log) ≡ Some r
+    pub streamed_record : (u : units.Unit) (i : ℕ) (r : R) → takes filter u ≡ true → finite.get (j.nodes.instance k).table.live u ≡ Some r
+        → live_at w i u ≡ Some r → fold f c items None (processed_of f c items u w.log) ≡ Some r
     streamed_record u i r on there live =
         let its = j.shown_is.instances k two few in
         let fits = its.records.fits u (ap is_some there) in
-        let apart = stream_apart (S f g) (is_sys f g.site g.packet) u (A f g) j.world (came_by f g w.log u) (j.shown_is.every.unit u) p k op filter (filter_map (shown f g) rest) off shown_so (takes_same f.kind filter u whole fits ∙ on) in
-        fold_is f c items is None (went f c items u w.log)
+        let apart = stream_apart (S f g) (is_sys f g.site g.packet) u (A f g) j.world (came_by f g w.log u) (j.shown_is.every.unit u) p k op filter
+        (filter_map (shown f g) rest) off shown_so (takes_same f.kind filter u whole fits ∙ on) in
+        fold_is f c items is None (processed_of f c items u w.log)
         ∙ ap (λ ps. readings.fold (S f g).F None ps) (sym (done_same f c items is n w j u))
         ∙ record_is f c items is n w count j u apart i r live
 
@@ -83,13 +88,17 @@ module _ {R : Type 0} (filter : Filter) where
   twice false o = refl
 
   taken_twice : (m : Records R) → taken_by filter (taken_by filter m) ≡ taken_by filter m
-  taken_twice m = same_records (taken_by filter (taken_by filter m)) (taken_by filter m) (λ u. got_taken (taken_by filter m) u ∙ ap (λ o. cond (takes filter u) o None) (got_taken m u) ∙ twice (takes filter u) (finite.get m u) ∙ sym (got_taken m u))
+  taken_twice m = same_records (taken_by filter (taken_by filter m)) (taken_by filter m) (λ u. got_taken (taken_by filter m) u
+      ∙ ap (λ o. cond (takes filter u) o None) (got_taken m u) ∙ twice (takes filter u) (finite.get m u) ∙ sym (got_taken m u))
 
   both : (b : Bool) (o : Option R) (r : R) → cond b o None ≡ Some r → (b ≡ true) × (o ≡ Some r)
   both true o r e = (refl, e)
   both false o r e = cc
 
   -- what an instance gives of them, where a test tells which of them have a time
-  pub taken_give : (f : Semantics R) (laws : FunctionLaws f) (live : Records R) (test : units.Unit → Bool) → ((u : units.Unit) (r : R) → takes filter u ≡ true → finite.get live u ≡ Some r → f.is_timed r ≡ test u) → GivesState f laws test (chunks_of f (taken_by filter live))
-  taken_give f laws live test h = subst (λ m. GivesState f laws test (chunks_of f m)) (taken_twice live) (selected_give f laws filter (taken_by filter live) test (λ u r there.
+  pub taken_give : (f : Semantics R) (laws : FunctionLaws f) (live : Records R) (test : units.Unit → Bool)
+      → ((u : units.Unit) (r : R) → takes filter u ≡ true → finite.get live u ≡ Some r → f.is_timed r ≡ test u)
+      → GivesState f laws test (chunks_of f (taken_by filter live))
+  taken_give f laws live test h =
+      subst (λ m. GivesState f laws test (chunks_of f m)) (taken_twice live) (selected_give f laws filter (taken_by filter live) test (λ u r there.
       let it = both (takes filter u) (finite.get live u) r (sym (got_taken live u) ∙ there) in h u r it.0 it.1))

@@ -1,8 +1,9 @@
 -- A chunk of a unit that is on its way goes with the number of the unit's move, as the unit's seat has it.
-use Rattle.std.proofs.Common.{◌≡◌, ◌≢◌, ℕ, zero, suc, ◌+◌, ◌<◌, Bool, true, false, cond, Option, Some, None, List, [], ◌∷◌, ◌++◌, map, length, refl, sym, ap, ◌∙◌, subst, arith}
+use Rattle.std.proofs.Common.{◌≡◌, ◌≢◌, ℕ, zero, suc, ◌+◌, ◌<◌, Bool, true, false, cond, Option, Some}
+use Rattle.std.proofs.Common.{None, List, [], ◌∷◌, ◌++◌, map, length, refl, sym, ap, ◌∙◌, subst, arith}
 use Rattle.std.specs.Prelude.{◌==◌, ◌&&◌, filter, option_to_list}
 use Rattle.std.specs.Option.{option_map_or}
-use Rattle.std.specs.List.{filter_map}
+use Rattle.std.specs.List.{filter_map, flat_map}
 use Rattle.std.specs.FinMap as finite
 use Rattle.std.proofs.lemmas.Bool.Decides.{nat_tests, Decides-eqb}
 use Rattle.std.proofs.lemmas.List.{map-append}
@@ -19,29 +20,29 @@ use Rattle.nf_msgs.specs.MessageParts.{op_of}
 use Rattle.ctrl_node.specs.declared.operation.Operation.{Operation}
 use Rattle.actor_net.specs.Network.{Network, IsWorld, on_link}
 use Rattle.actor_net.proofs.WeightLaws.{Each as EachOn}
-use Rattle.unit_machine.proofs.Labels.{Each, each-append}
-use Rattle.unit_machine.proofs.Real.{record_at}
-use Rattle.unit_machine.proofs.Seats.{seat_shape}
-use Rattle.abstract_net.proofs.Holding.{Seeing, Label as Seen_label}
-use Rattle.abstract_net.proofs.Shares.{olds}
-use Rattle.abstract_net.proofs.Units.{see}
-use Rattle.abstract_net.proofs.Untaken.{Untaken}
+use Rattle.proof_machines.proofs.unit.Labels.{Each, each-append}
+use Rattle.proof_machines.proofs.unit.Real.{record_at}
+use Rattle.proof_machines.proofs.unit.Seats.{seat_shape}
+use Rattle.proof_machines.proofs.net.Holding.{Seeing, Label as Seen_label}
+use Rattle.proof_machines.proofs.net.Shares.{olds}
+use Rattle.proof_machines.proofs.net.Units.{see}
+use Rattle.proof_machines.proofs.net.Untaken.{Untaken}
 use Rattle.net_world.specs.declared.config.Config.{Config}
 use Rattle.net_world.specs.declared.node.Node.{Node}
 use Rattle.net_world.specs.declared.node.Node.TheVariants.{Controller, Switch}
 use Rattle.net_world.specs.Input.{IsInput}
-use Rattle.net_world.specs.Path.{all_of, on_links}
+use Rattle.net_world.specs.Path.{on_links}
 use Rattle.net_world.specs.Records.{chunks_in, kept_for, kept_by, is_chunk_of, spelled_of, chunks_on_way}
-use Rattle.outline_net.proofs.Outline.{entries, is_sys}
-use Rattle.path_net.proofs.ChunkLemmas.{as_spelled, good_spelled}
-use Rattle.path_net.proofs.ChunkLinks.{MayBe, first_of_link}
-use Rattle.path_net.proofs.ChunkPlaces.{none_in_others}
-use Rattle.path_net.proofs.PathNodes.{each_entry}
-use Rattle.path_net.proofs.PathSeats.{labels, link_shown, loop_is, Seated}
-use Rattle.path_net.proofs.PathSums.{each_place, each_link}
-use Rattle.whole_joined.proofs.StartJoined.{given}
-use Rattle.whole_joined.proofs.Given.{Given}
-use Rattle.whole_joined.proofs.Joined.{S, A, shown, Label, AreGoodChunks, Joined, node_of}
+use Rattle.proof_outlines.proofs.outline.Outline.{entries, is_sys}
+use Rattle.nf_net.proofs.paths.ChunkLemmas.{as_spelled, good_spelled}
+use Rattle.nf_net.proofs.paths.ChunkLinks.{MayBe, first_of_link}
+use Rattle.nf_net.proofs.paths.ChunkPlaces.{none_in_others}
+use Rattle.nf_net.proofs.paths.PathNodes.{each_entry}
+use Rattle.nf_net.proofs.paths.PathSeats.{labels, link_shown, loop_is, Seated}
+use Rattle.nf_net.proofs.paths.PathSums.{each_place, each_link}
+use Rattle.proof_outlines.proofs.joined.StartJoined.{given}
+use Rattle.proof_outlines.proofs.joined.Given.{Given}
+use Rattle.proof_outlines.proofs.joined.Joined.{S, A, shown, Label, AreGoodChunks, Joined, node_of}
 use Rattle.nf_net.specs.NumberedChunks.{numbered, numbered_in, numbered_by, numbered_on_way}
 
 -- Without their numbers, they are the chunks on their way.
@@ -52,19 +53,23 @@ without_number : (number : Option ℕ) (cs : List Chunk) → map bare (numbered 
 without_number number [] = refl
 without_number number (c ∷ cs) = ap (λ v. c ∷ v) (without_number number cs)
 
-all_same : {X Y Z : Type 0} (h : Y → Z) (of : X → List Y) (to : X → List Z) → ((x : X) → map h (of x) ≡ to x) → (xs : List X) → map h (all_of of xs) ≡ all_of to xs
+all_same : {X Y Z : Type 0} (h : Y → Z) (of : X → List Y) (to : X → List Z) → ((x : X) → map h (of x) ≡ to x) → (xs : List X)
+    → map h (flat_map of xs) ≡ flat_map to xs
 all_same h of to is [] = refl
-all_same h of to is (x ∷ xs) = map-append h (of x) (all_of of xs) ∙ ap (λ v. v ++ map h (all_of of xs)) (is x) ∙ ap (λ v. to x ++ v) (all_same h of to is xs)
+all_same h of to is (x ∷ xs) =
+    map-append h (of x) (flat_map of xs) ∙ ap (λ v. v ++ map h (flat_map of xs)) (is x) ∙ ap (λ v. to x ++ v) (all_same h of to is xs)
 
 module _ {F R : Type 0} where
   kept_same : (node : Node F R) → map bare (numbered_by node) ≡ kept_by node
-  kept_same (Controller c) = all_same bare (λ e. numbered (Some e.0) (kept_for e.1)) (λ e. kept_for e.1) (λ e. without_number (Some e.0) (kept_for e.1)) (finite.entries c.operations)
+  kept_same (Controller c) = all_same bare (λ e. numbered (Some e.0) (kept_for e.1)) (λ e. kept_for e.1) (λ e. without_number (Some e.0) (kept_for e.1))
+      (finite.entries c.operations)
   kept_same node = refl
 
   pub same_chunks : (w : Network (Node F R) Msg Note) → map bare (numbered_on_way w) ≡ chunks_on_way w
   same_chunks w =
-      map-append bare (on_links w numbered_in) (all_of numbered_by w.nodes)
-      ∙ ap (λ v. v ++ map bare (all_of numbered_by w.nodes)) (all_same bare (all_of numbered_in) (all_of chunks_in) (all_same bare numbered_in chunks_in (λ m. without_number (op_of m) (chunks_in m))) w.links)
+      map-append bare (on_links w numbered_in) (flat_map numbered_by w.nodes)
+      ∙ ap (λ v. v ++ map bare (flat_map numbered_by w.nodes)) (all_same bare (flat_map numbered_in) (flat_map chunks_in)
+      (all_same bare numbered_in chunks_in (λ m. without_number (op_of m) (chunks_in m))) w.links)
       ∙ ap (λ v. on_links w chunks_in ++ v) (all_same bare numbered_by kept_by kept_same w.nodes)
 
 -- The unit's chunks among those of a message have the unit's number, where other numbers have none of its chunks.
@@ -80,7 +85,8 @@ module _ {R : Type 0} (f : Semantics R) (u : units.Unit) (own : ℕ) where
   some_spelled : (c : Chunk) (cs : List Chunk) → c.unit ≡ Some u → spelled_of f u (c ∷ cs) ≢ []
   some_spelled c cs is_unit none =
       let same : is_chunk_of u c ≡ true = ap (λ o. option_map_or (same_unit u) o false) is_unit ∙ same_unit_equiv.refl u in
-      let there : spelled f c ∷ spelled_of f u cs ≡ [] = ap (λ b. map (spelled f) (cond b (c ∷ filter (is_chunk_of u) cs) (filter (is_chunk_of u) cs))) (sym same) ∙ none in
+      let there : spelled f c ∷ spelled_of f u cs ≡ [] =
+      ap (λ b. map (spelled f) (cond b (c ∷ filter (is_chunk_of u) cs) (filter (is_chunk_of u) cs))) (sym same) ∙ none in
       cc
 
   pub all_own : (n : ℕ) (cs : List Chunk) → ((n == own) ≡ false → spelled_of f u cs ≡ []) → Each (IsOwn u own) (numbered (Some n) cs)
@@ -95,7 +101,8 @@ module _ {R : Type 0} (f : Semantics R) (u : units.Unit) (own : ℕ) where
 
 -- On a link, by what the unit knows of each message there.
 module _ {R : Type 0} (f : Semantics R) (g : Given) (z : Seeing) where
-  good_own : (n : ℕ) (cs : List Chunk) → AreGoodChunks f g cs → ((n == z.op.num) ≡ false → record_at z.unit (entries f cs) ≡ None) → Each (IsOwn z.unit z.op.num) (numbered (Some n) cs)
+  good_own : (n : ℕ) (cs : List Chunk) → AreGoodChunks f g cs → ((n == z.op.num) ≡ false → record_at z.unit (entries f cs) ≡ None)
+      → Each (IsOwn z.unit z.op.num) (numbered (Some n) cs)
   good_own n cs good none = all_own f z.unit z.op.num n cs (λ off. good_spelled f g z.unit cs good ∙ ap (λ o. as_spelled z.unit (option_to_list o)) (none off))
 
   msg_own : (s r : ℕ) (m : Msg) → Label f g s r m → MayBe f g z [] s (shown f g m) → Each (IsOwn z.unit z.op.num) (numbered_in m)
@@ -105,14 +112,17 @@ module _ {R : Type 0} (f : Semantics R) (g : Given) (z : Seeing) where
   msg_own s r (msg.PutNo op refused) l k = good_own op refused.chunks l.1 k.1
   msg_own s r m l k = tt
 
-  pub link_own : (s r : ℕ) (ms : List Msg) → EachOn (Label f g s r) ms → Each (Seen_label (S f g) z s) (olds (filter_map (shown f g) ms)) → Each (IsOwn z.unit z.op.num) (all_of numbered_in ms)
+  pub link_own : (s r : ℕ) (ms : List Msg) → EachOn (Label f g s r) ms → Each (Seen_label (S f g) z s) (olds (filter_map (shown f g) ms))
+      → Each (IsOwn z.unit z.op.num) (flat_map numbered_in ms)
   link_own s r [] h k = tt
   link_own s r (m ∷ ms) h k =
       let both = first_of_link f g z [] s (shown f g m) (filter_map (shown f g) ms) k in
-      each-append (IsOwn z.unit z.op.num) (numbered_in m) (all_of numbered_in ms) (msg_own s r m h.0 both.0) (link_own s r ms h.1 both.1)
+      each-append (IsOwn z.unit z.op.num) (numbered_in m) (flat_map numbered_in ms) (msg_own s r m h.0 both.0) (link_own s r ms h.1 both.1)
 
 -- In a world.
-module _ {F R : Type 0} (f : Semantics R) (c : Config) (items : List Msg) (is : IsInput f.kind c items) (n : ℕ) (count : n ≡ length c.names + 2) (w : Network (Node F R) Msg Note) (nodes : length w.nodes ≡ n) (j : Joined f (given f c items is) n w) (world : IsWorld w) (u : units.Unit) (apart : Untaken (S f (given f c items is)) u (A f (given f c items is)) j.world) (k : Seated f c items is n count w nodes j u) where
+module _ {F R : Type 0} (f : Semantics R) (c : Config) (items : List Msg) (is : IsInput f.kind c items) (n : ℕ) (count : n ≡ length c.names + 2)
+    (w : Network (Node F R) Msg Note) (nodes : length w.nodes ≡ n) (j : Joined f (given f c items is) n w) (world : IsWorld w) (u : units.Unit)
+    (apart : Untaken (S f (given f c items is)) u (A f (given f c items is)) j.world) (k : Seated f c items is n count w nodes j u) where
   abbrev g : Given
   g = given f c items is
 
@@ -122,13 +132,15 @@ module _ {F R : Type 0} (f : Semantics R) (c : Config) (items : List Msg) (is : 
   abbrev Own : Option ℕ × Chunk → Type 0
   Own = IsOwn u k.op.num
 
-  on_own : (s r : ℕ) → s < n → r < n → Each Own (all_of numbered_in (on_link w s r))
-  on_own s r hs hr = elim ((s == 0) && (r == 0)) as (λ t. (s == 0) && (r == 0) ≡ t → Each Own (all_of numbered_in (on_link w s r))) [
+  on_own : (s r : ℕ) → s < n → r < n → Each Own (flat_map numbered_in (on_link w s r))
+  on_own s r hs hr = elim ((s == 0) && (r == 0)) as (λ t. (s == 0) && (r == 0) ≡ t → Each Own (flat_map numbered_in (on_link w s r))) [
     | true ↦ λ both.
         let zs : s ≡ 0 = grind (arith, nat_tests) in
         let zr : r ≡ 0 = grind (arith, nat_tests) in
-        subst (λ ms. Each Own (all_of numbered_in ms)) (sym (ap (λ y. on_link w y r) zs ∙ ap (λ y. on_link w 0 y) zr ∙ loop_is f c items is n count w nodes j world)) tt
-    | false ↦ λ off. link_own f g z s r (on_link w s r) (labels f c items is n count w nodes j world s r hs hr off) (subst (λ ms. Each (Seen_label (S f g) z s) (olds ms)) (link_shown f c items is n count w nodes j world s r hs hr off) (k.holds.labels s r off))
+        subst (λ ms. Each Own (flat_map numbered_in ms))
+        (sym (ap (λ y. on_link w y r) zs ∙ ap (λ y. on_link w 0 y) zr ∙ loop_is f c items is n count w nodes j world)) tt
+    | false ↦ λ off. link_own f g z s r (on_link w s r) (labels f c items is n count w nodes j world s r hs hr off)
+        (subst (λ ms. Each (Seen_label (S f g) z s) (olds ms)) (link_shown f c items is n count w nodes j world s r hs hr off) (k.holds.labels s r off))
   ] refl
 
   kept_own : (i : ℕ) → Each Own (numbered_by (node_of j.nodes i))
@@ -136,12 +148,13 @@ module _ {F R : Type 0} (f : Semantics R) (c : Config) (items : List Msg) (is : 
   kept_own (suc zero) = each_entry Own (λ op o. numbered (Some op) (kept_for o)) j.nodes.controller.operations by_got
     where
       by_got : (op : ℕ) (o : Operation) → finite.get j.nodes.controller.operations op ≡ Some o → Each Own (numbered (Some op) (kept_for o))
-      by_got op o there = all_own f u k.op.num op (kept_for o) (λ off. none_in_others f c items is n count w nodes j world u apart k.op k.third (seat_shape (S f g).F k.seat) k.holds op o (λ same. (let never : false ≡ true = sym off ∙ (Decides-eqb op k.op.num).1 same in cc)) there)
+      by_got op o there = all_own f u k.op.num op (kept_for o) (λ off. none_in_others f c items is n count w nodes j world u apart k.op k.third
+          (seat_shape (S f g).F k.seat) k.holds op o (λ same. (let never : false ≡ true = sym off ∙ (Decides-eqb op k.op.num).1 same in cc)) there)
   kept_own (suc (suc i)) = tt
 
   pub own_on_way : Each Own (numbered_on_way w)
   own_on_way =
       let d : Node F R = Switch j.nodes.switch in
-      each-append Own (on_links w numbered_in) (all_of numbered_by w.nodes)
-      (each_link w world.square Own (all_of numbered_in) (λ s r hs hr. on_own s r (rw (← nodes) hs) (rw (← nodes) hr)))
+      each-append Own (on_links w numbered_in) (flat_map numbered_by w.nodes)
+      (each_link w world.square Own (flat_map numbered_in) (λ s r hs hr. on_own s r (rw (← nodes) hs) (rw (← nodes) hr)))
       (each_place Own numbered_by w.nodes d (λ i small. subst (λ y. Each Own (numbered_by y)) (sym (j.nodes_are i (rw (← nodes) small) d)) (kept_own i)))

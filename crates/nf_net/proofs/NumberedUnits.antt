@@ -7,24 +7,28 @@ use Rattle.flow_filter.specs.declared.site.Site.{Site}
 use Rattle.flow_filter.specs.declared.flow.Flow.{Flow}
 use Rattle.flow_filter.specs.declared.flow.Direction.{Direction}
 use Rattle.flow_filter.specs.declared.flow.Direction.TheVariants.{Out, In}
-use Rattle.flow_filter.specs.Flow.{flow_of, is_inside, is_outside_address, outward, inward, owner_of_port}
+use Rattle.flow_filter.specs.Flow.{flow_of, is_inside, outward, inward}
+use Rattle.flow_filter.specs.FieldSteps.{is_outside_address, owner_of_port}
 use Rattle.nf_function.specs.declared.output.Output.{Output}
 use Rattle.nf_function.specs.Semantics.{Semantics}
 use Rattle.nf_msgs.specs.declared.msg.Msg.{Msg}
 use Rattle.nf_msgs.specs.declared.note.Note.{Note}
 use Rattle.nf_msgs.specs.declared.note.Note.TheVariants as note
-use Rattle.unit_machine.proofs.Labels.{Each}
+use Rattle.proof_machines.proofs.unit.Labels.{Each}
 use Rattle.net_world.specs.declared.config.Config.{Config}
 use Rattle.net_world.specs.Input.{packets, packet_numbered, no_packet, IsSteered, IsInput}
 use Rattle.net_world.specs.Places.{unit_numbered}
-use Rattle.outline_net.proofs.FiltersApart.{flow_fits, unit_fits}
-use Rattle.outline_net.proofs.StateOutline.{all_each}
-use Rattle.outline_net.proofs.Outline.{ran_in}
-use Rattle.whole_joined.proofs.InputLemmas.{fits_flow}
-use Rattle.whole_joined.proofs.OwnerLemmas.{unit_is_fit}
+use Rattle.proof_outlines.proofs.outline.FiltersApart.{flow_fits, unit_fits}
+use Rattle.proof_outlines.proofs.outline.StateOutline.{all_each}
+use Rattle.proof_outlines.proofs.outline.Outline.{ran_in}
+use Rattle.proof_outlines.proofs.joined.InputLemmas.{fits_flow}
+use Rattle.proof_outlines.proofs.joined.OwnerLemmas.{unit_is_fit}
 
 -- the flow of the packet of zeros, whatever is inside
-zeros_fit : (site : Site) (a b : Bool) → flow_fits (let flow : Flow × Direction = (if a && not a then (outward no_packet, Out) else if a && not a then (inward no_packet, In) else if not a && not a && (b && false) then (record (inward no_packet) { local = owner_of_port site 0 }, In) else (outward no_packet, Out)) in flow.0) ≡ true
+zeros_fit : (site : Site) (a b : Bool)
+    → flow_fits (let flow : Flow × Direction = (if a && not a then (outward no_packet, Out) else if a && not a then (inward no_packet, In)
+    else if not a && not a && (b && false) then (record (inward no_packet) { local = owner_of_port site 0 }, In) else (outward no_packet, Out)) in
+    flow.0) ≡ true
 zeros_fit site true b = refl
 zeros_fit site false true = refl
 zeros_fit site false false = refl
@@ -34,26 +38,31 @@ unfolding flow_of
 no_packet_fits site = zeros_fit site (is_inside site 0) (is_outside_address site.outside 0)
 
 module _ {R : Type 0} (f : Semantics R) (c : Config) (items : List Msg) (is : IsInput f.kind c items) where
-  flow_found : (k : ℕ) (ps : List Packet) → Each (IsSteered c.site) ps → flow_fits (flow_of c.site (unwrap_or (find (λ p. p.number == k) ps) no_packet)).0 ≡ true
+  flow_found : (k : ℕ) (ps : List Packet) → Each (IsSteered c.site) ps
+      → flow_fits (flow_of c.site (unwrap_or (find (λ p. p.number == k) ps) no_packet)).0 ≡ true
   flow_found k [] h = no_packet_fits c.site
-  flow_found k (p ∷ ps) h = elim (p.number == k) as (λ b. flow_fits (flow_of c.site (unwrap_or (if b then Some p else find (λ q. q.number == k) ps) no_packet)).0 ≡ true) [
-    | true ↦ fits_flow (flow_of c.site p).0 h.0.flow
-    | false ↦ flow_found k ps h.1
-  ]
+  flow_found k (p ∷ ps) h =
+      elim (p.number == k) as (λ b. flow_fits (flow_of c.site (unwrap_or (if b then Some p else find (λ q. q.number == k) ps) no_packet)).0 ≡ true) [
+        | true ↦ fits_flow (flow_of c.site p).0 h.0.flow
+        | false ↦ flow_found k ps h.1
+      ]
 
   pub units_fit : (k : ℕ) → unit_fits f.kind (unit_numbered c items f.kind k) ≡ true
-  units_fit k = unit_is_fit f.kind (flow_of c.site (packet_numbered items k)).0 (flow_found k (packets items) (all_each (IsSteered c.site) (packets items) is.steered))
+  units_fit k = unit_is_fit f.kind (flow_of c.site (packet_numbered items k)).0
+      (flow_found k (packets items) (all_each (IsSteered c.site) (packets items) is.steered))
 
 -- where a packet that was noted stands among those that ran
-pub record Ran_there (ran : List ℕ) (k : ℕ) : Type 0 where
+pub record RanThere (ran : List ℕ) (k : ℕ) : Type 0 where
   pub front : List ℕ
   pub back : List ℕ
   pub whole : ran ≡ front ++ k ∷ back
 
-pub ran_there : (front : List Note) (k instance : ℕ) (output : Output) (back : List Note) → Ran_there (filter_map ran_in (front ++ note.Processed k instance output ∷ back)) k
+pub ran_there : (front : List Note) (k instance : ℕ) (output : Output) (back : List Note)
+    → RanThere (filter_map ran_in (front ++ note.Processed k instance output ∷ back)) k
 ran_there [] k instance output back = record { front = []; back = filter_map ran_in back; whole = refl }
 ran_there (n ∷ front) k instance output back = by_note (ran_in n) (ran_there front k instance output back)
   where
-    by_note : (o : Option ℕ) → Ran_there (filter_map ran_in (front ++ note.Processed k instance output ∷ back)) k → Ran_there (cons_option o (filter_map ran_in (front ++ note.Processed k instance output ∷ back))) k
+    by_note : (o : Option ℕ) → RanThere (filter_map ran_in (front ++ note.Processed k instance output ∷ back)) k
+        → RanThere (cons_option o (filter_map ran_in (front ++ note.Processed k instance output ∷ back))) k
     by_note None r = r
     by_note (Some q) r = record { front = q ∷ r.front; back = r.back; whole = ap (λ v. q ∷ v) r.whole }

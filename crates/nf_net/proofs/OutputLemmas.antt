@@ -15,35 +15,35 @@ use Rattle.packet_pool.specs.Pool.{FullCell}
 use Rattle.nf_msgs.specs.declared.msg.Msg.{Msg}
 use Rattle.nf_msgs.specs.declared.note.Note.{Note}
 use Rattle.nf_msgs.specs.declared.note.Note.TheVariants as note
-use Rattle.nf_msgs.specs.Nodes.{instance_node}
-use Rattle.unit_machine.proofs.Labels.{Each, each-append}
-use Rattle.abstract_net.proofs.Net.{Sys}
-use Rattle.abstract_net.proofs.Rest.{none_mine}
+use Rattle.proof_machines.proofs.unit.Labels.{Each, each-append}
+use Rattle.proof_machines.proofs.net.Net.{Sys}
+use Rattle.proof_machines.proofs.net.Rest.{none_mine}
 use Rattle.net_world.specs.declared.config.Config.{Config}
 use Rattle.net_world.specs.Input.{packet_numbered}
-use Rattle.net_world.specs.Log.{Done, done, done_of}
+use Rattle.net_world.specs.Log.{Done, dones_in, done_where}
 use Rattle.net_world.specs.Fold.{is_of, fold, outputs}
-use Rattle.outline_net.proofs.Outline.{number, ran_in, sys, is_sys}
-use Rattle.outline_net.proofs.InstanceOutline.{IsGenuine, after_same}
+use Rattle.proof_outlines.proofs.outline.Outline.{number, ran_in, sys, is_sys}
+use Rattle.proof_outlines.proofs.outline.InstanceOutline.{IsGenuine, after_same}
 
 -- a packet of TCP or UDP has the number
 abbrev pub IsCarried : List Msg → ℕ → Type 0
 IsCarried items p = is_transport (packet_numbered items p).proto ≡ true
 
-done_of-append : (mine : ℕ → Bool) (xs ys : List Done) → done_of mine (xs ++ ys) ≡ done_of mine xs ++ done_of mine ys
+done_of-append : (mine : ℕ → Bool) (xs ys : List Done) → done_where mine (xs ++ ys) ≡ done_where mine xs ++ done_where mine ys
 done_of-append mine [] ys = refl
-done_of-append mine (x ∷ xs) ys = elim (mine x.number) as (λ b. (if b then x ∷ done_of mine (xs ++ ys) else done_of mine (xs ++ ys)) ≡ (if b then x ∷ done_of mine xs else done_of mine xs) ++ done_of mine ys) [
-  | true ↦ ap (λ v. x ∷ v) (done_of-append mine xs ys)
-  | false ↦ done_of-append mine xs ys
-]
+done_of-append mine (x ∷ xs) ys = elim (mine x.number) as (λ b. (if b then x ∷ done_where mine (xs ++ ys) else done_where mine (xs ++ ys))
+    ≡ (if b then x ∷ done_where mine xs else done_where mine xs) ++ done_where mine ys) [
+      | true ↦ ap (λ v. x ∷ v) (done_of-append mine xs ys)
+      | false ↦ done_of-append mine xs ys
+    ]
 
 module _ {R : Type 0} (f : Semantics R) (c : Config) (items : List Msg) where
   -- a unit's packets among what was done, and the answers to them
   abbrev pub numbers : units.Unit → List Done → List ℕ
-  numbers u ds = map (λ d. d.number) (done_of (is_of f c items u) ds)
+  numbers u ds = map (λ d. d.number) (done_where (is_of f c items u) ds)
 
   abbrev pub answers : units.Unit → List Done → List Output
-  answers u ds = map (λ d. d.output) (done_of (is_of f c items u) ds)
+  answers u ds = map (λ d. d.output) (done_where (is_of f c items u) ds)
 
   -- what was done of packets of TCP and UDP is answered as by one instance with these records
   pub record Answered (kept : units.Unit → Option R) (ds : List Done) : Type 0 where
@@ -51,14 +51,18 @@ module _ {R : Type 0} (f : Semantics R) (c : Config) (items : List Msg) where
     pub same : (u : units.Unit) → answers u ds ≡ outputs f c items (kept u) (numbers u ds)
 
   pub numbers-append : (u : units.Unit) (xs ys : List Done) → numbers u (xs ++ ys) ≡ numbers u xs ++ numbers u ys
-  numbers-append u xs ys = ap (map (λ d. d.number)) (done_of-append (is_of f c items u) xs ys) ∙ map-append (λ d. d.number) (done_of (is_of f c items u) xs) (done_of (is_of f c items u) ys)
+  numbers-append u xs ys = ap (map (λ d. d.number)) (done_of-append (is_of f c items u) xs ys)
+      ∙ map-append (λ d. d.number) (done_where (is_of f c items u) xs) (done_where (is_of f c items u) ys)
 
   answers-append : (u : units.Unit) (xs ys : List Done) → answers u (xs ++ ys) ≡ answers u xs ++ answers u ys
-  answers-append u xs ys = ap (map (λ d. d.output)) (done_of-append (is_of f c items u) xs ys) ∙ map-append (λ d. d.output) (done_of (is_of f c items u) xs) (done_of (is_of f c items u) ys)
+  answers-append u xs ys = ap (map (λ d. d.output)) (done_of-append (is_of f c items u) xs ys)
+      ∙ map-append (λ d. d.output) (done_where (is_of f c items u) xs) (done_where (is_of f c items u) ys)
 
-  outputs-append : (kept : Option R) (ps qs : List ℕ) → outputs f c items kept (ps ++ qs) ≡ outputs f c items kept ps ++ outputs f c items (fold f c items kept ps) qs
+  outputs-append : (kept : Option R) (ps qs : List ℕ)
+      → outputs f c items kept (ps ++ qs) ≡ outputs f c items kept ps ++ outputs f c items (fold f c items kept ps) qs
   outputs-append kept [] qs = refl
-  outputs-append kept (p ∷ ps) qs = ap (λ v. output_for f c.site kept (packet_numbered items p) ∷ v) (outputs-append (kept_after f c.site kept (packet_numbered items p)) ps qs)
+  outputs-append kept (p ∷ ps) qs =
+      ap (λ v. output_for f c.site kept (packet_numbered items p) ∷ v) (outputs-append (kept_after f c.site kept (packet_numbered items p)) ps qs)
 
   -- nothing is done
   pub answered_nothing : (kept : units.Unit → Option R) → Answered kept []
@@ -77,20 +81,30 @@ module _ {R : Type 0} (f : Semantics R) (c : Config) (items : List Msg) where
   }
 
   -- other records that are the same for each unit of which something was done
-  pub answered_by : (kept other : units.Unit → Option R) (ds : List Done) → Answered kept ds → ((u : units.Unit) → numbers u ds ≢ [] → kept u ≡ other u) → Answered other ds
-  answered_by kept other ds a h = record { carried = a.carried; same = λ u. by_done u (done_of (is_of f c items u) ds) (h u) (a.same u) }
+  pub answered_by : (kept other : units.Unit → Option R) (ds : List Done) → Answered kept ds → ((u : units.Unit) → numbers u ds ≢ [] → kept u ≡ other u)
+      → Answered other ds
+  answered_by kept other ds a h = record { carried = a.carried; same = λ u. by_done u (done_where (is_of f c items u) ds) (h u) (a.same u) }
     where
-      by_done : (u : units.Unit) (es : List Done) → (map (λ d. d.number) es ≢ [] → kept u ≡ other u) → map (λ d. d.output) es ≡ outputs f c items (kept u) (map (λ d. d.number) es) → map (λ d. d.output) es ≡ outputs f c items (other u) (map (λ d. d.number) es)
+      by_done : (u : units.Unit) (es : List Done) → (map (λ d. d.number) es ≢ [] → kept u ≡ other u)
+          → map (λ d. d.output) es ≡ outputs f c items (kept u) (map (λ d. d.number) es)
+          → map (λ d. d.output) es ≡ outputs f c items (other u) (map (λ d. d.number) es)
       by_done u [] some is = refl
       by_done u (e ∷ es) some is = subst (λ o. map (λ d. d.output) (e ∷ es) ≡ outputs f c items o (map (λ d. d.number) (e ∷ es))) (some (λ none. cc)) is
 
   -- one packet, and what is done after it
-  pub answered_next : (kept after : units.Unit → Option R) (d : Done) (ds : List Done) → IsCarried items d.number → ((u : units.Unit) → is_of f c items u d.number ≡ true → d.output ≡ output_for f c.site (kept u) (packet_numbered items d.number)) → ((u : units.Unit) → after u ≡ (if is_of f c items u d.number then kept_after f c.site (kept u) (packet_numbered items d.number) else kept u)) → Answered after ds → Answered kept (d ∷ ds)
+  pub answered_next : (kept after : units.Unit → Option R) (d : Done) (ds : List Done) → IsCarried items d.number
+      → ((u : units.Unit) → is_of f c items u d.number ≡ true → d.output ≡ output_for f c.site (kept u) (packet_numbered items d.number))
+      → ((u : units.Unit) → after u ≡ (if is_of f c items u d.number then kept_after f c.site (kept u) (packet_numbered items d.number) else kept u))
+      → Answered after ds → Answered kept (d ∷ ds)
   answered_next kept after d ds carried output left rest = record {
     carried = (carried, rest.carried);
     same = λ u.
-        elim (is_of f c items u d.number) as (λ b. is_of f c items u d.number ≡ b → after u ≡ (if b then kept_after f c.site (kept u) (packet_numbered items d.number) else kept u) → map (λ e. e.output) (if b then d ∷ done_of (is_of f c items u) ds else done_of (is_of f c items u) ds) ≡ outputs f c items (kept u) (map (λ e. e.number) (if b then d ∷ done_of (is_of f c items u) ds else done_of (is_of f c items u) ds))) [
-          | true ↦ λ e k. ap (λ o. o ∷ answers u ds) (output u e) ∙ ap (λ v. output_for f c.site (kept u) (packet_numbered items d.number) ∷ v) (rest.same u ∙ ap (λ o. outputs f c items o (numbers u ds)) k)
+        elim (is_of f c items u d.number)
+        as (λ b. is_of f c items u d.number ≡ b → after u ≡ (if b then kept_after f c.site (kept u) (packet_numbered items d.number) else kept u)
+        → map (λ e. e.output) (if b then d ∷ done_where (is_of f c items u) ds else done_where (is_of f c items u) ds)
+        ≡ outputs f c items (kept u) (map (λ e. e.number) (if b then d ∷ done_where (is_of f c items u) ds else done_where (is_of f c items u) ds))) [
+          | true ↦ λ e k. ap (λ o. o ∷ answers u ds) (output u e)
+              ∙ ap (λ v. output_for f c.site (kept u) (packet_numbered items d.number) ∷ v) (rest.same u ∙ ap (λ o. outputs f c items o (numbers u ds)) k)
           | false ↦ λ e k. rest.same u ∙ ap (λ o. outputs f c items o (numbers u ds)) k
         ] refl (left u);
   }
@@ -123,31 +137,32 @@ module _ {R : Type 0} (f : Semantics R) (c : Config) (items : List Msg) where
         ∙ ap (λ p. output_for f c.site (finite.get live (unit_at f.kind c.site p)) p) g.same
         ∙ ap (λ v. output_for f c.site (finite.get live v) (packet_numbered items n)) (same_unit-true unit u e)
 
-    left : (u : units.Unit) → finite.get after u ≡ (if same_unit unit u then kept_after f c.site (finite.get live u) (packet_numbered items n) else finite.get live u)
+    left : (u : units.Unit)
+        → finite.get after u ≡ (if same_unit unit u then kept_after f c.site (finite.get live u) (packet_numbered items n) else finite.get live u)
     left u =
         ap (λ t. finite.get t u) (after_same f c.site (packet_numbered items) live at cell at_is g)
         ∙ (is_sys f c.site (packet_numbered items)).written u unit (f.stepped c.site (finite.get live unit) (packet_numbered items n)).kept live
-        ∙ elim (same_unit unit u) as (λ b. same_unit unit u ≡ b → (if b then Some (f.stepped c.site (finite.get live unit) (packet_numbered items n)).kept else finite.get live u) ≡ (if b then kept_after f c.site (finite.get live u) (packet_numbered items n) else finite.get live u)) [
-          | true ↦ λ e. let transport = carried in rw transport (ap (λ v. Some (f.stepped c.site (finite.get live v) (packet_numbered items n)).kept) (same_unit-true unit u e))
+        ∙ elim (same_unit unit u) as (λ b. same_unit unit u ≡ b → (if b then Some (f.stepped c.site (finite.get live unit) (packet_numbered items n)).kept
+        else finite.get live u) ≡ (if b then kept_after f c.site (finite.get live u) (packet_numbered items n) else finite.get live u)) [
+          | true ↦ λ e. let transport = carried in
+              rw transport (ap (λ v. Some (f.stepped c.site (finite.get live v) (packet_numbered items n)).kept) (same_unit-true unit u e))
           | false ↦ λ e. refl
         ] refl
 
     -- one packet that an instance with these records processes, and what is done after it
-    pub answered_packet : (node : ℕ) (ds : List Done) → Answered (live_in after) ds → Answered (live_in live) (record { number = n; node = node; output = output } ∷ ds)
-    answered_packet node ds rest = answered_next (live_in live) (live_in after) (record { number = n; node = node; output = output }) ds carried output_is left rest
+    pub answered_packet : (instance : ℕ) (ds : List Done) → Answered (live_in after) ds
+        → Answered (live_in live) (record { number = n; instance = instance; output = output } ∷ ds)
+    answered_packet instance ds rest =
+        answered_next (live_in live) (live_in after) (record { number = n; instance = instance; output = output }) ds carried output_is left rest
 
   -- the unit's packets among those that an instance ran
-  pub numbers_ran : (u : units.Unit) (ns : List Note) → numbers u (done ns) ≡ none_mine net u (filter_map ran_in ns)
+  pub numbers_ran : (u : units.Unit) (ns : List Note) → numbers u (dones_in ns) ≡ none_mine net u (filter_map ran_in ns)
   numbers_ran u [] = refl
-  numbers_ran u (note.Arrived n ∷ ns) = numbers_ran u ns
   numbers_ran u (note.Processed n instance output ∷ ns) =
-      elim (is_of f c items u n) as (λ b. map (λ d. d.number) (if b then (record { number = n; node = instance_node instance; output = output }) ∷ done_of (is_of f c items u) (done ns) else done_of (is_of f c items u) (done ns)) ≡ (if b then n ∷ none_mine net u (filter_map ran_in ns) else none_mine net u (filter_map ran_in ns))) [
+      elim (is_of f c items u n) as (λ b. map (λ d. d.number) (if b then (record { number = n; instance = instance; output = output })
+      ∷ done_where (is_of f c items u) (dones_in ns) else done_where (is_of f c items u) (dones_in ns))
+      ≡ (if b then n ∷ none_mine net u (filter_map ran_in ns) else none_mine net u (filter_map ran_in ns))) [
         | true ↦ ap (λ v. n ∷ v) (numbers_ran u ns)
         | false ↦ numbers_ran u ns
       ]
-  numbers_ran u (note.Begun op ∷ ns) = numbers_ran u ns
-  numbers_ran u (note.Exported instance op us ∷ ns) = numbers_ran u ns
-  numbers_ran u (note.Imported instance op us ∷ ns) = numbers_ran u ns
-  numbers_ran u (note.Kept instance op us ∷ ns) = numbers_ran u ns
-  numbers_ran u (note.Installed op ∷ ns) = numbers_ran u ns
-  numbers_ran u (note.Answered op answer ∷ ns) = numbers_ran u ns
+  numbers_ran u (n ∷ ns) = numbers_ran u ns

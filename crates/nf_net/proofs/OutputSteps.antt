@@ -12,35 +12,35 @@ use Rattle.record_table.specs.Table.{part}
 use Rattle.event_filter.specs.declared.mark.Mark.TheVariants as mark
 use Rattle.packet_pool.specs.Pool.{FullCell}
 use Rattle.instance_worker.specs.declared.instance.Instance.{Instance as InstanceState}
-use Rattle.instance_worker.specs.Instance.{processed, on_carry, on_fence, instance_step}
+use Rattle.instance_worker.specs.Instance.{process_step, on_carry, on_fence, instance_step}
 use Rattle.nf_msgs.specs.declared.msg.Msg.{Msg}
 use Rattle.nf_msgs.specs.declared.msg.Msg.TheVariants as msg
 use Rattle.nf_msgs.specs.declared.note.Note.{Note}
 use Rattle.actor_net.specs.declared.choice.Choice.{Choice}
-use Rattle.actor_net.specs.Network.{Network, taken, run, IsRun}
+use Rattle.actor_net.specs.Network.{Network, world_next, run, IsRun}
 use Rattle.actor_net.proofs.StepOutcome.{taken_outcome}
 use Rattle.actor_net.proofs.RunInduction.{Taking, run_induction}
-use Rattle.abstract_net.proofs.Net as net
-use Rattle.abstract_net.proofs.Net.{inst_step}
-use Rattle.abstract_net.proofs.Readings as readings
-use Rattle.abstract_net.proofs.Rest.{none_mine, done_u}
-use Rattle.abstract_net.proofs.Shares.{Old, New, Shared_on}
+use Rattle.proof_machines.proofs.net.Net as net
+use Rattle.proof_machines.proofs.net.Net.{inst_step}
+use Rattle.proof_machines.proofs.net.Readings as readings
+use Rattle.proof_machines.proofs.net.Rest.{none_mine, done_u}
+use Rattle.proof_machines.proofs.net.Shares.{Old, New, Shared_on}
 use Rattle.net_world.specs.declared.config.Config.{Config}
 use Rattle.net_world.specs.declared.node.Node.{Node}
 use Rattle.net_world.specs.Input.{packet_numbered, IsInput}
-use Rattle.net_world.specs.Log.{done}
+use Rattle.net_world.specs.Log.{dones_in}
 use Rattle.net_world.specs.Nodes.{node_step, node_ready}
-use Rattle.net_world.specs.Fold.{is_of, fold, outputs, went, given as given_of}
-use Rattle.net_world.specs.Start.{started}
-use Rattle.outline_net.proofs.Outline.{number, ran_in, is_sys, outline_instance}
-use Rattle.outline_net.proofs.InstanceOutline.{carry_follows, pass_follows, fence_follows, held_genuine}
-use Rattle.whole_outline.proofs.WholeOutline.{is_sharing}
-use Rattle.whole_joined.proofs.Given.{Given, place}
-use Rattle.whole_joined.proofs.Joined.{S, A, shown, by_node, came_by, node_of, Scene, IsInstanceAt, AreShown, IsTaken}
-use Rattle.whole_joined.proofs.BesideRuns.{its_takes, its_taken}
-use Rattle.whole_joined.proofs.LogLemmas.{done-append}
-use Rattle.whole_joined.proofs.RunsJoined.{Runs, runs_at_start, runs_next, start_world, went_same}
-use Rattle.whole_joined.proofs.StartJoined.{all_fit, given, count_at_start}
+use Rattle.net_world.specs.Fold.{is_of, fold, outputs, processed_of, outputs_noted as given_of}
+use Rattle.net_world.specs.Start.{started_with}
+use Rattle.net_world.proofs.LogLemmas.{done-append}
+use Rattle.proof_outlines.proofs.outline.Outline.{number, ran_in, is_sys, outline_instance}
+use Rattle.proof_outlines.proofs.outline.InstanceOutline.{carry_follows, pass_follows, fence_follows, held_genuine}
+use Rattle.proof_outlines.proofs.whole.WholeOutline.{is_sharing}
+use Rattle.proof_outlines.proofs.joined.Given.{Given, place}
+use Rattle.proof_outlines.proofs.joined.Joined.{S, A, shown, by_node, came_by, node_of, Scene, IsInstanceAt, AreShown, IsTaken}
+use Rattle.proof_outlines.proofs.joined.BesideRuns.{its_takes, its_taken}
+use Rattle.proof_outlines.proofs.joined.RunsJoined.{Runs, runs_at_start, runs_next, start_world, went_same}
+use Rattle.proof_outlines.proofs.joined.StartJoined.{all_fit, given, count_at_start}
 use Rattle.nf_net.proofs.OutputLemmas.{numbers, Answered, answered_nothing, answered_more, answered_by, numbers_ran}
 use Rattle.nf_net.proofs.AnsweredNotes.{live_of, kept_of, carry_answered, fence_answered, instance_none, switch_none, controller_none}
 use Rattle.nf_net.proofs.FreshRecords.{fresh_live, fresh_shared}
@@ -52,32 +52,35 @@ module _ {R : Type 0} (f : Semantics R) (c : Config) (items : List Msg) (is : Is
 
   -- all that a log notes as processed is answered as by one instance that nothing moved
   abbrev pub AreAnswered : List Note → Type 0
-  AreAnswered log = Answered f c items (λ u. None) (done log)
+  AreAnswered log = Answered f c items (λ u. None) (dones_in log)
 
   -- what is kept of a unit after what a log notes
   abbrev so_far : List Note → units.Unit → Option R
-  so_far log u = fold f c items None (went f c items u log)
+  so_far log u = fold f c items None (processed_of f c items u log)
 
   -- what is kept of a unit is what the abstract network folds
-  pub fold_same : (u : units.Unit) (log : List Note) (ds : List (ℕ × ℕ)) → ds ≡ by_node f g (done log) → fold f c items None (went f c items u log) ≡ readings.fold (S f g).F None (done_u (S f g) u ds)
+  pub fold_same : (u : units.Unit) (log : List Note) (ds : List (ℕ × ℕ)) → ds ≡ by_node f g (dones_in log)
+      → fold f c items None (processed_of f c items u log) ≡ readings.fold (S f g).F None (done_u (S f g) u ds)
   fold_same u log ds at =
-      fold_is f c items is None (went f c items u log)
-      ∙ ap (readings.fold (S f g).F None) (sym (went_same f c items is u (done log)))
+      fold_is f c items is None (processed_of f c items u log)
+      ∙ ap (readings.fold (S f g).F None) (sym (went_same f c items is u (dones_in log)))
       ∙ ap (λ d. readings.fold (S f g).F None (done_u (S f g) u d)) (sym at)
 
 -- what an instance processes of a packet of a share
-shared_ran : {F R : Type 0} (f : Semantics R) (i : InstanceState F R) (op : ℕ) (home : Bool) (cell : FullCell) → filter_map ran_in (on_carry f i (mark.Shared op home) cell).notes ≡ number cell ∷ []
-unfolding on_carry processed
+shared_ran : {F R : Type 0} (f : Semantics R) (i : InstanceState F R) (op : ℕ) (home : Bool) (cell : FullCell)
+    → filter_map ran_in (on_carry f i (mark.Shared op home) cell).notes ≡ number cell ∷ []
+unfolding on_carry process_step
 shared_ran f i op home cell = refl
 
-module _ {F R : Type 0} (f : Semantics R) (c : Config) (items : List Msg) (is : IsInput f.kind c items) (n : ℕ) (x : Scene F f (g f c items is)) (are : AreShown f (g f c items is) n x) (so : AreAnswered f c items is x.log) where
+module _ {F R : Type 0} (f : Semantics R) (c : Config) (items : List Msg) (is : IsInput f.kind c items) (n : ℕ) (x : Scene F f (g f c items is))
+    (are : AreShown f (g f c items is) n x) (so : AreAnswered f c items is x.log) where
   abbrev Now : List Note → Type 0
-  Now notes = Answered f c items (so_far f c items is x.log) (done notes)
+  Now notes = Answered f c items (so_far f c items is x.log) (dones_in notes)
 
-  abbrev Takes_it : ℕ → ℕ → Msg → Type 0
-  Takes_it k p m = IsTaken f (g f c items is) n x (record { node = k; port = p; message = m })
+  abbrev TakesIt : ℕ → ℕ → Msg → Type 0
+  TakesIt k p m = IsTaken f (g f c items is) n x (record { node = k; port = p; message = m })
 
-  nothing_done : (notes : List Note) → done notes ≡ [] → Now notes
+  nothing_done : (notes : List Note) → dones_in notes ≡ [] → Now notes
   nothing_done notes none = subst (λ ds. Answered f c items (so_far f c items is x.log) ds) (sym none) (answered_nothing f c items (so_far f c items is x.log))
 
   module _ (k : ℕ) (two : 2 ≤ k) (p : ℕ) where
@@ -94,37 +97,50 @@ module _ {F R : Type 0} (f : Semantics R) (c : Config) (items : List Msg) (is : 
     off = grind (arith, nat_tests, two)
 
     -- where an instance processes packets of a unit, its record is what is kept
-    kept_is : (m : Msg) → Takes_it k p m → (a : net.Msg R) (notes : List Note) → shown f (g f c items is) m ≡ Some (Old a) → filter_map ran_in notes ≡ (inst_step (S f (g f c items is)) (outline_instance f c.site (packet_numbered items) i) a).ran → (u : units.Unit) → numbers f c items u (done notes) ≢ [] → live_of i u ≡ so_far f c items is x.log u
+    kept_is : (m : Msg) → TakesIt k p m → (a : net.Msg R) (notes : List Note) → shown f (g f c items is) m ≡ Some (Old a)
+        → filter_map ran_in notes ≡ (inst_step (S f (g f c items is)) (outline_instance f c.site (packet_numbered items) i) a).ran → (u : units.Unit)
+        → numbers f c items u (dones_in notes) ≢ [] → live_of i u ≡ so_far f c items is x.log u
     kept_is m t a notes seen ran u some =
         let at = are.instances k two t.receiver in
-        let its : numbers f c items u (done notes) ≡ none_mine (S f (g f c items is)) u (inst_step (S f (g f c items is)) (x.world.inst k) a).ran = numbers_ran f c items u notes ∙ ap (none_mine (S f (g f c items is)) u) (ran ∙ ap (λ y. (inst_step (S f (g f c items is)) y a).ran) at.outline_is) in
+        let its : numbers f c items u (dones_in notes) ≡ none_mine (S f (g f c items is)) u (inst_step (S f (g f c items is)) (x.world.inst k) a).ran =
+        numbers_ran f c items u notes
+        ∙ ap (none_mine (S f (g f c items is)) u) (ran ∙ ap (λ y. (inst_step (S f (g f c items is)) y a).ran) at.outline_is) in
         ap (λ y. finite.get y.live u) at.outline_is
-        ∙ fresh_live (S f (g f c items is)) (A f (g f c items is)) (is_sys f c.site (packet_numbered items)) u (is_sharing f c.site (packet_numbered items)) x.world (came_by f (g f c items is) x.log u) are.every.global p k t.rest k0 k1 a (t.head off (Old a) seen) (λ none. some (its ∙ none)) (are.every.unit u)
+        ∙ fresh_live (S f (g f c items is)) (A f (g f c items is)) (is_sys f c.site (packet_numbered items)) u (is_sharing f c.site (packet_numbered items))
+        x.world (came_by f (g f c items is) x.log u) are.every.global p k t.rest k0 k1 a (t.head off (Old a) seen) (λ none. some (its ∙ none))
+        (are.every.unit u)
         ∙ sym (fold_same f c items is u x.log x.world.done are.done_is)
 
-    fresh_at : (m : Msg) → Takes_it k p m → (a : net.Msg R) (notes : List Note) → shown f (g f c items is) m ≡ Some (Old a) → filter_map ran_in notes ≡ (inst_step (S f (g f c items is)) (outline_instance f c.site (packet_numbered items) i) a).ran → Answered f c items (live_of i) (done notes) → Now notes
-    fresh_at m t a notes seen ran ok = answered_by f c items (live_of i) (so_far f c items is x.log) (done notes) ok (kept_is m t a notes seen ran)
+    fresh_at : (m : Msg) → TakesIt k p m → (a : net.Msg R) (notes : List Note) → shown f (g f c items is) m ≡ Some (Old a)
+        → filter_map ran_in notes ≡ (inst_step (S f (g f c items is)) (outline_instance f c.site (packet_numbered items) i) a).ran
+        → Answered f c items (live_of i) (dones_in notes) → Now notes
+    fresh_at m t a notes seen ran ok = answered_by f c items (live_of i) (so_far f c items is x.log) (dones_in notes) ok (kept_is m t a notes seen ran)
 
     -- a packet of a share, by the record in the table that its mark names
-    module _ (op : ℕ) (home : Bool) (cell : FullCell) (t : Takes_it k p (msg.Carry (mark.Shared op home) cell)) where
+    module _ (op : ℕ) (home : Bool) (cell : FullCell) (t : TakesIt k p (msg.Carry (mark.Shared op home) cell)) where
       abbrev at : IsInstanceAt f (g f c items is) k i x.world
       at = are.instances k two t.receiver
 
-      table_is : (u : units.Unit) → kept_of i (mark.Shared op home) u ≡ (S f (g f c items is)).B.at u (if home then (x.world.inst k).live else x.world.standby k)
+      table_is : (u : units.Unit)
+          → kept_of i (mark.Shared op home) u ≡ (S f (g f c items is)).B.at u (if home then (x.world.inst k).live else x.world.standby k)
       table_is u = by_home home
         where
           by_home : (b : Bool) → finite.get (part i.table b) u ≡ (S f (g f c items is)).B.at u (if b then (x.world.inst k).live else x.world.standby k)
           by_home true = ap (λ y. finite.get y.live u) at.outline_is
           by_home false = ap (λ r. finite.get r u) at.standby_is
 
-      shared_is : (u : units.Unit) → numbers f c items u (done (on_carry f i (mark.Shared op home) cell).notes) ≢ [] → kept_of i (mark.Shared op home) u ≡ so_far f c items is x.log u
+      shared_is : (u : units.Unit) → numbers f c items u (dones_in (on_carry f i (mark.Shared op home) cell).notes) ≢ []
+          → kept_of i (mark.Shared op home) u ≡ so_far f c items is x.log u
       shared_is u some =
           table_is u
-          ∙ fresh_shared (S f (g f c items is)) (A f (g f c items is)) (is_sys f c.site (packet_numbered items)) u (is_sharing f c.site (packet_numbered items)) x.world (came_by f (g f c items is) x.log u) are.every.global p k t.rest k0 k1 op home (number cell) (t.head off (New (Shared_on op home (number cell))) refl) (mine_of (is_of f c items u (number cell)) refl) (are.every.unit u)
+          ∙ fresh_shared (S f (g f c items is)) (A f (g f c items is)) (is_sys f c.site (packet_numbered items)) u
+          (is_sharing f c.site (packet_numbered items)) x.world (came_by f (g f c items is) x.log u) are.every.global p k t.rest k0 k1 op home (number cell)
+          (t.head off (New (Shared_on op home (number cell))) refl) (mine_of (is_of f c items u (number cell)) refl) (are.every.unit u)
           ∙ sym (fold_same f c items is u x.log x.world.done are.done_is)
         where
           -- its packet alone is noted
-          one : numbers f c items u (done (on_carry f i (mark.Shared op home) cell).notes) ≡ (if is_of f c items u (number cell) then number cell ∷ [] else [])
+          one : numbers f c items u (dones_in (on_carry f i (mark.Shared op home) cell).notes)
+              ≡ (if is_of f c items u (number cell) then number cell ∷ [] else [])
           one = numbers_ran f c items u (on_carry f i (mark.Shared op home) cell).notes ∙ ap (none_mine (S f (g f c items is)) u) (shared_ran f i op home cell)
 
           mine_of : (b : Bool) → is_of f c items u (number cell) ≡ b → is_of f c items u (number cell) ≡ true
@@ -132,30 +148,36 @@ module _ {F R : Type 0} (f : Semantics R) (c : Config) (items : List Msg) (is : 
           mine_of false other = absurd (some (one ∙ ap (λ (b : Bool). if b then number cell ∷ [] else []) other))
 
       shared_answers : Now (on_carry f i (mark.Shared op home) cell).notes
-      shared_answers = answered_by f c items (kept_of i (mark.Shared op home)) (so_far f c items is x.log) (done (on_carry f i (mark.Shared op home) cell).notes) (carry_answered f c items i (mark.Shared op home) cell at.rules.at t.label.1) shared_is
+      shared_answers = answered_by f c items (kept_of i (mark.Shared op home)) (so_far f c items is x.log)
+          (dones_in (on_carry f i (mark.Shared op home) cell).notes) (carry_answered f c items i (mark.Shared op home) cell at.rules.at t.label.1) shared_is
 
-    instance_answers : (m : Msg) → Takes_it k p m → Now (instance_step f i m).notes
+    instance_answers : (m : Msg) → TakesIt k p m → Now (instance_step f i m).notes
     instance_answers (msg.Carry mark.Plain cell) t =
         let at = are.instances k two t.receiver in
-        fresh_at (msg.Carry mark.Plain cell) t (net.Carry_on (number cell)) (on_carry f i mark.Plain cell).notes refl (carry_follows f c.site (packet_numbered items) (place (g f c items is)) i cell at.rules t.label.1).ran (carry_answered f c items i mark.Plain cell at.rules.at t.label.1)
+        fresh_at (msg.Carry mark.Plain cell) t (net.Carry_on (number cell)) (on_carry f i mark.Plain cell).notes refl (carry_follows f c.site
+        (packet_numbered items) (place (g f c items is)) i cell at.rules t.label.1).ran (carry_answered f c items i mark.Plain cell at.rules.at t.label.1)
     instance_answers (msg.Carry (mark.Pass op) cell) t =
         let at = are.instances k two t.receiver in
-        fresh_at (msg.Carry (mark.Pass op) cell) t (net.Pass_on (number cell)) (on_carry f i (mark.Pass op) cell).notes refl (pass_follows f c.site (packet_numbered items) (place (g f c items is)) i op cell at.rules t.label.1).ran (carry_answered f c items i (mark.Pass op) cell at.rules.at t.label.1)
+        fresh_at (msg.Carry (mark.Pass op) cell) t (net.Pass_on (number cell)) (on_carry f i (mark.Pass op) cell).notes
+        refl (pass_follows f c.site (packet_numbered items) (place (g f c items is)) i op cell at.rules t.label.1).ran
+        (carry_answered f c items i (mark.Pass op) cell at.rules.at t.label.1)
     instance_answers (msg.Carry (mark.Shared op home) cell) t = shared_answers op home cell t
     instance_answers (msg.Fence op) t =
         let at = are.instances k two t.receiver in
-        fresh_at (msg.Fence op) t (net.Fence_on op) (on_fence f i op).notes refl (fence_follows f c.site (packet_numbered items) (place (g f c items is)) i op at.rules).ran (fence_answered f c items i op at.rules.at (held_genuine c.site (packet_numbered items) op i.rules at.rules.held))
+        fresh_at (msg.Fence op) t (net.Fence_on op) (on_fence f i op).notes refl (fence_follows f c.site (packet_numbered items) (place (g f c items is)) i
+        op at.rules).ran (fence_answered f c items i op at.rules.at (held_genuine c.site (packet_numbered items) op i.rules at.rules.held))
     instance_answers m t = nothing_done (instance_step f i m).notes (instance_none f i m refl)
 
   -- a node's step, by which node it is
-  node_answers : (k p : ℕ) (m : Msg) → Takes_it k p m → Now (node_step f (node_of x.nodes k) p m).notes
+  node_answers : (k p : ℕ) (m : Msg) → TakesIt k p m → Now (node_step f (node_of x.nodes k) p m).notes
   node_answers zero p m t = nothing_done (node_step f (node_of x.nodes 0) p m).notes (switch_none x.nodes.switch m)
   node_answers (suc zero) p m t = nothing_done (node_step f (node_of x.nodes 1) p m).notes (controller_none x.nodes.controller p m)
   node_answers (suc (suc i)) p m t = instance_answers (suc (suc i)) (omega arith) p m t
 
-module _ (F : Type 0) {R : Type 0} (f : Semantics R) (laws : FunctionLaws f) (alloc : Global) (c : Config) (items : List Msg) (is : IsInput f.kind c items) where
+module _ (F : Type 0) {R : Type 0} (f : Semantics R) (laws : FunctionLaws f) (alloc : Global) (c : Config) (items : List Msg)
+    (is : IsInput f.kind c items) where
   abbrev start : Network (Node F R) Msg Note
-  start = started alloc c items
+  start = started_with alloc c items
 
   abbrev nodes_count : ℕ
   nodes_count = length c.names + 2
@@ -168,14 +190,17 @@ module _ (F : Type 0) {R : Type 0} (f : Semantics R) (laws : FunctionLaws f) (al
   Known w = Runs F f laws alloc c items is w × AreAnswered f c items is w.log
 
   -- a choice of a run
-  answered_after : (w : Network (Node F R) Msg Note) (k : Choice) → Taking node_ready (node_step f) nodes_count w k → Known w → AreAnswered f c items is (taken (node_step f) w k).log
+  answered_after : (w : Network (Node F R) Msg Note) (k : Choice) → Taking node_ready (node_step f) nodes_count w k → Known w
+      → AreAnswered f c items is (world_next (node_step f) w k).log
   answered_after w k t h =
       let j = h.0.joined in
       let takes = its_takes f laws (g f c items is) fitting nodes_count refl w k t j h.0.beside in
       let notes = (node_step f (node_of j.nodes k.node) k.port t.message).notes in
-      let now = node_answers f c items is nodes_count _ j.shown_is h.1 k.node k.port t.message (its_taken f laws (g f c items is) fitting nodes_count refl w k t j h.0.beside) in
+      let now = node_answers f c items is nodes_count _ j.shown_is h.1 k.node k.port t.message
+      (its_taken f laws (g f c items is) fitting nodes_count refl w k t j h.0.beside) in
       let log = (taken_outcome (node_step f) nodes_count w k.node k.port (node_of j.nodes k.node) t.message t.rest takes).log in
-      subst (λ l. AreAnswered f c items is l) (sym log) (subst (λ ds. Answered f c items (λ u. None) ds) (sym (done-append w.log notes)) (answered_more f c items (done w.log) (done notes) h.1 now))
+      subst (λ l. AreAnswered f c items is l) (sym log)
+      (subst (λ ds. Answered f c items (λ u. None) ds) (sym (done-append w.log notes)) (answered_more f c items (dones_in w.log) (dones_in notes) h.1 now))
 
   -- every run, complete or not
   pub run_answered : (cs : List Choice) → IsRun node_ready (node_step f) cs start → Known (run (node_step f) cs start)
@@ -183,7 +208,9 @@ module _ (F : Type 0) {R : Type 0} (f : Semantics R) (laws : FunctionLaws f) (al
       run_induction node_ready (node_step f) nodes_count (λ cs w. Known w) start (λ cs w k next h. (
         runs_next F f laws alloc c items is w k next.taking h.0,
         answered_after w k next.taking h,
-      )) (start_world F f laws alloc c items is) (count_at_start F f alloc c items is) (runs_at_start F f laws alloc c items is, answered_nothing f c items (λ u. None)) cs runs
+      )) (start_world F f laws alloc c items is) (count_at_start F f alloc c items is)
+      (runs_at_start F f laws alloc c items is, answered_nothing f c items (λ u. None)) cs runs
 
-  pub outputs_run : (cs : List Choice) → IsRun node_ready (node_step f) cs start → (unit : units.Unit) → given_of f c items unit (run (node_step f) cs start).log ≡ outputs f c items None (went f c items unit (run (node_step f) cs start).log)
+  pub outputs_run : (cs : List Choice) → IsRun node_ready (node_step f) cs start → (unit : units.Unit)
+      → given_of f c items unit (run (node_step f) cs start).log ≡ outputs f c items None (processed_of f c items unit (run (node_step f) cs start).log)
   outputs_run cs runs unit = (run_answered cs runs).1.same unit

@@ -12,11 +12,12 @@ use Rattle.actor_net.specs.Network.{Network}
 use Rattle.net_world.specs.declared.config.Config.{Config}
 use Rattle.net_world.specs.declared.node.Node.{Node}
 use Rattle.net_world.specs.Input.{packet_numbered, IsInput}
-use Rattle.net_world.specs.Log.{Done, arrived, done, those, done_of}
-use Rattle.net_world.specs.Fold.{times, is_of, came, went}
-use Rattle.whole_joined.proofs.StartJoined.{given}
-use Rattle.whole_joined.proofs.Joined.{Joined}
-use Rattle.whole_joined.proofs.RunsJoined.{once}
+use Rattle.net_world.specs.Log.{Done, arrivals_in, dones_in, done_where}
+use Rattle.net_world.specs.Fold.{times, is_of, arrived_of, processed_of}
+use Rattle.net_world.proofs.NumberCounts.{done_numbers, times_filter}
+use Rattle.proof_outlines.proofs.joined.StartJoined.{given}
+use Rattle.proof_outlines.proofs.joined.Joined.{Joined}
+use Rattle.proof_outlines.proofs.joined.RunsJoined.{once}
 
 -- a list without the first of these
 abbrev without : ℕ → List ℕ → List ℕ
@@ -25,17 +26,19 @@ without p (q ∷ qs) = if p == q then qs else q ∷ without p qs
 
 without_long : (p : ℕ) (xs : List ℕ) → 1 ≤ times p xs → length xs ≡ suc (length (without p xs))
 without_long p [] some = absurd (omega (arith, some))
-without_long p (x ∷ xs) some = elim (p == x) as (λ b. 1 ≤ (if b then 1 else 0) + times p xs → suc (length xs) ≡ suc (length (if b then xs else x ∷ without p xs))) [
-  | true ↦ λ _. refl
-  | false ↦ λ more. ap suc (without_long p xs (omega (arith, more)))
-] some
+without_long p (x ∷ xs) some =
+    elim (p == x) as (λ b. 1 ≤ (if b then 1 else 0) + times p xs → suc (length xs) ≡ suc (length (if b then xs else x ∷ without p xs))) [
+      | true ↦ λ _. refl
+      | false ↦ λ more. ap suc (without_long p xs (omega (arith, more)))
+    ] some
 
 without_times : (p q : ℕ) (xs : List ℕ) → 1 ≤ times p xs → times q xs ≡ (if q == p then 1 else 0) + times q (without p xs)
 without_times p q [] some = absurd (omega (arith, some))
-without_times p q (x ∷ xs) some = elim (p == x) as (λ b. (p == x) ≡ b → 1 ≤ (if b then 1 else 0) + times p xs → (if q == x then 1 else 0) + times q xs ≡ (if q == p then 1 else 0) + times q (if b then xs else x ∷ without p xs)) [
-  | true ↦ λ e _. let same : p ≡ x = (Decides-eqb p x).0 e in ap (λ y. (if q == y then 1 else 0) + times q xs) (sym same)
-  | false ↦ λ _ more. let rest = without_times p q xs (omega (arith, more)) in omega (arith, rest)
-] refl some
+without_times p q (x ∷ xs) some = elim (p == x) as (λ b. (p == x) ≡ b → 1 ≤ (if b then 1 else 0) + times p xs
+    → (if q == x then 1 else 0) + times q xs ≡ (if q == p then 1 else 0) + times q (if b then xs else x ∷ without p xs)) [
+      | true ↦ λ e _. let same : p ≡ x = (Decides-eqb p x).0 e in ap (λ y. (if q == y then 1 else 0) + times q xs) (sym same)
+      | false ↦ λ _ more. let rest = without_times p q xs (omega (arith, more)) in omega (arith, rest)
+    ] refl some
 
 -- a list in which nothing stands oftener is no longer
 pub no_longer : (xs ys : List ℕ) → ((p : ℕ) → times p xs ≤ times p ys) → length xs ≤ length ys
@@ -49,52 +52,38 @@ no_longer (x ∷ xs) ys h =
     let long = without_long x ys some in
     omega (arith, rest, long)
 
-pub those_times : (mine : ℕ → Bool) (p : ℕ) → mine p ≡ true → (xs : List ℕ) → times p (those mine xs) ≡ times p xs
-those_times mine p is [] = refl
-those_times mine p is (x ∷ xs) = elim (mine x) as (λ b. mine x ≡ b → times p (if b then x ∷ those mine xs else those mine xs) ≡ (if p == x then 1 else 0) + times p xs) [
-  | true ↦ λ _. ap (λ k. (if p == x then 1 else 0) + k) (those_times mine p is xs)
-  | false ↦ λ off. elim (p == x) as (λ b. (p == x) ≡ b → times p (those mine xs) ≡ (if b then 1 else 0) + times p xs) [
-    | true ↦ λ e. let never : true ≡ false = sym is ∙ ap mine ((Decides-eqb p x).0 e) ∙ off in cc
-    | false ↦ λ _. let rest = those_times mine p is xs in omega (arith, rest)
-  ] refl
-] refl
-
-pub done_times : (mine : ℕ → Bool) (p : ℕ) → mine p ≡ true → (ds : List Done) → times p (map (λ d. d.number) (done_of mine ds)) ≡ times p (map (λ d. d.number) ds)
-done_times mine p is ds = ap (times p) (same mine ds) ∙ those_times mine p is (map (λ d. d.number) ds)
-  where
-    same : (mine : ℕ → Bool) (ds : List Done) → map (λ d. d.number) (done_of mine ds) ≡ those mine (map (λ d. d.number) ds)
-    same mine [] = refl
-    same mine (d ∷ ds) = elim (mine d.number) as (λ b. map (λ x. x.number) (if b then d ∷ done_of mine ds else done_of mine ds) ≡ (if b then d.number ∷ those mine (map (λ x. x.number) ds) else those mine (map (λ x. x.number) ds))) [
-      | true ↦ ap (λ xs. d.number ∷ xs) (same mine ds)
-      | false ↦ same mine ds
-    ]
+pub done_times : (mine : ℕ → Bool) (p : ℕ) → mine p ≡ true → (ds : List Done)
+    → times p (map (λ d. d.number) (done_where mine ds)) ≡ times p (map (λ d. d.number) ds)
+done_times mine p is ds = ap (times p) (done_numbers mine ds) ∙ times_filter mine p is (map (λ d. d.number) ds)
 
 -- where each is processed as often as it came, for its unit, it is so among all
-pub all_done : {R : Type 0} (f : Semantics R) (c : Config) (items : List Msg) (log : List Note) → ((unit : units.Unit) (p : ℕ) → times p (went f c items unit log) ≡ times p (came f c items unit log))
-    → (p : ℕ) → times p (map (λ d. d.number) (done log)) ≡ times p (arrived log)
+pub all_done : {R : Type 0} (f : Semantics R) (c : Config) (items : List Msg) (log : List Note)
+    → ((unit : units.Unit) (p : ℕ) → times p (processed_of f c items unit log) ≡ times p (arrived_of f c items unit log))
+    → (p : ℕ) → times p (map (λ d. d.number) (dones_in log)) ≡ times p (arrivals_in log)
 all_done f c items log each p =
     let u : units.Unit = unit_at f.kind c.site (packet_numbered items p) in
     let own : is_of f c items u p ≡ true = same_unit_equiv.refl u in
-    sym (done_times (is_of f c items u) p own (done log)) ∙ each u p ∙ those_times (is_of f c items u) p own (arrived log)
+    sym (done_times (is_of f c items u) p own (dones_in log)) ∙ each u p ∙ times_filter (is_of f c items u) p own (arrivals_in log)
 
-pub few_came : {R : Type 0} (f : Semantics R) (c : Config) (items : List Msg) (log : List Note) → ((unit : units.Unit) (p : ℕ) → times p (went f c items unit log) ≡ times p (came f c items unit log))
-    → length (arrived log) ≤ length (done log)
+pub few_came : {R : Type 0} (f : Semantics R) (c : Config) (items : List Msg) (log : List Note)
+    → ((unit : units.Unit) (p : ℕ) → times p (processed_of f c items unit log) ≡ times p (arrived_of f c items unit log))
+    → length (arrivals_in log) ≤ length (dones_in log)
 few_came f c items log each =
-    let long = length-map (done log) (λ d. d.number) in
-    let fewer = no_longer (arrived log) (map (λ d. d.number) (done log)) (λ p. let same = all_done f c items log each p in omega (arith, same)) in
+    let long = length-map (dones_in log) (λ d. d.number) in
+    let fewer = no_longer (arrivals_in log) (map (λ d. d.number) (dones_in log)) (λ p. let same = all_done f c items log each p in omega (arith, same)) in
     omega (arith, long, fewer)
 
 module _ {F R : Type 0} (f : Semantics R) (c : Config) (items : List Msg) (is : IsInput f.kind c items) where
   -- of a world of a run
-  pub few_done : (n : ℕ) (w : Network (Node F R) Msg Note) → Joined f (given f c items is) n w → length (done w.log) ≤ length (arrived w.log)
+  pub few_done : (n : ℕ) (w : Network (Node F R) Msg Note) → Joined f (given f c items is) n w → length (dones_in w.log) ≤ length (arrivals_in w.log)
   few_done n w j =
-      let numbers : List ℕ = map (λ d. d.number) (done w.log) in
-      let long : length numbers ≡ length (done w.log) = length-map (done w.log) (λ d. d.number) in
-      let fewer = no_longer numbers (arrived w.log) (λ p.
+      let numbers : List ℕ = map (λ d. d.number) (dones_in w.log) in
+      let long : length numbers ≡ length (dones_in w.log) = length-map (dones_in w.log) (λ d. d.number) in
+      let fewer = no_longer numbers (arrivals_in w.log) (λ p.
       let u : units.Unit = unit_at f.kind c.site (packet_numbered items p) in
       let own : is_of f c items u p ≡ true = same_unit_equiv.refl u in
-      let one : times p (went f c items u w.log) ≤ times p (came f c items u w.log) = once f c items is n w j u p in
-      let all : times p (came f c items u w.log) ≡ times p (arrived w.log) = those_times (is_of f c items u) p own (arrived w.log) in
-      let ran : times p (went f c items u w.log) ≡ times p numbers = done_times (is_of f c items u) p own (done w.log) in
+      let one : times p (processed_of f c items u w.log) ≤ times p (arrived_of f c items u w.log) = once f c items is n w j u p in
+      let all : times p (arrived_of f c items u w.log) ≡ times p (arrivals_in w.log) = times_filter (is_of f c items u) p own (arrivals_in w.log) in
+      let ran : times p (processed_of f c items u w.log) ≡ times p numbers = done_times (is_of f c items u) p own (dones_in w.log) in
       omega (arith, one, all, ran)) in
       omega (arith, long, fewer)

@@ -1,6 +1,8 @@
 -- The packets under way at their places are as many as came and aren't processed, since of each number as many stand there.
-use Rattle.std.proofs.Common.{◌≡◌, ℕ, zero, suc, ◌+◌, ◌<◌, ◌≤◌, Bool, true, false, Option, Some, None, List, [], ◌++◌, map, length, length-append, append-nil, refl, sym, ap, ◌∙◌, arith}
+use Rattle.std.proofs.Common.{◌≡◌, ℕ, zero, suc, ◌+◌, ◌<◌, ◌≤◌, Bool, true, false, Option, Some, None, List}
+use Rattle.std.proofs.Common.{[], ◌++◌, map, length, length-append, append-nil, refl, sym, ap, ◌∙◌, arith}
 use Rattle.std.specs.Prelude.{if◌then◌else◌, ◌&&◌, ◌==◌, ◌*◌, nat_lt, slice_get, slice_index_or}
+use Rattle.std.specs.List.{flat_map}
 use Rattle.std.proofs.lemmas.Bool.Decides.{nat_tests, Decides-eqb, Decides-ltb}
 use Rattle.std.proofs.lemmas.List.{length-map}
 use Rattle.std.proofs.lemmas.Option.{slice_get_within}
@@ -14,12 +16,13 @@ use Rattle.actor_net.specs.Network.{Network, on_link}
 use Rattle.net_world.specs.declared.config.Config.{Config}
 use Rattle.net_world.specs.declared.node.Node.{Node}
 use Rattle.net_world.specs.Input.{packet_numbered}
-use Rattle.net_world.specs.Log.{arrived, done}
-use Rattle.net_world.specs.Fold.{times, is_of, came, went, path}
-use Rattle.net_world.specs.Path.{all_but, carried, held_by, at_instance, under_way, all_of, on_links, passed, forwarded, stored_by, handed_over, queued_by, diverted}
+use Rattle.net_world.specs.Log.{arrivals_in, dones_in}
+use Rattle.net_world.specs.Fold.{times, is_of, arrived_of, processed_of, in_flight_of}
+use Rattle.net_world.specs.Path.{all_but, carried_in, held_by, at_instance, in_flight, on_links, passed_in}
+use Rattle.net_world.specs.Path.{forwarded_in, stored_by, handed_over_in, queued_by, diverted_in}
 use Rattle.net_world.specs.Places.{owner}
-use Rattle.whole_joined.proofs.RunsJoined.{times-append}
-use Rattle.nf_net.proofs.PacketCounts.{no_longer, those_times, done_times}
+use Rattle.net_world.proofs.NumberCounts.{times-append, times_filter}
+use Rattle.nf_net.proofs.PacketCounts.{no_longer, done_times}
 
 neither : (a b : Bool) → b ≡ false → a && b ≡ false
 neither true b off = off
@@ -45,21 +48,22 @@ module _ (p one : ℕ) (of : ℕ → List ℕ) where
   -- one after the others, or none of them, has what all have
   but_one_of : (n : ℕ) → one < n → times p (all_but one of n) + times p (of one) ≡ times p (every of n)
   but_one_of zero low = absurd (omega (arith, low))
-  but_one_of (suc i) low = elim (i == one) as (λ b. (i == one) ≡ b → times p (all_but one of i ++ (if b then [] else of i)) + times p (of one) ≡ times p (every of i ++ of i)) [
-    | true ↦ λ on.
-        let same : i ≡ one = (Decides-eqb i one).0 on in
-        let none = but_none_of i (omega (arith, same)) in
-        let own = ap (λ k. times p (of k)) same in
-        let left = ap (times p) (append-nil (all_but one of i)) in
-        let all = times-append p (every of i) (of i) in
-        omega (arith, none, own, left, all)
-    | false ↦ λ off.
-        let below : one < i = grind (arith, nat_tests, low, off) in
-        let rest = but_one_of i below in
-        let both = times-append p (all_but one of i) (of i) in
-        let all = times-append p (every of i) (of i) in
-        omega (arith, rest, both, all)
-  ] refl
+  but_one_of (suc i) low =
+      elim (i == one) as (λ b. (i == one) ≡ b → times p (all_but one of i ++ (if b then [] else of i)) + times p (of one) ≡ times p (every of i ++ of i)) [
+        | true ↦ λ on.
+            let same : i ≡ one = (Decides-eqb i one).0 on in
+            let none = but_none_of i (omega (arith, same)) in
+            let own = ap (λ k. times p (of k)) same in
+            let left = ap (times p) (append-nil (all_but one of i)) in
+            let all = times-append p (every of i) (of i) in
+            omega (arith, none, own, left, all)
+        | false ↦ λ off.
+            let below : one < i = grind (arith, nat_tests, low, off) in
+            let rest = but_one_of i below in
+            let both = times-append p (all_but one of i) (of i) in
+            let all = times-append p (every of i) (of i) in
+            omega (arith, rest, both, all)
+      ] refl
 
   all_have : (n : ℕ) → (n ≤ one → of one ≡ []) → times p (all_but one of n) + times p (of one) ≡ times p (every of n)
   all_have n none = elim (nat_lt one n) as (λ b. nat_lt one n ≡ b → times p (all_but one of n) + times p (of one) ≡ times p (every of n)) [
@@ -71,7 +75,9 @@ module _ (p one : ℕ) (of : ℕ → List ℕ) where
         omega (arith, empty, rest)
   ] refl
 
-module _ {F R : Type 0} (f : Semantics R) (c : Config) (items : List Msg) (w : Network (Node F R) Msg Note) (count : length w.nodes ≡ length c.names + 2) (each_in_place : (u : units.Unit) (p : ℕ) → times p (went f c items u w.log) + times p (path f c items u w) ≡ times p (came f c items u w.log)) where
+module _ {F R : Type 0} (f : Semantics R) (c : Config) (items : List Msg) (w : Network (Node F R) Msg Note) (count : length w.nodes ≡ length c.names + 2)
+    (each_in_place : (u : units.Unit) (p : ℕ)
+    → times p (processed_of f c items u w.log) + times p (in_flight_of f c items u w) ≡ times p (arrived_of f c items u w.log)) where
   abbrev instances : ℕ
   instances = length c.names
 
@@ -79,8 +85,10 @@ module _ {F R : Type 0} (f : Semantics R) (c : Config) (items : List Msg) (w : N
   nowhere : (i : ℕ) → instances ≤ i → at_instance w i ≡ []
   nowhere i high =
       let off : nat_lt (instance_node i) (length w.nodes) ≡ false = grind (arith, nat_tests, high, count) in
-      let link : on_link w switch_node (instance_node i) ≡ [] = ap (λ b. if b then slice_index_or w.links (switch_node * length w.nodes + instance_node i) [] else []) (neither (nat_lt switch_node (length w.nodes)) (nat_lt (instance_node i) (length w.nodes)) off) in
-      ap (λ v. held_by (slice_get w.nodes (instance_node i)) ++ all_of carried v) link ∙ by_node (slice_get w.nodes (instance_node i)) refl
+      let link : on_link w switch_node (instance_node i) ≡ [] =
+      ap (λ b. if b then slice_index_or w.links (switch_node * length w.nodes + instance_node i) [] else [])
+      (neither (nat_lt switch_node (length w.nodes)) (nat_lt (instance_node i) (length w.nodes)) off) in
+      ap (λ v. held_by (slice_get w.nodes (instance_node i)) ++ flat_map carried_in v) link ∙ by_node (slice_get w.nodes (instance_node i)) refl
     where
       by_node : (o : Option (Node F R)) → slice_get w.nodes (instance_node i) ≡ o → held_by o ++ [] ≡ []
       by_node None e = refl
@@ -88,40 +96,47 @@ module _ {F R : Type 0} (f : Semantics R) (c : Config) (items : List Msg) (w : N
 
   -- what waits for shares
   abbrev behind : List ℕ
-  behind = all_of queued_by w.nodes ++ on_links w diverted
+  behind = flat_map queued_by w.nodes ++ on_links w diverted_in
 
   -- so it makes no difference which instance comes last
-  any_order : (p one other : ℕ) → times p (under_way w instances one) ≡ times p (under_way w instances other)
+  any_order : (p one other : ℕ) → times p (in_flight w instances one) ≡ times p (in_flight w instances other)
   any_order p one other = parts one ∙ sym (parts other)
     where
-      parts : (one : ℕ) → times p (under_way w instances one) ≡ times p (on_links w passed) + (times p (on_links w forwarded) + (times p (all_of stored_by w.nodes) + (times p (on_links w handed_over) + (times p (every (at_instance w) instances) + times p behind))))
+      parts : (one : ℕ) → times p (in_flight w instances one) ≡ times p (on_links w passed_in) + (times p (on_links w forwarded_in)
+          + (times p (flat_map stored_by w.nodes) + (times p (on_links w handed_over_in) + (times p (every (at_instance w) instances) + times p behind))))
       parts one =
-          let first = times-append p (on_links w passed) (on_links w forwarded ++ (all_of stored_by w.nodes ++ (on_links w handed_over ++ (all_but one (at_instance w) instances ++ (at_instance w one ++ behind))))) in
-          let second = times-append p (on_links w forwarded) (all_of stored_by w.nodes ++ (on_links w handed_over ++ (all_but one (at_instance w) instances ++ (at_instance w one ++ behind)))) in
-          let third = times-append p (all_of stored_by w.nodes) (on_links w handed_over ++ (all_but one (at_instance w) instances ++ (at_instance w one ++ behind))) in
-          let fourth = times-append p (on_links w handed_over) (all_but one (at_instance w) instances ++ (at_instance w one ++ behind)) in
+          let first = times-append p (on_links w passed_in) (on_links w forwarded_in
+          ++ (flat_map stored_by w.nodes ++ (on_links w handed_over_in ++ (all_but one (at_instance w) instances ++ (at_instance w one ++ behind))))) in
+          let second = times-append p (on_links w forwarded_in)
+          (flat_map stored_by w.nodes ++ (on_links w handed_over_in ++ (all_but one (at_instance w) instances ++ (at_instance w one ++ behind)))) in
+          let third = times-append p (flat_map stored_by w.nodes)
+          (on_links w handed_over_in ++ (all_but one (at_instance w) instances ++ (at_instance w one ++ behind))) in
+          let fourth = times-append p (on_links w handed_over_in) (all_but one (at_instance w) instances ++ (at_instance w one ++ behind)) in
           let fifth = times-append p (all_but one (at_instance w) instances) (at_instance w one ++ behind) in
           let last = times-append p (at_instance w one) behind in
           let all = all_have p one (at_instance w) instances (nowhere one) in
           omega (arith, first, second, third, fourth, fifth, last, all)
 
-  pub parcels_are : (one : ℕ) → length (under_way w instances one) + length (done w.log) ≡ length (arrived w.log)
+  pub parcels_are : (one : ℕ) → length (in_flight w instances one) + length (dones_in w.log) ≡ length (arrivals_in w.log)
   parcels_are one =
-      let numbers : List ℕ = map (λ d. d.number) (done w.log) in
-      let long : length numbers ≡ length (done w.log) = length-map (done w.log) (λ d. d.number) in
-      let both : length (under_way w instances one ++ numbers) ≡ length (under_way w instances one) + length numbers = length-append (under_way w instances one) numbers in
-      let most = no_longer (under_way w instances one ++ numbers) (arrived w.log) (λ p. let same = same_times p in omega (arith, same)) in
-      let least = no_longer (arrived w.log) (under_way w instances one ++ numbers) (λ p. let same = same_times p in omega (arith, same)) in
+      let numbers : List ℕ = map (λ d. d.number) (dones_in w.log) in
+      let long : length numbers ≡ length (dones_in w.log) = length-map (dones_in w.log) (λ d. d.number) in
+      let both : length (in_flight w instances one ++ numbers) ≡ length (in_flight w instances one) + length numbers =
+      length-append (in_flight w instances one) numbers in
+      let most = no_longer (in_flight w instances one ++ numbers) (arrivals_in w.log) (λ p. let same = same_times p in omega (arith, same)) in
+      let least = no_longer (arrivals_in w.log) (in_flight w instances one ++ numbers) (λ p. let same = same_times p in omega (arith, same)) in
       omega (arith, long, both, most, least)
     where
-      same_times : (p : ℕ) → times p (under_way w instances one ++ map (λ d. d.number) (done w.log)) ≡ times p (arrived w.log)
+      same_times : (p : ℕ) → times p (in_flight w instances one ++ map (λ d. d.number) (dones_in w.log)) ≡ times p (arrivals_in w.log)
       same_times p =
           let u : units.Unit = unit_at f.kind c.site (packet_numbered items p) in
           let own : is_of f c items u p ≡ true = same_unit_equiv.refl u in
-          let all : times p (came f c items u w.log) ≡ times p (arrived w.log) = those_times (is_of f c items u) p own (arrived w.log) in
-          let ran : times p (went f c items u w.log) ≡ times p (map (λ d. d.number) (done w.log)) = done_times (is_of f c items u) p own (done w.log) in
-          let way : times p (path f c items u w) ≡ times p (under_way w instances (owner c items u w.log)) = those_times (is_of f c items u) p own (under_way w instances (owner c items u w.log)) in
+          let all : times p (arrived_of f c items u w.log) ≡ times p (arrivals_in w.log) = times_filter (is_of f c items u) p own (arrivals_in w.log) in
+          let ran : times p (processed_of f c items u w.log) ≡ times p (map (λ d. d.number) (dones_in w.log)) = done_times (is_of f c items u) p own
+          (dones_in w.log) in
+          let way : times p (in_flight_of f c items u w) ≡ times p (in_flight w instances (owner c items u w.log)) = times_filter (is_of f c items u) p own
+          (in_flight w instances (owner c items u w.log)) in
           let whole = each_in_place u p in
           let order = any_order p one (owner c items u w.log) in
-          let append = times-append p (under_way w instances one) (map (λ d. d.number) (done w.log)) in
+          let append = times-append p (in_flight w instances one) (map (λ d. d.number) (dones_in w.log)) in
           omega (arith, all, ran, way, whole, order, append)

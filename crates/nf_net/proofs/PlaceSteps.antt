@@ -16,48 +16,49 @@ use Rattle.nf_msgs.specs.declared.note.Note.{Note}
 use Rattle.nf_msgs.specs.declared.note.Note.TheVariants as note
 use Rattle.nf_msgs.specs.Nodes.{instance_node}
 use Rattle.packet_pool.specs.Pool.{FullCell}
-use Rattle.event_store.specs.Store.{stored}
+use Rattle.event_store.specs.Store.{stored_of}
 use Rattle.flow_filter.specs.Name.{place_of}
 use Rattle.ctrl_node.specs.declared.operation.Operation.{Operation}
 use Rattle.ctrl_node.specs.declared.operation.Operation.TheVariants.{Move, Copy, Share}
 use Rattle.instance_worker.specs.declared.instance.Instance.{Instance as InstanceState}
 use Rattle.instance_worker.specs.Instance.{instance_step}
-use Rattle.actor_net.specs.Network.{Network, waiting}
+use Rattle.actor_net.specs.Network.{Network, queue_at}
 use Rattle.actor_net.proofs.EnabledChoices.{at as at_node}
-use Rattle.unit_machine.proofs.Labels.{Each}
-use Rattle.abstract_net.proofs.Net.{Open, find_op}
-use Rattle.abstract_net.proofs.Shares.{Any, Old, New, Open_share, moves_of}
-use Rattle.whole_net.proofs.MovePlaces.{May_run, At_route, At_destination}
-use Rattle.whole_net.proofs.PlacesAll.{ran_by}
-use Rattle.whole_net.proofs.Readings.{Its_share}
+use Rattle.proof_machines.proofs.unit.Labels.{Each}
+use Rattle.proof_machines.proofs.net.Net.{Open, find_op}
+use Rattle.proof_machines.proofs.net.Shares.{Any, Old, New, OpenShare, moves_of}
+use Rattle.proof_machines.proofs.whole.MovePlaces.{MayRun, At_route, At_destination}
+use Rattle.proof_machines.proofs.whole.PlacesAll.{ran_by}
+use Rattle.proof_machines.proofs.whole.Readings.{ItsShare}
 use Rattle.net_world.specs.declared.config.Config.{Config}
 use Rattle.net_world.specs.declared.node.Node.{Node}
 use Rattle.net_world.specs.Input.{IsInput}
 use Rattle.net_world.specs.Jobs.{job_of}
 use Rattle.net_world.specs.Places.{is_at, owner, members, unit_numbered, IsMoving, IsPlace, Owns, Is_destination, Is_member}
-use Rattle.outline_net.proofs.FiltersApart.{is_whole, unit_fits, takes_whole}
-use Rattle.outline_net.proofs.Outline.{ran_in, is_sys, outline_instance}
-use Rattle.outline_net.proofs.ControlOutline.{Sees}
-use Rattle.whole_outline.proofs.OpenShares.{but_shares}
-use Rattle.whole_outline.proofs.WholeOutline.{is_sharing}
-use Rattle.whole_joined.proofs.Given.{Given, place}
-use Rattle.whole_joined.proofs.Joined.{S, A, Scene, IsTaken, IsInstanceAt, Joined, came_by}
-use Rattle.whole_joined.proofs.OperationsApart.{AllApart}
-use Rattle.whole_joined.proofs.OwnerLemmas.{each_there, each_front, place_quiet}
-use Rattle.whole_joined.proofs.PlaceNotes.{IsQuiet, instance_quiet}
-use Rattle.whole_joined.proofs.RunUnits.{Ran_as, Seen, Unseen, ran_as, ran_any}
-use Rattle.whole_joined.proofs.StartJoined.{given, all_fit}
-use Rattle.answer_net.proofs.BusyRuns.{Busy}
-use Rattle.answer_net.proofs.InstallRuns.{Installs}
-use Rattle.answer_net.proofs.MovesUnderWay.{AreUnderWay}
+use Rattle.proof_outlines.proofs.outline.FiltersApart.{is_whole, unit_fits, takes_whole}
+use Rattle.proof_outlines.proofs.outline.Outline.{ran_in, is_sys, outline_instance}
+use Rattle.proof_outlines.proofs.outline.ControlOutline.{Sees}
+use Rattle.proof_outlines.proofs.whole.OpenShares.{but_shares}
+use Rattle.proof_outlines.proofs.whole.WholeOutline.{is_sharing}
+use Rattle.proof_outlines.proofs.joined.Given.{Given, place}
+use Rattle.proof_outlines.proofs.joined.Joined.{S, A, Scene, IsTaken, IsInstanceAt, Joined, came_by}
+use Rattle.proof_outlines.proofs.joined.OperationsApart.{AllApart}
+use Rattle.proof_outlines.proofs.joined.OwnerLemmas.{each_there, each_front, place_quiet}
+use Rattle.proof_outlines.proofs.joined.PlaceNotes.{IsQuiet, instance_quiet}
+use Rattle.proof_outlines.proofs.joined.RunUnits.{RanAs, Seen, Unseen, ran_as, ran_any}
+use Rattle.proof_outlines.proofs.joined.StartJoined.{given, all_fit}
+use Rattle.nf_net.proofs.answers.BusyRuns.{Busy}
+use Rattle.nf_net.proofs.answers.InstallRuns.{Installs}
+use Rattle.nf_net.proofs.answers.MovesUnderWay.{AreUnderWay}
 use Rattle.nf_net.proofs.InstalledShares.{SaysOfShares}
 use Rattle.nf_net.proofs.MemberLemmas.{IsThere}
-use Rattle.nf_net.proofs.MembersServed.{Processes_one, By_move, By_home, By_member, processes_one}
-use Rattle.nf_net.proofs.NumberedUnits.{units_fit, Ran_there, ran_there}
+use Rattle.nf_net.proofs.MembersServed.{ProcessesOne, By_move, By_home, By_member, processes_one}
+use Rattle.nf_net.proofs.NumberedUnits.{units_fit, RanThere, ran_there}
 use Rattle.nf_net.proofs.SharedHomes.{home_owns, member_goes}
 use Rattle.nf_net.proofs.UnitShares.{diverted_members, owner_goes}
 
-module _ {F R : Type 0} (f : Semantics R) (c : Config) (items : List Msg) (is : IsInput f.kind c items) (n : ℕ) (w : Network (Node F R) Msg Note) (j : Joined f (given f c items is) n w) (busy : AreUnderWay f c items is n w j) where
+module _ {F R : Type 0} (f : Semantics R) (c : Config) (items : List Msg) (is : IsInput f.kind c items) (n : ℕ) (w : Network (Node F R) Msg Note)
+    (j : Joined f (given f c items is) n w) (busy : AreUnderWay f c items is n w j) where
   abbrev gm : Given
   gm = given f c items is
 
@@ -73,15 +74,26 @@ module _ {F R : Type 0} (f : Semantics R) (c : Config) (items : List Msg) (is : 
       src : e.op.src ≡ instance_node from
       dst : e.op.dst ≡ instance_node to
 
-    under_way : (k : ℕ) (e : Open R) (o : Option Operation) (events : List FullCell) → finite.get j.nodes.controller.operations k ≡ o → Sees f (place gm) (Some e) (but_shares o) events → takes_whole f.kind e.filter u ≡ true → IsUnderWay k e
+    under_way : (k : ℕ) (e : Open R) (o : Option Operation) (events : List FullCell) → finite.get j.nodes.controller.operations k ≡ o
+        → Sees f (place gm) (Some e) (but_shares o) events → takes_whole f.kind e.filter u ≡ true → IsUnderWay k e
     under_way k e (Some (Move m)) events there sees taken =
         let of = busy.plan_is k m there in
         let on = busy.open_busy k m there in
-        let takes_it : takes m.plan.filter u ≡ true = (and_parts (unit_fits f.kind u) _ ((and_parts (is_whole f.kind m.plan.filter) _ (ap (λ x. takes_whole f.kind x u) (sym sees.filter) ∙ taken)).1)).1 in
+        let takes_it : takes m.plan.filter u ≡ true = (and_parts (unit_fits f.kind u) _
+        ((and_parts (is_whole f.kind m.plan.filter) _ (ap (λ x. takes_whole f.kind x u) (sym sees.filter) ∙ taken)).1)).1 in
         record {
           from = m.plan.from;
           to = m.plan.to;
-          moving = record { op = k; source = of.source; destination = of.destination; filter = m.plan.filter; keep = m.plan.keep; order = of.order_is; takes_it = takes_it; busy = on };
+          moving = record {
+            op = k;
+            source = of.source;
+            destination = of.destination;
+            filter = m.plan.filter;
+            keep = m.plan.keep;
+            order = of.order_is;
+            takes_it = takes_it;
+            busy = on;
+          };
           number = refl;
           from_is = of.from_is;
           to_is = of.to_is;
@@ -93,14 +105,19 @@ module _ {F R : Type 0} (f : Semantics R) (c : Config) (items : List Msg) (is : 
     under_way k e (Some (Share s)) events there sees taken = absurd sees
 
     pub open_at : (k : ℕ) (e : Open R) → find_op j.world.ops k ≡ Some e → takes_whole f.kind e.filter u ≡ true → IsUnderWay k e
-    open_at k e there taken = under_way k e (finite.get j.nodes.controller.operations k) (stored j.nodes.controller.store k) refl (subst (λ q. Sees f (place gm) q (but_shares (finite.get j.nodes.controller.operations k)) (stored j.nodes.controller.store k)) there (j.shown_is.controller.opens k).move) taken
+    open_at k e there taken = under_way k e (finite.get j.nodes.controller.operations k) (stored_of j.nodes.controller.store k) refl
+        (subst (λ q. Sees f (place gm) q (but_shares (finite.get j.nodes.controller.operations k)) (stored_of j.nodes.controller.store k)) there
+        (j.shown_is.controller.opens k).move) taken
 
-module _ {F R : Type 0} (f : Semantics R) (laws : FunctionLaws f) (c : Config) (items : List Msg) (is : IsInput f.kind c items) (n : ℕ) (count_is : n ≡ length c.names + 2) (w : Network (Node F R) Msg Note) (j : Joined f (given f c items is) n w) (apart : AllApart j.nodes.controller.operations) (b : Busy (given f c items is) w) (h : Installs (given f c items is) w) (busy : AreUnderWay f c items is n w j) (says : SaysOfShares f c items w.log) where
+module _ {F R : Type 0} (f : Semantics R) (laws : FunctionLaws f) (c : Config) (items : List Msg) (is : IsInput f.kind c items)
+    (n : ℕ) (count_is : n ≡ length c.names + 2) (w : Network (Node F R) Msg Note) (j : Joined f (given f c items is) n w)
+    (apart : AllApart j.nodes.controller.operations) (b : Busy (given f c items is) w) (h : Installs (given f c items is) w)
+    (busy : AreUnderWay f c items is n w j) (says : SaysOfShares f c items w.log) where
   abbrev g : Given
   g = given f c items is
 
   abbrev scene : Scene F f g
-  scene = record { nodes = j.nodes; world = j.world; log = w.log; input = waiting w (at_node 0 0) }
+  scene = record { nodes = j.nodes; world = j.world; log = w.log; input = queue_at w (at_node 0 0) }
 
   node_same : (a b k : ℕ) → instance_node a ≡ k → k ≡ instance_node b → a ≡ b
   node_same a b k x y = omega (arith, x, y)
@@ -116,13 +133,14 @@ module _ {F R : Type 0} (f : Semantics R) (laws : FunctionLaws f) (c : Config) (
     by_target at = Owns (node_same i (owner c items unit w.log) (j.world.target unit) (sym at) (owner_goes f c items is n w j unit fits (omega (arith, at))))
 
     -- the source of a move to which the unit's packets go owns it
-    covers : (source : List ℕ) (from : ℕ) → place_of c.names source ≡ Some from → j.world.target unit ≡ instance_node from → is_at (place_of c.names source) (owner c items unit w.log) ≡ true
+    covers : (source : List ℕ) (from : ℕ) → place_of c.names source ≡ Some from → j.world.target unit ≡ instance_node from
+        → is_at (place_of c.names source) (owner c items unit w.log) ≡ true
     covers source from from_is goes =
         let owned : j.world.target unit ≡ instance_node (owner c items unit w.log) = owner_goes f c items is n w j unit fits (omega (arith, goes)) in
         let same : owner c items unit w.log ≡ from = node_same (owner c items unit w.log) from (j.world.target unit) (sym owned) goes in
         ap (λ o. is_at o (owner c items unit w.log)) from_is ∙ (Decides-eqb (owner c items unit w.log) from).1 same
 
-    by_may : May_run (S f g) (moves_of (S f g) (A f g) j.world) unit (instance_node i) → IsPlace (job_of f c items) number w.log i
+    by_may : MayRun (S f g) (moves_of (S f g) (A f g) j.world) unit (instance_node i) → IsPlace (job_of f c items) number w.log i
     by_may (At_route at) = by_target at
     by_may (At_destination k e there taken goes at) =
         let m = open_at f c items is n w j busy unit k e there taken in
@@ -130,11 +148,14 @@ module _ {F R : Type 0} (f : Semantics R) (laws : FunctionLaws f) (c : Config) (
         Is_destination (record { moving = m.moving; covers = covered }) (m.to_is ∙ ap Some (node_same m.to i e.op.dst (sym m.dst) (sym at)))
 
     -- the share of the unit by the log
-    by_there : (e : Open_share) → Its_share (S f g) (A f g) (is_sys f g.site g.packet) unit j.world e → (instance_node i ≡ e.home) ⊎ (instance_node i ≡ (A f g).member e.members number) → IsThere (members c items unit w.log) → IsPlace (job_of f c items) number w.log i
-    by_there e its (inl at) there = Owns (node_same i (owner c items unit w.log) e.home at (home_owns f c items is n count_is w j apart b h says unit fits e its there))
+    by_there : (e : OpenShare) → ItsShare (S f g) (A f g) (is_sys f g.site g.packet) unit j.world e
+        → (instance_node i ≡ e.home) ⊎ (instance_node i ≡ (A f g).member e.members number) → IsThere (members c items unit w.log)
+        → IsPlace (job_of f c items) number w.log i
+    by_there e its (inl at) there =
+        Owns (node_same i (owner c items unit w.log) e.home at (home_owns f c items is n count_is w j apart b h says unit fits e its there))
     by_there e its (inr at) there = Is_member (member_goes f c items is n count_is w j apart b h says unit fits e its number i refl (sym at) there)
 
-    by_one : Processes_one (S f g) (A f g) (is_sys f g.site g.packet) unit j.world (instance_node i) number → IsPlace (job_of f c items) number w.log i
+    by_one : ProcessesOne (S f g) (A f g) (is_sys f g.site g.packet) unit j.world (instance_node i) number → IsPlace (job_of f c items) number w.log i
     by_one (By_move may) = by_may may
     by_one (By_home e its (inl one) at) = by_there e its (inl at) (diverted_members f c items is n w j unit fits one)
     by_one (By_home e its (inr home) at) = by_target (home ∙ sym at)
@@ -163,30 +184,38 @@ module _ {F R : Type 0} (f : Semantics R) (laws : FunctionLaws f) (c : Config) (
     quiet : Each (IsQuiet own.index) (instance_step f own m).notes
     quiet = instance_quiet f own m
 
-    module _ (front back : List Note) (number i : ℕ) (output : Output) (e : (instance_step f own m).notes ≡ front ++ note.Processed number i output ∷ back) where
+    module _ (front back : List Note) (number i : ℕ) (output : Output)
+        (e : (instance_step f own m).notes ≡ front ++ note.Processed number i output ∷ back) where
       noted_at : i ≡ own.index
       noted_at = each_there (IsQuiet own.index) front (note.Processed number i output) back (subst (λ ns. Each (IsQuiet own.index) ns) e quiet)
 
       node : k ≡ instance_node i
       node = sym at.number ∙ ap instance_node (sym noted_at)
 
-      there : Ran_there (filter_map ran_in (instance_step f own m).notes) number
-      there = subst (λ ns. Ran_there (filter_map ran_in ns) number) (sym e) (ran_there front number i output back)
+      there : RanThere (filter_map ran_in (instance_step f own m).notes) number
+      there = subst (λ ns. RanThere (filter_map ran_in ns) number) (sym e) (ran_there front number i output back)
 
       none_there : (xs ys : List ℕ) → [] ≡ xs ++ number ∷ ys → ⊥
       none_there [] ys never = cc
       none_there (x ∷ xs) ys never = cc
 
       -- what ran is what the network runs
-      follows : (a : Any R) → ran_any f g (outline_instance f g.site g.packet own) own.table.standby a ≡ ran_by (S f g) (A f g) (is_sys f g.site g.packet) j.world k a
+      follows : (a : Any R)
+          → ran_any f g (outline_instance f g.site g.packet own) own.table.standby a ≡ ran_by (S f g) (A f g) (is_sys f g.site g.packet) j.world k a
       follows (Old a) = ap (λ x. ran_any f g x own.table.standby (Old a)) at.outline_is
       follows (New a) = ap (λ x. ran_any f g x own.table.standby (New a)) at.outline_is ∙ ap (λ t. ran_any f g (j.world.inst k) t (New a)) at.standby_is
 
-      one : Ran_as f laws g (all_fit f c items is) own m → Processes_one (S f g) (A f g) (is_sys f g.site g.packet) (unit_numbered c items f.kind number) j.world k number
+      one : RanAs f laws g (all_fit f c items is) own m
+          → ProcessesOne (S f g) (A f g) (is_sys f g.site g.packet) (unit_numbered c items f.kind number) j.world k number
       one (Unseen none) = absurd (none_there there.front there.back (sym none ∙ there.whole))
-      one (Seen a shown_as ran) = processes_one (S f g) (A f g) (is_sys f g.site g.packet) (unit_numbered c items f.kind number) (is_sharing f g.site g.packet) j.world (came_by f g w.log (unit_numbered c items f.kind number)) j.shown_is.every.global p k a taken.rest not_first not_second (taken.head not_input a shown_as) number (same_unit_equiv.refl (unit_numbered c items f.kind number)) there.front there.back (sym (follows a) ∙ sym ran ∙ there.whole) (j.shown_is.every.unit (unit_numbered c items f.kind number))
+      one (Seen a shown_as ran) = processes_one (S f g) (A f g) (is_sys f g.site g.packet) (unit_numbered c items f.kind number)
+          (is_sharing f g.site g.packet) j.world (came_by f g w.log (unit_numbered c items f.kind number)) j.shown_is.every.global p k a taken.rest
+          not_first not_second (taken.head not_input a shown_as) number (same_unit_equiv.refl (unit_numbered c items f.kind number)) there.front there.back
+          (sym (follows a) ∙ sym ran ∙ there.whole) (j.shown_is.every.unit (unit_numbered c items f.kind number))
 
       pub processed_place : IsPlace (job_of f c items) number (w.log ++ front) i
       processed_place =
-          place_quiet (job_of f c items) number own.index w.log front i (each_front (IsQuiet own.index) front (note.Processed number i output ∷ back) (subst (λ ns. Each (IsQuiet own.index) ns) e quiet))
-          (by_one number i (subst (λ q. Processes_one (S f g) (A f g) (is_sys f g.site g.packet) (unit_numbered c items f.kind number) j.world q number) node (one (ran_as f laws g (all_fit f c items is) k own j.world (omega arith) at p y m taken.label))))
+          place_quiet (job_of f c items) number own.index w.log front i
+          (each_front (IsQuiet own.index) front (note.Processed number i output ∷ back) (subst (λ ns. Each (IsQuiet own.index) ns) e quiet))
+          (by_one number i (subst (λ q. ProcessesOne (S f g) (A f g) (is_sys f g.site g.packet) (unit_numbered c items f.kind number) j.world q number) node
+          (one (ran_as f laws g (all_fit f c items is) k own j.world (omega arith) at p y m taken.label))))

@@ -2,6 +2,7 @@
 -- remove it. Where a share has the unit, it is live at the home, and may lack the last packet as long as the home is to take a newer one.
 use Rattle.std.proofs.Common.{◌≡◌, ◌≢◌, ℕ, ◌+◌, ◌<◌, ◌≤◌, true, false, Option, Some, None, List, [], ◌∷◌, ◌++◌, map, length, refl, sym, ap, ◌∙◌, subst, arith}
 use Rattle.std.specs.Prelude.{if◌then◌else◌, ◌==◌, ◌-◌, ◌||◌, nat_lt, slice_get, option_to_list}
+use Rattle.std.specs.List.{flat_map}
 use Rattle.std.specs.declared.alloc.Global.{Global}
 use Rattle.std.specs.FinMap as finite
 use Rattle.std.proofs.lemmas.Bool.{ltb-false, or_right}
@@ -17,57 +18,56 @@ use Rattle.record_table.specs.Table.{is_among}
 use Rattle.actor_net.specs.declared.choice.Choice.{Choice}
 use Rattle.actor_net.specs.Network.{Network, IsWorld, IsRun, on_link, run}
 use Rattle.actor_net.proofs.RunInduction.{run_world}
-use Rattle.unit_machine.proofs.Machine.{State, after, idle}
-use Rattle.unit_machine.proofs.UnitPieces.{nil_left}
-use Rattle.unit_machine.proofs.Lists.{firsts}
-use Rattle.unit_machine.proofs.Bare.{firsts_nil}
-use Rattle.unit_machine.proofs.Kept.{Kept, Nowhere, Is_live, On_way, Twice, lives, on_way}
-use Rattle.unit_machine.proofs.ToRemove.{To_remove, Is_given, Is_named, still_to_remove, third_live, third_silent}
-use Rattle.unit_machine.proofs.Seats.{seat_shape, seat_path}
-use Rattle.unit_machine.proofs.SeatLaws.{seat_kept}
-use Rattle.abstract_net.proofs.Holding.{Seeing, node_at, place as side_place}
-use Rattle.abstract_net.proofs.Readings as readings
-use Rattle.abstract_net.proofs.Readings.{fold_runs, seat_parts}
-use Rattle.abstract_net.proofs.Rest.{same_done}
-use Rattle.abstract_net.proofs.Shares.{Want_share}
-use Rattle.abstract_net.proofs.Under.{Under}
-use Rattle.abstract_net.proofs.UnderStarts.{seeing}
-use Rattle.abstract_net.proofs.Units.{see}
-use Rattle.abstract_net.proofs.Untaken.{Untaken}
-use Rattle.whole_net.proofs.WhereAll.{Where_all, Apart_from_shares, Under_share}
+use Rattle.proof_machines.proofs.unit.Machine.{State, after, idle}
+use Rattle.proof_machines.proofs.unit.UnitPieces.{nil_left}
+use Rattle.proof_machines.proofs.unit.Lists.{firsts}
+use Rattle.proof_machines.proofs.unit.Bare.{firsts_nil}
+use Rattle.proof_machines.proofs.unit.Kept.{Kept, Nowhere, Is_live, On_way, Twice, lives, on_way}
+use Rattle.proof_machines.proofs.unit.ToRemove.{ToRemove, Is_given, Is_named, still_to_remove, third_live, third_silent}
+use Rattle.proof_machines.proofs.unit.Seats.{seat_shape, seat_path}
+use Rattle.proof_machines.proofs.unit.SeatLaws.{seat_kept}
+use Rattle.proof_machines.proofs.net.Holding.{Seeing, node_at, place as side_place}
+use Rattle.proof_machines.proofs.net.Readings as readings
+use Rattle.proof_machines.proofs.net.Readings.{fold_runs, seat_parts}
+use Rattle.proof_machines.proofs.net.RestingSeats.{same_done}
+use Rattle.proof_machines.proofs.net.Shares.{WantShare}
+use Rattle.proof_machines.proofs.net.Under.{Under}
+use Rattle.proof_machines.proofs.net.UnderStarts.{seeing}
+use Rattle.proof_machines.proofs.net.Units.{see}
+use Rattle.proof_machines.proofs.net.Untaken.{Untaken}
+use Rattle.proof_machines.proofs.whole.WhereAll.{WhereAll, Apart_from_shares, Under_share}
 use Rattle.net_world.specs.declared.config.Config.{Config}
 use Rattle.net_world.specs.declared.node.Node.{Node}
 use Rattle.net_world.specs.Input.{packets, IsInput}
 use Rattle.net_world.specs.Jobs.{job_of}
-use Rattle.net_world.specs.Log.{arrived}
-use Rattle.net_world.specs.Path.{all_of}
-use Rattle.net_world.specs.Fold.{IsFront, fold, went}
+use Rattle.net_world.specs.Log.{arrivals_in}
+use Rattle.net_world.specs.Fold.{IsFront, fold, processed_of}
 use Rattle.net_world.specs.Places.{owner}
 use Rattle.net_world.specs.Nodes.{node_step, node_ready}
-use Rattle.net_world.specs.Start.{started}
+use Rattle.net_world.specs.Start.{started_with}
 use Rattle.net_world.specs.Seen.{HasRecord, Sees_all, Lacks_last}
 use Rattle.net_world.specs.Records as records
 use Rattle.net_world.specs.Records.{live_in, live_at, given_in, removed_by, is_to_remove, IsNowhereLive, IsLiveAt, HasOneRecord}
-use Rattle.path_net.proofs.ChunkPlaces.{link_spelled, none_on_way, one_on_way}
-use Rattle.answer_net.proofs.ArrivalLemmas.{arrivals_run}
-use Rattle.answer_net.proofs.BusyRuns.{Busy}
-use Rattle.answer_net.proofs.CommandPromises.{run_busy}
-use Rattle.answer_net.proofs.InstallRuns.{Installs, run_installs}
-use Rattle.path_net.proofs.SharedOwners.{HomesOwn}
-use Rattle.whole_joined.proofs.OperationsApart.{AllApart}
+use Rattle.nf_net.proofs.paths.ChunkPlaces.{link_spelled, none_on_way, one_on_way}
+use Rattle.nf_net.proofs.answers.ArrivalLemmas.{arrivals_run}
+use Rattle.nf_net.proofs.answers.BusyRuns.{Busy}
+use Rattle.nf_net.proofs.answers.CommandPromises.{run_busy}
+use Rattle.nf_net.proofs.answers.InstallRuns.{Installs, run_installs}
+use Rattle.nf_net.proofs.paths.SharedOwners.{HomesOwn}
+use Rattle.proof_outlines.proofs.joined.OperationsApart.{AllApart}
 use Rattle.nf_net.proofs.FoldLemmas.{fold_is}
-use Rattle.outline_net.proofs.Outline.{is_sys}
-use Rattle.path_net.proofs.SeatPaths.{IsOwned, by_came}
-use Rattle.path_net.proofs.PathSeats.{AsMoves, Seated, seated, HasSides, Are_there, Rests, found_instance}
-use Rattle.path_net.proofs.RecordPromises.{one_place}
-use Rattle.path_net.proofs.SharedChunks.{none_on_way as none_shared}
+use Rattle.proof_outlines.proofs.outline.Outline.{is_sys}
+use Rattle.nf_net.proofs.paths.SeatPaths.{IsOwned, by_came}
+use Rattle.nf_net.proofs.paths.PathSeats.{AsMoves, Seated, seated, HasSides, Are_there, Rests, found_instance}
+use Rattle.nf_net.proofs.paths.RecordPromises.{one_place}
+use Rattle.nf_net.proofs.paths.SharedChunks.{none_on_way as none_shared}
 use Rattle.nf_net.proofs.InstalledShares.{SaysOfShares, says_of_shares}
 use Rattle.nf_net.proofs.SharedHomes.{goes_so, homes_own}
-use Rattle.path_net.proofs.SharedRecords.{HasShared, Saw_all, Home_lacks_last, alone, has_shared}
-use Rattle.whole_joined.proofs.RunsJoined.{run_beside, start_world, done_same}
-use Rattle.whole_joined.proofs.StartJoined.{given, count_at_start}
-use Rattle.whole_joined.proofs.Given.{Given}
-use Rattle.whole_joined.proofs.Joined.{S, A, came_by, Joined}
+use Rattle.nf_net.proofs.paths.SharedRecords.{HasShared, Saw_all, Home_lacks_last, alone, has_shared}
+use Rattle.proof_outlines.proofs.joined.RunsJoined.{run_beside, start_world, done_same}
+use Rattle.proof_outlines.proofs.joined.StartJoined.{given, count_at_start}
+use Rattle.proof_outlines.proofs.joined.Given.{Given}
+use Rattle.proof_outlines.proofs.joined.Joined.{S, A, came_by, Joined}
 
 -- none of three, and one of three
 record AreNone {R : Type 0} (a b c : Option R) : Type 0 where
@@ -98,7 +98,10 @@ never o r none some = let bad = sym none ∙ some in cc
 not_nil : {P R : Type 0} (xs : List R) (r : R) → xs ≡ [] → xs ≡ r ∷ [] → P
 not_nil xs r none one = let bad = sym none ∙ one in cc
 
-module _ {F R : Type 0} (f : Semantics R) (c : Config) (items : List Msg) (is : IsInput f.kind c items) (n : ℕ) (count : n ≡ length c.names + 2) (w : Network (Node F R) Msg Note) (nodes : length w.nodes ≡ n) (j : Joined f (given f c items is) n w) (world : IsWorld w) (in_turn : IsFront (arrived w.log) (map (λ p. p.number) (packets items))) (u : units.Unit) (at : AsMoves f c items is n count w nodes j u) (apart : Untaken (S f (given f c items is)) u (A f (given f c items is)) j.world) where
+module _ {F R : Type 0} (f : Semantics R) (c : Config) (items : List Msg) (is : IsInput f.kind c items) (n : ℕ) (count : n ≡ length c.names + 2)
+    (w : Network (Node F R) Msg Note) (nodes : length w.nodes ≡ n) (j : Joined f (given f c items is) n w) (world : IsWorld w)
+    (in_turn : IsFront (arrivals_in w.log) (map (λ p. p.number) (packets items))) (u : units.Unit) (at : AsMoves f c items is n count w nodes j u)
+    (apart : Untaken (S f (given f c items is)) u (A f (given f c items is)) j.world) where
   abbrev g : Given
   g = given f c items is
 
@@ -117,7 +120,8 @@ module _ {F R : Type 0} (f : Semantics R) (c : Config) (items : List Msg) (is : 
   -- What is live at an instance.
   live_there : (m : ℕ) → 2 ≤ m → m < n → live_in u (slice_get w.nodes m) ≡ (node_at (S f g) z x m).live
   live_there m two few =
-      ap (live_in u) (found_instance f c items is n count w nodes j m two few) ∙ ap (λ y. finite.get y.live u) (j.shown_is.instances m two few).outline_is ∙ (k.holds.insts m).live
+      ap (live_in u) (found_instance f c items is n count w nodes j m two few) ∙ ap (λ y. finite.get y.live u) (j.shown_is.instances m two few).outline_is
+      ∙ (k.holds.insts m).live
 
   nowhere : lives x ≡ [] → IsNowhereLive w u
   nowhere none i =
@@ -193,8 +197,10 @@ module _ {F R : Type 0} (f : Semantics R) (c : Config) (items : List Msg) (is : 
   one_way r src dst one = one_on_way f c items is n count w nodes j world u apart k.op k.third x k.holds silent r one src dst
 
   -- the source is still to remove it
-  to_remove : (r : R) → k.op.src < n → To_remove x.ac x.ca → is_to_remove w u (k.op.src - 2) ≡ true
-  to_remove r few h = ap (λ m. is_among (all_of given_in (on_link w m controller_node)) u || is_among (all_of removed_by (on_link w controller_node m)) u) source_is ∙ by_link h
+  to_remove : (r : R) → k.op.src < n → ToRemove x.ac x.ca → is_to_remove w u (k.op.src - 2) ≡ true
+  to_remove r few h =
+      ap (λ m. is_among (flat_map given_in (on_link w m controller_node)) u || is_among (flat_map removed_by (on_link w controller_node m)) u) source_is
+      ∙ by_link h
     where
       source_is : instance_node (k.op.src - 2) ≡ k.op.src
       source_is = let two = k.holds.nodes.a_is in omega (arith, two)
@@ -211,37 +217,46 @@ module _ {F R : Type 0} (f : Semantics R) (c : Config) (items : List Msg) (is : 
       some : 1 < n
       some = omega (arith, count)
 
-      by_link : To_remove x.ac x.ca → is_among (all_of given_in (on_link w k.op.src controller_node)) u || is_among (all_of removed_by (on_link w controller_node k.op.src)) u ≡ true
+      by_link : ToRemove x.ac x.ca → is_among (flat_map given_in (on_link w k.op.src controller_node)) u
+          || is_among (flat_map removed_by (on_link w controller_node k.op.src)) u ≡ true
       by_link (Is_given e) =
           let read = (link_spelled f c items is n count w nodes j world u apart k.op k.third x k.holds k.op.src 1 few some (rw off_0 refl)).given in
-          let on : is_among (all_of given_in (on_link w k.op.src controller_node)) u ≡ true = read ∙ rw (off_0, off_1, self) e in
+          let on : is_among (flat_map given_in (on_link w k.op.src controller_node)) u ≡ true = read ∙ rw (off_0, off_1, self) e in
           rw on refl
       by_link (Is_named e) =
           let read = (link_spelled f c items is n count w nodes j world u apart k.op k.third x k.holds 1 k.op.src some few refl).removed in
-          let on : is_among (all_of removed_by (on_link w controller_node k.op.src)) u ≡ true = read ∙ rw (off_0, self) e in
-          or_right (is_among (all_of given_in (on_link w k.op.src controller_node)) u) (is_among (all_of removed_by (on_link w controller_node k.op.src)) u) on
+          let on : is_among (flat_map removed_by (on_link w controller_node k.op.src)) u ≡ true = read ∙ rw (off_0, self) e in
+          or_right (is_among (flat_map given_in (on_link w k.op.src controller_node)) u)
+          (is_among (flat_map removed_by (on_link w controller_node k.op.src)) u) on
 
   -- the machine's record is the fold of what was processed
-  fold_same : after (S f g).F x.done ≡ fold f c items None (went f c items u w.log)
+  fold_same : after (S f g).F x.done ≡ fold f c items None (processed_of f c items u w.log)
   fold_same =
       fold_runs (S f g).F None x.done
       ∙ ap (readings.fold (S f g).F None) (sym (same_done (S f g) z j.world.done ∙ k.holds.done) ∙ done_same f c items is n w j u)
-      ∙ sym (fold_is f c items is None (went f c items u w.log))
+      ∙ sym (fold_is f c items is None (processed_of f c items u w.log))
 
-  apart_stands : HasOneRecord f w u (fold f c items None (went f c items u w.log))
+  apart_stands : HasOneRecord f w u (fold f c items None (processed_of f c items u w.log))
   apart_stands = by_kept (seat_kept (S f g).F k.seat)
     where
-      by_sides : (r : R) → after (S f g).F x.done ≡ Some r → on_way x ≡ r ∷ [] → (k.op.src < n → k.op.dst < n → HasOneRecord f w u (fold f c items None (went f c items u w.log))) → HasSides f c items is n count w nodes j k.op x → HasOneRecord f w u (fold f c items None (went f c items u w.log))
+      by_sides : (r : R) → after (S f g).F x.done ≡ Some r → on_way x ≡ r ∷ []
+          → (k.op.src < n → k.op.dst < n → HasOneRecord f w u (fold f c items None (processed_of f c items u w.log)))
+          → HasSides f c items is n count w nodes j k.op x → HasOneRecord f w u (fold f c items None (processed_of f c items u w.log))
       by_sides r some one both (Are_there e found src dst) = both src dst
       by_sides r some one both (Rests none none_b at_a) = not_nil (on_way x) r none one
 
-      by_kept : Kept (after (S f g).F x.done) x.a.live (lives x) (on_way x) → HasOneRecord f w u (fold f c items None (went f c items u w.log))
+      by_kept : Kept (after (S f g).F x.done) x.a.live (lives x) (on_way x) → HasOneRecord f w u (fold f c items None (processed_of f c items u w.log))
       by_kept (Nowhere none live way) = records.Has_none (sym fold_same ∙ none) (nowhere live) (none_way way)
       by_kept (Is_live r some live way) = let at = somewhere r some live in records.Is_live at.i r (sym fold_same ∙ some) at.live (none_way way)
-      by_kept (On_way r some live way) = by_sides r some way (λ src dst. records.Is_on_way r (sym fold_same ∙ some) (nowhere live) (one_way r src dst way)) k.ends
-      by_kept (Twice r some at_a live way) = by_sides r some way (λ src dst. records.Is_given (k.op.src - 2) r (sym fold_same ∙ some) (at_source r src at_a) (one_way r src dst way) (to_remove r src (still_to_remove (S f g).F k.seat r r [] at_a way))) k.ends
+      by_kept (On_way r some live way) =
+          by_sides r some way (λ src dst. records.Is_on_way r (sym fold_same ∙ some) (nowhere live) (one_way r src dst way)) k.ends
+      by_kept (Twice r some at_a live way) = by_sides r some way (λ src dst. records.Is_given (k.op.src - 2) r (sym fold_same ∙ some) (at_source r src at_a)
+          (one_way r src dst way) (to_remove r src (still_to_remove (S f g).F k.seat r r [] at_a way))) k.ends
 
-module _ {F R : Type 0} (f : Semantics R) (c : Config) (items : List Msg) (is : IsInput f.kind c items) (n : ℕ) (count : n ≡ length c.names + 2) (w : Network (Node F R) Msg Note) (nodes : length w.nodes ≡ n) (j : Joined f (given f c items is) n w) (world : IsWorld w) (in_turn : IsFront (arrived w.log) (map (λ p. p.number) (packets items))) (unmixed : AllApart j.nodes.controller.operations) (b : Busy (given f c items is) w) (h : Installs (given f c items is) w) (says : SaysOfShares f c items w.log) (u : units.Unit) where
+module _ {F R : Type 0} (f : Semantics R) (c : Config) (items : List Msg) (is : IsInput f.kind c items) (n : ℕ) (count : n ≡ length c.names + 2)
+    (w : Network (Node F R) Msg Note) (nodes : length w.nodes ≡ n) (j : Joined f (given f c items is) n w) (world : IsWorld w)
+    (in_turn : IsFront (arrivals_in w.log) (map (λ p. p.number) (packets items))) (unmixed : AllApart j.nodes.controller.operations)
+    (b : Busy (given f c items is) w) (h : Installs (given f c items is) w) (says : SaysOfShares f c items w.log) (u : units.Unit) where
   abbrev gr : Given
   gr = given f c items is
 
@@ -250,13 +265,13 @@ module _ {F R : Type 0} (f : Semantics R) (c : Config) (items : List Msg) (is : 
   told = homes_own f c items is n count w j unmixed b h says
 
   abbrev all : List ℕ
-  all = went f c items u w.log
+  all = processed_of f c items u w.log
 
   folded : (ps : List ℕ) → fold f c items None ps ≡ readings.fold (S f gr).F None ps
   folded ps = fold_is f c items is None ps
 
   -- Under a share.
-  module _ (x : Want_share) (before since : List ℕ) (k : Under (S f gr) (A f gr) (seeing (S f gr) (A f gr) u x) j.world before since) where
+  module _ (x : WantShare) (before since : List ℕ) (k : Under (S f gr) (A f gr) (seeing (S f gr) (A f gr) u x) j.world before since) where
     abbrev home : ℕ
     home = owner c items u w.log
 
@@ -272,7 +287,8 @@ module _ {F R : Type 0} (f : Semantics R) (c : Config) (items : List Msg) (is : 
           | true ↦ λ on. ap (λ q. live_at w q u) ((Decides-eqb i home).0 on) ∙ e
           | false ↦ λ off. only_home i (λ same. (let never : true ≡ false = sym ((Decides-eqb i home).1 same) ∙ off in cc))
         ] refl
-    one_there (Some r) e = records.Is_live home r refl (record { there = e; alone = at_home }) (none_shared f c items is n count w nodes j world u x before since k)
+    one_there (Some r) e =
+        records.Is_live home r refl (record { there = e; alone = at_home }) (none_shared f c items is n count w nodes j world u x before since k)
       where
         at_home : (i : ℕ) (s : R) → live_at w i u ≡ Some s → i ≡ home
         at_home i s live = elim (i == home) as (λ t. (i == home) ≡ t → i ≡ home) [
@@ -299,20 +315,25 @@ module _ {F R : Type 0} (f : Semantics R) (c : Config) (items : List Msg) (is : 
   pub record_stands : HasRecord (job_of f c items) w u
   record_stands = by_where (j.shown_is.every.unit u)
     where
-      by_where : Where_all (S f gr) (A f gr) (is_sys f gr.site gr.packet) u j.world (came_by f gr w.log u) → HasRecord (job_of f c items) w u
-      by_where (Apart_from_shares h none) = record { seen = all; has_seen = Sees_all refl; one = apart_stands f c items is n count w nodes j world in_turn u h.is h.untaken }
-      by_where (Under_share x before b h o i) = shared_stands x before (came_by f gr w.log u).diverted h (has_shared f c items is n count w nodes j world told u x before (came_by f gr w.log u).diverted h)
+      by_where : WhereAll (S f gr) (A f gr) (is_sys f gr.site gr.packet) u j.world (came_by f gr w.log u) → HasRecord (job_of f c items) w u
+      by_where (Apart_from_shares h none) =
+          record { seen = all; has_seen = Sees_all refl; one = apart_stands f c items is n count w nodes j world in_turn u h.is h.untaken }
+      by_where (Under_share x before b h o i) = shared_stands x before (came_by f gr w.log u).diverted h
+          (has_shared f c items is n count w nodes j world told u x before (came_by f gr w.log u).diverted h)
 
 -- Of every run.
-module _ (F : Type 0) {R : Type 0} (f : Semantics R) (laws : FunctionLaws f) (alloc : Global) (c : Config) (items : List Msg) (is : IsInput f.kind c items) (cs : List Choice) (runs : IsRun node_ready (node_step f) cs (started {F = F} {R = R} alloc c items)) where
+module _ (F : Type 0) {R : Type 0} (f : Semantics R) (laws : FunctionLaws f) (alloc : Global) (c : Config) (items : List Msg) (is : IsInput f.kind c items)
+    (cs : List Choice) (runs : IsRun node_ready (node_step f) cs (started_with {F = F} {R = R} alloc c items)) where
   abbrev n : ℕ
   n = length c.names + 2
 
   abbrev w : Network (Node F R) Msg Note
-  w = run (node_step f) cs (started {F = F} {R = R} alloc c items)
+  w = run (node_step f) cs (started_with {F = F} {R = R} alloc c items)
 
   pub records_stand : (u : units.Unit) → HasRecord (job_of f c items) w u
   records_stand u =
       let r = run_beside F f laws alloc c items is cs runs in
-      let reached = run_world node_ready (node_step f) n (started {F = F} {R = R} alloc c items) (start_world F f laws alloc c items is) (count_at_start F f alloc c items is) cs runs in
-      record_stands f c items is n refl w reached.1 r.joined reached.0 (arrivals_run F f laws alloc c items is cs runs) r.beside.kept.apart (run_busy F f laws alloc c items is cs runs).1 (run_installs F f laws alloc c items is cs runs) (says_of_shares F f laws alloc c items is cs runs) u
+      let reached = run_world node_ready (node_step f) n (started_with {F = F} {R = R} alloc c items) (start_world F f laws alloc c items is)
+      (count_at_start F f alloc c items is) cs runs in
+      record_stands f c items is n refl w reached.1 r.joined reached.0 (arrivals_run F f laws alloc c items is cs runs) r.beside.kept.apart
+      (run_busy F f laws alloc c items is cs runs).1 (run_installs F f laws alloc c items is cs runs) (says_of_shares F f laws alloc c items is cs runs) u

@@ -11,27 +11,32 @@ use Rattle.nf_msgs.specs.Nodes.{instance_node}
 use Rattle.switch_rules.specs.declared.target.Target.{Target}
 use Rattle.switch_rules.specs.declared.target.Target.TheVariants as target
 use Rattle.switch_node.specs.Switch.{SwitchState, switch_step, on_install}
-use Rattle.unit_machine.proofs.Real as real
-use Rattle.abstract_net.proofs.Net as net
-use Rattle.abstract_net.proofs.Shares.{Any, Old, New, S_install}
-use Rattle.net_world.specs.Log.{installed}
-use Rattle.outline_net.proofs.FiltersApart.{is_whole}
-use Rattle.whole_joined.proofs.Given.{Given, IsInstall, IsDivert}
-use Rattle.whole_joined.proofs.Joined.{Scene, AreShown, IsTaken, Label, shown, count, is_target}
-use Rattle.whole_joined.proofs.RuleChanges.{Changes, Same, Installs, changes}
+use Rattle.proof_machines.proofs.unit.Real as real
+use Rattle.proof_machines.proofs.net.Net as net
+use Rattle.proof_machines.proofs.net.Shares.{Any, Old, New, S_install}
+use Rattle.net_world.specs.Log.{installs_in}
+use Rattle.proof_outlines.proofs.outline.FiltersApart.{is_whole}
+use Rattle.proof_outlines.proofs.joined.Given.{Given, IsInstall, IsDivert}
+use Rattle.proof_outlines.proofs.joined.Joined.{Scene, AreShown, IsTaken, Label, shown, count, is_target}
+use Rattle.proof_outlines.proofs.joined.RuleChanges.{Changes, Same, Installs, changes}
 
-installed_note : (s : SwitchState) (count k : ℕ) (filter : Filter) (from : ℕ) (to : Target) → s.instances ≡ count → nat_lt from count ≡ true → is_target count to ≡ true → (on_install s k filter from to).notes ≡ note.Installed k ∷ []
+installed_note : (s : SwitchState) (count k : ℕ) (filter : Filter) (from : ℕ) (to : Target) → s.instances ≡ count → nat_lt from count ≡ true
+    → is_target count to ≡ true → (on_install s k filter from to).notes ≡ note.Installed k ∷ []
 installed_note s count k filter from target.Controller same here there = rw (same, here) refl
 installed_note s count k filter from (target.Instance i) same here there = rw (same, here, there) refl
 
-module _ {F R : Type 0} (f : Semantics R) (g : Given) (n : ℕ) (x : Scene F f g) (are : AreShown f g n x) (p : ℕ) (m : Msg) (it : IsTaken f g n x (record { node = 0; port = p; message = m })) where
+module _ {F R : Type 0} (f : Semantics R) (g : Given) (n : ℕ) (x : Scene F f g) (are : AreShown f g n x) (p : ℕ) (m : Msg)
+    (it : IsTaken f g n x (record { node = 0; port = p; message = m })) where
   abbrev pub notes : List Note
   notes = (switch_step x.nodes.switch m).notes
 
   pub data Changed : Type 0 where
-    No_rule : installed notes ≡ [] → Changed
-    Moves_on : (k : ℕ) (filter : Filter) (from dst : ℕ) (rest : List (Any R)) → notes ≡ note.Installed k ∷ [] → IsInstall g k (record { filter = filter; from = from; to = target.Instance dst }) → is_whole f.kind filter ≡ true → x.world.link 1 0 ≡ Old (net.Mv filter (real.M_install k (instance_node from) (instance_node dst))) ∷ rest → Changed
-    Diverts : (k : ℕ) (filter : Filter) (from : ℕ) (rest : List (Any R)) → notes ≡ note.Installed k ∷ [] → IsDivert g k filter from → is_whole f.kind filter ≡ true → x.world.link 1 0 ≡ New (S_install k filter (instance_node from)) ∷ rest → Changed
+    No_rule : installs_in notes ≡ [] → Changed
+    Moves_on : (k : ℕ) (filter : Filter) (from dst : ℕ) (rest : List (Any R)) → notes ≡ note.Installed k ∷ []
+        → IsInstall g k (record { filter = filter; from = from; to = target.Instance dst }) → is_whole f.kind filter ≡ true
+        → x.world.link 1 0 ≡ Old (net.Mv filter (real.M_install k (instance_node from) (instance_node dst))) ∷ rest → Changed
+    Diverts : (k : ℕ) (filter : Filter) (from : ℕ) (rest : List (Any R)) → notes ≡ note.Installed k ∷ [] → IsDivert g k filter from
+        → is_whole f.kind filter ≡ true → x.world.link 1 0 ≡ New (S_install k filter (instance_node from)) ∷ rest → Changed
 
   module _ (k : ℕ) (filter : Filter) (from : ℕ) (to : Target) (e : m ≡ msg.Install k filter from to) where
     label : Label f g p 0 (msg.Install k filter from to)
@@ -47,8 +52,12 @@ module _ {F R : Type 0} (f : Semantics R) (g : Given) (n : ℕ) (x : Scene F f g
         ap (λ q. x.world.link q 0) (sym one) ∙ it.head off a is
 
   by_target : (k : ℕ) (filter : Filter) (from : ℕ) (to : Target) → m ≡ msg.Install k filter from to → Changed
-  by_target k filter from target.Controller e = Diverts k filter from it.rest (noted k filter from target.Controller e) (label k filter from target.Controller e).4 (label k filter from target.Controller e).3 (head k filter from target.Controller e (New (S_install k filter (instance_node from))) (ap (shown f g) e))
-  by_target k filter from (target.Instance dst) e = Moves_on k filter from dst it.rest (noted k filter from (target.Instance dst) e) (label k filter from (target.Instance dst) e).4 (label k filter from (target.Instance dst) e).3 (head k filter from (target.Instance dst) e (Old (net.Mv filter (real.M_install k (instance_node from) (instance_node dst)))) (ap (shown f g) e))
+  by_target k filter from target.Controller e = Diverts k filter from it.rest (noted k filter from target.Controller e)
+      (label k filter from target.Controller e).4 (label k filter from target.Controller e).3
+      (head k filter from target.Controller e (New (S_install k filter (instance_node from))) (ap (shown f g) e))
+  by_target k filter from (target.Instance dst) e = Moves_on k filter from dst it.rest (noted k filter from (target.Instance dst) e)
+      (label k filter from (target.Instance dst) e).4 (label k filter from (target.Instance dst) e).3
+      (head k filter from (target.Instance dst) e (Old (net.Mv filter (real.M_install k (instance_node from) (instance_node dst)))) (ap (shown f g) e))
 
   by_changes : Changes x.nodes.switch m → Changed
   by_changes (Same none) = No_rule none

@@ -6,26 +6,32 @@ use Rattle.nf_function.specs.Semantics.{Semantics}
 use Rattle.nf_msgs.specs.declared.msg.Msg.{Msg}
 use Rattle.nf_msgs.specs.declared.note.Note.{Note}
 use Rattle.actor_net.specs.declared.choice.Choice.{Choice}
-use Rattle.actor_net.specs.Network.{Network, IsRun, run, taken}
+use Rattle.actor_net.specs.Network.{Network, IsRun, run, world_next}
 use Rattle.actor_net.proofs.RunInduction.{Taking, run_induction}
 use Rattle.net_world.specs.declared.config.Config.{Config}
 use Rattle.net_world.specs.declared.node.Node.{Node}
 use Rattle.net_world.specs.Input.{IsInput}
 use Rattle.net_world.specs.Nodes.{node_step, node_ready}
-use Rattle.net_world.specs.Start.{started}
-use Rattle.whole_joined.proofs.RunsJoined.{start_world}
-use Rattle.whole_joined.proofs.StartJoined.{count_at_start}
+use Rattle.net_world.specs.Start.{started_with}
+use Rattle.proof_outlines.proofs.joined.RunsJoined.{start_world}
+use Rattle.proof_outlines.proofs.joined.StartJoined.{count_at_start}
 
-module _ (F : Type 0) {R : Type 0} (f : Semantics R) (laws : FunctionLaws f) (alloc : Global) (c : Config) (items : List Msg) (is : IsInput f.kind c items) where
+module _ (F : Type 0) {R : Type 0} (f : Semantics R) (laws : FunctionLaws f) (alloc : Global) (c : Config) (items : List Msg)
+    (is : IsInput f.kind c items) where
   abbrev pub start : Network (Node F R) Msg Note
-  start = started {F = F} {R = R} alloc c items
+  start = started_with {F = F} {R = R} alloc c items
 
   abbrev pub count : ℕ
   count = length c.names + 2
 
   -- what each choice keeps of the worlds of a run
   abbrev pub Goes_on : (Network (Node F R) Msg Note → Type 0) → Type 0
-  Goes_on P = (ds : List Choice) → IsRun node_ready (node_step f) ds start → (d : Choice) → Taking node_ready (node_step f) count (run (node_step f) ds start) d → P (run (node_step f) ds start) → P (taken (node_step f) (run (node_step f) ds start) d)
+  Goes_on P = (ds : List Choice) → IsRun node_ready (node_step f) ds start → (d : Choice)
+      → Taking node_ready (node_step f) count (run (node_step f) ds start) d → P (run (node_step f) ds start)
+      → P (world_next (node_step f) (run (node_step f) ds start) d)
 
-  pub run_keeps : (P : Network (Node F R) Msg Note → Type 0) → P start → Goes_on P → (cs : List Choice) → IsRun node_ready (node_step f) cs start → P (run (node_step f) cs start)
-  run_keeps P first next cs run_is = run_induction node_ready (node_step f) count (λ _ w. P w) start (λ ds w d it h. subst (λ v. Taking node_ready (node_step f) count v d → P v → P (taken (node_step f) v d)) (sym it.reached) (λ t k. next ds it.is_run d t k) it.taking h) (start_world F f laws alloc c items is) (count_at_start F f alloc c items is) first cs run_is
+  pub run_keeps : (P : Network (Node F R) Msg Note → Type 0) → P start → Goes_on P → (cs : List Choice) → IsRun node_ready (node_step f) cs start
+      → P (run (node_step f) cs start)
+  run_keeps P first next cs run_is = run_induction node_ready (node_step f) count (λ _ w. P w) start
+      (λ ds w d it h. subst (λ v. Taking node_ready (node_step f) count v d → P v → P (world_next (node_step f) v d)) (sym it.reached)
+      (λ t k. next ds it.is_run d t k) it.taking h) (start_world F f laws alloc c items is) (count_at_start F f alloc c items is) first cs run_is

@@ -11,13 +11,14 @@ use Rattle.nf_msgs.specs.declared.msg.Msg.{Msg}
 use Rattle.nf_msgs.specs.declared.msg.Msg.TheVariants as msg
 use Rattle.nf_msgs.specs.declared.note.Note.{Note}
 use Rattle.nf_msgs.specs.declared.note.Note.TheVariants as note
-use Rattle.unit_machine.proofs.Labels.{Each}
+use Rattle.proof_machines.proofs.unit.Labels.{Each}
 use Rattle.net_world.specs.Commands.{has_answered}
 use Rattle.net_world.specs.Input.{packets, commands, IsRising}
-use Rattle.answer_net.proofs.BusyController.{told_in}
-use Rattle.answer_net.proofs.BusyLemmas.{answered_same, has_answered-append}
-use Rattle.answer_net.proofs.EndTables.{flag, flag_most, flag_full}
-use Rattle.answer_net.proofs.LinePicks.{picked}
+use Rattle.net_world.proofs.LogLemmas.{has_answered-append}
+use Rattle.nf_net.proofs.answers.BusyController.{told_in}
+use Rattle.nf_net.proofs.answers.BusyLemmas.{answered_same}
+use Rattle.nf_net.proofs.answers.EndTables.{flag, flag_most, flag_full}
+use Rattle.nf_net.proofs.answers.LinePicks.{picked}
 
 -- how many are answered
 abbrev pub answered_in : List Command → List Note → ℕ
@@ -54,15 +55,18 @@ pub all_answered_more : (cs : List Command) (log notes : List Note) → AllAnswe
 all_answered_more [] log notes h = tt
 all_answered_more (c ∷ cs) log notes h = (answered_more c.op log notes h.0, all_answered_more cs log notes h.1)
 
-pub answered_in_same : (cs : List Command) (log notes : List Note) → ((op : ℕ) → has_answered op notes ≡ false) → answered_in cs (log ++ notes) ≡ answered_in cs log
+pub answered_in_same : (cs : List Command) (log notes : List Note) → ((op : ℕ) → has_answered op notes ≡ false)
+    → answered_in cs (log ++ notes) ≡ answered_in cs log
 answered_in_same [] log notes h = refl
-answered_in_same (c ∷ cs) log notes h = let own = ap flag (answered_same c.op log notes (h c.op)) in let rest = answered_in_same cs log notes h in omega (arith, own, rest)
+answered_in_same (c ∷ cs) log notes h =
+    let own = ap flag (answered_same c.op log notes (h c.op)) in let rest = answered_in_same cs log notes h in omega (arith, own, rest)
 
 -- an answer to another command, and to one of these
 apart_answer : (op k : ℕ) (a : Answer) → (op == k) ≡ false → has_answered k (note.Answered op a ∷ []) ≡ false
 apart_answer op k a off = rw off refl
 
-answered_other : (op : ℕ) (a : Answer) (log : List Note) (least : ℕ) (cs : List Command) → op < least → IsRising least (map (λ c. c.op) cs) → answered_in cs (log ++ note.Answered op a ∷ []) ≡ answered_in cs log
+answered_other : (op : ℕ) (a : Answer) (log : List Note) (least : ℕ) (cs : List Command) → op < least → IsRising least (map (λ c. c.op) cs)
+    → answered_in cs (log ++ note.Answered op a ∷ []) ≡ answered_in cs log
 answered_other op a log least [] less h = refl
 answered_other op a log least (c ∷ cs) less h =
     let first = h.0 in
@@ -71,32 +75,39 @@ answered_other op a log least (c ∷ cs) less h =
     let rest = answered_other op a log (suc c.op) cs (omega (arith, less, first)) h.1 in
     omega (arith, own, rest)
 
-pub answered_one : (op : ℕ) (a : Answer) (what : Order) (log : List Note) → has_answered op log ≡ false → (least : ℕ) (cs : List Command) → IsRising least (map (λ c. c.op) cs) → option_map (λ c. c.what) (find (λ c. c.op == op) cs) ≡ Some what → answered_in cs (log ++ note.Answered op a ∷ []) ≡ answered_in cs log + 1
+pub answered_one : (op : ℕ) (a : Answer) (what : Order) (log : List Note) → has_answered op log ≡ false → (least : ℕ) (cs : List Command)
+    → IsRising least (map (λ c. c.op) cs) → option_map (λ c. c.what) (find (λ c. c.op == op) cs) ≡ Some what
+    → answered_in cs (log ++ note.Answered op a ∷ []) ≡ answered_in cs log + 1
 answered_one op a what log none least [] h is = cc
-answered_one op a what log none least (c ∷ cs) h is = elim (c.op == op) as (λ b. (c.op == op) ≡ b → option_map (λ x. x.what) (if b then Some c else find (λ x. x.op == op) cs) ≡ Some what → answered_in (c ∷ cs) (log ++ note.Answered op a ∷ []) ≡ answered_in (c ∷ cs) log + 1) [
-  | true ↦ λ on _.
-      let same : op ≡ c.op = sym ((Decides-eqb c.op op).0 on) in
-      let self : (op == c.op) ≡ true = grind (arith, nat_tests, same) in
-      let new : has_answered c.op (log ++ note.Answered op a ∷ []) ≡ true = has_answered-append c.op log (note.Answered op a ∷ []) ∙ ap (λ b. has_answered c.op log || (b || false)) self ∙ or-true (has_answered c.op log) in
-      let old : has_answered c.op log ≡ false = ap (λ k. has_answered k log) (sym same) ∙ none in
-      let one = ap flag new in
-      let zero = ap flag old in
-      let rest = answered_other op a log (suc c.op) cs (omega (arith, same)) h.1 in
-      omega (arith, one, zero, rest)
-  | false ↦ λ off found.
-      let apart : (op == c.op) ≡ false = grind (arith, nat_tests, off) in
-      let own = ap flag (answered_same c.op log (note.Answered op a ∷ []) (apart_answer op c.op a apart)) in
-      let rest = answered_one op a what log none (suc c.op) cs h.1 found in
-      omega (arith, own, rest)
-] refl is
+answered_one op a what log none least (c ∷ cs) h is =
+    elim (c.op == op) as (λ b. (c.op == op) ≡ b → option_map (λ x. x.what) (if b then Some c else find (λ x. x.op == op) cs) ≡ Some what
+    → answered_in (c ∷ cs) (log ++ note.Answered op a ∷ []) ≡ answered_in (c ∷ cs) log + 1) [
+      | true ↦ λ on _.
+          let same : op ≡ c.op = sym ((Decides-eqb c.op op).0 on) in
+          let self : (op == c.op) ≡ true = grind (arith, nat_tests, same) in
+          let new : has_answered c.op (log ++ note.Answered op a ∷ []) ≡ true = has_answered-append c.op log (note.Answered op a ∷ [])
+          ∙ ap (λ b. has_answered c.op log || (b || false)) self ∙ or-true (has_answered c.op log) in
+          let old : has_answered c.op log ≡ false = ap (λ k. has_answered k log) (sym same) ∙ none in
+          let one = ap flag new in
+          let zero = ap flag old in
+          let rest = answered_other op a log (suc c.op) cs (omega (arith, same)) h.1 in
+          omega (arith, one, zero, rest)
+      | false ↦ λ off found.
+          let apart : (op == c.op) ≡ false = grind (arith, nat_tests, off) in
+          let own = ap flag (answered_same c.op log (note.Answered op a ∷ []) (apart_answer op c.op a apart)) in
+          let rest = answered_one op a what log none (suc c.op) cs h.1 found in
+          omega (arith, own, rest)
+    ] refl is
 
 -- an order that is found is that of one of them
-pub found : (P : Command → Type 0) (op : ℕ) (what : Order) (cs : List Command) → Each P cs → option_map (λ c. c.what) (find (λ c. c.op == op) cs) ≡ Some what → (c : Command) × (c.op ≡ op) × P c
+pub found : (P : Command → Type 0) (op : ℕ) (what : Order) (cs : List Command) → Each P cs
+    → option_map (λ c. c.what) (find (λ c. c.op == op) cs) ≡ Some what → (c : Command) × (c.op ≡ op) × P c
 found P op what [] h is = cc
-found P op what (c ∷ cs) h is = elim (c.op == op) as (λ b. (c.op == op) ≡ b → option_map (λ x. x.what) (if b then Some c else find (λ x. x.op == op) cs) ≡ Some what → (x : Command) × (x.op ≡ op) × P x) [
-  | true ↦ λ on _. (c, (Decides-eqb c.op op).0 on, h.0)
-  | false ↦ λ _ behind. found P op what cs h.1 behind
-] refl is
+found P op what (c ∷ cs) h is = elim (c.op == op) as (λ b. (c.op == op) ≡ b
+    → option_map (λ x. x.what) (if b then Some c else find (λ x. x.op == op) cs) ≡ Some what → (x : Command) × (x.op ≡ op) × P x) [
+      | true ↦ λ on _. (c, (Decides-eqb c.op op).0 on, h.0)
+      | false ↦ λ _ behind. found P op what cs h.1 behind
+    ] refl is
 
 -- numbers of commands among messages
 pub low_commands : (P : ℕ → Type 0) (ms : List Msg) → Each P (picked told_in ms) → Each (λ c. P c.op) (commands ms)

@@ -1,10 +1,11 @@
 -- Of every run: what is processed came before, and where a packet behind a settle arrives, all commands before the settle are answered.
-use Rattle.std.proofs.Common.{◌≡◌, ℕ, zero, suc, ◌+◌, ◌≤◌, Bool, true, false, Some, List, [], ◌∷◌, ◌++◌, map, length, length-append, append_assoc, refl, sym, ap, ◌∙◌, subst, arith}
+use Rattle.std.proofs.Common.{◌≡◌, ℕ, zero, suc, ◌+◌, ◌≤◌, Bool, true, false, Some, List, [], ◌∷◌, ◌++◌}
+use Rattle.std.proofs.Common.{map, length, length-append, append_assoc, refl, sym, ap, ◌∙◌, subst, arith}
 use Rattle.std.specs.Prelude.{if◌then◌else◌, ◌==◌, nat_lt, find, is_some}
 use Rattle.std.specs.declared.alloc.Global.{Global}
 use Rattle.std.proofs.lemmas.Bool.Decides.{nat_tests, Decides-ltb, Decides-eqb}
 use Rattle.std.proofs.lemmas.List.{map-append}
-use Rattle.unit_machine.proofs.Labels.{each_map}
+use Rattle.proof_machines.proofs.unit.Labels.{each_map}
 use Rattle.flow_filter.specs.declared.packet.Packet.{Packet}
 use Rattle.nf_function.specs.declared.output.Output.{Output}
 use Rattle.nf_function.specs.declared.unit.Unit as units
@@ -17,7 +18,7 @@ use Rattle.nf_msgs.specs.declared.msg.Msg.TheVariants as msg
 use Rattle.nf_msgs.specs.declared.note.Note.{Note}
 use Rattle.nf_msgs.specs.declared.note.Note.TheVariants as note
 use Rattle.actor_net.specs.declared.choice.Choice.{Choice}
-use Rattle.actor_net.specs.Network.{Network, Stepped, IsRun, run, taken, waiting}
+use Rattle.actor_net.specs.Network.{Network, Stepped, IsRun, run, world_next, queue_at}
 use Rattle.actor_net.proofs.EnabledChoices.{at}
 use Rattle.actor_net.proofs.OpeningWorlds.{opening_waiting, opening_weight}
 use Rattle.actor_net.proofs.RunInduction.{Taking}
@@ -29,90 +30,86 @@ use Rattle.net_world.specs.declared.config.Config.{Config}
 use Rattle.net_world.specs.declared.node.Node.{Node}
 use Rattle.net_world.specs.Commands.{has_answered}
 use Rattle.net_world.specs.Input.{packets, commands, IsInput}
-use Rattle.net_world.specs.Log.{arrived, done, done_of}
+use Rattle.net_world.specs.Log.{arrivals_in, dones_in, done_where}
 use Rattle.net_world.specs.Nodes.{node_step, node_ready}
 use Rattle.net_world.specs.Places.{unit_numbered}
-use Rattle.net_world.specs.Fold.{times, is_of, went}
+use Rattle.net_world.specs.Fold.{times, is_of, processed_of}
 use Rattle.net_world.specs.Settles.{has_packet}
 use Rattle.net_world.specs.Start.{first_nodes, first_switch}
-use Rattle.answer_net.proofs.AnswerSends.{answering}
-use Rattle.answer_net.proofs.ArrivalLemmas.{numbers, InRun, next_in_run, runs_joined}
-use Rattle.answer_net.proofs.ArrivalNotes.{controller_notes_none, instance_notes_none}
-use Rattle.answer_net.proofs.BusyLemmas.{answered_same, other_not_answered}
-use Rattle.answer_net.proofs.BusyNodes.{switch_hands}
-use Rattle.answer_net.proofs.BusyRuns.{Busy, busy_next}
-use Rattle.answer_net.proofs.CommandPromises.{run_busy}
-use Rattle.whole_joined.proofs.BesideRuns.{its_takes, its_label, its_labels, its_input}
-use Rattle.whole_joined.proofs.Given.{Given}
-use Rattle.whole_joined.proofs.Joined.{Joined, Label, node_of}
-use Rattle.whole_joined.proofs.LogLemmas.{arrived-append}
-use Rattle.whole_joined.proofs.NodeSteps.{Wants, node_leads}
-use Rattle.whole_joined.proofs.JoinedSteps.{ready_at}
-use Rattle.whole_joined.proofs.OwnerLemmas.{Stands, In_first, In_second, stands}
-use Rattle.whole_joined.proofs.PlaceNotes.{switch_unprocessed, controller_uninstalled, uninstalled_unprocessed}
-use Rattle.whole_joined.proofs.RunsJoined.{once, times-append}
-use Rattle.whole_joined.proofs.StartJoined.{given, all_fit, all_labelled, count_at_start}
-use Rattle.path_net.proofs.PathPromises.{rising_once}
+use Rattle.net_world.proofs.LogLemmas.{arrived-append}
+use Rattle.net_world.proofs.NumberCounts.{times-append}
+use Rattle.nf_net.proofs.answers.AnswerSends.{answering}
+use Rattle.nf_net.proofs.answers.ArrivalLemmas.{numbers, InRun, next_in_run, runs_joined}
+use Rattle.nf_net.proofs.answers.ArrivalNotes.{controller_notes_none, instance_notes_none}
+use Rattle.nf_net.proofs.answers.BusyLemmas.{answered_same, other_not_answered}
+use Rattle.nf_net.proofs.answers.BusyNodes.{switch_hands}
+use Rattle.nf_net.proofs.answers.BusyRuns.{Busy, busy_next}
+use Rattle.nf_net.proofs.answers.CommandPromises.{run_busy}
+use Rattle.proof_outlines.proofs.joined.BesideRuns.{its_takes, its_label, its_labels, its_input}
+use Rattle.proof_outlines.proofs.joined.Given.{Given}
+use Rattle.proof_outlines.proofs.joined.Joined.{Joined, Label, node_of}
+use Rattle.proof_outlines.proofs.joined.NodeSteps.{Wants, node_leads}
+use Rattle.proof_outlines.proofs.joined.JoinedSteps.{ready_at}
+use Rattle.proof_outlines.proofs.joined.OwnerLemmas.{Stands, In_first, In_second, stands}
+use Rattle.proof_outlines.proofs.joined.PlaceNotes.{switch_unprocessed, controller_uninstalled, uninstalled_unprocessed}
+use Rattle.proof_outlines.proofs.joined.RunsJoined.{once}
+use Rattle.proof_outlines.proofs.joined.StartJoined.{given, all_fit, all_labelled, count_at_start}
+use Rattle.nf_net.proofs.paths.PathPromises.{rising_once}
 use Rattle.nf_net.proofs.AtMembers.{times_those}
 use Rattle.nf_net.proofs.PlaceRuns.{processed_off}
 use Rattle.nf_net.proofs.RunKeeps.{start, count, run_keeps}
 use Rattle.nf_net.proofs.SettleCounts.{AllAnswered, answered_in, all_answered_more, packets-append, longer_end}
-use Rattle.nf_net.proofs.SettleSteps.{Counted, items_none, counted_after}
+use Rattle.nf_net.proofs.SettleSteps.{Counted, items_none}
+use Rattle.nf_net.proofs.CountedSteps.{counted_after}
 
 -- a packet among items is one of their numbers
 has_times : (p : ℕ) (qs : List Packet) → is_some (find (λ q. q.number == p) qs) ≡ true → 1 ≤ times p (map (λ q. q.number) qs)
 has_times p [] h = cc
-has_times p (q ∷ qs) h = elim (q.number == p) as (λ b. (q.number == p) ≡ b → is_some (if b then Some q else find (λ x. x.number == p) qs) ≡ true → 1 ≤ (if p == q.number then 1 else 0) + times p (map (λ x. x.number) qs)) [
-  | true ↦ λ on _. (let self : (p == q.number) ≡ true = grind (arith, nat_tests, on) in rw self (omega arith))
-  | false ↦ λ _ behind. (let rest = has_times p qs behind in omega (arith, rest))
-] refl h
+has_times p (q ∷ qs) h = elim (q.number == p) as (λ b. (q.number == p) ≡ b → is_some (if b then Some q else find (λ x. x.number == p) qs) ≡ true
+    → 1 ≤ (if p == q.number then 1 else 0) + times p (map (λ x. x.number) qs)) [
+      | true ↦ λ on _. (let self : (p == q.number) ≡ true = grind (arith, nat_tests, on) in rw self (omega arith))
+      | false ↦ λ _ behind. (let rest = has_times p qs behind in omega (arith, rest))
+    ] refl h
 
 -- what was processed went
-some_went : (mine : ℕ → Bool) (p i : ℕ) (output : Output) (after : List Note) → mine p ≡ true → (before : List Note) → 1 ≤ times p (map (λ d. d.number) (done_of mine (done (before ++ note.Processed p i output ∷ after))))
+some_went : (mine : ℕ → Bool) (p i : ℕ) (output : Output) (after : List Note) → mine p ≡ true → (before : List Note)
+    → 1 ≤ times p (map (λ d. d.number) (done_where mine (dones_in (before ++ note.Processed p i output ∷ after))))
 some_went mine p i output after own [] = let self : (p == p) ≡ true = grind (arith, nat_tests) in rw (own, self) (omega arith)
-some_went mine p i output after own (note.Processed q k o ∷ before) = elim (mine q) as (λ b. 1 ≤ times p (map (λ d. d.number) (if b then record { number = q; node = k + 2; output = o } ∷ done_of mine (done (before ++ note.Processed p i output ∷ after)) else done_of mine (done (before ++ note.Processed p i output ∷ after))))) [
-  | true ↦ (let rest = some_went mine p i output after own before in omega (arith, rest))
-  | false ↦ some_went mine p i output after own before
-]
-some_went mine p i output after own (note.Arrived k ∷ before) = some_went mine p i output after own before
-some_went mine p i output after own (note.Begun op ∷ before) = some_went mine p i output after own before
-some_went mine p i output after own (note.Exported k op us ∷ before) = some_went mine p i output after own before
-some_went mine p i output after own (note.Imported k op us ∷ before) = some_went mine p i output after own before
-some_went mine p i output after own (note.Kept k op us ∷ before) = some_went mine p i output after own before
-some_went mine p i output after own (note.Installed op ∷ before) = some_went mine p i output after own before
-some_went mine p i output after own (note.Answered op a ∷ before) = some_went mine p i output after own before
+some_went mine p i output after own (note.Processed q k o ∷ before) = elim (mine q) as (λ b. 1 ≤ times p (map (λ d. d.number)
+    (if b then record { number = q; instance = k; output = o } ∷ done_where mine (dones_in (before ++ note.Processed p i output ∷ after))
+    else done_where mine (dones_in (before ++ note.Processed p i output ∷ after))))) [
+      | true ↦ (let rest = some_went mine p i output after own before in omega (arith, rest))
+      | false ↦ some_went mine p i output after own before
+    ]
+some_went mine p i output after own (n ∷ before) = some_went mine p i output after own before
 
 -- a packet that arrived
-pub record Arrived_in (log : List Note) (p : ℕ) : Type 0 where
+pub record ArrivedIn (log : List Note) (p : ℕ) : Type 0 where
   pub first : List Note
   pub rest : List Note
   pub whole : log ≡ first ++ note.Arrived p ∷ rest
 
-behind_note : (n : Note) (log : List Note) (p : ℕ) → Arrived_in log p → Arrived_in (n ∷ log) p
+behind_note : (n : Note) (log : List Note) (p : ℕ) → ArrivedIn log p → ArrivedIn (n ∷ log) p
 behind_note n log p r = record { first = n ∷ r.first; rest = r.rest; whole = ap (λ v. n ∷ v) r.whole }
 
-pub arrived_in : (log : List Note) (p : ℕ) → 1 ≤ times p (arrived log) → Arrived_in log p
+pub arrived_in : (log : List Note) (p : ℕ) → 1 ≤ times p (arrivals_in log) → ArrivedIn log p
 arrived_in [] p some = absurd (omega (arith, some))
-arrived_in (note.Arrived k ∷ log) p some = elim (p == k) as (λ b. (p == k) ≡ b → 1 ≤ (if b then 1 else 0) + times p (arrived log) → Arrived_in (note.Arrived k ∷ log) p) [
-  | true ↦ λ on _. record { first = []; rest = log; whole = ap (λ q. note.Arrived q ∷ log) (sym ((Decides-eqb p k).0 on)) }
-  | false ↦ λ _ more. behind_note (note.Arrived k) log p (arrived_in log p (omega (arith, more)))
-] refl some
-arrived_in (note.Processed k instance output ∷ log) p some = behind_note (note.Processed k instance output) log p (arrived_in log p some)
-arrived_in (note.Begun op ∷ log) p some = behind_note (note.Begun op) log p (arrived_in log p some)
-arrived_in (note.Exported instance op us ∷ log) p some = behind_note (note.Exported instance op us) log p (arrived_in log p some)
-arrived_in (note.Imported instance op us ∷ log) p some = behind_note (note.Imported instance op us) log p (arrived_in log p some)
-arrived_in (note.Kept instance op us ∷ log) p some = behind_note (note.Kept instance op us) log p (arrived_in log p some)
-arrived_in (note.Installed op ∷ log) p some = behind_note (note.Installed op) log p (arrived_in log p some)
-arrived_in (note.Answered op a ∷ log) p some = behind_note (note.Answered op a) log p (arrived_in log p some)
+arrived_in (note.Arrived k ∷ log) p some =
+    elim (p == k) as (λ b. (p == k) ≡ b → 1 ≤ (if b then 1 else 0) + times p (arrivals_in log) → ArrivedIn (note.Arrived k ∷ log) p) [
+      | true ↦ λ on _. record { first = []; rest = log; whole = ap (λ q. note.Arrived q ∷ log) (sym ((Decides-eqb p k).0 on)) }
+      | false ↦ λ _ more. behind_note (note.Arrived k) log p (arrived_in log p (omega (arith, more)))
+    ] refl some
+arrived_in (n ∷ log) p some = behind_note n log p (arrived_in log p some)
 
-arrived_there : (first rest : List Note) (p : ℕ) → 1 ≤ times p (arrived (first ++ note.Arrived p ∷ rest))
+arrived_there : (first rest : List Note) (p : ℕ) → 1 ≤ times p (arrivals_in (first ++ note.Arrived p ∷ rest))
 arrived_there first rest p =
     let self : (p == p) ≡ true = grind (arith, nat_tests) in
-    let all = ap (times p) (arrived-append first (note.Arrived p ∷ rest)) ∙ times-append p (arrived first) (arrived (note.Arrived p ∷ rest)) in
-    let one : times p (arrived (note.Arrived p ∷ rest)) ≡ 1 + times p (arrived rest) = rw self refl in
+    let all = ap (times p) (arrived-append first (note.Arrived p ∷ rest)) ∙ times-append p (arrivals_in first) (arrivals_in (note.Arrived p ∷ rest)) in
+    let one : times p (arrivals_in (note.Arrived p ∷ rest)) ≡ 1 + times p (arrivals_in rest) = rw self refl in
     omega (arith, all, one)
 
-module _ (F : Type 0) {R : Type 0} (f : Semantics R) (laws : FunctionLaws f) (alloc : Global) (c : Config) (items : List Msg) (is : IsInput f.kind c items) where
+module _ (F : Type 0) {R : Type 0} (f : Semantics R) (laws : FunctionLaws f) (alloc : Global) (c : Config) (items : List Msg)
+    (is : IsInput f.kind c items) where
   abbrev g : Given
   g = given f c items is
 
@@ -126,57 +123,69 @@ module _ (F : Type 0) {R : Type 0} (f : Semantics R) (laws : FunctionLaws f) (al
   at_start = start F f laws alloc c items is
 
   -- what is processed came before
-  abbrev pub Came_first : List Note → Type 0
-  Came_first log = (before after : List Note) (p i : ℕ) (output : Output) → log ≡ before ++ note.Processed p i output ∷ after → 1 ≤ times p (arrived before)
+  abbrev pub CameFirst : List Note → Type 0
+  CameFirst log = (before after : List Note) (p i : ℕ) (output : Output) → log ≡ before ++ note.Processed p i output ∷ after → 1 ≤ times p (arrivals_in before)
 
   -- where a packet behind a settle arrives, what stands before the settle is answered
-  abbrev pub Answered_before : List Note → Type 0
-  Answered_before log = (front behind : List Msg) → items ≡ front ++ msg.InSettle ∷ behind → (before after : List Note) (p : ℕ) → has_packet p behind ≡ true → log ≡ before ++ note.Arrived p ∷ after → AllAnswered (commands front) before
+  abbrev pub AnsweredBefore : List Note → Type 0
+  AnsweredBefore log = (front behind : List Msg) → items ≡ front ++ msg.InSettle ∷ behind → (before after : List Note) (p : ℕ) → has_packet p behind ≡ true
+      → log ≡ before ++ note.Arrived p ∷ after → AllAnswered (commands front) before
 
-  came_more : (log notes : List Note) → Came_first log → ((before after : List Note) (p i : ℕ) (output : Output) → notes ≡ before ++ note.Processed p i output ∷ after → 1 ≤ times p (arrived log)) → Came_first (log ++ notes)
+  came_more : (log notes : List Note) → CameFirst log
+      → ((before after : List Note) (p i : ℕ) (output : Output) → notes ≡ before ++ note.Processed p i output ∷ after → 1 ≤ times p (arrivals_in log))
+      → CameFirst (log ++ notes)
   came_more log notes old new before after p i output e = by_place (stands log notes before (note.Processed p i output) after e)
     where
-      by_place : Stands log notes (record { before = before; item = note.Processed p i output; after = after }) → 1 ≤ times p (arrived before)
+      by_place : Stands log notes (record { before = before; item = note.Processed p i output; after = after }) → 1 ≤ times p (arrivals_in before)
       by_place (In_first cs here) = old before cs p i output here
       by_place (In_second cs from there) =
           let some = new cs after p i output there in
-          let all = ap (λ l. times p (arrived l)) from ∙ ap (times p) (arrived-append log cs) ∙ times-append p (arrived log) (arrived cs) in
+          let all = ap (λ l. times p (arrivals_in l)) from ∙ ap (times p) (arrived-append log cs) ∙ times-append p (arrivals_in log) (arrivals_in cs) in
           omega (arith, some, all)
 
-  answered_later : (log notes : List Note) → Answered_before log → ((front behind : List Msg) → items ≡ front ++ msg.InSettle ∷ behind → (before after : List Note) (p : ℕ) → has_packet p behind ≡ true → notes ≡ before ++ note.Arrived p ∷ after → AllAnswered (commands front) log) → Answered_before (log ++ notes)
+  answered_later : (log notes : List Note) → AnsweredBefore log → ((front behind : List Msg) → items ≡ front ++ msg.InSettle ∷ behind
+      → (before after : List Note) (p : ℕ) → has_packet p behind ≡ true → notes ≡ before ++ note.Arrived p ∷ after → AllAnswered (commands front) log)
+      → AnsweredBefore (log ++ notes)
   answered_later log notes old new front behind whole before after p has e = by_place (stands log notes before (note.Arrived p) after e)
     where
       by_place : Stands log notes (record { before = before; item = note.Arrived p; after = after }) → AllAnswered (commands front) before
       by_place (In_first cs here) = old front behind whole before cs p has here
-      by_place (In_second cs from there) = subst (AllAnswered (commands front)) (sym from) (all_answered_more (commands front) log cs (new front behind whole cs after p has there))
+      by_place (In_second cs from there) =
+          subst (AllAnswered (commands front)) (sym from) (all_answered_more (commands front) log cs (new front behind whole cs after p has there))
 
   -- what a run keeps
   pub record Keeps (w : Network (Node F R) Msg Note) : Type 0 where
     pub counted : Counted items w
-    pub came : Came_first w.log
-    pub answered : Answered_before w.log
+    pub came : CameFirst w.log
+    pub answered : AnsweredBefore w.log
 
   -- a packet behind a settle that arrived came after it
-  taken_then : (w : Network (Node F R) Msg Note) → arrived w.log ++ numbers (waiting w (at 0 0)) ≡ numbers items → Counted items w → (front behind : List Msg) (p : ℕ) → items ≡ front ++ msg.InSettle ∷ behind → has_packet p behind ≡ true → 1 ≤ times p (arrived w.log) → length (waiting w (at 0 0)) ≤ length behind
-  taken_then w in_turn counted front behind p whole has came = elim (nat_lt (length behind) (length (waiting w (at 0 0)))) as (λ t. nat_lt (length behind) (length (waiting w (at 0 0))) ≡ t → length (waiting w (at 0 0)) ≤ length behind) [
-    | true ↦ λ on.
-        let more = (Decides-ltb (length behind) (length (waiting w (at 0 0)))).0 on in
-        let ends = longer_end counted.took (waiting w (at 0 0)) front (msg.InSettle ∷ behind) (sym counted.whole ∙ whole) (omega (arith, more)) in
-        let all : times p (numbers (waiting w (at 0 0))) ≡ times p (numbers ends.0) + times p (numbers behind) = ap (λ ms. times p (numbers ms)) ends.1 ∙ ap (λ ps. times p (map (λ q. q.number) ps)) (packets-append ends.0 (msg.InSettle ∷ behind)) ∙ ap (times p) (map-append (λ q. q.number) (packets ends.0) (packets behind)) ∙ times-append p (numbers ends.0) (numbers behind) in
-        let turn = ap (times p) (sym in_turn) ∙ times-append p (arrived w.log) (numbers (waiting w (at 0 0))) in
-        let one = rising_once p 0 (numbers items) is.numbers in
-        let some = has_times p (packets behind) has in
-        absurd (omega (arith, all, turn, one, some, came))
-    | false ↦ λ off. grind (arith, nat_tests, off)
-  ] refl
+  taken_then : (w : Network (Node F R) Msg Note) → arrivals_in w.log ++ numbers (queue_at w (at 0 0)) ≡ numbers items → Counted items w
+      → (front behind : List Msg) (p : ℕ) → items ≡ front ++ msg.InSettle ∷ behind → has_packet p behind ≡ true → 1 ≤ times p (arrivals_in w.log)
+      → length (queue_at w (at 0 0)) ≤ length behind
+  taken_then w in_turn counted front behind p whole has came = elim (nat_lt (length behind) (length (queue_at w (at 0 0))))
+      as (λ t. nat_lt (length behind) (length (queue_at w (at 0 0))) ≡ t → length (queue_at w (at 0 0)) ≤ length behind) [
+        | true ↦ λ on.
+            let more = (Decides-ltb (length behind) (length (queue_at w (at 0 0)))).0 on in
+            let ends = longer_end counted.took (queue_at w (at 0 0)) front (msg.InSettle ∷ behind) (sym counted.whole ∙ whole) (omega (arith, more)) in
+            let all : times p (numbers (queue_at w (at 0 0))) ≡ times p (numbers ends.0) + times p (numbers behind) = ap (λ ms. times p (numbers ms)) ends.1
+            ∙ ap (λ ps. times p (map (λ q. q.number) ps)) (packets-append ends.0 (msg.InSettle ∷ behind))
+            ∙ ap (times p) (map-append (λ q. q.number) (packets ends.0) (packets behind)) ∙ times-append p (numbers ends.0) (numbers behind) in
+            let turn = ap (times p) (sym in_turn) ∙ times-append p (arrivals_in w.log) (numbers (queue_at w (at 0 0))) in
+            let one = rising_once p 0 (numbers items) is.numbers in
+            let some = has_times p (packets behind) has in
+            absurd (omega (arith, all, turn, one, some, came))
+        | false ↦ λ off. grind (arith, nat_tests, off)
+      ] refl
 
   -- a choice of a run
-  module _ (w : Network (Node F R) Msg Note) (d : Choice) (t : Taking node_ready step n w d) (r : InRun F f laws alloc c items is w) (b : Busy g w) (h : Keeps w) where
+  module _ (w : Network (Node F R) Msg Note) (d : Choice) (t : Taking node_ready step n w d) (r : InRun F f laws alloc c items is w) (b : Busy g w)
+      (h : Keeps w) where
     abbrev j : Joined f g n w
     j = r.joined
 
     abbrev v : Network (Node F R) Msg Note
-    v = taken step w d
+    v = world_next step w d
 
     next : InRun F f laws alloc c items is v
     next = next_in_run F f laws alloc c items is w d t r
@@ -200,48 +209,70 @@ module _ (F : Type 0) {R : Type 0} (f : Semantics R) (laws : FunctionLaws f) (al
     }) (busy_next f g n refl w d t j b)
 
     -- what an instance processes had arrived
-    came_before : (q i : ℕ) (output : Output) (before after : List Note) → its_notes ≡ before ++ note.Processed q i output ∷ after → arrived its_notes ≡ [] → 1 ≤ times q (arrived w.log)
+    came_before : (q i : ℕ) (output : Output) (before after : List Note) → its_notes ≡ before ++ note.Processed q i output ∷ after
+        → arrivals_in its_notes ≡ [] → 1 ≤ times q (arrivals_in w.log)
     came_before q i output before after e none =
         let u : units.Unit = unit_numbered c items f.kind q in
         let own : is_of f c items u q ≡ true = same_unit_equiv.refl u in
-        let log : v.log ≡ (w.log ++ before) ++ note.Processed q i output ∷ after = left ∙ ap (λ ns. w.log ++ ns) e ∙ sym (append_assoc w.log before (note.Processed q i output ∷ after)) in
-        let went_some : 1 ≤ times q (went f c items u v.log) = subst (λ l. 1 ≤ times q (went f c items u l)) (sym log) (some_went (is_of f c items u) q i output after own (w.log ++ before)) in
+        let log : v.log ≡ (w.log ++ before) ++ note.Processed q i output ∷ after = left ∙ ap (λ ns. w.log ++ ns) e
+        ∙ sym (append_assoc w.log before (note.Processed q i output ∷ after)) in
+        let went_some : 1 ≤ times q (processed_of f c items u v.log) = subst (λ l. 1 ≤ times q (processed_of f c items u l)) (sym log)
+        (some_went (is_of f c items u) q i output after own (w.log ++ before)) in
         let few = once f c items is n v next.joined u q in
-        let less = times_those (is_of f c items u) q (arrived v.log) in
-        let same : times q (arrived v.log) ≡ times q (arrived w.log) + 0 = ap (λ l. times q (arrived l)) left ∙ ap (times q) (arrived-append w.log its_notes) ∙ times-append q (arrived w.log) (arrived its_notes) ∙ ap (λ ps. times q (arrived w.log) + times q ps) none in
+        let less = times_those (is_of f c items u) q (arrivals_in v.log) in
+        let same : times q (arrivals_in v.log) ≡ times q (arrivals_in w.log) + 0 = ap (λ l. times q (arrivals_in l)) left
+        ∙ ap (times q) (arrived-append w.log its_notes) ∙ times-append q (arrivals_in w.log) (arrivals_in its_notes)
+        ∙ ap (λ ps. times q (arrivals_in w.log) + times q ps) none in
         omega (arith, went_some, few, less, same)
 
-    new_came : (k p : ℕ) (m : Msg) → d.node ≡ k → d.port ≡ p → t.message ≡ m → (before after : List Note) (q i : ℕ) (output : Output) → (step (node_of j.nodes k) p m).notes ≡ before ++ note.Processed q i output ∷ after → 1 ≤ times q (arrived w.log)
-    new_came zero p m dk dp tm before after q i output e = absurd (processed_off before after q i output (switch_step j.nodes.switch m).notes (switch_unprocessed j.nodes.switch m) e)
-    new_came (suc zero) p m dk dp tm before after q i output e = absurd (processed_off before after q i output (controller_step j.nodes.controller p m).notes (uninstalled_unprocessed _ (controller_uninstalled j.nodes.controller p m)) e)
+    new_came : (k p : ℕ) (m : Msg) → d.node ≡ k → d.port ≡ p → t.message ≡ m → (before after : List Note) (q i : ℕ) (output : Output)
+        → (step (node_of j.nodes k) p m).notes ≡ before ++ note.Processed q i output ∷ after → 1 ≤ times q (arrivals_in w.log)
+    new_came zero p m dk dp tm before after q i output e =
+        absurd (processed_off before after q i output (switch_step j.nodes.switch m).notes (switch_unprocessed j.nodes.switch m) e)
+    new_came (suc zero) p m dk dp tm before after q i output e = absurd (processed_off before after q i output
+        (controller_step j.nodes.controller p m).notes (uninstalled_unprocessed _ (controller_uninstalled j.nodes.controller p m)) e)
     new_came (suc (suc y)) p m dk dp tm before after q i output e =
-        let same : its_notes ≡ (step (node_of j.nodes (suc (suc y))) p m).notes = ap (λ x. (step (node_of j.nodes x) d.port t.message).notes) dk ∙ ap (λ x. (step (node_of j.nodes (suc (suc y))) x t.message).notes) dp ∙ ap (λ x. (step (node_of j.nodes (suc (suc y))) p x).notes) tm in
-        came_before q i output before after (same ∙ e) (ap arrived same ∙ instance_notes_none f (j.nodes.instance (suc (suc y))) m)
+        let same : its_notes ≡ (step (node_of j.nodes (suc (suc y))) p m).notes = ap (λ x. (step (node_of j.nodes x) d.port t.message).notes) dk
+        ∙ ap (λ x. (step (node_of j.nodes (suc (suc y))) x t.message).notes) dp ∙ ap (λ x. (step (node_of j.nodes (suc (suc y))) p x).notes) tm in
+        came_before q i output before after (same ∙ e) (ap arrivals_in same ∙ instance_notes_none f (j.nodes.instance (suc (suc y))) m)
 
     -- a packet that arrives came behind what was taken of the input
-    answered_now : (front behind : List Msg) → items ≡ front ++ msg.InSettle ∷ behind → (before after : List Note) (p : ℕ) → has_packet p behind ≡ true → its_notes ≡ before ++ note.Arrived p ∷ after → AllAnswered (commands front) v.log
+    answered_now : (front behind : List Msg) → items ≡ front ++ msg.InSettle ∷ behind → (before after : List Note) (p : ℕ) → has_packet p behind ≡ true
+        → its_notes ≡ before ++ note.Arrived p ∷ after → AllAnswered (commands front) v.log
     answered_now front behind whole before after p has e =
-        let log : v.log ≡ (w.log ++ before) ++ note.Arrived p ∷ after = left ∙ ap (λ ns. w.log ++ ns) e ∙ sym (append_assoc w.log before (note.Arrived p ∷ after)) in
-        let came : 1 ≤ times p (arrived v.log) = subst (λ l. 1 ≤ times p (arrived l)) (sym log) (arrived_there (w.log ++ before) after p) in
+        let log : v.log ≡ (w.log ++ before) ++ note.Arrived p ∷ after = left ∙ ap (λ ns. w.log ++ ns) e
+        ∙ sym (append_assoc w.log before (note.Arrived p ∷ after)) in
+        let came : 1 ≤ times p (arrivals_in v.log) = subst (λ l. 1 ≤ times p (arrivals_in l)) (sym log) (arrived_there (w.log ++ before) after p) in
         counted_next.settled front behind whole (taken_then v next.in_turn counted_next front behind p whole has came)
 
-    none_arrives : (before after : List Note) (p : ℕ) (ns : List Note) → ns ≡ before ++ note.Arrived p ∷ after → arrived ns ≡ [] → ⊥
-    none_arrives before after p ns e none = let some = arrived_there before after p in let same = ap (λ l. times p (arrived l)) (sym e) in let zero = ap (times p) none in omega (arith, some, same, zero)
+    none_arrives : (before after : List Note) (p : ℕ) (ns : List Note) → ns ≡ before ++ note.Arrived p ∷ after → arrivals_in ns ≡ [] → ⊥
+    none_arrives before after p ns e none =
+        let some = arrived_there before after p in
+        let same = ap (λ l. times p (arrivals_in l)) (sym e) in let zero = ap (times p) none in omega (arith, some, same, zero)
 
-    new_answered : (k p : ℕ) (m : Msg) → d.node ≡ k → d.port ≡ p → t.message ≡ m → Label f g p k m → (front behind : List Msg) → items ≡ front ++ msg.InSettle ∷ behind → (before after : List Note) (q : ℕ) → has_packet q behind ≡ true → (step (node_of j.nodes k) p m).notes ≡ before ++ note.Arrived q ∷ after → AllAnswered (commands front) w.log
+    new_answered : (k p : ℕ) (m : Msg) → d.node ≡ k → d.port ≡ p → t.message ≡ m → Label f g p k m → (front behind : List Msg)
+        → items ≡ front ++ msg.InSettle ∷ behind → (before after : List Note) (q : ℕ) → has_packet q behind ≡ true
+        → (step (node_of j.nodes k) p m).notes ≡ before ++ note.Arrived q ∷ after → AllAnswered (commands front) w.log
     new_answered zero p m dk dp tm label front behind whole before after q has e =
         let notes : List Note = (switch_step j.nodes.switch m).notes in
-        let same : its_notes ≡ notes = ap (λ x. (step (node_of j.nodes x) d.port t.message).notes) dk ∙ ap (λ x. (step (node_of j.nodes 0) x t.message).notes) dp ∙ ap (λ x. (step (node_of j.nodes 0) p x).notes) tm in
-        let all : AllAnswered (commands front) (w.log ++ notes) = subst (AllAnswered (commands front)) (left ∙ ap (λ ns. w.log ++ ns) same) (answered_now front behind whole before after q has (same ∙ e)) in
-        each_map {P = (λ x. has_answered x.op (w.log ++ notes) ≡ true)} {Q = (λ x. has_answered x.op w.log ≡ true)} (λ x on. sym (answered_same x.op w.log notes (other_not_answered x.op notes (switch_hands f g j.nodes.switch p m label).notes_are)) ∙ on) (commands front) all
-    new_answered (suc zero) p m dk dp tm label front behind whole before after q has e = absurd (none_arrives before after q (controller_step j.nodes.controller p m).notes e (controller_notes_none j.nodes.controller p m))
-    new_answered (suc (suc y)) p m dk dp tm label front behind whole before after q has e = absurd (none_arrives before after q (step (node_of j.nodes (suc (suc y))) p m).notes e (instance_notes_none f (j.nodes.instance (suc (suc y))) m))
+        let same : its_notes ≡ notes = ap (λ x. (step (node_of j.nodes x) d.port t.message).notes) dk
+        ∙ ap (λ x. (step (node_of j.nodes 0) x t.message).notes) dp ∙ ap (λ x. (step (node_of j.nodes 0) p x).notes) tm in
+        let all : AllAnswered (commands front) (w.log ++ notes) = subst (AllAnswered (commands front)) (left ∙ ap (λ ns. w.log ++ ns) same)
+        (answered_now front behind whole before after q has (same ∙ e)) in
+        each_map {P = (λ x. has_answered x.op (w.log ++ notes) ≡ true)} {Q = (λ x. has_answered x.op w.log ≡ true)}
+        (λ x on. sym (answered_same x.op w.log notes (other_not_answered x.op notes (switch_hands f g j.nodes.switch p m label).notes_are)) ∙ on)
+        (commands front) all
+    new_answered (suc zero) p m dk dp tm label front behind whole before after q has e =
+        absurd (none_arrives before after q (controller_step j.nodes.controller p m).notes e (controller_notes_none j.nodes.controller p m))
+    new_answered (suc (suc y)) p m dk dp tm label front behind whole before after q has e =
+        absurd (none_arrives before after q (step (node_of j.nodes (suc (suc y))) p m).notes e (instance_notes_none f (j.nodes.instance (suc (suc y))) m))
 
     next_keeps : Keeps v
     next_keeps = record {
       counted = counted_next;
-      came = subst Came_first (sym left) (came_more w.log its_notes h.came (new_came d.node d.port t.message refl refl refl));
-      answered = subst Answered_before (sym left) (answered_later w.log its_notes h.answered (new_answered d.node d.port t.message refl refl refl (its_label f laws g (all_fit f c items is) n refl w d t j r.beside)));
+      came = subst CameFirst (sym left) (came_more w.log its_notes h.came (new_came d.node d.port t.message refl refl refl));
+      answered = subst AnsweredBefore (sym left) (answered_later w.log its_notes h.answered
+          (new_answered d.node d.port t.message refl refl refl (its_label f laws g (all_fit f c items is) n refl w d t j r.beside)));
     }
 
   nowhere : (before after : List Note) (x : Note) → [] ≡ before ++ x ∷ after → ⊥
@@ -251,8 +282,9 @@ module _ (F : Type 0) {R : Type 0} (f : Semantics R) (laws : FunctionLaws f) (al
   start_keeps : Keeps at_start
   start_keeps =
       let count = count_at_start F f alloc c items is in
-      let waits : waiting at_start (at 0 0) ≡ items = opening_waiting Note (first_nodes {F = F} {R = R} alloc c) items (omega (arith, count)) 0 0 in
-      let weight : total answering at_start ≡ 0 = opening_weight Note (first_nodes {F = F} {R = R} alloc c) items answering ∙ items_none f g items (all_labelled f c items is) in
+      let waits : queue_at at_start (at 0 0) ≡ items = opening_waiting Note (first_nodes {F = F} {R = R} alloc c) items (omega (arith, count)) 0 0 in
+      let weight : total answering at_start ≡ 0 = opening_weight Note (first_nodes {F = F} {R = R} alloc c) items answering
+      ∙ items_none f g items (all_labelled f c items is) in
       record {
         counted = record {
           switch = first_switch c;
@@ -260,7 +292,8 @@ module _ (F : Type 0) {R : Type 0} (f : Semantics R) (laws : FunctionLaws f) (al
           took = [];
           whole = sym waits;
           balance = (let same = ap (λ ms. length (commands ms)) waits in let none = none_in (commands items) in omega (arith, same, none, weight));
-          settled = λ front behind whole short. (let same = ap length waits in let long = ap length whole ∙ length-append front (msg.InSettle ∷ behind) in absurd (omega (arith, same, long, short)));
+          settled = λ front behind whole short. (let same = ap length waits in
+              let long = ap length whole ∙ length-append front (msg.InSettle ∷ behind) in absurd (omega (arith, same, long, short)));
         };
         came = λ before after p i output e. absurd (nowhere before after (note.Processed p i output) e);
         answered = λ front behind whole before after p has e. absurd (nowhere before after (note.Arrived p) e);
@@ -271,4 +304,5 @@ module _ (F : Type 0) {R : Type 0} (f : Semantics R) (laws : FunctionLaws f) (al
       none_in (x ∷ cs) = let rest = none_in cs in omega (arith, rest)
 
   pub run_settles : (cs : List Choice) → IsRun node_ready step cs at_start → Keeps (run step cs at_start)
-  run_settles cs run_is = run_keeps F f laws alloc c items is Keeps start_keeps (λ ds ok d t k. next_keeps (run step ds at_start) d t (runs_joined F f laws alloc c items is ds ok) (run_busy F f laws alloc c items is ds ok).1 k) cs run_is
+  run_settles cs run_is = run_keeps F f laws alloc c items is Keeps start_keeps (λ ds ok d t k. next_keeps (run step ds at_start) d t
+      (runs_joined F f laws alloc c items is ds ok) (run_busy F f laws alloc c items is ds ok).1 k) cs run_is

@@ -16,29 +16,30 @@ use Rattle.nf_msgs.specs.declared.note.Note.{Note}
 use Rattle.nf_msgs.specs.declared.note.Note.TheVariants as note
 use Rattle.actor_net.specs.declared.choice.Choice.{Choice}
 use Rattle.actor_net.specs.Network.{Network, IsRun, run}
-use Rattle.unit_machine.proofs.Labels.{Each, each-append, each_map}
+use Rattle.proof_machines.proofs.unit.Labels.{Each, each-append, each_map}
 use Rattle.net_world.specs.declared.config.Config.{Config}
 use Rattle.net_world.specs.declared.node.Node.{Node}
-use Rattle.net_world.specs.Commands.{began, has_answered, is_busy, times_installed}
+use Rattle.net_world.specs.Commands.{is_begun, has_answered, is_busy, times_installed}
 use Rattle.net_world.specs.Input.{packet_numbered, commands, order_numbered, IsInput}
 use Rattle.net_world.specs.Jobs.{job_of}
-use Rattle.net_world.specs.Log.{installed}
+use Rattle.net_world.specs.Log.{installs_in}
 use Rattle.net_world.specs.Nodes.{node_step, node_ready}
-use Rattle.net_world.specs.Places.{first_owner, owner_after, members_after, is_home, owner, members, member_for, unit_numbered, goes_to, IsMoving, IsPlace, Owns, Is_destination, Is_member, ArePlaces}
+use Rattle.net_world.specs.Places.{first_owner, owner_after, members_after, is_home, owner, members, member_for}
+use Rattle.net_world.specs.Places.{unit_numbered, goes_to, IsMoving, IsPlace, Owns, Is_destination, Is_member, ArePlaces}
 use Rattle.net_world.specs.Settles.{IsAfterSettle, has_packet, NoneBegan, Settles}
-use Rattle.outline_net.proofs.StateOutline.{all_each}
-use Rattle.whole_joined.proofs.Given.{Given}
-use Rattle.whole_joined.proofs.LogLemmas.{has_begun-append}
-use Rattle.whole_joined.proofs.OwnerLemmas.{installed-append, Stands, In_first, In_second, stands}
-use Rattle.whole_joined.proofs.StartJoined.{given}
-use Rattle.answer_net.proofs.CommandPromises.{run_answers}
+use Rattle.net_world.proofs.LogLemmas.{has_begun-append, installed-append}
+use Rattle.proof_outlines.proofs.outline.StateOutline.{all_each}
+use Rattle.proof_outlines.proofs.joined.Given.{Given}
+use Rattle.proof_outlines.proofs.joined.OwnerLemmas.{Stands, In_first, In_second, stands}
+use Rattle.proof_outlines.proofs.joined.StartJoined.{given}
+use Rattle.nf_net.proofs.answers.CommandPromises.{run_answers}
 use Rattle.nf_net.proofs.AtMembers.{at_members}
 use Rattle.nf_net.proofs.InstalledShares.{IsInstalledShare, says_of_shares}
-use Rattle.nf_net.proofs.MemberLemmas.{IsSharedBy, shared_by, still_shared, Installed_in, installed_in, times_there}
+use Rattle.nf_net.proofs.MemberLemmas.{IsSharedBy, shared_by, still_shared, InstalledIn, installed_in, times_there}
 use Rattle.nf_net.proofs.NumberedUnits.{units_fit}
 use Rattle.nf_net.proofs.RunKeeps.{start}
 use Rattle.nf_net.proofs.SettleCounts.{AllAnswered, answered_more, all_answered_more, found, commands-append}
-use Rattle.nf_net.proofs.SettleKeeps.{Arrived_in, arrived_in, run_settles}
+use Rattle.nf_net.proofs.SettleKeeps.{ArrivedIn, arrived_in, run_settles}
 
 off_answered : (x y : Bool) → y ≡ true → x && not y ≡ false
 off_answered true y h = rw h refl
@@ -47,14 +48,17 @@ off_answered false y h = refl
 off_began : (x y : Bool) → x ≡ false → x && not y ≡ false
 off_began x y h = rw h refl
 
-module _ (F : Type 0) {R : Type 0} (f : Semantics R) (laws : FunctionLaws f) (alloc : Global) (c : Config) (items : List Msg) (is : IsInput f.kind c items) where
+module _ (F : Type 0) {R : Type 0} (f : Semantics R) (laws : FunctionLaws f) (alloc : Global) (c : Config) (items : List Msg)
+    (is : IsInput f.kind c items) where
   abbrev g : Given
   g = given f c items is
 
   abbrev at_start : Network (Node F R) Msg Note
   at_start = start F f laws alloc c items is
 
-  module _ (cs : List Choice) (run_is : IsRun node_ready (node_step f) cs at_start) (later : List Msg) (settle : IsAfterSettle items later) (before after : List Note) (p i : ℕ) (output : Output) (has : has_packet p later ≡ true) (e : (run (node_step f) cs at_start).log ≡ before ++ note.Processed p i output ∷ after) (none : NoneBegan later before) where
+  module _ (cs : List Choice) (run_is : IsRun node_ready (node_step f) cs at_start) (later : List Msg)
+      (settle : IsAfterSettle items later) (before after : List Note) (p i : ℕ) (output : Output) (has : has_packet p later ≡ true)
+      (e : (run (node_step f) cs at_start).log ≡ before ++ note.Processed p i output ∷ after) (none : NoneBegan later before) where
     abbrev u : units.Unit
     u = unit_numbered c items f.kind p
 
@@ -65,7 +69,7 @@ module _ (F : Type 0) {R : Type 0} (f : Semantics R) (laws : FunctionLaws f) (al
     log = (run (node_step f) cs at_start).log
 
     -- it arrived after the answers to what stands before the settle
-    arrival : Arrived_in before p
+    arrival : ArrivedIn before p
     arrival = arrived_in before p ((run_settles F f laws alloc c items is cs run_is).came before after p i output e)
 
     log_is : log ≡ arrival.first ++ note.Arrived p ∷ (arrival.rest ++ tail)
@@ -75,20 +79,24 @@ module _ (F : Type 0) {R : Type 0} (f : Semantics R) (laws : FunctionLaws f) (al
     answered = (run_settles F f laws alloc c items is cs run_is).answered settle.front later settle.whole arrival.first (arrival.rest ++ tail) p has log_is
 
     answered_there : AllAnswered (commands settle.front) before
-    answered_there = subst (AllAnswered (commands settle.front)) (sym arrival.whole) (all_answered_more (commands settle.front) arrival.first (note.Arrived p ∷ arrival.rest) answered)
+    answered_there = subst (AllAnswered (commands settle.front)) (sym arrival.whole)
+        (all_answered_more (commands settle.front) arrival.first (note.Arrived p ∷ arrival.rest) answered)
 
-    not_begun : Each (λ x. began x.op before ≡ false) (commands later)
-    not_begun = all_each (λ x. began x.op before ≡ false) (commands later) none
+    not_begun : Each (λ x. is_begun x.op before ≡ false) (commands later)
+    not_begun = all_each (λ x. is_begun x.op before ≡ false) (commands later) none
 
     -- a fact of each command, by whether it stands before the settle or after it
     each_command : (P : Command → Type 0) → Each P (commands settle.front) → Each P (commands later) → Each P (commands items)
-    each_command P a b = subst (λ xs. Each P xs) (sym (ap commands settle.whole ∙ commands-append settle.front (msg.InSettle ∷ later))) (each-append P (commands settle.front) (commands later) a b)
+    each_command P a b = subst (λ xs. Each P xs) (sym (ap commands settle.whole ∙ commands-append settle.front (msg.InSettle ∷ later)))
+        (each-append P (commands settle.front) (commands later) a b)
 
     -- no move is under way
     none_busy : Each (λ x. is_busy x.op before ≡ false) (commands items)
     none_busy = each_command (λ x. is_busy x.op before ≡ false)
-        (each_map {P = (λ x. has_answered x.op before ≡ true)} {Q = (λ x. is_busy x.op before ≡ false)} (λ x h. off_answered (began x.op before) (has_answered x.op before) h) (commands settle.front) answered_there)
-        (each_map {P = (λ x. began x.op before ≡ false)} {Q = (λ x. is_busy x.op before ≡ false)} (λ x h. off_began (began x.op before) (has_answered x.op before) h) (commands later) not_begun)
+        (each_map {P = (λ x. has_answered x.op before ≡ true)} {Q = (λ x. is_busy x.op before ≡ false)}
+        (λ x h. off_answered (is_begun x.op before) (has_answered x.op before) h) (commands settle.front) answered_there)
+        (each_map {P = (λ x. is_begun x.op before ≡ false)} {Q = (λ x. is_busy x.op before ≡ false)}
+        (λ x h. off_began (is_begun x.op before) (has_answered x.op before) h) (commands later) not_begun)
 
     not_moving : IsMoving items u before → ⊥
     not_moving m =
@@ -97,58 +105,74 @@ module _ (F : Type 0) {R : Type 0} (f : Semantics R) (laws : FunctionLaws f) (al
         cc
 
     -- a command that began was answered before the packet arrived
-    begun_answered : Each (λ x. began x.op before ≡ true → has_answered x.op arrival.first ≡ true) (commands items)
-    begun_answered = each_command (λ x. began x.op before ≡ true → has_answered x.op arrival.first ≡ true)
-        (each_map {P = (λ x. has_answered x.op arrival.first ≡ true)} {Q = (λ x. began x.op before ≡ true → has_answered x.op arrival.first ≡ true)} (λ x h _. h) (commands settle.front) answered)
-        (each_map {P = (λ x. began x.op before ≡ false)} {Q = (λ x. began x.op before ≡ true → has_answered x.op arrival.first ≡ true)} (λ x off on. (let never : true ≡ false = sym on ∙ off in cc)) (commands later) not_begun)
+    begun_answered : Each (λ x. is_begun x.op before ≡ true → has_answered x.op arrival.first ≡ true) (commands items)
+    begun_answered = each_command (λ x. is_begun x.op before ≡ true → has_answered x.op arrival.first ≡ true)
+        (each_map {P = (λ x. has_answered x.op arrival.first ≡ true)} {Q = (λ x. is_begun x.op before ≡ true → has_answered x.op arrival.first ≡ true)}
+        (λ x h _. h) (commands settle.front) answered)
+        (each_map {P = (λ x. is_begun x.op before ≡ false)} {Q = (λ x. is_begun x.op before ≡ true → has_answered x.op arrival.first ≡ true)}
+        (λ x off on. (let never : true ≡ false = sym on ∙ off in cc)) (commands later) not_begun)
 
     -- So the share that has the unit had it when the packet arrived
     module _ (ms : List (List ℕ)) (shared : members c items u before ≡ Some ms) where
-      by : IsSharedBy g u (first_owner u c.routes) (installed before) ms
-      by = shared_by g u (first_owner u c.routes) (installed before) ms shared
+      by : IsSharedBy g u (first_owner u c.routes) (installs_in before) ms
+      by = shared_by g u (first_owner u c.routes) (installs_in before) ms shared
 
-      there : Installed_in before by.front by.op
+      there : InstalledIn before by.front by.op
       there = installed_in before by.front by.op by.back by.whole
 
       -- it was installed before
       had_before : (xs : List Note) → arrival.first ≡ there.first ++ note.Installed by.op ∷ xs → members c items u arrival.first ≡ Some ms
       had_before xs here =
-          ap (members_after c.names (order_numbered items) u (first_owner u c.routes)) (ap installed here ∙ installed-append there.first (note.Installed by.op ∷ xs) ∙ ap (λ v. v ++ by.op ∷ installed xs) there.before)
-          ∙ still_shared g u (first_owner u c.routes) by.op by.front (installed xs) ms by.unshared by.its
+          ap (members_after c.names (order_numbered items) u (first_owner u c.routes))
+          (ap installs_in here ∙ installed-append there.first (note.Installed by.op ∷ xs) ∙ ap (λ v. v ++ by.op ∷ installs_in xs) there.before)
+          ∙ still_shared g u (first_owner u c.routes) by.op by.front (installs_in xs) ms by.unshared by.its
 
       -- for after an answer it would be installed twice
       not_behind : (xs : List Note) → there.first ≡ arrival.first ++ xs → ⊥
       not_behind xs from =
-          let tail_is : log ≡ there.first ++ note.Installed by.op ∷ (there.rest ++ tail) = e ∙ ap (λ v. v ++ tail) there.whole ∙ append_assoc there.first (note.Installed by.op ∷ there.rest) tail in
-          let its : IsInstalledShare f c items there.first by.op ms by.its.filter = (says_of_shares F f laws alloc c items is cs run_is).installs there.first (there.rest ++ tail) by.op ms by.its.filter tail_is by.its.order_is in
-          let began_so : began by.op before ≡ true = ap (began by.op) there.whole ∙ has_begun-append (λ k. k == by.op) there.first (note.Installed by.op ∷ there.rest) ∙ or_left (began by.op there.first) (began by.op (note.Installed by.op ∷ there.rest)) its.begun in
-          let it = found (λ x. began x.op before ≡ true → has_answered x.op arrival.first ≡ true) by.op (order.Share ms by.its.filter) (commands items) begun_answered by.its.order_is in
-          let on : has_answered by.op arrival.first ≡ true = ap (λ k. has_answered k arrival.first) (sym it.1) ∙ it.2 (ap (λ k. began k before) it.1 ∙ began_so) in
+          let tail_is : log ≡ there.first ++ note.Installed by.op ∷ (there.rest ++ tail) = e ∙ ap (λ v. v ++ tail) there.whole
+          ∙ append_assoc there.first (note.Installed by.op ∷ there.rest) tail in
+          let its : IsInstalledShare f c items there.first by.op ms by.its.filter = (says_of_shares F f laws alloc c items is cs run_is).installs
+          there.first (there.rest ++ tail) by.op ms by.its.filter tail_is by.its.order_is in
+          let began_so : is_begun by.op before ≡ true = ap (is_begun by.op) there.whole ∙ has_begun-append (λ k. k == by.op) there.first
+          (note.Installed by.op ∷ there.rest) ∙ or_left (is_begun by.op there.first) (is_begun by.op (note.Installed by.op ∷ there.rest)) its.begun in
+          let it = found (λ x. is_begun x.op before ≡ true → has_answered x.op arrival.first ≡ true) by.op (order.Share ms by.its.filter) (commands items)
+          begun_answered by.its.order_is in
+          let on : has_answered by.op arrival.first ≡ true = ap (λ k. has_answered k arrival.first) (sym it.1)
+          ∙ it.2 (ap (λ k. is_begun k before) it.1 ∙ began_so) in
           let on_there : has_answered by.op there.first ≡ true = ap (has_answered by.op) from ∙ answered_more by.op arrival.first xs on in
-          let home : is_home c.names (order_numbered items) ms (owner c items u there.first) ≡ true = ap (λ ops. is_home c.names (order_numbered items) ms (owner_after c.names (order_numbered items) u (first_owner u c.routes) ops)) there.before ∙ by.its.home in
+          let home : is_home c.names (order_numbered items) ms (owner c items u there.first) ≡ true =
+          ap (λ ops. is_home c.names (order_numbered items) ms (owner_after c.names (order_numbered items) u (first_owner u c.routes) ops)) there.before
+          ∙ by.its.home in
           let one = its.set_up u (units_fit f c items is p) by.its.takes_it home on_there in
           let two = ap (times_installed by.op) tail_is ∙ times_there by.op there.first (there.rest ++ tail) in
           let most = (run_answers F f laws alloc c items is cs run_is).installed_once by.op in
           omega (arith, one, two, most)
 
       shared_then : members c items u arrival.first ≡ Some ms
-      shared_then = by_place (stands arrival.first (note.Arrived p ∷ arrival.rest) there.first (note.Installed by.op) there.rest (sym arrival.whole ∙ there.whole))
+      shared_then =
+          by_place (stands arrival.first (note.Arrived p ∷ arrival.rest) there.first (note.Installed by.op) there.rest (sym arrival.whole ∙ there.whole))
         where
-          by_place : Stands arrival.first (note.Arrived p ∷ arrival.rest) (record { before = there.first; item = note.Installed by.op; after = there.rest }) → members c items u arrival.first ≡ Some ms
+          by_place : Stands arrival.first (note.Arrived p ∷ arrival.rest) (record { before = there.first; item = note.Installed by.op; after = there.rest })
+              → members c items u arrival.first ≡ Some ms
           by_place (In_first xs here) = had_before xs here
           by_place (In_second xs from at) = absurd (not_behind xs from)
 
-    goes_by : (o : Option (List (List ℕ))) → members c items u before ≡ o → goes_to c items f.kind p before ≡ option_map_or (λ names. member_for c items names (packet_numbered items p)) o (Some (owner c items u before))
+    goes_by : (o : Option (List (List ℕ))) → members c items u before ≡ o
+        → goes_to c items f.kind p before ≡ option_map_or (λ names. member_for c items names (packet_numbered items p)) o (Some (owner c items u before))
     goes_by o at = ap (λ q. option_map_or (λ names. member_for c items names (packet_numbered items p)) q (Some (owner c items u before))) at
 
     owned : i ≡ owner c items u before → (o : Option (List (List ℕ))) → members c items u before ≡ o → goes_to c items f.kind p before ≡ Some i
     owned at None shared = goes_by None shared ∙ ap Some (sym at)
-    owned at (Some ms) shared = goes_by (Some ms) shared ∙ at_members F f laws alloc c items is cs run_is arrival.first arrival.rest after p i output ms log_is (shared_then ms shared)
+    owned at (Some ms) shared = goes_by (Some ms) shared
+        ∙ at_members F f laws alloc c items is cs run_is arrival.first arrival.rest after p i output ms log_is (shared_then ms shared)
 
     by_place : IsPlace (job_of f c items) p before i → goes_to c items f.kind p before ≡ Some i
     by_place (Owns at) = owned at (members c items u before) refl
     by_place (Is_destination m at) = absurd (not_moving m.moving)
     by_place (Is_member at) = at
 
-  pub settles : (cs : List Choice) → IsRun node_ready (node_step f) cs at_start → ArePlaces (job_of f c items) (run (node_step f) cs at_start).log → Settles c items f.kind (run (node_step f) cs at_start).log
-  settles cs run_is places later before after p i output settle has e none = by_place cs run_is later settle before after p i output has e none (places before after p i output e)
+  pub settles : (cs : List Choice) → IsRun node_ready (node_step f) cs at_start → ArePlaces (job_of f c items) (run (node_step f) cs at_start).log
+      → Settles c items f.kind (run (node_step f) cs at_start).log
+  settles cs run_is places later before after p i output settle has e none =
+      by_place cs run_is later settle before after p i output has e none (places before after p i output e)

@@ -12,12 +12,13 @@ use Rattle.nf_msgs.specs.declared.msg.Msg.TheVariants as msg
 use Rattle.nf_msgs.specs.Nodes.{switch_node, instance_node}
 use Rattle.copy_share.specs.declared.share_phase.SharePhase.{SharePhase}
 use Rattle.copy_share.specs.declared.share_phase.SharePhase.TheVariants as phase
-use Rattle.copy_share.specs.Share.{SharePlan, ShareRow, goes, home, others, syncs, setting, syncing, on_fenced, on_chunks, on_shared, on_synced, row, member_of, served}
+use Rattle.copy_share.specs.Share.{SharePlan, ShareRow, next_phase, home, others, syncs, setting, syncing}
+use Rattle.copy_share.specs.Share.{on_fenced, on_chunks, on_shared, on_synced, row, member_of, service_if_idle}
 use Rattle.ctrl_node.specs.Controller.{Step}
 use Rattle.actor_net.proofs.WeightLaws.{sent_weight}
-use Rattle.answer_net.proofs.CreditCounts.{sent_weight-append}
-use Rattle.answer_net.proofs.MoveOnce.{once, NoneOnce, no_more, no_one, at_most, few_counts}
-use Rattle.whole_outline.proofs.ShareLeft.{OpenAt, answered, ShareLeaves}
+use Rattle.nf_net.proofs.answers.CreditCounts.{sent_weight-append}
+use Rattle.nf_net.proofs.answers.MoveOnce.{once, NoneOnce, no_more, no_one, at_most, few_counts}
+use Rattle.proof_outlines.proofs.whole.ShareLeft.{OpenAt, answered, ShareLeaves}
 
 -- how often a share has asked in this phase
 abbrev pub asked : SharePhase → ℕ
@@ -41,21 +42,24 @@ module _ (n : ℕ) (first : Bool) (plan : SharePlan) where
   asks_none : (ph : SharePhase) (r : ShareRow) → asked ph ≤ asked r.phase → NoneOnce n 1 first r.sends → Asks ph r
   asks_none ph r more none = record { own = (let own = none plan.op in omega (arith, more, own)); other = λ op off. none op }
 
-  stays : (ph : SharePhase) → Asks ph (goes ph [])
-  stays ph = asks_none ph (goes ph []) (omega arith) (λ op. refl)
+  stays : (ph : SharePhase) → Asks ph (next_phase ph [])
+  stays ph = asks_none ph (next_phase ph []) (omega arith) (λ op. refl)
 
-  syncs_none : (chunks : List Chunk) (ms : List ℕ) → NoneOnce n 1 first (map (λ member. (instance_node member, msg.Sync (member == home plan) plan.op chunks)) ms)
+  syncs_none : (chunks : List Chunk) (ms : List ℕ)
+      → NoneOnce n 1 first (map (λ member. (instance_node member, msg.Sync (member == home plan) plan.op chunks)) ms)
   syncs_none chunks [] = λ op. refl
-  syncs_none chunks (m ∷ ms) = no_more n 1 first (instance_node m) (msg.Sync (m == home plan) plan.op chunks) (λ op. refl) (map (λ member. (instance_node member, msg.Sync (member == home plan) plan.op chunks)) ms) (syncs_none chunks ms)
+  syncs_none chunks (m ∷ ms) = no_more n 1 first (instance_node m) (msg.Sync (m == home plan) plan.op chunks) (λ op. refl)
+      (map (λ member. (instance_node member, msg.Sync (member == home plan) plan.op chunks)) ms) (syncs_none chunks ms)
 
   setting_asks : (ph : SharePhase) (left : ℕ) (sends : List (ℕ × Msg)) → NoneOnce n 1 first sends → Asks ph (setting left sends)
-  setting_asks ph left sends none = elim (left == 0) as (λ b. Asks ph (if b then record { phase = phase.Idle; sends = sends; answer = Some Done } else goes (phase.Setting left) sends)) [
-    | true ↦ asks_none ph _ (asked_few ph) none
-    | false ↦ asks_none ph _ (asked_few ph) none
-  ]
+  setting_asks ph left sends none = elim (left == 0)
+      as (λ b. Asks ph (if b then record { phase = phase.Idle; sends = sends; answer = Some Done } else next_phase (phase.Setting left) sends)) [
+        | true ↦ asks_none ph _ (asked_few ph) none
+        | false ↦ asks_none ph _ (asked_few ph) none
+      ]
 
   syncing_asks : (ph : SharePhase) (left : ℕ) (sends : List (ℕ × Msg)) → NoneOnce n 1 first sends → Asks ph (syncing left sends)
-  syncing_asks ph left sends none = elim (left == 0) as (λ b. Asks ph (goes (if b then phase.Idle else phase.Syncing left) sends)) [
+  syncing_asks ph left sends none = elim (left == 0) as (λ b. Asks ph (next_phase (if b then phase.Idle else phase.Syncing left) sends)) [
     | true ↦ asks_none ph _ (asked_few ph) none
     | false ↦ asks_none ph _ (asked_few ph) none
   ]
@@ -66,20 +70,24 @@ module _ (n : ℕ) (first : Bool) (plan : SharePlan) where
 
   fenced_asks : (ph : SharePhase) → Asks ph (on_fenced plan ph)
   fenced_asks phase.Fencing = record {
-    own = (let weighs = at_most n 1 first (instance_node (home plan)) (msg.Get plan.op plan.filter) plan.op in let few = few_counts (msg.Get plan.op plan.filter) first plan.op in omega (arith, weighs, few));
-    other = λ op off. (let weighs = at_most n 1 first (instance_node (home plan)) (msg.Get plan.op plan.filter) op in let none = get_other first op off in omega (arith, none, weighs));
+    own = (let weighs = at_most n 1 first (instance_node (home plan)) (msg.Get plan.op plan.filter) plan.op in
+        let few = few_counts (msg.Get plan.op plan.filter) first plan.op in omega (arith, weighs, few));
+    other = λ op off. (let weighs = at_most n 1 first (instance_node (home plan)) (msg.Get plan.op plan.filter) op in
+        let none = get_other first op off in omega (arith, none, weighs));
   }
   fenced_asks ph = stays ph
 
   chunks_asks : (ph : SharePhase) (chunks : List Chunk) → Asks ph (on_chunks plan ph chunks)
-  chunks_asks phase.Getting chunks = setting_asks phase.Getting (length (others plan (home plan))) (syncs plan (home plan) chunks) (syncs_none chunks (others plan (home plan)))
+  chunks_asks phase.Getting chunks =
+      setting_asks phase.Getting (length (others plan (home plan))) (syncs plan (home plan) chunks) (syncs_none chunks (others plan (home plan)))
   chunks_asks ph chunks = stays ph
 
   shared_asks : (ph : SharePhase) (sender : ℕ) (chunk : Chunk) → Asks ph (on_shared plan ph sender chunk)
-  shared_asks (phase.Out member) sender chunk = elim (sender == instance_node member) as (λ b. Asks (phase.Out member) (if b then syncing (length (others plan member)) (syncs plan member (chunk ∷ [])) else goes (phase.Out member) [])) [
-    | true ↦ syncing_asks (phase.Out member) (length (others plan member)) (syncs plan member (chunk ∷ [])) (syncs_none (chunk ∷ []) (others plan member))
-    | false ↦ stays (phase.Out member)
-  ]
+  shared_asks (phase.Out member) sender chunk = elim (sender == instance_node member) as (λ b. Asks (phase.Out member)
+      (if b then syncing (length (others plan member)) (syncs plan member (chunk ∷ [])) else next_phase (phase.Out member) [])) [
+        | true ↦ syncing_asks (phase.Out member) (length (others plan member)) (syncs plan member (chunk ∷ [])) (syncs_none (chunk ∷ []) (others plan member))
+        | false ↦ stays (phase.Out member)
+      ]
   shared_asks ph sender chunk = stays ph
 
   synced_asks : (ph : SharePhase) → Asks ph (on_synced ph)
@@ -87,7 +95,7 @@ module _ (n : ℕ) (first : Bool) (plan : SharePlan) where
   synced_asks (phase.Syncing left) = syncing_asks (phase.Syncing left) (left - 1) [] (λ op. refl)
   synced_asks ph = stays ph
 
-  either_asks : (b : Bool) (r : ShareRow) (ph : SharePhase) → Asks ph r → Asks ph (if b then r else goes ph [])
+  either_asks : (b : Bool) (r : ShareRow) (ph : SharePhase) → Asks ph r → Asks ph (if b then r else next_phase ph [])
   either_asks true r ph h = h
   either_asks false r ph h = stays ph
 
@@ -98,11 +106,11 @@ module _ (n : ℕ) (first : Bool) (plan : SharePlan) where
   row_asks ph sender (msg.Synced op) = synced_asks ph
   row_asks ph sender m = stays ph
 
-  pub none_asked : (ph : SharePhase) → Asks ph (goes ph [])
+  pub none_asked : (ph : SharePhase) → Asks ph (next_phase ph [])
   none_asked = stays
 
   -- what is served counts for nothing
-  served_same : (ph : SharePhase) (cells : List FullCell) → asked (served plan ph cells).phase ≡ asked ph
+  served_same : (ph : SharePhase) (cells : List FullCell) → asked (service_if_idle plan ph cells).phase ≡ asked ph
   served_same phase.Idle (cell ∷ cells) = refl
   served_same phase.Idle [] = refl
   served_same phase.Fencing cells = refl
@@ -111,8 +119,9 @@ module _ (n : ℕ) (first : Bool) (plan : SharePlan) where
   served_same (phase.Out member) cells = refl
   served_same (phase.Syncing left) cells = refl
 
-  served_none : (ph : SharePhase) (cells : List FullCell) → NoneOnce n 1 first (served plan ph cells).sends
-  served_none phase.Idle (cell ∷ cells) = no_one n 1 first switch_node (msg.Forward (member_of plan cell) (Shared plan.op (member_of plan cell == home plan)) cell) (λ op. refl)
+  served_none : (ph : SharePhase) (cells : List FullCell) → NoneOnce n 1 first (service_if_idle plan ph cells).sends
+  served_none phase.Idle (cell ∷ cells) =
+      no_one n 1 first switch_node (msg.Forward (member_of plan cell) (Shared plan.op (member_of plan cell == home plan)) cell) (λ op. refl)
   served_none phase.Idle [] = λ op. refl
   served_none phase.Fencing cells = λ op. refl
   served_none phase.Getting cells = λ op. refl
@@ -121,7 +130,8 @@ module _ (n : ℕ) (first : Bool) (plan : SharePlan) where
   served_none (phase.Syncing left) cells = λ op. refl
 
 -- A row of an open share, behind which it serves what it may.
-module _ (n : ℕ) (first : Bool) (x : OpenAt) (op_is : x.share.plan.op ≡ x.num) (r : ShareRow) (did : Step) (l : ShareLeaves x r did) (a : Asks n first x.share.plan x.share.phase r) where
+module _ (n : ℕ) (first : Bool) (x : OpenAt) (op_is : x.share.plan.op ≡ x.num) (r : ShareRow) (did : Step) (l : ShareLeaves x r did)
+    (a : Asks n first x.share.plan x.share.phase r) where
   answered_same : (op k : ℕ) (o : Option Answer) → sent_weight (once first k) n 1 (answered op o r.sends) ≡ sent_weight (once first k) n 1 r.sends
   answered_same op k None = refl
   answered_same op k (Some why) =
@@ -132,13 +142,13 @@ module _ (n : ℕ) (first : Bool) (x : OpenAt) (op_is : x.share.plan.op ≡ x.nu
   weight : (k : ℕ) → sent_weight (once first k) n 1 did.sends ≡ sent_weight (once first k) n 1 r.sends
   weight k =
       let all = ap (sent_weight (once first k) n 1) l.sends in
-      let both = sent_weight-append (once first k) n 1 (answered x.num r.answer r.sends) (served x.share.plan r.phase x.cells).sends in
+      let both = sent_weight-append (once first k) n 1 (answered x.num r.answer r.sends) (service_if_idle x.share.plan r.phase x.cells).sends in
       let own = answered_same x.num k r.answer in
       let none = served_none n first x.share.plan r.phase x.cells k in
       omega (arith, all, both, own, none)
 
   -- what it sends for its own command, and for another
-  pub leaves_own : sent_weight (once first x.num) n 1 did.sends + asked x.share.phase ≤ asked (served x.share.plan r.phase x.cells).phase
+  pub leaves_own : sent_weight (once first x.num) n 1 did.sends + asked x.share.phase ≤ asked (service_if_idle x.share.plan r.phase x.cells).phase
   leaves_own =
       let weighs = weight x.num in
       let own = subst (λ k. sent_weight (once first k) n 1 r.sends + asked x.share.phase ≤ asked r.phase) op_is a.own in

@@ -14,65 +14,71 @@ use Rattle.nf_msgs.specs.declared.note.Note.{Note}
 use Rattle.nf_msgs.specs.Nodes.{instance_node}
 use Rattle.actor_net.specs.declared.choice.Choice.{Choice}
 use Rattle.actor_net.specs.Network.{Network, IsRun, run}
-use Rattle.share_machine.proofs.Stages.{shape}
-use Rattle.abstract_net.proofs.ShareViews.{unit_share}
-use Rattle.abstract_net.proofs.Shares.{Open_share, Want_share}
-use Rattle.abstract_net.proofs.Under.{Under}
-use Rattle.abstract_net.proofs.UnderStarts.{seeing}
-use Rattle.whole_net.proofs.Readings.{Its_share, its_share}
+use Rattle.proof_machines.proofs.share.Stages.{shape}
+use Rattle.proof_machines.proofs.net.ShareViews.{unit_share}
+use Rattle.proof_machines.proofs.net.Shares.{OpenShare, WantShare}
+use Rattle.proof_machines.proofs.net.Under.{Under}
+use Rattle.proof_machines.proofs.net.UnderStarts.{seeing}
+use Rattle.proof_machines.proofs.whole.Readings.{ItsShare, its_share}
 use Rattle.net_world.specs.declared.config.Config.{Config}
 use Rattle.net_world.specs.declared.node.Node.{Node}
 use Rattle.net_world.specs.Fold.{is_of}
 use Rattle.net_world.specs.Input.{packet_numbered, IsInput}
 use Rattle.net_world.specs.Nodes.{node_step, node_ready}
 use Rattle.net_world.specs.Places.{owner, members, member_for, goes_to, unit_numbered}
-use Rattle.outline_net.proofs.FiltersApart.{is_whole, unit_fits}
-use Rattle.outline_net.proofs.Outline.{is_sys}
-use Rattle.whole_joined.proofs.Given.{Given}
-use Rattle.whole_joined.proofs.Joined.{S, A, Joined}
-use Rattle.whole_joined.proofs.OperationsApart.{AllApart}
-use Rattle.whole_joined.proofs.RunsJoined.{run_beside}
-use Rattle.whole_joined.proofs.StartJoined.{given}
-use Rattle.answer_net.proofs.BusyRuns.{Busy}
-use Rattle.answer_net.proofs.CommandPromises.{run_busy}
-use Rattle.answer_net.proofs.InstallRuns.{Installs, run_installs}
-use Rattle.path_net.proofs.SharedOwners.{HomesOwn}
+use Rattle.proof_outlines.proofs.outline.FiltersApart.{is_whole, unit_fits}
+use Rattle.proof_outlines.proofs.outline.Outline.{is_sys}
+use Rattle.proof_outlines.proofs.joined.Given.{Given}
+use Rattle.proof_outlines.proofs.joined.Joined.{S, A, Joined}
+use Rattle.proof_outlines.proofs.joined.OperationsApart.{AllApart}
+use Rattle.proof_outlines.proofs.joined.RunsJoined.{run_beside}
+use Rattle.proof_outlines.proofs.joined.StartJoined.{given}
+use Rattle.nf_net.proofs.answers.BusyRuns.{Busy}
+use Rattle.nf_net.proofs.answers.CommandPromises.{run_busy}
+use Rattle.nf_net.proofs.answers.InstallRuns.{Installs, run_installs}
+use Rattle.nf_net.proofs.paths.SharedOwners.{HomesOwn}
 use Rattle.nf_net.proofs.InstalledShares.{SaysOfShares, says_of_shares}
 use Rattle.nf_net.proofs.MemberLemmas.{IsThere, There}
 use Rattle.nf_net.proofs.RunKeeps.{start, count}
 use Rattle.nf_net.proofs.UnitShares.{share_of_unit, home_is, member_is, diverted_members, owner_goes}
 
-module _ {F R : Type 0} (f : Semantics R) (c : Config) (items : List Msg) (is : IsInput f.kind c items) (n : ℕ) (count_is : n ≡ length c.names + 2) (w : Network (Node F R) Msg Note) (j : Joined f (given f c items is) n w) (apart : AllApart j.nodes.controller.operations) (b : Busy (given f c items is) w) (h : Installs (given f c items is) w) (says : SaysOfShares f c items w.log) where
+module _ {F R : Type 0} (f : Semantics R) (c : Config) (items : List Msg) (is : IsInput f.kind c items) (n : ℕ) (count_is : n ≡ length c.names + 2)
+    (w : Network (Node F R) Msg Note) (j : Joined f (given f c items is) n w) (apart : AllApart j.nodes.controller.operations)
+    (b : Busy (given f c items is) w) (h : Installs (given f c items is) w) (says : SaysOfShares f c items w.log) where
   abbrev g : Given
   g = given f c items is
 
-  module _ (u : units.Unit) (fits : unit_fits f.kind u ≡ true) (e : Open_share) (its : Its_share (S f g) (A f g) (is_sys f g.site g.packet) u j.world e) where
+  module _ (u : units.Unit) (fits : unit_fits f.kind u ≡ true) (e : OpenShare) (its : ItsShare (S f g) (A f g) (is_sys f g.site g.packet) u j.world e) where
     pub home_owns : IsThere (members c items u w.log) → e.home ≡ instance_node (owner c items u w.log)
     home_owns (There names shared) =
         let r = share_of_unit f c items is n count_is w j apart b u fits h names shared in
-        home_is f c items is n count_is w j apart b u fits r.op names r.filter r.open_is r.takes_it e its (owner c items u w.log) (says.homes u fits names shared)
+        home_is f c items is n count_is w j apart b u fits r.op names r.filter r.open_is r.takes_it e its (owner c items u w.log)
+        (says.homes u fits names shared)
 
-    pub member_goes : (p i : ℕ) → unit_numbered c items f.kind p ≡ u → (A f g).member e.members p ≡ instance_node i → IsThere (members c items u w.log) → goes_to c items f.kind p w.log ≡ Some i
+    pub member_goes : (p i : ℕ) → unit_numbered c items f.kind p ≡ u → (A f g).member e.members p ≡ instance_node i → IsThere (members c items u w.log)
+        → goes_to c items f.kind p w.log ≡ Some i
     member_goes p i unit at (There names shared) =
         let r = share_of_unit f c items is n count_is w j apart b u fits h names shared in
-        let member : member_for c items names (packet_numbered items p) ≡ Some i = member_is f c items is n count_is w j apart b u fits r.op names r.filter r.open_is r.takes_it e its p i at in
+        let member : member_for c items names (packet_numbered items p) ≡ Some i = member_is f c items is n count_is w j apart b u fits r.op names r.filter
+        r.open_is r.takes_it e its p i at in
         ap (λ q. option_map_or (λ ns. member_for c items ns (packet_numbered items p)) (members c items q w.log) (Some (owner c items q w.log))) unit
         ∙ ap (λ o. option_map_or (λ ns. member_for c items ns (packet_numbered items p)) o (Some (owner c items u w.log))) shared
         ∙ member
 
   -- A unit under a share.
-  module _ (u : units.Unit) (x : Want_share) (before since : List ℕ) (k : Under (S f g) (A f g) (seeing (S f g) (A f g) u x) j.world before since) where
+  module _ (u : units.Unit) (x : WantShare) (before since : List ℕ) (k : Under (S f g) (A f g) (seeing (S f g) (A f g) u x) j.world before since) where
     abbrev diverts : Bool
     diverts = (shape (unit_share (S f g) (A f g) (seeing (S f g) (A f g) u x)) k.stage).diverts
 
-    abbrev e_here : Open_share
+    abbrev e_here : OpenShare
     e_here = its_share (S f g) (A f g) (is_sys f g.site g.packet) u j.world x before since k
 
-    its_here : Its_share (S f g) (A f g) (is_sys f g.site g.packet) u j.world e_here
+    its_here : ItsShare (S f g) (A f g) (is_sys f g.site g.packet) u j.world e_here
     its_here = record { found = k.holds.share; takes = k.covered; home_in = k.is.home_in }
 
     fits_here : unit_fits f.kind u ≡ true
-    fits_here = (and_parts (unit_fits f.kind u) (takes x.filter u) (and_parts (is_whole f.kind x.filter) (unit_fits f.kind u && takes x.filter u) k.covered).1).0
+    fits_here =
+        (and_parts (unit_fits f.kind u) (takes x.filter u) (and_parts (is_whole f.kind x.filter) (unit_fits f.kind u && takes x.filter u) k.covered).1).0
 
     target : (d : Bool) → diverts ≡ d → j.world.target u ≡ (if d then 1 else x.home)
     target d is_so = k.holds.target ∙ ap (λ t. if t then 1 else x.home) is_so
@@ -80,18 +86,24 @@ module _ {F R : Type 0} (f : Semantics R) (c : Config) (items : List Msg) (is : 
     home_owner : instance_node (owner c items u w.log) ≡ x.home
     home_owner = elim diverts as (λ t. diverts ≡ t → instance_node (owner c items u w.log) ≡ x.home) [
       | true ↦ λ on. sym (home_owns u fits_here e_here its_here (diverted_members f c items is n w j u fits_here (target true on)))
-      | false ↦ λ off. (let at = target false off in let two = k.insts x.home k.is.home_in in sym (owner_goes f c items is n w j u fits_here (omega (arith, at, two))) ∙ at)
+      | false ↦ λ off. (let at = target false off in
+          let two = k.insts x.home k.is.home_in in sym (owner_goes f c items is n w j u fits_here (omega (arith, at, two))) ∙ at)
     ] refl
 
     -- a packet of it goes to its member, while the switch diverts them
-    pub goes_so : diverts ≡ true → (p : ℕ) → is_of f c items u p ≡ true → (i : ℕ) → (A f g).member x.members p ≡ instance_node i → goes_to c items f.kind p w.log ≡ Some i
-    goes_so on p mine i at = member_goes u fits_here e_here its_here p i (same_unit-true (unit_numbered c items f.kind p) u mine) at (diverted_members f c items is n w j u fits_here (target true on))
+    pub goes_so : diverts ≡ true → (p : ℕ) → is_of f c items u p ≡ true → (i : ℕ) → (A f g).member x.members p ≡ instance_node i
+        → goes_to c items f.kind p w.log ≡ Some i
+    goes_so on p mine i at = member_goes u fits_here e_here its_here p i (same_unit-true (unit_numbered c items f.kind p) u mine) at
+        (diverted_members f c items is n w j u fits_here (target true on))
 
   pub homes_own : HomesOwn f c items is n count_is w j
   homes_own u x before since k = home_owner u x before since k
 
-module _ (F : Type 0) {R : Type 0} (f : Semantics R) (laws : FunctionLaws f) (alloc : Global) (c : Config) (items : List Msg) (is : IsInput f.kind c items) where
-  pub run_homes : (cs : List Choice) (runs : IsRun node_ready (node_step f) cs (start F f laws alloc c items is)) → HomesOwn f c items is (count F f laws alloc c items is) refl (run (node_step f) cs (start F f laws alloc c items is)) (run_beside F f laws alloc c items is cs runs).joined
+module _ (F : Type 0) {R : Type 0} (f : Semantics R) (laws : FunctionLaws f) (alloc : Global) (c : Config) (items : List Msg)
+    (is : IsInput f.kind c items) where
+  pub run_homes : (cs : List Choice) (runs : IsRun node_ready (node_step f) cs (start F f laws alloc c items is)) → HomesOwn f c items is
+      (count F f laws alloc c items is) refl (run (node_step f) cs (start F f laws alloc c items is)) (run_beside F f laws alloc c items is cs runs).joined
   run_homes cs runs =
       let r = run_beside F f laws alloc c items is cs runs in
-      homes_own f c items is (count F f laws alloc c items is) refl (run (node_step f) cs (start F f laws alloc c items is)) r.joined r.beside.kept.apart (run_busy F f laws alloc c items is cs runs).1 (run_installs F f laws alloc c items is cs runs) (says_of_shares F f laws alloc c items is cs runs)
+      homes_own f c items is (count F f laws alloc c items is) refl (run (node_step f) cs (start F f laws alloc c items is)) r.joined r.beside.kept.apart
+      (run_busy F f laws alloc c items is cs runs).1 (run_installs F f laws alloc c items is cs runs) (says_of_shares F f laws alloc c items is cs runs)

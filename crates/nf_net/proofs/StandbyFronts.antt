@@ -12,32 +12,32 @@ use Rattle.nf_msgs.specs.declared.msg.Msg.{Msg}
 use Rattle.nf_msgs.specs.declared.note.Note.{Note}
 use Rattle.nf_msgs.specs.Nodes.{instance_node}
 use Rattle.actor_net.specs.Network.{Network}
-use Rattle.share_machine.proofs.Share as share
-use Rattle.share_machine.proofs.Share.{Ran}
-use Rattle.share_machine.proofs.Stages as stages
-use Rattle.share_machine.proofs.Stages.{packets}
-use Rattle.abstract_net.proofs.Rest.{done_u}
-use Rattle.abstract_net.proofs.Shares.{ran_of}
-use Rattle.abstract_net.proofs.UnderStarts.{packets_done}
-use Rattle.whole_net.proofs.FrontPackets.{front_packets}
-use Rattle.whole_net.proofs.Fronts.{Front_of, live_front}
-use Rattle.whole_net.proofs.Readings.{fold_packets}
-use Rattle.whole_net.proofs.SeesMore.{Sees_more}
+use Rattle.proof_machines.proofs.share.Share as share
+use Rattle.proof_machines.proofs.share.Share.{Ran}
+use Rattle.proof_machines.proofs.share.Stages as stages
+use Rattle.proof_machines.proofs.share.Stages.{packets}
+use Rattle.proof_machines.proofs.net.Rest.{done_u}
+use Rattle.proof_machines.proofs.net.Shares.{ran_of}
+use Rattle.proof_machines.proofs.net.UnderStarts.{packets_done}
+use Rattle.proof_machines.proofs.whole.FrontPackets.{front_packets}
+use Rattle.proof_machines.proofs.whole.Fronts.{FrontOf, live_front}
+use Rattle.proof_machines.proofs.whole.Readings.{fold_packets}
+use Rattle.proof_machines.proofs.whole.SeesMore.{Sees_more}
 use Rattle.net_world.specs.declared.config.Config.{Config}
 use Rattle.net_world.specs.declared.node.Node.{Node}
 use Rattle.net_world.specs.declared.node.Node.TheVariants.{Instance}
 use Rattle.net_world.specs.Input.{packet_numbered, IsInput}
-use Rattle.net_world.specs.Log.{done}
-use Rattle.net_world.specs.Fold.{IsFront, fold, went}
+use Rattle.net_world.specs.Log.{dones_in}
+use Rattle.net_world.specs.Fold.{IsFront, fold, processed_of}
 use Rattle.net_world.specs.Records.{live_in, live_at}
 use Rattle.net_world.specs.Standby.{standby_in, standby_at}
-use Rattle.outline_net.proofs.Outline.{is_sys}
-use Rattle.whole_joined.proofs.Given.{Given}
-use Rattle.whole_joined.proofs.Joined.{S, A, by_node, came_by, Scene, AreShown, IsInstanceAt, Joined}
-use Rattle.whole_joined.proofs.LogLemmas.{done-append}
-use Rattle.whole_joined.proofs.RunsJoined.{went_same}
-use Rattle.whole_joined.proofs.StartJoined.{given}
-use Rattle.path_net.proofs.RecordPromises.{instance_of}
+use Rattle.net_world.proofs.LogLemmas.{done-append}
+use Rattle.proof_outlines.proofs.outline.Outline.{is_sys}
+use Rattle.proof_outlines.proofs.joined.Given.{Given}
+use Rattle.proof_outlines.proofs.joined.Joined.{S, A, by_node, came_by, Scene, AreShown, IsInstanceAt, Joined}
+use Rattle.proof_outlines.proofs.joined.RunsJoined.{went_same}
+use Rattle.proof_outlines.proofs.joined.StartJoined.{given}
+use Rattle.nf_net.proofs.paths.RecordPromises.{instance_of}
 use Rattle.nf_net.proofs.FoldLemmas.{fold_is}
 use Rattle.nf_net.proofs.FrontLemmas.{front_same, front_more}
 use Rattle.nf_net.proofs.OutputLemmas.{numbers, numbers-append}
@@ -71,11 +71,14 @@ module _ {R : Type 0} (f : Semantics R) (c : Config) (items : List Msg) where
   sees_same all kept h = record { before = h.front; since = h.front; old_is = h.folds; new_is = h.folds; behind = front_same h.front; within = h.is_front }
 
   -- what was processed of a unit goes on with the log
-  pub went_more : (u : units.Unit) (log notes : List Note) → went f c items u (log ++ notes) ≡ went f c items u log ++ went f c items u notes
-  went_more u log notes = ap (numbers f c items u) (done-append log notes) ∙ numbers-append f c items u (done log) (done notes)
+  pub went_more : (u : units.Unit) (log notes : List Note)
+      → processed_of f c items u (log ++ notes) ≡ processed_of f c items u log ++ processed_of f c items u notes
+  went_more u log notes = ap (numbers f c items u) (done-append log notes) ∙ numbers-append f c items u (dones_in log) (dones_in notes)
 
-  pub later : (u : units.Unit) (log notes : List Note) (kept : Option R) → IsOfFront (went f c items u log) kept → IsOfFront (went f c items u (log ++ notes)) kept
-  later u log notes kept h = subst (λ all. IsOfFront all kept) (sym (went_more u log notes)) (of_front_more (went f c items u log) (went f c items u notes) kept h)
+  pub later : (u : units.Unit) (log notes : List Note) (kept : Option R) → IsOfFront (processed_of f c items u log) kept
+      → IsOfFront (processed_of f c items u (log ++ notes)) kept
+  later u log notes kept h =
+      subst (λ all. IsOfFront all kept) (sym (went_more u log notes)) (of_front_more (processed_of f c items u log) (processed_of f c items u notes) kept h)
 
   -- what a record was folded to stays one as more is folded
   fold-append : (kept : Option R) (xs ys : List ℕ) → fold f c items kept (xs ++ ys) ≡ fold f c items (fold f c items kept xs) ys
@@ -86,7 +89,8 @@ module _ {R : Type 0} (f : Semantics R) (c : Config) (items : List Msg) where
   fold_some r [] = (r, refl)
   fold_some r (p ∷ ps) =
       let stepped : R = (f.stepped c.site (Some r) (packet_numbered items p)).kept in
-      elim (is_transport (packet_numbered items p).proto) as (λ b. (s : R) × (fold f c items (if b then Some stepped else Some r) ps ≡ Some s)) [ true ↦ fold_some stepped ps | false ↦ fold_some r ps ]
+      elim (is_transport (packet_numbered items p).proto) as (λ b. (s : R) × (fold f c items (if b then Some stepped else Some r) ps ≡ Some s))
+      [ true ↦ fold_some stepped ps | false ↦ fold_some r ps ]
 
   -- so a record that was there is there later
   pub still_some : (before since : List ℕ) (r : R) → IsFront before since → kept_of before ≡ Some r → (s : R) × (kept_of since ≡ Some s)
@@ -105,17 +109,19 @@ module _ {R : Type 0} (f : Semantics R) (c : Config) (items : List Msg) (is : Is
   to_kept : (seen : List Ran) (r : Option R) → r ≡ share.runs (S f g).F None seen → fold f c items None (packets seen) ≡ r
   to_kept seen r h = fold_is f c items is None (packets seen) ∙ sym (fold_packets (S f g).F None seen) ∙ sym h
 
-  module _ (u : units.Unit) (log : List Note) (ds : List (ℕ × ℕ)) (at : ds ≡ by_node f g (done log)) where
-    went_is : packets (ran_of (S f g) (A f g) u ds) ≡ went f c items u log
-    went_is = packets_done (S f g) (A f g) u ds ∙ ap (done_u (S f g) u) at ∙ went_same f c items is u (done log)
+  module _ (u : units.Unit) (log : List Note) (ds : List (ℕ × ℕ)) (at : ds ≡ by_node f g (dones_in log)) where
+    went_is : packets (ran_of (S f g) (A f g) u ds) ≡ processed_of f c items u log
+    went_is = packets_done (S f g) (A f g) u ds ∙ ap (done_u (S f g) u) at ∙ went_same f c items is u (dones_in log)
 
-    within_log : (seen : List Ran) → stages.IsFront seen (ran_of (S f g) (A f g) u ds) → IsFront (packets seen) (went f c items u log)
+    within_log : (seen : List Ran) → stages.IsFront seen (ran_of (S f g) (A f g) u ds) → IsFront (packets seen) (processed_of f c items u log)
     within_log seen h = subst (λ all. IsFront (packets seen) all) went_is (to_front seen (ran_of (S f g) (A f g) u ds) h)
 
-    pub of_front : (r : Option R) → Front_of (S f g) (A f g) (is_sys f g.site g.packet) u (ran_of (S f g) (A f g) u ds) r → IsOfFront f c items (went f c items u log) r
+    pub of_front : (r : Option R) → FrontOf (S f g) (A f g) (is_sys f g.site g.packet) u (ran_of (S f g) (A f g) u ds) r
+        → IsOfFront f c items (processed_of f c items u log) r
     of_front r h = record { front = packets h.seen; is_front = within_log h.seen h.front; folds = to_kept h.seen r h.fold }
 
-    pub sees_more : (old new : Option R) → Sees_more (S f g) (A f g) (is_sys f g.site g.packet) u (ran_of (S f g) (A f g) u ds) old new → SeesMore f c items (went f c items u log) old new
+    pub sees_more : (old new : Option R) → Sees_more (S f g) (A f g) (is_sys f g.site g.packet) u (ran_of (S f g) (A f g) u ds) old new
+        → SeesMore f c items (processed_of f c items u log) old new
     sees_more old new h = record {
       before = packets h.before;
       since = packets h.since;
@@ -127,30 +133,40 @@ module _ {R : Type 0} (f : Semantics R) (c : Config) (items : List Msg) (is : Is
 
   module _ {F : Type 0} (n : ℕ) where
     -- what stands by at an instance
-    pub instance_front : (x : Scene F f g) → AreShown f g n x → (k : ℕ) → IsInstanceAt f g k (x.nodes.instance k) x.world → (u : units.Unit) → IsOfFront f c items (went f c items u x.log) (finite.get (x.nodes.instance k).table.standby u)
-    instance_front x are k at u = of_front u x.log x.world.done are.done_is (finite.get (x.nodes.instance k).table.standby u) (subst (λ o. Front_of (S f g) (A f g) (is_sys f g.site g.packet) u (ran_of (S f g) (A f g) u x.world.done) o) (sym (ap (λ t. finite.get t u) at.standby_is)) ((are.every.fronts u).standby k))
+    pub instance_front : (x : Scene F f g) → AreShown f g n x → (k : ℕ) → IsInstanceAt f g k (x.nodes.instance k) x.world → (u : units.Unit)
+        → IsOfFront f c items (processed_of f c items u x.log) (finite.get (x.nodes.instance k).table.standby u)
+    instance_front x are k at u = of_front u x.log x.world.done are.done_is (finite.get (x.nodes.instance k).table.standby u)
+        (subst (λ o. FrontOf (S f g) (A f g) (is_sys f g.site g.packet) u (ran_of (S f g) (A f g) u x.world.done) o)
+        (sym (ap (λ t. finite.get t u) at.standby_is)) ((are.every.fronts u).standby k))
 
     -- and what is live there
-    live_front_at : (x : Scene F f g) → AreShown f g n x → (k : ℕ) → IsInstanceAt f g k (x.nodes.instance k) x.world → (u : units.Unit) → IsOfFront f c items (went f c items u x.log) (finite.get (x.nodes.instance k).table.live u)
-    live_front_at x are k at u = of_front u x.log x.world.done are.done_is (finite.get (x.nodes.instance k).table.live u) (subst (λ o. Front_of (S f g) (A f g) (is_sys f g.site g.packet) u (ran_of (S f g) (A f g) u x.world.done) o) (sym (ap (λ y. finite.get y.live u) at.outline_is)) (live_front (S f g) (A f g) (is_sys f g.site g.packet) u x.world (came_by f g x.log u) are.every.global (are.every.unit u) k))
+    live_front_at : (x : Scene F f g) → AreShown f g n x → (k : ℕ) → IsInstanceAt f g k (x.nodes.instance k) x.world → (u : units.Unit)
+        → IsOfFront f c items (processed_of f c items u x.log) (finite.get (x.nodes.instance k).table.live u)
+    live_front_at x are k at u = of_front u x.log x.world.done are.done_is (finite.get (x.nodes.instance k).table.live u)
+        (subst (λ o. FrontOf (S f g) (A f g) (is_sys f g.site g.packet) u (ran_of (S f g) (A f g) u x.world.done) o) (sym (ap (λ y. finite.get y.live u)
+        at.outline_is)) (live_front (S f g) (A f g) (is_sys f g.site g.packet) u x.world (came_by f g x.log u) are.every.global (are.every.unit u) k))
 
     -- In a world of a run.
     module _ (w : Network (Node F R) Msg Note) (count : length w.nodes ≡ n) (j : Joined f g n w) where
       -- what holds of each instance and of none holds of what is at a place
-      at_place : (i : ℕ) (P : Option (Node F R) → Type 0) → P None → ((k : ℕ) → 2 ≤ k → k < n → P (Some (Instance (j.nodes.instance k)))) → P (slice_get w.nodes (instance_node i))
+      at_place : (i : ℕ) (P : Option (Node F R) → Type 0) → P None → ((k : ℕ) → 2 ≤ k → k < n → P (Some (Instance (j.nodes.instance k))))
+          → P (slice_get w.nodes (instance_node i))
       at_place i P none some = elim (nat_lt (instance_node i) n) as (λ b. nat_lt (instance_node i) n ≡ b → P (slice_get w.nodes (instance_node i))) [
         | true ↦ λ on.
             let few : instance_node i < n = grind (arith, nat_tests, on) in
             let node = Instance (j.nodes.instance (instance_node i)) in
-            let there : slice_get w.nodes (instance_node i) ≡ Some node = slice_get-get_or w.nodes (instance_node i) node (rw count few) ∙ ap Some (j.nodes_are (instance_node i) few node ∙ instance_of j.nodes (instance_node i) (omega arith)) in
+            let there : slice_get w.nodes (instance_node i) ≡ Some node = slice_get-get_or w.nodes (instance_node i) node (rw count few)
+            ∙ ap Some (j.nodes_are (instance_node i) few node ∙ instance_of j.nodes (instance_node i) (omega arith)) in
             subst P (sym there) (some (instance_node i) (omega arith) few)
         | false ↦ λ off.
             let past : length w.nodes ≤ instance_node i = grind (arith, nat_tests, off, count) in
             subst P (sym (slice_get_past w.nodes (instance_node i) past)) none
       ] refl
 
-      pub stands_front : (i : ℕ) (u : units.Unit) → IsOfFront f c items (went f c items u w.log) (standby_at w i u)
-      stands_front i u = at_place i (λ o. IsOfFront f c items (went f c items u w.log) (standby_in u o)) (none_of_front f c items (went f c items u w.log)) (λ k two few. instance_front _ j.shown_is k (j.shown_is.instances k two few) u)
+      pub stands_front : (i : ℕ) (u : units.Unit) → IsOfFront f c items (processed_of f c items u w.log) (standby_at w i u)
+      stands_front i u = at_place i (λ o. IsOfFront f c items (processed_of f c items u w.log) (standby_in u o))
+          (none_of_front f c items (processed_of f c items u w.log)) (λ k two few. instance_front _ j.shown_is k (j.shown_is.instances k two few) u)
 
-      pub lives_front : (i : ℕ) (u : units.Unit) → IsOfFront f c items (went f c items u w.log) (live_at w i u)
-      lives_front i u = at_place i (λ o. IsOfFront f c items (went f c items u w.log) (live_in u o)) (none_of_front f c items (went f c items u w.log)) (λ k two few. live_front_at _ j.shown_is k (j.shown_is.instances k two few) u)
+      pub lives_front : (i : ℕ) (u : units.Unit) → IsOfFront f c items (processed_of f c items u w.log) (live_at w i u)
+      lives_front i u = at_place i (λ o. IsOfFront f c items (processed_of f c items u w.log) (live_in u o))
+          (none_of_front f c items (processed_of f c items u w.log)) (λ k two few. live_front_at _ j.shown_is k (j.shown_is.instances k two few) u)

@@ -1,47 +1,39 @@
 -- In every run each record that stands by is that of a front of what was processed of its unit, and the front never gets shorter.
-use Rattle.std.proofs.Common.{◌≡◌, ℕ, suc, ◌+◌, ◌≤◌, Bool, true, false, ◌⊎◌, inl, inr, List, [], ◌∷◌, ◌++◌, length, length-append, refl, sym, ap, ◌∙◌, subst, arith}
-use Rattle.std.specs.Prelude.{if◌then◌else◌}
+use Rattle.std.proofs.Common.{◌≡◌, ℕ, ◌+◌, ◌≤◌, ◌⊎◌, inl, inr, List, [], ◌∷◌, ◌++◌, length, length-append, refl, sym, ap, ◌∙◌, subst, arith}
 use Rattle.std.specs.declared.alloc.Global.{Global}
-use Rattle.std.proofs.lemmas.List.{length-map}
 use Rattle.nf_function.specs.declared.unit.Unit as units
 use Rattle.nf_function.specs.Records.{Laws as FunctionLaws}
 use Rattle.nf_function.specs.Semantics.{Semantics}
 use Rattle.nf_msgs.specs.declared.msg.Msg.{Msg}
 use Rattle.nf_msgs.specs.declared.note.Note.{Note}
 use Rattle.actor_net.specs.declared.choice.Choice.{Choice}
-use Rattle.actor_net.specs.Network.{Network, Stepped, IsRun, run, taken}
+use Rattle.actor_net.specs.Network.{Network, Stepped, IsRun, run, world_next}
 use Rattle.actor_net.proofs.RunInduction.{Taking, NextChoice, run_induction, run_world}
 use Rattle.actor_net.proofs.RunLaws.{run_more}
 use Rattle.actor_net.proofs.StepOutcome.{Takes, taken_outcome}
 use Rattle.net_world.specs.declared.config.Config.{Config}
 use Rattle.net_world.specs.declared.node.Node.{Node}
-use Rattle.net_world.specs.Input.{packets, most_counted, IsInput}
+use Rattle.net_world.specs.Input.{most_counted, IsInput}
 use Rattle.net_world.specs.Jobs.{course_of, job_of}
-use Rattle.net_world.specs.Log.{Done, arrived, done, done_of}
 use Rattle.net_world.specs.Nodes.{node_step, node_ready}
-use Rattle.net_world.specs.Fold.{IsFront, is_of, went}
+use Rattle.net_world.specs.Fold.{IsFront, processed_of}
 use Rattle.net_world.specs.Standby.{StandsBy}
-use Rattle.net_world.specs.Start.{started}
+use Rattle.net_world.specs.Start.{started_with}
 use Rattle.nf_net.specs.Promises.{Standbys}
-use Rattle.whole_joined.proofs.BesideRuns.{its_takes}
-use Rattle.whole_joined.proofs.Joined.{node_of}
-use Rattle.whole_joined.proofs.RunsJoined.{start_world}
-use Rattle.whole_joined.proofs.StartJoined.{given, all_fit, count_at_start}
-use Rattle.answer_net.proofs.ArrivalLemmas.{numbers, InRun, next_in_run, start_in_run}
-use Rattle.nf_net.proofs.FrontLemmas.{front_same, front_trans, front_more, front_length, one_front}
-use Rattle.nf_net.proofs.PacketCounts.{few_done}
+use Rattle.nf_net.proofs.CopyRuns.{run_copying}
+use Rattle.nf_net.proofs.CountedRoom.{room}
+use Rattle.proof_outlines.proofs.joined.BesideRuns.{its_takes}
+use Rattle.proof_outlines.proofs.joined.Joined.{node_of}
+use Rattle.proof_outlines.proofs.joined.RunsJoined.{start_world}
+use Rattle.proof_outlines.proofs.joined.StartJoined.{given, all_fit, count_at_start}
+use Rattle.nf_net.proofs.answers.ArrivalLemmas.{InRun, next_in_run, start_in_run}
+use Rattle.nf_net.proofs.FrontLemmas.{front_same, front_trans, front_more, one_front}
 use Rattle.nf_net.proofs.StandbyFronts.{went_more, stands_front, still_some}
 use Rattle.nf_net.proofs.StandbySteps.{GoesOn, goes_on}
 
-few_of : (mine : ℕ → Bool) (ds : List Done) → length (done_of mine ds) ≤ length ds
-few_of mine [] = omega arith
-few_of mine (d ∷ ds) = let rest = few_of mine ds in elim (mine d.number) as (λ b. length (if b then d ∷ done_of mine ds else done_of mine ds) ≤ suc (length ds)) [
-  | true ↦ omega (arith, rest)
-  | false ↦ omega (arith, rest)
-]
-
 -- what begins a list with one more element: all of it, or what begins the list
-fronts_of_more : {X : Type 0} (before after xs : List X) (x : X) → before ++ after ≡ xs ++ x ∷ [] → (before ≡ xs ++ x ∷ []) ⊎ ((rest : List X) × (before ++ rest ≡ xs))
+fronts_of_more : {X : Type 0} (before after xs : List X) (x : X) → before ++ after ≡ xs ++ x ∷ []
+    → (before ≡ xs ++ x ∷ []) ⊎ ((rest : List X) × (before ++ rest ≡ xs))
 fronts_of_more [] after xs x e = inr (xs, refl)
 fronts_of_more (b ∷ []) after [] x e = inl (let same : b ≡ x = cc in ap (λ y. y ∷ []) same)
 fronts_of_more (b ∷ d ∷ bs) after [] x e = let long = ap length e in let both = length-append (b ∷ d ∷ bs) after in absurd (omega (arith, long, both))
@@ -53,26 +45,16 @@ fronts_of_more {X} (b ∷ bs) after (y ∷ xs) x e =
       | inr more ↦ inr (more.0, rw heads (ap (λ zs. y ∷ zs) more.1))
     ]
 
-module _ (F : Type 0) {R : Type 0} (f : Semantics R) (laws : FunctionLaws f) (alloc : Global) (c : Config) (items : List Msg) (is : IsInput f.kind c items) where
+module _ (F : Type 0) {R : Type 0} (f : Semantics R) (laws : FunctionLaws f) (alloc : Global) (c : Config) (items : List Msg)
+    (is : IsInput f.kind c items) where
   abbrev start : Network (Node F R) Msg Note
-  start = started alloc c items
+  start = started_with alloc c items
 
   abbrev n : ℕ
   n = length c.names + 2
 
   abbrev step : Node F R → ℕ → Msg → Stepped (Node F R) Msg Note
   step = node_step f
-
-  -- no more is processed of a unit than a record counts
-  room : (w : Network (Node F R) Msg Note) → InRun F f laws alloc c items is w → (u : units.Unit) → length (went f c items u w.log) ≤ most_counted
-  room w h u =
-      let own = length-map (done_of (is_of f c items u) (done w.log)) (λ d. d.number) in
-      let some = few_of (is_of f c items u) (done w.log) in
-      let came = few_done f c items is n w h.joined in
-      let turn = front_length (arrived w.log) (numbers items) (record { rest = _; whole = h.in_turn }) in
-      let all = length-map (packets items) (λ p. p.number) in
-      let few = is.few in
-      omega (arith, own, some, came, turn, all, few)
 
   abbrev Stood : Network (Node F R) Msg Note → ℕ → units.Unit → Type 0
   Stood = StandsBy (job_of f c items)
@@ -82,18 +64,25 @@ module _ (F : Type 0) {R : Type 0} (f : Semantics R) (laws : FunctionLaws f) (al
   NoShorter w i u earlier = (now : Stood w i u) × IsFront earlier now.front
 
   abbrev NeverBack : List Choice → Network (Node F R) Msg Note → Type 0
-  NeverBack cs w = (before later : List Choice) (i : ℕ) (u : units.Unit) (earlier : Stood (run step before start) i u) → before ++ later ≡ cs → NoShorter w i u earlier.front
+  NeverBack cs w = (before later : List Choice) (i : ℕ) (u : units.Unit) (earlier : Stood (run step before start) i u) → before ++ later ≡ cs
+      → NoShorter w i u earlier.front
 
   -- one choice further
-  behind_next : (w v : Network (Node F R) Msg Note) (notes : List Note) → v.log ≡ w.log ++ notes → ((u : units.Unit) → length (went f c items u v.log) ≤ most_counted) → GoesOn F f laws c items is w v → (i : ℕ) (u : units.Unit) (earlier : List ℕ) → NoShorter w i u earlier → NoShorter v i u earlier
+  behind_next : (w v : Network (Node F R) Msg Note) (notes : List Note) → v.log ≡ w.log ++ notes
+      → ((u : units.Unit) → length (processed_of f c items u v.log) ≤ most_counted) → GoesOn F f laws c items is w v
+      → (i : ℕ) (u : units.Unit) (earlier : List ℕ) → NoShorter w i u earlier → NoShorter v i u earlier
   behind_next w v notes log few goes i u earlier h =
       let it = goes i u in
-      let all = went f c items u v.log in
-      let was : IsFront h.0.front all = subst (λ l. IsFront h.0.front (went f c items u l)) (sym log) (subst (λ l. IsFront h.0.front l) (sym (went_more f c items u w.log notes)) (front_more h.0.front (went f c items u w.log) (went f c items u notes) h.0.is_front)) in
-      let same : h.0.front ≡ it.before = one_front f laws c items is all (few u) h.0.front it.before was (front_trans it.before it.since all it.behind it.within) (h.0.folds ∙ sym h.0.there ∙ sym it.old_is) in
+      let all = processed_of f c items u v.log in
+      let was : IsFront h.0.front all = subst (λ l. IsFront h.0.front (processed_of f c items u l)) (sym log) (subst (λ l. IsFront h.0.front l)
+      (sym (went_more f c items u w.log notes)) (front_more h.0.front (processed_of f c items u w.log) (processed_of f c items u notes) h.0.is_front)) in
+      let same : h.0.front ≡ it.before = one_front f laws c items is all (few u) h.0.front it.before was
+      (front_trans it.before it.since all it.behind it.within) (h.0.folds ∙ sym h.0.there ∙ sym it.old_is) in
       let further : IsFront h.0.front it.since = subst (λ xs. IsFront xs it.since) (sym same) it.behind in
-      let now = still_some f c items h.0.front it.since h.0.kept further h.0.folds in
-      (record { front = it.since; kept = now.0; there = sym it.new_is ∙ now.1; is_front = it.within; folds = now.1 }, front_trans earlier h.0.front it.since h.1 further)
+      let now = still_some f c items h.0.front it.since h.0.kept further h.0.folds in (
+        record { front = it.since; kept = now.0; there = sym it.new_is ∙ now.1; is_front = it.within; folds = now.1 },
+        front_trans earlier h.0.front it.since h.1 further,
+      )
 
   -- what holds of the choices so far and the world
   pub record Standing (cs : List Choice) (w : Network (Node F R) Msg Note) : Type 0 where
@@ -104,7 +93,8 @@ module _ (F : Type 0) {R : Type 0} (f : Semantics R) (laws : FunctionLaws f) (al
   itself w i u earlier = (earlier, front_same earlier.front)
 
   -- also where the world is an equal one
-  still : (w : Network (Node F R) Msg Note) (i : ℕ) (u : units.Unit) (v : Network (Node F R) Msg Note) → v ≡ w → (earlier : Stood v i u) → NoShorter w i u earlier.front
+  still : (w : Network (Node F R) Msg Note) (i : ℕ) (u : units.Unit) (v : Network (Node F R) Msg Note) → v ≡ w → (earlier : Stood v i u)
+      → NoShorter w i u earlier.front
   still w i u v same earlier = subst (λ x. NoShorter x i u earlier.front) same (itself v i u earlier)
 
   start_standing : Standing [] start
@@ -115,29 +105,34 @@ module _ (F : Type 0) {R : Type 0} (f : Semantics R) (laws : FunctionLaws f) (al
       never (b ∷ before) later i u earlier e = cc
 
   -- a choice that is taken
-  standing_next : (cs : List Choice) (w : Network (Node F R) Msg Note) (d : Choice) → NextChoice node_ready step n start cs w d → Standing cs w → Standing (cs ++ d ∷ []) (taken step w d)
+  standing_next : (cs : List Choice) (w : Network (Node F R) Msg Note) (d : Choice) → NextChoice node_ready step n start cs w d → Standing cs w
+      → Standing (cs ++ d ∷ []) (world_next step w d)
   standing_next cs w d next h = record { in_run = since; never_back = never }
     where
       t : Taking node_ready step n w d
       t = next.taking
 
-      since : InRun F f laws alloc c items is (taken step w d)
+      since : InRun F f laws alloc c items is (world_next step w d)
       since = next_in_run F f laws alloc c items is w d t h.in_run
 
       takes : Takes step n w d.node d.port (node_of h.in_run.joined.nodes d.node) t.message t.rest
       takes = its_takes f laws (given f c items is) (all_fit f c items is) n refl w d t h.in_run.joined h.in_run.beside
 
-      goes : GoesOn F f laws c items is w (taken step w d)
-      goes = goes_on F f laws c items is w d t h.in_run.joined h.in_run.beside (room (taken step w d) since)
+      goes : GoesOn F f laws c items is w (world_next step w d)
+      goes = goes_on F f laws c items is w d t h.in_run.joined h.in_run.beside (room F f laws alloc c items is (world_next step w d) since)
 
-      never : NeverBack (cs ++ d ∷ []) (taken step w d)
-      never before later i u earlier whole = elim (fronts_of_more before later cs d whole) as (λ _. NoShorter (taken step w d) i u earlier.front) [
-        | inl all ↦ still (taken step w d) i u (run step before start) (ap (λ xs. run step xs start) all ∙ sym (run_more step cs d start w next.reached)) earlier
-        | inr part ↦ behind_next w (taken step w d) (step (node_of h.in_run.joined.nodes d.node) d.port t.message).notes (taken_outcome step n w d.node d.port (node_of h.in_run.joined.nodes d.node) t.message t.rest takes).log (room (taken step w d) since) goes i u earlier.front (h.never_back before part.0 i u earlier part.1)
+      never : NeverBack (cs ++ d ∷ []) (world_next step w d)
+      never before later i u earlier whole = elim (fronts_of_more before later cs d whole) as (λ _. NoShorter (world_next step w d) i u earlier.front) [
+        | inl all ↦ still (world_next step w d) i u (run step before start)
+            (ap (λ xs. run step xs start) all ∙ sym (run_more step cs d start w next.reached)) earlier
+        | inr part ↦ behind_next w (world_next step w d) (step (node_of h.in_run.joined.nodes d.node) d.port t.message).notes
+            (taken_outcome step n w d.node d.port (node_of h.in_run.joined.nodes d.node) t.message t.rest takes).log
+            (room F f laws alloc c items is (world_next step w d) since) goes i u earlier.front (h.never_back before part.0 i u earlier part.1)
       ]
 
   run_standing : (cs : List Choice) → IsRun node_ready step cs start → Standing cs (run step cs start)
-  run_standing cs run_is = run_induction node_ready step n (λ ds w. Standing ds w) start (λ ds w d next h. standing_next ds w d next h) (start_world F f laws alloc c items is) (count_at_start F f alloc c items is) start_standing cs run_is
+  run_standing cs run_is = run_induction node_ready step n (λ ds w. Standing ds w) start (λ ds w d next h. standing_next ds w d next h)
+      (start_world F f laws alloc c items is) (count_at_start F f alloc c items is) start_standing cs run_is
 
   -- so every run keeps what is promised of the records that stand by
   pub standbys : (cs : List Choice) → IsRun node_ready step cs start → Standbys (job_of f c items) (course_of start cs)
@@ -145,6 +140,17 @@ module _ (F : Type 0) {R : Type 0} (f : Semantics R) (laws : FunctionLaws f) (al
       let h = run_standing cs run_is in
       let reached = run_world node_ready step n start (start_world F f laws alloc c items is) (count_at_start F f alloc c items is) cs run_is in
       record {
-        fronts = λ i u kept there. (let it = stands_front f c items is n (run step cs start) reached.1 h.in_run.joined i u in record { front = it.front; kept = kept; there = there; is_front = it.is_front; folds = it.folds ∙ there });
+        fronts = λ i u kept there. (let it = stands_front f c items is n (run step cs start) reached.1 h.in_run.joined i u in
+            record { front = it.front; kept = kept; there = there; is_front = it.is_front; folds = it.folds ∙ there });
         never_back = h.never_back;
+        copied = λ copy of done. (let it = (run_copying F f laws alloc c items is cs run_is).found copy of done in record {
+          before = it.by.before;
+          later = it.by.later;
+          whole = it.by.whole;
+          to_give = it.by.to_give;
+          gave = it.by.gave;
+          stands = λ u kept world_next live. (let stood = it.stood u kept world_next live in
+              let now = h.never_back it.until it.since copy.destination u stood.0 it.whole in
+              (now.0, front_trans _ stood.0.front now.0.front stood.1 now.1));
+        });
       }

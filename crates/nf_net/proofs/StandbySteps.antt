@@ -1,5 +1,6 @@
 -- A choice of a run leaves what stands by at each instance, or lets it see more of what was processed of its unit: an instance's step by its message.
-use Rattle.std.proofs.Common.{◌≡◌, ◌≢◌, ℕ, zero, suc, ◌+◌, ◌<◌, ◌≤◌, Bool, true, false, Option, Some, None, List, [], ◌∷◌, ◌++◌, length, get_or, refl, sym, ap, ◌∙◌, subst, arith}
+use Rattle.std.proofs.Common.{◌≡◌, ◌≢◌, ℕ, zero, suc, ◌+◌, ◌<◌, ◌≤◌, Bool, true, false, Option, Some}
+use Rattle.std.proofs.Common.{None, List, [], ◌∷◌, ◌++◌, length, get_or, refl, sym, ap, ◌∙◌, subst, arith}
 use Rattle.std.specs.Prelude.{◌&&◌, ◌==◌, nat_lt, slice_get}
 use Rattle.std.specs.FinMap as finite
 use Rattle.std.specs.List.{filter_map}
@@ -23,41 +24,42 @@ use Rattle.nf_msgs.specs.Nodes.{instance_node}
 use Rattle.instance_worker.specs.declared.instance.Instance.{Instance as InstanceState}
 use Rattle.instance_worker.specs.Instance.{Step, on_get, instance_step}
 use Rattle.actor_net.specs.declared.choice.Choice.{Choice}
-use Rattle.actor_net.specs.Network.{Network, waiting, taken}
+use Rattle.actor_net.specs.Network.{Network, queue_at, world_next}
 use Rattle.actor_net.proofs.EnabledChoices.{at}
 use Rattle.actor_net.proofs.StepOutcome.{Takes, Outcome, taken_outcome}
 use Rattle.actor_net.proofs.RunInduction.{Taking}
 use Rattle.actor_net.proofs.WeightLaws.{Each as EachOn}
-use Rattle.unit_machine.proofs.Real.{record_at}
-use Rattle.abstract_net.proofs.Net.{at_node}
-use Rattle.abstract_net.proofs.Shares.{New, Share_msg, Shared_on, S_sync, member_step, whole_inst, ran_of}
-use Rattle.whole_net.proofs.SeesMore.{Sees_more, inst_sees}
+use Rattle.proof_machines.proofs.unit.Real.{record_at}
+use Rattle.proof_machines.proofs.net.Net.{at_node}
+use Rattle.proof_machines.proofs.net.Shares.{New, ShareMsg, Shared_on, S_sync, member_step, whole_inst, ran_of}
+use Rattle.proof_machines.proofs.whole.SeesMore.{Sees_more, inst_sees}
 use Rattle.net_world.specs.declared.config.Config.{Config}
 use Rattle.net_world.specs.declared.node.Node.{Node}
 use Rattle.net_world.specs.declared.node.Node.TheVariants.{Instance}
 use Rattle.net_world.specs.Input.{most_counted, IsInput}
-use Rattle.net_world.specs.Log.{done}
+use Rattle.net_world.specs.Log.{dones_in}
 use Rattle.net_world.specs.Nodes.{node_step, node_ready}
-use Rattle.net_world.specs.Fold.{fold, went}
+use Rattle.net_world.specs.Fold.{fold, processed_of}
 use Rattle.net_world.specs.Standby.{standby_in, standby_at}
-use Rattle.outline_net.proofs.Outline.{number, entries, ran_in, is_sys}
-use Rattle.whole_outline.proofs.WholeOutline.{is_sharing}
-use Rattle.whole_outline.proofs.InstanceWorlds.{ShowsAt, new_steps}
-use Rattle.whole_outline.proofs.MemberOutline.{MemberFollows, shared_follows, sync_follows}
-use Rattle.whole_outline.proofs.MemberTables.{AreBothSound, sync_sound}
-use Rattle.whole_outline.proofs.StandbyKept.{leaves_standby, step_unshared, standby_keeps}
-use Rattle.whole_joined.proofs.BesideRuns.{HasBeside, its_takes, its_taken}
-use Rattle.whole_joined.proofs.CopyRows.{sync_leaves}
-use Rattle.whole_joined.proofs.Given.{Given, place}
-use Rattle.whole_joined.proofs.InstanceKeeps.{valid_chunks, chunks_good}
-use Rattle.whole_joined.proofs.InstanceNotes.{AreOwn, done_own}
-use Rattle.whole_joined.proofs.InstanceRows.{IsRight, sound_part, shared_leaves}
-use Rattle.whole_joined.proofs.InstanceSteps.{Rows, by_message}
-use Rattle.whole_joined.proofs.Joined.{S, A, shown, by_node, came_by, node_of, Genuine, AreGoodChunks, Scene, IsInstanceAt, AreShown, IsTaken, Joined}
-use Rattle.whole_joined.proofs.LogLemmas.{done-append, by_node-append}
-use Rattle.whole_joined.proofs.StandbyChunks.{AreFronted}
-use Rattle.whole_joined.proofs.StandbyFronts.{kept_of, AreKeptFronts}
-use Rattle.whole_joined.proofs.StartJoined.{given, all_fit}
+use Rattle.net_world.proofs.LogLemmas.{done-append}
+use Rattle.proof_outlines.proofs.outline.Outline.{number, entries, ran_in, is_sys}
+use Rattle.proof_outlines.proofs.whole.WholeOutline.{is_sharing}
+use Rattle.proof_outlines.proofs.whole.InstanceWorlds.{ShowsAt, new_steps}
+use Rattle.proof_outlines.proofs.whole.MemberOutline.{MemberFollows, shared_follows, sync_follows}
+use Rattle.proof_outlines.proofs.whole.MemberTables.{AreBothSound, sync_sound}
+use Rattle.proof_outlines.proofs.whole.StandbyKept.{leaves_standby, step_unshared, standby_keeps}
+use Rattle.proof_outlines.proofs.joined.BesideRuns.{HasBeside, its_takes, its_taken}
+use Rattle.proof_outlines.proofs.joined.CopyRows.{sync_leaves}
+use Rattle.proof_outlines.proofs.joined.Given.{Given, place}
+use Rattle.proof_outlines.proofs.joined.InstanceKeeps.{valid_chunks, chunks_good}
+use Rattle.proof_outlines.proofs.joined.InstanceNotes.{AreOwn, done_own}
+use Rattle.proof_outlines.proofs.joined.InstanceRows.{IsRight, sound_part, shared_leaves}
+use Rattle.proof_outlines.proofs.joined.InstanceMessages.{Rows, by_message}
+use Rattle.proof_outlines.proofs.joined.Joined.{S, A, shown, by_node, came_by, node_of, Genuine, AreGoodChunks, Scene, IsInstanceAt, AreShown, IsTaken, Joined}
+use Rattle.proof_outlines.proofs.joined.LogLemmas.{by_node-append}
+use Rattle.proof_outlines.proofs.joined.StandbyChunks.{AreFronted}
+use Rattle.proof_outlines.proofs.joined.StandbyFronts.{kept_of, AreKeptFronts}
+use Rattle.proof_outlines.proofs.joined.StartJoined.{given, all_fit}
 use Rattle.nf_net.proofs.FrontLemmas.{longer}
 use Rattle.nf_net.proofs.StandbyFronts.{IsOfFront, SeesMore, sees_same, later, of_front, sees_more, instance_front, stands_front}
 
@@ -86,7 +88,9 @@ module _ {R : Type 0} (f : Semantics R) where
   brought_is chunks u = finite.get-from_entries units_total (entries f chunks) u
 
 -- An instance's step.
-module _ {F R : Type 0} (f : Semantics R) (laws : FunctionLaws f) (c : Config) (items : List Msg) (is : IsInput f.kind c items) (n : ℕ) (x : Scene F f (given f c items is)) (are : AreShown f (given f c items is) n x) (p y : ℕ) (at : IsInstanceAt f (given f c items is) (suc (suc y)) (x.nodes.instance (suc (suc y))) x.world) where
+module _ {F R : Type 0} (f : Semantics R) (laws : FunctionLaws f) (c : Config) (items : List Msg) (is : IsInput f.kind c items)
+    (n : ℕ) (x : Scene F f (given f c items is)) (are : AreShown f (given f c items is) n x) (p y : ℕ)
+    (at : IsInstanceAt f (given f c items is) (suc (suc y)) (x.nodes.instance (suc (suc y))) x.world) where
   abbrev g : Given
   g = given f c items is
 
@@ -112,7 +116,7 @@ module _ {F R : Type 0} (f : Semantics R) (laws : FunctionLaws f) (c : Config) (
   IsTakenHere m = IsTaken f g n x (record { node = k; port = p; message = m })
 
   abbrev all_of : units.Unit → List Note → List ℕ
-  all_of u notes = went f c items u (x.log ++ notes)
+  all_of u notes = processed_of f c items u (x.log ++ notes)
 
   -- what the step leaves of the unit
   abbrev Sees : units.Unit → Step F R → Type 0
@@ -135,25 +139,33 @@ module _ {F R : Type 0} (f : Semantics R) (laws : FunctionLaws f) (c : Config) (
   held_front u notes = later f c items u x.log notes (finite.get i.table.standby u) (instance_front f c items is n x are k at u)
 
   same_sees : (u : units.Unit) (did : Step F R) → did.node.table.standby ≡ i.table.standby → Sees u did
-  same_sees u did same = subst (λ t. SeesMore f c items (all_of u did.notes) (finite.get i.table.standby u) (finite.get t u)) (sym same) (sees_same f c items (all_of u did.notes) (finite.get i.table.standby u) (held_front u did.notes))
+  same_sees u did same = subst (λ t. SeesMore f c items (all_of u did.notes) (finite.get i.table.standby u) (finite.get t u)) (sym same)
+      (sees_same f c items (all_of u did.notes) (finite.get i.table.standby u) (held_front u did.notes))
 
   leaves : (u : units.Unit) (m : Msg) → leaves_standby m ≡ true → Now u m
   leaves u m e t fronts room = same_sees u (instance_step f i m) (step_unshared f (place g) i m e).standby
 
   -- a message of a share, as the whole world takes it
-  new_sees : (u : units.Unit) (m : Msg) (seen : Share_msg R) → shown f g m ≡ Some (New seen) → IsTakenHere m → MemberFollows f g.site g.packet (place g) i (instance_step f i m) (member_step (S f g) (A f g) i.table.live i.table.standby seen) → AreOwn k (instance_step f i m).notes → Sees u (instance_step f i m)
+  new_sees : (u : units.Unit) (m : Msg) (seen : ShareMsg R) → shown f g m ≡ Some (New seen) → IsTakenHere m
+      → MemberFollows f g.site g.packet (place g) i (instance_step f i m) (member_step (S f g) (A f g) i.table.live i.table.standby seen)
+      → AreOwn k (instance_step f i m).notes → Sees u (instance_step f i m)
   new_sees u m seen shown_as t follows own =
       let did = instance_step f i m in
       let off : (p == 0) && (k == 0) ≡ false = grind (arith, nat_tests) in
       let waits = t.head off (New seen) shown_as in
       let v = whole_inst (S f g) (A f g) x.world p k (New seen) in
       let steps = new_steps f g.site g.packet (place g) x.world p k i did seen shows follows in
-      let log : v.done ≡ by_node f g (done (x.log ++ did.notes)) =
-      steps.done ∙ ap (λ ds. ds ++ at_node k (filter_map ran_in did.notes)) are.done_is ∙ ap (λ ds. by_node f g (done x.log) ++ ds) (sym (done_own f g k did.notes own)) ∙ sym (ap (by_node f g) (done-append x.log did.notes) ∙ by_node-append f g (done x.log) (done did.notes)) in
-      let sees = inst_sees (S f g) (A f g) (is_sys f g.site g.packet) u (is_sharing f g.site g.packet) x.world (came_by f g x.log u) are.every.global p k t.rest k0 k1 (are.every.unit u) (are.every.fronts u) (New seen) waits k in
+      let log : v.done ≡ by_node f g (dones_in (x.log ++ did.notes)) =
+      steps.done ∙ ap (λ ds. ds ++ at_node k (filter_map ran_in did.notes)) are.done_is
+      ∙ ap (λ ds. by_node f g (dones_in x.log) ++ ds) (sym (done_own f g k did.notes own))
+      ∙ sym (ap (by_node f g) (done-append x.log did.notes) ∙ by_node-append f g (dones_in x.log) (dones_in did.notes)) in
+      let sees = inst_sees (S f g) (A f g) (is_sys f g.site g.packet) u (is_sharing f g.site g.packet) x.world (came_by f g x.log u) are.every.global p k
+      t.rest k0 k1 (are.every.unit u) (are.every.fronts u) (New seen) waits k in
       sees_more f c items is u (x.log ++ did.notes) v.done log (finite.get i.table.standby u) (finite.get did.node.table.standby u)
-      (subst (λ o. Sees_more (S f g) (A f g) (is_sys f g.site g.packet) u (ran_of (S f g) (A f g) u v.done) o (finite.get did.node.table.standby u)) (sym (ap (λ r. finite.get r u) shows.standby))
-      (subst (λ o. Sees_more (S f g) (A f g) (is_sys f g.site g.packet) u (ran_of (S f g) (A f g) u v.done) (finite.get (x.world.standby k) u) o) (sym (ap (λ r. finite.get r u) steps.shows.standby)) sees))
+      (subst (λ o. Sees_more (S f g) (A f g) (is_sys f g.site g.packet) u (ran_of (S f g) (A f g) u v.done) o (finite.get did.node.table.standby u))
+      (sym (ap (λ r. finite.get r u) shows.standby))
+      (subst (λ o. Sees_more (S f g) (A f g) (is_sys f g.site g.packet) u (ran_of (S f g) (A f g) u v.done) (finite.get (x.world.standby k) u) o)
+      (sym (ap (λ r. finite.get r u) steps.shows.standby)) sees))
 
   shared_sees : (u : units.Unit) (op : ℕ) (home : Bool) (cell : FullCell) → Genuine f g cell → Now u (msg.Carry (mark.Shared op home) cell)
   shared_sees u op home cell e t fronts room =
@@ -171,20 +183,32 @@ module _ {F R : Type 0} (f : Semantics R) (laws : FunctionLaws f) (c : Config) (
       (sync_leaves f laws g k two i home op chunks right sound.live good).notes
 
   -- a copy's chunks: the newer of what stands by and what comes is that of the longer front
-  newest_sees : (u : units.Unit) (all : List ℕ) (held coming : Option R) → length all ≤ most_counted → IsOfFront f c items all held → IsOfFront f c items all coming → SeesMore f c items all held (either (newest f) held coming)
+  newest_sees : (u : units.Unit) (all : List ℕ) (held coming : Option R) → length all ≤ most_counted → IsOfFront f c items all held
+      → IsOfFront f c items all coming → SeesMore f c items all held (either (newest f) held coming)
   newest_sees u all held coming few h b =
       let it = longer f laws c items is all few h.front b.front h.is_front b.is_front in
-      record { before = h.front; since = it.front; old_is = h.folds; new_is = sym it.kept ∙ ap (λ o. either (newest f) o (fold f c items None b.front)) h.folds ∙ ap (either (newest f) held) b.folds; behind = it.behind; within = it.is_front }
+      record {
+        before = h.front;
+        since = it.front;
+        old_is = h.folds;
+        new_is = sym it.kept ∙ ap (λ o. either (newest f) o (fold f c items None b.front)) h.folds ∙ ap (either (newest f) held) b.folds;
+        behind = it.behind;
+        within = it.is_front;
+      }
 
   standby_sees : (u : units.Unit) (op : ℕ) (chunks : List Chunk) → AreGoodChunks f g chunks → Now u (msg.Standby op chunks)
   standby_sees u op chunks good t fronts room =
       let did = instance_step f i (msg.Standby op chunks) in
       let held = finite.get i.table.standby u in
       let coming = finite.get (records_of f chunks) u in
-      let new : did.node.table.standby ≡ newest_of f i.table.standby (records_of f chunks) = (standby_keeps f g.site g.packet (place g) i op chunks (chunks_good f laws g chunks good)).standby in
-      let is_new : finite.get did.node.table.standby u ≡ either (newest f) held coming = ap (λ r. finite.get r u) new ∙ each_newest f i.table.standby (records_of f chunks) (newest_of f i.table.standby (records_of f chunks)) refl u in
-      let of_chunks : IsOfFront f c items (went f c items u x.log) coming = subst (λ o. IsOfFront f c items (went f c items u x.log) o) (sym (brought_is f chunks u)) (of_front f c items is u x.log x.world.done are.done_is (record_at u (entries f chunks)) (fronts u)) in
-      subst (λ o. SeesMore f c items (all_of u did.notes) held o) (sym is_new) (newest_sees u (all_of u did.notes) held coming room (held_front u did.notes) (later f c items u x.log did.notes coming of_chunks))
+      let new : did.node.table.standby ≡ newest_of f i.table.standby (records_of f chunks) =
+      (standby_keeps f g.site g.packet (place g) i op chunks (chunks_good f laws g chunks good)).standby in
+      let is_new : finite.get did.node.table.standby u ≡ either (newest f) held coming = ap (λ r. finite.get r u) new
+      ∙ each_newest f i.table.standby (records_of f chunks) (newest_of f i.table.standby (records_of f chunks)) refl u in
+      let of_chunks : IsOfFront f c items (processed_of f c items u x.log) coming = subst (λ o. IsOfFront f c items (processed_of f c items u x.log) o)
+      (sym (brought_is f chunks u)) (of_front f c items is u x.log x.world.done are.done_is (record_at u (entries f chunks)) (fronts u)) in
+      subst (λ o. SeesMore f c items (all_of u did.notes) held o) (sym is_new)
+      (newest_sees u (all_of u did.notes) held coming room (held_front u did.notes) (later f c items u x.log did.notes coming of_chunks))
 
   rows : (u : units.Unit) → Rows f g (Now u)
   rows u = record {
@@ -218,15 +242,15 @@ module _ (F : Type 0) {R : Type 0} (f : Semantics R) (laws : FunctionLaws f) (c 
 
   -- what stands by sees more from one world to the next
   abbrev pub GoesOn : Network (Node F R) Msg Note → Network (Node F R) Msg Note → Type 0
-  GoesOn w v = (i : ℕ) (u : units.Unit) → SeesMore f c items (went f c items u v.log) (standby_at w i u) (standby_at v i u)
+  GoesOn w v = (i : ℕ) (u : units.Unit) → SeesMore f c items (processed_of f c items u v.log) (standby_at w i u) (standby_at v i u)
 
   module _ (w : Network (Node F R) Msg Note) (j : Joined f gn nodes_count w) (fronts : AreKeptFronts f gn nodes_count w j) (p : ℕ) (rest : List Msg) where
     abbrev x : Scene F f gn
-    x = record { nodes = j.nodes; world = j.world; log = w.log; input = waiting w (at 0 0) }
+    x = record { nodes = j.nodes; world = j.world; log = w.log; input = queue_at w (at 0 0) }
 
     module _ (k : ℕ) (m : Msg) (takes : Takes (node_step f) nodes_count w k p (node_of j.nodes k) m rest) where
       abbrev v : Network (Node F R) Msg Note
-      v = taken (node_step f) w (at k p)
+      v = world_next (node_step f) w (at k p)
 
       abbrev log : List Note
       log = w.log ++ (node_step f (node_of j.nodes k) p m).notes
@@ -236,17 +260,22 @@ module _ (F : Type 0) {R : Type 0} (f : Semantics R) (laws : FunctionLaws f) (c 
 
       -- a copy's chunks are of fronts
       its : AreFronted f gn j.world (kept_of m)
-      its = (subst (λ ms. EachOn (λ y. AreFronted f gn j.world (kept_of y)) ms) takes.waits (fronts.each p k (let count = takes.count in rw count takes.sender) (let count = takes.count in rw count takes.receiver))).0
+      its = (subst (λ ms. EachOn (λ y. AreFronted f gn j.world (kept_of y)) ms) takes.waits
+          (fronts.each p k (let count = takes.count in rw count takes.sender) (let count = takes.count in rw count takes.receiver))).0
 
       -- another instance
-      stays : (i : ℕ) → instance_node i ≢ k → (u : units.Unit) → SeesMore f c items (went f c items u v.log) (standby_at w i u) (standby_at v i u)
+      stays : (i : ℕ) → instance_node i ≢ k → (u : units.Unit) → SeesMore f c items (processed_of f c items u v.log) (standby_at w i u) (standby_at v i u)
       stays i off u =
-          let same : standby_at v i u ≡ standby_at w i u = ap (standby_in u) (same_place w.nodes v.nodes (instance_node i) (takes.count ∙ sym left.count) (λ d. left.others (instance_node i) d off)) in
-          subst (λ l. SeesMore f c items (went f c items u l) (standby_at w i u) (standby_at v i u)) (sym left.log)
-          (subst (λ o. SeesMore f c items (went f c items u log) (standby_at w i u) o) (sym same)
-          (sees_same f c items (went f c items u log) (standby_at w i u) (later f c items u w.log (node_step f (node_of j.nodes k) p m).notes (standby_at w i u) (stands_front f c items is nodes_count w takes.count j i u))))
+          let same : standby_at v i u ≡ standby_at w i u = ap (standby_in u)
+          (same_place w.nodes v.nodes (instance_node i) (takes.count ∙ sym left.count) (λ d. left.others (instance_node i) d off)) in
+          subst (λ l. SeesMore f c items (processed_of f c items u l) (standby_at w i u) (standby_at v i u)) (sym left.log)
+          (subst (λ o. SeesMore f c items (processed_of f c items u log) (standby_at w i u) o) (sym same)
+          (sees_same f c items (processed_of f c items u log) (standby_at w i u) (later f c items u w.log (node_step f (node_of j.nodes k) p m).notes
+          (standby_at w i u) (stands_front f c items is nodes_count w takes.count j i u))))
 
-    module _ (y : ℕ) (m : Msg) (takes : Takes (node_step f) nodes_count w (suc (suc y)) p (node_of j.nodes (suc (suc y))) m rest) (t : IsTaken f gn nodes_count x (record { node = suc (suc y); port = p; message = m })) (room : (u : units.Unit) → length (went f c items u (taken (node_step f) w (at (suc (suc y)) p)).log) ≤ most_counted) where
+    module _ (y : ℕ) (m : Msg) (takes : Takes (node_step f) nodes_count w (suc (suc y)) p (node_of j.nodes (suc (suc y))) m rest)
+        (t : IsTaken f gn nodes_count x (record { node = suc (suc y); port = p; message = m }))
+        (room : (u : units.Unit) → length (processed_of f c items u (world_next (node_step f) w (at (suc (suc y)) p)).log) ≤ most_counted) where
       abbrev own : InstanceState F R
       own = j.nodes.instance (suc (suc y))
 
@@ -257,32 +286,48 @@ module _ (F : Type 0) {R : Type 0} (f : Semantics R) (laws : FunctionLaws f) (c 
       node_is = omega arith
 
       there : slice_get w.nodes (instance_node y) ≡ Some (Instance own)
-      there = subst (λ z. slice_get w.nodes z ≡ Some (Instance own)) (sym node_is) (slice_get-get_or w.nodes (suc (suc y)) (Instance own) (let small = takes.receiver in let count = takes.count in rw count small) ∙ ap Some (j.nodes_are (suc (suc y)) takes.receiver (Instance own)))
+      there = subst (λ z. slice_get w.nodes z ≡ Some (Instance own)) (sym node_is) (slice_get-get_or w.nodes (suc (suc y)) (Instance own)
+          (let small = takes.receiver in let count = takes.count in rw count small) ∙ ap Some (j.nodes_are (suc (suc y)) takes.receiver (Instance own)))
 
       after : slice_get (v (suc (suc y)) m takes).nodes (instance_node y) ≡ Some (Instance did.node)
       after =
           let out = left (suc (suc y)) m takes in
-          subst (λ z. slice_get (v (suc (suc y)) m takes).nodes z ≡ Some (Instance did.node)) (sym node_is) (slice_get-get_or (v (suc (suc y)) m takes).nodes (suc (suc y)) (Instance did.node) (let small = takes.receiver in let count = out.count in rw count small) ∙ ap Some (out.own (Instance did.node)))
+          subst (λ z. slice_get (v (suc (suc y)) m takes).nodes z ≡ Some (Instance did.node)) (sym node_is)
+          (slice_get-get_or (v (suc (suc y)) m takes).nodes (suc (suc y)) (Instance did.node) (let small = takes.receiver in
+          let count = out.count in rw count small) ∙ ap Some (out.own (Instance did.node)))
 
-      own_sees : (u : units.Unit) → SeesMore f c items (went f c items u (v (suc (suc y)) m takes).log) (standby_at w y u) (standby_at (v (suc (suc y)) m takes) y u)
+      own_sees : (u : units.Unit)
+          → SeesMore f c items (processed_of f c items u (v (suc (suc y)) m takes).log) (standby_at w y u) (standby_at (v (suc (suc y)) m takes) y u)
       own_sees u =
           let out = left (suc (suc y)) m takes in
-          let sees = instance_sees f laws c items is nodes_count x j.shown_is p y (j.shown_is.instances (suc (suc y)) (omega arith) takes.receiver) u m t (its (suc (suc y)) m takes) (subst (λ l. length (went f c items u l) ≤ most_counted) out.log (room u)) in
-          subst (λ l. SeesMore f c items (went f c items u l) (standby_at w y u) (standby_at (v (suc (suc y)) m takes) y u)) (sym out.log)
-          (subst (λ o. SeesMore f c items (went f c items u (w.log ++ did.notes)) o (standby_at (v (suc (suc y)) m takes) y u)) (sym (ap (standby_in u) there))
-          (subst (λ o. SeesMore f c items (went f c items u (w.log ++ did.notes)) (finite.get own.table.standby u) o) (sym (ap (standby_in u) after)) sees))
+          let sees = instance_sees f laws c items is nodes_count x j.shown_is p y (j.shown_is.instances (suc (suc y)) (omega arith) takes.receiver) u m t
+          (its (suc (suc y)) m takes) (subst (λ l. length (processed_of f c items u l) ≤ most_counted) out.log (room u)) in
+          subst (λ l. SeesMore f c items (processed_of f c items u l) (standby_at w y u) (standby_at (v (suc (suc y)) m takes) y u)) (sym out.log)
+          (subst (λ o. SeesMore f c items (processed_of f c items u (w.log ++ did.notes)) o (standby_at (v (suc (suc y)) m takes) y u))
+          (sym (ap (standby_in u) there))
+          (subst (λ o. SeesMore f c items (processed_of f c items u (w.log ++ did.notes)) (finite.get own.table.standby u) o)
+          (sym (ap (standby_in u) after)) sees))
 
       at_instance : GoesOn w (v (suc (suc y)) m takes)
-      at_instance i u = elim (i == y) as (λ b. (i == y) ≡ b → SeesMore f c items (went f c items u (v (suc (suc y)) m takes).log) (standby_at w i u) (standby_at (v (suc (suc y)) m takes) i u)) [
-        | true ↦ λ on. subst (λ z. SeesMore f c items (went f c items u (v (suc (suc y)) m takes).log) (standby_at w z u) (standby_at (v (suc (suc y)) m takes) z u)) (sym ((Decides-eqb i y).0 on)) (own_sees u)
-        | false ↦ λ off. stays (suc (suc y)) m takes i (λ e. (let bad : i ≡ y = omega (arith, e) in let never : true ≡ false = sym ((Decides-eqb i y).1 bad) ∙ off in cc)) u
-      ] refl
+      at_instance i u = elim (i == y) as (λ b. (i == y) ≡ b
+          → SeesMore f c items (processed_of f c items u (v (suc (suc y)) m takes).log) (standby_at w i u) (standby_at (v (suc (suc y)) m takes) i u)) [
+            | true ↦ λ on. subst (λ z. SeesMore f c items (processed_of f c items u (v (suc (suc y)) m takes).log) (standby_at w z u)
+                (standby_at (v (suc (suc y)) m takes) z u)) (sym ((Decides-eqb i y).0 on)) (own_sees u)
+            | false ↦ λ off. stays (suc (suc y)) m takes i
+                (λ e. (let bad : i ≡ y = omega (arith, e) in let never : true ≡ false = sym ((Decides-eqb i y).1 bad) ∙ off in cc)) u
+          ] refl
 
-    each_goes : (k : ℕ) (m : Msg) (takes : Takes (node_step f) nodes_count w k p (node_of j.nodes k) m rest) → IsTaken f gn nodes_count x (record { node = k; port = p; message = m }) → ((u : units.Unit) → length (went f c items u (taken (node_step f) w (at k p)).log) ≤ most_counted) → GoesOn w (taken (node_step f) w (at k p))
+    each_goes : (k : ℕ) (m : Msg) (takes : Takes (node_step f) nodes_count w k p (node_of j.nodes k) m rest)
+        → IsTaken f gn nodes_count x (record { node = k; port = p; message = m })
+        → ((u : units.Unit) → length (processed_of f c items u (world_next (node_step f) w (at k p)).log) ≤ most_counted)
+        → GoesOn w (world_next (node_step f) w (at k p))
     each_goes zero m takes t room = λ i u. stays 0 m takes i (λ e. absurd (omega (arith, e))) u
     each_goes (suc zero) m takes t room = λ i u. stays 1 m takes i (λ e. absurd (omega (arith, e))) u
     each_goes (suc (suc y)) m takes t room = at_instance y m takes t room
 
   -- after which no more was processed of a unit than a record counts
-  pub goes_on : (w : Network (Node F R) Msg Note) (d : Choice) → Taking node_ready (node_step f) nodes_count w d → (j : Joined f gn nodes_count w) → HasBeside f gn nodes_count w j → ((u : units.Unit) → length (went f c items u (taken (node_step f) w d).log) ≤ most_counted) → GoesOn w (taken (node_step f) w d)
-  goes_on w d t j b room = each_goes w j b.kept.fronts d.port t.rest d.node t.message (its_takes f laws gn (all_fit f c items is) nodes_count refl w d t j b) (its_taken f laws gn (all_fit f c items is) nodes_count refl w d t j b) room
+  pub goes_on : (w : Network (Node F R) Msg Note) (d : Choice) → Taking node_ready (node_step f) nodes_count w d → (j : Joined f gn nodes_count w)
+      → HasBeside f gn nodes_count w j → ((u : units.Unit) → length (processed_of f c items u (world_next (node_step f) w d).log) ≤ most_counted)
+      → GoesOn w (world_next (node_step f) w d)
+  goes_on w d t j b room = each_goes w j b.kept.fronts d.port t.rest d.node t.message
+      (its_takes f laws gn (all_fit f c items is) nodes_count refl w d t j b) (its_taken f laws gn (all_fit f c items is) nodes_count refl w d t j b) room

@@ -24,13 +24,13 @@ use Rattle.nf_msgs.specs.declared.msg.Piece.{Piece}
 use Rattle.nf_msgs.specs.Exports.{units_in}
 use Rattle.instance_worker.specs.declared.pieces.WholePieces.{WholePieces}
 use Rattle.instance_worker.specs.Pieces.{newest_version, piece_of, pieces_from, whole_of, pieces}
-use Rattle.unit_machine.proofs.Labels.{Each, each_map}
-use Rattle.unit_machine.proofs.Real.{Chunks}
+use Rattle.proof_machines.proofs.unit.Labels.{Each, each_map}
+use Rattle.proof_machines.proofs.unit.Real.{Chunks}
 use Rattle.net_world.specs.declared.config.Config.{Config}
 use Rattle.net_world.specs.Input.{packet_numbered}
 use Rattle.net_world.specs.Fold.{fold}
-use Rattle.outline_net.proofs.Outline.{newest_in}
-use Rattle.outline_net.proofs.StateOutline.{newest_made}
+use Rattle.proof_outlines.proofs.outline.Outline.{newest_in}
+use Rattle.proof_outlines.proofs.outline.StateOutline.{newest_made}
 
 -- what each piece says of all
 abbrev pub IsOf : WholePieces → Piece → Type 0
@@ -39,10 +39,11 @@ IsOf whole p = (p.total ≡ whole.total) × (p.newest ≡ whole.newest)
 cut_of : (whole : WholePieces) (n : ℕ) (chunks : List Chunk) → Each (IsOf whole) (pieces_from whole n chunks)
 unfolding pieces_from
 cut_of whole zero chunks = ((refl, refl), tt)
-cut_of whole (suc n) chunks = elim (nat_le (length chunks) 64) as (λ b. Each (IsOf whole) (if b then piece_of whole true chunks ∷ [] else piece_of whole false (take 64 chunks) ∷ pieces_from whole n (drop 64 chunks))) [
-  | true ↦ ((refl, refl), tt)
-  | false ↦ ((refl, refl), cut_of whole n (drop 64 chunks))
-]
+cut_of whole (suc n) chunks = elim (nat_le (length chunks) 64) as (λ b. Each (IsOf whole)
+    (if b then piece_of whole true chunks ∷ [] else piece_of whole false (take 64 chunks) ∷ pieces_from whole n (drop 64 chunks))) [
+      | true ↦ ((refl, refl), tt)
+      | false ↦ ((refl, refl), cut_of whole n (drop 64 chunks))
+    ]
 
 pub pieces_of : (chunks : List Chunk) → Each (IsOf (whole_of chunks)) (pieces chunks)
 pieces_of chunks = cut_of (whole_of chunks) (length chunks) chunks
@@ -64,7 +65,8 @@ module _ {R : Type 0} (f : Semantics R) (laws : FunctionLaws f) where
   newest_by false true = refl
   newest_by false false = refl
 
-  newest_is : (test : units.Unit → Bool) (es : Chunks R) → Each (λ e. f.is_timed e.1 ≡ test e.0) es → newest_in f es ≡ version_number (list_any test (map (λ e. e.0) es))
+  newest_is : (test : units.Unit → Bool) (es : Chunks R) → Each (λ e. f.is_timed e.1 ≡ test e.0) es
+      → newest_in f es ≡ version_number (list_any test (map (λ e. e.0) es))
   newest_is test [] h = refl
   newest_is test (e ∷ es) h = let here = h.0 in let rest = newest_is test es h.1 in rw (rest, here) (newest_by (test e.0) (list_any test (map (λ x. x.0) es)))
 
@@ -81,11 +83,13 @@ module _ {R : Type 0} (f : Semantics R) (laws : FunctionLaws f) where
 
 -- Each entry of a map is found.
 module _ {R : Type 0} where
-  found_more : (e : units.Unit × R) (es xs : Chunks R) → AllByRecursion (λ v. same_unit e.0 v ≡ false) (keys_of xs) → Each (λ x. at es x.0 ≡ Some x.1) xs → Each (λ x. at (e ∷ es) x.0 ≡ Some x.1) xs
+  found_more : (e : units.Unit × R) (es xs : Chunks R) → AllByRecursion (λ v. same_unit e.0 v ≡ false) (keys_of xs) → Each (λ x. at es x.0 ≡ Some x.1) xs
+      → Each (λ x. at (e ∷ es) x.0 ≡ Some x.1) xs
   found_more e es [] apart h = tt
   found_more e es (x ∷ xs) apart h = (
     elim (same_unit x.0 e.0) as (λ b. same_unit x.0 e.0 ≡ b → cond b (Some e.1) (at es x.0) ≡ Some x.1) [
-      | true ↦ λ same. let off : same_unit e.0 e.0 ≡ false = subst (λ v. same_unit e.0 v ≡ false) (same_unit-true x.0 e.0 same) apart.0 in let never : true ≡ false = sym (same_unit_equiv.refl e.0) ∙ off in cc
+      | true ↦ λ same. let off : same_unit e.0 e.0 ≡ false = subst (λ v. same_unit e.0 v ≡ false) (same_unit-true x.0 e.0 same) apart.0 in
+          let never : true ≡ false = sym (same_unit_equiv.refl e.0) ∙ off in cc
       | false ↦ λ _. h.0
     ] refl,
     found_more e es xs apart.1 h.1,
@@ -99,7 +103,8 @@ module _ {R : Type 0} where
   )
 
   pub entries_found : (m : Records R) → Each (λ e. finite.get m e.0 ≡ Some e.1) (finite.entries m)
-  entries_found m = each_map {P = (λ x. at (finite.entries m) x.0 ≡ Some x.1)} {Q = (λ e. finite.get m e.0 ≡ Some e.1)} (λ e h. finite.get-entries m e.0 ∙ h) (finite.entries m) (found_distinct (finite.entries m) (distinct_entries m))
+  entries_found m = each_map {P = (λ x. at (finite.entries m) x.0 ≡ Some x.1)} {Q = (λ e. finite.get m e.0 ≡ Some e.1)}
+      (λ e h. finite.get-entries m e.0 ∙ h) (finite.entries m) (found_distinct (finite.entries m) (distinct_entries m))
 
   some_of : (b : Bool) (o : Option R) (r : R) → cond b o None ≡ Some r → o ≡ Some r
   some_of true o r h = h
@@ -107,12 +112,16 @@ module _ {R : Type 0} where
 
   -- and those that a filter takes are those of the map
   pub taken_found : (g : Filter) (live : Records R) → Each (λ e. finite.get live e.0 ≡ Some e.1) (finite.entries (taken_by g live))
-  taken_found g live = each_map {P = (λ e. finite.get (taken_by g live) e.0 ≡ Some e.1)} {Q = (λ e. finite.get live e.0 ≡ Some e.1)} (λ e h. some_of (takes g e.0) (finite.get live e.0) e.1 (sym (finite.get-retain_keys live (takes g) e.0 (λ x same. ap (takes g) (sym (one_unit e.0 x same)))) ∙ h)) (finite.entries (taken_by g live)) (entries_found (taken_by g live))
+  taken_found g live = each_map {P = (λ e. finite.get (taken_by g live) e.0 ≡ Some e.1)} {Q = (λ e. finite.get live e.0 ≡ Some e.1)} (λ e h. some_of
+      (takes g e.0) (finite.get live e.0) e.1 (sym (finite.get-retain_keys live (takes g) e.0 (λ x same. ap (takes g) (sym (one_unit e.0 x same)))) ∙ h))
+      (finite.entries (taken_by g live)) (entries_found (taken_by g live))
 
 module _ {R : Type 0} (f : Semantics R) (laws : FunctionLaws f) where
   -- what an instance gives, where a test tells which of its records have a time
-  pub selected_give : (g : Filter) (live : Records R) (test : units.Unit → Bool) → ((u : units.Unit) (r : R) → finite.get live u ≡ Some r → f.is_timed r ≡ test u) → GivesState f laws test (chunks_of f (taken_by g live))
-  selected_give g live test h = entries_give f laws test (finite.entries (taken_by g live)) (each_map {P = (λ e. finite.get live e.0 ≡ Some e.1)} {Q = (λ e. f.is_timed e.1 ≡ test e.0)} (λ e there. h e.0 e.1 there) (finite.entries (taken_by g live)) (taken_found g live))
+  pub selected_give : (g : Filter) (live : Records R) (test : units.Unit → Bool)
+      → ((u : units.Unit) (r : R) → finite.get live u ≡ Some r → f.is_timed r ≡ test u) → GivesState f laws test (chunks_of f (taken_by g live))
+  selected_give g live test h = entries_give f laws test (finite.entries (taken_by g live)) (each_map {P = (λ e. finite.get live e.0 ≡ Some e.1)}
+      {Q = (λ e. f.is_timed e.1 ≡ test e.0)} (λ e there. h e.0 e.1 there) (finite.entries (taken_by g live)) (taken_found g live))
 
   module _ (c : Config) (items : List Msg) (fitting : (number : ℕ) → Fits c.site (packet_numbered items number)) where
     abbrev pub is_late : ℕ → Bool

@@ -1,6 +1,7 @@
 -- The share of a unit in a world of a run: a share that the switch has installed is open, and of all open ones it alone takes its units. So what
 -- the log says of the unit's members is what the controller serves.
-use Rattle.std.proofs.Common.{◌≡◌, ℕ, zero, ◌+◌, ◌<◌, ◌≤◌, inl, inr, Bool, true, false, Option, Some, None, List, [], ◌∷◌, map, length, refl, sym, ap, ◌∙◌, subst, arith}
+use Rattle.std.proofs.Common.{◌≡◌, ℕ, ◌+◌, ◌<◌, ◌≤◌, inl, inr, Bool, true, false, Option, Some}
+use Rattle.std.proofs.Common.{None, List, [], ◌∷◌, map, length, refl, sym, ap, ◌∙◌, subst, arith}
 use Rattle.std.specs.Prelude.{if◌then◌else◌, ◌&&◌, ◌||◌, ◌==◌, ◌%◌, not, find, is_some, slice_index, slice_index_or}
 use Rattle.std.specs.List.{filter_map}
 use Rattle.std.specs.FinMap as finite
@@ -25,38 +26,40 @@ use Rattle.ctrl_node.specs.declared.operation.Operation.{Operation}
 use Rattle.ctrl_node.specs.declared.operation.Operation.TheVariants.{Move, Copy, Share}
 use Rattle.flow_filter.specs.Name.{place_of}
 use Rattle.actor_net.specs.Network.{Network}
-use Rattle.share_machine.proofs.Share as machine
-use Rattle.share_machine.proofs.Stages.{Stage, Stage.Diverting, Stage.Fence_goes, Stage.Fenced_comes, Stage.Get_goes, Stage.Chunks_come, Stage.Spreads, Stage.Resting, Stage.Forwards, Stage.Carries, Stage.Chunk_comes, shape}
-use Rattle.abstract_net.proofs.Elsewhere.{where_two}
-use Rattle.abstract_net.proofs.ShareLists.{found_each}
-use Rattle.abstract_net.proofs.ShareViews.{unit_share}
-use Rattle.abstract_net.proofs.Shares.{Open_share, moves_of}
-use Rattle.abstract_net.proofs.Untaken.{Elsewhere_home}
-use Rattle.abstract_net.proofs.UnderStarts.{seeing}
-use Rattle.whole_net.proofs.Readings.{Its_share, its_share}
-use Rattle.whole_net.proofs.WhereAll.{Where_all, Apart_from_shares, Under_share}
+use Rattle.proof_machines.proofs.share.Share as machine
+use Rattle.proof_machines.proofs.share.Stages.{Stage, Stage.Diverting, Stage.Fence_goes, Stage.Fenced_comes, Stage.Get_goes, Stage.Chunks_come}
+use Rattle.proof_machines.proofs.share.Stages.{Stage.Spreads, Stage.Resting, Stage.Forwards, Stage.Carries, Stage.Chunk_comes, shape}
+use Rattle.proof_machines.proofs.net.Elsewhere.{where_two}
+use Rattle.proof_machines.proofs.net.ShareLists.{found_each}
+use Rattle.proof_machines.proofs.net.ShareViews.{unit_share}
+use Rattle.proof_machines.proofs.net.Shares.{OpenShare, moves_of}
+use Rattle.proof_machines.proofs.net.Untaken.{ElsewhereHome}
+use Rattle.proof_machines.proofs.net.UnderStarts.{seeing}
+use Rattle.proof_machines.proofs.whole.Readings.{ItsShare, its_share}
+use Rattle.proof_machines.proofs.whole.WhereAll.{WhereAll, Apart_from_shares, Under_share}
 use Rattle.net_world.specs.declared.config.Config.{Config}
 use Rattle.net_world.specs.declared.node.Node.{Node}
 use Rattle.net_world.specs.declared.node.Node.TheVariants.{Controller}
-use Rattle.net_world.specs.Commands.{began, has_answered, is_share, answers_of, times_installed}
+use Rattle.net_world.specs.Commands.{is_begun, has_answered, is_share, answers_of, times_installed}
 use Rattle.net_world.specs.Input.{IsInput, order_numbered, packet_numbered}
-use Rattle.net_world.specs.Log.{installed}
+use Rattle.net_world.specs.Log.{installs_in}
 use Rattle.net_world.specs.Places.{first_owner, is_home, owner, members, member_for}
-use Rattle.outline_net.proofs.FiltersApart.{unit_fits, takes_whole, takes_same, filters_apart}
-use Rattle.outline_net.proofs.Outline.{is_sys}
-use Rattle.whole_outline.proofs.OpenShares.{Both, both, Real_share, real_share}
-use Rattle.whole_outline.proofs.ShareOutline.{share_phase, index_same}
-use Rattle.whole_joined.proofs.Given.{Given, place, is_diverted}
-use Rattle.whole_joined.proofs.Joined.{S, A, IsShare, Joined, came_by}
-use Rattle.whole_joined.proofs.OperationsApart.{AreApart, AllApart}
-use Rattle.whole_joined.proofs.ShareBegins.{names_known}
-use Rattle.whole_joined.proofs.StartJoined.{given}
-use Rattle.answer_net.proofs.BusyLemmas.{unanswered}
-use Rattle.answer_net.proofs.BusyRuns.{Busy, same_controller, keeps_is, plan_is, told_is, open_began}
-use Rattle.answer_net.proofs.InstallRuns.{Installs, dones_still}
-use Rattle.answer_net.proofs.InstallSteps.{is_moving, dones, open_in}
-use Rattle.answer_net.proofs.ShareTells.{is_set_up}
-use Rattle.nf_net.proofs.MemberLemmas.{IsThere, There, is_there, IsSharedBy, shared_by, members_diverted, Installed_in, installed_in, times_there, home_first, member_at}
+use Rattle.proof_outlines.proofs.outline.FiltersApart.{unit_fits, takes_whole, takes_same, filters_apart}
+use Rattle.proof_outlines.proofs.outline.Outline.{is_sys}
+use Rattle.proof_outlines.proofs.whole.OpenShares.{Both, both, RealShare, real_share}
+use Rattle.proof_outlines.proofs.whole.ShareOutline.{share_phase, index_same}
+use Rattle.proof_outlines.proofs.joined.Given.{Given, place, is_diverted}
+use Rattle.proof_outlines.proofs.joined.Joined.{S, A, IsShare, Joined, came_by}
+use Rattle.proof_outlines.proofs.joined.OperationsApart.{AreApart, AllApart}
+use Rattle.proof_outlines.proofs.joined.ShareBegins.{names_known}
+use Rattle.proof_outlines.proofs.joined.StartJoined.{given}
+use Rattle.nf_net.proofs.answers.BusyLemmas.{unanswered}
+use Rattle.nf_net.proofs.answers.BusyRuns.{Busy, same_controller, keeps_is, plan_is, told_is, open_began}
+use Rattle.nf_net.proofs.answers.InstallRuns.{Installs, dones_still}
+use Rattle.nf_net.proofs.answers.InstallSteps.{is_moving, dones, open_in}
+use Rattle.nf_net.proofs.answers.ShareTells.{is_set_up}
+use Rattle.nf_net.proofs.MemberLemmas.{IsThere, There, is_there, IsSharedBy, shared_by, members_diverted}
+use Rattle.nf_net.proofs.MemberLemmas.{InstalledIn, installed_in, times_there, home_first, member_at}
 
 -- a share that is set up, as its proof sees it
 abbrev serves : machine.Phase → Bool
@@ -92,30 +95,36 @@ both_so true false b h k = cc
 both_so false s b h k = cc
 
 -- Where a unit's packets go in a world of a run, by the log.
-module _ {F R : Type 0} (f : Semantics R) (c : Config) (items : List Msg) (is : IsInput f.kind c items) (n : ℕ) (w : Network (Node F R) Msg Note) (j : Joined f (given f c items is) n w) (u : units.Unit) (fits : unit_fits f.kind u ≡ true) where
+module _ {F R : Type 0} (f : Semantics R) (c : Config) (items : List Msg) (is : IsInput f.kind c items) (n : ℕ) (w : Network (Node F R) Msg Note)
+    (j : Joined f (given f c items is) n w) (u : units.Unit) (fits : unit_fits f.kind u ≡ true) where
   abbrev gt : Given
   gt = given f c items is
 
   -- packets go to the controller where the unit has members
   pub diverted_members : j.world.target u ≡ 1 → IsThere (members c items u w.log)
-  diverted_members one = is_there (members c items u w.log) (members_diverted gt u (first_owner u c.routes) (installed w.log) ∙ by_test (is_diverted gt u (installed w.log)) (sym one ∙ j.shown_is.owners u fits))
+  diverted_members one = is_there (members c items u w.log) (members_diverted gt u (first_owner u c.routes) (installs_in w.log)
+      ∙ by_test (is_diverted gt u (installs_in w.log)) (sym one ∙ j.shown_is.owners u fits))
     where
       by_test : (d : Bool) → 1 ≡ (if d then 1 else instance_node (owner c items u w.log)) → d ≡ true
       by_test true at = refl
       by_test false at = absurd (omega (arith, at))
 
   pub members_go : (ms : List (List ℕ)) → members c items u w.log ≡ Some ms → j.world.target u ≡ 1
-  members_go ms e = j.shown_is.owners u fits ∙ ap (λ d. if d then 1 else instance_node (owner c items u w.log)) (sym (members_diverted gt u (first_owner u c.routes) (installed w.log)) ∙ ap is_some e)
+  members_go ms e = j.shown_is.owners u fits ∙ ap (λ d. if d then 1 else instance_node (owner c items u w.log))
+      (sym (members_diverted gt u (first_owner u c.routes) (installs_in w.log)) ∙ ap is_some e)
 
   -- and to the owner where it has none
   pub owner_goes : 2 ≤ j.world.target u → j.world.target u ≡ instance_node (owner c items u w.log)
-  owner_goes two = by_test (is_diverted gt u (installed w.log)) (j.shown_is.owners u fits)
+  owner_goes two = by_test (is_diverted gt u (installs_in w.log)) (j.shown_is.owners u fits)
     where
-      by_test : (d : Bool) → j.world.target u ≡ (if d then 1 else instance_node (owner c items u w.log)) → j.world.target u ≡ instance_node (owner c items u w.log)
+      by_test : (d : Bool) → j.world.target u ≡ (if d then 1 else instance_node (owner c items u w.log))
+          → j.world.target u ≡ instance_node (owner c items u w.log)
       by_test true at = absurd (omega (arith, at, two))
       by_test false at = at
 
-module _ {F R : Type 0} (f : Semantics R) (c : Config) (items : List Msg) (is : IsInput f.kind c items) (n : ℕ) (count_is : n ≡ length c.names + 2) (w : Network (Node F R) Msg Note) (j : Joined f (given f c items is) n w) (apart : AllApart j.nodes.controller.operations) (b : Busy (given f c items is) w) where
+module _ {F R : Type 0} (f : Semantics R) (c : Config) (items : List Msg) (is : IsInput f.kind c items) (n : ℕ) (count_is : n ≡ length c.names + 2)
+    (w : Network (Node F R) Msg Note) (j : Joined f (given f c items is) n w) (apart : AllApart j.nodes.controller.operations)
+    (b : Busy (given f c items is) w) where
   abbrev g : Given
   g = given f c items is
 
@@ -133,7 +142,8 @@ module _ {F R : Type 0} (f : Semantics R) (c : Config) (items : List Msg) (is : 
   same_filter : {a d : List (List ℕ)} {p q : Filter} → Some (order.Share a p) ≡ Some (order.Share d q) → p ≡ q
   same_filter e = cc
 
-  open_share : (op : ℕ) (ms : List (List ℕ)) (filter : Filter) → order_numbered items op ≡ Some (order.Share ms filter) → (s : ShareState) → finite.get j.nodes.controller.operations op ≡ Some (Share s) → IsOpenShare op ms filter
+  open_share : (op : ℕ) (ms : List (List ℕ)) (filter : Filter) → order_numbered items op ≡ Some (order.Share ms filter) → (s : ShareState)
+      → finite.get j.nodes.controller.operations op ≡ Some (Share s) → IsOpenShare op ms filter
   open_share op ms filter what s there =
       let its : IsShare f g op s = j.shown_is.controller.shared op s there in
       let own : order_numbered items op ≡ Some (order.Share its.plan.names s.plan.filter) = ap (order_numbered items) (sym its.op_is) ∙ its.plan.order_is in
@@ -147,7 +157,8 @@ module _ {F R : Type 0} (f : Semantics R) (c : Config) (items : List Msg) (is : 
       }
 
   -- a share's command that is open has a share for its operation
-  share_open : (op : ℕ) (ms : List (List ℕ)) (filter : Filter) → order_numbered items op ≡ Some (order.Share ms filter) → (o : Option Operation) → finite.get j.nodes.controller.operations op ≡ o → is_some o ≡ true → IsOpenShare op ms filter
+  share_open : (op : ℕ) (ms : List (List ℕ)) (filter : Filter) → order_numbered items op ≡ Some (order.Share ms filter) → (o : Option Operation)
+      → finite.get j.nodes.controller.operations op ≡ o → is_some o ≡ true → IsOpenShare op ms filter
   share_open op ms filter what None at e = cc
   share_open op ms filter what (Some (Share s)) at e = open_share op ms filter what s at
   share_open op ms filter what (Some (Move m)) at e =
@@ -160,11 +171,13 @@ module _ {F R : Type 0} (f : Semantics R) (c : Config) (items : List Msg) (is : 
       cc
 
   -- it is open if the switch has installed it, and if it began
-  pub open_installed : Installs g w → (op : ℕ) (ms : List (List ℕ)) (filter : Filter) → order_numbered items op ≡ Some (order.Share ms filter) → 1 ≤ times_installed op w.log → IsOpenShare op ms filter
+  pub open_installed : Installs g w → (op : ℕ) (ms : List (List ℕ)) (filter : Filter) → order_numbered items op ≡ Some (order.Share ms filter)
+      → 1 ≤ times_installed op w.log → IsOpenShare op ms filter
   open_installed h op ms filter what some = by_got (finite.get h.controller.operations op) refl
     where
       same : h.controller ≡ j.nodes.controller
-      same = same_controller {F = F} {R = R} h.controller j.nodes.controller (sym (h.controller_is (Controller h.controller)) ∙ j.nodes_are 1 (omega (arith, count_is)) (Controller h.controller))
+      same = same_controller {F = F} {R = R} h.controller j.nodes.controller
+          (sym (h.controller_is (Controller h.controller)) ∙ j.nodes_are 1 (omega (arith, count_is)) (Controller h.controller))
 
       none_done : dones (is_moving (order_numbered items op)) (answers_of op w.log) ≡ 0
       none_done = ap (λ o. dones (is_moving o) (answers_of op w.log)) what ∙ dones_still (answers_of op w.log)
@@ -177,13 +190,17 @@ module _ {F R : Type 0} (f : Semantics R) (c : Config) (items : List Msg) (is : 
           absurd (omega (arith, balance, none, zero, some))
       by_got (Some o) at = share_open op ms filter what (Some o) (ap (λ x. finite.get x.operations op) (sym same) ∙ at) refl
 
-  pub open_begun : (op : ℕ) (ms : List (List ℕ)) (filter : Filter) → order_numbered items op ≡ Some (order.Share ms filter) → began op w.log ≡ true → IsOpenShare op ms filter
-  open_begun op ms filter what on = share_open op ms filter what (finite.get j.nodes.controller.operations op) refl (keeps_is f g n count_is w j b op ∙ both_so (began op w.log) (is_share (order_numbered items op)) (not (has_answered op w.log)) on (ap is_share what))
+  pub open_begun : (op : ℕ) (ms : List (List ℕ)) (filter : Filter) → order_numbered items op ≡ Some (order.Share ms filter) → is_begun op w.log ≡ true
+      → IsOpenShare op ms filter
+  open_begun op ms filter what on = share_open op ms filter what (finite.get j.nodes.controller.operations op) refl (keeps_is f g n count_is w j b op
+      ∙ both_so (is_begun op w.log) (is_share (order_numbered items op)) (not (has_answered op w.log)) on (ap is_share what))
 
   -- Of the units that packets may have.
   module _ (u : units.Unit) (fits : unit_fits f.kind u ≡ true) where
     -- what one open operation takes no other takes
-    one_takes : (k l : ℕ) (s t : ShareState) → finite.get j.nodes.controller.operations k ≡ Some (Share s) → finite.get j.nodes.controller.operations l ≡ Some (Share t) → takes_whole f.kind s.plan.filter u ≡ true → takes_whole f.kind t.plan.filter u ≡ true → k ≡ l
+    one_takes : (k l : ℕ) (s t : ShareState) → finite.get j.nodes.controller.operations k ≡ Some (Share s)
+        → finite.get j.nodes.controller.operations l ≡ Some (Share t) → takes_whole f.kind s.plan.filter u ≡ true
+        → takes_whole f.kind t.plan.filter u ≡ true → k ≡ l
     one_takes k l s t at_k at_l on_k on_l = elim (k == l) as (λ e. (k == l) ≡ e → k ≡ l) [
       | true ↦ λ same. (Decides-eqb k l).0 same
       | false ↦ λ off. absurd (not_both (apart k l (Share s) (Share t) off at_k at_l))
@@ -193,19 +210,24 @@ module _ {F R : Type 0} (f : Semantics R) (c : Config) (items : List Msg) (is : 
         not_both (inl off) = let never : true ≡ false = sym on_l ∙ filters_apart f.kind s.plan.filter t.plan.filter u off on_k in cc
         not_both (inr off) = let never : true ≡ false = sym on_k ∙ filters_apart f.kind t.plan.filter s.plan.filter u off on_l in cc
 
-    whole_on : (op : ℕ) (ms : List (List ℕ)) (filter : Filter) (o : IsOpenShare op ms filter) → takes filter u ≡ true → takes_whole f.kind o.state.plan.filter u ≡ true
-    whole_on op ms filter o on = takes_same f.kind o.state.plan.filter u (j.shown_is.controller.shared op o.state o.there).whole fits ∙ ap (λ q. takes q u) o.filter_is ∙ on
+    whole_on : (op : ℕ) (ms : List (List ℕ)) (filter : Filter) (o : IsOpenShare op ms filter) → takes filter u ≡ true
+        → takes_whole f.kind o.state.plan.filter u ≡ true
+    whole_on op ms filter o on =
+        takes_same f.kind o.state.plan.filter u (j.shown_is.controller.shared op o.state o.there).whole fits ∙ ap (λ q. takes q u) o.filter_is ∙ on
 
     -- the share that has the unit in the network, and an open one that takes it
-    module _ (op : ℕ) (ms : List (List ℕ)) (filter : Filter) (o : IsOpenShare op ms filter) (on : takes filter u ≡ true) (e : Open_share) (its : Its_share (S f g) (A f g) (is_sys f g.site g.packet) u j.world e) where
-      real : Real_share f (place g) g.site j.nodes.controller e.num e
+    module _ (op : ℕ) (ms : List (List ℕ)) (filter : Filter) (o : IsOpenShare op ms filter) (on : takes filter u ≡ true) (e : OpenShare)
+        (its : ItsShare (S f g) (A f g) (is_sys f g.site g.packet) u j.world e) where
+      real : RealShare f (place g) g.site j.nodes.controller e.num e
       real = real_share f (place g) g.site j.world.ops j.world.shares j.nodes.controller e.num e j.shown_is.controller.opens its.found
 
       pub number_is : op ≡ e.num
-      number_is = one_takes op e.num o.state real.s o.there real.there (whole_on op ms filter o on) (ap (λ q. takes_whole f.kind q u) (sym (ap (λ x. x.filter) real.sees.is)) ∙ its.takes)
+      number_is = one_takes op e.num o.state real.s o.there real.there (whole_on op ms filter o on)
+          (ap (λ q. takes_whole f.kind q u) (sym (ap (λ x. x.filter) real.sees.is)) ∙ its.takes)
 
       same_state : o.state ≡ real.s
-      same_state = let both : Some (Share o.state) ≡ Some (Share real.s) = sym o.there ∙ ap (finite.get j.nodes.controller.operations) number_is ∙ real.there in cc
+      same_state =
+          let both : Some (Share o.state) ≡ Some (Share real.s) = sym o.there ∙ ap (finite.get j.nodes.controller.operations) number_is ∙ real.there in cc
 
       pub phase_is : e.phase ≡ share_phase o.state.phase
       phase_is = ap (λ x. x.phase) real.sees.is ∙ ap (λ s. share_phase s.phase) (sym same_state)
@@ -216,7 +238,8 @@ module _ {F R : Type 0} (f : Semantics R) (c : Config) (items : List Msg) (is : 
       -- its home is the first of its names
       pub home_is : (i : ℕ) → is_home c.names (order_numbered items) ms i ≡ true → e.home ≡ instance_node i
       home_is i at =
-          let first : home real.s.plan ≡ slice_index (filter_map (place_of c.names) ms) 0 = ap (λ s. home s.plan) (sym same_state) ∙ ap (λ v. slice_index v 0) (sym o.members_are) in
+          let first : home real.s.plan ≡ slice_index (filter_map (place_of c.names) ms) 0 = ap (λ s. home s.plan) (sym same_state)
+          ∙ ap (λ v. slice_index v 0) (sym o.members_are) in
           ap (λ x. x.home) real.sees.is ∙ ap instance_node (first ∙ home_first c.names (order_numbered items) ms i at)
 
       -- and the member of a packet is the one that its names say
@@ -226,14 +249,19 @@ module _ {F R : Type 0} (f : Semantics R) (c : Config) (items : List Msg) (is : 
           let nodes : List ℕ = filter_map (place_of c.names) ms in
           let k : ℕ = flow.lport + flow.rport + flow.remote in
           let many : length nodes ≡ length ms = all_placed ms o.known in
-          let some : 0 < length nodes = subst (λ v. 0 < length v) (sym o.members_are) (let two = (j.shown_is.controller.shared op o.state o.there).some in omega (arith, two)) in
+          let some : 0 < length nodes = subst (λ v. 0 < length v) (sym o.members_are)
+          (let two = (j.shown_is.controller.shared op o.state o.there).some in omega (arith, two)) in
           let low = mod_below k (length nodes) some in
-          let seen : slice_index (map instance_node nodes) (k % length (map instance_node nodes)) ≡ instance_node i = sym (ap (λ v. (A f g).member v p) members_same) ∙ at in
-          let same : instance_node (slice_index nodes (k % length nodes)) ≡ instance_node i = sym (ap (λ m. slice_index (map instance_node nodes) (k % m)) (length-map nodes instance_node) ∙ index_same nodes (k % length nodes) low) ∙ seen in
+          let seen : slice_index (map instance_node nodes) (k % length (map instance_node nodes)) ≡ instance_node i =
+          sym (ap (λ v. (A f g).member v p) members_same) ∙ at in
+          let same : instance_node (slice_index nodes (k % length nodes)) ≡ instance_node i =
+          sym (ap (λ m. slice_index (map instance_node nodes) (k % m)) (length-map nodes instance_node) ∙ index_same nodes (k % length nodes) low) ∙ seen in
           let index : slice_index nodes (k % length nodes) ≡ i = omega (arith, same) in
-          ap (λ m. place_of c.names (slice_index_or ms (k % m) [])) (sym many) ∙ member_at c.names ms o.known (k % length nodes) (subst (λ m. k % length nodes < m) many low) ∙ ap Some index
+          ap (λ m. place_of c.names (slice_index_or ms (k % m) [])) (sym many)
+          ∙ member_at c.names ms o.known (k % length nodes) (subst (λ m. k % length nodes < m) many low) ∙ ap Some index
         where
-          all_placed : (these : List (List ℕ)) → find (λ name. not (is_some (place_of c.names name))) these ≡ None → length (filter_map (place_of c.names) these) ≡ length these
+          all_placed : (these : List (List ℕ)) → find (λ name. not (is_some (place_of c.names name))) these ≡ None
+              → length (filter_map (place_of c.names) these) ≡ length these
           all_placed these none = (names_known c.names these none).many
 
     -- the share by the log: one that the switch has installed, with these members
@@ -246,13 +274,22 @@ module _ {F R : Type 0} (f : Semantics R) (c : Config) (items : List Msg) (is : 
 
     pub share_of_unit : Installs g w → (ms : List (List ℕ)) → members c items u w.log ≡ Some ms → IsShareOfUnit ms
     share_of_unit h ms e =
-        let r : IsSharedBy g u (first_owner u c.routes) (installed w.log) ms = shared_by g u (first_owner u c.routes) (installed w.log) ms e in
-        let at : Installed_in w.log r.front r.op = installed_in w.log r.front r.op r.back r.whole in
-        let some : 1 ≤ times_installed r.op w.log = let there = ap (times_installed r.op) at.whole ∙ times_there r.op at.first at.rest in omega (arith, there) in
-        record { op = r.op; filter = r.its.filter; open_is = open_installed h r.op ms r.its.filter r.its.order_is some; takes_it = r.its.takes_it; times = some }
+        let r : IsSharedBy g u (first_owner u c.routes) (installs_in w.log) ms = shared_by g u (first_owner u c.routes) (installs_in w.log) ms e in
+        let at : InstalledIn w.log r.front r.op = installed_in w.log r.front r.op r.back r.whole in
+        let some : 1 ≤ times_installed r.op w.log =
+        let there = ap (times_installed r.op) at.whole ∙ times_there r.op at.first at.rest in omega (arith, there) in
+        record {
+          op = r.op;
+          filter = r.its.filter;
+          open_is = open_installed h r.op ms r.its.filter r.its.order_is some;
+          takes_it = r.its.takes_it;
+          times = some;
+        }
 
     -- A share that was answered has been installed for each unit that its home owns
-    module _ (h : Installs g w) (op : ℕ) (ms : List (List ℕ)) (filter : Filter) (what : order_numbered items op ≡ Some (order.Share ms filter)) (on : takes filter u ≡ true) (at_home : is_home c.names (order_numbered items) ms (owner c items u w.log) ≡ true) (answered : has_answered op w.log ≡ true) (begun : began op w.log ≡ true) where
+    module _ (h : Installs g w) (op : ℕ) (ms : List (List ℕ)) (filter : Filter) (what : order_numbered items op ≡ Some (order.Share ms filter))
+        (on : takes filter u ≡ true) (at_home : is_home c.names (order_numbered items) ms (owner c items u w.log) ≡ true)
+        (answered : has_answered op w.log ≡ true) (begun : is_begun op w.log ≡ true) where
       own : IsOpenShare op ms filter
       own = open_begun op ms filter what begun
 
@@ -278,17 +315,19 @@ module _ {F R : Type 0} (f : Semantics R) (c : Config) (items : List Msg) (is : 
           let first : home own.state.plan ≡ slice_index (filter_map (place_of c.names) ms) 0 = ap (λ v. slice_index v 0) (sym own.members_are) in
           ap (λ x. x.home) seen.sees.is ∙ ap instance_node (first ∙ home_first c.names (order_numbered items) ms (owner c items u w.log) at_home)
 
-      diverted_by : Where_all (S f g) (A f g) (is_sys f g.site g.packet) u j.world (came_by f g w.log u) → j.world.target u ≡ 1
+      diverted_by : WhereAll (S f g) (A f g) (is_sys f g.site g.packet) u j.world (came_by f g w.log u) → j.world.target u ≡ 1
       diverted_by (Apart_from_shares k none) =
           let two = where_two (S f g) (is_sys f g.site g.packet) u (moves_of (S f g) (A f g) j.world) _ _ k.is in
-          let away = found_each (Elsewhere_home (S f g) u j.world.target) j.world.shares op seen.e k.untaken.homes seen.there its_own in
+          let away = found_each (ElsewhereHome (S f g) u j.world.target) j.world.shares op seen.e k.untaken.homes seen.there its_own in
           let same : seen.e.home ≡ j.world.target u = home_so ∙ sym (owner_goes f c items is n w j u fits two) in
           let never : (seen.e.home == j.world.target u) ≡ true = (Decides-eqb seen.e.home (j.world.target u)).1 same in
           cc
       diverted_by (Under_share x before d k o m) =
-          let here : Open_share = its_share (S f g) (A f g) (is_sys f g.site g.packet) u j.world x before _ k in
-          let its : Its_share (S f g) (A f g) (is_sys f g.site g.packet) u j.world here = record { found = k.holds.share; takes = k.covered; home_in = k.is.home_in } in
-          let serving : serves (shape (unit_share (S f g) (A f g) (seeing (S f g) (A f g) u x)) k.stage).phase ≡ true = ap serves (phase_is op ms filter own on here its) ∙ serves_same own.state.phase ∙ set_up in
+          let here : OpenShare = its_share (S f g) (A f g) (is_sys f g.site g.packet) u j.world x before _ k in
+          let its : ItsShare (S f g) (A f g) (is_sys f g.site g.packet) u j.world here =
+          record { found = k.holds.share; takes = k.covered; home_in = k.is.home_in } in
+          let serving : serves (shape (unit_share (S f g) (A f g) (seeing (S f g) (A f g) u x)) k.stage).phase ≡ true =
+          ap serves (phase_is op ms filter own on here its) ∙ serves_same own.state.phase ∙ set_up in
           k.holds.target ∙ ap (λ d. if d then 1 else x.home) (serving_diverts (unit_share (S f g) (A f g) (seeing (S f g) (A f g) u x)) k.stage serving)
 
       pub set_up_installed : 1 ≤ times_installed op w.log
@@ -297,5 +336,6 @@ module _ {F R : Type 0} (f : Semantics R) (c : Config) (items : List Msg) (is : 
           by_members : IsThere (members c items u w.log) → 1 ≤ times_installed op w.log
           by_members (There these e) =
               let r = share_of_unit h these e in
-              let same : r.op ≡ op = one_takes r.op op r.open_is.state own.state r.open_is.there own.there (whole_on r.op these r.filter r.open_is r.takes_it) (whole_on op ms filter own on) in
+              let same : r.op ≡ op = one_takes r.op op r.open_is.state own.state r.open_is.there own.there
+              (whole_on r.op these r.filter r.open_is r.takes_it) (whole_on op ms filter own on) in
               subst (λ k. 1 ≤ times_installed k w.log) same r.times

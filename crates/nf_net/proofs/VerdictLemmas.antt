@@ -1,8 +1,12 @@
 -- What a log says of the state that was given for a command, as it goes on; and of a move whose first piece is taken once, after which
 -- choices that was.
-use Rattle.std.proofs.Common.{◌≡◌, ℕ, ◌+◌, ◌≤◌, Bool, true, false, Some, None, List, [], ◌∷◌, ◌++◌, drop, get_or, append_assoc, refl, sym, ap, ◌∙◌, subst, arith}
-use Rattle.std.specs.Prelude.{if◌then◌else◌, ◌==◌}
+use Rattle.std.proofs.Common.{◌≡◌, ℕ, ◌+◌, ◌≤◌, Bool, true, false, Option, Some, None, List, [], ◌∷◌}
+use Rattle.std.proofs.Common.{◌++◌, drop, get_or, append_assoc, refl, sym, ap, ◌∙◌, subst, arith}
+use Rattle.std.specs.Prelude.{if◌then◌else◌, ◌==◌, filter_map, find, option_map}
+use Rattle.std.specs.Option.{option_map_or, option_or}
 use Rattle.std.proofs.lemmas.Bool.Decides.{nat_tests}
+use Rattle.std.proofs.lemmas.List.Elements.{filter_map-append}
+use Rattle.std.proofs.lemmas.List.Folds.{find-append}
 use Rattle.nf_function.specs.declared.unit.Unit as units
 use Rattle.nf_function.specs.Semantics.{Semantics}
 use Rattle.nf_msgs.specs.declared.msg.Msg.{Msg}
@@ -10,11 +14,12 @@ use Rattle.nf_msgs.specs.declared.msg.Msg.TheVariants as msg
 use Rattle.nf_msgs.specs.declared.note.Note.{Note}
 use Rattle.nf_msgs.specs.declared.note.Note.TheVariants as note
 use Rattle.actor_net.specs.declared.choice.Choice.{Choice}
-use Rattle.actor_net.specs.Network.{Network, Stepped, run, taken, waiting}
+use Rattle.actor_net.specs.Network.{Network, Stepped, run, world_next, queue_at}
 use Rattle.net_world.specs.declared.node.Node.{Node}
 use Rattle.net_world.specs.Nodes.{node_step}
 use Rattle.net_world.specs.Jobs.{course_of}
-use Rattle.net_world.specs.Verdicts.{exported, before_export, IsTakenAfter}
+use Rattle.net_world.specs.Verdicts.{export_in, exported_for, before_export, IsTakenAfter}
+use Rattle.net_world.proofs.PickedLists.{any_picked, before_kept, before_new, before_one, found_any, unfound_none}
 
 -- how often state was given for a command
 abbrev pub times_given : ℕ → List Note → ℕ
@@ -28,47 +33,55 @@ module _ (op : ℕ) where
   times_given-append (note.Exported i k us ∷ xs) ys = let rest = times_given-append xs ys in omega (arith, rest)
   times_given-append (n ∷ xs) ys = times_given-append xs ys
 
-  pub none_exported : (xs : List Note) → times_given op xs ≡ 0 → exported op xs ≡ None
+  abbrev own : ℕ × List units.Unit → Bool
+  own one = one.0 == op
+
+  abbrev is_export : Note → Bool
+  is_export n = option_map_or own (export_in n) false
+
+  pub none_exported : (xs : List Note) → times_given op xs ≡ 0 → exported_for op xs ≡ None
   none_exported [] h = refl
-  none_exported (note.Exported i k us ∷ xs) h = elim (k == op) as (λ b. (if b then 1 else 0) + times_given op xs ≡ 0 → (if b then Some us else exported op xs) ≡ None) [
-    | true ↦ λ e. absurd (omega (arith, e))
-    | false ↦ λ e. none_exported xs (omega (arith, e))
-  ] h
+  none_exported (note.Exported i k us ∷ xs) h =
+      elim (k == op) as (λ b. (if b then 1 else 0) + times_given op xs ≡ 0
+      → option_map (λ one. one.1) (if b then Some (k, us) else find own (filter_map export_in xs)) ≡ None) [
+        | true ↦ λ e. absurd (omega (arith, e))
+        | false ↦ λ e. none_exported xs (omega (arith, e))
+      ] h
   none_exported (n ∷ xs) h = none_exported xs h
 
-  -- what was given before stays
-  pub exported_kept : (xs ys : List Note) (us : List units.Unit) → exported op xs ≡ Some us → exported op (xs ++ ys) ≡ Some us
-  exported_kept [] ys us h = cc
-  exported_kept (note.Exported i k vs ∷ xs) ys us h = elim (k == op) as (λ b. (if b then Some vs else exported op xs) ≡ Some us → (if b then Some vs else exported op (xs ++ ys)) ≡ Some us) [
-    | true ↦ λ e. e
-    | false ↦ λ e. exported_kept xs ys us e
-  ] h
-  exported_kept (n ∷ xs) ys us h = exported_kept xs ys us h
+  exported-append : (xs ys : List Note)
+      → exported_for op (xs ++ ys) ≡ option_map (λ one. one.1) (option_or (find own (filter_map export_in xs)) (find own (filter_map export_in ys)))
+  exported-append xs ys =
+      ap (λ l. option_map (λ one. one.1) (find own l)) (filter_map-append export_in xs ys)
+      ∙ ap (option_map (λ one. one.1)) (find-append own (filter_map export_in xs) (filter_map export_in ys))
 
-  pub before_export_kept : (xs ys : List Note) (us : List units.Unit) → exported op xs ≡ Some us → before_export op (xs ++ ys) ≡ before_export op xs
-  before_export_kept [] ys us h = cc
-  before_export_kept (note.Exported i k vs ∷ xs) ys us h = elim (k == op) as (λ b. (if b then Some vs else exported op xs) ≡ Some us → (if b then [] else note.Exported i k vs ∷ before_export op (xs ++ ys)) ≡ (if b then [] else note.Exported i k vs ∷ before_export op xs)) [
-    | true ↦ λ e. refl
-    | false ↦ λ e. ap (λ v. note.Exported i k vs ∷ v) (before_export_kept xs ys us e)
-  ] h
-  before_export_kept (n ∷ xs) ys us h = ap (λ v. n ∷ v) (before_export_kept xs ys us h)
+  -- what was given before stays
+  pub exported_kept : (xs ys : List Note) (us : List units.Unit) → exported_for op xs ≡ Some us → exported_for op (xs ++ ys) ≡ Some us
+  exported_kept xs ys us h = exported-append xs ys ∙ first (find own (filter_map export_in xs)) h
+    where
+      first : (o : Option (ℕ × List units.Unit)) → option_map (λ one. one.1) o ≡ Some us
+          → option_map (λ one. one.1) (option_or o (find own (filter_map export_in ys))) ≡ Some us
+      first None is = cc
+      first (Some one) is = is
+
+  pub before_export_kept : (xs ys : List Note) (us : List units.Unit) → exported_for op xs ≡ Some us → before_export op (xs ++ ys) ≡ before_export op xs
+  before_export_kept xs ys us h = before_kept is_export xs ys (any_picked export_in own xs ∙ found_any own (λ one. one.1) us (filter_map export_in xs) h)
 
   -- what is given first
-  pub exported_new : (xs ys : List Note) → exported op xs ≡ None → exported op (xs ++ ys) ≡ exported op ys
-  exported_new [] ys h = refl
-  exported_new (note.Exported i k vs ∷ xs) ys h = elim (k == op) as (λ b. (if b then Some vs else exported op xs) ≡ None → (if b then Some vs else exported op (xs ++ ys)) ≡ exported op ys) [
-    | true ↦ λ e. cc
-    | false ↦ λ e. exported_new xs ys e
-  ] h
-  exported_new (n ∷ xs) ys h = exported_new xs ys h
+  pub exported_new : (xs ys : List Note) → exported_for op xs ≡ None → exported_for op (xs ++ ys) ≡ exported_for op ys
+  exported_new xs ys h = exported-append xs ys ∙ later (find own (filter_map export_in xs)) h
+    where
+      later : (o : Option (ℕ × List units.Unit)) → option_map (λ one. one.1) o ≡ None
+          → option_map (λ one. one.1) (option_or o (find own (filter_map export_in ys))) ≡ option_map (λ one. one.1) (find own (filter_map export_in ys))
+      later None is = refl
+      later (Some one) is = cc
 
-  pub before_export_new : (xs ys : List Note) → exported op xs ≡ None → before_export op (xs ++ ys) ≡ xs ++ before_export op ys
-  before_export_new [] ys h = refl
-  before_export_new (note.Exported i k vs ∷ xs) ys h = elim (k == op) as (λ b. (if b then Some vs else exported op xs) ≡ None → (if b then [] else note.Exported i k vs ∷ before_export op (xs ++ ys)) ≡ note.Exported i k vs ∷ (xs ++ before_export op ys)) [
-    | true ↦ λ e. cc
-    | false ↦ λ e. ap (λ v. note.Exported i k vs ∷ v) (before_export_new xs ys e)
-  ] h
-  before_export_new (n ∷ xs) ys h = ap (λ v. n ∷ v) (before_export_new xs ys h)
+  pub before_export_new : (xs ys : List Note) → exported_for op xs ≡ None → before_export op (xs ++ ys) ≡ xs ++ before_export op ys
+  before_export_new xs ys h = before_new is_export xs ys (any_picked export_in own xs ∙ unfound_none own (λ one. one.1) (filter_map export_in xs) h)
+
+  -- before the note that it was given
+  pub before_own : (instance : ℕ) (us : List units.Unit) → before_export op (note.Exported instance op us ∷ []) ≡ []
+  before_own instance us = let self : (op == op) ≡ true = grind (arith, nat_tests) in before_one is_export (note.Exported instance op us) [] self
 
 -- whether the first message is a move's first piece
 abbrev pub is_first_piece : ℕ → List Msg → Bool
@@ -88,32 +101,36 @@ module _ {F R : Type 0} (f : Semantics R) (op : ℕ) where
   -- how often choices take the first piece of a move
   abbrev pub times_taken : List Choice → Network (Node F R) Msg Note → ℕ
   times_taken [] w = 0
-  times_taken (c ∷ cs) w = (if is_first_piece op (waiting w c) then 1 else 0) + times_taken cs (taken step w c)
+  times_taken (c ∷ cs) w = (if is_first_piece op (queue_at w c) then 1 else 0) + times_taken cs (world_next step w c)
 
-  pub times_taken-append : (cs ds : List Choice) (w : Network (Node F R) Msg Note) → times_taken (cs ++ ds) w ≡ times_taken cs w + times_taken ds (run step cs w)
+  pub times_taken-append : (cs ds : List Choice) (w : Network (Node F R) Msg Note)
+      → times_taken (cs ++ ds) w ≡ times_taken cs w + times_taken ds (run step cs w)
   times_taken-append [] ds w = omega arith
-  times_taken-append (c ∷ cs) ds w = let rest = times_taken-append cs ds (taken step w c) in omega (arith, rest)
+  times_taken-append (c ∷ cs) ds w = let rest = times_taken-append cs ds (world_next step w c) in omega (arith, rest)
 
   abbrev IsThere : Network (Node F R) Msg Note → List Choice → Choice → Type 0
-  IsThere w front c = is_first_piece op (waiting (run step front w) c) ≡ true
+  IsThere w front c = is_first_piece op (queue_at (run step front w) c) ≡ true
 
   taken_counts : (w : Network (Node F R) Msg Note) (front back : List Choice) (c : Choice) → IsThere w front c → 1 ≤ times_taken (front ++ c ∷ back) w
   taken_counts w front back c h =
       let both = times_taken-append front (c ∷ back) w in
-      let here : ◌≡◌ {A = ℕ} (if is_first_piece op (waiting (run step front w) c) then 1 else 0) 1 = rw h refl in
+      let here : ◌≡◌ {A = ℕ} (if is_first_piece op (queue_at (run step front w) c) then 1 else 0) 1 = rw h refl in
       omega (arith, both, here)
 
   -- two in one list are two
-  two_taken : (w : Network (Node F R) Msg Note) (c d : Choice) (front xs ys back : List Choice) (e : Choice) → IsThere w [] c → IsThere w (d ∷ front) e → c ∷ xs ≡ d ∷ (front ++ e ∷ back) → 2 ≤ times_taken (c ∷ xs) w
+  two_taken : (w : Network (Node F R) Msg Note) (c d : Choice) (front xs ys back : List Choice) (e : Choice) → IsThere w [] c → IsThere w (d ∷ front) e
+      → c ∷ xs ≡ d ∷ (front ++ e ∷ back) → 2 ≤ times_taken (c ∷ xs) w
   two_taken w c d front xs ys back e first second is =
       let same = head_is c d xs (front ++ e ∷ back) is in
       let more = tail_is c d xs (front ++ e ∷ back) is in
-      let rest : 1 ≤ times_taken (front ++ e ∷ back) (taken step w c) = taken_counts (taken step w c) front back e (subst (λ x. is_first_piece op (waiting (run step front (taken step w x)) e) ≡ true) (sym same) second) in
-      let rest' : 1 ≤ times_taken xs (taken step w c) = subst (λ zs. 1 ≤ times_taken zs (taken step w c)) (sym more) rest in
-      let here : ◌≡◌ {A = ℕ} (if is_first_piece op (waiting w c) then 1 else 0) 1 = rw first refl in
+      let rest : 1 ≤ times_taken (front ++ e ∷ back) (world_next step w c) = taken_counts (world_next step w c) front back e
+      (subst (λ x. is_first_piece op (queue_at (run step front (world_next step w x)) e) ≡ true) (sym same) second) in
+      let rest' : 1 ≤ times_taken xs (world_next step w c) = subst (λ zs. 1 ≤ times_taken zs (world_next step w c)) (sym more) rest in
+      let here : ◌≡◌ {A = ℕ} (if is_first_piece op (queue_at w c) then 1 else 0) 1 = rw first refl in
       omega (arith, rest', here)
 
-  same_front : (w : Network (Node F R) Msg Note) (xs ys back after : List Choice) (c d : Choice) → IsThere w xs c → IsThere w ys d → xs ++ c ∷ back ≡ ys ++ d ∷ after → times_taken (xs ++ c ∷ back) w ≤ 1 → ys ≡ xs
+  same_front : (w : Network (Node F R) Msg Note) (xs ys back after : List Choice) (c d : Choice) → IsThere w xs c → IsThere w ys d
+      → xs ++ c ∷ back ≡ ys ++ d ∷ after → times_taken (xs ++ c ∷ back) w ≤ 1 → ys ≡ xs
   same_front w [] [] back after c d first second is few = refl
   same_front w [] (y ∷ ys) back after c d first second is few =
       let two = two_taken w c y ys back [] after d first second is in
@@ -125,19 +142,22 @@ module _ {F R : Type 0} (f : Semantics R) (op : ℕ) where
   same_front w (x ∷ xs) (y ∷ ys) back after c d first second is few =
       let same = head_is x y (xs ++ c ∷ back) (ys ++ d ∷ after) is in
       let more = tail_is x y (xs ++ c ∷ back) (ys ++ d ∷ after) is in
-      let second' = subst (λ z. is_first_piece op (waiting (run step ys (taken step w z)) d) ≡ true) (sym same) second in
-      let rest = same_front (taken step w x) xs ys back after c d first second' more (omega (arith, few)) in
+      let second' = subst (λ z. is_first_piece op (queue_at (run step ys (world_next step w z)) d) ≡ true) (sym same) second in
+      let rest = same_front (world_next step w x) xs ys back after c d first second' more (omega (arith, few)) in
       ap (λ v. y ∷ v) rest ∙ ap (λ v. v ∷ xs) (sym same)
 
   there : (w : Network (Node F R) Msg Note) (cs front : List Choice) (t : IsTakenAfter f (course_of w cs) op front) → IsThere w front t.choice
   there w cs front t = let waits = t.waits in let own : (op == op) ≡ true = grind (arith, nat_tests) in rw waits own
 
   -- where it is taken once, those that stand before are these choices alone
-  pub once_taken : (w : Network (Node F R) Msg Note) (cs front other : List Choice) → times_taken cs w ≤ 1 → IsTakenAfter f (course_of w cs) op front → IsTakenAfter f (course_of w cs) op other → other ≡ front
-  once_taken w cs front other few t u = same_front w front other t.back u.back t.choice u.choice (there w cs front t) (there w cs other u) (t.whole ∙ sym u.whole) (subst (λ xs. times_taken xs w ≤ 1) (sym t.whole) few)
+  pub once_taken : (w : Network (Node F R) Msg Note) (cs front other : List Choice) → times_taken cs w ≤ 1 → IsTakenAfter f (course_of w cs) op front
+      → IsTakenAfter f (course_of w cs) op other → other ≡ front
+  once_taken w cs front other few t u = same_front w front other t.back u.back t.choice u.choice (there w cs front t) (there w cs other u)
+      (t.whole ∙ sym u.whole) (subst (λ xs. times_taken xs w ≤ 1) (sym t.whole) few)
 
   -- it was taken also where choices follow
-  unfoldable pub taken_more : (w : Network (Node F R) Msg Note) (cs front : List Choice) (c : Choice) → IsTakenAfter f (course_of w cs) op front → IsTakenAfter f (course_of w (cs ++ c ∷ [])) op front
+  unfoldable pub taken_more : (w : Network (Node F R) Msg Note) (cs front : List Choice) (c : Choice) → IsTakenAfter f (course_of w cs) op front
+      → IsTakenAfter f (course_of w (cs ++ c ∷ [])) op front
   taken_more w cs front c t = record {
     choice = t.choice;
     back = t.back ++ c ∷ [];

@@ -1,6 +1,8 @@
 -- Every run keeps the window, and a complete one has all cells at home.
-use Rattle.std.proofs.Common.{◌≡◌, ℕ, zero, suc, ◌+◌, ◌≤◌, Bool, true, false, Some, List, [], ◌∷◌, length, length-append, get_or, refl, sym, ap, ◌∙◌, subst, arith}
+use Rattle.std.proofs.Common.{◌≡◌, ℕ, zero, suc, ◌+◌, ◌≤◌, Bool, true, false, Some, List, [], ◌∷◌}
+use Rattle.std.proofs.Common.{length, length-append, get_or, refl, sym, ap, ◌∙◌, subst, arith}
 use Rattle.std.specs.Prelude.{◌==◌, ◌&&◌}
+use Rattle.std.specs.List.{flat_map}
 use Rattle.std.specs.declared.alloc.Global.{Global}
 use Rattle.std.proofs.lemmas.Bool.Decides.{nat_tests, Decides-eqb}
 use Rattle.std.proofs.lemmas.Option.{slice_get-get_or}
@@ -11,31 +13,31 @@ use Rattle.nf_msgs.specs.declared.msg.Msg.TheVariants as msg
 use Rattle.nf_msgs.specs.declared.note.Note.{Note}
 use Rattle.switch_node.specs.Switch.{SwitchState, switch_step}
 use Rattle.actor_net.specs.declared.choice.Choice.{Choice}
-use Rattle.actor_net.specs.Network.{Network, Stepped, IsRun, is_done, reaches, run, taken}
+use Rattle.actor_net.specs.Network.{Network, Stepped, IsRun, is_done, reaches, run, world_next}
 use Rattle.actor_net.proofs.EnabledChoices.{at}
 use Rattle.actor_net.proofs.StepOutcome.{Takes, taken_outcome}
 use Rattle.actor_net.proofs.RunInduction.{Taking, run_induction, run_world}
 use Rattle.actor_net.proofs.OpeningWorlds.{opening_weight}
 use Rattle.actor_net.proofs.CompleteWorlds.{done_node, done_weight}
 use Rattle.actor_net.proofs.WeightLaws.{EachSent, weigh, total, sent_weight, total_after}
-use Rattle.unit_machine.proofs.Labels.{Each}
+use Rattle.proof_machines.proofs.unit.Labels.{Each}
 use Rattle.net_world.specs.declared.config.Config.{Config}
 use Rattle.net_world.specs.declared.node.Node.{Node}
 use Rattle.net_world.specs.declared.node.Node.TheVariants.{Switch}
 use Rattle.net_world.specs.Input.{IsInput}
-use Rattle.net_world.specs.Log.{arrived, done}
+use Rattle.net_world.specs.Log.{arrivals_in, dones_in}
 use Rattle.net_world.specs.Nodes.{node_step, node_ready, node_ended}
-use Rattle.net_world.specs.Start.{first_nodes, first_switch, started}
-use Rattle.net_world.specs.Path.{all_of, on_links}
+use Rattle.net_world.specs.Start.{first_nodes, first_switch, started_with}
+use Rattle.net_world.specs.Path.{on_links}
 use Rattle.net_world.specs.Window.{Window, AllHome, homeward, switch_in, switch_of}
-use Rattle.whole_joined.proofs.LogLemmas.{arrived-append, done-append}
-use Rattle.whole_joined.proofs.StartJoined.{given, all_fit, all_labelled, count_at_start}
-use Rattle.whole_joined.proofs.Given.{Given}
-use Rattle.whole_joined.proofs.Joined.{Label, Joined, node_of}
-use Rattle.whole_joined.proofs.BesideRuns.{its_takes, its_label, its_labels}
-use Rattle.whole_joined.proofs.RunsJoined.{Runs, runs_at_start, runs_next, run_beside, start_world}
-use Rattle.answer_net.proofs.CreditCounts.{credit, no_credit_from, no_credit_to, none_sent, instance_is}
-use Rattle.answer_net.proofs.ArrivalNotes.{controller_notes_none}
+use Rattle.net_world.proofs.LogLemmas.{arrived-append, done-append}
+use Rattle.proof_outlines.proofs.joined.StartJoined.{given, all_fit, all_labelled, count_at_start}
+use Rattle.proof_outlines.proofs.joined.Given.{Given}
+use Rattle.proof_outlines.proofs.joined.Joined.{Label, Joined, node_of}
+use Rattle.proof_outlines.proofs.joined.BesideRuns.{its_takes, its_label, its_labels}
+use Rattle.proof_outlines.proofs.joined.RunsJoined.{Runs, runs_at_start, runs_next, run_beside, start_world}
+use Rattle.nf_net.proofs.answers.CreditCounts.{credit, no_credit_from, no_credit_to, none_sent, instance_is}
+use Rattle.nf_net.proofs.answers.ArrivalNotes.{controller_notes_none}
 use Rattle.nf_net.proofs.WindowSteps.{switch_counts}
 use Rattle.nf_net.proofs.PacketCounts.{few_done}
 use Rattle.nf_net.proofs.AnsweredNotes.{controller_none}
@@ -46,30 +48,41 @@ pub record InWindow (window : ℕ) {F R : Type 0} (w : Network (Node F R) Msg No
   pub there : (d : Node F R) → get_or w.nodes 0 d ≡ Switch switch
   pub cells : switch.pool.cells ≡ window
   pub home : switch.flying + switch.pool.home ≡ window
-  pub balance : length (done w.log) + switch.flying ≡ length (arrived w.log) + total credit w
+  pub balance : length (dones_in w.log) + switch.flying ≡ length (arrivals_in w.log) + total credit w
 
 module _ {F R : Type 0} (f : Semantics R) (g : Given) (n : ℕ) (window : ℕ) where
   abbrev step : Node F R → ℕ → Msg → Stepped (Node F R) Msg Note
   step = node_step f
 
   -- the log and the credits after a step
-  balance_after : (w : Network (Node F R) Msg Note) (k p : ℕ) (node : Node F R) (m : Msg) (rest : List Msg) (takes : Takes step n w k p node m rest) (before after : ℕ) → length (done w.log) + before ≡ length (arrived w.log) + total credit w → after + credit m + length (done (step node p m).notes) ≡ before + length (arrived (step node p m).notes) + sent_weight credit n k (step node p m).sends → length (done (taken step w (at k p)).log) + after ≡ length (arrived (taken step w (at k p)).log) + total credit (taken step w (at k p))
+  balance_after : (w : Network (Node F R) Msg Note) (k p : ℕ) (node : Node F R) (m : Msg) (rest : List Msg) (takes : Takes step n w k p node m rest)
+      (before after : ℕ)
+      → length (dones_in w.log) + before ≡ length (arrivals_in w.log) + total credit w → after + credit m + length (dones_in (step node p m).notes)
+      ≡ before + length (arrivals_in (step node p m).notes) + sent_weight credit n k (step node p m).sends
+      → length (dones_in (world_next step w (at k p)).log) + after
+      ≡ length (arrivals_in (world_next step w (at k p)).log) + total credit (world_next step w (at k p))
   balance_after w k p node m rest takes before after balance changes =
       let left = taken_outcome step n w k p node m rest takes in
       let notes = (step node p m).notes in
       let weight = total_after step n w k p node m rest takes credit in
-      let went : length (done (taken step w (at k p)).log) ≡ length (done w.log) + length (done notes) = ap (λ v. length (done v)) left.log ∙ ap length (done-append w.log notes) ∙ length-append (done w.log) (done notes) in
-      let came : length (arrived (taken step w (at k p)).log) ≡ length (arrived w.log) + length (arrived notes) = ap (λ v. length (arrived v)) left.log ∙ ap length (arrived-append w.log notes) ∙ length-append (arrived w.log) (arrived notes) in
+      let went : length (dones_in (world_next step w (at k p)).log) ≡ length (dones_in w.log) + length (dones_in notes) =
+      ap (λ v. length (dones_in v)) left.log ∙ ap length (done-append w.log notes) ∙ length-append (dones_in w.log) (dones_in notes) in
+      let came : length (arrivals_in (world_next step w (at k p)).log) ≡ length (arrivals_in w.log) + length (arrivals_in notes) =
+      ap (λ v. length (arrivals_in v)) left.log ∙ ap length (arrived-append w.log notes) ∙ length-append (arrivals_in w.log) (arrivals_in notes) in
       omega (arith, balance, changes, weight, went, came)
 
-  window_after : (w : Network (Node F R) Msg Note) (k p : ℕ) (m : Msg) (rest : List Msg) (j : Joined f g n w) (takes : Takes step n w k p (node_of j.nodes k) m rest) → Label f g p k m → EachSent (Label f g) k (step (node_of j.nodes k) p m).sends → length (done w.log) ≤ length (arrived w.log) → InWindow window w → InWindow window (taken step w (at k p))
+  window_after : (w : Network (Node F R) Msg Note) (k p : ℕ) (m : Msg) (rest : List Msg) (j : Joined f g n w)
+      (takes : Takes step n w k p (node_of j.nodes k) m rest)
+      → Label f g p k m → EachSent (Label f g) k (step (node_of j.nodes k) p m).sends → length (dones_in w.log) ≤ length (arrivals_in w.log)
+      → InWindow window w → InWindow window (world_next step w (at k p))
   window_after w zero p m rest j takes labelled labels few h =
       let s = j.nodes.switch in
       let left = taken_outcome step n w 0 p (Switch s) m rest takes in
       let sent : sent_weight credit n 0 (switch_step s m).sends ≡ 0 = none_sent f g n 0 (switch_step s m).sends (omega arith) labels in
       let is : Switch h.switch ≡ Switch s = sym (h.there (Switch h.switch)) ∙ j.nodes_are 0 takes.some (Switch h.switch) in
       let same : h.switch ≡ s = cc in
-      let balance : length (done w.log) + s.flying ≡ length (arrived w.log) + total credit w = ap (λ x. length (done w.log) + x.flying) (sym same) ∙ h.balance in
+      let balance : length (dones_in w.log) + s.flying ≡ length (arrivals_in w.log) + total credit w =
+      ap (λ x. length (dones_in w.log) + x.flying) (sym same) ∙ h.balance in
       let weight = total_after step n w 0 p (Switch s) m rest takes credit in
       let did = switch_counts window s (ap (λ x. x.pool.cells) (sym same) ∙ h.cells) (ap (λ x. x.flying + x.pool.home) (sym same) ∙ h.home) m (λ cell e.
       let comes : Label f g p 0 (msg.Credit cell) = subst (λ a. Label f g p 0 a) e labelled in
@@ -116,17 +129,17 @@ module _ {F R : Type 0} (f : Semantics R) (g : Given) (n : ℕ) (window : ℕ) w
       }
 
 -- what messages weigh as cells that go home is how many these are
-weigh_link : (ms : List Msg) → weigh credit ms ≡ length (all_of homeward ms)
+weigh_link : (ms : List Msg) → weigh credit ms ≡ length (flat_map homeward ms)
 weigh_link [] = refl
 weigh_link (msg.Credit cell ∷ ms) = let rest = weigh_link ms in omega (arith, rest)
 weigh_link (m ∷ ms) = let rest = weigh_link ms in omega (arith, rest)
 
-weigh_links : (links : List (List Msg)) → weigh (weigh credit) links ≡ length (all_of (all_of homeward) links)
+weigh_links : (links : List (List Msg)) → weigh (weigh credit) links ≡ length (flat_map (flat_map homeward) links)
 weigh_links [] = refl
 weigh_links (ms ∷ links) =
     let own = weigh_link ms in
     let rest = weigh_links links in
-    let both = length-append (all_of homeward ms) (all_of (all_of homeward) links) in
+    let both = length-append (flat_map homeward ms) (flat_map (flat_map homeward) links) in
     omega (arith, own, rest, both)
 
 -- an input has no credits
@@ -134,9 +147,10 @@ pub items_none : {R : Type 0} (f : Semantics R) (g : Given) (items : List Msg) �
 items_none f g [] h = refl
 items_none f g (m ∷ ms) h = let own = no_credit_from f g 0 0 m (omega arith) h.0 in let rest = items_none f g ms h.1 in omega (arith, own, rest)
 
-module _ (F : Type 0) {R : Type 0} (f : Semantics R) (laws : FunctionLaws f) (alloc : Global) (c : Config) (items : List Msg) (is : IsInput f.kind c items) where
+module _ (F : Type 0) {R : Type 0} (f : Semantics R) (laws : FunctionLaws f) (alloc : Global) (c : Config) (items : List Msg)
+    (is : IsInput f.kind c items) where
   abbrev start : Network (Node F R) Msg Note
-  start = started {F = F} {R = R} alloc c items
+  start = started_with {F = F} {R = R} alloc c items
 
   abbrev nodes : ℕ
   nodes = length c.names + 2
@@ -147,20 +161,27 @@ module _ (F : Type 0) {R : Type 0} (f : Semantics R) (laws : FunctionLaws f) (al
     there = λ d. refl;
     cells = refl;
     home = omega arith;
-    balance = let none = opening_weight Note (first_nodes {F = F} {R = R} alloc c) items credit in let given_none = items_none f (given f c items is) items (all_labelled f c items is) in omega (arith, none, given_none);
+    balance = let none = opening_weight Note (first_nodes {F = F} {R = R} alloc c) items credit in
+        let given_none = items_none f (given f c items is) items (all_labelled f c items is) in omega (arith, none, given_none);
   }
 
-  window_next : (w : Network (Node F R) Msg Note) (k : Choice) → Taking node_ready (node_step f) nodes w k → Runs F f laws alloc c items is w → InWindow c.window w → InWindow c.window (taken (node_step f) w k)
+  window_next : (w : Network (Node F R) Msg Note) (k : Choice) → Taking node_ready (node_step f) nodes w k → Runs F f laws alloc c items is w
+      → InWindow c.window w → InWindow c.window (world_next (node_step f) w k)
   window_next w k t r h =
       let g : Given = given f c items is in
       let fitting = all_fit f c items is in
-      window_after f g nodes c.window w k.node k.port t.message t.rest r.joined (its_takes f laws g fitting nodes refl w k t r.joined r.beside) (its_label f laws g fitting nodes refl w k t r.joined r.beside) (its_labels f laws g fitting nodes refl w k t r.joined r.beside) (few_done f c items is nodes w r.joined) h
+      window_after f g nodes c.window w k.node k.port t.message t.rest r.joined (its_takes f laws g fitting nodes refl w k t r.joined r.beside)
+      (its_label f laws g fitting nodes refl w k t r.joined r.beside) (its_labels f laws g fitting nodes refl w k t r.joined r.beside)
+      (few_done f c items is nodes w r.joined) h
 
   pub in_window : (cs : List Choice) → IsRun node_ready (node_step f) cs start → InWindow c.window (run (node_step f) cs start)
-  in_window cs run_is = (run_induction node_ready (node_step f) nodes (λ _ w. Runs F f laws alloc c items is w × InWindow c.window w) start (λ _ w k next h. (runs_next F f laws alloc c items is w k next.taking h.0, window_next w k next.taking h.0 h.1)) (start_world F f laws alloc c items is) (count_at_start F f alloc c items is) (runs_at_start F f laws alloc c items is, window_at_start) cs run_is).1
+  in_window cs run_is = (run_induction node_ready (node_step f) nodes (λ _ w. Runs F f laws alloc c items is w × InWindow c.window w)
+      start (λ _ w k next h. (runs_next F f laws alloc c items is w k next.taking h.0, window_next w k next.taking h.0 h.1))
+      (start_world F f laws alloc c items is) (count_at_start F f alloc c items is) (runs_at_start F f laws alloc c items is, window_at_start) cs run_is).1
 
   -- cells go home on links alone
-  credits_are : (cs : List Choice) (run_is : IsRun node_ready (node_step f) cs start) → total credit (run (node_step f) cs start) ≡ length (on_links (run (node_step f) cs start) homeward)
+  credits_are : (cs : List Choice) (run_is : IsRun node_ready (node_step f) cs start)
+      → total credit (run (node_step f) cs start) ≡ length (on_links (run (node_step f) cs start) homeward)
   credits_are cs run_is =
       let w = run (node_step f) cs start in
       let j = (run_beside F f laws alloc c items is cs run_is).joined in
@@ -169,11 +190,13 @@ module _ (F : Type 0) {R : Type 0} (f : Semantics R) (laws : FunctionLaws f) (al
       let links = weigh_links w.links in
       omega (arith, none, links)
 
-  switch_there : (cs : List Choice) (run_is : IsRun node_ready (node_step f) cs start) → switch_of (run (node_step f) cs start) ≡ Some (in_window cs run_is).switch
+  switch_there : (cs : List Choice) (run_is : IsRun node_ready (node_step f) cs start)
+      → switch_of (run (node_step f) cs start) ≡ Some (in_window cs run_is).switch
   switch_there cs run_is =
       let h = in_window cs run_is in
       let count = (run_world node_ready (node_step f) nodes start (start_world F f laws alloc c items is) (count_at_start F f alloc c items is) cs run_is).1 in
-      ap switch_in (slice_get-get_or (run (node_step f) cs start).nodes 0 (Switch h.switch) (omega (arith, count))) ∙ ap (λ d. switch_in (Some d)) (h.there (Switch h.switch))
+      ap switch_in (slice_get-get_or (run (node_step f) cs start).nodes 0 (Switch h.switch) (omega (arith, count)))
+      ∙ ap (λ d. switch_in (Some d)) (h.there (Switch h.switch))
 
   -- every run keeps the window
   pub window_kept : (cs : List Choice) → IsRun node_ready (node_step f) cs start → Window c (run (node_step f) cs start)
@@ -184,16 +207,18 @@ module _ (F : Type 0) {R : Type 0} (f : Semantics R) (laws : FunctionLaws f) (al
         switch = h.switch;
         switch_is = switch_there cs run_is;
         cells = h.home;
-        balance = h.balance ∙ ap (λ k. length (arrived (run (node_step f) cs start).log) + k) (credits_are cs run_is);
+        balance = h.balance ∙ ap (λ k. length (arrivals_in (run (node_step f) cs start).log) + k) (credits_are cs run_is);
       }
 
   -- and a complete one has all cells at home
-  pub all_home : (cs : List Choice) → IsRun node_ready (node_step f) cs start → is_done node_ended (run (node_step f) cs start) ≡ true → AllHome c (run (node_step f) cs start)
+  pub all_home : (cs : List Choice) → IsRun node_ready (node_step f) cs start → is_done node_ended (run (node_step f) cs start) ≡ true
+      → AllHome c (run (node_step f) cs start)
   all_home cs run_is complete =
       let w = run (node_step f) cs start in
       let h = in_window cs run_is in
       let count = (run_world node_ready (node_step f) nodes start (start_world F f laws alloc c items is) (count_at_start F f alloc c items is) cs run_is).1 in
-      let ended : node_ended {F = F} {R = R} (Switch h.switch) ≡ true = ap node_ended (sym (h.there (Switch h.switch))) ∙ done_node node_ended w complete 0 (Switch h.switch) (omega (arith, count)) in
+      let ended : node_ended {F = F} {R = R} (Switch h.switch) ≡ true = ap node_ended (sym (h.there (Switch h.switch)))
+      ∙ done_node node_ended w complete 0 (Switch h.switch) (omega (arith, count)) in
       let landed : h.switch.flying ≡ 0 = grounded h.switch.closed h.switch.flying ended in
       let none = done_weight node_ended w complete credit in
       record {

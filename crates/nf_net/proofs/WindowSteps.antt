@@ -9,7 +9,7 @@ use Rattle.event_filter.specs.declared.mark.Mark.TheVariants as mark
 use Rattle.packet_pool.specs.Pool.{FullCell}
 use Rattle.switch_rules.specs.declared.target.Target.{Target}
 use Rattle.switch_rules.specs.declared.target.Target.TheVariants as target
-use Rattle.switch_rules.specs.Rules.{redirected}
+use Rattle.switch_rules.specs.Rules.{rules_redirected}
 use Rattle.nf_msgs.specs.declared.msg.Msg.{Msg}
 use Rattle.nf_msgs.specs.declared.msg.Msg.TheVariants as msg
 use Rattle.nf_msgs.specs.declared.note.Note.{Note}
@@ -17,19 +17,20 @@ use Rattle.nf_msgs.specs.declared.note.Note.TheVariants as note
 use Rattle.nf_msgs.specs.Nodes.{instance_node}
 use Rattle.switch_node.specs.Switch as switch
 use Rattle.switch_node.specs.Switch.{SwitchState, switch_step, still, sends_to_instance, target_of, has_room, goes_to, is_there}
-use Rattle.net_world.specs.Log.{arrived, done}
-use Rattle.answer_net.proofs.CreditCounts.{credit}
+use Rattle.net_world.specs.Log.{arrivals_in, dones_in}
+use Rattle.nf_net.proofs.answers.CreditCounts.{credit}
 
 -- The switch counts what came and what comes home.
 pub record Counts (window : ℕ) (s : SwitchState) (m : Msg) (step : switch.Step) : Type 0 where
   pub name : step.node.pool.name ≡ s.pool.name
   pub cells : step.node.pool.cells ≡ window
   pub home : step.node.flying + step.node.pool.home ≡ window
-  pub flying : step.node.flying + credit m ≡ s.flying + length (arrived step.notes)
-  pub went : done step.notes ≡ []
+  pub flying : step.node.flying + credit m ≡ s.flying + length (arrivals_in step.notes)
+  pub went : dones_in step.notes ≡ []
 
 module _ (window : ℕ) (s : SwitchState) (cells : s.pool.cells ≡ window) (home : s.flying + s.pool.home ≡ window) where
-  stays : (m : Msg) → credit m ≡ 0 → (t : SwitchState) → t.pool ≡ s.pool → t.flying ≡ s.flying → (sends : List (ℕ × Msg)) (notes : List Note) → arrived notes ≡ [] → done notes ≡ [] → Counts window s m (record { node = t; sends = sends; notes = notes })
+  stays : (m : Msg) → credit m ≡ 0 → (t : SwitchState) → t.pool ≡ s.pool → t.flying ≡ s.flying → (sends : List (ℕ × Msg)) (notes : List Note)
+      → arrivals_in notes ≡ [] → dones_in notes ≡ [] → Counts window s m (record { node = t; sends = sends; notes = notes })
   stays m none t pool flying sends notes came went = record {
     name = ap (λ p. p.name) pool;
     cells = ap (λ p. p.cells) pool ∙ cells;
@@ -41,7 +42,7 @@ module _ (window : ℕ) (s : SwitchState) (cells : s.pool.cells ≡ window) (hom
   still_is : (m : Msg) → credit m ≡ 0 → Counts window s m (still s)
   still_is m none = stays m none s refl refl [] [] refl refl
 
-  arrives_is : (q : Packet) (to : ℕ) (make : FullCell → Msg) → s.flying < window → Counts window s (msg.InPacket q) (switch.arrives s q to make)
+  arrives_is : (q : Packet) (to : ℕ) (make : FullCell → Msg) → s.flying < window → Counts window s (msg.InPacket q) (switch.arrival_step s q to make)
   arrives_is q to make room = record {
     name = refl;
     cells = cells;
@@ -52,7 +53,9 @@ module _ (window : ℕ) (s : SwitchState) (cells : s.pool.cells ≡ window) (hom
 
   goes_is : (q : Packet) (t : Target) → s.flying < window → Counts window s (msg.InPacket q) (goes_to s q t)
   goes_is q target.Controller room = arrives_is q 1 msg.Diverted room
-  goes_is q (target.Instance i) room = elim (nat_lt i s.instances) as (λ b. Counts window s (msg.InPacket q) (if b then switch.arrives s q (instance_node i) (msg.Carry mark.Plain) else still s)) [ true ↦ arrives_is q (instance_node i) (msg.Carry mark.Plain) room | false ↦ still_is (msg.InPacket q) refl ]
+  goes_is q (target.Instance i) room = elim (nat_lt i s.instances)
+      as (λ b. Counts window s (msg.InPacket q) (if b then switch.arrival_step s q (instance_node i) (msg.Carry mark.Plain) else still s))
+      [ true ↦ arrives_is q (instance_node i) (msg.Carry mark.Plain) room | false ↦ still_is (msg.InPacket q) refl ]
 
   packet_is : (q : Packet) → Counts window s (msg.InPacket q) (switch.on_packet s q)
   packet_is q = elim (has_room s) as (λ b. has_room s ≡ b → Counts window s (msg.InPacket q) (if b then goes_to s q (target_of s q) else still s)) [
@@ -61,14 +64,16 @@ module _ (window : ℕ) (s : SwitchState) (cells : s.pool.cells ≡ window) (hom
   ] refl
 
   to_instance_is : (m : Msg) → credit m ≡ 0 → (i : ℕ) (a : Msg) → Counts window s m (sends_to_instance s i a)
-  to_instance_is m none i a = elim (nat_lt i s.instances) as (λ b. Counts window s m (if b then switch.sends_on s (instance_node i) a else still s)) [ true ↦ stays m none s refl refl ((instance_node i, a) ∷ []) [] refl refl | false ↦ still_is m none ]
+  to_instance_is m none i a = elim (nat_lt i s.instances) as (λ b. Counts window s m (if b then switch.sends_on s (instance_node i) a else still s))
+      [ true ↦ stays m none s refl refl ((instance_node i, a) ∷ []) [] refl refl | false ↦ still_is m none ]
 
   install_is : (op : ℕ) (filter : Filter) (from : ℕ) (to : Target) → Counts window s (msg.Install op filter from to) (switch.on_install s op filter from to)
   install_is op filter from to =
-      let t : SwitchState = record s { rules = redirected (record { filter = filter; from = target.Instance from; to = to }) s.rules } in
+      let t : SwitchState = record s { rules = rules_redirected (record { filter = filter; from = target.Instance from; to = to }) s.rules } in
       let sends : List (ℕ × Msg) = (instance_node from, msg.Fence op) ∷ [] in
       let notes : List Note = note.Installed op ∷ [] in
-      elim (nat_lt from s.instances && is_there s to) as (λ b. Counts window s (msg.Install op filter from to) (if b then record { node = t; sends = sends; notes = notes } else still s)) [
+      elim (nat_lt from s.instances && is_there s to)
+      as (λ b. Counts window s (msg.Install op filter from to) (if b then record { node = t; sends = sends; notes = notes } else still s)) [
         | true ↦ stays (msg.Install op filter from to) refl t refl refl sends notes refl refl
         | false ↦ still_is (msg.Install op filter from to) refl
       ]

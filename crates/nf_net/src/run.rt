@@ -2,14 +2,14 @@ ghost use Rattle.std.specs.Prelude.{◌≡◌, ◌≢◌, ℕ, true, List, IfOk}
 ghost use Rattle.std.specs.declared.alloc.Global.{Global as AnAllocator};
 ghost use Rattle.nf_msgs.specs.declared.msg.Msg.{Msg as AMessage};
 ghost use Rattle.actor_net.specs.Network.{is_done};
-ghost use Rattle.actor_net.specs.Replays.{replayed};
+ghost use Rattle.actor_net.specs.Replays.{replay_of};
 ghost use Rattle.net_world.specs.declared.config.Config.{Config as AConfig};
 ghost use Rattle.net_world.specs.Input.{IsInput};
 ghost use Rattle.net_world.specs.Jobs.{course_of, job_of};
 ghost use Rattle.net_world.specs.Nodes.{node_ended, node_ready, node_step};
 ghost use Rattle.nf_net.specs.Promises.{Completed, Promises, Standbys, Verdicts};
-ghost use Rattle.net_world.specs.Runs.{chosen, EndsIn, StopsAt};
-ghost use Rattle.net_world.specs.Start.{started};
+ghost use Rattle.net_world.specs.Runs.{choices_of, EndsIn, StopsAt};
+ghost use Rattle.net_world.specs.Start.{started_with};
 ghost use Rattle.net_world.specs.Window.{AllHome};
 
 use actor_net::{
@@ -28,14 +28,17 @@ pub fn simulate<F: Function>(
     schedule: Schedule,
 ) -> Result<(World<Node<F>>, Choices), ScheduleFault>
     requires { IsInput F.semantics.kind config.now items.items }
-    ensures choices { IfOk result (λ r. r.1 ≡ chosen {F = F.row.Denot} F.semantics (started alloc config.now items.items) schedule) }
-    ensures end { IfOk result (λ r. EndsIn F.semantics (started alloc config.now items.items) schedule r.0) }
+    ensures choices { IfOk result (λ r. r.1 ≡ choices_of {F = F.row.Denot} F.semantics (started_with alloc config.now items.items) schedule) }
+    ensures end { IfOk result (λ r. EndsIn F.semantics (started_with alloc config.now items.items) schedule r.0) }
     ensures promises { IfOk result (λ r. Promises F.semantics config.now items.items r.0) }
-    ensures verdicts { IfOk result (λ r. Verdicts {F = F.row.Denot} (job_of F.semantics config.now items.items) (course_of (started alloc config.now items.items) r.1)) }
-    ensures standbys { IfOk result (λ r. Standbys {F = F.row.Denot} (job_of F.semantics config.now items.items) (course_of (started alloc config.now items.items) r.1)) }
+    ensures verdicts { IfOk result
+        (λ r. Verdicts {F = F.row.Denot} (job_of F.semantics config.now items.items) (course_of (started_with alloc config.now items.items) r.1)) }
+    ensures standbys { IfOk result
+        (λ r. Standbys {F = F.row.Denot} (job_of F.semantics config.now items.items) (course_of (started_with alloc config.now items.items) r.1)) }
     ensures completed { IfOk result (λ r. Completed F.semantics config.now items.items r.0) }
     ensures home { IfOk result (λ r. AllHome config.now r.0) }
-    ensures unfinished { (step : ℕ) → result ≡ Err (ScheduleFault.Unfinished step) → StopsAt {F = F.row.Denot} F.semantics (started alloc config.now items.items) schedule step }
+    ensures unfinished { (step : ℕ) → result ≡ Err (ScheduleFault.Unfinished step)
+        → StopsAt {F = F.row.Denot} F.semantics (started_with alloc config.now items.items) schedule step }
 {
     let world = start::<F>(alloc, config, items)?;
     run_schedule(alloc, world, schedule)
@@ -46,12 +49,17 @@ pub fn run_choices<F: Function>(
     world: World<Node<F>>,
     choices: &[Choice],
 ) -> Result<World<Node<F>>, ReplayFault>
-    ensures replay { result ≢ Err ReplayFault.NoMemory → result ≡ replayed node_ready (node_step F.semantics) choices.now world }
-    ensures promises { (alloc : AnAllocator) (config : AConfig) (items : List AMessage) → IsInput F.semantics.kind config items → world ≡ started alloc config items → IfOk result (λ reached. Promises F.semantics config items reached) }
-    ensures verdicts { (alloc : AnAllocator) (config : AConfig) (items : List AMessage) → IsInput F.semantics.kind config items → world ≡ started alloc config items → IfOk result (λ reached. Verdicts (job_of F.semantics config items) (course_of world choices.now)) }
-    ensures standbys { (alloc : AnAllocator) (config : AConfig) (items : List AMessage) → IsInput F.semantics.kind config items → world ≡ started alloc config items → IfOk result (λ reached. Standbys (job_of F.semantics config items) (course_of world choices.now)) }
-    ensures completed { (alloc : AnAllocator) (config : AConfig) (items : List AMessage) → IsInput F.semantics.kind config items → world ≡ started alloc config items → IfOk result (λ reached. is_done node_ended reached ≡ true → Completed F.semantics config items reached) }
-    ensures home { (alloc : AnAllocator) (config : AConfig) (items : List AMessage) → IsInput F.semantics.kind config items → world ≡ started alloc config items → IfOk result (λ reached. is_done node_ended reached ≡ true → AllHome config reached) }
+    ensures replay { result ≢ Err ReplayFault.NoMemory → result ≡ replay_of node_ready (node_step F.semantics) choices.now world }
+    ensures promises { (alloc : AnAllocator) (config : AConfig) (items : List AMessage) → IsInput F.semantics.kind config items
+        → world ≡ started_with alloc config items → IfOk result (λ reached. Promises F.semantics config items reached) }
+    ensures verdicts { (alloc : AnAllocator) (config : AConfig) (items : List AMessage) → IsInput F.semantics.kind config items
+        → world ≡ started_with alloc config items → IfOk result (λ reached. Verdicts (job_of F.semantics config items) (course_of world choices.now)) }
+    ensures standbys { (alloc : AnAllocator) (config : AConfig) (items : List AMessage) → IsInput F.semantics.kind config items
+        → world ≡ started_with alloc config items → IfOk result (λ reached. Standbys (job_of F.semantics config items) (course_of world choices.now)) }
+    ensures completed { (alloc : AnAllocator) (config : AConfig) (items : List AMessage) → IsInput F.semantics.kind config items
+        → world ≡ started_with alloc config items → IfOk result (λ reached. is_done node_ended reached ≡ true → Completed F.semantics config items reached) }
+    ensures home { (alloc : AnAllocator) (config : AConfig) (items : List AMessage) → IsInput F.semantics.kind config items
+        → world ≡ started_with alloc config items → IfOk result (λ reached. is_done node_ended reached ≡ true → AllHome config reached) }
 {
     replay(world, choices)
 }

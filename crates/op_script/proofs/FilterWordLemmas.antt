@@ -6,7 +6,8 @@ use Rattle.std.specs.List.{AllByRecursion, join_with_byte}
 use Rattle.std.specs.Fmt.{decimal}
 use Rattle.flow_filter.specs.declared.prefix.Prefix.{Prefix}
 use Rattle.flow_filter.specs.declared.filter.Filter.{Filter}
-use Rattle.basics.specs.Address.{address_text, byte_of}
+use Rattle.basics.specs.Address.{address_text}
+use Rattle.basics.specs.AddressSteps.{byte_of}
 use Rattle.flow_filter.specs.Filter.{IsFilter}
 use Rattle.flow_filter.specs.FilterText.{piece, pieces, joined, print, protocol_text, prefix_text}
 use Rattle.op_script.specs.Statements.{Word}
@@ -21,29 +22,42 @@ unfolding address_text
 address_seen a =
     let dot : Within 33 127 (codes ".") = Within-literal 33 127 (codes ".") refl in
     Within-append 33 127 _ _ (Within-append 33 127 _ _ (Within-append 33 127 _ _ (Within-append 33 127 _ _ (Within-append 33 127 _ _ (Within-append 33 127 _ _
-    (decimal_seen (byte_of a 24) (omega arith)) dot) (decimal_seen (byte_of a 16) (omega arith))) dot) (decimal_seen (byte_of a 8) (omega arith))) dot) (decimal_seen (byte_of a 0) (omega arith))
+    (decimal_seen (byte_of a 24) (omega arith)) dot) (decimal_seen (byte_of a 16) (omega arith))) dot) (decimal_seen (byte_of a 8) (omega arith))) dot)
+    (decimal_seen (byte_of a 0) (omega arith))
 
 prefix_seen : (p : Prefix) → Within 33 127 (prefix_text p)
-prefix_seen p = Within-append 33 127 (address_text p.bits) _ (address_seen p.bits) ((omega arith, omega arith), decimal_seen p.len (let within : p.len ≤ 32 = p.within in omega arith))
+prefix_seen p = Within-append 33 127 (address_text p.bits) _ (address_seen p.bits)
+    ((omega arith, omega arith), decimal_seen p.len (let within : p.len ≤ 32 = p.within in omega arith))
 
 protocol_seen : (tcp : Bool) → Within 33 127 (cond tcp (codes "tcp") (codes "udp"))
 protocol_seen true = Within-literal 33 127 (codes "tcp") refl
 protocol_seen false = Within-literal 33 127 (codes "udp") refl
 
-piece_words : {X : Type 0} (text : X → Word) (name : Word) (value : Option X) → IsWord name → ForSome value (λ x. Within 33 127 (text x)) → AllByRecursion IsWord (piece name (option_map text value))
+piece_words : {X : Type 0} (text : X → Word) (name : Word) (value : Option X) → IsWord name → ForSome value (λ x. Within 33 127 (text x))
+    → AllByRecursion IsWord (piece name (option_map text value))
 piece_words text name None is_name seen = tt
-piece_words text name (Some x) is_name seen =
-    (record { some = let some = is_name.some in omega (arith, length-append name (text x)); seen = Within-append 33 127 name (text x) is_name.seen (seen x refl) }, tt)
+piece_words text name (Some x) is_name seen = (
+  record {
+    some = let some = is_name.some in omega (arith, length-append name (text x));
+    seen = Within-append 33 127 name (text x) is_name.seen (seen x refl);
+  },
+  tt,
+)
 
 pieces_words : (f : Filter) → IsFilter f → AllByRecursion IsWord (pieces f)
 unfolding pieces
 pieces_words f fits =
     All-append IsWord _ _ (All-append IsWord _ _ (All-append IsWord _ _ (All-append IsWord _ _
-    (piece_words protocol_text (codes "proto=") f.proto (record { some = omega arith; seen = Within-literal 33 127 (codes "proto=") refl }) (λ n is. protocol_seen (eqb n 6)))
-    (piece_words prefix_text (codes "local=") f.local (record { some = omega arith; seen = Within-literal 33 127 (codes "local=") refl }) (λ p is. prefix_seen p)))
-    (piece_words decimal (codes "lport=") f.lport (record { some = omega arith; seen = Within-literal 33 127 (codes "lport=") refl }) (λ n is. let small : n < 2 ^ 16 = fits.lport n is in decimal_seen n (omega arith))))
-    (piece_words prefix_text (codes "remote=") f.remote (record { some = omega arith; seen = Within-literal 33 127 (codes "remote=") refl }) (λ p is. prefix_seen p)))
-    (piece_words decimal (codes "rport=") f.rport (record { some = omega arith; seen = Within-literal 33 127 (codes "rport=") refl }) (λ n is. let small : n < 2 ^ 16 = fits.rport n is in decimal_seen n (omega arith)))
+    (piece_words protocol_text (codes "proto=") f.proto (record { some = omega arith; seen = Within-literal 33 127 (codes "proto=") refl })
+    (λ n is. protocol_seen (eqb n 6)))
+    (piece_words prefix_text (codes "local=") f.local (record { some = omega arith; seen = Within-literal 33 127 (codes "local=") refl })
+    (λ p is. prefix_seen p)))
+    (piece_words decimal (codes "lport=") f.lport (record { some = omega arith; seen = Within-literal 33 127 (codes "lport=") refl }) (λ n is.
+    let small : n < 2 ^ 16 = fits.lport n is in decimal_seen n (omega arith))))
+    (piece_words prefix_text (codes "remote=") f.remote (record { some = omega arith; seen = Within-literal 33 127 (codes "remote=") refl })
+    (λ p is. prefix_seen p)))
+    (piece_words decimal (codes "rport=") f.rport (record { some = omega arith; seen = Within-literal 33 127 (codes "rport=") refl }) (λ n is.
+    let small : n < 2 ^ 16 = fits.rport n is in decimal_seen n (omega arith)))
 
 -- words with commas between them are one word
 pub join_word : (first : Word) (more : List Word) → AllByRecursion IsWord (first ∷ more) → IsWord (join_with_byte 44 (first ∷ more))

@@ -1,7 +1,10 @@
 -- What stands where something was judged to be right.
 use Rattle.std.proofs.Common.{◌≡◌, Bool, true, false, Option, None, Some, Ok, Err, refl}
+use Rattle.std.specs.Option.{option_transpose}
 use Rattle.op_script.specs.declared.fault.ScriptKind.{ScriptKind}
-use Rattle.op_script.specs.Reading.{Judged, ◌>>=◌, unless, wanted}
+use Rattle.basics.specs.Results.{◌>>=◌}
+use Rattle.op_script.specs.Reading.{Judged}
+use Rattle.op_script.specs.ReadingSteps.{unless, wanted}
 
 -- the value of a first part, and what was made of it
 pub record Steps {A B : Type 0} (a : Judged A) (f : A → Judged B) (t : B) : Type 0 where
@@ -20,3 +23,8 @@ unless_Ok false kind next t is = (refl, is)
 pub wanted_Ok : {A : Type 0} → (o : Option A) (kind : ScriptKind) (x : A) → wanted o kind ≡ Ok x → o ≡ Some x
 wanted_Ok None kind x is = absurd cc
 wanted_Ok (Some y) kind x is = cc
+
+-- what is judged, where there is something to be judged
+pub judged_some : {A : Type 0} → (a : Judged A) → option_transpose (Some a) ≡ (a >>= λ x. Ok (Some x))
+judged_some (Ok x) = refl
+judged_some (Err kind) = refl

@@ -1,5 +1,6 @@
 -- Lines in the order of their points: what they say at a point stands first, and what stands after it is in order again.
-use Rattle.std.proofs.Common.{◌≡◌, ◌∙◌, ℕ, suc, ◌+◌, ◌*◌, ◌^◌, ◌<◌, ◌≤◌, Bool, true, false, cond, eqb, List, [], ◌∷◌, map, filter, length, get_or, take, drop, ap, sym, refl, subst, inl, inr, arith, eqb-true, leb}
+use Rattle.std.proofs.Common.{◌≡◌, ◌∙◌, ℕ, suc, ◌+◌, ◌*◌, ◌^◌, ◌<◌, ◌≤◌, Bool, true, false, cond, eqb, List, [], ◌∷◌, map}
+use Rattle.std.proofs.Common.{filter, length, get_or, take, drop, ap, sym, refl, subst, inl, inr, arith, eqb-true, leb}
 use Rattle.std.specs.List.{prefix_len, take-map, drop-map}
 use Rattle.std.specs.List.Sorted.{IsNonDecreasingBy, IsStableByKey, ties}
 use Rattle.std.specs.Ordering.{nat_cmp, is_lt}
@@ -65,7 +66,8 @@ cut k (line ∷ more) order = elim (cases_Bool (eqb line.at k)) [
   | inl here ↦
       let at : line.at ≡ k = eqb-true line.at k here in
       let rest = cut k more (subst (λ at. IsFrom at more) at order.1) in
-      let count : cond (eqb line.at k) (1 + prefix_len (λ line. eqb line.at k) more) 0 ≡ suc (prefix_len (λ line. eqb line.at k) more) = rw here (omega arith) in
+      let count : cond (eqb line.at k) (1 + prefix_len (λ line. eqb line.at k) more) 0 ≡ suc (prefix_len (λ line. eqb line.at k) more) =
+      rw here (omega arith) in
       subst (λ n. Cut k n (line ∷ more)) (sym count) (cut_first k _ line more here rest)
   | inr other ↦
       let count : cond (eqb line.at k) (1 + prefix_len (λ line. eqb line.at k) more) 0 ≡ 0 = rw other refl in
@@ -77,7 +79,8 @@ pub said_first : {X : Type 0} (line : X → Line) (k n : ℕ) (rest : List X) (l
     → n ≡ prefix_len (λ (line : Line). eqb line.at k) (map line rest) → map (λ x. msg_of (line x).what) (take n rest) ≡ said_at k lines
 said_first line k n rest lines ahead count =
     let here : Cut k n (map line rest) = subst (λ n. Cut k n (map line rest)) (sym count) (cut k (map line rest) ahead.order) in
-    sym (map-map (λ (l : Line). msg_of l.what) line (take n rest)) ∙ ap (map (λ (l : Line). msg_of l.what)) (sym (take-map line n rest)) ∙ here.said ∙ ahead.same k (omega arith)
+    sym (map-map (λ (l : Line). msg_of l.what) line (take n rest)) ∙ ap (map (λ (l : Line). msg_of l.what)) (sym (take-map line n rest)) ∙ here.said
+    ∙ ahead.same k (omega arith)
 
 -- what stands after them is ahead of the next point
 pub ahead_next : {X : Type 0} (line : X → Line) (k n : ℕ) (rest left : List X) (lines : List Line) → AreLinesFrom k (map line rest) lines
@@ -96,8 +99,11 @@ still_short n rest left short is = let len = ap length is ∙ length-drop n rest
 in_order_from : {X : Type 0} (line : X → Line) (k : ℕ) (xs : List X) → IsNonDecreasingBy (λ x. (line x).at) xs
     → ((d : X) → 0 < length xs → k ≤ (line (get_or xs 0 d)).at) → IsFrom k (map line xs)
 in_order_from line k [] rising first = tt
-in_order_from line k (x ∷ more) rising first =
-    (first x (omega arith), in_order_from line (line x).at more (IsNonDecreasingBy-drop (λ x. (line x).at) 1 (x ∷ more) rising) (λ d some. rising 0 1 d (omega arith) (omega arith)))
+in_order_from line k (x ∷ more) rising first = (
+  first x (omega arith),
+  in_order_from line (line x).at more (IsNonDecreasingBy-drop (λ x. (line x).at) 1 (x ∷ more) rising)
+      (λ d some. rising 0 1 d (omega arith) (omega arith)),
+)
 
 abbrev pub by_point : {X : Type 0} → (X → Line) → X → X → Bool
 by_point line x y = is_lt (nat_cmp (line x).at (line y).at)

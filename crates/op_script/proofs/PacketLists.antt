@@ -9,7 +9,8 @@ use Rattle.nf_msgs.specs.declared.msg.Msg.{Msg}
 use Rattle.nf_msgs.specs.declared.msg.Msg.TheVariants.{InPacket}
 use Rattle.op_script.specs.declared.script.Line.{Line}
 use Rattle.op_script.specs.Items.{said_where, items_from}
-use Rattle.op_script.specs.PacketItems.{ArePackets, IsInRange, packets_of}
+use Rattle.flow_filter.specs.Packet.{IsInRange}
+use Rattle.op_script.specs.PacketItems.{ArePackets, packets_of}
 use Rattle.op_script.proofs.OneMore.{one_more}
 
 pub packets_of-map : (ps : List Packet) → packets_of (map InPacket ps) ≡ ps
@@ -17,7 +18,8 @@ packets_of-map [] = refl
 packets_of-map (p ∷ ps) = ap (λ ps. p ∷ ps) (packets_of-map ps)
 
 -- one packet more
-more_items : (items after : List Msg) (ps : List Packet) (p : Packet) → items ≡ map InPacket ps → after ≡ items ++ InPacket p ∷ [] → after ≡ map InPacket (ps ++ p ∷ [])
+more_items : (items after : List Msg) (ps : List Packet) (p : Packet) → items ≡ map InPacket ps → after ≡ items ++ InPacket p ∷ []
+    → after ≡ map InPacket (ps ++ p ∷ [])
 more_items items after ps p are is = is ∙ ap (λ l. l ++ InPacket p ∷ []) are ∙ sym (map-append InPacket ps (p ∷ []))
 
 pub more_packets : (items after : List Msg) (p : Packet) → items ≡ map InPacket (packets_of items) → after ≡ items ++ InPacket p ∷ []
@@ -38,12 +40,13 @@ still_packets items after p are is here = record {
 -- no line stands at a point before all of them
 none_at : (k n : ℕ) (lines : List Line) → k < n → list_all (λ (line : Line). leb n line.at) lines ≡ true → said_where (λ at. eqb at k) lines ≡ []
 none_at k n [] below later = refl
-none_at k n (line ∷ more) below later = elim (leb n line.at) as (λ b. leb n line.at ≡ b → (b && list_all (λ (line : Line). leb n line.at) more) ≡ true → said_where (λ at. eqb at k) (line ∷ more) ≡ []) [
-  | true ↦ λ far others.
-      let off : eqb line.at k ≡ false = grind (arith, nat_tests, far, below) in
-      rw off (none_at k n more below others)
-  | false ↦ λ near others. absurd cc
-] refl later
+none_at k n (line ∷ more) below later = elim (leb n line.at)
+    as (λ b. leb n line.at ≡ b → (b && list_all (λ (line : Line). leb n line.at) more) ≡ true → said_where (λ at. eqb at k) (line ∷ more) ≡ []) [
+      | true ↦ λ far others.
+          let off : eqb line.at k ≡ false = grind (arith, nat_tests, far, below) in
+          rw off (none_at k n more below others)
+      | false ↦ λ near others. absurd cc
+    ] refl later
 
 -- so where all lines stand after the last packet, the packets stand first
 packets_first : (k n : ℕ) (ps : List Packet) (lines : List Line) → k + length ps ≡ n → list_all (λ (line : Line). leb n line.at) lines ≡ true

@@ -1,18 +1,23 @@
 -- What was read breaks no rule.
-use Rattle.std.proofs.Common.{◌≡◌, ℕ, ◌+◌, ◌<◌, ◌≤◌, true, false, not, leb, ◌&&◌, List, [], ◌∷◌, ◌++◌, length, Option, None, Some, is_some, unwrap_or, Ok, Err, Result, refl, ap, sym, ◌∙◌, arith, subst, length-append}
+use Rattle.std.proofs.Common.{◌≡◌, ℕ, ◌+◌, ◌<◌, ◌≤◌, true, false, not, leb, List, [], ◌∷◌, ◌++◌, length, Option, None}
+use Rattle.std.proofs.Common.{Some, is_some, unwrap_or, Ok, Err, Result, refl, ap, sym, ◌∙◌, arith, subst, length-append}
 use Rattle.std.specs.List.{list_all, slice_split}
+use Rattle.std.specs.Result.{result_map_both}
 use Rattle.std.specs.Str.{bytes_eq}
 use Rattle.std.proofs.lemmas.Bool.{leb-false, ltb-false, not-false}
 use Rattle.std.proofs.lemmas.List.Quantifiers.{position-Some}
 use Rattle.flow_filter.specs.declared.filter_text.FilterFault.{FilterFault}
 use Rattle.flow_filter.specs.Name.{has_twice, is_name, place_of}
 use Rattle.basics.specs.Parsing.{split_once}
+use Rattle.basics.specs.Results.{◌>>=◌}
 use Rattle.flow_filter.specs.FilterText.{Fields, is_transport, parse}
 use Rattle.flow_filter.proofs.ParsedFilters.{parse_printable}
 use Rattle.nf_function.specs.declared.kind.Kind.{Kind}
 use Rattle.nf_function.specs.Units.{splits}
 use Rattle.op_script.specs.Statements.{Word, words, Event, Moving, Copying, Sharing, Settling, Statement, Silent, Routing, Happening}
-use Rattle.op_script.specs.Reading.{State, start, OrderView, Moves, Copies, Shares, LineView, Judged, ◌>>=◌, unless, wanted, ends_of, members_of, whole, filter_of, filter_or_all, with_route, with_line, noted, numbered, order_said, goes_back, with_event, with_statement, with_text, and_lines, with_lines}
+use Rattle.op_script.specs.Reading.{State, OrderView, Moves, Copies, Shares, LineView, Judged, distinct_names}
+use Rattle.op_script.specs.Reading.{filter_of, with_route, with_line, order_said, with_statement, with_text, with_lines}
+use Rattle.op_script.specs.ReadingSteps.{unless, whole, filter_or_all, goes_back, start, wanted, noted, numbered, with_event}
 use Rattle.op_script.specs.Printing.{IsRoute, IsWhat, IsLine, IsScript, is_writable}
 use Rattle.std.specs.Prelude.{◌==◌}
 use Rattle.std.specs.Str.Lines.{strip_carriage_return}
@@ -20,7 +25,7 @@ use Rattle.std.proofs.lemmas.List.Splits.{length-slice_split}
 use Rattle.basics.proofs.SplitLemmas.{split-Some}
 use Rattle.op_script.specs.declared.fault.ScriptKind.TheVariants as bad
 use Rattle.op_script.proofs.StatementLemmas.{IsEvent, IsStatement, statement_right}
-use Rattle.op_script.proofs.JudgedLemmas.{steps, unless_Ok, wanted_Ok}
+use Rattle.op_script.proofs.JudgedLemmas.{judged_some, steps, unless_Ok, wanted_Ok}
 use Rattle.op_script.proofs.ScriptLineLemmas.{All-append, last_at, last_at-append, follows-append, numbered_next}
 
 -- what holds while lines are read
@@ -39,54 +44,57 @@ filter_printable : (kind : Kind) (text : Word) (f : Fields) → filter_of kind t
 unfolding filter_of
 filter_printable kind text f is = whole_printable kind (parse text) f is (λ read. parse_printable f text read)
   where
-    whole_printable : (kind : Kind) (r : Result Fields FilterFault) (f : Fields) → whole kind r ≡ Ok f → (r ≡ Ok f → is_transport f.proto ≡ true) → is_transport f.proto ≡ true
+    whole_printable : (kind : Kind) (r : Result Fields FilterFault) (f : Fields) → whole kind r ≡ Ok f → (r ≡ Ok f → is_transport f.proto ≡ true)
+        → is_transport f.proto ≡ true
     whole_printable kind (Err e) f is given = absurd cc
     whole_printable kind (Ok g) f is given = let right = unless_Ok (splits kind g) bad.SplitsUnit (Ok g) f is in
         let same : g ≡ f = let rest = right.1 in cc in given (ap (λ (h : Fields). Ok h) same)
 
 copied_printable : (kind : Kind) (text : Option Word) (f : Option Fields) → filter_or_all kind text ≡ Ok f → is_writable f ≡ true
 copied_printable kind None f is = let none : None ≡ f = cc in rw (← none) refl
-copied_printable kind (Some text) f is = let s = steps (filter_of kind text) (λ g. Ok (Some g)) f is in
+copied_printable kind (Some text) f is = let s = steps (filter_of kind text) (λ g. Ok (Some g)) f (sym (judged_some (filter_of kind text)) ∙ is) in
     let some : Some s.value ≡ f = let rest = s.rest in cc in rw (← some) (filter_printable kind text s.value s.first)
 
 two_pieces : (list : Word) (r : Option (Word × Word)) → split_once 44 list ≡ r → is_some r ≡ true → 2 ≤ length (slice_split (λ b. b == 44) list)
 two_pieces list None at is = absurd cc
 two_pieces list (Some p) at is = rw (split-Some 44 list p.0 p.1 (sym at)) (omega (arith, length-slice_split (λ b. b == 44) p.1))
 
-ends_again : (source destination : Word) (ends : Word × Word) → ends_of source destination ≡ Ok ends → ends_of ends.0 ends.1 ≡ Ok (ends.0, ends.1)
-unfolding ends_of
-ends_again source destination ends is =
-    let first = unless_Ok (not (is_name source && is_name destination)) bad.Name (unless (bytes_eq source destination) bad.SameInstance (Ok (source, destination))) ends is in
-    let second = unless_Ok (bytes_eq source destination) bad.SameInstance (Ok (source, destination)) ends first.1 in
-    let same : (source, destination) ≡ ends = let rest = second.1 in cc in
-    subst (λ (e : Word × Word). ends_of e.0 e.1 ≡ Ok (e.0, e.1)) same (is ∙ ap (λ (e : Word × Word). Ok e) (sym same))
+-- names that were judged are names, and differ
+names_right : (all names : List Word) → distinct_names all ≡ Ok names → (list_all is_name all ≡ true) × (has_twice all ≡ false) × (all ≡ names)
+unfolding distinct_names
+names_right all names is =
+    let first = unless_Ok (not (list_all is_name all)) bad.Name (unless (has_twice all) bad.SameInstance (Ok all)) names is in
+    let second = unless_Ok (has_twice all) bad.SameInstance (Ok all) names first.1 in
+    (not-false (list_all is_name all) first.0, second.0, (let rest = second.1 in cc))
+
+names_again : (all names : List Word) → distinct_names all ≡ Ok names → distinct_names all ≡ Ok all
+names_again all names is = is ∙ ap (λ (ns : List Word). Ok ns) (sym (names_right all names is).2)
 
 -- the members of a share
-members_right : (list : Word) (members : List Word) → is_some (split_once 44 list) ≡ true → members_of list ≡ Ok members
+members_right : (list : Word) (members : List Word) → is_some (split_once 44 list) ≡ true → distinct_names (slice_split (λ b. b == 44) list) ≡ Ok members
     → (2 ≤ length members) × (list_all is_name members ≡ true) × (has_twice members ≡ false)
-unfolding members_of
 members_right list members comma is =
-    let all = slice_split (λ b. b == 44) list in
-    let first = unless_Ok (not (list_all is_name all)) bad.Name (unless (has_twice all) bad.SameInstance (Ok all)) members is in
-    let second = unless_Ok (has_twice all) bad.SameInstance (Ok all) members first.1 in
-    let same : all ≡ members = let rest = second.1 in cc in
-    subst (λ (ms : List Word). (2 ≤ length ms) × (list_all is_name ms ≡ true) × (has_twice ms ≡ false)) same
-    (two_pieces list (split_once 44 list) refl comma, not-false (list_all is_name all) first.0, second.0)
+    let right = names_right (slice_split (λ b. b == 44) list) members is in
+    subst (λ (ms : List Word). (2 ≤ length ms) × (list_all is_name ms ≡ true) × (has_twice ms ≡ false)) right.2
+    (two_pieces list (split_once 44 list) refl comma, right.0, right.1)
 
-order_right : (kind : Kind) (event : Event) (order : Option OrderView) → IsEvent event → order_said kind event ≡ Ok order → (lines : List LineView) → IsWhat (numbered lines order)
+order_right : (kind : Kind) (event : Event) (order : Option OrderView) → IsEvent event → order_said kind event ≡ Ok order → (lines : List LineView)
+    → IsWhat (numbered lines order)
 unfolding order_said
 order_right kind (Moving source destination filter keep) order right is lines =
-    let ends = steps (ends_of source destination) (λ e. filter_of kind filter >>= λ f. Ok (Some (Moves e.0 e.1 f keep))) order is in
-    let read = steps (filter_of kind filter) (λ f. Ok (Some (Moves ends.value.0 ends.value.1 f keep))) order ends.rest in
-    let same : Some (Moves ends.value.0 ends.value.1 read.value keep) ≡ order = let rest = read.rest in cc in
-    subst (λ (o : Option OrderView). IsWhat (numbered lines o)) same (ends_again source destination ends.value ends.first, filter_printable kind filter read.value read.first)
+    let ends = steps (distinct_names (source ∷ destination ∷ [])) (λ _. filter_of kind filter >>= λ f. Ok (Some (Moves source destination f keep))) order is in
+    let read = steps (filter_of kind filter) (λ f. Ok (Some (Moves source destination f keep))) order ends.rest in
+    let same : Some (Moves source destination read.value keep) ≡ order = let rest = read.rest in cc in
+    subst (λ (o : Option OrderView). IsWhat (numbered lines o)) same
+    (names_again (source ∷ destination ∷ []) ends.value ends.first, filter_printable kind filter read.value read.first)
 order_right kind (Copying source destination filter) order right is lines =
-    let ends = steps (ends_of source destination) (λ e. filter_or_all kind filter >>= λ f. Ok (Some (Copies e.0 e.1 f))) order is in
-    let read = steps (filter_or_all kind filter) (λ f. Ok (Some (Copies ends.value.0 ends.value.1 f))) order ends.rest in
-    let same : Some (Copies ends.value.0 ends.value.1 read.value) ≡ order = let rest = read.rest in cc in
-    subst (λ (o : Option OrderView). IsWhat (numbered lines o)) same (ends_again source destination ends.value ends.first, copied_printable kind filter read.value read.first)
+    let ends = steps (distinct_names (source ∷ destination ∷ [])) (λ _. filter_or_all kind filter >>= λ f. Ok (Some (Copies source destination f))) order is in
+    let read = steps (filter_or_all kind filter) (λ f. Ok (Some (Copies source destination f))) order ends.rest in
+    let same : Some (Copies source destination read.value) ≡ order = let rest = read.rest in cc in
+    subst (λ (o : Option OrderView). IsWhat (numbered lines o)) same
+    (names_again (source ∷ destination ∷ []) ends.value ends.first, copied_printable kind filter read.value read.first)
 order_right kind (Sharing list filter) order right is lines =
-    let members = steps (members_of list) (λ m. filter_of kind filter >>= λ f. Ok (Some (Shares m f))) order is in
+    let members = steps (distinct_names (slice_split (λ b. b == 44) list)) (λ m. filter_of kind filter >>= λ f. Ok (Some (Shares m f))) order is in
     let read = steps (filter_of kind filter) (λ f. Ok (Some (Shares members.value f))) order members.rest in
     let same : Some (Shares members.value read.value) ≡ order = let rest = read.rest in cc in
     let all = members_right list members.value right members.first in
@@ -94,7 +102,8 @@ order_right kind (Sharing list filter) order right is lines =
 order_right kind Settling order right is lines =
     let same : None ≡ order = cc in subst (λ (o : Option OrderView). IsWhat (numbered lines o)) same tt
 
-route_kept : (kind : Kind) (names : List Word) (s t : State) (filter instance : Word) → IsState names s → with_route kind names s filter instance ≡ Ok t → IsState names t
+route_kept : (kind : Kind) (names : List Word) (s t : State) (filter instance : Word) → IsState names s → with_route kind names s filter instance ≡ Ok t
+    → IsState names t
 unfolding with_route
 route_kept kind names s t filter instance kept is =
     let first = unless_Ok (is_some s.last) bad.Order _ t is in
@@ -119,7 +128,8 @@ far_enough : (last : Option ℕ) (at : ℕ) → goes_back last at ≡ false → 
 far_enough None at is = omega arith
 far_enough (Some last) at is = ltb-false at last is
 
-event_kept : (kind : Kind) (names : List Word) (s t : State) (at : ℕ) (event : Event) → IsEvent event → IsState names s → with_event kind s at event ≡ Ok t → IsState names t
+event_kept : (kind : Kind) (names : List Word) (s t : State) (at : ℕ) (event : Event) → IsEvent event → IsState names s → with_event kind s at event ≡ Ok t
+    → IsState names t
 event_kept kind names s t at event right kept is =
     let first = unless_Ok (goes_back s.last at) bad.Order (order_said kind event >>= with_line s at) t is in
     let order = steps (order_said kind event) (with_line s at) t first.1 in
@@ -139,7 +149,8 @@ event_kept kind names s t at event right kept is =
       last = last_at-append 0 s.lines line;
     })
 
-statement_kept : (kind : Kind) (names : List Word) (s t : State) (statement : Statement) → IsStatement statement → IsState names s → with_statement kind names s statement ≡ Ok t → IsState names t
+statement_kept : (kind : Kind) (names : List Word) (s t : State) (statement : Statement) → IsStatement statement → IsState names s
+    → with_statement kind names s statement ≡ Ok t → IsState names t
 statement_kept kind names s t Silent right kept is = let same : s ≡ t = cc in rw (← same) kept
 statement_kept kind names s t (Routing filter instance) right kept is = route_kept kind names s t filter instance kept is
 statement_kept kind names s t (Happening at event) right kept is = event_kept kind names s t at event right kept is
@@ -151,15 +162,19 @@ text_kept kind names s t line kept is =
     statement_kept kind names s t statement.value (statement_right (words line) statement.value (wanted_Ok _ _ _ statement.first)) kept statement.rest
 
 lines_then : (kind : Kind) (names : List Word) (n : ℕ) (t : State) (more : List (List ℕ)) (read : Judged State) → ((u : State) → read ≡ Ok u → IsState names u)
-    → ((u : State) → IsState names u → with_lines kind names (n + 1) u more ≡ Ok t → IsState names t) → and_lines n read (λ u. with_lines kind names (n + 1) u more) ≡ Ok t → IsState names t
+    → ((u : State) → IsState names u → with_lines kind names (n + 1) u more ≡ Ok t → IsState names t)
+    → (result_map_both (λ u. u) (λ fault. (n, fault)) read >>= λ u. with_lines kind names (n + 1) u more) ≡ Ok t → IsState names t
 lines_then kind names n t more (Ok u) first rest is = rest u (first u refl) is
 lines_then kind names n t more (Err fault) first rest is = absurd cc
 
-lines_kept : (kind : Kind) (names : List Word) (n : ℕ) (s t : State) (texts : List (List ℕ)) → IsState names s → with_lines kind names n s texts ≡ Ok t → IsState names t
+lines_kept : (kind : Kind) (names : List Word) (n : ℕ) (s t : State) (texts : List (List ℕ)) → IsState names s → with_lines kind names n s texts ≡ Ok t
+    → IsState names t
 lines_kept kind names n s t [] kept is = let same : s ≡ t = cc in rw (← same) kept
 lines_kept kind names n s t (text ∷ more) kept is =
-    lines_then kind names n t more (with_text kind names s (strip_carriage_return text)) (λ u read. text_kept kind names s u (strip_carriage_return text) kept read) (λ u kept_u rest. lines_kept kind names (n + 1) u t more kept_u rest) is
+    lines_then kind names n t more (with_text kind names s (strip_carriage_return text))
+    (λ u read. text_kept kind names s u (strip_carriage_return text) kept read) (λ u kept_u rest. lines_kept kind names (n + 1) u t more kept_u rest) is
 
 -- what lines that were read say breaks no rule
-pub lines_right : (kind : Kind) (names : List Word) (s : State) (texts : List (List ℕ)) → with_lines kind names 1 start texts ≡ Ok s → IsScript names (s.routes, s.lines)
+pub lines_right : (kind : Kind) (names : List Word) (s : State) (texts : List (List ℕ)) → with_lines kind names 1 start texts ≡ Ok s
+    → IsScript names (s.routes, s.lines)
 lines_right kind names s texts is = (lines_kept kind names 1 start s texts (start_state names) is).script

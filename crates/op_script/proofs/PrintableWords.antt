@@ -1,6 +1,7 @@
 -- Words that can be printed: no blank, no line's end, and ASCII alone.
-use Rattle.std.proofs.Common.{◌≡◌, ℕ, ◌-◌, ◌<◌, ◌≤◌, zero, suc, Bool, true, false, not, eqb, leb, ltb, ◌&&◌, List, [], ◌∷◌, ◌++◌, length, get_or, filter, refl, ap, ◌∙◌, arith, inl, inr, lit<, ◌^◌}
-use Rattle.std.specs.List.{AllByRecursion, All, slice_split, join_with_byte}
+use Rattle.std.proofs.Common.{◌≡◌, ℕ, ◌-◌, ◌<◌, ◌≤◌, zero, suc, Bool, true, false, not, eqb, leb, ltb, ◌&&◌, List}
+use Rattle.std.proofs.Common.{[], ◌∷◌, ◌++◌, length, get_or, filter, refl, ap, ◌∙◌, arith, inl, inr, lit<, ◌^◌}
+use Rattle.std.specs.List.{AllByRecursion, All, slice_split, join_with_byte, list_all}
 use Rattle.std.specs.Str.{IsAscii, is_utf8}
 use Rattle.std.specs.Str.Lines.{strip_carriage_return}
 use Rattle.std.specs.Int.{IsInRange}
@@ -8,11 +9,11 @@ use Rattle.std.specs.Fmt.{decimal}
 use Rattle.std.proofs.lemmas.Bool.{and_parts, or_cases, leb-true, ne_eqb, ltb-true}
 use Rattle.std.proofs.lemmas.Str.{is_utf8-from_IsUtf8, IsUtf8-from_ascii}
 use Rattle.std.proofs.lemmas.Fmt.{digits_decimal, decimal_nonempty}
-use Rattle.std.specs.List.{list_all}
 use Rattle.std.proofs.lemmas.List.Splits.{slice_split_none, slice_split_at}
 use Rattle.flow_filter.specs.Name.{is_name, is_name_byte}
 use Rattle.basics.proofs.DecimalLemmas.{AreDigits, own}
-use Rattle.op_script.specs.Statements.{Word, is_blank, words}
+use Rattle.op_script.specs.Statements.{Word, words}
+use Rattle.op_script.specs.WordSteps.{is_blank}
 
 -- each byte lies between two bounds
 abbrev pub Within : ℕ → ℕ → List ℕ → Type 0
@@ -24,7 +25,8 @@ Within-append low high (x ∷ a) b in_a in_b = (in_a.0, Within-append low high a
 
 pub Within-wider : (low high low' high' : ℕ) (a : List ℕ) → low' ≤ low → high ≤ high' → Within low high a → Within low' high' a
 Within-wider low high low' high' [] less more in_a = tt
-Within-wider low high low' high' (x ∷ a) less more in_a = ((let first = in_a.0 in omega arith, let first = in_a.0 in omega arith), Within-wider low high low' high' a less more in_a.1)
+Within-wider low high low' high' (x ∷ a) less more in_a =
+    ((let first = in_a.0 in omega arith, let first = in_a.0 in omega arith), Within-wider low high low' high' a less more in_a.1)
 
 -- the same, as a test, for texts that are written out
 abbrev pub within : ℕ → ℕ → List ℕ → Bool
@@ -83,7 +85,8 @@ words-joined first more are = ap (filter (λ w. not (eqb (length w) 0))) (split-
 
 pub line_seen : (first : Word) (more : List Word) → AllByRecursion IsWord (first ∷ more) → Within 32 127 (join_with_byte 32 (first ∷ more))
 line_seen first [] are = Within-wider 33 127 32 127 first (omega arith) (omega arith) are.0.seen
-line_seen first (next ∷ more) are = Within-append 32 127 first (32 ∷ join_with_byte 32 (next ∷ more)) (Within-wider 33 127 32 127 first (omega arith) (omega arith) are.0.seen)
+line_seen first (next ∷ more) are =
+    Within-append 32 127 first (32 ∷ join_with_byte 32 (next ∷ more)) (Within-wider 33 127 32 127 first (omega arith) (omega arith) are.0.seen)
     ((omega arith, omega arith), line_seen next more are.1)
 
 digits_seen : (ds : List ℕ) → AreDigits ds → Within 33 127 ds

@@ -1,5 +1,6 @@
 -- The text of a script is read as the script: one line.
-use Rattle.std.proofs.Common.{◌≡◌, ℕ, ◌<◌, ◌^◌, Bool, true, false, cond, eqb, List, [], ◌∷◌, ◌++◌, map, None, Some, is_some, Ok, refl, ap, sym, ◌∙◌, arith, append_assoc}
+use Rattle.std.proofs.Common.{◌≡◌, ℕ, ◌<◌, ◌^◌, Bool, true, false, cond, eqb, List, [], ◌∷◌, ◌++◌}
+use Rattle.std.proofs.Common.{map, None, Some, is_some, Ok, refl, ap, sym, ◌∙◌, arith, append_assoc}
 use Rattle.std.specs.Prelude.{codes}
 use Rattle.std.specs.List.{AllByRecursion, slice_split, join_with_byte, concat}
 use Rattle.std.specs.Str.{bytes_eq}
@@ -10,7 +11,8 @@ use Rattle.basics.specs.Parsing.{split_once}
 use Rattle.basics.proofs.SplitLemmas.{Lacks, split_once-append, split-Some}
 use Rattle.basics.proofs.PrintedNumbers.{parse_number-printed}
 use Rattle.nf_function.specs.declared.kind.Kind.{Kind}
-use Rattle.op_script.specs.Statements.{Word, Event, Moving, Copying, Sharing, Settling, Statement, Routing, Happening, statement_of, event_of, moving, copying, sharing}
+use Rattle.op_script.specs.Statements.{Word, Event, Moving, Copying, Sharing, Settling, Statement, Routing}
+use Rattle.op_script.specs.Statements.{Happening, statement_of, event_of}
 use Rattle.op_script.specs.Reading.{State, with_text, with_statement}
 use Rattle.op_script.specs.Printing.{line_text}
 use Rattle.op_script.proofs.PrintableWords.{Within, IsWord, words-joined, line_seen, strip-line, line_utf8}
@@ -21,8 +23,10 @@ lacks_end [] seen = tt
 lacks_end (b ∷ more) seen = (let first = seen.0 in ne_eqb b 10 (omega arith), lacks_end more seen.1)
 
 -- a line of words that is a statement says what the statement says
-pub line_says : (kind : Kind) (names : List Word) (s : State) (first : Word) (more : List Word) (statement : Statement) (t : State) → AllByRecursion IsWord (first ∷ more)
-    → statement_of (first ∷ more) ≡ Some statement → with_statement kind names s statement ≡ Ok t → with_text kind names s (strip_carriage_return (join_with_byte 32 (first ∷ more))) ≡ Ok t
+pub line_says : (kind : Kind) (names : List Word) (s : State) (first : Word) (more : List Word) (statement : Statement) (t : State)
+    → AllByRecursion IsWord (first ∷ more)
+    → statement_of (first ∷ more) ≡ Some statement → with_statement kind names s statement ≡ Ok t
+    → with_text kind names s (strip_carriage_return (join_with_byte 32 (first ∷ more))) ≡ Ok t
 line_says kind names s first more statement t are is says =
     let seen = line_seen first more are in
     rw (strip-line (join_with_byte 32 (first ∷ more)) seen, line_utf8 (join_with_byte 32 (first ∷ more)) seen, words-joined first more are, is) says
@@ -51,16 +55,18 @@ at_statement at verb more event small is = rw (parse_number-printed 4294967295 a
 
 pub move_event : (source destination filter : Word) (keep : Bool)
     → event_of (codes "move") (source ∷ destination ∷ filter ∷ cond keep (codes "order") (codes "lossfree") ∷ []) ≡ Some (Moving source destination filter keep)
-unfolding event_of moving
+unfolding event_of
 move_event source destination filter true = refl
 move_event source destination filter false = refl
 
-pub copy_event : (source destination what : Word) → event_of (codes "copy") (source ∷ destination ∷ what ∷ []) ≡ Some (Copying source destination (cond (bytes_eq what (codes "all")) None (Some what)))
-unfolding event_of copying
+pub copy_event : (source destination what : Word)
+    → event_of (codes "copy") (source ∷ destination ∷ what ∷ []) ≡ Some (Copying source destination (cond (bytes_eq what (codes "all")) None (Some what)))
+unfolding event_of
 copy_event source destination what = refl
 
-pub share_event : (list filter : Word) → is_some (split_once 44 list) ≡ true → event_of (codes "share") (list ∷ filter ∷ codes "strict" ∷ []) ≡ Some (Sharing list filter)
-unfolding event_of sharing
+pub share_event : (list filter : Word) → is_some (split_once 44 list) ≡ true
+    → event_of (codes "share") (list ∷ filter ∷ codes "strict" ∷ []) ≡ Some (Sharing list filter)
+unfolding event_of
 share_event list filter comma = rw comma refl
 
 pub settle_event : event_of (codes "settle") [] ≡ Some Settling

@@ -1,11 +1,12 @@
 -- The words of an order are read as the order.
-use Rattle.std.proofs.Common.{◌≡◌, ℕ, ◌<◌, ◌≤◌, ◌^◌, Bool, true, false, not, cond, eqb, leb, ◌&&◌, List, [], ◌∷◌, ◌++◌, length, None, Some, is_some, option_map, Ok, refl, ap, sym, ◌∙◌, arith}
+use Rattle.std.proofs.Common.{◌≡◌, ℕ, ◌<◌, ◌≤◌, ◌^◌, Bool, true, false, not, cond, eqb, leb, ◌&&◌, ◌||◌, List, []}
+use Rattle.std.proofs.Common.{◌∷◌, ◌++◌, length, None, Some, is_some, option_map, Ok, refl, ap, sym, ◌∙◌, arith}
 use Rattle.std.specs.Prelude.{codes}
 use Rattle.std.specs.List.{AllByRecursion, slice_split, join_with_byte, list_all}
 use Rattle.std.specs.Option.{ForSome}
 use Rattle.std.specs.Str.{bytes_eq}
 use Rattle.std.specs.Fmt.{decimal}
-use Rattle.std.proofs.lemmas.Bool.{ne_eqb, and_parts, not-false}
+use Rattle.std.proofs.lemmas.Bool.{ne_eqb, and_parts, not-false, or_parts, false_from_ne_true}
 use Rattle.std.proofs.lemmas.Slice.Eq.{bytes_eq-Decides}
 use Rattle.flow_filter.specs.declared.filter.Filter.{Filter}
 use Rattle.flow_filter.specs.Filter.{IsFilter}
@@ -20,8 +21,9 @@ use Rattle.nf_msgs.specs.declared.command.Order.{Order}
 use Rattle.nf_msgs.specs.declared.command.Order.TheVariants.{Move, Copy, Share}
 use Rattle.op_script.specs.declared.fault.ScriptKind.TheVariants as bad
 use Rattle.op_script.specs.Statements.{Word, Event, Moving, Copying, Sharing, Happening, statement_of}
-use Rattle.op_script.specs.Reading.{unless, ends_of, members_of, filter_of, order_said, order_view}
-use Rattle.op_script.specs.LineFilters.{order_filter}
+use Rattle.op_script.specs.Reading.{distinct_names, filter_of, order_said, order_view}
+use Rattle.op_script.specs.ReadingSteps.{unless}
+use Rattle.nf_msgs.specs.Orders.{order_filter}
 use Rattle.op_script.specs.Printing.{order_words, IsOrder, order_splits}
 use Rattle.op_script.proofs.JudgedLemmas.{unless_Ok}
 use Rattle.op_script.proofs.PrintableWords.{IsWord, Within-literal, name_word}
@@ -34,7 +36,8 @@ event_in (Move source destination filter keep) = Moving source destination (prin
 event_in (Copy source destination filter) = Copying source destination (option_map print filter)
 event_in (Share members filter) = Sharing (join_with_byte 44 members) (print filter)
 
-pub filter_again : (kind : Kind) (f : Filter) → IsFilter f → is_printable f ≡ true → splits kind (fields_of f) ≡ false → filter_of kind (print f) ≡ Ok (fields_of f)
+pub filter_again : (kind : Kind) (f : Filter) → IsFilter f → is_printable f ≡ true → splits kind (fields_of f) ≡ false
+    → filter_of kind (print f) ≡ Ok (fields_of f)
 unfolding filter_of
 filter_again kind f fits prints whole = rw (parse-print f fits prints, whole) refl
 
@@ -43,11 +46,29 @@ unfolding parse
 not_all text g false is read = refl
 not_all text g true is read = let all : text ≡ codes "all" = (bytes_eq-Decides text (codes "all")).0 is in let wrong = rw all at read in absurd cc
 
-ends_names : (source destination : Word) (ends : Word × Word) → ends_of source destination ≡ Ok ends → (is_name source ≡ true) × (is_name destination ≡ true)
-unfolding ends_of
-ends_names source destination ends is =
-    let first = unless_Ok (not (is_name source && is_name destination)) bad.Name (unless (bytes_eq source destination) bad.SameInstance (Ok (source, destination))) ends is in
-    and_parts (is_name source) (is_name destination) (not-false _ first.0)
+pub differs : (name other : Word) → bytes_eq other name ≡ false → bytes_eq name other ≡ false
+differs name other is = false_from_ne_true (bytes_eq name other) (λ same.
+    let back : bytes_eq other name ≡ true = (bytes_eq-Decides other name).1 (sym ((bytes_eq-Decides name other).0 same)) in cc)
+
+-- what is known of the two names of a move or a copy
+pub record Ends (a b : Word) : Type 0 where
+  pub source : is_name a ≡ true
+  pub destination : is_name b ≡ true
+  pub other : bytes_eq a b ≡ false
+
+pub ends_known : (source destination : Word) → distinct_names (source ∷ destination ∷ []) ≡ Ok (source ∷ destination ∷ []) → Ends source destination
+unfolding distinct_names
+ends_known source destination is =
+    let names = source ∷ destination ∷ [] in
+    let first = unless_Ok (not (list_all is_name names)) bad.Name (unless (has_twice names) bad.SameInstance (Ok names)) names is in
+    let second = unless_Ok (has_twice names) bad.SameInstance (Ok names) names first.1 in
+    let both = and_parts (is_name source) (is_name destination && true) (not-false _ first.0) in
+    let back = bytes_eq destination source in
+    record {
+      source = both.0;
+      destination = (and_parts (is_name destination) true both.1).0;
+      other = differs source destination (or_parts back false (or_parts (back || false) false second.0).0).0;
+    }
 
 letters_lack : (name : Word) → list_all is_name_byte name ≡ true → Lacks 44 name
 letters_lack [] is = tt
@@ -58,16 +79,19 @@ letters_lack (b ∷ more) is =
 name_lacks : (name : Word) → is_name name ≡ true → Lacks 44 name
 name_lacks name is = letters_lack name (and_parts (leb 1 (length name) && leb (length name) 16) (list_all is_name_byte name) is).1
 
-names_split : (first : Word) (more : List Word) → list_all is_name (first ∷ more) ≡ true → slice_split (λ b. eqb b 44) (join_with_byte 44 (first ∷ more)) ≡ first ∷ more
+names_split : (first : Word) (more : List Word) → list_all is_name (first ∷ more) ≡ true
+    → slice_split (λ b. eqb b 44) (join_with_byte 44 (first ∷ more)) ≡ first ∷ more
 names_split first [] are = split-None 44 first (sym (split_once-lacks 44 first (name_lacks first (and_parts (is_name first) true are).0)))
 names_split first (next ∷ more) are =
     let p = and_parts (is_name first) (list_all is_name (next ∷ more)) are in
-    split-Some 44 (first ++ (44 ∷ join_with_byte 44 (next ∷ more))) first (join_with_byte 44 (next ∷ more)) (sym (split_once-append 44 first (join_with_byte 44 (next ∷ more)) (name_lacks first p.0)))
+    split-Some 44 (first ++ (44 ∷ join_with_byte 44 (next ∷ more))) first (join_with_byte 44 (next ∷ more))
+    (sym (split_once-append 44 first (join_with_byte 44 (next ∷ more)) (name_lacks first p.0)))
     ∙ ap (λ t. first ∷ t) (names_split next more p.1)
 
 members_again : (members : List Word) → 2 ≤ length members → list_all is_name members ≡ true → has_twice members ≡ false
-    → (members_of (join_with_byte 44 members) ≡ Ok members) × (is_some (split_once 44 (join_with_byte 44 members)) ≡ true) × IsWord (join_with_byte 44 members)
-unfolding members_of
+    → (distinct_names (slice_split (λ b. eqb b 44) (join_with_byte 44 members)) ≡ Ok members)
+    × (is_some (split_once 44 (join_with_byte 44 members)) ≡ true) × IsWord (join_with_byte 44 members)
+unfolding distinct_names
 members_again [] two are once = absurd (omega arith)
 members_again (first ∷ []) two are once = absurd (omega arith)
 members_again (first ∷ next ∷ more) two are once =
@@ -82,45 +106,55 @@ members_again (first ∷ next ∷ more) two are once =
     names_words (name ∷ more) are = let p = and_parts (is_name name) (list_all is_name more) are in (name_word name p.0, names_words more p.1)
 
 -- the words of an order are its event's statement
-pub order_statement : (at : ℕ) (o : Order) → at < 2 ^ 32 → IsOrder (order_view o) → ForSome (order_filter o) IsFilter → statement_of (codes "at" ∷ decimal at ∷ order_words o) ≡ Some (Happening at (event_in o))
-order_statement at (Move source destination filter keep) small is fits = at_statement at (codes "move") _ _ small (move_event source destination (print filter) keep)
+pub order_statement : (at : ℕ) (o : Order) → at < 2 ^ 32 → IsOrder (order_view o) → ForSome (order_filter o) IsFilter
+    → statement_of (codes "at" ∷ decimal at ∷ order_words o) ≡ Some (Happening at (event_in o))
+order_statement at (Move source destination filter keep) small is fits =
+    at_statement at (codes "move") _ _ small (move_event source destination (print filter) keep)
 order_statement at (Copy source destination None) small is fits = at_statement at (codes "copy") _ _ small (copy_event source destination (codes "all"))
 order_statement at (Copy source destination (Some filter)) small is fits =
     let other = not_all (print filter) (fields_of filter) (bytes_eq (print filter) (codes "all")) refl (parse-print filter (fits filter refl) is.1) in
-    at_statement at (codes "copy") _ _ small (copy_event source destination (print filter) ∙ ap (λ (test : Bool). Some (Copying source destination (cond test None (Some (print filter))))) other)
-order_statement at (Share members filter) small is fits = at_statement at (codes "share") _ _ small (share_event (join_with_byte 44 members) (print filter) (members_again members is.0 is.1 is.2).1)
+    at_statement at (codes "copy") _ _ small
+    (copy_event source destination (print filter) ∙ ap (λ (test : Bool). Some (Copying source destination (cond test None (Some (print filter))))) other)
+order_statement at (Share members filter) small is fits =
+    at_statement at (codes "share") _ _ small (share_event (join_with_byte 44 members) (print filter) (members_again members is.0 is.1 is.2).1)
 
 -- the event of an order gives the order
-pub order_again : (kind : Kind) (o : Order) → IsOrder (order_view o) → ForSome (order_filter o) IsFilter → order_splits kind (order_view o) ≡ false → order_said kind (event_in o) ≡ Ok (Some (order_view o))
+pub order_again : (kind : Kind) (o : Order) → IsOrder (order_view o) → ForSome (order_filter o) IsFilter → order_splits kind (order_view o) ≡ false
+    → order_said kind (event_in o) ≡ Ok (Some (order_view o))
 unfolding order_said
 order_again kind (Move source destination filter keep) is fits whole = rw (is.0, filter_again kind filter (fits filter refl) is.1 whole) refl
 order_again kind (Copy source destination None) is fits whole = let ends = is.0 in rw ends refl
 order_again kind (Copy source destination (Some filter)) is fits whole = rw (is.0, filter_again kind filter (fits filter refl) is.1 whole) refl
-order_again kind (Share members filter) is fits whole = rw ((members_again members is.0 is.1 is.2).0, filter_again kind filter (fits filter refl) is.3 whole) refl
+order_again kind (Share members filter) is fits whole =
+    rw ((members_again members is.0 is.1 is.2).0, filter_again kind filter (fits filter refl) is.3 whole) refl
 
 -- the words of an order are words
 pub order_words_are : (o : Order) → IsOrder (order_view o) → ForSome (order_filter o) IsFilter → AllByRecursion IsWord (order_words o)
 order_words_are (Move source destination filter keep) is fits =
-    let names = ends_names source destination (source, destination) is.0 in
-    (record { some = omega arith; seen = Within-literal 33 127 (codes "move") refl }, (name_word source names.0, (name_word destination names.1, (filter_word filter (fits filter refl), (how_word keep, tt)))))
+    let names = ends_known source destination is.0 in (
+      record { some = omega arith; seen = Within-literal 33 127 (codes "move") refl },
+      (name_word source names.source, (name_word destination names.destination, (filter_word filter (fits filter refl), (how_word keep, tt)))),
+    )
   where
     how_word : (keep : Bool) → IsWord (cond keep (codes "order") (codes "lossfree"))
     how_word true = record { some = omega arith; seen = Within-literal 33 127 (codes "order") refl }
     how_word false = record { some = omega arith; seen = Within-literal 33 127 (codes "lossfree") refl }
 order_words_are (Copy source destination None) is fits =
-    let names = ends_names source destination (source, destination) is.0 in (
+    let names = ends_known source destination is.0 in (
       record { some = omega arith; seen = Within-literal 33 127 (codes "copy") refl },
       (
-        name_word source names.0,
+        name_word source names.source,
         (
-          name_word destination names.1,
+          name_word destination names.destination,
           (record { some = omega arith; seen = Within-literal 33 127 (codes "all") refl }, tt),
         ),
       ),
     )
 order_words_are (Copy source destination (Some filter)) is fits =
-    let names = ends_names source destination (source, destination) is.0 in
-    (record { some = omega arith; seen = Within-literal 33 127 (codes "copy") refl }, (name_word source names.0, (name_word destination names.1, (filter_word filter (fits filter refl), tt))))
+    let names = ends_known source destination is.0 in (
+      record { some = omega arith; seen = Within-literal 33 127 (codes "copy") refl },
+      (name_word source names.source, (name_word destination names.destination, (filter_word filter (fits filter refl), tt))),
+    )
 order_words_are (Share members filter) is fits = (
   record { some = omega arith; seen = Within-literal 33 127 (codes "share") refl },
   (

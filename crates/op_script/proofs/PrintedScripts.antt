@@ -1,11 +1,12 @@
 -- The text of a script is read as the script: all lines.
-use Rattle.std.proofs.Common.{◌≡◌, ℕ, ◌+◌, ◌<◌, ◌≤◌, ◌^◌, Bool, true, false, not, cond, eqb, leb, List, [], ◌∷◌, ◌++◌, zero, suc, length, map, get_or, Option, None, Some, unwrap_or, Ok, refl, ap, sym, ◌∙◌, subst, arith, append_assoc, length-append}
+use Rattle.std.proofs.Common.{◌≡◌, ℕ, ◌+◌, ◌<◌, ◌≤◌, ◌^◌, Bool, true, false, not, cond, eqb, leb, List, [], ◌∷◌, ◌++◌, zero, suc, length}
+use Rattle.std.proofs.Common.{map, get_or, Option, None, Some, unwrap_or, Ok, refl, ap, sym, ◌∙◌, subst, arith, append_assoc, length-append}
 use Rattle.std.specs.Prelude.{codes}
 use Rattle.std.specs.List.{AllByRecursion, join_with_byte, concat, list_any, prefix_len, slice_index_or}
 use Rattle.std.specs.Option.{ForSome}
 use Rattle.std.specs.Str.{bytes_eq}
 use Rattle.std.specs.Fmt.{decimal}
-use Rattle.std.proofs.lemmas.Bool.{and_parts, leb-true, eqb-true, lt-leb, lt-ltb, le-ltb, or_parts, false_from_ne_true}
+use Rattle.std.proofs.lemmas.Bool.{and_parts, leb-true, eqb-true, lt-leb, lt-ltb, le-ltb, or_parts}
 use Rattle.std.proofs.lemmas.List.{map-append, length-map}
 use Rattle.std.proofs.lemmas.List.Elements.{recursion_from_All}
 use Rattle.std.proofs.lemmas.Slice.Eq.{bytes_eq-Decides}
@@ -20,20 +21,20 @@ use Rattle.op_script.specs.declared.script.Line.{Line}
 use Rattle.op_script.specs.declared.script.What.{What}
 use Rattle.op_script.specs.declared.script.What.TheVariants.{Command, Settle}
 use Rattle.op_script.specs.Statements.{Word, Event, Routing, Happening, Settling, statement_of}
-use Rattle.op_script.specs.Reading.{State, ScriptAnswer, start, OrderView, LineView, with_route, noted, numbered, command_count, order_said, goes_back, with_statement, with_lines, script_of, route_view, line_view, what_view, order_view, script_view, ScriptView}
+use Rattle.op_script.specs.Reading.{State, OrderView, LineView, with_route, order_said, with_statement, with_lines}
+use Rattle.op_script.specs.Reading.{script_of, line_view, what_view, order_view, script_view, ScriptView}
+use Rattle.op_script.specs.ReadingSteps.{goes_back, ScriptAnswer, start, noted, numbered, command_count, route_view}
 use Rattle.op_script.specs.LineFilters.{what_filter}
-use Rattle.op_script.specs.Printing.{route_words, line_words, what_words, IsWhat, line_text, script_words, script_text, IsRoute, IsLine, IsScript, SplitsNone, what_splits, follows, next_after, and_then}
+use Rattle.op_script.specs.Printing.{route_words, line_words, what_words, IsWhat, line_text, script_words, script_text}
+use Rattle.op_script.specs.Printing.{IsRoute, IsLine, IsScript, SplitsNone, what_splits, is_in_order, next_after, and_then}
 use Rattle.op_script.proofs.PrintableWords.{Within, IsWord, Within-literal, line_seen, line_utf8, name_word, decimal_word}
 use Rattle.op_script.proofs.FilterWordLemmas.{filter_word}
 use Rattle.op_script.proofs.PrintedLines.{line_says, lines-joined, route_statement, at_statement, settle_event}
-use Rattle.op_script.proofs.PrintedOrders.{event_in, filter_again, order_statement, order_again, order_words_are}
+use Rattle.op_script.proofs.PrintedOrders.{differs, event_in, filter_again, order_statement, order_again, order_words_are}
 use Rattle.op_script.proofs.ScriptLineLemmas.{All-append, count-append}
 
-differs : (name other : Word) → bytes_eq other name ≡ false → bytes_eq name other ≡ false
-differs name other is = false_from_ne_true (bytes_eq name other) (λ same.
-    let back : bytes_eq other name ≡ true = (bytes_eq-Decides other name).1 (sym ((bytes_eq-Decides name other).0 same)) in cc)
-
-differs_at : (name : Word) (more : List Word) (i : ℕ) → i < length more → list_any (λ other. bytes_eq other name) more ≡ false → bytes_eq name (get_or more i []) ≡ false
+differs_at : (name : Word) (more : List Word) (i : ℕ) → i < length more → list_any (λ other. bytes_eq other name) more ≡ false
+    → bytes_eq name (get_or more i []) ≡ false
 differs_at name [] i below is = absurd (omega arith)
 differs_at name (other ∷ more) zero below is = differs name other (or_parts (bytes_eq other name) _ is).0
 differs_at name (other ∷ more) (suc i) below is = differs_at name more i (omega arith) (or_parts (bytes_eq other name) _ is).1
@@ -62,16 +63,20 @@ route_says kind names s route once front few is fits whole =
     rw (front, place_at names route.1 is.0 once, filter_again kind route.0 fits is.1 whole, lt-leb 1000 (length s.routes) few) refl
 
 route_are : (names : List Word) (route : Filter × ℕ) → IsNamed names route → IsFilter route.0 → AllByRecursion IsWord (route_words names route)
-route_are names route named fits =
-    (record { some = omega arith; seen = Within-literal 33 127 (codes "route") refl }, (filter_word route.0 fits, (name_word (slice_index_or names route.1 []) named, tt)))
+route_are names route named fits = (
+  record { some = omega arith; seen = Within-literal 33 127 (codes "route") refl },
+  (filter_word route.0 fits, (name_word (slice_index_or names route.1 []) named, tt)),
+)
 
 -- the routes' lines
 no_more : {X : Type 0} (xs : List X) → xs ++ [] ≡ xs
 no_more [] = refl
 no_more (x ∷ xs) = ap (λ t. x ∷ t) (no_more xs)
 
-pub routes_again : (kind : Kind) (names : List Word) (n : ℕ) (s t : State) (routes : List (Filter × ℕ)) (rest : List (List ℕ)) → AllByRecursion (IsNamed names) routes → has_twice names ≡ false
-    → s.last ≡ None → length s.routes + length routes ≤ 1000 → AllByRecursion (IsRoute names) (map route_view routes) → AllByRecursion (λ route. IsFilter route.0) routes
+pub routes_again : (kind : Kind) (names : List Word) (n : ℕ) (s t : State) (routes : List (Filter × ℕ)) (rest : List (List ℕ))
+    → AllByRecursion (IsNamed names) routes → has_twice names ≡ false
+    → s.last ≡ None → length s.routes + length routes ≤ 1000 → AllByRecursion (IsRoute names) (map route_view routes)
+    → AllByRecursion (λ route. IsFilter route.0) routes
     → AllByRecursion (λ (route : Fields × ℕ). splits kind route.0 ≡ false) (map route_view routes)
     → with_lines kind names (n + length routes) (record s { routes = s.routes ++ map route_view routes }) rest ≡ Ok t
     → with_lines kind names n s (map (join_with_byte 32) (map (route_words names) routes) ++ rest) ≡ Ok t
@@ -81,15 +86,20 @@ routes_again kind names n s t [] rest named once front few is fits whole then =
     (subst (λ m. with_lines kind names m (record s { routes = s.routes ++ [] }) rest ≡ Ok t) same then)
 routes_again kind names n s t (route ∷ more) rest named once front few is fits whole then =
     let next : State = record s { routes = s.routes ++ route_view route ∷ [] } in
-    let line = line_says kind names s (codes "route") (print route.0 ∷ slice_index_or names route.1 [] ∷ []) (Routing (print route.0) (slice_index_or names route.1 [])) next
-    (route_are names route named.0 fits.0) (route_statement (print route.0) (slice_index_or names route.1 [])) (route_says kind names s route once front (omega arith) is.0 fits.0 whole.0) in
-    rw line (routes_again kind names (n + 1) next t more rest named.1 once front (omega (arith, length-append s.routes (route_view route ∷ []))) is.1 fits.1 whole.1
-    (subst (λ (rs : List (Fields × ℕ)). with_lines kind names (n + 1 + length more) (record s { routes = rs }) rest ≡ Ok t) (sym (append_assoc s.routes (route_view route ∷ []) (map route_view more)))
-    (subst (λ m. with_lines kind names m (record s { routes = s.routes ++ map route_view (route ∷ more) }) rest ≡ Ok t) (let same : n + suc (length more) ≡ n + 1 + length more = omega arith in same) then)))
+    let line = line_says kind names s (codes "route") (print route.0 ∷ slice_index_or names route.1 [] ∷ [])
+    (Routing (print route.0) (slice_index_or names route.1 [])) next
+    (route_are names route named.0 fits.0) (route_statement (print route.0) (slice_index_or names route.1 []))
+    (route_says kind names s route once front (omega arith) is.0 fits.0 whole.0) in
+    rw line (routes_again kind names (n + 1) next t more rest named.1 once front (omega (arith, length-append s.routes (route_view route ∷ []))) is.1 fits.1
+    whole.1
+    (subst (λ (rs : List (Fields × ℕ)). with_lines kind names (n + 1 + length more) (record s { routes = rs }) rest ≡ Ok t)
+    (sym (append_assoc s.routes (route_view route ∷ []) (map route_view more)))
+    (subst (λ m. with_lines kind names m (record s { routes = s.routes ++ map route_view (route ∷ more) }) rest ≡ Ok t)
+    (let same : n + suc (length more) ≡ n + 1 + length more = omega arith in same) then)))
 
 -- an `at` line
 goes_on : (last : Option ℕ) (at : ℕ) → unwrap_or last 0 ≤ at → goes_back last at ≡ false
-goes_on None at far = refl
+goes_on None at far = le-ltb at 0 far
 goes_on (Some last) at far = le-ltb at last far
 
 event_says : (kind : Kind) (names : List Word) (s : State) (at : ℕ) (event : Event) (order : Option OrderView) → unwrap_or s.last 0 ≤ at → length s.lines < 1000
@@ -105,11 +115,13 @@ abbrev event_of_what : What → Event
 event_of_what (Command command) = event_in command.what
 event_of_what Settle = Settling
 
-what_statement : (at : ℕ) (what : What) → at < 2 ^ 32 → IsWhat (what_view what) → ForSome (what_filter what) IsFilter → statement_of (codes "at" ∷ decimal at ∷ what_words what) ≡ Some (Happening at (event_of_what what))
+what_statement : (at : ℕ) (what : What) → at < 2 ^ 32 → IsWhat (what_view what) → ForSome (what_filter what) IsFilter
+    → statement_of (codes "at" ∷ decimal at ∷ what_words what) ≡ Some (Happening at (event_of_what what))
 what_statement at (Command command) small is fits = order_statement at command.what small is fits
 what_statement at Settle small is fits = at_statement at (codes "settle") [] Settling small settle_event
 
-what_again : (kind : Kind) (what : What) → IsWhat (what_view what) → ForSome (what_filter what) IsFilter → what_splits kind (what_view what) ≡ false → order_said kind (event_of_what what) ≡ Ok (order_in what)
+what_again : (kind : Kind) (what : What) → IsWhat (what_view what) → ForSome (what_filter what) IsFilter → what_splits kind (what_view what) ≡ false
+    → order_said kind (event_of_what what) ≡ Ok (order_in what)
 unfolding order_said
 what_again kind (Command command) is fits whole = order_again kind command.what is fits whole
 what_again kind Settle is fits whole = refl
@@ -119,8 +131,10 @@ what_are (Command command) is fits = order_words_are command.what is fits
 what_are Settle is fits = (record { some = omega arith; seen = Within-literal 33 127 (codes "settle") refl }, tt)
 
 line_are : (line : Line) → IsLine (line_view line) → AllByRecursion IsWord (line_words line)
-line_are line is = let small = line.at_in_range in
-    (record { some = omega arith; seen = Within-literal 33 127 (codes "at") refl }, (decimal_word line.at (omega arith), what_are line.what is line.filter_in_range))
+line_are line is = let small = line.at_in_range in (
+  record { some = omega arith; seen = Within-literal 33 127 (codes "at") refl },
+  (decimal_word line.at (omega arith), what_are line.what is line.filter_in_range),
+)
 
 some_next : (test : Bool) (n m : ℕ) → cond test (Some m) None ≡ Some n → (test ≡ true) × (m ≡ n)
 some_next true n m is = (refl, cc)
@@ -157,22 +171,24 @@ empty_line kind names n s = rw (line_utf8 [] tt) refl
 
 lines_again : (kind : Kind) (names : List Word) (n : ℕ) (s : State) (lines : List Line) → length s.lines + length lines ≤ 1000
     → AllByRecursion IsLine (map line_view lines) → AllByRecursion (λ (line : LineView). what_splits kind line.what ≡ false) (map line_view lines)
-    → follows (unwrap_or s.last 0) (1 + command_count s.lines) (map line_view lines) ≡ true
+    → is_in_order (unwrap_or s.last 0) (1 + command_count s.lines) (map line_view lines) ≡ true
     → LinesRead (with_lines kind names n s (map (join_with_byte 32) (map line_words lines) ++ [] ∷ [])) s (map line_view lines)
 lines_again kind names n s [] few is whole follow = record { state = s; is_read = empty_line kind names n s; routes = refl; lines_are = sym (no_more s.lines) }
 lines_again kind names n s (line ∷ more) few is whole follow =
-    let parts = and_parts (leb (unwrap_or s.last 0) line.at) (and_then (next_after (1 + command_count s.lines) (what_view line.what)) (λ k. follows line.at k (map line_view more))) follow in
-    let next = then_true (next_after (1 + command_count s.lines) (what_view line.what)) (λ k. follows line.at k (map line_view more)) parts.1 in
+    let parts = and_parts (leb (unwrap_or s.last 0) line.at)
+    (and_then (next_after (1 + command_count s.lines) (what_view line.what)) (λ k. is_in_order line.at k (map line_view more))) follow in
+    let next = then_true (next_after (1 + command_count s.lines) (what_view line.what)) (λ k. is_in_order line.at k (map line_view more)) parts.1 in
     let number = next_is s.lines line.at line.what next.0 next.1 in
     let after : State = record s { lines = s.lines ++ line_view line ∷ []; last = Some line.at } in
     let same : noted s line.at (order_in line.what) ≡ after =
     ap (λ (w : Option (ℕ × OrderView)). record s { lines = s.lines ++ record { at = line.at; what = w } ∷ []; last = Some line.at }) number.0 in
-    let says = event_says kind names s line.at (event_of_what line.what) (order_in line.what) (leb-true _ _ parts.0) (omega arith) (what_again kind line.what is.0 line.filter_in_range whole.0)
+    let says = event_says kind names s line.at (event_of_what line.what) (order_in line.what) (leb-true _ _ parts.0) (omega arith)
+    (what_again kind line.what is.0 line.filter_in_range whole.0)
     ∙ ap (λ (t : State). Ok t) same in
     let text = line_says kind names s (codes "at") (decimal line.at ∷ what_words line.what) (Happening line.at (event_of_what line.what)) after
     (line_are line is.0) (what_statement line.at line.what line.at_in_range is.0 line.filter_in_range) says in
     let rest = lines_again kind names (n + 1) after more (omega (arith, length-append s.lines (line_view line ∷ []))) is.1 whole.1
-    (subst (λ k. follows line.at k (map line_view more) ≡ true) number.1 next.2) in
+    (subst (λ k. is_in_order line.at k (map line_view more) ≡ true) number.1 next.2) in
     record {
       state = rest.state;
       is_read = rw text rest.is_read;
@@ -181,7 +197,8 @@ lines_again kind names n s (line ∷ more) few is whole follow =
     }
 
 -- what holds of each item, of a list seen through a function
-all_map : {X Y : Type 0} (P : X → Type 0) (Q : Y → Type 0) (f : X → Y) (xs : List X) → ((x : X) → P x → Q (f x)) → AllByRecursion P xs → AllByRecursion Q (map f xs)
+all_map : {X Y : Type 0} (P : X → Type 0) (Q : Y → Type 0) (f : X → Y) (xs : List X) → ((x : X) → P x → Q (f x)) → AllByRecursion P xs
+    → AllByRecursion Q (map f xs)
 all_map P Q f [] each are = tt
 all_map P Q f (x ∷ xs) each are = (each x are.0, all_map P Q f xs each are.1)
 
@@ -189,14 +206,19 @@ all_map P Q f (x ∷ xs) each are = (each x are.0, all_map P Q f xs each are.1)
 routes_seen : (names : List Word) (routes : List (Filter × ℕ)) → AllByRecursion (IsNamed names) routes → AllByRecursion (λ route. IsFilter route.0) routes
     → AllByRecursion (λ ws. Within 32 127 (join_with_byte 32 ws)) (map (route_words names) routes)
 routes_seen names [] named fits = tt
-routes_seen names (route ∷ more) named fits = (line_seen (codes "route") (print route.0 ∷ slice_index_or names route.1 [] ∷ []) (route_are names route named.0 fits.0), routes_seen names more named.1 fits.1)
+routes_seen names (route ∷ more) named fits = (
+  line_seen (codes "route") (print route.0 ∷ slice_index_or names route.1 [] ∷ []) (route_are names route named.0 fits.0),
+  routes_seen names more named.1 fits.1,
+)
 
-lines_seen : (lines : List Line) → AllByRecursion IsLine (map line_view lines) → AllByRecursion (λ ws. Within 32 127 (join_with_byte 32 ws)) (map line_words lines)
+lines_seen : (lines : List Line) → AllByRecursion IsLine (map line_view lines)
+    → AllByRecursion (λ ws. Within 32 127 (join_with_byte 32 ws)) (map line_words lines)
 lines_seen [] is = tt
 lines_seen (line ∷ more) is = (line_seen (codes "at") (decimal line.at ∷ what_words line.what) (line_are line is.0), lines_seen more is.1)
 
 -- the text of a script is read as the script
-pub script_again : (kind : Kind) (names : List Word) (script : Script) → IsScript names (script_view script) → AllByRecursion (IsNamed names) script.routes.items → has_twice names ≡ false
+pub script_again : (kind : Kind) (names : List Word) (script : Script) → IsScript names (script_view script)
+    → AllByRecursion (IsNamed names) script.routes.items → has_twice names ≡ false
     → SplitsNone kind (script_view script)
     → length (script_text names script) ≤ 1048576 → script_of kind names (script_text names script) ≡ Ok (script_view script)
 unfolding script_of script_text
@@ -208,11 +230,13 @@ script_again kind names script is named once whole short =
     let rs = map (route_words names) script.routes.items in
     let ls = map line_words script.lines.items in
     let pieces = lines-joined (script_words names script)
-    (All-append (λ ws. Within 32 127 (join_with_byte 32 ws)) rs ls (routes_seen names script.routes.items named route_fits) (lines_seen script.lines.items is.lines))
+    (All-append (λ ws. Within 32 127 (join_with_byte 32 ws)) rs ls (routes_seen names script.routes.items named route_fits)
+    (lines_seen script.lines.items is.lines))
     ∙ ap (λ t. t ++ [] ∷ []) (map-append (join_with_byte 32) rs ls) ∙ append_assoc (join rs) (join ls) ([] ∷ []) in
     let after : State = record start { routes = map route_view script.routes.items } in
     let rest = lines_again kind names (1 + length script.routes.items) after script.lines.items few_lines is.lines whole.lines is.follow in
-    let all = routes_again kind names 1 start rest.state script.routes.items (join ls ++ [] ∷ []) named once refl few_routes is.routes route_fits whole.routes rest.is_read in
+    let all = routes_again kind names 1 start rest.state script.routes.items (join ls ++ [] ∷ []) named once refl few_routes is.routes route_fits
+    whole.routes rest.is_read in
     let views : (rest.state.routes, rest.state.lines) ≡ script_view script = ap (λ (rs : List (Fields × ℕ)). (rs, rest.state.lines)) rest.routes
     ∙ ap (λ (ls : List LineView). (map route_view script.routes.items, ls)) rest.lines_are in
     rw (le-ltb 1048576 (length (concat (map line_text (script_words names script)))) short, pieces, all) (ap (λ (v : ScriptView). Ok v) views)

@@ -7,11 +7,12 @@ use Rattle.flow_filter.specs.declared.flow.Flow.{Flow}
 use Rattle.flow_filter.specs.declared.flow.Direction.{Direction}
 use Rattle.flow_filter.specs.Filter.{IsFlow}
 use Rattle.flow_filter.specs.declared.flow.Direction.TheVariants.{Out, In}
-use Rattle.flow_filter.specs.Flow.{flow_of, inward, is_inside, is_mapped, is_source_first, outward, owner_of_port}
+use Rattle.flow_filter.specs.Flow.{flow_of, inward, is_inside, is_mapped, outward}
+use Rattle.flow_filter.specs.FieldSteps.{is_source_first, owner_of_port}
 use Rattle.flow_filter.proofs.SiteLemmas.{is_24, last_byte_fits}
 use Rattle.nf_function.specs.Records.{Fits}
 use Rattle.nf_function.specs.Units.{is_transport}
-use Rattle.op_script.specs.PacketItems.{IsInRange}
+use Rattle.flow_filter.specs.Packet.{IsInRange}
 
 pub fits_site : (site : Site) (p : Packet) → site.inside.bits < 2 ^ 32 → is_transport p.proto ≡ true → IsInRange p → Fits site p
 fits_site site p inside transport ranges = record {

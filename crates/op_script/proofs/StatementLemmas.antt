@@ -1,9 +1,11 @@
 -- What a statement says of its words: a share's list has a comma.
-use Rattle.std.proofs.Common.{◌≡◌, ℕ, Bool, true, false, cond, List, [], ◌∷◌, Option, None, Some, is_some, option_map, refl, subst}
+use Rattle.std.proofs.Common.{◌≡◌, ℕ, Bool, true, false, ◌&&◌, cond, List, [], ◌∷◌, Option, None, Some, is_some, option_map, refl, subst}
 use Rattle.std.specs.Prelude.{codes, option_and_then}
 use Rattle.std.specs.Str.{bytes_eq}
 use Rattle.basics.specs.Parsing.{parse_number, split_once}
-use Rattle.op_script.specs.Statements.{Word, Event, Moving, Copying, Sharing, Settling, Statement, Silent, Routing, Happening, statement_of, routing, happening, event_of, moving, copying, sharing, settling, is_comment}
+use Rattle.op_script.specs.Statements.{Word, Event, Moving, Copying, Sharing, Settling, Statement, Silent, Routing, Happening}
+use Rattle.op_script.specs.Statements.{statement_of, routing, happening, event_of}
+use Rattle.op_script.specs.WordSteps.{is_comment}
 
 -- a share's list has a comma
 abbrev pub IsEvent : Event → Type 0
@@ -26,43 +28,23 @@ either : {A : Type 0} (P : A → Type 0) (test : Bool) (a b : Option A) → OfSo
 either P true a b in_a in_b = in_a
 either P false a b in_a in_b = in_b
 
-moving_right : (ws : List Word) → OfSome IsEvent (moving ws)
-unfolding moving
-moving_right [] = tt
-moving_right (a ∷ []) = tt
-moving_right (a ∷ b ∷ []) = tt
-moving_right (a ∷ b ∷ c ∷ []) = tt
-moving_right (a ∷ b ∷ c ∷ d ∷ []) = either IsEvent (bytes_eq d (codes "order")) _ _ tt (either IsEvent (bytes_eq d (codes "lossfree")) _ _ tt tt)
-moving_right (a ∷ b ∷ c ∷ d ∷ e ∷ more) = tt
-
-copying_right : (ws : List Word) → OfSome IsEvent (copying ws)
-unfolding copying
-copying_right [] = tt
-copying_right (a ∷ []) = tt
-copying_right (a ∷ b ∷ []) = tt
-copying_right (a ∷ b ∷ c ∷ []) = tt
-copying_right (a ∷ b ∷ c ∷ d ∷ more) = tt
-
-listed : (list filter : Word) (test : Bool) → is_some (split_once 44 list) ≡ test → OfSome IsEvent (cond test (Some (Sharing list filter)) None)
-listed list filter true is = is
-listed list filter false is = tt
-
-sharing_right : (ws : List Word) → OfSome IsEvent (sharing ws)
-unfolding sharing
-sharing_right [] = tt
-sharing_right (a ∷ []) = tt
-sharing_right (a ∷ b ∷ []) = tt
-sharing_right (a ∷ b ∷ c ∷ []) = either IsEvent (bytes_eq c (codes "strict")) _ _ (listed a b (is_some (split_once 44 a)) refl) tt
-sharing_right (a ∷ b ∷ c ∷ d ∷ more) = tt
-
-settling_right : (ws : List Word) → OfSome IsEvent (settling ws)
-settling_right [] = tt
-settling_right (a ∷ more) = tt
+listed : (list filter : Word) (verb how comma : Bool) → is_some (split_once 44 list) ≡ comma
+    → OfSome IsEvent (cond (verb && how && comma) (Some (Sharing list filter)) None)
+listed list filter true true true is = is
+listed list filter true true false is = tt
+listed list filter true false comma is = tt
+listed list filter false how comma is = tt
 
 event_right : (verb : Word) (ws : List Word) → OfSome IsEvent (event_of verb ws)
 unfolding event_of
-event_right verb ws = either IsEvent (bytes_eq verb (codes "move")) _ _ (moving_right ws) (either IsEvent (bytes_eq verb (codes "copy")) _ _ (copying_right ws)
-    (either IsEvent (bytes_eq verb (codes "share")) _ _ (sharing_right ws) (either IsEvent (bytes_eq verb (codes "settle")) _ _ (settling_right ws) tt)))
+event_right verb [] = either IsEvent (bytes_eq verb (codes "settle")) _ _ tt tt
+event_right verb (a ∷ []) = tt
+event_right verb (a ∷ b ∷ []) = tt
+event_right verb (a ∷ b ∷ c ∷ []) = either IsEvent (bytes_eq verb (codes "copy")) _ _ tt
+    (listed a b (bytes_eq verb (codes "share")) (bytes_eq c (codes "strict")) (is_some (split_once 44 a)) refl)
+event_right verb (a ∷ b ∷ c ∷ d ∷ []) = either IsEvent (bytes_eq verb (codes "move") && bytes_eq d (codes "order")) _ _ tt
+    (either IsEvent (bytes_eq verb (codes "move") && bytes_eq d (codes "lossfree")) _ _ tt tt)
+event_right verb (a ∷ b ∷ c ∷ d ∷ e ∷ more) = tt
 
 routing_right : (ws : List Word) → OfSome IsStatement (routing ws)
 routing_right [] = tt

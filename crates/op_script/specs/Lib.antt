@@ -1,5 +1,7 @@
 pub mod Statements
+pub mod WordSteps
 pub mod Reading
+pub mod ReadingSteps
 pub mod StatementViews
 pub mod LineFilters
 pub mod Printing

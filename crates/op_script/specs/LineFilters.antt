@@ -2,15 +2,9 @@
 use Rattle.std.specs.Prelude.{Option, None, Some}
 use Rattle.flow_filter.specs.declared.filter.Filter.{Filter}
 use Rattle.nf_msgs.specs.declared.command.Order.{Order}
-use Rattle.nf_msgs.specs.declared.command.Order.TheVariants.{Move, Copy, Share}
+use Rattle.nf_msgs.specs.Orders.{order_filter}
 use Rattle.op_script.specs.declared.script.What.{What}
 use Rattle.op_script.specs.declared.script.What.TheVariants.{Command, Settle}
-
--- the filter of an order
-abbrev pub order_filter : Order → Option Filter
-order_filter (Move source destination filter keep) = Some filter
-order_filter (Copy source destination filter) = filter
-order_filter (Share members filter) = Some filter
 
 -- the filter of what was said: an order, or a settle
 abbrev pub said_filter : Option Order → Option Filter

@@ -1,6 +1,7 @@
 -- The canonical text of a script: its routes and then its lines, one space between words, and a newline at each end.
 -- This project's own form.
-use Rattle.std.specs.Prelude.{◌≡◌, ℕ, ◌+◌, ◌<◌, ◌≤◌, ◌^◌, Bool, true, false, ◌&&◌, ◌==◌, nat_le, if◌then◌else◌, List, [], ◌∷◌, ◌++◌, length, map, Option, None, Some, Ok, codes}
+use Rattle.std.specs.Prelude.{◌≡◌, ℕ, ◌+◌, ◌<◌, ◌≤◌, ◌^◌, Bool, true, false, ◌&&◌, ◌==◌, nat_le}
+use Rattle.std.specs.Prelude.{if◌then◌else◌, List, [], ◌∷◌, ◌++◌, length, map, Option, None, Some, Ok, codes}
 use Rattle.std.specs.List.{AllByRecursion, concat, join_with_byte, list_all, slice_index_or}
 use Rattle.std.specs.Fmt.{decimal}
 use Rattle.flow_filter.specs.declared.filter.Filter.{Filter}
@@ -15,24 +16,28 @@ use Rattle.op_script.specs.declared.script.Line.{Line}
 use Rattle.op_script.specs.declared.script.What.{What}
 use Rattle.op_script.specs.declared.script.What.TheVariants.{Command, Settle}
 use Rattle.op_script.specs.Statements.{Word}
-use Rattle.op_script.specs.Reading.{ends_of, OrderView, Moves, Copies, Shares, LineView, ScriptView}
+use Rattle.op_script.specs.Reading.{distinct_names, OrderView, Moves, Copies, Shares, LineView, ScriptView}
 use Rattle.basics.specs.Bytes.{line_feed, space, comma}
 use Rattle.flow_filter.specs.Limits.{most_lines, fewest_members}
+
+-- the most bytes of a script
+abbrev pub longest_script : ℕ
+longest_script = 1048576
 
 -- the words of an initial rule
 abbrev pub route_words : List Word → Filter × ℕ → List Word
 route_words names route = codes "route" ∷ print route.0 ∷ slice_index_or names route.1 [] ∷ []
 
 -- the word of what is copied
-abbrev pub copied : Option Filter → Word
-copied None = codes "all"
-copied (Some filter) = print filter
+abbrev pub copied_word : Option Filter → Word
+copied_word None = codes "all"
+copied_word (Some filter) = print filter
 
 -- the words of an order
 abbrev pub order_words : Order → List Word
 order_words (Move source destination filter keep) =
     codes "move" ∷ source ∷ destination ∷ print filter ∷ (if keep then codes "order" else codes "lossfree") ∷ []
-order_words (Copy source destination filter) = codes "copy" ∷ source ∷ destination ∷ copied filter ∷ []
+order_words (Copy source destination filter) = codes "copy" ∷ source ∷ destination ∷ copied_word filter ∷ []
 order_words (Share members filter) = codes "share" ∷ join_with_byte comma members ∷ print filter ∷ codes "strict" ∷ []
 
 -- the words of what happens
@@ -67,8 +72,10 @@ is_writable (Some filter) = is_transport filter.proto
 
 -- an order that a script may give
 abbrev pub IsOrder : OrderView → Type 0
-IsOrder (Moves source destination filter keep) = (ends_of source destination ≡ Ok (source, destination)) × (is_transport filter.proto ≡ true)
-IsOrder (Copies source destination filter) = (ends_of source destination ≡ Ok (source, destination)) × (is_writable filter ≡ true)
+IsOrder (Moves source destination filter keep) =
+    (distinct_names (source ∷ destination ∷ []) ≡ Ok (source ∷ destination ∷ [])) × (is_transport filter.proto ≡ true)
+IsOrder (Copies source destination filter) =
+    (distinct_names (source ∷ destination ∷ []) ≡ Ok (source ∷ destination ∷ [])) × (is_writable filter ≡ true)
 IsOrder (Shares members filter) =
     (fewest_members ≤ length members) × (list_all is_name members ≡ true) × (has_twice members ≡ false) × (is_transport filter.proto ≡ true)
 
@@ -91,9 +98,9 @@ and_then None test = false
 and_then (Some n) test = test n
 
 -- no line is less far than one before it, and commands have the numbers from `next` on
-abbrev pub follows : ℕ → ℕ → List LineView → Bool
-follows last next [] = true
-follows last next (line ∷ more) = nat_le last line.at && and_then (next_after next line.what) (λ n. follows line.at n more)
+abbrev pub is_in_order : ℕ → ℕ → List LineView → Bool
+is_in_order last next [] = true
+is_in_order last next (line ∷ more) = nat_le last line.at && and_then (next_after next line.what) (λ n. is_in_order line.at n more)
 
 -- the script breaks no rule, for instances with these names
 pub record IsScript (names : List Word) (script : ScriptView) : Type 0 where
@@ -101,7 +108,7 @@ pub record IsScript (names : List Word) (script : ScriptView) : Type 0 where
   pub few_lines : length script.1 ≤ most_lines
   pub routes : AllByRecursion (IsRoute names) script.0
   pub lines : AllByRecursion IsLine script.1
-  pub follow : follows 0 1 script.1 ≡ true
+  pub follow : is_in_order 0 1 script.1 ≡ true
 
 -- an order that splits a unit of the function
 abbrev pub order_splits : Kind → OrderView → Bool

@@ -2,7 +2,7 @@
 ghost use Rattle.std.specs.Prelude.{◌≡◌, ◌<◌, ◌≤◌, ◌^◌, [], ◌++◌, ◌==◌, nat_le, length, map, All, IfOk, OnOk};
 ghost use Rattle.std.specs.List.{list_all, prefix_len};
 ghost use Rattle.op_script.specs.Items.{msg_of, said_where, items_from, AreLinesFrom, items};
-ghost use Rattle.op_script.specs.PacketItems.{IsInRange};
+ghost use Rattle.flow_filter.specs.Packet.{IsInRange};
 
 use crate::packet_items::PacketItems;
 use crate::script::{Line, Script, What};

@@ -17,7 +17,7 @@ mod statement;
 
 pub use fault::{ScriptFault, ScriptKind};
 pub use input::items;
-pub use packet_items::{PacketItems, captured};
+pub use packet_items::PacketItems;
 pub use printing::print_script;
 pub use reading::{LONGEST_SCRIPT, read_script};
 pub use script::{Line, Script, What};

@@ -1,6 +1,6 @@
-ghost use Rattle.std.specs.Prelude.{◌≡◌, [], ◌∷◌, ◌++◌, All, IfOk, OnOk, OnErr, map};
+ghost use Rattle.std.specs.Prelude.{◌≡◌, [], ◌∷◌, ◌++◌, All, OnOk, OnErr, map};
 ghost use Rattle.nf_msgs.specs.declared.msg.Msg.TheVariants.{InPacket};
-ghost use Rattle.op_script.specs.PacketItems.{IsInRange};
+ghost use Rattle.flow_filter.specs.Packet.{IsInRange};
 
 use basics::NoMemory;
 use flow_filter::{CapturedPacket, Packet};
@@ -42,8 +42,8 @@ impl PacketItems {
         ensures ok { OnOk result (self.new ≡ self.old ++ packet.now ∷ []) }
         ensures err { OnErr result (self.new ≡ self.old) }
     {
-        let captured = captured(alloc, packet)?;
-        self.items.push(Msg::InPacket(captured))?;
+        let captured = CapturedPacket::of(alloc, packet)?;
+        put(&mut self.items, Msg::InPacket(captured))?;
         Ok(())
     }
 
@@ -63,21 +63,15 @@ impl PacketItems {
     }
 }
 
-/// The packet as it is to wait. Its numbers are read once, so that it is known that they are in the ranges of their types.
+/// Puts an item after the others. There is room for it first, so that it is written once, in its place.
 #[inline(always)]
-pub fn captured(alloc: Global, packet: &Packet) -> Result<CapturedPacket, NoMemory>
-    ensures same { IfOk result (λ captured. captured ≡ packet.now) }
-    ensures in_range { IsInRange packet.now }
+fn put(items: &mut Vec<Msg>, item: Msg) -> Result<(), NoMemory>
+    ensures ok { OnOk result (items.new.items ≡ items.old.items ++ item ∷ []) }
+    ensures err { OnErr result (items.new.items ≡ items.old.items) }
 {
-    let Packet {
-        nanos: _nanos,
-        length: _length,
-        src: _src,
-        sport: _sport,
-        dst: _dst,
-        dport: _dport,
-        proto: _proto,
-        ..
-    } = *packet;
-    CapturedPacket::of(alloc, packet)
+    if items.len() == items.capacity() {
+        items.reserve(1)?;
+    }
+    items.push_reserved(item);
+    Ok(())
 }

@@ -4,8 +4,10 @@ ghost use Rattle.std.specs.List.{join_with_byte, slice_index_or};
 ghost use Rattle.flow_filter.specs.FilterText.{after_commas, fields_of, is_printable, print};
 ghost use Rattle.flow_filter.specs.Name.{has_twice, is_name};
 ghost use Rattle.nf_function.specs.declared.kind.Kind.{Kind};
-ghost use Rattle.op_script.specs.Reading.{script_of, script_view, route_view, line_view, order_view, longest_script};
-ghost use Rattle.op_script.specs.Printing.{route_words, order_words, line_words, copied, line_text, script_text, is_writable, IsRoute, IsOrder, IsLine, IsScript, SplitsNone};
+ghost use Rattle.op_script.specs.Reading.{script_of, script_view, line_view, order_view};
+ghost use Rattle.op_script.specs.ReadingSteps.{route_view};
+ghost use Rattle.op_script.specs.Printing.{route_words, order_words, line_words, copied_word, line_text};
+ghost use Rattle.op_script.specs.Printing.{longest_script, script_text, is_writable, IsRoute, IsOrder, IsLine, IsScript, SplitsNone};
 ghost use Rattle.basics.specs.Bytes.{line_feed, space, comma};
 
 use crate::script::{Line, Script, What};
@@ -154,7 +156,7 @@ fn print_how(out: &mut Text, keep: bool) -> Result<(), NoMemory>
 /// Appends the filter of a copy, or `all`, and the line's end.
 fn print_copied(out: &mut Text, filter: Option<Filter>) -> Result<(), NoMemory>
     requires { is_writable (option_map fields_of filter) ≡ true }
-    ensures { OnOk result (out.new ≡ out.old ++ (copied filter ++ line_feed ∷ [])) }
+    ensures { OnOk result (out.new ≡ out.old ++ (copied_word filter ++ line_feed ∷ [])) }
 {
     match filter {
         Some(filter) => {

@@ -16,7 +16,8 @@ pub struct Reader {
 impl Model for Reader {
     ghost use Rattle.std.specs.Prelude.{◌≡◌, All, map};
     ghost use Rattle.flow_filter.specs.Filter.{IsFilter};
-    ghost use Rattle.op_script.specs.Reading.{State, command_count, line_view, route_view};
+    ghost use Rattle.op_script.specs.Reading.{State, line_view};
+    ghost use Rattle.op_script.specs.ReadingSteps.{command_count, route_view};
 
     ghost Value = { State };
 

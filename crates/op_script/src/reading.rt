@@ -1,5 +1,5 @@
 //! How a script is read, line by line: its routes, its commands with their numbers, and the first fault.
-ghost use Rattle.std.specs.Prelude.{◌≡◌, ◌≤◌, ◌==◌, ◌<◌, ◌^◌, map, length, IfOk, Ok, Some, None, option_map, if◌then◌else◌};
+ghost use Rattle.std.specs.Prelude.{◌≡◌, ◌≤◌, ◌==◌, ◌<◌, ◌^◌, map, length, IfOk, Ok, Some, None, option_map, if◌then◌else◌, [], ◌∷◌};
 ghost use Rattle.std.specs.List.{slice_split, list_all};
 ghost use Rattle.std.specs.Option.{ForSome};
 ghost use Rattle.std.specs.Str.{is_utf8};
@@ -9,8 +9,10 @@ ghost use Rattle.flow_filter.specs.Name.{is_name};
 ghost use Rattle.flow_filter.specs.FilterText.{fields_of};
 ghost use Rattle.op_script.specs.StatementViews.{event_view, statement_view};
 ghost use Rattle.op_script.specs.LineFilters.{said_filter, what_filter};
-ghost use Rattle.op_script.specs.Printing.{IsScript, SplitsNone};
-ghost use Rattle.op_script.specs.Reading.{ends_of, members_of, filter_of, filter_or_all, order_said, with_route, with_line, numbered_after, is_command, line_view, what_view, with_event, with_statement, with_text, whole, script_of, script_view, order_view, with_lines, start, Says, SaysWhole, Numbered, longest_script};
+ghost use Rattle.op_script.specs.Printing.{IsScript, SplitsNone, longest_script};
+ghost use Rattle.op_script.specs.Reading.{distinct_names, filter_of, order_said, with_route, with_line, line_view, what_view, with_statement};
+ghost use Rattle.op_script.specs.Reading.{with_text, script_of, script_view, order_view, with_lines, Says, SaysWhole, Numbered};
+ghost use Rattle.op_script.specs.ReadingSteps.{filter_or_all, whole, numbered_after, is_command, with_event, start};
 ghost use Rattle.basics.specs.Bytes.{line_feed, comma};
 ghost use Rattle.flow_filter.specs.Limits.{most_lines};
 
@@ -207,7 +209,7 @@ fn with_event(
 ) -> Result<Reader, LineFault>
     ensures { Says (λ s. s) result (with_event kind reader at (event_view event.entry)) }
 {
-    if reader.last.is_some_and(|last| at < last) {
+    if at < reader.last.unwrap_or(0) {
         return Err(LineFault::Bad(ScriptKind::Order));
     }
     let order = order_said(alloc, kind, event)?;
@@ -255,9 +257,10 @@ fn order_said(alloc: Global, kind: Kind, event: Event<'_>) -> Result<Option<Orde
 }
 
 /// The names of a source and a destination, where they are names and differ.
-#[tactic(auto, unfolding(crate::specs::Reading::ends_of))]
+#[tactic(auto, unfolding(crate::specs::Reading::distinct_names))]
 fn ends_of(alloc: Global, source: &[u8], destination: &[u8]) -> Result<(Name, Name), LineFault>
-    ensures { Says (λ ends. ends) result (ends_of source.now destination.now) }
+    ensures said { Says (λ ends. ends.0 ∷ ends.1 ∷ []) result (distinct_names (source.now ∷ destination.now ∷ [])) }
+    ensures same { IfOk result (λ ends. (ends.0 ≡ source.now) × (ends.1 ≡ destination.now)) }
 {
     let Some(source_name) = Name::read(alloc, source)? else {
         return Err(LineFault::Bad(ScriptKind::Name));
@@ -265,7 +268,7 @@ fn ends_of(alloc: Global, source: &[u8], destination: &[u8]) -> Result<(Name, Na
     let Some(destination_name) = Name::read(alloc, destination)? else {
         return Err(LineFault::Bad(ScriptKind::Name));
     };
-    if source == destination {
+    if destination == source {
         return Err(LineFault::Bad(ScriptKind::SameInstance));
     }
     Ok((source_name, destination_name))
@@ -283,9 +286,9 @@ fn filter_or_all(kind: Kind, text: Option<&[u8]>) -> Result<Option<Filter>, Line
 }
 
 /// The members of a share, where they are names and differ.
-#[tactic(auto, unfolding(crate::specs::Reading::members_of))]
+#[tactic(auto, unfolding(crate::specs::Reading::distinct_names))]
 fn members_of(alloc: Global, list: &[u8]) -> Result<Names, LineFault>
-    ensures { Says (λ members. members) result (members_of list.now) }
+    ensures { Says (λ members. members) result (distinct_names (slice_split (λ b. b == comma) list.now)) }
 {
     let Some(members) = names_of(alloc, list)? else {
         return Err(LineFault::Bad(ScriptKind::Name));

@@ -1,6 +1,7 @@
 //! One line of a script as a statement: its words, before names and filters are looked at.
-ghost use Rattle.std.specs.Prelude.{◌≡◌, map, IfOk, option_map};
-ghost use Rattle.op_script.specs.Statements.{words, is_blank, statement_of, routing, happening, event_of, moving, copying, sharing, settling, is_comment, most_at};
+ghost use Rattle.std.specs.Prelude.{◌≡◌, map, IfOk, option_map, [], ◌∷◌};
+ghost use Rattle.op_script.specs.Statements.{words, statement_of, routing, happening, event_of};
+ghost use Rattle.op_script.specs.WordSteps.{is_blank, is_comment, most_at};
 ghost use Rattle.basics.specs.Parsing.{parse_number};
 ghost use Rattle.op_script.specs.StatementViews.{event_view, statement_view};
 
@@ -120,95 +121,90 @@ fn point(text: &[u8]) -> Option<u32>
     Some(at as u32)
 }
 
-/// An event by its first word.
+/// An event by its first word and the others.
 #[tactic(auto, unfolding(crate::specs::Statements::event_of))]
 fn event_of<'a>(verb: &[u8], words: &[&'a [u8]]) -> Option<Event<'a>>
     ensures { option_map event_view result ≡ event_of verb.now (map (λ w. w.now) words.now) }
 {
-    if verb == b"move".as_slice() {
-        moving(words)
-    } else if verb == b"copy".as_slice() {
-        copying(words)
-    } else if verb == b"share".as_slice() {
-        sharing(words)
-    } else if verb == b"settle".as_slice() {
-        settling(words)
-    } else {
-        None
-    }
-}
-
-/// `SRC DST FILTER order` or `SRC DST FILTER lossfree`.
-#[tactic(auto, unfolding(crate::specs::Statements::moving))]
-fn moving<'a>(words: &[&'a [u8]]) -> Option<Event<'a>>
-    ensures { option_map event_view result ≡ moving (map (λ w. w.now) words.now) }
-{
     match words {
-        [source, destination, filter, how] => {
-            let keep = if *how == b"order".as_slice() {
-                true
-            } else if *how == b"lossfree".as_slice() {
-                false
-            } else {
-                return None;
-            };
-            Some(Event::Move {
-                source,
-                destination,
-                filter,
-                keep,
-            })
-        }
+        [] => settling(verb),
+        [first, second, third] => copying_or_sharing(verb, first, second, third),
+        [source, destination, filter, how] => moving(verb, source, destination, filter, how),
         _ => None,
     }
 }
 
-/// `SRC DST FILTER` or `SRC DST all`.
-#[tactic(auto, unfolding(crate::specs::Statements::copying))]
-fn copying<'a>(words: &[&'a [u8]]) -> Option<Event<'a>>
-    ensures { option_map event_view result ≡ copying (map (λ w. w.now) words.now) }
+/// `settle`.
+#[tactic(auto, unfolding(crate::specs::Statements::event_of))]
+fn settling<'a>(verb: &[u8]) -> Option<Event<'a>>
+    ensures { option_map event_view result ≡ event_of verb.now [] }
 {
-    match words {
-        [source, destination, what] => {
-            let filter = if *what == b"all".as_slice() {
-                None
-            } else {
-                Some(*what)
-            };
-            Some(Event::Copy {
-                source,
-                destination,
-                filter,
-            })
-        }
-        _ => None,
-    }
-}
-
-/// `INST,INST.. FILTER strict`, where the list has a comma.
-#[tactic(auto, unfolding(crate::specs::Statements::sharing))]
-fn sharing<'a>(words: &[&'a [u8]]) -> Option<Event<'a>>
-    ensures { option_map event_view result ≡ sharing (map (λ w. w.now) words.now) }
-{
-    match words {
-        [members, filter, how] => {
-            if *how == b"strict".as_slice() && split_once(members, b',').is_some() {
-                Some(Event::Share { members, filter })
-            } else {
-                None
-            }
-        }
-        _ => None,
-    }
-}
-
-/// Nothing more.
-fn settling<'a>(words: &[&'a [u8]]) -> Option<Event<'a>>
-    ensures { option_map event_view result ≡ settling (map (λ w. w.now) words.now) }
-{
-    if words.is_empty() {
+    if verb == b"settle".as_slice() {
         Some(Event::Settle)
     } else {
         None
     }
+}
+
+/// `copy SRC DST FILTER` or `copy SRC DST all`; or `share INST,INST.. FILTER strict`, where the list has a comma.
+#[tactic(auto, unfolding(crate::specs::Statements::event_of))]
+fn copying_or_sharing<'a>(
+    verb: &[u8],
+    first: &'a [u8],
+    second: &'a [u8],
+    third: &'a [u8],
+) -> Option<Event<'a>>
+    ensures { option_map event_view result ≡ event_of verb.now (first.now ∷ second.now ∷ third.now ∷ []) }
+{
+    if verb == b"copy".as_slice() {
+        let filter = if third == b"all".as_slice() {
+            None
+        } else {
+            Some(third)
+        };
+        Some(Event::Copy {
+            source: first,
+            destination: second,
+            filter,
+        })
+    } else if verb == b"share".as_slice()
+        && third == b"strict".as_slice()
+        && split_once(first, b',').is_some()
+    {
+        Some(Event::Share {
+            members: first,
+            filter: second,
+        })
+    } else {
+        None
+    }
+}
+
+/// `move SRC DST FILTER order` or `move SRC DST FILTER lossfree`.
+#[tactic(auto, unfolding(crate::specs::Statements::event_of))]
+fn moving<'a>(
+    verb: &[u8],
+    source: &'a [u8],
+    destination: &'a [u8],
+    filter: &'a [u8],
+    how: &[u8],
+) -> Option<Event<'a>>
+    ensures { option_map event_view result ≡ event_of verb.now (source.now ∷ destination.now ∷ filter.now ∷ how.now ∷ []) }
+{
+    if verb != b"move".as_slice() {
+        return None;
+    }
+    let keep = if how == b"order".as_slice() {
+        true
+    } else if how == b"lossfree".as_slice() {
+        false
+    } else {
+        return None;
+    };
+    Some(Event::Move {
+        source,
+        destination,
+        filter,
+        keep,
+    })
 }

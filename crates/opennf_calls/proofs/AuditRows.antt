@@ -23,7 +23,8 @@ audits_journal s named = record { reads = audit_reads s; named = named; files = 
 -- what the inputs say
 module _ (told : ToldRun) (old new : Role → Meaning) (bound : IsBound (asks_audit told.words) old) (only : OnlyRead old new)
     (says : (bytes : Role → List ℕ) → HasInput (asks_audit told.words) old bytes → JournalTold (asks_audit told.words) told bytes new) where
-  audit_results : (made : RunResults) → HasRun told.words told.scenario None made → made.choices ≡ told.choices → ForResults (asks_audit told.words) old new (λ g. g ≡ made)
+  audit_results : (made : RunResults) → HasRun told.words told.scenario None made → made.choices ≡ told.choices
+      → ForResults (asks_audit told.words) old new (λ g. g ≡ made)
   audit_results made holds same bytes is =
       let said = says bytes is in
       record {
@@ -40,7 +41,8 @@ module _ (told : ToldRun) (old new : Role → Meaning) (bound : IsBound (asks_au
   never : OfKind told.words.kind (λ R F f. ⊥) → ⊥
   never cause = from_kind told.words.kind (λ R F f. ⊥) ⊥ (λ R F f no. no) cause
 
-  no_run_row : (status : Status) → IsRefusedRun told.words told.scenario told.choices status → RowOf (asks_audit told.words) old new (record { status = status; choices = [] })
+  no_run_row : (status : Status) → IsRefusedRun told.words told.scenario told.choices status
+      → RowOf (asks_audit told.words) old new (record { status = status; choices = [] })
   no_run_row (NotARun step) cause = (
     record {
       bound = still_bound old new only (asks_audit told.words) bound;
@@ -67,7 +69,9 @@ module _ (told : ToldRun) (old new : Role → Meaning) (bound : IsBound (asks_au
   no_run_row (WriteFault role) cause = absurd (never cause)
 
   -- what the run gives, or why there is nothing
-  pub told_row : (r : Result Made Status) → MatchResult r (λ made. HasRun told.words told.scenario None (gives told.words made) × (made.choices ≡ told.choices)) (IsRefusedRun told.words told.scenario told.choices)
-      → MatchResult r (λ made. ForResults (asks_audit told.words) old new (λ g. g ≡ gives told.words made)) (λ status. RowOf (asks_audit told.words) old new (record { status = status; choices = [] }))
+  pub told_row : (r : Result Made Status) → MatchResult r (λ made. HasRun told.words told.scenario None (gives told.words made)
+      × (made.choices ≡ told.choices)) (IsRefusedRun told.words told.scenario told.choices)
+      → MatchResult r (λ made. ForResults (asks_audit told.words) old new (λ g. g ≡ gives told.words made))
+      (λ status. RowOf (asks_audit told.words) old new (record { status = status; choices = [] }))
   told_row (Ok made) holds = audit_results (gives told.words made) holds.0 holds.1
   told_row (Err status) holds = no_run_row status holds

@@ -9,16 +9,19 @@ use Rattle.nf_io.specs.Meaning.{Meaning}
 use Rattle.nf_io.specs.declared.outside.Role.TheVariants.{Trace, Script, JournalIn, Report, JournalOut, TraceOut, Errors}
 use Rattle.actor_net.specs.declared.schedule.Schedule.{Schedule}
 use Rattle.journal_file.specs.Format.{journal_bytes}
-use Rattle.net_world.specs.Runs.{chosen}
+use Rattle.net_world.specs.Runs.{choices_of}
 use Rattle.command_words.specs.Requests.{Asked, NetworkAsked, asks_sim, asks_run, asks_audit, asks_fail, asks_check, asks_gen, asks_published, asks_strong}
+use Rattle.run_headline.specs.Subject.{Subject}
 use Rattle.run_headline.specs.Text.{HasHeadline}
 use Rattle.opennf_calls.specs.declared.status.Status.{Status}
 use Rattle.opennf_calls.specs.Calls.{Call, OutcomeLaw, SaysHeadline, SimLaw}
 use Rattle.opennf_calls.specs.Command.{is_result}
-use Rattle.opennf_calls.specs.NetworkRuns.{Scenario, RunResults, HasRun, IsRunOf, head_for, run_given, subject_for}
+use Rattle.opennf_calls.specs.NetworkRuns.{Scenario, RunResults, HasRun, IsRunOf, head_for, run_given, subject_for, subject_of}
 use Rattle.opennf_calls.specs.Outcome.{Gained, HasResults, IsCompletedRun, IsDone, RowOf}
 use Rattle.opennf_calls.proofs.AuditLaws.{reports, starts}
-use Rattle.opennf_calls.proofs.FunctionLemmas.{from_both, of_kind}
+use Rattle.opennf_calls.proofs.FunctionLemmas.{from_both, of_behavior, of_kind}
+use Rattle.opennf_calls.proofs.ScriptedCommands.{scripted_commands}
+use Rattle.opennf_calls.proofs.ScriptedPoints.{scripted_points}
 use Rattle.opennf_calls.proofs.SameInputs.{AreSame, same_scenario}
 
 -- two runs gave the same
@@ -30,12 +33,14 @@ record GaveTheSame (made again : RunResults) : Type 0 where
 module _ (s : NetworkAsked) (schedule : Schedule) (made again : RunResults) where
   module _ (g h : Scenario) (same : AreSame g h) where
     -- by one schedule from one start
-    same_run : {R : Type 0} (F : Type 0) (f : Semantics R) → IsRunOf (run_given F f s g) (Some schedule) made → IsRunOf (run_given F f s h) (Some schedule) again
+    same_run : {R : Type 0} (F : Type 0) (f : Semantics R) → IsRunOf (run_given F f s g) (Some schedule) made
+        → IsRunOf (run_given F f s h) (Some schedule) again
         → GaveTheSame made again
     same_run F f x y =
         let first = x.scheduled schedule refl in
         let second = y.scheduled schedule refl in
-        let chose : again.choices ≡ made.choices = second ∙ ap (λ w. chosen {F = F} f w schedule) (sym (starts F f s g h same x.alloc y.alloc)) ∙ sym first in
+        let chose : again.choices ≡ made.choices = second ∙ ap (λ w. choices_of {F = F} f w schedule) (sym (starts F f s g h same x.alloc y.alloc))
+        ∙ sym first in
         record {
           choices = chose;
           report = reports F f s g h same (Some schedule) made x (Some schedule) again y chose;
@@ -47,7 +52,8 @@ module _ (s : NetworkAsked) (schedule : Schedule) (made again : RunResults) wher
         (GaveTheSame made again) (λ R F f a b. same_run F f a b) x y
 
   same_results : (bytes : Role → List ℕ) → IsCompletedRun s bytes (Some schedule) made → IsCompletedRun s bytes (Some schedule) again → GaveTheSame made again
-  same_results bytes x y = same_runs x.scenario y.scenario (same_scenario s bytes bytes x.scenario y.scenario x.is_scenario y.is_scenario refl refl) x.holds y.holds
+  same_results bytes x y =
+      same_runs x.scenario y.scenario (same_scenario s bytes bytes x.scenario y.scenario x.is_scenario y.is_scenario refl refl) x.holds y.holds
 
   -- so their results have the same texts
   same_texts : GaveTheSame made again → (role : Role) → IsTrue (is_result (asks_sim s schedule) role) → again.texts role ≡ made.texts role
@@ -62,7 +68,8 @@ module _ (s : NetworkAsked) (schedule : Schedule) (made again : RunResults) wher
 -- what a call gave that ended well
 module _ (asked : Asked) (bytes : Role → List ℕ) (call : Call asked bytes) where
   is_done : IsDone asked call.old call.new call.outcome.choices
-  is_done = subst (λ (status : Status). RowOf asked call.old call.new (record { status = status; choices = call.outcome.choices })) call.done call.promised.cause
+  is_done = subst (λ (status : Status). RowOf asked call.old call.new (record { status = status; choices = call.outcome.choices })) call.done
+      call.promised.cause
 
   given : HasResults asked bytes call.new (λ made. (made.choices ≡ call.outcome.choices) × Gained (is_result asked) made.texts call.old call.new)
   given = is_done.results bytes call.input
@@ -76,19 +83,31 @@ sim_law s schedule bytes one other =
       choices = sym first.wrote.0 ∙ sym gave.choices ∙ second.wrote.0;
       texts = first.made.texts;
       first = first.wrote.1;
-      second = λ role on. subst (Appends (other.old role).written (other.new role).written) (same_texts s schedule first.made second.made gave role on) (second.wrote.1 role on);
+      second = λ role on. subst (Appends (other.old role).written (other.new role).written) (same_texts s schedule first.made second.made gave role on)
+          (second.wrote.1 role on);
     }
 
 -- the report of a run, which was written, has its headline
 module _ (s : NetworkAsked) (bytes : Role → List ℕ) (by : Option Schedule) (made : RunResults) (run : IsCompletedRun s bytes by made) (old new : Meaning) where
+  abbrev Says : (R : Type 0) → Semantics R → Type 0
+  Says R f = HasHeadline (subject_of f s run.scenario) (head_for s run.scenario.captured) s.summary (made.texts Report)
+
+  same_subject : {R : Type 0} (F : Type 0) (f : Semantics R) → subject_for (run_given F f s run.scenario) ≡ subject_of f s run.scenario
+  same_subject F f =
+      λ i. record (subject_of f s run.scenario) {
+        commands = scripted_commands s (bytes Script) run.scenario run.is_scenario.said i;
+        points = scripted_points s (bytes Script) run.scenario run.is_scenario.said i;
+      }
+
   says_headline : Appends old.written new.written (made.texts Report) → SaysHeadline s bytes old new
   says_headline wrote = record {
     scenario = run.scenario;
     is_scenario = run.is_scenario;
     text = made.texts Report;
     wrote = wrote;
-    headline = of_kind s.kind (λ R F f. IsRunOf (run_given F f s run.scenario) by made)
-        (λ R F f. HasHeadline (subject_for (run_given F f s run.scenario)) (head_for s run.scenario.captured) s.summary (made.texts Report)) (λ R F f x. x.headline) run.holds;
+    headline = of_behavior s.kind Says (of_kind s.kind (λ R F f. IsRunOf (run_given F f s run.scenario) by made) (λ R F f. Says R f)
+        (λ R F f x. subst (λ (v : Subject R). HasHeadline v (head_for s run.scenario.captured) s.summary (made.texts Report)) (same_subject F f) x.headline)
+        run.holds);
   }
 
 pub outcome_law : OutcomeLaw

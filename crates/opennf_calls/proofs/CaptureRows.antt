@@ -13,7 +13,8 @@ use Rattle.command_words.specs.Requests.{Asked}
 use Rattle.opennf_calls.specs.declared.status.Status.{Status}
 use Rattle.opennf_calls.specs.declared.network.Made.{Made}
 use Rattle.opennf_calls.specs.Command.{file_for, is_input, is_read_before, trace_file}
-use Rattle.opennf_calls.specs.Outcome.{AreResults, EarlierAreSound, ForResults, HasEarlier, HasInput, IsBound, IsRefusedCommand, RowOf, earlier_refusal, refusal_of, trace_refusal}
+use Rattle.opennf_calls.specs.Outcome.{AreResults, EarlierAreSound, ForResults, HasEarlier, HasInput, IsBound}
+use Rattle.opennf_calls.specs.Outcome.{IsRefusedCommand, RowOf, earlier_refusal, refusal_of, trace_refusal}
 use Rattle.opennf_calls.specs.Phases.{GivesReport, OnlyRead, ReadAlone, reports}
 use Rattle.opennf_calls.specs.Status.{trace_status}
 use Rattle.opennf_calls.proofs.RowLemmas.{OneFile, input_alone, not_before, one_read, read_fault, refused, silent}
@@ -69,15 +70,18 @@ module _ (asked : Asked) (reads : ReadsCapture asked) (old new : Role → Meanin
   capture_row fault.PcapNg answers cause = (refuses fault.PcapNg _ refl (λ bytes told. answers (bytes Trace) (told Trace reads.named)), refl)
   capture_row fault.Version answers cause = (refuses fault.Version _ refl (λ bytes told. answers (bytes Trace) (told Trace reads.named)), refl)
   capture_row (fault.LinkType n) answers cause = (refuses (fault.LinkType n) _ refl (λ bytes told. answers (bytes Trace) (told Trace reads.named)), refl)
-  capture_row (fault.RecordLength offset n) answers cause = (refuses (fault.RecordLength offset n) _ refl (λ bytes told. answers (bytes Trace) (told Trace reads.named)), refl)
-  capture_row (fault.TooLong offset) answers cause = (refuses (fault.TooLong offset) _ refl (λ bytes told. answers (bytes Trace) (told Trace reads.named)), refl)
+  capture_row (fault.RecordLength offset n) answers cause =
+      (refuses (fault.RecordLength offset n) _ refl (λ bytes told. answers (bytes Trace) (told Trace reads.named)), refl)
+  capture_row (fault.TooLong offset) answers cause =
+      (refuses (fault.TooLong offset) _ refl (λ bytes told. answers (bytes Trace) (told Trace reads.named)), refl)
   capture_row (fault.Header length) answers cause = (refuses (fault.Header length) _ refl (λ bytes told. answers (bytes Trace) (told Trace reads.named)), refl)
   capture_row fault.Read answers cause = (read_fault old new only_capture asked Trace bound reads.named (cause.read refl) first, refl)
   capture_row fault.NoMemory answers cause = (silent old new only_capture, refl)
 
   -- the capture was read, and these choices and this report were made of it
   pub capture_report : (captured : Captured) → AnswersCapture old new (Ok captured) → (made : Made)
-      → ((bytes : Role → List ℕ) → capture_of (bytes Trace) ≡ Ok captured → AreResults asked bytes (reports made)) → ForResults asked old new (GivesReport made.choices made.report)
+      → ((bytes : Role → List ℕ) → capture_of (bytes Trace) ≡ Ok captured → AreResults asked bytes (reports made))
+      → ForResults asked old new (GivesReport made.choices made.report)
   capture_report captured answers made are bytes told =
       let read = answers (bytes Trace) (told Trace reads.named) in
       record {

@@ -13,7 +13,8 @@ use Rattle.opennf_calls.specs.Outcome.{HasInput, RowOf, CauseOf, IsComplete, IsG
 never : (asked : Asked) (bytes : Role → List ℕ) (status : Status) → refusal_of asked bytes ≡ None → refusal_of asked bytes ≡ Some status → ⊥
 never asked bytes status sound refused = let both : None ≡ Some status = sym sound ∙ refused in cc
 
-complete_row : (asked : Asked) (old new : Role → Meaning) (choices : List Choice) (status : Status) (bytes : Role → List ℕ) → RowOf asked old new (record { status = status; choices = choices })
+complete_row : (asked : Asked) (old new : Role → Meaning) (choices : List Choice) (status : Status) (bytes : Role → List ℕ)
+    → RowOf asked old new (record { status = status; choices = choices })
     → HasInput asked old bytes → refusal_of asked bytes ≡ None → ((role : Role) → Rose (old role).faults (new role).faults → ⊥) → IsGoodEnd asked bytes status
 complete_row asked old new choices Done bytes row told sound calm = Is_done refl
 complete_row asked old new choices NoMemory bytes row told sound calm = Is_memory refl
@@ -25,6 +26,7 @@ complete_row asked old new choices (BadScript line kind) bytes row told sound ca
 complete_row asked old new choices (BadJournal fault) bytes row told sound calm = absurd (never asked bytes _ sound (row.0.refusal bytes told))
 complete_row asked old new choices Usage bytes row told sound calm = absurd row
 
-pub complete : (request : Option Asked) (old new : Role → Meaning) (outcome : Outcome) → CauseOf request old new outcome → IsComplete request old new outcome.status
+pub complete : (request : Option Asked) (old new : Role → Meaning) (outcome : Outcome) → CauseOf request old new outcome
+    → IsComplete request old new outcome.status
 complete request old new outcome cause asked is bytes told sound calm =
     complete_row asked old new outcome.choices outcome.status bytes (subst (λ p. CauseOf p old new outcome) is cause) told sound calm

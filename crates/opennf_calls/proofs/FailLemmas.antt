@@ -1,5 +1,5 @@
 -- What is known of a failover, in the words of its command.
-use Rattle.std.proofs.Common.{◌≡◌, ℕ, List, take, Result, Ok, Err, refl, ap, ◌∙◌, subst}
+use Rattle.std.proofs.Common.{◌≡◌, ℕ, List, take, Result, Ok, Err, refl, sym, ap, ◌∙◌, subst}
 use Rattle.std.specs.Prelude.{MatchResult}
 use Rattle.std.specs.declared.alloc.Global.{Global}
 use Rattle.nf_function.specs.Semantics.{Semantics}
@@ -9,21 +9,26 @@ use Rattle.actor_net.specs.declared.choice.Choice.{Choice}
 use Rattle.command_words.specs.Requests.{FailAsked}
 use Rattle.net_world.specs.declared.config.Config.{Config}
 use Rattle.net_world.specs.Jobs.{job_of}
-use Rattle.net_world.specs.Start.{started}
-use Rattle.run_report.specs.declared.head.Head.{Head}
-use Rattle.standby_failover.specs.declared.fault.FailFault.{FailFault}
-use Rattle.standby_failover.specs.declared.fault.FailFault.TheVariants as failing
-use Rattle.standby_failover.specs.declared.promoted.Promoted.{Promoted}
-use Rattle.standby_failover.specs.Causes.{IsFailCause, IsReached, first_of, world_after}
-use Rattle.standby_failover.specs.Failover.{Failover, HasCaughtUp, IsLeft, IsPromoted, failover_of}
-use Rattle.standby_failover.specs.Lines.{failover_text}
+use Rattle.net_world.specs.Start.{started_with}
+use Rattle.run_headline.specs.run_report.specs.declared.head.Head.{Head}
+use Rattle.run_headline.specs.standby_failover.specs.declared.fault.FailFault.{FailFault}
+use Rattle.run_headline.specs.standby_failover.specs.declared.fault.FailFault.TheVariants as failing
+use Rattle.run_headline.specs.standby_failover.specs.declared.promoted.Promoted.{Promoted}
+use Rattle.run_headline.specs.standby_failover.specs.Causes.{IsFailCause, IsReached, first_of, world_after}
+use Rattle.run_headline.specs.standby_failover.specs.Failover.{Failover, HasCaughtUp, IsLeft, IsPromoted, failover_of}
+use Rattle.run_headline.specs.standby_failover.specs.Lines.{failover_text}
+use Rattle.run_headline.specs.Subject.{Subject}
+use Rattle.run_headline.specs.Law.{subject}
+use Rattle.run_headline.specs.Failover.{HasFailHeadline}
+use Rattle.run_headline.proofs.others.FailedTexts.{failover_law}
 use Rattle.opennf_calls.specs.declared.network.Made.{Made}
 use Rattle.opennf_calls.specs.declared.status.Status.{Status}
 use Rattle.opennf_calls.specs.FailRuns.{HasFailover, IsFailover, failing_for}
 use Rattle.opennf_calls.specs.Functions.{OfKind}
-use Rattle.opennf_calls.specs.NetworkRuns.{Scenario, config_for, head_for, items_for, run_given}
+use Rattle.opennf_calls.specs.NetworkRuns.{Scenario, config_for, head_for, items_for, run_given, subject_for}
 use Rattle.opennf_calls.specs.Phases.{IsNoFailoverAs, IsRefusedFailover, reports}
 use Rattle.opennf_calls.specs.Status.{fail_status}
+use Rattle.opennf_calls.proofs.RunLemmas.{same_subject}
 
 module _ {R : Type 0} (F : Type 0) (f : Semantics R) (asked : FailAsked) (g : Scenario) (alloc : Global) (config : Config) (items : List Msg)
     (is_config : config ≡ config_for asked.network g.site g.script.routes.items) (is_items : items ≡ items_for g.captured g.script) (told : List Choice) where
@@ -32,21 +37,36 @@ module _ {R : Type 0} (F : Type 0) (f : Semantics R) (asked : FailAsked) (g : Sc
   moved Q holds = subst (λ (c : Config). Q c (items_for g.captured g.script)) is_config (subst (λ (l : List Msg). Q config l) is_items holds)
 
   abbrev pub failover_with : Config → List Msg → Failover F R
-  failover_with c l = failover_of (job_of f c l) (world_after f (started alloc c l) (first_of told asked.after)) asked.failed asked.to
+  failover_with c l = failover_of (job_of f c l) (world_after f (started_with alloc c l) (first_of told asked.after)) asked.failed asked.to
 
   -- what is left, and how it is told
   pub record Left (promoted : Promoted F R) (caught : TableView R) : Type 0 where
-    pub reached : IsReached {F = F} f (started alloc config items) (first_of told asked.after)
+    pub reached : IsReached {F = F} f (started_with alloc config items) (first_of told asked.after)
     pub left : IsLeft (failover_with config items)
     pub is_promoted : IsPromoted (failover_with config items) promoted
     pub has_caught_up : HasCaughtUp (failover_with config items) caught
+
+  -- what its report says
+  said : (promoted : Promoted F R) (caught : TableView R) → Left promoted caught → (made : Made)
+      → made.report ≡ failover_text f (head_for asked.network g.captured) (failing_for asked) promoted caught
+      → HasFailHeadline (subject_for (run_given F f asked.network g)) (head_for asked.network g.captured) (failing_for asked) made.report
+  said promoted caught is made report =
+      let c = config_for asked.network g.site g.script.routes.items in
+      let l = items_for g.captured g.script in
+      subst (λ (v : Subject R). HasFailHeadline v (head_for asked.network g.captured) (failing_for asked) made.report) (same_subject F f asked.network g)
+      (subst (HasFailHeadline (subject f c l) (head_for asked.network g.captured) (failing_for asked)) (sym report)
+      (failover_law F R (failover_with c l) promoted caught (record {
+        left = moved (λ c l. IsLeft (failover_with c l)) is.left;
+        is_promoted = moved (λ c l. IsPromoted (failover_with c l) promoted) is.is_promoted;
+        has_caught_up = moved (λ c l. HasCaughtUp (failover_with c l) caught) is.has_caught_up;
+      }) (head_for asked.network g.captured) (failing_for asked) refl))
 
   pub failover_is : (head : Head) → head ≡ head_for asked.network g.captured → (promoted : Promoted F R) (caught : TableView R) → Left promoted caught
       → (made : Made) → made.choices ≡ take asked.after told → made.report ≡ failover_text f head (failing_for asked) promoted caught
       → IsFailover (run_given F f asked.network g) asked told (reports made)
   failover_is head is_head promoted caught is made choices report = record {
     alloc = alloc;
-    reached = moved (λ c l. IsReached {F = F} f (started alloc c l) (first_of told asked.after)) is.reached;
+    reached = moved (λ c l. IsReached {F = F} f (started_with alloc c l) (first_of told asked.after)) is.reached;
     left = moved (λ c l. IsLeft (failover_with c l)) is.left;
     promoted = promoted;
     is_promoted = moved (λ c l. IsPromoted (failover_with c l) promoted) is.is_promoted;
@@ -54,15 +74,16 @@ module _ {R : Type 0} (F : Type 0) (f : Semantics R) (asked : FailAsked) (g : Sc
     has_caught_up = moved (λ c l. HasCaughtUp (failover_with c l) caught) is.has_caught_up;
     choices = choices;
     report = report ∙ ap (λ (h : Head). failover_text f h (failing_for asked) promoted caught) is_head;
+    headline = said promoted caught is made (report ∙ ap (λ (h : Head). failover_text f h (failing_for asked) promoted caught) is_head);
   }
 
   -- the first choices lead to none
   pub failover_refused : (e : FailFault) →
-      ((step : ℕ) → e ≡ failing.NotARun step → IsFailCause {F = F} f (started alloc config items) (first_of told asked.after) step)
+      ((step : ℕ) → e ≡ failing.NotARun step → IsFailCause {F = F} f (started_with alloc config items) (first_of told asked.after) step)
       → IsNoFailoverAs (run_given F f asked.network g) asked told (fail_status e)
   failover_refused (failing.NotARun step) cause = record {
     alloc = alloc;
-    cause = moved (λ c l. IsFailCause {F = F} f (started alloc c l) (first_of told asked.after) step) (cause step refl);
+    cause = moved (λ c l. IsFailCause {F = F} f (started_with alloc c l) (first_of told asked.after) step) (cause step refl);
   }
   failover_refused failing.NoMemory cause = tt
 

@@ -1,4 +1,5 @@
 -- What is said of the function of a kind, whichever it is.
+use Rattle.std.proofs.Common.{refl}
 use Rattle.std.specs.Prelude.{Result, Ok, Err, IfOk}
 use Rattle.nf_function.specs.declared.kind.Kind.{Kind}
 use Rattle.nf_function.specs.declared.kind.Kind.TheVariants as kinds
@@ -9,7 +10,7 @@ use Rattle.addr_translator.specs.declared.nat.Nat.{Nat}
 use Rattle.addr_translator.specs.Nat.{nat}
 use Rattle.asset_monitor.specs.declared.monitor.Monitor.{Monitor}
 use Rattle.asset_monitor.specs.Monitor.{monitor}
-use Rattle.opennf_calls.specs.Functions.{OfKind}
+use Rattle.opennf_calls.specs.Functions.{OfBehavior, OfKind}
 
 -- what is said of each function
 abbrev Said : Type 1
@@ -34,3 +35,9 @@ from_kind kind P X follows p = from_both kind P P X (λ R F f p q. follows R F f
 pub ok_of_kind : {X E : Type 0} (kind : Kind) (r : Result X E) (P : X → Said) → OfKind kind (λ R F f. IfOk r (λ x. P x R F f)) → IfOk r (λ x. OfKind kind (P x))
 ok_of_kind kind (Ok x) P holds = holds
 ok_of_kind kind (Err e) P holds = tt
+
+-- what holds of the function of a kind holds of one that behaves so
+pub of_behavior : (kind : Kind) (P : (R : Type 0) → Semantics R → Type 0) → OfKind kind (λ R F f. P R f) → OfBehavior kind P
+of_behavior kinds.Conntrack P holds = (conntrack, refl, holds)
+of_behavior kinds.Nat P holds = (nat, refl, holds)
+of_behavior kinds.Monitor P holds = (monitor, refl, holds)

@@ -3,6 +3,7 @@ use Rattle.std.proofs.Common.{◌≡◌, ℕ, List, [], true, false, Option, Non
 use Rattle.std.specs.Prelude.{option_map}
 use Rattle.std.specs.Borrow.{Bor}
 use Rattle.flow_filter.specs.declared.site.Site.{Site}
+use Rattle.flow_filter.specs.Reading.{prefix_numbers}
 use Rattle.nf_io.specs.declared.outside.Role.{Role}
 use Rattle.nf_io.specs.declared.outside.Role.TheVariants.{Trace, Script, JournalIn}
 use Rattle.nf_io.specs.Meaning.{Meaning, Rose}
@@ -22,7 +23,7 @@ use Rattle.op_script.specs.Reading.{script_of}
 use Rattle.command_words.specs.Requests.{NetworkAsked}
 use Rattle.command_words.specs.Values.{names_of}
 use Rattle.opennf_calls.specs.declared.status.Status.{Status}
-use Rattle.opennf_calls.specs.Outcome.{IsSite, first_refusal, inputs_refusal, script_refusal, trace_refusal}
+use Rattle.opennf_calls.specs.Outcome.{first_refusal, inputs_refusal, script_refusal, trace_refusal}
 use Rattle.opennf_calls.specs.NetworkRuns.{given_script}
 use Rattle.opennf_calls.specs.Phases.{HasInputs, HasScript, InputsFail, ReadAlone, RefusesInputs, TellsInputs, TellsScript}
 use Rattle.opennf_calls.specs.Status.{reading_status, script_status, trace_status}
@@ -41,7 +42,8 @@ named_script s bytes named = rw named refl
 
 -- a script that is refused
 pub script_fails : (s : NetworkAsked) (old new : Role → Meaning) (e : ScriptFault)
-    → ((line : ℕ) (kind : ScriptKind) → e ≡ unread.Bad line kind → (bytes : Role → List ℕ) → TellsInputs s old bytes → given_script s (bytes Script) ≡ Err (line, kind))
+    → ((line : ℕ) (kind : ScriptKind) → e ≡ unread.Bad line kind → (bytes : Role → List ℕ) → TellsInputs s old bytes
+    → given_script s (bytes Script) ≡ Err (line, kind))
     → InputsFail s old new (script_status e)
 script_fails s old new (unread.Bad line kind) says = λ bytes told.
     ap (λ said. first_refusal (script_refusal said) (trace_refusal (capture_of (bytes Trace)))) (says line kind refl bytes told)
@@ -98,11 +100,16 @@ module _ (s : NetworkAsked) (old mid : Role → Meaning) (script : TheScript) (f
     trace_fails fault.NoMemory answers cause = tt
 
     -- the capture was read
-    pub both_read : (site : Site) → IsSite site s.inside s.outside → (captured : Captured)
+    pub both_read : (site : Site) → prefix_numbers site.inside ≡ s.inside → site.outside ≡ s.outside → (captured : Captured)
         → ((bytes : List ℕ) → (mid Trace).left ≡ Some bytes → AnswersTrace (capture_of bytes) (new Trace).left (Ok captured))
         → HasInputs s old new (record { site = site; captured = captured; script = script })
-    both_read site is_site captured answers = record {
-      is_scenario = λ bytes told. record { read = (answers (bytes Trace) (told_trace bytes told)).0; said = has.said bytes (script_told bytes told); is_site = is_site };
+    both_read site inside outside captured answers = record {
+      is_scenario = λ bytes told. record {
+        read = (answers (bytes Trace) (told_trace bytes told)).0;
+        said = has.said bytes (script_told bytes told);
+        inside = inside;
+        outside = outside;
+      };
       sound = λ bytes told. refusal bytes told ∙ ap trace_refusal (answers (bytes Trace) (told_trace bytes told)).0;
       read = λ bytes told. record {
         trace = (answers (bytes Trace) (told_trace bytes told)).1;

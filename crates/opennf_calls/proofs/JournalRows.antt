@@ -16,7 +16,8 @@ use Rattle.opennf_calls.specs.declared.status.Status.TheVariants.{BadJournal}
 use Rattle.opennf_calls.specs.declared.status.JournalKind.TheVariants as kinds
 use Rattle.opennf_calls.specs.Command.{file_for, is_input, is_read_before, with_journal}
 use Rattle.opennf_calls.specs.NetworkRuns.{Scenario}
-use Rattle.opennf_calls.specs.Outcome.{EarlierAreSound, HasEarlier, HasInput, IsBound, IsRead, IsRefusedCommand, IsScenario, RowOf, earlier_refusal, first_refusal, inputs_refusal, journal_read, journal_refusal, refusal_of}
+use Rattle.opennf_calls.specs.Outcome.{EarlierAreSound, HasEarlier, HasInput, IsBound, IsRead, IsRefusedCommand, IsScenario, RowOf}
+use Rattle.opennf_calls.specs.Outcome.{earlier_refusal, first_refusal, inputs_refusal, journal_read, journal_refusal, refusal_of}
 use Rattle.opennf_calls.specs.Phases.{HasInputs, OnlyRead, ReadAlone, ReadToEnd, TellsInputs}
 use Rattle.opennf_calls.specs.Status.{journal_status}
 use Rattle.opennf_calls.proofs.RowLemmas.{more_read, not_before, one_read, read_fault, refused, silent}
@@ -64,7 +65,8 @@ module _ (s : NetworkAsked) (asked : Asked) (reads : ReadsJournal s asked) (scen
 
   -- the journal alone refuses
   refusal : (bytes : Role → List ℕ) → HasInput asked old bytes → refusal_of asked bytes ≡ journal_refusal (journal_read s bytes)
-  refusal bytes is = reads.refusal bytes ∙ ap (λ (o : Option Status). first_refusal o (journal_refusal (journal_read s bytes))) (has.sound bytes (told bytes is))
+  refusal bytes is =
+      reads.refusal bytes ∙ ap (λ (o : Option Status). first_refusal o (journal_refusal (journal_read s bytes))) (has.sound bytes (told bytes is))
 
   -- a file is an input exactly where the words give it
   input_is : (role : Role) → is_input asked role ≡ (is_read role && is_some (with_journal s JournalIn role))
@@ -110,19 +112,25 @@ module _ (s : NetworkAsked) (asked : Asked) (reads : ReadsJournal s asked) (scen
         refusal bytes holds ∙ ap journal_refusal (due bytes holds) ∙ is)
 
   due : (e : JournalFault) → AnswersJournal s (length s.instances) mid new (Err e) → (bytes : Role → List ℕ) → HasInput asked old bytes
-      → GivesFrom {X = List Choice} (journal_read s bytes) (drop (looked_at (count_of s.kind (length s.instances) (bytes JournalIn))) (bytes JournalIn)) (new JournalIn).left (Err e)
+      → GivesFrom {X = List Choice} (journal_read s bytes) (drop (looked_at (count_of s.kind (length s.instances) (bytes JournalIn))) (bytes JournalIn))
+      (new JournalIn).left (Err e)
   due e answers bytes is = answers (bytes JournalIn) (told_journal bytes is)
 
   pub journal_row : (e : JournalFault) → AnswersJournal s (length s.instances) mid new (Err e)
-      → HasReadCause {A = List Choice} (mid JournalIn).faults (new JournalIn).faults (Err e) → RowOf asked old new (record { status = journal_status e; choices = [] })
+      → HasReadCause {A = List Choice} (mid JournalIn).faults (new JournalIn).faults (Err e)
+      → RowOf asked old new (record { status = journal_status e; choices = [] })
   journal_row fault.Magic answers cause = (bad fault.Magic answers (BadJournal kinds.Magic) refl (λ bytes is. (due fault.Magic answers bytes is).0), refl)
-  journal_row fault.Version answers cause = (bad fault.Version answers (BadJournal kinds.Version) refl (λ bytes is. (due fault.Version answers bytes is).0), refl)
+  journal_row fault.Version answers cause =
+      (bad fault.Version answers (BadJournal kinds.Version) refl (λ bytes is. (due fault.Version answers bytes is).0), refl)
   journal_row fault.Kind answers cause = (bad fault.Kind answers (BadJournal kinds.Kind) refl (λ bytes is. (due fault.Kind answers bytes is).0), refl)
   journal_row fault.Count answers cause = (bad fault.Count answers (BadJournal kinds.Count) refl (λ bytes is. (due fault.Count answers bytes is).0), refl)
   journal_row fault.Short answers cause = (bad fault.Short answers (BadJournal kinds.Short) refl (λ bytes is. (due fault.Short answers bytes is).0), refl)
   journal_row fault.Extra answers cause = (bad fault.Extra answers (BadJournal kinds.Extra) refl (λ bytes is. (due fault.Extra answers bytes is).0), refl)
-  journal_row fault.Read answers cause =
-      (read_fault old new only asked JournalIn bound journal_named (subst (λ (m : Meaning). Rose m.faults (new JournalIn).faults) has.journal (cause.read refl)) inputs_sound, refl)
+  journal_row fault.Read answers cause = (
+    read_fault old new only asked JournalIn bound journal_named
+        (subst (λ (m : Meaning). Rose m.faults (new JournalIn).faults) has.journal (cause.read refl)) inputs_sound,
+    refl,
+  )
   journal_row fault.NoMemory answers cause = (silent old new only, refl)
 
   -- the journal was read
@@ -133,7 +141,8 @@ module _ (s : NetworkAsked) (asked : Asked) (reads : ReadsJournal s asked) (scen
     all_inputs : ReadToEnd s new → (new JournalIn).left ≡ Some [] → IsRead asked new
     all_inputs read journal role input = journal_read_too s new read journal role (sym (input_is role) ∙ input)
 
-    pub journal_told : (bytes : Role → List ℕ) → HasInput asked old bytes → JournalTold asked (record { words = s; scenario = scenario; choices = choices }) bytes new
+    pub journal_told : (bytes : Role → List ℕ) → HasInput asked old bytes
+        → JournalTold asked (record { words = s; scenario = scenario; choices = choices }) bytes new
     journal_told bytes is = record {
       read = all_inputs (still_read (has.read bytes (told bytes is))) (answers (bytes JournalIn) (told_journal bytes is)).1;
       sound = refusal bytes is ∙ ap journal_refusal (told_choices bytes is);

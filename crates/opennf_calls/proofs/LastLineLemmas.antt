@@ -12,7 +12,8 @@ use Rattle.opennf_calls.specs.declared.status.Status.TheVariants.{Ok as Done, Us
 use Rattle.opennf_calls.specs.declared.outcome.Outcome.{Outcome}
 use Rattle.opennf_calls.specs.Command.{is_input, is_read_before, is_result, comes_before}
 use Rattle.opennf_calls.specs.NetworkRuns.{RunResults}
-use Rattle.opennf_calls.specs.Outcome.{HasInput, ForResults, IsBound, IsDone, IsWriteFault, IsReadFault, IsRefusedCommand, IsNotARun, MayBind, WroteNothing, WroteResultsAlone, Gained, RowOf, CauseOf, PutsLine}
+use Rattle.opennf_calls.specs.Outcome.{HasInput, ForResults, IsBound, IsDone, IsWriteFault, IsReadFault, IsRefusedCommand}
+use Rattle.opennf_calls.specs.Outcome.{IsNotARun, MayBind, WroteNothing, WroteResultsAlone, Gained, RowOf, CauseOf, PutsLine}
 use Rattle.opennf_calls.specs.Phases.{SameContents, SameNames}
 use Rattle.opennf_calls.specs.Writing.{Written, Wrote, written}
 use Rattle.opennf_calls.proofs.BoundFiles.{same_named}
@@ -46,7 +47,8 @@ module _ (before old mid new : Role → Meaning) (around : Around before old mid
       subst (λ (m : Meaning). Rose (before role).faults m.faults) (sym (around.others role differ))
       (subst (λ (n : ℕ). Rose n (mid role).faults) (around.contents.faults role) was)
 
-  appends : (role : Role) (text : List ℕ) → role ≢ Errors → Appends (old role).written (mid role).written text → Appends (before role).written (new role).written text
+  appends : (role : Role) (text : List ℕ) → role ≢ Errors → Appends (old role).written (mid role).written text
+      → Appends (before role).written (new role).written text
   appends role text differ was =
       subst (λ (o : Option (List ℕ)). Appends (before role).written o text) (sym (same_written role differ))
       (subst (λ (o : Option (List ℕ)). Appends o (mid role).written text) (around.contents.written role) was)
@@ -55,7 +57,8 @@ module _ (before old mid new : Role → Meaning) (around : Around before old mid
       → Gained which texts old mid → Gained which texts before new
   gained asked which texts results was role is = appends role (texts role) (not_last asked role (results role is)) (was role is)
 
-  with_results : (asked : Asked) (P Q : RunResults → Type 0) → ((made : RunResults) → P made → Q made) → ForResults asked old mid P → ForResults asked before new Q
+  with_results : (asked : Asked) (P Q : RunResults → Type 0) → ((made : RunResults) → P made → Q made) → ForResults asked old mid P
+      → ForResults asked before new Q
   with_results asked P Q weaken was bytes told =
       let found = was bytes (has_input asked bytes told) in
       record {
@@ -75,7 +78,8 @@ module _ (before old mid new : Role → Meaning) (around : Around before old mid
         (λ made wrote. (wrote.0, gained asked (is_result asked) made.texts (λ role is. is) wrote.1)) row.results;
   }
 
-  write_fault : (asked : Asked) (role : Role) (choices : List Choice) → IsWriteFault asked old mid (record { role = role; choices = choices }) → IsWriteFault asked before new (record { role = role; choices = choices })
+  write_fault : (asked : Asked) (role : Role) (choices : List Choice) → IsWriteFault asked old mid (record { role = role; choices = choices })
+      → IsWriteFault asked before new (record { role = role; choices = choices })
   write_fault asked role choices row =
       let differ = not_last asked role row.result in
       record {
@@ -135,7 +139,8 @@ module _ (before old mid new : Role → Meaning) (around : Around before old mid
         };
   }
 
-  pub row_around : (asked : Asked) (choices : List Choice) (status : Status) → RowOf asked old mid (record { status = status; choices = choices }) → RowOf asked before new (record { status = status; choices = choices })
+  pub row_around : (asked : Asked) (choices : List Choice) (status : Status) → RowOf asked old mid (record { status = status; choices = choices })
+      → RowOf asked before new (record { status = status; choices = choices })
   row_around asked choices Done row = done asked choices row
   row_around asked choices (WriteFault role) row = write_fault asked role choices row
   row_around asked choices (ReadFault role) row = (read_fault asked role row.0, row.1)

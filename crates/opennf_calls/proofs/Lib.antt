@@ -21,6 +21,8 @@ pub mod RunsEnd
 pub mod SameInputs
 pub mod SameSites
 pub mod ScriptLemmas
+pub mod ScriptedCommands
+pub mod ScriptedPoints
 pub mod StrongRows
 pub mod TwoResults
 pub mod UpdateRows

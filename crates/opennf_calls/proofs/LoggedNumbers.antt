@@ -1,14 +1,14 @@
 -- At the end of a run each packet of the input has one output in the log, and each command one answer.
 use Rattle.std.proofs.Common.{◌≡◌, ℕ, suc, ◌+◌, true, false, Option, Some, None, List, [], ◌∷◌, map, length, refl, sym, ap, ◌∙◌, arith}
-use Rattle.std.specs.Prelude.{if◌then◌else◌, ◌==◌, find, is_some, option_map}
+use Rattle.std.specs.Prelude.{if◌then◌else◌, ◌==◌, find, is_some, option_map, filter}
 use Rattle.std.specs.List.{filter_map}
 use Rattle.std.proofs.lemmas.Bool.Decides.{nat_tests}
+use Rattle.std.proofs.lemmas.List.{length-map}
 use Rattle.nf_function.specs.Semantics.{Semantics}
 use Rattle.nf_msgs.specs.declared.command.Command.{Command}
 use Rattle.nf_msgs.specs.declared.command.Order.{Order}
 use Rattle.nf_msgs.specs.declared.msg.Msg.{Msg}
 use Rattle.nf_msgs.specs.declared.note.Note.{Note}
-use Rattle.nf_msgs.specs.declared.note.Note.TheVariants as note
 use Rattle.nf_function.specs.declared.kind.Kind.{Kind}
 use Rattle.actor_net.specs.Network.{Network}
 use Rattle.net_world.specs.declared.config.Config.{Config}
@@ -16,34 +16,26 @@ use Rattle.net_world.specs.declared.node.Node.{Node}
 use Rattle.net_world.specs.Commands.{answers_of}
 use Rattle.net_world.specs.Fold.{times}
 use Rattle.net_world.specs.Input.{IsInput, IsRising, commands, ends_last, order_numbered, packets}
-use Rattle.nf_net.specs.Promises.{Completed, Promises}
-use Rattle.nf_net.proofs.PacketCounts.{all_done}
+use Rattle.net_world.specs.Log.{answer_in, answers_in}
+use Rattle.net_world.proofs.NumberCounts.{numbered_times}
+use Rattle.run_headline.specs.nf_net.specs.Promises.{Completed, Promises}
+use Rattle.run_headline.specs.nf_net.proofs.PacketCounts.{all_done}
 use Rattle.report_lines.specs.Lines.{by_number, output_in}
-use Rattle.run_report.specs.Lines.{answer_in}
-use Rattle.other_headlines.proofs.LoggedOutputs.{noted}
-use Rattle.other_headlines.proofs.NumberedLines.{rising_above, rising_sorted}
+use Rattle.run_headline.proofs.others.LoggedOutputs.{noted}
+use Rattle.run_headline.proofs.others.NumberedLines.{rising_above, rising_sorted}
 
 -- a number has as many answers in the log as a list of all answers has for it
 answers_times : (op : ℕ) (log : List Note) → times op (map (λ x. x.0) (filter_map answer_in log)) ≡ length (answers_of op log)
-answers_times op [] = refl
-answers_times op (note.Answered k answer ∷ log) = elim (k == op) as (λ b. (k == op) ≡ b → (if op == k then 1 else 0) + times op (map (λ x. x.0) (filter_map answer_in log)) ≡ length (if b then answer ∷ answers_of op log else answers_of op log)) [
-  | true ↦ λ is. (let turned : (op == k) ≡ true = grind (arith, nat_tests) in let rest = answers_times op log in rw turned (omega (arith, rest)))
-  | false ↦ λ is. (let turned : (op == k) ≡ false = grind (arith, nat_tests) in let rest = answers_times op log in rw turned (omega (arith, rest)))
-] refl
-answers_times op (note.Processed number instance output ∷ log) = answers_times op log
-answers_times op (note.Arrived number ∷ log) = answers_times op log
-answers_times op (note.Begun k ∷ log) = answers_times op log
-answers_times op (note.Exported instance k us ∷ log) = answers_times op log
-answers_times op (note.Imported instance k us ∷ log) = answers_times op log
-answers_times op (note.Kept instance k us ∷ log) = answers_times op log
-answers_times op (note.Installed k ∷ log) = answers_times op log
+answers_times op log =
+    sym (numbered_times (λ x. x.0) op (answers_in log)) ∙ sym (length-map (filter (λ x. x.0 == op) (answers_in log)) (λ x. x.1))
 
 -- a number stands once among those of commands where one has it, and else nowhere
 command_times : (op least : ℕ) (cs : List Command) → IsRising least (map (λ c. c.op) cs)
     → times op (map (λ c. c.op) cs) ≡ (if is_some (option_map (λ c. c.what) (find (λ c. c.op == op) cs)) then 1 else 0)
 command_times op least [] rising = refl
 command_times op least (c ∷ cs) rising = elim (c.op == op) as (λ b. (c.op == op) ≡ b
-    → (if op == c.op then 1 else 0) + times op (map (λ x. x.op) cs) ≡ (if is_some (option_map (λ x. x.what) (if b then Some c else find (λ x. x.op == op) cs)) then 1 else 0)) [
+    → (if op == c.op then 1 else 0) + times op (map (λ x. x.op) cs)
+    ≡ (if is_some (option_map (λ x. x.what) (if b then Some c else find (λ x. x.op == op) cs)) then 1 else 0)) [
       | true ↦ λ is.
           let turned : (op == c.op) ≡ true = grind (arith, nat_tests) in
           let none = rising_above op (suc c.op) (map (λ x. x.op) cs) rising.1 (grind (arith, nat_tests)) in
@@ -55,7 +47,8 @@ command_times op least (c ∷ cs) rising = elim (c.op == op) as (λ b. (c.op == 
     ] refl
 
 -- In the world of a complete run.
-module _ {F R : Type 0} (f : Semantics R) (kind : Kind) (c : Config) (items : List Msg) (is : IsInput kind c items) (w : Network (Node F R) Msg Note) (completed : Completed f c items w) where
+module _ {F R : Type 0} (f : Semantics R) (kind : Kind) (c : Config) (items : List Msg) (is : IsInput kind c items) (w : Network (Node F R) Msg Note)
+    (completed : Completed f c items w) where
   -- each number was processed as often as it came
   processed_times : (p : ℕ) → times p (map (λ x. x.0) (filter_map output_in w.log)) ≡ times p (map (λ q. q.number) (packets items))
   processed_times p =

@@ -11,7 +11,8 @@ use Rattle.command_words.specs.Requests.{Asked, CheckAsked, GenAsked, asks_check
 use Rattle.opennf_calls.specs.declared.status.Status.{Status}
 use Rattle.opennf_calls.specs.declared.status.Status.TheVariants.{Ok as Done, WriteFault}
 use Rattle.opennf_calls.specs.Command.{file_for, is_input, is_read_before, is_result, comes_before}
-use Rattle.opennf_calls.specs.Outcome.{EarlierAreSound, HasEarlier, HasInput, ForResults, IsBound, WroteNothing, WroteResultsAlone, Gained, IsReadFault, IsRefusedCommand, RowOf, earlier_refusal, refusal_of}
+use Rattle.opennf_calls.specs.Outcome.{EarlierAreSound, HasEarlier, HasInput, ForResults, IsBound, WroteNothing, WroteResultsAlone}
+use Rattle.opennf_calls.specs.Outcome.{Gained, IsReadFault, IsRefusedCommand, RowOf, earlier_refusal, refusal_of}
 use Rattle.opennf_calls.specs.NetworkRuns.{RunResults}
 use Rattle.opennf_calls.specs.Phases.{GivesReport, OnlyRead, ReadAlone, SameNames, Performs}
 use Rattle.opennf_calls.specs.Writing.{Gains, Written, all_of, front_of, Wrote}
@@ -98,7 +99,8 @@ not_before true is = cc
 not_before false is = cc
 
 -- nothing is read before the script
-pub first_read : (asked : Asked) (bytes : Role → List ℕ) (new : Role → Meaning) → earlier_refusal asked Script bytes ≡ None → EarlierAreSound asked Script bytes new
+pub first_read : (asked : Asked) (bytes : Role → List ℕ) (new : Role → Meaning) → earlier_refusal asked Script bytes ≡ None
+    → EarlierAreSound asked Script bytes new
 first_read asked bytes new sound = record { read = none; sound = sound }
   where
     none : (other : Role) → IsTrue (is_input asked other && is_read_before other Script) → (new other).left ≡ Some []
@@ -129,11 +131,13 @@ module _ (old new : Role → Meaning) (only : OnlyRead old new) where
   refused asked status bound refusal = record { bound = still_bound asked bound; silent = silent; refusal = refusal }
 
   -- a command that ends there
-  pub ends : (asked : Asked) (status : Status) → RowOf asked old new (record { status = status; choices = [] }) → Performs asked old new (record { status = status; choices = [] })
+  pub ends : (asked : Asked) (status : Status) → RowOf asked old new (record { status = status; choices = [] })
+      → Performs asked old new (record { status = status; choices = [] })
   ends asked status row = record { row = row; names = only.names; errors = only.others Errors refl }
 
 -- a command that read its inputs and then wrote the report, whole or in part
-module _ (asked : Asked) (old mid new : Role → Meaning) (read : OnlyRead old mid) (bound : IsBound asked old) (only : (other : Role) → IsTrue (is_result asked other) → other ≡ Report)
+module _ (asked : Asked) (old mid new : Role → Meaning) (read : OnlyRead old mid) (bound : IsBound asked old)
+    (only : (other : Role) → IsTrue (is_result asked other) → other ≡ Report)
     (choices : List Choice) (text : List ℕ) (made : ForResults asked old mid (GivesReport choices text)) where
   same_report : mid Report ≡ old Report
   same_report = read.others Report refl
@@ -169,7 +173,8 @@ module _ (asked : Asked) (old mid new : Role → Meaning) (read : OnlyRead old m
           wrote = says found.made found.wrote;
         }
 
-    performs : (status : Status) → RowOf asked old new (record { status = status; choices = choices }) → Performs asked old new (record { status = status; choices = choices })
+    performs : (status : Status) → RowOf asked old new (record { status = status; choices = choices })
+        → Performs asked old new (record { status = status; choices = choices })
     performs status row = record {
       row = row;
       names = λ other. new_names other ∙ read.names other;
@@ -201,6 +206,7 @@ module _ (asked : Asked) (old mid new : Role → Meaning) (read : OnlyRead old m
           subst (λ (t : List ℕ). AppendsFront (old Report).written (new Report).written t) (sym is.report) (gained (front_of text) wrote).0,
           λ other earlier.
               let parts = and_parts (is_result asked other) (comes_before other Report) earlier in
-              let never : IsTrue (comes_before Report Report) = subst (λ (o : Role). IsTrue (comes_before o Report)) (only other parts.0) parts.1 in absurd (cc),
+              let never : IsTrue (comes_before Report Report) = subst (λ (o : Role). IsTrue (comes_before o Report)) (only other parts.0) parts.1 in
+              absurd (cc),
         ));
   })

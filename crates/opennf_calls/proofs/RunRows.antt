@@ -11,7 +11,8 @@ use Rattle.opennf_calls.specs.declared.status.Status.{Status}
 use Rattle.opennf_calls.specs.declared.status.Status.TheVariants.{Ok as Done, Usage, BadScript, BadTrace, BadJournal, NotARun, ReadFault, WriteFault, NoMemory}
 use Rattle.opennf_calls.specs.Command.{is_input, is_read_before, run_file, with_journal}
 use Rattle.opennf_calls.specs.NetworkRuns.{Scenario, RunResults, HasRun, given_script}
-use Rattle.opennf_calls.specs.Outcome.{EarlierAreSound, ForResults, HasEarlier, HasInput, IsBound, IsRefusedCommand, RowOf, earlier_refusal, first_refusal, inputs_refusal, journal_read, journal_refusal, refusal_of, script_refusal}
+use Rattle.opennf_calls.specs.Outcome.{EarlierAreSound, ForResults, HasEarlier, HasInput, IsBound, IsRefusedCommand, RowOf, earlier_refusal}
+use Rattle.opennf_calls.specs.Outcome.{first_refusal, inputs_refusal, journal_read, journal_refusal, refusal_of, script_refusal}
 use Rattle.opennf_calls.specs.Phases.{HasInputs, InputsFail, IsSoundBefore, OnlyRead, ReadToEnd, RefusesInputs, ScriptIsSound, TellsInputs, TellsScript}
 use Rattle.opennf_calls.proofs.RowLemmas.{first_read, not_before, read_fault, refused, silent}
 
@@ -65,10 +66,12 @@ pub record Reads (s : NetworkAsked) (asked : Asked) : Type 0 where
   pub script_earlier : (bytes : Role → List ℕ) → earlier_refusal asked Trace bytes ≡ script_refusal (given_script s (bytes Script))
 
 pub sim_reads : (s : NetworkAsked) (schedule : Schedule) → Reads s (asks_sim s schedule)
-sim_reads s schedule = record { input = beside_written s; first = λ bytes status is. is; script_named = refl; none_earlier = λ bytes. refl; script_earlier = λ bytes. refl }
+sim_reads s schedule =
+    record { input = beside_written s; first = λ bytes status is. is; script_named = refl; none_earlier = λ bytes. refl; script_earlier = λ bytes. refl }
 
 pub run_reads : (s : NetworkAsked) → Reads s (asks_run s)
-run_reads s = record { input = beside_written s; first = λ bytes status is. is; script_named = refl; none_earlier = λ bytes. refl; script_earlier = λ bytes. refl }
+run_reads s =
+    record { input = beside_written s; first = λ bytes status is. is; script_named = refl; none_earlier = λ bytes. refl; script_earlier = λ bytes. refl }
 
 pub audit_reads : (s : NetworkAsked) → Reads s (asks_audit s)
 audit_reads s = record {
@@ -88,7 +91,8 @@ fail_reads f = record {
   script_earlier = λ bytes. refl;
 }
 
-pub tells : (s : NetworkAsked) (asked : Asked) → Reads s asked → (old : Role → Meaning) (bytes : Role → List ℕ) → HasInput asked old bytes → TellsInputs s old bytes
+pub tells : (s : NetworkAsked) (asked : Asked) → Reads s asked → (old : Role → Meaning) (bytes : Role → List ℕ) → HasInput asked old bytes
+    → TellsInputs s old bytes
 tells s asked reads old bytes told = record { trace = told Trace (reads.input Trace refl); script = λ named. told Script (reads.input Script named) }
 
 -- the script was read before the capture
@@ -151,7 +155,8 @@ module _ (s : NetworkAsked) (old new : Role → Meaning) (scenario : Scenario) (
   }
 
   -- by a schedule
-  pub sim_results : (schedule : Schedule) (made : RunResults) → HasRun s scenario (Some schedule) made → ForResults (asks_sim s schedule) old new (λ g. g ≡ made)
+  pub sim_results : (schedule : Schedule) (made : RunResults) → HasRun s scenario (Some schedule) made
+      → ForResults (asks_sim s schedule) old new (λ g. g ≡ made)
   sim_results schedule made holds bytes is = let told = tells s (asks_sim s schedule) (sim_reads s schedule) old bytes is in record {
     read = all_read s new (has.read bytes told);
     sound = has.sound bytes told;

@@ -10,15 +10,15 @@ use Rattle.actor_net.specs.declared.schedule.TheConstants.{MOST_CHOICES}
 use Rattle.actor_net.specs.Network.{run}
 use Rattle.actor_net.specs.Schedules.{StopsShort}
 use Rattle.actor_net.proofs.ScheduleLaws.{scheduled_is_run}
-use Rattle.net_length.specs.Length.{ends, has_end, IsShort}
-use Rattle.net_length.proofs.RunLength.{run_length}
-use Rattle.net_length.proofs.ShortRuns.{short_runs}
-use Rattle.net_ends.proofs.NoStuckWorld.{no_stuck_world, never_short}
+use Rattle.net_world.specs.Length.{ends, has_end, IsShort}
+use Rattle.run_headline.specs.nf_net.proofs.length.RunLength.{run_length}
+use Rattle.run_headline.specs.nf_net.proofs.length.ShortRuns.{short_runs}
+use Rattle.run_headline.specs.nf_net.proofs.ends.NoStuckWorld.{no_stuck_world, never_short}
 use Rattle.net_world.specs.declared.config.Config.{Config}
 use Rattle.net_world.specs.Input.{IsInput}
 use Rattle.net_world.specs.Nodes.{node_ended, node_ready, node_step}
-use Rattle.net_world.specs.Runs.{chosen, StopsAt}
-use Rattle.net_world.specs.Start.{started}
+use Rattle.net_world.specs.Runs.{choices_of, StopsAt}
+use Rattle.net_world.specs.Start.{started_with}
 use Rattle.opennf_calls.specs.Ends.{EndLaw}
 
 some_end : (items : List Msg) → has_end items ≡ true → 1 ≤ ends items
@@ -33,8 +33,10 @@ module _ (F : Type 0) {R : Type 0} (f : Semantics R) (laws : FunctionLaws f) whe
   }
 
   -- no schedule stops before the end of a short input's run
-  pub never_stops : (alloc : Global) (config : Config) (items : List Msg) → IsInput f.kind config items → IsShort items → (schedule : Schedule) (step : ℕ) → StopsAt {F = F} f (started alloc config items) schedule step → ⊥
+  pub never_stops : (alloc : Global) (config : Config) (items : List Msg) → IsInput f.kind config items → IsShort items → (schedule : Schedule) (step : ℕ)
+      → StopsAt {F = F} f (started_with alloc config items) schedule step → ⊥
   never_stops alloc config items is short schedule step stops =
-      let first = started {F = F} {R = R} alloc config items in
+      let first = started_with {F = F} {R = R} alloc config items in
       let runs = scheduled_is_run node_ready node_ended (node_step f) MOST_CHOICES schedule first in
-      never_short F f laws alloc config items is short (chosen f first schedule) runs (subst (λ k. StopsShort node_ready node_ended (run (node_step f) (chosen f first schedule) first) k) (sym stops.count) stops.short)
+      never_short F f laws alloc config items is short (choices_of f first schedule) runs
+      (subst (λ k. StopsShort node_ready node_ended (run (node_step f) (choices_of f first schedule) first) k) (sym stops.count) stops.short)

@@ -18,7 +18,8 @@ use Rattle.op_script.specs.declared.script.Line.{Line}
 use Rattle.op_script.specs.declared.script.What.{What}
 use Rattle.op_script.specs.declared.script.What.TheVariants as what
 use Rattle.op_script.specs.LineFilters.{what_filter}
-use Rattle.op_script.specs.Reading.{OrderView, line_view, order_view, route_view, script_view, what_view}
+use Rattle.op_script.specs.Reading.{OrderView, line_view, order_view, script_view, what_view}
+use Rattle.op_script.specs.ReadingSteps.{route_view}
 use Rattle.command_words.specs.Requests.{NetworkAsked}
 use Rattle.opennf_calls.specs.NetworkRuns.{Scenario, given_script}
 use Rattle.opennf_calls.specs.Outcome.{IsScenario}
@@ -126,13 +127,15 @@ pub record AreSame (g h : Scenario) : Type 0 where
   pub routes : g.script.routes.items ≡ h.script.routes.items
   pub lines : g.script.lines.items ≡ h.script.lines.items
 
-pub same_scenario : (s : NetworkAsked) (bytes again : Role → List ℕ) (g h : Scenario) → IsScenario s bytes g → IsScenario s again h → again Trace ≡ bytes Trace → again Script ≡ bytes Script → AreSame g h
+pub same_scenario : (s : NetworkAsked) (bytes again : Role → List ℕ) (g h : Scenario) → IsScenario s bytes g → IsScenario s again h
+    → again Trace ≡ bytes Trace → again Script ≡ bytes Script → AreSame g h
 same_scenario s bytes again g h x y trace script =
     let read : Ok g.captured ≡ Ok h.captured = sym x.read ∙ ap capture_of (sym trace) ∙ y.read in
     let said : Ok (script_view g.script) ≡ Ok (script_view h.script) = sym x.said ∙ ap (given_script s) (sym script) ∙ y.said in
     let seen : script_view g.script ≡ script_view h.script = cc in
     record {
-      site = same_site g.site h.site (same_prefix g.site.inside h.site.inside (x.is_site.bits ∙ sym y.is_site.bits) (x.is_site.len ∙ sym y.is_site.len)) (x.is_site.outside ∙ sym y.is_site.outside);
+      site = (let inside = x.inside ∙ sym y.inside in
+          same_site g.site h.site (same_prefix g.site.inside h.site.inside (ap (λ p. p.0) inside) (ap (λ p. p.1) inside)) (x.outside ∙ sym y.outside));
       captured = cc;
       routes = map_same route_view same_route g.script.routes.items h.script.routes.items (ap (λ v. v.0) seen);
       lines = map_same line_view same_line g.script.lines.items h.script.lines.items (ap (λ v. v.1) seen);

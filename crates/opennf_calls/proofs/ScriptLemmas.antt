@@ -4,7 +4,8 @@ use Rattle.std.proofs.lemmas.Bool.{ltb-true, ltb-false, lt-ltb}
 use Rattle.std.proofs.lemmas.List.{take_all, drop_all}
 use Rattle.nf_function.specs.declared.kind.Kind.{Kind}
 use Rattle.op_script.specs.Statements.{Word}
-use Rattle.op_script.specs.Reading.{ScriptView, longest_script, script_of}
+use Rattle.op_script.specs.Reading.{ScriptView, script_of}
+use Rattle.op_script.specs.Printing.{longest_script}
 use Rattle.op_script.specs.declared.fault.ScriptFault.{ScriptFault}
 use Rattle.op_script.specs.declared.fault.ScriptFault.TheVariants as script
 use Rattle.nf_io.specs.declared.outside.Role.{Role}
@@ -29,7 +30,8 @@ front_says kind names bytes false is =
 front_says kind names bytes true is =
     let over = ltb-true (longest_script + 1) (length bytes) is in
     let long : ltb longest_script (length bytes) ≡ true = lt-ltb longest_script (length bytes) (omega arith) in
-    let front : ltb longest_script (length (take (longest_script + 1) bytes)) ≡ true = lt-ltb longest_script (length (take (longest_script + 1) bytes)) (omega (arith, length-take (longest_script + 1) bytes)) in
+    let front : ltb longest_script (length (take (longest_script + 1) bytes)) ≡ true = lt-ltb longest_script (length (take (longest_script + 1) bytes))
+    (omega (arith, length-take (longest_script + 1) bytes)) in
     rw long (rw front refl)
 
 -- the front says what the whole says
@@ -44,21 +46,24 @@ short kind names bytes view true is said =
     let refused : script_of kind names bytes ≡ Ok view = said in absurd cc
 
 -- of a script that is taken nothing is left
-pub nothing_left : (kind : Kind) (names : List Word) (bytes : List ℕ) (view : ScriptView) → script_of kind names bytes ≡ Ok view → drop (longest_script + 1) bytes ≡ []
+pub nothing_left : (kind : Kind) (names : List Word) (bytes : List ℕ) (view : ScriptView) → script_of kind names bytes ≡ Ok view
+    → drop (longest_script + 1) bytes ≡ []
 nothing_left kind names bytes view said =
     let few = short kind names bytes view (ltb longest_script (length bytes)) refl said in
     drop_all (longest_script + 1) bytes (omega arith)
 
 -- the row of the status of a script that is refused
 pub script_row : (asked : Asked) (old new : Role → Meaning) (fault : ScriptFault) → OnlyRead old new → IsBound asked old
-    → ((line : ℕ) (kind : ScriptKind) → fault ≡ script.Bad line kind → (bytes : Role → List ℕ) → HasInput asked old bytes → refusal_of asked bytes ≡ Some (BadScript line kind))
+    → ((line : ℕ) (kind : ScriptKind) → fault ≡ script.Bad line kind → (bytes : Role → List ℕ) → HasInput asked old bytes
+    → refusal_of asked bytes ≡ Some (BadScript line kind))
     → RowOf asked old new (record { status = script_status fault; choices = [] })
 script_row asked old new (script.Bad line kind) only bound says = (refused old new only asked (BadScript line kind) bound (says line kind refl), refl)
 script_row asked old new script.NoMemory only bound says = (silent old new only, refl)
 
 -- and that of a script that can't be read
 pub unread_row : {A : Type 0} (c : CheckAsked) (old new : Role → Meaning) (fault : UptoFault) → OnlyRead old new → IsBound (asks_check c) old
-    → HasUptoCause {A = A} (old Script).faults (new Script).faults (Err fault) → RowOf (asks_check c) old new (record { status = reading_status Script fault; choices = [] })
+    → HasUptoCause {A = A} (old Script).faults (new Script).faults (Err fault)
+    → RowOf (asks_check c) old new (record { status = reading_status Script fault; choices = [] })
 unread_row c old new upto.Failed only bound cause =
     (read_fault old new only (asks_check c) Script bound refl (cause.failed refl) (λ bytes told. first_read (asks_check c) bytes new refl), refl)
 unread_row c old new upto.NoMemory only bound cause = (silent old new only, refl)

@@ -25,7 +25,8 @@ use Rattle.opennf_calls.proofs.CaptureRows.{AnswersCapture, ReadsCapture, captur
 
 -- strong sharing reads a capture alone
 pub sharing_reads : (s : StrongAsked) (schedule : Schedule) → ReadsCapture (asks_strong s schedule)
-sharing_reads s schedule = record { one = one_capture (asks_strong s schedule) s.trace (λ role. refl); named = refl; refusal = λ bytes. refl; earlier = λ bytes. refl }
+sharing_reads s schedule =
+    record { one = one_capture (asks_strong s schedule) s.trace (λ role. refl); named = refl; refusal = λ bytes. refl; earlier = λ bytes. refl }
 
 -- what was made of the capture is what the command gives
 pub sharing_results : (asked : StrongRequest) (schedule : Schedule) (old new : Role → Meaning) → IsBound (asks_strong (strong_view asked) schedule) old
@@ -35,7 +36,9 @@ pub sharing_results : (asked : StrongRequest) (schedule : Schedule) (old new : R
 sharing_results asked schedule old new bound alone captured answers made holds bytes told =
     let s = strong_view asked in
     capture_report (asks_strong s schedule) (sharing_reads s schedule) old new bound alone captured answers made
-    (λ bytes read. record { scene = sharing_scene asked captured; is_scene = record { read = read; inside = refl; outside = refl; filter = refl }; holds = holds }) bytes told
+    (λ bytes read.
+    record { scene = sharing_scene asked captured; is_scene = record { read = read; inside = refl; outside = refl; filter = refl }; holds = holds })
+    bytes told
 
 -- packets that are numbered in order have the numbers from the first on
 numbers_from : (n : ℕ) (ps : List Packet) → AreNumbered n ps → map (λ (p : Packet). p.number) ps ≡ range_with_len n (length ps)

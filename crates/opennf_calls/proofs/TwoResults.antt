@@ -87,7 +87,8 @@ module _ (asked : Asked) (role : Role) (writes : WritesFirst asked role) where
         }
 
     -- the file was written in part
-    pub file_failed : (new : Role → Meaning) → Wrote role mid new (front_of first) → Performs asked old new (record { status = WriteFault role; choices = choices })
+    pub file_failed : (new : Role → Meaning) → Wrote role mid new (front_of first)
+        → Performs asked old new (record { status = WriteFault role; choices = choices })
     file_failed new wrote =
         let names : SameNames mid new = at_each role mid new (λ a b. b.name ≡ a.name) wrote.others (λ m. refl) wrote.name in
         record {
@@ -120,7 +121,8 @@ module _ (asked : Asked) (role : Role) (writes : WritesFirst asked role) where
 
       others : WroteResultsAlone asked old new
       others other none differ =
-          ap (λ m. m.written) (report.others other (not_the_report other none)) ∙ ap (λ m. m.written) (file.others other (a_result other none)) ∙ read.written other
+          ap (λ m. m.written) (report.others other (not_the_report other none)) ∙ ap (λ m. m.written) (file.others other (a_result other none))
+          ∙ read.written other
 
       inputs : (other : Role) → IsTrue (is_input asked other) → new other ≡ mid other
       inputs other input = report.others other (not_report asked other input) ∙ file.others other (not_read other input)
@@ -134,7 +136,8 @@ module _ (asked : Asked) (role : Role) (writes : WritesFirst asked role) where
       report_gained : Gains part (old Report) (new Report)
       report_gained = subst (λ (m : Meaning). Gains part m (new Report)) (file.others Report (λ same. apart (sym same)) ∙ read.others Report refl) report.gains
 
-      performs : (status : Status) → RowOf asked old new (record { status = status; choices = choices }) → Performs asked old new (record { status = status; choices = choices })
+      performs : (status : Status) → RowOf asked old new (record { status = status; choices = choices })
+          → Performs asked old new (record { status = status; choices = choices })
       performs status row = record {
         row = row;
         names = names;
@@ -151,9 +154,11 @@ module _ (asked : Asked) (role : Role) (writes : WritesFirst asked role) where
             is.is_made,
             λ other result.
                 elim (writes.only other result) [
-                  | inl same ↦ subst (λ (r : Role). Appends (old r).written (new r).written (g.texts r)) (sym same) (file_gained half new file (all_of second) report (g.texts role) is.file)
+                  | inl same ↦ subst (λ (r : Role). Appends (old r).written (new r).written (g.texts r)) (sym same)
+                      (file_gained half new file (all_of second) report (g.texts role) is.file)
                   | inr same ↦ subst (λ (r : Role). Appends (old r).written (new r).written (g.texts r)) (sym same)
-                      (subst (λ (t : List ℕ). Appends (old Report).written (new Report).written t) (sym is.report) (report_gained half new file (all_of second) report))
+                      (subst (λ (t : List ℕ). Appends (old Report).written (new Report).written t) (sym is.report)
+                      (report_gained half new file (all_of second) report))
                 ],
           ));
     })
@@ -170,11 +175,13 @@ module _ (asked : Asked) (role : Role) (writes : WritesFirst asked role) where
           (λ g. (g.choices ≡ choices) × AppendsFront (old Report).written (new Report).written (g.texts Report)
           × Gained (λ other. is_result asked other && comes_before other Report) g.texts old new) (λ g is. (
             is.is_made,
-            subst (λ (t : List ℕ). AppendsFront (old Report).written (new Report).written t) (sym is.report) (report_gained half new file (front_of second) report).0,
+            subst (λ (t : List ℕ). AppendsFront (old Report).written (new Report).written t) (sym is.report)
+                (report_gained half new file (front_of second) report).0,
             λ other earlier.
                 let parts = and_parts (is_result asked other) (comes_before other Report) earlier in
                 elim (writes.only other parts.0) [
-                  | inl same ↦ subst (λ (r : Role). Appends (old r).written (new r).written (g.texts r)) (sym same) (file_gained half new file (front_of second) report (g.texts role) is.file)
+                  | inl same ↦ subst (λ (r : Role). Appends (old r).written (new r).written (g.texts r)) (sym same)
+                      (file_gained half new file (front_of second) report (g.texts role) is.file)
                   | inr same ↦
                       let never : IsTrue (comes_before Report Report) = subst (λ (r : Role). IsTrue (comes_before r Report)) same parts.1 in absurd (cc)
                 ],

@@ -23,7 +23,8 @@ use Rattle.opennf_calls.proofs.CaptureRows.{AnswersCapture, ReadsCapture, captur
 
 -- an update reads a capture alone
 pub update_reads : (p : PublishedAsked) (schedule : Schedule) → ReadsCapture (asks_published p schedule)
-update_reads p schedule = record { one = one_capture (asks_published p schedule) p.trace (λ role. refl); named = refl; refusal = λ bytes. refl; earlier = λ bytes. refl }
+update_reads p schedule =
+    record { one = one_capture (asks_published p schedule) p.trace (λ role. refl); named = refl; refusal = λ bytes. refl; earlier = λ bytes. refl }
 
 -- what was made of the capture is what the command gives
 pub update_results : (asked : Publishing) (schedule : Schedule) (old new : Role → Meaning) → IsBound (asks_published (published_view asked) schedule) old
@@ -33,7 +34,8 @@ pub update_results : (asked : Publishing) (schedule : Schedule) (old new : Role 
 update_results asked schedule old new bound alone captured answers made holds bytes told =
     let p = published_view asked in
     capture_report (asks_published p schedule) (update_reads p schedule) old new bound alone captured answers made
-    (λ bytes read. record { scene = scene_of asked captured; is_scene = record { read = read; inside = refl; outside = refl; filter = refl }; holds = holds }) bytes told
+    (λ bytes read.
+    record { scene = scene_of asked captured; is_scene = record { read = read; inside = refl; outside = refl; filter = refl }; holds = holds }) bytes told
 
 -- the packets of a capture, and what the words say, are an update
 pub is_update : (asked : Publishing) (captured : Captured) → asked.site.inside.bits < 2 ^ 32 → IsFilter asked.filter → AreNumbered 1 captured.packets

@@ -14,12 +14,14 @@ use Rattle.opennf_calls.specs.Command.{file_for, is_result, with_journal}
 use Rattle.opennf_calls.specs.NetworkRuns.{RunResults}
 use Rattle.opennf_calls.specs.Outcome.{ForResults, IsBound}
 use Rattle.opennf_calls.specs.Phases.{GivesReport, OnlyRead, Performs, gives}
-use Rattle.opennf_calls.specs.Writing.{Written, all_of, front_of, is_part, report_end, Wrote, WroteReport, WroteBoth, WroteFront, WroteRun, Report_alone, Both, Front_alone, Nothing}
+use Rattle.opennf_calls.specs.Writing.{Written, all_of, front_of, is_part, report_end, Wrote, WroteReport}
+use Rattle.opennf_calls.specs.Writing.{WroteBoth, WroteFront, WroteRun, Report_alone, Both, Front_alone, Nothing}
 use Rattle.opennf_calls.proofs.RowLemmas.{ends, report_failed, report_written, silent}
 use Rattle.opennf_calls.proofs.TwoResults.{GivesBoth, WritesFirst, both_written, file_failed, second_failed}
 
 -- the same end, told by status and choices
-same_end : (asked : Asked) (old new : Role → Meaning) (made : Made) (outcome : Outcome) (status : Status) → outcome.status ≡ status → outcome.choices ≡ made.choices
+same_end : (asked : Asked) (old new : Role → Meaning) (made : Made) (outcome : Outcome) (status : Status) → outcome.status ≡ status
+    → outcome.choices ≡ made.choices
     → Performs asked old new (record { status = status; choices = made.choices }) → Performs asked old new outcome
 same_end asked old new made outcome status ended chose performs =
     subst (λ (o : Outcome). Performs asked old new o) (sym (both outcome ended chose)) performs
@@ -38,7 +40,8 @@ module _ (asked : Asked) (old mid : Role → Meaning) (read : OnlyRead old mid) 
   report_performs only new outcome wrote =
       same_end asked old new made outcome (report_end wrote.part) wrote.status wrote.choices (by wrote.part wrote.is wrote.wrote)
     where
-      by : (part : Written) → is_part part made.report → Wrote Report mid new part → Performs asked old new (record { status = report_end part; choices = made.choices })
+      by : (part : Written) → is_part part made.report → Wrote Report mid new part
+          → Performs asked old new (record { status = report_end part; choices = made.choices })
       by (all_of text) is wrote =
           report_written asked old mid new read bound only made.choices made.report results (subst (λ (t : List ℕ). Wrote Report mid new (all_of t)) is wrote)
       by (front_of text) is wrote =
@@ -54,17 +57,21 @@ module _ (s : NetworkAsked) (asked : Asked) (old mid : Role → Meaning) (read :
   -- the report of a run was written
   pub run_report_performs : ((other : Role) → IsTrue (is_result asked other) → other ≡ Report) → (new : Role → Meaning) (outcome : Outcome)
       → WroteReport made mid new outcome → Performs asked old new outcome
-  run_report_performs = report_performs asked old mid read bound made (weakened (GivesReport made.choices made.report) (record { is_made = refl; report = refl }))
+  run_report_performs =
+      report_performs asked old mid read bound made (weakened (GivesReport made.choices made.report) (record { is_made = refl; report = refl }))
 
   two_texts : ForResults asked old mid (GivesBoth JournalOut (gives s made))
   two_texts = weakened (GivesBoth JournalOut (gives s made)) (record { is_made = refl; file = refl; report = refl })
 
   -- the journal was written, and then the report
-  both_performs : WritesFirst asked JournalOut → (new : Role → Meaning) (outcome : Outcome) → WroteBoth (record { asked = s; made = made }) mid new outcome → Performs asked old new outcome
+  both_performs : WritesFirst asked JournalOut → (new : Role → Meaning) (outcome : Outcome) → WroteBoth (record { asked = s; made = made }) mid new outcome
+      → Performs asked old new outcome
   both_performs writes new outcome both =
-      same_end asked old new made outcome (report_end both.report.part) both.report.status both.report.choices (by both.report.part both.report.is both.report.wrote)
+      same_end asked old new made outcome (report_end both.report.part) both.report.status both.report.choices
+      (by both.report.part both.report.is both.report.wrote)
     where
-      by : (part : Written) → is_part part made.report → Wrote Report both.mid new part → Performs asked old new (record { status = report_end part; choices = made.choices })
+      by : (part : Written) → is_part part made.report → Wrote Report both.mid new part
+          → Performs asked old new (record { status = report_end part; choices = made.choices })
       by (all_of text) is wrote =
           both_written asked JournalOut writes old mid read bound (gives s made) two_texts both.mid new both.journal
           (subst (λ (t : List ℕ). Wrote Report both.mid new (all_of t)) is wrote)
@@ -73,13 +80,15 @@ module _ (s : NetworkAsked) (asked : Asked) (old mid : Role → Meaning) (read :
           (subst (λ (t : List ℕ). Wrote Report both.mid new (front_of t)) is wrote)
 
   -- the journal was written in part
-  front_performs : WritesFirst asked JournalOut → (new : Role → Meaning) (outcome : Outcome) → WroteFront (record { asked = s; made = made }) mid new outcome → Performs asked old new outcome
+  front_performs : WritesFirst asked JournalOut → (new : Role → Meaning) (outcome : Outcome)
+      → WroteFront (record { asked = s; made = made }) mid new outcome → Performs asked old new outcome
   front_performs writes new outcome front =
       same_end asked old new made outcome (WriteFault JournalOut) front.status front.choices
       (file_failed asked JournalOut writes old mid read bound (gives s made) two_texts new front.journal)
 
   -- nothing was written
-  nothing_performs : (new : Role → Meaning) (outcome : Outcome) → mid ≡ new → outcome ≡ record { status = NoMemory; choices = [] } → Performs asked old new outcome
+  nothing_performs : (new : Role → Meaning) (outcome : Outcome) → mid ≡ new → outcome ≡ record { status = NoMemory; choices = [] }
+      → Performs asked old new outcome
   nothing_performs new outcome same ended =
       subst (λ (now : Role → Meaning). Performs asked old now outcome) same
       (subst (λ (o : Outcome). Performs asked old mid o) (sym ended) (ends old mid read asked NoMemory (silent old mid read, refl)))
@@ -91,7 +100,8 @@ pub record WritesRun (s : NetworkAsked) (asked : Asked) : Type 0 where
 
 -- what was made was written, or nothing was
 pub run_performs : (s : NetworkAsked) (asked : Asked) (writes : WritesRun s asked) (old mid new : Role → Meaning) → OnlyRead old mid → IsBound asked old
-    → (made : Made) → ForResults asked old mid (λ g. g ≡ gives s made) → (outcome : Outcome) → WroteRun (record { asked = s; made = made }) mid new outcome → Performs asked old new outcome
+    → (made : Made) → ForResults asked old mid (λ g. g ≡ gives s made) → (outcome : Outcome) → WroteRun (record { asked = s; made = made }) mid new outcome
+    → Performs asked old new outcome
 run_performs s asked writes old mid new read bound made results outcome (Report_alone none wrote) =
     run_report_performs s asked old mid read bound made results (writes.alone none) new outcome wrote
 run_performs s asked writes old mid new read bound made results outcome (Both named wrote) =

@@ -21,4 +21,5 @@ pub record AuditsAgain (s : NetworkAsked) (again : Role → List ℕ) (made : Ru
 
 -- so with every run, by a schedule or by threads
 abbrev pub AuditLaw : Type 0
-AuditLaw = (s : NetworkAsked) (bytes again : Role → List ℕ) (by : Option Schedule) (made : RunResults) → IsCompletedRun s bytes by made → AreAgain bytes again made → AuditsAgain s again made
+AuditLaw = (s : NetworkAsked) (bytes again : Role → List ℕ) (by : Option Schedule) (made : RunResults) → IsCompletedRun s bytes by made
+    → AreAgain bytes again made → AuditsAgain s again made

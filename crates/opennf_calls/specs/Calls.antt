@@ -11,8 +11,8 @@ use Rattle.run_headline.specs.Text.{HasHeadline}
 use Rattle.opennf_calls.specs.declared.outcome.Outcome.{Outcome}
 use Rattle.opennf_calls.specs.declared.status.Status.TheVariants.{Ok as Done}
 use Rattle.opennf_calls.specs.Command.{is_result}
-use Rattle.opennf_calls.specs.Functions.{OfKind}
-use Rattle.opennf_calls.specs.NetworkRuns.{Scenario, head_for, run_given, subject_for}
+use Rattle.opennf_calls.specs.Functions.{OfBehavior}
+use Rattle.opennf_calls.specs.NetworkRuns.{Scenario, head_for, subject_of}
 use Rattle.opennf_calls.specs.Outcome.{Gained, HasInput, HasOutcome, IsScenario}
 
 -- the words of a command that reports a run
@@ -37,11 +37,12 @@ pub record SaysHeadline (s : NetworkAsked) (bytes : Role → List ℕ) (old new 
   pub is_scenario : IsScenario s bytes scenario
   pub text : List ℕ
   pub wrote : Appends old.written new.written text
-  pub headline : OfKind s.kind (λ R F f. HasHeadline (subject_for (run_given F f s scenario)) (head_for s scenario.captured) s.summary text)
+  pub headline : OfBehavior s.kind (λ R f. HasHeadline (subject_of f s scenario) (head_for s scenario.captured) s.summary text)
 
 -- so does each such call
 abbrev pub OutcomeLaw : Type 0
-OutcomeLaw = (asked : Asked) (s : NetworkAsked) (bytes : Role → List ℕ) (call : Call asked bytes) → run_words asked ≡ Some s → SaysHeadline s bytes (call.old Report) (call.new Report)
+OutcomeLaw = (asked : Asked) (s : NetworkAsked) (bytes : Role → List ℕ) (call : Call asked bytes) → run_words asked ≡ Some s
+    → SaysHeadline s bytes (call.old Report) (call.new Report)
 
 -- two calls of `sim` made the same choices, and wrote the same texts: the report, and the journal if it has a file
 pub record WroteTheSame {asked : Asked} {bytes : Role → List ℕ} (one other : Call asked bytes) : Type 0 where

@@ -8,13 +8,13 @@ use Rattle.actor_net.specs.declared.choice.Choice.{Choice}
 use Rattle.actor_net.specs.declared.schedule.TheConstants.{MOST_CHOICES}
 use Rattle.actor_net.specs.Network.{Network, IsRun, is_done}
 use Rattle.actor_net.specs.Schedules.{enabled_choices}
-use Rattle.net_length.specs.Length.{has_end, most_choices, pieces_sent, IsShort}
+use Rattle.net_world.specs.Length.{has_end, most_choices, pieces_sent, IsShort}
 use Rattle.net_world.specs.declared.config.Config.{Config}
 use Rattle.net_world.specs.declared.node.Node.{Node}
 use Rattle.net_world.specs.Input.{IsInput}
 use Rattle.net_world.specs.Jobs.{Course, Job, course_of, job_of, last_world}
 use Rattle.net_world.specs.Nodes.{node_ended, node_ready, node_step}
-use Rattle.net_world.specs.Start.{started}
+use Rattle.net_world.specs.Start.{started_with}
 
 -- a run's choices are few, and after them some choice is enabled unless nothing is left to do
 pub record RunEnds {F R : Type 0} (job : Job R) (course : Course F R) : Type 0 where
@@ -25,7 +25,7 @@ pub record RunEnds {F R : Type 0} (job : Job R) (course : Course F R) : Type 0 w
 module _ {R : Type 0} (F : Type 0) (f : Semantics R) where
   -- the network at its start
   abbrev pub begun : Global → Config → List Msg → Network (Node F R) Msg Note
-  begun alloc config items = started alloc config items
+  begun alloc config items = started_with alloc config items
 
   -- so with each run of an input that ends once
   abbrev pub EndLaw : Type 0

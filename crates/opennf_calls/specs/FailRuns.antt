@@ -5,13 +5,14 @@ use Rattle.nf_io.specs.declared.outside.Role.TheVariants.{Report}
 use Rattle.record_table.specs.Table.{TableView}
 use Rattle.actor_net.specs.declared.choice.Choice.{Choice}
 use Rattle.command_words.specs.Requests.{FailAsked}
-use Rattle.standby_failover.specs.declared.promoted.Promoted.{Promoted}
-use Rattle.standby_failover.specs.declared.promoted.Failing.{Failing}
-use Rattle.standby_failover.specs.Causes.{IsFailCause, IsReached, first_of, world_after}
-use Rattle.standby_failover.specs.Failover.{Failover, HasCaughtUp, IsLeft, IsPromoted, failover_of}
-use Rattle.standby_failover.specs.Lines.{failover_text}
+use Rattle.run_headline.specs.standby_failover.specs.declared.promoted.Promoted.{Promoted}
+use Rattle.run_headline.specs.standby_failover.specs.declared.promoted.Failing.{Failing}
+use Rattle.run_headline.specs.standby_failover.specs.Causes.{IsFailCause, IsReached, first_of, world_after}
+use Rattle.run_headline.specs.standby_failover.specs.Failover.{Failover, HasCaughtUp, IsLeft, IsPromoted, failover_of}
+use Rattle.run_headline.specs.standby_failover.specs.Lines.{failover_text}
+use Rattle.run_headline.specs.Failover.{HasFailHeadline}
 use Rattle.opennf_calls.specs.Functions.{OfKind}
-use Rattle.opennf_calls.specs.NetworkRuns.{RunGiven, RunResults, Scenario, head_for, job_for, run_given, start_for}
+use Rattle.opennf_calls.specs.NetworkRuns.{RunGiven, RunResults, Scenario, head_for, job_for, run_given, start_for, subject_for}
 
 -- what the words say of the failure
 abbrev pub failing_for : FailAsked → Failing
@@ -34,6 +35,8 @@ module _ {F R : Type 0} (given : RunGiven F R) (asked : FailAsked) (told : List 
     pub has_caught_up : HasCaughtUp (failover_for alloc) caught
     pub choices : made.choices ≡ take asked.after told
     pub report : made.texts Report ≡ failover_text given.function (head_for given.words given.scenario.captured) (failing_for asked) promoted caught
+    -- what the report says of each packet and each affected unit
+    pub headline : HasFailHeadline (subject_for given) (head_for given.words given.scenario.captured) (failing_for asked) (made.texts Report)
 
   -- so many choices aren't there, or are no run, which shows at this step
   pub record IsNoFailover (step : ℕ) : Type 0 where

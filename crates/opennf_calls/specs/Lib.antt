@@ -13,3 +13,4 @@ pub mod StrongRuns
 pub mod UpdateRuns
 pub mod Writing
 pub mod LineRoom
+pub use Rattle.net_world

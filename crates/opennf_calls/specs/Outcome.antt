@@ -1,12 +1,13 @@
 -- What a run of the program reads, writes and answers: one table of statuses for all commands. A further command is a further case
 -- of `file_for` and of what it can be refused for and gives: `refusal_of`, `earlier_refusal` and `FailsAt` where it reads inputs, and
 -- `AreResults`. The table stays as it is. This project's own.
-use Rattle.std.specs.Prelude.{◌≡◌, ◌≢◌, ℕ, ◌++◌, List, [], codes, decimal, length, Option, None, Some, Bool, false, ◌&&◌, Result, Ok, Err, option_and_then, IsTrue, ◌⊎◌}
+use Rattle.std.specs.Prelude.{◌≡◌, ◌≢◌, ℕ, ◌++◌, List, [], codes, decimal, length, Option, None}
+use Rattle.std.specs.Prelude.{Some, Bool, false, ◌&&◌, Result, Ok, Err, option_and_then, IsTrue, ◌⊎◌}
 use Rattle.std.specs.Io.KnownBytes.{Appends}
 use Rattle.nf_io.specs.declared.outside.Role.{Role}
 use Rattle.nf_io.specs.declared.outside.Role.TheVariants.{Trace, Script, JournalIn, Report, TraceOut, Errors}
 use Rattle.nf_io.specs.Meaning.{Meaning, Rose, AppendsFront}
-use Rattle.flow_filter.specs.declared.site.Site.{Site}
+use Rattle.flow_filter.specs.Reading.{prefix_numbers}
 use Rattle.trace_reader.specs.declared.trace.Trace.{Trace as Captured}
 use Rattle.trace_reader.specs.declared.fault.TraceFault.{TraceFault}
 use Rattle.trace_reader.specs.Records.{capture_of}
@@ -19,7 +20,8 @@ use Rattle.journal_file.specs.declared.fault.JournalFault.{JournalFault}
 use Rattle.journal_file.specs.Reading.{journal_of}
 use Rattle.actor_net.specs.declared.choice.Choice.{Choice}
 use Rattle.actor_net.specs.declared.schedule.Schedule.{Schedule}
-use Rattle.command_words.specs.Requests.{Asked, NetworkAsked, FailAsked, CheckAsked, GenAsked, asks_sim, asks_run, asks_audit, asks_fail, asks_check, asks_gen, asks_published, asks_strong}
+use Rattle.command_words.specs.Requests.{Asked, NetworkAsked, FailAsked, CheckAsked, GenAsked, asks_sim, asks_run}
+use Rattle.command_words.specs.Requests.{asks_audit, asks_fail, asks_check, asks_gen, asks_published, asks_strong}
 use Rattle.command_words.specs.Values.{names_of}
 use Rattle.opennf_calls.specs.declared.status.Status.{Status}
 use Rattle.opennf_calls.specs.declared.status.Status.TheVariants.{Ok as Done, Usage, BadScript, BadTrace, BadJournal, NotARun, ReadFault, WriteFault, NoMemory}
@@ -31,17 +33,12 @@ use Rattle.opennf_calls.specs.Status.{line_of, trace_status, journal_status}
 use Rattle.opennf_calls.specs.StrongRuns.{IsShared}
 use Rattle.opennf_calls.specs.UpdateRuns.{IsUpdated}
 
--- the site with this inside prefix and this outside address
-pub record IsSite (site : Site) (prefix : ℕ × ℕ) (address : Option ℕ) : Type 0 where
-  pub bits : site.inside.bits ≡ prefix.0
-  pub len : site.inside.len ≡ prefix.1
-  pub outside : site.outside ≡ address
-
--- what a run is given: the capture and the script that the bytes are read as, and the site
+-- what a run is given: the capture and the script that the bytes are read as, and the site with the inside prefix and the outside address of the words
 pub record IsScenario (s : NetworkAsked) (bytes : Role → List ℕ) (scenario : Scenario) : Type 0 where
   pub read : capture_of (bytes Trace) ≡ Ok scenario.captured
   pub said : given_script s (bytes Script) ≡ Ok (script_view scenario.script)
-  pub is_site : IsSite scenario.site s.inside s.outside
+  pub inside : prefix_numbers scenario.site.inside ≡ s.inside
+  pub outside : scenario.site.outside ≡ s.outside
 
 -- what is said of a run holds of what it is given
 pub record OfScenario (s : NetworkAsked) (bytes : Role → List ℕ) (P : Scenario → Type 0) : Type 0 where

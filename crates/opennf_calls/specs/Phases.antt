@@ -14,7 +14,7 @@ use Rattle.op_script.specs.Printing.{IsScript, SplitsNone}
 use Rattle.op_script.specs.Reading.{script_view}
 use Rattle.journal_file.specs.Format.{journal_bytes}
 use Rattle.net_world.specs.Input.{IsInput}
-use Rattle.net_length.specs.Length.{IsShort}
+use Rattle.net_world.specs.Length.{IsShort}
 use Rattle.actor_net.specs.declared.choice.Choice.{Choice}
 use Rattle.command_words.specs.Requests.{Asked, FailAsked, NetworkAsked, StrongAsked}
 use Rattle.command_words.specs.Values.{names_of}
@@ -182,7 +182,8 @@ abbrev pub IsRefusedRun : NetworkAsked → Scenario → List Choice → Status �
 IsRefusedRun s scenario choices status = OfKind s.kind (λ R F f. IsRefusedAs (run_given F f s scenario) choices status)
 
 abbrev pub IsRefusedFailover : FailAsked → Scenario → List Choice → Status → Type 0
-IsRefusedFailover asked scenario choices status = OfKind asked.network.kind (λ R F f. IsNoFailoverAs (run_given F f asked.network scenario) asked choices status)
+IsRefusedFailover asked scenario choices status =
+    OfKind asked.network.kind (λ R F f. IsNoFailoverAs (run_given F f asked.network scenario) asked choices status)
 
 -- a command whose files were bound ended: its row holds, and the names and the standard error are as before
 pub record Performs (asked : Asked) (old new : Role → Meaning) (outcome : Outcome) : Type 0 where

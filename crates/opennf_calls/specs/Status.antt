@@ -12,10 +12,10 @@ use Rattle.trace_reader.specs.declared.fault.TraceFault.{TraceFault}
 use Rattle.trace_reader.specs.declared.fault.TraceFault.TheVariants as fault
 use Rattle.journal_file.specs.declared.fault.JournalFault.{JournalFault}
 use Rattle.journal_file.specs.declared.fault.JournalFault.TheVariants as journal
-use Rattle.run_report.specs.declared.auditing.AuditFault.{AuditFault}
-use Rattle.run_report.specs.declared.auditing.AuditFault.TheVariants as audit
-use Rattle.standby_failover.specs.declared.fault.FailFault.{FailFault}
-use Rattle.standby_failover.specs.declared.fault.FailFault.TheVariants as failing
+use Rattle.run_headline.specs.run_report.specs.declared.auditing.AuditFault.{AuditFault}
+use Rattle.run_headline.specs.run_report.specs.declared.auditing.AuditFault.TheVariants as audit
+use Rattle.run_headline.specs.standby_failover.specs.declared.fault.FailFault.{FailFault}
+use Rattle.run_headline.specs.standby_failover.specs.declared.fault.FailFault.TheVariants as failing
 use Rattle.trace_reader.specs.declared.make.MakeFault.{MakeFault}
 use Rattle.trace_reader.specs.declared.make.MakeFault.TheVariants as making
 use Rattle.command_words.specs.declared.fault.ArgumentsFault.{ArgumentsFault}

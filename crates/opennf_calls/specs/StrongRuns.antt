@@ -15,11 +15,11 @@ use Rattle.strong_share.specs.declared.note.StrongNote.{StrongNote}
 use Rattle.strong_share.specs.declared.report.StrongHead.{StrongHead}
 use Rattle.strong_share.specs.Promises.{StrongCompleted, StrongEnds, StrongPromises}
 use Rattle.strong_share.specs.Report.{strong_text}
-use Rattle.strong_share.specs.Runs.{LeadsTo, chosen}
+use Rattle.strong_share.specs.Runs.{LeadsTo, choices_of}
 use Rattle.strong_share.specs.Start.{StrongJob, job_of, strong_start}
 use Rattle.strong_share.specs.Tables.{node_ended}
-use Rattle.other_headlines.specs.Strong.{HasStrongHeadline}
-use Rattle.other_headlines.specs.StrongLaw.{strong_subject}
+use Rattle.run_headline.specs.Strong.{HasStrongHeadline}
+use Rattle.run_headline.specs.StrongLaw.{strong_subject}
 use Rattle.opennf_calls.specs.CaptureScenes.{CaptureScene, OfCaptureScene, SceneWords}
 use Rattle.opennf_calls.specs.Functions.{OfKind}
 use Rattle.opennf_calls.specs.NetworkRuns.{RunResults}
@@ -49,7 +49,7 @@ module _ {R : Type 0} (F : Type 0) (f : Semantics R) (s : StrongAsked) (scene : 
   pub record IsSharingOf (schedule : Schedule) (made : RunResults) : Type 0 where
     pub alloc : Global
     pub world : Network (StrongNode F R) Msg StrongNote
-    pub scheduled : made.choices ≡ chosen {F = F} f (first_world alloc) schedule
+    pub scheduled : made.choices ≡ choices_of {F = F} f (first_world alloc) schedule
     pub leads : LeadsTo f (first_world alloc) made.choices world
     pub complete : is_done node_ended world ≡ true
     pub promises : StrongPromises f (sharing_for s scene) world

@@ -19,8 +19,8 @@ use Rattle.two_phase.specs.Promises.{Published}
 use Rattle.two_phase.specs.Report.{two_text}
 use Rattle.two_phase.specs.Start.{UpdateJob, two_start}
 use Rattle.two_phase.specs.Tables.{node_ended, node_ready, node_step}
-use Rattle.other_headlines.specs.Published.{HasPublishedHeadline}
-use Rattle.other_headlines.specs.PublishedLaw.{two_subject}
+use Rattle.run_headline.specs.Published.{HasPublishedHeadline}
+use Rattle.run_headline.specs.PublishedLaw.{two_subject}
 use Rattle.opennf_calls.specs.CaptureScenes.{CaptureScene, OfCaptureScene, SceneWords}
 use Rattle.opennf_calls.specs.Functions.{OfKind}
 use Rattle.opennf_calls.specs.NetworkRuns.{RunResults}

@@ -38,7 +38,8 @@ fn make<O: Outside>(alloc: Global, asked: &Auditing<'_>, outside: &mut O) -> Res
     requires { IsBound (asks_audit (network_view asked.now.network)) (O.seen outside.old) }
     ensures only { OnlyRead (O.seen outside.old) (O.seen outside.new) }
     ensures row { MatchResult result
-        (λ made. ForResults (asks_audit (network_view asked.now.network)) (O.seen outside.old) (O.seen outside.new) (λ g. g ≡ gives (network_view asked.now.network) made))
+        (λ made. ForResults (asks_audit (network_view asked.now.network)) (O.seen outside.old) (O.seen outside.new)
+        (λ g. g ≡ gives (network_view asked.now.network) made))
         (λ status. RowOf (asks_audit (network_view asked.now.network)) (O.seen outside.old) (O.seen outside.new) (record { status = status; choices = [] })) }
 {
     let network = &asked.network;

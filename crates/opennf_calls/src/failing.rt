@@ -12,7 +12,7 @@ use crate::status::Status;
 use actor_net::Choices;
 use command_words::FailRequest;
 use nf_function::Function;
-use standby_failover::{Failing, packets_of, promote_with, report_failover};
+use run_headline::{Failing, packets_of, promote_with, report_failover};
 use std::alloc::Global;
 
 /// Takes the first of some choices, and makes the report of what is left where the instance fails.

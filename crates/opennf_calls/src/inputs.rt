@@ -8,7 +8,7 @@ ghost use Rattle.trace_reader.specs.Answers.{AnswersTrace, HasReadCause};
 ghost use Rattle.flow_filter.specs.Limits.{most_packets};
 ghost use Rattle.trace_reader.specs.Records.{AreNumbered, capture_of};
 ghost use Rattle.trace_reader.specs.Steered.{is_steered_proto};
-ghost use Rattle.op_script.specs.PacketItems.{IsInRange};
+ghost use Rattle.flow_filter.specs.Packet.{IsInRange};
 ghost use Rattle.op_script.specs.Printing.{IsScript, SplitsNone};
 ghost use Rattle.op_script.specs.Reading.{script_view};
 ghost use Rattle.command_words.specs.Values.{names_of};
@@ -20,9 +20,9 @@ use command_words::NetworkRequest;
 use flow_filter::Bytes;
 use nf_io::{Outside, Role, RoleSource, UptoFault, read_upto};
 use op_script::{LONGEST_SCRIPT, Script, read_script};
-use run_input::{CapturedItems, read_in_range};
+use run_input::CapturedItems;
 use std::alloc::Global;
-use trace_reader::{Trace, TraceFault};
+use trace_reader::{Trace, TraceFault, read_trace};
 
 /// The most bytes of a script that are read, but for the one that shows that it is longer.
 pub(crate) const MOST_BYTES: u64 = LONGEST_SCRIPT as u64;
@@ -121,7 +121,7 @@ pub(crate) fn read_packets<O: Outside>(alloc: Global, outside: &mut O) -> Result
         outside,
         role: Role::Trace,
     };
-    read_in_range(alloc, &mut source)
+    read_trace(alloc, &mut source)
 }
 
 /// Reads the script, or one byte more than `most` of one that is longer.

@@ -35,6 +35,9 @@ pub mod top;
 mod update;
 pub mod writing;
 
+pub use net_world::{Config, Node};
 pub use outcome::Outcome;
+pub use run_headline::{Head, audit as audited, report};
+pub use run_input::{Setting, input_of};
 pub use status::{JournalKind, Status, TraceKind};
 pub use top::{opennf_calm, opennf_run, opennf_top, opennf_unread};

@@ -20,9 +20,8 @@ use flow_filter::Text;
 use net_world::{Config, Node};
 use nf_function::{Function, Kind};
 use nf_msgs::Msg;
-use nf_net::simulate;
+use run_headline::{Head, audit, report, simulate};
 use run_input::{Setting, input_of};
-use run_report::{Head, audit, report};
 use std::alloc::Global;
 use std::sync::Wait;
 use std::thread::Threads;
@@ -144,7 +143,8 @@ impl ForFunction for Told<'_, '_> {
     ghost may = { λ w kind. (kind ≡ w.asked.now.kind) × CanBegin (network_view w.asked.now) (scenario_of w.asked.now.site w.inputs) };
 
     ghost gives = { λ w R F f r. MatchResult r
-        (λ made. IsRunOf (run_given F f (network_view w.asked.now) (scenario_of w.asked.now.site w.inputs)) None (gives (network_view w.asked.now) made) × (made.choices ≡ w.choices))
+        (λ made. IsRunOf (run_given F f (network_view w.asked.now) (scenario_of w.asked.now.site w.inputs)) None (gives (network_view w.asked.now) made)
+        × (made.choices ≡ w.choices))
         (IsRefusedAs (run_given F f (network_view w.asked.now) (scenario_of w.asked.now.site w.inputs)) w.choices) };
 
     fn call<F: Function + Send>(self) -> Result<Made, Status>
@@ -164,7 +164,8 @@ fn schedule_network<F: Function>(
 ) -> Result<Made, NoMemory>
     requires kind { F.semantics.kind ≡ asked.now.kind }
     requires sound { CanBegin (network_view asked.now) (scenario_of asked.now.site inputs) }
-    ensures { IfOk result (λ made. IsRunOf (run_given F.row.Denot F.semantics (network_view asked.now) (scenario_of asked.now.site inputs)) (Some schedule) (gives (network_view asked.now) made)) }
+    ensures { IfOk result (λ made. IsRunOf (run_given F.row.Denot F.semantics (network_view asked.now) (scenario_of asked.now.site inputs)) (Some schedule)
+        (gives (network_view asked.now) made)) }
 {
     let Opening {
         config,
@@ -192,7 +193,8 @@ where
     F::Record: Send,
     requires kind { F.semantics.kind ≡ asked.now.kind }
     requires sound { CanBegin (network_view asked.now) (scenario_of asked.now.site inputs) }
-    ensures { IfOk result (λ made. IsRunOf (run_given F.row.Denot F.semantics (network_view asked.now) (scenario_of asked.now.site inputs)) None (gives (network_view asked.now) made)) }
+    ensures { IfOk result (λ made. IsRunOf (run_given F.row.Denot F.semantics (network_view asked.now) (scenario_of asked.now.site inputs)) None
+        (gives (network_view asked.now) made)) }
 {
     let Opening {
         config,
@@ -214,7 +216,8 @@ fn tell_network<F: Function>(
     requires kind { F.semantics.kind ≡ asked.now.kind }
     requires sound { CanBegin (network_view asked.now) (scenario_of asked.now.site inputs) }
     ensures { MatchResult result
-        (λ made. IsRunOf (run_given F.row.Denot F.semantics (network_view asked.now) (scenario_of asked.now.site inputs)) None (gives (network_view asked.now) made) × (made.choices ≡ choices))
+        (λ made. IsRunOf (run_given F.row.Denot F.semantics (network_view asked.now) (scenario_of asked.now.site inputs)) None
+        (gives (network_view asked.now) made) × (made.choices ≡ choices))
         (IsRefusedAs (run_given F.row.Denot F.semantics (network_view asked.now) (scenario_of asked.now.site inputs)) choices) }
 {
     let Opening {

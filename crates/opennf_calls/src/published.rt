@@ -44,8 +44,10 @@ fn make<O: Outside>(
 
     // What is made is what the command gives for its capture, or the status has its row.
     ensures row { MatchResult result
-        (λ made. ForResults (asks_published (published_view asked.now) schedule) (O.seen outside.old) (O.seen outside.new) (GivesReport made.choices made.report))
-        (λ status. RowOf (asks_published (published_view asked.now) schedule) (O.seen outside.old) (O.seen outside.new) (record { status = status; choices = [] })) }
+        (λ made. ForResults (asks_published (published_view asked.now) schedule) (O.seen outside.old) (O.seen outside.new)
+        (GivesReport made.choices made.report))
+        (λ status. RowOf (asks_published (published_view asked.now) schedule) (O.seen outside.old) (O.seen outside.new)
+        (record { status = status; choices = [] })) }
 {
     let trace = read_packets(alloc, outside)?;
     let made = run_update(alloc, asked, trace, schedule)?;

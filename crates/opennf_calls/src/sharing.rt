@@ -3,7 +3,7 @@ ghost use Rattle.std.specs.Prelude.{◌≡◌, ◌≤◌, true, All, IfOk, lengt
 ghost use Rattle.flow_filter.specs.Limits.{most_packets};
 ghost use Rattle.trace_reader.specs.Records.{AreNumbered};
 ghost use Rattle.trace_reader.specs.Steered.{is_steered_proto};
-ghost use Rattle.op_script.specs.PacketItems.{IsInRange};
+ghost use Rattle.flow_filter.specs.Packet.{IsInRange};
 ghost use Rattle.command_words.specs.RequestViews.{strong_view};
 ghost use Rattle.opennf_calls.specs.Phases.{CanShare, reports};
 ghost use Rattle.opennf_calls.specs.StrongRuns.{HasSharing, IsSharingHead, IsSharingOf, sharing_scene};

@@ -44,7 +44,8 @@ fn make<O: Outside>(
 
     // What is made is what the command gives for its inputs, or the status has its row.
     ensures row { MatchResult result
-        (λ made. ForResults (asks_sim (network_view asked.now) schedule) (O.seen outside.old) (O.seen outside.new) (λ g. g ≡ gives (network_view asked.now) made))
+        (λ made. ForResults (asks_sim (network_view asked.now) schedule) (O.seen outside.old) (O.seen outside.new)
+        (λ g. g ≡ gives (network_view asked.now) made))
         (λ status. RowOf (asks_sim (network_view asked.now) schedule) (O.seen outside.old) (O.seen outside.new) (record { status = status; choices = [] })) }
 {
     let inputs = read_inputs(alloc, asked, outside)?;

@@ -7,8 +7,7 @@ use basics::NoMemory;
 use journal_file::JournalFault;
 use nf_io::{Role, UptoFault};
 use op_script::{ScriptFault, ScriptKind};
-use run_report::AuditFault;
-use standby_failover::FailFault;
+use run_headline::{AuditFault, FailFault};
 use trace_reader::{MakeFault, TraceFault};
 
 /// What is wrong with a capture.

@@ -190,7 +190,8 @@ fn bind_run<O: Outside>(
     requires unnamed { (role : TheRole) → (O.seen outside.old role).name ≡ None }
     requires journal { is_journal journal ≡ true }
     ensures bound { OnOk result ((role : TheRole) → (O.seen outside.new role).name ≡ with_journal (network_view asked.now) journal role) }
-    ensures names { (role : TheRole) → ((O.seen outside.new role).name ≡ None) ⊎ ((O.seen outside.new role).name ≡ with_journal (network_view asked.now) journal role) }
+    ensures names { (role : TheRole)
+        → ((O.seen outside.new role).name ≡ None) ⊎ ((O.seen outside.new role).name ≡ with_journal (network_view asked.now) journal role) }
     ensures binds { Binds (O.shown outside.old) (O.seen outside.old) (O.seen outside.new) }
 {
     bind_file(outside, Role::Trace, Some(asked.trace))?;

@@ -10,8 +10,8 @@ pub record WindowState : Type 0 where
   pub closed : Bool
 
 -- a window of so many cells, all at home
-abbrev pub opened : ℕ → WindowState
-opened cells = record { pool = record { name = 0; cells = cells; home = cells }; flying = 0; closed = false }
+abbrev pub window_at_start : ℕ → WindowState
+window_at_start cells = record { pool = record { name = 0; cells = cells; home = cells }; flying = 0; closed = false }
 
 -- what is under way and what stands at home are together all cells
 abbrev pub IsBalanced : WindowState → Type 0

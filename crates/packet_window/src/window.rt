@@ -1,5 +1,6 @@
+//! The switch's window: its cells, how many packets are under way, and whether it is closed.
 ghost use Rattle.std.specs.Prelude.{◌≡◌, true, IfOk};
-ghost use Rattle.packet_window.specs.Window.{cell_for, has_ended, has_room, opened, with_end, with_home, with_one};
+ghost use Rattle.packet_window.specs.Window.{cell_for, has_ended, has_room, window_at_start, with_end, with_home, with_one};
 
 use basics::{Boxed, NoMemory};
 use flow_filter::{CapturedPacket, Packet};
@@ -36,7 +37,7 @@ impl Model for Window {
 impl Window {
     /// A window of so many cells, all at home. This takes no memory.
     pub fn open(alloc: Global, cells: u32) -> Self
-        ensures { result ≡ opened cells }
+        ensures { result ≡ window_at_start cells }
     {
         Window {
             pool: Pool::open(POOL, cells),
@@ -55,6 +56,7 @@ impl Window {
     }
 
     /// The packet behind a pointer: in the room that one before it has left, or else in a new one.
+    #[inline(always)]
     pub fn boxed(&mut self, captured: CapturedPacket) -> Result<Boxed<Packet>, NoMemory>
         ensures packet { IfOk result (λ packet. packet ≡ captured) }
         ensures same { self.new ≡ self.old }
@@ -66,6 +68,7 @@ impl Window {
     }
 
     /// Puts a packet into a cell: it is under way.
+    #[inline(always)]
     pub fn let_in(&mut self, packet: Boxed<Packet>) -> Cell
         requires { has_room self.old ≡ true }
         ensures cell { result ≡ cell_for self.old packet }
@@ -81,6 +84,7 @@ impl Window {
     }
 
     /// Takes a cell home, if it is one of the pool's. Where there is no memory to keep its packet's room, that is dropped.
+    #[inline(always)]
     pub fn take_home(&mut self, cell: Cell)
         ensures { self.new ≡ with_home self.old cell }
     {
@@ -89,7 +93,20 @@ impl Window {
         }
         self.flying -= 1;
         let packet = self.pool.give(cell);
-        let _kept = self.spare.push(packet);
+        self.keep(packet);
+    }
+
+    /// Keeps the room of a packet, if there is memory for it.
+    #[inline(always)]
+    fn keep(&mut self, packet: Boxed<Packet>)
+        ensures { self.new ≡ self.old }
+    {
+        if self.spare.len() == self.spare.capacity() {
+            let Ok(()) = self.spare.reserve(1) else {
+                return;
+            };
+        }
+        self.spare.push_reserved(packet);
     }
 
     /// From now on no more packets come.

@@ -1,5 +1,6 @@
 -- Chunks from the front: what one more of them brings, and when a front of them is good.
-use Rattle.std.proofs.Common.{◌≡◌, ℕ, ◌+◌, ◌<◌, ◌≤◌, ◌==◌, Bool, true, false, cond, List, [], ◌∷◌, ◌++◌, length, take, drop, Option, Some, None, refl, sym, ap, ◌∙◌, arith, is_some, append-nil, append_assoc, length-append, get_or, subst}
+use Rattle.std.proofs.Common.{◌≡◌, ℕ, ◌+◌, ◌<◌, ◌≤◌, ◌==◌, Bool, true, false, cond, List, [], ◌∷◌, ◌++◌, length, take, drop, Option}
+use Rattle.std.proofs.Common.{Some, None, refl, sym, ap, ◌∙◌, arith, is_some, append-nil, append_assoc, length-append, get_or, subst}
 use Rattle.std.proofs.lemmas.Bool.{true≢false}
 use Rattle.std.proofs.lemmas.Bool.Decides.{nat_tests}
 use Rattle.std.proofs.lemmas.List.{take_more, take-append-drop}
@@ -69,7 +70,8 @@ module _ {R : Type 0} (f : Semantics R) where
   -- a chunk that spells no record brings none
   brings_none : (cs : List Chunk) (c : Chunk) → spelled f c ≡ None → records_of f (cs ++ c ∷ []) ≡ records_of f cs
   brings_none cs c none = same_records (records_of f (cs ++ c ∷ [])) (records_of f cs) (λ q.
-      get-records_of cs c q ∙ ap (λ o. first_of_two (finite.get (records_of f cs) q) (at (cons_option o []) q)) none ∙ none_later (finite.get (records_of f cs) q))
+      get-records_of cs c q ∙ ap (λ o. first_of_two (finite.get (records_of f cs) q) (at (cons_option o []) q)) none
+      ∙ none_later (finite.get (records_of f cs) q))
 
   -- one that spells that of a unit for the second time brings none either
   brings_again : (cs : List Chunk) (c : Chunk) (u : units.Unit) (r : R) → spelled f c ≡ Some (u, r) → finite.contains_key (records_of f cs) u ≡ true
@@ -89,7 +91,8 @@ module _ {R : Type 0} (f : Semantics R) where
   one_longer : (cs : List Chunk) (c : Chunk) → length (cs ++ c ∷ []) ≡ length cs + 1
   one_longer cs c = length-append cs (c ∷ [])
 
-  pub good_more : (cs : List Chunk) (c : Chunk) (u : units.Unit) (r : R) → are_good f cs ≡ true → spelled f c ≡ Some (u, r) → finite.contains_key (records_of f cs) u ≡ false
+  pub good_more : (cs : List Chunk) (c : Chunk) (u : units.Unit) (r : R) → are_good f cs ≡ true → spelled f c ≡ Some (u, r)
+      → finite.contains_key (records_of f cs) u ≡ false
       → are_good f (cs ++ c ∷ []) ≡ true
   good_more cs c u r good some lacks =
       let longer : finite.len (finite.insert (records_of f cs) u r) ≡ finite.len (records_of f cs) + 1
@@ -102,12 +105,14 @@ module _ {R : Type 0} (f : Semantics R) where
   pub bad_none : (cs : List Chunk) (c : Chunk) → are_good f cs ≡ true → spelled f c ≡ None → are_good f (cs ++ c ∷ []) ≡ false
   bad_none cs c good none = too_few cs c good (brings_none cs c none)
 
-  pub bad_again : (cs : List Chunk) (c : Chunk) (u : units.Unit) (r : R) → are_good f cs ≡ true → spelled f c ≡ Some (u, r) → finite.contains_key (records_of f cs) u ≡ true
+  pub bad_again : (cs : List Chunk) (c : Chunk) (u : units.Unit) (r : R) → are_good f cs ≡ true → spelled f c ≡ Some (u, r)
+      → finite.contains_key (records_of f cs) u ≡ true
       → are_good f (cs ++ c ∷ []) ≡ false
   bad_again cs c u r good some has = too_few cs c good (brings_again cs c u r some has)
 
   -- the first chunk that is bad, in a loop
-  pub first_bad : (cs : List Chunk) (i : ℕ) (c : Chunk) → i < length cs → c ≡ get_or cs i c → are_good f (take i cs) ≡ true → are_good f (take i cs ++ c ∷ []) ≡ false → IsFirstBad f cs i
+  pub first_bad : (cs : List Chunk) (i : ℕ) (c : Chunk) → i < length cs → c ≡ get_or cs i c → are_good f (take i cs) ≡ true
+      → are_good f (take i cs ++ c ∷ []) ≡ false → IsFirstBad f cs i
   first_bad cs i c within read good bad = record {
     within = within;
     before = good;
@@ -126,7 +131,8 @@ module _ {R : Type 0} (f : Semantics R) where
   at_most_one : (cs : List Chunk) (c : Chunk) → finite.len (records_of f (cs ++ c ∷ [])) ≤ finite.len (records_of f cs) + 1
   at_most_one cs c = by_spelled (spelled f c) refl
     where
-      by_key : (u : units.Unit) (r : R) → spelled f c ≡ Some (u, r) → (b : Bool) → finite.contains_key (records_of f cs) u ≡ b → finite.len (records_of f (cs ++ c ∷ [])) ≤ finite.len (records_of f cs) + 1
+      by_key : (u : units.Unit) (r : R) → spelled f c ≡ Some (u, r) → (b : Bool) → finite.contains_key (records_of f cs) u ≡ b
+          → finite.len (records_of f (cs ++ c ∷ [])) ≤ finite.len (records_of f cs) + 1
       by_key u r some true has = rw (brings_again cs c u r some has) (omega arith)
       by_key u r some false lacks = rw (brings cs c u r some lacks, len-insert units_total (records_of f cs) u r, lacks) (omega arith)
 
@@ -137,7 +143,8 @@ module _ {R : Type 0} (f : Semantics R) where
   as_many : (cs ds : List Chunk) → finite.len (records_of f (cs ++ ds)) ≤ finite.len (records_of f cs) + length ds
   as_many cs [] = rw (append-nil cs) (omega arith)
   as_many cs (d ∷ ds) =
-      let more : finite.len (records_of f (cs ++ (d ∷ ds))) ≤ finite.len (records_of f (cs ++ d ∷ [])) + length ds = rw (← append_assoc cs (d ∷ []) ds) (as_many (cs ++ d ∷ []) ds) in
+      let more : finite.len (records_of f (cs ++ (d ∷ ds))) ≤ finite.len (records_of f (cs ++ d ∷ [])) + length ds = rw (← append_assoc cs (d ∷ []) ds)
+      (as_many (cs ++ d ∷ []) ds) in
       omega (arith, more, at_most_one cs d)
 
   -- there are no more records than chunks

@@ -53,7 +53,8 @@ module _ {R : Type 0} where
     -- one turn where it has none
     pub passed_over : finite.get m unit ≡ None → new ≡ copies → new ≡ those (take (i + 1) us) m
     passed_over none is = is ∙ so_far
-        ∙ sym (ap (with_kept (those (take i us) m) unit) none ∙ with_kept_same (those (take i us) m) unit None (none_there (is_among (take i us) unit) (finite.get m unit) none ∙ sym (get-those (take i us) m unit)))
+        ∙ sym (ap (with_kept (those (take i us) m) unit) none ∙ with_kept_same (those (take i us) m) unit None
+        (none_there (is_among (take i us) unit) (finite.get m unit) none ∙ sym (get-those (take i us) m unit)))
         ∙ one_further
 
   -- what a look-up finds after records that stand by were made live

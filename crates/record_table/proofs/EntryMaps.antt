@@ -73,7 +73,8 @@ module _ {R : Type 0} where
   counted_off n m x false (Some r) is one after = absurd (true≢false (sym is))
 
   -- the number of records after one unit's record was changed
-  pub counted_by : (n m before after : ℕ) (old new : Option R) → before ≡ bool_byte (is_some old) → after ≡ bool_byte (is_some new) → m + count old ≡ n + count new → m + before ≡ n + after
+  pub counted_by : (n m before after : ℕ) (old new : Option R) → before ≡ bool_byte (is_some old) → after ≡ bool_byte (is_some new)
+      → m + count old ≡ n + count new → m + before ≡ n + after
   counted_by n m before after None None was is step = omega (arith, was, is, step)
   counted_by n m before after None (Some r) was is step = omega (arith, was, is, step)
   counted_by n m before after (Some r) None was is step = omega (arith, was, is, step)
@@ -99,4 +100,11 @@ module _ {R : Type 0} where
 
       -- that number is within its type
       pub within_at : n + after < 2 ^ 32
-      within_at = omega (arith, counted_at, len-map_of (with_record placed place o), (map_with_record unit_eq unit_eq_equiv placed place o map).few, at_most_one_byte (is_some now), was)
+      within_at = omega (
+        arith,
+        counted_at,
+        len-map_of (with_record placed place o),
+        (map_with_record unit_eq unit_eq_equiv placed place o map).few,
+        at_most_one_byte (is_some now),
+        was,
+      )

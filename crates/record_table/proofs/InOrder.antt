@@ -1,5 +1,6 @@
 -- The records that are found among entries, sorted by their units, are those of the finite map in its order.
-use Rattle.std.proofs.Common.{◌≡◌, ℕ, ◌+◌, ◌<◌, Bool, true, false, cond, List, [], ◌∷◌, ◌++◌, map, length, take, get_or, Option, Some, None, Bor, refl, sym, ap, subst, ◌∙◌, append-nil}
+use Rattle.std.proofs.Common.{◌≡◌, ℕ, ◌+◌, ◌<◌, Bool, true, false, cond, List, [], ◌∷◌, ◌++◌, map, length}
+use Rattle.std.proofs.Common.{take, get_or, Option, Some, None, Bor, refl, sym, ap, subst, ◌∙◌, append-nil}
 use Rattle.std.proofs.lemmas.List.{take_more, map-append}
 use Rattle.std.proofs.lemmas.List.Elements.{filter_map-append}
 use Rattle.std.specs.List.{cons_option}
@@ -21,7 +22,7 @@ use Rattle.record_table.proofs.SortedEntries.{in_order, strictly, at-permuted}
 use Rattle.std.specs.Map.{lookup, keys_of}
 use Rattle.record_table.proofs.UnitOrder.{unit_eq, unit_eq_equiv, tied, one_unit, same_unit-true, same_unit_equiv}
 use Rattle.record_table.proofs.RecordLookUps.{same_records, at}
-use Rattle.record_table.specs.Keeping.{is_taken, taken, found, all_found}
+use Rattle.record_table.specs.Keeping.{is_taken, records_taken, record_found, all_found}
 
 one_test : (filter : Option Filter) (u q : units.Unit) → unit_eq q u ≡ true → is_taken filter q ≡ is_taken filter u
 one_test filter u q same = ap (is_taken filter) (same_unit-true q u (sym (tied q u) ∙ same))
@@ -35,18 +36,18 @@ module _ {R : Type 0} (filter : Option Filter) where
   keys_seen [] = refl
   keys_seen (x ∷ xs) = ap (λ us. x.0 ∷ us) (keys_seen xs)
 
-  found_without : (e : units.Unit × Option R) → e.1 ≡ None → found filter e ≡ None
+  found_without : (e : units.Unit × Option R) → e.1 ≡ None → record_found filter e ≡ None
   found_without (u, None) none = refl
   found_without (u, Some r) none = cc
 
-  found_by : (e : units.Unit × Option R) (r : R) → e.1 ≡ Some r → found filter e ≡ cond (is_taken filter e.0) (Some (e.0, r)) None
+  found_by : (e : units.Unit × Option R) (r : R) → e.1 ≡ Some r → record_found filter e ≡ cond (is_taken filter e.0) (Some (e.0, r)) None
   found_by (u, None) r some = cc
   found_by (u, Some s) r some = let same : s ≡ r = cc in rw same refl
 
   next : (es : Entries units.Unit R) (i : ℕ) (e : units.Unit × Option R) → i < length es → e ≡ get_or es i e
-      → all_found filter (take (i + 1) es) ≡ all_found filter (take i es) ++ cons_option (found filter e) []
+      → all_found filter (take (i + 1) es) ≡ all_found filter (take i es) ++ cons_option (record_found filter e) []
   next es i e within read =
-      ap (all_found filter) (take_more es i e within ∙ ap (λ x. take i es ++ x ∷ []) (sym read)) ∙ filter_map-append (found filter) (take i es) (e ∷ [])
+      ap (all_found filter) (take_more es i e within ∙ ap (λ x. take i es ++ x ∷ []) (sym read)) ∙ filter_map-append (record_found filter) (take i es) (e ∷ [])
 
   module _ (xs : List (units.Unit × Bor R)) (es : Entries units.Unit R) (i : ℕ) (e : units.Unit × Option R) (within : i < length es) (read : e ≡ get_or es i e)
       (so_far : seen xs ≡ all_found filter (take i es)) where
@@ -95,7 +96,8 @@ module _ {R : Type 0} (filter : Option Filter) where
   left_out false c r o l same rest = rest
 
   -- a list of what is found has what the map has for such units
-  at_found : (es : Entries units.Unit R) (q : units.Unit) → IsDistinct unit_eq (keys_of es) → at (all_found filter es) q ≡ cond (is_taken filter q) (record_of unit_eq es q) None
+  at_found : (es : Entries units.Unit R) (q : units.Unit) → IsDistinct unit_eq (keys_of es)
+      → at (all_found filter es) q ≡ cond (is_taken filter q) (record_of unit_eq es q) None
   at_found [] q d = sym (nothing_left (is_taken filter q) None refl)
   at_found ((u, None) ∷ es) q d =
       passed_over (unit_eq q u) (is_taken filter q) _ (record_of unit_eq es q) (not_there u q es d) (at_found es q (IsDistinct-tail unit_eq u (keys_of es) d))
@@ -103,56 +105,67 @@ module _ {R : Type 0} (filter : Option Filter) where
   at_found ((u, Some r) ∷ es) q d = elim (is_taken filter u) as (λ t. is_taken filter u ≡ t
       → at (cons_option (cond t (Some (u, r)) None) (all_found filter es)) q ≡ cond (is_taken filter q) (record_of unit_eq ((u, Some r) ∷ es) q) None) [
         | true ↦ λ h. ap (λ b. cond b (Some r) (at (all_found filter es) q)) (sym (tied q u))
-            ∙ taken_up (unit_eq q u) (is_taken filter q) r _ (record_of unit_eq es q) (λ s. one_test filter u q s ∙ h) (at_found es q (IsDistinct-tail unit_eq u (keys_of es) d))
+            ∙ taken_up (unit_eq q u) (is_taken filter q) r _ (record_of unit_eq es q) (λ s. one_test filter u q s ∙ h)
+            (at_found es q (IsDistinct-tail unit_eq u (keys_of es) d))
             ∙ ap (λ o. cond (is_taken filter q) o None) (sym (held-cond (unit_eq q u) (Some r) (lookup (unit_eq q) es)))
-        | false ↦ λ h. left_out (unit_eq q u) (is_taken filter q) r _ (record_of unit_eq es q) (λ s. one_test filter u q s ∙ h) (at_found es q (IsDistinct-tail unit_eq u (keys_of es) d))
+        | false ↦ λ h. left_out (unit_eq q u) (is_taken filter q) r _ (record_of unit_eq es q) (λ s. one_test filter u q s ∙ h)
+            (at_found es q (IsDistinct-tail unit_eq u (keys_of es) d))
             ∙ ap (λ o. cond (is_taken filter q) o None) (sym (held-cond (unit_eq q u) (Some r) (lookup (unit_eq q) es)))
       ] refl
 
-  pub found_at : (es : Entries units.Unit R) (q : units.Unit) → IsDistinct unit_eq (keys_of es) → at (all_found filter es) q ≡ finite.get (taken filter (map_of es)) q
+  pub found_at : (es : Entries units.Unit R) (q : units.Unit) → IsDistinct unit_eq (keys_of es)
+      → at (all_found filter es) q ≡ finite.get (records_taken filter (map_of es)) q
   found_at es q d =
       at_found es q d ∙ ap (λ o. cond (is_taken filter q) o None) (sym (get-map_of es q))
       ∙ sym (get-retain_keys (map_of es) (is_taken filter) q (λ x t. ap (is_taken filter) (sym (one_unit q x t))))
 
-  still_apart : (u : units.Unit) (es : Entries units.Unit R) → AllByRecursion (λ v. unit_eq u v ≡ false) (keys_of es) → AllByRecursion (λ v. same_unit u v ≡ false) (keys_of (all_found filter es))
+  still_apart : (u : units.Unit) (es : Entries units.Unit R) → AllByRecursion (λ v. unit_eq u v ≡ false) (keys_of es)
+      → AllByRecursion (λ v. same_unit u v ≡ false) (keys_of (all_found filter es))
   still_apart u [] apart = tt
   still_apart u ((v, None) ∷ es) apart = still_apart u es apart.1
-  still_apart u ((v, Some r) ∷ es) apart = elim (is_taken filter v) as (λ t. AllByRecursion (λ x. same_unit u x ≡ false) (keys_of (cons_option (cond t (Some (v, r)) None) (all_found filter es)))) [
-    | true ↦ (sym (tied u v) ∙ apart.0, still_apart u es apart.1)
-    | false ↦ still_apart u es apart.1
-  ]
+  still_apart u ((v, Some r) ∷ es) apart = elim (is_taken filter v)
+      as (λ t. AllByRecursion (λ x. same_unit u x ≡ false) (keys_of (cons_option (cond t (Some (v, r)) None) (all_found filter es)))) [
+        | true ↦ (sym (tied u v) ∙ apart.0, still_apart u es apart.1)
+        | false ↦ still_apart u es apart.1
+      ]
 
   pub found_once : (es : Entries units.Unit R) → IsDistinct unit_eq (keys_of es) → IsDistinct same_unit (keys_of (all_found filter es))
   unfolding IsDistinct
   found_once [] d = tt
   found_once ((u, None) ∷ es) d = found_once es d.1
-  found_once ((u, Some r) ∷ es) d = elim (is_taken filter u) as (λ t. IsDistinct same_unit (keys_of (cons_option (cond t (Some (u, r)) None) (all_found filter es)))) [
-    | true ↦ (still_apart u es d.0, found_once es d.1)
-    | false ↦ found_once es d.1
-  ]
+  found_once ((u, Some r) ∷ es) d =
+      elim (is_taken filter u) as (λ t. IsDistinct same_unit (keys_of (cons_option (cond t (Some (u, r)) None) (all_found filter es)))) [
+        | true ↦ (still_apart u es d.0, found_once es d.1)
+        | false ↦ found_once es d.1
+      ]
 
-  module _ (before after : List (units.Unit × Bor R)) (es : Entries units.Unit R) (distinct : IsDistinct unit_eq (keys_of es)) (was : seen before ≡ all_found filter es)
+  module _ (before after : List (units.Unit × Bor R)) (es : Entries units.Unit R) (distinct : IsDistinct unit_eq (keys_of es))
+      (was : seen before ≡ all_found filter es)
       (moved : IsPermutation before after) (sorted : IsSortedByKey (λ x. x.0) unit_cmp after) where
     -- what was found and then sorted is the map's list
-    pub sorted_is : seen after ≡ finite.entries (taken filter (map_of es))
+    pub sorted_is : seen after ≡ finite.entries (records_taken filter (map_of es))
     sorted_is =
-        let moved_seen : IsPermutation (all_found filter es) (seen after) = subst (λ xs. IsPermutation xs (seen after)) was (IsPermutation-map (λ (e : units.Unit × Bor R). (e.0, e.1.now)) before after moved) in
+        let moved_seen : IsPermutation (all_found filter es) (seen after) = subst (λ xs. IsPermutation xs (seen after)) was
+        (IsPermutation-map (λ (e : units.Unit × Bor R). (e.0, e.1.now)) before after moved) in
         let once = found_once es distinct in
         let once_after : IsDistinct same_unit (keys_of (seen after)) =
-        IsDistinct-IsPermutation same_unit same_unit_equiv.symm (keys_of (all_found filter es)) (keys_of (seen after)) (IsPermutation-map (λ (e : units.Unit × R). e.0) _ _ moved_seen) once in
+        IsDistinct-IsPermutation same_unit same_unit_equiv.symm (keys_of (all_found filter es)) (keys_of (seen after))
+        (IsPermutation-map (λ (e : units.Unit × R). e.0) _ _ moved_seen) once in
         let keys : keys_of (seen after) ≡ keys_of after = keys_seen after in
-        in_order (seen after) (taken filter (map_of es))
+        in_order (seen after) (records_taken filter (map_of es))
         (subst (IsStrictlySortedBy unit_cmp) (sym keys) (strictly after sorted (subst (IsDistinct same_unit) keys once_after)))
         (λ q. sym (at-permuted (all_found filter es) (seen after) once once_after moved_seen q) ∙ found_at es q distinct)
 
 -- without a filter all records are listed
-pub all_taken : {R : Type 0} (m : Records R) → taken None m ≡ m
-all_taken m = same_records (taken None m) m (λ q. get-retain_keys m (λ u. true) q (λ x t. refl))
+pub all_taken : {R : Type 0} (m : Records R) → records_taken None m ≡ m
+all_taken m = same_records (records_taken None m) m (λ q. get-retain_keys m (λ u. true) q (λ x t. refl))
 
 -- the units of what is listed
-pub keys_listed : {R : Type 0} (xs : List (units.Unit × Bor R)) (m : Records R) → map (λ (e : units.Unit × Bor R). (e.0, e.1.now)) xs ≡ finite.entries (taken None m) → map (λ e. e.0) xs ≡ finite.keys m
+pub keys_listed : {R : Type 0} (xs : List (units.Unit × Bor R)) (m : Records R)
+    → map (λ (e : units.Unit × Bor R). (e.0, e.1.now)) xs ≡ finite.entries (records_taken None m) → map (λ e. e.0) xs ≡ finite.keys m
 keys_listed {R} xs m is = sym (keys_of_seen xs) ∙ ap (map (λ (e : units.Unit × R). e.0)) is ∙ ap finite.keys (all_taken m)
   where
-    keys_of_seen : (ys : List (units.Unit × Bor R)) → map (λ (e : units.Unit × R). e.0) (map (λ (e : units.Unit × Bor R). (e.0, e.1.now)) ys) ≡ map (λ (e : units.Unit × Bor R). e.0) ys
+    keys_of_seen : (ys : List (units.Unit × Bor R))
+        → map (λ (e : units.Unit × R). e.0) (map (λ (e : units.Unit × Bor R). (e.0, e.1.now)) ys) ≡ map (λ (e : units.Unit × Bor R). e.0) ys
     keys_of_seen [] = refl
     keys_of_seen (y ∷ ys) = ap (λ us. y.0 ∷ us) (keys_of_seen ys)

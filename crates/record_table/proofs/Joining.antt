@@ -9,7 +9,7 @@ use Rattle.nf_function.specs.declared.unit.Unit as units
 use Rattle.nf_function.specs.Units.{unit_cmp}
 use Rattle.unit_map.specs.Entries.{Entries, kept_record, record_of, is_place_of, with_record}
 use Rattle.unit_map.proofs.EntryLemmas.{keys_added, lookup_added, held-cond}
-use Rattle.record_table.specs.Table.{Records, same_unit, with_kept, either, joined}
+use Rattle.record_table.specs.Table.{Records, same_unit, with_kept, either, union_of}
 use Rattle.record_table.specs.Entries.{map_of}
 use Rattle.record_table.proofs.UnitOrder.{unit_eq, unit_eq_equiv, tied, same_unit-true, same_unit_equiv}
 use Rattle.record_table.proofs.RecordLookUps.{same_records, get-joined, get-with_kept}
@@ -25,7 +25,8 @@ module _ {K : Type 0} (eq : K → K → Bool) where
   distinct_front [] y d = tt
   distinct_front (x ∷ xs) y d = ((all_but_last x y xs d.0).0, distinct_front xs y d.1)
 
-  absent_last : ((x y : K) → eq x y ≡ eq y x) → {V : Type 0} (es : List (K × V)) (k : K) (v : V) → IsDistinct eq (keys_of (es ++ (k, v) ∷ [])) → lookup (eq k) es ≡ None
+  absent_last : ((x y : K) → eq x y ≡ eq y x) → {V : Type 0} (es : List (K × V)) (k : K) (v : V) → IsDistinct eq (keys_of (es ++ (k, v) ∷ []))
+      → lookup (eq k) es ≡ None
   absent_last flips [] k v d = refl
   absent_last flips (e ∷ es) k v d =
       let apart = (all_but_last e.0 k (keys_of es) (rw (keys_added eq k v es) at (IsDistinct-head eq e.0 (keys_of (es ++ (k, v) ∷ [])) d))).1 in
@@ -52,7 +53,8 @@ module _ {A B : Type 0} (P : A → B → Type 0) where
   zip_weaker Q f (x ∷ xs) (y ∷ ys) all = (f x y all.0, zip_weaker Q f xs ys all.1)
 
 module _ {R : Type 0} where
-  pub keys_front : (es : Entries units.Unit R) (u : units.Unit) (o : Option R) → IsDistinct unit_eq (keys_of (es ++ (u, o) ∷ [])) → IsDistinct unit_eq (keys_of es)
+  pub keys_front : (es : Entries units.Unit R) (u : units.Unit) (o : Option R) → IsDistinct unit_eq (keys_of (es ++ (u, o) ∷ []))
+      → IsDistinct unit_eq (keys_of es)
   keys_front es u o distinct = distinct_front unit_eq (keys_of es) u (rw (keys_added unit_eq u o es) at distinct)
 
   pub no_keys : (es : Entries units.Unit R) → keys_of es ≡ [] → es ≡ []
@@ -60,7 +62,8 @@ module _ {R : Type 0} where
   no_keys (e ∷ es) h = cc
 
   -- a record that is written changes no place
-  pub same_places : (es : Entries units.Unit R) (i : ℕ) (o : Option R) (place : ℕ) (u : units.Unit) → is_place_of unit_eq (with_record es i o) place u ≡ is_place_of unit_eq es place u
+  pub same_places : (es : Entries units.Unit R) (i : ℕ) (o : Option R) (place : ℕ) (u : units.Unit)
+      → is_place_of unit_eq (with_record es i o) place u ≡ is_place_of unit_eq es place u
   same_places [] i o place u = refl
   same_places (e ∷ es) zero o zero u = refl
   same_places (e ∷ es) zero o (suc place) u = refl
@@ -74,8 +77,10 @@ module _ {R : Type 0} where
       ∙ ap (λ b. cond b o (record_of unit_eq es q)) (tied u q ∙ same_unit_equiv.symm u q) ∙ ap (cond (same_unit q u) o) (sym (get-map_of es q))
 
   -- an entry of a unit that has none is put in
-  pub map_of-added : (es : Entries units.Unit R) (u : units.Unit) (o : Option R) → lookup (unit_eq u) es ≡ None → map_of (es ++ (u, o) ∷ []) ≡ with_kept (map_of es) u o
-  map_of-added es u o absent = same_records (map_of (es ++ (u, o) ∷ [])) (with_kept (map_of es) u o) (λ q. get-last es u o q absent ∙ sym (get-with_kept (map_of es) u o q))
+  pub map_of-added : (es : Entries units.Unit R) (u : units.Unit) (o : Option R) → lookup (unit_eq u) es ≡ None
+      → map_of (es ++ (u, o) ∷ []) ≡ with_kept (map_of es) u o
+  map_of-added es u o absent =
+      same_records (map_of (es ++ (u, o) ∷ [])) (with_kept (map_of es) u o) (λ q. get-last es u o q absent ∙ sym (get-with_kept (map_of es) u o q))
 
   module _ (choose : R → R → R) where
     taken_in : (b : Bool) (now_u now_q left_q o : Option R) → (b ≡ true → now_q ≡ now_u) → (b ≡ true → left_q ≡ None)
@@ -89,12 +94,14 @@ module _ {R : Type 0} where
 
     -- the last entry of what is left is taken in
     pub whole_more : (now new left : Entries units.Unit R) (u : units.Unit) (o : Option R) → IsPut now new u (either choose (finite.get (map_of now) u) o)
-        → IsDistinct unit_eq (keys_of (left ++ (u, o) ∷ [])) → joined choose (map_of new) (map_of left) ≡ joined choose (map_of now) (map_of (left ++ (u, o) ∷ []))
+        → IsDistinct unit_eq (keys_of (left ++ (u, o) ∷ []))
+        → union_of choose (map_of new) (map_of left) ≡ union_of choose (map_of now) (map_of (left ++ (u, o) ∷ []))
     whole_more now new left u o is distinct =
         let absent = absent_last unit_eq unit_eq_equiv.symm left u o distinct in
-        same_records (joined choose (map_of new) (map_of left)) (joined choose (map_of now) (map_of (left ++ (u, o) ∷ []))) (λ q.
+        same_records (union_of choose (map_of new) (map_of left)) (union_of choose (map_of now) (map_of (left ++ (u, o) ∷ []))) (λ q.
         get-joined choose (map_of new) (map_of left) q
-        ∙ ap (λ p. either choose p (finite.get (map_of left) q)) (ap (λ m. finite.get m q) is.map ∙ get-with_kept (map_of now) u (either choose (finite.get (map_of now) u) o) q)
+        ∙ ap (λ p. either choose p (finite.get (map_of left) q))
+        (ap (λ m. finite.get m q) is.map ∙ get-with_kept (map_of now) u (either choose (finite.get (map_of now) u) o) q)
         ∙ taken_in (same_unit q u) (finite.get (map_of now) u) (finite.get (map_of now) q) (finite.get (map_of left) q) o
         (λ h. ap (finite.get (map_of now)) (same_unit-true q u h))
         (λ h. ap (finite.get (map_of left)) (same_unit-true q u h) ∙ get-map_of left u ∙ ap kept_record absent)
@@ -102,9 +109,9 @@ module _ {R : Type 0} where
         ∙ sym (get-joined choose (map_of now) (map_of (left ++ (u, o) ∷ [])) q))
 
     -- nothing is left
-    pub whole_none : (m : Records R) → joined choose m (map_of []) ≡ m
+    pub whole_none : (m : Records R) → union_of choose m (map_of []) ≡ m
     unfolding map_of
-    whole_none m = same_records (joined choose m finite.empty) m (λ q.
+    whole_none m = same_records (union_of choose m finite.empty) m (λ q.
         get-joined choose m finite.empty q ∙ ap (either choose (finite.get m q)) (get-empty unit_cmp q) ∙ nothing (finite.get m q))
       where
         nothing : (p : Option R) → either choose p None ≡ p

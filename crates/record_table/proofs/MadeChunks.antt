@@ -1,5 +1,6 @@
 -- Chunks that were made of records spell them again, and none of them is bad.
-use Rattle.std.proofs.Common.{◌≡◌, ℕ, ◌+◌, ◌<◌, Bor, true, false, cond, List, [], ◌∷◌, map, length, get_or, Option, None, Some, refl, sym, ap, subst, ◌∙◌, is_some, add-one}
+use Rattle.std.proofs.Common.{◌≡◌, ℕ, ◌+◌, ◌<◌, Bor, true, false, cond, List, [], ◌∷◌, map, length}
+use Rattle.std.proofs.Common.{get_or, Option, None, Some, refl, sym, ap, subst, ◌∙◌, is_some, add-one}
 use Rattle.std.specs.Prelude.{T}
 use Rattle.std.proofs.lemmas.List.{length-map}
 use Rattle.std.proofs.Math.ListN.{get_or-map}
@@ -60,14 +61,18 @@ module _ {R : Type 0} where
 
   apart_below : (u : units.Unit) (es : List (units.Unit × R)) → T (below_all unit_cmp u es) → AllByRecursion (λ v. same_unit u v ≡ false) (keys_of es)
   apart_below u [] h = tt
-  apart_below u (e ∷ es) h =
-      (apart_less (unit_cmp u e.0) (and_yes (is_lt (unit_cmp u e.0)) (below_all unit_cmp u es) h).0, apart_below u es (and_yes (is_lt (unit_cmp u e.0)) (below_all unit_cmp u es) h).1)
+  apart_below u (e ∷ es) h = (
+    apart_less (unit_cmp u e.0) (and_yes (is_lt (unit_cmp u e.0)) (below_all unit_cmp u es) h).0,
+    apart_below u es (and_yes (is_lt (unit_cmp u e.0)) (below_all unit_cmp u es) h).1,
+  )
 
   distinct_sorted : (es : List (units.Unit × R)) → T (is_sorted unit_cmp es) → IsDistinct same_unit (keys_of es)
   unfolding IsDistinct
   distinct_sorted [] h = tt
-  distinct_sorted (e ∷ es) h =
-      (apart_below e.0 es (and_yes (below_all unit_cmp e.0 es) (is_sorted unit_cmp es) h).0, distinct_sorted es (and_yes (below_all unit_cmp e.0 es) (is_sorted unit_cmp es) h).1)
+  distinct_sorted (e ∷ es) h = (
+    apart_below e.0 es (and_yes (below_all unit_cmp e.0 es) (is_sorted unit_cmp es) h).0,
+    distinct_sorted es (and_yes (below_all unit_cmp e.0 es) (is_sorted unit_cmp es) h).1,
+  )
 
   -- each unit stands once in the entries of a map
   pub distinct_entries : (m : Records R) → IsDistinct same_unit (keys_of (finite.entries m))
@@ -99,7 +104,8 @@ module _ {R : Type 0} (f : Semantics R) where
     pub chunks_seen : map (λ e. record_chunk f e.0 e.1.now) xs ≡ chunks_of f m
     chunks_seen = chunks_of_seen xs ∙ ap (map (λ (e : units.Unit × R). record_chunk f e.0 e.1)) seen_is
       where
-        chunks_of_seen : (ys : List (units.Unit × Bor R)) → map (λ (e : units.Unit × Bor R). record_chunk f e.0 e.1.now) ys ≡ map (λ (e : units.Unit × R). record_chunk f e.0 e.1) (map (λ (e : units.Unit × Bor R). (e.0, e.1.now)) ys)
+        chunks_of_seen : (ys : List (units.Unit × Bor R)) → map (λ (e : units.Unit × Bor R). record_chunk f e.0 e.1.now) ys
+            ≡ map (λ (e : units.Unit × R). record_chunk f e.0 e.1) (map (λ (e : units.Unit × Bor R). (e.0, e.1.now)) ys)
         chunks_of_seen [] = refl
         chunks_of_seen (y ∷ ys) = ap (λ cs. record_chunk f y.0 y.1.now ∷ cs) (chunks_of_seen ys)
 

@@ -52,17 +52,22 @@ flows a b v w =
     let remote = nat_cmp a.remote b.remote in
     let rport = nat_cmp a.rport b.rport in
     let front = two_32 a.proto a.local b.proto b.local v.local w.local proto local (rank a.proto b.proto) (rank a.local b.local) in
-    let near = two_16 (a.proto * 2 ^ 32 + a.local) a.lport (b.proto * 2 ^ 32 + b.local) b.lport v.lport w.lport (ordering_then proto local) lport front (rank a.lport b.lport) in
+    let near = two_16 (a.proto * 2 ^ 32 + a.local) a.lport (b.proto * 2 ^ 32 + b.local) b.lport v.lport w.lport (ordering_then proto local) lport front
+    (rank a.lport b.lport) in
     let far = two_16 a.remote a.rport b.remote b.rport v.rport w.rport remote rport (rank a.remote b.remote) (rank a.rport b.rport) in
-    let whole = two_64 ((a.proto * 2 ^ 32 + a.local) * 2 ^ 16 + a.lport) (a.remote * 2 ^ 16 + a.rport) ((b.proto * 2 ^ 32 + b.local) * 2 ^ 16 + b.lport) (b.remote * 2 ^ 16 + b.rport)
-    (omega (arith, v.remote, v.rport)) (omega (arith, w.remote, w.rport)) (ordering_then (ordering_then proto local) lport) (ordering_then remote rport) near far in
-    sym (ordering_then-assoc proto local (ordering_then lport (ordering_then remote rport))) ∙ sym (ordering_then-assoc (ordering_then proto local) lport (ordering_then remote rport))
+    let whole = two_64 ((a.proto * 2 ^ 32 + a.local) * 2 ^ 16 + a.lport) (a.remote * 2 ^ 16 + a.rport) ((b.proto * 2 ^ 32 + b.local) * 2 ^ 16 + b.lport)
+    (b.remote * 2 ^ 16 + b.rport)
+    (omega (arith, v.remote, v.rport)) (omega (arith, w.remote, w.rport)) (ordering_then (ordering_then proto local) lport) (ordering_then remote rport)
+    near far in
+    sym (ordering_then-assoc proto local (ordering_then lport (ordering_then remote rport)))
+    ∙ sym (ordering_then-assoc (ordering_then proto local) lport (ordering_then remote rport))
     ∙ nat_cmp_is (flow_number a) (flow_number b) (ordering_then (ordering_then (ordering_then proto local) lport) (ordering_then remote rport)) whole
 
 below_hosts : (a : Flow) → AreWithin a → (host : ℕ) → flow_number a < (2 ^ 56 + host) * 2 ^ 64
 below_hosts a w host = omega (arith, w.proto, w.local, w.lport, w.remote, w.rport)
 
-hosts : (x y : ℕ) (o : Ordering) → MatchOrdering o (x < y) (x ≡ y) (y < x) → MatchOrdering o ((2 ^ 56 + x) * 2 ^ 64 < (2 ^ 56 + y) * 2 ^ 64) ((2 ^ 56 + x) * 2 ^ 64 ≡ (2 ^ 56 + y) * 2 ^ 64) ((2 ^ 56 + y) * 2 ^ 64 < (2 ^ 56 + x) * 2 ^ 64)
+hosts : (x y : ℕ) (o : Ordering) → MatchOrdering o (x < y) (x ≡ y) (y < x) → MatchOrdering o ((2 ^ 56 + x) * 2 ^ 64 < (2 ^ 56 + y) * 2 ^ 64)
+    ((2 ^ 56 + x) * 2 ^ 64 ≡ (2 ^ 56 + y) * 2 ^ 64) ((2 ^ 56 + y) * 2 ^ 64 < (2 ^ 56 + x) * 2 ^ 64)
 hosts x y Less h = omega (arith, h)
 hosts x y Equal h = omega (arith, h)
 hosts x y Greater h = omega (arith, h)
@@ -76,10 +81,12 @@ numbers (OfHost a) (OfHost b) v w = nat_cmp_is (unit_number (OfHost a)) (unit_nu
 
 module _ {R : Type 0} where
   numbered : (x y : Found R) → IsNumbered x → IsNumbered y → is_lt (unit_cmp x.unit.now y.unit.now) ≡ is_lt (nat_cmp x.number y.number)
-  numbered x y v w = ap is_lt (numbers x.unit.now y.unit.now v.within w.within) ∙ ap (λ n. is_lt (nat_cmp n (unit_number y.unit.now))) (sym v.number) ∙ ap (λ n. is_lt (nat_cmp x.number n)) (sym w.number)
+  numbered x y v w = ap is_lt (numbers x.unit.now y.unit.now v.within w.within) ∙ ap (λ n. is_lt (nat_cmp n (unit_number y.unit.now))) (sym v.number)
+      ∙ ap (λ n. is_lt (nat_cmp x.number n)) (sym w.number)
 
   -- what is sorted by the numbers is sorted by the units
-  pub sorted_pairs : (xs : List (Found R)) → All IsNumbered xs → IsSortedByKey (λ e. e.number) nat_cmp xs → IsSortedByKey (λ (e : units.Unit × Bor R). e.0) unit_cmp (pairs_of xs)
+  pub sorted_pairs : (xs : List (Found R)) → All IsNumbered xs → IsSortedByKey (λ e. e.number) nat_cmp xs
+      → IsSortedByKey (λ (e : units.Unit × Bor R). e.0) unit_cmp (pairs_of xs)
   sorted_pairs [] each sorted k d low within = absurd (omega (arith, within))
   sorted_pairs (x ∷ xs) each sorted k d low within =
       let ys = x ∷ xs in

@@ -1,15 +1,18 @@
 -- What look-ups find in finite maps of records, and that they tell such maps apart.
-use Rattle.std.proofs.Common.{◌≡◌, ℕ, zero, suc, ◌+◌, ◌-◌, ◌<◌, ◌≤◌, get_or, take, length, length-append, Bool, true, false, cond, List, [], ◌∷◌, ◌++◌, map, Option, Some, None, refl, sym, ap, ◌∙◌, arith, is_some}
+use Rattle.std.proofs.Common.{◌≡◌, ℕ, zero, suc, ◌+◌, ◌-◌, ◌<◌, ◌≤◌, get_or, take, length, length-append, Bool, true, false}
+use Rattle.std.proofs.Common.{cond, List, [], ◌∷◌, ◌++◌, map, Option, Some, None, refl, sym, ap, ◌∙◌, arith, is_some}
 use Rattle.std.specs.Prelude.{not, ◌||◌}
 use Rattle.std.proofs.lemmas.List.{take_more}
 use Rattle.std.proofs.lemmas.Bool.{true≢false}
 use Rattle.std.specs.Option.{option_or}
 use Rattle.std.specs.FinMap as finite
-use Rattle.std.specs.FinMap.{find, same_map, len-empty, len-entries, get-empty, get-insert, get-remove, get-retain_keys, get-entries, get-from_entries, empty_of_len, len-insert, len-remove}
+use Rattle.std.specs.FinMap.{find, same_map, len-empty, len-entries, get-empty, get-insert, get-remove}
+use Rattle.std.specs.FinMap.{get-retain_keys, get-entries, get-from_entries, empty_of_len, len-insert, len-remove}
 use Rattle.nf_function.specs.declared.unit.Unit as units
 use Rattle.nf_function.specs.Units.{unit_cmp}
 use Rattle.nf_function.specs.UnitOrder.{units_total}
-use Rattle.record_table.specs.Table.{Records, same_unit, with_kept, is_among, without, either, chosen, joined, after_packet, AreSound, TableView, part, with_part, newest_of, replaced_by}
+use Rattle.record_table.specs.Table.{Records, same_unit, with_kept, is_among, without, either, choice_of, union_of}
+use Rattle.record_table.specs.Table.{after_packet, AreSound, TableView, part, with_part, newest_of, replaced_by}
 use Rattle.nf_function.specs.Records.{is_newer, newest}
 use Rattle.record_table.specs.declared.record_map.Keep.{Keep}
 use Rattle.record_table.specs.declared.record_map.Keep.TheVariants.{Newest, Coming}
@@ -57,7 +60,8 @@ module _ {R : Type 0} where
   pub same_records : (m n : Records R) → ((u : units.Unit) → finite.get m u ≡ finite.get n u) → m ≡ n
   same_records = same_map units_total one_unit
 
-  pub get-with_kept : (m : Records R) (u : units.Unit) (o : Option R) (q : units.Unit) → finite.get (with_kept m u o) q ≡ cond (same_unit q u) o (finite.get m q)
+  pub get-with_kept : (m : Records R) (u : units.Unit) (o : Option R) (q : units.Unit)
+      → finite.get (with_kept m u o) q ≡ cond (same_unit q u) o (finite.get m q)
   get-with_kept m u None q = get-remove units_total m u q
   get-with_kept m u (Some r) q = get-insert units_total m u r q
 
@@ -69,25 +73,27 @@ module _ {R : Type 0} where
   either_none choose None = refl
   either_none choose (Some r) = refl
 
-  chosen_is : (choose : R → R → R) (o : Option R) (r : R) → Some (chosen choose o r) ≡ either choose o (Some r)
+  chosen_is : (choose : R → R → R) (o : Option R) (r : R) → Some (choice_of choose o r) ≡ either choose o (Some r)
   chosen_is choose None r = refl
   chosen_is choose (Some held) r = refl
 
   module _ (choose : R → R → R) (held : Records R) where
     abbrev brought : List (units.Unit × R) → List (units.Unit × R)
-    brought es = map (λ e. (e.0, chosen choose (finite.get held e.0) e.1)) es
+    brought es = map (λ e. (e.0, choice_of choose (finite.get held e.0) e.1)) es
 
     at-brought : (es : List (units.Unit × R)) (q : units.Unit) → at (brought es ++ finite.entries held) q ≡ either choose (finite.get held q) (at es q)
     at-brought [] q = sym (get-entries held q) ∙ either_none choose (finite.get held q)
     at-brought (e ∷ es) q = elim (same_unit q e.0) as (λ b. same_unit q e.0 ≡ b
-        → cond b (Some (chosen choose (finite.get held e.0) e.1)) (at (brought es ++ finite.entries held) q) ≡ either choose (finite.get held q) (cond b (Some e.1) (at es q))) [
+        → cond b (Some (choice_of choose (finite.get held e.0) e.1)) (at (brought es ++ finite.entries held) q)
+        ≡ either choose (finite.get held q) (cond b (Some e.1) (at es q))) [
           | true ↦ λ h. chosen_is choose (finite.get held e.0) e.1 ∙ ap (λ u. either choose (finite.get held u) (Some e.1)) (sym (same_unit-true q e.0 h))
           | false ↦ λ h. at-brought es q
         ] refl
 
   -- what two maps have together
-  pub get-joined : (choose : R → R → R) (held coming : Records R) (q : units.Unit) → finite.get (joined choose held coming) q ≡ either choose (finite.get held q) (finite.get coming q)
-  unfolding joined
+  pub get-joined : (choose : R → R → R) (held coming : Records R) (q : units.Unit)
+      → finite.get (union_of choose held coming) q ≡ either choose (finite.get held q) (finite.get coming q)
+  unfolding union_of
   get-joined choose held coming q =
       get-from_entries units_total (brought choose held (finite.entries coming) ++ finite.entries held) q ∙ at-brought choose held (finite.entries coming) q
       ∙ ap (either choose (finite.get held q)) (sym (get-entries coming q))
@@ -124,7 +130,8 @@ module _ {R : Type 0} where
       ∙ ap (λ b. cond b None (finite.get m q)) (sym (among_more us u q)) ∙ sym (get-without (us ++ u ∷ []) m q))
 
   -- one turn of a loop that takes records out
-  pub without_next : (us : List units.Unit) (i : ℕ) (d : units.Unit) (old now new : Records R) → new ≡ finite.remove now (get_or us i d) → now ≡ without (take i us) old
+  pub without_next : (us : List units.Unit) (i : ℕ) (d : units.Unit) (old now new : Records R) → new ≡ finite.remove now (get_or us i d)
+      → now ≡ without (take i us) old
       → i < length us → new ≡ without (take (i + 1) us) old
   without_next us i d old now new removed so_far within =
       removed ∙ ap (λ m. finite.remove m (get_or us i d)) so_far ∙ without_more (take i us) (get_or us i d) old
@@ -135,7 +142,8 @@ module _ {R : Type 0} where
   with_kept_same m u o is = same_records (with_kept m u o) m (λ q.
       get-with_kept m u o q ∙ kept_as_it_is (same_unit q u) o (finite.get m q) (λ h. is ∙ ap (finite.get m) (sym (same_unit-true q u h))))
 
-  sound_at : (f : Semantics R) (u q : units.Unit) (b : Bool) (o p : Option R) → (b ≡ true → q ≡ u) → is_sound f u o ≡ true → is_sound f q p ≡ true → is_sound f q (cond b o p) ≡ true
+  sound_at : (f : Semantics R) (u q : units.Unit) (b : Bool) (o p : Option R) → (b ≡ true → q ≡ u) → is_sound f u o ≡ true → is_sound f q p ≡ true
+      → is_sound f q (cond b o p) ≡ true
   sound_at f u q true o p same new old = rw (same refl) new
   sound_at f u q false o p same new old = old
 
@@ -143,7 +151,8 @@ module _ {R : Type 0} where
   pub sound_with_kept : (f : Semantics R) (m : Records R) (u : units.Unit) (o : Option R) → AreSound f m → is_sound f u o ≡ true → AreSound f (with_kept m u o)
   sound_with_kept f m u o old new q = rw (get-with_kept m u o q) (sound_at f u q (same_unit q u) o (finite.get m q) (same_unit-true q u) new (old q))
 
-  stepped_at : (f : Semantics R) (site : Site) (p : Packet) (b : Bool) (o n : Option R) → (b ≡ true → o ≡ n) → cond b (kept_after f site o p) n ≡ cond b (kept_after f site n p) n
+  stepped_at : (f : Semantics R) (site : Site) (p : Packet) (b : Bool) (o n : Option R) → (b ≡ true → o ≡ n)
+      → cond b (kept_after f site o p) n ≡ cond b (kept_after f site n p) n
   stepped_at f site p true o n same = ap (λ x. kept_after f site x p) (same refl)
   stepped_at f site p false o n same = refl
 
@@ -168,29 +177,39 @@ module _ {R : Type 0} where
   part_written t false m = refl
 
   -- the same in a table
-  pub get-stepped : (f : Semantics R) (site : Site) (t new : TableView R) (live : Bool) (p : Packet) → new ≡ with_part t live (after_packet f site (part t live) p) → (q : units.Unit)
-      → finite.get (part new live) q ≡ cond (same_unit q (unit_at f.kind site p)) (kept_after f site (finite.get (part t live) q) p) (finite.get (part t live) q)
+  pub get-stepped : (f : Semantics R) (site : Site) (t new : TableView R) (live : Bool) (p : Packet)
+      → new ≡ with_part t live (after_packet f site (part t live) p) → (q : units.Unit)
+      → finite.get (part new live) q
+      ≡ cond (same_unit q (unit_at f.kind site p)) (kept_after f site (finite.get (part t live) q) p) (finite.get (part t live) q)
   get-stepped f site t new live p is q =
-      ap (λ m. finite.get m q) (ap (λ n. part n live) is ∙ part_written t live (after_packet f site (part t live) p)) ∙ get-after_packet f site (part t live) p q
+      ap (λ m. finite.get m q) (ap (λ n. part n live) is ∙ part_written t live (after_packet f site (part t live) p))
+      ∙ get-after_packet f site (part t live) p q
 
   newest_sound : (f : Semantics R) (q : units.Unit) (b : Bool) (r s : R) → f.is_valid q r ≡ true → f.is_valid q s ≡ true → f.is_valid q (cond b r s) ≡ true
   newest_sound f q true r s first second = first
   newest_sound f q false r s first second = second
 
-  choice_sound : (f : Semantics R) (keep : Keep) (q : units.Unit) (o p : Option R) → is_sound f q o ≡ true → is_sound f q p ≡ true → is_sound f q (either (choice f keep) o p) ≡ true
+  choice_sound : (f : Semantics R) (keep : Keep) (q : units.Unit) (o p : Option R) → is_sound f q o ≡ true → is_sound f q p ≡ true
+      → is_sound f q (either (choice f keep) o p) ≡ true
   choice_sound f keep q o None held coming = rw (← either_none (choice f keep) o) held
   choice_sound f keep q None (Some s) held coming = coming
   choice_sound f Newest q (Some r) (Some s) held coming = newest_sound f q (is_newer f r s) r s held coming
   choice_sound f Coming q (Some r) (Some s) held coming = coming
 
   -- two maps of valid records have such together
-  pub sound_joined : (f : Semantics R) (keep : Keep) (held coming : Records R) → AreSound f held → AreSound f coming → AreSound f (joined (choice f keep) held coming)
+  pub sound_joined : (f : Semantics R) (keep : Keep) (held coming : Records R) → AreSound f held → AreSound f coming
+      → AreSound f (union_of (choice f keep) held coming)
   sound_joined f keep held coming first second q =
       rw (get-joined (choice f keep) held coming q) (choice_sound f keep q (finite.get held q) (finite.get coming q) (first q) (second q))
 
   from_few : (es : List (units.Unit × R)) → finite.len (finite.from_entries {R = unit_cmp} es) ≤ length es
   from_few [] = omega (arith, len-empty unit_cmp R)
-  from_few (e ∷ es) = omega (arith, len-insert units_total (finite.from_entries es) e.0 e.1, one_at_most (finite.contains_key (finite.from_entries {R = unit_cmp} es) e.0) (finite.len (finite.from_entries {R = unit_cmp} es)), from_few es)
+  from_few (e ∷ es) = omega (
+    arith,
+    len-insert units_total (finite.from_entries es) e.0 e.1,
+    one_at_most (finite.contains_key (finite.from_entries {R = unit_cmp} es) e.0) (finite.len (finite.from_entries {R = unit_cmp} es)),
+    from_few es,
+  )
     where
       one_at_most : (b : Bool) (n : ℕ) → cond b n (n + 1) ≤ n + 1
       one_at_most true n = omega arith
@@ -201,16 +220,23 @@ module _ {R : Type 0} where
   brought_long choose held (e ∷ es) = ap suc (brought_long choose held es)
 
   -- two maps have no more records together than one and the other
-  pub len-joined : (choose : R → R → R) (held coming : Records R) → finite.len (joined choose held coming) ≤ finite.len held + finite.len coming
-  unfolding joined
+  pub len-joined : (choose : R → R → R) (held coming : Records R) → finite.len (union_of choose held coming) ≤ finite.len held + finite.len coming
+  unfolding union_of
   len-joined choose held coming =
       let all = brought choose held (finite.entries coming) ++ finite.entries held in
       let long : length all ≡ finite.len coming + finite.len held =
-      omega (arith, length-append (brought choose held (finite.entries coming)) (finite.entries held), brought_long choose held (finite.entries coming), len-entries coming, len-entries held) in
+      omega (
+        arith,
+        length-append (brought choose held (finite.entries coming)) (finite.entries held),
+        brought_long choose held (finite.entries coming),
+        len-entries coming,
+        len-entries held,
+      ) in
       omega (arith, from_few all, long)
 
   -- what a look-up finds after newer records were taken in
-  pub each_newest : (f : Semantics R) (held coming new : Records R) → new ≡ newest_of f held coming → (q : units.Unit) → finite.get new q ≡ either (newest f) (finite.get held q) (finite.get coming q)
+  pub each_newest : (f : Semantics R) (held coming new : Records R) → new ≡ newest_of f held coming → (q : units.Unit)
+      → finite.get new q ≡ either (newest f) (finite.get held q) (finite.get coming q)
   each_newest f held coming new is q = ap (λ m. finite.get m q) is ∙ get-joined (newest f) held coming q
 
   coming_first : (o p : Option R) → either (λ held coming. coming) o p ≡ option_or p o

@@ -36,7 +36,8 @@ some_same None (Some x) there back = back x refl
 some_same (Some x) p there back = sym (there x refl)
 
 -- what was sorted by units that stand once each rises strictly
-pub strictly : {X : Type 0} (xs : List (units.Unit × X)) → IsSortedByKey (λ x. x.0) unit_cmp xs → IsDistinct same_unit (keys_of xs) → IsStrictlySortedBy unit_cmp (keys_of xs)
+pub strictly : {X : Type 0} (xs : List (units.Unit × X)) → IsSortedByKey (λ x. x.0) unit_cmp xs → IsDistinct same_unit (keys_of xs)
+    → IsStrictlySortedBy unit_cmp (keys_of xs)
 unfolding IsStrictlySortedBy
 strictly {X} [] sorted distinct = tt
 strictly {X} (x ∷ xs) sorted distinct = sorted_from_all_adjacent units_total (keys_of (x ∷ xs)) x.0 (λ k within.
@@ -57,16 +58,20 @@ module _ {R : Type 0} where
   sorted_from : (es : List (units.Unit × R)) → IsStrictlySortedBy unit_cmp (keys_of es) → T (is_sorted unit_cmp es)
   sorted_from [] s = tt
   sorted_from (e ∷ es) s =
-      yes_and (below_all unit_cmp e.0 es) (is_sorted unit_cmp es) (below_from e.0 es (sorted_head unit_cmp e.0 (keys_of es) s)) (sorted_from es (sorted_tail unit_cmp e.0 (keys_of es) s))
+      yes_and (below_all unit_cmp e.0 es) (is_sorted unit_cmp es) (below_from e.0 es (sorted_head unit_cmp e.0 (keys_of es) s))
+      (sorted_from es (sorted_tail unit_cmp e.0 (keys_of es) s))
 
   -- lists of the same entries are looked up alike
-  pub at-permuted : (es ds : List (units.Unit × R)) → IsDistinct same_unit (keys_of es) → IsDistinct same_unit (keys_of ds) → IsPermutation es ds → (q : units.Unit) → at es q ≡ at ds q
+  pub at-permuted : (es ds : List (units.Unit × R)) → IsDistinct same_unit (keys_of es) → IsDistinct same_unit (keys_of ds) → IsPermutation es ds
+      → (q : units.Unit) → at es q ≡ at ds q
   at-permuted es ds d e moved q = some_same (at es q) (at ds q)
       (λ r h. lookup-from_Contains same_unit_equiv q r ds e (Contains-permutation es ds (q, r) moved (Contains-from_lookup same_unit-true q r es h)))
-      (λ r h. lookup-from_Contains same_unit_equiv q r es d (Contains-permutation ds es (q, r) (IsPermutation-sym es ds moved) (Contains-from_lookup same_unit-true q r ds h)))
+      (λ r h. lookup-from_Contains same_unit_equiv q r es d
+      (Contains-permutation ds es (q, r) (IsPermutation-sym es ds moved) (Contains-from_lookup same_unit-true q r ds h)))
 
   -- entries in the order of their units are those of the map with their look-ups
-  pub in_order : (es : List (units.Unit × R)) (m : Records R) → IsStrictlySortedBy unit_cmp (keys_of es) → ((q : units.Unit) → at es q ≡ finite.get m q) → es ≡ finite.entries m
+  pub in_order : (es : List (units.Unit × R)) (m : Records R) → IsStrictlySortedBy unit_cmp (keys_of es) → ((q : units.Unit) → at es q ≡ finite.get m q)
+      → es ≡ finite.entries m
   in_order es m sorted same =
       let up = sorted_from es sorted in
       sym (entries-from_sorted unit_cmp es up)
@@ -85,13 +90,15 @@ module _ {R : Type 0} where
 
   both_parts : (p : units.Unit → Bool) (es : List (units.Unit × R)) → length (filter (λ e. p e.0) es) + length (filter (λ e. not (p e.0)) es) ≡ length es
   both_parts p [] = refl
-  both_parts p (e ∷ es) = elim (p e.0) as (λ b. length (cond b (e ∷ filter (λ x. p x.0) es) (filter (λ x. p x.0) es)) + length (cond (not b) (e ∷ filter (λ x. not (p x.0)) es) (filter (λ x. not (p x.0)) es)) ≡ suc (length es)) [
-    | true ↦ omega (arith, both_parts p es)
-    | false ↦ omega (arith, both_parts p es)
-  ]
+  both_parts p (e ∷ es) = elim (p e.0) as (λ b. length (cond b (e ∷ filter (λ x. p x.0) es) (filter (λ x. p x.0) es))
+      + length (cond (not b) (e ∷ filter (λ x. not (p x.0)) es) (filter (λ x. not (p x.0)) es)) ≡ suc (length es)) [
+        | true ↦ omega (arith, both_parts p es)
+        | false ↦ omega (arith, both_parts p es)
+      ]
 
   -- the records of some units, and those of the others
-  pub len_parts : (m : Records R) (p : units.Unit → Bool) → finite.len (finite.retain_keys m p) + finite.len (finite.retain_keys m (λ u. not (p u))) ≡ finite.len m
+  pub len_parts : (m : Records R) (p : units.Unit → Bool)
+      → finite.len (finite.retain_keys m p) + finite.len (finite.retain_keys m (λ u. not (p u))) ≡ finite.len m
   len_parts m p =
       let some = len-entries (finite.retain_keys m p) ∙ ap length (entries-retain_keys m p) in
       let others = len-entries (finite.retain_keys m (λ u. not (p u))) ∙ ap length (entries-retain_keys m (λ u. not (p u))) in

@@ -34,16 +34,16 @@ is_taken None unit = true
 is_taken (Some filter) unit = takes filter unit
 
 -- the records of such units
-abbrev pub taken : {R : Type 0} → Option Filter → Records R → Records R
-taken filter records = finite.retain_keys records (is_taken filter)
+abbrev pub records_taken : {R : Type 0} → Option Filter → Records R → Records R
+records_taken filter records = finite.retain_keys records (is_taken filter)
 
 -- the record of an entry, where it has one and its unit is such a unit
-abbrev pub found : {R : Type 0} → Option Filter → units.Unit × Option R → Option (units.Unit × R)
-found filter (unit, None) = None
-found filter (unit, Some r) = if is_taken filter unit then Some (unit, r) else None
+abbrev pub record_found : {R : Type 0} → Option Filter → units.Unit × Option R → Option (units.Unit × R)
+record_found filter (unit, None) = None
+record_found filter (unit, Some r) = if is_taken filter unit then Some (unit, r) else None
 
 abbrev pub all_found : {R : Type 0} → Option Filter → Entries units.Unit R → List (units.Unit × R)
-all_found filter entries = filter_map (found filter) entries
+all_found filter entries = filter_map (record_found filter) entries
 
 -- each field of the flow is within its type
 pub record AreWithin (flow : Flow) : Type 0 where
@@ -67,13 +67,13 @@ unit_number (OfFlow flow) = flow_number flow
 unit_number (OfHost host) = (2 ^ 56 + host) * 2 ^ 64
 
 -- what was found has the number of its unit
-pub record IsNumbered {R : Type 0} (found : Found R) : Type 0 where
-  pub number : found.number ≡ unit_number found.unit.now
-  pub within : IsWithin found.unit.now
+pub record IsNumbered {R : Type 0} (record_found : Found R) : Type 0 where
+  pub number : record_found.number ≡ unit_number record_found.unit.now
+  pub within : IsWithin record_found.unit.now
 
 -- the units and their records, without the numbers
 abbrev pub pairs_of : {R : Type 0} → List (Found R) → List (units.Unit × Bor R)
-pairs_of found = map (λ e. (e.unit.now, e.record)) found
+pairs_of record_found = map (λ e. (e.unit.now, e.record)) record_found
 
 -- the unit comes after the last one, if there is one
 abbrev pub comes_after : Option units.Unit → units.Unit → Bool

@@ -75,22 +75,22 @@ module _ {R : Type 0} where
   either choose (Some held) (Some coming) = Some (choose held coming)
 
   -- what comes, or the choice of it and what is held
-  abbrev pub chosen : (R → R → R) → Option R → R → R
-  chosen choose None coming = coming
-  chosen choose (Some held) coming = choose held coming
+  abbrev pub choice_of : (R → R → R) → Option R → R → R
+  choice_of choose None coming = coming
+  choice_of choose (Some held) coming = choose held coming
 
   -- the records of two maps, and where both have one for a unit, the choice of them
-  unfoldable pub joined : (R → R → R) → Records R → Records R → Records R
-  joined choose held coming =
-      finite.from_entries (map (λ e. (e.0, chosen choose (finite.get held e.0) e.1)) (finite.entries coming) ++ finite.entries held)
+  unfoldable pub union_of : (R → R → R) → Records R → Records R → Records R
+  union_of choose held coming =
+      finite.from_entries (map (λ e. (e.0, choice_of choose (finite.get held e.0) e.1)) (finite.entries coming) ++ finite.entries held)
 
   -- the newer records of two maps
   abbrev pub newest_of : Semantics R → Records R → Records R → Records R
-  newest_of f = joined (newest f)
+  newest_of f = union_of (newest f)
 
   -- the records that come, and those that are held for other units
   abbrev pub replaced_by : Records R → Records R → Records R
-  replaced_by = joined (λ held coming. coming)
+  replaced_by = union_of (λ held coming. coming)
 
   -- each record is valid for its unit
   abbrev pub AreSound : Semantics R → Records R → Type 0

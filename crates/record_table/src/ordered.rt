@@ -5,7 +5,7 @@ ghost use Rattle.std.specs.Option.{option_copied};
 ghost use Rattle.std.specs.FinMap as finite;
 ghost use Rattle.unit_map.specs.Entries.{IsMap};
 ghost use Rattle.record_table.specs.Entries.{map_of};
-ghost use Rattle.record_table.specs.Keeping.{is_taken, taken, all_found, flow_number, unit_number, AreWithin, IsWithin, IsNumbered, pairs_of};
+ghost use Rattle.record_table.specs.Keeping.{is_taken, records_taken, all_found, flow_number, unit_number, AreWithin, IsWithin, IsNumbered, pairs_of};
 
 use basics::NoMemory;
 use flow_filter::{Filter, Flow};
@@ -33,7 +33,7 @@ pub(crate) fn ordered<'a, R>(
     filter: Option<&Filter>,
 ) -> Result<Vec<(Unit, &'a R)>, NoMemory>
     requires { IsMap ⟦<Unit as PartialEq>⟧.eq entries.now }
-    ensures { IfOk result (λ found. map (λ e. (e.0, e.1.now)) found.items ≡ finite.entries (taken (option_copied filter.entry) (map_of entries.now))) }
+    ensures { IfOk result (λ found. map (λ e. (e.0, e.1.now)) found.items ≡ finite.entries (records_taken (option_copied filter.entry) (map_of entries.now))) }
 {
     let mut found = all_found(alloc, entries, filter)?;
     found.sort_by_key(|found| found.number)?;

@@ -6,9 +6,9 @@ ghost use Rattle.std.specs.Option.{option_copied};
 ghost use Rattle.std.specs.FinMap as finite;
 ghost use Rattle.flow_filter.specs.Flow.{flow_of};
 ghost use Rattle.nf_function.specs.Semantics.{output_for, unit_at};
-ghost use Rattle.record_table.specs.Table.{after_packet, is_among, without, either, joined, AreSound};
+ghost use Rattle.record_table.specs.Table.{after_packet, is_among, without, either, union_of, AreSound};
 ghost use Rattle.record_table.specs.Entries.{map_of, AreEntriesOf};
-ghost use Rattle.record_table.specs.Keeping.{choice, taken};
+ghost use Rattle.record_table.specs.Keeping.{choice, records_taken};
 
 use crate::ordered::ordered;
 use basics::NoMemory;
@@ -88,7 +88,7 @@ impl<R: Drop> RecordMap<R> {
 
     /// The records of the units that a filter takes, or of all units, in the order of the units.
     pub(crate) fn ordered(&self, filter: Option<&Filter>) -> Result<Vec<(Unit, &R)>, NoMemory>
-        ensures { IfOk result (λ found. map (λ e. (e.0, e.1.now)) found.items ≡ finite.entries (taken (option_copied filter.entry) self.now)) }
+        ensures { IfOk result (λ found. map (λ e. (e.0, e.1.now)) found.items ≡ finite.entries (records_taken (option_copied filter.entry) self.now)) }
     {
         ordered(self.alloc, self.records.entries(), filter)
     }
@@ -166,7 +166,8 @@ impl<R: Drop> RecordMap<R> {
     ) -> Result<Output, NoMemory>
         requires { (flow, direction) ≡ flow_of site.now packet.now }
         ensures records { OnOk result (self.new ≡ after_packet F.semantics site.now self.old packet.now) }
-        ensures output { IfOk result (λ output. output ≡ output_for F.semantics site.now (finite.get self.old (unit_at F.semantics.kind site.now packet.now)) packet.now) }
+        ensures output { IfOk result
+            (λ output. output ≡ output_for F.semantics site.now (finite.get self.old (unit_at F.semantics.kind site.now packet.now)) packet.now) }
         ensures sound { AreSound F.semantics self.old → AreSound F.semantics self.new }
         ensures err { OnErr result (self.new ≡ self.old) }
     {
@@ -193,7 +194,7 @@ impl<R: Drop> RecordMap<R> {
         keep: Keep,
     ) -> Result<(), NoMemory>
         requires { IsDistinct ⟦<Unit as PartialEq>⟧.eq (keys_of entries.items) }
-        ensures ok { OnOk result (self.new ≡ joined (choice F.semantics keep) self.old (map_of entries.items)) }
+        ensures ok { OnOk result (self.new ≡ union_of (choice F.semantics keep) self.old (map_of entries.items)) }
         ensures err { OnErr result (self.new ≡ self.old) }
     {
         let mut places = self.records.places(&entries)?;

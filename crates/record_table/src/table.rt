@@ -7,7 +7,8 @@ ghost use Rattle.nf_function.specs.declared.unit.Unit.{Unit as EachUnit};
 ghost use Rattle.nf_function.specs.Records.{newest};
 ghost use Rattle.nf_function.specs.Semantics.{kept_after, output_for, unit_at};
 ghost use Rattle.state_chunk.specs.Format.{record_chunk};
-ghost use Rattle.record_table.specs.Table.{empty, part, with_part, after_packet, same_unit, taken_by, is_among, without, either, joined, newest_of, replaced_by};
+ghost use Rattle.record_table.specs.Table.{empty, part, with_part, after_packet, same_unit, taken_by};
+ghost use Rattle.record_table.specs.Table.{is_among, without, either, union_of, newest_of, replaced_by};
 ghost use Rattle.record_table.specs.Chunks.{spelled, chunks_of, records_of, are_good, AreMadeOf, AreReadAs};
 ghost use Rattle.record_table.specs.Refusals.{IsRefusal, IsImportRefusal, is_bad};
 ghost use Rattle.record_table.specs.Keeping.{choice, IsChunkFault};
@@ -127,7 +128,8 @@ impl<F: Function> Table<F> {
         ensures chunk { IfOk result (λ chunk. chunk ≡ option_map (record_chunk F.semantics unit.now) (finite.get (part self.now live) unit.now)) }
 
         // What it spells is the record.
-        ensures read { IfOk result (λ chunk. IfSome chunk (λ it. spelled F.semantics it ≡ option_map (λ r. (unit.now, r)) (finite.get (part self.now live) unit.now))) }
+        ensures read { IfOk result
+            (λ chunk. IfSome chunk (λ it. spelled F.semantics it ≡ option_map (λ r. (unit.now, r)) (finite.get (part self.now live) unit.now))) }
     {
         match self.record(unit, live) {
             Some(record) => Ok(Some(encode::<F>(self.alloc, unit, record)?)),
@@ -153,11 +155,13 @@ impl<F: Function> Table<F> {
     pub fn import(&mut self, chunks: Chunks, total: u32, limit: u32) -> Result<(), ImportFault>
         requires { length chunks ≤ total }
         ensures table { OnOk result (self.new ≡ record self.old { live = newest_of F.semantics self.old.live (records_of F.semantics chunks) }) }
-        ensures each { OnOk result ((u : EachUnit) → finite.get self.new.live u ≡ either (newest F.semantics) (finite.get self.old.live u) (finite.get (records_of F.semantics chunks) u)) }
+        ensures each { OnOk result ((u : EachUnit)
+            → finite.get self.new.live u ≡ either (newest F.semantics) (finite.get self.old.live u) (finite.get (records_of F.semantics chunks) u)) }
         ensures good { OnOk result (are_good F.semantics chunks ≡ true) }
         ensures room { OnOk result (finite.len self.old.live + total ≤ limit) }
         ensures within { OnOk result (finite.len self.new.live ≤ limit) }
-        ensures refusal { IfErr result (IsImportRefusal F.semantics (record { held = finite.len self.old.live; coming = total; limit = limit; chunks = chunks })) }
+        ensures refusal { IfErr result
+            (IsImportRefusal F.semantics (record { held = finite.len self.old.live; coming = total; limit = limit; chunks = chunks })) }
         ensures err { OnErr result (self.new ≡ self.old) }
 
         // No chunk is bad that was made of a record, where no two are of one unit.
@@ -178,7 +182,8 @@ impl<F: Function> Table<F> {
     /// Makes the chunks' records live, without a limit.
     pub fn restore(&mut self, chunks: Chunks) -> Result<(), ImportFault>
         ensures table { OnOk result (self.new ≡ record self.old { live = newest_of F.semantics self.old.live (records_of F.semantics chunks) }) }
-        ensures each { OnOk result ((u : EachUnit) → finite.get self.new.live u ≡ either (newest F.semantics) (finite.get self.old.live u) (finite.get (records_of F.semantics chunks) u)) }
+        ensures each { OnOk result ((u : EachUnit)
+            → finite.get self.new.live u ≡ either (newest F.semantics) (finite.get self.old.live u) (finite.get (records_of F.semantics chunks) u)) }
         ensures good { OnOk result (are_good F.semantics chunks ≡ true) }
         ensures refusal { IfErr result (IsRefusal F.semantics chunks) }
         ensures err { OnErr result (self.new ≡ self.old) }
@@ -192,7 +197,8 @@ impl<F: Function> Table<F> {
     /// Lets the chunks' records stand by. Where a unit has such a record already, the newer of the two is kept.
     pub fn set_standby(&mut self, chunks: Chunks) -> Result<(), ImportFault>
         ensures table { OnOk result (self.new ≡ record self.old { standby = newest_of F.semantics self.old.standby (records_of F.semantics chunks) }) }
-        ensures each { OnOk result ((u : EachUnit) → finite.get self.new.standby u ≡ either (newest F.semantics) (finite.get self.old.standby u) (finite.get (records_of F.semantics chunks) u)) }
+        ensures each { OnOk result ((u : EachUnit)
+            → finite.get self.new.standby u ≡ either (newest F.semantics) (finite.get self.old.standby u) (finite.get (records_of F.semantics chunks) u)) }
         ensures good { OnOk result (are_good F.semantics chunks ≡ true) }
         ensures refusal { IfErr result (IsRefusal F.semantics chunks) }
         ensures err { OnErr result (self.new ≡ self.old) }
@@ -206,7 +212,8 @@ impl<F: Function> Table<F> {
     /// Sets the live records of the chunks' units to those of the chunks, or else those that stand by.
     pub fn sync(&mut self, live: bool, chunks: Chunks) -> Result<(), ImportFault>
         ensures table { OnOk result (self.new ≡ with_part self.old live (replaced_by (part self.old live) (records_of F.semantics chunks))) }
-        ensures each { OnOk result ((u : EachUnit) → finite.get (part self.new live) u ≡ option_or (finite.get (records_of F.semantics chunks) u) (finite.get (part self.old live) u)) }
+        ensures each { OnOk result ((u : EachUnit)
+            → finite.get (part self.new live) u ≡ option_or (finite.get (records_of F.semantics chunks) u) (finite.get (part self.old live) u)) }
         ensures apart { part self.new (not live) ≡ part self.old (not live) }
         ensures good { OnOk result (are_good F.semantics chunks ≡ true) }
         ensures refusal { IfErr result (IsRefusal F.semantics chunks) }
@@ -222,8 +229,10 @@ impl<F: Function> Table<F> {
     ///
     /// All growth and all copies come before the first change. A unit that comes twice does no harm.
     pub fn promote(&mut self, units: &Units) -> Result<(), NoMemory>
-        ensures table { OnOk result (self.new ≡ record self.old { live = replaced_by self.old.live (finite.retain_keys self.old.standby (is_among units.now)) }) }
-        ensures each { OnOk result ((u : EachUnit) → finite.get self.new.live u ≡ option_or (if is_among units.now u then finite.get self.old.standby u else None) (finite.get self.old.live u)) }
+        ensures table { OnOk result
+            (self.new ≡ record self.old { live = replaced_by self.old.live (finite.retain_keys self.old.standby (is_among units.now)) }) }
+        ensures each { OnOk result ((u : EachUnit)
+            → finite.get self.new.live u ≡ option_or (if is_among units.now u then finite.get self.old.standby u else None) (finite.get self.old.live u)) }
         ensures standby { self.new.standby ≡ self.old.standby }
         ensures err { OnErr result (self.new ≡ self.old) }
     {
@@ -274,7 +283,8 @@ impl<F: Function> Table<F> {
 
     /// Takes the chunks' records in.
     fn take_in(&mut self, live: bool, keep: Keep, chunks: Chunks) -> Result<(), ImportFault>
-        ensures table { OnOk result (self.new ≡ with_part self.old live (joined (choice F.semantics keep) (part self.old live) (records_of F.semantics chunks))) }
+        ensures table { OnOk result
+            (self.new ≡ with_part self.old live (union_of (choice F.semantics keep) (part self.old live) (records_of F.semantics chunks))) }
         ensures good { OnOk result (are_good F.semantics chunks ≡ true) }
         ensures err { OnErr result (self.new ≡ self.old) }
         ensures refusal { IfErr result (IsRefusal F.semantics chunks) }
@@ -288,7 +298,8 @@ impl<F: Function> Table<F> {
 
     /// Reads the chunks, and then takes their records in.
     fn join(&mut self, live: bool, keep: Keep, chunks: &[Chunk]) -> Result<(), ReadFault>
-        ensures table { OnOk result (self.new ≡ with_part self.old live (joined (choice F.semantics keep) (part self.old live) (records_of F.semantics chunks.now))) }
+        ensures table { OnOk result
+            (self.new ≡ with_part self.old live (union_of (choice F.semantics keep) (part self.old live) (records_of F.semantics chunks.now))) }
         ensures good { OnOk result (are_good F.semantics chunks.now ≡ true) }
         ensures err { OnErr result (self.new ≡ self.old) }
         ensures fault { IfErr result (IsChunkFault F.semantics chunks.now) }

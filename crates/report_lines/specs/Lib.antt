@@ -2,3 +2,4 @@ pub mod Sorting
 pub mod Lines
 pub mod Seen
 pub mod Ends
+pub mod Pieces

@@ -1,5 +1,6 @@
 -- The lines that reports of runs share. This project's own format.
-use Rattle.std.specs.Prelude.{ℕ, ◌++◌, List, [], Bool, true, false, Option, None, Some, codes, decimal, map, take, filter_map, slice_index_or, refl}
+use Rattle.std.specs.Prelude.{ℕ, ◌++◌, if◌then◌else◌, List, [], Bool, true, false, Option, None, Some, refl}
+use Rattle.std.specs.Prelude.{codes, decimal, map, take, filter_map, slice_index_or}
 use Rattle.std.specs.Coded.{Coded, code_by, coded_list, coded_ℕ, coded×}
 use Rattle.std.specs.List.{flat_map}
 use Rattle.std.specs.Ordering.{nat_cmp}
@@ -19,46 +20,23 @@ use Rattle.nf_msgs.specs.declared.note.Note.{Note}
 use Rattle.nf_msgs.specs.declared.note.Note.TheVariants.{Processed}
 use Rattle.report_lines.specs.Sorting.{sorted_by}
 
--- `function FUNCTION`
-abbrev pub function_text : Kind → List ℕ
-function_text kind = codes "function " ++ function_name kind
-
--- ` instances N window W`, and the end of the line
-unfoldable pub size_text : ℕ → ℕ → List ℕ
-size_text instances window = codes " instances " ++ decimal instances ++ codes " window " ++ decimal window ++ codes "\n"
-
 -- `function FUNCTION instances N window W`
 unfoldable pub function_line : Kind → ℕ → ℕ → List ℕ
-function_line kind instances window = function_text kind ++ size_text instances window
+function_line kind instances window =
+    codes "function " ++ function_name kind ++ codes " instances " ++ decimal instances ++ codes " window " ++ decimal window ++ codes "\n"
 
--- `whole` where the trace ends after a record, and `cut` where it ends within one
-abbrev pub end_text : Bool → List ℕ
-end_text true = codes "cut"
-end_text false = codes "whole"
-
--- `trace packets P skipped S `
-unfoldable pub counts_text : ℕ → ℕ → List ℕ
-counts_text packets skipped = codes "trace packets " ++ decimal packets ++ codes " skipped " ++ decimal skipped ++ codes " "
-
--- `trace packets P skipped S whole` or `cut`
+-- `trace packets P skipped S whole` where the trace ends after a record, and `cut` where it ends within one
 unfoldable pub trace_line : ℕ → ℕ → Bool → List ℕ
-trace_line packets skipped cut = counts_text packets skipped ++ end_text cut ++ codes "\n"
+trace_line packets skipped cut =
+    codes "trace packets " ++ decimal packets ++ codes " skipped " ++ decimal skipped ++ codes " " ++ (if cut then codes "cut" else codes "whole") ++ codes "\n"
 
--- the name of an instance by its number, or nothing where there is none
-abbrev pub name_of : List (List ℕ) → ℕ → List ℕ
-name_of names instance = slice_index_or names instance []
-
--- `WORD N INST`
-unfoldable pub named_text : List ℕ → ℕ → List ℕ → List ℕ
-named_text word number name = word ++ decimal number ++ codes " " ++ name ++ codes "\n"
-
--- the line of a packet's number and an instance's
-abbrev pub named_line : List ℕ → List (List ℕ) → ℕ × ℕ → List ℕ
-named_line word names x = named_text word x.0 (name_of names x.1)
+-- `WORD N INST`: the line of a packet's number and an instance's, by the instances' names
+unfoldable pub named_line : List ℕ → List (List ℕ) → ℕ × ℕ → List ℕ
+named_line word names x = word ++ decimal x.0 ++ codes " " ++ slice_index_or names x.1 [] ++ codes "\n"
 
 -- `done N INST`: the line of a note that a packet was processed
 abbrev pub done_line : List (List ℕ) → Note → List ℕ
-done_line names (Processed number instance output) = named_text (codes "done ") number (name_of names instance)
+done_line names (Processed number instance output) = named_line (codes "done ") names (number, instance)
 done_line names note = []
 
 -- in the order in which packets were processed
@@ -83,15 +61,11 @@ module _ {R : Type 0} where
   abbrev pub out_lines : Semantics R → List Note → List ℕ
   out_lines f log = flat_map (out_line f) (by_number output_in log)
 
--- `A.B.C.D:PORT`
-abbrev pub end_point_text : ℕ → ℕ → List ℕ
-end_point_text address port = address_text address ++ codes ":" ++ decimal port
-
 -- `PROTO A.B.C.D:PORT A.B.C.D:PORT`, the local end first
 unfoldable pub flow_text : Flow → List ℕ
 flow_text flow =
-    protocol_text flow.proto ++ codes " " ++ end_point_text flow.local flow.lport
-    ++ codes " " ++ end_point_text flow.remote flow.rport
+    protocol_text flow.proto ++ codes " " ++ (address_text flow.local ++ codes ":" ++ decimal flow.lport)
+    ++ codes " " ++ (address_text flow.remote ++ codes ":" ++ decimal flow.rport)
 
 -- UNIT: a flow, or a host's address
 abbrev pub unit_text : units.Unit → List ℕ
@@ -137,19 +111,11 @@ module _ {R : Type 0} where
   abbrev pub standby_lines : Semantics R → List (NamedInstance R) → List ℕ
   standby_lines f instances = flat_map (record_line f (codes "standby ")) (by_unit false instances)
 
--- ` C`
-abbrev pub count_text : ℕ → List ℕ
-count_text count = codes " " ++ decimal count
-
--- the last line
-abbrev pub end_line : List ℕ
-end_line = codes "end\n"
-
 module _ {R : Type 0} (count : ℕ) where
   -- `tally INST C0 C1 ..`, so many of the first slots of its tally
   unfoldable pub tally_line : NamedInstance R → List ℕ
-  tally_line instance = codes "tally " ++ instance.name ++ flat_map count_text (take count instance.slots) ++ codes "\n"
+  tally_line instance = codes "tally " ++ instance.name ++ flat_map (λ c. codes " " ++ decimal c) (take count instance.slots) ++ codes "\n"
 
   -- the lines at the bottom: the tally of each instance, and the last line
   unfoldable pub tail_lines : List (NamedInstance R) → List ℕ
-  tail_lines instances = flat_map tally_line instances ++ end_line
+  tail_lines instances = flat_map tally_line instances ++ codes "end\n"

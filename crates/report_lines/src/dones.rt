@@ -3,7 +3,8 @@ ghost use Rattle.std.specs.Prelude.{◌≡◌, ◌≤◌, ◌++◌, codes, lengt
 ghost use Rattle.std.specs.List.{flat_map};
 ghost use Rattle.counted_lines.specs.Pages.{pending, word_of};
 ghost use Rattle.counted_lines.specs.declared.block.TheConstants.{WORD};
-ghost use Rattle.report_lines.specs.Lines.{done_line, done_lines, name_of, named_line, named_text};
+ghost use Rattle.report_lines.specs.Lines.{done_line, done_lines, named_line};
+ghost use Rattle.report_lines.specs.Pieces.{named_text};
 ghost use Rattle.report_lines.specs.Seen.{name_seen, processed_in, texts_seen};
 
 use crate::ends::NameEnd;
@@ -83,6 +84,7 @@ fn push_done(
 }
 
 /// Puts the line of a word, a number and an instance.
+#[tactic(auto, unfolding(crate::specs::Lines::named_line))]
 #[inline(always)]
 fn push_at(
     text: &mut Text,
@@ -93,7 +95,8 @@ fn push_at(
     instance: u8,
 ) -> Result<(), NoMemory>
     requires { word_of lines.old ≡ word.now }
-    ensures text { OnOk result (text.new ++ pending lines.new ≡ (text.old ++ pending lines.old) ++ named_text word.now number (name_of (map name_seen ends.now) instance)) }
+    ensures text { OnOk result
+        (text.new ++ pending lines.new ≡ (text.old ++ pending lines.old) ++ named_line word.now (map name_seen ends.now) (number, instance)) }
     ensures word { word_of lines.new ≡ word_of lines.old }
 {
     match ends.get(usize::from(instance)) {
@@ -103,7 +106,6 @@ fn push_at(
 }
 
 /// Puts the line of a word, a number and what ends the line.
-#[tactic(auto, unfolding(crate::specs::Lines::named_text))]
 #[inline(always)]
 fn push_ended(
     text: &mut Text,
@@ -141,7 +143,6 @@ fn push_other(
 }
 
 /// Puts the line `WORD NUMBER NAME` after a text that has all lines so far.
-#[tactic(auto, unfolding(crate::specs::Lines::named_text))]
 fn push_long(text: &mut Text, word: &[u8], number: u32, name: &[u8]) -> Result<(), NoMemory>
     ensures { OnOk result (text.new ≡ text.old ++ named_text word.now number name.now) }
 {

@@ -1,5 +1,6 @@
 ghost use Rattle.std.specs.Prelude.{◌≡◌, ◌++◌, OnOk};
-ghost use Rattle.report_lines.specs.Lines.{counts_text, end_text, function_line, function_text, size_text, trace_line};
+ghost use Rattle.report_lines.specs.Lines.{function_line, trace_line};
+ghost use Rattle.report_lines.specs.Pieces.{counts_text, end_text, function_text};
 
 use basics::{NoMemory, Text};
 use nf_function::Kind;
@@ -14,28 +15,21 @@ pub fn push_function_line(
 ) -> Result<(), NoMemory>
     ensures { OnOk result (text.new ≡ text.old ++ function_line kind instances window) }
 {
-    push_function(text, kind)?;
-    push_size(text, instances, window)
-}
-
-/// Puts the word `function` and the function's name.
-fn push_function(text: &mut Text, kind: Kind) -> Result<(), NoMemory>
-    ensures { OnOk result (text.new ≡ text.old ++ function_text kind) }
-{
-    text.push_bytes(b"function ")?;
-    text.push_bytes(kind.name().as_bytes())
-}
-
-/// Puts the number of instances and the window, and ends the line.
-#[tactic(auto, unfolding(crate::specs::Lines::size_text))]
-fn push_size(text: &mut Text, instances: u64, window: u32) -> Result<(), NoMemory>
-    ensures { OnOk result (text.new ≡ text.old ++ size_text instances window) }
-{
-    text.push_bytes(b" instances ")?;
-    text.push_decimal(instances)?;
+    push_function(text, kind, instances)?;
     text.push_bytes(b" window ")?;
     text.push_decimal(u64::from(window))?;
     text.push_bytes(b"\n")
+}
+
+/// Puts the function's name and the number of instances.
+#[tactic(auto, unfolding(crate::specs::Pieces::function_text))]
+fn push_function(text: &mut Text, kind: Kind, instances: u64) -> Result<(), NoMemory>
+    ensures { OnOk result (text.new ≡ text.old ++ function_text kind instances) }
+{
+    text.push_bytes(b"function ")?;
+    text.push_bytes(kind.name().as_bytes())?;
+    text.push_bytes(b" instances ")?;
+    text.push_decimal(instances)
 }
 
 /// Puts the line of the capture after a text: how many packets are steered, how many of its records are skipped, and whether it ends within
@@ -55,7 +49,7 @@ pub fn push_trace_line(
 }
 
 /// Puts how many packets are steered and how many records are skipped.
-#[tactic(auto, unfolding(crate::specs::Lines::counts_text))]
+#[tactic(auto, unfolding(crate::specs::Pieces::counts_text))]
 fn push_counts(text: &mut Text, packets: u32, skipped: u32) -> Result<(), NoMemory>
     ensures { OnOk result (text.new ≡ text.old ++ counts_text packets skipped) }
 {

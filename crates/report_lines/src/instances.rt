@@ -1,7 +1,8 @@
 //! Instances under their names, and the lines at the bottom of a report.
 ghost use Rattle.std.specs.Prelude.{◌≡◌, ◌++◌, OnOk, take};
 ghost use Rattle.std.specs.List.{flat_map};
-ghost use Rattle.report_lines.specs.Lines.{count_text, tail_lines, tally_line};
+ghost use Rattle.report_lines.specs.Lines.{tail_lines, tally_line};
+ghost use Rattle.report_lines.specs.Pieces.{count_text};
 
 use basics::{NoMemory, Text};
 use nf_function::{Function, Tally};

@@ -1,6 +1,7 @@
 //! Short texts that are put together from their end, so that a number's digits go there in the order in which they are found.
 ghost use Rattle.std.specs.Prelude.{◌≡◌, ◌<◌, ◌≤◌, ◌+◌, ◌++◌, ◌∷◌, [], decimal, length};
-ghost use Rattle.basics.specs.Address.{address_text, byte_of};
+ghost use Rattle.basics.specs.Address.{address_text};
+ghost use Rattle.basics.specs.AddressSteps.{byte_of};
 ghost use Rattle.report_lines.specs.declared.line_front.TheConstants.{ROOM, LONGEST_NUMBER, LONGEST_ADDRESS};
 
 use basics::text::byte_of;

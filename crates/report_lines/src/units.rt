@@ -2,7 +2,8 @@ ghost use Rattle.std.specs.Prelude.{◌≡◌, ◌≤◌, ◌+◌, ◌++◌, len
 ghost use Rattle.flow_filter.specs.FilterText.{protocol_text};
 ghost use Rattle.report_lines.specs.declared.line_front.TheConstants.{ROOM};
 ghost use Rattle.report_lines.specs.declared.units.TheConstants.{LONGEST_END_POINT};
-ghost use Rattle.report_lines.specs.Lines.{end_point_text, flow_text, unit_text};
+ghost use Rattle.report_lines.specs.Lines.{flow_text, unit_text};
+ghost use Rattle.report_lines.specs.Pieces.{end_point_text};
 
 use crate::line_front::{LONGEST_ADDRESS, LONGEST_NUMBER, LineFront};
 use basics::{NoMemory, Text};

@@ -2,7 +2,7 @@
 use Rattle.std.proofs.Common.{◌≡◌, ℕ, ◌+◌, ◌<◌, Bool, true, false, not, ◌&&◌, ◌||◌, Option, Some, None, List, [], ◌∷◌, map}
 use Rattle.std.proofs.Common.{refl, sym, ap, ◌∙◌, subst, arith}
 use Rattle.std.specs.Prelude.{◌==◌, nat_lt, option_map, option_and_then, if◌then◌else◌, slice_index, slice_index_or}
-use Rattle.std.specs.List.{AllByRecursion, AllZip, list_any}
+use Rattle.std.specs.List.{AllByRecursion, AllZip, list_any, position_or_len}
 use Rattle.std.specs.Option.{option_map_or}
 use Rattle.std.specs.declared.alloc.Global.{Global}
 use Rattle.std.proofs.lemmas.Bool.Decides.{nat_tests, Decides-ltb}
@@ -20,62 +20,47 @@ use Rattle.nf_msgs.specs.declared.command.Order.{Order}
 use Rattle.nf_msgs.specs.declared.command.Order.TheVariants.{Move, Copy, Share}
 use Rattle.nf_msgs.specs.declared.msg.Msg.{Msg}
 use Rattle.nf_msgs.specs.declared.note.Note.{Note}
-use Rattle.nf_msgs.specs.declared.note.Note.TheVariants as note
-use Rattle.ctrl_node.specs.Controller.{filter_of}
+use Rattle.nf_msgs.specs.Orders.{order_filter}
+use Rattle.ctrl_node.specs.Controller.{unknown_in}
 use Rattle.actor_net.specs.declared.choice.Choice.{Choice}
 use Rattle.actor_net.specs.Network.{Network, run}
 use Rattle.net_world.specs.declared.config.Config.{Config}
 use Rattle.net_world.specs.declared.node.Node.{Node}
 use Rattle.net_world.specs.Commands as commands_noted
-use Rattle.net_world.specs.Commands.{answers_of, before_first, busy_filter, has_answered, keeps_off, overlaps, unknown_in}
+use Rattle.net_world.specs.Commands.{answers_of, before_command, has_answered, keeps_off, is_of_command}
 use Rattle.net_world.specs.Input.{commands, order_numbered}
 use Rattle.net_world.specs.Jobs.{course_of, job_of}
 use Rattle.net_world.specs.Nodes.{node_step}
-use Rattle.net_world.specs.Start.{started}
+use Rattle.net_world.specs.Start.{started_with}
 use Rattle.net_world.specs.Verdicts.{Weighed, is_refusal, receiver_of, verdict, IsVerdict}
-use Rattle.answer_net.proofs.BusyLemmas.{is_noted, none_answered}
+use Rattle.net_world.specs.Log.{answer_in, begin_in}
+use Rattle.net_world.proofs.PickedLists.{any_front}
+use Rattle.run_report.specs.nf_net.proofs.answers.BusyLemmas.{is_noted, none_answered}
 use Rattle.report_lines.specs.Lines.{by_number}
-use Rattle.run_report.specs.Lines.{answer_in}
-use Rattle.run_headline.specs.Causes.{Answered, AreTrue, HasCause, began, is_answered, limit_of, orders_meet, reads_old}
-use Rattle.run_headline.specs.Headline.{answered}
+use Rattle.run_headline.specs.Causes.{AreTrue, HasCause, is_answered, orders_meet}
 use Rattle.run_headline.specs.Law.{IsCompleted, subject}
 use Rattle.run_headline.proofs.AnswerLines.{IsOnly, Line, answer_to, found_any, only, so_answered}
 use Rattle.run_headline.proofs.CommandOrder.{run_in_turn}
 use Rattle.run_headline.proofs.FoundNumbers.{IsFound, all_found}
 
 -- what began before the first note of a command began
-began_before : (op k : ℕ) (log : List Note) → commands_noted.began k (before_first op log) ≡ true → commands_noted.began k log ≡ true
-began_before op k [] h = h
-began_before op k (note.Begun j ∷ log) h = elim (j == op) as (λ b. commands_noted.began k (if b then [] else note.Begun j ∷ before_first op log) ≡ true
-    → ((j == k) || commands_noted.began k log) ≡ true) [
-      | true ↦ λ never. cc
-      | false ↦ λ is. elim (j == k) as (λ b. (b || commands_noted.began k (before_first op log)) ≡ true → (b || commands_noted.began k log) ≡ true) [
-        | true ↦ λ _. refl
-        | false ↦ λ more. began_before op k log more
-      ] is
-    ] h
-began_before op k (note.Answered j answer ∷ log) h = elim (j == op) as (λ b. commands_noted.began k (if b then [] else note.Answered j answer ∷ before_first op log) ≡ true
-    → commands_noted.began k log ≡ true) [
-      | true ↦ λ never. cc
-      | false ↦ λ is. began_before op k log is
-    ] h
-began_before op k (note.Processed number instance output ∷ log) h = began_before op k log h
-began_before op k (note.Arrived number ∷ log) h = began_before op k log h
-began_before op k (note.Exported j instance us ∷ log) h = began_before op k log h
-began_before op k (note.Imported j instance us ∷ log) h = began_before op k log h
-began_before op k (note.Kept j instance us ∷ log) h = began_before op k log h
-began_before op k (note.Installed j ∷ log) h = began_before op k log h
+began_before : (op k : ℕ) (log : List Note) → commands_noted.is_begun k (before_command op log) ≡ true → commands_noted.is_begun k log ≡ true
+began_before op k log h = any_front begin_in (λ j. j == k) (position_or_len (is_of_command op) log) log h
 
 -- a command that has an answer was noted
 answered_noted : (op : ℕ) (log : List Note) (a : Answer) → answers_of op log ≡ a ∷ [] → is_noted op log ≡ true
-answered_noted op log a is = elim (has_answered op log) as (λ b. has_answered op log ≡ b → (commands_noted.began op log || b) ≡ true) [
-  | true ↦ λ _. or_true (commands_noted.began op log)
+answered_noted op log a is = elim (has_answered op log) as (λ b. has_answered op log ≡ b → (commands_noted.is_begun op log || b) ≡ true) [
+  | true ↦ λ _. or_true (commands_noted.is_begun op log)
   | false ↦ λ off. (let none = sym is ∙ none_answered op log off in cc)
 ] refl
   where
     or_true : (b : Bool) → (b || true) ≡ true
     or_true true = refl
     or_true false = refl
+
+-- one that began
+abbrev is_of_begun : Answer → Bool
+is_of_begun answer = not (is_refusal answer)
 
 -- an order that meets the filter of a command that keeps others off, of which there is one then
 record Meets (what : Order) (keeps : Bool) (order : Option Order) : Type 0 where
@@ -89,10 +74,12 @@ no_filter None is = cc
 no_filter (Some filter) is = cc
 
 meets_one : (what : Order) (keeps : Bool) (order : Option Order)
-    → option_map_or (λ filter. option_map_or (meets filter) (if keeps then option_and_then filter_of order else None) false) (filter_of what) false ≡ true → Meets what keeps order
+    → option_map_or (λ filter. option_map_or (meets filter) (if keeps then option_and_then order_filter order else None) false) (order_filter what) false
+    ≡ true
+    → Meets what keeps order
 meets_one what true (Some other) h = record { keeps_is = refl; other = other; order_is = refl; meet = h }
-meets_one what true None h = absurd (no_filter (filter_of what) h)
-meets_one what false order h = absurd (no_filter (filter_of what) h)
+meets_one what true None h = absurd (no_filter (order_filter what) h)
+meets_one what false order h = absurd (no_filter (order_filter what) h)
 
 -- Verdicts.
 record IsFull (x : Weighed) (held coming limit : ℕ) : Type 0 where
@@ -101,7 +88,8 @@ record IsFull (x : Weighed) (held coming limit : ℕ) : Type 0 where
 
 is_full : (x : Weighed) (held coming limit : ℕ) → answers.Import held coming limit ≡ verdict x → IsFull x held coming limit
 is_full x held coming limit = elim (nat_lt x.limit (x.held + x.coming)) as (λ b. nat_lt x.limit (x.held + x.coming) ≡ b
-    → answers.Import held coming limit ≡ (if b then answers.Import x.held x.coming x.limit else if x.marked && x.timed then answers.Old timed_version plain_version else answers.Done)
+    → answers.Import held coming limit
+    ≡ (if b then answers.Import x.held x.coming x.limit else if x.marked && x.timed then answers.Old timed_version plain_version else answers.Done)
     → IsFull x held coming limit) [
       | true ↦ λ large is.
           let held_is : held ≡ x.held = cc in
@@ -109,7 +97,8 @@ is_full x held coming limit = elim (nat_lt x.limit (x.held + x.coming)) as (λ b
           let limit_is : limit ≡ x.limit = cc in
           let less : x.limit < x.held + x.coming = (Decides-ltb x.limit (x.held + x.coming)).0 large in
           record { limit_is = sym limit_is; more = omega (arith, held_is, coming_is, limit_is, less) }
-      | false ↦ λ small. elim (x.marked && x.timed) as (λ b. answers.Import held coming limit ≡ (if b then answers.Old timed_version plain_version else answers.Done)
+      | false ↦ λ small. elim (x.marked && x.timed)
+          as (λ b. answers.Import held coming limit ≡ (if b then answers.Old timed_version plain_version else answers.Done)
           → IsFull x held coming limit) [
             | true ↦ λ never. cc
             | false ↦ λ never. cc
@@ -129,10 +118,12 @@ both false b h = cc
 
 is_too_new : (x : Weighed) (newest reads : ℕ) → answers.Old newest reads ≡ verdict x → IsTooNew x newest reads
 is_too_new x newest reads = elim (nat_lt x.limit (x.held + x.coming)) as (λ b.
-    answers.Old newest reads ≡ (if b then answers.Import x.held x.coming x.limit else if x.marked && x.timed then answers.Old timed_version plain_version else answers.Done)
+    answers.Old newest reads
+    ≡ (if b then answers.Import x.held x.coming x.limit else if x.marked && x.timed then answers.Old timed_version plain_version else answers.Done)
     → IsTooNew x newest reads) [
       | true ↦ λ never. cc
-      | false ↦ elim (x.marked && x.timed) as (λ b. (x.marked && x.timed) ≡ b → answers.Old newest reads ≡ (if b then answers.Old timed_version plain_version else answers.Done)
+      | false ↦ elim (x.marked && x.timed)
+          as (λ b. (x.marked && x.timed) ≡ b → answers.Old newest reads ≡ (if b then answers.Old timed_version plain_version else answers.Done)
           → IsTooNew x newest reads) [
             | true ↦ λ on is. (let parts = both x.marked x.timed on in record { marked = parts.0; timed = parts.1; newest_is = cc; reads_is = cc })
             | false ↦ λ off never. cc
@@ -141,7 +132,8 @@ is_too_new x newest reads = elim (nat_lt x.limit (x.held + x.coming)) as (λ b.
 
 no_refusal : (x : Weighed) → is_refusal (verdict x) ≡ false
 no_refusal x = elim (nat_lt x.limit (x.held + x.coming)) as (λ b.
-    is_refusal (if b then answers.Import x.held x.coming x.limit else if x.marked && x.timed then answers.Old timed_version plain_version else answers.Done) ≡ false) [
+    is_refusal (if b then answers.Import x.held x.coming x.limit else if x.marked && x.timed then answers.Old timed_version plain_version else answers.Done)
+    ≡ false) [
       | true ↦ refl
       | false ↦ elim (x.marked && x.timed) as (λ b. is_refusal (if b then answers.Old timed_version plain_version else answers.Done) ≡ false) [
         | true ↦ refl
@@ -167,20 +159,31 @@ beside P there alone holds (c ∷ cs) (x ∷ xs) same all only =
     let rest : map (λ y. y.0) xs ≡ map (λ d. d.op) cs = cc in
     ((number, holds c x.1 all.0 (subst (λ k. alone (k, x.1)) number only.0)), beside P there alone holds cs xs rest all.1 only.1)
 
-module _ {R : Type 0} (F : Type 0) (f : Semantics R) (laws : FunctionLaws f) (alloc : Global) (c : Config) (items : List Msg) (choices : List Choice) (is : IsCompleted F f alloc c items choices) where
+module _ {R : Type 0} (F : Type 0) (f : Semantics R) (laws : FunctionLaws f) (alloc : Global) (c : Config) (items : List Msg) (choices : List Choice)
+    (is : IsCompleted F f alloc c items choices) where
   abbrev w : Network (Node F R) Msg Note
-  w = run (node_step f) choices (started alloc c items)
+  w = run (node_step f) choices (started_with alloc c items)
 
-  abbrev x : Answered
-  x = answered (subject f c items) (by_number answer_in w.log)
+  abbrev lines_told : List Line
+  lines_told = by_number answer_in w.log
+
+  -- how many records the instance takes in to which an order moves units, and whether it reads chunks of version 1 alone
+  abbrev limit_of : Order → Option ℕ
+  limit_of what = option_map (slice_index c.limits) (receiver_of c (Some what))
+
+  abbrev reads_old : Order → Option Bool
+  reads_old what = option_map (λ i. slice_index_or c.marked i false) (receiver_of c (Some what))
+
+  abbrev HasIts : Command → Answer → Type 0
+  HasIts k answer = HasCause (subject f c items) lines_told k answer
 
   abbrev orders : ℕ → Option Order
   orders = order_numbered items
 
   module _ (op : ℕ) (what : Order) (answer : Answer) (order : orders op ≡ Some what) (told : answers_of op w.log ≡ answer ∷ []) where
     -- it began, if its answer is no refusal
-    began_if : is_refusal answer ≡ false → commands_noted.began op w.log ≡ true
-    began_if fair = elim (commands_noted.began op w.log) as (λ b. commands_noted.began op w.log ≡ b → b ≡ true) [
+    began_if : is_refusal answer ≡ false → commands_noted.is_begun op w.log ≡ true
+    began_if fair = elim (commands_noted.is_begun op w.log) as (λ b. commands_noted.is_begun op w.log ≡ b → b ≡ true) [
       | true ↦ λ _. refl
       | false ↦ λ off. (let never = sym fair ∙ is.verdicts.refused op answer off told in cc)
     ] refl
@@ -189,7 +192,7 @@ module _ {R : Type 0} (F : Type 0) (f : Semantics R) (laws : FunctionLaws f) (al
     known fair = (is.promises.answers.begins op what order (began_if fair)).known
 
     -- one that began isn't refused
-    no_cause : commands_noted.began op w.log ≡ true → is_refusal answer ≡ false
+    no_cause : commands_noted.is_begun op w.log ≡ true → is_refusal answer ≡ false
     no_cause on = by_order what order
       where
         by_order : (o : Order) → orders op ≡ Some o → is_refusal answer ≡ false
@@ -204,32 +207,33 @@ module _ {R : Type 0} (F : Type 0) (f : Semantics R) (laws : FunctionLaws f) (al
     it = record { op = op; what = what }
 
     -- a command that was met
-    overlapped : (k : ℕ) → answers_of op w.log ≡ answers.Overlap k ∷ [] → HasCause x it (answers.Overlap k)
+    overlapped : (k : ℕ) → answers_of op w.log ≡ answers.Overlap k ∷ [] → HasIts it (answers.Overlap k)
     overlapped k told =
         let cause = is.promises.answers.causes op what (answers.Overlap k) order told in
-        let front = before_first op w.log in
+        let front = before_command op w.log in
         let one = meets_one what (keeps_off c.names orders k front) (orders k) cause.1.picked in
-        let kept = both (commands_noted.began k front) _ one.keeps_is in
+        let kept = both (commands_noted.is_begun k front) _ one.keeps_is in
         let low : k < op = run_in_turn F f laws alloc c items is.is_input choices is.is_run op k (answered_noted op w.log (answers.Overlap k) told) kept.0 in
         let answer = answer_to w.log is.promises.answers.answered_once items is.answers k one.other one.order_is in
-        let unrefused : began answer.0 ≡ true = ap not (no_cause k one.other answer.0 one.order_is answer.1 (began_before op k w.log kept.0)) in
-        let said : is_answered began (by_number answer_in w.log) k ≡ true = so_answered began answer.0 unrefused k w.log answer.1 in
+        let unrefused : is_of_begun answer.0 ≡ true = ap not (no_cause k one.other answer.0 one.order_is answer.1 (began_before op k w.log kept.0)) in
+        let said : is_answered is_of_begun (by_number answer_in w.log) k ≡ true = so_answered is_of_begun answer.0 unrefused k w.log answer.1 in
         let own : (k == k) ≡ true = grind (arith, nat_tests) in
         let less : nat_lt k op ≡ true = (Decides-ltb k op).1 low in
         let meet = one.meet in (
           cause.0,
-          found_any (λ d. (d.op == k) && nat_lt d.op op && is_answered began x.answers d.op && orders_meet what d.what) k one.other (rw (own, less, said, meet) refl)
+          found_any (λ d. (d.op == k) && nat_lt d.op op && is_answered is_of_begun lines_told d.op && orders_meet what d.what) k one.other
+              (rw (own, less, said, meet) refl)
               (commands items) one.order_is,
         )
 
     abbrev Judged : Answer → Type 0
-    Judged answer = IsVerdict {F = F} (job_of f c items) (course_of (started alloc c items) choices) op answer
+    Judged answer = IsVerdict {F = F} (job_of f c items) (course_of (started_with alloc c items) choices) op answer
 
     -- what a move is judged by
     judged : (answer : Answer) → answers_of op w.log ≡ answer ∷ [] → is_refusal answer ≡ false → (answer ≡ answers.Done → ⊥) → Judged answer
     judged answer told fair other = by_order what order
       where
-        on : commands_noted.began op w.log ≡ true
+        on : commands_noted.is_begun op w.log ≡ true
         on = began_if op what answer order told fair
 
         by_order : (o : Order) → orders op ≡ Some o → Judged answer
@@ -237,32 +241,33 @@ module _ {R : Type 0} (F : Type 0) (f : Semantics R) (laws : FunctionLaws f) (al
         by_order (Copy source destination filter) e = absurd (other (is.verdicts.copied op source destination filter answer e on told))
         by_order (Share members filter) e = absurd (other (is.verdicts.set_up op members filter answer e on told))
 
-    full : (held coming limit : ℕ) → answers_of op w.log ≡ answers.Import held coming limit ∷ [] → HasCause x it (answers.Import held coming limit)
+    full : (held coming limit : ℕ) → answers_of op w.log ≡ answers.Import held coming limit ∷ [] → HasIts it (answers.Import held coming limit)
     full held coming limit told =
         let v = judged (answers.Import held coming limit) told refl (λ never. cc) in
         let much = is_full v.weighed held coming limit v.answer_is in
-        let takes : limit_of x what ≡ Some limit = ap (λ o. option_map (slice_index c.limits) (receiver_of c o)) (sym order)
+        let takes : limit_of what ≡ Some limit = ap (λ o. option_map (slice_index c.limits) (receiver_of c o)) (sym order)
         ∙ ap (option_map (slice_index c.limits)) v.are_weighed.destination_is ∙ ap Some (sym v.are_weighed.limit ∙ much.limit_is) in
         (known op what (answers.Import held coming limit) order told refl, (takes, much.more))
 
-    too_new : (newest reads : ℕ) → answers_of op w.log ≡ answers.Old newest reads ∷ [] → HasCause x it (answers.Old newest reads)
+    too_new : (newest reads : ℕ) → answers_of op w.log ≡ answers.Old newest reads ∷ [] → HasIts it (answers.Old newest reads)
     too_new newest reads told =
         let v = judged (answers.Old newest reads) told refl (λ never. cc) in
         let new = is_too_new v.weighed newest reads v.answer_is in
-        let marked : reads_old x what ≡ Some true = ap (λ o. option_map (λ i. slice_index_or c.marked i false) (receiver_of c o)) (sym order)
+        let marked : reads_old what ≡ Some true = ap (λ o. option_map (λ i. slice_index_or c.marked i false) (receiver_of c o)) (sym order)
         ∙ ap (option_map (λ i. slice_index_or c.marked i false)) v.are_weighed.destination_is ∙ ap Some (sym v.are_weighed.marked ∙ new.marked) in
         let timed : has_times f.kind ≡ true = some_unit (has_times f.kind) _ v.are_weighed.units (sym v.are_weighed.timed ∙ new.timed) in
         (known op what (answers.Old newest reads) order told refl, (marked, timed, new.newest_is, new.reads_is))
 
-    cause : (answer : Answer) → answers_of op w.log ≡ answer ∷ [] → HasCause x it answer
+    cause : (answer : Answer) → answers_of op w.log ≡ answer ∷ [] → HasIts it answer
     cause answers.Done told = (known op what answers.Done order told refl, tt)
     cause (answers.Unknown name) told = is.promises.answers.causes op what (answers.Unknown name) order told
     cause (answers.Overlap k) told = overlapped k told
     cause (answers.Import held coming limit) told = full held coming limit told
     cause (answers.Old newest reads) told = too_new newest reads told
 
-  pub answers_true : AreTrue x
+  pub answers_true : AreTrue (subject f c items) lines_told
   answers_true =
-      beside (λ k a. HasCause x k a) (IsFound (λ (k : Command). k.op) (commands items)) (IsOnly w.log is.promises.answers.answered_once)
+      beside HasIts (IsFound (λ (k : Command). k.op) (commands items)) (IsOnly w.log is.promises.answers.answered_once)
       (λ k a found alone. cause k.op k.what (ap (option_map (λ (d : Command). d.what)) found) a alone)
-      (commands items) (by_number answer_in w.log) is.answers (all_found (λ (k : Command). k.op) 0 (commands items) is.is_input.ops) (only w.log is.promises.answers.answered_once)
+      (commands items) (by_number answer_in w.log) is.answers (all_found (λ (k : Command). k.op) 0 (commands items) is.is_input.ops)
+      (only w.log is.promises.answers.answered_once)

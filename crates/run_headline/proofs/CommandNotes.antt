@@ -20,18 +20,20 @@ use Rattle.copy_share.specs.Share.{ShareState}
 use Rattle.ctrl_node.specs.declared.operation.Operation.{Operation}
 use Rattle.ctrl_node.specs.declared.operation.Operation.TheVariants.{Share}
 use Rattle.ctrl_node.specs.Operations.{turn_of}
-use Rattle.ctrl_node.specs.Controller.{ControllerState, Step, still, refusal, begins_between, copies_between, begins_share, begins, decided, on_asked}
+use Rattle.ctrl_node.specs.Controller.{ControllerState, Step, still, refusal, move_between, copy_between, share_begin, begin_step, decision_step, on_asked}
 use Rattle.flow_filter.specs.Name.{place_of}
-use Rattle.ctrl_node.specs.Controller.{on_diverted, queued, after_turn, takes_turn, handed, numbered, on_event, on_final, instance_at, row as controller_row, controller_step}
-use Rattle.net_world.specs.Commands.{before_first}
-use Rattle.answer_net.proofs.BusyLemmas.{is_noted}
-use Rattle.answer_net.proofs.ControllerCases.{by_operation, by_queue, by_sender, by_stop}
-use Rattle.answer_net.proofs.ShareTells.{ShareStep, handed_share, queued_share}
-use Rattle.whole_outline.proofs.ShareLeft.{noted}
+use Rattle.ctrl_node.specs.Controller.{on_diverted, queue_step, after_turn, takes_turn, hand_step, numbered}
+use Rattle.ctrl_node.specs.Controller.{on_event, on_final, instance_at, row as controller_row, controller_step}
+use Rattle.net_world.specs.Commands.{before_command, is_of_command}
+use Rattle.net_world.proofs.PickedLists.{before_one}
+use Rattle.run_report.specs.nf_net.proofs.answers.BusyLemmas.{is_noted}
+use Rattle.run_report.specs.nf_net.proofs.answers.ControllerCases.{by_operation, by_queue, by_sender, by_stop}
+use Rattle.run_report.specs.nf_net.proofs.answers.ShareTells.{ShareStep, handed_share, queued_share}
+use Rattle.run_report.specs.proof_outlines.proofs.whole.ShareLeft.{noted}
 
 -- the notes are first notes of commands that pass, each the only note
 abbrev pub OfThese : (ℕ → Type 0) → List Note → Type 0
-OfThese P notes = (k : ℕ) → is_noted k notes ≡ true → P k × (before_first k notes ≡ [])
+OfThese P notes = (k : ℕ) → is_noted k notes ≡ true → P k × (before_command k notes ≡ [])
 
 module _ (P : ℕ → Type 0) where
   pub of_none : (notes : List Note) → notes ≡ [] → OfThese P notes
@@ -43,21 +45,20 @@ module _ (P : ℕ → Type 0) where
     | false ↦ λ is never. cc
   ] refl on
 
-  none_before : (op k : ℕ) (n : Note) → (op == k) || false ≡ true → (if op == k then [] else n ∷ []) ≡ []
-  none_before op k n on = elim (op == k) as (λ b. b || false ≡ true → (if b then [] else n ∷ []) ≡ []) [
-    | true ↦ λ _. refl
-    | false ↦ λ never. cc
-  ] on
+  only_false : (b : Bool) → b || false ≡ true → b ≡ true
+  only_false true h = refl
+  only_false false h = h
 
   or_false_of : (b : Bool) → (b || false) || false ≡ true → b || false ≡ true
   or_false_of true h = refl
   or_false_of false h = h
 
   pub of_answer : (op : ℕ) (a : Answer) → P op → OfThese P (note.Answered op a ∷ [])
-  of_answer op a holds k on = (of_same op k on holds, none_before op k (note.Answered op a) on)
+  of_answer op a holds k on = (of_same op k on holds, before_one (is_of_command k) (note.Answered op a) [] (only_false (op == k) on))
 
   pub of_begin : (op : ℕ) → P op → OfThese P (note.Begun op ∷ [])
-  of_begin op holds k on = let own = or_false_of (op == k) on in (of_same op k own holds, none_before op k (note.Begun op) own)
+  of_begin op holds k on =
+      let own = or_false_of (op == k) on in (of_same op k own holds, before_one (is_of_command k) (note.Begun op) [] (only_false (op == k) own))
 
 module _ (c : ControllerState) where
   -- the number of an open operation
@@ -86,14 +87,14 @@ module _ (c : ControllerState) where
       by_answer (Some a) = of_answer IsOpen op a (ap is_some there)
 
   module _ (own : (op : ℕ) (s : ShareState) → finite.get c.operations op ≡ Some (Share s) → s.plan.op ≡ op) where
-    handed_open : (op port : ℕ) (m : Msg) → OfOpen (handed c op port m)
+    handed_open : (op port : ℕ) (m : Msg) → OfOpen (hand_step c op port m)
     handed_open op port m = by_operation OfOpen c op port m
         (λ no_share. turn_open op port m (finite.get c.operations op) refl)
-        (λ s is. share_open op s is (handed c op port m) (handed_share c op s is (own op s is) port m))
+        (λ s is. share_open op s is (hand_step c op port m) (handed_share c op s is (own op s is) port m))
 
     diverted_open : (cell : FullCell) → OfOpen (on_diverted c cell)
     diverted_open cell = by_queue OfOpen c cell still_open
-        (λ op s is. share_open op s is (queued c cell (Some op)) (queued_share c op s is (own op s is) cell))
+        (λ op s is. share_open op s is (queue_step c cell (Some op)) (queued_share c op s is (own op s is) cell))
 
     numbered_open : (port : ℕ) (m : Msg) (o : Option ℕ) → OfOpen (numbered c port m o)
     numbered_open port m None = still_open
@@ -134,31 +135,31 @@ module _ (c : ControllerState) where
     still_it : OfIt (still c)
     still_it = of_none IsIt [] refl
 
-    between_it : (filter : Filter) (keep : Bool) (a b : Option ℕ) → OfIt (begins_between c op filter keep a b)
+    between_it : (filter : Filter) (keep : Bool) (a b : Option ℕ) → OfIt (move_between c op filter keep a b)
     between_it filter keep (Some from) (Some to) = of_begin IsIt op refl
     between_it filter keep None b = still_it
     between_it filter keep (Some from) None = still_it
 
-    copies_it : (filter : Option Filter) (a b : Option ℕ) → OfIt (copies_between c op filter a b)
+    copies_it : (filter : Option Filter) (a b : Option ℕ) → OfIt (copy_between c op filter a b)
     copies_it filter (Some from) (Some to) = of_begin IsIt op refl
     copies_it filter None b = still_it
     copies_it filter (Some from) None = still_it
 
-    shares_it : (filter : Filter) (members : List ℕ) → OfIt (begins_share c op filter members)
+    shares_it : (filter : Filter) (members : List ℕ) → OfIt (share_begin c op filter members)
     shares_it filter [] = still_it
     shares_it filter (home ∷ others) = of_begin IsIt op refl
 
-    begins_it : (what : Order) → OfIt (begins c op what)
+    begins_it : (what : Order) → OfIt (begin_step c op what)
     begins_it (order.Move source destination filter keep) = between_it filter keep (place_of c.names source) (place_of c.names destination)
     begins_it (order.Copy source destination filter) = copies_it filter (place_of c.names source) (place_of c.names destination)
     begins_it (order.Share members filter) = shares_it filter (filter_map (place_of c.names) members)
 
-    decided_it : (what : Order) (o : Option Answer) → OfIt (decided c op what o)
+    decided_it : (what : Order) (o : Option Answer) → OfIt (decision_step c op what o)
     decided_it what None = begins_it what
     decided_it what (Some a) = of_answer IsIt op a refl
 
     asked_it : (what : Order) → OfIt (on_asked c (record { op = op; what = what }))
-    asked_it what = elim (finite.contains_key c.operations op) as (λ b. OfIt (if b then still c else decided c op what (refusal c what))) [
+    asked_it what = elim (finite.contains_key c.operations op) as (λ b. OfIt (if b then still c else decision_step c op what (refusal c what))) [
       | true ↦ still_it
       | false ↦ decided_it what (refusal c what)
     ]

@@ -1,7 +1,8 @@
 -- A unit that a plain move handed on was covered by a plain move that is answered that it is done.
-use Rattle.std.proofs.Common.{◌≡◌, ◌≢◌, ℕ, ◌+◌, ◌≤◌, Bool, true, false, not, ◌&&◌, ◌||◌, Option, Some, None, List, [], ◌∷◌, map}
+use Rattle.std.proofs.Common.{◌≡◌, ◌≢◌, ℕ, ◌≤◌, Bool, true, false, not, ◌&&◌, ◌||◌, Option, Some, None, List, [], ◌∷◌, map}
 use Rattle.std.proofs.Common.{refl, sym, ap, ◌∙◌, arith}
-use Rattle.std.specs.Prelude.{◌==◌, if◌then◌else◌}
+use Rattle.std.specs.Prelude.{◌==◌}
+use Rattle.std.specs.List.{list_any}
 use Rattle.std.proofs.lemmas.Bool.{true≢false}
 use Rattle.std.proofs.lemmas.Bool.Decides.{nat_tests}
 use Rattle.nf_function.specs.declared.unit.Unit as units
@@ -13,38 +14,25 @@ use Rattle.nf_msgs.specs.declared.command.Order.{Order}
 use Rattle.nf_msgs.specs.declared.command.Order.TheVariants.{Move, Copy, Share}
 use Rattle.nf_msgs.specs.declared.msg.Msg.{Msg}
 use Rattle.nf_msgs.specs.declared.note.Note.{Note}
-use Rattle.nf_msgs.specs.declared.note.Note.TheVariants as note
 use Rattle.net_world.specs.declared.config.Config.{Config}
 use Rattle.net_world.specs.Commands.{Answers, times_installed}
 use Rattle.net_world.specs.Input.{commands, order_numbered}
-use Rattle.net_world.specs.Log.{installed}
-use Rattle.net_world.specs.Places.{is_loose, loose_after, hands_on_plain, handed_on}
+use Rattle.net_world.specs.Log.{installs_in, answer_in}
+use Rattle.net_world.specs.Places.{is_loose, loose_after, hands_on_plain, owner_after_order}
+use Rattle.net_world.proofs.PickedLists.{some_counted}
 use Rattle.report_lines.specs.Lines.{by_number}
-use Rattle.run_report.specs.Lines.{answer_in}
 use Rattle.run_headline.specs.Causes.{is_answered, is_done}
-use Rattle.run_headline.specs.Headline.{is_covered, moves_plainly}
+use Rattle.run_headline.specs.Headline.{is_covered, moves}
 use Rattle.run_headline.specs.Law.{subject}
 use Rattle.run_headline.proofs.AnswerLines.{answer_to, found_any, so_answered, some}
 
 -- a command that the switch installed
-installed_some : (op : ℕ) (log : List Note) → some op (installed log) ≡ true → 1 ≤ times_installed op log
-installed_some op [] h = cc
-installed_some op (note.Installed k ∷ log) h = elim (k == op) as (λ b. (b || some op (installed log)) ≡ true
-    → 1 ≤ (if b then 1 else 0) + times_installed op log) [
-      | true ↦ λ is. omega arith
-      | false ↦ λ is. let rest = installed_some op log is in omega (arith, rest)
-    ] h
-installed_some op (note.Processed number instance output ∷ log) h = installed_some op log h
-installed_some op (note.Arrived number ∷ log) h = installed_some op log h
-installed_some op (note.Begun k ∷ log) h = installed_some op log h
-installed_some op (note.Exported k instance us ∷ log) h = installed_some op log h
-installed_some op (note.Imported k instance us ∷ log) h = installed_some op log h
-installed_some op (note.Kept k instance us ∷ log) h = installed_some op log h
-installed_some op (note.Answered k answer ∷ log) h = installed_some op log h
+installed_some : (op : ℕ) (log : List Note) → some op (installs_in log) ≡ true → 1 ≤ times_installed op log
+installed_some op log h = some_counted (λ k. k == op) (installs_in log) h
 
 -- an order for a plain move of a unit
-abbrev is_plain : units.Unit → Option Order → Bool
-is_plain u (Some order) = moves_plainly u order
+abbrev pub is_plain : units.Unit → Option Order → Bool
+is_plain u (Some order) = moves not u order
 is_plain u None = false
 
 module _ (names : List (List ℕ)) (orders : ℕ → Option Order) (u : units.Unit) where
@@ -69,14 +57,14 @@ module _ (names : List (List ℕ)) (orders : ℕ → Option Order) (u : units.Un
   pub hands_on : (i : ℕ) (ops : List ℕ) → loose_after names orders u i ops ≡ true → HandsOn ops
   hands_on i [] h = cc
   hands_on i (op ∷ ops) h = elim (hands_on_plain names orders u (orders op) i) as (λ b. hands_on_plain names orders u (orders op) i ≡ b
-      → (b || loose_after names orders u (handed_on names orders u (orders op) i) ops) ≡ true → HandsOn (op ∷ ops)) [
+      → (b || loose_after names orders u (owner_after_order names orders u (orders op) i) ops) ≡ true → HandsOn (op ∷ ops)) [
         | true ↦ λ is more. record {
           op = op;
           among = let own : (op == op) ≡ true = grind (arith, nat_tests) in rw own refl;
           plain = plain_order (orders op) i is;
         }
         | false ↦ λ is more.
-            let rest = hands_on (handed_on names orders u (orders op) i) ops more in
+            let rest = hands_on (owner_after_order names orders u (orders op) i) ops more in
             record {
               op = rest.op;
               among = rw rest.among (or_true (op == rest.op));
@@ -88,23 +76,23 @@ module _ (names : List (List ℕ)) (orders : ℕ → Option Order) (u : units.Un
       or_true true = refl
       or_true false = refl
 
-some_order : (u : units.Unit) (o : Option Order) → is_plain u o ≡ true → (what : Order) × (o ≡ Some what)
+pub some_order : (u : units.Unit) (o : Option Order) → is_plain u o ≡ true → (what : Order) × (o ≡ Some what)
 some_order u (Some what) plain = (what, refl)
 some_order u None plain = absurd (true≢false (sym plain))
 
 module _ {R : Type 0} (f : Semantics R) (c : Config) (items : List Msg) (log : List Note) (answered : Answers c items log)
     (numbers : map (λ x. x.0) (by_number answer_in log) ≡ map (λ k. k.op) (commands items)) (u : units.Unit) where
-  covered_by : HandsOn c.names (order_numbered items) u (installed log) → is_covered (subject f c items) (by_number answer_in log) u ≡ true
-  covered_by on =
-      let order = some_order u (order_numbered items on.op) on.plain in
-      let one = answer_to log answered.answered_once items numbers on.op order.0 order.1 in
-      let laid = installed_some on.op log on.among in
-      let refused : one.0 ≢ answers.Done → ⊥ = λ other. (let none = answered.refused_is_not_installed on.op order.0 one.0 order.1 one.1 other in
+  -- a command that the switch installed is answered that it is done
+  pub installed_any : (test : Order → Bool) (op : ℕ) (what : Order) → order_numbered items op ≡ Some what → some op (installs_in log) ≡ true → test what ≡ true
+      → list_any (λ k. test k.what && is_answered is_done (by_number answer_in log) k.op) (commands items) ≡ true
+  installed_any test op what order among on =
+      let one = answer_to log answered.answered_once items numbers op what order in
+      let laid = installed_some op log among in
+      let refused : one.0 ≢ answers.Done → ⊥ = λ other. (let none = answered.refused_is_not_installed op what one.0 order one.1 other in
       absurd (omega (arith, none, laid))) in
-      let done : is_answered is_done (by_number answer_in log) on.op ≡ true = so_answered is_done answers.Done refl on.op log (one.1
+      let done : is_answered is_done (by_number answer_in log) op ≡ true = so_answered is_done answers.Done refl op log (one.1
       ∙ ap (λ a. a ∷ []) (is_it one.0 refused)) in
-      let plain : moves_plainly u order.0 ≡ true = sym (ap (is_plain u) order.1) ∙ on.plain in
-      found_any (λ k. moves_plainly u k.what && is_answered is_done (by_number answer_in log) k.op) on.op order.0 (rw (plain, done) refl) (commands items) order.1
+      found_any (λ k. test k.what && is_answered is_done (by_number answer_in log) k.op) op what (rw (on, done) refl) (commands items) order
     where
       not_done : (a : Answer) → is_done a ≡ false → a ≢ answers.Done
       not_done a off same = true≢false (sym (ap is_done same) ∙ off)
@@ -116,8 +104,13 @@ module _ {R : Type 0} (f : Semantics R) (c : Config) (items : List Msg) (log : L
       is_it (answers.Import held coming limit) not_other = absurd (not_other (not_done (answers.Import held coming limit) refl))
       is_it (answers.Old newest reads) not_other = absurd (not_other (not_done (answers.Old newest reads) refl))
 
+  covered_by : HandsOn c.names (order_numbered items) u (installs_in log) → is_covered (subject f c items) (by_number answer_in log) u ≡ true
+  covered_by on =
+      let order = some_order u (order_numbered items on.op) on.plain in
+      installed_any (moves not u) on.op order.0 order.1 on.among (sym (ap (is_plain u) order.1) ∙ on.plain)
+
   pub uncovered : is_covered (subject f c items) (by_number answer_in log) u ≡ false → is_loose c items u log ≡ false
   uncovered off = elim (is_loose c items u log) as (λ b. is_loose c items u log ≡ b → b ≡ false) [
-    | true ↦ λ is. absurd (true≢false (sym (covered_by (hands_on c.names (order_numbered items) u _ (installed log) is)) ∙ off))
+    | true ↦ λ is. absurd (true≢false (sym (covered_by (hands_on c.names (order_numbered items) u _ (installs_in log) is)) ∙ off))
     | false ↦ λ is. refl
   ] refl

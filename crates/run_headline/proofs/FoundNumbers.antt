@@ -1,9 +1,14 @@
 -- Where the numbers of some things rise, each is found by its number.
-use Rattle.std.proofs.Common.{◌≡◌, ℕ, suc, ◌<◌, false, true, Some, List, [], ◌∷◌, map, refl, ◌∙◌, arith}
+use Rattle.std.proofs.Common.{◌≡◌, ℕ, suc, ◌<◌, ◌≤◌, false, true, Some, List, [], ◌∷◌, map, refl, ◌∙◌, arith}
 use Rattle.std.specs.Prelude.{◌==◌, find}
 use Rattle.std.specs.List.{AllByRecursion}
 use Rattle.std.proofs.lemmas.Bool.Decides.{nat_tests}
 use Rattle.net_world.specs.Input.{IsRising}
+
+-- numbers that rise from somewhere rise from below
+pub rising_from : (low least : ℕ) (ns : List ℕ) → low ≤ least → IsRising least ns → IsRising low ns
+rising_from low least [] le rising = tt
+rising_from low least (n ∷ ns) le rising = (let first = rising.0 in omega (arith, le, first), rising.1)
 
 module _ {X : Type 0} (number : X → ℕ) where
   -- the thing is found by its number

@@ -1,11 +1,11 @@
 -- The headline of every completed run.
-use Rattle.std.proofs.Common.{◌≡◌, ℕ, zero, suc, ◌+◌, ◌≤◌, ◌<◌, Bool, true, false, ◌||◌, cond, Option, Some, None, List, [], ◌∷◌, length, map, get_or}
-use Rattle.std.proofs.Common.{refl, sym, ap, ◌∙◌, subst, arith}
-use Rattle.std.specs.Prelude.{◌==◌, if◌then◌else◌, filter, filter_map, option_to_list, slice_get, zip}
-use Rattle.std.specs.List.{AllByRecursion, flat_map, list_any}
+use Rattle.std.proofs.Common.{◌≡◌, ℕ, zero, suc, ◌+◌, ◌<◌, Bool, true, false, Option, Some, None, List, [], ◌∷◌, length, map, get_or}
+use Rattle.std.proofs.Common.{refl, sym, ap, ◌∙◌, arith}
+use Rattle.std.specs.Prelude.{if◌then◌else◌, filter_map, option_to_list, slice_get, zip, filter}
+use Rattle.std.specs.List.{count_by, flat_map, list_any, sum_by}
+use Rattle.std.specs.Str.{bytes_eq}
 use Rattle.std.specs.declared.alloc.Global.{Global}
 use Rattle.std.specs.FinMap as finite
-use Rattle.std.proofs.lemmas.Bool.Decides.{nat_tests}
 use Rattle.std.proofs.lemmas.List.{length-map}
 use Rattle.flow_filter.specs.declared.packet.Packet.{Packet}
 use Rattle.nf_function.specs.declared.unit.Unit as units
@@ -13,7 +13,6 @@ use Rattle.nf_function.specs.Records.{Laws as FunctionLaws}
 use Rattle.nf_function.specs.Semantics.{Semantics}
 use Rattle.nf_msgs.specs.declared.msg.Msg.{Msg}
 use Rattle.nf_msgs.specs.declared.note.Note.{Note}
-use Rattle.nf_msgs.specs.declared.note.Note.TheVariants as note
 use Rattle.nf_msgs.specs.Nodes.{instance_node}
 use Rattle.instance_worker.specs.declared.instance.Instance.{Instance as InstanceState}
 use Rattle.actor_net.specs.declared.choice.Choice.{Choice}
@@ -25,27 +24,28 @@ use Rattle.net_world.specs.declared.node.Node.TheVariants.{Switch, Controller, I
 use Rattle.net_world.specs.Fold as folds
 use Rattle.net_world.specs.Fold.{times}
 use Rattle.net_world.specs.Input.{packet_numbered, packets}
-use Rattle.net_world.specs.Log.{done, those}
+use Rattle.net_world.specs.Log.{answer_in}
 use Rattle.net_world.specs.Nodes.{node_ready, node_step}
 use Rattle.net_world.specs.Records.{live_at, live_in}
 use Rattle.net_world.specs.Standby.{standby_in}
-use Rattle.net_world.specs.Start.{started}
-use Rattle.nf_net.proofs.PacketCounts.{all_done}
+use Rattle.net_world.specs.Start.{started_with}
+use Rattle.run_report.specs.nf_net.proofs.PacketCounts.{all_done}
 use Rattle.net_world.specs.Places.{is_loose}
 use Rattle.report_lines.specs.Lines.{NamedInstance, by_number, by_unit, named_records}
-use Rattle.run_report.specs.Lines.{answer_in, instance_in, instance_under, named_instances}
-use Rattle.whole_joined.proofs.Joined.{Nodes, node_of}
-use Rattle.whole_joined.proofs.StartJoined.{all_fit, count_at_start}
-use Rattle.whole_joined.proofs.RunsJoined.{run_beside, start_world}
-use Rattle.run_headline.specs.Headline.{Subject, Headline, is_covered, packets_of, record_after, records_of}
-use Rattle.run_headline.specs.Text.{AreTold}
-use Rattle.run_headline.specs.Law.{IsCompleted, done_in, lines, subject}
+use Rattle.run_report.specs.Lines.{instance_in, instance_under, named_instances}
+use Rattle.run_report.specs.proof_outlines.proofs.joined.Joined.{Nodes, node_of}
+use Rattle.run_report.specs.proof_outlines.proofs.joined.StartJoined.{all_fit, count_at_start}
+use Rattle.run_report.specs.proof_outlines.proofs.joined.RunsJoined.{run_beside, start_world}
+use Rattle.run_headline.specs.Headline.{Headline, is_covered, packets_of, record_after, records_of}
+use Rattle.run_headline.specs.Subject.{Subject}
+use Rattle.run_headline.specs.Law.{IsCompleted, lines, subject}
 use Rattle.run_headline.proofs.AnswerCauses.{answers_true}
 use Rattle.run_headline.proofs.CoveredUnits.{uncovered}
 use Rattle.run_headline.proofs.FoundNumbers.{all_found}
+use Rattle.run_headline.proofs.LineNumbers.{any_own, dones_times, has_some, none_both, times_of}
 use Rattle.run_headline.proofs.SummaryCounts.{counts_each, names_under}
 use Rattle.run_headline.proofs.UnitOutputs.{folds_same, mine, part, processed_all, tests_agree, unit_outputs}
-use Rattle.run_headline.proofs.UnitStates.{each_kept, kept_nth, kept_of, live_nth, live_of, none_live, one_live, sorted_kept, under_names}
+use Rattle.run_headline.proofs.UnitStates.{each_kept, kept_nth, kept_of, live_nth, live_of, none_live, nothing, one_live, sorted_kept, under_names}
 
 -- The nodes of a world: a switch, a controller, and instances.
 module _ {F R : Type 0} where
@@ -87,7 +87,8 @@ module _ {F R : Type 0} where
       → g (slice_get (s ∷ c ∷ map Instance is) (instance_node i)) ≡ g (slice_get (map Instance is) i)
   nth_node g s c is i = let node : instance_node i ≡ suc (suc i) = omega arith in ap (λ k. g (slice_get (s ∷ c ∷ map Instance is) k)) node
 
-  found_nth : (is : List (InstanceState F R)) (k : ℕ) (x : InstanceState F R) → slice_get is k ≡ Some x → (d : Node F R) → get_or (map Instance is) k d ≡ Instance x
+  found_nth : (is : List (InstanceState F R)) (k : ℕ) (x : InstanceState F R) → slice_get is k ≡ Some x → (d : Node F R)
+      → get_or (map Instance is) k d ≡ Instance x
   found_nth [] k x found d = cc
   found_nth (i ∷ is) zero x found d = let same : i ≡ x = cc in ap Instance same
   found_nth (i ∷ is) (suc k) x found d = found_nth is k x found d
@@ -112,49 +113,10 @@ module _ {F R : Type 0} where
         there = λ i y found d. ap (λ l. get_or l (suc (suc i)) d) whole ∙ found_nth are.instances i y found d;
       }
 
--- What is printed of packets has each number as often as it was processed.
-dones_times : (n : ℕ) (log : List Note) → length (filter (λ d. d.0 == n) (filter_map done_in log)) ≡ times n (map (λ d. d.number) (done log))
-dones_times n [] = refl
-dones_times n (note.Processed number instance output ∷ log) = elim (number == n) as (λ b. (number == n) ≡ b
-    → length (cond b ((number, instance) ∷ filter (λ d. d.0 == n) (filter_map done_in log)) (filter (λ d. d.0 == n) (filter_map done_in log)))
-    ≡ (if n == number then 1 else 0) + times n (map (λ d. d.number) (done log))) [
-      | true ↦ λ is. (let turned : (n == number) ≡ true = grind (arith, nat_tests) in let rest = dones_times n log in rw turned (omega (arith, rest)))
-      | false ↦ λ is. (let turned : (n == number) ≡ false = grind (arith, nat_tests) in let rest = dones_times n log in rw turned (omega (arith, rest)))
-    ] refl
-dones_times n (note.Arrived number ∷ log) = dones_times n log
-dones_times n (note.Begun op ∷ log) = dones_times n log
-dones_times n (note.Exported op instance us ∷ log) = dones_times n log
-dones_times n (note.Imported op instance us ∷ log) = dones_times n log
-dones_times n (note.Kept op instance us ∷ log) = dones_times n log
-dones_times n (note.Installed op ∷ log) = dones_times n log
-dones_times n (note.Answered op answer ∷ log) = dones_times n log
-
-packet_times : (n : ℕ) (ps : List Packet) → length (filter (λ p. p.number == n) ps) ≡ times n (map (λ p. p.number) ps)
-packet_times n [] = refl
-packet_times n (p ∷ ps) = elim (p.number == n) as (λ b. (p.number == n) ≡ b
-    → length (cond b (p ∷ filter (λ q. q.number == n) ps) (filter (λ q. q.number == n) ps))
-    ≡ (if n == p.number then 1 else 0) + times n (map (λ q. q.number) ps)) [
-      | true ↦ λ is. (let turned : (n == p.number) ≡ true = grind (arith, nat_tests) in let rest = packet_times n ps in rw turned (omega (arith, rest)))
-      | false ↦ λ is. (let turned : (n == p.number) ≡ false = grind (arith, nat_tests) in let rest = packet_times n ps in rw turned (omega (arith, rest)))
-    ] refl
-
-no_more : (ns : List ℕ) → ((p : ℕ) → times p ns ≡ 0) → ns ≡ []
-no_more [] none = refl
-no_more (n ∷ ns) none = (let own : (n == n) ≡ true = grind (arith, nat_tests) in let here : (if n == n then 1 else 0) + times n ns ≡ 0 = none n in
-    let some : 1 + times n ns ≡ 0 = rw own at here in absurd (omega (arith, some)))
-
--- there is a number
-abbrev has_some : List ℕ → Bool
-has_some [] = false
-has_some (n ∷ ns) = true
-
-nothing : {X : Type 0} (o : Option X) → ((x : X) → o ≡ Some x → ⊥) → o ≡ None
-nothing None h = refl
-nothing (Some x) h = absurd (h x refl)
-
-module _ {R : Type 0} (F : Type 0) (f : Semantics R) (laws : FunctionLaws f) (alloc : Global) (c : Config) (items : List Msg) (choices : List Choice) (is : IsCompleted F f alloc c items choices) where
+module _ {R : Type 0} (F : Type 0) (f : Semantics R) (laws : FunctionLaws f) (alloc : Global) (c : Config) (items : List Msg) (choices : List Choice)
+    (is : IsCompleted F f alloc c items choices) where
   abbrev first : Network (Node F R) Msg Note
-  first = started alloc c items
+  first = started_with alloc c items
 
   abbrev pub w : Network (Node F R) Msg Note
   w = run (node_step f) choices first
@@ -168,12 +130,13 @@ module _ {R : Type 0} (F : Type 0) (f : Semantics R) (laws : FunctionLaws f) (al
   pub nodes : AreNodes w.nodes (length c.names)
   nodes =
       let joined = (run_beside F f laws alloc c items is.is_input choices is.is_run).joined in
-      let reached = run_world node_ready (node_step f) (length c.names + 2) first (start_world F f laws alloc c items is.is_input) (count_at_start F f alloc c items is.is_input) choices is.is_run in
+      let reached = run_world node_ready (node_step f) (length c.names + 2) first (start_world F f laws alloc c items is.is_input)
+      (count_at_start F f alloc c items is.is_input) choices is.is_run in
       nodes_from joined.nodes w.nodes (length c.names) reached.1 joined.nodes_are
 
   module _ (u : units.Unit) where
     abbrev went : List ℕ
-    went = folds.went f c items u w.log
+    went = folds.processed_of f c items u w.log
 
     abbrev mine_u : ℕ → Bool
     mine_u = mine f c items u
@@ -201,14 +164,8 @@ module _ {R : Type 0} (F : Type 0) (f : Semantics R) (laws : FunctionLaws f) (al
         each_kept u there ∙ ap (λ l. flat_map (λ i. option_to_list (finite.get i.table.live u)) (map instance_under (zip c.names l))) nodes.in_order
         ∙ under_names u c.names nodes.instances nodes.many ∙ live_kept kept refl
 
-    at_most_one : (o : Option R) → length (option_to_list o) ≤ 1
-    at_most_one None = omega arith
-    at_most_one (Some r) = omega arith
-
     records_kept : records_of of u (by_unit true there) ≡ option_to_list kept
-    records_kept =
-        let few = at_most_one kept in let same = ap length unsorted in
-        sorted_kept u (flat_map (named_records true) there) (omega (arith, few, same)) ∙ unsorted
+    records_kept = sorted_kept u (flat_map (named_records true) there) ∙ unsorted
 
     -- a packet leaves a record
     some_kept : (r : R) (ps : List ℕ) → length (option_to_list (folds.fold f c items (Some r) ps)) ≡ 1
@@ -222,28 +179,11 @@ module _ {R : Type 0} (F : Type 0) (f : Semantics R) (laws : FunctionLaws f) (al
     abbrev own : List Packet
     own = packets_of of u
 
-    -- whether one of some packets is the unit's
-    any_own : (ps : List Packet) → AllByRecursion (λ p. mine_u p.number ≡ part_u p) ps
-        → has_some (those mine_u (map (λ p. p.number) ps)) ≡ list_any part_u ps
-    any_own [] all = refl
-    any_own (p ∷ ps) all = subst (λ b. has_some (cond b (p.number ∷ those mine_u (map (λ q. q.number) ps)) (those mine_u (map (λ q. q.number) ps)))
-        ≡ (part_u p || list_any part_u ps)) (sym all.0)
-        (elim (part_u p) as (λ b. has_some (cond b (p.number ∷ those mine_u (map (λ q. q.number) ps)) (those mine_u (map (λ q. q.number) ps)))
-        ≡ (b || list_any part_u ps)) [
-          | true ↦ refl
-          | false ↦ any_own ps all.1
-        ])
-
-    none_both : (xs ys : List ℕ) → ((p : ℕ) → times p xs ≡ times p ys) → has_some xs ≡ has_some ys
-    none_both [] ys same = ap has_some (sym (no_more ys (λ p. sym (same p))))
-    none_both (x ∷ xs) [] same = absurd (let none = no_more (x ∷ xs) same in let long = ap length none in omega (arith, long))
-    none_both (x ∷ xs) (y ∷ ys) same = refl
-
     some_came : has_some went ≡ list_any part_u (packets items)
     some_came =
-        none_both went (those mine_u (map (λ p. p.number) (packets items))) (λ p. is.completed.each_once u p
-        ∙ ap (λ l. times p (those mine_u l)) is.completed.all_came)
-        ∙ any_own (packets items) (tests_agree f c items u (packets items) (all_found (λ p. p.number) 0 (packets items) is.is_input.numbers))
+        none_both went (filter mine_u (map (λ p. p.number) (packets items))) (λ p. is.completed.each_once u p
+        ∙ ap (λ l. times p (filter mine_u l)) is.completed.all_came)
+        ∙ any_own mine_u part_u (packets items) (tests_agree f c items u (packets items) (all_found (λ p. p.number) 0 (packets items) is.is_input.numbers))
 
     one_state : length (records_of of u (by_unit true there)) ≡ (if list_any part_u (packets items) then 1 else 0)
     one_state = ap length records_kept ∙ one_kept went ∙ ap (λ b. if b then 1 else 0) some_came
@@ -257,17 +197,18 @@ module _ {R : Type 0} (F : Type 0) (f : Semantics R) (laws : FunctionLaws f) (al
           ∙ folds_same f c items u None (packets items) (all_found (λ p. p.number) 0 (packets items) is.is_input.numbers))
 
   -- what it tells of the instances is what its lines say
-  pub are_told : AreTold c.names (lines f c items w) there
-  are_told = record {
-    named = ap (λ l. map (λ x. x.name) (map instance_under (zip c.names l))) nodes.in_order ∙ names_under c.names nodes.instances nodes.many;
-    lives = λ name. counts_each name there;
-  }
+  pub named : map (λ x. x.name) there ≡ c.names
+  named = ap (λ l. map (λ x. x.name) (map instance_under (zip c.names l))) nodes.in_order ∙ names_under c.names nodes.instances nodes.many
+
+  pub lives : (name : List ℕ)
+      → sum_by (λ i. if bytes_eq i.name name then finite.len i.table.live else 0) there ≡ count_by (λ s. bytes_eq s.name name) (by_unit true there)
+  lives name = counts_each name there
 
   pub headline : Headline of (lines f c items w)
   headline = record {
     outs = is.outs;
     dones = λ n. dones_times n w.log ∙ all_done f c items w.log is.completed.each_once n ∙ ap (times n) is.completed.all_came
-        ∙ sym (packet_times n (packets items));
+        ∙ sym (times_of (λ p. p.number) n (packets items));
     answers = answers_true F f laws alloc c items choices is;
     one_state = one_state;
     outputs = λ u off. unit_outputs f c items is.is_input w is.promises is.completed u (in_turn u off) is.outs;

@@ -1,13 +1,12 @@
--- What the report of every completed run says of its instances: their tallies, and the records that stand by.
+-- What the report of every completed run says of its instances: their tallies, and the records that stand by, each by itself and with shares.
 use Rattle.std.proofs.Common.{◌≡◌, ◌≢◌, ℕ, zero, suc, ◌+◌, ◌<◌, ◌≤◌, Bool, true, false, not, Option, Some, None, List, [], ◌∷◌, ◌++◌, length, map, take}
 use Rattle.std.proofs.Common.{refl, sym, ap, ◌∙◌, subst, slice_index, arith}
-use Rattle.std.specs.Prelude.{◌==◌, if◌then◌else◌, filter_map, find, is_some, option_map, option_to_list, slice_get, zip}
+use Rattle.std.specs.Prelude.{if◌then◌else◌, ◌==◌, filter_map, find, is_some, option_map, option_to_list, slice_get, zip}
 use Rattle.std.specs.List.{AllByRecursion, list_any, take-map}
 use Rattle.std.specs.Str.{bytes_eq}
 use Rattle.std.specs.declared.alloc.Global.{Global}
 use Rattle.std.proofs.lemmas.Bool.{or_parts}
 use Rattle.std.proofs.lemmas.Bool.Decides.{Decides-eqb, nat_tests}
-use Rattle.std.proofs.lemmas.List.Elements.{recursion_from_All}
 use Rattle.std.proofs.lemmas.List.Quantifiers.{position-Some}
 use Rattle.flow_filter.specs.declared.filter.Filter.{Filter}
 use Rattle.flow_filter.specs.declared.packet.Packet.{Packet}
@@ -31,31 +30,33 @@ use Rattle.actor_net.specs.Network.{Network, run}
 use Rattle.actor_net.proofs.CompleteWorlds.{done_waiting}
 use Rattle.actor_net.proofs.EnabledChoices.{at}
 use Rattle.actor_net.proofs.RunInduction.{run_world}
-use Rattle.share_machine.proofs.Share.{has}
+use Rattle.run_report.specs.proof_machines.proofs.share.Share.{has}
 use Rattle.net_world.specs.declared.config.Config.{Config}
 use Rattle.net_world.specs.declared.node.Node.{Node}
-use Rattle.net_world.specs.Commands.{began}
+use Rattle.net_world.specs.Commands.{is_begun}
 use Rattle.net_world.specs.Fold as folds
 use Rattle.net_world.specs.Input.{IsProper, commands, order_numbered, packets}
-use Rattle.net_world.specs.Log.{Done, done, done_of}
+use Rattle.net_world.specs.Log.{Done, dones_in, done_where}
 use Rattle.net_world.specs.Nodes.{node_ended, node_ready, node_step}
 use Rattle.net_world.specs.Places.{is_at, is_home, owner, unit_numbered}
 use Rattle.net_world.specs.Records.{live_at}
-use Rattle.net_world.specs.Standby.{standby_at}
-use Rattle.net_world.specs.Start.{started}
+use Rattle.net_world.specs.Jobs.{job_of}
+use Rattle.net_world.specs.Standby.{standby_at, StandsBy}
+use Rattle.net_world.specs.Start.{started_with}
 use Rattle.net_world.specs.Verdicts.{is_refusal}
-use Rattle.outline_net.proofs.FiltersApart.{unit_fits}
+use Rattle.run_report.specs.proof_outlines.proofs.outline.FiltersApart.{unit_fits}
 use Rattle.report_lines.specs.Lines.{NamedInstance, NamedRecord, by_unit}
 use Rattle.run_report.specs.Lines.{instance_under, named_instances}
-use Rattle.whole_joined.proofs.Joined.{shown}
-use Rattle.whole_joined.proofs.RunsJoined.{run_beside, start_world}
-use Rattle.whole_joined.proofs.ShareBegins.{FirstKnown, first_known, places_apart}
-use Rattle.whole_joined.proofs.StartJoined.{count_at_start, given}
-use Rattle.answer_net.proofs.CommandPromises.{run_busy}
-use Rattle.nf_net.proofs.NumberedUnits.{units_fit}
+use Rattle.run_report.specs.proof_outlines.proofs.joined.Joined.{shown}
+use Rattle.run_report.specs.proof_outlines.proofs.joined.RunsJoined.{run_beside, start_world}
+use Rattle.run_report.specs.proof_outlines.proofs.joined.ShareBegins.{FirstKnown, first_known, places_apart}
+use Rattle.run_report.specs.proof_outlines.proofs.joined.StartJoined.{count_at_start, given}
+use Rattle.run_report.specs.nf_net.proofs.answers.CommandPromises.{run_busy}
+use Rattle.run_report.specs.nf_net.proofs.NumberedUnits.{units_fit}
 use Rattle.run_headline.specs.Causes.{is_answered, is_done}
-use Rattle.run_headline.specs.Headline.{ReportLines, Subject, is_covered, packets_of}
-use Rattle.run_headline.specs.Instances.{AreStandbys, AreTallies, IsOfFront, IsShared, records_under}
+use Rattle.run_headline.specs.Headline.{ReportLines, is_covered, packets_of, record_after}
+use Rattle.run_headline.specs.Subject.{Subject}
+use Rattle.run_headline.specs.Instances.{AreTallies, IsAsNew, IsShared, records_under}
 use Rattle.run_headline.specs.Law.{IsCompleted, lines, subject}
 use Rattle.run_headline.proofs.AnswerLines.{answer_to, answered_so}
 use Rattle.run_headline.proofs.CoveredUnits.{uncovered}
@@ -96,14 +97,15 @@ only_one None r same = cc
 only_one (Some x) r same = let one : x ≡ r = cc in ap Some one
 
 -- what was processed of some passes their test
-done_passes : (mine : ℕ → Bool) (ds : List Done) (d : Done) (rest : List Done) → done_of mine ds ≡ d ∷ rest → mine d.number ≡ true
+done_passes : (mine : ℕ → Bool) (ds : List Done) (d : Done) (rest : List Done) → done_where mine ds ≡ d ∷ rest → mine d.number ≡ true
 done_passes mine [] d rest is = cc
-done_passes mine (x ∷ ds) d rest is = elim (mine x.number) as (λ b. mine x.number ≡ b → (if b then x ∷ done_of mine ds else done_of mine ds) ≡ d ∷ rest → mine d.number ≡ true) [
-  | true ↦ λ on there. let same : x ≡ d = cc in ap (λ y. mine y.number) (sym same) ∙ on
-  | false ↦ λ _ there. done_passes mine ds d rest there
-] refl is
+done_passes mine (x ∷ ds) d rest is =
+    elim (mine x.number) as (λ b. mine x.number ≡ b → (if b then x ∷ done_where mine ds else done_where mine ds) ≡ d ∷ rest → mine d.number ≡ true) [
+      | true ↦ λ on there. let same : x ≡ d = cc in ap (λ y. mine y.number) (sym same) ∙ on
+      | false ↦ λ _ there. done_passes mine ds d rest there
+    ] refl is
 
-done_unrefused : (a : Answer) → is_done a ≡ true → is_refusal a ≡ false
+pub done_unrefused : (a : Answer) → is_done a ≡ true → is_refusal a ≡ false
 done_unrefused answers.Done is = refl
 done_unrefused (answers.Unknown name) is = cc
 done_unrefused (answers.Overlap op) is = cc
@@ -111,7 +113,8 @@ done_unrefused (answers.Import held coming limit) is = refl
 done_unrefused (answers.Old newest reads) is = refl
 
 -- what stands at a place among the named instances
-told_nth : {F R : Type 0} (names : List (List ℕ)) (xs : List (InstanceState F R)) (i : ℕ) (x : NamedInstance R) → slice_get (map instance_under (zip names xs)) i ≡ Some x
+told_nth : {F R : Type 0} (names : List (List ℕ)) (xs : List (InstanceState F R)) (i : ℕ) (x : NamedInstance R)
+    → slice_get (map instance_under (zip names xs)) i ≡ Some x
     → (y : InstanceState F R) × (slice_get xs i ≡ Some y) × (y.tally.slots ≡ x.slots) × (i < length names)
 told_nth [] xs i x found = cc
 told_nth (name ∷ names) [] i x found = cc
@@ -121,12 +124,12 @@ told_nth (name ∷ names) (y ∷ xs) (suc i) x found = (let rest = told_nth name
 module _ {R : Type 0} (F : Type 0) (f : Semantics R) (laws : FunctionLaws f) (alloc : Global) (c : Config) (items : List Msg) (choices : List Choice)
     (is : IsCompleted F f alloc c items choices) where
   abbrev w : Network (Node F R) Msg Note
-  w = run (node_step f) choices (started alloc c items)
+  w = run (node_step f) choices (started_with alloc c items)
 
-  abbrev of : Subject R
+  abbrev pub of : Subject R
   of = subject f c items
 
-  abbrev said : ReportLines R
+  abbrev pub said : ReportLines R
   said = lines f c items w
 
   abbrev pub there : List (NamedInstance R)
@@ -135,10 +138,10 @@ module _ {R : Type 0} (F : Type 0) (f : Semantics R) (laws : FunctionLaws f) (al
   abbrev pub standbys : List (NamedRecord R)
   standbys = by_unit false there
 
-  here : AreNodes w.nodes (length c.names)
+  pub here : AreNodes w.nodes (length c.names)
   here = nodes F f laws alloc c items choices is
 
-  told_is : there ≡ map instance_under (zip c.names here.instances)
+  pub told_is : there ≡ map instance_under (zip c.names here.instances)
   told_is = ap (λ l. map instance_under (zip c.names l)) here.in_order
 
   -- what the tally of an instance says
@@ -161,56 +164,63 @@ module _ {R : Type 0} (F : Type 0) (f : Semantics R) (laws : FunctionLaws f) (al
       }
 
   pub tallies : AreTallies of said there
-  tallies = record {
-    own = λ i x found. (let t = has_tally i x found in take_get (length c.names) i x.slots t.low t.long ∙ ap Some t.own);
-    others = λ i j x found. (let less = (has_tally i x found).others j in let some = take_less (length c.names) j x.slots in omega (arith, less, some));
-  }
+  tallies = λ i x found. (
+    let t = has_tally i x found in take_get (length c.names) i x.slots t.low t.long ∙ ap Some t.own,
+    λ j. (let less = (has_tally i x found).others j in let some = take_less (length c.names) j x.slots in omega (arith, less, some)),
+  )
 
-  packets_found : AllByRecursion (IsFound (λ p. p.number) (packets items)) (packets items)
+  pub packets_found : AllByRecursion (IsFound (λ p. p.number) (packets items)) (packets items)
   packets_found = all_found (λ p. p.number) 0 (packets items) is.is_input.numbers
 
   -- a record that stands by, of a unit that isn't covered
-  front_of : (own : List ℕ) (k : ℕ) (u : units.Unit) (r : R) → kept_nth u false here.instances k ≡ Some r → is_covered of said.answers u ≡ false
-      → IsOfFront of said (record { unit = u; name = own; kept = r })
-  front_of own k u r kept off =
-      let there : standby_at w k u ≡ Some r = here.stands u k ∙ kept in
-      let s = is.standbys.fronts k u r there in
+  pub stands_after : (k : ℕ) (u : units.Unit) (s : StandsBy (job_of f c items) w k u) → is_covered of said.answers u ≡ false
+      → record_after of (take (length s.front) (packets_of of u)) ≡ Some s.kept
+  stands_after k u s off =
       let mine = packets_of of u in
       let count = length s.front in
       let all = processed_all f c items is.is_input w is.promises is.completed u (uncovered f c items w.log is.promises.answers is.answers u off) in
       let whole : s.front ++ s.is_front.rest ≡ map (λ p. p.number) mine = s.is_front.whole ∙ all ∙ those_numbers f c items u (packets items) packets_found in
       let front : map (λ p. p.number) (take count mine) ≡ s.front =
       sym (take-map (λ (p : Packet). p.number) count mine) ∙ ap (take count) (sym whole) ∙ take_front s.front s.is_front.rest in
-      let found = all_take (IsThere f c items u) count mine (all_filter (IsThere f c items u) (part f c items u) (packets items) packets_found) in (
-        count,
-        sym (folds_numbers f c items u None (take count mine) found) ∙ ap (folds.fold f c items None) front ∙ s.folds ∙ sym s.there ∙ there,
-      )
+      let found = all_take (IsThere f c items u) count mine (all_filter (IsThere f c items u) (part f c items u) (packets items) packets_found) in
+      sym (folds_numbers f c items u None (take count mine) found) ∙ ap (folds.fold f c items None) front ∙ s.folds
 
-  fronts : AllByRecursion (λ s. is_covered of said.answers s.unit ≡ false → IsOfFront of said s) standbys
+  front_of : (own : List ℕ) (k : ℕ) (u : units.Unit) (r : R) → kept_nth u false here.instances k ≡ Some r → is_covered of said.answers u ≡ false
+      → IsAsNew of u 0 (r ∷ [])
+  front_of own k u r kept off =
+      let there : standby_at w k u ≡ Some r = here.stands u k ∙ kept in
+      let s = is.standbys.fronts k u r there in
+      record {
+        count = length s.front;
+        enough = omega arith;
+        records_are = ap option_to_list (sym (stands_after k u s off ∙ sym s.there ∙ there));
+      }
+
+  pub fronts : AllByRecursion (λ s. is_covered of said.answers s.unit ≡ false → IsAsNew of s.unit 0 (s.kept ∷ [])) standbys
   fronts =
-      subst (λ l. AllByRecursion (λ s. is_covered of said.answers s.unit ≡ false → IsOfFront of said s) (by_unit false l)) (sym told_is)
-      (all_told (λ s. is_covered of said.answers s.unit ≡ false → IsOfFront of said s) false c.names here.instances front_of)
+      subst (λ l. AllByRecursion (λ s. is_covered of said.answers s.unit ≡ false → IsAsNew of s.unit 0 (s.kept ∷ [])) (by_unit false l)) (sym told_is)
+      (all_told (λ s. is_covered of said.answers s.unit ≡ false → IsAsNew of s.unit 0 (s.kept ∷ [])) false c.names here.instances front_of)
 
   -- a unit with a record is one that packets may have
-  fits : (u : units.Unit) (r : R) → folds.fold f c items None (folds.went f c items u w.log) ≡ Some r → unit_fits f.kind u ≡ true
-  fits u r kept = by_done (done_of (folds.is_of f c items u) (done w.log)) refl kept
+  fits : (u : units.Unit) (r : R) → folds.fold f c items None (folds.processed_of f c items u w.log) ≡ Some r → unit_fits f.kind u ≡ true
+  fits u r kept = by_done (done_where (folds.is_of f c items u) (dones_in w.log)) refl kept
     where
-      by_done : (ds : List Done) → done_of (folds.is_of f c items u) (done w.log) ≡ ds → folds.fold f c items None (map (λ d. d.number) ds) ≡ Some r
+      by_done : (ds : List Done) → done_where (folds.is_of f c items u) (dones_in w.log) ≡ ds → folds.fold f c items None (map (λ d. d.number) ds) ≡ Some r
           → unit_fits f.kind u ≡ true
       by_done [] none h = cc
       by_done (d ∷ ds) some h =
           let same : unit_numbered c items f.kind d.number ≡ u =
-          same_unit-true (unit_numbered c items f.kind d.number) u (done_passes (folds.is_of f c items u) (done w.log) d ds some) in
+          same_unit-true (unit_numbered c items f.kind d.number) u (done_passes (folds.is_of f c items u) (dones_in w.log) d ds some) in
           ap (unit_fits f.kind) (sym same) ∙ units_fit f c items is.is_input d.number
 
   -- A share that is done.
   module _ (once : has_twice c.names ≡ false) (op : ℕ) (home : List ℕ) (others : List (List ℕ)) (taken : Filter)
       (order : order_numbered items op ≡ Some (Share (home ∷ others) taken)) (is_answer : is_answered is_done said.answers op ≡ true) where
-    begun : began op w.log ≡ true
+    begun : is_begun op w.log ≡ true
     begun =
         let one = answer_to w.log is.promises.answers.answered_once items is.answers op (Share (home ∷ others) taken) order in
         let unrefused = done_unrefused one.0 (answered_so is_done one.0 op w.log one.1 is_answer) in
-        elim (began op w.log) as (λ b. began op w.log ≡ b → b ≡ true) [
+        elim (is_begun op w.log) as (λ b. is_begun op w.log ≡ b → b ≡ true) [
           | true ↦ λ _. refl
           | false ↦ λ off. (let never = sym unrefused ∙ is.verdicts.refused op one.0 off one.1 in cc)
         ] refl
@@ -230,7 +240,7 @@ module _ {R : Type 0} (F : Type 0) (f : Semantics R) (laws : FunctionLaws f) (al
           ∙ only_one (kept_nth u true here.instances first.home) r (sym (under_name u home true c.names here.instances first.home here.many once at.0 at.1)
           ∙ ap (λ l. records_under u home (by_unit true l)) (sym told_is) ∙ live)
 
-      kept : folds.fold f c items None (folds.went f c items u w.log) ≡ Some r
+      kept : folds.fold f c items None (folds.processed_of f c items u w.log) ≡ Some r
       kept = is.completed.records_are u first.home r live_there
 
       owns : first.home ≡ owner c items u w.log
@@ -239,15 +249,17 @@ module _ {R : Type 0} (F : Type 0) (f : Semantics R) (laws : FunctionLaws f) (al
       at_home : is_home c.names (order_numbered items) (home ∷ others) (owner c items u w.log) ≡ true
       at_home = ap (λ o. is_at o (owner c items u w.log)) first.at ∙ (Decides-eqb (owner c items u w.log) first.home).1 (sym owns)
 
-      member_kept : (i : ℕ) → has (map instance_node (filter_map (place_of c.names) (home ∷ others))) (instance_node i) ≡ true → i ≢ first.home → standby_at w i u ≡ Some r
+      member_kept : (i : ℕ) → has (map instance_node (filter_map (place_of c.names) (home ∷ others))) (instance_node i) ≡ true → i ≢ first.home
+          → standby_at w i u ≡ Some r
       member_kept i inside apart =
           let run = run_beside F f laws alloc c items is.is_input choices is.is_run in
           let busy = run_busy F f laws alloc c items is.is_input choices is.is_run in
-          let reached = run_world node_ready (node_step f) (length c.names + 2) (started alloc c items) (start_world F f laws alloc c items is.is_input)
+          let reached = run_world node_ready (node_step f) (length c.names + 2) (started_with alloc c items) (start_world F f laws alloc c items is.is_input)
           (count_at_start F f alloc c items is.is_input) choices is.is_run in
           let own = owns in
           let off : (instance_node i == instance_node (owner c items u w.log)) ≡ false = grind (arith, nat_tests, apart, own) in
-          member_stands f c items is.is_input (length c.names + 2) refl w reached.1 run.joined run.beside.kept.apart busy.1 u (fits u r kept) op (home ∷ others) taken
+          member_stands f c items is.is_input (length c.names + 2) refl w reached.1 run.joined run.beside.kept.apart busy.1 u (fits u r kept) op
+          (home ∷ others) taken
           order on begun at_home
           (λ a b low high other. run.joined.links a b low high other
           ∙ ap (filter_map (shown f (given f c items is.is_input))) (done_waiting node_ended w is.is_ended (at b a)))
@@ -280,14 +292,17 @@ module _ {R : Type 0} (F : Type 0) (f : Semantics R) (laws : FunctionLaws f) (al
       each_other (name ∷ rest) none apart inside =
           let one = first_known c.names name rest none in
           let parts = or_parts (bytes_eq name home) (list_any (λ other. bytes_eq other home) rest) apart in
-          let same : map instance_node (filter_map (place_of c.names) (name ∷ rest)) ≡ instance_node one.home ∷ map instance_node (filter_map (place_of c.names) rest) =
+          let same : map instance_node (filter_map (place_of c.names) (name ∷ rest))
+          ≡ instance_node one.home ∷ map instance_node (filter_map (place_of c.names) rest) =
           ap (map instance_node) one.instances in
           let own : (instance_node one.home == instance_node one.home) ≡ true = grind (arith, nat_tests) in
           let first_in : has (map instance_node (filter_map (place_of c.names) (name ∷ rest))) (instance_node one.home) ≡ true =
-          ap (λ ks. has ks (instance_node one.home)) same ∙ ap (λ b. if b then true else has (map instance_node (filter_map (place_of c.names) rest)) (instance_node one.home)) own in (
+          ap (λ ks. has ks (instance_node one.home)) same
+          ∙ ap (λ b. if b then true else has (map instance_node (filter_map (place_of c.names) rest)) (instance_node one.home)) own in (
             one_other name one.home one.at parts.0 (inside (instance_node one.home) first_in),
             each_other rest (rest_known name rest none) parts.1
-                (λ k at_rest. inside k (ap (λ ks. has ks k) same ∙ has_more (instance_node one.home) k (map instance_node (filter_map (place_of c.names) rest)) at_rest)),
+                (λ k at_rest. inside k
+                (ap (λ ks. has ks k) same ∙ has_more (instance_node one.home) k (map instance_node (filter_map (place_of c.names) rest)) at_rest)),
           )
 
     share_stands : list_any (λ other. bytes_eq other home) others ≡ false → IsShared said.states standbys (Share (home ∷ others) taken)
@@ -305,15 +320,9 @@ module _ {R : Type 0} (F : Type 0) (f : Semantics R) (laws : FunctionLaws f) (al
   shared_by once op (Share (home ∷ others) taken) order proper is_answer =
       share_stands once op home others taken order is_answer (or_parts (list_any (λ other. bytes_eq other home) others) (has_twice others) proper.0.once).0
 
-  shared : has_twice c.names ≡ false → (ks : List Command) → AllByRecursion (IsFound (λ k. k.op) (commands items)) ks → AllByRecursion (λ k. IsProper f.kind k.what) ks
+  pub shared : has_twice c.names ≡ false → (ks : List Command) → AllByRecursion (IsFound (λ k. k.op) (commands items)) ks
+      → AllByRecursion (λ k. IsProper f.kind k.what) ks
       → AllByRecursion (λ k. is_answered is_done said.answers k.op ≡ true → IsShared said.states standbys k.what) ks
   shared once [] found proper = tt
   shared once (k ∷ ks) found proper =
       (shared_by once k.op k.what (ap (option_map (λ x. x.what)) found.0) proper.0, shared once ks found.1 proper.1)
-
-  pub are_standbys : AreStandbys of said standbys
-  are_standbys = record {
-    fronts = fronts;
-    shared = λ once. shared once (commands items) (all_found (λ k. k.op) 0 (commands items) is.is_input.ops)
-        (recursion_from_All (λ k. IsProper f.kind k.what) (commands items) is.is_input.orders);
-  }

@@ -1,11 +1,13 @@
 pub mod SortedParts
 pub mod FoundNumbers
+pub mod LineNumbers
 pub mod CommandNotes
 pub mod CommandOrder
 pub mod AnswerLines
 pub mod AnswerCauses
 pub mod UnitOutputs
 pub mod CoveredUnits
+pub mod UnitLines
 pub mod UnitStates
 pub mod SummaryCounts
 pub mod OwnTallies
@@ -15,5 +17,8 @@ pub mod RecordsUnder
 pub mod HeadlineRuns
 pub mod SharedStandbys
 pub mod InstanceLines
+pub mod UnmovedUnits
+pub mod CopiedStandbys
 pub mod ReportTexts
 pub mod TwoRuns
+pub mod others

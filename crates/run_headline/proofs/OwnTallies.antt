@@ -24,10 +24,11 @@ use Rattle.nf_msgs.specs.declared.note.Note.{Note}
 use Rattle.nf_msgs.specs.declared.note.Note.TheVariants as note
 use Rattle.instance_worker.specs.declared.instance.Instance.{Instance}
 use Rattle.instance_worker.specs.Pieces.{pieces}
-use Rattle.instance_worker.specs.Instance.{Step, told, chunk_told, shared, still, tells, and_then, selected, processed, all_processed, carried, where_good, piece_refusal, piece_put, instance_step}
+use Rattle.instance_worker.specs.Instance.{Step, to_controller, chunk_told, share_message, still, tell_step, and_then, selected_chunks}
+use Rattle.instance_worker.specs.Instance.{process_step, all_processed, carry_step, where_good, piece_refusal, piece_put, instance_step}
 use Rattle.instance_worker.specs.Instance.{on_carry, on_fence, on_get, on_stream, on_put, on_restore, on_standby, on_sync}
-use Rattle.unit_machine.proofs.Labels.{Each, each-append}
-use Rattle.whole_joined.proofs.PlaceNotes.{AreUnprocessed}
+use Rattle.run_report.specs.proof_machines.proofs.unit.Labels.{Each, each-append}
+use Rattle.run_report.specs.proof_outlines.proofs.joined.PlaceNotes.{AreUnprocessed}
 use Rattle.run_headline.specs.Law.{done_in}
 
 -- how many packets an instance has processed, by the notes
@@ -42,24 +43,12 @@ done_append j (note.Processed number k output ∷ xs) ys = elim (k == j) as (λ 
       | true ↦ (let rest = done_append j xs ys in omega (arith, rest))
       | false ↦ done_append j xs ys
     ]
-done_append j (note.Arrived number ∷ xs) ys = done_append j xs ys
-done_append j (note.Begun op ∷ xs) ys = done_append j xs ys
-done_append j (note.Exported k op us ∷ xs) ys = done_append j xs ys
-done_append j (note.Imported k op us ∷ xs) ys = done_append j xs ys
-done_append j (note.Kept k op us ∷ xs) ys = done_append j xs ys
-done_append j (note.Installed op ∷ xs) ys = done_append j xs ys
-done_append j (note.Answered op answer ∷ xs) ys = done_append j xs ys
+done_append j (n ∷ xs) ys = done_append j xs ys
 
 pub none_done : (j : ℕ) (notes : List Note) → AreUnprocessed notes → done_at j notes ≡ 0
 none_done j [] h = refl
 none_done j (note.Processed number k output ∷ ns) h = let never : false ≡ true = h.0 in cc
-none_done j (note.Arrived number ∷ ns) h = none_done j ns h.1
-none_done j (note.Begun op ∷ ns) h = none_done j ns h.1
-none_done j (note.Exported k op us ∷ ns) h = none_done j ns h.1
-none_done j (note.Imported k op us ∷ ns) h = none_done j ns h.1
-none_done j (note.Kept k op us ∷ ns) h = none_done j ns h.1
-none_done j (note.Installed op ∷ ns) h = none_done j ns h.1
-none_done j (note.Answered op answer ∷ ns) h = none_done j ns h.1
+none_done j (n ∷ ns) h = none_done j ns h.1
 
 -- one count set
 set_own : (slots : List ℕ) (k v : ℕ) → k < length slots → slice_index (slice_set slots k v) k ≡ v
@@ -87,11 +76,11 @@ NoTally m = Unit {0}
 abbrev pub NoTallies : List (ℕ × Msg) → Type 0
 NoTallies sends = Each (λ x. NoTally x.1) sends
 
-chunk_none : (op : ℕ) (o : Option Chunk) (behind : List (ℕ × Msg)) → NoTallies behind → NoTallies (told (chunk_told op o) ++ behind)
+chunk_none : (op : ℕ) (o : Option Chunk) (behind : List (ℕ × Msg)) → NoTallies behind → NoTallies (to_controller (chunk_told op o) ++ behind)
 chunk_none op None behind h = h
 chunk_none op (Some chunk) behind h = (tt, h)
 
-pieces_none : (op : ℕ) (ps : List Piece) → NoTallies (told (map (msg.Piece op) ps))
+pieces_none : (op : ℕ) (ps : List Piece) → NoTallies (to_controller (map (msg.Piece op) ps))
 pieces_none op [] = tt
 pieces_none op (p ∷ ps) = (tt, pieces_none op ps)
 
@@ -135,7 +124,8 @@ module _ {F R : Type 0} (f : Semantics R) where
 
   -- one step and then another
   then_counted : (n : ℕ) (i : Instance F R) (step : Step F R) (next : Instance F R → Step F R) → HasCount n i → (first : Counted n i step)
-      → (HasCount (n + done_at i.index step.notes) step.node → Counted (n + done_at i.index step.notes) step.node (next step.node)) → Counted n i (and_then step next)
+      → (HasCount (n + done_at i.index step.notes) step.node → Counted (n + done_at i.index step.notes) step.node (next step.node))
+      → Counted n i (and_then step next)
   then_counted n i step next h first behind =
       let low = h.low in
       let index = first.index in
@@ -154,39 +144,40 @@ module _ {F R : Type 0} (f : Semantics R) where
         sends = each-append (λ x. NoTally x.1) step.sends did.sends first.sends second.sends;
       }
 
-  shared_none : (i : Instance F R) (m : Mark) (u : units.Unit) (behind : List (ℕ × Msg)) → NoTallies behind → NoTallies (told (shared f i m u) ++ behind)
+  shared_none : (i : Instance F R) (m : Mark) (u : units.Unit) (behind : List (ℕ × Msg)) → NoTallies behind
+      → NoTallies (to_controller (share_message f i m u) ++ behind)
   shared_none i mark.Plain u behind h = h
   shared_none i (mark.Pass op) u behind h = h
   shared_none i (mark.Shared op home) u behind h = chunk_none op _ behind h
 
-  one_counted : (n : ℕ) (i : Instance F R) (m : Mark) (cell : FullCell) → HasCount n i → Counted n i (processed f i m cell)
-  unfolding processed
+  one_counted : (n : ℕ) (i : Instance F R) (m : Mark) (cell : FullCell) → HasCount n i → Counted n i (process_step f i m cell)
+  unfolding process_step
   one_counted n i m cell h = record {
     index = refl;
     long = length-set i.tally.slots i.index (count (slice_index i.tally.slots i.index) 1);
     own = set_own i.tally.slots i.index (count (slice_index i.tally.slots i.index) 1) h.low ∙ counts;
     others = λ j off. set_other i.tally.slots i.index (count (slice_index i.tally.slots i.index) 1) j off;
     notes = λ j off. (let turned : (i.index == j) ≡ false = grind (arith, nat_tests, off) in rw turned refl);
-    sends = shared_none (processed f i m cell).node m (unit_at f.kind i.site cell.packet) ((0, msg.Credit cell) ∷ []) (tt, tt);
+    sends = shared_none (process_step f i m cell).node m (unit_at f.kind i.site cell.packet) ((0, msg.Credit cell) ∷ []) (tt, tt);
   }
     where
-      counts : count (slice_index i.tally.slots i.index) 1 ≡ min (n + done_at i.index (processed f i m cell).notes) most
+      counts : count (slice_index i.tally.slots i.index) 1 ≡ min (n + done_at i.index (process_step f i m cell).notes) most
       counts = let is = h.own in let own : (i.index == i.index) ≡ true = grind (arith, nat_tests) in rw own (omega (arith, is))
 
   all_counted : (n : ℕ) (i : Instance F R) (cells : List FullCell) → HasCount n i → Counted n i (all_processed f i cells)
   unfolding all_processed
   all_counted n i [] h = quiet n i (still i) h (refl, refl) refl tt
   all_counted n i (cell ∷ cells) h =
-      let first = processed f i mark.Plain cell in
+      let first = process_step f i mark.Plain cell in
       then_counted n i first (λ j. all_processed f j cells) h (one_counted n i mark.Plain cell h)
       (λ more. all_counted (n + done_at i.index first.notes) first.node cells more)
 
-  carried_counted : (n : ℕ) (i : Instance F R) (m : Mark) (cell : FullCell) (d : Decide) → HasCount n i → Counted n i (carried f i m cell d)
+  carried_counted : (n : ℕ) (i : Instance F R) (m : Mark) (cell : FullCell) (d : Decide) → HasCount n i → Counted n i (carry_step f i m cell d)
   carried_counted n i m cell decide.Process h = one_counted n i m cell h
   carried_counted n i m cell (decide.ProcessAndEvent op) h =
-      let first = processed f i m cell in
-      then_counted n i first (λ j. tells j (msg.Seen op cell.packet)) h (one_counted n i m cell h)
-      (λ more. quiet (n + done_at i.index first.notes) first.node (tells first.node (msg.Seen op cell.packet)) more (refl, refl) refl (tt, tt))
+      let first = process_step f i m cell in
+      then_counted n i first (λ j. tell_step j (msg.Seen op cell.packet)) h (one_counted n i m cell h)
+      (λ more. quiet (n + done_at i.index first.notes) first.node (tell_step first.node (msg.Seen op cell.packet)) more (refl, refl) refl (tt, tt))
   carried_counted n i m cell (decide.Event op) h = quiet n i _ h (refl, refl) refl (tt, tt)
   carried_counted n i m cell (decide.Buffer op) h = quiet n i _ h (refl, refl) refl tt
 
@@ -200,12 +191,13 @@ module _ {F R : Type 0} (f : Semantics R) where
       let before : Instance F R = record i { rules = rules.without_rule i.rules op } in
       let has : HasCount n before = record { low = h.low; own = h.own } in
       let all = all_processed f before (rules.held_at i.rules op) in
-      let it = then_counted n before all (λ j. tells j (msg.Fenced op)) has (all_counted n before (rules.held_at i.rules op) has)
-      (λ more. quiet (n + done_at i.index all.notes) all.node (tells all.node (msg.Fenced op)) more (refl, refl) refl (tt, tt)) in
+      let it = then_counted n before all (λ j. tell_step j (msg.Fenced op)) has (all_counted n before (rules.held_at i.rules op) has)
+      (λ more. quiet (n + done_at i.index all.notes) all.node (tell_step all.node (msg.Fenced op)) more (refl, refl) refl (tt, tt)) in
       record { index = it.index; long = it.long; own = it.own; others = it.others; notes = it.notes; sends = it.sends }
 
   good_counted : (n : ℕ) (i : Instance F R) (chunks : List Chunk) (did : Step F R) → HasCount n i → Counted n i did → Counted n i (where_good f i chunks did)
-  good_counted n i chunks did h l = elim (are_good f chunks) as (λ b. Counted n i (if b then did else still i)) [ true ↦ l | false ↦ quiet n i (still i) h (refl, refl) refl tt ]
+  good_counted n i chunks did h l =
+      elim (are_good f chunks) as (λ b. Counted n i (if b then did else still i)) [ true ↦ l | false ↦ quiet n i (still i) h (refl, refl) refl tt ]
 
   get_counted : (n : ℕ) (i : Instance F R) (op : ℕ) (filter : Filter) → HasCount n i → Counted n i (on_get f i op filter)
   unfolding on_get
@@ -213,12 +205,13 @@ module _ {F R : Type 0} (f : Semantics R) where
 
   stream_counted : (n : ℕ) (i : Instance F R) (op : ℕ) (filter : Filter) → HasCount n i → Counted n i (on_stream f i op filter)
   unfolding on_stream
-  stream_counted n i op filter h = unprocessed n i _ h (refl, refl) (refl, tt) (pieces_none op (pieces (selected f i filter)))
+  stream_counted n i op filter h = unprocessed n i _ h (refl, refl) (refl, tt) (pieces_none op (pieces (selected_chunks f i filter)))
 
-  piece_counted : (n : ℕ) (i : Instance F R) (op : ℕ) (piece : Piece) (answered : Bool) (o : Option Answer) → HasCount n i → Counted n i (piece_put f i op piece answered o)
+  piece_counted : (n : ℕ) (i : Instance F R) (op : ℕ) (piece : Piece) (answered : Bool) (o : Option Answer) → HasCount n i
+      → Counted n i (piece_put f i op piece answered o)
   piece_counted n i op piece answered (Some why) h = quiet n i _ h (refl, refl) refl (tt, tt)
   piece_counted n i op piece answered None h = good_counted n i piece.chunks _ h (unprocessed n i _ h (refl, refl) (refl, tt)
-      (elim answered as (λ b. NoTallies (told (if b then msg.PutOk op ∷ [] else []))) [ true ↦ (tt, tt) | false ↦ tt ]))
+      (elim answered as (λ b. NoTallies (to_controller (if b then msg.PutOk op ∷ [] else []))) [ true ↦ (tt, tt) | false ↦ tt ]))
 
   put_counted : (n : ℕ) (i : Instance F R) (op : ℕ) (piece : Piece) (first : Bool) → HasCount n i → Counted n i (on_put f i op piece first)
   unfolding on_put

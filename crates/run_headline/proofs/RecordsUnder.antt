@@ -1,6 +1,6 @@
 -- The records of a unit under a name, among those of all instances sorted by their units: where no two names are alike, the one of the instance
 -- with the name.
-use Rattle.std.proofs.Common.{◌≡◌, ℕ, zero, suc, ◌+◌, ◌<◌, ◌≤◌, Bool, true, false, ◌&&◌, cond, Option, Some, None, List, [], ◌∷◌, ◌++◌, length, map, get_or}
+use Rattle.std.proofs.Common.{◌≡◌, ℕ, zero, suc, ◌<◌, ◌≤◌, Bool, true, false, ◌&&◌, cond, Option, Some, None, List, [], ◌∷◌, ◌++◌, length, map, get_or}
 use Rattle.std.proofs.Common.{refl, sym, ap, ◌∙◌, subst, append-nil, arith}
 use Rattle.std.specs.Prelude.{T, filter, option_to_list, zip}
 use Rattle.std.specs.List.{AllByRecursion, flat_map, list_any}
@@ -24,14 +24,16 @@ use Rattle.report_lines.specs.Lines.{NamedInstance, NamedRecord, by_unit, named_
 use Rattle.run_report.specs.Lines.{instance_under}
 use Rattle.run_headline.specs.Instances.{records_under}
 use Rattle.run_headline.proofs.SortedParts.{all_sorted, one_stays}
-use Rattle.run_headline.proofs.UnitStates.{found_kept, kept_nth, kept_of, no_less}
+use Rattle.run_headline.proofs.UnitLines.{no_less}
+use Rattle.run_headline.proofs.UnitStates.{found_kept, kept_nth, kept_of}
 
 -- what is not one of some names
 differs_at : (name : List ℕ) (more : List (List ℕ)) (i : ℕ) → i < length more → list_any (λ other. bytes_eq other name) more ≡ false
     → bytes_eq (get_or more i []) name ≡ false
 differs_at name [] i low off = absurd (omega (arith, low))
 differs_at name (other ∷ more) zero low off = (or_parts (bytes_eq other name) (list_any (λ x. bytes_eq x name) more) off).0
-differs_at name (other ∷ more) (suc i) low off = differs_at name more i (omega (arith, low)) (or_parts (bytes_eq other name) (list_any (λ x. bytes_eq x name) more) off).1
+differs_at name (other ∷ more) (suc i) low off =
+    differs_at name more i (omega (arith, low)) (or_parts (bytes_eq other name) (list_any (λ x. bytes_eq x name) more) off).1
 
 module _ {R : Type 0} (u : units.Unit) (name : List ℕ) where
   abbrev passes : NamedRecord R → Bool
@@ -67,9 +69,11 @@ module _ {R : Type 0} (u : units.Unit) (name : List ℕ) where
     own_name on [] = refl
     own_name on (e ∷ es) =
         let rest = own_name on es in
-        elim (same_unit e.0 u) as (λ b. map (λ s. s.kept) (cond (b && bytes_eq own name) (named e ∷ filter passes (map named es)) (filter passes (map named es)))
+        elim (same_unit e.0 u) as (λ b. map (λ s. s.kept)
+        (cond (b && bytes_eq own name) (named e ∷ filter passes (map named es)) (filter passes (map named es)))
         ≡ map (λ s. s.kept) (cond b (named e ∷ filter (λ s. same_unit s.unit u) (map named es)) (filter (λ s. same_unit s.unit u) (map named es)))) [
-          | true ↦ subst (λ b. map (λ s. s.kept) (cond b (named e ∷ filter passes (map named es)) (filter passes (map named es))) ≡ e.1 ∷ kept_of u (map named es))
+          | true ↦ subst (λ b. map (λ s. s.kept) (cond b (named e ∷ filter passes (map named es)) (filter passes (map named es)))
+              ≡ e.1 ∷ kept_of u (map named es))
               (sym on) (ap (λ l. e.1 ∷ l) rest)
           | false ↦ rest
         ]
@@ -121,7 +125,8 @@ module _ {R : Type 0} (u : units.Unit) (name : List ℕ) where
         let parts = or_parts (list_any (λ other. bytes_eq other own) names) (has_twice names) once in
         let within : k < length names = omega (arith, low) in
         under_append (here own x) (told names xs)
-        ∙ ap (λ l. l ++ records_under u name (told names xs)) (other_name own (differs (differs_at own names k within parts.0)) (finite.entries (part x.table live)))
+        ∙ ap (λ l. l ++ records_under u name (told names xs))
+        (other_name own (differs (differs_at own names k within parts.0)) (finite.entries (part x.table live)))
         ∙ one_under names xs k (omega (arith, long)) parts.1 within on
       where
         differs : bytes_eq (get_or names k []) own ≡ false → bytes_eq own name ≡ false

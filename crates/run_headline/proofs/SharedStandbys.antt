@@ -16,48 +16,48 @@ use Rattle.nf_msgs.specs.Nodes.{instance_node}
 use Rattle.copy_share.specs.Share.{home}
 use Rattle.ctrl_node.specs.declared.operation.Operation.TheVariants.{Share}
 use Rattle.actor_net.specs.Network.{Network}
-use Rattle.share_machine.proofs.Records.{own_is}
-use Rattle.share_machine.proofs.Share.{UnitShare, has, runs}
-use Rattle.abstract_net.proofs.Elsewhere.{where_two}
-use Rattle.abstract_net.proofs.Net.{IsSys}
-use Rattle.abstract_net.proofs.Readings as readings
-use Rattle.abstract_net.proofs.Rest.{done_u}
-use Rattle.abstract_net.proofs.ShareLists.{found_each}
-use Rattle.abstract_net.proofs.ShareViews.{unit_share}
-use Rattle.abstract_net.proofs.Shares.{Open_share, Seeing_share, Want_share, moves_of}
-use Rattle.abstract_net.proofs.Under.{Under}
-use Rattle.abstract_net.proofs.UnderReadings.{all_done, under_rests}
-use Rattle.abstract_net.proofs.UnderStarts.{seeing}
-use Rattle.abstract_net.proofs.Untaken.{Elsewhere_home}
-use Rattle.whole_net.proofs.Readings.{Its_share, fold_done, its_share}
-use Rattle.whole_net.proofs.WhereAll.{Where_all, Apart_from_shares, Under_share}
+use Rattle.run_report.specs.proof_machines.proofs.share.Records.{own_is}
+use Rattle.run_report.specs.proof_machines.proofs.share.Share.{UnitShare, has, runs}
+use Rattle.run_report.specs.proof_machines.proofs.net.Elsewhere.{where_two}
+use Rattle.run_report.specs.proof_machines.proofs.net.Net.{IsSys}
+use Rattle.run_report.specs.proof_machines.proofs.net.Readings as readings
+use Rattle.run_report.specs.proof_machines.proofs.net.Rest.{done_u}
+use Rattle.run_report.specs.proof_machines.proofs.net.ShareLists.{found_each}
+use Rattle.run_report.specs.proof_machines.proofs.net.ShareViews.{unit_share}
+use Rattle.run_report.specs.proof_machines.proofs.net.Shares.{OpenShare, SeeingShare, WantShare, moves_of}
+use Rattle.run_report.specs.proof_machines.proofs.net.Under.{Under}
+use Rattle.run_report.specs.proof_machines.proofs.net.UnderReadings.{all_done, under_rests}
+use Rattle.run_report.specs.proof_machines.proofs.net.UnderStarts.{seeing}
+use Rattle.run_report.specs.proof_machines.proofs.net.Untaken.{ElsewhereHome}
+use Rattle.run_report.specs.proof_machines.proofs.whole.Readings.{ItsShare, fold_done, its_share}
+use Rattle.run_report.specs.proof_machines.proofs.whole.WhereAll.{WhereAll, Apart_from_shares, Under_share}
 use Rattle.net_world.specs.declared.config.Config.{Config}
 use Rattle.net_world.specs.declared.node.Node.{Node}
-use Rattle.net_world.specs.Commands.{began}
-use Rattle.net_world.specs.Fold.{fold, went}
+use Rattle.net_world.specs.Commands.{is_begun}
+use Rattle.net_world.specs.Fold.{fold, processed_of}
 use Rattle.net_world.specs.Input.{IsInput, order_numbered}
 use Rattle.net_world.specs.Places.{is_home, owner}
 use Rattle.net_world.specs.Standby.{standby_in}
-use Rattle.outline_net.proofs.FiltersApart.{takes_same, takes_whole, unit_fits}
-use Rattle.outline_net.proofs.Outline.{is_sys}
-use Rattle.whole_outline.proofs.OpenShares.{Both, Real_share, both, real_share}
-use Rattle.whole_joined.proofs.Given.{Given, place}
-use Rattle.whole_joined.proofs.Joined.{S, A, Joined, came_by}
-use Rattle.whole_joined.proofs.OperationsApart.{AllApart}
-use Rattle.whole_joined.proofs.RunsJoined.{done_same}
-use Rattle.whole_joined.proofs.StartJoined.{given}
-use Rattle.answer_net.proofs.BusyRuns.{Busy}
-use Rattle.path_net.proofs.PathSeats.{found_instance}
-use Rattle.path_net.proofs.SharedOwners.{members_few}
-use Rattle.nf_net.proofs.FoldLemmas.{fold_is}
-use Rattle.nf_net.proofs.MemberLemmas.{home_first}
-use Rattle.nf_net.proofs.UnitShares.{IsOpenShare, home_is, number_is, open_begun, owner_goes}
+use Rattle.run_report.specs.proof_outlines.proofs.outline.FiltersApart.{takes_same, takes_whole, unit_fits}
+use Rattle.run_report.specs.proof_outlines.proofs.outline.Outline.{is_sys}
+use Rattle.run_report.specs.proof_outlines.proofs.whole.OpenShares.{Both, RealShare, both, real_share}
+use Rattle.run_report.specs.proof_outlines.proofs.joined.Given.{Given, place}
+use Rattle.run_report.specs.proof_outlines.proofs.joined.Joined.{S, A, Joined, came_by}
+use Rattle.run_report.specs.proof_outlines.proofs.joined.OperationsApart.{AllApart}
+use Rattle.run_report.specs.proof_outlines.proofs.joined.RunsJoined.{done_same}
+use Rattle.run_report.specs.proof_outlines.proofs.joined.StartJoined.{given}
+use Rattle.run_report.specs.nf_net.proofs.answers.BusyRuns.{Busy}
+use Rattle.run_report.specs.nf_net.proofs.paths.PathSeats.{found_instance}
+use Rattle.run_report.specs.nf_net.proofs.paths.SharedOwners.{members_few}
+use Rattle.run_report.specs.nf_net.proofs.FoldLemmas.{fold_is}
+use Rattle.run_report.specs.nf_net.proofs.MemberLemmas.{home_first}
+use Rattle.run_report.specs.nf_net.proofs.UnitShares.{IsOpenShare, home_is, number_is, open_begun, owner_goes}
 
 -- A unit, and a share that began and takes it, whose home owns it.
 module _ {F R : Type 0} (f : Semantics R) (c : Config) (items : List Msg) (is : IsInput f.kind c items) (n : ℕ) (count_is : n ≡ length c.names + 2)
     (w : Network (Node F R) Msg Note) (nodes : length w.nodes ≡ n) (j : Joined f (given f c items is) n w) (apart : AllApart j.nodes.controller.operations)
     (b : Busy (given f c items is) w) (u : units.Unit) (fits : unit_fits f.kind u ≡ true) (op : ℕ) (ms : List (List ℕ)) (filter : Filter)
-    (what : order_numbered items op ≡ Some (order.Share ms filter)) (on : takes filter u ≡ true) (begun : began op w.log ≡ true)
+    (what : order_numbered items op ≡ Some (order.Share ms filter)) (on : takes filter u ≡ true) (begun : is_begun op w.log ≡ true)
     (at_home : is_home c.names (order_numbered items) ms (owner c items u w.log) ≡ true) where
   abbrev g : Given
   g = given f c items is
@@ -89,24 +89,24 @@ module _ {F R : Type 0} (f : Semantics R) (c : Config) (items : List Msg) (is : 
 
   -- what stands by is the record after all that was processed
   abbrev StandsWhole : ℕ → Type 0
-  StandsWhole k = standby_in u (slice_get w.nodes k) ≡ fold f c items None (went f c items u w.log)
+  StandsWhole k = standby_in u (slice_get w.nodes k) ≡ fold f c items None (processed_of f c items u w.log)
 
   module _ (quiet : (i k : ℕ) → i < n → k < n → (i == 0) && (k == 0) ≡ false → j.world.link i k ≡ []) where
     -- where the unit is under a share, it is this one
-    module _ (x : Want_share) (before since : List ℕ) (h : Under (S f g) (A f g) (seeing (S f g) (A f g) u x) j.world before since) where
-      abbrev z : Seeing_share
+    module _ (x : WantShare) (before since : List ℕ) (h : Under (S f g) (A f g) (seeing (S f g) (A f g) u x) j.world before since) where
+      abbrev z : SeeingShare
       z = seeing (S f g) (A f g) u x
 
       abbrev fr : UnitShare R
       fr = unit_share (S f g) (A f g) z
 
-      abbrev here : Open_share
+      abbrev here : OpenShare
       here = its_share (S f g) (A f g) laws_of u j.world x before since h
 
-      its : Its_share (S f g) (A f g) laws_of u j.world here
+      its : ItsShare (S f g) (A f g) laws_of u j.world here
       its = record { found = h.holds.share; takes = h.covered; home_in = h.is.home_in }
 
-      real : Real_share f (place g) g.site j.nodes.controller here.num here
+      real : RealShare f (place g) g.site j.nodes.controller here.num here
       real = real_share f (place g) g.site j.world.ops j.world.shares j.nodes.controller here.num here j.shown_is.controller.opens its.found
 
       members_same : x.members ≡ nodes_of
@@ -127,7 +127,8 @@ module _ {F R : Type 0} (f : Semantics R) (c : Config) (items : List Msg) (is : 
       kept_all k inside off =
           let rest = under_rests (S f g) (A f g) z j.world before since h n (omega (arith, count_is)) few quiet in
           (rw off at (h.holds.own k inside)) ∙ own_is fr h.stage k
-          ∙ ap (runs (S f g).F None) (rest.seen k ∙ sym (all_done (S f g) (A f g) z j.world before since h)) ∙ fold_done (S f g) (A f g) laws_of u None j.world.done
+          ∙ ap (runs (S f g).F None) (rest.seen k ∙ sym (all_done (S f g) (A f g) z j.world before since h))
+          ∙ fold_done (S f g) (A f g) laws_of u None j.world.done
 
       stands_under : (k : ℕ) → has nodes_of k ≡ true → (k == instance_node (owner c items u w.log)) ≡ false → StandsWhole k
       stands_under k inside off =
@@ -136,16 +137,16 @@ module _ {F R : Type 0} (f : Semantics R) (c : Config) (items : List Msg) (is : 
           let low = few k member in
           ap (standby_in u) (found_instance f c items is n count_is w nodes j k two low) ∙ ap (λ t. finite.get t u) (j.shown_is.instances k two low).standby_is
           ∙ kept_all k member (ap (λ y. k == y) home_same ∙ off) ∙ ap (readings.fold (S f g).F None) (done_same f c items is n w j u)
-          ∙ sym (fold_is f c items is None (went f c items u w.log))
+          ∙ sym (fold_is f c items is None (processed_of f c items u w.log))
 
     pub member_stands : (k : ℕ) → has nodes_of k ≡ true → (k == instance_node (owner c items u w.log)) ≡ false → StandsWhole k
     member_stands k inside off = by_where (j.shown_is.every.unit u)
       where
-        by_where : Where_all (S f g) (A f g) laws_of u j.world (came_by f g w.log u) → StandsWhole k
+        by_where : WhereAll (S f g) (A f g) laws_of u j.world (came_by f g w.log u) → StandsWhole k
         by_where (Under_share x before d h o m) = stands_under x before (came_by f g w.log u).diverted h k inside off
         by_where (Apart_from_shares at none) =
             let two = where_two (S f g) laws_of u (moves_of (S f g) (A f g) j.world) _ _ at.is in
-            let away = found_each (Elsewhere_home (S f g) u j.world.target) j.world.shares op seen.e at.untaken.homes seen.there its_own in
+            let away = found_each (ElsewhereHome (S f g) u j.world.target) j.world.shares op seen.e at.untaken.homes seen.there its_own in
             let same : seen.e.home ≡ j.world.target u = home_so ∙ sym (owner_goes f c items is n w j u fits two) in
             let never : (seen.e.home == j.world.target u) ≡ true = (Decides-eqb seen.e.home (j.world.target u)).1 same in
             cc

@@ -52,7 +52,8 @@ module _ {X K : Type 0} (key : X → K) (cmp : K → K → Ordering) (total : Is
   -- a part that stands in order is found as it was
   pub part_stays : (q : X → Bool) (xs : List X) → IsUp (less key cmp) (filter q xs) → filter q (sorted_by key cmp xs) ≡ filter q xs
   part_stays q xs up =
-      one_sort (less key cmp) order (filter q (sorted_by key cmp xs)) (filter q xs) (up_filter (less key cmp) q (sorted_by key cmp xs) (up_sort key cmp order xs)) up
+      one_sort (less key cmp) order (filter q (sorted_by key cmp xs)) (filter q xs)
+      (up_filter (less key cmp) q (sorted_by key cmp xs) (up_sort key cmp order xs)) up
       (λ z. filters_commute (ties (less key cmp) z) q (sorted_by key cmp xs) ∙ ap (filter q) (same_sort key cmp order z xs)
       ∙ sym (filters_commute (ties (less key cmp) z) q xs))
 

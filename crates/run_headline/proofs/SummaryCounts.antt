@@ -36,16 +36,17 @@ module _ {R : Type 0} where
     -- sorted or not
     counted_put : (x : NamedRecord R) (ys : List (NamedRecord R)) → counted (put_in (λ s. s.unit) unit_cmp x ys) ≡ counted (x ∷ ys)
     counted_put x [] = refl
-    counted_put x (y ∷ ys) = elim (is_lt (unit_cmp y.unit x.unit)) as (λ b. counted (cond b (y ∷ put_in (λ s. s.unit) unit_cmp x ys) (x ∷ y ∷ ys)) ≡ counted (x ∷ y ∷ ys)) [
-      | true ↦
-          let rest = counted_put x ys in
-          let first = counted_cons y (put_in (λ s. s.unit) unit_cmp x ys) in
-          let put = counted_cons x ys in
-          let all = counted_cons x (y ∷ ys) in
-          let last = counted_cons y ys in
-          omega (arith, rest, first, put, all, last)
-      | false ↦ refl
-    ]
+    counted_put x (y ∷ ys) =
+        elim (is_lt (unit_cmp y.unit x.unit)) as (λ b. counted (cond b (y ∷ put_in (λ s. s.unit) unit_cmp x ys) (x ∷ y ∷ ys)) ≡ counted (x ∷ y ∷ ys)) [
+          | true ↦
+              let rest = counted_put x ys in
+              let first = counted_cons y (put_in (λ s. s.unit) unit_cmp x ys) in
+              let put = counted_cons x ys in
+              let all = counted_cons x (y ∷ ys) in
+              let last = counted_cons y ys in
+              omega (arith, rest, first, put, all, last)
+          | false ↦ refl
+        ]
 
     counted_sorted : (xs : List (NamedRecord R)) → counted (sorted_by (λ s. s.unit) unit_cmp xs) ≡ counted xs
     counted_sorted [] = refl
@@ -64,7 +65,8 @@ module _ {R : Type 0} where
     under_name own [] = elim (bytes_eq own name) as (λ b. ◌≡◌ {A = ℕ} 0 (if b then 0 else 0)) [ true ↦ refl | false ↦ refl ]
     under_name own (e ∷ es) = counted_cons (under own e) (map (under own) es) ∙ by_name (bytes_eq own name) (under_name own es)
       where
-        by_name : (b : Bool) → counted (map (under own) es) ≡ (if b then length es else 0) → cond b 1 0 + counted (map (under own) es) ≡ (if b then suc (length es) else 0)
+        by_name : (b : Bool) → counted (map (under own) es) ≡ (if b then length es else 0)
+            → cond b 1 0 + counted (map (under own) es) ≡ (if b then suc (length es) else 0)
         by_name true rest = omega (arith, rest)
         by_name false rest = omega (arith, rest)
 

@@ -16,24 +16,18 @@ use Rattle.net_world.specs.declared.config.Config.{Config}
 use Rattle.net_world.specs.declared.node.Node.{Node}
 use Rattle.net_world.specs.declared.node.Node.TheVariants.{Instance}
 use Rattle.net_world.specs.Input.{packets}
-use Rattle.net_world.specs.Log.{done}
+use Rattle.net_world.specs.Log.{dones_in}
 use Rattle.net_world.specs.Nodes.{node_step}
-use Rattle.net_world.specs.Start.{started}
+use Rattle.net_world.specs.Start.{started_with}
 use Rattle.run_headline.specs.Law.{IsCompleted, done_in}
 use Rattle.run_headline.proofs.OwnTallies.{done_at, most}
 use Rattle.run_headline.proofs.TallyRuns.{AtNode, IsTallied, run_tallied}
 
 -- there are as many lines as packets that were processed
-lines_done : (log : List Note) → length (filter_map done_in log) ≡ length (done log)
+lines_done : (log : List Note) → length (filter_map done_in log) ≡ length (dones_in log)
 lines_done [] = refl
 lines_done (note.Processed number instance output ∷ log) = ap suc (lines_done log)
-lines_done (note.Arrived number ∷ log) = lines_done log
-lines_done (note.Begun op ∷ log) = lines_done log
-lines_done (note.Exported op instance us ∷ log) = lines_done log
-lines_done (note.Imported op instance us ∷ log) = lines_done log
-lines_done (note.Kept op instance us ∷ log) = lines_done log
-lines_done (note.Installed op ∷ log) = lines_done log
-lines_done (note.Answered op answer ∷ log) = lines_done log
+lines_done (n ∷ log) = lines_done log
 
 few_pass : {X : Type 0} (p : X → Bool) (xs : List X) → length (filter p xs) ≤ length xs
 few_pass p [] = omega arith
@@ -42,9 +36,10 @@ few_pass p (x ∷ xs) = elim (p x) as (λ b. length (cond b (x ∷ filter p xs) 
   | false ↦ (let rest = few_pass p xs in omega (arith, rest))
 ]
 
-module _ {R : Type 0} (F : Type 0) (f : Semantics R) (laws : FunctionLaws f) (alloc : Global) (c : Config) (items : List Msg) (choices : List Choice) (is : IsCompleted F f alloc c items choices) where
+module _ {R : Type 0} (F : Type 0) (f : Semantics R) (laws : FunctionLaws f) (alloc : Global) (c : Config) (items : List Msg) (choices : List Choice)
+    (is : IsCompleted F f alloc c items choices) where
   abbrev w : Network (Node F R) Msg Note
-  w = run (node_step f) choices (started alloc c items)
+  w = run (node_step f) choices (started_with alloc c items)
 
   -- what the tally of an instance counts
   pub record HasCounts (i : ℕ) (x : InstanceState F R) : Type 0 where
@@ -56,10 +51,12 @@ module _ {R : Type 0} (F : Type 0) (f : Semantics R) (laws : FunctionLaws f) (al
   has_counts i x low there =
       let within : suc (suc i) < length c.names + 2 = omega (arith, low) in
       let tallied = run_tallied F f laws alloc c items is.is_input choices is.is_run in
-      let it : IsTallied f w.log (suc (suc i)) x = subst (AtNode f w.log (suc (suc i))) (there (Instance x)) (tallied.at_nodes (suc (suc i)) within (Instance x)) in
+      let it : IsTallied f w.log (suc (suc i)) x = subst (AtNode f w.log (suc (suc i))) (there (Instance x))
+      (tallied.at_nodes (suc (suc i)) within (Instance x)) in
       let node = it.node in
       let index : x.index ≡ i = omega (arith, node) in
-      let own : slice_index x.tally.slots i ≡ min (done_at i w.log) most = subst (λ k. slice_index x.tally.slots k ≡ min (done_at k w.log) most) index it.count.own in
+      let own : slice_index x.tally.slots i ≡ min (done_at i w.log) most = subst (λ k. slice_index x.tally.slots k ≡ min (done_at k w.log) most) index
+      it.count.own in
       let lines = lines_done w.log in
       let pass = few_pass (λ d. d.1 == i) (filter_map done_in w.log) in
       let parcels = is.promises.parcels 0 in

@@ -1,5 +1,6 @@
 -- In every run the own count of an instance in its tally is the number of packets that it has processed, and no tally counts more of another.
-use Rattle.std.proofs.Common.{◌≡◌, ◌≢◌, ℕ, zero, suc, ◌+◌, ◌<◌, ◌≤◌, true, false, Option, Some, None, Ok, List, [], ◌∷◌, ◌++◌, length, get_or, replicate, slice_index}
+use Rattle.std.proofs.Common.{◌≡◌, ◌≢◌, ℕ, zero, suc, ◌+◌, ◌<◌, ◌≤◌, true, false, Option, Some}
+use Rattle.std.proofs.Common.{None, Ok, List, [], ◌∷◌, ◌++◌, length, get_or, replicate, slice_index}
 use Rattle.std.proofs.Common.{refl, sym, ap, ◌∙◌, subst, arith}
 use Rattle.std.specs.Prelude.{◌==◌, min}
 use Rattle.std.specs.declared.alloc.Global.{Global}
@@ -24,29 +25,29 @@ use Rattle.switch_node.specs.Switch.{switch_step}
 use Rattle.instance_worker.specs.declared.instance.Instance.{Instance as InstanceState}
 use Rattle.instance_worker.specs.Instance.{Step, instance_step, on_put_all, tally_put}
 use Rattle.actor_net.specs.declared.choice.Choice.{Choice}
-use Rattle.actor_net.specs.Network.{Network, Stepped, IsRun, run, taken}
+use Rattle.actor_net.specs.Network.{Network, Stepped, IsRun, run, world_next}
 use Rattle.actor_net.proofs.EnabledChoices.{at}
 use Rattle.actor_net.proofs.OpeningWorlds.{opening_on_links}
 use Rattle.actor_net.proofs.RunInduction.{Taking, run_induction}
 use Rattle.actor_net.proofs.StepOutcome.{Takes, taken_outcome}
 use Rattle.actor_net.proofs.WeightLaws.{Each, OnLinks, EachSent, on_links_after}
-use Rattle.unit_machine.proofs.Labels.{each_map}
+use Rattle.run_report.specs.proof_machines.proofs.unit.Labels.{each_map}
 use Rattle.net_world.specs.declared.config.Config.{Config}
 use Rattle.net_world.specs.declared.node.Node.{Node}
 use Rattle.net_world.specs.declared.node.Node.TheVariants.{Instance}
 use Rattle.net_world.specs.Input.{IsInput}
 use Rattle.net_world.specs.Nodes.{node_step, node_ready}
-use Rattle.net_world.specs.Start.{first_instance, first_nodes, started}
-use Rattle.whole_joined.proofs.BesideRuns.{its_label, its_takes}
-use Rattle.whole_joined.proofs.CopyAnswers.{is_uncopied}
-use Rattle.whole_joined.proofs.CopySends.{Begin_so, Turn_so, controller_sent}
-use Rattle.whole_joined.proofs.Given.{Given}
-use Rattle.whole_joined.proofs.Joined.{Joined, Label, count, node_of}
-use Rattle.whole_joined.proofs.PlaceNotes.{controller_uninstalled, switch_unprocessed, uninstalled_unprocessed}
-use Rattle.whole_joined.proofs.RunsJoined.{Runs, runs_at_start, runs_next, start_world}
-use Rattle.whole_joined.proofs.StartJoined.{all_fit, count_at_start, given, instance_found}
-use Rattle.net_ends.proofs.TallySteps.{IsTallyChunk, reads}
-use Rattle.net_ends.proofs.TokenRuns.{HasEnough, TallyLabel, enough_at_start, enough_next}
+use Rattle.net_world.specs.Start.{first_instance, first_nodes, started_with}
+use Rattle.run_report.specs.proof_outlines.proofs.joined.BesideRuns.{its_label, its_takes}
+use Rattle.run_report.specs.proof_outlines.proofs.joined.CopyAnswers.{is_uncopied}
+use Rattle.run_report.specs.proof_outlines.proofs.joined.CopySends.{BeginSo, TurnSo, controller_sent}
+use Rattle.run_report.specs.proof_outlines.proofs.joined.Given.{Given}
+use Rattle.run_report.specs.proof_outlines.proofs.joined.Joined.{Joined, Label, node_of}
+use Rattle.run_report.specs.proof_outlines.proofs.joined.PlaceNotes.{controller_uninstalled, switch_unprocessed, uninstalled_unprocessed}
+use Rattle.run_report.specs.proof_outlines.proofs.joined.RunsJoined.{Runs, runs_at_start, runs_next, start_world}
+use Rattle.run_report.specs.proof_outlines.proofs.joined.StartJoined.{all_fit, count_at_start, given, instance_found}
+use Rattle.run_report.specs.nf_net.proofs.ends.TallySteps.{IsTallyChunk, reads}
+use Rattle.run_report.specs.nf_net.proofs.ends.TokenRuns.{HasEnough, TallyLabel, enough_at_start, enough_next}
 use Rattle.run_headline.proofs.OwnTallies.{Counted, HasCount, NoTallies, NoTally, done_append, done_at, instance_counted, most, none_done}
 
 -- no count is more than what the instance has processed
@@ -111,18 +112,19 @@ module _ {R : Type 0} (f : Semantics R) (log : List Note) where
     hands_low : (k : ℕ) (chunk : Chunk) → m ≡ msg.AllChunk k chunk → Reads f log chunk
     hands_low k chunk e = (subst (Bounded f log p 1) e low) (subst (Label f g p 1) e label).0
 
-    turn_low : (o : Option Operation) → Turn_so PutsLow other_puts o m
+    turn_low : (o : Option Operation) → TurnSo PutsLow other_puts o m
     turn_low None = tt
     turn_low (Some (Move mv)) = tt
     turn_low (Some (Copy y)) = ((λ k chunks e. tt), hands_low)
     turn_low (Some (Share s)) = tt
 
-    begin_low : Begin_so PutsLow other_puts m
+    begin_low : BeginSo PutsLow other_puts m
     begin_low k source destination None e is = tt
     begin_low k source destination (Some filter) e is = tt
 
     controller_low : EachSent (Bounded f log) 1 (controller_step c p m).sends
-    controller_low = puts_sent (controller_step c p m).sends (controller_sent PutsLow other_puts c p m (λ op e. turn_low (finite.get c.operations op)) begin_low)
+    controller_low =
+        puts_sent (controller_step c p m).sends (controller_sent PutsLow other_puts c p m (λ op e. turn_low (finite.get c.operations op)) begin_low)
 
 module _ {F R : Type 0} (f : Semantics R) where
   -- the tally of an instance, which is at a node
@@ -136,10 +138,14 @@ module _ {F R : Type 0} (f : Semantics R) where
   AtNode log k node = Unit {0}
 
   -- another node notes
-  other_notes : (log notes : List Note) (k : ℕ) (node : Node F R) → ((j : ℕ) → instance_node j ≡ k → done_at j notes ≡ 0) → AtNode log k node → AtNode (log ++ notes) k node
+  other_notes : (log notes : List Note) (k : ℕ) (node : Node F R) → ((j : ℕ) → instance_node j ≡ k → done_at j notes ≡ 0) → AtNode log k node
+      → AtNode (log ++ notes) k node
   other_notes log notes k (Instance i) none h = record {
     node = h.node;
-    count = record { low = h.count.low; own = (let own = h.count.own in let all = done_append i.index log notes in let zero_is = none i.index h.node in omega (arith, own, all, zero_is)) };
+    count = record {
+      low = h.count.low;
+      own = (let own = h.count.own in let all = done_append i.index log notes in let zero_is = none i.index h.node in omega (arith, own, all, zero_is));
+    };
     below = below_more log notes i.tally.slots h.below;
   }
   other_notes log notes k node none h = tt
@@ -147,7 +153,8 @@ module _ {F R : Type 0} (f : Semantics R) where
   -- a step of the instance
   module _ (log : List Note) (k p : ℕ) (i : InstanceState F R) (h : IsTallied log k i) where
     abbrev Left : Step F R → Type 0
-    Left did = IsTallied (log ++ did.notes) k did.node × (((j : ℕ) → (j == i.index) ≡ false → done_at j did.notes ≡ 0) × EachSent (Bounded f (log ++ did.notes)) k did.sends)
+    Left did = IsTallied (log ++ did.notes) k did.node
+        × (((j : ℕ) → (j == i.index) ≡ false → done_at j did.notes ≡ 0) × EachSent (Bounded f (log ++ did.notes)) k did.sends)
 
     counted_left : (did : Step F R) → Counted f (done_at i.index log) i did → Left did
     counted_left did c =
@@ -210,34 +217,42 @@ module _ {F R : Type 0} (f : Semantics R) (g : Given) (n : ℕ) (w : Network (No
 
   module _ (p : ℕ) (m : Msg) (rest : List Msg) (h : Tallied f n w) where
     -- a node has taken a message
-    tallied_after : (k : ℕ) (takes : Takes step n w k p (node_of j.nodes k) m rest) → AtNode f (w.log ++ (step (node_of j.nodes k) p m).notes) k (step (node_of j.nodes k) p m).node
+    tallied_after : (k : ℕ) (takes : Takes step n w k p (node_of j.nodes k) m rest)
+        → AtNode f (w.log ++ (step (node_of j.nodes k) p m).notes) k (step (node_of j.nodes k) p m).node
         → ((i : ℕ) → instance_node i ≢ k → done_at i (step (node_of j.nodes k) p m).notes ≡ 0)
-        → EachSent (Bounded f (w.log ++ (step (node_of j.nodes k) p m).notes)) k (step (node_of j.nodes k) p m).sends → Tallied f n (taken step w (at k p))
+        → EachSent (Bounded f (w.log ++ (step (node_of j.nodes k) p m).notes)) k (step (node_of j.nodes k) p m).sends → Tallied f n (world_next step w (at k p))
     tallied_after k takes own none sent =
         let did = step (node_of j.nodes k) p m in
         let log = w.log ++ did.notes in
         let left = taken_outcome step n w k p (node_of j.nodes k) m rest takes in
-        let after = taken step w (at k p) in
+        let after = world_next step w (at k p) in
         let before : OnLinks (Bounded f log) w = (λ s r hs hr. each_map (bounded_more f w.log did.notes s r) _ (h.way s r hs hr)) in
         record {
-          way = subst (λ l. OnLinks (Bounded f l) after) (sym left.log) (on_links_after (Bounded f log) step n w k p (node_of j.nodes k) m rest takes before sent);
-          at_nodes = λ i low d. subst (λ l. AtNode f l i (get_or after.nodes i d)) (sym left.log) (elim (i == k) as (λ b. (i == k) ≡ b → AtNode f log i (get_or after.nodes i d)) [
-            | true ↦ λ on. (let same : i ≡ k = grind (arith, nat_tests, on) in
-                subst (λ y. AtNode f log y (get_or after.nodes y d)) (sym same) (subst (AtNode f log k) (sym (left.own d)) own))
-            | false ↦ λ off. (let apart : i ≢ k = grind (arith, nat_tests, off) in
-                subst (AtNode f log i) (sym (left.others i d apart)) (other_notes f w.log did.notes i (get_or w.nodes i d) (λ x is. none x (λ same. apart (sym is ∙ same))) (h.at_nodes i low d)))
-          ] refl);
+          way = subst (λ l. OnLinks (Bounded f l) after) (sym left.log)
+              (on_links_after (Bounded f log) step n w k p (node_of j.nodes k) m rest takes before sent);
+          at_nodes = λ i low d. subst (λ l. AtNode f l i (get_or after.nodes i d)) (sym left.log)
+              (elim (i == k) as (λ b. (i == k) ≡ b → AtNode f log i (get_or after.nodes i d)) [
+                | true ↦ λ on. (let same : i ≡ k = grind (arith, nat_tests, on) in
+                    subst (λ y. AtNode f log y (get_or after.nodes y d)) (sym same) (subst (AtNode f log k) (sym (left.own d)) own))
+                | false ↦ λ off. (let apart : i ≢ k = grind (arith, nat_tests, off) in
+                    subst (AtNode f log i) (sym (left.others i d apart))
+                    (other_notes f w.log did.notes i (get_or w.nodes i d) (λ x is. none x (λ same. apart (sym is ∙ same))) (h.at_nodes i low d)))
+              ] refl);
         }
 
     low_at : (k : ℕ) (takes : Takes step n w k p (node_of j.nodes k) m rest) → Bounded f w.log p k m
-    low_at k takes = (subst (λ ms. Each (Bounded f w.log p k) ms) takes.waits (h.way p k (let c = takes.count in rw c takes.sender) (let c = takes.count in rw c takes.receiver))).0
+    low_at k takes = (subst (λ ms. Each (Bounded f w.log p k) ms) takes.waits
+        (h.way p k (let c = takes.count in rw c takes.sender) (let c = takes.count in rw c takes.receiver))).0
 
-    at_instance : (i : ℕ) (takes : Takes step n w (suc (suc i)) p (node_of j.nodes (suc (suc i))) m rest) → IsTallied f w.log (suc (suc i)) (j.nodes.instance (suc (suc i)))
-    at_instance i takes = subst (AtNode f w.log (suc (suc i))) (j.nodes_are (suc (suc i)) takes.receiver (node_of j.nodes (suc (suc i)))) (h.at_nodes (suc (suc i)) takes.receiver (node_of j.nodes (suc (suc i))))
+    at_instance : (i : ℕ) (takes : Takes step n w (suc (suc i)) p (node_of j.nodes (suc (suc i))) m rest)
+        → IsTallied f w.log (suc (suc i)) (j.nodes.instance (suc (suc i)))
+    at_instance i takes = subst (AtNode f w.log (suc (suc i))) (j.nodes_are (suc (suc i)) takes.receiver (node_of j.nodes (suc (suc i))))
+        (h.at_nodes (suc (suc i)) takes.receiver (node_of j.nodes (suc (suc i))))
 
     module _ (e : HasEnough f n w) where
       its_tally : (i : ℕ) (takes : Takes step n w (suc (suc i)) p (node_of j.nodes (suc (suc i))) m rest) → IsTally (j.nodes.instance (suc (suc i))).tally.slots
-      its_tally i takes = subst OfNode (j.nodes_are (suc (suc i)) takes.receiver (node_of j.nodes (suc (suc i)))) (e.tallies (suc (suc i)) takes.receiver (node_of j.nodes (suc (suc i))))
+      its_tally i takes = subst OfNode (j.nodes_are (suc (suc i)) takes.receiver (node_of j.nodes (suc (suc i))))
+          (e.tallies (suc (suc i)) takes.receiver (node_of j.nodes (suc (suc i))))
         where
           OfNode : Node F R → Type 0
           OfNode (Instance x) = IsTally x.tally.slots
@@ -249,28 +264,35 @@ module _ {F R : Type 0} (f : Semantics R) (g : Given) (n : ℕ) (w : Network (No
       instance_left i takes label = by_message m label (low_at (suc (suc i)) takes) tally_label
         where
           tally_label : TallyLabel f p (suc (suc i)) m
-          tally_label = (subst (λ ms. Each (TallyLabel f p (suc (suc i))) ms) takes.waits (e.way p (suc (suc i)) (let c = takes.count in rw c takes.sender) (let c = takes.count in rw c takes.receiver))).0
+          tally_label = (subst (λ ms. Each (TallyLabel f p (suc (suc i))) ms) takes.waits
+              (e.way p (suc (suc i)) (let c = takes.count in rw c takes.sender) (let c = takes.count in rw c takes.receiver))).0
 
           by_message : (y : Msg) → Label f g p (suc (suc i)) y → Bounded f w.log p (suc (suc i)) y → TallyLabel f p (suc (suc i)) y
               → Left f w.log (suc (suc i)) p (j.nodes.instance (suc (suc i))) (at_instance i takes) (instance_step f (j.nodes.instance (suc (suc i))) y)
-          by_message (msg.GetAll op) from low tally = given_left f w.log (suc (suc i)) p (j.nodes.instance (suc (suc i))) (at_instance i takes) op (its_tally i takes)
+          by_message (msg.GetAll op) from low tally =
+              given_left f w.log (suc (suc i)) p (j.nodes.instance (suc (suc i))) (at_instance i takes) op (its_tally i takes)
           by_message (msg.PutAll op chunk) from low tally = put op chunk (low from.0) (tally from.0)
             where
               put : (op : ℕ) (chunk : Chunk) → Reads f w.log chunk → IsTallyChunk f chunk
-                  → Left f w.log (suc (suc i)) p (j.nodes.instance (suc (suc i))) (at_instance i takes) (instance_step f (j.nodes.instance (suc (suc i))) (msg.PutAll op chunk))
-              put op chunk low is = subst (λ r. Left f w.log (suc (suc i)) p (j.nodes.instance (suc (suc i))) (at_instance i takes) (tally_put (j.nodes.instance (suc (suc i))) op r))
-                  (sym (reads f chunk is)) (taken_left f w.log (suc (suc i)) p (j.nodes.instance (suc (suc i))) (at_instance i takes) is.slots op (its_tally i takes) is.tally (low is.slots (reads f chunk is)))
-          by_message y from low tally = counted_left f w.log (suc (suc i)) p (j.nodes.instance (suc (suc i))) (at_instance i takes) (instance_step f (j.nodes.instance (suc (suc i))) y)
+                  → Left f w.log (suc (suc i)) p (j.nodes.instance (suc (suc i))) (at_instance i takes)
+                  (instance_step f (j.nodes.instance (suc (suc i))) (msg.PutAll op chunk))
+              put op chunk low is = subst (λ r. Left f w.log (suc (suc i)) p (j.nodes.instance (suc (suc i))) (at_instance i takes)
+                  (tally_put (j.nodes.instance (suc (suc i))) op r))
+                  (sym (reads f chunk is)) (taken_left f w.log (suc (suc i)) p (j.nodes.instance (suc (suc i))) (at_instance i takes) is.slots op
+                  (its_tally i takes) is.tally (low is.slots (reads f chunk is)))
+          by_message y from low tally = counted_left f w.log (suc (suc i)) p (j.nodes.instance (suc (suc i))) (at_instance i takes)
+              (instance_step f (j.nodes.instance (suc (suc i))) y)
               (instance_counted f (done_at (j.nodes.instance (suc (suc i))).index w.log) (j.nodes.instance (suc (suc i))) y refl (at_instance i takes).count)
 
-      after_step : (k : ℕ) (takes : Takes step n w k p (node_of j.nodes k) m rest) → Label f g p k m → Tallied f n (taken step w (at k p))
+      after_step : (k : ℕ) (takes : Takes step n w k p (node_of j.nodes k) m rest) → Label f g p k m → Tallied f n (world_next step w (at k p))
       after_step zero takes label =
           let did = switch_step j.nodes.switch m in
           tallied_after 0 takes tt (λ i _. none_done i did.notes (switch_unprocessed j.nodes.switch m)) (switch_sent f (w.log ++ did.notes) did.sends)
       after_step (suc zero) takes label =
           let did = controller_step j.nodes.controller p m in
           let sent = controller_low f w.log g j.nodes.controller p m label (low_at 1 takes) in
-          tallied_after 1 takes tt (λ i _. none_done i did.notes (uninstalled_unprocessed did.notes (controller_uninstalled j.nodes.controller p m))) (sent_more did.sends did.notes sent)
+          tallied_after 1 takes tt (λ i _. none_done i did.notes (uninstalled_unprocessed did.notes (controller_uninstalled j.nodes.controller p m)))
+          (sent_more did.sends did.notes sent)
         where
           sent_more : (sends : List (ℕ × Msg)) (notes : List Note) → EachSent (Bounded f w.log) 1 sends → EachSent (Bounded f (w.log ++ notes)) 1 sends
           sent_more [] notes h = tt
@@ -278,11 +300,14 @@ module _ {F R : Type 0} (f : Semantics R) (g : Given) (n : ℕ) (w : Network (No
       after_step (suc (suc i)) takes label =
           let left = instance_left i takes label in
           let here = (at_instance i takes).node in
-          tallied_after (suc (suc i)) takes left.0 (λ x apart. left.1.0 x (let off : (x == (j.nodes.instance (suc (suc i))).index) ≡ false = not_it x apart here in off)) left.1.1
+          tallied_after (suc (suc i)) takes left.0
+          (λ x apart. left.1.0 x (let off : (x == (j.nodes.instance (suc (suc i))).index) ≡ false = not_it x apart here in off)) left.1.1
         where
-          not_it : (x : ℕ) → instance_node x ≢ suc (suc i) → instance_node (j.nodes.instance (suc (suc i))).index ≡ suc (suc i) → (x == (j.nodes.instance (suc (suc i))).index) ≡ false
+          not_it : (x : ℕ) → instance_node x ≢ suc (suc i) → instance_node (j.nodes.instance (suc (suc i))).index ≡ suc (suc i)
+              → (x == (j.nodes.instance (suc (suc i))).index) ≡ false
           not_it x apart here = elim (x == (j.nodes.instance (suc (suc i))).index) as (λ b. (x == (j.nodes.instance (suc (suc i))).index) ≡ b → b ≡ false) [
-            | true ↦ λ on. (let same : x ≡ (j.nodes.instance (suc (suc i))).index = grind (arith, nat_tests, on) in absurd (apart (ap instance_node same ∙ here)))
+            | true ↦ λ on.
+                (let same : x ≡ (j.nodes.instance (suc (suc i))).index = grind (arith, nat_tests, on) in absurd (apart (ap instance_node same ∙ here)))
             | false ↦ λ _. refl
           ] refl
 
@@ -292,9 +317,10 @@ zero_at zero i = refl
 zero_at (suc n) zero = refl
 zero_at (suc n) (suc i) = zero_at n i
 
-module _ (F : Type 0) {R : Type 0} (f : Semantics R) (laws : FunctionLaws f) (alloc : Global) (c : Config) (items : List Msg) (is : IsInput f.kind c items) where
+module _ (F : Type 0) {R : Type 0} (f : Semantics R) (laws : FunctionLaws f) (alloc : Global) (c : Config) (items : List Msg)
+    (is : IsInput f.kind c items) where
   abbrev start : Network (Node F R) Msg Note
-  start = started {F = F} {R = R} alloc c items
+  start = started_with {F = F} {R = R} alloc c items
 
   abbrev nodes : ℕ
   nodes = length c.names + 2
@@ -329,7 +355,8 @@ module _ (F : Type 0) {R : Type 0} (f : Semantics R) (laws : FunctionLaws f) (al
   abbrev AllOf : Network (Node F R) Msg Note → Type 0
   AllOf w = Runs F f laws alloc c items is w × (HasEnough f nodes w × Tallied f nodes w)
 
-  tallied_next : (w : Network (Node F R) Msg Note) (k : Choice) → Taking node_ready (node_step f) nodes w k → AllOf w → Tallied f nodes (taken (node_step f) w k)
+  tallied_next : (w : Network (Node F R) Msg Note) (k : Choice) → Taking node_ready (node_step f) nodes w k → AllOf w
+      → Tallied f nodes (world_next (node_step f) w k)
   tallied_next w k t h =
       let g : Given = given f c items is in
       let fitting = all_fit f c items is in
@@ -341,6 +368,9 @@ module _ (F : Type 0) {R : Type 0} (f : Semantics R) (laws : FunctionLaws f) (al
     where
       it : AllOf (run (node_step f) cs start)
       it = run_induction node_ready (node_step f) nodes (λ _ w. AllOf w) start
-          (λ _ w k next h. (runs_next F f laws alloc c items is w k next.taking h.0, (enough_next F f laws alloc c items is w k next.taking h.0 h.1.0, tallied_next w k next.taking h)))
+          (λ _ w k next h. (
+            runs_next F f laws alloc c items is w k next.taking h.0,
+            (enough_next F f laws alloc c items is w k next.taking h.0 h.1.0, tallied_next w k next.taking h),
+          ))
           (start_world F f laws alloc c items is) (count_at_start F f alloc c items is)
           (runs_at_start F f laws alloc c items is, (enough_at_start F f laws alloc c items is, tallied_at_start)) cs run_is

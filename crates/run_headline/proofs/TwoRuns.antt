@@ -2,25 +2,23 @@
 use Rattle.std.proofs.Common.{◌≡◌, None, sym, ◌∙◌}
 use Rattle.std.specs.Prelude.{filter, fold, option_to_list, scan}
 use Rattle.nf_function.specs.declared.unit.Unit as units
-use Rattle.nf_function.specs.Semantics.{Semantics, kept_after, output_for, unit_at}
+use Rattle.nf_function.specs.Semantics.{kept_after, output_for, unit_at}
 use Rattle.record_table.specs.Table.{same_unit}
-use Rattle.run_headline.specs.Headline.{Subject, outputs_to, packets_of, record_after}
+use Rattle.run_headline.specs.Headline.{outputs_to, packets_of, record_after}
+use Rattle.run_headline.specs.Subject.{Subject}
 use Rattle.run_headline.specs.Law.{AreAlike, TwoRunsLaw}
 
-module _ {R : Type 0} (f : Semantics R) (one other : Subject R) (alike : AreAlike f one other) (unit : units.Unit) where
-  same : one.function ≡ other.function
-  same = alike.first ∙ sym alike.second
-
+module _ {R : Type 0} (one other : Subject R) (alike : AreAlike one other) (unit : units.Unit) where
   outputs_same : outputs_to one (packets_of one unit) ≡ outputs_to other (packets_of other unit)
-  outputs_same = λ i. scan (kept_after (same i) (alike.site i)) (output_for (same i) (alike.site i)) None
-      (filter (λ p. same_unit (unit_at (same i).kind (alike.site i) p) unit) (alike.packets i))
+  outputs_same = λ i. scan (kept_after (alike.function i) (alike.site i)) (output_for (alike.function i) (alike.site i)) None
+      (filter (λ p. same_unit (unit_at (alike.function i).kind (alike.site i) p) unit) (alike.packets i))
 
   records_same : option_to_list (record_after one (packets_of one unit)) ≡ option_to_list (record_after other (packets_of other unit))
-  records_same = λ i. option_to_list (fold (kept_after (same i) (alike.site i)) None
-      (filter (λ p. same_unit (unit_at (same i).kind (alike.site i) p) unit) (alike.packets i)))
+  records_same = λ i. option_to_list (fold (kept_after (alike.function i) (alike.site i)) None
+      (filter (λ p. same_unit (unit_at (alike.function i).kind (alike.site i) p) unit) (alike.packets i)))
 
-pub two_runs : {R : Type 0} (f : Semantics R) → TwoRunsLaw f
-two_runs f one other lines again alike first second unit off off_again = record {
-  outputs = first.outputs unit off ∙ outputs_same f one other alike unit ∙ sym (second.outputs unit off_again);
-  records = first.record_is unit off ∙ records_same f one other alike unit ∙ sym (second.record_is unit off_again);
-}
+pub two_runs : (R : Type 0) → TwoRunsLaw R
+two_runs R one other lines again alike first second unit off off_again = (
+  first.outputs unit off ∙ outputs_same one other alike unit ∙ sym (second.outputs unit off_again),
+  first.record_is unit off ∙ records_same one other alike unit ∙ sym (second.record_is unit off_again),
+)

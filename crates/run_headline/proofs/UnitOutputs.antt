@@ -1,5 +1,5 @@
 -- The outputs of a unit that no plain move handed on, as they stand among all outputs sorted by the packets' numbers.
-use Rattle.std.proofs.Common.{◌≡◌, ℕ, suc, ◌≤◌, Bool, true, false, cond, Option, Some, None, List, [], ◌∷◌, map, refl, sym, ap, ◌∙◌, subst, arith}
+use Rattle.std.proofs.Common.{◌≡◌, ℕ, suc, Bool, true, false, cond, Option, Some, None, List, [], ◌∷◌, map, refl, sym, ap, ◌∙◌, subst, arith}
 use Rattle.std.specs.Prelude.{◌==◌, filter, filter_map, find, fold, scan, zip, unwrap_or}
 use Rattle.std.specs.List.{AllByRecursion}
 use Rattle.flow_filter.specs.declared.packet.Packet.{Packet}
@@ -9,19 +9,18 @@ use Rattle.nf_function.specs.Semantics.{Semantics, kept_after, output_for}
 use Rattle.nf_msgs.specs.declared.msg.Msg.{Msg}
 use Rattle.nf_msgs.specs.declared.note.Note.{Note}
 use Rattle.nf_msgs.specs.declared.note.Note.TheVariants as note
-use Rattle.nf_msgs.specs.Nodes.{instance_node}
 use Rattle.actor_net.specs.Network.{Network}
 use Rattle.net_world.specs.declared.config.Config.{Config}
 use Rattle.net_world.specs.declared.node.Node.{Node}
 use Rattle.net_world.specs.Fold as folds
 use Rattle.net_world.specs.Input.{IsInput, IsRising, no_packet, packet_numbered, packets}
-use Rattle.net_world.specs.Log.{done, done_of, those}
+use Rattle.net_world.specs.Log.{dones_in, done_where}
 use Rattle.net_world.specs.Places.{is_loose}
-use Rattle.nf_net.specs.Promises.{Promises, Completed}
+use Rattle.run_report.specs.nf_net.specs.Promises.{Promises, Completed}
 use Rattle.report_lines.specs.Lines.{by_number, output_in}
 use Rattle.run_headline.specs.Headline.{outs_of, outputs_to, packets_of, is_of}
 use Rattle.run_headline.specs.Law.{subject}
-use Rattle.run_headline.proofs.FoundNumbers.{all_found}
+use Rattle.run_headline.proofs.FoundNumbers.{all_found, rising_from}
 use Rattle.run_headline.proofs.SortedParts.{all_filter, part_stays, up_rising}
 use Rattle.std.proofs.lemmas.Cmp.{nat_cmp_total}
 
@@ -33,48 +32,34 @@ module _ (mine : ℕ → Bool) where
   abbrev mine_of : Outs → Outs
   mine_of outs = filter (λ o. mine o.0) outs
 
-  pub numbers_noted : (log : List Note) → map (λ o. o.0) (mine_of (filter_map output_in log)) ≡ map (λ d. d.number) (done_of mine (done log))
+  pub numbers_noted : (log : List Note) → map (λ o. o.0) (mine_of (filter_map output_in log)) ≡ map (λ d. d.number) (done_where mine (dones_in log))
   numbers_noted [] = refl
   numbers_noted (note.Processed number instance output ∷ log) = elim (mine number) as (λ b.
       map (λ o. o.0) (cond b ((number, output) ∷ mine_of (filter_map output_in log)) (mine_of (filter_map output_in log)))
-      ≡ map (λ d. d.number) (cond b (record { number = number; node = instance_node instance; output = output } ∷ done_of mine (done log)) (done_of mine (done log)))) [
+      ≡ map (λ d. d.number)
+      (cond b (record { number = number; instance = instance; output = output } ∷ done_where mine (dones_in log)) (done_where mine (dones_in log)))) [
         | true ↦ ap (λ l. number ∷ l) (numbers_noted log)
         | false ↦ numbers_noted log
       ]
-  numbers_noted (note.Arrived number ∷ log) = numbers_noted log
-  numbers_noted (note.Begun op ∷ log) = numbers_noted log
-  numbers_noted (note.Exported op instance us ∷ log) = numbers_noted log
-  numbers_noted (note.Imported op instance us ∷ log) = numbers_noted log
-  numbers_noted (note.Kept op instance us ∷ log) = numbers_noted log
-  numbers_noted (note.Installed op ∷ log) = numbers_noted log
-  numbers_noted (note.Answered op answer ∷ log) = numbers_noted log
+  numbers_noted (n ∷ log) = numbers_noted log
 
-  pub outputs_noted : (log : List Note) → map (λ o. o.1) (mine_of (filter_map output_in log)) ≡ map (λ d. d.output) (done_of mine (done log))
+  pub outputs_noted : (log : List Note) → map (λ o. o.1) (mine_of (filter_map output_in log)) ≡ map (λ d. d.output) (done_where mine (dones_in log))
   outputs_noted [] = refl
   outputs_noted (note.Processed number instance output ∷ log) = elim (mine number) as (λ b.
       map (λ o. o.1) (cond b ((number, output) ∷ mine_of (filter_map output_in log)) (mine_of (filter_map output_in log)))
-      ≡ map (λ d. d.output) (cond b (record { number = number; node = instance_node instance; output = output } ∷ done_of mine (done log)) (done_of mine (done log)))) [
+      ≡ map (λ d. d.output)
+      (cond b (record { number = number; instance = instance; output = output } ∷ done_where mine (dones_in log)) (done_where mine (dones_in log)))) [
         | true ↦ ap (λ l. output ∷ l) (outputs_noted log)
         | false ↦ outputs_noted log
       ]
-  outputs_noted (note.Arrived number ∷ log) = outputs_noted log
-  outputs_noted (note.Begun op ∷ log) = outputs_noted log
-  outputs_noted (note.Exported op instance us ∷ log) = outputs_noted log
-  outputs_noted (note.Imported op instance us ∷ log) = outputs_noted log
-  outputs_noted (note.Kept op instance us ∷ log) = outputs_noted log
-  outputs_noted (note.Installed op ∷ log) = outputs_noted log
-  outputs_noted (note.Answered op answer ∷ log) = outputs_noted log
+  outputs_noted (n ∷ log) = outputs_noted log
 
   -- some of rising numbers rise
-  rising_from : (low least : ℕ) (ns : List ℕ) → low ≤ least → IsRising least ns → IsRising low ns
-  rising_from low least [] le rising = tt
-  rising_from low least (n ∷ ns) le rising = (let first = rising.0 in omega (arith, le, first), rising.1)
-
-  pub some_rise : (least : ℕ) (ns : List ℕ) → IsRising least ns → IsRising least (those mine ns)
+  pub some_rise : (least : ℕ) (ns : List ℕ) → IsRising least ns → IsRising least (filter mine ns)
   some_rise least [] rising = tt
-  some_rise least (n ∷ ns) rising = elim (mine n) as (λ b. IsRising least (cond b (n ∷ those mine ns) (those mine ns))) [
+  some_rise least (n ∷ ns) rising = elim (mine n) as (λ b. IsRising least (cond b (n ∷ filter mine ns) (filter mine ns))) [
     | true ↦ (rising.0, some_rise (suc n) ns rising.1)
-    | false ↦ rising_from least (suc n) (those mine ns) (let first = rising.0 in omega (arith, first)) (some_rise (suc n) ns rising.1)
+    | false ↦ rising_from least (suc n) (filter mine ns) (let first = rising.0 in omega (arith, first)) (some_rise (suc n) ns rising.1)
   ]
 
   -- the outputs beside the packets that pass the test
@@ -115,27 +100,28 @@ module _ {R : Type 0} (f : Semantics R) (c : Config) (items : List Msg) (u : uni
 
   -- one instance is given numbers, or packets
   pub outputs_same : (kept : Option R) (ps : List Packet) → AllByRecursion IsThere ps
-      → folds.outputs f c items kept (those mine (map (λ p. p.number) ps)) ≡ scan (kept_after f c.site) (output_for f c.site) kept (filter part ps)
+      → folds.outputs f c items kept (filter mine (map (λ p. p.number) ps)) ≡ scan (kept_after f c.site) (output_for f c.site) kept (filter part ps)
   outputs_same kept [] all = refl
   outputs_same kept (p ∷ ps) all =
       let is : packet_numbered items p.number ≡ p = numbered p all.0 in
-      subst (λ (q : Packet). folds.outputs f c items kept (cond (part q) (p.number ∷ those mine (map (λ r. r.number) ps)) (those mine (map (λ r. r.number) ps)))
+      subst (λ (q : Packet). folds.outputs f c items kept
+      (cond (part q) (p.number ∷ filter mine (map (λ r. r.number) ps)) (filter mine (map (λ r. r.number) ps)))
       ≡ scan (kept_after f c.site) (output_for f c.site) kept (cond (part p) (p ∷ filter part ps) (filter part ps))) (sym is)
-      (elim (part p) as (λ b. folds.outputs f c items kept (cond b (p.number ∷ those mine (map (λ r. r.number) ps)) (those mine (map (λ r. r.number) ps)))
+      (elim (part p) as (λ b. folds.outputs f c items kept (cond b (p.number ∷ filter mine (map (λ r. r.number) ps)) (filter mine (map (λ r. r.number) ps)))
       ≡ scan (kept_after f c.site) (output_for f c.site) kept (cond b (p ∷ filter part ps) (filter part ps))) [
-        | true ↦ subst (λ (q : Packet). output_for f c.site kept q ∷ folds.outputs f c items (kept_after f c.site kept q) (those mine (map (λ r. r.number) ps))
+        | true ↦ subst (λ (q : Packet). output_for f c.site kept q ∷ folds.outputs f c items (kept_after f c.site kept q) (filter mine (map (λ r. r.number) ps))
             ≡ output_for f c.site kept p ∷ scan (kept_after f c.site) (output_for f c.site) (kept_after f c.site kept p) (filter part ps)) (sym is)
             (ap (λ l. output_for f c.site kept p ∷ l) (outputs_same (kept_after f c.site kept p) ps all.1))
         | false ↦ outputs_same kept ps all.1
       ])
 
   -- the numbers of its packets
-  pub those_numbers : (ps : List Packet) → AllByRecursion IsThere ps → those mine (map (λ p. p.number) ps) ≡ map (λ p. p.number) (filter part ps)
+  pub those_numbers : (ps : List Packet) → AllByRecursion IsThere ps → filter mine (map (λ p. p.number) ps) ≡ map (λ p. p.number) (filter part ps)
   those_numbers [] all = refl
   those_numbers (p ∷ ps) all =
-      subst (λ b. cond b (p.number ∷ those mine (map (λ q. q.number) ps)) (those mine (map (λ q. q.number) ps))
+      subst (λ b. cond b (p.number ∷ filter mine (map (λ q. q.number) ps)) (filter mine (map (λ q. q.number) ps))
       ≡ map (λ q. q.number) (cond (part p) (p ∷ filter part ps) (filter part ps))) (sym (ap part (numbered p all.0)))
-      (elim (part p) as (λ b. cond b (p.number ∷ those mine (map (λ q. q.number) ps)) (those mine (map (λ q. q.number) ps))
+      (elim (part p) as (λ b. cond b (p.number ∷ filter mine (map (λ q. q.number) ps)) (filter mine (map (λ q. q.number) ps))
       ≡ map (λ q. q.number) (cond b (p ∷ filter part ps) (filter part ps))) [
         | true ↦ ap (λ l. p.number ∷ l) (those_numbers ps all.1)
         | false ↦ those_numbers ps all.1
@@ -145,11 +131,12 @@ module _ {R : Type 0} (f : Semantics R) (c : Config) (items : List Msg) (u : uni
       → folds.fold f c items kept (map (λ p. p.number) ps) ≡ fold (kept_after f c.site) kept ps
   folds_numbers kept [] all = refl
   folds_numbers kept (p ∷ ps) all =
-      subst (λ (q : Packet). folds.fold f c items (kept_after f c.site kept q) (map (λ r. r.number) ps) ≡ fold (kept_after f c.site) (kept_after f c.site kept p) ps)
+      subst (λ (q : Packet). folds.fold f c items (kept_after f c.site kept q) (map (λ r. r.number) ps)
+      ≡ fold (kept_after f c.site) (kept_after f c.site kept p) ps)
       (sym (numbered p all.0)) (folds_numbers (kept_after f c.site kept p) ps all.1)
 
   pub folds_same : (kept : Option R) (ps : List Packet) → AllByRecursion IsThere ps
-      → folds.fold f c items kept (those mine (map (λ p. p.number) ps)) ≡ fold (kept_after f c.site) kept (filter part ps)
+      → folds.fold f c items kept (filter mine (map (λ p. p.number) ps)) ≡ fold (kept_after f c.site) kept (filter part ps)
   folds_same kept ps all = ap (folds.fold f c items kept) (those_numbers ps all) ∙ folds_numbers kept (filter part ps) (all_filter IsThere part ps all)
 
 module _ {F R : Type 0} (f : Semantics R) (c : Config) (items : List Msg) (is : IsInput f.kind c items) (w : Network (Node F R) Msg Note)
@@ -158,8 +145,8 @@ module _ {F R : Type 0} (f : Semantics R) (c : Config) (items : List Msg) (is : 
   all_there = all_found (λ p. p.number) 0 (packets items) is.numbers
 
   -- what was processed of the unit is all its packets, in their order
-  pub processed_all : folds.went f c items u w.log ≡ those (mine f c items u) (map (λ p. p.number) (packets items))
-  processed_all = completed.all_went u loose ∙ ap (those (mine f c items u)) completed.all_came
+  pub processed_all : folds.processed_of f c items u w.log ≡ filter (mine f c items u) (map (λ p. p.number) (packets items))
+  processed_all = completed.all_went u loose ∙ ap (filter (mine f c items u)) completed.all_came
 
   up : IsRising 0 (map (λ o. o.0) (mine_of (mine f c items u) (filter_map output_in w.log)))
   up = subst (IsRising 0) (sym (numbers_noted (mine f c items u) w.log

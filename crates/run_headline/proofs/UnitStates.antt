@@ -1,97 +1,41 @@
 -- The records of a unit among those of all instances, sorted by their units: at most one, which is that of one instance that nothing moved.
-use Rattle.std.proofs.Common.{◌≡◌, ℕ, zero, suc, ◌≤◌, Bool, true, false, cond, Option, Some, None, List, [], ◌∷◌, ◌++◌, length, map}
-use Rattle.std.proofs.Common.{refl, sym, ap, ◌∙◌, subst, arith}
-use Rattle.std.specs.Prelude.{T, filter, option_to_list, zip}
+use Rattle.std.proofs.Common.{◌≡◌, ℕ, zero, suc, true, Option, Some, None, List, [], ◌∷◌, ◌++◌, length, map, ap, ◌∙◌, arith, refl}
+use Rattle.std.specs.Prelude.{T, Bool, option_to_list, zip}
 use Rattle.std.specs.List.{flat_map}
-use Rattle.std.specs.Ordering.{is_lt, ordering_reverse}
-use Rattle.std.specs.declared.cmp.Ordering.{Ordering}
-use Rattle.std.specs.declared.cmp.Ordering.TheVariants.{Less, Equal, Greater}
 use Rattle.std.specs.FinMap as finite
-use Rattle.std.specs.FinMap.{is_sorted, entries_sorted}
-use Rattle.std.specs.FinMap.Entries.{below_all, find}
-use Rattle.std.proofs.Math.Facts.{and_yes}
+use Rattle.std.specs.FinMap.{is_sorted}
+use Rattle.std.specs.FinMap.Entries.{find}
 use Rattle.nf_function.specs.declared.unit.Unit as units
 use Rattle.nf_function.specs.Units.{unit_cmp}
-use Rattle.nf_function.specs.UnitOrder.{units_total}
-use Rattle.record_table.specs.Table.{part, same_unit}
-use Rattle.record_table.proofs.UnitOrder.{same_unit-true, same_unit_equiv}
+use Rattle.record_table.specs.Table.{part}
 use Rattle.instance_worker.specs.declared.instance.Instance.{Instance as InstanceState}
 use Rattle.report_lines.specs.Lines.{NamedInstance, NamedRecord, named_records}
 use Rattle.report_lines.specs.Sorting.{sorted_by}
 use Rattle.run_report.specs.Lines.{instance_under}
-use Rattle.run_headline.proofs.SortedParts.{one_stays}
+use Rattle.run_headline.proofs.UnitLines.{each_line, found_line, kept_each, kept_in, own, sorted_own}
 
--- what is its own reverse isn't less
-pub no_less : (o : Ordering) → o ≡ ordering_reverse o → T (is_lt o) → ⊥
-no_less Less same h = cc
-no_less Equal same h = h
-no_less Greater same h = h
+-- where none is there, it is none
+pub nothing : {X : Type 0} (o : Option X) → ((x : X) → o ≡ Some x → ⊥) → o ≡ None
+nothing None h = refl
+nothing (Some x) h = absurd (h x refl)
 
 module _ {R : Type 0} (u : units.Unit) where
-  -- the records of the unit among some
-  abbrev pub own : List (NamedRecord R) → List (NamedRecord R)
-  own records = filter (λ s. same_unit s.unit u) records
-
+  -- the records in the unit's lines among some
   abbrev pub kept_of : List (NamedRecord R) → List R
-  kept_of records = map (λ s. s.kept) (own records)
+  kept_of records = map (λ s. s.kept) (own u records)
 
-  kept_append : (xs ys : List (NamedRecord R)) → kept_of (xs ++ ys) ≡ kept_of xs ++ kept_of ys
-  kept_append [] ys = refl
-  kept_append (x ∷ xs) ys = elim (same_unit x.unit u) as (λ b. map (λ s. s.kept) (cond b (x ∷ own (xs ++ ys)) (own (xs ++ ys)))
-      ≡ map (λ s. s.kept) (cond b (x ∷ own xs) (own xs)) ++ kept_of ys) [
-        | true ↦ ap (λ l. x.kept ∷ l) (kept_append xs ys)
-        | false ↦ kept_append xs ys
-      ]
-
-  long : (records : List (NamedRecord R)) → length (own records) ≡ length (kept_of records)
-  long records = sym (length_map (own records))
-    where
-      length_map : (xs : List (NamedRecord R)) → length (map (λ s. s.kept) xs) ≡ length xs
-      length_map [] = refl
-      length_map (x ∷ xs) = ap suc (length_map xs)
-
-  module _ (name : List ℕ) where
-    abbrev named : units.Unit × R → NamedRecord R
-    named e = record { unit = e.0; name = name; kept = e.1 }
-
-    -- none of what comes after the unit is the unit
-    none_after : (x : units.Unit) (es : List (units.Unit × R)) → same_unit x u ≡ true → T (below_all unit_cmp x es) → kept_of (map named es) ≡ []
-    none_after x [] same below = refl
-    none_after x (e ∷ es) same below =
-        let less = (and_yes (is_lt (unit_cmp x e.0)) (below_all unit_cmp x es) below).0 in
-        let rest = (and_yes (is_lt (unit_cmp x e.0)) (below_all unit_cmp x es) below).1 in
-        elim (same_unit e.0 u) as (λ b. same_unit e.0 u ≡ b → map (λ s. s.kept) (cond b (named e ∷ own (map named es)) (own (map named es))) ≡ []) [
-          | true ↦ λ is.
-              let one : x ≡ e.0 = same_unit-true x u same ∙ sym (same_unit-true e.0 u is) in
-              absurd (not_less_self x (subst (λ y. T (is_lt (unit_cmp x y))) (sym one) less))
-          | false ↦ λ is. none_after x es same rest
-        ] refl
-      where
-        not_less_self : (y : units.Unit) → T (is_lt (unit_cmp y y)) → ⊥
-        not_less_self y h = no_less (unit_cmp y y) (units_total.antisymm y y) h
-
-    pub found_kept : (es : List (units.Unit × R)) → T (is_sorted unit_cmp es) → kept_of (map named es) ≡ option_to_list (find unit_cmp u es)
-    found_kept [] up = refl
-    found_kept (e ∷ es) up =
-        let below = (and_yes (below_all unit_cmp e.0 es) (is_sorted unit_cmp es) up).0 in
-        let more = (and_yes (below_all unit_cmp e.0 es) (is_sorted unit_cmp es) up).1 in
-        subst (λ b. map (λ s. s.kept) (cond (same_unit e.0 u) (named e ∷ own (map named es)) (own (map named es)))
-        ≡ option_to_list (cond b (Some e.1) (find unit_cmp u es))) (same_unit_equiv.symm e.0 u)
-        (elim (same_unit e.0 u) as (λ b. same_unit e.0 u ≡ b → map (λ s. s.kept) (cond b (named e ∷ own (map named es)) (own (map named es)))
-        ≡ option_to_list (cond b (Some e.1) (find unit_cmp u es))) [
-          | true ↦ λ is. ap (λ l. e.1 ∷ l) (none_after e.0 es is below)
-          | false ↦ λ is. found_kept es more
-        ] refl)
+  pub found_kept : (name : List ℕ) (es : List (units.Unit × R)) → T (is_sorted unit_cmp es)
+      → kept_of (map (λ e. record { unit = e.0; name = name; kept = e.1 }) es) ≡ option_to_list (find unit_cmp u es)
+  found_kept name es up = ap (map (λ s. s.kept)) (found_line u name es up) ∙ kept_in u name (find unit_cmp u es)
 
   -- the records of some instances
   pub each_kept : (instances : List (NamedInstance R)) → kept_of (flat_map (named_records true) instances)
       ≡ flat_map (λ i. option_to_list (finite.get i.table.live u)) instances
-  each_kept [] = refl
-  each_kept (i ∷ instances) =
-      kept_append (named_records true i) (flat_map (named_records true) instances)
-      ∙ ap (λ l. l ++ kept_of (flat_map (named_records true) instances)) (found_kept i.name (finite.entries i.table.live) (entries_sorted i.table.live)
-      ∙ ap option_to_list (sym (finite.get-entries i.table.live u)))
-      ∙ ap (λ l. option_to_list (finite.get i.table.live u) ++ l) (each_kept instances)
+  each_kept instances = ap (map (λ s. s.kept)) (each_line u true instances) ∙ kept_each u instances
+
+  -- they stand where they stood before all were sorted
+  pub sorted_kept : (records : List (NamedRecord R)) → kept_of (sorted_by (λ s. s.unit) unit_cmp records) ≡ kept_of records
+  sorted_kept records = ap (map (λ s. s.kept)) (sorted_own u records)
 
   module _ {F : Type 0} where
     abbrev pub live_of : InstanceState F R → List R
@@ -123,21 +67,7 @@ module _ {R : Type 0} (u : units.Unit) where
     one_live (i ∷ is) zero r there alone =
         ap (λ l. l ++ flat_map live_of is) (ap option_to_list there)
         ∙ ap (λ l. r ∷ l) (none_live is (λ l. nothing (live_nth is l) (λ s h. let same : suc l ≡ 0 = alone (suc l) s h in omega (arith, same))))
-      where
-        nothing : (o : Option R) → ((s : R) → o ≡ Some s → ⊥) → o ≡ None
-        nothing None h = refl
-        nothing (Some s) h = absurd (h s refl)
     one_live (i ∷ is) (suc k) r there alone =
         ap (λ l. l ++ flat_map live_of is) (ap option_to_list (nothing (finite.get i.table.live u) (λ s h. let same : 0 ≡ suc k = alone 0 s h in
         omega (arith, same))))
         ∙ one_live is k r there (λ l s h. let same : suc l ≡ suc k = alone (suc l) s h in omega (arith, same))
-      where
-        nothing : (o : Option R) → ((s : R) → o ≡ Some s → ⊥) → o ≡ None
-        nothing None h = refl
-        nothing (Some s) h = absurd (h s refl)
-
-  -- at most one record stands where it stood before all were sorted
-  pub sorted_kept : (records : List (NamedRecord R)) → length (kept_of records) ≤ 1 → kept_of (sorted_by (λ s. s.unit) unit_cmp records) ≡ kept_of records
-  sorted_kept records few =
-      ap (map (λ s. s.kept)) (one_stays (λ s. s.unit) unit_cmp units_total (λ s. same_unit s.unit u) records (let same = long records in
-      omega (arith, same, few)))

@@ -1,5 +1,4 @@
--- What the lines of a report say of each packet, each unit and each command: the theorem of this project in words that name no part of the
--- network. This project's own.
+-- The theorem of this project in words that name no part of the network: what a report's lines say of packets, units and commands. This project's own.
 use Rattle.std.specs.Prelude.{◌≡◌, ℕ, ◌==◌, Bool, false, not, ◌&&◌, if◌then◌else◌, Option, None, List, map, filter, length, fold, scan, option_to_list, zip}
 use Rattle.std.specs.List.{list_any}
 use Rattle.flow_filter.specs.declared.packet.Packet.{Packet}
@@ -9,19 +8,11 @@ use Rattle.nf_function.specs.Semantics.{Semantics, unit_at, kept_after, output_f
 use Rattle.nf_function.specs.Units.{takes}
 use Rattle.record_table.specs.Table.{same_unit}
 use Rattle.nf_msgs.specs.declared.answer.Answer.{Answer}
-use Rattle.nf_msgs.specs.declared.command.Command.{Command}
 use Rattle.nf_msgs.specs.declared.command.Order.{Order}
 use Rattle.nf_msgs.specs.declared.command.Order.TheVariants.{Move}
-use Rattle.net_world.specs.declared.config.Config.{Config}
 use Rattle.report_lines.specs.Lines.{NamedRecord}
-use Rattle.run_headline.specs.Causes.{Answered, AreTrue, is_answered, is_done}
-
--- what a report is of: the function, the configuration of the instances, the packets of the capture and the commands of the script
-pub record Subject (R : Type 0) : Type 0 where
-  pub function : Semantics R
-  pub config : Config
-  pub packets : List Packet
-  pub commands : List Command
+use Rattle.run_headline.specs.Causes.{AreTrue, is_answered, is_done}
+use Rattle.run_headline.specs.Subject.{Subject}
 
 -- the lines of a report: `out N OUTPUT`, `done N INST`, `answer C ANSWER` and `state UNIT INST RECORD`
 pub record ReportLines (R : Type 0) : Type 0 where
@@ -30,10 +21,10 @@ pub record ReportLines (R : Type 0) : Type 0 where
   pub answers : List (ℕ × Answer)
   pub states : List (NamedRecord R)
 
--- an order for a plain move, which doesn't keep the order of packets, of the unit
-abbrev pub moves_plainly : units.Unit → Order → Bool
-moves_plainly unit (Move source destination taken keep) = not keep && takes taken unit
-moves_plainly unit order = false
+-- an order for a move of the unit, of which `which` tells by whether it keeps the order of packets: a plain move doesn't
+abbrev pub moves : (Bool → Bool) → units.Unit → Order → Bool
+moves which unit (Move source destination taken keep) = which keep && takes taken unit
+moves which unit order = false
 
 module _ {R : Type 0} (subject : Subject R) where
   -- one instance that nothing moves, which gets these packets in turn: the record that it keeps of their unit, and its outputs
@@ -45,7 +36,7 @@ module _ {R : Type 0} (subject : Subject R) where
 
   -- the unit was covered by a plain move that is done
   abbrev pub is_covered : List (ℕ × Answer) → units.Unit → Bool
-  is_covered answers unit = list_any (λ c. moves_plainly unit c.what && is_answered is_done answers c.op) subject.commands
+  is_covered answers unit = list_any (λ c. moves not unit c.what && is_answered is_done answers c.op) subject.commands
 
   -- whether a packet is of the unit, and those that are, in the order of the capture
   abbrev pub is_of : units.Unit → Packet → Bool
@@ -61,17 +52,13 @@ module _ {R : Type 0} (subject : Subject R) where
   abbrev pub records_of : units.Unit → List (NamedRecord R) → List R
   records_of unit states = map (λ s. s.kept) (filter (λ s. same_unit s.unit unit) states)
 
-  -- its commands, and the answers in the lines
-  abbrev pub answered : List (ℕ × Answer) → Answered
-  answered answers = record { kind = subject.function.kind; config = subject.config; commands = subject.commands; answers = answers }
-
   -- what the lines of a completed run say
   pub record Headline (lines : ReportLines R) : Type 0 where
     -- each captured packet has one `out` line, in the order of the capture, and one `done` line
     pub outs : map (λ o. o.0) lines.outs ≡ map (λ p. p.number) subject.packets
     pub dones : (n : ℕ) → length (filter (λ d. d.0 == n) lines.dones) ≡ length (filter (λ p. p.number == n) subject.packets)
     -- each command has one `answer` line, in the order of the script, with its true cause
-    pub answers : AreTrue (answered lines.answers)
+    pub answers : AreTrue subject lines.answers
     -- each unit with a packet has one `state` line, and no other unit has one
     pub one_state : (unit : units.Unit) → length (records_of unit lines.states) ≡ (if list_any (is_of unit) subject.packets then 1 else 0)
     -- where no completed plain move covered the unit, its outputs and its record are those of one instance that nothing moved

@@ -1,5 +1,15 @@
+pub mod Subject
 pub mod Causes
 pub mod Headline
 pub mod Instances
 pub mod Text
 pub mod Law
+pub mod Strong
+pub mod StrongLaw
+pub mod Published
+pub mod PublishedLaw
+pub mod Failover
+pub mod FailoverLaw
+pub use Rattle.run_report
+pub use Rattle.run_report.specs.nf_net
+pub use Rattle.standby_failover

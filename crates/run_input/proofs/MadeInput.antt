@@ -43,7 +43,8 @@ is_config setting script ps g =
       routes = routes_there (names_of rows) script.routes.items g.script_is.routes;
     }
 
-input_is : (setting : Setting) (script : Script) (ps : List Packet) → IsGiven setting script ps → IsInput setting.kind (config_of setting script.routes.items) (items ps script.lines.items)
+input_is : (setting : Setting) (script : Script) (ps : List Packet) → IsGiven setting script ps
+    → IsInput setting.kind (config_of setting script.routes.items) (items ps script.lines.items)
 input_is setting script ps g =
     let lines = script.lines.items in
     let same = packets_in ps lines in

@@ -30,10 +30,12 @@ packet_free what.Settle rest = refl
 
 packets_said : (test : ℕ → Bool) (lines : List Line) (rest : List Msg) → packets (said_where test lines ++ rest) ≡ packets rest
 packets_said test [] rest = refl
-packets_said test (line ∷ more) rest = elim (test line.at) as (λ b. packets (map (λ (l : Line). msg_of l.what) (if b then line ∷ filter (λ (l : Line). test l.at) more else filter (λ (l : Line). test l.at) more) ++ rest) ≡ packets rest) [
-  | true ↦ packet_free line.what (said_where test more ++ rest) ∙ packets_said test more rest
-  | false ↦ packets_said test more rest
-]
+packets_said test (line ∷ more) rest = elim (test line.at) as (λ b.
+    packets (map (λ (l : Line). msg_of l.what) (if b then line ∷ filter (λ (l : Line). test l.at) more else filter (λ (l : Line). test l.at) more) ++ rest)
+    ≡ packets rest) [
+      | true ↦ packet_free line.what (said_where test more ++ rest) ∙ packets_said test more rest
+      | false ↦ packets_said test more rest
+    ]
 
 -- and each gives its command
 command_said : (w : What) (rest : List Msg) (cs : List Command) → commands rest ≡ cs → commands (msg_of w ∷ rest) ≡ with_command w cs
@@ -44,14 +46,17 @@ with_more : (w : What) (cs ds : List Command) → with_command w cs ++ ds ≡ wi
 with_more (what.Command command) cs ds = refl
 with_more what.Settle cs ds = refl
 
-commands_said : (test : ℕ → Bool) (lines : List Line) (rest : List Msg) → commands (said_where test lines ++ rest) ≡ line_commands (filter (λ (l : Line). test l.at) lines) ++ commands rest
+commands_said : (test : ℕ → Bool) (lines : List Line) (rest : List Msg)
+    → commands (said_where test lines ++ rest) ≡ line_commands (filter (λ (l : Line). test l.at) lines) ++ commands rest
 commands_said test [] rest = refl
-commands_said test (line ∷ more) rest = elim (test line.at) as (λ b. commands (map (λ (l : Line). msg_of l.what) (if b then line ∷ filter (λ (l : Line). test l.at) more else filter (λ (l : Line). test l.at) more) ++ rest) ≡ line_commands (if b then line ∷ filter (λ (l : Line). test l.at) more else filter (λ (l : Line). test l.at) more) ++ commands rest) [
-  | true ↦
-      command_said line.what (said_where test more ++ rest) _ (commands_said test more rest)
-      ∙ sym (with_more line.what (line_commands (filter (λ (l : Line). test l.at) more)) (commands rest))
-  | false ↦ commands_said test more rest
-]
+commands_said test (line ∷ more) rest = elim (test line.at) as (λ b.
+    commands (map (λ (l : Line). msg_of l.what) (if b then line ∷ filter (λ (l : Line). test l.at) more else filter (λ (l : Line). test l.at) more) ++ rest)
+    ≡ line_commands (if b then line ∷ filter (λ (l : Line). test l.at) more else filter (λ (l : Line). test l.at) more) ++ commands rest) [
+      | true ↦
+          command_said line.what (said_where test more ++ rest) _ (commands_said test more rest)
+          ∙ sym (with_more line.what (line_commands (filter (λ (l : Line). test l.at) more)) (commands rest))
+      | false ↦ commands_said test more rest
+    ]
 
 -- what lines say may stand in an input
 item_of : (w : What) → is_item (msg_of w) ≡ true
@@ -60,10 +65,11 @@ item_of what.Settle = refl
 
 items_said : (test : ℕ → Bool) (lines : List Line) → All (λ item. is_item item ≡ true) (said_where test lines)
 items_said test [] = All-nil (λ item. is_item item ≡ true)
-items_said test (line ∷ more) = elim (test line.at) as (λ b. All (λ item. is_item item ≡ true) (map (λ (l : Line). msg_of l.what) (if b then line ∷ filter (λ (l : Line). test l.at) more else filter (λ (l : Line). test l.at) more))) [
-  | true ↦ All-cons (λ item. is_item item ≡ true) (msg_of line.what) (said_where test more) (item_of line.what) (items_said test more)
-  | false ↦ items_said test more
-]
+items_said test (line ∷ more) = elim (test line.at) as (λ b. All (λ item. is_item item ≡ true)
+    (map (λ (l : Line). msg_of l.what) (if b then line ∷ filter (λ (l : Line). test l.at) more else filter (λ (l : Line). test l.at) more))) [
+      | true ↦ All-cons (λ item. is_item item ≡ true) (msg_of line.what) (said_where test more) (item_of line.what) (items_said test more)
+      | false ↦ items_said test more
+    ]
 
 items_after : (k : ℕ) (ps : List Packet) (lines : List Line) → All (λ item. is_item item ≡ true) (items_from k ps lines)
 items_after k [] lines = items_said (λ at. leb k at) lines
@@ -94,10 +100,12 @@ end_free what.Settle rest = refl
 
 ends_said : (test : ℕ → Bool) (lines : List Line) (rest : List Msg) → ends_last (said_where test lines ++ rest) ≡ ends_last rest
 ends_said test [] rest = refl
-ends_said test (line ∷ more) rest = elim (test line.at) as (λ b. ends_last (map (λ (l : Line). msg_of l.what) (if b then line ∷ filter (λ (l : Line). test l.at) more else filter (λ (l : Line). test l.at) more) ++ rest) ≡ ends_last rest) [
-  | true ↦ end_free line.what (said_where test more ++ rest) ∙ ends_said test more rest
-  | false ↦ ends_said test more rest
-]
+ends_said test (line ∷ more) rest = elim (test line.at) as (λ b. ends_last
+    (map (λ (l : Line). msg_of l.what) (if b then line ∷ filter (λ (l : Line). test l.at) more else filter (λ (l : Line). test l.at) more) ++ rest)
+    ≡ ends_last rest) [
+      | true ↦ end_free line.what (said_where test more ++ rest) ∙ ends_said test more rest
+      | false ↦ ends_said test more rest
+    ]
 
 ends_from : (k : ℕ) (ps : List Packet) (lines : List Line) → ends_last (items_from k ps lines ++ InEnd ∷ []) ≡ true
 ends_from k [] lines = ends_said (λ at. leb k at) lines (InEnd ∷ [])
@@ -125,28 +133,30 @@ none_here j k (line ∷ more) order below =
 
 pub here_and_behind : (j k : ℕ) (lines : List Line) → IsFrom j lines → here k lines ++ from (k + 1) lines ≡ from k lines
 here_and_behind j k [] order = refl
-here_and_behind j k (line ∷ more) order = elim (leb k line.at) as (λ b. leb k line.at ≡ b → here k (line ∷ more) ++ from (k + 1) (line ∷ more) ≡ from k (line ∷ more)) [
-  | false ↦ λ no.
-      let at : eqb line.at k ≡ false = grind (arith, nat_tests, no) in
-      let far : leb (k + 1) line.at ≡ false = grind (arith, nat_tests, no) in
-      rw (at, far, no) (here_and_behind line.at k more order.1)
-  | true ↦ λ yes. elim (eqb line.at k) as (λ b. eqb line.at k ≡ b → here k (line ∷ more) ++ from (k + 1) (line ∷ more) ≡ from k (line ∷ more)) [
-    | true ↦ λ at.
-        let far : leb (k + 1) line.at ≡ false = grind (arith, nat_tests, at) in
-        rw (at, far, yes) (ap (λ ls. line ∷ ls) (here_and_behind line.at k more order.1))
-    | false ↦ λ off.
-        let far : leb (k + 1) line.at ≡ true = grind (arith, nat_tests, yes, off) in
-        let above : k < line.at = grind (arith, nat_tests, yes, off) in
-        let none = none_here line.at k more order.1 above in
-        rw (off, far, yes, none) (ap (λ ls. line ∷ ls) (ap (λ ls. ls ++ from (k + 1) more) (sym none) ∙ here_and_behind line.at k more order.1))
-  ] refl
-] refl
+here_and_behind j k (line ∷ more) order =
+    elim (leb k line.at) as (λ b. leb k line.at ≡ b → here k (line ∷ more) ++ from (k + 1) (line ∷ more) ≡ from k (line ∷ more)) [
+      | false ↦ λ no.
+          let at : eqb line.at k ≡ false = grind (arith, nat_tests, no) in
+          let far : leb (k + 1) line.at ≡ false = grind (arith, nat_tests, no) in
+          rw (at, far, no) (here_and_behind line.at k more order.1)
+      | true ↦ λ yes. elim (eqb line.at k) as (λ b. eqb line.at k ≡ b → here k (line ∷ more) ++ from (k + 1) (line ∷ more) ≡ from k (line ∷ more)) [
+        | true ↦ λ at.
+            let far : leb (k + 1) line.at ≡ false = grind (arith, nat_tests, at) in
+            rw (at, far, yes) (ap (λ ls. line ∷ ls) (here_and_behind line.at k more order.1))
+        | false ↦ λ off.
+            let far : leb (k + 1) line.at ≡ true = grind (arith, nat_tests, yes, off) in
+            let above : k < line.at = grind (arith, nat_tests, yes, off) in
+            let none = none_here line.at k more order.1 above in
+            rw (off, far, yes, none) (ap (λ ls. line ∷ ls) (ap (λ ls. ls ++ from (k + 1) more) (sym none) ∙ here_and_behind line.at k more order.1))
+      ] refl
+    ] refl
 
 line_commands-append : (a b : List Line) → line_commands (a ++ b) ≡ line_commands a ++ line_commands b
 line_commands-append [] b = refl
 line_commands-append (line ∷ a) b = ap (with_command line.what) (line_commands-append a b) ∙ sym (with_more line.what (line_commands a) (line_commands b))
 
-commands_from : (j k : ℕ) (ps : List Packet) (lines : List Line) → IsFrom j lines → commands (items_from k ps lines ++ InEnd ∷ []) ≡ line_commands (from k lines)
+commands_from : (j k : ℕ) (ps : List Packet) (lines : List Line) → IsFrom j lines
+    → commands (items_from k ps lines ++ InEnd ∷ []) ≡ line_commands (from k lines)
 commands_from j k [] lines order = commands_said (λ at. leb k at) lines (InEnd ∷ []) ∙ append-nil (line_commands (from k lines))
 commands_from j k (p ∷ ps) lines order =
     ap commands (append_assoc (said_where (λ at. eqb at k) lines) (InPacket p ∷ items_from (k + 1) ps lines) (InEnd ∷ []))

@@ -4,7 +4,7 @@ use Rattle.std.specs.Prelude.{All}
 use Rattle.flow_filter.specs.declared.packet.Packet.{Packet}
 use Rattle.flow_filter.specs.declared.site.Site.{Site}
 use Rattle.nf_function.specs.Units.{is_transport}
-use Rattle.op_script.specs.PacketItems.{IsInRange}
+use Rattle.flow_filter.specs.Packet.{IsInRange}
 use Rattle.op_script.proofs.RangedPackets.{fits_site, flow_fits}
 use Rattle.net_world.specs.Input.{IsSteered}
 

@@ -1,5 +1,4 @@
-//! A capture whose packets are kept, while it is read, as items of a run's input, or as they are. Of each it is then known that its
-//! numbers are in range.
+//! A capture whose packets are kept, while it is read, as items of a run's input.
 ghost use Rattle.std.specs.Prelude.{◌≡◌, ◌≤◌, true, length, All, IfOk};
 ghost use Rattle.std.specs.Option.{ForSome};
 ghost use Rattle.nf_io.specs.Meaning.{StaysOpen, untouched};
@@ -7,15 +6,14 @@ ghost use Rattle.flow_filter.specs.Limits.{most_packets};
 ghost use Rattle.trace_reader.specs.Records.{capture_of, AreNumbered};
 ghost use Rattle.trace_reader.specs.Steered.{is_steered_proto};
 ghost use Rattle.trace_reader.specs.Answers.{AnswersTrace, HasReadCause};
-ghost use Rattle.op_script.specs.PacketItems.{IsInRange};
 
 use basics::NoMemory;
-use flow_filter::{Packet, Packets};
+use flow_filter::Packet;
 use nf_io::Source;
-use op_script::{PacketItems, captured};
+use op_script::PacketItems;
 use std::alloc::Global;
 use std::marker::Model;
-use trace_reader::{Keeper, Trace, TraceEnd, TraceFault, read_into};
+use trace_reader::{Keeper, TraceEnd, TraceFault, read_into};
 
 /// What a capture holds, its packets as items. Contracts see it as the trace.
 #[derive(Debug, Drop)]
@@ -89,46 +87,5 @@ impl Keeper for ItemKeeper {
     #[inline(always)]
     fn keep(&mut self, packet: &Packet) -> Result<(), NoMemory> {
         self.packets.push(self.alloc, packet)
-    }
-}
-
-/// Reads a capture to its end, for a run whose input is its packets alone.
-pub fn read_in_range<S: Source>(alloc: Global, source: &mut S) -> Result<Trace, TraceFault>
-    requires { S.IsOpen source.old }
-    ensures trace { ForSome (S.left source.old) (λ bytes. AnswersTrace (capture_of bytes) (S.left source.new) result) }
-    ensures numbers { IfOk result (λ trace. AreNumbered 1 trace.packets) }
-    ensures steered { IfOk result (λ trace. All (λ packet. is_steered_proto packet.proto ≡ true) trace.packets) }
-    ensures in_range { IfOk result (λ trace. All IsInRange trace.packets) }
-    ensures few { IfOk result (λ trace. length trace.packets ≤ most_packets) }
-    ensures cause { HasReadCause (S.faults source.old) (S.faults source.new) result }
-    ensures stays { StaysOpen S.IsOpen (untouched S.loan S.rest) source.old source.new }
-{
-    let mut keeper = PacketKeeper {
-        packets: Packets::open(alloc),
-        alloc,
-    };
-    let end = read_into(source, &mut keeper)?;
-    Ok(Trace {
-        packets: keeper.packets,
-        skipped: end.skipped,
-        cut: end.cut,
-    })
-}
-
-/// Keeps each packet, to wait for its turn.
-#[derive(Debug, Drop)]
-struct PacketKeeper {
-    packets: Packets,
-    alloc: Global,
-}
-
-impl Keeper for PacketKeeper {
-    ghost Setup = { Unit {0} };
-
-    ghost HasKept = { λ keeper setup kept. (keeper.packets ≡ kept) × All IsInRange kept };
-
-    #[inline(always)]
-    fn keep(&mut self, packet: &Packet) -> Result<(), NoMemory> {
-        self.packets.push(captured(self.alloc, packet)?)
     }
 }

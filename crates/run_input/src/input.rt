@@ -6,7 +6,7 @@ ghost use Rattle.op_script.specs.Reading.{script_view};
 ghost use Rattle.op_script.specs.Printing.{IsScript, SplitsNone};
 ghost use Rattle.op_script.specs.Items.{items};
 ghost use Rattle.net_world.specs.Input.{IsInput, ends_last};
-ghost use Rattle.net_length.specs.Length.{IsShort};
+ghost use Rattle.net_world.specs.Length.{IsShort};
 ghost use Rattle.command_words.specs.Values.{names_of};
 ghost use Rattle.run_input.specs.Settings.{config_of};
 ghost use Rattle.flow_filter.specs.Limits.{most_packets};

@@ -9,6 +9,6 @@ pub mod captured;
 pub mod input;
 pub mod setting;
 
-pub use captured::{CapturedItems, read_in_range};
+pub use captured::CapturedItems;
 pub use input::input_of;
 pub use setting::Setting;

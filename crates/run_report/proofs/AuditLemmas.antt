@@ -9,16 +9,17 @@ use Rattle.actor_net.specs.declared.choice.Choice.{Choice}
 use Rattle.actor_net.specs.declared.replays.ReplayFault.{ReplayFault}
 use Rattle.actor_net.specs.declared.replays.ReplayFault.TheVariants.{NotEnabled, NoMemory}
 use Rattle.actor_net.specs.Network.{Network, is_done}
-use Rattle.actor_net.specs.Replays.{replayed, FirstFault}
+use Rattle.actor_net.specs.Replays.{replay_of, FirstFault}
 use Rattle.actor_net.proofs.ReplayLaws.{replayed_ok, replayed_fault}
 use Rattle.net_world.specs.declared.node.Node.{Node}
 use Rattle.net_world.specs.Nodes.{node_step, node_ready, node_ended}
 use Rattle.net_world.specs.Runs.{LeadsTo}
 use Rattle.run_report.specs.Audits.{world_after, IsCompleteRun, IsAuditCause}
 
-module _ {F R : Type 0} (f : Semantics R) (first start : Network (Node F R) Msg Note) (at_start : start ≡ first) (cs : List Choice) (result : Result (Network (Node F R) Msg Note) ReplayFault) (h : result ≢ Err NoMemory → result ≡ replayed node_ready (node_step f) cs start) where
-  replay : result ≢ Err NoMemory → replayed node_ready (node_step f) cs first ≡ result
-  replay enough = ap (replayed node_ready (node_step f) cs) (sym at_start) ∙ sym (h enough)
+module _ {F R : Type 0} (f : Semantics R) (first start : Network (Node F R) Msg Note) (at_start : start ≡ first) (cs : List Choice)
+    (result : Result (Network (Node F R) Msg Note) ReplayFault) (h : result ≢ Err NoMemory → result ≡ replay_of node_ready (node_step f) cs start) where
+  replay : result ≢ Err NoMemory → replay_of node_ready (node_step f) cs first ≡ result
+  replay enough = ap (replay_of node_ready (node_step f) cs) (sym at_start) ∙ sym (h enough)
 
   -- the choices lead to a world that is handed back
   pub leads_to : (w : Network (Node F R) Msg Note) → result ≡ Ok w → LeadsTo f first cs w
@@ -35,7 +36,8 @@ module _ {F R : Type 0} (f : Semantics R) (first start : Network (Node F R) Msg 
   complete w ok done = record { leads = led w ok; complete = ap (is_done node_ended) (sym (leads_to w ok).reached) ∙ done }
 
   -- and else are short of one
-  pub short : (w : Network (Node F R) Msg Note) → result ≡ Ok w → is_done node_ended w ≡ false → (step : ℕ) → step ≡ length cs + 1 → IsAuditCause f first cs step
+  pub short : (w : Network (Node F R) Msg Note) → result ≡ Ok w → is_done node_ended w ≡ false → (step : ℕ) → step ≡ length cs + 1
+      → IsAuditCause f first cs step
   short w ok left step counted = inr (record { leads = led w ok; incomplete = ap (is_done node_ended) (sym (leads_to w ok).reached) ∙ left; counted = counted })
 
   -- a fault is the first

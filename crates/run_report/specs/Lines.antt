@@ -6,12 +6,12 @@ use Rattle.nf_function.specs.Semantics.{Semantics}
 use Rattle.nf_msgs.specs.declared.answer.Answer.{Answer}
 use Rattle.nf_msgs.specs.declared.msg.Msg.{Msg}
 use Rattle.nf_msgs.specs.declared.note.Note.{Note}
-use Rattle.nf_msgs.specs.declared.note.Note.TheVariants.{Answered}
 use Rattle.nf_msgs.specs.Answers.{answer_text}
 use Rattle.actor_net.specs.Network.{Network}
 use Rattle.instance_worker.specs.declared.instance.Instance.{Instance as InstanceState}
 use Rattle.net_world.specs.declared.node.Node.{Node}
 use Rattle.net_world.specs.declared.node.Node.TheVariants.{Switch, Controller, Instance}
+use Rattle.net_world.specs.Log.{answer_in}
 use Rattle.report_lines.specs.Lines.{NamedInstance, by_number, done_lines, function_line, out_lines, standby_lines, state_lines, tail_lines, trace_line}
 use Rattle.run_report.specs.declared.head.Head.{Head}
 
@@ -19,11 +19,6 @@ use Rattle.run_report.specs.declared.head.Head.{Head}
 unfoldable pub head_lines : Head → List ℕ
 head_lines head =
     codes "opennf report 1\n" ++ function_line head.kind (length head.names) head.window ++ trace_line head.packets head.skipped head.cut
-
--- the number and the answer of a command that was answered
-abbrev pub answer_in : Note → Option (ℕ × Answer)
-answer_in (Answered op answer) = Some (op, answer)
-answer_in note = None
 
 -- `answer C ANSWER`
 unfoldable pub answer_line : ℕ × Answer → List ℕ

@@ -1,6 +1,7 @@
 ghost use Rattle.std.specs.Prelude.{◌≡◌, ◌++◌, map, filter_map, IfOk, OnOk};
 ghost use Rattle.report_lines.specs.Lines.{by_number};
-ghost use Rattle.run_report.specs.Lines.{answer_in, answer_line, answer_lines};
+ghost use Rattle.net_world.specs.Log.{answer_in};
+ghost use Rattle.run_report.specs.Lines.{answer_line, answer_lines};
 ghost use Rattle.run_report.specs.Seen.{answer_seen};
 
 use basics::{NoMemory, Text};

@@ -2,7 +2,7 @@ ghost use Rattle.std.specs.Prelude.{◌≡◌, ℕ, IfOk};
 ghost use Rattle.net_world.specs.Input.{IsInput};
 ghost use Rattle.net_world.specs.Jobs.{course_of, job_of};
 ghost use Rattle.nf_net.specs.Promises.{Completed, Promises, Standbys, Verdicts};
-ghost use Rattle.net_world.specs.Start.{IsConfig, started};
+ghost use Rattle.net_world.specs.Start.{IsConfig, started_with};
 ghost use Rattle.net_world.specs.Window.{AllHome};
 ghost use Rattle.run_report.specs.Audits.{IsAuditCause, IsCompleteRun, world_after};
 ghost use Rattle.run_report.specs.Lines.{report_text};
@@ -28,14 +28,21 @@ pub fn audit<F: Function>(
     summary: bool,
 ) -> Result<Text, AuditFault>
     requires { IsConfig config.now }
-    ensures run { IfOk result (λ _. IsCompleteRun {F = F.row.Denot} F.semantics (started alloc config.now items.items) choices.now) }
-    ensures text { IfOk result (λ text. text ≡ report_text F.semantics head.now summary (world_after {F = F.row.Denot} F.semantics (started alloc config.now items.items) choices.now)) }
-    ensures promises { IsInput F.semantics.kind config.now items.items → IfOk result (λ _. Promises F.semantics config.now items.items (world_after {F = F.row.Denot} F.semantics (started alloc config.now items.items) choices.now)) }
-    ensures verdicts { IsInput F.semantics.kind config.now items.items → IfOk result (λ _. Verdicts {F = F.row.Denot} (job_of F.semantics config.now items.items) (course_of (started alloc config.now items.items) choices.now)) }
-    ensures standbys { IsInput F.semantics.kind config.now items.items → IfOk result (λ _. Standbys {F = F.row.Denot} (job_of F.semantics config.now items.items) (course_of (started alloc config.now items.items) choices.now)) }
-    ensures completed { IsInput F.semantics.kind config.now items.items → IfOk result (λ _. Completed F.semantics config.now items.items (world_after {F = F.row.Denot} F.semantics (started alloc config.now items.items) choices.now)) }
-    ensures home { IsInput F.semantics.kind config.now items.items → IfOk result (λ _. AllHome config.now (world_after {F = F.row.Denot} F.semantics (started alloc config.now items.items) choices.now)) }
-    ensures not_a_run { (step : ℕ) → result ≡ Err (AuditFault.NotARun step) → IsAuditCause {F = F.row.Denot} F.semantics (started alloc config.now items.items) choices.now step }
+    ensures run { IfOk result (λ _. IsCompleteRun {F = F.row.Denot} F.semantics (started_with alloc config.now items.items) choices.now) }
+    ensures text { IfOk result (λ text. text
+        ≡ report_text F.semantics head.now summary (world_after {F = F.row.Denot} F.semantics (started_with alloc config.now items.items) choices.now)) }
+    ensures promises { IsInput F.semantics.kind config.now items.items → IfOk result
+        (λ _. Promises F.semantics config.now items.items (world_after {F = F.row.Denot} F.semantics (started_with alloc config.now items.items) choices.now)) }
+    ensures verdicts { IsInput F.semantics.kind config.now items.items → IfOk result
+        (λ _. Verdicts {F = F.row.Denot} (job_of F.semantics config.now items.items) (course_of (started_with alloc config.now items.items) choices.now)) }
+    ensures standbys { IsInput F.semantics.kind config.now items.items → IfOk result
+        (λ _. Standbys {F = F.row.Denot} (job_of F.semantics config.now items.items) (course_of (started_with alloc config.now items.items) choices.now)) }
+    ensures completed { IsInput F.semantics.kind config.now items.items → IfOk result (λ _. Completed F.semantics config.now items.items
+        (world_after {F = F.row.Denot} F.semantics (started_with alloc config.now items.items) choices.now)) }
+    ensures home { IsInput F.semantics.kind config.now items.items
+        → IfOk result (λ _. AllHome config.now (world_after {F = F.row.Denot} F.semantics (started_with alloc config.now items.items) choices.now)) }
+    ensures not_a_run { (step : ℕ) → result ≡ Err (AuditFault.NotARun step)
+        → IsAuditCause {F = F.row.Denot} F.semantics (started_with alloc config.now items.items) choices.now step }
 {
     let start = start::<F>(alloc, config, items)?;
     let count = choices.len() as u64;

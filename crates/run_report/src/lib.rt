@@ -14,4 +14,5 @@ pub mod reporting;
 
 pub use auditing::{AuditFault, audit};
 pub use head::Head;
+pub use nf_net::{run_choices, simulate};
 pub use reporting::report;

@@ -6,10 +6,12 @@ use Rattle.std.proofs.lemmas.Cmp.{nat_eq_equiv}
 use Rattle.flow_filter.specs.declared.packet.Packet.{Packet}
 use Rattle.net_world.specs.Fold.{is_of}
 use Rattle.net_world.specs.Input.{packets}
-use Rattle.net_world.specs.Log.{arrived, done}
+use Rattle.net_world.specs.Log.{arrivals_in, dones_in}
 use Rattle.net_world.specs.Places.{unit_in}
-use Rattle.nf_net.proofs.PacketCounts.{those_times, done_times}
-use Rattle.standby_failover.specs.Failover.{Failover, lost_in_order, lost_packets, numbers_done, processed, reflected, is_affected, is_in, is_lost, IsLeft}
+use Rattle.net_world.proofs.NumberCounts.{times_filter}
+use Rattle.run_report.specs.nf_net.proofs.PacketCounts.{done_times}
+use Rattle.standby_failover.specs.Failover.{Failover, lost_in_order, lost_packets, numbers_done}
+use Rattle.standby_failover.specs.Failover.{processed_of, reflected_by, is_affected, is_in, is_lost, IsLeft}
 use Rattle.standby_failover.proofs.ListLemmas.{in_filter, in_drop, in_those, in-append, filter_same, none_times, some_in}
 use Rattle.standby_failover.proofs.Reflected.{of_itself, processed_those}
 
@@ -19,8 +21,8 @@ module _ {F R : Type 0} (x : Failover F R) where
   lost_done p e =
       let u = unit_in x.job p in
       let m = is_of x.job.function x.job.config x.job.items u in
-      let both = and_parts (is_affected x u) (is_in p (drop (reflected x u) (processed x u))) e in
-      let own : is_in p (processed x u) ≡ true = in_drop p (reflected x u) (processed x u) both.1 in
+      let both = and_parts (is_affected x u) (is_in p (drop (reflected_by x u) (processed_of x u))) e in
+      let own : is_in p (processed_of x u) ≡ true = in_drop p (reflected_by x u) (processed_of x u) both.1 in
       let among : (m p && is_in p (numbers_done x.world.log)) ≡ true = sym (in_those p m (numbers_done x.world.log)) ∙ ap (is_in p) (sym (processed_those x u))
       ∙ own in
       (and_parts (m p) (is_in p (numbers_done x.world.log)) among).1
@@ -33,8 +35,8 @@ module _ {F R : Type 0} (x : Failover F R) where
       by_test true e = ap (λ b. b && is_in p (numbers_done x.world.log)) e ∙ lost_done p e ∙ sym e
       by_test false e = ap (λ b. b && is_in p (numbers_done x.world.log)) e ∙ sym e
 
-  pub lost_by_number : filter (λ p. is_in p (lost_in_order x)) (arrived x.world.log) ≡ lost_packets x
-  lost_by_number = filter_same (λ p. is_in p (lost_in_order x)) (is_lost x) (arrived x.world.log) (λ p e. listed p)
+  pub lost_by_number : filter (λ p. is_in p (lost_in_order x)) (arrivals_in x.world.log) ≡ lost_packets x
+  lost_by_number = filter_same (λ p. is_in p (lost_in_order x)) (is_lost x) (arrivals_in x.world.log) (λ p e. listed p)
 
 found_next : (b : Bool) (q : Packet) (o : Option Packet) → (b ≡ false → (r : Packet) × (o ≡ Some r)) → (r : Packet) × ((if b then Some q else o) ≡ Some r)
 found_next true q o h = (q, refl)
@@ -48,26 +50,26 @@ found_in p (q ∷ ps) e =
     (λ off. found_in p ps (sym (ap (λ b. b || is_in p (map (λ r. r.number) ps)) (nat_eq_equiv.symm p q.number ∙ off)) ∙ e))
 
 module _ {F R : Type 0} (x : Failover F R) (left : IsLeft x) where
-  pub found_came : (p : ℕ) → is_in p (arrived x.world.log) ≡ true → (q : Packet) × (find (λ q. q.number == p) (packets x.job.items) ≡ Some q)
+  pub found_came : (p : ℕ) → is_in p (arrivals_in x.world.log) ≡ true → (q : Packet) × (find (λ q. q.number == p) (packets x.job.items) ≡ Some q)
   found_came p e =
-      found_in p (packets x.job.items) (ap (is_in p) (sym left.promises.in_turn.whole) ∙ in-append p (arrived x.world.log) left.promises.in_turn.rest
+      found_in p (packets x.job.items) (ap (is_in p) (sym left.promises.in_turn.whole) ∙ in-append p (arrivals_in x.world.log) left.promises.in_turn.rest
       ∙ ap (λ b. b || is_in p left.promises.in_turn.rest) e)
 
   -- what was processed came
-  came_done : (p : ℕ) → is_in p (numbers_done x.world.log) ≡ true → is_in p (arrived x.world.log) ≡ true
-  came_done p e = by_test (is_in p (arrived x.world.log)) refl
+  came_done : (p : ℕ) → is_in p (numbers_done x.world.log) ≡ true → is_in p (arrivals_in x.world.log) ≡ true
+  came_done p e = by_test (is_in p (arrivals_in x.world.log)) refl
     where
-      by_test : (b : Bool) → is_in p (arrived x.world.log) ≡ b → is_in p (arrived x.world.log) ≡ true
+      by_test : (b : Bool) → is_in p (arrivals_in x.world.log) ≡ b → is_in p (arrivals_in x.world.log) ≡ true
       by_test true t = t
       by_test false t =
           let u = unit_in x.job p in
           let m = is_of x.job.function x.job.config x.job.items u in
           let own = of_itself x p in
           let some = some_in p (numbers_done x.world.log) e in
-          let went_is = done_times m p own (done x.world.log) in
+          let went_is = done_times m p own (dones_in x.world.log) in
           let few = left.promises.once u p in
-          let came_is = those_times m p own (arrived x.world.log) in
-          let none = none_times p (arrived x.world.log) t in
+          let came_is = times_filter m p own (arrivals_in x.world.log) in
+          let none = none_times p (arrivals_in x.world.log) t in
           absurd (omega (arith, some, went_is, few, came_is, none))
 
   pub found_done : (p : ℕ) → is_in p (numbers_done x.world.log) ≡ true → (q : Packet) × (find (λ q. q.number == p) (packets x.job.items) ≡ Some q)

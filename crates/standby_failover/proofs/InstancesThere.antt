@@ -16,22 +16,22 @@ use Rattle.net_world.specs.declared.node.Node.{Node}
 use Rattle.net_world.specs.declared.node.Node.TheVariants.{Instance}
 use Rattle.net_world.specs.Input.{IsInput}
 use Rattle.net_world.specs.Nodes.{node_step, node_ready}
-use Rattle.net_world.specs.Start.{started}
-use Rattle.whole_joined.proofs.StartJoined.{count_at_start}
-use Rattle.whole_joined.proofs.RunsJoined.{run_beside, start_world}
-use Rattle.path_net.proofs.RecordPromises.{instance_of}
+use Rattle.net_world.specs.Start.{started_with}
+use Rattle.run_report.specs.proof_outlines.proofs.joined.StartJoined.{count_at_start}
+use Rattle.run_report.specs.proof_outlines.proofs.joined.RunsJoined.{run_beside, start_world}
+use Rattle.run_report.specs.nf_net.proofs.paths.RecordPromises.{instance_of}
 use Rattle.standby_failover.specs.Scenes.{is_instance}
 
 module _ (F : Type 0) {R : Type 0} (f : Semantics R) (laws : FunctionLaws f) (alloc : Global) (c : Config) (items : List Msg) (is : IsInput f.kind c items)
     (cs : List Choice) where
   abbrev w : Network (Node F R) Msg Note
-  w = run (node_step f) cs (started {F = F} {R = R} alloc c items)
+  w = run (node_step f) cs (started_with {F = F} {R = R} alloc c items)
 
-  pub are_there : IsRun node_ready (node_step f) cs (started {F = F} {R = R} alloc c items) → (i : ℕ) → i < length c.names
+  pub are_there : IsRun node_ready (node_step f) cs (started_with {F = F} {R = R} alloc c items) → (i : ℕ) → i < length c.names
       → is_instance (slice_get w.nodes (instance_node i)) ≡ true
   are_there runs i within =
       let j = (run_beside F f laws alloc c items is cs runs).joined in
-      let reached = run_world node_ready (node_step f) (length c.names + 2) (started {F = F} {R = R} alloc c items) (start_world F f laws alloc c items is)
+      let reached = run_world node_ready (node_step f) (length c.names + 2) (started_with {F = F} {R = R} alloc c items) (start_world F f laws alloc c items is)
       (count_at_start F f alloc c items is) cs runs in
       let few : instance_node i < length c.names + 2 = omega (arith, within) in
       let node : Node F R = Instance (j.nodes.instance (instance_node i)) in

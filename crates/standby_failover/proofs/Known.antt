@@ -4,7 +4,7 @@ use Rattle.std.specs.Prelude.{◌==◌, ◌||◌, All, IsSome, find, is_some}
 use Rattle.std.proofs.lemmas.List.Elements.{All-append, All-cons, All-filter, All-nil, All-same, All-weaker, All-take, All-drop}
 use Rattle.std.proofs.lemmas.List.{take_at, drop_at}
 use Rattle.net_world.specs.Input.{packets}
-use Rattle.net_world.specs.Log.{arrived}
+use Rattle.net_world.specs.Log.{arrivals_in}
 use Rattle.standby_failover.specs.declared.promoted.Promoted.{Promoted}
 use Rattle.standby_failover.specs.Failover.{Failover, lost_in_order, numbers_done, open_packets, is_in, is_lost, is_open, IsLeft, IsPromoted}
 use Rattle.standby_failover.proofs.ListLemmas.{or_true, same_number}
@@ -28,9 +28,10 @@ module _ {F R : Type 0} (x : Failover F R) (left : IsLeft x) where
       (λ p e. some_of (find (λ q. q.number == p) (packets x.job.items)) (found_done x left p e)) (numbers_done x.world.log) (all_in (numbers_done x.world.log)))
 
   open_known : All IsKnown (open_packets x)
-  open_known = All-filter (is_open x) IsKnown (arrived x.world.log)
-      (All-weaker (λ p. is_in p (arrived x.world.log) ≡ true) IsKnown (λ p e. some_of (find (λ q. q.number == p) (packets x.job.items)) (found_came x left p e))
-      (arrived x.world.log) (all_in (arrived x.world.log)))
+  open_known = All-filter (is_open x) IsKnown (arrivals_in x.world.log)
+      (All-weaker (λ p. is_in p (arrivals_in x.world.log) ≡ true) IsKnown
+      (λ p e. some_of (find (λ q. q.number == p) (packets x.job.items)) (found_came x left p e))
+      (arrivals_in x.world.log) (all_in (arrivals_in x.world.log)))
 
   pub known : (p : Promoted F R) → IsPromoted x p → All IsKnown (p.order ++ p.pending)
   known p h = All-append IsKnown p.order p.pending (All-same IsKnown p.order (lost_in_order x) h.order lost_known)

@@ -1,25 +1,13 @@
 -- Numbers in lists where each stands once: which stand after a front, and what is picked out by that.
-use Rattle.std.proofs.Common.{◌≡◌, ℕ, ◌+◌, ◌<◌, ◌≤◌, Bool, true, false, suc, zero, List, [], ◌∷◌, ◌++◌, take, drop, length, filter, refl, sym, ap, ◌∙◌, subst, arith}
+use Rattle.std.proofs.Common.{◌≡◌, ℕ, ◌+◌, ◌<◌, ◌≤◌, Bool, true, false, suc, zero, List, [], ◌∷◌}
+use Rattle.std.proofs.Common.{◌++◌, take, drop, length, filter, refl, sym, ap, ◌∙◌, subst, arith}
 use Rattle.std.specs.Prelude.{if◌then◌else◌, ◌==◌, ◌&&◌, ◌||◌, not}
 use Rattle.std.proofs.lemmas.Bool.Decides.{Decides-eqb}
 use Rattle.std.proofs.lemmas.List.{drop-append-le, take-append-drop}
 use Rattle.std.proofs.lemmas.List.Elements.{filter-append}
 use Rattle.net_world.specs.Fold.{IsFront, times}
-use Rattle.net_world.specs.Log.{those}
+use Rattle.net_world.proofs.NumberCounts.{times-append}
 use Rattle.standby_failover.specs.Failover.{is_in}
-
--- what is picked out of two lists
-pub those-append : (m : ℕ → Bool) (xs ys : List ℕ) → those m (xs ++ ys) ≡ those m xs ++ those m ys
-those-append m [] ys = refl
-those-append m (x ∷ xs) ys =
-    elim (m x) as (λ b. (if b then x ∷ those m (xs ++ ys) else those m (xs ++ ys)) ≡ (if b then x ∷ those m xs else those m xs) ++ those m ys) [
-      | true ↦ ap (λ v. x ∷ v) (those-append m xs ys)
-      | false ↦ those-append m xs ys
-    ]
-
-pub times-append : (p : ℕ) (xs ys : List ℕ) → times p (xs ++ ys) ≡ times p xs + times p ys
-times-append p [] ys = omega arith
-times-append p (x ∷ xs) ys = let rest = times-append p xs ys in omega (arith, rest)
 
 -- a number that doesn't stand in a list, and one that does
 none_next : (b : Bool) (n : ℕ) (is : Bool) → (if b then 1 else 0) + n ≡ 0 → (n ≡ 0 → is ≡ false) → (b || is) ≡ false
@@ -112,15 +100,15 @@ other_kind m p x on off = elim (p == x) as (λ b. (p == x) ≡ b → b ≡ false
   | false ↦ λ e. refl
 ] refl
 
-pub times-those : (m : ℕ → Bool) (p : ℕ) (xs : List ℕ) → m p ≡ true → times p (those m xs) ≡ times p xs
+pub times-those : (m : ℕ → Bool) (p : ℕ) (xs : List ℕ) → m p ≡ true → times p (filter m xs) ≡ times p xs
 times-those m p [] on = refl
-times-those m p (x ∷ xs) on = times_next p x (m x) (times p xs) (those m xs) (other_kind m p x on) (times-those m p xs on)
+times-those m p (x ∷ xs) on = times_next p x (m x) (times p xs) (filter m xs) (other_kind m p x on) (times-those m p xs on)
 
-pub those_filter : (m l : ℕ → Bool) (xs : List ℕ) → those m (filter l xs) ≡ filter l (those m xs)
+pub those_filter : (m l : ℕ → Bool) (xs : List ℕ) → filter m (filter l xs) ≡ filter l (filter m xs)
 those_filter m l [] = refl
 those_filter m l (x ∷ xs) = by_tests (those_filter m l xs) (m x) (l x) refl refl
   where
-    by_tests : those m (filter l xs) ≡ filter l (those m xs) → (b c : Bool) → m x ≡ b → l x ≡ c → those m (filter l (x ∷ xs)) ≡ filter l (those m (x ∷ xs))
+    by_tests : filter m (filter l xs) ≡ filter l (filter m xs) → (b c : Bool) → m x ≡ b → l x ≡ c → filter m (filter l (x ∷ xs)) ≡ filter l (filter m (x ∷ xs))
     by_tests rest true true mx lx = simp (mx, lx) (ap (λ v. x ∷ v) rest)
     by_tests rest true false mx lx = simp (mx, lx) rest
     by_tests rest false true mx lx = simp (mx, lx) rest
@@ -205,16 +193,16 @@ pub in_drop : (p r : ℕ) (xs : List ℕ) → is_in p (drop r xs) ≡ true → i
 in_drop p r xs e = ap (is_in p) (sym (take-append-drop r xs)) ∙ in-append p (take r xs) (drop r xs) ∙ ap (λ b. is_in p (take r xs) || b) e
     ∙ or_true (is_in p (take r xs))
 
-pub those_filters : (m : ℕ → Bool) (xs : List ℕ) → those m xs ≡ filter m xs
+pub those_filters : (m : ℕ → Bool) (xs : List ℕ) → filter m xs ≡ filter m xs
 those_filters m [] = refl
 those_filters m (x ∷ xs) = ap (λ v. if m x then x ∷ v else v) (those_filters m xs)
 
-pub in_those : (p : ℕ) (m : ℕ → Bool) (xs : List ℕ) → is_in p (those m xs) ≡ (m p && is_in p xs)
+pub in_those : (p : ℕ) (m : ℕ → Bool) (xs : List ℕ) → is_in p (filter m xs) ≡ (m p && is_in p xs)
 in_those p m xs = ap (is_in p) (those_filters m xs) ∙ in_filter p m xs
 
-pub once_those : (m : ℕ → Bool) (xs : List ℕ) → IsOnce xs → IsOnce (those m xs)
-once_those m xs once p = elim (m p) as (λ b. m p ≡ b → times p (those m xs) ≤ 1) [
+pub once_those : (m : ℕ → Bool) (xs : List ℕ) → IsOnce xs → IsOnce (filter m xs)
+once_those m xs once p = elim (m p) as (λ b. m p ≡ b → times p (filter m xs) ≤ 1) [
   | true ↦ λ on. (let same = times-those m p xs on in let few = once p in omega (arith, same, few))
-  | false ↦ λ off. (let no : is_in p (those m xs) ≡ false = in_those p m xs
-      ∙ ap (λ b. b && is_in p xs) off in let none = none_times p (those m xs) no in omega (arith, none))
+  | false ↦ λ off. (let no : is_in p (filter m xs) ≡ false = in_those p m xs
+      ∙ ap (λ b. b && is_in p xs) off in let none = none_times p (filter m xs) no in omega (arith, none))
 ] refl

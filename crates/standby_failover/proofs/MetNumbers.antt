@@ -6,8 +6,8 @@ use Rattle.std.proofs.lemmas.List.Elements.{filter-append}
 use Rattle.nf_msgs.specs.declared.note.Note.{Note}
 use Rattle.nf_msgs.specs.declared.note.Note.TheVariants as note
 use Rattle.nf_function.specs.declared.output.Output.{Output}
-use Rattle.net_world.specs.Log.{arrived, done}
-use Rattle.whole_joined.proofs.LogLemmas.{arrived-append, done-append}
+use Rattle.net_world.specs.Log.{arrivals_in, dones_in}
+use Rattle.net_world.proofs.LogLemmas.{arrived-append, done-append}
 use Rattle.standby_failover.specs.Failover.{is_in, numbers_done}
 use Rattle.standby_failover.proofs.ListLemmas.{in_middle}
 
@@ -19,16 +19,16 @@ pub done_more : (log : List Note) (i : ℕ) (n : Note) → i < length log → n 
     → numbers_done (take (i + 1) log) ≡ numbers_done (take i log) ++ numbers_done (n ∷ [])
 done_more log i n within here =
     ap numbers_done (notes_more log i n within here) ∙ ap (map (λ d. d.number)) (done-append (take i log) (n ∷ []))
-    ∙ map-append (λ d. d.number) (done (take i log)) (done (n ∷ []))
+    ∙ map-append (λ d. d.number) (dones_in (take i log)) (dones_in (n ∷ []))
 
 pub came_more : (log : List Note) (i : ℕ) (n : Note) → i < length log → n ≡ get_or log i n
-    → arrived (take (i + 1) log) ≡ arrived (take i log) ++ arrived (n ∷ [])
-came_more log i n within here = ap arrived (notes_more log i n within here) ∙ arrived-append (take i log) (n ∷ [])
+    → arrivals_in (take (i + 1) log) ≡ arrivals_in (take i log) ++ arrivals_in (n ∷ [])
+came_more log i n within here = ap arrivals_in (notes_more log i n within here) ∙ arrived-append (take i log) (n ∷ [])
 
 -- those that came and are picked out, with one note more
 pub picked_more : (l : ℕ → Bool) (log : List Note) (i : ℕ) (n : Note) → i < length log → n ≡ get_or log i n
-    → filter l (arrived (take (i + 1) log)) ≡ filter l (arrived (take i log)) ++ filter l (arrived (n ∷ []))
-picked_more l log i n within here = ap (filter l) (came_more log i n within here) ∙ filter-append l (arrived (take i log)) (arrived (n ∷ []))
+    → filter l (arrivals_in (take (i + 1) log)) ≡ filter l (arrivals_in (take i log)) ++ filter l (arrivals_in (n ∷ []))
+picked_more l log i n within here = ap (filter l) (came_more log i n within here) ∙ filter-append l (arrivals_in (take i log)) (arrivals_in (n ∷ []))
 
 -- other notes tell of none
 pub none_done : (n : Note) → ((number : ℕ) (instance : ℕ) (output : Output) → n ≡ note.Processed number instance output → ⊥) → numbers_done (n ∷ []) ≡ []
@@ -41,7 +41,7 @@ none_done (note.Kept instance op us) h = refl
 none_done (note.Installed op) h = refl
 none_done (note.Answered op answer) h = refl
 
-pub none_came : (n : Note) → ((number : ℕ) → n ≡ note.Arrived number → ⊥) → arrived (n ∷ []) ≡ []
+pub none_came : (n : Note) → ((number : ℕ) → n ≡ note.Arrived number → ⊥) → arrivals_in (n ∷ []) ≡ []
 none_came (note.Arrived number) h = absurd (h number refl)
 none_came (note.Processed number instance output) h = refl
 none_came (note.Begun op) h = refl
@@ -65,19 +65,20 @@ module _ (log : List Note) (i : ℕ) (n : Note) (within : i < length log) (here 
       → numbers_done (take (i + 1) log) ≡ numbers_done (take i log) ++ number ∷ []
   done_next number instance output is = done_more log i n within here ∙ ap (λ v. numbers_done (take i log) ++ numbers_done (v ∷ [])) is
 
-  pub picked_same : (l : ℕ → Bool) → ((number : ℕ) → n ≡ note.Arrived number → ⊥) → filter l (arrived (take (i + 1) log)) ≡ filter l (arrived (take i log))
-  picked_same l h = picked_more l log i n within here ∙ ap (λ ys. filter l (arrived (take i log)) ++ filter l ys) (none_came n h)
-      ∙ append-nil (filter l (arrived (take i log)))
+  pub picked_same : (l : ℕ → Bool) → ((number : ℕ) → n ≡ note.Arrived number → ⊥)
+      → filter l (arrivals_in (take (i + 1) log)) ≡ filter l (arrivals_in (take i log))
+  picked_same l h = picked_more l log i n within here ∙ ap (λ ys. filter l (arrivals_in (take i log)) ++ filter l ys) (none_came n h)
+      ∙ append-nil (filter l (arrivals_in (take i log)))
 
   pub picked_next : (l : ℕ → Bool) (number : ℕ) → n ≡ note.Arrived number → (b : Bool) → l number ≡ b
-      → filter l (arrived (take (i + 1) log)) ≡ filter l (arrived (take i log)) ++ (if b then number ∷ [] else [])
+      → filter l (arrivals_in (take (i + 1) log)) ≡ filter l (arrivals_in (take i log)) ++ (if b then number ∷ [] else [])
   picked_next l number is b e =
-      picked_more l log i n within here ∙ ap (λ v. filter l (arrived (take i log)) ++ filter l (arrived (v ∷ []))) is
-      ∙ ap (λ t. filter l (arrived (take i log)) ++ (if t then number ∷ [] else [])) e
+      picked_more l log i n within here ∙ ap (λ v. filter l (arrivals_in (take i log)) ++ filter l (arrivals_in (v ∷ []))) is
+      ∙ ap (λ t. filter l (arrivals_in (take i log)) ++ (if t then number ∷ [] else [])) e
 
   pub left_out : (l : ℕ → Bool) (number : ℕ) → n ≡ note.Arrived number → l number ≡ false
-      → filter l (arrived (take (i + 1) log)) ≡ filter l (arrived (take i log))
-  left_out l number is e = picked_next l number is false e ∙ append-nil (filter l (arrived (take i log)))
+      → filter l (arrivals_in (take (i + 1) log)) ≡ filter l (arrivals_in (take i log))
+  left_out l number is e = picked_next l number is false e ∙ append-nil (filter l (arrivals_in (take i log)))
 
 -- a number that is met is among those of the log
 pub met_done : (log : List Note) (i : ℕ) (n : Note) → i < length log → n ≡ get_or log i n → (number instance : ℕ) (output : Output)
@@ -87,12 +88,12 @@ met_done log i n within here number instance output is =
     sym (ap numbers_done (sym (take-append-drop i log) ∙ ap (λ ys. take i log ++ ys)
     (drop_more log i n within ∙ ap (λ v. v ∷ drop (i + 1) log) (sym here ∙ is)))
     ∙ ap (map (λ d. d.number)) (done-append (take i log) (note.Processed number instance output ∷ drop (i + 1) log))
-    ∙ map-append (λ d. d.number) (done (take i log)) (done (note.Processed number instance output ∷ drop (i + 1) log)))
+    ∙ map-append (λ d. d.number) (dones_in (take i log)) (dones_in (note.Processed number instance output ∷ drop (i + 1) log)))
 
 pub met_came : (log : List Note) (i : ℕ) (n : Note) → i < length log → n ≡ get_or log i n → (number : ℕ) → n ≡ note.Arrived number
-    → is_in number (arrived log) ≡ true
+    → is_in number (arrivals_in log) ≡ true
 met_came log i n within here number is =
-    ap (λ l. is_in number (arrived l)) (sym (take-append-drop i log)
+    ap (λ l. is_in number (arrivals_in l)) (sym (take-append-drop i log)
     ∙ ap (λ ys. take i log ++ ys) (drop_more log i n within ∙ ap (λ v. v ∷ drop (i + 1) log) (sym here ∙ is)))
     ∙ ap (is_in number) (arrived-append (take i log) (note.Arrived number ∷ drop (i + 1) log))
-    ∙ in_middle number (arrived (take i log)) (arrived (drop (i + 1) log))
+    ∙ in_middle number (arrivals_in (take i log)) (arrivals_in (drop (i + 1) log))

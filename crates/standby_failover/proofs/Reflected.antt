@@ -2,6 +2,7 @@
 -- once at most.
 use Rattle.std.proofs.Common.{◌≡◌, ℕ, ◌+◌, ◌≤◌, Bool, true, false, Option, Some, None, List, [], ◌∷◌, map, take, length, refl, sym, ap, ◌∙◌, subst, arith}
 use Rattle.std.specs.Prelude.{if◌then◌else◌}
+use Rattle.std.specs.List.{filter}
 use Rattle.std.proofs.Math.Nat.{min-eq_left}
 use Rattle.std.proofs.lemmas.List.{take_at, length-take-le, length-map}
 use Rattle.nf_function.specs.declared.unit.Unit as units
@@ -10,30 +11,31 @@ use Rattle.nf_function.specs.Semantics.{Semantics, packets_in}
 use Rattle.record_table.proofs.UnitOrder.{same_unit_equiv}
 use Rattle.nf_msgs.specs.declared.msg.Msg.{Msg}
 use Rattle.net_world.specs.declared.config.Config.{Config}
-use Rattle.net_world.specs.Fold.{IsFront, came, fold, is_of}
+use Rattle.net_world.specs.Fold.{IsFront, arrived_of, fold, is_of}
 use Rattle.net_world.specs.Input.{most_counted, packet_numbered, packets, IsInput}
-use Rattle.net_world.specs.Log.{Done, arrived, done, done_of, those}
+use Rattle.net_world.specs.Log.{Done, arrivals_in, dones_in, done_where}
 use Rattle.net_world.specs.Places.{unit_in}
 use Rattle.net_world.specs.Standby.{StandsBy}
-use Rattle.nf_net.specs.Promises.{Promises}
-use Rattle.nf_net.proofs.FrontLemmas.{front_length}
-use Rattle.nf_net.proofs.PacketCounts.{no_longer, those_times, done_times}
-use Rattle.whole_joined.proofs.StartJoined.{all_fit}
-use Rattle.standby_failover.specs.Failover.{Failover, kept, numbers_done, processed, reflected, standing, AreReflected, IsReflected}
+use Rattle.net_world.proofs.NumberCounts.{times_filter}
+use Rattle.run_report.specs.nf_net.specs.Promises.{Promises}
+use Rattle.run_report.specs.nf_net.proofs.FrontLemmas.{front_length}
+use Rattle.run_report.specs.nf_net.proofs.PacketCounts.{no_longer, done_times}
+use Rattle.run_report.specs.proof_outlines.proofs.joined.StartJoined.{all_fit}
+use Rattle.standby_failover.specs.Failover.{Failover, record_kept, numbers_done, processed_of, reflected_by, standing, AreReflected, IsReflected}
 use Rattle.standby_failover.proofs.ListLemmas.{IsOnce}
 
-few_those : (m : ℕ → Bool) (xs : List ℕ) → length (those m xs) ≤ length xs
+few_those : (m : ℕ → Bool) (xs : List ℕ) → length (filter m xs) ≤ length xs
 few_those m [] = omega arith
-few_those m (x ∷ xs) = let rest = few_those m xs in elim (m x) as (λ b. length (if b then x ∷ those m xs else those m xs) ≤ length (x ∷ xs)) [
+few_those m (x ∷ xs) = let rest = few_those m xs in elim (m x) as (λ b. length (if b then x ∷ filter m xs else filter m xs) ≤ length (x ∷ xs)) [
   | true ↦ omega (arith, rest)
   | false ↦ omega (arith, rest)
 ]
 
-numbers_of : (m : ℕ → Bool) (ds : List Done) → map (λ d. d.number) (done_of m ds) ≡ those m (map (λ d. d.number) ds)
+numbers_of : (m : ℕ → Bool) (ds : List Done) → map (λ d. d.number) (done_where m ds) ≡ filter m (map (λ d. d.number) ds)
 numbers_of m [] = refl
 numbers_of m (d ∷ ds) =
-    elim (m d.number) as (λ b. map (λ x. x.number) (if b then d ∷ done_of m ds else done_of m ds) ≡
-    (if b then d.number ∷ those m (map (λ x. x.number) ds) else those m (map (λ x. x.number) ds))) [
+    elim (m d.number) as (λ b. map (λ x. x.number) (if b then d ∷ done_where m ds else done_where m ds) ≡
+    (if b then d.number ∷ filter m (map (λ x. x.number) ds) else filter m (map (λ x. x.number) ds))) [
       | true ↦ ap (λ xs. d.number ∷ xs) (numbers_of m ds)
       | false ↦ numbers_of m ds
     ]
@@ -51,26 +53,26 @@ module _ {F R : Type 0} (x : Failover F R) where
   pub of_itself : (p : ℕ) → is_of f c items (unit_in x.job p) p ≡ true
   of_itself p = same_unit_equiv.refl (unit_in x.job p)
 
-  pub processed_those : (u : units.Unit) → processed x u ≡ those (is_of f c items u) (numbers_done x.world.log)
-  processed_those u = numbers_of (is_of f c items u) (done x.world.log)
+  pub processed_those : (u : units.Unit) → processed_of x u ≡ filter (is_of f c items u) (numbers_done x.world.log)
+  processed_those u = numbers_of (is_of f c items u) (dones_in x.world.log)
 
   module _ (is : IsInput x.job.function.kind x.job.config x.job.items) (ps : Promises x.job.function x.job.config x.job.items x.world) where
     pub once_done : IsOnce (numbers_done x.world.log)
     once_done p =
         let u = unit_in x.job p in
         let own = of_itself p in
-        let went_is = done_times (is_of f c items u) p own (done x.world.log) in
+        let went_is = done_times (is_of f c items u) p own (dones_in x.world.log) in
         let few = ps.once u p in
-        let came_is = those_times (is_of f c items u) p own (arrived x.world.log) in
+        let came_is = times_filter (is_of f c items u) p own (arrivals_in x.world.log) in
         let single = ps.came_once p in
         omega (arith, went_is, few, came_is, single)
 
     -- no more is processed of a unit than a record counts
-    pub room : (u : units.Unit) → length (processed x u) ≤ most_counted
+    pub room : (u : units.Unit) → length (processed_of x u) ≤ most_counted
     room u =
-        let some = no_longer (processed x u) (came f c items u x.world.log) (ps.once u) in
-        let fewer = few_those (is_of f c items u) (arrived x.world.log) in
-        let turn = front_length (arrived x.world.log) (map (λ p. p.number) (packets items)) ps.in_turn in
+        let some = no_longer (processed_of x u) (arrived_of f c items u x.world.log) (ps.once u) in
+        let fewer = few_those (is_of f c items u) (arrivals_in x.world.log) in
+        let turn = front_length (arrivals_in x.world.log) (map (λ p. p.number) (packets items)) ps.in_turn in
         let all = length-map (packets items) (λ p. p.number) in
         let few = is.few in
         omega (arith, some, fewer, turn, all, few)
@@ -86,30 +88,30 @@ module _ {F R : Type 0} (x : Failover F R) where
           rw transport (omega (arith, rest, one))
 
       -- a record has counted the packets that it is folded of
-      pub counts : (ns : List ℕ) → length ns ≤ most_counted → packets_in f (kept x ns) ≡ length ns
+      pub counts : (ns : List ℕ) → length ns ≤ most_counted → packets_in f (record_kept x ns) ≡ length ns
       counts ns few = let all = fold_counts None ns (omega (arith, few)) in omega (arith, all)
 
-      pub counts_first : (u : units.Unit) (k : ℕ) → k ≤ length (processed x u) → packets_in f (kept x (take k (processed x u))) ≡ k
+      pub counts_first : (u : units.Unit) (k : ℕ) → k ≤ length (processed_of x u) → packets_in f (record_kept x (take k (processed_of x u))) ≡ k
       counts_first u k few =
-          let long = length-take-le k (processed x u) few in
+          let long = length-take-le k (processed_of x u) few in
           let all = room u in
-          let it = counts (take k (processed x u)) (omega (arith, long, few, all)) in
+          let it = counts (take k (processed_of x u)) (omega (arith, long, few, all)) in
           omega (arith, it, long)
 
-      only_one : (u : units.Unit) (k : ℕ) → IsReflected x u k → k ≡ reflected x u
+      only_one : (u : units.Unit) (k : ℕ) → IsReflected x u k → k ≡ reflected_by x u
       only_one u k h = sym (counts_first u k h.within) ∙ ap (packets_in f) h.folds
 
       -- where a front of what was processed has that record
-      of_front : (u : units.Unit) (front : List ℕ) → IsFront front (processed x u) → kept x front ≡ standing x u → AreReflected x u
+      of_front : (u : units.Unit) (front : List ℕ) → IsFront front (processed_of x u) → record_kept x front ≡ standing x u → AreReflected x u
       of_front u front h folds =
-          let first : take (length front) (processed x u) ≡ front = ap (take (length front)) (sym h.whole) ∙ take_at front h.rest (length front) refl in
-          let short = front_length front (processed x u) h in
-          let counted : IsReflected x u (length front) = record { within = short; folds = ap (kept x) first ∙ folds } in
+          let first : take (length front) (processed_of x u) ≡ front = ap (take (length front)) (sym h.whole) ∙ take_at front h.rest (length front) refl in
+          let short = front_length front (processed_of x u) h in
+          let counted : IsReflected x u (length front) = record { within = short; folds = ap (record_kept x) first ∙ folds } in
           record { is = subst (IsReflected x u) (only_one u (length front) counted) counted; only = only_one u }
 
       pub reflects : (u : units.Unit) → ((r : R) → standing x u ≡ Some r → StandsBy x.job x.world x.to u) → AreReflected x u
       reflects u stood = by_record (standing x u) refl
         where
           by_record : (o : Option R) → standing x u ≡ o → AreReflected x u
-          by_record None e = of_front u [] (record { rest = processed x u; whole = refl }) (sym e)
+          by_record None e = of_front u [] (record { rest = processed_of x u; whole = refl }) (sym e)
           by_record (Some r) e = let h = stood r e in of_front u h.front h.is_front (h.folds ∙ sym h.there)

@@ -11,11 +11,11 @@ use Rattle.actor_net.specs.declared.choice.Choice.{Choice}
 use Rattle.actor_net.specs.declared.replays.ReplayFault.{ReplayFault}
 use Rattle.actor_net.specs.declared.replays.ReplayFault.TheVariants.{NotEnabled, NoMemory}
 use Rattle.actor_net.specs.Network.{Network, IsRun, run}
-use Rattle.actor_net.specs.Replays.{replayed, FirstFault}
+use Rattle.actor_net.specs.Replays.{replay_of, FirstFault}
 use Rattle.actor_net.proofs.ReplayLaws.{replayed_ok, replayed_fault}
 use Rattle.net_world.specs.declared.node.Node.{Node}
 use Rattle.net_world.specs.Nodes.{node_step, node_ready}
-use Rattle.standby_failover.specs.Causes.{FirstChoices, IsFailCause, IsReached, first_of, taken, world_after}
+use Rattle.standby_failover.specs.Causes.{FirstChoices, IsFailCause, IsReached, first_of, taken_among, world_after}
 
 -- no more of a list are taken than there are
 same_first : {X : Type 0} (m after : ℕ) (cs : List X) → m ≡ min after (length cs) → take m cs ≡ take after cs
@@ -40,12 +40,12 @@ pub record Replayed (F R : Type 0) : Type 0 where
 
 module _ {F R : Type 0} (f : Semantics R) (v : Replayed F R) (least : v.taken_count ≡ min v.after (length v.all))
     (start : Network (Node F R) Msg Note) (at_start : start ≡ v.opening) (h : v.result ≢ Err NoMemory
-    → v.result ≡ replayed node_ready (node_step f) (take v.taken_count v.all) start) where
+    → v.result ≡ replay_of node_ready (node_step f) (take v.taken_count v.all) start) where
   abbrev first : FirstChoices
   first = first_of v.all v.after
 
-  replay : v.result ≢ Err NoMemory → replayed node_ready (node_step f) (take v.taken_count v.all) v.opening ≡ v.result
-  replay enough = ap (replayed node_ready (node_step f) (take v.taken_count v.all)) (sym at_start) ∙ sym (h enough)
+  replay : v.result ≢ Err NoMemory → replay_of node_ready (node_step f) (take v.taken_count v.all) v.opening ≡ v.result
+  replay enough = ap (replay_of node_ready (node_step f) (take v.taken_count v.all)) (sym at_start) ∙ sym (h enough)
 
   module _ (w : Network (Node F R) Msg Note) (ok : v.result ≡ Ok w) where
     both : IsRun node_ready (node_step f) (take v.taken_count v.all) v.opening × (w ≡ run (node_step f) (take v.taken_count v.all) v.opening)
@@ -53,7 +53,7 @@ module _ {F R : Type 0} (f : Semantics R) (v : Replayed F R) (least : v.taken_co
         let enough : v.result ≢ Err NoMemory = λ bad. (let never : Ok w ≡ Err NoMemory = sym ok ∙ bad in cc) in
         replayed_ok node_ready (node_step f) (take v.taken_count v.all) v.opening w (replay enough ∙ ok)
 
-    pub is_run : IsRun node_ready (node_step f) (taken first) v.opening
+    pub is_run : IsRun node_ready (node_step f) (taken_among first) v.opening
     is_run = subst (λ cs. IsRun node_ready (node_step f) cs v.opening) (same_first v.taken_count v.after v.all least) both.0
 
     -- a world that is handed back is the one after them

@@ -1,5 +1,6 @@
 -- What the code sees of a world is what the definitions say of it; so each note of a packet that was processed goes on with the lists as they say.
-use Rattle.std.proofs.Common.{◌≡◌, ℕ, ◌+◌, ◌<◌, Bool, true, false, Option, Some, None, List, [], ◌∷◌, ◌++◌, take, drop, get_or, length, refl, sym, ap, ◌∙◌, subst}
+use Rattle.std.proofs.Common.{◌≡◌, ℕ, ◌+◌, ◌<◌, Bool, true, false, Option, Some, None, List, []}
+use Rattle.std.proofs.Common.{◌∷◌, ◌++◌, take, drop, get_or, length, refl, sym, ap, ◌∙◌, subst}
 use Rattle.std.specs.Prelude.{if◌then◌else◌, ◌&&◌, is_some, not, slice_get, unwrap_or}
 use Rattle.std.specs.FinMap as finite
 use Rattle.std.specs.Option.{option_map_or}
@@ -14,7 +15,7 @@ use Rattle.nf_msgs.specs.declared.note.Note.{Note}
 use Rattle.nf_msgs.specs.declared.note.Note.TheVariants as note
 use Rattle.nf_msgs.specs.Nodes.{instance_node}
 use Rattle.net_world.specs.Input.{packet_numbered, packets, no_packet}
-use Rattle.net_world.specs.Log.{arrived}
+use Rattle.net_world.specs.Log.{arrivals_in}
 use Rattle.net_world.specs.Places.{unit_in}
 use Rattle.standby_failover.specs.declared.scene.Scene.{Scene}
 use Rattle.standby_failover.specs.Failover.{Failover, is_affected, is_in, is_open, numbers_done, standing}
@@ -49,16 +50,17 @@ module _ {F R : Type 0} (f : Semantics R) (v : Stopped F R) (s : Scene F R) (is 
     unit_is = ap (λ q. unit_at f.kind v.config.site q) packet_is ∙ ap (λ site. unit_at f.kind site p) (sym is.site)
 
   -- whether a packet that came is of an affected unit
-  pub affects_is : (number : ℕ) → is_in number (arrived s.log.now) ≡ true → affects f s number ≡ is_affected x (unit_in x.job number)
+  pub affects_is : (number : ℕ) → is_in number (arrivals_in s.log.now) ≡ true → affects f s number ≡ is_affected x (unit_in x.job number)
   affects_is number came =
-      let it = found_came x is.left number (ap (λ l. is_in number (arrived l)) (sym is.log) ∙ came) in
+      let it = found_came x is.left number (ap (λ l. is_in number (arrivals_in l)) (sym is.log) ∙ came) in
       let at : found s.packets.now number ≡ Some it.0 = ap (λ ps. found ps number) is.packets ∙ it.1 in
       ap (λ o. option_map_or (λ p. is_some (finite.get s.failed.now.live (unit_at f.kind s.site p))) o false) at
       ∙ ap (λ u. is_some (finite.get s.failed.now.live u)) (sym (unit_is number it.0 at))
       ∙ sym (affected_is (unit_in x.job number))
 
   -- and so whether it is open
-  pub open_is : (number : ℕ) → is_in number (arrived s.log.now) ≡ true → (b : Bool) → (not (is_in number (numbers_done s.log.now)) && affects f s number) ≡ b
+  pub open_is : (number : ℕ) → is_in number (arrivals_in s.log.now) ≡ true → (b : Bool)
+      → (not (is_in number (numbers_done s.log.now)) && affects f s number) ≡ b
       → is_open x number ≡ b
   open_is number came b e =
       and_comm (is_affected x (unit_in x.job number)) (not (is_in number (numbers_done v.world.log)))

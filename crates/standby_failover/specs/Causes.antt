@@ -17,24 +17,24 @@ pub record FirstChoices : Type 0 where
 abbrev pub first_of : List Choice → ℕ → FirstChoices
 first_of choices count = record { all = choices; count = count }
 
-abbrev pub taken : FirstChoices → List Choice
-taken first = take first.count first.all
+abbrev pub taken_among : FirstChoices → List Choice
+taken_among first = take first.count first.all
 
 module _ {F R : Type 0} (f : Semantics R) (start : Network (Node F R) Msg Note) (first : FirstChoices) where
   -- the world after them
   abbrev pub world_after : Network (Node F R) Msg Note
-  world_after = run (node_step f) (taken first) start
+  world_after = run (node_step f) (taken_among first) start
 
   -- so many there are, and they are a run
   pub record IsReached : Type 0 where
     pub enough : first.count ≤ length first.all
-    pub is_run : IsRun node_ready (node_step f) (taken first) start
+    pub is_run : IsRun node_ready (node_step f) (taken_among first) start
 
   -- the choice of this step, counted from 1, is the first of them that isn't enabled in its turn
   pub record IsRefusedAt (step : ℕ) : Type 0 where
     pub index : ℕ
     pub counted : step ≡ index + 1
-    pub fault : FirstFault node_ready (node_step f) (record { choices = taken first; index = index }) start
+    pub fault : FirstFault node_ready (node_step f) (record { choices = taken_among first; index = index }) start
 
   -- there are fewer: all choices are a run, and this would be the step after the last
   pub record AreTooFew (step : ℕ) : Type 0 where

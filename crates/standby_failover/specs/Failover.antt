@@ -1,6 +1,7 @@
 -- What is left where an instance fails and another takes over from the records that stand by there. All of it speaks of the world in which the
 -- one fails. Packets go by their numbers. This project's own.
-use Rattle.std.specs.Prelude.{◌≡◌, ℕ, ◌≤◌, Bool, true, false, not, ◌==◌, ◌&&◌, if◌then◌else◌, List, ◌++◌, map, filter, take, drop, length, Option, None, Some, is_some, slice_get}
+use Rattle.std.specs.Prelude.{◌≡◌, ℕ, ◌≤◌, Bool, true, false, not, ◌==◌, ◌&&◌, if◌then◌else◌, List, ◌++◌}
+use Rattle.std.specs.Prelude.{map, filter, take, drop, length, Option, None, Some, is_some, slice_get}
 use Rattle.std.specs.List.{list_any}
 use Rattle.std.specs.FinMap as finite
 use Rattle.nf_function.specs.declared.unit.Unit as units
@@ -12,14 +13,14 @@ use Rattle.nf_msgs.specs.Nodes.{instance_node}
 use Rattle.actor_net.specs.Network.{Network}
 use Rattle.net_world.specs.declared.node.Node.{Node}
 use Rattle.net_world.specs.declared.node.Node.TheVariants.{Instance}
-use Rattle.net_world.specs.Fold.{came, fold, is_of, went}
+use Rattle.net_world.specs.Fold.{arrived_of, fold, is_of, processed_of as processed_by_log}
 use Rattle.net_world.specs.Input.{IsInput}
 use Rattle.net_world.specs.Jobs.{Job}
-use Rattle.net_world.specs.Log.{arrived, done, those}
+use Rattle.net_world.specs.Log.{arrivals_in, dones_in}
 use Rattle.net_world.specs.Places.{is_loose, unit_in}
 use Rattle.net_world.specs.Records.{live_at}
 use Rattle.net_world.specs.Standby.{standby_at}
-use Rattle.nf_net.specs.Promises.{Promises}
+use Rattle.run_report.specs.nf_net.specs.Promises.{Promises}
 use Rattle.standby_failover.specs.declared.promoted.Promoted.{Promoted}
 
 -- a run's world in which an instance fails, and the instance that takes over
@@ -38,7 +39,7 @@ is_in p ps = list_any (λ q. p == q) ps
 
 -- the packets that were processed, in order
 abbrev pub numbers_done : List Note → List ℕ
-numbers_done log = map (λ d. d.number) (done log)
+numbers_done log = map (λ d. d.number) (dones_in log)
 
 -- the records of an instance
 abbrev pub table_in : {F R : Type 0} → Option (Node F R) → TableView R
@@ -50,12 +51,12 @@ table_at w i = table_in (slice_get w.nodes (instance_node i))
 
 module _ {F R : Type 0} (x : Failover F R) where
   -- the packets of a unit that were processed
-  abbrev pub processed : units.Unit → List ℕ
-  processed unit = went x.job.function x.job.config x.job.items unit x.world.log
+  abbrev pub processed_of : units.Unit → List ℕ
+  processed_of unit = processed_by_log x.job.function x.job.config x.job.items unit x.world.log
 
   -- what one instance that nothing moves keeps after packets of a unit
-  abbrev pub kept : List ℕ → Option R
-  kept ps = fold x.job.function x.job.config x.job.items None ps
+  abbrev pub record_kept : List ℕ → Option R
+  record_kept ps = fold x.job.function x.job.config x.job.items None ps
 
   -- a unit is affected where its record is live at the instance that fails
   abbrev pub is_affected : units.Unit → Bool
@@ -66,22 +67,22 @@ module _ {F R : Type 0} (x : Failover F R) where
   standing unit = standby_at x.world x.to unit
 
   -- how many of its processed packets that record has counted, and 0 where none stands by
-  abbrev pub reflected : units.Unit → ℕ
-  reflected unit = packets_in x.job.function (standing unit)
+  abbrev pub reflected_by : units.Unit → ℕ
+  reflected_by unit = packets_in x.job.function (standing unit)
 
   -- the record that stands by, or that none does, is what is kept after so many of its processed packets
   pub record IsReflected (unit : units.Unit) (count : ℕ) : Type 0 where
-    pub within : count ≤ length (processed unit)
-    pub folds : kept (take count (processed unit)) ≡ standing unit
+    pub within : count ≤ length (processed_of unit)
+    pub folds : record_kept (take count (processed_of unit)) ≡ standing unit
 
   -- and this is so of that number of packets, and of no other
   pub record AreReflected (unit : units.Unit) : Type 0 where
-    pub is : IsReflected unit (reflected unit)
-    pub only : (count : ℕ) → IsReflected unit count → count ≡ reflected unit
+    pub is : IsReflected unit (reflected_by unit)
+    pub only : (count : ℕ) → IsReflected unit count → count ≡ reflected_by unit
 
   -- a packet is lost where it is of an affected unit and was processed after so many
   abbrev pub is_lost : ℕ → Bool
-  is_lost p = is_affected (unit_in x.job p) && is_in p (drop (reflected (unit_in x.job p)) (processed (unit_in x.job p)))
+  is_lost p = is_affected (unit_in x.job p) && is_in p (drop (reflected_by (unit_in x.job p)) (processed_of (unit_in x.job p)))
 
   -- it is open where it is of an affected unit and wasn't processed
   abbrev pub is_open : ℕ → Bool
@@ -89,17 +90,17 @@ module _ {F R : Type 0} (x : Failover F R) where
 
   -- these packets by their numbers, which is how they came; and the lost ones as they were processed
   abbrev pub lost_packets : List ℕ
-  lost_packets = filter is_lost (arrived x.world.log)
+  lost_packets = filter is_lost (arrivals_in x.world.log)
 
   abbrev pub open_packets : List ℕ
-  open_packets = filter is_open (arrived x.world.log)
+  open_packets = filter is_open (arrivals_in x.world.log)
 
   abbrev pub lost_in_order : List ℕ
   lost_in_order = filter is_lost (numbers_done x.world.log)
 
   -- the open packets of one unit
   abbrev pub open_of : units.Unit → List ℕ
-  open_of unit = those (is_of x.job.function x.job.config x.job.items unit) open_packets
+  open_of unit = filter (is_of x.job.function x.job.config x.job.items unit) open_packets
 
   -- the record of an affected unit that stands by is live too, or it has none; all other records are as they were
   pub record IsPromoted (p : Promoted F R) : Type 0 where
@@ -118,11 +119,11 @@ module _ {F R : Type 0} (x : Failover F R) where
 
   -- the records once each affected unit has caught up with all its packets that came
   pub record HasCaughtUp (table : TableView R) : Type 0 where
-    pub affected : (unit : units.Unit) → is_affected unit ≡ true → finite.get table.live unit ≡ kept (processed unit ++ open_of unit)
+    pub affected : (unit : units.Unit) → is_affected unit ≡ true → finite.get table.live unit ≡ record_kept (processed_of unit ++ open_of unit)
     -- each of them has a record
     pub each : (unit : units.Unit) → is_affected unit ≡ true → is_some (finite.get table.live unit) ≡ true
     -- these packets are all that came, in their order, unless a plain move handed the unit on
     pub in_order : (unit : units.Unit) → is_affected unit ≡ true → is_loose x.job.config x.job.items unit x.world.log ≡ false
-        → finite.get table.live unit ≡ kept (came x.job.function x.job.config x.job.items unit x.world.log)
+        → finite.get table.live unit ≡ record_kept (arrived_of x.job.function x.job.config x.job.items unit x.world.log)
     pub others : (unit : units.Unit) → is_affected unit ≡ false → finite.get table.live unit ≡ live_at x.world x.to unit
     pub standby : table.standby ≡ (table_at x.world x.to).standby

@@ -1,11 +1,11 @@
 -- The report of a failover: its lines and their order. This project's own format.
-use Rattle.std.specs.Prelude.{ℕ, ◌++◌, List, [], Option, None, Some, codes, decimal, length}
+use Rattle.std.specs.Prelude.{ℕ, ◌++◌, List, [], Option, None, Some, codes, decimal, length, slice_index_or}
 use Rattle.std.specs.List.{flat_map}
 use Rattle.std.specs.FinMap as finite
 use Rattle.nf_function.specs.declared.unit.Unit as units
 use Rattle.nf_function.specs.Semantics.{Semantics}
 use Rattle.record_table.specs.Table.{TableView}
-use Rattle.report_lines.specs.Lines.{end_line, function_line, name_of, record_line, trace_line, unit_text}
+use Rattle.report_lines.specs.Lines.{function_line, record_line, trace_line, unit_text}
 use Rattle.run_report.specs.declared.head.Head.{Head}
 use Rattle.standby_failover.specs.declared.promoted.Promoted.{Promoted}
 use Rattle.standby_failover.specs.declared.promoted.Failing.{Failing}
@@ -17,7 +17,7 @@ head_lines head =
 
 -- `fail INST after J`
 unfoldable pub fail_line : List (List ℕ) → Failing → List ℕ
-fail_line names failing = codes "fail " ++ name_of names failing.failed ++ codes " after " ++ decimal failing.after ++ codes "\n"
+fail_line names failing = codes "fail " ++ slice_index_or names failing.failed [] ++ codes " after " ++ decimal failing.after ++ codes "\n"
 
 -- `gone UNIT`
 unfoldable pub gone_line : units.Unit → List ℕ
@@ -65,5 +65,5 @@ module _ {R : Type 0} (f : Semantics R) (name : List ℕ) where
 -- the report of what is promoted, and of the records once they have caught up
 unfoldable pub failover_text : {F R : Type 0} → Semantics R → Head → Failing → Promoted F R → TableView R → List ℕ
 failover_text f head failing promoted caught =
-    head_lines head ++ fail_line head.names failing ++ promoted_lines f (name_of head.names failing.to) promoted
-    ++ caught_lines f (name_of head.names failing.to) promoted.units caught ++ end_line
+    head_lines head ++ fail_line head.names failing ++ promoted_lines f (slice_index_or head.names failing.to []) promoted
+    ++ caught_lines f (slice_index_or head.names failing.to []) promoted.units caught ++ codes "end\n"

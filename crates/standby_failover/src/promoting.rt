@@ -1,8 +1,9 @@
+//! What stands by where an instance fails: the records that are promoted, and the packets that they lack.
 ghost use Rattle.std.specs.Prelude.{◌≡◌, ◌≢◌, ◌<◌, ◌++◌, ◌==◌, ℕ, All, IsSome, find, length, IfOk};
 ghost use Rattle.trace_reader.specs.Records.{AreNumbered};
 ghost use Rattle.net_world.specs.Input.{packets, IsInput};
 ghost use Rattle.net_world.specs.Jobs.{job_of};
-ghost use Rattle.net_world.specs.Start.{started};
+ghost use Rattle.net_world.specs.Start.{started_with};
 ghost use Rattle.standby_failover.specs.Causes.{IsFailCause, IsReached, first_of, world_after};
 ghost use Rattle.standby_failover.specs.Failover.{IsLeft, IsPromoted, failover_of};
 
@@ -35,18 +36,18 @@ pub fn promote<F: Function>(
     requires failed { failed < length config.now.names }
     requires to { to < length config.now.names }
     requires two { failed ≢ to }
-    ensures reached { IfOk result (λ _. IsReached {F = F.row.Denot} F.semantics (started alloc config.now items.items) (first_of choices.now after)) }
+    ensures reached { IfOk result (λ _. IsReached {F = F.row.Denot} F.semantics (started_with alloc config.now items.items) (first_of choices.now after)) }
 
     // What the words of the next clause speak of: the records that stand by are those of so many packets, and of no other number of them.
-    ensures left { let world = world_after F.semantics (started alloc config.now items.items) (first_of choices.now after) in
+    ensures left { let world = world_after F.semantics (started_with alloc config.now items.items) (first_of choices.now after) in
         IfOk result (λ _. IsLeft {F = F.row.Denot} (failover_of (job_of F.semantics config.now items.items) world failed to)) }
-    ensures promoted { let world = world_after F.semantics (started alloc config.now items.items) (first_of choices.now after) in
+    ensures promoted { let world = world_after F.semantics (started_with alloc config.now items.items) (first_of choices.now after) in
         IfOk result (IsPromoted {F = F.row.Denot} (failover_of (job_of F.semantics config.now items.items) world failed to)) }
 
     // What [`crate::catch_up`] asks: the numbers are those of packets of the input.
     ensures known { IfOk result (λ promoted. All (λ n. IsSome (find (λ p. p.number == n) (packets items.items))) (promoted.order ++ promoted.pending)) }
     ensures not_a_run { (step : ℕ) → result ≡ Err (FailFault.NotARun step)
-        → IsFailCause {F = F.row.Denot} F.semantics (started alloc config.now items.items) (first_of choices.now after) step }
+        → IsFailCause {F = F.row.Denot} F.semantics (started_with alloc config.now items.items) (first_of choices.now after) step }
 {
     let trace = packets_of(alloc, items.as_slice())?;
     let failing = Failing { failed, to, after };
@@ -68,14 +69,15 @@ pub fn promote_with<F: Function>(
     requires failed { failing.now.failed < length config.now.names }
     requires to { failing.now.to < length config.now.names }
     requires two { failing.now.failed ≢ failing.now.to }
-    ensures reached { IfOk result (λ _. IsReached {F = F.row.Denot} F.semantics (started alloc config.now items.items) (first_of choices.now failing.now.after)) }
-    ensures left { let world = world_after F.semantics (started alloc config.now items.items) (first_of choices.now failing.now.after) in
+    ensures reached { IfOk result
+        (λ _. IsReached {F = F.row.Denot} F.semantics (started_with alloc config.now items.items) (first_of choices.now failing.now.after)) }
+    ensures left { let world = world_after F.semantics (started_with alloc config.now items.items) (first_of choices.now failing.now.after) in
         IfOk result (λ _. IsLeft {F = F.row.Denot} (failover_of (job_of F.semantics config.now items.items) world failing.now.failed failing.now.to)) }
-    ensures promoted { let world = world_after F.semantics (started alloc config.now items.items) (first_of choices.now failing.now.after) in
+    ensures promoted { let world = world_after F.semantics (started_with alloc config.now items.items) (first_of choices.now failing.now.after) in
         IfOk result (IsPromoted {F = F.row.Denot} (failover_of (job_of F.semantics config.now items.items) world failing.now.failed failing.now.to)) }
     ensures known { IfOk result (λ promoted. All (λ n. IsSome (find (λ p. p.number == n) (packets items.items))) (promoted.order ++ promoted.pending)) }
     ensures not_a_run { (step : ℕ) → result ≡ Err (FailFault.NotARun step)
-        → IsFailCause {F = F.row.Denot} F.semantics (started alloc config.now items.items) (first_of choices.now failing.now.after) step }
+        → IsFailCause {F = F.row.Denot} F.semantics (started_with alloc config.now items.items) (first_of choices.now failing.now.after) step }
 {
     let world = world_after::<F>(alloc, config, items, choices, failing.after)?;
     let scene = Scene {

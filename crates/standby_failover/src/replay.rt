@@ -2,7 +2,7 @@
 ghost use Rattle.std.specs.Prelude.{◌≡◌, ◌<◌, ℕ, true, length, slice_get, IfOk};
 ghost use Rattle.nf_msgs.specs.Nodes.{instance_node};
 ghost use Rattle.net_world.specs.Input.{IsInput};
-ghost use Rattle.net_world.specs.Start.{started};
+ghost use Rattle.net_world.specs.Start.{started_with};
 ghost use Rattle.standby_failover.specs.Causes.{IsFailCause, IsReached, first_of, world_after};
 ghost use Rattle.standby_failover.specs.Failover.{table_at};
 ghost use Rattle.standby_failover.specs.Scenes.{is_instance};
@@ -13,8 +13,8 @@ use basics::NoMemory;
 use net_world::{Config, Node, start};
 use nf_function::Function;
 use nf_msgs::{MOST_INSTANCES, Msg, instance_node};
-use nf_net::run_choices;
 use record_table::Table;
+use run_report::run_choices;
 use std::alloc::Global;
 
 /// The world of a network after the first so many choices.
@@ -26,11 +26,11 @@ pub(crate) fn world_after<F: Function>(
     after: u64,
 ) -> Result<World<Node<F>>, FailFault>
     requires { IsInput F.semantics.kind config.now items.items }
-    ensures reached { IfOk result (λ _. IsReached {F = F.row.Denot} F.semantics (started alloc config.now items.items) (first_of choices.now after)) }
-    ensures world { IfOk result (λ world. world ≡ world_after F.semantics (started alloc config.now items.items) (first_of choices.now after)) }
+    ensures reached { IfOk result (λ _. IsReached {F = F.row.Denot} F.semantics (started_with alloc config.now items.items) (first_of choices.now after)) }
+    ensures world { IfOk result (λ world. world ≡ world_after F.semantics (started_with alloc config.now items.items) (first_of choices.now after)) }
     ensures instances { IfOk result (λ world. (i : ℕ) → i < length config.now.names → is_instance (slice_get world.nodes (instance_node i)) ≡ true) }
     ensures not_a_run { (step : ℕ) → result ≡ Err (FailFault.NotARun step)
-        → IsFailCause {F = F.row.Denot} F.semantics (started alloc config.now items.items) (first_of choices.now after) step }
+        → IsFailCause {F = F.row.Denot} F.semantics (started_with alloc config.now items.items) (first_of choices.now after) step }
 {
     let start = start::<F>(alloc, config, items)?;
     let count = choices.len() as u64;

@@ -1,5 +1,5 @@
 //! The report of a failover.
-ghost use Rattle.std.specs.Prelude.{◌≡◌, ◌++◌, ◌==◌, ℕ, All, IsSome, List, find, map, IfOk, OnOk};
+ghost use Rattle.std.specs.Prelude.{◌≡◌, ◌++◌, ◌==◌, ℕ, All, IsSome, List, [], find, map, slice_index_or, IfOk, OnOk};
 ghost use Rattle.std.specs.List.{flat_map};
 ghost use Rattle.std.specs.Option.{option_copied};
 ghost use Rattle.std.specs.FinMap as finite;
@@ -10,9 +10,9 @@ ghost use Rattle.actor_net.specs.Network.{Network};
 ghost use Rattle.net_world.specs.declared.node.Node.{Node as ANode};
 ghost use Rattle.net_world.specs.Input.{packets};
 ghost use Rattle.net_world.specs.Jobs.{job_of};
-ghost use Rattle.report_lines.specs.Lines.{name_of};
 ghost use Rattle.standby_failover.specs.Failover.{HasCaughtUp, IsLeft, IsPromoted, failover_of};
-ghost use Rattle.standby_failover.specs.Lines.{caught_line, caught_lines, fail_line, failover_text, gone_line, head_lines, number_line, promote_line, promote_text, promoted_line, promoted_lines};
+ghost use Rattle.standby_failover.specs.Lines.{caught_line, caught_lines, fail_line, failover_text, gone_line, head_lines};
+ghost use Rattle.standby_failover.specs.Lines.{number_line, promote_line, promote_text, promoted_line, promoted_lines};
 ghost use Rattle.standby_failover.specs.Stepping.{after_packets, packet_among};
 
 use crate::catching_up::catch_up;
@@ -84,7 +84,7 @@ fn push_fail(text: &mut Text, names: &[Name], failing: &Failing) -> Result<(), N
 
 /// The name of an instance by its number, or nothing where there is none.
 fn name_at<'a>(names: &'a [Name], instance: u8) -> &'a [u8]
-    ensures { result.now ≡ name_of names.entry.now instance }
+    ensures { result.now ≡ slice_index_or names.entry.now instance [] }
 {
     match names.get(usize::from(instance)) {
         Some(name) => name.items(),

@@ -18,7 +18,8 @@ use Rattle.state_chunk.specs.Reading.{first_key, first_flow, first_host, is_know
 
 -- a flow's key, number by number
 key_and_rest : (f : Flow) (rest : List ℕ)
-    → key_bytes (OfFlow f) ++ rest ≡ f.proto ∷ (number_bytes 4 f.local ++ (number_bytes 2 f.lport ++ (number_bytes 4 f.remote ++ (number_bytes 2 f.rport ++ rest))))
+    → key_bytes (OfFlow f) ++ rest
+    ≡ f.proto ∷ (number_bytes 4 f.local ++ (number_bytes 2 f.lport ++ (number_bytes 4 f.remote ++ (number_bytes 2 f.rport ++ rest))))
 unfolding key_bytes
 key_and_rest f rest =
     ap (λ (more : List ℕ). f.proto ∷ more) (regrouped (number_bytes 4 f.local) (number_bytes 2 f.lport) (number_bytes 4 f.remote) (number_bytes 2 f.rport) rest)
@@ -33,7 +34,8 @@ first_flow-key_bytes f rest h =
     let fits = each_passes (transport_tests f) h in
     ap first_flow (key_and_rest f rest)
     ∙ rw (
-      first_number-number_bytes 4 f.local (number_bytes 2 f.lport ++ (number_bytes 4 f.remote ++ (number_bytes 2 f.rport ++ rest))) (ltb-true f.local (2 ^ 32) fits.local),
+      first_number-number_bytes 4 f.local (number_bytes 2 f.lport ++ (number_bytes 4 f.remote ++ (number_bytes 2 f.rport ++ rest)))
+          (ltb-true f.local (2 ^ 32) fits.local),
       first_number-number_bytes 2 f.lport (number_bytes 4 f.remote ++ (number_bytes 2 f.rport ++ rest)) (ltb-true f.lport (2 ^ 16) fits.lport),
       first_number-number_bytes 4 f.remote (number_bytes 2 f.rport ++ rest) (ltb-true f.remote (2 ^ 32) fits.remote),
       first_number-number_bytes 2 f.rport rest (ltb-true f.rport (2 ^ 16) fits.rport),
@@ -84,7 +86,8 @@ first_flow-some (proto ∷ more) u rest are h =
     let fourth = first_number-some 2 remote.1 rport.0 rport.1 third.rest_bytes s in
     let parts = some_pair_parts (OfFlow (record { local = local.0; remote = remote.0; lport = lport.0; rport = rport.0; proto = proto })) u rport.1 rest last in
     record {
-      spelled = flow_joined proto local.0 lport.0 remote.0 rport.0 more local.1 lport.1 remote.1 rport.1 first.spelled second.spelled third.spelled fourth.spelled
+      spelled = flow_joined proto local.0 lport.0 remote.0 rport.0 more local.1 lport.1 remote.1 rport.1 first.spelled second.spelled third.spelled
+          fourth.spelled
           ∙ ap (λ (v : units.Unit). key_bytes v ++ rport.1) parts.0 ∙ ap (λ (r : List ℕ). key_bytes u ++ r) parts.1;
       rest_bytes = rw (← parts.1) fourth.rest_bytes;
     }))))
@@ -100,7 +103,8 @@ first_host-some bytes u rest are h =
       rest_bytes = rw (← parts.1) first.rest_bytes;
     })
 
-pub first_key-some : (kind : Kind) (bytes : List ℕ) (u : units.Unit) (rest : List ℕ) → IsBytes bytes → first_key kind bytes ≡ Some (u, rest) → IsKey bytes u rest
+pub first_key-some : (kind : Kind) (bytes : List ℕ) (u : units.Unit) (rest : List ℕ) → IsBytes bytes → first_key kind bytes ≡ Some (u, rest)
+    → IsKey bytes u rest
 first_key-some Conntrack bytes u rest are h = first_flow-some bytes u rest are h
 first_key-some Nat bytes u rest are h = first_host-some bytes u rest are h
 first_key-some Monitor bytes u rest are h = first_host-some bytes u rest are h

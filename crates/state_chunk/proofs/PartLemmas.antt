@@ -1,5 +1,6 @@
 -- The header and the body of a chunk are read again, and have one spelling.
-use Rattle.std.proofs.Common.{◌≡◌, ◌<◌, ◌≤◌, ◌^◌, ◌&&◌, ◌||◌, eqb, ℕ, Bool, true, false, cond, List, [], ◌∷◌, ◌++◌, length, take, drop, Option, None, Some, Ok, Err, refl, arith, nat_lt, length-append}
+use Rattle.std.proofs.Common.{◌≡◌, ◌<◌, ◌≤◌, ◌^◌, ◌&&◌, ◌||◌, eqb, ℕ, Bool, true, false, cond, List, [], ◌∷◌, ◌++◌}
+use Rattle.std.proofs.Common.{length, take, drop, Option, None, Some, Ok, Err, refl, arith, nat_lt, length-append}
 use Rattle.std.proofs.lemmas.Bool.Decides.{nat_tests}
 use Rattle.std.proofs.lemmas.List.{take_at, drop_at, take-append-drop, length-take-le}
 use Rattle.std.proofs.lemmas.Bool.{and_parts, eqb-true, eq-eqb}
@@ -42,7 +43,8 @@ header_of-ok kind scope timed (v ∷ []) read are h =
     let first = checked_ok (eqb v 1 || eqb v 2) (fault.Version v) (Err fault.Short) read h in
     let none : ◌≡◌ {A = Read (ℕ × List ℕ)} (Err fault.Short) (Ok read) = first.1 in cc
 header_of-ok kind scope timed (v ∷ k ∷ []) read are h =
-    let first = checked_ok (eqb v 1 || eqb v 2) (fault.Version v) (checked (eqb k (kind_number kind) && may_have v (has_times kind)) fault.Kind (Err fault.Short)) read h in
+    let first = checked_ok (eqb v 1 || eqb v 2) (fault.Version v)
+    (checked (eqb k (kind_number kind) && may_have v (has_times kind)) fault.Kind (Err fault.Short)) read h in
     let second = checked_ok (eqb k (kind_number kind) && may_have v (has_times kind)) fault.Kind (Err fault.Short) read first.1 in
     let none : ◌≡◌ {A = Read (ℕ × List ℕ)} (Err fault.Short) (Ok read) = second.1 in cc
 header_of-ok kind scope timed (v ∷ k ∷ s ∷ rest) read are h =
@@ -65,7 +67,8 @@ plain_version kind scope (v ∷ []) read h =
     let first = checked_ok (eqb v 1 || eqb v 2) (fault.Version v) (Err fault.Short) read h in
     let none : ◌≡◌ {A = Read (ℕ × List ℕ)} (Err fault.Short) (Ok read) = first.1 in cc
 plain_version kind scope (v ∷ k ∷ []) read h =
-    let first = checked_ok (eqb v 1 || eqb v 2) (fault.Version v) (checked (eqb k (kind_number kind) && may_have v (has_times kind)) fault.Kind (Err fault.Short)) read h in
+    let first = checked_ok (eqb v 1 || eqb v 2) (fault.Version v)
+    (checked (eqb k (kind_number kind) && may_have v (has_times kind)) fault.Kind (Err fault.Short)) read h in
     let second = checked_ok (eqb k (kind_number kind) && may_have v (has_times kind)) fault.Kind (Err fault.Short) read first.1 in
     let none : ◌≡◌ {A = Read (ℕ × List ℕ)} (Err fault.Short) (Ok read) = second.1 in cc
 plain_version kind scope (v ∷ k ∷ s ∷ rest) read h =

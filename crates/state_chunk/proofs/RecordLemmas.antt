@@ -82,8 +82,10 @@ module _ {R : Type 0} (f : Semantics R) (laws : Laws f) where
       let known = laws.read key.0 body.0 kept stored.body_bytes is.0 in
       let is_unit : key.0 ≡ u = ap (λ (x : units.Unit × R). x.0) all.1 in
       let is_record : kept ≡ r = ap (λ (x : units.Unit × R). x.1) all.1 in
-      let body_is : key.1 ≡ number_bytes 2 (length body.0) ++ (body.0 ++ []) = stored.spelled ∙ ap (λ (more : List ℕ). number_bytes 2 (length body.0) ++ (body.0 ++ more)) all.0 in
+      let body_is : key.1 ≡ number_bytes 2 (length body.0) ++ (body.0 ++ []) = stored.spelled
+      ∙ ap (λ (more : List ℕ). number_bytes 2 (length body.0) ++ (body.0 ++ more)) all.0 in
       record {
         valid = rw (← is_unit, ← is_record) known.0;
-        spelled = joined u r header.0 bytes header.1 key.1 body.0 (rw (← is_record) is.1) head.spelled (rw (← is_unit) unit.spelled) body_is (rw (← is_record) known.1);
+        spelled = joined u r header.0 bytes header.1 key.1 body.0 (rw (← is_record) is.1) head.spelled (rw (← is_unit) unit.spelled) body_is
+            (rw (← is_record) known.1);
       }))))

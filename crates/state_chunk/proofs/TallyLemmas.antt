@@ -1,5 +1,6 @@
 -- A tally's counts are read again, and bytes of another length spell none.
-use Rattle.std.proofs.Common.{◌≡◌, ◌∙◌, ◌<◌, ◌≤◌, ◌+◌, ◌*◌, ◌^◌, ℕ, zero, suc, Bool, true, false, List, [], ◌∷◌, ◌++◌, length, drop, slice_index, Option, None, Some, Ok, refl, sym, ap, subst, arith, nat_lt, length-append}
+use Rattle.std.proofs.Common.{◌≡◌, ◌∙◌, ◌<◌, ◌≤◌, ◌+◌, ◌*◌, ◌^◌, ℕ, zero, suc, Bool, true, false, List, [], ◌∷◌, ◌++◌, length}
+use Rattle.std.proofs.Common.{drop, slice_index, Option, None, Some, Ok, refl, sym, ap, subst, arith, nat_lt, length-append}
 use Rattle.std.proofs.lemmas.Bool.Decides.{nat_tests}
 use Rattle.std.proofs.lemmas.List.{append-nil, length-drop, drop-drop}
 use Rattle.std.proofs.lemmas.Option.{option_and_then_some}
@@ -59,7 +60,8 @@ numbers_in-None zero (b ∷ bytes) h = refl
 numbers_in-None (suc n) bytes h = missing n bytes h (λ e. numbers_in-None n (drop 8 bytes) e) (nat_lt (length bytes) 8) refl
 
 -- numbers are read again from their bytes
-pub numbers_in-flat_map : (numbers : List ℕ) → ((i : ℕ) → slice_index numbers i < 2 ^ 64) → numbers_in (length numbers) (flat_map (number_bytes 8) numbers) ≡ Some numbers
+pub numbers_in-flat_map : (numbers : List ℕ) → ((i : ℕ) → slice_index numbers i < 2 ^ 64)
+    → numbers_in (length numbers) (flat_map (number_bytes 8) numbers) ≡ Some numbers
 unfolding numbers_in
 numbers_in-flat_map [] h = refl
 numbers_in-flat_map (x ∷ numbers) h =
@@ -112,6 +114,7 @@ tally_read-ok kind bytes slots are l h =
     let head = header_of-ok kind AllFlows false bytes header are p in
     let stored = body_in-ok header.1 body head.rest_bytes q in
     let all = ended_ok body.1 read slots last in
-    let whole : body.0 ≡ flat_map (number_bytes 8) slots = numbers_in-Some 16 body.0 slots stored.body_bytes (slots_some (numbers_in 16 body.0) slots (r ∙ ap (λ x. Ok x) all.1)) in
+    let whole : body.0 ≡ flat_map (number_bytes 8) slots = numbers_in-Some 16 body.0 slots stored.body_bytes
+    (slots_some (numbers_in 16 body.0) slots (r ∙ ap (λ x. Ok x) all.1)) in
     let size : length body.0 ≡ tally_length = ap length whole ∙ length-slots slots ∙ ap (λ n. 8 * n) l in
     tally_joined kind bytes header.1 body.0 body.1 slots header.0 (plain_version kind AllFlows bytes header p) head.spelled stored.spelled size whole all.0)))

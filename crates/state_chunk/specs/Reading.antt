@@ -1,5 +1,6 @@
 -- How a chunk is read: from the front, and the first part that is missing or wrong decides. This project's own format.
-use Rattle.std.specs.Prelude.{◌≡◌, ℕ, zero, suc, ◌==◌, ◌&&◌, ◌||◌, nat_lt, Bool, true, false, if◌then◌else◌, List, [], ◌∷◌, length, take, drop, Option, None, Some, Result, Ok, Err}
+use Rattle.std.specs.Prelude.{◌≡◌, ℕ, zero, suc, ◌==◌, ◌&&◌, ◌||◌, nat_lt, Bool, true, false, if◌then◌else◌}
+use Rattle.std.specs.Prelude.{List, [], ◌∷◌, length, take, drop, Option, None, Some, Result, Ok, Err}
 use Rattle.basics.specs.Options.{◌>>=◌}
 use Rattle.nf_function.specs.declared.kind.Kind.{Kind}
 use Rattle.nf_function.specs.declared.kind.Scope.{Scope}
@@ -90,9 +91,9 @@ record_of_version f version None = Err fault.Body
 record_of_version f version (Some r) = checked (version_number (f.is_timed r) == version) fault.Body (Ok r)
 
 -- nothing comes after the body
-abbrev pub ended : {X : Type 0} → List ℕ → X → Read X
-ended [] x = Ok x
-ended (byte ∷ more) x = Err fault.Extra
+abbrev pub at_end : {X : Type 0} → List ℕ → X → Read X
+at_end [] x = Ok x
+at_end (byte ∷ more) x = Err fault.Extra
 
 -- the unit and the record of a chunk
 unfoldable pub record_read : {R : Type 0} → Semantics R → List ℕ → Read (units.Unit × R)
@@ -102,7 +103,7 @@ record_read f bytes =
     checked (is_known key.0) fault.Key (
     then_read (body_in key.1) λ body.
     then_read (record_of_version f header.0 (f.record_in key.0 body.0)) λ r.
-    ended body.1 (key.0, r))
+    at_end body.1 (key.0, r))
 
 -- numbers of 8 bytes, as many as are wanted and no more
 unfoldable pub numbers_in : ℕ → List ℕ → Option (List ℕ)
@@ -123,7 +124,7 @@ tally_read kind bytes =
     then_read (header_of kind AllFlows false bytes) λ header.
     then_read (body_in header.1) λ body.
     then_read (slots_of (numbers_in most_instances body.0)) λ slots.
-    ended body.1 slots
+    at_end body.1 slots
 
 -- a body's fault as one of the chunk
 abbrev pub chunk_fault : BodyFault → ChunkFault

@@ -13,14 +13,15 @@ use Rattle.strong_share.specs.declared.serving.Serving.TheVariants.{Idle, Out, S
 use Rattle.strong_share.specs.Parts.{ControllerState}
 use Rattle.strong_share.specs.Tables.{ControllerStep, controller_still, serve_step, syncs, shared_row, synced_row, on_final, row_of_member}
 use Rattle.strong_share.specs.Start.{StrongJob, IsStrongJob}
-use Rattle.strong_share.specs.Words.{entries, events_of, arrived, done_numbers, is_taken, is_taken_at}
+use Rattle.strong_share.specs.Words.{entries, events_of, arrivals_in, done_numbers, is_taken, is_taken_at}
 use Rattle.strong_share.proofs.Lists.{put, two_one, two_zero}
 use Rattle.strong_share.proofs.Scenes.{Scene, controller_did}
 use Rattle.strong_share.proofs.ServedPackets.{Sight, Agrees, serves_alike, tight_alike, rests_serves, serving_of}
-use Rattle.strong_share.proofs.Spreading.{spread_to, told_is, Is_told, spreads, took_is, Is_took, takes_one, takes_last}
+use Rattle.strong_share.proofs.Spreading.{spread_to, told_is, IsTold, spreads, took_is, HasTaken, takes_one, takes_last}
 use Rattle.strong_share.proofs.Reading.{packet_in, plain_in, event_in, answer_in, end_in, stop_in, taken_has, each_taken}
 use Rattle.strong_share.proofs.SyncSends.{syncs_sent, syncs_other}
-use Rattle.strong_share.proofs.Holding.{up_label, down_label, back_label, Labelled, IsRight, Ordered, Ends, ends_left, sight, Holds, IsSwitch, home_label, in_label, out_label}
+use Rattle.strong_share.proofs.Holding.{up_label, down_label, back_label, Labelled, IsRight, Ordered, Ends}
+use Rattle.strong_share.proofs.Holding.{ends_left, sight, Holds, IsSwitch, home_label, in_label, out_label}
 use Rattle.strong_share.proofs.MemberRows.{IsMember}
 use Rattle.strong_share.proofs.QueueRows.{no_notes, serves_members, serve_scene, HoldsLoosely, serve_holds}
 
@@ -56,17 +57,17 @@ module _ {F R : Type 0} (f : Semantics R) (job : StrongJob) where
       member = subst (λ g. (k : ℕ) → k < job.members → IsMember job k (g k)) (sym member) h.labelled.member;
     },
     record {
-      in_turn = ap (λ l. arrived l ++ flat_map packet_in y.input) log ∙ ap (λ ms. arrived x.log ++ flat_map packet_in ms) input ∙ h.ordered.in_turn;
+      in_turn = ap (λ l. arrivals_in l ++ flat_map packet_in y.input) log ∙ ap (λ ms. arrivals_in x.log ++ flat_map packet_in ms) input ∙ h.ordered.in_turn;
       each_member = λ k k_in.
           ap (λ l. events_of k l ++ (flat_map event_in (y.back k) ++ filter (is_taken_at job k) (flat_map plain_in (y.out k)))) log
           ∙ ap (λ g. events_of k x.log ++ (flat_map event_in (g k) ++ filter (is_taken_at job k) (flat_map plain_in (y.out k)))) back
           ∙ ap (λ z. events_of k x.log ++ (z ++ filter (is_taken_at job k) (flat_map plain_in (y.out k)))) (taken_has event_in x.back j m rest is none k)
           ∙ ap (λ g. events_of k x.log ++ (flat_map event_in (x.back k) ++ filter (is_taken_at job k) (flat_map plain_in (g k)))) out
           ∙ h.ordered.each_member k k_in
-          ∙ ap (λ l. filter (is_taken_at job k) (arrived l)) (sym log);
+          ∙ ap (λ l. filter (is_taken_at job k) (arrivals_in l)) (sym log);
       others = ap (λ l. filter (λ p. not (is_taken job p)) (done_numbers l) ++ filter (λ p. not (is_taken job p)) (flat_map plain_in (y.out 0))) log
           ∙ ap (λ g. filter (λ p. not (is_taken job p)) (done_numbers x.log) ++ filter (λ p. not (is_taken job p)) (flat_map plain_in (g 0))) out
-          ∙ h.ordered.others ∙ ap (λ l. filter (λ p. not (is_taken job p)) (arrived l)) (sym log);
+          ∙ h.ordered.others ∙ ap (λ l. filter (λ p. not (is_taken job p)) (arrivals_in l)) (sym log);
       right = subst (λ l. Each (IsRight job) (entries l)) (sym log) h.ordered.right;
     },
     record {
@@ -127,7 +128,7 @@ module _ {F R : Type 0} (f : Semantics R) (job : StrongJob) where
 
     module _ (x : Scene F R) (j : ℕ) (rest : List Msg) (op : ℕ) (chunk : Chunk) (j_in : j < job.members) (h : Holds f job x)
         (is : x.back j ≡ Shared op chunk ∷ rest) where
-      told : Is_told f laws job job_is (sight job x) h.serves j chunk (flat_map answer_in rest)
+      told : IsTold f laws job job_is (sight job x) h.serves j chunk (flat_map answer_in rest)
       told = told_is f laws job job_is (sight job x) h.serves j chunk (flat_map answer_in rest) j_in (ap (flat_map answer_in) is)
 
       pub told_does : row_of_member x.controller j (Shared op chunk) ≡ told_step x j chunk
@@ -173,7 +174,7 @@ module _ {F R : Type 0} (f : Semantics R) (job : StrongJob) where
 
     -- A member has the record. Where others haven't, the controller waits for them; else it serves the next packet.
     module _ (x : Scene F R) (j : ℕ) (rest : List Msg) (op : ℕ) (j_in : j < job.members) (h : Holds f job x) (is : x.back j ≡ Synced op ∷ rest) where
-      pub took : Is_took f laws job job_is (sight job x) h.serves j (flat_map answer_in rest)
+      pub took : HasTaken f laws job job_is (sight job x) h.serves j (flat_map answer_in rest)
       took = took_is f laws job job_is (sight job x) h.serves j (flat_map answer_in rest) j_in (ap (flat_map answer_in) is)
 
       abbrev waits_on : Scene F R

@@ -1,5 +1,6 @@
 -- No run is longer than its bound, and a world of a run that isn't complete has an enabled choice.
-use Rattle.std.proofs.Common.{◌≡◌, ℕ, zero, suc, ◌+◌, ◌-◌, ◌*◌, ◌<◌, ◌≤◌, inl, inr, Bool, true, false, Option, None, Some, List, [], ◌∷◌, ◌++◌, length, length-append, get_or, refl, sym, ap, subst, ◌∙◌, arith}
+use Rattle.std.proofs.Common.{◌≡◌, ℕ, zero, suc, ◌+◌, ◌-◌, ◌*◌, ◌<◌, ◌≤◌, inl, inr, Bool, true, false, Option, None}
+use Rattle.std.proofs.Common.{Some, List, [], ◌∷◌, ◌++◌, length, length-append, get_or, refl, sym, ap, subst, ◌∙◌, arith}
 use Rattle.std.specs.Prelude.{if◌then◌else◌, ◌==◌, ◌&&◌, slice_get, flat_map}
 use Rattle.std.specs.declared.alloc.Global.{Global}
 use Rattle.std.proofs.Math.Nat.{mul-suc}
@@ -13,8 +14,8 @@ use Rattle.nf_msgs.specs.declared.msg.Msg.{Msg}
 use Rattle.nf_msgs.specs.declared.msg.Msg.TheVariants.{InPacket, InEnd}
 use Rattle.actor_net.specs.declared.choice.Choice.{Choice}
 use Rattle.actor_net.specs.declared.schedule.Schedule.TheVariants.{First}
-use Rattle.actor_net.specs.Network.{Network, IsWorld, IsRun, run, taken, waiting, is_done, is_enabled}
-use Rattle.actor_net.specs.Schedules.{enabled_choices, picked}
+use Rattle.actor_net.specs.Network.{Network, IsWorld, IsRun, run, world_next, queue_at, is_done, is_enabled}
+use Rattle.actor_net.specs.Schedules.{enabled_choices, pick_of}
 use Rattle.actor_net.proofs.DisabledChoices.{IsUnready, stuck_links, stuck_input}
 use Rattle.actor_net.proofs.EnabledChoices.{at}
 use Rattle.actor_net.proofs.OpeningWorlds.{opening_weight}
@@ -32,7 +33,9 @@ use Rattle.strong_share.specs.Promises.{StrongEnds}
 use Rattle.strong_share.proofs.Lists.{two_zero}
 use Rattle.strong_share.proofs.Scenes.{Scene, Shows, next_scene, sends_of, node_of}
 use Rattle.strong_share.proofs.Shown.{found}
-use Rattle.strong_share.proofs.ServedPackets.{one_if, Answer, Turn, Turn.Going, Turn.Coming, Turn.Quiet, is_pending, pending, Stage, Stage.Resting, Stage.Carries, Stage.Tells, Stage.Spreads, chunk_after, goes_to, comes_from, to_of, answers_of, serving_of, FitsStage}
+use Rattle.strong_share.proofs.ServedPackets.{one_if, Answer, Turn, Turn.Going, Turn.Coming, Turn.Quiet, is_pending}
+use Rattle.strong_share.proofs.ServedPackets.{pending, Stage, Stage.Resting, Stage.Carries, Stage.Tells, Stage.Spreads}
+use Rattle.strong_share.proofs.ServedPackets.{chunk_after, goes_to, comes_from, to_of, answers_of, serving_of, FitsStage}
 use Rattle.strong_share.proofs.Reading.{answer_in, end_in, stop_in}
 use Rattle.strong_share.proofs.Holding.{in_label, ends_left, Holds}
 use Rattle.strong_share.proofs.Steps.{kept}
@@ -73,7 +76,7 @@ module _ (F : Type 0) {R : Type 0} (f : Semantics R) (laws : Laws f) (alloc : Gl
     few : scene.controller.finals ≤ n
 
   next_counted : (cs : List Choice) (w : Network (StrongNode F R) Msg StrongNote) (c : Choice) → NextChoice node_ready (node_step f) (n + 2) begin cs w c
-      → Counted cs w → Counted (cs ++ c ∷ []) (taken (node_step f) w c)
+      → Counted cs w → Counted (cs ++ c ∷ []) (world_next (node_step f) w c)
   next_counted cs w c next h =
       let t = next.taking in
       let g = found f n w h.scene h.shows c.node c.port t.takes.receiver t.takes.sender t.node t.message t.rest t.takes t.was_ready in
@@ -83,7 +86,7 @@ module _ (F : Type 0) {R : Type 0} (f : Semantics R) (laws : Laws f) (alloc : Gl
       let by = g.2 in
       let sends = by.sends in
       let after = (λ (weighs : Msg → ℕ). total_after (node_step f) (n + 2) w c.node c.port t.node t.message t.rest t.takes weighs) in
-      let same = (λ (weighs : Msg → ℕ). ap (λ z. total weighs (taken (node_step f) w c) + weighs z) by.message ∙ after weighs
+      let same = (λ (weighs : Msg → ℕ). ap (λ z. total weighs (world_next (node_step f) w c) + weighs z) by.message ∙ after weighs
       ∙ ap (λ ms. total weighs w + sent_weight weighs (n + 2) c.node ms) sends
       ∙ ap (λ i. total weighs w + sent_weight weighs (n + 2) i (sends_of f n h.scene g.0)) (sym by.node_is)) in
       let all = same (weight beside) in
@@ -95,8 +98,8 @@ module _ (F : Type 0) {R : Type 0} (f : Semantics R) (laws : Laws f) (alloc : Gl
         shows = g.1 k.0;
         holds = k.1;
         lighter = omega (arith, long, all, few, falls, was);
-        flies = its.flies (total cell w) (total cell (taken (node_step f) w c)) (same cell) h.flies;
-        stops = its.stops (total final_in w) (total final_in (taken (node_step f) w c)) (same final_in) h.stops;
+        flies = its.flies (total cell w) (total cell (world_next (node_step f) w c)) (same cell) h.flies;
+        stops = its.stops (total final_in w) (total final_in (world_next (node_step f) w c)) (same final_in) h.stops;
         few = its.few h.few;
       }
 
@@ -146,7 +149,7 @@ module _ (F : Type 0) {R : Type 0} (f : Semantics R) (laws : Laws f) (alloc : Gl
     world : IsWorld w × (length w.nodes ≡ n + 2)
     world = run_world node_ready (node_step f) (n + 2) begin (start_world F f laws alloc job job_is) (count F f laws alloc job job_is) cs is
 
-    silent : (s r : ℕ) → (r == 0) && (s == 0) ≡ false → waiting w (at r s) ≡ []
+    silent : (s r : ℕ) → (r == 0) && (s == 0) ≡ false → queue_at w (at r s) ≡ []
     silent = stuck_links node_ready w world.0 none
 
     no_to : (k : ℕ) → k < n → x.to k ≡ []
@@ -222,7 +225,7 @@ module _ (F : Type 0) {R : Type 0} (f : Semantics R) (laws : Laws f) (alloc : Gl
     input_label : Each (in_label job) w.input
     input_label = subst (Each (in_label job)) (sym (waiting_input w ∙ counted.shows.input)) counted.holds.labelled.input
       where
-        waiting_input : (v : Network (StrongNode F R) Msg StrongNote) → v.input ≡ waiting v (at 0 0)
+        waiting_input : (v : Network (StrongNode F R) Msg StrongNote) → v.input ≡ queue_at v (at 0 0)
         waiting_input v = refl
 
     rests : x.switch.window.flying ≡ 0
@@ -313,9 +316,9 @@ module _ (F : Type 0) {R : Type 0} (f : Semantics R) (laws : Laws f) (alloc : Gl
   -- so a world that isn't complete goes on
   pub run_goes_on : (cs : List Choice) → IsRun node_ready (node_step f) cs begin → is_done node_ended (run (node_step f) cs begin) ≡ false
       → (c : Choice) × (is_enabled node_ready (run (node_step f) cs begin) c ≡ true)
-  run_goes_on cs is undone = by (picked node_ready First (run (node_step f) cs begin)) refl
+  run_goes_on cs is undone = by (pick_of node_ready First (run (node_step f) cs begin)) refl
     where
-      by : (o : Option Choice) → picked node_ready First (run (node_step f) cs begin) ≡ o
+      by : (o : Option Choice) → pick_of node_ready First (run (node_step f) cs begin) ≡ o
           → (c : Choice) × (is_enabled node_ready (run (node_step f) cs begin) c ≡ true)
       by (Some c) e = (c, picked_enabled node_ready First (run (node_step f) cs begin) c e)
       by None e = let done = none_stuck cs is (picked_none node_ready First (run (node_step f) cs begin) e) in let both : false ≡ true = sym undone ∙ done in

@@ -13,7 +13,8 @@ use Rattle.actor_net.proofs.WeightLaws.{Each, weigh}
 use Rattle.strong_share.specs.Parts.{SwitchState}
 use Rattle.strong_share.specs.Tables.{is_home}
 use Rattle.strong_share.specs.Start.{StrongJob}
-use Rattle.strong_share.specs.Words.{entries, queue_order, events_of, arrived, done_numbers, packet_numbered, is_taken, member_of, is_taken_at, outputs, processed_of, outputs_of}
+use Rattle.strong_share.specs.Words.{entries, queue_order, events_of, arrivals_in, done_numbers, packet_numbered}
+use Rattle.strong_share.specs.Words.{is_taken, member_of, is_taken_at, outputs, processed_of, outputs_of}
 use Rattle.strong_share.proofs.MemberRows.{IsMember}
 use Rattle.strong_share.proofs.Scenes.{Scene}
 use Rattle.strong_share.proofs.ServedPackets.{number, Sight, IsGenuine, IsRaised, Serves, IsTight}
@@ -76,11 +77,11 @@ module _ (job : StrongJob) where
       pub member : (k : ℕ) → k < job.members → IsMember job k (x.member k)
 
     pub record Ordered (x : Scene F R) : Type 0 where
-      pub in_turn : arrived x.log ++ flat_map packet_in x.input ≡ map (λ p. p.number) job.packets
+      pub in_turn : arrivals_in x.log ++ flat_map packet_in x.input ≡ map (λ p. p.number) job.packets
       pub each_member : (k : ℕ) → k < job.members → events_of k x.log ++ (flat_map event_in (x.back k)
-          ++ filter (is_taken_at job k) (flat_map plain_in (x.out k))) ≡ filter (is_taken_at job k) (arrived x.log)
+          ++ filter (is_taken_at job k) (flat_map plain_in (x.out k))) ≡ filter (is_taken_at job k) (arrivals_in x.log)
       pub others : filter (λ p. not (is_taken job p)) (done_numbers x.log) ++ filter (λ p. not (is_taken job p)) (flat_map plain_in (x.out 0))
-          ≡ filter (λ p. not (is_taken job p)) (arrived x.log)
+          ≡ filter (λ p. not (is_taken job p)) (arrivals_in x.log)
       pub right : Each IsRight (entries x.log)
 
     abbrev pub ends_left : Scene F R → ℕ

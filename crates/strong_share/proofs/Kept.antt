@@ -1,5 +1,6 @@
 -- What is promised is read off a scene of a run.
-use Rattle.std.proofs.Common.{◌≡◌, ℕ, suc, ◌+◌, ◌-◌, ◌%◌, ◌<◌, ◌≤◌, Bool, true, false, Option, None, Some, List, [], ◌∷◌, ◌++◌, map, length, refl, sym, ap, subst, ◌∙◌, append_assoc, append-nil, arith}
+use Rattle.std.proofs.Common.{◌≡◌, ℕ, suc, ◌+◌, ◌-◌, ◌%◌, ◌<◌, ◌≤◌, Bool, true, false, Option, None, Some, List, []}
+use Rattle.std.proofs.Common.{◌∷◌, ◌++◌, map, length, refl, sym, ap, subst, ◌∙◌, append_assoc, append-nil, arith}
 use Rattle.std.specs.Prelude.{if◌then◌else◌, ◌==◌, ◌&&◌, not, slice_get, filter, flat_map}
 use Rattle.std.specs.FinMap as finite
 use Rattle.std.proofs.Math.Nat.{mod-lt}
@@ -26,11 +27,12 @@ use Rattle.strong_share.specs.declared.node.StrongNode.{StrongNode}
 use Rattle.strong_share.specs.declared.node.StrongNode.TheVariants.{Switch, Ctrl as Controller, Instance}
 use Rattle.strong_share.specs.Tables.{node_ended, has_closed, is_home, is_idle, all_stopped}
 use Rattle.strong_share.specs.Start.{StrongJob, IsStrongJob, numbers_of}
-use Rattle.strong_share.specs.Words.{entries, queue_order, events_of, arrived, done_numbers, is_taken, member_of, is_taken_at, is_of, fold, numbers_in, processed_of, queue_of, live_at, standby_at, live_in, standby_in, home_in, cells_at_home, outputs, outputs_of}
+use Rattle.strong_share.specs.Words.{entries, queue_order, events_of, arrivals_in, done_numbers, is_taken, member_of, is_taken_at, is_of, fold, numbers_in}
+use Rattle.strong_share.specs.Words.{processed_of, queue_of, live_at, standby_at, live_in, standby_in, home_in, cells_at_home, outputs, outputs_of}
 use Rattle.strong_share.specs.Promises.{StrongPromises, StrongCompleted}
 use Rattle.net_world.specs.Input.{IsRising}
 use Rattle.net_world.proofs.FoundPackets.{one_by_one}
-use Rattle.net_world.proofs.LogLemmas.{times-append}
+use Rattle.net_world.proofs.NumberCounts.{times-append}
 use Rattle.strong_share.proofs.Lists.{filter_among, times_filter, filter_few}
 use Rattle.strong_share.proofs.Folds.{seen, unit_taken}
 use Rattle.strong_share.proofs.Scenes.{Scene, Shows}
@@ -87,7 +89,7 @@ module _ {R : Type 0} (f : Semantics R) (laws : Laws f) (job : StrongJob) (job_i
     untaken p = not (is_taken job p)
 
     -- how often a packet is processed: no more often than it came
-    few_taken : (p : ℕ) → is_taken job p ≡ true → times p (done_numbers x.log) ≤ times p (arrived x.log)
+    few_taken : (p : ℕ) → is_taken job p ≡ true → times p (done_numbers x.log) ≤ times p (arrivals_in x.log)
     few_taken p on =
         let k = member_of job p in
         let all = all_of f job h.serves.stage h.serves.d in
@@ -100,26 +102,26 @@ module _ {R : Type 0} (f : Semantics R) (laws : Laws f) (job : StrongJob) (job_i
         let by : times p (events_of k x.log) ≡ times p (queue_order x.log) = ap (times p) (raised_of k (entries x.log) h.ordered.right)
         ∙ times_filter (λ q. member_of job q == k) p own (queue_order x.log) in
         let rest = flat_map event_in (x.back k) ++ filter (is_taken_at job k) (flat_map plain_in (x.out k)) in
-        let each : times p (events_of k x.log) + times p rest ≡ times p (filter (is_taken_at job k) (arrived x.log)) =
+        let each : times p (events_of k x.log) + times p rest ≡ times p (filter (is_taken_at job k) (arrivals_in x.log)) =
         sym (times-append p (events_of k x.log) rest) ∙ ap (times p) (h.ordered.each_member k (given_there p)) in
-        let few = filter_few (is_taken_at job k) p (arrived x.log) in
+        let few = filter_few (is_taken_at job k) p (arrivals_in x.log) in
         omega (arith, done, queued, by, each, few)
 
-    few_others : (p : ℕ) → is_taken job p ≡ false → times p (done_numbers x.log) ≤ times p (arrived x.log)
+    few_others : (p : ℕ) → is_taken job p ≡ false → times p (done_numbers x.log) ≤ times p (arrivals_in x.log)
     unfolding untaken
     few_others p off =
         let on : untaken p ≡ true = ap not off in
         let done : times p (done_numbers x.log) ≡ times p (filter untaken (done_numbers x.log)) = sym (times_filter untaken p on (done_numbers x.log)) in
         let plains = filter untaken (flat_map plain_in (x.out 0)) in
         let each : times p (filter untaken (done_numbers x.log)) + times p plains
-        ≡ times p (filter untaken (arrived x.log)) = sym (times-append p (filter untaken (done_numbers x.log)) plains) ∙ ap (times p) h.ordered.others in
-        let few = filter_few untaken p (arrived x.log) in
+        ≡ times p (filter untaken (arrivals_in x.log)) = sym (times-append p (filter untaken (done_numbers x.log)) plains) ∙ ap (times p) h.ordered.others in
+        let few = filter_few untaken p (arrivals_in x.log) in
         omega (arith, done, each, few)
 
-    came_once : (p : ℕ) → times p (arrived x.log) ≤ 1
+    came_once : (p : ℕ) → times p (arrivals_in x.log) ≤ 1
     came_once p =
         let turn = ap (times p) h.ordered.in_turn in
-        let more = times-append p (arrived x.log) (flat_map packet_in x.input) in
+        let more = times-append p (arrivals_in x.log) (flat_map packet_in x.input) in
         let all = numbered_once 1 p (numbers_of job) (one_by_one 1 job.packets job_is.numbers) in
         omega (arith, turn, more, all)
 
@@ -155,14 +157,14 @@ module _ {R : Type 0} (f : Semantics R) (laws : Laws f) (job : StrongJob) (job_i
               sym (append_assoc (processed_of f job u x.log) (filter (is_of f job u) plains) (filter (is_of f job u) coming))
               ∙ ap (λ z. (z ++ filter (is_of f job u) plains) ++ filter (is_of f job u) coming) (sym (others_of u off (done_numbers x.log)))
               ∙ ap (λ z. z ++ filter (is_of f job u) coming) (sym (filter-append (is_of f job u) (filter untaken (done_numbers x.log)) plains)
-              ∙ ap (filter (is_of f job u)) h.ordered.others ∙ others_of u off (arrived x.log))
-              ∙ sym (filter-append (is_of f job u) (arrived x.log) coming)
+              ∙ ap (filter (is_of f job u)) h.ordered.others ∙ others_of u off (arrivals_in x.log))
+              ∙ sym (filter-append (is_of f job u) (arrivals_in x.log) coming)
               ∙ ap (filter (is_of f job u)) h.ordered.in_turn;
         }
 
     pub promised : StrongPromises f job w
     promised = record {
-      in_turn = subst (λ l. IsFront (arrived l) (numbers_of job)) (sym shows.log) (record { rest = flat_map packet_in x.input; whole = h.ordered.in_turn });
+      in_turn = subst (λ l. IsFront (arrivals_in l) (numbers_of job)) (sym shows.log) (record { rest = flat_map packet_in x.input; whole = h.ordered.in_turn });
       once = subst (λ l. (p : ℕ) → times p (done_numbers l) ≤ 1) (sym shows.log) once;
       shared_order =
           subst (λ l. (u : units.Unit) → takes job.filter u ≡ true → IsFront (processed_of f job u l) (queue_of f job u l)) (sym shows.log) shared_order;
@@ -170,7 +172,7 @@ module _ {R : Type 0} (f : Semantics R) (laws : Laws f) (job : StrongJob) (job_i
           subst (λ l. (u : units.Unit) → takes job.filter u ≡ false → IsFront (processed_of f job u l) (numbers_in f job u)) (sym shows.log) other_order;
       outputs_are = subst (λ l. (u : units.Unit) → outputs_of f job u l ≡ outputs f job None (processed_of f job u l)) (sym shows.log) h.answered;
       raised_in_turn =
-          subst (λ l. (k : ℕ) → k < job.members → IsFront (events_of k l) (filter (is_taken_at job k) (arrived l))) (sym shows.log)
+          subst (λ l. (k : ℕ) → k < job.members → IsFront (events_of k l) (filter (is_taken_at job k) (arrivals_in l))) (sym shows.log)
           (λ k k_in. record {
             rest = flat_map event_in (x.back k) ++ filter (is_taken_at job k) (flat_map plain_in (x.out k));
             whole = h.ordered.each_member k k_in;
@@ -215,8 +217,8 @@ module _ {R : Type 0} (f : Semantics R) (laws : Laws f) (job : StrongJob) (job_i
       queued_is : queue_order x.log ≡ rest.d
       queued_is = rest.order ∙ ap (λ q. rest.d ++ map raised_number q) no_queue ∙ append-nil rest.d
 
-      all_came : arrived x.log ≡ numbers_of job
-      all_came = sym (append-nil (arrived x.log)) ∙ ap (λ ms. arrived x.log ++ flat_map packet_in ms) (sym no_input) ∙ h.ordered.in_turn
+      all_came : arrivals_in x.log ≡ numbers_of job
+      all_came = sym (append-nil (arrivals_in x.log)) ∙ ap (λ ms. arrivals_in x.log ++ flat_map packet_in ms) (sym no_input) ∙ h.ordered.in_turn
 
       raised_all : (k : ℕ) → k < job.members → events_of k x.log ≡ filter (is_taken_at job k) (numbers_of job)
       raised_all k k_in =
@@ -316,7 +318,7 @@ module _ {R : Type 0} (f : Semantics R) (laws : Laws f) (job : StrongJob) (job_i
 
       pub completed : StrongCompleted f job w
       completed = record {
-        all_came = subst (λ l. arrived l ≡ numbers_of job) (sym shows.log) all_came;
+        all_came = subst (λ l. arrivals_in l ≡ numbers_of job) (sym shows.log) all_came;
         each_once = subst (λ l. (p : ℕ) → times p (done_numbers l) ≡ times p (numbers_of job)) (sym shows.log) each_once;
         shared_whole = subst (λ l. (u : units.Unit) → takes job.filter u ≡ true → processed_of f job u l ≡ queue_of f job u l) (sym shows.log) shared_whole;
         other_whole = subst (λ l. (u : units.Unit) → takes job.filter u ≡ false → processed_of f job u l ≡ numbers_in f job u) (sym shows.log) other_whole;

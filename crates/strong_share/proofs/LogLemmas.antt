@@ -11,7 +11,8 @@ use Rattle.net_world.proofs.LogLemmas as log_lemmas
 use Rattle.strong_share.specs.declared.note.StrongNote.{StrongNote}
 use Rattle.strong_share.specs.declared.note.StrongNote.TheVariants.{Queued}
 use Rattle.strong_share.specs.Start.{StrongJob}
-use Rattle.strong_share.specs.Words.{inner_note, inner_notes, entry_in, entries, queue_order, events_of, arrived, done, done_numbers, is_of, outputs_of, processed_of, outputs}
+use Rattle.strong_share.specs.Words.{inner_note, inner_notes, entry_in, entries, queue_order, events_of}
+use Rattle.strong_share.specs.Words.{arrivals_in, dones_in, done_numbers, is_of, outputs_of, processed_of, outputs}
 
 -- the packets in entries, and those that a member raised
 abbrev pub entry_numbers : List (ℕ × ℕ) → List ℕ
@@ -37,24 +38,24 @@ events_of-queued k p j xs =
     one true = refl
     one false = refl
 
-pub arrived-append : (xs ys : List StrongNote) → arrived (xs ++ ys) ≡ arrived xs ++ arrived ys
-arrived-append xs ys = ap log.arrived (filter_map-append inner_note xs ys) ∙ log_lemmas.arrived-append (inner_notes xs) (inner_notes ys)
+pub arrived-append : (xs ys : List StrongNote) → arrivals_in (xs ++ ys) ≡ arrivals_in xs ++ arrivals_in ys
+arrived-append xs ys = ap log.arrivals_in (filter_map-append inner_note xs ys) ∙ log_lemmas.arrived-append (inner_notes xs) (inner_notes ys)
 
-pub done-append : (xs ys : List StrongNote) → done (xs ++ ys) ≡ done xs ++ done ys
-done-append xs ys = ap log.done (filter_map-append inner_note xs ys) ∙ log_lemmas.done-append (inner_notes xs) (inner_notes ys)
+pub done-append : (xs ys : List StrongNote) → dones_in (xs ++ ys) ≡ dones_in xs ++ dones_in ys
+done-append xs ys = ap log.dones_in (filter_map-append inner_note xs ys) ∙ log_lemmas.done-append (inner_notes xs) (inner_notes ys)
 
 pub done_numbers-append : (xs ys : List StrongNote) → done_numbers (xs ++ ys) ≡ done_numbers xs ++ done_numbers ys
-done_numbers-append xs ys = ap (map (λ d. d.number)) (done-append xs ys) ∙ map-append (λ (d : log.Done). d.number) (done xs) (done ys)
+done_numbers-append xs ys = ap (map (λ d. d.number)) (done-append xs ys) ∙ map-append (λ (d : log.Done). d.number) (dones_in xs) (dones_in ys)
 
 -- notes of which nothing is read but what arrived
 pub record IsQuiet (old new : List StrongNote) : Type 0 where
   pub entries_stay : entries new ≡ entries old
-  pub done_stays : done new ≡ done old
+  pub done_stays : dones_in new ≡ dones_in old
 
-pub quiet_log : (old more : List StrongNote) → entries more ≡ [] → done more ≡ [] → IsQuiet old (old ++ more)
+pub quiet_log : (old more : List StrongNote) → entries more ≡ [] → dones_in more ≡ [] → IsQuiet old (old ++ more)
 quiet_log old more none undone = record {
   entries_stay = entries-append old more ∙ ap (λ z. entries old ++ z) none ∙ append-nil (entries old);
-  done_stays = done-append old more ∙ ap (λ z. done old ++ z) undone ∙ append-nil (done old);
+  done_stays = done-append old more ∙ ap (λ z. dones_in old ++ z) undone ∙ append-nil (dones_in old);
 }
 
 module _ {R : Type 0} (f : Semantics R) (job : StrongJob) where

@@ -26,7 +26,8 @@ use Rattle.nf_msgs.specs.declared.note.Note.{Note}
 use Rattle.nf_msgs.specs.declared.note.Note.TheVariants.{Processed}
 use Rattle.nf_msgs.specs.Nodes.{switch_node, controller_node}
 use Rattle.instance_worker.specs.declared.instance.Instance.{Instance as InstanceState}
-use Rattle.instance_worker.specs.Instance.{Step, still, tells, tells_and_notes, told, chunk_told, processed, on_carry, on_sync, instance_step, with_records, kept}
+use Rattle.instance_worker.specs.Instance.{Step, still, tell_step, tells_and_notes, to_controller, chunk_told}
+use Rattle.instance_worker.specs.Instance.{process_step, on_carry, on_sync, instance_step, with_records, keep_note}
 use Rattle.strong_share.specs.Tables.{the_share}
 use Rattle.strong_share.specs.Start.{StrongJob}
 
@@ -53,19 +54,19 @@ pub record IsMember {F R : Type 0} (job : StrongJob) (k : ℕ) (i : InstanceStat
 module _ {F R : Type 0} (f : Semantics R) (job : StrongJob) where
   -- a packet that the rule takes is raised
   pub raises : (k : ℕ) (i : InstanceState F R) (c : FullCell) → IsMember job k i → matches job.filter (flow_of job.site c.packet).0 ≡ true
-      → instance_step f i (Carry mark.Plain c) ≡ tells i (Event the_share c)
+      → instance_step f i (Carry mark.Plain c) ≡ tell_step i (Event the_share c)
   unfolding on_carry
   raises k i c ok on = let rules = ok.rules in let site = ok.site in rw (rules, site, on) refl
 
   -- another one is processed
   pub processes : (k : ℕ) (i : InstanceState F R) (c : FullCell) → IsMember job k i → matches job.filter (flow_of job.site c.packet).0 ≡ false
-      → instance_step f i (Carry mark.Plain c) ≡ processed f i mark.Plain c
+      → instance_step f i (Carry mark.Plain c) ≡ process_step f i mark.Plain c
   unfolding on_carry
   processes k i c ok off = let rules = ok.rules in let site = ok.site in rw (rules, site, off) refl
 
   -- and so is one that the controller serves
   pub serves : (i : InstanceState F R) (home : Bool) (c : FullCell) → instance_step f i (Carry (mark.Shared the_share home) c)
-      ≡ processed f i (mark.Shared the_share home) c
+      ≡ process_step f i (mark.Shared the_share home) c
   unfolding on_carry
   serves i home c = refl
 
@@ -83,8 +84,8 @@ module _ {F R : Type 0} (f : Semantics R) (job : StrongJob) where
     pub notes : did.notes ≡ Processed c.packet.number i.index (output_for f i.site (finite.get (part i.table live) (unit_at f.kind i.site c.packet)) c.packet) ∷
         []
 
-  pub plain_leaves : (i : InstanceState F R) (c : FullCell) → Leaves i true c [] (processed f i mark.Plain c)
-  unfolding processed
+  pub plain_leaves : (i : InstanceState F R) (c : FullCell) → Leaves i true c [] (process_step f i mark.Plain c)
+  unfolding process_step
   plain_leaves i c = record {
     rules = refl;
     site = refl;
@@ -99,8 +100,8 @@ module _ {F R : Type 0} (f : Semantics R) (job : StrongJob) where
   pub shared_leaves : (i : InstanceState F R) (home : Bool) (c : FullCell) (r : R)
       → kept_after f i.site (finite.get (part i.table home) (unit_at f.kind i.site c.packet)) c.packet ≡ Some r
       → Leaves i home c ((controller_node, Shared the_share (record_chunk f (unit_at f.kind i.site c.packet) r)) ∷ [])
-      (processed f i (mark.Shared the_share home) c)
-  unfolding processed
+      (process_step f i (mark.Shared the_share home) c)
+  unfolding process_step
   shared_leaves i home c r is =
       let u = unit_at f.kind i.site c.packet in
       let records = after_packet f i.site (part i.table home) c.packet in
@@ -115,12 +116,12 @@ module _ {F R : Type 0} (f : Semantics R) (job : StrongJob) where
         ended = refl;
         own = λ v. ap (λ t. finite.get t v) (part_put i.table home records) ∙ get-after_packet f i.site (part i.table home) c.packet v;
         other = part_left i.table home records;
-        sends = ap (λ o. told (chunk_told the_share (option_map (record_chunk f u) o)) ++ (switch_node, Credit c) ∷ []) found;
+        sends = ap (λ o. to_controller (chunk_told the_share (option_map (record_chunk f u) o)) ++ (switch_node, Credit c) ∷ []) found;
         notes = refl;
       }
 
   -- What a Sync leaves.
-  pub record Takes_record (i : InstanceState F R) (home : Bool) (u : units.Unit) (r : R) (did : Step F R) : Type 0 where
+  pub record TakesRecord (i : InstanceState F R) (home : Bool) (u : units.Unit) (r : R) (did : Step F R) : Type 0 where
     pub rules : did.node.rules ≡ i.rules
     pub site : did.node.site ≡ i.site
     pub index : did.node.index ≡ i.index
@@ -130,10 +131,10 @@ module _ {F R : Type 0} (f : Semantics R) (job : StrongJob) where
     pub sends : did.sends ≡ (controller_node, Synced the_share) ∷ []
     pub note : Note
     pub notes : did.notes ≡ note ∷ []
-    pub quiet : note ≡ kept i the_share (record_chunk f u r ∷ [])
+    pub quiet : note ≡ keep_note i the_share (record_chunk f u r ∷ [])
 
   pub sync_leaves : Laws f → (i : InstanceState F R) (home : Bool) (u : units.Unit) (r : R) → f.is_valid u r ≡ true
-      → Takes_record i home u r (instance_step f i (Sync home the_share (record_chunk f u r ∷ [])))
+      → TakesRecord i home u r (instance_step f i (Sync home the_share (record_chunk f u r ∷ [])))
   unfolding on_sync IsDistinct
   sync_leaves laws i home u r valid =
       let chunks : List Chunk = record_chunk f u r ∷ [] in
@@ -143,8 +144,8 @@ module _ {F R : Type 0} (f : Semantics R) (job : StrongJob) where
       let read = made_read f laws chunks ((u, r) ∷ []) made in
       let good = read.good in
       let records = replaced_by (part i.table home) (records_of f chunks) in
-      let step : Step F R = tells_and_notes (with_records f i home chunks) (Synced the_share) (kept i the_share chunks) in
-      subst (Takes_record i home u r) (sym (ap (λ b. if b then step else still i) good)) (record {
+      let step : Step F R = tells_and_notes (with_records f i home chunks) (Synced the_share) (keep_note i the_share chunks) in
+      subst (TakesRecord i home u r) (sym (ap (λ b. if b then step else still i) good)) (record {
         rules = refl;
         site = refl;
         index = refl;
@@ -157,7 +158,7 @@ module _ {F R : Type 0} (f : Semantics R) (job : StrongJob) where
             ∙ coming (finite.get (part i.table home) v) (same_unit v u) r;
         other = part_left i.table home records;
         sends = refl;
-        note = kept i the_share chunks;
+        note = keep_note i the_share chunks;
         notes = refl;
         quiet = refl;
       })

@@ -18,12 +18,13 @@ use Rattle.actor_net.specs.Histories.{sent_for}
 use Rattle.actor_net.proofs.WeightLaws.{Each, weigh}
 use Rattle.strong_share.specs.Tables.{the_share, is_home}
 use Rattle.strong_share.specs.Start.{StrongJob}
-use Rattle.strong_share.specs.Words.{entries, events_of, arrived, done_numbers, is_taken, member_of, is_taken_at, outputs, processed_of, outputs_of}
+use Rattle.strong_share.specs.Words.{entries, events_of, arrivals_in, done_numbers, is_taken, member_of, is_taken_at, outputs, processed_of, outputs_of}
 use Rattle.strong_share.proofs.Lists.{put, one_two}
 use Rattle.strong_share.proofs.MemberRows.{raises}
 use Rattle.strong_share.proofs.Scenes.{Scene, member_did}
 use Rattle.strong_share.proofs.ServedPackets.{number, one_if, IsGenuine, Agrees, serves_alike, tight_alike}
-use Rattle.strong_share.proofs.Reading.{packet_in, plain_in, event_in, answer_in, stop_in, taken_has, taken_first, more_at, none_at, each_taken, head_of, taken_weighs}
+use Rattle.strong_share.proofs.Reading.{packet_in, plain_in, event_in, answer_in, stop_in, taken_has}
+use Rattle.strong_share.proofs.Reading.{taken_first, more_at, none_at, each_taken, head_of, taken_weighs}
 use Rattle.strong_share.proofs.Holding.{out_label, IsRight, ends_left, sight, Holds}
 use Rattle.strong_share.proofs.LogLemmas.{entry_numbers}
 use Rattle.strong_share.proofs.MemberScenes.{put_own, left_by, labelled_left, ends_left_by}
@@ -60,7 +61,7 @@ module _ {F R : Type 0} (f : Semantics R) (job : StrongJob) (x : Scene F R) (j :
           (record { rules = refl; site = refl; index = refl }) (each_taken (out_label job) job.members x.out j (Carry mark.Plain c) rest j_in is h.labelled.out)
           (record { genuine = genuine.0; taken = taken; member_is = genuine.1; there = j_in }, tt) tt;
       ordered = record {
-        in_turn = ap (λ l. arrived l ++ flat_map packet_in x.input) (append-nil x.log) ∙ h.ordered.in_turn;
+        in_turn = ap (λ l. arrivals_in l ++ flat_map packet_in x.input) (append-nil x.log) ∙ h.ordered.in_turn;
         each_member = λ k k_in.
             ap (λ l. events_of k l ++ (flat_map event_in (x.back k ++ (if k == j then Event the_share c ∷ [] else []))
             ++ filter (is_taken_at job k) (flat_map plain_in (put x.out j rest k)))) (append-nil x.log)
@@ -70,11 +71,11 @@ module _ {F R : Type 0} (f : Semantics R) (job : StrongJob) (x : Scene F R) (j :
             (taken_first plain_in x.out j (Carry mark.Plain c) rest is k)
             ∙ ap (λ z. events_of k x.log ++ z) (at_member k)
             ∙ h.ordered.each_member k k_in
-            ∙ ap (λ l. filter (is_taken_at job k) (arrived l)) (sym (append-nil x.log));
+            ∙ ap (λ l. filter (is_taken_at job k) (arrivals_in l)) (sym (append-nil x.log));
         others = ap (λ l. filter untaken (done_numbers l) ++ filter untaken (flat_map plain_in (put x.out j rest 0))) (append-nil x.log)
             ∙ ap (λ z. filter untaken (done_numbers x.log) ++ z) at_first
             ∙ h.ordered.others
-            ∙ ap (λ l. filter untaken (arrived l)) (sym (append-nil x.log));
+            ∙ ap (λ l. filter untaken (arrivals_in l)) (sym (append-nil x.log));
         right = subst (λ l. Each (IsRight job) (entries l)) (sym (append-nil x.log)) h.ordered.right;
       };
       serves = serves_alike f job (sight job x) (sight job raised_scene) agrees h.serves;
@@ -144,7 +145,7 @@ module _ {F R : Type 0} (f : Semantics R) (job : StrongJob) (x : Scene F R) (j :
     labelled = labelled_left f job x j j_in h stopped (put x.out j rest) x.to (Final ∷ []) [] [] (record { rules = refl; site = refl; index = refl })
         (each_taken (out_label job) job.members x.out j Stop rest j_in is h.labelled.out) (tt, tt) tt;
     ordered = record {
-      in_turn = ap (λ l. arrived l ++ flat_map packet_in x.input) (append-nil x.log) ∙ h.ordered.in_turn;
+      in_turn = ap (λ l. arrivals_in l ++ flat_map packet_in x.input) (append-nil x.log) ∙ h.ordered.in_turn;
       each_member = λ k k_in.
           ap (λ l. events_of k l ++ (flat_map event_in (x.back k ++ (if k == j then Final ∷ [] else []))
           ++ filter (is_taken_at job k) (flat_map plain_in (put x.out j rest k)))) (append-nil x.log)
@@ -152,13 +153,13 @@ module _ {F R : Type 0} (f : Semantics R) (job : StrongJob) (x : Scene F R) (j :
           (none_at event_in (x.back k) (Final ∷ []) (k == j) refl)
           ∙ ap (λ z. events_of k x.log ++ (flat_map event_in (x.back k) ++ filter (is_taken_at job k) z)) (taken_has plain_in x.out j Stop rest is refl k)
           ∙ h.ordered.each_member k k_in
-          ∙ ap (λ l. filter (is_taken_at job k) (arrived l)) (sym (append-nil x.log));
+          ∙ ap (λ l. filter (is_taken_at job k) (arrivals_in l)) (sym (append-nil x.log));
       others = ap (λ l. filter (λ p. not (is_taken job p)) (done_numbers l) ++ filter (λ p. not (is_taken job p)) (flat_map plain_in (put x.out j rest 0)))
           (append-nil x.log)
           ∙ ap (λ z. filter (λ p. not (is_taken job p)) (done_numbers x.log) ++ filter (λ p. not (is_taken job p)) z)
           (taken_has plain_in x.out j Stop rest is refl 0)
           ∙ h.ordered.others
-          ∙ ap (λ l. filter (λ p. not (is_taken job p)) (arrived l)) (sym (append-nil x.log));
+          ∙ ap (λ l. filter (λ p. not (is_taken job p)) (arrivals_in l)) (sym (append-nil x.log));
       right = subst (λ l. Each (IsRight job) (entries l)) (sym (append-nil x.log)) h.ordered.right;
     };
     serves = serves_alike f job (sight job x) (sight job stopped_scene) agrees h.serves;

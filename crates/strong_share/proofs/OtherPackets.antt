@@ -1,5 +1,6 @@
 -- The first member's row for a packet that the filter doesn't match keeps what every scene of a run keeps.
-use Rattle.std.proofs.Common.{◌≡◌, ℕ, ◌+◌, ◌<◌, Bool, true, false, Option, None, Some, List, [], ◌∷◌, ◌++◌, map, refl, sym, ap, subst, ◌∙◌, append_assoc, append-nil}
+use Rattle.std.proofs.Common.{◌≡◌, ℕ, ◌+◌, ◌<◌, Bool, true, false, Option, None, Some, List, []}
+use Rattle.std.proofs.Common.{◌∷◌, ◌++◌, map, refl, sym, ap, subst, ◌∙◌, append_assoc, append-nil}
 use Rattle.std.specs.Prelude.{if◌then◌else◌, ◌==◌, ◌&&◌, not, filter, flat_map}
 use Rattle.std.proofs.lemmas.List.{map-append}
 use Rattle.std.proofs.lemmas.Bool.Decides.{Decides-eqb}
@@ -17,7 +18,7 @@ use Rattle.packet_pool.specs.Pool.{FullCell}
 use Rattle.nf_msgs.specs.declared.msg.Msg.{Msg}
 use Rattle.nf_msgs.specs.declared.msg.Msg.TheVariants.{Carry, Credit}
 use Rattle.nf_msgs.specs.declared.note.Note.TheVariants.{Processed}
-use Rattle.instance_worker.specs.Instance.{Step, processed as instance_processed, instance_step, kept}
+use Rattle.instance_worker.specs.Instance.{Step, process_step as instance_processed, instance_step, keep_note}
 use Rattle.actor_net.specs.Histories.{sent_for}
 use Rattle.actor_net.proofs.WeightLaws.{Each}
 use Rattle.net_world.specs.Log as log
@@ -25,7 +26,8 @@ use Rattle.strong_share.specs.declared.note.StrongNote.{StrongNote}
 use Rattle.strong_share.specs.declared.note.StrongNote.TheVariants.{Inner}
 use Rattle.strong_share.specs.Tables.{is_home}
 use Rattle.strong_share.specs.Start.{StrongJob, IsStrongJob}
-use Rattle.strong_share.specs.Words.{entries, events_of, arrived, done, done_numbers, packet_numbered, is_taken, member_of, is_taken_at, is_of, fold, outputs, processed_of, outputs_of}
+use Rattle.strong_share.specs.Words.{entries, events_of, arrivals_in, dones_in, done_numbers, packet_numbered}
+use Rattle.strong_share.specs.Words.{is_taken, member_of, is_taken_at, is_of, fold, outputs, processed_of, outputs_of}
 use Rattle.strong_share.proofs.Lists.{put, filter_one_more, zero_two}
 use Rattle.strong_share.proofs.Folds.{unit, after, seen, unit_taken, kept_is, outputs-append, unit_own, unit_swapped}
 use Rattle.strong_share.proofs.MemberRows.{Leaves, processes, plain_leaves}
@@ -52,13 +54,14 @@ module _ {R : Type 0} (f : Semantics R) (laws : Laws f) (job : StrongJob) (job_i
       last false = refl
 
   -- the answer is that of one instance, where the record that was stepped is what is kept after all packets of the unit before
-  pub answered_more : (old : List StrongNote) (p i : ℕ) (out : Output) (kept : Option R) → kept ≡ fold f job None (processed_of f job (unit f job p) old)
-      → out ≡ output_for f job.site kept (packet_numbered job p)
+  pub answered_more : (old : List StrongNote) (p i : ℕ) (out : Output) (keep_note : Option R)
+      → keep_note ≡ fold f job None (processed_of f job (unit f job p) old)
+      → out ≡ output_for f job.site keep_note (packet_numbered job p)
       → ((u : units.Unit) → outputs_of f job u old ≡ outputs f job None (processed_of f job u old)) → (u : units.Unit)
       → outputs_of f job u (old ++ Inner (Processed p i out) ∷ []) ≡ outputs f job None (processed_of f job u (old ++ Inner (Processed p i out) ∷ []))
-  answered_more old p i out kept kept_is out_is h u =
+  answered_more old p i out keep_note kept_is out_is h u =
       ap (λ ds. map (λ e. e.output) (filter (λ e. is_of f job u e.number) ds)) (done-append old (Inner (Processed p i out) ∷ []))
-      ∙ answers_more u (done old) (record { number = p; node = i + 2; output = out })
+      ∙ answers_more u (dones_in old) (record { number = p; instance = i; output = out })
       ∙ ap (λ z. z ++ (if is_of f job u p then out ∷ [] else [])) (h u)
       ∙ elim (is_of f job u p) as (λ b. is_of f job u p ≡ b → outputs f job None (processed_of f job u old) ++ (if b then out ∷ [] else [])
       ≡ outputs f job None (processed_of f job u old ++ (if b then p ∷ [] else []))) [
@@ -140,8 +143,8 @@ module _ {F R : Type 0} (f : Semantics R) (laws : Laws f) (job : StrongJob) (job
   processed_is : done_numbers other_scene.log ≡ done_numbers x.log ++ p ∷ []
   processed_is = done_numbers-append x.log (Inner (Processed p (x.member 0).index out_of) ∷ [])
 
-  no_arrival : arrived other_scene.log ≡ arrived x.log
-  no_arrival = arrived-append x.log (Inner (Processed p (x.member 0).index out_of) ∷ []) ∙ append-nil (arrived x.log)
+  no_arrival : arrivals_in other_scene.log ≡ arrivals_in x.log
+  no_arrival = arrived-append x.log (Inner (Processed p (x.member 0).index out_of) ∷ []) ∙ append-nil (arrivals_in x.log)
 
   no_raise : entries other_scene.log ≡ entries x.log
   no_raise = entries-append x.log (Inner (Processed p (x.member 0).index out_of) ∷ []) ∙ append-nil (entries x.log)

@@ -1,5 +1,6 @@
 -- The controller's rows for the end of the input and for a packet that a member raises keep what every scene of a run keeps.
-use Rattle.std.proofs.Common.{◌≡◌, ℕ, suc, ◌+◌, ◌<◌, true, false, None, List, [], ◌∷◌, ◌++◌, map, refl, sym, ap, subst, ◌∙◌, append_assoc, append-nil, arith, Some}
+use Rattle.std.proofs.Common.{◌≡◌, ℕ, suc, ◌+◌, ◌<◌, true, false, None, List, [], ◌∷◌, ◌++◌, map}
+use Rattle.std.proofs.Common.{refl, sym, ap, subst, ◌∙◌, append_assoc, append-nil, arith, Some}
 use Rattle.std.specs.Prelude.{if◌then◌else◌, ◌==◌, not, filter, flat_map}
 use Rattle.std.proofs.lemmas.Bool.Decides.{Decides-eqb, Decides-ltb}
 use Rattle.nf_function.specs.declared.unit.Unit as units
@@ -17,10 +18,11 @@ use Rattle.strong_share.specs.declared.queued_packet.QueuedPacket.{QueuedPacket}
 use Rattle.strong_share.specs.Parts.{ControllerState}
 use Rattle.strong_share.specs.Tables.{serve_row, serve_step, with_event, controller_step, is_home, the_share, member_at, row_of_port, row_of_member}
 use Rattle.strong_share.specs.Start.{StrongJob}
-use Rattle.strong_share.specs.Words.{entries, events_of, queue_order, arrived, done, is_taken, is_taken_at, is_of, outputs, outputs_of, processed_of}
+use Rattle.strong_share.specs.Words.{entries, events_of, queue_order, arrivals_in, dones_in, is_taken, is_taken_at, is_of, outputs, outputs_of, processed_of}
 use Rattle.strong_share.proofs.Lists.{put, two_zero, swapped, zero_two}
 use Rattle.strong_share.proofs.Scenes.{Scene, controller_did}
-use Rattle.strong_share.proofs.ServedPackets.{number, Sight, served, served_from, IsRaised, Serves, Agrees, serves_alike, tight_alike, serves_queued, serves_front}
+use Rattle.strong_share.proofs.ServedPackets.{number, Sight, served, served_from, IsRaised, Serves, Agrees}
+use Rattle.strong_share.proofs.ServedPackets.{serves_alike, tight_alike, serves_queued, serves_front}
 use Rattle.strong_share.proofs.Reading.{packet_in, plain_in, event_in, answer_in, end_in, stop_in, taken_has, taken_first, each_taken, head_of, sent_one}
 use Rattle.strong_share.proofs.Holding.{up_label, down_label, back_label, Labelled, IsRight, Ordered, Ends, ends_left, sight, Holds}
 use Rattle.strong_share.proofs.LogLemmas.{arrived-append, entries-append, queue_order-append, events_of-queued, done-append}
@@ -237,7 +239,8 @@ module _ {F R : Type 0} (f : Semantics R) (job : StrongJob) where
       member = h.labelled.member;
     };
     ordered = record {
-      in_turn = ap (λ z. z ++ flat_map packet_in x.input) (arrived-append x.log (Queued (number c) j ∷ []) ∙ append-nil (arrived x.log)) ∙ h.ordered.in_turn;
+      in_turn = ap (λ z. z ++ flat_map packet_in x.input) (arrived-append x.log (Queued (number c) j ∷ []) ∙ append-nil (arrivals_in x.log))
+          ∙ h.ordered.in_turn;
       each_member = λ k k_in.
           ap (λ z. z ++ (flat_map event_in (put x.back j rest k) ++ filter (is_taken_at job k) (flat_map plain_in (x.out k))))
           (events_of-queued k (number c) j x.log)
@@ -245,9 +248,9 @@ module _ {F R : Type 0} (f : Semantics R) (job : StrongJob) where
           (taken_first event_in x.back j (Event op c) rest is k)
           ∙ at_member k (filter (is_taken_at job k) (flat_map plain_in (x.out k)))
           ∙ h.ordered.each_member k k_in
-          ∙ ap (filter (is_taken_at job k)) (sym (arrived-append x.log (Queued (number c) j ∷ []) ∙ append-nil (arrived x.log)));
+          ∙ ap (filter (is_taken_at job k)) (sym (arrived-append x.log (Queued (number c) j ∷ []) ∙ append-nil (arrivals_in x.log)));
       others = ap (λ ds. filter (λ p. not (is_taken job p)) (map (λ d. d.number) ds) ++ filter (λ p. not (is_taken job p)) (flat_map plain_in (x.out 0))) undone
-          ∙ h.ordered.others ∙ ap (filter (λ p. not (is_taken job p))) (sym (arrived-append x.log (Queued (number c) j ∷ []) ∙ append-nil (arrived x.log)));
+          ∙ h.ordered.others ∙ ap (filter (λ p. not (is_taken job p))) (sym (arrived-append x.log (Queued (number c) j ∷ []) ∙ append-nil (arrivals_in x.log)));
       right = subst (Each (IsRight job)) (sym (entries-append x.log (Queued (number c) j ∷ []))) (each-append (IsRight job) (entries x.log)
           ((number c, j) ∷ []) h.ordered.right ((ok.taken, ok.member_is), tt));
     };
@@ -264,8 +267,8 @@ module _ {F R : Type 0} (f : Semantics R) (job : StrongJob) where
       ok : IsRaised job (record { cell = c; member = j })
       ok = (head_of (back_label job j) (x.back j) (Event op c) rest is (h.labelled.back j j_in)).0
 
-      undone : done (x.log ++ Queued (number c) j ∷ []) ≡ done x.log
-      undone = done-append x.log (Queued (number c) j ∷ []) ∙ append-nil (done x.log)
+      undone : dones_in (x.log ++ Queued (number c) j ∷ []) ≡ dones_in x.log
+      undone = done-append x.log (Queued (number c) j ∷ []) ∙ append-nil (dones_in x.log)
 
       agrees : Agrees f job (queued_sight x j c) (sight job (queued_in x j rest c))
       agrees = record {

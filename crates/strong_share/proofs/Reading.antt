@@ -1,5 +1,6 @@
 -- What is read off the messages of a scene, and how it changes where one is taken and others are sent.
-use Rattle.std.proofs.Common.{◌≡◌, ℕ, zero, suc, ◌+◌, ◌<◌, ◌≤◌, Bool, true, false, List, [], ◌∷◌, ◌++◌, refl, sym, ap, subst, ◌∙◌, append_assoc, append-nil, arith}
+use Rattle.std.proofs.Common.{◌≡◌, ℕ, zero, suc, ◌+◌, ◌<◌, ◌≤◌, Bool, true, false, List, [], ◌∷◌}
+use Rattle.std.proofs.Common.{◌++◌, refl, sym, ap, subst, ◌∙◌, append_assoc, append-nil, arith}
 use Rattle.std.specs.Prelude.{if◌then◌else◌, ◌==◌, flat_map}
 use Rattle.std.proofs.lemmas.Bool.Decides.{nat_tests, Decides-eqb}
 use Rattle.std.proofs.lemmas.List.Concat.{flat_map-append}
@@ -11,7 +12,7 @@ use Rattle.actor_net.specs.Histories.{sent_for}
 use Rattle.actor_net.proofs.WeightLaws.{Each, each-append, weigh}
 use Rattle.strong_share.proofs.Lists.{put, two_two, swapped}
 use Rattle.strong_share.proofs.ServedPackets.{number, Answer, Answer.Told, Answer.Took}
-use Rattle.switch_node.specs.Switch.{stops}
+use Rattle.switch_node.specs.Switch.{stop_messages}
 
 -- the packet of an item of the input, of a plain message and of an event
 abbrev pub packet_in : Msg → List ℕ
@@ -116,12 +117,12 @@ module _ (own : ℕ → List Msg) (sends : ℕ → List (ℕ × Msg)) (none : se
     | false ↦ λ off. (let less : k < n = grind (arith, nat_tests, there, off) in append-nil (sent_for (k + 2) (sends n)) ∙ sent_each n k less)
   ] refl
 
-pub stops_sent : (n k : ℕ) → k < n → sent_for (k + 2) (stops n) ≡ Stop ∷ []
+pub stops_sent : (n k : ℕ) → k < n → sent_for (k + 2) (stop_messages n) ≡ Stop ∷ []
 stops_sent =
-    sent_each (λ k. Stop ∷ []) stops refl (λ i k. sent-append (k + 2) (stops i) ((instance_node i, Stop) ∷ [])
-    ∙ ap (λ z. sent_for (k + 2) (stops i) ++ z) (sent_one i k Stop))
+    sent_each (λ k. Stop ∷ []) stop_messages refl (λ i k. sent-append (k + 2) (stop_messages i) ((instance_node i, Stop) ∷ [])
+    ∙ ap (λ z. sent_for (k + 2) (stop_messages i) ++ z) (sent_one i k Stop))
 
-pub stops_other : (n to : ℕ) → ((i : ℕ) → (i + 2 == to) ≡ false) → sent_for to (stops n) ≡ []
+pub stops_other : (n to : ℕ) → ((i : ℕ) → (i + 2 == to) ≡ false) → sent_for to (stop_messages n) ≡ []
 stops_other zero to apart = refl
-stops_other (suc n) to apart = sent-append to (stops n) ((instance_node n, Stop) ∷ [])
+stops_other (suc n) to apart = sent-append to (stop_messages n) ((instance_node n, Stop) ∷ [])
     ∙ ap (λ z. z ++ sent_for to ((instance_node n, Stop) ∷ [])) (stops_other n to apart) ∙ ap (λ b. (if b then Stop ∷ [] else []) ++ []) (apart n)

@@ -16,7 +16,9 @@ use Rattle.strong_share.specs.Start.{StrongJob, IsStrongJob}
 use Rattle.strong_share.specs.Words.{is_taken, is_of}
 use Rattle.strong_share.proofs.Lists.{put, filter_one_more, filter_no_more}
 use Rattle.strong_share.proofs.Folds.{unit, after, seen, unit_taken, seen_more, seen_same}
-use Rattle.strong_share.proofs.ServedPackets.{raised_number, Answer.Told, Answer.Took, Turn, Turn.Going, Turn.Coming, is_going, is_pending, one_if, Stage.Carries, Stage.Tells, Stage.Spreads, Sight, IsRaised, record_after, chunk_after, goes_to, comes_from, to_of, answers_of, serving_of, all_of, waits_of, seen_by, FitsSpread, FitsStage, expected, Serves}
+use Rattle.strong_share.proofs.ServedPackets.{raised_number, Answer.Told, Answer.Took, Turn, Turn.Going, Turn.Coming, is_going, is_pending, one_if}
+use Rattle.strong_share.proofs.ServedPackets.{Stage.Carries, Stage.Tells, Stage.Spreads, Sight, IsRaised, record_after, chunk_after, goes_to, comes_from}
+use Rattle.strong_share.proofs.ServedPackets.{to_of, answers_of, serving_of, all_of, waits_of, seen_by, FitsSpread, FitsStage, expected, Serves}
 use Rattle.strong_share.proofs.Turns.{pending_put}
 
 module _ {R : Type 0} (f : Semantics R) (laws : Laws f) (job : StrongJob) (is : IsStrongJob f.kind job) where

@@ -11,14 +11,14 @@ use Rattle.actor_net.specs.declared.schedule.Schedule.{Schedule}
 use Rattle.actor_net.specs.declared.replays.ReplayFault.{ReplayFault}
 use Rattle.actor_net.specs.declared.replays.ReplayFault.TheVariants.{NoMemory}
 use Rattle.actor_net.specs.Network.{Network, IsRun, is_done, run}
-use Rattle.actor_net.specs.Replays.{replayed}
+use Rattle.actor_net.specs.Replays.{replay_of}
 use Rattle.actor_net.specs.Schedules.{StopsShort}
 use Rattle.actor_net.proofs.ReplayLaws.{replayed_ok}
 use Rattle.strong_share.specs.declared.note.StrongNote.{StrongNote}
 use Rattle.strong_share.specs.declared.node.StrongNode.{StrongNode}
 use Rattle.strong_share.specs.Tables.{node_ready, node_step, node_ended}
 use Rattle.strong_share.specs.Start.{StrongJob, IsStrongJob, strong_start}
-use Rattle.strong_share.specs.Runs.{LeadsTo, chosen}
+use Rattle.strong_share.specs.Runs.{LeadsTo, choices_of}
 use Rattle.strong_share.specs.Promises.{StrongPromises, StrongCompleted, StrongEnds}
 use Rattle.strong_share.proofs.Runs.{run_promises, run_completed, run_end, too_many}
 
@@ -50,31 +50,32 @@ module _ (F : Type 0) {R : Type 0} (f : Semantics R) (laws : Laws f) (alloc : Gl
   -- by a schedule
   module _ (schedule : Schedule) (w : World) (start : w ≡ first) where
     pub record Simulated {E : Type 0} (result : Result (World × List Choice) E) : Type 0 where
-      pub choices : IfOk result (λ r. r.1 ≡ chosen f first schedule)
+      pub choices : IfOk result (λ r. r.1 ≡ choices_of f first schedule)
       pub leads : IfOk result (λ r. LeadsTo f first r.1 r.0)
       pub promises : IfOk result (λ r. StrongPromises f job r.0)
       pub completed : IfOk result (λ r. StrongCompleted f job r.0)
       pub ends : IfOk result (λ r. StrongEnds job r.1 r.0)
 
-    pub simulated : {E : Type 0} (result : Result (World × List Choice) E) → IfOk result (λ r. r.1 ≡ chosen f w schedule)
+    pub simulated : {E : Type 0} (result : Result (World × List Choice) E) → IfOk result (λ r. r.1 ≡ choices_of f w schedule)
         → IfOk result (λ r. r.0 ≡ run (node_step f) r.1 w) → IfOk result (λ r. IsRun node_ready (node_step f) r.1 w)
         → IfOk result (λ r. is_done node_ended r.0 ≡ true) → Simulated result
     simulated (Err e) chosen_is led runs done = record { choices = tt; leads = tt; promises = tt; completed = tt; ends = tt }
     simulated (Ok r) chosen_is led runs done =
         let all = reaches r.1 w r.0 start runs led in
         record {
-          choices = chosen_is ∙ ap (λ v. chosen f v schedule) start;
+          choices = chosen_is ∙ ap (λ v. choices_of f v schedule) start;
           leads = all.leads;
           promises = all.promises;
           completed = all.completed done;
           ends = all.ends;
         }
 
-    pub stops_short : (step : ℕ) → (length (chosen f w schedule) ≡ step) × StopsShort node_ready node_ended (run (node_step f) (chosen f w schedule) w) step
+    pub stops_short : (step : ℕ)
+        → (length (choices_of f w schedule) ≡ step) × StopsShort node_ready node_ended (run (node_step f) (choices_of f w schedule) w) step
         → most_packets < length job.packets
     stops_short step short =
-        let count = subst (λ v. length (chosen f v schedule) ≡ step) start short.0 in
-        let stuck = subst (λ v. StopsShort node_ready node_ended (run (node_step f) (chosen f v schedule) v) step) start short.1 in
+        let count = subst (λ v. length (choices_of f v schedule) ≡ step) start short.0 in
+        let stuck = subst (λ v. StopsShort node_ready node_ended (run (node_step f) (choices_of f v schedule) v) step) start short.1 in
         too_many F f laws alloc job is schedule step count stuck
 
   -- by choices
@@ -84,7 +85,7 @@ module _ (F : Type 0) {R : Type 0} (f : Semantics R) (laws : Laws f) (alloc : Gl
       pub completed : IfOk result (λ reached. is_done node_ended reached ≡ true → StrongCompleted f job reached)
       pub ends : IfOk result (λ reached. StrongEnds job cs reached)
 
-    pub replays : (result : Result World ReplayFault) → (result ≢ Err NoMemory → result ≡ replayed node_ready (node_step f) cs w) → Replays result
+    pub replays : (result : Result World ReplayFault) → (result ≢ Err NoMemory → result ≡ replay_of node_ready (node_step f) cs w) → Replays result
     replays (Err e) h = record { promises = tt; completed = tt; ends = tt }
     replays (Ok reached) h =
         let ok = replayed_ok node_ready (node_step f) cs w reached (sym (h (λ bad. cc))) in

@@ -18,7 +18,7 @@ use Rattle.strong_share.specs.declared.note.StrongNote.{StrongNote}
 use Rattle.strong_share.specs.declared.node.StrongNode.{StrongNode}
 use Rattle.strong_share.specs.Tables.{node_ready, node_step, node_ended}
 use Rattle.strong_share.specs.Start.{StrongJob, IsStrongJob, strong_start}
-use Rattle.strong_share.specs.Runs.{chosen}
+use Rattle.strong_share.specs.Runs.{choices_of}
 use Rattle.strong_share.specs.Promises.{StrongPromises, StrongCompleted, StrongEnds}
 use Rattle.strong_share.proofs.Starts.{run_reached}
 use Rattle.strong_share.proofs.Kept.{promised, completed}
@@ -52,16 +52,16 @@ module _ (F : Type 0) {R : Type 0} (f : Semantics R) (laws : Laws f) (alloc : Gl
         omega (arith, short, all, few)
 
   -- a schedule that stops short took all choices that it may take
-  pub too_many : (schedule : Schedule) (step : ℕ) → length (chosen f first schedule) ≡ step
-      → StopsShort node_ready node_ended (run (node_step f) (chosen f first schedule) first) step → most_packets < length job.packets
+  pub too_many : (schedule : Schedule) (step : ℕ) → length (choices_of f first schedule) ≡ step
+      → StopsShort node_ready node_ended (run (node_step f) (choices_of f first schedule) first) step → most_packets < length job.packets
   too_many schedule step count short = by (nat_lt most_packets (length job.packets)) refl
     where
-      runs : IsRun node_ready (node_step f) (chosen f first schedule) first
+      runs : IsRun node_ready (node_step f) (choices_of f first schedule) first
       runs = scheduled_is_run node_ready node_ended (node_step f) MOST_CHOICES schedule first
 
       all_taken : step ≡ MOST_CHOICES
       all_taken = elim short.stuck as (λ _. step ≡ MOST_CHOICES) [
-        | inl none ↦ (let never : false ≡ true = sym short.incomplete ∙ none_stuck F f laws alloc job job_is (chosen f first schedule) runs none in cc)
+        | inl none ↦ (let never : false ≡ true = sym short.incomplete ∙ none_stuck F f laws alloc job job_is (choices_of f first schedule) runs none in cc)
         | inr most ↦ most
       ]
 
@@ -69,6 +69,6 @@ module _ (F : Type 0) {R : Type 0} (f : Semantics R) (laws : Laws f) (alloc : Gl
       by true e = (Decides-ltb most_packets (length job.packets)).0 e
       by false e =
           let many : length job.packets ≤ most_packets = grind (arith, nat_tests, e) in
-          let few = few_choices (chosen f first schedule) runs many in
+          let few = few_choices (choices_of f first schedule) runs many in
           let all = all_taken in
           absurd (omega (arith, few, all, count))

@@ -6,7 +6,7 @@ use Rattle.nf_msgs.specs.declared.msg.Msg.{Msg}
 use Rattle.nf_msgs.specs.declared.note.Note.{Note}
 use Rattle.instance_worker.specs.declared.instance.Instance.{Instance as InstanceState}
 use Rattle.instance_worker.specs.Instance.{instance_step}
-use Rattle.actor_net.specs.Network.{Network, Stepped, waiting}
+use Rattle.actor_net.specs.Network.{Network, Stepped, queue_at}
 use Rattle.actor_net.specs.Histories.{sent_for}
 use Rattle.actor_net.proofs.EnabledChoices.{at}
 use Rattle.strong_share.specs.declared.note.StrongNote.{StrongNote}
@@ -36,15 +36,15 @@ pub record Shows {F R : Type 0} (n : ℕ) (w : Network (StrongNode F R) Msg Stro
   pub switch : (d : StrongNode F R) → get_or w.nodes 0 d ≡ Switch x.switch
   pub controller : (d : StrongNode F R) → get_or w.nodes 1 d ≡ Controller x.controller
   pub member : (k : ℕ) → k < n → (d : StrongNode F R) → get_or w.nodes (k + 2) d ≡ Instance (x.member k)
-  pub input : waiting w (at 0 0) ≡ x.input
-  pub up : waiting w (at 1 0) ≡ x.up
-  pub down : waiting w (at 0 1) ≡ x.down
-  pub out : (k : ℕ) → k < n → waiting w (at (k + 2) 0) ≡ x.out k
-  pub to : (k : ℕ) → k < n → waiting w (at (k + 2) 1) ≡ x.to k
-  pub back : (k : ℕ) → k < n → waiting w (at 1 (k + 2)) ≡ x.back k
-  pub home : (k : ℕ) → k < n → waiting w (at 0 (k + 2)) ≡ x.home k
-  pub loop : waiting w (at 1 1) ≡ []
-  pub between : (j k : ℕ) → waiting w (at (j + 2) (k + 2)) ≡ []
+  pub input : queue_at w (at 0 0) ≡ x.input
+  pub up : queue_at w (at 1 0) ≡ x.up
+  pub down : queue_at w (at 0 1) ≡ x.down
+  pub out : (k : ℕ) → k < n → queue_at w (at (k + 2) 0) ≡ x.out k
+  pub to : (k : ℕ) → k < n → queue_at w (at (k + 2) 1) ≡ x.to k
+  pub back : (k : ℕ) → k < n → queue_at w (at 1 (k + 2)) ≡ x.back k
+  pub home : (k : ℕ) → k < n → queue_at w (at 0 (k + 2)) ≡ x.home k
+  pub loop : queue_at w (at 1 1) ≡ []
+  pub between : (j k : ℕ) → queue_at w (at (j + 2) (k + 2)) ≡ []
   pub log : w.log ≡ x.log
 
 module _ {F R : Type 0} where

@@ -16,19 +16,20 @@ use Rattle.nf_msgs.specs.declared.msg.Msg.TheVariants.{Carry, Shared, Sync, Sync
 use Rattle.nf_msgs.specs.declared.note.Note.{Note}
 use Rattle.nf_msgs.specs.declared.note.Note.TheVariants.{Processed}
 use Rattle.instance_worker.specs.declared.instance.Instance.{Instance as InstanceState}
-use Rattle.instance_worker.specs.Instance.{Step, processed as instance_processed, instance_step, kept}
+use Rattle.instance_worker.specs.Instance.{Step, process_step as instance_processed, instance_step, keep_note}
 use Rattle.actor_net.specs.Histories.{sent_for}
 use Rattle.actor_net.proofs.WeightLaws.{Each}
 use Rattle.strong_share.specs.declared.note.StrongNote.TheVariants.{Inner}
 use Rattle.strong_share.specs.declared.queued_packet.QueuedPacket.{QueuedPacket}
 use Rattle.strong_share.specs.Tables.{the_share, is_home}
 use Rattle.strong_share.specs.Start.{StrongJob, IsStrongJob}
-use Rattle.strong_share.specs.Words.{entries, events_of, arrived, done_numbers, packet_numbered, is_taken, is_taken_at, is_of, fold, processed_of}
+use Rattle.strong_share.specs.Words.{entries, events_of, arrivals_in, done_numbers, packet_numbered, is_taken, is_taken_at, is_of, fold, processed_of}
 use Rattle.strong_share.proofs.Lists.{put, filter_among, filter_no_more, one_two, zero_two}
 use Rattle.strong_share.proofs.Folds.{fits, unit, after, seen, unit_taken, kept_is, seen_sound, unit_own, unit_swapped}
-use Rattle.strong_share.proofs.MemberRows.{Leaves, Takes_record, serves, shared_leaves, sync_leaves}
+use Rattle.strong_share.proofs.MemberRows.{Leaves, TakesRecord, serves, shared_leaves, sync_leaves}
 use Rattle.strong_share.proofs.Scenes.{Scene, member_did}
-use Rattle.strong_share.proofs.ServedPackets.{raised_number, Answer.Told, Answer.Took, Stage.Carries, Stage.Spreads, Turn, Turn.Going, Sight, IsRaised, record_after, chunk_after, FitsStage, Serves, Agrees, serves_alike, tight_alike, all_of, seen_by}
+use Rattle.strong_share.proofs.ServedPackets.{raised_number, Answer.Told, Answer.Took, Stage.Carries, Stage.Spreads, Turn, Turn.Going, Sight, IsRaised}
+use Rattle.strong_share.proofs.ServedPackets.{record_after, chunk_after, FitsStage, Serves, Agrees, serves_alike, tight_alike, all_of, seen_by}
 use Rattle.strong_share.proofs.RecordSteps.{processed_out, takes_record}
 use Rattle.strong_share.proofs.Reading.{packet_in, plain_in, event_in, answer_in, more_at, none_at}
 use Rattle.strong_share.proofs.Holding.{IsRight, sight, Holds}
@@ -136,8 +137,8 @@ module _ {F R : Type 0} (f : Semantics R) (laws : Laws f) (job : StrongJob) (job
     processed_is : done_numbers served_scene.log ≡ done_numbers x.log ++ p ∷ []
     processed_is = done_numbers-append x.log (Inner (Processed p i.index out_of) ∷ [])
 
-    no_arrival : arrived served_scene.log ≡ arrived x.log
-    no_arrival = arrived-append x.log (Inner (Processed p i.index out_of) ∷ []) ∙ append-nil (arrived x.log)
+    no_arrival : arrivals_in served_scene.log ≡ arrivals_in x.log
+    no_arrival = arrived-append x.log (Inner (Processed p i.index out_of) ∷ []) ∙ append-nil (arrivals_in x.log)
 
     no_raise : entries served_scene.log ≡ entries x.log
     no_raise = entries-append x.log (Inner (Processed p i.index out_of) ∷ []) ∙ append-nil (entries x.log)
@@ -225,11 +226,11 @@ module _ {F R : Type 0} (f : Semantics R) (laws : Laws f) (job : StrongJob) (job
     abbrev takes_it : Step F R
     takes_it = instance_step f (x.member j) sync
 
-    pub its_record : Takes_record f job (x.member j) (is_home j) (unit f job q) (record_after f job r h.serves.d) takes_it
+    pub its_record : TakesRecord f job (x.member j) (is_home j) (unit f job q) (record_after f job r h.serves.d) takes_it
     its_record = sync_leaves f job laws (x.member j) (is_home j) (unit f job q) (record_after f job r h.serves.d) valid
 
     abbrev kept_note : Note
-    kept_note = kept (x.member j) the_share (chunk_after f job r h.serves.d ∷ [])
+    kept_note = keep_note (x.member j) the_share (chunk_after f job r h.serves.d ∷ [])
 
     abbrev pub synced_scene : Scene F R
     synced_scene = left_by x x.out (put x.to j rest) j takes_it.node (Synced the_share ∷ []) [] (Inner kept_note ∷ [])
@@ -244,8 +245,8 @@ module _ {F R : Type 0} (f : Semantics R) (laws : Laws f) (job : StrongJob) (job
     quiet : IsQuiet x.log synced_scene.log
     quiet = quiet_log x.log (Inner kept_note ∷ []) refl refl
 
-    still_arrived : arrived synced_scene.log ≡ arrived x.log
-    still_arrived = arrived-append x.log (Inner kept_note ∷ []) ∙ append-nil (arrived x.log)
+    still_arrived : arrivals_in synced_scene.log ≡ arrivals_in x.log
+    still_arrived = arrived-append x.log (Inner kept_note ∷ []) ∙ append-nil (arrivals_in x.log)
 
     abbrev synced_sight : Sight R
     synced_sight =

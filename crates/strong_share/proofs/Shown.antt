@@ -1,5 +1,6 @@
 -- A choice that can be taken takes a message of the scene, and leaves a world that is the next scene.
-use Rattle.std.proofs.Common.{◌≡◌, ◌≢◌, ℕ, zero, suc, ◌+◌, ◌<◌, Bool, true, false, List, [], ◌∷◌, ◌++◌, map, drop, get_or, refl, sym, ap, subst, ◌∙◌, append-nil, arith}
+use Rattle.std.proofs.Common.{◌≡◌, ◌≢◌, ℕ, zero, suc, ◌+◌, ◌<◌, Bool, true, false, List, [], ◌∷◌}
+use Rattle.std.proofs.Common.{◌++◌, map, drop, get_or, refl, sym, ap, subst, ◌∙◌, append-nil, arith}
 use Rattle.std.specs.Prelude.{if◌then◌else◌, ◌==◌, ◌&&◌, not, nat_lt}
 use Rattle.std.proofs.lemmas.Bool.Decides.{Decides-eqb, Decides-ltb}
 use Rattle.nf_function.specs.Semantics.{Semantics}
@@ -7,7 +8,7 @@ use Rattle.nf_msgs.specs.declared.msg.Msg.{Msg}
 use Rattle.nf_msgs.specs.declared.note.Note.{Note}
 use Rattle.instance_worker.specs.declared.instance.Instance.{Instance as InstanceState}
 use Rattle.instance_worker.specs.Instance.{instance_step}
-use Rattle.actor_net.specs.Network.{Network, Stepped, waiting, taken, reaches}
+use Rattle.actor_net.specs.Network.{Network, Stepped, queue_at, world_next, reaches}
 use Rattle.actor_net.specs.Histories.{sent_for}
 use Rattle.actor_net.proofs.EnabledChoices.{at}
 use Rattle.actor_net.proofs.WaitingMessages.{less_first}
@@ -18,7 +19,8 @@ use Rattle.strong_share.specs.declared.node.StrongNode.{StrongNode}
 use Rattle.strong_share.specs.declared.node.StrongNode.TheVariants.{Switch, Ctrl as Controller, Instance}
 use Rattle.strong_share.specs.Tables.{node_step, node_ready, switch_step, controller_step}
 use Rattle.strong_share.proofs.Lists.{put, two_two, two_zero, two_one, zero_two, one_two}
-use Rattle.strong_share.proofs.Scenes.{Scene, Shows, switch_did, controller_did, member_did, Goes, Goes.From_input, Goes.From_down, Goes.From_home, Goes.From_up, Goes.From_back, Goes.From_out, Goes.From_to, next_scene, Confined, message_of, sends_of, node_of}
+use Rattle.strong_share.proofs.Scenes.{Scene, Shows, switch_did, controller_did, member_did, Goes, Goes.From_input, Goes.From_down, Goes.From_home}
+use Rattle.strong_share.proofs.Scenes.{Goes.From_up, Goes.From_back, Goes.From_out, Goes.From_to, next_scene, Confined, message_of, sends_of, node_of}
 
 -- the link that is taken from
 taken_link : {X : Type 0} (k j : ℕ) (links : ℕ → List X) (ys : List X) (m : X) (rest : List X) → ys ≡ links k → links j ≡ m ∷ rest
@@ -58,22 +60,22 @@ module _ {F R : Type 0} (f : Semantics R) (n : ℕ) (w : Network (StrongNode F R
     did = node_step f node p m
 
     abbrev v : Network (StrongNode F R) Msg StrongNote
-    v = taken (node_step f) w (at k p)
+    v = world_next (node_step f) w (at k p)
 
     left : Outcome (node_step f) (n + 2) w k p node m rest v
     left = taken_outcome (node_step f) (n + 2) w k p node m rest takes
 
     -- a link, by whether it is taken from and whether the node sends on it
     link : (s r : ℕ) (b c : Bool) → (s == p) && (r == k) ≡ b → (s == k) && reaches (n + 2) k r ≡ c
-        → waiting v (at r s) ≡ less_first b (waiting w (at r s)) ++ (if c then sent_for r did.sends else [])
+        → queue_at v (at r s) ≡ less_first b (queue_at w (at r s)) ++ (if c then sent_for r did.sends else [])
     link s r b c b_is c_is =
         left.waits s r
-        ∙ ap (λ t. less_first t (waiting w (at r s)) ++ (if (s == k) && reaches (n + 2) k r then sent_for r did.sends else [])) b_is
-        ∙ ap (λ t. less_first b (waiting w (at r s)) ++ (if t then sent_for r did.sends else [])) c_is
+        ∙ ap (λ t. less_first t (queue_at w (at r s)) ++ (if (s == k) && reaches (n + 2) k r then sent_for r did.sends else [])) b_is
+        ∙ ap (λ t. less_first b (queue_at w (at r s)) ++ (if t then sent_for r did.sends else [])) c_is
 
     -- one that isn't touched
-    still : (s r : ℕ) (ys : List Msg) → (s == p) && (r == k) ≡ false → (s == k) ≡ false → waiting w (at r s) ≡ ys → waiting v (at r s) ≡ ys
-    still s r ys off other is = link s r false false off (rw other refl) ∙ append-nil (waiting w (at r s)) ∙ is
+    still : (s r : ℕ) (ys : List Msg) → (s == p) && (r == k) ≡ false → (s == k) ≡ false → queue_at w (at r s) ≡ ys → queue_at v (at r s) ≡ ys
+    still s r ys off other is = link s r false false off (rw other refl) ∙ append-nil (queue_at w (at r s)) ∙ is
 
     other_node : (j : ℕ) (d z : StrongNode F R) → j ≢ k → get_or w.nodes j d ≡ z → get_or v.nodes j d ≡ z
     other_node j d z apart is = left.others j d apart ∙ is
@@ -85,9 +87,9 @@ module _ {F R : Type 0} (f : Semantics R) (n : ℕ) (w : Network (StrongNode F R
 
     pub switch_shows : y.switch ≡ x.switch → y.controller ≡ x.controller → ((k : ℕ) → y.member k ≡ x.member k) → y.log ≡ x.log
         → y.up ≡ x.up → ((k : ℕ) → y.out k ≡ x.out k) → ((k : ℕ) → y.to k ≡ x.to k) → ((k : ℕ) → y.back k ≡ x.back k)
-        → (waiting (taken (node_step f) w (at 0 p)) (at 0 0) ≡ y.input) → (waiting (taken (node_step f) w (at 0 p)) (at 0 1) ≡ y.down)
-        → ((k : ℕ) → k < n → waiting (taken (node_step f) w (at 0 p)) (at 0 (k + 2)) ≡ y.home k)
-        → Shows n (taken (node_step f) w (at 0 p)) (switch_did y (switch_step x.switch m))
+        → (queue_at (world_next (node_step f) w (at 0 p)) (at 0 0) ≡ y.input) → (queue_at (world_next (node_step f) w (at 0 p)) (at 0 1) ≡ y.down)
+        → ((k : ℕ) → k < n → queue_at (world_next (node_step f) w (at 0 p)) (at 0 (k + 2)) ≡ y.home k)
+        → Shows n (world_next (node_step f) w (at 0 p)) (switch_did y (switch_step x.switch m))
     switch_shows sw ct me lo u o t b input down home =
         let l = left 0 p (Switch x.switch) m rest takes in
         record {
@@ -118,9 +120,10 @@ module _ {F R : Type 0} (f : Semantics R) (n : ℕ) (w : Network (StrongNode F R
 
     pub controller_shows : controller_sent 1 ≡ [] → y.switch ≡ x.switch → ((k : ℕ) → y.member k ≡ x.member k) → y.log ≡ x.log
         → y.input ≡ x.input → y.down ≡ x.down → ((k : ℕ) → y.out k ≡ x.out k) → ((k : ℕ) → y.to k ≡ x.to k) → ((k : ℕ) → y.home k ≡ x.home k)
-        → (waiting (taken (node_step f) w (at 1 p)) (at 1 0) ≡ y.up) → ((k : ℕ) → k < n → waiting (taken (node_step f) w (at 1 p)) (at 1 (k + 2)) ≡ y.back k)
-        → (waiting (taken (node_step f) w (at 1 p)) (at 1 1) ≡ [])
-        → Shows n (taken (node_step f) w (at 1 p)) (controller_did y (controller_step x.controller p m))
+        → (queue_at (world_next (node_step f) w (at 1 p)) (at 1 0) ≡ y.up)
+        → ((k : ℕ) → k < n → queue_at (world_next (node_step f) w (at 1 p)) (at 1 (k + 2)) ≡ y.back k)
+        → (queue_at (world_next (node_step f) w (at 1 p)) (at 1 1) ≡ [])
+        → Shows n (world_next (node_step f) w (at 1 p)) (controller_did y (controller_step x.controller p m))
     controller_shows none sw me lo i dn o t hm up back loop =
         let l = left 1 p (Controller x.controller) m rest takes in
         record {
@@ -157,8 +160,8 @@ module _ {F R : Type 0} (f : Semantics R) (n : ℕ) (w : Network (StrongNode F R
       member_sent k = sent_for k its.sends
 
       -- what it sends to the switch or the controller
-      sends_to : (r : ℕ) → (r == j + 2) ≡ false → r < n + 2 → (links ys : ℕ → List Msg) → ((k : ℕ) → k < n → waiting w (at r (k + 2)) ≡ links k)
-          → ((k : ℕ) → ys k ≡ links k) → (k : ℕ) → k < n → waiting (taken (node_step f) w (at (j + 2) p)) (at r (k + 2)) ≡ ys k
+      sends_to : (r : ℕ) → (r == j + 2) ≡ false → r < n + 2 → (links ys : ℕ → List Msg) → ((k : ℕ) → k < n → queue_at w (at r (k + 2)) ≡ links k)
+          → ((k : ℕ) → ys k ≡ links k) → (k : ℕ) → k < n → queue_at (world_next (node_step f) w (at (j + 2) p)) (at r (k + 2)) ≡ ys k
           ++ (if k == j then member_sent r else [])
       sends_to r apart there links ys is same k k_in =
           link (j + 2) p (Instance (x.member j)) m rest takes (k + 2) r false (k == j) (rw apart (and_false (k + 2 == p)))
@@ -172,10 +175,10 @@ module _ {F R : Type 0} (f : Semantics R) (n : ℕ) (w : Network (StrongNode F R
       pub member_shows : ((k : ℕ) → member_sent (k + 2) ≡ []) → y.switch ≡ x.switch → y.controller ≡ x.controller → ((k : ℕ) → y.member k ≡ x.member k)
           → y.log ≡ x.log
           → y.input ≡ x.input → y.up ≡ x.up → y.down ≡ x.down → ((k : ℕ) → y.back k ≡ x.back k) → ((k : ℕ) → y.home k ≡ x.home k)
-          → ((k : ℕ) → k < n → waiting (taken (node_step f) w (at (j + 2) p)) (at (k + 2) 0) ≡ y.out k)
-          → ((k : ℕ) → k < n → waiting (taken (node_step f) w (at (j + 2) p)) (at (k + 2) 1) ≡ y.to k)
+          → ((k : ℕ) → k < n → queue_at (world_next (node_step f) w (at (j + 2) p)) (at (k + 2) 0) ≡ y.out k)
+          → ((k : ℕ) → k < n → queue_at (world_next (node_step f) w (at (j + 2) p)) (at (k + 2) 1) ≡ y.to k)
           → ((i k : ℕ) → (k + 2 == p) && (i == j) ≡ false)
-          → Shows n (taken (node_step f) w (at (j + 2) p)) (member_did y j its)
+          → Shows n (world_next (node_step f) w (at (j + 2) p)) (member_did y j its)
       member_shows none sw ct me lo i u dn b hm out to apart =
           let l = left (j + 2) p (Instance (x.member j)) m rest takes in
           record {
@@ -183,10 +186,10 @@ module _ {F R : Type 0} (f : Semantics R) (n : ℕ) (w : Network (StrongNode F R
             switch = λ d. other_node (j + 2) p (Instance (x.member j)) m rest takes 0 d (Switch x.switch) (λ e. grind arith) (h.switch d) ∙ ap Switch (sym sw);
             controller = λ d. other_node (j + 2) p (Instance (x.member j)) m rest takes 1 d (Controller x.controller) (λ e. grind arith) (h.controller d)
                 ∙ ap Controller (sym ct);
-            member = λ k k_in d. elim (k == j) as (λ b. (k == j) ≡ b → get_or (taken (node_step f) w (at (j + 2) p)).nodes (k + 2) d
+            member = λ k k_in d. elim (k == j) as (λ b. (k == j) ≡ b → get_or (world_next (node_step f) w (at (j + 2) p)).nodes (k + 2) d
                 ≡ Instance (if b then its.node else y.member k)) [
                   | true ↦ λ on. (let same : k ≡ j = (Decides-eqb k j).0 on in
-                      subst (λ q. get_or (taken (node_step f) w (at (j + 2) p)).nodes (q + 2) d ≡ Instance its.node) (sym same) (l.own d))
+                      subst (λ q. get_or (world_next (node_step f) w (at (j + 2) p)).nodes (q + 2) d ≡ Instance its.node) (sym same) (l.own d))
                   | false ↦ λ off. other_node (j + 2) p (Instance (x.member j)) m rest takes (k + 2) d (Instance (x.member k))
                       (λ e. let same : k ≡ j = omega arith in let on = (Decides-eqb k j).1 same in let both : false ≡ true = sym off ∙ on in cc)
                       (h.member k k_in d)
@@ -217,16 +220,16 @@ module _ {F R : Type 0} (f : Semantics R) (n : ℕ) (w : Network (StrongNode F R
   abbrev Found : ℕ → ℕ → Type 0
   Found k p = (node : StrongNode F R) (m : Msg) (rest : List Msg) → Takes (node_step f) (n + 2) w k p node m rest
       → ((k == 0) && (p == 0) ≡ true → node_ready node m ≡ true) → (g : Goes n x)
-      × (Confined f n g → Shows n (taken (node_step f) w (at k p)) (next_scene f n x g)) × IsTakenBy k p node m g
+      × (Confined f n g → Shows n (world_next (node_step f) w (at k p)) (next_scene f n x g)) × IsTakenBy k p node m g
 
   -- the link from a member, from which is taken
   from_members : (k r i : ℕ) (node : StrongNode F R) (m : Msg) (rest : List Msg) → Takes (node_step f) (n + 2) w k (i + 2) node m rest → (r ≡ k)
-      → ((q : ℕ) → (q + 2 == k) ≡ false) → (links : ℕ → List Msg) → ((q : ℕ) → q < n → waiting w (at r (q + 2)) ≡ links q) → links i ≡ m ∷ rest → (q : ℕ)
-      → q < n → waiting (taken (node_step f) w (at k (i + 2))) (at r (q + 2)) ≡ put links i rest q
+      → ((q : ℕ) → (q + 2 == k) ≡ false) → (links : ℕ → List Msg) → ((q : ℕ) → q < n → queue_at w (at r (q + 2)) ≡ links q) → links i ≡ m ∷ rest → (q : ℕ)
+      → q < n → queue_at (world_next (node_step f) w (at k (i + 2))) (at r (q + 2)) ≡ put links i rest q
   from_members k r i node m rest takes same apart links is first q q_in =
       let on : (r == k) ≡ true = (Decides-eqb r k).1 same in
       link k (i + 2) node m rest takes (q + 2) r (q == i) false (rw (two_two q i, on) (and_true (q == i))) (rw (apart q) refl)
-      ∙ taken_link q i links (waiting w (at r (q + 2))) m rest (is q q_in) first
+      ∙ taken_link q i links (queue_at w (at r (q + 2))) m rest (is q q_in) first
     where
       and_true : (b : Bool) → (b && true) ≡ b
       and_true true = refl
@@ -243,7 +246,7 @@ module _ {F R : Type 0} (f : Semantics R) (n : ℕ) (w : Network (StrongNode F R
         From_input m rest first (ap (λ z. node_ready z m) (sym is) ∙ ready refl),
         λ _.
             switch_shows 0 m rest takes' (record x { input = rest }) refl refl (λ k. refl) refl refl (λ k. refl) (λ k. refl) (λ k. refl)
-            (link 0 0 (Switch x.switch) m rest takes' 0 0 true false refl (and_false (nat_lt 0 (n + 2))) ∙ one_taken (waiting w (at 0 0)) m rest takes.waits)
+            (link 0 0 (Switch x.switch) m rest takes' 0 0 true false refl (and_false (nat_lt 0 (n + 2))) ∙ one_taken (queue_at w (at 0 0)) m rest takes.waits)
             (still 0 0 (Switch x.switch) m rest takes' 1 0 x.down refl refl h.down)
             (λ k k_in. still 0 0 (Switch x.switch) m rest takes' (k + 2) 0 (x.home k) (rw (two_zero k) refl) (two_zero k) (h.home k k_in)),
         record { message = refl; sends = ap (λ z. (node_step f z 0 m).sends) is; node_is = refl },
@@ -256,8 +259,8 @@ module _ {F R : Type 0} (f : Semantics R) (n : ℕ) (w : Network (StrongNode F R
       let first : x.down ≡ m ∷ rest = sym h.down ∙ takes.waits in (
         From_down m rest first,
         λ _. switch_shows 1 m rest takes' (record x { down = rest }) refl refl (λ k. refl) refl refl (λ k. refl) (λ k. refl) (λ k. refl)
-            (link 0 1 (Switch x.switch) m rest takes' 0 0 false false refl (and_false (nat_lt 0 (n + 2))) ∙ append-nil (waiting w (at 0 0)) ∙ h.input)
-            (link 0 1 (Switch x.switch) m rest takes' 1 0 true false refl refl ∙ one_taken (waiting w (at 0 1)) m rest takes.waits)
+            (link 0 1 (Switch x.switch) m rest takes' 0 0 false false refl (and_false (nat_lt 0 (n + 2))) ∙ append-nil (queue_at w (at 0 0)) ∙ h.input)
+            (link 0 1 (Switch x.switch) m rest takes' 1 0 true false refl refl ∙ one_taken (queue_at w (at 0 1)) m rest takes.waits)
             (λ k k_in. still 0 1 (Switch x.switch) m rest takes' (k + 2) 0 (x.home k) (rw (two_one k) refl) (two_zero k) (h.home k k_in)),
         record { message = refl; sends = ap (λ z. (node_step f z 1 m).sends) is; node_is = refl },
       )
@@ -271,7 +274,7 @@ module _ {F R : Type 0} (f : Semantics R) (n : ℕ) (w : Network (StrongNode F R
         λ _. switch_shows (i + 2) m rest takes' (record x { home = put x.home i rest }) refl refl (λ k. refl) refl refl
             (λ k. refl) (λ k. refl) (λ k. refl)
             (link 0 (i + 2) (Switch x.switch) m rest takes' 0 0 false false (rw (zero_two i) refl) (and_false (nat_lt 0 (n + 2)))
-            ∙ append-nil (waiting w (at 0 0)) ∙ h.input)
+            ∙ append-nil (queue_at w (at 0 0)) ∙ h.input)
             (still 0 (i + 2) (Switch x.switch) m rest takes' 1 0 x.down (rw (one_two i) refl) refl h.down)
             (from_members 0 0 i (Switch x.switch) m rest takes' refl two_zero x.home h.home first),
         record { message = refl; sends = ap (λ z. (node_step f z (i + 2) m).sends) is; node_is = refl },
@@ -288,10 +291,10 @@ module _ {F R : Type 0} (f : Semantics R) (n : ℕ) (w : Network (StrongNode F R
         From_up m rest first,
         λ none. controller_shows 0 m rest takes' (record x { up = rest }) none refl (λ k. refl) refl refl refl (λ k. refl) (λ k. refl)
             (λ k. refl)
-            (link 1 0 (Controller x.controller) m rest takes' 0 1 true false refl refl ∙ one_taken (waiting w (at 1 0)) m rest takes.waits)
+            (link 1 0 (Controller x.controller) m rest takes' 0 1 true false refl refl ∙ one_taken (queue_at w (at 1 0)) m rest takes.waits)
             (λ k k_in. still 1 0 (Controller x.controller) m rest takes' (k + 2) 1 (x.back k) (rw (two_zero k) refl) (two_one k) (h.back k k_in))
             (link 1 0 (Controller x.controller) m rest takes' 1 1 false (reaches (n + 2) 1 1) refl refl
-            ∙ nothing (reaches (n + 2) 1 1) (waiting w (at 1 1)) (sent_for 1 (controller_step x.controller 0 m).sends) h.loop none),
+            ∙ nothing (reaches (n + 2) 1 1) (queue_at w (at 1 1)) (sent_for 1 (controller_step x.controller 0 m).sends) h.loop none),
         record { message = refl; sends = ap (λ z. (node_step f z 0 m).sends) is; node_is = refl },
       )
     where
@@ -310,7 +313,7 @@ module _ {F R : Type 0} (f : Semantics R) (n : ℕ) (w : Network (StrongNode F R
             (still 1 (i + 2) (Controller x.controller) m rest takes' 0 1 x.up (rw (zero_two i) refl) refl h.up)
             (from_members 1 1 i (Controller x.controller) m rest takes' refl two_one x.back h.back first)
             (link 1 (i + 2) (Controller x.controller) m rest takes' 1 1 false (reaches (n + 2) 1 1) (rw (one_two i) refl) refl
-            ∙ nothing (reaches (n + 2) 1 1) (waiting w (at 1 1)) (sent_for 1 (controller_step x.controller (i + 2) m).sends) h.loop none),
+            ∙ nothing (reaches (n + 2) 1 1) (queue_at w (at 1 1)) (sent_for 1 (controller_step x.controller (i + 2) m).sends) h.loop none),
         record { message = refl; sends = ap (λ z. (node_step f z (i + 2) m).sends) is; node_is = refl },
       )
     where
@@ -327,7 +330,7 @@ module _ {F R : Type 0} (f : Semantics R) (n : ℕ) (w : Network (StrongNode F R
         λ none. member_shows j 0 j_in m rest takes' (record x { out = put x.out j rest }) none refl refl (λ k. refl) refl refl refl
             refl (λ k. refl) (λ k. refl)
             (λ k k_in. link (j + 2) 0 (Instance (x.member j)) m rest takes' 0 (k + 2) (k == j) false (two_two k j) (rw (zero_two j) refl)
-            ∙ taken_link k j x.out (waiting w (at (k + 2) 0)) m rest (h.out k k_in) first)
+            ∙ taken_link k j x.out (queue_at w (at (k + 2) 0)) m rest (h.out k k_in) first)
             (λ k k_in. still (j + 2) 0 (Instance (x.member j)) m rest takes' 1 (k + 2) (x.to k) refl (one_two j) (h.to k k_in))
             (λ i k. rw (two_zero k) refl),
         record { message = refl; sends = ap (λ z. (node_step f z 0 m).sends) is; node_is = refl },
@@ -343,13 +346,13 @@ module _ {F R : Type 0} (f : Semantics R) (n : ℕ) (w : Network (StrongNode F R
             refl (λ k. refl) (λ k. refl)
             (λ k k_in. still (j + 2) 1 (Instance (x.member j)) m rest takes' 0 (k + 2) (x.out k) refl (zero_two j) (h.out k k_in))
             (λ k k_in. link (j + 2) 1 (Instance (x.member j)) m rest takes' 1 (k + 2) (k == j) false (two_two k j) (rw (one_two j) refl)
-            ∙ taken_link k j x.to (waiting w (at (k + 2) 1)) m rest (h.to k k_in) first)
+            ∙ taken_link k j x.to (queue_at w (at (k + 2) 1)) m rest (h.to k k_in) first)
             (λ i k. rw (two_one k) refl),
         record { message = refl; sends = ap (λ z. (node_step f z 1 m).sends) is; node_is = refl },
       )
 
   nothing_waits : {X : Type 0} (k p : ℕ) (node : StrongNode F R) (m : Msg) (rest : List Msg) → Takes (node_step f) (n + 2) w k p node m rest
-      → waiting w (at k p) ≡ [] → X
+      → queue_at w (at k p) ≡ [] → X
   nothing_waits k p node m rest takes none = let both : m ∷ rest ≡ [] = sym takes.waits ∙ none in absurd cc
 
   -- a number of a node is 0, 1 or that of a member

@@ -16,7 +16,10 @@ use Rattle.strong_share.specs.Tables.{the_share, is_home}
 use Rattle.strong_share.specs.Start.{StrongJob, IsStrongJob}
 use Rattle.strong_share.proofs.Lists.{put}
 use Rattle.strong_share.proofs.Folds.{seen}
-use Rattle.strong_share.proofs.ServedPackets.{raised_number, Answer, Answer.Told, Answer.Took, Turn, Turn.Going, Turn.Coming, Turn.Quiet, is_going, is_pending, one_if, pending, Stage, Stage.Resting, Stage.Carries, Stage.Tells, Stage.Spreads, Sight, IsRaised, chunk_after, goes_to, comes_from, to_of, answers_of, all_of, waits_of, FitsSpread, FitsStage, expected, Serves, Rests}
+use Rattle.strong_share.proofs.ServedPackets.{raised_number, Answer, Answer.Told, Answer.Took, Turn, Turn.Going, Turn.Coming}
+use Rattle.strong_share.proofs.ServedPackets.{Turn.Quiet, is_going, is_pending, one_if, pending, Stage, Stage.Resting, Stage.Carries}
+use Rattle.strong_share.proofs.ServedPackets.{Stage.Tells, Stage.Spreads, Sight, IsRaised, chunk_after, goes_to, comes_from, to_of}
+use Rattle.strong_share.proofs.ServedPackets.{answers_of, all_of, waits_of, FitsSpread, FitsStage, expected, Serves, Rests}
 use Rattle.strong_share.proofs.Turns.{pending_put, none_pending, all_but, pending_all_but}
 
 module _ {R : Type 0} (f : Semantics R) (laws : Laws f) (job : StrongJob) (is : IsStrongJob f.kind job) where
@@ -25,7 +28,7 @@ module _ {R : Type 0} (f : Semantics R) (laws : Laws f) (job : StrongJob) (is : 
   spread_to m chunk k = if k == m then [] else Sync (is_home k) the_share (chunk ∷ []) ∷ []
 
   -- what is told is the chunk of the packet that was out, by its member
-  pub record Is_told (o : Sight R) (h : Serves f job o) (j : ℕ) (chunk : Chunk) (more : List Answer) : Type 0 where
+  pub record IsTold (o : Sight R) (h : Serves f job o) (j : ℕ) (chunk : Chunk) (more : List Answer) : Type 0 where
     pub raised : QueuedPacket
     pub stage_is : h.stage ≡ Tells raised
     pub at_member : j ≡ raised.member
@@ -33,26 +36,26 @@ module _ {R : Type 0} (f : Semantics R) (laws : Laws f) (job : StrongJob) (is : 
     pub no_more : more ≡ []
 
   pub told_is : (o : Sight R) (h : Serves f job o) (j : ℕ) (chunk : Chunk) (more : List Answer) → j < job.members → o.answers j ≡ Told chunk ∷ more
-      → Is_told o h j chunk more
+      → IsTold o h j chunk more
   told_is o h j chunk more j_in is = by h.stage refl (sym (h.answers j j_in) ∙ is)
     where
-      by : (s : Stage) → h.stage ≡ s → answers_of f job s h.d j ≡ Told chunk ∷ more → Is_told o h j chunk more
+      by : (s : Stage) → h.stage ≡ s → answers_of f job s h.d j ≡ Told chunk ∷ more → IsTold o h j chunk more
       by Resting e a = cc
       by (Carries r) e a = cc
       by (Tells r) e a =
           elim (j == r.member) as (λ b. (j == r.member) ≡ b → (if b then Told (chunk_after f job r h.d) ∷ [] else []) ≡ Told chunk ∷ more
-          → Is_told o h j chunk more) [
+          → IsTold o h j chunk more) [
             | true ↦ λ on same. record { raised = r; stage_is = e; at_member = (Decides-eqb j r.member).0 on; chunk_is = cc; no_more = cc }
             | false ↦ λ off same. cc
           ] refl a
       by (Spreads r at left) e a = turn (at j) a
         where
-          turn : (t : Turn) → comes_from f job t ≡ Told chunk ∷ more → Is_told o h j chunk more
+          turn : (t : Turn) → comes_from f job t ≡ Told chunk ∷ more → IsTold o h j chunk more
           turn Going b = cc
           turn Coming b = cc
           turn Quiet b = cc
 
-  pub spreads : (o : Sight R) (h : Serves f job o) (j : ℕ) (chunk : Chunk) (more : List Answer) → j < job.members → Is_told o h j chunk more
+  pub spreads : (o : Sight R) (h : Serves f job o) (j : ℕ) (chunk : Chunk) (more : List Answer) → j < job.members → IsTold o h j chunk more
       → (o' : ℕ → List Answer) → ((k : ℕ) → k < job.members → o' k ≡ (if k == j then more else o.answers k))
       → Serves f job (record o { serving = Syncing (job.members - 1); to = λ k. o.to k ++ spread_to j chunk k; answers = o' })
   spreads o h j chunk more j_in told answers answers_is =
@@ -96,7 +99,7 @@ module _ {R : Type 0} (f : Semantics R) (laws : Laws f) (job : StrongJob) (is : 
           ≡ (if is_going (if b then Quiet else Going) then h.d else h.d ++ raised_number told.raised ∷ [])) [ true ↦ refl | false ↦ refl ]
 
   -- A member has taken it.
-  pub record Is_took (o : Sight R) (h : Serves f job o) (j : ℕ) (more : List Answer) : Type 0 where
+  pub record HasTaken (o : Sight R) (h : Serves f job o) (j : ℕ) (more : List Answer) : Type 0 where
     pub raised : QueuedPacket
     pub at : ℕ → Turn
     pub left : ℕ
@@ -104,19 +107,19 @@ module _ {R : Type 0} (f : Semantics R) (laws : Laws f) (job : StrongJob) (is : 
     pub turn_is : at j ≡ Coming
     pub no_more : more ≡ []
 
-  pub took_is : (o : Sight R) (h : Serves f job o) (j : ℕ) (more : List Answer) → j < job.members → o.answers j ≡ Took ∷ more → Is_took o h j more
+  pub took_is : (o : Sight R) (h : Serves f job o) (j : ℕ) (more : List Answer) → j < job.members → o.answers j ≡ Took ∷ more → HasTaken o h j more
   took_is o h j more j_in is = by h.stage refl (sym (h.answers j j_in) ∙ is)
     where
-      by : (s : Stage) → h.stage ≡ s → answers_of f job s h.d j ≡ Took ∷ more → Is_took o h j more
+      by : (s : Stage) → h.stage ≡ s → answers_of f job s h.d j ≡ Took ∷ more → HasTaken o h j more
       by Resting e a = cc
       by (Carries r) e a = cc
-      by (Tells r) e a = elim (j == r.member) as (λ b. (if b then Told (chunk_after f job r h.d) ∷ [] else []) ≡ Took ∷ more → Is_took o h j more) [
+      by (Tells r) e a = elim (j == r.member) as (λ b. (if b then Told (chunk_after f job r h.d) ∷ [] else []) ≡ Took ∷ more → HasTaken o h j more) [
         | true ↦ λ same. cc
         | false ↦ λ same. cc
       ] a
       by (Spreads r at left) e a = turn (at j) refl a
         where
-          turn : (t : Turn) → at j ≡ t → comes_from f job t ≡ Took ∷ more → Is_took o h j more
+          turn : (t : Turn) → at j ≡ t → comes_from f job t ≡ Took ∷ more → HasTaken o h j more
           turn Going t b = cc
           turn Coming t b = record { raised = r; at = at; left = left; stage_is = e; turn_is = t; no_more = cc }
           turn Quiet t b = cc
@@ -126,7 +129,7 @@ module _ {R : Type 0} (f : Semantics R) (laws : Laws f) (job : StrongJob) (is : 
   Left o answers j more = (k : ℕ) → k < job.members → answers k ≡ (if k == j then more else o.answers k)
 
   -- what stands on the links when this member's answer is taken
-  module _ (o : Sight R) (h : Serves f job o) (j : ℕ) (j_in : j < job.members) (more : List Answer) (took : Is_took o h j more) (answers : ℕ → List Answer)
+  module _ (o : Sight R) (h : Serves f job o) (j : ℕ) (j_in : j < job.members) (more : List Answer) (took : HasTaken o h j more) (answers : ℕ → List Answer)
       (answers_is : Left o answers j more) where
     abbrev r : QueuedPacket
     r = took.raised

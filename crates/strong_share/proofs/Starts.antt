@@ -13,7 +13,7 @@ use Rattle.nf_function.specs.Semantics.{Semantics}
 use Rattle.record_table.specs.Table.{part, empty}
 use Rattle.nf_msgs.specs.declared.msg.Msg.{Msg}
 use Rattle.actor_net.specs.declared.choice.Choice.{Choice}
-use Rattle.actor_net.specs.Network.{Network, IsWorld, IsRun, run, taken, waiting}
+use Rattle.actor_net.specs.Network.{Network, IsWorld, IsRun, run, world_next, queue_at}
 use Rattle.actor_net.proofs.EnabledChoices.{at}
 use Rattle.actor_net.proofs.OpeningWorlds.{opening_world, opening_waiting}
 use Rattle.actor_net.proofs.RunInduction.{NextChoice, run_induction}
@@ -71,7 +71,7 @@ module _ (F : Type 0) {R : Type 0} (f : Semantics R) (laws : Laws f) (alloc : Gl
     log = [];
   }
 
-  silent : (s r : ℕ) → (r == 0) && (s == 0) ≡ false → waiting start (at r s) ≡ []
+  silent : (s r : ℕ) → (r == 0) && (s == 0) ≡ false → queue_at start (at r s) ≡ []
   silent s r off = opening_waiting StrongNote start.nodes (input_of job.packets) (let c = count in omega (arith, c)) s r ∙ rw off refl
 
   pub start_shows : Shows job.members start first_scene
@@ -151,7 +151,7 @@ module _ (F : Type 0) {R : Type 0} (f : Semantics R) (laws : Laws f) (alloc : Gl
   start_world = let c = count in let few = job_is.few in opening_world start.nodes (input_of job.packets) (omega (arith, c)) (omega (arith, c, few))
 
   next_reached : (cs : List Choice) (w : Network (StrongNode F R) Msg StrongNote) (c : Choice)
-      → NextChoice node_ready (node_step f) (job.members + 2) start cs w c → Reached w → Reached (taken (node_step f) w c)
+      → NextChoice node_ready (node_step f) (job.members + 2) start cs w c → Reached w → Reached (world_next (node_step f) w c)
   next_reached cs w c next r =
       let t = next.taking in
       let g = found f job.members w r.scene r.shows c.node c.port t.takes.receiver t.takes.sender t.node t.message t.rest t.takes t.was_ready in

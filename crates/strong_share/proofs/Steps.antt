@@ -14,7 +14,8 @@ use Rattle.strong_share.specs.Tables.{the_share, is_home, switch_step, takes_in,
 use Rattle.strong_share.specs.Start.{StrongJob, IsStrongJob}
 use Rattle.strong_share.specs.Words.{is_taken}
 use Rattle.strong_share.proofs.Lists.{put, two_one}
-use Rattle.strong_share.proofs.Scenes.{Scene, switch_did, controller_did, member_did, Goes, Goes.From_input, Goes.From_down, Goes.From_home, Goes.From_up, Goes.From_back, Goes.From_out, Goes.From_to, next_scene, Confined}
+use Rattle.strong_share.proofs.Scenes.{Scene, switch_did, controller_did, member_did, Goes, Goes.From_input, Goes.From_down}
+use Rattle.strong_share.proofs.Scenes.{Goes.From_home, Goes.From_up, Goes.From_back, Goes.From_out, Goes.From_to, next_scene, Confined}
 use Rattle.strong_share.proofs.ServedPackets.{number, chunk_after}
 use Rattle.strong_share.proofs.Spreading.{Comes, Comes.Packet_comes, Comes.Record_comes, comes_is}
 use Rattle.strong_share.proofs.SyncSends.{syncs_other}

@@ -1,5 +1,6 @@
 -- The rows of the switch keep what every scene of a run keeps.
-use Rattle.std.proofs.Common.{◌≡◌, ℕ, ◌+◌, ◌-◌, ◌%◌, ◌<◌, Bool, true, false, List, [], ◌∷◌, ◌++◌, map, refl, sym, ap, subst, ◌∙◌, append_assoc, append-nil, arith}
+use Rattle.std.proofs.Common.{◌≡◌, ℕ, ◌+◌, ◌-◌, ◌%◌, ◌<◌, Bool, true, false, List, [], ◌∷◌, ◌++◌}
+use Rattle.std.proofs.Common.{map, refl, sym, ap, subst, ◌∙◌, append_assoc, append-nil, arith}
 use Rattle.std.specs.Prelude.{if◌then◌else◌, ◌==◌, ◌&&◌, not, filter, flat_map}
 use Rattle.std.proofs.lemmas.List.Concat.{flat_map-append}
 use Rattle.std.proofs.lemmas.List.Elements.{filter-append}
@@ -20,14 +21,15 @@ use Rattle.actor_net.proofs.WeightLaws.{Each, each-append, weigh, weigh-append}
 use Rattle.strong_share.specs.declared.note.StrongNote.TheVariants.{Inner}
 use Rattle.strong_share.specs.Tables.{SwitchStep, switch_still, member_for, switch_step}
 use Rattle.strong_share.specs.Start.{StrongJob}
-use Rattle.strong_share.specs.Words.{events_of, arrived, done_numbers, packet_numbered, is_taken, member_of, is_taken_at}
+use Rattle.strong_share.specs.Words.{events_of, arrivals_in, done_numbers, packet_numbered, is_taken, member_of, is_taken_at}
 use Rattle.strong_share.proofs.Lists.{put, two_one, swapped, one_two}
 use Rattle.strong_share.proofs.Scenes.{Scene, switch_did}
 use Rattle.strong_share.proofs.ServedPackets.{one_if, Agrees, serves_alike, tight_alike}
-use Rattle.strong_share.proofs.Reading.{packet_in, plain_in, end_in, stop_in, more_at, each_taken, each_at, head_of, sent_one, stops_sent, stops_other, event_in}
+use Rattle.strong_share.proofs.Reading.{packet_in, plain_in, end_in, stop_in, more_at, each_taken}
+use Rattle.strong_share.proofs.Reading.{each_at, head_of, sent_one, stops_sent, stops_other, event_in}
 use Rattle.strong_share.proofs.Holding.{in_label, up_label, down_label, out_label, home_label, IsSwitch, IsRight, ends_left, sight, Holds}
 use Rattle.strong_share.proofs.LogLemmas.{arrived-append, entry_numbers, member_numbers, IsQuiet, quiet_log, answered_same}
-use Rattle.switch_node.specs.Switch.{stops}
+use Rattle.switch_node.specs.Switch.{stop_messages}
 
 -- what it brings to each member
 brought : (mine : ℕ → Bool) (b : Bool) (p : ℕ) → (b ≡ false → mine p ≡ false) → filter mine (if b then p ∷ [] else []) ≡ (if mine p then p ∷ [] else [])
@@ -122,7 +124,8 @@ module _ {F R : Type 0} (f : Semantics R) (job : StrongJob) where
     };
     ordered = record {
       in_turn = ap (λ z. z ++ flat_map packet_in rest) (arrived-append x.log (Inner (Arrived q) ∷ []))
-          ∙ append_assoc (arrived x.log) (q ∷ []) (flat_map packet_in rest) ∙ ap (λ ms. arrived x.log ++ flat_map packet_in ms) (sym is) ∙ h.ordered.in_turn;
+          ∙ append_assoc (arrivals_in x.log) (q ∷ []) (flat_map packet_in rest) ∙ ap (λ ms. arrivals_in x.log ++ flat_map packet_in ms) (sym is)
+          ∙ h.ordered.in_turn;
       each_member =
           λ k k_in. more (is_taken_at job k) k (events_of k (came x rest p).log) (events_of k x.log) (flat_map event_in (x.back k))
           (ap (member_numbers k) quiet.entries_stay) (λ off. (let other = swapped (member_of job q) k ∙ off in rw other (and_false (is_taken job q))))
@@ -133,7 +136,7 @@ module _ {F R : Type 0} (f : Semantics R) (job : StrongJob) where
           ∙ ap (λ z. filter untaken (done_numbers x.log) ++ z) (plus untaken (flat_map plain_in (x.out 0)) (0 == member_of job q) to_first)
           ∙ sym (append_assoc (filter untaken (done_numbers x.log)) (filter untaken (flat_map plain_in (x.out 0))) (if untaken q then q ∷ [] else []))
           ∙ ap (λ z. z ++ (if untaken q then q ∷ [] else [])) h.ordered.others
-          ∙ sym (ap (filter untaken) (arrived-append x.log (Inner (Arrived q) ∷ [])) ∙ filter-append untaken (arrived x.log) (q ∷ []));
+          ∙ sym (ap (filter untaken) (arrived-append x.log (Inner (Arrived q) ∷ [])) ∙ filter-append untaken (arrivals_in x.log) (q ∷ []));
       right = subst (Each (IsRight job)) (sym quiet.entries_stay) h.ordered.right;
     };
     serves = serves_alike f job (sight job x) (sight job (came x rest p)) like h.serves;
@@ -177,8 +180,8 @@ module _ {F R : Type 0} (f : Semantics R) (job : StrongJob) where
       plus mine xs b off = filter-append mine xs (if b then p.number ∷ [] else []) ∙ ap (λ z. filter mine xs ++ z) (brought mine b p.number off)
 
       more : (mine : ℕ → Bool) (k : ℕ) (new old events : List ℕ) → new ≡ old → ((k == member_of job p.number) ≡ false → mine p.number ≡ false)
-          → old ++ (events ++ filter mine (flat_map plain_in (x.out k))) ≡ filter mine (arrived x.log)
-          → new ++ (events ++ filter mine (flat_map plain_in ((came x rest p).out k))) ≡ filter mine (arrived (came x rest p).log)
+          → old ++ (events ++ filter mine (flat_map plain_in (x.out k))) ≡ filter mine (arrivals_in x.log)
+          → new ++ (events ++ filter mine (flat_map plain_in ((came x rest p).out k))) ≡ filter mine (arrivals_in (came x rest p).log)
       more mine k new old events same off was =
           ap (λ z. z ++ (events ++ filter mine (flat_map plain_in ((came x rest p).out k)))) same
           ∙ ap (λ z. old ++ (events ++ filter mine z)) (more_at plain_in (x.out k) (Carry mark.Plain (record { pool = 0; packet = p }) ∷ [])
@@ -187,7 +190,7 @@ module _ {F R : Type 0} (f : Semantics R) (job : StrongJob) where
           ∙ ap (λ z. old ++ z) (sym (append_assoc events (filter mine (flat_map plain_in (x.out k))) (if mine p.number then p.number ∷ [] else [])))
           ∙ sym (append_assoc old (events ++ filter mine (flat_map plain_in (x.out k))) (if mine p.number then p.number ∷ [] else []))
           ∙ ap (λ z. z ++ (if mine p.number then p.number ∷ [] else [])) was
-          ∙ sym (ap (filter mine) (arrived-append x.log (Inner (Arrived p.number) ∷ [])) ∙ filter-append mine (arrived x.log) (p.number ∷ []))
+          ∙ sym (ap (filter mine) (arrived-append x.log (Inner (Arrived p.number) ∷ [])) ∙ filter-append mine (arrivals_in x.log) (p.number ∷ []))
 
       less : weigh end_in rest ≡ weigh end_in x.input
       less = let all = ap (weigh end_in) is in omega (arith, all)
@@ -221,7 +224,7 @@ module _ {F R : Type 0} (f : Semantics R) (job : StrongJob) where
       member = h.labelled.member;
     };
     ordered = record {
-      in_turn = ap (λ ms. arrived x.log ++ flat_map packet_in ms) (sym is) ∙ h.ordered.in_turn;
+      in_turn = ap (λ ms. arrivals_in x.log ++ flat_map packet_in ms) (sym is) ∙ h.ordered.in_turn;
       each_member = h.ordered.each_member;
       others = h.ordered.others;
       right = h.ordered.right;
@@ -249,7 +252,7 @@ module _ {F R : Type 0} (f : Semantics R) (job : StrongJob) where
   closed_by x rest = record x {
     down = rest;
     switch = record x.switch { window = with_end x.switch.window };
-    out = λ k. x.out k ++ sent_for (k + 2) (stops x.switch.members);
+    out = λ k. x.out k ++ sent_for (k + 2) (stop_messages x.switch.members);
   }
 
   pub closed_is : (x : Scene F R) (rest : List Msg) → switch_did (record x { down = rest }) (switch_step x.switch Finish) ≡ closed_by x rest
@@ -257,11 +260,11 @@ module _ {F R : Type 0} (f : Semantics R) (job : StrongJob) where
     down = rest;
     switch = record x.switch { window = with_end x.switch.window };
     up = up i;
-    out = λ k. x.out k ++ sent_for (k + 2) (stops x.switch.members);
+    out = λ k. x.out k ++ sent_for (k + 2) (stop_messages x.switch.members);
     log = append-nil x.log i;
   }
     where
-      up : x.up ++ sent_for 1 (stops x.switch.members) ≡ x.up
+      up : x.up ++ sent_for 1 (stop_messages x.switch.members) ≡ x.up
       up = ap (λ z. x.up ++ z) (stops_other x.switch.members 1 two_one) ∙ append-nil x.up
 
   pub closed_holds : 0 < job.members → (x : Scene F R) (rest : List Msg) → Holds f job x → x.down ≡ Finish ∷ rest → Holds f job (closed_by x rest)
@@ -299,10 +302,10 @@ module _ {F R : Type 0} (f : Semantics R) (job : StrongJob) where
       label : Unit {0} × Each (down_label job) rest
       label = head_of (down_label job) x.down Finish rest is h.labelled.down
 
-      sent : (k : ℕ) → k < job.members → sent_for (k + 2) (stops x.switch.members) ≡ Stop ∷ []
+      sent : (k : ℕ) → k < job.members → sent_for (k + 2) (stop_messages x.switch.members) ≡ Stop ∷ []
       sent k k_in = let members = h.labelled.switch.members in stops_sent x.switch.members k (rw members k_in)
 
-      no_plain : (k : ℕ) → k < job.members → flat_map plain_in (x.out k ++ sent_for (k + 2) (stops x.switch.members)) ≡ flat_map plain_in (x.out k)
+      no_plain : (k : ℕ) → k < job.members → flat_map plain_in (x.out k ++ sent_for (k + 2) (stop_messages x.switch.members)) ≡ flat_map plain_in (x.out k)
       no_plain k k_in = ap (λ ms. flat_map plain_in (x.out k ++ ms)) (sent k k_in) ∙ flat_map-append plain_in (x.out k) (Stop ∷ [])
           ∙ append-nil (flat_map plain_in (x.out k))
 

@@ -18,7 +18,7 @@ use Rattle.strong_share.specs.Tables.{serve_row, serve_step, syncs, is_home, the
 use Rattle.strong_share.proofs.Lists.{put, two_zero}
 use Rattle.strong_share.proofs.MemberLists.{sync_of, syncs_more}
 use Rattle.strong_share.proofs.ServedPackets.{one_if}
-use Rattle.switch_node.specs.Switch.{stops}
+use Rattle.switch_node.specs.Switch.{stop_messages}
 
 -- each choice that a message leads to, itself included, where there are so many members beside one
 abbrev pub weight : ℕ → Msg → ℕ
@@ -87,19 +87,19 @@ reaches_low n j r there =
     rw (low, far) refl
 
 -- the stops
-pub stops_cost : (o n : ℕ) → cost o (stops n) ≡ 2 * n
+pub stops_cost : (o n : ℕ) → cost o (stop_messages n) ≡ 2 * n
 stops_cost o zero = omega arith
-stops_cost o (suc n) = let rest = stops_cost o n in let both = weigh-append (λ (s : ℕ × Msg). weight o s.1) (stops n) ((instance_node n, Stop) ∷ []) in
+stops_cost o (suc n) = let rest = stops_cost o n in let both = weigh-append (λ (s : ℕ × Msg). weight o s.1) (stop_messages n) ((instance_node n, Stop) ∷ []) in
     omega (arith, rest, both)
 
 sent-append : (g : Msg → ℕ) (n k : ℕ) (xs ys : List (ℕ × Msg)) → sent_weight g n k (xs ++ ys) ≡ sent_weight g n k xs + sent_weight g n k ys
 sent-append g n k [] ys = omega arith
 sent-append g n k (x ∷ xs) ys = let rest = sent-append g n k xs ys in omega (arith, rest)
 
-pub stops_none : (g : Msg → ℕ) (n k i : ℕ) → g Stop ≡ 0 → sent_weight g n k (stops i) ≡ 0
+pub stops_none : (g : Msg → ℕ) (n k i : ℕ) → g Stop ≡ 0 → sent_weight g n k (stop_messages i) ≡ 0
 stops_none g n k zero e = omega arith
 stops_none g n k (suc i) e = let rest = stops_none g n k i e in let one = none_sent g n k (instance_node i) Stop e in
-    let both = sent-append g n k (stops i) ((instance_node i, Stop) ∷ []) in omega (arith, rest, one, both)
+    let both = sent-append g n k (stop_messages i) ((instance_node i, Stop) ∷ []) in omega (arith, rest, one, both)
 
 -- the chunks that go round
 sync_cost : (o m i : ℕ) (chunk : Chunk) → cost o (sync_of m chunk i) ≡ (if i == m then 0 else 2)

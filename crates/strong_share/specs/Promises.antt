@@ -12,13 +12,14 @@ use Rattle.strong_share.specs.declared.note.StrongNote.{StrongNote}
 use Rattle.strong_share.specs.declared.node.StrongNode.{StrongNode}
 use Rattle.strong_share.specs.Tables.{node_ready, node_ended}
 use Rattle.strong_share.specs.Start.{StrongJob, numbers_of}
-use Rattle.strong_share.specs.Words.{events_of, arrived, done_numbers, is_taken_at, fold, outputs, numbers_in, processed_of, queue_of, outputs_of, live_at, standby_at, cells_at_home, most_choices}
+use Rattle.strong_share.specs.Words.{events_of, arrivals_in, done_numbers, is_taken_at, fold, outputs, numbers_in}
+use Rattle.strong_share.specs.Words.{processed_of, queue_of, outputs_of, live_at, standby_at, cells_at_home, most_choices}
 
 module _ {R : Type 0} (f : Semantics R) (job : StrongJob) where
   -- what every run keeps
   pub record StrongPromises {F : Type 0} (w : Network (StrongNode F R) Msg StrongNote) : Type 0 where
     -- the switch takes the packets in their order
-    pub in_turn : IsFront (arrived w.log) (numbers_of job)
+    pub in_turn : IsFront (arrivals_in w.log) (numbers_of job)
     -- each packet is processed at most once
     pub once : (p : ℕ) → times p (done_numbers w.log) ≤ 1
     -- what is processed of a unit that the filter takes is a front of what was queued of it, and of another unit a front of all its packets
@@ -29,11 +30,11 @@ module _ {R : Type 0} (f : Semantics R) (job : StrongJob) where
     -- outputs are those of one instance that nothing moves, which gets the packets in this order
     pub outputs_are : (unit : units.Unit) → outputs_of f job unit w.log ≡ outputs f job None (processed_of f job unit w.log)
     -- what each member raised is a front of what the switch gave it, as it came
-    pub raised_in_turn : (k : ℕ) → k < job.members → IsFront (events_of k w.log) (filter (is_taken_at job k) (arrived w.log))
+    pub raised_in_turn : (k : ℕ) → k < job.members → IsFront (events_of k w.log) (filter (is_taken_at job k) (arrivals_in w.log))
 
   -- what a complete run keeps besides
   pub record StrongCompleted {F : Type 0} (w : Network (StrongNode F R) Msg StrongNote) : Type 0 where
-    pub all_came : arrived w.log ≡ numbers_of job
+    pub all_came : arrivals_in w.log ≡ numbers_of job
     -- each packet is processed once
     pub each_once : (p : ℕ) → times p (done_numbers w.log) ≡ times p (numbers_of job)
     -- all that was queued of a unit is processed, and all packets of another

@@ -18,5 +18,5 @@ module _ {F R : Type 0} (f : Semantics R) (start : Network (StrongNode F R) Msg 
     pub reached : w ≡ run (node_step f) choices start
 
   -- the choices of a schedule
-  abbrev pub chosen : Schedule → List Choice
-  chosen schedule = scheduled node_ready node_ended (node_step f) MOST_CHOICES schedule start
+  abbrev pub choices_of : Schedule → List Choice
+  choices_of schedule = scheduled node_ready node_ended (node_step f) MOST_CHOICES schedule start

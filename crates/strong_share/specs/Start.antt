@@ -10,7 +10,7 @@ use Rattle.nf_function.specs.declared.kind.Kind.{Kind}
 use Rattle.event_filter.specs.declared.action.Action.TheVariants.{Drop}
 use Rattle.record_table.specs.Table.{empty}
 use Rattle.instance_worker.specs.declared.instance.Instance.{Instance as InstanceState}
-use Rattle.packet_window.specs.Window.{opened}
+use Rattle.packet_window.specs.Window.{window_at_start}
 use Rattle.nf_msgs.specs.declared.msg.Msg.{Msg}
 use Rattle.nf_msgs.specs.declared.msg.Msg.TheVariants.{InPacket, InEnd}
 use Rattle.nf_msgs.specs.declared.nodes.TheConstants.{MOST_INSTANCES}
@@ -66,7 +66,7 @@ input_of packets = map InPacket packets ++ InEnd ∷ []
 
 -- the switch: all cells are at home
 abbrev pub first_switch : StrongJob → SwitchState
-first_switch job = record { window = opened job.window; site = job.site; filter = job.filter; members = job.members }
+first_switch job = record { window = window_at_start job.window; site = job.site; filter = job.filter; members = job.members }
 
 abbrev pub first_controller : StrongJob → ControllerState
 first_controller job = record { members = job.members; queue = []; serving = Idle; finals = 0 }

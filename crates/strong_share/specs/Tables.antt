@@ -1,5 +1,6 @@
 -- Strong sharing: what each node does with each message. This project's own, after the strongly consistent sharing of OpenNF.
-use Rattle.std.specs.Prelude.{ℕ, suc, ◌+◌, ◌-◌, ◌%◌, ◌==◌, ◌&&◌, Bool, true, false, not, nat_lt, List, [], ◌∷◌, ◌++◌, map, filter, length, if◌then◌else◌, Option, Some, None}
+use Rattle.std.specs.Prelude.{ℕ, suc, ◌+◌, ◌-◌, ◌%◌, ◌==◌, ◌&&◌, Bool, true, false, not, nat_lt, List}
+use Rattle.std.specs.Prelude.{[], ◌∷◌, ◌++◌, map, filter, length, if◌then◌else◌, Option, Some, None}
 use Rattle.std.specs.List.{range_with_len}
 use Rattle.flow_filter.specs.declared.packet.Packet.{Packet}
 use Rattle.flow_filter.specs.Filter.{matches}
@@ -15,7 +16,7 @@ use Rattle.nf_msgs.specs.declared.note.Note.{Note}
 use Rattle.nf_msgs.specs.declared.note.Note.TheVariants.{Arrived}
 use Rattle.nf_msgs.specs.Nodes.{switch_node, controller_node, instance_node}
 use Rattle.actor_net.specs.Network.{Stepped}
-use Rattle.switch_node.specs.Switch.{stops}
+use Rattle.switch_node.specs.Switch.{stop_messages}
 use Rattle.instance_worker.specs.Instance.{instance_step}
 use Rattle.net_world.specs.Nodes.{as_node}
 use Rattle.strong_share.specs.declared.note.StrongNote.{StrongNote}
@@ -59,7 +60,7 @@ on_packet s p = if has_room s.window then record {
 abbrev pub switch_step : SwitchState → Msg → SwitchStep
 switch_step s (InPacket p) = on_packet s p
 switch_step s InEnd = record { node = s; sends = (controller_node, End) ∷ []; notes = [] }
-switch_step s Finish = record { node = record s { window = with_end s.window }; sends = stops s.members; notes = [] }
+switch_step s Finish = record { node = record s { window = with_end s.window }; sends = stop_messages s.members; notes = [] }
 switch_step s (Credit cell) = switch_still (record s { window = with_home s.window cell })
 switch_step s message = switch_still s
 

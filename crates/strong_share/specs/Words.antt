@@ -1,6 +1,7 @@
 -- The words in which strong sharing makes its promises: what is read off a log and a world. Packets go by their numbers.
 -- This project's own.
-use Rattle.std.specs.Prelude.{ℕ, ◌+◌, ◌-◌, ◌*◌, ◌%◌, ◌==◌, ◌&&◌, Bool, if◌then◌else◌, List, map, filter, filter_map, find, scan, length, Option, None, Some, unwrap_or, slice_get}
+use Rattle.std.specs.Prelude.{ℕ, ◌+◌, ◌-◌, ◌*◌, ◌%◌, ◌==◌, ◌&&◌, Bool, if◌then◌else◌, List, map, filter}
+use Rattle.std.specs.Prelude.{filter_map, find, scan, length, Option, None, Some, unwrap_or, slice_get}
 use Rattle.std.specs.List as lists
 use Rattle.std.specs.FinMap as finite
 use Rattle.flow_filter.specs.declared.packet.Packet.{Packet}
@@ -46,14 +47,14 @@ abbrev pub events_of : ℕ → List StrongNote → List ℕ
 events_of k notes = map (λ e. e.0) (filter (λ e. e.1 == k) (entries notes))
 
 -- the packets that the switch took in, what was processed, and the packets that were
-abbrev pub arrived : List StrongNote → List ℕ
-arrived notes = log.arrived (inner_notes notes)
+abbrev pub arrivals_in : List StrongNote → List ℕ
+arrivals_in notes = log.arrivals_in (inner_notes notes)
 
-abbrev pub done : List StrongNote → List log.Done
-done notes = log.done (inner_notes notes)
+abbrev pub dones_in : List StrongNote → List log.Done
+dones_in notes = log.dones_in (inner_notes notes)
 
 abbrev pub done_numbers : List StrongNote → List ℕ
-done_numbers notes = map (λ d. d.number) (done notes)
+done_numbers notes = map (λ d. d.number) (dones_in notes)
 
 module _ (job : StrongJob) where
   -- the packet with a number
@@ -96,7 +97,7 @@ module _ {R : Type 0} (f : Semantics R) (job : StrongJob) where
 
   -- the outputs to those that were processed
   abbrev pub outputs_of : units.Unit → List StrongNote → List Output
-  outputs_of unit notes = map (λ d. d.output) (filter (λ d. is_of unit d.number) (done notes))
+  outputs_of unit notes = map (λ d. d.output) (filter (λ d. is_of unit d.number) (dones_in notes))
 
 module _ {F R : Type 0} where
   -- the record of a unit that is live at a member of a world, or stands by there

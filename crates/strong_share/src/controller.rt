@@ -1,6 +1,7 @@
 //! The controller of strong sharing: it queues the packets that members raise, and serves them one at a time.
 ghost use Rattle.std.specs.Prelude.{◌≡◌, ◌≤◌, ◌<◌, [], ◌++◌, IfOk, IfSome, OnOk};
-ghost use Rattle.strong_share.specs.Tables.{all_stopped, controller_step, member_at, on_event, on_final, row_of_member, row_of_switch, serve_step, shared_row, synced_row, syncs};
+ghost use Rattle.strong_share.specs.Tables.{all_stopped, controller_step, member_at, on_event, on_final};
+ghost use Rattle.strong_share.specs.Tables.{row_of_member, row_of_switch, serve_step, shared_row, synced_row, syncs};
 
 use crate::note::StrongNote;
 use crate::queued_packet::QueuedPacket;

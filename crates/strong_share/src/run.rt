@@ -3,10 +3,10 @@ ghost use Rattle.std.specs.Prelude.{◌≡◌, ◌≢◌, ◌<◌, ℕ, true, le
 ghost use Rattle.std.specs.declared.alloc.Global.{Global as AnAllocator};
 ghost use Rattle.flow_filter.specs.Limits.{most_packets};
 ghost use Rattle.actor_net.specs.Network.{is_done};
-ghost use Rattle.actor_net.specs.Replays.{replayed};
+ghost use Rattle.actor_net.specs.Replays.{replay_of};
 ghost use Rattle.strong_share.specs.Start.{StrongJob as AJob, IsStrongJob, job_of, strong_start};
 ghost use Rattle.strong_share.specs.Tables.{node_ended, node_ready, node_step};
-ghost use Rattle.strong_share.specs.Runs.{chosen, LeadsTo};
+ghost use Rattle.strong_share.specs.Runs.{choices_of, LeadsTo};
 ghost use Rattle.strong_share.specs.Promises.{StrongCompleted, StrongEnds, StrongPromises};
 
 use crate::node::StrongNode;
@@ -30,7 +30,8 @@ pub fn simulate_strong<F: Function>(
     schedule: Schedule,
 ) -> Result<(World<StrongNode<F>>, Choices), ScheduleFault>
     requires { IsStrongJob F.semantics.kind (job_of site window members filter packets) }
-    ensures choices { IfOk result (λ r. r.1 ≡ chosen {F = F.row.Denot} F.semantics (strong_start alloc (job_of site window members filter packets)) schedule) }
+    ensures choices { IfOk result
+        (λ r. r.1 ≡ choices_of {F = F.row.Denot} F.semantics (strong_start alloc (job_of site window members filter packets)) schedule) }
     ensures leads { IfOk result (λ r. LeadsTo F.semantics (strong_start alloc (job_of site window members filter packets)) r.1 r.0) }
     ensures complete { IfOk result (λ r. is_done node_ended r.0 ≡ true) }
     ensures promises { IfOk result (λ r. StrongPromises F.semantics (job_of site window members filter packets) r.0) }
@@ -47,7 +48,7 @@ pub fn run_strong<F: Function>(
     world: World<StrongNode<F>>,
     choices: &[Choice],
 ) -> Result<World<StrongNode<F>>, ReplayFault>
-    ensures replay { result ≢ Err ReplayFault.NoMemory → result ≡ replayed node_ready (node_step F.semantics) choices.now world }
+    ensures replay { result ≢ Err ReplayFault.NoMemory → result ≡ replay_of node_ready (node_step F.semantics) choices.now world }
     ensures promises { (alloc : AnAllocator) (job : AJob) → IsStrongJob F.semantics.kind job → world ≡ strong_start alloc job
         → IfOk result (λ reached. StrongPromises F.semantics job reached) }
     ensures completed { (alloc : AnAllocator) (job : AJob) → IsStrongJob F.semantics.kind job → world ≡ strong_start alloc job

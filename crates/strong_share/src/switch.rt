@@ -1,8 +1,8 @@
 //! The switch of strong sharing: it gives the filter's packets to the members in turn, and all others to the first.
 ghost use Rattle.std.specs.Prelude.{◌≡◌, ◌≤◌, ◌<◌, ◌++◌, OnOk};
 ghost use Rattle.nf_msgs.specs.declared.nodes.TheConstants.{MOST_INSTANCES as MOST};
-ghost use Rattle.switch_node.specs.Switch.{stops};
-ghost use Rattle.packet_window.specs.Window.{opened};
+ghost use Rattle.switch_node.specs.Switch.{stop_messages};
+ghost use Rattle.packet_window.specs.Window.{window_at_start};
 ghost use Rattle.strong_share.specs.Tables.{has_closed, member_for, on_packet, switch_step, takes_in};
 
 use crate::note::StrongNote;
@@ -42,7 +42,7 @@ impl StrongSwitch {
     pub(crate) fn open(alloc: Global, window: u32, members: u8, filter: Filter, site: Site) -> Self
         requires window { (1 ≤ window) × (window ≤ MOST_WINDOW) }
         requires members { (1 ≤ members) × (members ≤ MOST_INSTANCES) }
-        ensures { result ≡ record { window = opened window; site = site; filter = filter; members = members } }
+        ensures { result ≡ record { window = window_at_start window; site = site; filter = filter; members = members } }
     {
         StrongSwitch {
             window: Window::open(alloc, window),
@@ -132,7 +132,7 @@ impl StrongSwitch {
     /// Stops each member, in order.
     fn finish(&mut self, out: &mut Outbox<Msg, StrongNote>) -> Result<(), NoMemory>
         ensures node { OnOk result (self.new ≡ (switch_step self.old Msg.Finish).node) }
-        ensures sends { OnOk result (out.new.0 ≡ out.old.0 ++ stops self.old.members) }
+        ensures sends { OnOk result (out.new.0 ≡ out.old.0 ++ stop_messages self.old.members) }
         ensures notes { OnOk result (out.new.1 ≡ out.old.1) }
     {
         self.window.close();

@@ -7,11 +7,12 @@ use Rattle.flow_filter.specs.Flow.{flow_of}
 use Rattle.event_filter.specs.declared.mark.Mark.TheVariants.{Plain}
 use Rattle.switch_rules.specs.declared.target.Target.{Target}
 use Rattle.switch_rules.specs.declared.target.Target.TheVariants.{Instance, Controller}
-use Rattle.switch_rules.specs.Rules.{Rule, first_match, redirected}
+use Rattle.switch_rules.specs.Rules.{Rule, first_match, rules_redirected}
 use Rattle.packet_pool.specs.Pool.{PoolState, FullCell, one_less, one_more}
 use Rattle.nf_msgs.specs.declared.command.Command.{Command}
 use Rattle.nf_msgs.specs.declared.msg.Msg.{Msg}
-use Rattle.nf_msgs.specs.declared.msg.Msg.TheVariants.{InPacket, InCommand, InSettle, InEnd, Asked, Diverted, End, Forward, Install, FenceTo, Answered, Finish, Carry, Fence, Stop, Credit}
+use Rattle.nf_msgs.specs.declared.msg.Msg.TheVariants.{InPacket, InCommand, InSettle, InEnd, Asked, Diverted, End, Forward}
+use Rattle.nf_msgs.specs.declared.msg.Msg.TheVariants.{Install, FenceTo, Answered, Finish, Carry, Fence, Stop, Credit}
 use Rattle.nf_msgs.specs.declared.note.Note.{Note}
 use Rattle.nf_msgs.specs.declared.note.Note.TheVariants.{Arrived, Installed}
 use Rattle.nf_msgs.specs.Nodes.{controller_node, instance_node}
@@ -49,8 +50,8 @@ abbrev pub target_of : SwitchState → Packet → Target
 target_of s packet = unwrap_or (first_match s.rules (flow_of s.site packet).0) (Instance 0)
 
 -- a packet takes a cell and arrives; it is sent on in this message
-abbrev pub arrives : SwitchState → Packet → ℕ → (FullCell → Msg) → Step
-arrives s packet to message = record {
+abbrev pub arrival_step : SwitchState → Packet → ℕ → (FullCell → Msg) → Step
+arrival_step s packet to message = record {
   node = record s { pool = one_less s.pool; flying = s.flying + 1 };
   sends = (to, message (record { pool = s.pool.name; packet = packet })) ∷ [];
   notes = Arrived packet.number ∷ [];
@@ -58,8 +59,8 @@ arrives s packet to message = record {
 
 -- a packet goes to its target
 abbrev pub goes_to : SwitchState → Packet → Target → Step
-goes_to s packet Controller = arrives s packet controller_node Diverted
-goes_to s packet (Instance i) = if nat_lt i s.instances then arrives s packet (instance_node i) (Carry Plain) else still s
+goes_to s packet Controller = arrival_step s packet controller_node Diverted
+goes_to s packet (Instance i) = if nat_lt i s.instances then arrival_step s packet (instance_node i) (Carry Plain) else still s
 
 -- whether one packet more may be under way
 abbrev pub has_room : SwitchState → Bool
@@ -87,16 +88,16 @@ abbrev pub on_install : SwitchState → ℕ → Filter → ℕ → Target → St
 on_install s op filter from to =
     if nat_lt from s.instances && is_there s to
     then record {
-      node = record s { rules = redirected (record { filter = filter; from = Instance from; to = to }) s.rules };
+      node = record s { rules = rules_redirected (record { filter = filter; from = Instance from; to = to }) s.rules };
       sends = (instance_node from, Fence op) ∷ [];
       notes = Installed op ∷ [];
     }
     else still s
 
 -- a stop to each of the first instances, in order
-abbrev pub stops : ℕ → List (ℕ × Msg)
-stops zero = []
-stops (suc i) = stops i ++ (instance_node i, Stop) ∷ []
+abbrev pub stop_messages : ℕ → List (ℕ × Msg)
+stop_messages zero = []
+stop_messages (suc i) = stop_messages i ++ (instance_node i, Stop) ∷ []
 
 -- a cell comes home, if it is one of the pool's
 abbrev pub on_credit : SwitchState → FullCell → Step
@@ -113,7 +114,7 @@ switch_step s (Forward to mark parcel) = sends_to_instance s to (Carry mark parc
 switch_step s (Install op filter from to) = on_install s op filter from to
 switch_step s (FenceTo op to) = sends_to_instance s to (Fence op)
 switch_step s (Answered op) = record { node = record s { waiting = s.waiting - 1 }; sends = []; notes = [] }
-switch_step s Finish = record { node = record s { closed = true }; sends = stops s.instances; notes = [] }
+switch_step s Finish = record { node = record s { closed = true }; sends = stop_messages s.instances; notes = [] }
 switch_step s (Credit cell) = on_credit s cell
 switch_step s message = still s
 

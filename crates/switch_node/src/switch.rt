@@ -1,13 +1,15 @@
 //! The switch: it takes in packets and commands, sends packets where its rules say, and takes cells home.
 ghost use Rattle.std.specs.Prelude.{◌≡◌, ◌≤◌, ◌<◌, ◌+◌, ◌++◌, false, All, IfOk, OnOk};
 ghost use Rattle.switch_rules.specs.Rules.{opened};
-ghost use Rattle.switch_node.specs.Switch.{has_closed, on_command, on_install, on_packet, sends_to_instance, stops, switch_step, takes_in, target_of, is_there};
+ghost use Rattle.switch_node.specs.Switch.{has_closed, on_command, on_credit, on_install, on_packet, sends_to_instance};
+ghost use Rattle.switch_node.specs.Switch.{stop_messages, switch_step, takes_in, target_of, is_there};
 
 use actor_net::{Actor, Outbox};
 use basics::{Boxed, NoMemory};
 use event_filter::Mark;
 use flow_filter::{CapturedPacket, Filter, Packet, Site, flow_of};
 use nf_msgs::{CONTROLLER, Command, MOST_INSTANCES, Msg, Note, instance_node};
+use packet_pool::Cell;
 use packet_window::Window;
 use std::alloc::Global;
 use std::marker::Model;
@@ -72,6 +74,7 @@ impl Actor for Switch {
         }
     }
 
+    #[inline(always)]
     fn step(
         &mut self,
         _port: u8,
@@ -80,26 +83,8 @@ impl Actor for Switch {
     ) -> Result<(), NoMemory> {
         match message {
             Msg::InPacket(packet) => self.let_in(packet, out),
-            Msg::InCommand(command) => self.ask(command, out),
-            Msg::InEnd => out.send(CONTROLLER, Msg::End),
-            Msg::Forward { to, mark, parcel } => self.send_to(to, Msg::Carry { mark, parcel }, out),
-            Msg::Install {
-                op,
-                filter,
-                from,
-                to,
-            } => self.install(op, filter.get(), from, to, out),
-            Msg::FenceTo { op, to } => self.send_to(to, Msg::Fence { op }, out),
-            Msg::Answered { .. } => {
-                self.waiting = self.waiting.saturating_sub(1);
-                Ok(())
-            }
-            Msg::Finish => self.finish(out),
-            Msg::Credit(cell) => {
-                self.window.take_home(cell);
-                Ok(())
-            }
-            _ => Ok(()),
+            Msg::Credit(cell) => self.credit(cell),
+            message => self.obey(message, out),
         }
     }
 
@@ -146,7 +131,38 @@ impl Switch {
         self.window.home()
     }
 
+    /// Does what any message asks. Most messages are packets and cells that come home; they don't come here, so that nothing which the others need
+    /// is made ready for them.
+    #[inline(never)]
+    fn obey(&mut self, message: Msg, out: &mut Outbox<Msg, Note>) -> Result<(), NoMemory>
+        ensures node { OnOk result (self.new ≡ (switch_step self.old message).node) }
+        ensures sends { OnOk result (out.new.0 ≡ out.old.0 ++ (switch_step self.old message).sends) }
+        ensures notes { OnOk result (out.new.1 ≡ out.old.1 ++ (switch_step self.old message).notes) }
+    {
+        match message {
+            Msg::InPacket(packet) => self.let_in(packet, out),
+            Msg::InCommand(command) => self.ask(command, out),
+            Msg::InEnd => out.send(CONTROLLER, Msg::End),
+            Msg::Forward { to, mark, parcel } => self.send_to(to, Msg::Carry { mark, parcel }, out),
+            Msg::Install {
+                op,
+                filter,
+                from,
+                to,
+            } => self.install(op, filter.get(), from, to, out),
+            Msg::FenceTo { op, to } => self.send_to(to, Msg::Fence { op }, out),
+            Msg::Answered { .. } => {
+                self.waiting = self.waiting.saturating_sub(1);
+                Ok(())
+            }
+            Msg::Finish => self.finish(out),
+            Msg::Credit(cell) => self.credit(cell),
+            _ => Ok(()),
+        }
+    }
+
     /// Puts a packet into a cell and sends it to its target.
+    #[inline(always)]
     fn let_in(
         &mut self,
         captured: CapturedPacket,
@@ -177,9 +193,13 @@ impl Switch {
     }
 
     /// The target of a packet, by its flow.
+    #[inline(always)]
     fn target_of(&self, packet: &Packet) -> Target
         ensures { result ≡ target_of self.now packet.now }
     {
+        if let Some(target) = self.rules.only() {
+            return target;
+        }
         let (flow, _direction) = flow_of(&self.site, packet);
         self.rules.target(&flow)
     }
@@ -192,6 +212,15 @@ impl Switch {
             Target::Controller => true,
             Target::Instance(instance) => instance < self.instances,
         }
+    }
+
+    /// Takes a cell home.
+    #[inline(always)]
+    fn credit(&mut self, cell: Cell) -> Result<(), NoMemory>
+        ensures { OnOk result (self.new ≡ (on_credit self.old cell).node) }
+    {
+        self.window.take_home(cell);
+        Ok(())
     }
 
     /// Hands a command on to the controller.
@@ -244,7 +273,7 @@ impl Switch {
     /// Stops each instance, in order.
     fn finish(&mut self, out: &mut Outbox<Msg, Note>) -> Result<(), NoMemory>
         ensures node { OnOk result (self.new ≡ (switch_step self.old Msg.Finish).node) }
-        ensures sends { OnOk result (out.new.0 ≡ out.old.0 ++ stops self.old.instances) }
+        ensures sends { OnOk result (out.new.0 ≡ out.old.0 ++ stop_messages self.old.instances) }
         ensures notes { OnOk result (out.new.1 ≡ out.old.1) }
     {
         self.window.close();

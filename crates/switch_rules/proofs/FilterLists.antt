@@ -14,4 +14,5 @@ pub AreFilters-more : (rules : List Rule) (i : ℕ) (r : Rule) → i < length ru
 AreFilters-more rules i r within read all fits = All-more fit rules i r within all (subst fit read fits)
 
 pub AreFilters-uncovered : (rules : List Rule) → AreFilters rules → AreFilters (uncovered rules)
-AreFilters-uncovered rules all = All-from_recursion fit (uncovered rules) (AllByRecursion-firsts fit (λ x y. covers x.0 y.0) rules (recursion_from_All fit rules all))
+AreFilters-uncovered rules all =
+    All-from_recursion fit (uncovered rules) (AllByRecursion-firsts fit (λ x y. covers x.0 y.0) rules (recursion_from_All fit rules all))

@@ -1,5 +1,6 @@
 -- Of the entries that a flow meets, one at most in each group, the one with the least place is the first rule that matches.
-use Rattle.std.proofs.Common.{◌≡◌, ℕ, ◌+◌, ◌<◌, ◌≤◌, Bool, true, false, cond, ltb, ◌&&◌, ◌||◌, List, [], ◌∷◌, ◌++◌, map, length, take, get_or, Option, None, Some, refl, ap, sym, subst, ◌∙◌, arith}
+use Rattle.std.proofs.Common.{◌≡◌, ℕ, ◌+◌, ◌<◌, ◌≤◌, Bool, true, false, cond, ltb, ◌&&◌, ◌||◌, List, [], ◌∷◌, ◌++◌}
+use Rattle.std.proofs.Common.{map, length, take, get_or, Option, None, Some, refl, ap, sym, subst, ◌∙◌, arith}
 use Rattle.std.specs.Prelude.{find, option_map}
 use Rattle.std.specs.List.{list_any, enumerate_from, filter_map, cons_option, AllByRecursion}
 use Rattle.std.proofs.lemmas.Bool.{lt-ltb, le-ltb, ltb-true, ltb-false}
@@ -15,7 +16,7 @@ use Rattle.switch_rules.specs.declared.group.Group.{Group}
 use Rattle.switch_rules.specs.declared.group.Placed.{Placed}
 use Rattle.switch_rules.specs.Masks.{mask_of, values_of, masked, mask_eq}
 use Rattle.switch_rules.specs.Rules.{Rule, first_match}
-use Rattle.switch_rules.specs.Groups.{AreGroups, masks_of, has_key, first_placed, entry, met, nearer, least, answer}
+use Rattle.switch_rules.specs.Groups.{AreGroups, masks_of, has_key, first_placed, entry, entries_met, nearer, least, answer}
 use Rattle.switch_rules.proofs.MaskLemmas.{mask_eq_same, mask_eq_refl, mask_eq_flips, matches-masked}
 use Rattle.switch_rules.proofs.MaskLists.{has_mask, any-masks_of}
 use Rattle.switch_rules.proofs.PlacedRules.{placed, place_from, find-enumerate_from}
@@ -30,14 +31,16 @@ nearer_three (Some p) None c = refl
 nearer_three (Some p) (Some q) None = refl
 nearer_three (Some p) (Some q) (Some r) = elim (ltb q.place p.place) as (λ b. ltb q.place p.place ≡ b
     → nearer (Some (cond b q p)) (Some r) ≡ Some (cond (ltb (cond (ltb r.place q.place) r q).place p.place) (cond (ltb r.place q.place) r q) p)) [
-      | true ↦ λ first. elim (ltb r.place q.place) as (λ b. ltb r.place q.place ≡ b → Some (cond b r q) ≡ Some (cond (ltb (cond b r q).place p.place) (cond b r q) p)) [
-        | true ↦ λ second. rw (lt-ltb r.place p.place (let a = ltb-true _ _ first in let b = ltb-true _ _ second in omega arith)) refl
-        | false ↦ λ second. rw first refl
-      ] refl
-      | false ↦ λ first. elim (ltb r.place q.place) as (λ b. ltb r.place q.place ≡ b → Some (cond (ltb r.place p.place) r p) ≡ Some (cond (ltb (cond b r q).place p.place) (cond b r q) p)) [
-        | true ↦ λ second. refl
-        | false ↦ λ second. rw (first, le-ltb r.place p.place (let a = ltb-false _ _ first in let b = ltb-false _ _ second in omega arith)) refl
-      ] refl
+      | true ↦ λ first. elim (ltb r.place q.place)
+          as (λ b. ltb r.place q.place ≡ b → Some (cond b r q) ≡ Some (cond (ltb (cond b r q).place p.place) (cond b r q) p)) [
+            | true ↦ λ second. rw (lt-ltb r.place p.place (let a = ltb-true _ _ first in let b = ltb-true _ _ second in omega arith)) refl
+            | false ↦ λ second. rw first refl
+          ] refl
+      | false ↦ λ first. elim (ltb r.place q.place)
+          as (λ b. ltb r.place q.place ≡ b → Some (cond (ltb r.place p.place) r p) ≡ Some (cond (ltb (cond b r q).place p.place) (cond b r q) p)) [
+            | true ↦ λ second. refl
+            | false ↦ λ second. rw (first, le-ltb r.place p.place (let a = ltb-false _ _ first in let b = ltb-false _ _ second in omega arith)) refl
+          ] refl
     ] refl
 
 -- one more entry, or none
@@ -48,11 +51,11 @@ least-push (p ∷ ps) o = ap (nearer (Some p)) (least-push ps o) ∙ sym (nearer
 
 -- one more group
 pub least-met_more : (gs : List Group) (flow : Flow) (i : ℕ) (g : Group) → i < length gs → g ≡ get_or gs i g
-    → least (met (take (i + 1) gs) flow) ≡ nearer (least (met (take i gs) flow)) (entry g (masked g.mask flow))
+    → least (entries_met (take (i + 1) gs) flow) ≡ nearer (least (entries_met (take i gs) flow)) (entry g (masked g.mask flow))
 least-met_more gs flow i g within read =
-    ap (λ xs. least (met xs flow)) (take_more gs i g within ∙ ap (λ x. take i gs ++ x ∷ []) (sym read))
+    ap (λ xs. least (entries_met xs flow)) (take_more gs i g within ∙ ap (λ x. take i gs ++ x ∷ []) (sym read))
     ∙ ap least (filter_map-append (λ x. entry x (masked x.mask flow)) (take i gs) (g ∷ []))
-    ∙ least-push (met (take i gs) flow) (entry g (masked g.mask flow))
+    ∙ least-push (entries_met (take i gs) flow) (entry g (masked g.mask flow))
 
 -- a rule has the masked flow under the mask exactly where it has the mask and matches the flow
 key_matches : (flow : Flow) → IsFlow flow → (m : Mask) (r : Rule) (test : Bool) → has_mask m r ≡ test
@@ -68,10 +71,10 @@ found flow fits m n (x ∷ rules) = rw (key_matches flow fits m x (has_mask m x)
 
 met_candidates : (flow : Flow) → IsFlow flow → (rules : List Rule) (gs : List Group)
     → AllByRecursion (λ g. (key : Flow) → entry g key ≡ first_placed rules g.mask key) gs
-    → met gs flow ≡ filter_map (candidate flow 0 rules) (map (λ g. g.mask) gs)
+    → entries_met gs flow ≡ filter_map (candidate flow 0 rules) (map (λ g. g.mask) gs)
 met_candidates flow fits rules [] all = refl
 met_candidates flow fits rules (g ∷ gs) all =
-    ap (λ o. cons_option o (met gs flow)) (all.0 (masked g.mask flow) ∙ ap (option_map placed) (found flow fits g.mask 0 rules))
+    ap (λ o. cons_option o (entries_met gs flow)) (all.0 (masked g.mask flow) ∙ ap (option_map placed) (found flow fits g.mask 0 rules))
     ∙ ap (cons_option (candidate flow 0 rules g.mask)) (met_candidates flow fits rules gs all.1)
 
 filter_map-same : (f g : Mask → Option Placed) → ((m : Mask) → f m ≡ g m) → (ms : List Mask) → filter_map f ms ≡ filter_map g ms
@@ -104,13 +107,15 @@ best_behind p q false (Some x) behind is = λ r e. elim (ltb x.place q.place) as
 first_best : (p : Placed) (mask : Mask) (rest : Mask → Option Placed) → ((m : Mask) (q : Placed) → rest m ≡ Some q → p.place < q.place) → (ms : List Mask)
     → IsBest p (list_any (mask_eq mask) ms) (least (filter_map (λ m. cond (mask_eq mask m) (Some p) (rest m)) ms))
 first_best p mask rest behind [] = λ q e. cc
-first_best p mask rest behind (m ∷ ms) = elim (mask_eq mask m) as (λ b. IsBest p (b || list_any (mask_eq mask) ms) (least (cons_option (cond b (Some p) (rest m)) (filter_map (λ k. cond (mask_eq mask k) (Some p) (rest k)) ms)))) [
-  | true ↦ best_itself p (list_any (mask_eq mask) ms) _ (first_best p mask rest behind ms)
-  | false ↦ elim (rest m) as (λ o. rest m ≡ o → IsBest p (list_any (mask_eq mask) ms) (least (cons_option o (filter_map (λ k. cond (mask_eq mask k) (Some p) (rest k)) ms)))) [
-    | None ↦ λ none. first_best p mask rest behind ms
-    | Some q ↦ λ some. best_behind p q (list_any (mask_eq mask) ms) _ (behind m q some) (first_best p mask rest behind ms)
-  ] refl
-]
+first_best p mask rest behind (m ∷ ms) = elim (mask_eq mask m) as (λ b. IsBest p (b || list_any (mask_eq mask) ms)
+    (least (cons_option (cond b (Some p) (rest m)) (filter_map (λ k. cond (mask_eq mask k) (Some p) (rest k)) ms)))) [
+      | true ↦ best_itself p (list_any (mask_eq mask) ms) _ (first_best p mask rest behind ms)
+      | false ↦ elim (rest m)
+          as (λ o. rest m ≡ o → IsBest p (list_any (mask_eq mask) ms) (least (cons_option o (filter_map (λ k. cond (mask_eq mask k) (Some p) (rest k)) ms)))) [
+            | None ↦ λ none. first_best p mask rest behind ms
+            | Some q ↦ λ some. best_behind p q (list_any (mask_eq mask) ms) _ (behind m q some) (first_best p mask rest behind ms)
+          ] refl
+    ]
 
 candidate_place : (flow : Flow) (n : ℕ) (rules : List Rule) (m : Mask) (q : Placed) → candidate flow n rules m ≡ Some q → n ≤ q.place
 candidate_place flow n rules m q is = elim (find (λ x. has_mask m x.1 && matches x.1.0 flow) (enumerate_from n rules)) as (λ o.
@@ -119,7 +124,8 @@ candidate_place flow n rules m q is = elim (find (λ x. has_mask m x.1 && matche
       | Some r ↦ λ some e. subst (λ y. n ≤ y.place) (same_Some (placed r) q e) (place_from (λ x. has_mask m x && matches x.0 flow) n rules r some)
     ] refl is
 
-taken : (test : Bool) (x : ℕ × Rule) (o : Option (ℕ × Rule)) → option_map placed (cond (test && true) (Some x) o) ≡ cond test (Some (placed x)) (option_map placed o)
+taken : (test : Bool) (x : ℕ × Rule) (o : Option (ℕ × Rule))
+    → option_map placed (cond (test && true) (Some x) o) ≡ cond test (Some (placed x)) (option_map placed o)
 taken true x o = refl
 taken false x o = refl
 
@@ -136,9 +142,11 @@ best_first flow ms n (x ∷ rules) all =
     let p : Placed = placed (n, x) in
     elim (matches x.0 flow) as (λ b. least (filter_map (λ m. option_map placed (cond (has_mask m x && b) (Some (n, x)) (rest m))) ms)
     ≡ option_map placed (cond b (Some (n, x)) (find (λ y. matches y.1.0 flow) (enumerate_from (n + 1) rules)))) [
-      | true ↦ ap least (filter_map-same _ (λ m. cond (mask_eq (mask_of x.0) m) (Some p) (candidate flow (n + 1) rules m)) (λ m. taken (has_mask m x) (n, x) (rest m)) ms)
+      | true ↦ ap least
+          (filter_map-same _ (λ m. cond (mask_eq (mask_of x.0) m) (Some p) (candidate flow (n + 1) rules m)) (λ m. taken (has_mask m x) (n, x) (rest m)) ms)
           ∙ subst (λ b. IsBest p b (least (filter_map (λ m. cond (mask_eq (mask_of x.0) m) (Some p) (candidate flow (n + 1) rules m)) ms))) all.0
-          (first_best p (mask_of x.0) (candidate flow (n + 1) rules) (λ m q is. let later = candidate_place flow (n + 1) rules m q is in omega (arith, later)) ms)
+          (first_best p (mask_of x.0) (candidate flow (n + 1) rules)
+          (λ m q is. let later = candidate_place flow (n + 1) rules m q is in omega (arith, later)) ms)
       | false ↦ ap least (filter_map-same _ (candidate flow (n + 1) rules) (λ m. passed (has_mask m x) (n, x) (rest m)) ms)
           ∙ best_first flow ms (n + 1) rules all.1
     ]
@@ -160,7 +168,8 @@ targets (Some x) = refl
 -- the answer of the groups is the first match of the rules
 pub answer-first : (rules : List Rule) (gs : List Group) → AreGroups rules gs → (flow : Flow) → IsFlow flow → answer gs flow ≡ first_match rules flow
 answer-first rules gs are flow fits =
-    ap (λ ps. option_map (λ p. p.target) (least ps)) (met_candidates flow fits rules gs (recursion_from_All (λ g. (key : Flow) → entry g key ≡ first_placed rules g.mask key) gs are.entries)
+    ap (λ ps. option_map (λ p. p.target) (least ps))
+    (met_candidates flow fits rules gs (recursion_from_All (λ g. (key : Flow) → entry g key ≡ first_placed rules g.mask key) gs are.entries)
     ∙ ap (filter_map (candidate flow 0 rules)) are.masks)
     ∙ ap (option_map (λ p. p.target)) (best_first flow (masks_of rules) 0 rules (masks_there rules))
     ∙ targets (find (λ x. matches x.1.0 flow) (enumerate_from 0 rules))

@@ -59,26 +59,30 @@ module _ {X : Type 0} where
   all_pass P Q gives (x ∷ xs) all = (gives x all.0, all_pass P Q gives xs all.1)
 
   -- what leaves an item out is among the firsts, where the test goes on through what it leaves out
-  pub any-firsts : (P : X → Type 0) (t : X → X → Bool) (y : X) → ((x k : X) → P x → P k → t x k ≡ true → t k y ≡ true → t x y ≡ true) → (xs : List X) → AllByRecursion P xs
+  pub any-firsts : (P : X → Type 0) (t : X → X → Bool) (y : X) → ((x k : X) → P x → P k → t x k ≡ true → t k y ≡ true → t x y ≡ true) → (xs : List X)
+      → AllByRecursion P xs
       → list_any (λ x. t x y) (firsts t xs) ≡ list_any (λ x. t x y) xs
   any-firsts P t y through [] all = refl
   any-firsts P t y through (x ∷ xs) all = or_since (t x y) _ _ (λ off.
       any-find (λ k. t k y) (filter (λ later. not (t x later)) (firsts t xs))
       ∙ ap is_some (find-filter (λ k. t k y) (λ later. not (t x later)) (firsts t xs) (all_pass P (λ k. t k y ≡ true → not (t x k) ≡ true)
-      (λ k pk at. ap not (false_from_ne_true (t x k) (λ is. true≢false (sym (through x k all.0 pk is at) ∙ off)))) (firsts t xs) (AllByRecursion-firsts P t xs all.1)))
+      (λ k pk at. ap not (false_from_ne_true (t x k) (λ is. true≢false (sym (through x k all.0 pk is at) ∙ off)))) (firsts t xs)
+      (AllByRecursion-firsts P t xs all.1)))
       ∙ sym (any-find (λ k. t k y) (firsts t xs)) ∙ any-firsts P t y through xs all.1)
 
   left_out : (t : X → X → Bool) (x : X) (ys : List X) → AllByRecursion (λ y. t x y ≡ false) (filter (λ later. not (t x later)) ys)
   left_out t x [] = tt
-  left_out t x (y ∷ ys) = elim (t x y) as (λ b. t x y ≡ b → AllByRecursion (λ z. t x z ≡ false) (cond (not b) (y ∷ filter (λ later. not (t x later)) ys) (filter (λ later. not (t x later)) ys))) [
-    | true ↦ λ is. left_out t x ys
-    | false ↦ λ is. (is, left_out t x ys)
-  ] refl
+  left_out t x (y ∷ ys) = elim (t x y) as (λ b. t x y ≡ b
+      → AllByRecursion (λ z. t x z ≡ false) (cond (not b) (y ∷ filter (λ later. not (t x later)) ys) (filter (λ later. not (t x later)) ys))) [
+        | true ↦ λ is. left_out t x ys
+        | false ↦ λ is. (is, left_out t x ys)
+      ] refl
 
   distinct_left : (t : X → X → Bool) (q : X → Bool) (xs : List X) → IsDistinct t xs → IsDistinct t (filter q xs)
   distinct_left t q [] d = d
   distinct_left t q (x ∷ xs) d = elim (q x) as (λ b. IsDistinct t (cond b (x ∷ filter q xs) (filter q xs))) [
-    | true ↦ IsDistinct-cons t x (filter q xs) (AllByRecursion-filter (λ y. t x y ≡ false) q xs (IsDistinct-head t x xs d)) (distinct_left t q xs (IsDistinct-tail t x xs d))
+    | true ↦ IsDistinct-cons t x (filter q xs) (AllByRecursion-filter (λ y. t x y ≡ false) q xs (IsDistinct-head t x xs d))
+        (distinct_left t q xs (IsDistinct-tail t x xs d))
     | false ↦ distinct_left t q xs (IsDistinct-tail t x xs d)
   ]
 
@@ -89,4 +93,5 @@ module _ {X : Type 0} where
   -- no item is left out by an earlier one
   pub IsDistinct-firsts : (t : X → X → Bool) (xs : List X) → IsDistinct t (firsts t xs)
   IsDistinct-firsts t [] = none_distinct t
-  IsDistinct-firsts t (x ∷ xs) = IsDistinct-cons t x _ (left_out t x (firsts t xs)) (distinct_left t (λ later. not (t x later)) (firsts t xs) (IsDistinct-firsts t xs))
+  IsDistinct-firsts t (x ∷ xs) =
+      IsDistinct-cons t x _ (left_out t x (firsts t xs)) (distinct_left t (λ later. not (t x later)) (firsts t xs) (IsDistinct-firsts t xs))

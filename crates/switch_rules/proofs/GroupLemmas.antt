@@ -1,5 +1,6 @@
 -- One more rule: what it adds to the groups of the rules before it.
-use Rattle.std.proofs.Common.{◌≡◌, ℕ, zero, suc, ◌+◌, ◌<◌, Bool, true, false, cond, not, ◌&&◌, List, [], ◌∷◌, ◌++◌, length, map, set, take, get_or, Option, None, Some, is_some, refl, ap, sym, subst, ◌∙◌, arith}
+use Rattle.std.proofs.Common.{◌≡◌, ℕ, zero, suc, ◌+◌, ◌<◌, Bool, true, false, cond, not, ◌&&◌, List, [], ◌∷◌, ◌++◌, length}
+use Rattle.std.proofs.Common.{map, set, take, get_or, Option, None, Some, is_some, refl, ap, sym, subst, ◌∙◌, arith}
 use Rattle.std.specs.Prelude.{position}
 use Rattle.std.specs.List.{list_any, IsDistinct, AllByRecursion}
 use Rattle.std.specs.Option.{option_or}
@@ -115,7 +116,8 @@ add_to_group rules gs r i g g' are at is mask own =
     let place = position-Some (λ x. mask_eq x.mask (mask_of r.0)) gs i g at in
     let within : i < length gs = place.0 in
     let here : mask_eq (get_or gs i g).mask (mask_of r.0) ≡ true = place.1 in
-    let known : list_any (has_mask (mask_of r.0)) rules ≡ true = any_group rules gs (mask_of r.0) are ∙ list_any_at (λ x. mask_eq x.mask (mask_of r.0)) gs i g within here in
+    let known : list_any (has_mask (mask_of r.0)) rules ≡ true = any_group rules gs (mask_of r.0) are
+    ∙ list_any_at (λ x. mask_eq x.mask (mask_of r.0)) gs i g within here in
     let has : Has rules g = subst (Has rules) (sym is) (All-get_or (Has rules) gs i g within are.entries) in
     let same : mask_eq (mask_of r.0) g.mask ≡ true = ap (mask_eq (mask_of r.0)) (ap (λ x. x.mask) is ∙ mask_eq_same _ _ here) ∙ mask_eq_refl (mask_of r.0) in
     record {
@@ -142,8 +144,10 @@ add_group rules gs r g are at mask own =
     let absent : list_any (λ x. mask_eq x.mask (mask_of r.0)) gs ≡ false = none_passes (λ x. mask_eq x.mask (mask_of r.0)) gs at in
     let new : list_any (has_mask (mask_of r.0)) rules ≡ false = any_group rules gs (mask_of r.0) are ∙ absent in
     record {
-      masks = map-append (λ x. x.mask) gs (g ∷ []) ∙ ap (λ ms. ms ++ g.mask ∷ []) are.masks ∙ ap (λ m. masks_of rules ++ m ∷ []) mask ∙ sym (masks_of-push_new rules r new);
-      entries = All-push (Has (rules ++ r ∷ [])) gs g (All-from_recursion (Has (rules ++ r ∷ [])) gs (all_kept (Has rules) (Has (rules ++ r ∷ [])) (mask_of r.0) gs (other_group rules r)
+      masks = map-append (λ x. x.mask) gs (g ∷ []) ∙ ap (λ ms. ms ++ g.mask ∷ []) are.masks ∙ ap (λ m. masks_of rules ++ m ∷ []) mask
+          ∙ sym (masks_of-push_new rules r new);
+      entries = All-push (Has (rules ++ r ∷ [])) gs g
+          (All-from_recursion (Has (rules ++ r ∷ [])) gs (all_kept (Has rules) (Has (rules ++ r ∷ [])) (mask_of r.0) gs (other_group rules r)
           (none_apart (mask_of r.0) gs absent) (recursion_from_All (Has rules) gs are.entries))) (new_group rules r g new mask own);
     }
 

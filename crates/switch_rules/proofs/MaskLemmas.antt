@@ -1,5 +1,6 @@
 -- Under its mask a filter matches a flow exactly where the values are its own.
-use Rattle.std.proofs.Common.{◌≡◌, ℕ, ◌+◌, ◌-◌, ◌*◌, ◌/◌, ◌%◌, ◌^◌, ◌<◌, Bool, true, false, eqb, ◌&&◌, Option, None, Some, is_some, unwrap_or, refl, ap, sym, ◌∙◌, arith}
+use Rattle.std.proofs.Common.{◌≡◌, ℕ, ◌+◌, ◌-◌, ◌*◌, ◌/◌, ◌%◌, ◌^◌, ◌<◌, Bool, true, false, eqb, ◌&&◌}
+use Rattle.std.proofs.Common.{Option, None, Some, is_some, unwrap_or, refl, ap, sym, ◌∙◌, arith}
 use Rattle.std.specs.Prelude.{nat_eq}
 use Rattle.std.specs.Bool.{beq}
 use Rattle.std.specs.Option.{option_map_or}
@@ -102,4 +103,6 @@ flow_eq_same a b e =
     λ i. record { local = same_local i; remote = same_remote i; lport = same_lport i; rport = same_rport i; proto = same_proto i }
 
 pub flow_eq_refl : (a : Flow) → flow_eq a a ≡ true
-flow_eq_refl a = rw (eq-eqb a.local a.local refl, eq-eqb a.remote a.remote refl, eq-eqb a.lport a.lport refl, eq-eqb a.rport a.rport refl, eq-eqb a.proto a.proto refl) refl
+flow_eq_refl a =
+    rw (eq-eqb a.local a.local refl, eq-eqb a.remote a.remote refl, eq-eqb a.lport a.lport refl, eq-eqb a.rport a.rport refl, eq-eqb a.proto a.proto refl)
+    refl

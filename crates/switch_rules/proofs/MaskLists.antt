@@ -27,7 +27,8 @@ any-masks_of m rules =
     any-firsts (λ k. Unit {0}) mask_eq m (λ x k _ _ is at. ap (λ y. mask_eq y m) (mask_eq_same x k is) ∙ at) (map (λ r. mask_of r.0) rules) (no_premise _)
     ∙ any-map (λ k. mask_eq k m) (λ r. mask_of r.0) rules
 
-masks_of-push : (rules : List Rule) (r : Rule) → masks_of (rules ++ r ∷ []) ≡ masks_of rules ++ cond (list_any (has_mask (mask_of r.0)) rules) [] (mask_of r.0 ∷ [])
+masks_of-push : (rules : List Rule) (r : Rule)
+    → masks_of (rules ++ r ∷ []) ≡ masks_of rules ++ cond (list_any (has_mask (mask_of r.0)) rules) [] (mask_of r.0 ∷ [])
 masks_of-push rules r =
     ap (firsts mask_eq) (map-append (λ x. mask_of x.0) rules (r ∷ [])) ∙ firsts-push mask_eq (map (λ x. mask_of x.0) rules) (mask_of r.0)
     ∙ ap (λ b. masks_of rules ++ cond b [] (mask_of r.0 ∷ [])) (any-map (λ k. mask_eq k (mask_of r.0)) (λ x. mask_of x.0) rules)
@@ -36,7 +37,8 @@ masks_of-push rules r =
 pub masks_of-push_known : (rules : List Rule) (r : Rule) → list_any (has_mask (mask_of r.0)) rules ≡ true → masks_of (rules ++ r ∷ []) ≡ masks_of rules
 masks_of-push_known rules r known = masks_of-push rules r ∙ ap (λ b. masks_of rules ++ cond b [] (mask_of r.0 ∷ [])) known ∙ append-nil (masks_of rules)
 
-pub masks_of-push_new : (rules : List Rule) (r : Rule) → list_any (has_mask (mask_of r.0)) rules ≡ false → masks_of (rules ++ r ∷ []) ≡ masks_of rules ++ mask_of r.0 ∷ []
+pub masks_of-push_new : (rules : List Rule) (r : Rule) → list_any (has_mask (mask_of r.0)) rules ≡ false
+    → masks_of (rules ++ r ∷ []) ≡ masks_of rules ++ mask_of r.0 ∷ []
 masks_of-push_new rules r new = masks_of-push rules r ∙ ap (λ b. masks_of rules ++ cond b [] (mask_of r.0 ∷ [])) new
 
 -- no mask stands twice

@@ -33,7 +33,8 @@ map_cond f false x = refl
 
 -- one more rule is found where none before it is
 pub first_placed-push : (rules : List Rule) (r : Rule) (m : Mask) (key : Flow)
-    → first_placed (rules ++ r ∷ []) m key ≡ option_or (first_placed rules m key) (cond (has_key m key r) (Some (record { place = length rules; target = r.1 })) None)
+    → first_placed (rules ++ r ∷ []) m key
+    ≡ option_or (first_placed rules m key) (cond (has_key m key r) (Some (record { place = length rules; target = r.1 })) None)
 first_placed-push rules r m key =
     let same : 0 + length rules ≡ length rules = omega arith in
     ap (λ rs. option_map placed (find (λ x. has_key m key x.1) rs)) (enumerate_from-push 0 rules r ∙ ap (λ k. enumerate_from 0 rules ++ (k, r) ∷ []) same)
@@ -41,7 +42,8 @@ first_placed-push rules r m key =
     ∙ map_or placed (find (λ x. has_key m key x.1) (enumerate_from 0 rules)) _
     ∙ ap (option_or (first_placed rules m key)) (map_cond placed (has_key m key r) (length rules, r))
 
-none_from : (n : ℕ) (rules : List Rule) (m : Mask) (key : Flow) → list_any (has_mask m) rules ≡ false → find (λ x. has_key m key x.1) (enumerate_from n rules) ≡ None
+none_from : (n : ℕ) (rules : List Rule) (m : Mask) (key : Flow) → list_any (has_mask m) rules ≡ false
+    → find (λ x. has_key m key x.1) (enumerate_from n rules) ≡ None
 none_from n [] m key none = refl
 none_from n (x ∷ rules) m key none = elim (mask_eq (mask_of x.0) m) as (λ b. (b || list_any (has_mask m) rules) ≡ false
     → cond (b && flow_eq (values_of x.0) key) (Some (n, x)) (find (λ y. has_key m key y.1) (enumerate_from (n + 1) rules)) ≡ None) [
@@ -64,7 +66,8 @@ place_from p n (x ∷ rules) r is = elim (p x) as (λ b. cond b (Some (n, x)) (f
 -- a numbered rule is found exactly where its rule is
 pub find-enumerate_from : (p : Rule → Bool) (n : ℕ) (rules : List Rule) → option_map (λ x. x.1) (find (λ x. p x.1) (enumerate_from n rules)) ≡ find p rules
 find-enumerate_from p n [] = refl
-find-enumerate_from p n (x ∷ rules) = elim (p x) as (λ b. option_map (λ y. y.1) (cond b (Some (n, x)) (find (λ y. p y.1) (enumerate_from (n + 1) rules))) ≡ cond b (Some x) (find p rules)) [
-  | true ↦ refl
-  | false ↦ find-enumerate_from p (n + 1) rules
-]
+find-enumerate_from p n (x ∷ rules) =
+    elim (p x) as (λ b. option_map (λ y. y.1) (cond b (Some (n, x)) (find (λ y. p y.1) (enumerate_from (n + 1) rules))) ≡ cond b (Some x) (find p rules)) [
+      | true ↦ refl
+      | false ↦ find-enumerate_from p (n + 1) rules
+    ]

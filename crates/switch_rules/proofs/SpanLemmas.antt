@@ -1,5 +1,6 @@
 -- Spans of redirects' places: each redirect that was noted is noted still, and so is the new one.
-use Rattle.std.proofs.Common.{◌≡◌, ℕ, ◌≤◌, max, min, Bool, true, false, cond, leb, ◌&&◌, List, [], ◌∷◌, ◌++◌, set, get_or, Option, None, Some, Result, refl, ap, ◌∙◌, arith}
+use Rattle.std.proofs.Common.{◌≡◌, ℕ, ◌≤◌, max, min, Bool, true, false, cond, leb, ◌&&◌, List, [], ◌∷◌}
+use Rattle.std.proofs.Common.{◌++◌, set, get_or, Option, None, Some, Result, refl, ap, ◌∙◌, arith}
 use Rattle.std.specs.Prelude.{position, OnErr, OnOk}
 use Rattle.std.proofs.lemmas.Bool.{and_parts, and_from, or_left, or_right, le-leb, leb-true, eq-eqb, eqb-true}
 use Rattle.std.proofs.lemmas.List.Folds.{list_any-append}

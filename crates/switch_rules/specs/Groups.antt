@@ -10,7 +10,6 @@ use Rattle.switch_rules.specs.declared.mask.Mask.{Mask}
 use Rattle.switch_rules.specs.declared.group.Group.{Group}
 use Rattle.switch_rules.specs.declared.group.Placed.{Placed}
 use Rattle.switch_rules.specs.Masks.{mask_of, values_of, masked, mask_eq}
-use Rattle.flow_filter.specs.Filter.{IsFlow}
 use Rattle.switch_rules.specs.Rules.{Rule, first_match, firsts, AreFilters}
 
 -- the masks of the rules, each once, in the order in which they come first
@@ -36,8 +35,8 @@ pub record AreGroups (rules : List Rule) (groups : List Group) : Type 0 where
   pub entries : All (λ g. (key : Flow) → entry g key ≡ first_placed rules g.mask key) groups
 
 -- the entries that a flow meets: one at most in each group
-abbrev pub met : List Group → Flow → List Placed
-met groups flow = filter_map (λ g. entry g (masked g.mask flow)) groups
+abbrev pub entries_met : List Group → Flow → List Placed
+entries_met groups flow = filter_map (λ g. entry g (masked g.mask flow)) groups
 
 -- of two entries the one with the lesser place
 abbrev pub nearer : Option Placed → Option Placed → Option Placed
@@ -52,10 +51,10 @@ least (p ∷ ps) = nearer (Some p) (least ps)
 
 -- the target of the entry with the least place
 abbrev pub answer : List Group → Flow → Option Target
-answer groups flow = option_map (λ p. p.target) (least (met groups flow))
+answer groups flow = option_map (λ p. p.target) (least (entries_met groups flow))
 
 -- rules with their groups, where each flow has a rule
 pub record AreClassified (rules : List Rule) (groups : List Group) : Type 0 where
   pub grouped : AreGroups rules groups
   pub filters : AreFilters rules
-  pub all : (flow : Flow) → IsFlow flow → IsSome (first_match rules flow)
+  pub all : (flow : Flow) → IsSome (first_match rules flow)

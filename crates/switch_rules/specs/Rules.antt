@@ -1,6 +1,7 @@
 -- The switch's rules: the first rule that matches a flow gives its target.
 -- This project's own, after flow tables whose rules stand in the order of their priority.
-use Rattle.std.specs.Prelude.{◌≡◌, ℕ, ◌==◌, ◌&&◌, Bool, true, false, not, if◌then◌else◌, List, [], ◌∷◌, ◌++◌, map, filter, find, All, Option, None, option_map, option_to_list}
+use Rattle.std.specs.Prelude.{◌≡◌, ℕ, ◌==◌, ◌&&◌, Bool, true, false, not, if◌then◌else◌, List, [], ◌∷◌}
+use Rattle.std.specs.Prelude.{◌++◌, map, filter, find, All, Option, None, option_map, option_to_list}
 use Rattle.std.specs.List.{flat_map, fold}
 use Rattle.std.specs.Option.{option_map_or}
 use Rattle.flow_filter.specs.declared.flow.Flow.{Flow}
@@ -34,8 +35,8 @@ abbrev pub opened : List (Filter × ℕ) → List Rule
 opened routes = map (λ r. (r.0, Instance r.1)) routes ++ (any, Instance 0) ∷ []
 
 -- the instance of the first route that matches the flow, or instance 0
-abbrev pub routed : List (Filter × ℕ) → Flow → ℕ
-routed routes flow = option_map_or (λ r. r.1) (find (λ r. matches r.0 flow) routes) 0
+abbrev pub route_of : List (Filter × ℕ) → Flow → ℕ
+route_of routes flow = option_map_or (λ r. r.1) (find (λ r. matches r.0 flow) routes) 0
 
 -- an order to the switch: flows of the filter that go to one target are to go to another
 abbrev pub Redirect : Type 0
@@ -58,8 +59,8 @@ abbrev pub Redirects : Redirect → List Rule → List Rule → Type 0
 Redirects r old new = (flow : Flow) → IsFlow flow → first_match new flow ≡ option_map (redirected_target r flow) (first_match old flow)
 
 -- a rule, and before it what it and the redirect both match where the rule has the old target
-abbrev pub split : Redirect → Rule → List Rule
-split r rule =
+abbrev pub split_of : Redirect → Rule → List Rule
+split_of r rule =
     (if target_eq rule.1 r.from then option_to_list (option_map (λ both. (both, r.to)) (meet rule.0 r.filter)) else []) ++ rule ∷ []
 
 -- the items that no earlier item leaves out: it does where the test of it and the later one is true
@@ -72,12 +73,12 @@ abbrev pub uncovered : List Rule → List Rule
 uncovered rules = firsts (λ earlier later. covers earlier.0 later.0) rules
 
 -- the list of rules after a redirect
-abbrev pub redirected : Redirect → List Rule → List Rule
-redirected r rules = uncovered (flat_map (split r) rules)
+abbrev pub rules_redirected : Redirect → List Rule → List Rule
+rules_redirected r rules = uncovered (flat_map (split_of r) rules)
 
 -- the same after redirects, one after another
 abbrev pub rules_after : List Redirect → List Rule → List Rule
-rules_after redirects rules = fold (λ old r. redirected r old) rules redirects
+rules_after redirects rules = fold (λ old r. rules_redirected r old) rules redirects
 
 -- each number that the rules' filters give is within its type
 abbrev pub AreFilters : List Rule → Type 0

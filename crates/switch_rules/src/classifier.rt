@@ -4,7 +4,7 @@ ghost use Rattle.flow_filter.specs.Filter.{IsFlow, IsFilter};
 ghost use Rattle.flow_filter.specs.declared.flow.Flow.{Flow as EachFlow};
 ghost use Rattle.switch_rules.specs.Rules.{Rule, first_match, AreFilters};
 ghost use Rattle.switch_rules.specs.Masks.{mask_eq};
-ghost use Rattle.switch_rules.specs.Groups.{AreGroups, answer, met, nearer, least};
+ghost use Rattle.switch_rules.specs.Groups.{AreGroups, answer, entries_met, nearer, least};
 
 use crate::group::{Group, Placed};
 use crate::mask::{Mask, values_of};
@@ -77,7 +77,8 @@ impl Classifier {
         filter: Filter,
         target: Target,
     ) -> Result<(), NoMemory>
-        ensures groups { OnOk result ((rules : List Rule) → length rules ≡ place → AreGroups rules self.old → AreGroups (rules ++ (filter, target) ∷ []) self.new) }
+        ensures groups { OnOk result
+            ((rules : List Rule) → length rules ≡ place → AreGroups rules self.old → AreGroups (rules ++ (filter, target) ∷ []) self.new) }
         ensures filter { IsFilter filter }
     {
         let Ok(place) = u32::try_from(place) else {
@@ -99,7 +100,7 @@ impl Classifier {
 
 /// Of the entries that the flow meets, the one with the least place.
 fn nearest(groups: &[Group], flow: Flow) -> Option<Placed>
-    ensures value { result ≡ least (met groups.now flow) }
+    ensures value { result ≡ least (entries_met groups.now flow) }
     ensures flow { IsFlow flow }
 {
     let mut first = None;

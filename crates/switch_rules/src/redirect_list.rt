@@ -1,5 +1,5 @@
 //! Redirects one after another, with what tells which of them a flow can pass over.
-ghost use Rattle.std.specs.Prelude.{◌≡◌, ◌≤◌, ◌+◌, ◌++◌, ◌∷◌, [], drop, length, slice_get, All, IfSome, OnOk, OnErr};
+ghost use Rattle.std.specs.Prelude.{◌≡◌, ◌≤◌, ◌+◌, ◌++◌, ◌∷◌, [], true, drop, length, slice_get, All, IfSome, OnOk, OnErr};
 ghost use Rattle.std.specs.Option.{ForSome};
 ghost use Rattle.flow_filter.specs.Filter.{IsFilter};
 ghost use Rattle.switch_rules.specs.Rules.{target_after};
@@ -72,6 +72,14 @@ impl RedirectList {
                 Ok(())
             }
         }
+    }
+
+    /// Whether there are none.
+    #[inline(always)]
+    pub(crate) fn is_empty(&self) -> bool
+        ensures { result ≡ true → self.now ≡ [] }
+    {
+        self.sections.is_empty()
     }
 
     /// The target of a flow after all of them, which had this target before.

@@ -1,7 +1,8 @@
-ghost use Rattle.std.specs.Prelude.{◌≡◌, true, is_some, IfOk, Some};
+//! The rules that routes open, and which of them is the first that a flow meets.
+ghost use Rattle.std.specs.Prelude.{◌≡◌, true, is_some, IfOk, IfSome, Some};
 ghost use Rattle.flow_filter.specs.Filter.{IsFlow};
 ghost use Rattle.flow_filter.specs.declared.flow.Flow.{Flow as EachFlow};
-ghost use Rattle.switch_rules.specs.Rules.{first_match, opened, routed, AreFilters};
+ghost use Rattle.switch_rules.specs.Rules.{first_match, opened, route_of, AreFilters};
 
 use crate::classifier::Classifier;
 use crate::target::Target;
@@ -36,7 +37,7 @@ impl Routes {
     /// The routes in order, and then every flow to instance 0.
     pub(crate) fn open(alloc: Global, routes: &[(Filter, u8)]) -> Result<Routes, NoMemory>
         ensures list { IfOk result (λ rules. rules ≡ opened routes.now) }
-        ensures targets { IfOk result (λ rules. (flow : EachFlow) → first_match rules flow ≡ Some (Target.Instance (routed routes.now flow))) }
+        ensures targets { IfOk result (λ rules. (flow : EachFlow) → first_match rules flow ≡ Some (Target.Instance (route_of routes.now flow))) }
         ensures filters { IfOk result AreFilters }
     {
         let list = opened(alloc, routes)?;
@@ -52,6 +53,17 @@ impl Routes {
         match self.first(flow) {
             Some(target) => target,
             None => unreachable!(),
+        }
+    }
+
+    /// The target of every flow, where there is one rule alone. `None` tells nothing.
+    #[inline(always)]
+    pub(crate) fn only(&self) -> Option<Target>
+        ensures { IfSome result (λ target. (flow : EachFlow) → first_match self.now flow ≡ Some target) }
+    {
+        match self.list.as_slice() {
+            [rule] => Some(rule.1),
+            _ => None,
         }
     }
 

@@ -1,6 +1,6 @@
-ghost use Rattle.std.specs.Prelude.{◌≡◌, IfOk, OnOk, OnErr, Some};
+ghost use Rattle.std.specs.Prelude.{◌≡◌, IfOk, IfSome, OnOk, OnErr, Some};
 ghost use Rattle.flow_filter.specs.declared.flow.Flow.{Flow as EachFlow};
-ghost use Rattle.switch_rules.specs.Rules.{first_match, opened, routed, redirected, Redirects};
+ghost use Rattle.switch_rules.specs.Rules.{first_match, opened, route_of, rules_redirected, Redirects};
 
 use crate::redirect::Redirect;
 use crate::redirect_list::RedirectList;
@@ -36,12 +36,24 @@ impl Rules {
     /// The routes in order, and then every flow to instance 0.
     pub fn open(alloc: Global, routes: &[(Filter, u8)]) -> Result<Rules, NoMemory>
         ensures list { IfOk result (λ rules. rules ≡ opened routes.now) }
-        ensures targets { IfOk result (λ rules. (flow : EachFlow) → first_match rules flow ≡ Some (Target.Instance (routed routes.now flow))) }
+        ensures targets { IfOk result (λ rules. (flow : EachFlow) → first_match rules flow ≡ Some (Target.Instance (route_of routes.now flow))) }
     {
         Ok(Rules {
             routes: Routes::open(alloc, routes)?,
             redirects: RedirectList::open(alloc),
         })
+    }
+
+    /// Where every flow goes, if that is told without a flow, as it is where one rule stands alone. `None` tells nothing: `target` does.
+    #[inline(always)]
+    pub fn only(&self) -> Option<Target>
+        ensures { IfSome result (λ target. (flow : EachFlow) → first_match self.now flow ≡ Some target) }
+    {
+        if self.redirects.is_empty() {
+            self.routes.only()
+        } else {
+            None
+        }
     }
 
     /// Where a flow goes: the target of the first rule that matches it.
@@ -53,7 +65,7 @@ impl Rules {
 
     /// Sends the flows that the filter matches and whose target is `from` to `to`. Every other flow keeps its target.
     pub fn redirect(&mut self, filter: &Filter, from: Target, to: Target) -> Result<(), NoMemory>
-        ensures list { OnOk result (self.new ≡ redirected (record { filter = filter.now; from = from; to = to }) self.old) }
+        ensures list { OnOk result (self.new ≡ rules_redirected (record { filter = filter.now; from = from; to = to }) self.old) }
         ensures targets { OnOk result (Redirects (record { filter = filter.now; from = from; to = to }) self.old self.new) }
         ensures err { OnErr result (self.new ≡ self.old) }
     {

@@ -1,12 +1,14 @@
 -- Reading a capture to its end: what was read so far, before what the rest gives, is what the whole gives.
-use Rattle.std.proofs.Common.{◌≡◌, ℕ, zero, suc, ◌+◌, ◌-◌, true, false, List, [], ◌∷◌, ◌++◌, Option, Some, Result, Ok, Err, drop, refl, ap, sym, ◌∙◌, arith, append-nil, append_assoc, add-zero, zero-add}
+use Rattle.std.proofs.Common.{◌≡◌, ℕ, zero, suc, ◌+◌, ◌-◌, true, false, List, [], ◌∷◌, ◌++◌, Option, Some, Result}
+use Rattle.std.proofs.Common.{Ok, Err, drop, refl, ap, sym, ◌∙◌, arith, append-nil, append_assoc, add-zero, zero-add}
 use Rattle.flow_filter.specs.declared.packet.Packet.{Packet}
 use Rattle.trace_reader.specs.declared.form.Form.{Form}
 use Rattle.trace_reader.specs.declared.fault.TraceFault.{TraceFault}
 use Rattle.trace_reader.specs.declared.fault.TraceFault.TheVariants as fault
 use Rattle.trace_reader.specs.declared.record.Next.TheVariants as next
 use Rattle.trace_reader.specs.declared.trace.Trace.{Trace}
-use Rattle.trace_reader.specs.Records.{record_size, next_of, records_of, with_packet, with_skipped, from_next, opened, trace_of, capture_of}
+use Rattle.trace_reader.specs.Records.{record_size, next_of, records_of, from_next, capture_of}
+use Rattle.trace_reader.specs.Opened.{with_packet, with_skipped, opened, trace_of}
 use Rattle.trace_reader.specs.Answers.{Reading, AnswersNext, AnswersOpen, AnswersTrace}
 use Rattle.trace_reader.proofs.NextRecord.{next_of-end}
 
@@ -55,7 +57,8 @@ progress_start bytes now packets due is at none empty = record {
 }
 
 -- what is left of a record is passed over
-passed : (form : Form) (place count left : ℕ) (bytes : List ℕ) → records_of form place count left bytes ≡ records_of form (place + left) count 0 (drop left bytes)
+passed : (form : Form) (place count left : ℕ) (bytes : List ℕ)
+    → records_of form place count left bytes ≡ records_of form (place + left) count 0 (drop left bytes)
 unfolding records_of
 passed form place count zero bytes = ap (λ n. records_of form n count 0 bytes) (sym (add-zero place))
 passed form place count (suc left) [] = refl
@@ -77,7 +80,8 @@ after_record form place count byte bytes =
 
 -- a packet is one more in front
 pub packet_step : (form : Form) (place count : ℕ) (rest : List ℕ) (packet : Packet) → next_of form place count rest ≡ Ok (next.Packet packet)
-    → records_of form place count 0 rest ≡ with_packet packet (records_of form (place + record_size form rest) (count + 1) 0 (drop (record_size form rest) rest))
+    → records_of form place count 0 rest
+    ≡ with_packet packet (records_of form (place + record_size form rest) (count + 1) 0 (drop (record_size form rest) rest))
 unfolding records_of
 packet_step form place count [] packet due = absurd (let end = next_of-end form place count [] refl in cc)
 packet_step form place count (byte ∷ bytes) packet due =
@@ -203,7 +207,8 @@ progress_fault whole before after packets skipped left fault.Read p answers = tt
 progress_fault whole before after packets skipped left fault.NoMemory p answers = tt
 
 -- a fault of the header is that of the whole
-pub open_fault : (bytes rest : List ℕ) (left left' : Option (List ℕ)) (e : TraceFault) → AnswersOpen (opened bytes) rest left (Err e) → AnswersTrace (capture_of bytes) left' (Err e)
+pub open_fault : (bytes rest : List ℕ) (left left' : Option (List ℕ)) (e : TraceFault) → AnswersOpen (opened bytes) rest left (Err e)
+    → AnswersTrace (capture_of bytes) left' (Err e)
 unfolding capture_of
 open_fault bytes rest left left' fault.Magic due = ap (trace_of bytes) due
 open_fault bytes rest left left' fault.PcapNg due = ap (trace_of bytes) due

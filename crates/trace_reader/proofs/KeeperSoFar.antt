@@ -1,5 +1,6 @@
 -- What was read so far, where a keeper has the packets.
-use Rattle.std.proofs.Common.{◌≡◌, ℕ, ◌+◌, arith, true, false, List, [], ◌∷◌, ◌++◌, length, drop, Option, Some, Ok, Err, Result, refl, ap, sym, ◌∙◌, subst, append-nil, append_assoc}
+use Rattle.std.proofs.Common.{◌≡◌, ℕ, ◌+◌, arith, true, false, List, [], ◌∷◌, ◌++◌, length, drop, Option}
+use Rattle.std.proofs.Common.{Some, Ok, Err, Result, refl, ap, sym, ◌∙◌, subst, append-nil, append_assoc}
 use Rattle.std.proofs.lemmas.List.{length-append}
 use Rattle.std.proofs.lemmas.List.Elements.{All-nil, All-push}
 use Rattle.flow_filter.specs.declared.packet.Packet.{Packet}
@@ -8,7 +9,8 @@ use Rattle.trace_reader.specs.declared.fault.TraceFault.TheVariants as fault
 use Rattle.trace_reader.specs.declared.record.Next.TheVariants as next
 use Rattle.trace_reader.specs.declared.trace.Trace.{Trace}
 use Rattle.trace_reader.specs.Steered.{is_steered_proto}
-use Rattle.trace_reader.specs.Records.{opened, capture_of, AreNumbered}
+use Rattle.trace_reader.specs.Records.{capture_of, AreNumbered}
+use Rattle.trace_reader.specs.Opened.{opened}
 use Rattle.trace_reader.specs.Answers.{Reading, AnswersNext, AnswersTrace, HandsOn, HandsPackets, HandsSteered}
 use Rattle.trace_reader.proofs.CaptureSoFar.{Progress, progress_start, progress_packet, progress_skipped, progress_end, progress_cut, progress_fault}
 

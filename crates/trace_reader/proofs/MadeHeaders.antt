@@ -10,8 +10,9 @@ use Rattle.trace_reader.specs.declared.drawn.Transport.{Transport}
 use Rattle.trace_reader.specs.declared.drawn.Transport.TheVariants.{Udp, Tcp}
 use Rattle.trace_reader.specs.declared.form.LinkType.TheVariants.{Raw}
 use Rattle.trace_reader.specs.declared.steer.Parts.{Parts}
-use Rattle.trace_reader.specs.Numbers.{byte_at, u16_at}
-use Rattle.trace_reader.specs.Steered.{header_length, is_first, transport_length, total_length, parts_at, parts_of}
+use Rattle.trace_reader.specs.Numbers.{u16_at}
+use Rattle.trace_reader.specs.Steered.{header_length, transport_length, total_length, parts_of}
+use Rattle.trace_reader.specs.Opened.{byte_at, is_first, parts_at}
 use Rattle.trace_reader.specs.Generated.{source, target, ipv4_header, udp_header, tcp_header, transport_size, captured_size, total_size, datagram}
 
 -- the headers say how long they are, and how long the datagram is
@@ -49,7 +50,8 @@ parts_there len transport total f has sum fits =
     let within : 20 + transport ≤ total_length len f 0 = long (u16_at f 2) (sym has.says) in (
       record { start = 0; header = 20; transport = transport; total = total_length len f 0 },
       ap (option_and_then (λ h. parts_at len f 0 h)) has.ip
-          ∙ ap (option_and_then (λ d. if is_first f 0 && nat_le (20 + d) (total_length len f 0) then Some (record { start = 0; header = 20; transport = d; total = total_length len f 0 }) else None)) has.segment
+          ∙ ap (option_and_then (λ d. if is_first f 0 && nat_le (20 + d) (total_length len f 0)
+          then Some (record { start = 0; header = 20; transport = d; total = total_length len f 0 }) else None)) has.segment
           ∙ chosen (is_first f 0) (nat_le (20 + transport) (total_length len f 0)) _ has.first (le-leb (20 + transport) (total_length len f 0) within),
     )
   where

@@ -1,5 +1,6 @@
 -- A generated capture is read whole, with all its packets steered.
-use Rattle.std.proofs.Common.{◌≡◌, ◌≤◌, ◌<◌, ℕ, zero, suc, ◌+◌, ◌*◌, ◌^◌, List, ◌++◌, length, take, drop, Some, Result, Ok, Err, refl, ap, sym, ◌∙◌, subst, append_assoc, arith}
+use Rattle.std.proofs.Common.{◌≡◌, ◌≤◌, ◌<◌, ℕ, zero, suc, ◌+◌, ◌*◌, ◌^◌, List, ◌++◌, length, take, drop}
+use Rattle.std.proofs.Common.{Some, Result, Ok, Err, refl, ap, sym, ◌∙◌, subst, append_assoc, arith}
 use Rattle.std.specs.Prelude.{if◌then◌else◌}
 use Rattle.std.specs.Option.{option_map}
 use Rattle.std.proofs.Math.Seq.{take-append_seam, drop-append_seam}
@@ -20,11 +21,12 @@ use Rattle.trace_reader.specs.declared.drawn.Drawn.{Drawn}
 use Rattle.trace_reader.specs.declared.drawn.Transport.{Transport}
 use Rattle.trace_reader.specs.declared.drawn.Transport.TheVariants.{Udp, Tcp}
 use Rattle.trace_reader.specs.declared.steer.Parts.{Parts}
-use Rattle.trace_reader.specs.Numbers.{captured_of}
 use Rattle.trace_reader.specs.Header.{form_of}
 use Rattle.trace_reader.specs.Steered.{nanos_of, packet_with, packet_of, parts_of}
-use Rattle.trace_reader.specs.Records.{steered_answer, record_answer, record_size, next_of, records_of, with_packet, trace_of, opened, capture_of}
-use Rattle.trace_reader.specs.Generated.{drawn, record_head, datagram, record_bytes, records, transport_size, captured_size, total_size, file_header, capture}
+use Rattle.trace_reader.specs.Records.{record_size, next_of, records_of, capture_of}
+use Rattle.trace_reader.specs.Opened.{captured_of, with_packet, opened, steered_answer, record_answer, trace_of}
+use Rattle.trace_reader.specs.Generated.{drawn_by, record_head, datagram, record_bytes, records}
+use Rattle.trace_reader.specs.Generated.{transport_size, captured_size, total_size, file_header, capture}
 use Rattle.trace_reader.specs.Making.{IsReadWhole}
 use Rattle.trace_reader.proofs.GeneratedSizes.{record_head-size}
 use Rattle.trace_reader.proofs.MadeHeaders.{headers_of, parts_there}
@@ -65,7 +67,8 @@ unfolding record_answer packet_of
 answers_packet place count n head f parts there fits below =
     let p = packet_with (count + 1) (nanos_of the_form head) n f parts in (
       p,
-      ap (λ b. if b then Err (fault.TooLong place) else steered_answer place count (packet_of the_form (count + 1) head n f)) (le-ltb (2 ^ 32) (place + 16 + n) fits)
+      ap (λ b. if b then Err (fault.TooLong place) else steered_answer place count (packet_of the_form (count + 1) head n f))
+          (le-ltb (2 ^ 32) (place + 16 + n) fits)
           ∙ ap (λ o. steered_answer place count (option_map (packet_with (count + 1) (nanos_of the_form head) n f) o)) there
           ∙ ap (λ b. if b then Ok (next.Packet p) else Err (fault.TooLong place)) (lt-ltb count 1000000 below),
     )
@@ -85,7 +88,8 @@ reads_parts place count j d rest small below fits =
     let f = datagram d d.transport in
     let has = headers_of d small in
     let short = few d.transport in
-    let long : length (head ++ (f ++ rest)) ≡ 16 + (n + length rest) = omega (arith, length-append head (f ++ rest), length-append f rest, record_head-size j d, has.size) in
+    let long : length (head ++ (f ++ rest)) ≡ 16 + (n + length rest) =
+    omega (arith, length-append head (f ++ rest), length-append f rest, record_head-size j d, has.size) in
     let captured : n ≡ captured_of the_form (take 16 (head ++ (f ++ rest))) = sym (says_captured j d (f ++ rest)) in
     let parts = parts_there n (transport_size d.transport) (total_size d) f has refl (omega arith) in
     let answer = answers_packet place count n (take 16 (head ++ (f ++ rest))) f parts.0 parts.1 (omega arith) below in
@@ -103,10 +107,11 @@ reads_parts place count j d rest small below fits =
 reads_record : (place count j : ℕ) (d : Drawn) (rest : List ℕ) → d.payload < 512 → count < 1000000 → place + 56 ≤ 2 ^ 32
     → ReadsPacket place count (record_bytes j d ++ rest) rest
 reads_record place count j d rest small below fits =
-    subst (λ bytes. ReadsPacket place count bytes rest) (sym (append_assoc (record_head j d) (datagram d d.transport) rest)) (reads_parts place count j d rest small below fits)
+    subst (λ bytes. ReadsPacket place count bytes rest) (sym (append_assoc (record_head j d) (datagram d d.transport) rest))
+    (reads_parts place count j d rest small below fits)
 
-drawn-small : (hosts w : ℕ) → (drawn hosts w).payload < 512
-unfolding drawn
+drawn-small : (hosts w : ℕ) → (drawn_by hosts w).payload < 512
+unfolding drawn_by
 drawn-small hosts w = omega arith
 
 -- one more packet
@@ -119,7 +124,7 @@ records_whole : (n hosts j s place count : ℕ) → count + n ≤ 1000000 → pl
 unfolding first_words records_of
 records_whole zero hosts j s place count few fits = (refl, refl, refl)
 records_whole (suc n) hosts j s place count few fits =
-    let d = drawn hosts (mix_u64 s).0 in
+    let d = drawn_by hosts (mix_u64 s).0 in
     let rest = records hosts (j + 1) (first_words mix_u64 n (mix_u64 s).1) in
     let reads = reads_record place count j d rest (drawn-small hosts (mix_u64 s).0) (omega arith) (omega arith) in
     let bytes = record_bytes j d ++ rest in

@@ -55,7 +55,8 @@ made_front whole piece rest left old mid now so_far split wrote =
     )
 
 -- a part of the header was written
-pub header_front : (number packets hosts : ℕ) (old now : Option (List ℕ)) → AppendsFront old now file_header → AppendsFront old now (capture number packets hosts)
+pub header_front : (number packets hosts : ℕ) (old now : Option (List ℕ)) → AppendsFront old now file_header
+    → AppendsFront old now (capture number packets hosts)
 unfolding capture
 header_front number packets hosts old now wrote =
     let rest = records hosts 1 (first_words mix_u64 packets number) in
@@ -79,4 +80,5 @@ pub made_all : (whole : List ℕ) (packets hosts made state : ℕ) (old now : Op
 unfolding first_words
 made_all whole packets hosts made state old now over so_far =
     let none : packets - made ≡ 0 = omega arith in
-    subst (Appends old now) (sym (so_far.together ∙ ap (λ n. so_far.bytes ++ records hosts (made + 1) (first_words mix_u64 n state)) none ∙ append-nil so_far.bytes)) so_far.wrote
+    subst (Appends old now)
+    (sym (so_far.together ∙ ap (λ n. so_far.bytes ++ records hosts (made + 1) (first_words mix_u64 n state)) none ∙ append-nil so_far.bytes)) so_far.wrote

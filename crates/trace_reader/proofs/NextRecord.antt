@@ -1,8 +1,10 @@
 -- The answers of `read_record`, branch by branch of `next_of`.
-use Rattle.std.proofs.Common.{◌≡◌, ℕ, ◌+◌, ◌-◌, ◌≤◌, ◌<◌, min, Bool, true, false, List, [], Option, None, Some, Ok, Err, length, take, drop, refl, ap, sym, ◌∙◌, subst, arith, length-drop}
+use Rattle.std.proofs.Common.{◌≡◌, ℕ, ◌+◌, ◌-◌, ◌≤◌, ◌<◌, min, Bool, true, false, List, [], Option, None, Some}
+use Rattle.std.proofs.Common.{Ok, Err, length, take, drop, refl, ap, sym, ◌∙◌, subst, arith, length-drop}
 use Rattle.std.proofs.Math.Seq.{take-length, drop-length}
 use Rattle.std.proofs.lemmas.List.{drop-drop, drop-take, length-take, length-take-le}
 use lib.Seq.{take-take}
+use Rattle.std.specs.Prelude.{if◌then◌else◌, nat_lt}
 use Rattle.std.specs.Io.{StartsWith}
 use Rattle.std.specs.Io.KnownBytes.{Consumes}
 use Rattle.std.proofs.lemmas.Bool.{leb-true, leb-false, le-leb}
@@ -13,34 +15,41 @@ use Rattle.trace_reader.specs.declared.fault.TraceFault.{TraceFault}
 use Rattle.trace_reader.specs.declared.record.Next.{Next}
 use Rattle.trace_reader.specs.Answers.{Reading, reading, AnswersAt, Advances}
 use Rattle.trace_reader.specs.declared.record.Next.TheVariants as next
-use Rattle.trace_reader.specs.Numbers.{captured_of, byte_at}
 use Rattle.trace_reader.specs.Takes.{Fills, TakesBody, body}
-use Rattle.trace_reader.specs.Records.{record_answer, next_of, record_size}
+use Rattle.trace_reader.specs.Records.{next_of, record_size}
+use Rattle.trace_reader.specs.Opened.{byte_at, captured_of, record_answer}
 use Rattle.trace_reader.proofs.SourceReads.{skipped_more}
 use Rattle.trace_reader.proofs.RecordFront.{record_answer-front}
 
+-- what a whole record gives by a name of its own
+by_answer : (form : Form) (place count : ℕ) (bytes : List ℕ)
+    → next_of form place count bytes
+    ≡ (if nat_lt 0 (length bytes) then
+    (if nat_lt (length bytes) 16 then Ok next.Cut
+    else if nat_lt 262144 (captured_of form (take 16 bytes)) then Err (fault.RecordLength place (captured_of form (take 16 bytes)))
+    else if nat_lt (length bytes) (16 + captured_of form (take 16 bytes)) then Ok next.Cut
+    else record_answer form place count (take 16 bytes) (captured_of form (take 16 bytes)) (take (captured_of form (take 16 bytes)) (drop 16 bytes)))
+    else Ok next.End)
+unfolding next_of record_answer
+by_answer form place count bytes = refl
+
 pub next_of-end : (form : Form) (place count : ℕ) (bytes : List ℕ) → length bytes ≡ 0 → next_of form place count bytes ≡ Ok next.End
-unfolding next_of
-next_of-end form place count bytes none = grind (arith, nat_tests)
+next_of-end form place count bytes none = rw (by_answer form place count bytes) (grind (arith, nat_tests))
 
 next_of-short : (form : Form) (place count : ℕ) (bytes : List ℕ) → 0 < length bytes → length bytes < 16 → next_of form place count bytes ≡ Ok next.Cut
-unfolding next_of
-next_of-short form place count bytes some few = grind (arith, nat_tests)
+next_of-short form place count bytes some few = rw (by_answer form place count bytes) (grind (arith, nat_tests))
 
 next_of-long : (form : Form) (place count n : ℕ) (bytes : List ℕ) → n ≡ captured_of form (take 16 bytes) → 16 ≤ length bytes → 262144 < n
     → next_of form place count bytes ≡ Err (fault.RecordLength place n)
-unfolding next_of
-next_of-long form place count n bytes is enough long = grind (arith, nat_tests)
+next_of-long form place count n bytes is enough long = rw (by_answer form place count bytes) (grind (arith, nat_tests))
 
 next_of-cut : (form : Form) (place count n : ℕ) (bytes : List ℕ) → n ≡ captured_of form (take 16 bytes) → 16 ≤ length bytes → n ≤ 262144
     → length bytes < 16 + n → next_of form place count bytes ≡ Ok next.Cut
-unfolding next_of
-next_of-cut form place count n bytes is enough fits few = grind (arith, nat_tests)
+next_of-cut form place count n bytes is enough fits few = rw (by_answer form place count bytes) (grind (arith, nat_tests))
 
 pub next_of-whole : (form : Form) (place count n : ℕ) (bytes : List ℕ) → n ≡ captured_of form (take 16 bytes) → 16 ≤ length bytes → n ≤ 262144
     → 16 + n ≤ length bytes → next_of form place count bytes ≡ record_answer form place count (take 16 bytes) n (take n (drop 16 bytes))
-unfolding next_of
-next_of-whole form place count n bytes is enough fits all = grind (arith, nat_tests)
+next_of-whole form place count n bytes is enough fits all = rw (by_answer form place count bytes) (grind (arith, nat_tests))
 
 -- the source ended in the head: then n bytes were left
 pub head_short : (a b : Option (List ℕ)) (head bytes : List ℕ) (n : ℕ) → Fills a b head n → a ≡ Some bytes → n < length head
@@ -93,7 +102,8 @@ gives_cut form place count n b c head front bytes h is fits whole takes no_body 
 pub gives_whole : (form : Form) (place count n : ℕ) (b c : Option (List ℕ)) (head front bytes : List ℕ) → HeadTaken bytes b head → n ≡ captured_of form head
     → n ≤ 262144 → length front ≡ min n 202 → ((i : ℕ) → byte_at front i < 256)
     → (there : Bool) → TakesBody b c (body front n) there → there ≡ true
-    → (next_of form place count bytes ≡ record_answer form place count head n front) × (16 + n ≡ record_size form bytes) × (c ≡ Some (drop (record_size form bytes) bytes))
+    → (next_of form place count bytes ≡ record_answer form place count head n front) × (16 + n ≡ record_size form bytes)
+    × (c ≡ Some (drop (record_size form bytes) bytes))
 gives_whole form place count n b c head front bytes h is fits long small there takes yes_body =
     let t = subst (TakesBody b c (body front n)) yes_body takes (drop 16 bytes) h.left in
     let captured : n ≡ captured_of form (take 16 bytes) = is ∙ ap (captured_of form) h.same in
@@ -134,11 +144,13 @@ gives_at_hand form place count n bytes ahead front h is small =
       sym (le-leb n (length rest) (omega (arith, ap length is_rest, length-drop 16 bytes, h.whole))),
       (same ∙ ap (λ k. take k (drop 16 bytes)) (sym count_is) ∙ ap (take (length front)) (sym is_rest), ap (λ l. Some (drop n l)) (sym is_rest)),
     ) in
-    let gives = gives_whole form place count n (Some (drop 16 bytes)) (Some (drop n (drop 16 bytes))) (take 16 ahead) front bytes taken h.captured h.few count_is small true whole refl in
+    let gives = gives_whole form place count n (Some (drop 16 bytes)) (Some (drop n (drop 16 bytes))) (take 16 ahead) front bytes taken h.captured h.few
+    count_is small true whole refl in
     (gives.0, gives.1)
 
 -- bytes at hand were taken
-pub skipped_ahead : (a b : Option (List ℕ)) (bytes ahead : List ℕ) (k : ℕ) → a ≡ Some bytes → k ≤ length ahead → Consumes a b (take k ahead) → b ≡ Some (drop k bytes)
+pub skipped_ahead : (a b : Option (List ℕ)) (bytes ahead : List ℕ) (k : ℕ) → a ≡ Some bytes → k ≤ length ahead → Consumes a b (take k ahead)
+    → b ≡ Some (drop k bytes)
 skipped_ahead a b bytes ahead k told within consumes =
     let skipped = skipped_more a b bytes ahead 0 k (omega arith) told within consumes in
     let same : 0 + k ≡ k = omega arith in

@@ -5,7 +5,7 @@ use Rattle.trace_reader.specs.declared.fault.TraceFault.{TraceFault}
 use Rattle.trace_reader.specs.declared.fault.TraceFault.TheVariants as fault
 use Rattle.trace_reader.specs.Header.{form_of}
 use Rattle.trace_reader.specs.Takes.{Fills}
-use Rattle.trace_reader.specs.Records.{opened}
+use Rattle.trace_reader.specs.Opened.{opened}
 use Rattle.trace_reader.specs.Answers.{AnswersOpen}
 
 -- the header that was read is the first 24 bytes

@@ -1,5 +1,6 @@
 -- What a record gives is told by its first 202 bytes.
-use Rattle.std.proofs.Common.{◌≡◌, ℕ, ◌+◌, ◌-◌, ◌*◌, ◌/◌, ◌%◌, ◌≤◌, ◌<◌, ◌==◌, ◌&&◌, Bool, true, false, min, List, Option, None, Some, IfSome, length, take, drop, get_or, nat_le, nat_lt, ◌^◌, inl, inr, Err, take_all, refl, ap, sym, ◌∙◌, subst, arith}
+use Rattle.std.proofs.Common.{◌≡◌, ℕ, ◌+◌, ◌-◌, ◌*◌, ◌/◌, ◌%◌, ◌≤◌, ◌<◌, ◌==◌, ◌&&◌, Bool, true, false, min, List, Option, None, Some, IfSome}
+use Rattle.std.proofs.Common.{length, take, drop, get_or, nat_le, nat_lt, ◌^◌, inl, inr, Err, take_all, refl, ap, sym, ◌∙◌, subst, arith}
 use Rattle.std.specs.Prelude.{option_map, option_and_then, if◌then◌else◌}
 use Rattle.std.proofs.lemmas.List.{get_or-take, get_or-drop, drop-take, length-take}
 use Rattle.std.proofs.lemmas.Bool.Decides.{leb_tells}
@@ -8,9 +9,9 @@ use Rattle.trace_reader.specs.declared.form.Form.{Form}
 use Rattle.trace_reader.specs.declared.form.LinkType.{LinkType}
 use Rattle.trace_reader.specs.declared.form.LinkType.TheVariants.{Ethernet, Raw}
 use Rattle.trace_reader.specs.declared.steer.Parts.{Parts}
-use Rattle.trace_reader.specs.Numbers.{byte_at, u16_at, u32_at}
-use Rattle.trace_reader.specs.Steered.{start_of, header_length, transport_length, total_length, parts_at, parts_of, held_of, payload_of, packet_with, packet_of, nanos_of}
-use Rattle.trace_reader.specs.Records.{record_answer, steered_answer}
+use Rattle.trace_reader.specs.Numbers.{u16_at, u32_at}
+use Rattle.trace_reader.specs.Steered.{start_of, header_length, transport_length, total_length, parts_of, packet_with, packet_of, nanos_of}
+use Rattle.trace_reader.specs.Opened.{byte_at, held_of, parts_at, payload_of, record_answer, steered_answer}
 use Rattle.trace_reader.specs.declared.fault.TraceFault.TheVariants as fault
 
 -- ---- single numbers
@@ -37,11 +38,13 @@ u32_at-front f i h =
 
 -- ---- options
 
-and_then_same : {T U : Type 0} (g h : T → Option U) (P : T → Type 0) (o : Option T) → IfSome o P → ((x : T) → P x → g x ≡ h x) → option_and_then g o ≡ option_and_then h o
+and_then_same : {T U : Type 0} (g h : T → Option U) (P : T → Type 0) (o : Option T) → IfSome o P → ((x : T) → P x → g x ≡ h x)
+    → option_and_then g o ≡ option_and_then h o
 and_then_same g h P None p e = refl
 and_then_same g h P (Some x) p e = e x p
 
-and_then_gives : {T U : Type 0} (g : T → Option U) (P : T → Type 0) (Q : U → Type 0) (o : Option T) → IfSome o P → ((x : T) → P x → IfSome (g x) Q) → IfSome (option_and_then g o) Q
+and_then_gives : {T U : Type 0} (g : T → Option U) (P : T → Type 0) (Q : U → Type 0) (o : Option T) → IfSome o P → ((x : T) → P x → IfSome (g x) Q)
+    → IfSome (option_and_then g o) Q
 and_then_gives g P Q None p e = tt
 and_then_gives g P Q (Some x) p e = e x p
 
@@ -78,7 +81,12 @@ header_length-bound len f s =
 
 parts_at-front : (len : ℕ) (f : List ℕ) (s h : ℕ) → s ≤ 18 → h ≤ 60 → parts_at len (take 202 f) s h ≡ parts_at len f s h
 parts_at-front len f s h low small =
-    rw (u16_at-front f (s + 6) (omega arith), u16_at-front f (s + 2) (omega arith), byte_at-front f (s + 9) (omega arith), byte_at-front f (s + h + 12) (omega arith)) refl
+    rw (
+      u16_at-front f (s + 6) (omega arith),
+      u16_at-front f (s + 2) (omega arith),
+      byte_at-front f (s + 9) (omega arith),
+      byte_at-front f (s + h + 12) (omega arith),
+    ) refl
 
 -- the bounds that keep a record's parts and its payload within the front
 record InFront (parts : Parts) : Type 0 where
@@ -110,7 +118,8 @@ unfolding parts_of
 parts_of-bound link_type len f fits =
     and_then_gives _ (λ s. s ≤ 18) InFront (start_of link_type len f) (start_of-bound link_type len f)
     (λ s low. and_then_gives _ (λ h. h ≤ 60) InFront (header_length len f s) (header_length-bound len f s)
-    (λ h small. and_then_gives _ (λ d. d ≤ 60) InFront (transport_length len f (byte_at f (s + 9)) (s + h)) (transport_length-bound len f (byte_at f (s + 9)) (s + h) fits)
+    (λ h small. and_then_gives _ (λ d. d ≤ 60) InFront (transport_length len f (byte_at f (s + 9)) (s + h))
+    (transport_length-bound len f (byte_at f (s + 9)) (s + h) fits)
     (λ d few.
     let parts : Parts = record { start = s; header = h; transport = d; total = total_length len f s } in
     let bounds : InFront parts = record { start = low; header = small; transport = few } in
@@ -127,7 +136,8 @@ payload_of-front len f parts b =
     let all : p + (202 - p) ≡ 202 = omega arith in
     ap (λ n. take held (drop p (take n f))) (sym all) ∙ ap (take held) (drop-take p (202 - p) f) ∙ take-take held (202 - p) (drop p f) (omega arith)
 
-packet_with-front : (k nanos len : ℕ) (f : List ℕ) (parts : Parts) → InFront parts → packet_with k nanos len (take 202 f) parts ≡ packet_with k nanos len f parts
+packet_with-front : (k nanos len : ℕ) (f : List ℕ) (parts : Parts) → InFront parts
+    → packet_with k nanos len (take 202 f) parts ≡ packet_with k nanos len f parts
 packet_with-front k nanos len f parts b =
     let low : parts.start ≤ 18 = b.start in
     let small : parts.header ≤ 60 = b.header in

@@ -1,5 +1,6 @@
 -- What several reads in a row take.
-use Rattle.std.proofs.Common.{◌≡◌, ℕ, ◌+◌, ◌-◌, ◌≤◌, ◌<◌, ◌==◌, false, List, ◌++◌, Option, None, Some, length, take, drop, ap, sym, ◌∙◌, subst, arith, nat_le, inl, inr, Bool, length-drop, length-append}
+use Rattle.std.proofs.Common.{◌≡◌, ℕ, ◌+◌, ◌-◌, ◌≤◌, ◌<◌, ◌==◌, false, List, ◌++◌, Option, None, Some, length, take}
+use Rattle.std.proofs.Common.{drop, ap, sym, ◌∙◌, subst, arith, nat_le, inl, inr, Bool, length-drop, length-append}
 use Rattle.std.proofs.Math.Seq.{take-append-add, drop-append_seam, drop-length, take-length}
 use Rattle.std.proofs.lemmas.List.{length-take-le, take-append-le, drop-drop}
 use Rattle.std.specs.Io.KnownBytes.{Consumes}
@@ -23,7 +24,8 @@ split_off : (bytes piece ys : List ℕ) (done n : ℕ) → done ≤ length bytes
     → (done + n ≤ length bytes) × (ys ≡ drop (done + n) bytes)
 split_off bytes piece ys done n within fits e =
     let long : length (take n piece) ≡ n = length-take-le n piece fits in
-    let count : length bytes - done ≡ n + length ys = sym (length-drop done bytes) ∙ ap length e ∙ length-append (take n piece) ys ∙ ap (λ m. m + length ys) long in
+    let count : length bytes - done ≡ n + length ys = sym (length-drop done bytes) ∙ ap length e ∙ length-append (take n piece) ys
+    ∙ ap (λ m. m + length ys) long in
     let rest : drop n (drop done bytes) ≡ ys = ap (drop n) e ∙ ap (λ m. drop m (take n piece ++ ys)) (sym long) ∙ drop-append_seam (take n piece) ys in
     (omega arith, sym rest ∙ drop-drop n done bytes)
 
@@ -58,5 +60,6 @@ body_rest a b c front len n m fills full fits skips bytes told =
       | inl e ↦ (let all : n + m ≡ len = omega (arith, e.1) in
           subst Goal (sym e.0) (sym (le-leb len (length bytes) (omega (arith, f.0, s.0))), (held, left ∙ ap (λ k. Some (drop k bytes)) all)))
       | inr e ↦ (let all : n + m ≡ length bytes = omega (arith, f.0, s.0, e.1) in
-          subst Goal (sym e.0) (sym (lt-leb len (length bytes) (omega (arith, f.0, s.0, e.1))), left ∙ ap Some (ap (λ k. drop k bytes) all ∙ drop-length bytes)))
+          subst Goal (sym e.0)
+          (sym (lt-leb len (length bytes) (omega (arith, f.0, s.0, e.1))), left ∙ ap Some (ap (λ k. drop k bytes) all ∙ drop-length bytes)))
     ]

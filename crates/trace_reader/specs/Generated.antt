@@ -60,8 +60,8 @@ abbrev pub flags_by : ℕ → ℕ
 flags_by bits = if bits == 0 then syn else if bits == 3 then fin + ack else ack
 
 -- what the word w chooses of a packet, with so many hosts inside
-unfoldable pub drawn : ℕ → ℕ → Drawn
-drawn hosts w = record {
+unfoldable pub drawn_by : ℕ → ℕ → Drawn
+drawn_by hosts w = record {
   host = w % hosts;
   peer = w / 2 ^ 16 % peers;
   direction = if w / 2 ^ 32 % 4 == 0 then In else Out;
@@ -110,12 +110,14 @@ total_size d = captured_size d + d.payload
 -- the head of the record of packet j, which comes j milliseconds after the start of 1970
 unfoldable pub record_head : ℕ → Drawn → List ℕ
 record_head j d =
-    little_bytes 4 (j / millis_per_second) ++ little_bytes 4 (j % millis_per_second * micros_per_milli) ++ little_bytes 4 (captured_size d) ++ little_bytes 4 (total_size d)
+    little_bytes 4 (j / millis_per_second) ++ little_bytes 4 (j % millis_per_second * micros_per_milli) ++ little_bytes 4 (captured_size d)
+    ++ little_bytes 4 (total_size d)
 
 -- version 4 and a header of five words, the total length, a time to live, the protocol, and the two addresses
 unfoldable pub ipv4_header : ℕ → Drawn → List ℕ
 ipv4_header proto d =
-    (version_and_words ∷ 0 ∷ []) ++ big_bytes 2 (total_size d) ++ replicate 4 0 ++ (time_to_live ∷ proto ∷ 0 ∷ 0 ∷ []) ++ (source d).address ++ (target d).address
+    (version_and_words ∷ 0 ∷ []) ++ big_bytes 2 (total_size d) ++ replicate 4 0 ++ (time_to_live ∷ proto ∷ 0 ∷ 0 ∷ []) ++ (source d).address
+    ++ (target d).address
 
 -- the ports, the length, and no checksum
 unfoldable pub udp_header : Drawn → List ℕ
@@ -142,7 +144,7 @@ file_header =
 
 -- the records of the packets from number j on, one for each word
 abbrev pub records : ℕ → ℕ → List ℕ → List ℕ
-records hosts j words = flat_map (λ e. record_bytes e.0 (drawn hosts e.1)) (enumerate_from j words)
+records hosts j words = flat_map (λ e. record_bytes e.0 (drawn_by hosts e.1)) (enumerate_from j words)
 
 -- the capture of so many packets, drawn from the words that this number gives
 unfoldable pub capture : ℕ → ℕ → ℕ → List ℕ

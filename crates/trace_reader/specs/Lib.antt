@@ -5,6 +5,7 @@ pub mod Header
 pub mod Steered
 pub mod Takes
 pub mod Records
+pub mod Opened
 pub mod Answers
 pub mod Generated
 pub mod Making

@@ -1,6 +1,7 @@
 //! The packets of generated captures: what the word of each chooses.
 ghost use Rattle.std.specs.Prelude.{◌≡◌, ◌≤◌, ◌<◌};
-ghost use Rattle.trace_reader.specs.Generated.{drawn, flags_by, local_port, remote_port, local_end, remote_end, source, target, transport_size, captured_size, total_size, payload_lengths};
+ghost use Rattle.trace_reader.specs.Generated.{drawn_by, flags_by, local_port, remote_port, local_end, remote_end, source};
+ghost use Rattle.trace_reader.specs.Generated.{target, transport_size, captured_size, total_size, payload_lengths};
 ghost use Rattle.flow_filter.specs.Limits.{most_hosts};
 
 use flow_filter::{ACK, Direction, FIN, SYN};
@@ -35,11 +36,11 @@ pub(crate) struct End {
 
 impl Drawn {
     /// What a word chooses, where there are so many hosts inside.
-    #[tactic(auto, unfolding(crate::specs::Generated::drawn))]
+    #[tactic(auto, unfolding(crate::specs::Generated::drawn_by))]
     pub(crate) fn of(word: u64, hosts: u32) -> Drawn
         requires some { 1 ≤ hosts }
         requires few { hosts ≤ most_hosts }
-        ensures value { result ≡ drawn hosts word }
+        ensures value { result ≡ drawn_by hosts word }
         ensures payload { result.payload < payload_lengths }
     {
         Drawn {

@@ -3,8 +3,8 @@ ghost use Rattle.std.specs.Prelude.{◌≡◌, ◌≢◌, ◌≤◌, Err, length
 ghost use Rattle.trace_reader.specs.Limits.{head_size, header_size};
 ghost use Rattle.trace_reader.specs.Numbers.{number_in};
 ghost use Rattle.trace_reader.specs.Steered.{nanos_of};
-ghost use Rattle.trace_reader.specs.Numbers.{captured_of};
-ghost use Rattle.trace_reader.specs.Header.{magic_of, link_type_of, is_version, form_of};
+ghost use Rattle.trace_reader.specs.Header.{magic_of, link_type_of, form_of};
+ghost use Rattle.trace_reader.specs.Opened.{captured_of, is_version};
 
 use crate::fault::TraceFault;
 use byteorder::{BigEndian, ByteOrder, LittleEndian};

@@ -1,5 +1,6 @@
 //! Who takes the packets of a capture while it is read.
-ghost use Rattle.std.specs.Prelude.{◌≡◌, List, [], ◌∷◌, ◌++◌, OnOk};
+ghost use Rattle.std.specs.Prelude.{◌≡◌, List, [], ◌∷◌, ◌++◌, All, OnOk};
+ghost use Rattle.flow_filter.specs.Packet.{IsInRange};
 ghost use Rattle.flow_filter.specs.declared.packet.Packet.{Packet as ThePacket};
 
 use basics::NoMemory;
@@ -16,10 +17,11 @@ pub trait Keeper {
 
     /// Takes one more packet. Once memory ran out, it is only dropped.
     fn keep(&mut self, packet: &Packet) -> Result<(), NoMemory>
-        ensures { OnOk result ((setup : Self.Setup) (before : List ThePacket) → HasKept self.old setup before → HasKept self.new setup (before ++ packet.now ∷ [])) };
+        ensures { OnOk result
+            ((setup : Self.Setup) (before : List ThePacket) → HasKept self.old setup before → HasKept self.new setup (before ++ packet.now ∷ [])) };
 }
 
-/// Keeps each packet, to wait for its turn.
+/// Keeps each packet, to wait for its turn. Of each it is then known that its numbers are in range.
 #[derive(Debug, Drop)]
 pub(crate) struct PacketKeeper {
     pub(crate) packets: Packets,
@@ -29,7 +31,7 @@ pub(crate) struct PacketKeeper {
 impl Keeper for PacketKeeper {
     ghost Setup = { Unit {0} };
 
-    ghost HasKept = { λ keeper setup kept. keeper.packets ≡ kept };
+    ghost HasKept = { λ keeper setup kept. (keeper.packets ≡ kept) × All IsInRange kept };
 
     #[inline(always)]
     fn keep(&mut self, packet: &Packet) -> Result<(), NoMemory> {

@@ -34,7 +34,7 @@ pub struct TraceReader {
 impl TraceReader {
     ghost use Rattle.nf_io.specs.Meaning.{StaysOpen, untouched, Rose};
     ghost use Rattle.trace_reader.specs.declared.record.Next.TheVariants as next;
-    ghost use Rattle.trace_reader.specs.Records.{opened};
+    ghost use Rattle.trace_reader.specs.Opened.{opened};
     ghost use Rattle.trace_reader.specs.Answers.{HasReadCause, AnswersOpen, AnswersNext, Advances, reading_of, stop_of, answer_of};
 
     /// Reads the 24 bytes at the head of a capture.
@@ -102,8 +102,10 @@ impl TraceReader {
     #[inline(always)]
     pub(crate) fn next_bare<S: Source>(&mut self, source: &mut S) -> Option<Packet>
         requires { S.IsOpen source.old }
-        ensures answers { IfSome result (λ packet. AnswersNext (reading_of self.old (S.left source.old)) (reading_of self.new (S.left source.new)) (Ok (next.Packet packet))) }
-        ensures advances { IfSome result (λ packet. Advances (reading_of self.old (S.left source.old)) (reading_of self.new (S.left source.new)) (Ok (next.Packet packet))) }
+        ensures answers { IfSome result
+            (λ packet. AnswersNext (reading_of self.old (S.left source.old)) (reading_of self.new (S.left source.new)) (Ok (next.Packet packet))) }
+        ensures advances { IfSome result
+            (λ packet. Advances (reading_of self.old (S.left source.old)) (reading_of self.new (S.left source.new)) (Ok (next.Packet packet))) }
         ensures form { self.new.form ≡ self.old.form }
         ensures stop { self.new.stop ≡ self.old.stop }
         ensures unread { IfNone result (self.new ≡ self.old) }

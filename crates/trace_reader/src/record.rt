@@ -3,8 +3,8 @@ ghost use Rattle.std.specs.Prelude.{◌≡◌, ◌≢◌, ◌<◌, ◌≤◌, �
 ghost use Rattle.std.specs.Io.{StartsWith};
 ghost use Rattle.nf_io.specs.Meaning.{StaysOpen, untouched};
 ghost use Rattle.trace_reader.specs.Limits.{front_size, head_size, most_bytes, most_captured};
-ghost use Rattle.trace_reader.specs.Numbers.{byte_at, captured_of};
-ghost use Rattle.trace_reader.specs.Records.{next_of, record_answer, record_size};
+ghost use Rattle.trace_reader.specs.Records.{next_of, record_size};
+ghost use Rattle.trace_reader.specs.Opened.{byte_at, captured_of, record_answer};
 ghost use Rattle.trace_reader.specs.declared.record.Next.TheVariants as next;
 ghost use Rattle.trace_reader.specs.Answers.{HasReadCause, AnswersNext, Advances, next_in, count_after, reading, reading_after};
 ghost use Rattle.flow_filter.specs.Limits.{most_packets};
@@ -118,7 +118,7 @@ fn whole_at_hand(form: Form, ahead: &[u8]) -> Option<usize>
 }
 
 /// What a whole record gives, of `len` bytes, of which `front` has the first. It is inlined, so that no packet is copied.
-#[tactic(auto, unfolding(crate::specs::Records::record_answer))]
+#[tactic(auto, unfolding(crate::specs::Opened::record_answer))]
 #[inline(always)]
 fn judge(
     form: Form,
@@ -150,7 +150,7 @@ fn judge(
 }
 
 /// The packet that a whole record gives, as [`judge`] does, if none of its payload was captured.
-#[tactic(auto, unfolding(crate::specs::Records::record_answer))]
+#[tactic(auto, unfolding(crate::specs::Opened::record_answer))]
 #[inline(always)]
 fn judge_bare(
     form: Form,

@@ -2,7 +2,9 @@
 ghost use Rattle.std.specs.Prelude.{◌≡◌, ◌≤◌, ◌+◌, ◌-◌, ◌^◌, ◌++◌, min, length, replicate, true, Some, IfSome};
 ghost use Rattle.trace_reader.specs.Limits.{front_size, head_size, most_captured};
 ghost use Rattle.trace_reader.specs.Numbers.{u16_at, u32_at};
-ghost use Rattle.trace_reader.specs.Steered.{start_of, header_length, is_steered_proto, transport_length, total_length, parts_of, HasParts, held_of, payload_of, packet_with, packet_of};
+ghost use Rattle.trace_reader.specs.Steered.{start_of, header_length, is_steered_proto, transport_length};
+ghost use Rattle.trace_reader.specs.Steered.{total_length, parts_of, HasParts, packet_with, packet_of};
+ghost use Rattle.trace_reader.specs.Opened.{held_of, payload_of};
 ghost use Rattle.trace_reader.specs.Layout.{tagged_size, ipv4_size, udp_size, tcp_size, longest_header};
 ghost use Rattle.flow_filter.specs.Packet.{tcp, most_held};
 

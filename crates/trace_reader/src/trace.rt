@@ -1,7 +1,9 @@
+//! Reading a whole capture, into a list of packets or into a keeper's hands.
 ghost use Rattle.std.specs.Prelude.{◌≡◌, ◌≤◌, true, All, IfOk, length};
 ghost use Rattle.std.specs.Option.{ForSome};
 ghost use Rattle.nf_io.specs.Meaning.{StaysOpen, untouched};
 ghost use Rattle.flow_filter.specs.Limits.{most_packets};
+ghost use Rattle.flow_filter.specs.Packet.{IsInRange};
 ghost use Rattle.trace_reader.specs.Records.{capture_of, AreNumbered};
 ghost use Rattle.trace_reader.specs.Steered.{is_steered_proto};
 ghost use Rattle.trace_reader.specs.Answers.{HasReadCause, AnswersTrace, HandsOn, HandsPackets, HandsSteered};
@@ -42,6 +44,7 @@ pub fn read_trace<S: Source>(alloc: Global, source: &mut S) -> Result<Trace, Tra
     ensures trace { ForSome (S.left source.old) (λ bytes. AnswersTrace (capture_of bytes) (S.left source.new) result) }
     ensures numbers { IfOk result (λ trace. AreNumbered 1 trace.packets) }
     ensures steered { IfOk result (λ trace. All (λ packet. is_steered_proto packet.proto ≡ true) trace.packets) }
+    ensures in_range { IfOk result (λ trace. All IsInRange trace.packets) }
     ensures few { IfOk result (λ trace. length trace.packets ≤ most_packets) }
     ensures cause { HasReadCause (S.faults source.old) (S.faults source.new) result }
     ensures stays { StaysOpen S.IsOpen (untouched S.loan S.rest) source.old source.new }

@@ -3,9 +3,11 @@ use Rattle.std.proofs.Common.{◌≡◌, ℕ, Bool, true, false, List, [], ◌�
 use Rattle.std.specs.Prelude.{if◌then◌else◌, ◌==◌}
 use Rattle.two_machine.proofs.Machine.{Rule, Free, Drops, Buffers, Target, To_a, To_both, To_b}
 use Rattle.two_machine.proofs.Tables
-use Rattle.two_machine.proofs.Tables.{System, Msg, Note, Switch, Ctrl, Inst, Step, In_packet, In_start, In_end, Start, End, Copied, Laid, Forward, Lay, Finish, Carry, Pass, Stop, Enable, Get, Delete, Restore, Fence, Enabled, Chunks, Deleted, Restored, Event, Seen, Fenced, Final, Credit, has_room, goes, switch_step, processed, all_processed, ruled, inst_step, ctrl_step, takes_in}
+use Rattle.two_machine.proofs.Tables.{System, Msg, Note, Switch, Ctrl, Inst, Step, In_packet, In_start, In_end, Start, End, Copied, Laid, Forward, Lay}
+use Rattle.two_machine.proofs.Tables.{Finish, Carry, Pass, Stop, Enable, Get, Delete, Restore, Fence, Enabled, Chunks, Deleted, Restored, Event, Seen}
+use Rattle.two_machine.proofs.Tables.{Fenced, Final, Credit, has_room, goes, switch_step, processed, all_processed, ruled, inst_step, ctrl_step, takes_in}
 use Rattle.two_machine.proofs.View.{World, Observer, read, read-append, arrived, item}
-use Rattle.two_machine.proofs.Labels.{IsSelected, In_input, On_sc, On_cs, On_ac, On_bc, On_back, Label}
+use Rattle.two_machine.proofs.Labels.{IsSelected, InInput, OnSc, OnCs, OnAc, OnBc, OnBack, Label}
 use Rattle.two_machine.proofs.Puts.{sent, result}
 use Rattle.two_machine.proofs.Places.{Place, In, Cs, Aw, Bw, Sc, Ac, Bc, Sa, Ca, Sb, Cb, with_waits, comes}
 use Rattle.two_machine.proofs.Shapes.{copied}
@@ -18,9 +20,9 @@ coming (In_packet p) = p ∷ []
 coming m = []
 
 -- no End, and no copy besides
-abbrev pub Not_end : {C : Type 0} → Msg C → Type 0
-Not_end End = ⊥
-Not_end m = Unit {0}
+abbrev pub NotEnd : {C : Type 0} → Msg C → Type 0
+NotEnd End = ⊥
+NotEnd m = Unit {0}
 
 abbrev pub Quiet : {C : Type 0} → Msg C → Type 0
 Quiet End = ⊥
@@ -28,36 +30,36 @@ Quiet (Copied p) = ⊥
 Quiet m = Unit {0}
 
 -- one End, and no copy after it
-abbrev pub One_end : {C : Type 0} → List (Msg C) → Type 0
-One_end [] = ⊥
-One_end (End ∷ ms) = Each Quiet ms
-One_end (m ∷ ms) = One_end ms
+abbrev pub OneEnd : {C : Type 0} → List (Msg C) → Type 0
+OneEnd [] = ⊥
+OneEnd (End ∷ ms) = Each Quiet ms
+OneEnd (m ∷ ms) = OneEnd ms
 
 -- the end of an input stands last
-abbrev pub Ends_last : {C : Type 0} → List (Msg C) → Type 0
-Ends_last [] = ⊥
-Ends_last (In_end ∷ []) = Unit {0}
-Ends_last (In_end ∷ m ∷ ms) = ⊥
-Ends_last (m ∷ ms) = Ends_last ms
+abbrev pub EndsLast : {C : Type 0} → List (Msg C) → Type 0
+EndsLast [] = ⊥
+EndsLast (In_end ∷ []) = Unit {0}
+EndsLast (In_end ∷ m ∷ ms) = ⊥
+EndsLast (m ∷ ms) = EndsLast ms
 
-pub one_end_more : {C : Type 0} (xs ys : List (Msg C)) → One_end xs → Each Quiet ys → One_end (xs ++ ys)
+pub one_end_more : {C : Type 0} (xs ys : List (Msg C)) → OneEnd xs → Each Quiet ys → OneEnd (xs ++ ys)
 one_end_more [] ys h k = absurd h
 one_end_more (End ∷ xs) ys h k = each-append Quiet xs ys h k
 one_end_more (x ∷ xs) ys h k = one_end_more xs ys h k
 
-pub one_end_put : {C : Type 0} (xs : List (Msg C)) → Each Not_end xs → One_end (xs ++ End ∷ [])
+pub one_end_put : {C : Type 0} (xs : List (Msg C)) → Each NotEnd xs → OneEnd (xs ++ End ∷ [])
 one_end_put [] h = tt
 one_end_put (End ∷ xs) h = absurd h.0
 one_end_put (x ∷ xs) h = one_end_put xs h.1
 
 -- where the end is
-pub data End_at {T C O : Type 0} (v : World T C O) : Type 0 where
-  In_input_still : Ends_last v.input → Each Not_end v.sc → v.ct.ended ≡ false → End_at v
-  On_link : v.input ≡ [] → One_end v.sc → v.ct.ended ≡ false → End_at v
-  Has_come : v.input ≡ [] → Each Not_end v.sc → v.ct.ended ≡ true → End_at v
+pub data EndAt {T C O : Type 0} (v : World T C O) : Type 0 where
+  In_input_still : EndsLast v.input → Each NotEnd v.sc → v.ct.ended ≡ false → EndAt v
+  On_link : v.input ≡ [] → OneEnd v.sc → v.ct.ended ≡ false → EndAt v
+  Has_come : v.input ≡ [] → Each NotEnd v.sc → v.ct.ended ≡ true → EndAt v
 
 module _ {U T C R O : Type 0} (S : System U T C R O) where
-  pub quiet_copied : (o : Observer U) (xs : List (Msg C)) → Each (On_sc S) xs → Each Quiet xs → copied (read (item S o) xs) ≡ []
+  pub quiet_copied : (o : Observer U) (xs : List (Msg C)) → Each (OnSc S) xs → Each Quiet xs → copied (read (item S o) xs) ≡ []
   quiet_copied o [] l h = refl
   quiet_copied o (Start ∷ xs) l h = quiet_copied o xs l.1 h.1
   quiet_copied o (Laid high ∷ xs) l h = quiet_copied o xs l.1 h.1
@@ -75,20 +77,20 @@ module _ {U T C R O : Type 0} (S : System U T C R O) where
   lay_notes true = refl
   lay_notes false = refl
 
-  in_notes : (s : Switch) (m : Msg C) → In_input S m → takes_in S s m ≡ true → read arrived (switch_step S s m).notes ≡ comes In m
+  in_notes : (s : Switch) (m : Msg C) → InInput S m → takes_in S s m ≡ true → read arrived (switch_step S s m).notes ≡ comes In m
   in_notes s (In_packet p) h ready = rw ready (goes_notes (if S.covers p then s.target else To_a) s p)
   in_notes s In_start h ready = refl
   in_notes s In_end h ready = refl
   in_notes s m h ready = absurd h
 
-  cs_notes : (s : Switch) (m : Msg C) → On_cs S m → read arrived (switch_step S s m).notes ≡ []
+  cs_notes : (s : Switch) (m : Msg C) → OnCs S m → read arrived (switch_step S s m).notes ≡ []
   cs_notes s (Forward p) h = refl
   cs_notes s (Lay true) h = refl
   cs_notes s (Lay false) h = refl
   cs_notes s (Finish to) h = refl
   cs_notes s m h = absurd h
 
-  back_notes : (s : Switch) (m : Msg C) → On_back S m → read arrived (switch_step S s m).notes ≡ []
+  back_notes : (s : Switch) (m : Msg C) → OnBack S m → read arrived (switch_step S s m).notes ≡ []
   back_notes s (Credit p) h = refl
   back_notes s m h = absurd h
 
@@ -132,19 +134,19 @@ module _ {U T C R O : Type 0} (S : System U T C R O) where
   arrivals Cb v m rest h ready k = read-append arrived v.log (inst_step S 1 v.b m).notes ∙ ap (λ xs. read arrived v.log ++ xs) (inst_notes 1 v.b m)
 
   -- the end
-  goes_sc : (t : Target) (s : Switch) (p : ℕ) → Each Not_end (sent 1 (goes S t s p).sends)
+  goes_sc : (t : Target) (s : Switch) (p : ℕ) → Each NotEnd (sent 1 (goes S t s p).sends)
   goes_sc To_a s p = tt
   goes_sc To_both s p = (tt, tt)
   goes_sc To_b s p = tt
 
-  end_in : (v : World T C O) (m : Msg C) (rest : List (Msg C)) → In_input S m → takes_in S v.sw m ≡ true → End_at (with_waits S In (m ∷ rest) v)
-      → End_at (result S In (with_waits S In rest v) m)
+  end_in : (v : World T C O) (m : Msg C) (rest : List (Msg C)) → InInput S m → takes_in S v.sw m ≡ true → EndAt (with_waits S In (m ∷ rest) v)
+      → EndAt (result S In (with_waits S In rest v) m)
   end_in v (In_packet p) rest h ready (In_input_still last none not_yet) =
       In_input_still last
-      (each-append Not_end v.sc (sent 1 (switch_step S v.sw (In_packet p)).sends) none
+      (each-append NotEnd v.sc (sent 1 (switch_step S v.sw (In_packet p)).sends) none
       (rw ready (goes_sc (if S.covers p then v.sw.target else To_a) v.sw p)))
       not_yet
-  end_in v In_start rest h ready (In_input_still last none not_yet) = In_input_still last (each-append Not_end v.sc (Start ∷ []) none (tt, tt)) not_yet
+  end_in v In_start rest h ready (In_input_still last none not_yet) = In_input_still last (each-append NotEnd v.sc (Start ∷ []) none (tt, tt)) not_yet
   end_in v In_end [] h ready (In_input_still last none not_yet) = On_link refl (one_end_put v.sc none) not_yet
   end_in v In_end (x ∷ rest) h ready (In_input_still last none not_yet) = absurd last
   end_in v m rest h ready (In_input_still last none not_yet) = absurd h
@@ -152,7 +154,7 @@ module _ {U T C R O : Type 0} (S : System U T C R O) where
   end_in v m rest h ready (Has_come none no_end has) = cc
 
   -- what the switch sends the controller otherwise says nothing of the end
-  quiet_cs : (s : Switch) (m : Msg C) → On_cs S m → Each Quiet (sent 1 (switch_step S s m).sends)
+  quiet_cs : (s : Switch) (m : Msg C) → OnCs S m → Each Quiet (sent 1 (switch_step S s m).sends)
   quiet_cs s (Forward p) h = tt
   quiet_cs s (Lay high) h = (tt, tt)
   quiet_cs s (Finish to) h = by (to == 0)
@@ -162,28 +164,28 @@ module _ {U T C R O : Type 0} (S : System U T C R O) where
       by false = tt
   quiet_cs s m h = absurd h
 
-  not_end : (xs : List (Msg C)) → Each (On_sc S) xs → Each Quiet xs → Each Not_end xs
+  not_end : (xs : List (Msg C)) → Each (OnSc S) xs → Each Quiet xs → Each NotEnd xs
   not_end [] l h = tt
   not_end (End ∷ xs) l h = absurd h.0
   not_end (x ∷ xs) l h = (tt, not_end xs l.1 h.1)
 
-  more_sc : (v w : World T C O) (xs : List (Msg C)) → Each (On_sc S) xs → Each Quiet xs → w.input ≡ v.input → w.sc ≡ v.sc ++ xs → w.ct.ended ≡ v.ct.ended
-      → End_at v → End_at w
+  more_sc : (v w : World T C O) (xs : List (Msg C)) → Each (OnSc S) xs → Each Quiet xs → w.input ≡ v.input → w.sc ≡ v.sc ++ xs → w.ct.ended ≡ v.ct.ended
+      → EndAt v → EndAt w
   more_sc v w xs l q input sc ended (In_input_still last none not_yet) =
-      In_input_still (rw input last) (rw sc (each-append Not_end v.sc xs none (not_end xs l q))) (ended ∙ not_yet)
+      In_input_still (rw input last) (rw sc (each-append NotEnd v.sc xs none (not_end xs l q))) (ended ∙ not_yet)
   more_sc v w xs l q input sc ended (On_link none one not_yet) = On_link (input ∙ none) (rw sc (one_end_more v.sc xs one q)) (ended ∙ not_yet)
   more_sc v w xs l q input sc ended (Has_come none no_end has) =
-      Has_come (input ∙ none) (rw sc (each-append Not_end v.sc xs no_end (not_end xs l q))) (ended ∙ has)
+      Has_come (input ∙ none) (rw sc (each-append NotEnd v.sc xs no_end (not_end xs l q))) (ended ∙ has)
 
-  same_sc : (v w : World T C O) → w.input ≡ v.input → w.sc ≡ v.sc → w.ct.ended ≡ v.ct.ended → End_at v → End_at w
+  same_sc : (v w : World T C O) → w.input ≡ v.input → w.sc ≡ v.sc → w.ct.ended ≡ v.ct.ended → EndAt v → EndAt w
   same_sc v w input sc ended h = more_sc v w [] tt tt input (sc ∙ sym (append-nil v.sc)) ended h
 
-  end_sc : (v : World T C O) (m : Msg C) (rest : List (Msg C)) → On_sc S m → IsSelected S v.ct.kept → End_at (with_waits S Sc (m ∷ rest) v)
-      → End_at (result S Sc (with_waits S Sc rest v) m)
+  end_sc : (v : World T C O) (m : Msg C) (rest : List (Msg C)) → OnSc S m → IsSelected S v.ct.kept → EndAt (with_waits S Sc (m ∷ rest) v)
+      → EndAt (result S Sc (with_waits S Sc rest v) m)
   end_sc v End rest h k (In_input_still last none not_yet) = absurd none.0
   end_sc v End rest h k (On_link none one not_yet) = Has_come none (quiet_not rest one) (ctrl_ok S v.ct 0 End k tt).ended
     where
-      quiet_not : (xs : List (Msg C)) → Each Quiet xs → Each Not_end xs
+      quiet_not : (xs : List (Msg C)) → Each Quiet xs → Each NotEnd xs
       quiet_not [] h = tt
       quiet_not (End ∷ xs) h = absurd h.0
       quiet_not (x ∷ xs) h = (tt, quiet_not xs h.1)
@@ -199,11 +201,11 @@ module _ {U T C R O : Type 0} (S : System U T C R O) where
   end_sc v (Laid high) rest h k (Has_come none no_end has) = Has_come none no_end.1 ((ctrl_ok S v.ct 0 (Laid high) k tt).ended ∙ has)
   end_sc v m rest h k e = absurd h
 
-  quiet_back : (s : Switch) (m : Msg C) → On_back S m → sent 1 (switch_step S s m).sends ≡ []
+  quiet_back : (s : Switch) (m : Msg C) → OnBack S m → sent 1 (switch_step S s m).sends ≡ []
   quiet_back s (Credit p) h = refl
   quiet_back s m h = absurd h
 
-  ended_ac : (m : Msg C) (c : Ctrl C) (port : ℕ) → IsSelected S c.kept → On_ac S m → (ctrl_step S c port m).node.ended ≡ c.ended
+  ended_ac : (m : Msg C) (c : Ctrl C) (port : ℕ) → IsSelected S c.kept → OnAc S m → (ctrl_step S c port m).node.ended ≡ c.ended
   ended_ac Enabled c port k h = (ctrl_ok S c port Enabled k tt).ended
   ended_ac (Chunks cs) c port k h = (ctrl_ok S c port (Chunks cs) k h).ended
   ended_ac Deleted c port k h = (ctrl_ok S c port Deleted k tt).ended
@@ -211,7 +213,7 @@ module _ {U T C R O : Type 0} (S : System U T C R O) where
   ended_ac Final c port k h = (ctrl_ok S c port Final k tt).ended
   ended_ac m c port k h = absurd h
 
-  ended_bc : (m : Msg C) (c : Ctrl C) (port : ℕ) → IsSelected S c.kept → On_bc S m → (ctrl_step S c port m).node.ended ≡ c.ended
+  ended_bc : (m : Msg C) (c : Ctrl C) (port : ℕ) → IsSelected S c.kept → OnBc S m → (ctrl_step S c port m).node.ended ≡ c.ended
   ended_bc Restored c port k h = (ctrl_ok S c port Restored k tt).ended
   ended_bc Enabled c port k h = (ctrl_ok S c port Enabled k tt).ended
   ended_bc Fenced c port k h = (ctrl_ok S c port Fenced k tt).ended
@@ -219,18 +221,18 @@ module _ {U T C R O : Type 0} (S : System U T C R O) where
   ended_bc Final c port k h = (ctrl_ok S c port Final k tt).ended
   ended_bc m c port k h = absurd h
 
-  on_sc_cs : (s : Switch) (m : Msg C) → On_cs S m → Each (On_sc S) (sent 1 (switch_step S s m).sends)
+  on_sc_cs : (s : Switch) (m : Msg C) → OnCs S m → Each (OnSc S) (sent 1 (switch_step S s m).sends)
   on_sc_cs s (Forward p) h = tt
   on_sc_cs s (Lay high) h = (tt, tt)
   on_sc_cs s (Finish to) h = by (to == 0)
     where
-      by : (b : Bool) → Each (On_sc S) (sent {M = Msg C} 1 ((if b then 2 else 3, Stop) ∷ []))
+      by : (b : Bool) → Each (OnSc S) (sent {M = Msg C} 1 ((if b then 2 else 3, Stop) ∷ []))
       by true = tt
       by false = tt
   on_sc_cs s m h = absurd h
 
   pub end_goes : (pl : Place) (v : World T C O) (m : Msg C) (rest : List (Msg C)) → Label S pl m → Ready pl v m → IsSelected S v.ct.kept
-      → End_at (with_waits S pl (m ∷ rest) v) → End_at (result S pl (with_waits S pl rest v) m)
+      → EndAt (with_waits S pl (m ∷ rest) v) → EndAt (result S pl (with_waits S pl rest v) m)
   end_goes In v m rest h ready k e = end_in v m rest h ready e
   end_goes Cs v m rest h ready k e =
       more_sc (with_waits S Cs (m ∷ rest) v) (result S Cs (with_waits S Cs rest v) m) (sent 1 (switch_step S v.sw m).sends) (on_sc_cs v.sw m h)

@@ -2,11 +2,16 @@
 use Rattle.std.proofs.Common.{◌≡◌, ◌≢◌, ℕ, ◌+◌, Bool, true, false, List, [], ◌∷◌, ◌++◌, length, refl, ap, ◌∙◌, arith}
 use Rattle.std.specs.Prelude.{if◌then◌else◌, ◌==◌, ◌&&◌, not}
 use Rattle.std.proofs.lemmas.List.{length_push}
-use Rattle.two_machine.proofs.Machine.{Rule, Free, Drops, Buffers, Target, To_a, To_both, To_b, Phase, Idle, Freezing, Getting, Deleting, Putting, Holding, Laying, Waiting, Turning, Settling, Ending, Over, same}
+use Rattle.two_machine.proofs.Machine.{Rule, Free, Drops, Buffers, Target, To_a, To_both, To_b, Phase, Idle, Freezing, Getting}
+use Rattle.two_machine.proofs.Machine.{Deleting, Putting, Holding, Laying, Waiting, Turning, Settling, Ending, Over, same}
 use Rattle.two_machine.proofs.Tables
-use Rattle.two_machine.proofs.Tables.{System, Msg, Note, Switch, Ctrl, Inst, Step, In_packet, In_start, In_end, Start, End, Copied, Laid, Forward, Lay, Finish, Carry, Pass, Stop, Enable, Get, Delete, Restore, Fence, Enabled, Chunks, Deleted, Restored, Event, Seen, Fenced, Final, Credit, none, has_room, goes, switch_step, processed, all_processed, ruled, inst_step, on_start, on_enabled, on_chunks, on_deleted, on_restored, on_event, on_laid, on_copied, on_fenced, on_final, forwards, ctrl_row, and_then, soon_at, is_over, finishes, soon, ctrl_step, takes_in}
+use Rattle.two_machine.proofs.Tables.{System, Msg, Note, Switch, Ctrl, Inst, Step, In_packet, In_start, In_end, Start, End, Copied, Laid}
+use Rattle.two_machine.proofs.Tables.{Forward, Lay, Finish, Carry, Pass, Stop, Enable, Get, Delete, Restore, Fence, Enabled, Chunks, Deleted}
+use Rattle.two_machine.proofs.Tables.{Restored, Event, Seen, Fenced, Final, Credit, none, has_room, goes, switch_step, processed, all_processed}
+use Rattle.two_machine.proofs.Tables.{ruled, inst_step, on_start, on_enabled, on_chunks, on_deleted, on_restored, on_event, on_laid, on_copied}
+use Rattle.two_machine.proofs.Tables.{on_fenced, on_final, forwards, ctrl_row, and_then, soon_at, is_over, finishes, soon, ctrl_step, takes_in}
 use Rattle.two_machine.proofs.View.{World, read-append}
-use Rattle.two_machine.proofs.Labels.{In_input, On_sa, On_sb, On_sc, On_cs, On_ca, On_cb, On_ac, On_bc, On_back, Label}
+use Rattle.two_machine.proofs.Labels.{InInput, OnSa, OnSb, OnSc, OnCs, OnCa, OnCb, OnAc, OnBc, OnBack, Label}
 use Rattle.two_machine.proofs.Puts.{to_one, sent, put_switch, put_ctrl, put_a, put_b, result}
 use Rattle.two_machine.proofs.Places.{Place, In, Cs, Aw, Bw, Sc, Ac, Bc, Sa, Ca, Sb, Cb, with_waits}
 use Rattle.two_machine.proofs.Arrivals.{Ready}
@@ -191,7 +196,7 @@ module _ {U T C R O : Type 0} (S : System U T C R O) where
   goes_cells To_both s p = (omega arith, refl)
   goes_cells To_b s p = (omega arith, refl)
 
-  in_cells : (s : Switch) (m : Msg C) → In_input S m → takes_in S s m ≡ true
+  in_cells : (s : Switch) (m : Msg C) → InInput S m → takes_in S s m ≡ true
       → ((switch_step S s m).node.flying + 0 ≡ s.flying + weigh cell (sent 2 (switch_step S s m).sends) + weigh cell (sent 3 (switch_step S s m).sends))
       × ((switch_step S s m).node.window ≡ s.window)
   in_cells s (In_packet p) l ready = rw ready (goes_cells (if S.covers p then s.target else To_a) s p)
@@ -199,7 +204,7 @@ module _ {U T C R O : Type 0} (S : System U T C R O) where
   in_cells s In_end l ready = (omega arith, refl)
   in_cells s m l ready = absurd l
 
-  cs_cells : (s : Switch) (m : Msg C) → On_cs S m
+  cs_cells : (s : Switch) (m : Msg C) → OnCs S m
       →
       ((switch_step S s m).node.flying + cell m
       ≡ s.flying + weigh cell (sent 2 (switch_step S s m).sends) + weigh cell (sent 3 (switch_step S s m).sends))
@@ -218,7 +223,7 @@ module _ {U T C R O : Type 0} (S : System U T C R O) where
       by false = (omega arith, refl)
   cs_cells s m l = absurd l
 
-  back_cells : (s : Switch) (m : Msg C) (n : ℕ) → On_back S m → s.flying ≡ n + cell m
+  back_cells : (s : Switch) (m : Msg C) (n : ℕ) → OnBack S m → s.flying ≡ n + cell m
       →
       ((switch_step S s m).node.flying + cell m
       ≡ s.flying + weigh cell (sent 2 (switch_step S s m).sends) + weigh cell (sent 3 (switch_step S s m).sends))
@@ -232,7 +237,7 @@ module _ {U T C R O : Type 0} (S : System U T C R O) where
   ruled_cells Drops i p = omega arith
   ruled_cells Buffers i p = omega (arith, length_push i.held p)
 
-  sa_cells : (i : Inst T) (m : Msg C) → On_sa S m
+  sa_cells : (i : Inst T) (m : Msg C) → OnSa S m
       → length (inst_step S 0 i m).node.held + weigh cell (sent 0 (inst_step S 0 i m).sends) + weigh cell (sent 1 (inst_step S 0 i m).sends)
       ≡ length i.held + cell m
   sa_cells i (Carry p) l =
@@ -247,7 +252,7 @@ module _ {U T C R O : Type 0} (S : System U T C R O) where
   sa_cells i Stop l = omega arith
   sa_cells i m l = absurd l
 
-  ca_cells : (i : Inst T) (m : Msg C) → On_ca S m
+  ca_cells : (i : Inst T) (m : Msg C) → OnCa S m
       → length (inst_step S 0 i m).node.held + weigh cell (sent 0 (inst_step S 0 i m).sends) + weigh cell (sent 1 (inst_step S 0 i m).sends)
       ≡ length i.held + 0
   ca_cells i (Enable r) l = omega arith
@@ -260,7 +265,7 @@ module _ {U T C R O : Type 0} (S : System U T C R O) where
   ruled_b Drops i p h = absurd (h refl)
   ruled_b Buffers i p h = omega (arith, length_push i.held p)
 
-  sb_cells : (i : Inst T) (m : Msg C) → i.rule ≢ Drops → On_sb S m
+  sb_cells : (i : Inst T) (m : Msg C) → i.rule ≢ Drops → OnSb S m
       → length (inst_step S 1 i m).node.held + weigh cell (sent 0 (inst_step S 1 i m).sends) ≡ length i.held + cell m
   sb_cells i (Carry p) no_drop l =
       elim (S.covers p) as (λ b.
@@ -279,20 +284,20 @@ module _ {U T C R O : Type 0} (S : System U T C R O) where
   all_cells i [] = (refl, refl)
   all_cells i (p ∷ ps) = let rest = all_cells (processed S 1 i p).node ps in (rest.0, omega (arith, rest.1))
 
-  cb_cells : (i : Inst T) (m : Msg C) → On_cb S m → length (inst_step S 1 i m).node.held + weigh cell (sent 0 (inst_step S 1 i m).sends) ≡ length i.held + 0
+  cb_cells : (i : Inst T) (m : Msg C) → OnCb S m → length (inst_step S 1 i m).node.held + weigh cell (sent 0 (inst_step S 1 i m).sends) ≡ length i.held + 0
   cb_cells i (Enable r) l = omega arith
   cb_cells i (Restore c) l = omega arith
   cb_cells i Fence l = let all = all_cells (record i { rule = Free; held = [] }) i.held in let one = all.0 in let two = all.1 in omega (arith, one, two)
   cb_cells i m l = absurd l
 
-  sc_cells : (m : Msg C) → On_sc S m → weigh events_only (m ∷ []) ≡ 0
+  sc_cells : (m : Msg C) → OnSc S m → weigh events_only (m ∷ []) ≡ 0
   sc_cells Start l = refl
   sc_cells End l = refl
   sc_cells (Copied p) l = refl
   sc_cells (Laid high) l = refl
   sc_cells m l = absurd l
 
-  ac_cells : (m : Msg C) → On_ac S m → weigh events_only (m ∷ []) ≡ cell m
+  ac_cells : (m : Msg C) → OnAc S m → weigh events_only (m ∷ []) ≡ cell m
   ac_cells Enabled l = refl
   ac_cells (Chunks c) l = refl
   ac_cells Deleted l = refl
@@ -300,7 +305,7 @@ module _ {U T C R O : Type 0} (S : System U T C R O) where
   ac_cells Final l = refl
   ac_cells m l = absurd l
 
-  bc_cells : (m : Msg C) → On_bc S m → weigh events_only (m ∷ []) ≡ 0
+  bc_cells : (m : Msg C) → OnBc S m → weigh events_only (m ∷ []) ≡ 0
   bc_cells Restored l = refl
   bc_cells Enabled l = refl
   bc_cells Fenced l = refl

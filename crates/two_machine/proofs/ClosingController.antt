@@ -4,7 +4,11 @@ use Rattle.std.specs.Prelude.{if◌then◌else◌, ◌&&◌, not}
 use Rattle.std.proofs.lemmas.Bool.{false≢true}
 use Rattle.two_machine.proofs.Machine.{Phase, Idle, Freezing, Getting, Deleting, Putting, Holding, Laying, Waiting, Turning, Settling, Ending, Over, same}
 use Rattle.two_machine.proofs.Tables
-use Rattle.two_machine.proofs.Tables.{System, Msg, Note, Switch, Ctrl, Inst, Step, In_packet, In_start, In_end, Start, End, Copied, Laid, Forward, Lay, Finish, Carry, Pass, Stop, Enable, Get, Delete, Restore, Fence, Enabled, Chunks, Deleted, Restored, Event, Seen, Fenced, Final, Credit, none, has_room, goes, switch_step, processed, all_processed, ruled, inst_step, on_start, on_enabled, on_chunks, on_deleted, on_restored, on_event, on_laid, on_copied, on_fenced, on_final, forwards, ctrl_row, and_then, soon_at, is_over, finishes, soon, ctrl_step}
+use Rattle.two_machine.proofs.Tables.{System, Msg, Note, Switch, Ctrl, Inst, Step, In_packet, In_start, In_end, Start, End, Copied, Laid}
+use Rattle.two_machine.proofs.Tables.{Forward, Lay, Finish, Carry, Pass, Stop, Enable, Get, Delete, Restore, Fence, Enabled, Chunks, Deleted}
+use Rattle.two_machine.proofs.Tables.{Restored, Event, Seen, Fenced, Final, Credit, none, has_room, goes, switch_step, processed, all_processed}
+use Rattle.two_machine.proofs.Tables.{ruled, inst_step, on_start, on_enabled, on_chunks, on_deleted, on_restored, on_event, on_laid, on_copied}
+use Rattle.two_machine.proofs.Tables.{on_fenced, on_final, forwards, ctrl_row, and_then, soon_at, is_over, finishes, soon, ctrl_step}
 use Rattle.two_machine.proofs.View.{read, read-append}
 use Rattle.two_machine.proofs.Puts.{sent, to_one}
 use Rattle.two_machine.proofs.Closing.{ends, is_at_end}
@@ -65,11 +69,11 @@ module _ {U T C R O : Type 0} (S : System U T C R O) where
   fenced_ok ph c = still_ok ph c
 
   -- all rows but that of Final
-  abbrev pub Not_final : Msg C → Type 0
-  Not_final Final = ⊥
-  Not_final m = Unit {0}
+  abbrev pub NotFinal : Msg C → Type 0
+  NotFinal Final = ⊥
+  NotFinal m = Unit {0}
 
-  row_ok : (c : Ctrl C) (port : ℕ) (m : Msg C) → Not_final m → RowOk c.phase c (ctrl_row S c port m)
+  row_ok : (c : Ctrl C) (port : ℕ) (m : Msg C) → NotFinal m → RowOk c.phase c (ctrl_row S c port m)
   row_ok c port Start h = start_ok c.phase c
   row_ok c port End h = record { quiet = refl; finished = refl; stopped = refl; keeps = λ _. refl; ended = λ _. refl }
   row_ok c port (Copied p) h = copied_ok c.phase c p
@@ -200,7 +204,7 @@ module _ {U T C R O : Type 0} (S : System U T C R O) where
             (does.0 ∙ sym same_end, sends ∙ does.1 ∙ ap (λ b. if b then 0 ∷ [] else []) (sym same_end));
       }
 
-  pub step_ok : (c : Ctrl C) (port : ℕ) (m : Msg C) → Not_final m → StepOk c (ctrl_step S c port m)
+  pub step_ok : (c : Ctrl C) (port : ℕ) (m : Msg C) → NotFinal m → StepOk c (ctrl_step S c port m)
   step_ok c port m h = then_ok c c.phase (ctrl_row S c port m) refl (row_ok c port m h)
 
   -- a controller that has finished does nothing of itself

@@ -2,17 +2,21 @@
 use Rattle.std.proofs.Common.{◌≡◌, true, false, List, [], ◌∷◌, refl, ap, ◌∙◌, ◌⊎◌, inl, inr}
 use Rattle.std.specs.Prelude.{if◌then◌else◌}
 use Rattle.two_machine.proofs.Machine.{Free, To_a}
-use Rattle.two_machine.proofs.Tables.{System, Msg, Ctrl, In_packet, In_start, In_end, Start, End, Copied, Laid, Forward, Lay, Finish, Carry, Pass, Stop, Enable, Get, Delete, Restore, Fence, Enabled, Chunks, Deleted, Restored, Event, Seen, Fenced, Final, Credit, none, has_room, goes, switch_step, inst_step, soon, ctrl_step}
+use Rattle.two_machine.proofs.Tables.{System, Msg, Ctrl, In_packet, In_start, In_end, Start, End, Copied, Laid, Forward, Lay, Finish}
+use Rattle.two_machine.proofs.Tables.{Carry, Pass, Stop, Enable, Get, Delete, Restore, Fence, Enabled, Chunks, Deleted, Restored, Event}
+use Rattle.two_machine.proofs.Tables.{Seen, Fenced, Final, Credit, none, has_room, goes, switch_step, inst_step, soon, ctrl_step}
 use Rattle.two_machine.proofs.View.{World, read}
-use Rattle.two_machine.proofs.Labels.{In_input, On_sa, On_sb, On_sc, On_cs, On_ca, On_cb, On_ac, On_bc, On_back, Label}
+use Rattle.two_machine.proofs.Labels.{InInput, OnSa, OnSb, OnSc, OnCs, OnCa, OnCb, OnAc, OnBc, OnBack, Label}
 use Rattle.two_machine.proofs.Puts.{sent, put_switch, put_a, put_b, result}
 use Rattle.two_machine.proofs.Places.{Place, In, Cs, Aw, Bw, Sc, Ac, Bc, Sa, Ca, Sb, Cb, with_waits}
-use Rattle.two_machine.proofs.Closing.{Finish_a, Stop_a, Final_a, Finish_b, Stop_b, Final_b, Closed, ends, on_cs, on_sa, on_sb, on_ac, on_bc, is_sent, is_closed, a_has_stopped, switch_has_closed, b_has_stopped, Closing}
+use Rattle.two_machine.proofs.Closing.{Finish_a, Stop_a, Final_a, Finish_b, Stop_b, Final_b, Closed, ends, on_cs, on_sa, on_sb}
+use Rattle.two_machine.proofs.Closing.{on_ac, on_bc, is_sent, is_closed, a_has_stopped, switch_has_closed, b_has_stopped, Closing}
 use Rattle.two_machine.proofs.ClosingController.{step_ok, soon_ok}
-use Rattle.two_machine.proofs.ClosingSteps.{put_end, switch_close, goes_close, less, at_finish, at_stop_a, at_stop_b, at_final_a, at_final_b, put_ends, a_close, b_close, carry_quiet, all_quiet, ctrl_close}
+use Rattle.two_machine.proofs.ClosingSteps.{put_end, switch_close, goes_close, less, at_finish, at_stop_a, at_stop_b, at_final_a}
+use Rattle.two_machine.proofs.ClosingSteps.{at_final_b, put_ends, a_close, b_close, carry_quiet, all_quiet, ctrl_close}
 
 module _ {U T C R O : Type 0} (S : System U T C R O) where
-  in_close : (v : World T C O) (m : Msg C) (rest : List (Msg C)) → In_input S m → Closing S (with_waits S In (m ∷ rest) v)
+  in_close : (v : World T C O) (m : Msg C) (rest : List (Msg C)) → InInput S m → Closing S (with_waits S In (m ∷ rest) v)
       → Closing S (result S In (with_waits S In rest v) m)
   in_close v (In_packet p) rest l h =
       let w = with_waits S In rest v in
@@ -33,7 +37,7 @@ module _ {U T C R O : Type 0} (S : System U T C R O) where
       (less S In v In_end rest refl h)
   in_close v m rest l h = absurd l
 
-  cs_close : (v : World T C O) (m : Msg C) (rest : List (Msg C)) → On_cs S m → Closing S (with_waits S Cs (m ∷ rest) v)
+  cs_close : (v : World T C O) (m : Msg C) (rest : List (Msg C)) → OnCs S m → Closing S (with_waits S Cs (m ∷ rest) v)
       → Closing S (result S Cs (with_waits S Cs rest v) m)
   cs_close v (Forward p) rest l h =
       switch_close S (with_waits S Cs rest v) (result S Cs (with_waits S Cs rest v) (Forward p)) (switch_step S v.sw (Forward p)) refl refl refl refl
@@ -75,11 +79,11 @@ module _ {U T C R O : Type 0} (S : System U T C R O) where
       })
   cs_close v m rest l h = absurd l
 
-  back_close : (v : World T C O) (m : Msg C) → On_back S m → Closing S v → Closing S (put_switch S v (switch_step S v.sw m))
+  back_close : (v : World T C O) (m : Msg C) → OnBack S m → Closing S v → Closing S (put_switch S v (switch_step S v.sw m))
   back_close v (Credit p) l h = switch_close S v (put_switch S v (switch_step S v.sw (Credit p))) (switch_step S v.sw (Credit p)) refl refl refl refl h
   back_close v m l h = absurd l
 
-  sa_close : (v : World T C O) (m : Msg C) (rest : List (Msg C)) → On_sa S m → Closing S (with_waits S Sa (m ∷ rest) v)
+  sa_close : (v : World T C O) (m : Msg C) (rest : List (Msg C)) → OnSa S m → Closing S (with_waits S Sa (m ∷ rest) v)
       → Closing S (result S Sa (with_waits S Sa rest v) m)
   sa_close v (Carry p) rest l h =
       let quiet = carry_quiet S 0 v.a p in
@@ -103,7 +107,7 @@ module _ {U T C R O : Type 0} (S : System U T C R O) where
       }
   sa_close v m rest l h = absurd l
 
-  sb_close : (v : World T C O) (m : Msg C) (rest : List (Msg C)) → On_sb S m → Closing S (with_waits S Sb (m ∷ rest) v)
+  sb_close : (v : World T C O) (m : Msg C) (rest : List (Msg C)) → OnSb S m → Closing S (with_waits S Sb (m ∷ rest) v)
       → Closing S (result S Sb (with_waits S Sb rest v) m)
   sb_close v (Carry p) rest l h =
       let quiet = carry_quiet S 1 v.b p in
@@ -128,13 +132,13 @@ module _ {U T C R O : Type 0} (S : System U T C R O) where
       }
   sb_close v m rest l h = absurd l
 
-  ca_close : (v : World T C O) (m : Msg C) → On_ca S m → Closing S v → Closing S (put_a S v (inst_step S 0 v.a m))
+  ca_close : (v : World T C O) (m : Msg C) → OnCa S m → Closing S v → Closing S (put_a S v (inst_step S 0 v.a m))
   ca_close v (Enable r) l h = a_close S v (inst_step S 0 v.a (Enable r)) refl refl h
   ca_close v Get l h = a_close S v (inst_step S 0 v.a Get) refl refl h
   ca_close v (Delete c) l h = a_close S v (inst_step S 0 v.a (Delete c)) refl refl h
   ca_close v m l h = absurd l
 
-  cb_close : (v : World T C O) (m : Msg C) → On_cb S m → Closing S v → Closing S (put_b S v (inst_step S 1 v.b m))
+  cb_close : (v : World T C O) (m : Msg C) → OnCb S m → Closing S v → Closing S (put_b S v (inst_step S 1 v.b m))
   cb_close v (Enable r) l h = b_close S v (inst_step S 1 v.b (Enable r)) refl refl h
   cb_close v (Restore c) l h = b_close S v (inst_step S 1 v.b (Restore c)) refl refl h
   cb_close v Fence l h = let quiet = all_quiet S 1 (record v.b { rule = Free; held = [] }) v.b.held in b_close S v (inst_step S 1 v.b Fence) quiet.0 quiet.1 h
@@ -183,7 +187,7 @@ module _ {U T C R O : Type 0} (S : System U T C R O) where
         over = does.1;
       }
 
-  sc_close : (v : World T C O) (m : Msg C) (rest : List (Msg C)) → On_sc S m → Closing S (with_waits S Sc (m ∷ rest) v)
+  sc_close : (v : World T C O) (m : Msg C) (rest : List (Msg C)) → OnSc S m → Closing S (with_waits S Sc (m ∷ rest) v)
       → Closing S (result S Sc (with_waits S Sc rest v) m)
   sc_close v Start rest l h = ctrl_close S (with_waits S Sc rest v) (ctrl_step S v.ct 0 Start) (step_ok S v.ct 0 Start tt) (less S Sc v Start rest refl h)
   sc_close v End rest l h = ctrl_close S (with_waits S Sc rest v) (ctrl_step S v.ct 0 End) (step_ok S v.ct 0 End tt) (less S Sc v End rest refl h)
@@ -193,7 +197,7 @@ module _ {U T C R O : Type 0} (S : System U T C R O) where
       ctrl_close S (with_waits S Sc rest v) (ctrl_step S v.ct 0 (Laid high)) (step_ok S v.ct 0 (Laid high) tt) (less S Sc v (Laid high) rest refl h)
   sc_close v m rest l h = absurd l
 
-  ac_close : (v : World T C O) (m : Msg C) (rest : List (Msg C)) → On_ac S m → Closing S (with_waits S Ac (m ∷ rest) v)
+  ac_close : (v : World T C O) (m : Msg C) (rest : List (Msg C)) → OnAc S m → Closing S (with_waits S Ac (m ∷ rest) v)
       → Closing S (result S Ac (with_waits S Ac rest v) m)
   ac_close v Enabled rest l h =
       ctrl_close S (with_waits S Ac rest v) (ctrl_step S v.ct 2 Enabled) (step_ok S v.ct 2 Enabled tt) (less S Ac v Enabled rest refl h)
@@ -206,7 +210,7 @@ module _ {U T C R O : Type 0} (S : System U T C R O) where
   ac_close v Final rest l h = final_a v rest h
   ac_close v m rest l h = absurd l
 
-  bc_close : (v : World T C O) (m : Msg C) (rest : List (Msg C)) → On_bc S m → Closing S (with_waits S Bc (m ∷ rest) v)
+  bc_close : (v : World T C O) (m : Msg C) (rest : List (Msg C)) → OnBc S m → Closing S (with_waits S Bc (m ∷ rest) v)
       → Closing S (result S Bc (with_waits S Bc rest v) m)
   bc_close v Restored rest l h =
       ctrl_close S (with_waits S Bc rest v) (ctrl_step S v.ct 3 Restored) (step_ok S v.ct 3 Restored tt) (less S Bc v Restored rest refl h)
@@ -218,17 +222,17 @@ module _ {U T C R O : Type 0} (S : System U T C R O) where
   bc_close v Final rest l h = final_b v rest h
   bc_close v m rest l h = absurd l
 
-  back_less : (m : Msg C) → On_back S m → read ends (m ∷ []) ≡ []
+  back_less : (m : Msg C) → OnBack S m → read ends (m ∷ []) ≡ []
   back_less (Credit p) l = refl
   back_less m l = absurd l
 
-  ca_less : (m : Msg C) → On_ca S m → read ends (m ∷ []) ≡ []
+  ca_less : (m : Msg C) → OnCa S m → read ends (m ∷ []) ≡ []
   ca_less (Enable r) l = refl
   ca_less Get l = refl
   ca_less (Delete c) l = refl
   ca_less m l = absurd l
 
-  cb_less : (m : Msg C) → On_cb S m → read ends (m ∷ []) ≡ []
+  cb_less : (m : Msg C) → OnCb S m → read ends (m ∷ []) ≡ []
   cb_less (Enable r) l = refl
   cb_less (Restore c) l = refl
   cb_less Fence l = refl

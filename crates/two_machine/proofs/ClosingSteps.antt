@@ -6,7 +6,8 @@ use Rattle.two_machine.proofs.Tables.{System, Msg, Switch, Ctrl, Inst, Step, Car
 use Rattle.two_machine.proofs.View.{World, read, read-append}
 use Rattle.two_machine.proofs.Puts.{sent, put_switch, put_ctrl, put_a, put_b}
 use Rattle.two_machine.proofs.Places.{Place, In, Cs, Aw, Bw, Sc, Ac, Bc, Sa, Ca, Sb, Cb, with_waits}
-use Rattle.two_machine.proofs.Closing.{Close, Unsent, Finish_a, Stop_a, Final_a, Finish_b, Stop_b, Final_b, ends, on_cs, on_sa, on_sb, on_ac, on_bc, is_sent, is_closed, a_has_stopped, switch_has_closed, b_has_stopped, is_at_end, Closing}
+use Rattle.two_machine.proofs.Closing.{Close, Unsent, Finish_a, Stop_a, Final_a, Finish_b, Stop_b, Final_b, ends, on_cs, on_sa, on_sb, on_ac}
+use Rattle.two_machine.proofs.Closing.{on_bc, is_sent, is_closed, a_has_stopped, switch_has_closed, b_has_stopped, is_at_end, Closing}
 use Rattle.two_machine.proofs.ClosingController.{StepOk}
 
 module _ {U T C R O : Type 0} (S : System U T C R O) where

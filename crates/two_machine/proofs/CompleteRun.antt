@@ -1,5 +1,6 @@
 -- In a complete run all was processed, each record stands at one instance alone, and the verdict is true.
-use Rattle.std.proofs.Common.{◌≡◌, ℕ, suc, Bool, true, false, Option, None, List, [], ◌∷◌, ◌++◌, length, refl, sym, ap, subst, ◌∙◌, append-nil, arith, ◌⊎◌, inl, inr}
+use Rattle.std.proofs.Common.{◌≡◌, ℕ, suc, Bool, true, false, Option, None, List, [], ◌∷◌, ◌++◌}
+use Rattle.std.proofs.Common.{length, refl, sym, ap, subst, ◌∙◌, append-nil, arith, ◌⊎◌, inl, inr}
 use Rattle.std.specs.Prelude.{if◌then◌else◌, ◌==◌, ◌&&◌}
 use Rattle.std.specs.List.{list_all}
 use Rattle.std.proofs.lemmas.Bool.{false≢true}
@@ -7,7 +8,9 @@ use Rattle.std.proofs.lemmas.Bool.Decides.{nat_tests}
 use Rattle.actor_net.specs.declared.choice.Choice.{Choice}
 use Rattle.actor_net.specs.Network.{Network, run, IsRun, is_done}
 use Rattle.two_machine.proofs.Machine.{Over, Scan, Is_done, Is_none, No_low, after, Frame, State}
-use Rattle.two_machine.proofs.Stages.{Stage, Turn, No_packet_came, Low_goes, Low_comes, Waits, High_goes, Late, High_comes, Settles, Last, Fence_goes, Fenced_comes, Is_over, Early, Not_begun, Enable_goes, Part, Before, Storing, Passing, Turned, Ends, done, path, Fits, Rises}
+use Rattle.two_machine.proofs.Stages.{Stage, Turn, No_packet_came, Low_goes, Low_comes, Waits, High_goes, Late}
+use Rattle.two_machine.proofs.Stages.{High_comes, Settles, Last, Fence_goes, Fenced_comes, Is_over, Early, Not_begun}
+use Rattle.two_machine.proofs.Stages.{Enable_goes, Part, Before, Storing, Passing, Turned, Ends, done, path, Fits, Rises}
 use Rattle.two_machine.proofs.Stages as stages
 use Rattle.two_machine.proofs.Tables.{System, Laws, Msg, Note, Node, Done, No_packet, is_over, node_step, node_ready, node_ended}
 use Rattle.two_machine.proofs.View.{World, net, read, those, carries, arrived, ran, scans, Observer, Nobody, Of_unit, IsTaken, frame, view}
@@ -17,7 +20,8 @@ use Rattle.two_machine.proofs.Outputs.{mine, record_by, by_log}
 use Rattle.two_machine.proofs.Closing.{Close, Closed, Closing, is_sent, is_closed}
 use Rattle.two_machine.proofs.Promises.{listed, processed, has_come, after_low, verdicts, of_unit, fold, live_in, start, LeadsTo, Complete}
 use Rattle.two_machine.proofs.Scans.{came_by, verdicts_by, is_wrong, scan_right, from_start, the_verdict}
-use Rattle.two_machine.proofs.EveryRun.{ReachedWith, reach_with, first_closing, ran_is, own_is, own_those, fold_is, done_is, WithRight, WithStays, taken_run, untaken_run}
+use Rattle.two_machine.proofs.EveryRun.{ReachedWith, reach_with, first_closing, ran_is, own_is, own_those}
+use Rattle.two_machine.proofs.EveryRun.{fold_is, done_is, WithRight, WithStays, taken_run, untaken_run}
 use Rattle.two_machine.proofs.Shapes.{shape}
 use Rattle.actor_net.proofs.WeightLaws.{Each}
 use Rattle.two_machine.proofs.TakenMessages.{labels_less}
@@ -150,7 +154,7 @@ module _ {U T C R O : Type 0} (S : System U T C R O) (laws : Laws S) (window : �
       let input = e.input in sym (append-nil (read arrived v.log)) ∙ sym (ap (λ l. read arrived v.log ++ read coming l) input) ∙ h.arrivals_are
 
   -- what is known of a unit at the end
-  pub record Unit_end (u : U) (w : Network (Node T C) (Msg C) (Note O)) : Type 0 where
+  pub record UnitEnd (u : U) (w : Network (Node T C) (Msg C) (Note O)) : Type 0 where
     pub all : of_unit S u (processed w.log) ≡ of_unit S u (early ++ late)
     pub live : live_in S u w.nodes ≡ listed (fold S None (of_unit S u (early ++ late))) []
 
@@ -167,7 +171,7 @@ module _ {U T C R O : Type 0} (S : System U T C R O) (laws : Laws S) (window : �
       ∙ ap (λ xs. fold S None xs) (ap (of_unit S u) (sym (ran_is log)) ∙ from_own u log e)
 
   end_taken : (u : U) (its : S.takes u ≡ true) (w : Network (Node T C) (Msg C) (Note O)) → WithRight S laws window early late rises u its w
-      → is_done (node_ended S) w ≡ true → Unit_end u w
+      → is_done (node_ended S) w ≡ true → UnitEnd u w
   end_taken u its w r done_there =
       let here = r.is in
       let v = r.world in
@@ -188,7 +192,7 @@ module _ {U T C R O : Type 0} (S : System U T C R O) (laws : Laws S) (window : �
       rw here (record { all = from_own u v.log own_all; live = ap (λ o. listed o (listed (S.at v.b.table u) [])) a ∙ ap (λ o. listed o []) b })
 
   end_untaken : (u : U) (not_its : S.takes u ≡ false) (w : Network (Node T C) (Msg C) (Note O)) → WithStays S laws window early late rises u not_its w
-      → is_done (node_ended S) w ≡ true → Unit_end u w
+      → is_done (node_ended S) w ≡ true → UnitEnd u w
   end_untaken u not_its w r done_there =
       let here = r.is in
       let v = r.world in
@@ -206,10 +210,10 @@ module _ {U T C R O : Type 0} (S : System U T C R O) (laws : Laws S) (window : �
       rw here (record { all = from_own u v.log own_all; live = ap (λ o. listed (S.at v.a.table u) (listed o [])) q.b_is ∙ ap (λ o. listed o []) a })
 
   unit_end : (u : U) (cs : List Choice) → IsRun (node_ready S) (node_step S) cs (start S window early late)
-      → is_done (node_ended S) (run (node_step S) cs (start S window early late)) ≡ true → Unit_end u (run (node_step S) cs (start S window early late))
+      → is_done (node_ended S) (run (node_step S) cs (start S window early late)) ≡ true → UnitEnd u (run (node_step S) cs (start S window early late))
   unit_end u cs is done_there = by (S.takes u) refl
     where
-      by : (b : Bool) → S.takes u ≡ b → Unit_end u (run (node_step S) cs (start S window early late))
+      by : (b : Bool) → S.takes u ≡ b → UnitEnd u (run (node_step S) cs (start S window early late))
       by true e = end_taken u e (run (node_step S) cs (start S window early late)) (taken_run S laws window early late rises u e cs is) done_there
       by false e = end_untaken u e (run (node_step S) cs (start S window early late)) (untaken_run S laws window early late rises u e cs is) done_there
 
@@ -261,7 +265,7 @@ module _ {U T C R O : Type 0} (S : System U T C R O) (laws : Laws S) (window : �
   complete cs w leads done_there =
       let reached = leads.reached in
       let there = subst (λ y. is_done (node_ended S) y ≡ true) reached done_there in
-      let ends : (u : U) → Unit_end u w = λ u. subst (Unit_end u) (sym reached) (unit_end u cs leads.is_run there) in
+      let ends : (u : U) → UnitEnd u w = λ u. subst (UnitEnd u) (sym reached) (unit_end u cs leads.is_run there) in
       record {
         all = λ u. (ends u).all;
         live = λ u. (ends u).live;

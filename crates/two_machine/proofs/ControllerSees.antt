@@ -2,10 +2,14 @@
 use Rattle.std.proofs.Common.{◌≡◌, ℕ, Bool, true, false, Option, Some, None, List, [], ◌∷◌, ◌++◌, refl, sym, ap, ◌∙◌, append_assoc, append-nil}
 use Rattle.std.specs.Prelude.{if◌then◌else◌, ◌&&◌, not}
 use Rattle.two_machine.proofs.Machine as m
-use Rattle.two_machine.proofs.Machine.{Phase, Idle, Freezing, Getting, Deleting, Putting, Holding, Laying, Waiting, Turning, Settling, Ending, Over, Item, State, same}
+use Rattle.two_machine.proofs.Machine.{Phase, Idle, Freezing, Getting, Deleting, Putting, Holding, Laying}
+use Rattle.two_machine.proofs.Machine.{Waiting, Turning, Settling, Ending, Over, Item, State, same}
 use Rattle.two_machine.proofs.Tables
-use Rattle.two_machine.proofs.Tables.{System, Laws, Msg, Note, Ctrl, Step, Start, End, Copied, Laid, Enabled, Chunks, Deleted, Restored, Event, Seen, Fenced, Final, Finish, forwards, none, on_start, on_enabled, on_chunks, on_deleted, on_restored, on_event, on_laid, on_copied, on_fenced, on_final, ctrl_row, and_then, soon_at, is_over, finishes, soon, ctrl_step}
-use Rattle.two_machine.proofs.View.{World, Observer, Nobody, Of_unit, read, read-append, those-append, carries, passes, forwarded, events, seen, starts, arrived, ran, frame, inside, item, scans, scans-append, view}
+use Rattle.two_machine.proofs.Tables.{System, Laws, Msg, Note, Ctrl, Step, Start, End, Copied, Laid, Enabled, Chunks, Deleted, Restored, Event, Seen}
+use Rattle.two_machine.proofs.Tables.{Fenced, Final, Finish, forwards, none, on_start, on_enabled, on_chunks, on_deleted, on_restored, on_event}
+use Rattle.two_machine.proofs.Tables.{on_laid, on_copied, on_fenced, on_final, ctrl_row, and_then, soon_at, is_over, finishes, soon, ctrl_step}
+use Rattle.two_machine.proofs.View.{World, Observer, Nobody, Of_unit, read, read-append, those-append, carries, passes, forwarded}
+use Rattle.two_machine.proofs.View.{events, seen, starts, arrived, ran, frame, inside, item, scans, scans-append, view}
 use Rattle.two_machine.proofs.Puts.{sent, put_ctrl}
 
 pub ruleset reads = (read-append, those-append, scans-append, append_assoc, append-nil)

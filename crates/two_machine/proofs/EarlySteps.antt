@@ -1,7 +1,8 @@
 -- Each step from a stage before the low rule is asked for leads to a stage, in order.
 use Rattle.std.proofs.Common.{◌≡◌, ℕ, Bool, true, false, Option, Some, None, List, [], ◌∷◌, ◌++◌, refl, sym, append_assoc, append-nil}
 use Rattle.two_machine.proofs.Machine.{Frame, after, Move, Begin, End_comes, Arrive, Take_sa, Take_ca, Take_cb, Take_event, Take_ac, Take_bc, Idles}
-use Rattle.two_machine.proofs.Stages.{Early, Not_begun, Enable_goes, Part, Enabled_comes, Get_goes, Chunks_come, Delete_goes, Deleted_comes, Restore_goes, Restored_comes, Hold_goes, Held_comes, Low_goes, Stage, Before, Storing, Passing, done, path, Fits}
+use Rattle.two_machine.proofs.Stages.{Early, Not_begun, Enable_goes, Part, Enabled_comes, Get_goes, Chunks_come, Delete_goes, Deleted_comes}
+use Rattle.two_machine.proofs.Stages.{Restore_goes, Restored_comes, Hold_goes, Held_comes, Low_goes, Stage, Before, Storing, Passing, done, path, Fits}
 use Rattle.two_machine.proofs.Laws.{folded-append}
 use Rattle.two_machine.proofs.Shapes.{shape, Leads, GoesOn}
 

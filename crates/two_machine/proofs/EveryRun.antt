@@ -4,7 +4,7 @@ use Rattle.std.specs.Prelude.{if◌then◌else◌, ◌==◌}
 use Rattle.std.proofs.lemmas.Bool.{false≢true}
 use Rattle.std.proofs.lemmas.Bool.Decides.{nat_tests, Decides-eqb}
 use Rattle.actor_net.specs.declared.choice.Choice.{Choice}
-use Rattle.actor_net.specs.Network.{Network, is_enabled, taken, run, IsRun}
+use Rattle.actor_net.specs.Network.{Network, is_enabled, world_next, run, IsRun}
 use Rattle.two_machine.proofs.Machine.{folded}
 use Rattle.two_machine.proofs.Stages.{Stage, Before, Storing, Passing, Turned, Ends, done, path, Rises}
 use Rattle.two_machine.proofs.Tables.{System, Laws, Msg, Note, Node, Arrived, Processed, Low, High, Done, No_packet, node_step, node_ready}
@@ -37,7 +37,7 @@ module _ {U T C R O : Type 0} (S : System U T C R O) (laws : Laws S) (o : Observ
 
     next_with : (pl : Place) (v : World T C O) (x : Msg C) (rest : List (Msg C)) → Ready S pl v x
         → Holds S laws o its all rises (with_waits S pl (x ∷ rest) v) → Q (with_waits S pl (x ∷ rest) v)
-        → ReachedWith (taken (node_step S) (net (with_waits S pl (x ∷ rest) v)) (choice pl))
+        → ReachedWith (world_next (node_step S) (net (with_waits S pl (x ∷ rest) v)) (choice pl))
     next_with pl v x rest ready h q = record {
       world = result S pl (with_waits S pl rest v) x;
       is = next_equal S laws o its all rises pl v x rest h;
@@ -46,7 +46,7 @@ module _ {U T C R O : Type 0} (S : System U T C R O) (laws : Laws S) (o : Observ
     }
 
     step_with : (v : World T C O) (c : Choice) → Holds S laws o its all rises v → Q v → is_enabled (node_ready S) (net v) c ≡ true
-        → ReachedWith (taken (node_step S) (net v) c)
+        → ReachedWith (world_next (node_step S) (net v) c)
     step_with v c h q on =
         let took = finds S v c.node c.port on in
         let wrote = written S took.place v (took.message ∷ took.rest) took.waits_is in
@@ -54,8 +54,8 @@ module _ {U T C R O : Type 0} (S : System U T C R O) (laws : Laws S) (o : Observ
         let more : Q (with_waits S took.place (took.message ∷ took.rest) v) = subst Q wrote q in
         let next = next_with took.place v took.message took.rest took.ready holds more in
         let at : c ≡ choice took.place = took.is in
-        subst (λ y. ReachedWith (taken (node_step S) (net v) y)) (sym at)
-        (subst (λ y. ReachedWith (taken (node_step S) (net y) (choice took.place))) (sym wrote) next)
+        subst (λ y. ReachedWith (world_next (node_step S) (net v) y)) (sym at)
+        (subst (λ y. ReachedWith (world_next (node_step S) (net y) (choice took.place))) (sym wrote) next)
 
     pub reach_with : (cs : List Choice) (w : Network (Node T C) (Msg C) (Note O)) → ReachedWith w → IsRun (node_ready S) (node_step S) cs w
         → ReachedWith (run (node_step S) cs w)
@@ -63,7 +63,8 @@ module _ {U T C R O : Type 0} (S : System U T C R O) (laws : Laws S) (o : Observ
     reach_with (c ∷ cs) w r is =
         let here = r.is in
         let on : is_enabled (node_ready S) (net r.world) c ≡ true = subst (λ y. is_enabled (node_ready S) y c ≡ true) here is.0 in
-        reach_with cs (taken (node_step S) w c) (subst (λ y. ReachedWith (taken (node_step S) y c)) (sym here) (step_with r.world c r.holds r.more on)) is.1
+        reach_with cs (world_next (node_step S) w c)
+        (subst (λ y. ReachedWith (world_next (node_step S) y c)) (sym here) (step_with r.world c r.holds r.more on)) is.1
 
 pub first_closing : {U T C R O : Type 0} (S : System U T C R O) (window : ℕ) (early late : List ℕ) → Closing S (first_world S window early late)
 first_closing S window early late =
@@ -167,7 +168,7 @@ module _ {U T C R O : Type 0} (S : System U T C R O) (laws : Laws S) (window : �
       by false e h = h ∙ sym (both (mine S laws u p) refl e)
 
   -- what is known of a unit in any world of a run
-  pub record Unit_facts (w : Network (Node T C) (Msg C) (Note O)) : Type 0 where
+  pub record UnitFacts (w : Network (Node T C) (Msg C) (Note O)) : Type 0 where
     pub front : IsFront (of_unit S u (processed w.log)) (of_unit S u (early ++ late))
     pub answers : given S u w.log ≡ outputs S None (of_unit S u (processed w.log))
 
@@ -249,7 +250,7 @@ module _ {U T C R O : Type 0} (S : System U T C R O) (laws : Laws S) (window : �
       })
       is
 
-  pub facts_taken : (its : S.takes u ≡ true) (w : Network (Node T C) (Msg C) (Note O)) → WithRight its w → Unit_facts w
+  pub facts_taken : (its : S.takes u ≡ true) (w : Network (Node T C) (Msg C) (Note O)) → WithRight its w → UnitFacts w
   facts_taken its w r =
       let here = r.is in
       let v = r.world in
@@ -267,7 +268,7 @@ module _ {U T C R O : Type 0} (S : System U T C R O) (laws : Laws S) (window : �
         answers = answers_from v.log r.more.0;
       })
 
-  pub facts_untaken : (not_its : S.takes u ≡ false) (w : Network (Node T C) (Msg C) (Note O)) → WithStays not_its w → Unit_facts w
+  pub facts_untaken : (not_its : S.takes u ≡ false) (w : Network (Node T C) (Msg C) (Note O)) → WithStays not_its w → UnitFacts w
   facts_untaken not_its w r =
       let here = r.is in
       let v = r.world in
@@ -278,10 +279,10 @@ module _ {U T C R O : Type 0} (S : System U T C R O) (laws : Laws S) (window : �
       })
 
   pub unit_facts : (cs : List Choice) → IsRun (node_ready S) (node_step S) cs (start S window early late)
-      → Unit_facts (run (node_step S) cs (start S window early late))
+      → UnitFacts (run (node_step S) cs (start S window early late))
   unit_facts cs is = by (S.takes u) refl
     where
-      by : (b : Bool) → S.takes u ≡ b → Unit_facts (run (node_step S) cs (start S window early late))
+      by : (b : Bool) → S.takes u ≡ b → UnitFacts (run (node_step S) cs (start S window early late))
       by true e = facts_taken e (run (node_step S) cs (start S window early late)) (taken_run e cs is)
       by false e = facts_untaken e (run (node_step S) cs (start S window early late)) (untaken_run e cs is)
 
@@ -300,7 +301,7 @@ module _ {U T C R O : Type 0} (S : System U T C R O) (laws : Laws S) (window : �
       by false e h = let other = apart e (p == q) refl in rw other (h ∙ omega arith)
 
 module _ {U T C R O : Type 0} (S : System U T C R O) (laws : Laws S) (window : ℕ) (early late : List ℕ) (rises : Rises 0 (early ++ late)) where
-  once_of : (p : ℕ) (w : Network (Node T C) (Msg C) (Note O)) → Unit_facts S laws window early late rises (S.unit_of p) w → times p (processed w.log) ≤ 1
+  once_of : (p : ℕ) (w : Network (Node T C) (Msg C) (Note O)) → UnitFacts S laws window early late rises (S.unit_of p) w → times p (processed w.log) ≤ 1
   once_of p w facts =
       let u = S.unit_of p in
       let own = laws.itself u in
@@ -316,8 +317,8 @@ module _ {U T C R O : Type 0} (S : System U T C R O) (laws : Laws S) (window : �
   pub every : (cs : List Choice) (w : Network (Node T C) (Msg C) (Note O)) → LeadsTo S window early late cs w → Every S window early late w
   every cs w leads =
       let reached = leads.reached in
-      let facts : (u : U) → Unit_facts S laws window early late rises u w =
-      λ u. subst (Unit_facts S laws window early late rises u) (sym reached) (unit_facts S laws window early late rises u cs leads.is_run) in
+      let facts : (u : U) → UnitFacts S laws window early late rises u w =
+      λ u. subst (UnitFacts S laws window early late rises u) (sym reached) (unit_facts S laws window early late rises u cs leads.is_run) in
       let nobody = every_run S laws Nobody tt window early late rises cs leads.is_run in
       let world = reached ∙ nobody.is in
       let right =

@@ -2,9 +2,13 @@
 use Rattle.std.proofs.Common.{◌≡◌, ℕ, Bool, true, false, Option, Some, None, List, [], ◌∷◌, ◌++◌, refl, sym, ap, subst, ◌∙◌, append_assoc, append-nil}
 use Rattle.std.specs.Prelude.{is_some}
 use Rattle.std.proofs.lemmas.Bool.{false≢true}
-use Rattle.two_machine.proofs.Machine.{Laid, Frame, Move, End_comes, Arrive, Take_sa, Take_pass, Take_plain, Take_sc, Take_forward, Take_cs, Take_cb, Take_event, Take_seen, Take_bc, Idles, same, soon}
-use Rattle.two_machine.proofs.Stages.{Turn, Low_goes, Low_comes, Waits, High_goes, No_packet_came, Late, High_comes, Settles, Last, Fence_goes, Fenced_comes, Is_over, Old, old, Copies, Stage, Before, Storing, Passing, Turned, Ends, to_list, waits, since_seen, old_path, done, path, last_of, Rises, Follows, LastFits, PassingFits, TurnedFits, Fits}
-use Rattle.two_machine.proofs.Laws.{folded-append, copies-append, copied-copies, copied_all, last_put, append_nil_left, append_nil_right, rises_after, rises_front, only_one, both}
+use Rattle.two_machine.proofs.Machine.{Laid, Frame, Move, End_comes, Arrive, Take_sa, Take_pass, Take_plain, Take_sc}
+use Rattle.two_machine.proofs.Machine.{Take_forward, Take_cs, Take_cb, Take_event, Take_seen, Take_bc, Idles, same, soon}
+use Rattle.two_machine.proofs.Stages.{Turn, Low_goes, Low_comes, Waits, High_goes, No_packet_came, Late, High_comes, Settles, Last, Fence_goes}
+use Rattle.two_machine.proofs.Stages.{Fenced_comes, Is_over, Old, old, Copies, Stage, Before, Storing, Passing, Turned, Ends, to_list, waits}
+use Rattle.two_machine.proofs.Stages.{since_seen, old_path, done, path, last_of, Rises, Follows, LastFits, PassingFits, TurnedFits, Fits}
+use Rattle.two_machine.proofs.Laws.{folded-append, copies-append, copied-copies, copied_all, last_put}
+use Rattle.two_machine.proofs.Laws.{append_nil_left, append_nil_right, rises_after, rises_front, only_one, both}
 use Rattle.two_machine.proofs.EarlySteps.{stays, paths, before, storing}
 use Rattle.two_machine.proofs.Shapes.{shape, Allowed, Leads, GoesOn}
 

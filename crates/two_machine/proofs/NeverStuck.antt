@@ -1,5 +1,6 @@
 -- A world that isn't complete has an enabled choice.
-use Rattle.std.proofs.Common.{◌≡◌, ◌<◌, ◌⊎◌, inl, inr, ℕ, Bool, true, false, Option, Some, None, List, [], ◌∷◌, ◌++◌, refl, sym, ap, subst, ◌∙◌, append-nil, arith}
+use Rattle.std.proofs.Common.{◌≡◌, ◌<◌, ◌⊎◌, inl, inr, ℕ, Bool, true, false, Option, Some, None}
+use Rattle.std.proofs.Common.{List, [], ◌∷◌, ◌++◌, refl, sym, ap, subst, ◌∙◌, append-nil, arith}
 use Rattle.std.specs.Prelude.{◌==◌, is_some}
 use Rattle.std.proofs.lemmas.Bool.{false≢true}
 use Rattle.std.proofs.lemmas.Bool.Decides.{nat_tests}
@@ -8,15 +9,18 @@ use Rattle.actor_net.specs.Network.{Network, is_enabled, run, IsRun, is_done}
 use Rattle.two_machine.proofs.Machine as m
 use Rattle.two_machine.proofs.Machine.{Drops, Phase, Over, Item, Frame, State, same}
 use Rattle.two_machine.proofs.Stages as s
-use Rattle.two_machine.proofs.Stages.{Stage, Early, Not_begun, Enable_goes, Part, Turn, Waits, No_packet_came, Low_goes, Low_comes, High_goes, Late, High_comes, Settles, Last, Fence_goes, Fenced_comes, Is_over, Before, Storing, Passing, Turned, Ends, Fits, Rises, last_of, to_list}
+use Rattle.two_machine.proofs.Stages.{Stage, Early, Not_begun, Enable_goes, Part, Turn, Waits, No_packet_came, Low_goes}
+use Rattle.two_machine.proofs.Stages.{Low_comes, High_goes, Late, High_comes, Settles, Last, Fence_goes, Fenced_comes}
+use Rattle.two_machine.proofs.Stages.{Is_over, Before, Storing, Passing, Turned, Ends, Fits, Rises, last_of, to_list}
 use Rattle.two_machine.proofs.Laws.{append_nil_right}
 use Rattle.two_machine.proofs.Tables.{System, Laws, Msg, Note, Node, In_packet, In_start, In_end, has_room, node_step, node_ready, node_ended}
 use Rattle.two_machine.proofs.View.{World, net, read, starts, Nobody, frame, view}
-use Rattle.two_machine.proofs.Labels.{In_input}
+use Rattle.two_machine.proofs.Labels.{InInput}
 use Rattle.two_machine.proofs.Places.{Place, In, Cs, Aw, Bw, Sc, Ac, Bc, Sa, Ca, Sb, Cb, choice, waits, with_waits}
-use Rattle.two_machine.proofs.Arrivals.{One_end, Ends_last, End_at, In_input_still, On_link, Has_come}
+use Rattle.two_machine.proofs.Arrivals.{OneEnd, EndsLast, EndAt, In_input_still, On_link, Has_come}
 use Rattle.two_machine.proofs.Runs.{Holds, known}
-use Rattle.two_machine.proofs.Closing.{Close, Unsent, Finish_a, Stop_a, Final_a, Finish_b, Stop_b, Final_b, Closed, Closing, ends, is_sent, is_at_end, on_cs, on_sa, on_sb, on_ac, on_bc, a_has_stopped, b_has_stopped, is_closed, switch_has_closed}
+use Rattle.two_machine.proofs.Closing.{Close, Unsent, Finish_a, Stop_a, Final_a, Finish_b, Stop_b, Final_b, Closed, Closing, ends, is_sent}
+use Rattle.two_machine.proofs.Closing.{is_at_end, on_cs, on_sa, on_sb, on_ac, on_bc, a_has_stopped, b_has_stopped, is_closed, switch_has_closed}
 use Rattle.two_machine.proofs.EveryRun.{ReachedWith, reach_with, first_closing}
 use Rattle.two_machine.proofs.Cells.{Counts, counts_keeps}
 use Rattle.two_machine.proofs.Promises.{start, LeadsTo, switch_window}
@@ -239,16 +243,16 @@ module _ {U T C R O : Type 0} (S : System U T C R O) (laws : Laws S) where
   has_room_there window v some n flying = let win = n.window_is in rw (flying, win) (grind (arith, nat_tests, some))
 
   -- the input goes on
-  input_goes : (v : World T C O) (m : Msg C) (rest : List (Msg C)) → v.input ≡ m ∷ rest → In_input S m → has_room S v.sw ≡ true → Goes v
+  input_goes : (v : World T C O) (m : Msg C) (rest : List (Msg C)) → v.input ≡ m ∷ rest → InInput S m → has_room S v.sw ≡ true → Goes v
   input_goes v (In_packet p) rest e l room = (choice In, rw e room)
   input_goes v In_start rest e l room = (choice In, rw e refl)
   input_goes v In_end rest e l room = (choice In, rw e refl)
   input_goes v m rest e l room = absurd l
 
   -- End came where neither the input nor a link has it
-  end_came : (v : World T C O) → End_at v → v.input ≡ [] → Links v → v.ct.ended ≡ true
-  end_came v (In_input_still last quiet not_yet) none h = absurd (subst Ends_last none last)
-  end_came v (On_link empty one not_yet) none h = absurd (subst One_end h.sc one)
+  end_came : (v : World T C O) → EndAt v → v.input ≡ [] → Links v → v.ct.ended ≡ true
+  end_came v (In_input_still last quiet not_yet) none h = absurd (subst EndsLast none last)
+  end_came v (On_link empty one not_yet) none h = absurd (subst OneEnd h.sc one)
   end_came v (Has_come empty quiet has) none h = has
 
   no_input : (v : World T C O) (all : List ℕ) (rises : Rises 0 all) (window : ℕ) → Holds S laws Nobody tt all rises v → Closing S v → Counts S window v
@@ -288,7 +292,7 @@ module _ {U T C R O : Type 0} (S : System U T C R O) (laws : Laws S) where
       → Counts S window v → (is_done (node_ended S) (net v) ≡ true) ⊎ Goes v
   goes_or_done v all rises window some h c n = by (links_or v)
     where
-      by_input : Links v → Waiting (view S Nobody v) → v.sw.flying ≡ 0 → (l : List (Msg C)) → v.input ≡ l → Each (In_input S) l
+      by_input : Links v → Waiting (view S Nobody v) → v.sw.flying ≡ 0 → (l : List (Msg C)) → v.input ≡ l → Each (InInput S) l
           → (is_done (node_ended S) (net v) ≡ true) ⊎ Goes v
       by_input links w flying [] e each = inl (no_input v all rises window h c n links w flying e)
       by_input links w flying (x ∷ l) e each = inr (input_goes v x l e each.0 (has_room_there window v some n flying))

@@ -1,13 +1,14 @@
 -- What the core's network leaves when a message is taken is the world after it, with messages of their links.
 use Rattle.std.proofs.Common.{◌≡◌, ◌≢◌, ℕ, List, ◌∷◌}
-use Rattle.actor_net.specs.Network.{Network, after, taken}
+use Rattle.actor_net.specs.Network.{Network, after, world_next}
 use Rattle.actor_net.proofs.WeightLaws.{Each}
 use Rattle.two_machine.proofs.Machine.{Drops}
 use Rattle.two_machine.proofs.Tables
 use Rattle.two_machine.proofs.Tables.{System, Msg, Note, Is_switch, Is_ctrl, Is_inst, switch_step, inst_step, ctrl_step, node_step, as_node}
 use Rattle.two_machine.proofs.View.{World, net}
 use Rattle.two_machine.proofs.Labels.{Labels, Label}
-use Rattle.two_machine.proofs.Puts.{From_a, From_b, put_switch, put_ctrl, put_a, put_b, after_switch, after_ctrl, after_a, after_b, labels_switch, labels_ctrl, labels_a, labels_b, result}
+use Rattle.two_machine.proofs.Puts.{From_a, From_b, put_switch, put_ctrl, put_a, put_b, after_switch, after_ctrl}
+use Rattle.two_machine.proofs.Puts.{after_a, after_b, labels_switch, labels_ctrl, labels_a, labels_b, result}
 use Rattle.two_machine.proofs.Places.{Place, In, Cs, Aw, Bw, Sc, Ac, Bc, Sa, Ca, Sb, Cb, choice, with_waits}
 use Rattle.two_machine.proofs.StepLabels.{switch_ok, sa_ok, ca_ok, sb_ok, cb_ok, ctrl_ok, GivesChunks, gives_ac, gives_bc, gives_sc}
 
@@ -39,7 +40,7 @@ module _ {U T C R O : Type 0} (S : System U T C R O) where
   by_b v m l ok = record { is = after_b S v (inst_step S 1 v.b m) ok; labels = labels_b S v (inst_step S 1 v.b m) l ok }
 
   pub next_is : (pl : Place) (v : World T C O) (m : Msg C) (rest : List (Msg C)) → v.b.rule ≢ Drops → Label S pl m → Labels S (with_waits S pl rest v)
-      → IsNext (taken (node_step S) (net (with_waits S pl (m ∷ rest) v)) (choice pl)) (result S pl (with_waits S pl rest v) m)
+      → IsNext (world_next (node_step S) (net (with_waits S pl (m ∷ rest) v)) (choice pl)) (result S pl (with_waits S pl rest v) m)
   next_is In v m rest no_drop h l = by_switch (with_waits S In rest v) m l
   next_is Cs v m rest no_drop h l = by_switch (with_waits S Cs rest v) m l
   next_is Aw v m rest no_drop h l = by_switch (with_waits S Aw rest v) m l

@@ -5,9 +5,10 @@ use Rattle.std.proofs.lemmas.Bool.{false≢true}
 use Rattle.two_machine.proofs.Machine as m
 use Rattle.two_machine.proofs.Machine.{Rule, Free, Drops, Buffers, Target, To_a, To_both, To_b, Item, State, Frame, stepped, folded, after}
 use Rattle.two_machine.proofs.Stages.{Stage, Part, Restore_goes, Hold_goes, Before, Storing, Passing, Turned, Ends, done, Rises}
-use Rattle.two_machine.proofs.Tables.{System, Laws, Msg, Note, Switch, Inst, In_packet, Lay, Carry, Pass, Stop, Enable, Get, Delete, Restore, Fence, Processed, has_room, goes, switch_step, processed, all_processed, ruled, inst_step, ctrl_step}
+use Rattle.two_machine.proofs.Tables.{System, Laws, Msg, Note, Switch, Inst, In_packet, Lay, Carry, Pass, Stop, Enable, Get, Delete, Restore}
+use Rattle.two_machine.proofs.Tables.{Fence, Processed, has_room, goes, switch_step, processed, all_processed, ruled, inst_step, ctrl_step}
 use Rattle.two_machine.proofs.View.{World, read, read-append, those, carries, passes, item, ran, Of_unit, frame, view}
-use Rattle.two_machine.proofs.Labels.{On_sa, On_ca, On_sb, On_cb}
+use Rattle.two_machine.proofs.Labels.{OnSa, OnCa, OnSb, OnCb}
 use Rattle.two_machine.proofs.Places.{Place, In, Cs, Aw, Bw, Sc, Ac, Bc, Sa, Ca, Sb, Cb, with_waits}
 use Rattle.two_machine.proofs.Puts.{result}
 use Rattle.two_machine.proofs.Runs.{Holds}
@@ -211,7 +212,7 @@ module _ {U T C R O : Type 0} (S : System U T C R O) (laws : Laws S) (u : U) (it
   fresh_here : (v : World T C O) (h : Holds S laws (Of_unit u) its all rises v) → Fresh (its_frame S laws u) (view S (Of_unit u) v) (done h.stage)
   fresh_here v h = subst (λ x. Fresh (its_frame S laws u) x (done h.stage)) (sym h.alike) (fresh_at (its_frame S laws u) h.stage)
 
-  right_sa : (v : World T C O) (x : Msg C) (rest : List (Msg C)) → On_sa S x → Holds S laws (Of_unit u) its all rises (with_waits S Sa (x ∷ rest) v)
+  right_sa : (v : World T C O) (x : Msg C) (rest : List (Msg C)) → OnSa S x → Holds S laws (Of_unit u) its all rises (with_waits S Sa (x ∷ rest) v)
       → IsRight S laws u v.log → IsRight S laws u (v.log ++ (inst_step S 0 v.a x).notes)
   right_sa v (Carry p) rest l h right = by (S.covers p) refl
     where
@@ -233,7 +234,7 @@ module _ {U T C R O : Type 0} (S : System U T C R O) (laws : Laws S) (u : U) (it
   right_sa v Stop rest l h right = right_none S laws u v.log [] right refl
   right_sa v x rest l h right = absurd l
 
-  right_sb : (v : World T C O) (x : Msg C) (rest : List (Msg C)) → On_sb S x → Holds S laws (Of_unit u) its all rises (with_waits S Sb (x ∷ rest) v)
+  right_sb : (v : World T C O) (x : Msg C) (rest : List (Msg C)) → OnSb S x → Holds S laws (Of_unit u) its all rises (with_waits S Sb (x ∷ rest) v)
       → IsRight S laws u v.log → IsRight S laws u (v.log ++ (inst_step S 1 v.b x).notes)
   right_sb v (Carry p) rest l h right = by (S.covers p)
     where
@@ -262,7 +263,7 @@ module _ {U T C R O : Type 0} (S : System U T C R O) (laws : Laws S) (u : U) (it
   right_sb v Stop rest l h right = right_none S laws u v.log [] right refl
   right_sb v x rest l h right = absurd l
 
-  right_cb : (v : World T C O) (x : Msg C) (rest : List (Msg C)) → On_cb S x → Holds S laws (Of_unit u) its all rises (with_waits S Cb (x ∷ rest) v)
+  right_cb : (v : World T C O) (x : Msg C) (rest : List (Msg C)) → OnCb S x → Holds S laws (Of_unit u) its all rises (with_waits S Cb (x ∷ rest) v)
       → IsRight S laws u v.log → IsRight S laws u (v.log ++ (inst_step S 1 v.b x).notes)
   right_cb v (Enable r) rest l h right = right_none S laws u v.log [] right refl
   right_cb v (Restore c) rest l h right = right_none S laws u v.log [] right refl
@@ -274,7 +275,7 @@ module _ {U T C R O : Type 0} (S : System U T C R O) (laws : Laws S) (u : U) (it
       (right_all S laws u 1 i v.b.held (record_by S laws u v.log) has ∙ ap (due S laws u (record_by S laws u v.log)) (sym (ran_fence S laws u 1 v.b)))
   right_cb v x rest l h right = absurd l
 
-  right_ca : (v : World T C O) (x : Msg C) → On_ca S x → IsRight S laws u v.log → IsRight S laws u (v.log ++ (inst_step S 0 v.a x).notes)
+  right_ca : (v : World T C O) (x : Msg C) → OnCa S x → IsRight S laws u v.log → IsRight S laws u (v.log ++ (inst_step S 0 v.a x).notes)
   right_ca v (Enable r) l right = right_none S laws u v.log [] right refl
   right_ca v Get l right = right_none S laws u v.log [] right refl
   right_ca v (Delete c) l right = right_none S laws u v.log [] right refl

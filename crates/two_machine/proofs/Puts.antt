@@ -2,10 +2,10 @@
 -- a message of a place was taken.
 use Rattle.std.proofs.Common.{◌≡◌, ℕ, zero, suc, List, [], ◌∷◌, ◌++◌, ap, ◌∙◌, append_assoc, append-nil}
 use Rattle.std.specs.Prelude.{if◌then◌else◌, ◌==◌}
-use Rattle.actor_net.specs.Network.{delivered, after}
+use Rattle.actor_net.specs.Network.{links_after, after}
 use Rattle.two_machine.proofs.Tables.{System, Msg, Switch, Ctrl, Inst, Is_switch, Is_ctrl, Is_inst, Step, switch_step, inst_step, ctrl_step, as_node}
 use Rattle.two_machine.proofs.View.{World, net, read}
-use Rattle.two_machine.proofs.Labels.{IsSelected, On_sa, On_sb, On_sc, On_cs, On_ca, On_cb, On_ac, On_bc, On_back, Label, Labels}
+use Rattle.two_machine.proofs.Labels.{IsSelected, OnSa, OnSb, OnSc, OnCs, OnCa, OnCb, OnAc, OnBc, OnBack, Label, Labels}
 use Rattle.two_machine.proofs.Places.{Place, In, Cs, Aw, Bw, Sc, Ac, Bc, Sa, Ca, Sb, Cb, waits}
 use Rattle.actor_net.proofs.WeightLaws.{Each, each-append}
 
@@ -20,26 +20,26 @@ module _ {U T C R O : Type 0} (S : System U T C R O) where
   -- what each node may send, by its receiver
   abbrev pub From_switch : ℕ → Msg C → Type 0
   From_switch zero m = ⊥
-  From_switch (suc zero) m = On_sc S m
-  From_switch (suc (suc zero)) m = On_sa S m
-  From_switch (suc (suc (suc zero))) m = On_sb S m
+  From_switch (suc zero) m = OnSc S m
+  From_switch (suc (suc zero)) m = OnSa S m
+  From_switch (suc (suc (suc zero))) m = OnSb S m
   From_switch (suc (suc (suc (suc k)))) m = ⊥
 
-  abbrev pub From_ctrl : ℕ → Msg C → Type 0
-  From_ctrl zero m = On_cs S m
-  From_ctrl (suc zero) m = ⊥
-  From_ctrl (suc (suc zero)) m = On_ca S m
-  From_ctrl (suc (suc (suc zero))) m = On_cb S m
-  From_ctrl (suc (suc (suc (suc k)))) m = ⊥
+  abbrev pub FromCtrl : ℕ → Msg C → Type 0
+  FromCtrl zero m = OnCs S m
+  FromCtrl (suc zero) m = ⊥
+  FromCtrl (suc (suc zero)) m = OnCa S m
+  FromCtrl (suc (suc (suc zero))) m = OnCb S m
+  FromCtrl (suc (suc (suc (suc k)))) m = ⊥
 
   abbrev pub From_a : ℕ → Msg C → Type 0
-  From_a zero m = On_back S m
-  From_a (suc zero) m = On_ac S m
+  From_a zero m = OnBack S m
+  From_a (suc zero) m = OnAc S m
   From_a (suc (suc k)) m = ⊥
 
   abbrev pub From_b : ℕ → Msg C → Type 0
-  From_b zero m = On_back S m
-  From_b (suc zero) m = On_bc S m
+  From_b zero m = OnBack S m
+  From_b (suc zero) m = OnBc S m
   From_b (suc (suc k)) m = ⊥
 
   -- what a step leaves
@@ -61,7 +61,7 @@ module _ {U T C R O : Type 0} (S : System U T C R O) where
   links v = (net v).links
 
   by_switch : (v : World T C O) (xs : List (ℕ × Msg C)) → Each (λ x. From_switch x.0 x.1) xs
-      → delivered 4 0 xs (links v) ≡ links (record v { sc = v.sc ++ sent 1 xs; sa = v.sa ++ sent 2 xs; sb = v.sb ++ sent 3 xs })
+      → links_after 4 0 xs (links v) ≡ links (record v { sc = v.sc ++ sent 1 xs; sa = v.sa ++ sent 2 xs; sb = v.sb ++ sent 3 xs })
   by_switch v [] h = simp append-nil
   by_switch v ((zero, m) ∷ xs) h = absurd h.0
   by_switch v ((suc zero, m) ∷ xs) h = by_switch (record v { sc = v.sc ++ m ∷ [] }) xs h.1 ∙ simp append_assoc
@@ -69,8 +69,8 @@ module _ {U T C R O : Type 0} (S : System U T C R O) where
   by_switch v ((suc (suc (suc zero)), m) ∷ xs) h = by_switch (record v { sb = v.sb ++ m ∷ [] }) xs h.1 ∙ simp append_assoc
   by_switch v ((suc (suc (suc (suc k))), m) ∷ xs) h = absurd h.0
 
-  by_ctrl : (v : World T C O) (xs : List (ℕ × Msg C)) → Each (λ x. From_ctrl x.0 x.1) xs
-      → delivered 4 1 xs (links v) ≡ links (record v { cs = v.cs ++ sent 0 xs; ca = v.ca ++ sent 2 xs; cb = v.cb ++ sent 3 xs })
+  by_ctrl : (v : World T C O) (xs : List (ℕ × Msg C)) → Each (λ x. FromCtrl x.0 x.1) xs
+      → links_after 4 1 xs (links v) ≡ links (record v { cs = v.cs ++ sent 0 xs; ca = v.ca ++ sent 2 xs; cb = v.cb ++ sent 3 xs })
   by_ctrl v [] h = simp append-nil
   by_ctrl v ((zero, m) ∷ xs) h = by_ctrl (record v { cs = v.cs ++ m ∷ [] }) xs h.1 ∙ simp append_assoc
   by_ctrl v ((suc zero, m) ∷ xs) h = absurd h.0
@@ -79,14 +79,14 @@ module _ {U T C R O : Type 0} (S : System U T C R O) where
   by_ctrl v ((suc (suc (suc (suc k))), m) ∷ xs) h = absurd h.0
 
   by_a : (v : World T C O) (xs : List (ℕ × Msg C)) → Each (λ x. From_a x.0 x.1) xs
-      → delivered 4 2 xs (links v) ≡ links (record v { aw = v.aw ++ sent 0 xs; ac = v.ac ++ sent 1 xs })
+      → links_after 4 2 xs (links v) ≡ links (record v { aw = v.aw ++ sent 0 xs; ac = v.ac ++ sent 1 xs })
   by_a v [] h = simp append-nil
   by_a v ((zero, m) ∷ xs) h = by_a (record v { aw = v.aw ++ m ∷ [] }) xs h.1 ∙ simp append_assoc
   by_a v ((suc zero, m) ∷ xs) h = by_a (record v { ac = v.ac ++ m ∷ [] }) xs h.1 ∙ simp append_assoc
   by_a v ((suc (suc k), m) ∷ xs) h = absurd h.0
 
   by_b : (v : World T C O) (xs : List (ℕ × Msg C)) → Each (λ x. From_b x.0 x.1) xs
-      → delivered 4 3 xs (links v) ≡ links (record v { bw = v.bw ++ sent 0 xs; bc = v.bc ++ sent 1 xs })
+      → links_after 4 3 xs (links v) ≡ links (record v { bw = v.bw ++ sent 0 xs; bc = v.bc ++ sent 1 xs })
   by_b v [] h = simp append-nil
   by_b v ((zero, m) ∷ xs) h = by_b (record v { bw = v.bw ++ m ∷ [] }) xs h.1 ∙ simp append_assoc
   by_b v ((suc zero, m) ∷ xs) h = by_b (record v { bc = v.bc ++ m ∷ [] }) xs h.1 ∙ simp append_assoc
@@ -96,7 +96,7 @@ module _ {U T C R O : Type 0} (S : System U T C R O) where
       → after (net v) 0 (as_node S Is_switch did) ≡ net (put_switch v did)
   after_switch v did h = ap (λ ls. record (net (put_switch v did)) { links = ls }) (by_switch v did.sends h)
 
-  pub after_ctrl : (v : World T C O) (did : Step S (Ctrl C)) → Each (λ x. From_ctrl x.0 x.1) did.sends
+  pub after_ctrl : (v : World T C O) (did : Step S (Ctrl C)) → Each (λ x. FromCtrl x.0 x.1) did.sends
       → after (net v) 1 (as_node S Is_ctrl did) ≡ net (put_ctrl v did)
   after_ctrl v did h = ap (λ ls. record (net (put_ctrl v did)) { links = ls }) (by_ctrl v did.sends h)
 
@@ -110,7 +110,7 @@ module _ {U T C R O : Type 0} (S : System U T C R O) where
 
   -- labels of what is sent
   each_switch : (xs : List (ℕ × Msg C)) → Each (λ x. From_switch x.0 x.1) xs
-      → Each (On_sc S) (sent 1 xs) × Each (On_sa S) (sent 2 xs) × Each (On_sb S) (sent 3 xs)
+      → Each (OnSc S) (sent 1 xs) × Each (OnSa S) (sent 2 xs) × Each (OnSb S) (sent 3 xs)
   each_switch [] h = (tt, tt, tt)
   each_switch ((zero, m) ∷ xs) h = absurd h.0
   each_switch ((suc zero, m) ∷ xs) h = let r = each_switch xs h.1 in ((h.0, r.0), r.1, r.2)
@@ -118,7 +118,7 @@ module _ {U T C R O : Type 0} (S : System U T C R O) where
   each_switch ((suc (suc (suc zero)), m) ∷ xs) h = let r = each_switch xs h.1 in (r.0, r.1, (h.0, r.2))
   each_switch ((suc (suc (suc (suc k))), m) ∷ xs) h = absurd h.0
 
-  each_ctrl : (xs : List (ℕ × Msg C)) → Each (λ x. From_ctrl x.0 x.1) xs → Each (On_cs S) (sent 0 xs) × Each (On_ca S) (sent 2 xs) × Each (On_cb S) (sent 3 xs)
+  each_ctrl : (xs : List (ℕ × Msg C)) → Each (λ x. FromCtrl x.0 x.1) xs → Each (OnCs S) (sent 0 xs) × Each (OnCa S) (sent 2 xs) × Each (OnCb S) (sent 3 xs)
   each_ctrl [] h = (tt, tt, tt)
   each_ctrl ((zero, m) ∷ xs) h = let r = each_ctrl xs h.1 in ((h.0, r.0), r.1, r.2)
   each_ctrl ((suc zero, m) ∷ xs) h = absurd h.0
@@ -126,13 +126,13 @@ module _ {U T C R O : Type 0} (S : System U T C R O) where
   each_ctrl ((suc (suc (suc zero)), m) ∷ xs) h = let r = each_ctrl xs h.1 in (r.0, r.1, (h.0, r.2))
   each_ctrl ((suc (suc (suc (suc k))), m) ∷ xs) h = absurd h.0
 
-  each_a : (xs : List (ℕ × Msg C)) → Each (λ x. From_a x.0 x.1) xs → Each (On_back S) (sent 0 xs) × Each (On_ac S) (sent 1 xs)
+  each_a : (xs : List (ℕ × Msg C)) → Each (λ x. From_a x.0 x.1) xs → Each (OnBack S) (sent 0 xs) × Each (OnAc S) (sent 1 xs)
   each_a [] h = (tt, tt)
   each_a ((zero, m) ∷ xs) h = let r = each_a xs h.1 in ((h.0, r.0), r.1)
   each_a ((suc zero, m) ∷ xs) h = let r = each_a xs h.1 in (r.0, (h.0, r.1))
   each_a ((suc (suc k), m) ∷ xs) h = absurd h.0
 
-  each_b : (xs : List (ℕ × Msg C)) → Each (λ x. From_b x.0 x.1) xs → Each (On_back S) (sent 0 xs) × Each (On_bc S) (sent 1 xs)
+  each_b : (xs : List (ℕ × Msg C)) → Each (λ x. From_b x.0 x.1) xs → Each (OnBack S) (sent 0 xs) × Each (OnBc S) (sent 1 xs)
   each_b [] h = (tt, tt)
   each_b ((zero, m) ∷ xs) h = let r = each_b xs h.1 in ((h.0, r.0), r.1)
   each_b ((suc zero, m) ∷ xs) h = let r = each_b xs h.1 in (r.0, (h.0, r.1))
@@ -142,35 +142,35 @@ module _ {U T C R O : Type 0} (S : System U T C R O) where
   labels_switch v did l h = record { standing = at; kept = l.kept }
     where
       at : (pl : Place) → Each (Label S pl) (waits S pl (put_switch v did))
-      at Sc = each-append (On_sc S) v.sc (sent 1 did.sends) (l.standing Sc) (each_switch did.sends h).0
-      at Sa = each-append (On_sa S) v.sa (sent 2 did.sends) (l.standing Sa) (each_switch did.sends h).1
-      at Sb = each-append (On_sb S) v.sb (sent 3 did.sends) (l.standing Sb) (each_switch did.sends h).2
+      at Sc = each-append (OnSc S) v.sc (sent 1 did.sends) (l.standing Sc) (each_switch did.sends h).0
+      at Sa = each-append (OnSa S) v.sa (sent 2 did.sends) (l.standing Sa) (each_switch did.sends h).1
+      at Sb = each-append (OnSb S) v.sb (sent 3 did.sends) (l.standing Sb) (each_switch did.sends h).2
       at pl = l.standing pl
 
-  pub labels_ctrl : (v : World T C O) (did : Step S (Ctrl C)) → Labels S v → IsSelected S did.node.kept → Each (λ x. From_ctrl x.0 x.1) did.sends
+  pub labels_ctrl : (v : World T C O) (did : Step S (Ctrl C)) → Labels S v → IsSelected S did.node.kept → Each (λ x. FromCtrl x.0 x.1) did.sends
       → Labels S (put_ctrl v did)
   labels_ctrl v did l kept h = record { standing = at; kept = kept }
     where
       at : (pl : Place) → Each (Label S pl) (waits S pl (put_ctrl v did))
-      at Cs = each-append (On_cs S) v.cs (sent 0 did.sends) (l.standing Cs) (each_ctrl did.sends h).0
-      at Ca = each-append (On_ca S) v.ca (sent 2 did.sends) (l.standing Ca) (each_ctrl did.sends h).1
-      at Cb = each-append (On_cb S) v.cb (sent 3 did.sends) (l.standing Cb) (each_ctrl did.sends h).2
+      at Cs = each-append (OnCs S) v.cs (sent 0 did.sends) (l.standing Cs) (each_ctrl did.sends h).0
+      at Ca = each-append (OnCa S) v.ca (sent 2 did.sends) (l.standing Ca) (each_ctrl did.sends h).1
+      at Cb = each-append (OnCb S) v.cb (sent 3 did.sends) (l.standing Cb) (each_ctrl did.sends h).2
       at pl = l.standing pl
 
   pub labels_a : (v : World T C O) (did : Step S (Inst T)) → Labels S v → Each (λ x. From_a x.0 x.1) did.sends → Labels S (put_a v did)
   labels_a v did l h = record { standing = at; kept = l.kept }
     where
       at : (pl : Place) → Each (Label S pl) (waits S pl (put_a v did))
-      at Aw = each-append (On_back S) v.aw (sent 0 did.sends) (l.standing Aw) (each_a did.sends h).0
-      at Ac = each-append (On_ac S) v.ac (sent 1 did.sends) (l.standing Ac) (each_a did.sends h).1
+      at Aw = each-append (OnBack S) v.aw (sent 0 did.sends) (l.standing Aw) (each_a did.sends h).0
+      at Ac = each-append (OnAc S) v.ac (sent 1 did.sends) (l.standing Ac) (each_a did.sends h).1
       at pl = l.standing pl
 
   pub labels_b : (v : World T C O) (did : Step S (Inst T)) → Labels S v → Each (λ x. From_b x.0 x.1) did.sends → Labels S (put_b v did)
   labels_b v did l h = record { standing = at; kept = l.kept }
     where
       at : (pl : Place) → Each (Label S pl) (waits S pl (put_b v did))
-      at Bw = each-append (On_back S) v.bw (sent 0 did.sends) (l.standing Bw) (each_b did.sends h).0
-      at Bc = each-append (On_bc S) v.bc (sent 1 did.sends) (l.standing Bc) (each_b did.sends h).1
+      at Bw = each-append (OnBack S) v.bw (sent 0 did.sends) (l.standing Bw) (each_b did.sends h).0
+      at Bc = each-append (OnBc S) v.bc (sent 1 did.sends) (l.standing Bc) (each_b did.sends h).1
       at pl = l.standing pl
 
   -- the world after its node took this message

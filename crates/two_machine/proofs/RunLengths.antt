@@ -1,7 +1,7 @@
 -- How long a run can be: each choice lowers the weight of the world, which starts at eight for a packet and 26.
 use Rattle.std.proofs.Common.{◌≡◌, ◌≤◌, ℕ, ◌+◌, ◌*◌, true, List, [], ◌∷◌, ◌++◌, length, refl, sym, subst, arith}
 use Rattle.actor_net.specs.declared.choice.Choice.{Choice}
-use Rattle.actor_net.specs.Network.{Network, is_enabled, taken, IsRun}
+use Rattle.actor_net.specs.Network.{Network, is_enabled, world_next, IsRun}
 use Rattle.two_machine.proofs.Machine.{same}
 use Rattle.two_machine.proofs.Stages.{Rises}
 use Rattle.two_machine.proofs.Tables.{System, Laws, Msg, Note, Node, In_end, node_step, node_ready, in_packets, items}
@@ -28,7 +28,7 @@ module _ {U T C R O : Type 0} (S : System U T C R O) where
 
     lighter_here : (pl : Place) (v : World T C O) (x : Msg C) (rest : List (Msg C)) (heavy : World T C O) → heavy ≡ with_waits S pl (x ∷ rest) v
         → Ready S pl v x → Holds S laws Nobody tt all rises (with_waits S pl (x ∷ rest) v)
-        → Lighter heavy (taken (node_step S) (net (with_waits S pl (x ∷ rest) v)) (choice pl))
+        → Lighter heavy (world_next (node_step S) (net (with_waits S pl (x ∷ rest) v)) (choice pl))
     lighter_here pl v x rest heavy same ready h = record {
       world = result S pl (with_waits S pl rest v) x;
       is = next_equal S laws Nobody tt all rises pl v x rest h;
@@ -37,7 +37,7 @@ module _ {U T C R O : Type 0} (S : System U T C R O) where
     }
 
     lighter_step : (v : World T C O) (c : Choice) → Holds S laws Nobody tt all rises v → is_enabled (node_ready S) (net v) c ≡ true
-        → Lighter v (taken (node_step S) (net v) c)
+        → Lighter v (world_next (node_step S) (net v) c)
     lighter_step v c h on =
         let took = finds S v c.node c.port on in
         let wrote = written S took.place v (took.message ∷ took.rest) took.waits_is in
@@ -45,16 +45,16 @@ module _ {U T C R O : Type 0} (S : System U T C R O) where
         subst (Holds S laws Nobody tt all rises) wrote h in
         let next = lighter_here took.place v took.message took.rest v wrote took.ready holds in
         let at : c ≡ choice took.place = took.is in
-        subst (λ y. Lighter v (taken (node_step S) (net v) y)) (sym at)
-        (subst (λ y. Lighter v (taken (node_step S) (net y) (choice took.place))) (sym wrote) next)
+        subst (λ y. Lighter v (world_next (node_step S) (net v) y)) (sym at)
+        (subst (λ y. Lighter v (world_next (node_step S) (net y) (choice took.place))) (sym wrote) next)
 
     no_longer : (cs : List Choice) (w : Network (Node T C) (Msg C) (Note O)) (v : World T C O) → w ≡ net v → Holds S laws Nobody tt all rises v
         → IsRun (node_ready S) (node_step S) cs w → length cs ≤ weight S v
     no_longer [] w v here h is = omega arith
     no_longer (c ∷ cs) w v here h is =
         let on : is_enabled (node_ready S) (net v) c ≡ true = subst (λ y. is_enabled (node_ready S) y c ≡ true) here is.0 in
-        let next : Lighter v (taken (node_step S) w c) = subst (λ y. Lighter v (taken (node_step S) y c)) (sym here) (lighter_step v c h on) in
-        let rest = no_longer cs (taken (node_step S) w c) next.world next.is next.holds is.1 in
+        let next : Lighter v (world_next (node_step S) w c) = subst (λ y. Lighter v (world_next (node_step S) y c)) (sym here) (lighter_step v c h on) in
+        let rest = no_longer cs (world_next (node_step S) w c) next.world next.is next.holds is.1 in
         omega (arith, rest, next.less)
 
   late_weight : (ps : List ℕ) → weigh w_in (in_packets S ps ++ In_end ∷ []) ≡ 8 * length ps + 2

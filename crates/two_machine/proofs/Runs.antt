@@ -1,8 +1,9 @@
 -- What holds of every world of a run, complete or not: each observer sees a stage, with the packets in order.
-use Rattle.std.proofs.Common.{◌≡◌, ◌<◌, ℕ, Bool, true, false, Option, Some, None, List, [], ◌∷◌, ◌++◌, refl, sym, ap, subst, ◌∙◌, append_assoc, append-nil, arith}
+use Rattle.std.proofs.Common.{◌≡◌, ◌<◌, ℕ, Bool, true, false, Option, Some, None, List, [], ◌∷◌}
+use Rattle.std.proofs.Common.{◌++◌, refl, sym, ap, subst, ◌∙◌, append_assoc, append-nil, arith}
 use Rattle.std.specs.Prelude.{if◌then◌else◌}
 use Rattle.actor_net.specs.declared.choice.Choice.{Choice}
-use Rattle.actor_net.specs.Network.{Network, is_enabled, taken, run, IsRun}
+use Rattle.actor_net.specs.Network.{Network, is_enabled, world_next, run, IsRun}
 use Rattle.two_machine.proofs.Machine.{Move, State}
 use Rattle.two_machine.proofs.Stages.{Stage, done, path, Fits, Rises}
 use Rattle.two_machine.proofs.Laws.{rises_front}
@@ -14,7 +15,7 @@ use Rattle.two_machine.proofs.Places.{Place, In, Sc, choice, with_waits, comes}
 use Rattle.two_machine.proofs.Puts.{result}
 use Rattle.two_machine.proofs.StageFacts.{Knows, knows, each_those, each_after}
 use Rattle.two_machine.proofs.TurnSees.{moved_by, AllowedBy, brought, Permits, turn}
-use Rattle.two_machine.proofs.Arrivals.{coming, End_at, In_input_still, On_link, Has_come, quiet_copied, Ready, arrivals, end_goes}
+use Rattle.two_machine.proofs.Arrivals.{coming, EndAt, In_input_still, On_link, Has_come, quiet_copied, Ready, arrivals, end_goes}
 use Rattle.two_machine.proofs.TakenMessages.{finds, labels_less, kept_there, written, log_there, rule_there, left_in}
 use Rattle.two_machine.proofs.Shapes.{shape}
 use Rattle.actor_net.proofs.WeightLaws.{Each}
@@ -25,7 +26,7 @@ module _ {U T C R O : Type 0} (S : System U T C R O) where
     -- what holds of a world of a run
     pub record Holds (v : World T C O) : Type 0 where
       pub labels : Labels S v
-      pub end_at : End_at v
+      pub end_at : EndAt v
       pub arrivals_are : read arrived v.log ++ read coming v.input ≡ all
       pub stage : Stage
       pub fits : Fits stage
@@ -61,7 +62,7 @@ module _ {U T C R O : Type 0} (S : System U T C R O) where
 
     -- what a message needs of the input and its end
     permits : (pl : Place) (v : World T C O) (x : Msg C) (rest : List (Msg C)) → Ready S pl v x → Label S pl x → Labels S (with_waits S pl rest v)
-        → End_at (with_waits S pl (x ∷ rest) v) → Permits S laws o its pl v x rest
+        → EndAt (with_waits S pl (x ∷ rest) v) → Permits S laws o its pl v x rest
     permits In v (In_packet p) rest ready h l (In_input_still last quiet not_yet) = (ready, not_yet)
     permits In v (In_packet p) rest ready h l (On_link empty one not_yet) = cc
     permits In v (In_packet p) rest ready h l (Has_come empty quiet has) = cc
@@ -117,7 +118,7 @@ module _ {U T C R O : Type 0} (S : System U T C R O) where
         }
       where
         next_of : (pl : Place) → Label S pl x → Labels S (with_waits S pl rest v) → Knows (λ p. S.covers p ≡ true) (view S o (with_waits S pl (x ∷ rest) v))
-            → IsNext S (taken (node_step S) (net (with_waits S pl (x ∷ rest) v)) (choice pl)) (result S pl (with_waits S pl rest v) x)
+            → IsNext S (world_next (node_step S) (net (with_waits S pl (x ∷ rest) v)) (choice pl)) (result S pl (with_waits S pl rest v) x)
         next_of pl h l k = next_is S pl v x rest (rule_there S pl v (x ∷ rest) k.no_drop) h l
 
     -- the same of the core's world
@@ -127,24 +128,25 @@ module _ {U T C R O : Type 0} (S : System U T C R O) where
       pub holds : Holds world
 
     pub next_equal : (pl : Place) (v : World T C O) (x : Msg C) (rest : List (Msg C)) → Holds (with_waits S pl (x ∷ rest) v)
-        → taken (node_step S) (net (with_waits S pl (x ∷ rest) v)) (choice pl) ≡ net (result S pl (with_waits S pl rest v) x)
+        → world_next (node_step S) (net (with_waits S pl (x ∷ rest) v)) (choice pl) ≡ net (result S pl (with_waits S pl rest v) x)
     next_equal pl v x rest h =
         let two = labels_less S pl v x rest h.labels in
         let knowing = known (with_waits S pl (x ∷ rest) v) h in
         (next_is S pl v x rest (rule_there S pl v (x ∷ rest) knowing.no_drop) two.0 two.1).is
 
     pub next_world : (pl : Place) (v : World T C O) (x : Msg C) (rest : List (Msg C)) → Ready S pl v x → Holds (with_waits S pl (x ∷ rest) v)
-        → Reached (taken (node_step S) (net (with_waits S pl (x ∷ rest) v)) (choice pl))
+        → Reached (world_next (node_step S) (net (with_waits S pl (x ∷ rest) v)) (choice pl))
     next_world pl v x rest ready h = record { world = result S pl (with_waits S pl rest v) x; is = next_equal pl v x rest h; holds = keeps pl v x rest ready h }
 
-    pub step_reaches : (v : World T C O) (c : Choice) → Holds v → is_enabled (node_ready S) (net v) c ≡ true → Reached (taken (node_step S) (net v) c)
+    pub step_reaches : (v : World T C O) (c : Choice) → Holds v → is_enabled (node_ready S) (net v) c ≡ true → Reached (world_next (node_step S) (net v) c)
     step_reaches v c h on =
         let took = finds S v c.node c.port on in
         let wrote = written S took.place v (took.message ∷ took.rest) took.waits_is in
         let holds : Holds (with_waits S took.place (took.message ∷ took.rest) v) = subst Holds wrote h in
         let next = next_world took.place v took.message took.rest took.ready holds in
         let at : c ≡ choice took.place = took.is in
-        subst (λ y. Reached (taken (node_step S) (net v) y)) (sym at) (subst (λ y. Reached (taken (node_step S) (net y) (choice took.place))) (sym wrote) next)
+        subst (λ y. Reached (world_next (node_step S) (net v) y)) (sym at)
+        (subst (λ y. Reached (world_next (node_step S) (net y) (choice took.place))) (sym wrote) next)
 
     pub reach : (cs : List Choice) (w : Network (Node T C) (Msg C) (Note O)) → Reached w → IsRun (node_ready S) (node_step S) cs w
         → Reached (run (node_step S) cs w)
@@ -152,4 +154,4 @@ module _ {U T C R O : Type 0} (S : System U T C R O) where
     reach (c ∷ cs) w r is =
         let here = r.is in
         let on : is_enabled (node_ready S) (net r.world) c ≡ true = subst (λ y. is_enabled (node_ready S) y c ≡ true) here is.0 in
-        reach cs (taken (node_step S) w c) (subst (λ y. Reached (taken (node_step S) y c)) (sym here) (step_reaches r.world c r.holds on)) is.1
+        reach cs (world_next (node_step S) w c) (subst (λ y. Reached (world_next (node_step S) y c)) (sym here) (step_reaches r.world c r.holds on)) is.1

@@ -1,7 +1,12 @@
 -- The state of the machine at each stage (`shape`), and where a move from there leads.
 use Rattle.std.proofs.Common.{◌≡◌, ℕ, true, false, Option, None, List, [], ◌∷◌, ◌++◌}
-use Rattle.two_machine.proofs.Machine.{Rule, Free, Drops, Buffers, Target, To_a, To_both, To_b, Phase, Idle, Freezing, Getting, Deleting, Putting, Holding, Laying, Waiting, Turning, Settling, Ending, Over, Scan, No_low, Low_only, Low_came, High_laid, Is_done, Is_none, Item, Enable, Get, Delete, Restore, Fence, Enabled, Chunks, Deleted, Restored, Fenced, Lay, Laid, Copied, Frame, after, State, Move, Arrive, End_comes, moved}
-use Rattle.two_machine.proofs.Stages.{Early, Not_begun, Enable_goes, Part, Enabled_comes, Get_goes, Chunks_come, Delete_goes, Deleted_comes, Restore_goes, Restored_comes, Hold_goes, Held_comes, Turn, Low_goes, Low_comes, Waits, High_goes, No_packet_came, Late, High_comes, Settles, Last, Fence_goes, Fenced_comes, Is_over, Stage, Before, Storing, Passing, Turned, Ends, done, path, Fits}
+use Rattle.two_machine.proofs.Machine.{Rule, Free, Drops, Buffers, Target, To_a, To_both, To_b, Phase, Idle, Freezing, Getting, Deleting}
+use Rattle.two_machine.proofs.Machine.{Putting, Holding, Laying, Waiting, Turning, Settling, Ending, Over, Scan, No_low, Low_only}
+use Rattle.two_machine.proofs.Machine.{Low_came, High_laid, Is_done, Is_none, Item, Enable, Get, Delete, Restore, Fence, Enabled, Chunks}
+use Rattle.two_machine.proofs.Machine.{Deleted, Restored, Fenced, Lay, Laid, Copied, Frame, after, State, Move, Arrive, End_comes, moved}
+use Rattle.two_machine.proofs.Stages.{Early, Not_begun, Enable_goes, Part, Enabled_comes, Get_goes, Chunks_come, Delete_goes, Deleted_comes, Restore_goes}
+use Rattle.two_machine.proofs.Stages.{Restored_comes, Hold_goes, Held_comes, Turn, Low_goes, Low_comes, Waits, High_goes, No_packet_came, Late, High_comes}
+use Rattle.two_machine.proofs.Stages.{Settles, Last, Fence_goes, Fenced_comes, Is_over, Stage, Before, Storing, Passing, Turned, Ends, done, path, Fits}
 
 -- the phases of the stages
 abbrev pub early_phase : Early → Phase

@@ -3,7 +3,8 @@
 use Rattle.std.proofs.Common.{◌≡◌, ◌≢◌, ℕ, Bool, true, false, Option, None, List, [], ◌∷◌, ◌++◌, refl}
 use Rattle.std.specs.Prelude.{if◌then◌else◌}
 use Rattle.two_machine.proofs.Machine.{Drops, Item, Restore, Frame, State}
-use Rattle.two_machine.proofs.Stages.{Early, Not_begun, Enable_goes, Part, Restored_comes, Hold_goes, Held_comes, Last, Fence_goes, Stage, Before, Storing, Passing, Turned, Ends, path}
+use Rattle.two_machine.proofs.Stages.{Early, Not_begun, Enable_goes, Part, Restored_comes, Hold_goes, Held_comes}
+use Rattle.two_machine.proofs.Stages.{Last, Fence_goes, Stage, Before, Storing, Passing, Turned, Ends, path}
 use Rattle.two_machine.proofs.View.{those}
 use Rattle.two_machine.proofs.Shapes.{shape}
 use Rattle.actor_net.proofs.WeightLaws.{Each}

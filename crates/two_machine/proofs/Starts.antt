@@ -9,9 +9,9 @@ use Rattle.two_machine.proofs.Stages.{Before, Not_begun, Rises}
 use Rattle.two_machine.proofs.Tables.{System, Laws, In_end, none, node_step, node_ready, in_packets, fresh, first_nodes, items}
 use Rattle.two_machine.proofs.View.{World, net, read, starts, Observer, Nobody, Of_unit, IsTaken, own}
 use Rattle.two_machine.proofs.Places.{Place, In, waits}
-use Rattle.two_machine.proofs.Labels.{In_input, Label}
+use Rattle.two_machine.proofs.Labels.{InInput, Label}
 use Rattle.two_machine.proofs.ControllerSees.{inside_none}
-use Rattle.two_machine.proofs.Arrivals.{coming, Ends_last, In_input_still}
+use Rattle.two_machine.proofs.Arrivals.{coming, EndsLast, In_input_still}
 use Rattle.two_machine.proofs.Runs.{Holds, Reached, reach}
 use Rattle.actor_net.proofs.WeightLaws.{Each}
 
@@ -40,19 +40,19 @@ module _ {U T C R O : Type 0} (S : System U T C R O) where
   pub opens : (window : ℕ) (early late : List ℕ) → opening (first_nodes S window) (items S early late) ≡ net (first_world window early late)
   opens window early late = refl
 
-  late_last : (ps : List ℕ) → Ends_last (in_packets S ps ++ In_end ∷ [])
+  late_last : (ps : List ℕ) → EndsLast (in_packets S ps ++ In_end ∷ [])
   late_last [] = tt
   late_last (p ∷ ps) = late_last ps
 
-  all_last : (early late : List ℕ) → Ends_last (items S early late)
+  all_last : (early late : List ℕ) → EndsLast (items S early late)
   all_last [] late = late_last late
   all_last (p ∷ early) late = all_last early late
 
-  late_label : (ps : List ℕ) → Each (In_input S) (in_packets S ps ++ In_end ∷ [])
+  late_label : (ps : List ℕ) → Each (InInput S) (in_packets S ps ++ In_end ∷ [])
   late_label [] = (tt, tt)
   late_label (p ∷ ps) = (tt, late_label ps)
 
-  all_label : (early late : List ℕ) → Each (In_input S) (items S early late)
+  all_label : (early late : List ℕ) → Each (InInput S) (items S early late)
   all_label [] late = (tt, late_label late)
   all_label (p ∷ early) late = (tt, all_label early late)
 

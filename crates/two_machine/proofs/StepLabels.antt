@@ -1,12 +1,17 @@
 -- Each node sends what its links have, whatever message of its own it takes.
 use Rattle.std.proofs.Common.{◌≡◌, ◌≢◌, ℕ, Bool, true, false, List, [], ◌∷◌, refl, ◌∙◌}
 use Rattle.std.specs.Prelude.{if◌then◌else◌, ◌==◌, ◌&&◌, not}
-use Rattle.two_machine.proofs.Machine.{Rule, Free, Drops, Buffers, Target, To_a, To_both, To_b, Phase, Idle, Freezing, Getting, Deleting, Putting, Holding, Laying, Waiting, Turning, Settling, Ending, Over, same}
+use Rattle.two_machine.proofs.Machine.{Rule, Free, Drops, Buffers, Target, To_a, To_both, To_b, Phase, Idle, Freezing, Getting}
+use Rattle.two_machine.proofs.Machine.{Deleting, Putting, Holding, Laying, Waiting, Turning, Settling, Ending, Over, same}
 use Rattle.two_machine.proofs.Tables
-use Rattle.two_machine.proofs.Tables.{System, Msg, Note, Switch, Ctrl, Inst, Step, In_packet, In_start, In_end, Start, End, Copied, Laid, Forward, Lay, Finish, Carry, Pass, Stop, Enable, Get, Delete, Restore, Fence, Enabled, Chunks, Deleted, Restored, Event, Seen, Fenced, Final, Credit, none, has_room, goes, switch_step, processed, all_processed, ruled, inst_step, on_start, on_enabled, on_chunks, on_deleted, on_restored, on_event, on_laid, on_copied, on_fenced, on_final, forwards, ctrl_row, and_then, soon_at, is_over, finishes, soon, ctrl_step, node_step}
+use Rattle.two_machine.proofs.Tables.{System, Msg, Note, Switch, Ctrl, Inst, Step, In_packet, In_start, In_end, Start, End, Copied, Laid}
+use Rattle.two_machine.proofs.Tables.{Forward, Lay, Finish, Carry, Pass, Stop, Enable, Get, Delete, Restore, Fence, Enabled, Chunks, Deleted}
+use Rattle.two_machine.proofs.Tables.{Restored, Event, Seen, Fenced, Final, Credit, none, has_room, goes, switch_step, processed, all_processed}
+use Rattle.two_machine.proofs.Tables.{ruled, inst_step, on_start, on_enabled, on_chunks, on_deleted, on_restored, on_event, on_laid, on_copied}
+use Rattle.two_machine.proofs.Tables.{on_fenced, on_final, forwards, ctrl_row, and_then, soon_at, is_over, finishes, soon, ctrl_step, node_step}
 use Rattle.two_machine.proofs.View.{read, read-append, arrived, ran}
-use Rattle.two_machine.proofs.Labels.{IsSelected, On_sa, On_sb, On_sc, On_ca, On_cb, On_ac, On_bc}
-use Rattle.two_machine.proofs.Puts.{From_switch, From_ctrl, From_a, From_b}
+use Rattle.two_machine.proofs.Labels.{IsSelected, OnSa, OnSb, OnSc, OnCa, OnCb, OnAc, OnBc}
+use Rattle.two_machine.proofs.Puts.{From_switch, FromCtrl, From_a, From_b}
 use Rattle.actor_net.proofs.WeightLaws.{Each, each-append}
 
 module _ {U T C R O : Type 0} (S : System U T C R O) where
@@ -50,7 +55,7 @@ module _ {U T C R O : Type 0} (S : System U T C R O) where
   ruled_b Drops i p h = absurd (h refl)
   ruled_b Buffers i p h = tt
 
-  pub sa_ok : (i : Inst T) (m : Msg C) → On_sa S m → Each (λ x. From_a S x.0 x.1) (inst_step S 0 i m).sends
+  pub sa_ok : (i : Inst T) (m : Msg C) → OnSa S m → Each (λ x. From_a S x.0 x.1) (inst_step S 0 i m).sends
   sa_ok i (Carry p) h =
       elim (S.covers p) as (λ b. Each (λ x. From_a S x.0 x.1) (if b then ruled S i.rule 0 i p else processed S 0 i p).sends) [
         | true ↦ ruled_a i.rule i p
@@ -59,13 +64,13 @@ module _ {U T C R O : Type 0} (S : System U T C R O) where
   sa_ok i Stop h = (tt, tt)
   sa_ok i m h = absurd h
 
-  pub ca_ok : (i : Inst T) (m : Msg C) → On_ca S m → Each (λ x. From_a S x.0 x.1) (inst_step S 0 i m).sends
+  pub ca_ok : (i : Inst T) (m : Msg C) → OnCa S m → Each (λ x. From_a S x.0 x.1) (inst_step S 0 i m).sends
   ca_ok i (Enable r) h = (tt, tt)
   ca_ok i Get h = ((i.table, refl), tt)
   ca_ok i (Delete c) h = (tt, tt)
   ca_ok i m h = absurd h
 
-  pub sb_ok : (i : Inst T) (m : Msg C) → i.rule ≢ Drops → On_sb S m → Each (λ x. From_b S x.0 x.1) (inst_step S 1 i m).sends
+  pub sb_ok : (i : Inst T) (m : Msg C) → i.rule ≢ Drops → OnSb S m → Each (λ x. From_b S x.0 x.1) (inst_step S 1 i m).sends
   sb_ok i (Carry p) no_drop h =
       elim (S.covers p) as (λ b. Each (λ x. From_b S x.0 x.1) (if b then ruled S i.rule 1 i p else processed S 1 i p).sends) [
         | true ↦ ruled_b i.rule i p no_drop
@@ -75,7 +80,7 @@ module _ {U T C R O : Type 0} (S : System U T C R O) where
   sb_ok i Stop no_drop h = (tt, tt)
   sb_ok i m no_drop h = absurd h
 
-  pub cb_ok : (i : Inst T) (m : Msg C) → On_cb S m → Each (λ x. From_b S x.0 x.1) (inst_step S 1 i m).sends
+  pub cb_ok : (i : Inst T) (m : Msg C) → OnCb S m → Each (λ x. From_b S x.0 x.1) (inst_step S 1 i m).sends
   cb_ok i (Enable r) h = (tt, tt)
   cb_ok i (Restore c) h = (tt, tt)
   cb_ok i Fence h =
@@ -85,7 +90,7 @@ module _ {U T C R O : Type 0} (S : System U T C R O) where
 
   -- and the controller; its chunks are those of a table
   pub record CtrlOk (e : Bool) (did : Step S (Ctrl C)) : Type 0 where
-    pub sends : Each (λ x. From_ctrl S x.0 x.1) did.sends
+    pub sends : Each (λ x. FromCtrl S x.0 x.1) did.sends
     pub kept : IsSelected S did.node.kept
     pub ended : did.node.ended ≡ e
     pub quiet : read arrived did.notes ≡ []
@@ -94,7 +99,7 @@ module _ {U T C R O : Type 0} (S : System U T C R O) where
   then_ok : (e : Bool) (one : Step S (Ctrl C)) (next : Ctrl C → Step S (Ctrl C)) → CtrlOk e one → CtrlOk one.node.ended (next one.node)
       → CtrlOk e (and_then S one next)
   then_ok e one next h k = record {
-    sends = each-append (λ x. From_ctrl S x.0 x.1) one.sends (next one.node).sends h.sends k.sends;
+    sends = each-append (λ x. FromCtrl S x.0 x.1) one.sends (next one.node).sends h.sends k.sends;
     kept = k.kept;
     ended = k.ended ∙ h.ended;
     quiet = let first = h.quiet in let second = k.quiet in read-append arrived one.notes (next one.node).notes ∙ rw (first, second) refl;
@@ -138,7 +143,7 @@ module _ {U T C R O : Type 0} (S : System U T C R O) where
   still_ok : (c : Ctrl C) → IsSelected S c.kept → CtrlOk c.ended (record { node = c; sends = []; notes = [] })
   still_ok c k = record { sends = tt; kept = k; ended = refl; quiet = refl; unrun = refl }
 
-  forwards_ok : (ps : List ℕ) → Each (λ x. From_ctrl S x.0 x.1) (forwards S ps)
+  forwards_ok : (ps : List ℕ) → Each (λ x. FromCtrl S x.0 x.1) (forwards S ps)
   forwards_ok [] = tt
   forwards_ok (p ∷ ps) = (tt, forwards_ok ps)
 
@@ -150,7 +155,7 @@ module _ {U T C R O : Type 0} (S : System U T C R O) where
   enabled_ok Freezing c k = record { sends = (tt, tt); kept = k; ended = refl; quiet = refl; unrun = refl }
   enabled_ok Holding c k =
       record {
-        sends = each-append (λ x. From_ctrl S x.0 x.1) (forwards S c.store) ((0, Lay false) ∷ []) (forwards_ok c.store) (tt, tt);
+        sends = each-append (λ x. FromCtrl S x.0 x.1) (forwards S c.store) ((0, Lay false) ∷ []) (forwards_ok c.store) (tt, tt);
         kept = k;
         ended = refl;
         quiet = refl;
@@ -228,7 +233,7 @@ module _ {U T C R O : Type 0} (S : System U T C R O) where
       let row = row_ok c port m k h in
       then_ok (ended_by m c) (ctrl_row S c port m) (soon S) row (soon_ok (ctrl_row S c port m).node row.kept)
 
-  pub gives_ac : (m : Msg C) → On_ac S m → GivesChunks m
+  pub gives_ac : (m : Msg C) → OnAc S m → GivesChunks m
   gives_ac (Chunks c) h = h
   gives_ac Enabled h = tt
   gives_ac Deleted h = tt
@@ -236,7 +241,7 @@ module _ {U T C R O : Type 0} (S : System U T C R O) where
   gives_ac Final h = tt
   gives_ac m h = absurd h
 
-  pub gives_bc : (m : Msg C) → On_bc S m → GivesChunks m
+  pub gives_bc : (m : Msg C) → OnBc S m → GivesChunks m
   gives_bc Restored h = tt
   gives_bc Enabled h = tt
   gives_bc Fenced h = tt
@@ -244,7 +249,7 @@ module _ {U T C R O : Type 0} (S : System U T C R O) where
   gives_bc Final h = tt
   gives_bc m h = absurd h
 
-  pub gives_sc : (m : Msg C) → On_sc S m → GivesChunks m
+  pub gives_sc : (m : Msg C) → OnSc S m → GivesChunks m
   gives_sc Start h = tt
   gives_sc End h = tt
   gives_sc (Copied p) h = tt

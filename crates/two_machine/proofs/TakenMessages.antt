@@ -4,7 +4,7 @@ use Rattle.std.specs.Prelude.{◌==◌, nat_lt}
 use Rattle.std.proofs.lemmas.Bool.{false≢true}
 use Rattle.std.proofs.lemmas.Bool.Decides.{nat_tests}
 use Rattle.actor_net.specs.declared.choice.Choice.{Choice}
-use Rattle.actor_net.specs.Network.{waiting, takes_first, is_enabled}
+use Rattle.actor_net.specs.Network.{queue_at, takes_first, is_enabled}
 use Rattle.two_machine.proofs.Machine.{Drops}
 use Rattle.two_machine.proofs.Tables.{System, Msg, Node, Is_switch, Is_ctrl, Is_inst, In_packet, In_start, In_end, node_ready}
 use Rattle.two_machine.proofs.View.{World, net, read}
@@ -63,17 +63,17 @@ module _ {U T C R O : Type 0} (S : System U T C R O) where
   finds v zero (suc (suc (suc (suc p)))) on =
       let no_link = far p in
       let port = not_zero p in
-      nothing v 0 (suc (suc (suc (suc p)))) (Is_switch v.sw) (waiting (net v) (record { node = 0; port = suc (suc (suc (suc p))) }))
+      nothing v 0 (suc (suc (suc (suc p)))) (Is_switch v.sw) (queue_at (net v) (record { node = 0; port = suc (suc (suc (suc p))) }))
       (rw (port, no_link) refl) on
   finds v (suc zero) (suc (suc (suc (suc p)))) on =
       let no_link = far p in
-      nothing v 1 (suc (suc (suc (suc p)))) (Is_ctrl v.ct) (waiting (net v) (record { node = 1; port = suc (suc (suc (suc p))) })) (rw no_link refl) on
+      nothing v 1 (suc (suc (suc (suc p)))) (Is_ctrl v.ct) (queue_at (net v) (record { node = 1; port = suc (suc (suc (suc p))) })) (rw no_link refl) on
   finds v (suc (suc zero)) (suc (suc (suc (suc p)))) on =
       let no_link = far p in
-      nothing v 2 (suc (suc (suc (suc p)))) (Is_inst 0 v.a) (waiting (net v) (record { node = 2; port = suc (suc (suc (suc p))) })) (rw no_link refl) on
+      nothing v 2 (suc (suc (suc (suc p)))) (Is_inst 0 v.a) (queue_at (net v) (record { node = 2; port = suc (suc (suc (suc p))) })) (rw no_link refl) on
   finds v (suc (suc (suc zero))) (suc (suc (suc (suc p)))) on =
       let no_link = far p in
-      nothing v 3 (suc (suc (suc (suc p)))) (Is_inst 1 v.b) (waiting (net v) (record { node = 3; port = suc (suc (suc (suc p))) })) (rw no_link refl) on
+      nothing v 3 (suc (suc (suc (suc p)))) (Is_inst 1 v.b) (queue_at (net v) (record { node = 3; port = suc (suc (suc (suc p))) })) (rw no_link refl) on
   finds v (suc (suc (suc (suc k)))) p on = absurd (false≢true on)
 
   -- the labels of what is taken, and of what is left

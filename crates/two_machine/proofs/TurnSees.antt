@@ -1,13 +1,17 @@
 -- What is seen of the message that is taken, at each place: a move of the machine, or nothing.
 use Rattle.std.proofs.Common.{◌≡◌, ℕ, Bool, true, false, Option, Some, None, List, [], ◌∷◌, ◌++◌, refl, ◌∙◌}
 use Rattle.two_machine.proofs.Machine as m
-use Rattle.two_machine.proofs.Machine.{Rule, Free, Drops, Buffers, Target, To_a, Item, State, Frame, Move, Begin, End_comes, Arrive, Take_sa, Take_pass, Take_plain, Take_sc, Take_forward, Take_cs, Take_ca, Take_cb, Take_event, Take_ac, Take_seen, Take_bc, Idles, moved}
+use Rattle.two_machine.proofs.Machine.{Rule, Free, Drops, Buffers, Target, To_a, Item, State, Frame, Move, Begin, End_comes, Arrive, Take_sa, Take_pass}
+use Rattle.two_machine.proofs.Machine.{Take_plain, Take_sc, Take_forward, Take_cs, Take_ca, Take_cb, Take_event, Take_ac, Take_seen, Take_bc, Idles, moved}
 use Rattle.two_machine.proofs.Laws.{append_nil_left, append_nil_right}
-use Rattle.two_machine.proofs.Tables.{System, Laws, Msg, In_packet, In_start, In_end, Start, End, Copied, Laid, Forward, Lay, Finish, Carry, Pass, Stop, Enable, Get, Delete, Restore, Fence, Enabled, Chunks, Deleted, Restored, Event, Seen, Fenced, Final, Credit, has_room}
+use Rattle.two_machine.proofs.Tables.{System, Laws, Msg, In_packet, In_start, In_end, Start, End, Copied, Laid, Forward, Lay, Finish, Carry, Pass, Stop}
+use Rattle.two_machine.proofs.Tables.{Enable, Get, Delete, Restore, Fence, Enabled, Chunks, Deleted, Restored, Event, Seen, Fenced, Final, Credit, has_room}
 use Rattle.two_machine.proofs.View.{World, Observer, read, those, starts, frame, own, inside, IsTaken, item, view}
-use Rattle.two_machine.proofs.Labels.{In_input, On_sa, On_sb, On_sc, On_cs, On_ca, On_cb, On_ac, On_bc, On_back, Label}
-use Rattle.two_machine.proofs.ControllerSees.{reads, step_seen, start_seen, enabled_seen, chunks_seen, deleted_seen, restored_seen, event_seen, laid_seen, copied_seen, fenced_seen, end_seen, told_seen, final_seen}
-use Rattle.two_machine.proofs.InstanceSees.{carry_a, other_a, carry_b, pass_b, fence_b, enable_a, get_a, delete_a, enable_b, restore_b, stop_a, stop_b, arrive, arrive_other, forward_s, lay_s, finish_s, credit_s, end_s}
+use Rattle.two_machine.proofs.Labels.{InInput, OnSa, OnSb, OnSc, OnCs, OnCa, OnCb, OnAc, OnBc, OnBack, Label}
+use Rattle.two_machine.proofs.ControllerSees.{reads, step_seen, start_seen, enabled_seen, chunks_seen, deleted_seen, restored_seen}
+use Rattle.two_machine.proofs.ControllerSees.{event_seen, laid_seen, copied_seen, fenced_seen, end_seen, told_seen, final_seen}
+use Rattle.two_machine.proofs.InstanceSees.{carry_a, other_a, carry_b, pass_b, fence_b, enable_a, get_a, delete_a, enable_b, restore_b}
+use Rattle.two_machine.proofs.InstanceSees.{stop_a, stop_b, arrive, arrive_other, forward_s, lay_s, finish_s, credit_s, end_s}
 use Rattle.two_machine.proofs.Places.{Place, In, Cs, Aw, Bw, Sc, Ac, Bc, Sa, Ca, Sb, Cb, with_waits, comes}
 use Rattle.two_machine.proofs.Puts.{result}
 use Rattle.two_machine.proofs.StageFacts.{Knows}
@@ -41,7 +45,7 @@ module _ {U T C R O : Type 0} (S : System U T C R O) (laws : Laws S) (o : Observ
   abbrev Covers : ℕ → Type 0
   Covers p = S.covers p ≡ true
 
-  turn_in : (v : World T C O) (m : Msg C) (rest : List (Msg C)) → In_input S m → Knows Covers (view S o (with_waits S In (m ∷ rest) v))
+  turn_in : (v : World T C O) (m : Msg C) (rest : List (Msg C)) → InInput S m → Knows Covers (view S o (with_waits S In (m ∷ rest) v))
       → Permits In v m rest → Turns In v m rest
   turn_in v (In_packet p) rest h k a = by (S.covers p) refl
     where
@@ -62,21 +66,21 @@ module _ {U T C R O : Type 0} (S : System U T C R O) (laws : Laws S) (o : Observ
   turn_in v In_end rest h k a = record { move = None; sees = end_s S laws o taken (record v { input = rest }); allowed = tt; brings_is = refl }
   turn_in v m rest h k a = absurd h
 
-  turn_cs : (v : World T C O) (m : Msg C) (rest : List (Msg C)) → On_cs S m → Turns Cs v m rest
+  turn_cs : (v : World T C O) (m : Msg C) (rest : List (Msg C)) → OnCs S m → Turns Cs v m rest
   turn_cs v (Forward p) rest h = record { move = Some Take_forward; sees = forward_s S laws o taken (record v { cs = rest }) p; allowed = tt; brings_is = refl }
   turn_cs v (Lay high) rest h = record { move = Some Take_cs; sees = lay_s S laws o taken (record v { cs = rest }) high; allowed = tt; brings_is = refl }
   turn_cs v (Finish to) rest h = record { move = None; sees = finish_s S laws o taken (record v { cs = rest }) to; allowed = tt; brings_is = refl }
   turn_cs v m rest h = absurd h
 
-  turn_aw : (v : World T C O) (m : Msg C) (rest : List (Msg C)) → On_back S m → Turns Aw v m rest
+  turn_aw : (v : World T C O) (m : Msg C) (rest : List (Msg C)) → OnBack S m → Turns Aw v m rest
   turn_aw v (Credit p) rest h = record { move = None; sees = credit_s S laws o taken (record v { aw = rest }) p; allowed = tt; brings_is = refl }
   turn_aw v m rest h = absurd h
 
-  turn_bw : (v : World T C O) (m : Msg C) (rest : List (Msg C)) → On_back S m → Turns Bw v m rest
+  turn_bw : (v : World T C O) (m : Msg C) (rest : List (Msg C)) → OnBack S m → Turns Bw v m rest
   turn_bw v (Credit p) rest h = record { move = None; sees = credit_s S laws o taken (record v { bw = rest }) p; allowed = tt; brings_is = refl }
   turn_bw v m rest h = absurd h
 
-  turn_sc : (v : World T C O) (m : Msg C) (rest : List (Msg C)) → On_sc S m → Knows Covers (view S o (with_waits S Sc (m ∷ rest) v)) → Permits Sc v m rest
+  turn_sc : (v : World T C O) (m : Msg C) (rest : List (Msg C)) → OnSc S m → Knows Covers (view S o (with_waits S Sc (m ∷ rest) v)) → Permits Sc v m rest
       → Turns Sc v m rest
   turn_sc v Start rest h k a =
       let less = record v { sc = rest } in
@@ -117,7 +121,7 @@ module _ {U T C R O : Type 0} (S : System U T C R O) (laws : Laws S) (o : Observ
       }
   turn_sc v m rest h k a = absurd h
 
-  turn_ac : (v : World T C O) (m : Msg C) (rest : List (Msg C)) → On_ac S m → Turns Ac v m rest
+  turn_ac : (v : World T C O) (m : Msg C) (rest : List (Msg C)) → OnAc S m → Turns Ac v m rest
   turn_ac v Enabled rest h =
       let less = record v { ac = rest } in
       record {
@@ -157,7 +161,7 @@ module _ {U T C R O : Type 0} (S : System U T C R O) (laws : Laws S) (o : Observ
       record { move = Some Idles; sees = step_seen S laws o less 2 Final (view S o less) (final_seen S laws o less true); allowed = tt; brings_is = refl }
   turn_ac v m rest h = absurd h
 
-  turn_bc : (v : World T C O) (m : Msg C) (rest : List (Msg C)) → On_bc S m → Turns Bc v m rest
+  turn_bc : (v : World T C O) (m : Msg C) (rest : List (Msg C)) → OnBc S m → Turns Bc v m rest
   turn_bc v Restored rest h =
       let less = record v { bc = rest } in
       record {
@@ -195,7 +199,7 @@ module _ {U T C R O : Type 0} (S : System U T C R O) (laws : Laws S) (o : Observ
       record { move = Some Idles; sees = step_seen S laws o less 3 Final (view S o less) (final_seen S laws o less false); allowed = tt; brings_is = refl }
   turn_bc v m rest h = absurd h
 
-  turn_sa : (v : World T C O) (m : Msg C) (rest : List (Msg C)) → On_sa S m → Turns Sa v m rest
+  turn_sa : (v : World T C O) (m : Msg C) (rest : List (Msg C)) → OnSa S m → Turns Sa v m rest
   turn_sa v (Carry p) rest h = by (S.covers p) refl
     where
       less : World T C O
@@ -207,13 +211,13 @@ module _ {U T C R O : Type 0} (S : System U T C R O) (laws : Laws S) (o : Observ
   turn_sa v Stop rest h = record { move = None; sees = stop_a S laws o taken (record v { sa = rest }); allowed = tt; brings_is = refl }
   turn_sa v m rest h = absurd h
 
-  turn_ca : (v : World T C O) (m : Msg C) (rest : List (Msg C)) → On_ca S m → Turns Ca v m rest
+  turn_ca : (v : World T C O) (m : Msg C) (rest : List (Msg C)) → OnCa S m → Turns Ca v m rest
   turn_ca v (Enable r) rest h = record { move = Some Take_ca; sees = enable_a S laws o taken (record v { ca = rest }) r; allowed = tt; brings_is = refl }
   turn_ca v Get rest h = record { move = Some Take_ca; sees = get_a S laws o taken (record v { ca = rest }); allowed = tt; brings_is = refl }
   turn_ca v (Delete c) rest h = record { move = Some Take_ca; sees = delete_a S laws o taken (record v { ca = rest }) c h; allowed = tt; brings_is = refl }
   turn_ca v m rest h = absurd h
 
-  turn_sb : (v : World T C O) (m : Msg C) (rest : List (Msg C)) → On_sb S m → Knows Covers (view S o (with_waits S Sb (m ∷ rest) v)) → Turns Sb v m rest
+  turn_sb : (v : World T C O) (m : Msg C) (rest : List (Msg C)) → OnSb S m → Knows Covers (view S o (with_waits S Sb (m ∷ rest) v)) → Turns Sb v m rest
   turn_sb v (Carry p) rest h k =
       let e : S.covers p ≡ true = k.plains.0 in
       record {
@@ -228,7 +232,7 @@ module _ {U T C R O : Type 0} (S : System U T C R O) (laws : Laws S) (o : Observ
   turn_sb v Stop rest h k = record { move = None; sees = stop_b S laws o taken (record v { sb = rest }); allowed = tt; brings_is = refl }
   turn_sb v m rest h k = absurd h
 
-  turn_cb : (v : World T C O) (m : Msg C) (rest : List (Msg C)) → On_cb S m → Knows Covers (view S o (with_waits S Cb (m ∷ rest) v)) → Turns Cb v m rest
+  turn_cb : (v : World T C O) (m : Msg C) (rest : List (Msg C)) → OnCb S m → Knows Covers (view S o (with_waits S Cb (m ∷ rest) v)) → Turns Cb v m rest
   turn_cb v (Enable r) rest h k = record { move = Some Take_cb; sees = enable_b S laws o taken (record v { cb = rest }) r; allowed = tt; brings_is = refl }
   turn_cb v (Restore c) rest h k =
       let none : own S o v.b.table ≡ None = k.empty (inside S o c) (read (item S o) rest) refl in

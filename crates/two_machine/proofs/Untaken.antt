@@ -4,14 +4,17 @@ use Rattle.std.specs.Prelude.{if◌then◌else◌, ◌==◌}
 use Rattle.two_machine.proofs.Machine.{Rule, Free, Drops, Buffers, Target, To_a, To_both, To_b, stepped, folded}
 use Rattle.two_machine.proofs.Laws.{folded-append}
 use Rattle.two_machine.proofs.Tables
-use Rattle.two_machine.proofs.Tables.{System, Laws, Msg, Note, Switch, Ctrl, Inst, Node, Step, In_packet, In_start, In_end, Forward, Lay, Finish, Carry, Pass, Stop, Enable, Get, Delete, Restore, Fence, Credit, Arrived, Processed, has_room, goes, switch_step, processed, all_processed, ruled, inst_step, ctrl_step, takes_in}
+use Rattle.two_machine.proofs.Tables.{System, Laws, Msg, Note, Switch, Ctrl, Inst, Node, Step, In_packet, In_start, In_end, Forward}
+use Rattle.two_machine.proofs.Tables.{Lay, Finish, Carry, Pass, Stop, Enable, Get, Delete, Restore, Fence, Credit, Arrived, Processed}
+use Rattle.two_machine.proofs.Tables.{has_room, goes, switch_step, processed, all_processed, ruled, inst_step, ctrl_step, takes_in}
 use Rattle.two_machine.proofs.View.{World, read, read-append, those, those-append, carries, arrived, ran, Nobody, view}
-use Rattle.two_machine.proofs.Labels.{IsSelected, In_input, On_sa, On_ca, On_sb, On_cb, On_cs, On_back, Label}
+use Rattle.two_machine.proofs.Labels.{IsSelected, InInput, OnSa, OnCa, OnSb, OnCb, OnCs, OnBack, Label}
 use Rattle.two_machine.proofs.Puts.{sent, put_switch, put_a, put_b, result}
 use Rattle.two_machine.proofs.Places.{Place, In, Cs, Aw, Bw, Sc, Ac, Bc, Sa, Ca, Sb, Cb, with_waits}
 use Rattle.two_machine.proofs.StageFacts.{Knows}
 use Rattle.two_machine.proofs.Arrivals.{Ready, inst_notes}
-use Rattle.two_machine.proofs.Outputs.{mine, its_frame, told, due, record_by, IsRight, right_more, right_none, right_one, told_other, due_other, folded_other, other_cover, each_other, ran_fence}
+use Rattle.two_machine.proofs.Outputs.{mine, its_frame, told, due, record_by, IsRight, right_more, right_none, right_one}
+use Rattle.two_machine.proofs.Outputs.{told_other, due_other, folded_other, other_cover, each_other, ran_fence}
 use Rattle.actor_net.proofs.WeightLaws.{Each}
 use Rattle.two_machine.proofs.StepLabels.{CtrlOk, ctrl_ok, gives_sc, gives_ac, gives_bc}
 
@@ -65,7 +68,7 @@ module _ {U T C R O : Type 0} (S : System U T C R O) (laws : Laws S) (u : U) (no
   less_a : (p : ℕ) (rest : List (Msg C)) → mine S laws u p ≡ false → own (read carries rest) ≡ own (read carries (Carry p ∷ rest))
   less_a p rest other = rw other refl
 
-  stays_sa : (v : World T C O) (x : Msg C) (rest : List (Msg C)) → On_sa S x → Stays (record v { sa = x ∷ rest })
+  stays_sa : (v : World T C O) (x : Msg C) (rest : List (Msg C)) → OnSa S x → Stays (record v { sa = x ∷ rest })
       → Stays (put_a S (record v { sa = rest }) (inst_step S 0 v.a x))
   stays_sa v (Carry p) rest l h = by (S.covers p) refl
     where
@@ -90,7 +93,7 @@ module _ {U T C R O : Type 0} (S : System U T C R O) (laws : Laws S) (u : U) (no
   no_chunk : (s : T) → S.has (S.select s) u ≡ None
   no_chunk s = laws.selected s u ∙ rw not_its refl
 
-  stays_ca : (v : World T C O) (x : Msg C) (rest : List (Msg C)) → On_ca S x → Stays (record v { ca = x ∷ rest })
+  stays_ca : (v : World T C O) (x : Msg C) (rest : List (Msg C)) → OnCa S x → Stays (record v { ca = x ∷ rest })
       → Stays (put_a S (record v { ca = rest }) (inst_step S 0 v.a x))
   stays_ca v (Enable r) rest l h =
       quietly (record v { ca = Enable r ∷ rest }) (put_a S (record v { ca = rest }) (inst_step S 0 v.a (Enable r))) [] refl refl refl refl refl refl h
@@ -140,7 +143,7 @@ module _ {U T C R O : Type 0} (S : System U T C R O) (laws : Laws S) (u : U) (no
   tells_nothing : (n : ℕ) (i : Inst T) (p : ℕ) → mine S laws u p ≡ false → told S laws u (processed S n i p).notes ≡ []
   tells_nothing n i p other = rw other refl
 
-  stays_sb : (v : World T C O) (x : Msg C) (rest : List (Msg C)) → On_sb S x → Knows (λ p. S.covers p ≡ true) (view S Nobody (record v { sb = x ∷ rest }))
+  stays_sb : (v : World T C O) (x : Msg C) (rest : List (Msg C)) → OnSb S x → Knows (λ p. S.covers p ≡ true) (view S Nobody (record v { sb = x ∷ rest }))
       → Stays (record v { sb = x ∷ rest }) → Stays (put_b S (record v { sb = rest }) (inst_step S 1 v.b x))
   stays_sb v (Carry p) rest l k h = by (S.covers p)
     where
@@ -174,7 +177,7 @@ module _ {U T C R O : Type 0} (S : System U T C R O) (laws : Laws S) (u : U) (no
       quietly (record v { sb = Stop ∷ rest }) (put_b S (record v { sb = rest }) (inst_step S 1 v.b Stop)) [] refl refl refl refl refl refl h
   stays_sb v x rest l k h = absurd l
 
-  stays_cb : (v : World T C O) (x : Msg C) (rest : List (Msg C)) → On_cb S x → Knows (λ p. S.covers p ≡ true) (view S Nobody (record v { cb = x ∷ rest }))
+  stays_cb : (v : World T C O) (x : Msg C) (rest : List (Msg C)) → OnCb S x → Knows (λ p. S.covers p ≡ true) (view S Nobody (record v { cb = x ∷ rest }))
       → Stays (record v { cb = x ∷ rest }) → Stays (put_b S (record v { cb = rest }) (inst_step S 1 v.b x))
   stays_cb v (Enable r) rest l k h =
       quietly (record v { cb = Enable r ∷ rest }) (put_b S (record v { cb = rest }) (inst_step S 1 v.b (Enable r))) [] refl refl refl refl refl refl h
@@ -225,7 +228,7 @@ module _ {U T C R O : Type 0} (S : System U T C R O) (laws : Laws S) (u : U) (no
             right = right;
           }
 
-  stays_in : (v : World T C O) (x : Msg C) (rest : List (Msg C)) → In_input S x → takes_in S v.sw x ≡ true → Stays (record v { input = x ∷ rest })
+  stays_in : (v : World T C O) (x : Msg C) (rest : List (Msg C)) → InInput S x → takes_in S v.sw x ≡ true → Stays (record v { input = x ∷ rest })
       → Stays (put_switch S (record v { input = rest }) (switch_step S v.sw x))
   stays_in v (In_packet p) rest l ready h = rw ready (by (S.covers p) refl)
     where
@@ -246,7 +249,7 @@ module _ {U T C R O : Type 0} (S : System U T C R O) (laws : Laws S) (u : U) (no
       (own_put v.sa [] refl) h
   stays_in v x rest l ready h = absurd l
 
-  stays_cs : (v : World T C O) (x : Msg C) (rest : List (Msg C)) → On_cs S x → Stays (record v { cs = x ∷ rest })
+  stays_cs : (v : World T C O) (x : Msg C) (rest : List (Msg C)) → OnCs S x → Stays (record v { cs = x ∷ rest })
       → Stays (put_switch S (record v { cs = rest }) (switch_step S v.sw x))
   stays_cs v (Forward p) rest l h =
       quietly (record v { cs = Forward p ∷ rest }) (put_switch S (record v { cs = rest }) (switch_step S v.sw (Forward p))) [] refl refl refl refl refl
@@ -271,7 +274,7 @@ module _ {U T C R O : Type 0} (S : System U T C R O) (laws : Laws S) (u : U) (no
   stays_ctrl v w e did ok h log a b sa =
       quietly v w did.notes log ok.unrun ok.quiet (ap (λ i. S.at i.table u) a) (ap (λ i. S.at i.table u) b) (ap (λ l. own (read carries l)) sa) h
 
-  stays_back : (v : World T C O) (x : Msg C) → On_back S x → Stays v → Stays (put_switch S v (switch_step S v.sw x))
+  stays_back : (v : World T C O) (x : Msg C) → OnBack S x → Stays v → Stays (put_switch S v (switch_step S v.sw x))
   stays_back v (Credit p) l h = quietly v (put_switch S v (switch_step S v.sw (Credit p))) [] refl refl refl refl refl (own_put v.sa [] refl) h
   stays_back v x l h = absurd l
 

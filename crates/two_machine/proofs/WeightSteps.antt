@@ -3,9 +3,11 @@ use Rattle.std.proofs.Common.{◌≡◌, ◌≤◌, ℕ, ◌+◌, true, false, L
 use Rattle.std.specs.Prelude.{if◌then◌else◌, ◌==◌}
 use Rattle.std.proofs.lemmas.List.{length_push}
 use Rattle.two_machine.proofs.Machine.{Rule, Free, Drops, Buffers, Target, To_a, To_both, To_b}
-use Rattle.two_machine.proofs.Tables.{System, Msg, Switch, Ctrl, Inst, Step, In_packet, In_start, In_end, Start, End, Copied, Laid, Forward, Lay, Finish, Carry, Pass, Stop, Enable, Get, Delete, Restore, Fence, Enabled, Chunks, Deleted, Restored, Event, Seen, Fenced, Final, Credit, has_room, goes, switch_step, processed, all_processed, ruled, inst_step, ctrl_step}
+use Rattle.two_machine.proofs.Tables.{System, Msg, Switch, Ctrl, Inst, Step, In_packet, In_start, In_end, Start, End, Copied, Laid, Forward, Lay}
+use Rattle.two_machine.proofs.Tables.{Finish, Carry, Pass, Stop, Enable, Get, Delete, Restore, Fence, Enabled, Chunks, Deleted, Restored, Event, Seen}
+use Rattle.two_machine.proofs.Tables.{Fenced, Final, Credit, has_room, goes, switch_step, processed, all_processed, ruled, inst_step, ctrl_step}
 use Rattle.two_machine.proofs.View.{World}
-use Rattle.two_machine.proofs.Labels.{In_input, On_sa, On_sb, On_sc, On_cs, On_ca, On_cb, On_ac, On_bc, On_back, Label}
+use Rattle.two_machine.proofs.Labels.{InInput, OnSa, OnSb, OnSc, OnCs, OnCa, OnCb, OnAc, OnBc, OnBack, Label}
 use Rattle.two_machine.proofs.Puts.{sent, put_switch, put_ctrl, put_a, put_b, result}
 use Rattle.two_machine.proofs.Places.{Place, In, Cs, Aw, Bw, Sc, Ac, Bc, Sa, Ca, Sb, Cb, with_waits}
 use Rattle.actor_net.proofs.WeightLaws.{weigh, weigh-append}
@@ -52,7 +54,7 @@ module _ {U T C R O : Type 0} (S : System U T C R O) where
   goes_costs To_both s p = omega arith
   goes_costs To_b s p = omega arith
 
-  in_costs : (s : Switch) (m : Msg C) → In_input S m → switch_costs (switch_step S s m) + 1 ≤ w_in m
+  in_costs : (s : Switch) (m : Msg C) → InInput S m → switch_costs (switch_step S s m) + 1 ≤ w_in m
   in_costs s (In_packet p) l =
       elim (has_room S s) as (λ b.
       switch_costs (if b then goes S (if S.covers p then s.target else To_a) s p else record { node = s; sends = []; notes = [] }) + 1 ≤ 8) [
@@ -63,7 +65,7 @@ module _ {U T C R O : Type 0} (S : System U T C R O) where
   in_costs s In_end l = omega arith
   in_costs s m l = absurd l
 
-  cs_costs : (s : Switch) (m : Msg C) → On_cs S m → switch_costs (switch_step S s m) + 1 ≤ w_cs m
+  cs_costs : (s : Switch) (m : Msg C) → OnCs S m → switch_costs (switch_step S s m) + 1 ≤ w_cs m
   cs_costs s (Forward p) l = omega arith
   cs_costs s (Lay high) l = omega arith
   cs_costs s (Finish to) l =
@@ -76,7 +78,7 @@ module _ {U T C R O : Type 0} (S : System U T C R O) where
       ]
   cs_costs s m l = absurd l
 
-  back_costs : (s : Switch) (m : Msg C) → On_back S m → switch_costs (switch_step S s m) + 1 ≤ 1
+  back_costs : (s : Switch) (m : Msg C) → OnBack S m → switch_costs (switch_step S s m) + 1 ≤ 1
   back_costs s (Credit p) l = omega arith
   back_costs s m l = absurd l
 
@@ -86,7 +88,7 @@ module _ {U T C R O : Type 0} (S : System U T C R O) where
   ruled_a Drops i p = omega arith
   ruled_a Buffers i p = omega (arith, length_push i.held p)
 
-  sa_costs : (i : Inst T) (m : Msg C) → On_sa S m
+  sa_costs : (i : Inst T) (m : Msg C) → OnSa S m
       → length (inst_step S 0 i m).node.held + weigh w_one (sent 0 (inst_step S 0 i m).sends) + weigh w_ac (sent 1 (inst_step S 0 i m).sends) + 1
       ≤ length i.held + w_sa m
   sa_costs i (Carry p) l =
@@ -101,7 +103,7 @@ module _ {U T C R O : Type 0} (S : System U T C R O) where
   sa_costs i Stop l = omega arith
   sa_costs i m l = absurd l
 
-  ca_costs : (i : Inst T) (m : Msg C) → On_ca S m
+  ca_costs : (i : Inst T) (m : Msg C) → OnCa S m
       → length (inst_step S 0 i m).node.held + weigh w_one (sent 0 (inst_step S 0 i m).sends) + weigh w_ac (sent 1 (inst_step S 0 i m).sends) + 1
       ≤ length i.held + 2
   ca_costs i (Enable r) l = omega arith
@@ -115,7 +117,7 @@ module _ {U T C R O : Type 0} (S : System U T C R O) where
   ruled_b Drops i p = omega arith
   ruled_b Buffers i p = omega (arith, length_push i.held p)
 
-  sb_costs : (i : Inst T) (m : Msg C) → On_sb S m
+  sb_costs : (i : Inst T) (m : Msg C) → OnSb S m
       → length (inst_step S 1 i m).node.held + weigh w_one (sent 0 (inst_step S 1 i m).sends) + weigh w_one (sent 1 (inst_step S 1 i m).sends) + 1
       ≤ length i.held + w_sb m
   sb_costs i (Carry p) l =
@@ -138,7 +140,7 @@ module _ {U T C R O : Type 0} (S : System U T C R O) where
   all_costs i [] = (refl, refl, refl)
   all_costs i (p ∷ ps) = let rest = all_costs (processed S 1 i p).node ps in (rest.0, omega (arith, rest.1), rest.2)
 
-  cb_costs : (i : Inst T) (m : Msg C) → On_cb S m
+  cb_costs : (i : Inst T) (m : Msg C) → OnCb S m
       → length (inst_step S 1 i m).node.held + weigh w_one (sent 0 (inst_step S 1 i m).sends) + weigh w_one (sent 1 (inst_step S 1 i m).sends) + 1
       ≤ length i.held + 2
   cb_costs i (Enable r) l = omega arith
@@ -151,14 +153,14 @@ module _ {U T C R O : Type 0} (S : System U T C R O) where
       omega (arith, one, two, three)
   cb_costs i m l = absurd l
 
-  sc_allowed : (m : Msg C) → On_sc S m → allowed S m 0 ≡ 0
+  sc_allowed : (m : Msg C) → OnSc S m → allowed S m 0 ≡ 0
   sc_allowed Start l = refl
   sc_allowed End l = refl
   sc_allowed (Copied p) l = refl
   sc_allowed (Laid high) l = refl
   sc_allowed m l = absurd l
 
-  ac_allowed : (m : Msg C) → On_ac S m → allowed S m 2 + 1 ≡ w_ac m
+  ac_allowed : (m : Msg C) → OnAc S m → allowed S m 2 + 1 ≡ w_ac m
   ac_allowed Enabled l = refl
   ac_allowed (Chunks c) l = refl
   ac_allowed Deleted l = refl
@@ -166,7 +168,7 @@ module _ {U T C R O : Type 0} (S : System U T C R O) where
   ac_allowed Final l = refl
   ac_allowed m l = absurd l
 
-  bc_allowed : (m : Msg C) → On_bc S m → allowed S m 3 ≡ 0
+  bc_allowed : (m : Msg C) → OnBc S m → allowed S m 3 ≡ 0
   bc_allowed Restored l = refl
   bc_allowed Enabled l = refl
   bc_allowed Fenced l = refl

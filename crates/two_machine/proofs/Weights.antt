@@ -4,7 +4,11 @@ use Rattle.std.specs.Prelude.{if◌then◌else◌, ◌==◌, ◌&&◌, not}
 use Rattle.std.proofs.lemmas.List.{length_push}
 use Rattle.two_machine.proofs.Machine.{Phase, Idle, Freezing, Getting, Deleting, Putting, Holding, Laying, Waiting, Turning, Settling, Ending, Over, same}
 use Rattle.two_machine.proofs.Tables
-use Rattle.two_machine.proofs.Tables.{System, Laws, Msg, Note, Node, Switch, Ctrl, Inst, Step, In_packet, In_start, In_end, Start, End, Copied, Laid, Forward, Lay, Finish, Carry, Pass, Stop, Enable, Get, Delete, Restore, Fence, Enabled, Chunks, Deleted, Restored, Event, Seen, Fenced, Final, Credit, none, has_room, goes, switch_step, processed, all_processed, ruled, inst_step, on_start, on_enabled, on_chunks, on_deleted, on_restored, on_event, on_laid, on_copied, on_fenced, on_final, forwards, ctrl_row, and_then, soon_at, is_over, finishes, soon, ctrl_step, node_step, node_ready, in_packets, items}
+use Rattle.two_machine.proofs.Tables.{System, Laws, Msg, Note, Node, Switch, Ctrl, Inst, Step, In_packet, In_start, In_end, Start, End, Copied, Laid}
+use Rattle.two_machine.proofs.Tables.{Forward, Lay, Finish, Carry, Pass, Stop, Enable, Get, Delete, Restore, Fence, Enabled, Chunks, Deleted, Restored}
+use Rattle.two_machine.proofs.Tables.{Event, Seen, Fenced, Final, Credit, none, has_room, goes, switch_step, processed, all_processed, ruled, inst_step}
+use Rattle.two_machine.proofs.Tables.{on_start, on_enabled, on_chunks, on_deleted, on_restored, on_event, on_laid, on_copied, on_fenced, on_final}
+use Rattle.two_machine.proofs.Tables.{forwards, ctrl_row, and_then, soon_at, is_over, finishes, soon, ctrl_step, node_step, node_ready, in_packets, items}
 use Rattle.two_machine.proofs.View.{World, read-append}
 use Rattle.two_machine.proofs.Puts.{to_one, sent}
 use Rattle.actor_net.proofs.WeightLaws.{weigh, weigh-append}

@@ -4,7 +4,8 @@ use Rattle.std.specs.Prelude.{if◌then◌else◌, ◌==◌, ◌&&◌, nat_lt, s
 use Rattle.std.specs.List.{list_all}
 use Rattle.nf_function.specs.declared.output.Output.{Output}
 use Rattle.actor_net.specs.declared.choice.Choice.{Choice}
-use Rattle.actor_net.specs.Network.{Network, is_input, on_link, waiting, takes_first, is_enabled, without_first, reaches, put_on, delivered, after, taken_from, taken, is_done}
+use Rattle.actor_net.specs.Network.{Network, is_input, on_link, queue_at, takes_first, is_enabled, without_first}
+use Rattle.actor_net.specs.Network.{reaches, put_on, links_after, after, world_after_step, world_next, is_done}
 use Rattle.two_phase.specs.declared.msg.TwoMsg.{TwoMsg}
 use Rattle.two_phase.specs.declared.note.TwoNote.{TwoNote}
 use Rattle.two_phase.specs.declared.node.TwoNode.{TwoNode}
@@ -56,7 +57,8 @@ module _ {R : Type 0} (setting : Setting R) where
       ])
 
   delivered_alike : (n from : ℕ) (xs : List (ℕ × TwoMsg)) (ys : List (ℕ × core.Msg (Sound f))) (ls : List (List TwoMsg))
-      (ms : List (List (core.Msg (Sound f)))) → Sends setting xs ys → Alike AreShown ls ms → Alike AreShown (delivered n from xs ls) (delivered n from ys ms)
+      (ms : List (List (core.Msg (Sound f)))) → Sends setting xs ys → Alike AreShown ls ms
+      → Alike AreShown (links_after n from xs ls) (links_after n from ys ms)
   delivered_alike n from [] [] ls ms s h = h
   delivered_alike n from (x ∷ xs) (y ∷ ys) ls ms s h =
       delivered_alike n from xs ys (put_on n from x ls) (put_on n from y ms) s.1 (put_alike n from x.0 y.0 x.1 y.1 ls ms s.0.0 s.0.1 h)
@@ -106,7 +108,7 @@ module _ {F R : Type 0} (setting : Setting R) where
   later w v h k did dj s = record {
     nodes = alike-set NodeShows w.nodes v.nodes k did.node dj.node h.nodes s.node;
     links =
-        subst (λ n. Alike (AreShown setting) (delivered n k did.sends w.links) (delivered (length v.nodes) k dj.sends v.links))
+        subst (λ n. Alike (AreShown setting) (links_after n k did.sends w.links) (links_after (length v.nodes) k dj.sends v.links))
         (sym (alike-length NodeShows w.nodes v.nodes h.nodes))
         (delivered_alike setting (length v.nodes) k did.sends dj.sends w.links v.links s.sends h.links);
     input = h.input;
@@ -130,7 +132,7 @@ module _ {F R : Type 0} (setting : Setting R) where
           | false ↦ tt
         ])
 
-    waits_alike : (c : Choice) → AreShown setting (waiting w c) (waiting v c)
+    waits_alike : (c : Choice) → AreShown setting (queue_at w c) (queue_at v c)
     waits_alike c =
         elim (is_input c) as (λ b. AreShown setting (if b then w.input else on_link w c.port c.node) (if b then v.input else on_link v c.port c.node)) [
           | true ↦ h.input
@@ -142,8 +144,8 @@ module _ {F R : Type 0} (setting : Setting R) where
 
     less_alike : (c : Choice) → Outlined (without_first w c) (without_first v c)
     less_alike c =
-        let rest = drop 1 (waiting w c) in
-        let core_rest = drop 1 (waiting v c) in
+        let rest = drop 1 (queue_at w c) in
+        let core_rest = drop 1 (queue_at v c) in
         let at = c.port * length v.nodes + c.node in
         elim (is_input c) as (λ b.
         Outlined
@@ -157,7 +159,7 @@ module _ {F R : Type 0} (setting : Setting R) where
             links =
                 subst (λ n. Alike (AreShown setting) (slice_set w.links (c.port * n + c.node) rest) (slice_set v.links at core_rest)) (sym sizes)
                 (alike-set (AreShown setting) w.links v.links at rest core_rest h.links
-                (alike-rest (Shown setting) (waiting w c) (waiting v c) (waits_alike c)));
+                (alike-rest (Shown setting) (queue_at w c) (queue_at v c) (waits_alike c)));
             input = h.input;
             log = h.log;
           }
@@ -187,12 +189,12 @@ module _ {F R : Type 0} (setting : Setting R) where
     first_same c (Some x) None xs ys k l = absurd k
 
     pub enabled_same : (c : Choice) → is_enabled node_ready w c ≡ is_enabled (core.node_ready (sys setting)) v c
-    enabled_same c = first_same c (slice_get w.nodes c.node) (slice_get v.nodes c.node) (waiting w c) (waiting v c) (node_at c) (waits_alike c)
+    enabled_same c = first_same c (slice_get w.nodes c.node) (slice_get v.nodes c.node) (queue_at w c) (queue_at v c) (node_at c) (waits_alike c)
 
     -- the world after a choice
     from_alike : (c : Choice) (o : Option (TwoNode F R)) (q : Option (core.Node (Sound f) (Sound f))) (xs : List TwoMsg) (ys : List (core.Msg (Sound f)))
         → BothOrNone NodeShows o q → AreShown setting xs ys → IsProper c ys
-        → Outlined (taken_from (node_step f) w c o xs) (taken_from (core.node_step (sys setting)) v c q ys)
+        → Outlined (world_after_step (node_step f) w c o xs) (world_after_step (core.node_step (sys setting)) v c q ys)
     from_alike c None None xs ys k l e = h
     from_alike c (Some x) (Some y) [] [] k l e = h
     from_alike c (Some x) (Some y) (m ∷ xs) (n ∷ ys) k l e =
@@ -203,8 +205,8 @@ module _ {F R : Type 0} (setting : Setting R) where
     from_alike c None (Some y) xs ys k l e = absurd k
     from_alike c (Some x) None xs ys k l e = absurd k
 
-    pub taken_alike : (c : Choice) → IsProper c (waiting v c) → Outlined (taken (node_step f) w c) (taken (core.node_step (sys setting)) v c)
-    taken_alike c e = from_alike c (slice_get w.nodes c.node) (slice_get v.nodes c.node) (waiting w c) (waiting v c) (node_at c) (waits_alike c) e
+    pub taken_alike : (c : Choice) → IsProper c (queue_at v c) → Outlined (world_next (node_step f) w c) (world_next (core.node_step (sys setting)) v c)
+    taken_alike c e = from_alike c (slice_get w.nodes c.node) (slice_get v.nodes c.node) (queue_at w c) (queue_at v c) (node_at c) (waits_alike c) e
 
     -- whether nothing is left to do
     ended_same : (x : TwoNode F R) (y : core.Node (Sound f) (Sound f)) → NodeShows x y → node_ended x ≡ core.node_ended (sys setting) y

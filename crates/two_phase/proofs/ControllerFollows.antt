@@ -10,8 +10,11 @@ use Rattle.two_phase.specs.declared.msg.TwoMsg.{TwoMsg}
 use Rattle.two_phase.specs.declared.msg.TwoMsg.TheVariants as two
 use Rattle.two_phase.specs.declared.note.TwoNote.TheVariants as note
 use Rattle.two_phase.specs.Parts.{ControllerState}
-use Rattle.two_phase.specs.Tables.{Step, still, says, and_then, the_update, forwards, on_start, on_enabled, on_chunks, on_deleted, on_restored, is_storing, on_event, on_laid, on_copied, on_fenced, on_final, controller_row, are_same, soon, is_over, finishes, controller_step}
-use Rattle.two_machine.proofs.Machine.{Drops, Buffers, Phase, Idle, Freezing, Getting, Deleting, Putting, Holding, Laying, Waiting, Turning, Settling, Ending, Over, same}
+use Rattle.two_phase.specs.Tables.{Step, still, tell_step, and_then, the_update, forward_messages, on_start, on_enabled}
+use Rattle.two_phase.specs.Tables.{on_chunks, on_deleted, on_restored, is_storing, on_event, on_laid, on_copied, on_fenced}
+use Rattle.two_phase.specs.Tables.{on_final, controller_row, are_same, soon, is_over, finish_step, controller_step}
+use Rattle.two_machine.proofs.Machine.{Drops, Buffers, Phase, Idle, Freezing, Getting, Deleting, Putting}
+use Rattle.two_machine.proofs.Machine.{Holding, Laying, Waiting, Turning, Settling, Ending, Over, same}
 use Rattle.two_machine.proofs.Tables as core
 use Rattle.two_machine.proofs.View.{read, read-append}
 use Rattle.two_phase.proofs.AlikeLists.{Alike, alike-append}
@@ -77,7 +80,8 @@ module _ {R : Type 0} (setting : Setting R) where
     }
     start_follows ph = still_follows c d h
 
-    all_forward : (cells : List FullCell) (ns : List ℕ) → Alike (IsGenuine setting) cells ns → Sends setting (forwards cells) (core.forwards (sys setting) ns)
+    all_forward : (cells : List FullCell) (ns : List ℕ) → Alike (IsGenuine setting) cells ns
+        → Sends setting (forward_messages cells) (core.forwards (sys setting) ns)
     all_forward [] [] g = tt
     all_forward (cell ∷ cells) (n ∷ ns) g = ((refl, Outlines.Forward cell n g.0), all_forward cells ns g.1)
     all_forward [] (n ∷ ns) g = absurd g
@@ -102,7 +106,7 @@ module _ {R : Type 0} (setting : Setting R) where
         stopped = h.stopped;
       };
       sends =
-          alike-append (ShownTo setting) (forwards c.store) (core.forwards (sys setting) d.store) ((0, two.Lay false) ∷ []) ((0, core.Lay false) ∷ [])
+          alike-append (ShownTo setting) (forward_messages c.store) (core.forwards (sys setting) d.store) ((0, two.Lay false) ∷ []) ((0, core.Lay false) ∷ [])
           (all_forward c.store d.store h.store) ((refl, Outlines.Lay false), tt);
       notes = refl;
     }
@@ -178,7 +182,7 @@ module _ {R : Type 0} (setting : Setting R) where
     }
 
     abbrev event_by : Bool → FullCell → Step ControllerState
-    event_by b cell = if b then still (record c { store = c.store ++ cell ∷ [] }) else says c 0 (two.Forward cell)
+    event_by b cell = if b then still (record c { store = c.store ++ cell ∷ [] }) else tell_step c 0 (two.Forward cell)
 
     event_by_phase : (ph : Phase) (cell : FullCell) (n : ℕ) → IsGenuine setting cell n
         → FollowsController (event_by (is_storing (phase_shown ph)) cell) (core.on_event (sys setting) ph d n)
@@ -321,7 +325,7 @@ module _ {R : Type 0} (setting : Setting R) where
         in
         rw test (
         elim (same d.seen d.last) as (λ b.
-        FollowsController (if b then says (record c { phase = phase_shown Ending }) 3 (two.Inner (msg.Fence the_update)) else still c)
+        FollowsController (if b then tell_step (record c { phase = phase_shown Ending }) 3 (two.Inner (msg.Fence the_update)) else still c)
         (if b then core.says (sys setting) (record d { phase = Ending }) 3 core.Fence else core.still (sys setting) d)) [
           | true ↦ record { node = in_phase c d Ending h; sends = ((refl, Outlines.Fence), tt); notes = refl }
           | false ↦ still_follows c d h
@@ -342,7 +346,7 @@ module _ {R : Type 0} (setting : Setting R) where
     over_same Over = refl
     over_same ph = refl
 
-    finish_follows : FollowsController (finishes c) (core.finishes (sys setting) d)
+    finish_follows : FollowsController (finish_step c) (core.finishes (sys setting) d)
     finish_follows =
         let over : is_over c.phase ≡ core.is_over (sys setting) d.phase = ap is_over h.phase ∙ over_same d.phase in
         let test : is_over c.phase && (c.ended && not c.finished) ≡ core.is_over (sys setting) d.phase && (d.ended && not d.finished) =
@@ -350,10 +354,10 @@ module _ {R : Type 0} (setting : Setting R) where
         ∙ ap (λ b. core.is_over (sys setting) d.phase && (b && not c.finished)) h.ended
         ∙ ap (λ b. core.is_over (sys setting) d.phase && (d.ended && not b)) h.finished
         in
-        subst (λ b. FollowsController (if b then says (record c { finished = true }) 0 (two.Finish 0) else still c) (core.finishes (sys setting) d))
+        subst (λ b. FollowsController (if b then tell_step (record c { finished = true }) 0 (two.Finish 0) else still c) (core.finishes (sys setting) d))
         (sym test) (
         elim (core.is_over (sys setting) d.phase && (d.ended && not d.finished)) as (λ b.
-        FollowsController (if b then says (record c { finished = true }) 0 (two.Finish 0) else still c)
+        FollowsController (if b then tell_step (record c { finished = true }) 0 (two.Finish 0) else still c)
         (if b then core.says (sys setting) (record d { finished = true }) 0 (core.Finish 0) else core.still (sys setting) d)) [
           | true ↦ record {
             node = record {
@@ -374,12 +378,12 @@ module _ {R : Type 0} (setting : Setting R) where
         ])
 
   goes_on : (c : ControllerState) (d : core.Ctrl (Sound f)) → ControllerShows setting c d
-      → FollowsController (and_then (soon c.phase c) finishes) (core.soon (sys setting) d)
+      → FollowsController (and_then (soon c.phase c) finish_step) (core.soon (sys setting) d)
   goes_on c d h =
       let first : FollowsController (soon c.phase c) (core.soon_at (sys setting) d.phase d) =
       in_its_phase c d h (λ ph. soon ph c) (core.soon_at (sys setting) d.phase d) (soon_follows c d h d.phase)
       in
-      then_follows (soon c.phase c) (core.soon_at (sys setting) d.phase d) finishes (core.finishes (sys setting)) first
+      then_follows (soon c.phase c) (core.soon_at (sys setting) d.phase d) finish_step (core.finishes (sys setting)) first
       (finish_follows (soon c.phase c).node (core.soon_at (sys setting) d.phase d).node first.node)
 
   -- any message
@@ -387,5 +391,5 @@ module _ {R : Type 0} (setting : Setting R) where
       → Shown setting x y → is_proper port y ≡ true → FollowsController (controller_step c port x) (core.ctrl_step (sys setting) d port y)
   controller_follows c d port x y h shown e =
       let row = row_follows c d h port x y shown e in
-      then_follows (controller_row c port x) (core.ctrl_row (sys setting) d port y) (λ e. and_then (soon e.phase e) finishes) (core.soon (sys setting)) row
+      then_follows (controller_row c port x) (core.ctrl_row (sys setting) d port y) (λ e. and_then (soon e.phase e) finish_step) (core.soon (sys setting)) row
       (goes_on (controller_row c port x).node (core.ctrl_row (sys setting) d port y).node row.node)

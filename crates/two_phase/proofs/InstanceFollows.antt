@@ -18,11 +18,11 @@ use Rattle.packet_pool.specs.Pool.{FullCell}
 use Rattle.nf_msgs.specs.declared.msg.Msg.TheVariants as msg
 use Rattle.nf_msgs.specs.Exports.{units_in}
 use Rattle.instance_worker.specs.declared.instance.Instance.{Instance as InstanceState}
-use Rattle.instance_worker.specs.Instance.{processed, all_processed, carried, on_carry, on_fence, on_get, on_restore}
+use Rattle.instance_worker.specs.Instance.{process_step, all_processed, carry_step, on_carry, on_fence, on_get, on_restore}
 use Rattle.two_phase.specs.declared.msg.TwoMsg.{TwoMsg}
 use Rattle.two_phase.specs.declared.msg.TwoMsg.TheVariants as two
 use Rattle.two_phase.specs.declared.note.TwoNote.TheVariants as note
-use Rattle.two_phase.specs.Tables.{Step, still, the_update, sent_inside, wrapped, told, inner_step}
+use Rattle.two_phase.specs.Tables.{Step, still, the_update, sent_inside, wrapped_step, with_told, inner_step}
 use Rattle.two_machine.proofs.Machine.{Rule, Free, Drops, Buffers}
 use Rattle.two_machine.proofs.Tables as core
 use Rattle.two_machine.proofs.View.{read, read-append}
@@ -48,14 +48,14 @@ module _ {F R : Type 0} (setting : Setting R) where
   still_follows index i j h = record { node = h; sends = tt; notes = refl }
 
   -- where the controller is told of no packet
-  untold : (index : ℕ) (did : Step (InstanceState F R)) (dj : CoreStep setting) → Follows index did dj → Follows index (told None did) dj
+  untold : (index : ℕ) (did : Step (InstanceState F R)) (dj : CoreStep setting) → Follows index did dj → Follows index (with_told None did) dj
   untold index did dj h = record { node = h.node; sends = subst (λ xs. Sends setting xs dj.sends) (sym (append-nil did.sends)) h.sends; notes = h.notes }
 
   module _ (index : ℕ) (i : InstanceState F R) (j : core.Inst (Sound f)) (h : InstanceShows setting index i j) where
     -- a packet is processed, plain or past the rules
     pub plain_follows : (cell : FullCell) (n : ℕ) → IsGenuine setting cell n
-        → Follows index (wrapped (processed f i Plain cell)) (core.processed (sys setting) index j n)
-    unfolding processed
+        → Follows index (wrapped_step (process_step f i Plain cell)) (core.processed (sys setting) index j n)
+    unfolding process_step
     plain_follows cell n g =
         let live = h.live in
         let at = h.site_is in
@@ -70,8 +70,8 @@ module _ {F R : Type 0} (setting : Setting R) where
         }
 
     passed_follows : (cell : FullCell) (n : ℕ) → IsGenuine setting cell n
-        → Follows index (wrapped (processed f i (Pass the_update) cell)) (core.processed (sys setting) index j n)
-    unfolding processed
+        → Follows index (wrapped_step (process_step f i (Pass the_update) cell)) (core.processed (sys setting) index j n)
+    unfolding process_step
     passed_follows cell n g =
         let live = h.live in
         let at = h.site_is in
@@ -90,7 +90,7 @@ module _ {F R : Type 0} (setting : Setting R) where
     unfolding on_carry
     pass_follows cell n g =
         let one = passed_follows cell n g in
-        let did = wrapped (processed f i (Pass the_update) cell) in
+        let did = wrapped_step (process_step f i (Pass the_update) cell) in
         let dj = core.processed (sys setting) index j n in
         record {
           node = one.node;
@@ -105,7 +105,7 @@ module _ {F R : Type 0} (setting : Setting R) where
         → Follows index (inner_step f i (two.Inner (msg.Carry Plain cell))) (core.inst_step (sys setting) index j (core.Carry n))
     unfolding on_carry
     carry_follows cell n g =
-        untold index (wrapped (carried f i Plain cell (rules.decide i.rules (flow_of i.site cell.packet).0 Plain)))
+        untold index (wrapped_step (carry_step f i Plain cell (rules.decide i.rules (flow_of i.site cell.packet).0 Plain)))
         (if covers then core.ruled (sys setting) j.rule index j n else core.processed (sys setting) index j n) (by_rule j.rule refl h.rules)
       where
         covers : Bool
@@ -114,18 +114,19 @@ module _ {F R : Type 0} (setting : Setting R) where
         flow_is : (flow_of i.site cell.packet).0 ≡ (flow_of site (packet n)).0
         flow_is = ap (λ s. (flow_of s cell.packet).0) h.site_is ∙ ap (λ p. (flow_of site p).0) g.packet_is
 
-        runs : Follows index (wrapped (processed f i Plain cell)) (core.processed (sys setting) index j n)
+        runs : Follows index (wrapped_step (process_step f i Plain cell)) (core.processed (sys setting) index j n)
         runs = plain_follows cell n g
 
         free : (b : Bool)
-            → Follows index (wrapped (processed f i Plain cell)) (if b then core.processed (sys setting) index j n else core.processed (sys setting) index j n)
+            → Follows index (wrapped_step (process_step f i Plain cell))
+            (if b then core.processed (sys setting) index j n else core.processed (sys setting) index j n)
         free true = runs
         free false = runs
 
         -- by the first rule, where it is the update's
         by_one : (act : Action) (cells : List FullCell) → i.rules ≡ one_rule setting act cells → (dj : CoreStep setting)
-            → Follows index (wrapped (carried f i Plain cell (rules.decided the_update act))) dj
-            → Follows index (wrapped (carried f i Plain cell (rules.decide i.rules (flow_of i.site cell.packet).0 Plain)))
+            → Follows index (wrapped_step (carry_step f i Plain cell (rules.decided the_update act))) dj
+            → Follows index (wrapped_step (carry_step f i Plain cell (rules.decide i.rules (flow_of i.site cell.packet).0 Plain)))
             (if covers then dj else core.processed (sys setting) index j n)
         by_one act cells is dj one =
             let found : Option (EventRule FullCell) = Some (record { op = the_update; filter = filter; action = act; held = cells }) in
@@ -133,20 +134,21 @@ module _ {F R : Type 0} (setting : Setting R) where
             ap (λ rs. rules.decide rs (flow_of i.site cell.packet).0 Plain) is
             ∙ ap (λ fl. rules.decided_by (if matches filter fl then found else None)) flow_is
             in
-            subst (λ d. Follows index (wrapped (carried f i Plain cell d)) (if covers then dj else core.processed (sys setting) index j n)) (sym decided) (
+            subst (λ d. Follows index (wrapped_step (carry_step f i Plain cell d)) (if covers then dj else core.processed (sys setting) index j n))
+            (sym decided) (
             elim covers as (λ b.
-            Follows index (wrapped (carried f i Plain cell (rules.decided_by (if b then found else None))))
+            Follows index (wrapped_step (carry_step f i Plain cell (rules.decided_by (if b then found else None))))
             (if b then dj else core.processed (sys setting) index j n)) [
               | true ↦ one
               | false ↦ runs
             ])
 
         by_rule : (r : Rule) → j.rule ≡ r → RulesShow setting i.rules r j.held
-            → Follows index (wrapped (carried f i Plain cell (rules.decide i.rules (flow_of i.site cell.packet).0 Plain)))
+            → Follows index (wrapped_step (carry_step f i Plain cell (rules.decide i.rules (flow_of i.site cell.packet).0 Plain)))
             (if covers then core.ruled (sys setting) r index j n else core.processed (sys setting) index j n)
         by_rule Free e k =
             subst (λ rs.
-            Follows index (wrapped (carried f i Plain cell (rules.decide rs (flow_of i.site cell.packet).0 Plain)))
+            Follows index (wrapped_step (carry_step f i Plain cell (rules.decide rs (flow_of i.site cell.packet).0 Plain)))
             (if covers then core.processed (sys setting) index j n else core.processed (sys setting) index j n)) (sym k.0) (free covers)
         by_rule Drops e k =
             by_one action.Drop k.cells k.is (core.ruled (sys setting) Drops index j n)
@@ -170,12 +172,12 @@ module _ {F R : Type 0} (setting : Setting R) where
 
   -- what is held, one after another
   all_follow : (index : ℕ) (i : InstanceState F R) (j : core.Inst (Sound f)) (cells : List FullCell) (ns : List ℕ) → InstanceShows setting index i j
-      → Alike (IsGenuine setting) cells ns → Follows index (wrapped (all_processed f i cells)) (core.all_processed (sys setting) index j ns)
+      → Alike (IsGenuine setting) cells ns → Follows index (wrapped_step (all_processed f i cells)) (core.all_processed (sys setting) index j ns)
   unfolding all_processed
   all_follow index i j [] [] h g = still_follows index i j h
   all_follow index i j (cell ∷ cells) (n ∷ ns) h g =
       let one = plain_follows index i j h cell n g.0 in
-      let first = processed f i Plain cell in
+      let first = process_step f i Plain cell in
       let later = all_processed f first.node cells in
       let core_first = core.processed (sys setting) index j n in
       let core_later = core.all_processed (sys setting) index core_first.node ns in
@@ -183,11 +185,11 @@ module _ {F R : Type 0} (setting : Setting R) where
       record {
         node = rest.node;
         sends = subst (λ xs. Sends setting xs (core_first.sends ++ core_later.sends)) (sym (map-append sent_inside first.sends later.sends))
-            (alike-append (ShownTo setting) (wrapped first).sends core_first.sends (wrapped later).sends core_later.sends one.sends rest.sends);
+            (alike-append (ShownTo setting) (wrapped_step first).sends core_first.sends (wrapped_step later).sends core_later.sends one.sends rest.sends);
         notes =
             ap (read outline_note) (map-append note.Inner first.notes later.notes)
-            ∙ read-append outline_note (wrapped first).notes (wrapped later).notes
-            ∙ ap (λ xs. xs ++ read outline_note (wrapped later).notes) one.notes
+            ∙ read-append outline_note (wrapped_step first).notes (wrapped_step later).notes
+            ∙ ap (λ xs. xs ++ read outline_note (wrapped_step later).notes) one.notes
             ∙ ap (λ xs. core_first.notes ++ xs) rest.notes;
       }
   all_follow index i j [] (n ∷ ns) h g = absurd g
@@ -273,7 +275,7 @@ module _ {F R : Type 0} (setting : Setting R) where
         core_bare = record j { rule = Free; held = [] }
 
         did : Step (InstanceState F R)
-        did = wrapped (all_processed f bare (rules.held_at i.rules the_update))
+        did = wrapped_step (all_processed f bare (rules.held_at i.rules the_update))
 
         dj : CoreStep setting
         dj = core.all_processed (sys setting) index core_bare j.held
@@ -281,7 +283,7 @@ module _ {F R : Type 0} (setting : Setting R) where
         with_answer : Follows index did dj → Follows index (inner_step f i (two.Inner (msg.Fence the_update))) (core.inst_step (sys setting) index j core.Fence)
         with_answer all =
             let real = all_processed f bare (rules.held_at i.rules the_update) in
-            untold index (wrapped (record { node = real.node; sends = real.sends ++ (1, msg.Fenced the_update) ∷ []; notes = real.notes ++ [] }))
+            untold index (wrapped_step (record { node = real.node; sends = real.sends ++ (1, msg.Fenced the_update) ∷ []; notes = real.notes ++ [] }))
             (record { node = dj.node; sends = dj.sends ++ (1, core.Fenced) ∷ []; notes = dj.notes }) (record {
               node = all.node;
               sends =
@@ -295,8 +297,8 @@ module _ {F R : Type 0} (setting : Setting R) where
         begins none = record { live = h.live; site_is = h.site_is; index_is = h.index_is; ended = h.ended; rules = (none, refl) }
 
         after_all : (cells : List FullCell) → rules.held_at i.rules the_update ≡ cells
-            → Follows index (wrapped (all_processed f bare cells)) dj → Follows index did dj
-        after_all cells is all = subst (λ cs. Follows index (wrapped (all_processed f bare cs)) dj) (sym is) all
+            → Follows index (wrapped_step (all_processed f bare cells)) dj → Follows index did dj
+        after_all cells is all = subst (λ cs. Follows index (wrapped_step (all_processed f bare cs)) dj) (sym is) all
 
         of_rule : (act : Action) → HasRule setting i.rules act j.held
             → Follows index (inner_step f i (two.Inner (msg.Fence the_update))) (core.inst_step (sys setting) index j core.Fence)
@@ -311,7 +313,7 @@ module _ {F R : Type 0} (setting : Setting R) where
             let none : rules.without_rule i.rules the_update ≡ [] = ap (λ rs. rules.without_rule rs the_update) k.0 in
             let cells : rules.held_at i.rules the_update ≡ [] = ap (λ rs. rules.held_at rs the_update) k.0 in
             with_answer (after_all [] cells
-            (subst (λ ns. Follows index (wrapped (all_processed f bare [])) (core.all_processed (sys setting) index core_bare ns)) (sym k.1)
+            (subst (λ ns. Follows index (wrapped_step (all_processed f bare [])) (core.all_processed (sys setting) index core_bare ns)) (sym k.1)
             (all_follow index bare core_bare [] [] (begins none) tt)))
         by Drops k = of_rule action.Drop k
         by Buffers k = of_rule action.Buffer k

@@ -13,7 +13,7 @@ use Rattle.nf_function.specs.Semantics.{Semantics}
 use Rattle.switch_rules.specs.declared.target.Target.TheVariants.{Instance as ToInstance}
 use Rattle.switch_rules.specs.Rules.{any}
 use Rattle.actor_net.specs.declared.choice.Choice.{Choice}
-use Rattle.actor_net.specs.Network.{IsRun, waiting, is_enabled, taken, run}
+use Rattle.actor_net.specs.Network.{IsRun, queue_at, is_enabled, world_next, run}
 use Rattle.actor_net.proofs.WeightLaws.{Each}
 use Rattle.net_world.specs.Input.{packet_numbered}
 use Rattle.two_phase.specs.declared.msg.TwoMsg.TheVariants.{InPacket, InStart, InEnd}
@@ -49,17 +49,17 @@ module _ {U T C R O : Type 0} (S : core.System U T C R O) where
   proper_at pl Fenced h = absurd h
   proper_at pl m h = refl
 
-  waiting_at : (pl : Place) (v : World T C O) → waiting (net v) (choice pl) ≡ waits S pl v
+  waiting_at : (pl : Place) (v : World T C O) → queue_at (net v) (choice pl) ≡ waits S pl v
   waiting_at In v = refl
   waiting_at pl v = refl
 
-  proper_here : (v : World T C O) (c : Choice) → Labels S v → is_enabled (core.node_ready S) (net v) c ≡ true → IsProper c (waiting (net v) c)
+  proper_here : (v : World T C O) (c : Choice) → Labels S v → is_enabled (core.node_ready S) (net v) c ≡ true → IsProper c (queue_at (net v) c)
   proper_here v c l on =
       let took = finds S v c.node c.port on in
       let wrote = written S took.place v (took.message ∷ took.rest) took.waits_is in
       let label = (labels_less S took.place v took.message took.rest (subst (Labels S) wrote l)).0 in
       let here = proper_at took.place took.message label in
-      subst (λ c. IsProper c (waiting (net v) c)) (sym took.is)
+      subst (λ c. IsProper c (queue_at (net v) c)) (sym took.is)
       (subst (IsProper (choice took.place)) (sym (waiting_at took.place v ∙ took.waits_is)) here)
 
 any_is : IsFilter any
@@ -173,12 +173,12 @@ module _ (F : Type 0) {R : Type 0} (f : Semantics R) (laws : FunctionLaws f) (al
       let here = r.is in
       let on : is_enabled (core.node_ready S) v c ≡ true = sym (enabled_same setting w v h c) ∙ is.0 in
       let on_net : is_enabled (core.node_ready S) (net r.world) c ≡ true = subst (λ y. is_enabled (core.node_ready S) y c ≡ true) here on in
-      let fine : IsProper c (waiting v c) = subst (λ y. IsProper c (waiting y c)) (sym here) (proper_here S r.world c r.holds.labels on_net) in
-      let next : At (taken (core.node_step S) v c) =
-      subst (λ y. At (taken (core.node_step S) y c)) (sym here)
+      let fine : IsProper c (queue_at v c) = subst (λ y. IsProper c (queue_at y c)) (sym here) (proper_here S r.world c r.holds.labels on_net) in
+      let next : At (world_next (core.node_step S) v c) =
+      subst (λ y. At (world_next (core.node_step S) y c)) (sym here)
       (step_reaches S (its_laws setting) Nobody tt (early ++ late) rising r.world c r.holds on_net)
       in
-      let rest = simulates cs (taken (node_step f) w c) (taken (core.node_step S) v c) (taken_alike setting w v h c fine) next is.1 in
+      let rest = simulates cs (world_next (node_step f) w c) (world_next (core.node_step S) v c) (taken_alike setting w v h c fine) next is.1 in
       record { is_run = (on, rest.is_run); outlined = rest.outlined }
 
   -- what is proved of the run that shows this one

@@ -10,7 +10,7 @@ use Rattle.flow_filter.specs.Flow.{flow_of}
 use Rattle.nf_function.proofs.FlowFits.{flow_fits}
 use Rattle.switch_rules.specs.declared.target.Target.{Target}
 use Rattle.switch_rules.specs.declared.target.Target.TheVariants.{Instance as ToInstance, Controller as ToController}
-use Rattle.switch_rules.specs.Rules.{Redirect, first_match, redirected, redirected_target, target_eq}
+use Rattle.switch_rules.specs.Rules.{Redirect, first_match, rules_redirected, redirected_target, target_eq}
 use Rattle.switch_rules.proofs.RedirectLaws.{redirected_law, AreFilters-redirected}
 use Rattle.packet_pool.specs.Pool.{FullCell}
 use Rattle.packet_window.specs.Window.{WindowState, has_room, cell_for, with_one, with_home, with_end}
@@ -160,7 +160,7 @@ module _ {R : Type 0} (setting : Setting R) where
   target_after true false to = refl
 
   redirect_shows : (s : SwitchState) (t : core.Switch) (high : Bool) → SwitchShows setting s t
-      → SwitchShows setting (record s { rules = redirected (redirect_of high s.filter) s.rules }) (record t { target = laid high t.target })
+      → SwitchShows setting (record s { rules = rules_redirected (redirect_of high s.filter) s.rules }) (record t { target = laid high t.target })
   redirect_shows s t high h =
       let own = h.filter_is in
       let r : Redirect = redirect_of high filter in

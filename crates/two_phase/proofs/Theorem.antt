@@ -11,7 +11,7 @@ use Rattle.actor_net.specs.declared.replays.ReplayFault.TheVariants.{NoMemory}
 use Rattle.actor_net.specs.declared.schedule.Schedule.{Schedule}
 use Rattle.actor_net.specs.declared.schedule.TheConstants.{MOST_CHOICES}
 use Rattle.actor_net.specs.Network.{Network, IsRun, is_done, is_enabled, run}
-use Rattle.actor_net.specs.Replays.{replayed}
+use Rattle.actor_net.specs.Replays.{replay_of}
 use Rattle.actor_net.specs.Schedules.{StopsShort, enabled_choices, scheduled}
 use Rattle.actor_net.proofs.ReplayLaws.{replayed_ok}
 use Rattle.actor_net.proofs.ScheduleLaws.{none_enabled, scheduled_is_run}
@@ -37,7 +37,7 @@ module _ (F : Type 0) {R : Type 0} (f : Semantics R) (laws : FunctionLaws f) (al
 
   -- the choices that are replayed to their end are a run
   pub replay_published : (cs : List Choice) (w : Real) (result : Result Real ReplayFault) → w ≡ first
-      → (result ≢ Err NoMemory → result ≡ replayed node_ready (node_step f) cs w) → IfOk result (λ reached. Published f job cs reached)
+      → (result ≢ Err NoMemory → result ≡ replay_of node_ready (node_step f) cs w) → IfOk result (λ reached. Published f job cs reached)
   replay_published cs w (Err e) start h = tt
   replay_published cs w (Ok reached) start h =
       let ok = replayed_ok node_ready (node_step f) cs w reached (sym (h (λ bad. cc))) in

@@ -1,7 +1,8 @@
 -- What is proved of the reduced network, in the words of the promises.
-use Rattle.std.proofs.Common.{◌≡◌, ◌≤◌, ◌⊎◌, inl, inr, ℕ, suc, ◌+◌, ◌*◌, Bool, true, false, Option, Some, None, List, [], ◌∷◌, ◌++◌, map, drop, length, refl, sym, ap, subst, ◌∙◌, arith}
+use Rattle.std.proofs.Common.{◌≡◌, ◌≤◌, ◌⊎◌, inl, inr, ℕ, suc, ◌+◌, ◌*◌, Bool, true, false, Option, Some}
+use Rattle.std.proofs.Common.{None, List, [], ◌∷◌, ◌++◌, map, drop, length, refl, sym, ap, subst, ◌∙◌, arith}
 use Rattle.std.specs.Prelude.{if◌then◌else◌, ◌==◌, ◌||◌, ◌&&◌, filter_map, option_to_list, slice_get}
-use Rattle.std.specs.List.{list_any, list_all, position_or_len, cons_option}
+use Rattle.std.specs.List.{cons_option, filter, list_all, list_any, position_or_len}
 use Rattle.std.proofs.lemmas.Bool.{and_parts}
 use Rattle.std.proofs.lemmas.List.{length-map}
 use Rattle.std.specs.FinMap as finite
@@ -14,9 +15,10 @@ use Rattle.nf_function.specs.Semantics.{Semantics, kept_after, output_for}
 use Rattle.nf_msgs.specs.declared.note.Note.TheVariants as net_note
 use Rattle.actor_net.specs.declared.choice.Choice.{Choice}
 use Rattle.actor_net.specs.Network.{Network, is_enabled, is_done}
-use Rattle.net_world.specs.Fold.{times, is_of, fold, outputs, went, given}
+use Rattle.net_world.specs.Fold.{times, is_of, fold, outputs, processed_of, outputs_noted}
 use Rattle.net_world.specs.Input.{packet_numbered}
-use Rattle.net_world.specs.Log.{Done as WasDone, arrived, done, done_of, those}
+use Rattle.net_world.specs.Log.{arrivals_in, dones_in, done_where}
+use Rattle.net_world.proofs.NumberCounts.{done_numbers}
 use Rattle.two_phase.specs.declared.msg.TwoMsg.{TwoMsg}
 use Rattle.two_phase.specs.declared.note.TwoNote.{TwoNote}
 use Rattle.two_phase.specs.declared.note.TwoNote.TheVariants as note
@@ -25,7 +27,8 @@ use Rattle.two_phase.specs.declared.node.TwoNode.TheVariants.{Switch, Ctrl as Co
 use Rattle.two_phase.specs.Parts.{SwitchState}
 use Rattle.two_phase.specs.Tables.{node_ready, node_ended, has_closed}
 use Rattle.two_phase.specs.Start.{UpdateJob, IsUpdateJob, config_of, items_of}
-use Rattle.two_phase.specs.Promises.{inner_notes, is_low, after_low, verdicts, live_in, switch_in, is_matched, has_come, Cells, mine, UpdateCompleted, Published}
+use Rattle.two_phase.specs.Promises.{inner_notes, is_low, after_low, verdicts, live_in, switch_in}
+use Rattle.two_phase.specs.Promises.{is_matched, has_come, Cells, mine, UpdateCompleted, Published}
 use Rattle.two_machine.proofs.Tables as core
 use Rattle.two_machine.proofs.View.{read, read-append}
 use Rattle.two_machine.proofs.View as view
@@ -39,7 +42,7 @@ use Rattle.two_phase.proofs.RealRuns.{setting, S, early, late, IsShownBy}
 
 -- logs
 abbrev numbers_done : List TwoNote → List ℕ
-numbers_done log = map (λ d. d.number) (done (inner_notes log))
+numbers_done log = map (λ d. d.number) (dones_in (inner_notes log))
 
 done_is : (ns : List TwoNote) → numbers_done ns ≡ promises.processed (read outline_note ns)
 done_is [] = refl
@@ -48,14 +51,14 @@ done_is (note.Inner (net_note.Arrived n) ∷ ns) = done_is ns
 done_is (note.Inner n ∷ ns) = done_is ns
 done_is (n ∷ ns) = done_is ns
 
-arrived_is : (ns : List TwoNote) → arrived (inner_notes ns) ≡ read view.arrived (read outline_note ns)
+arrived_is : (ns : List TwoNote) → arrivals_in (inner_notes ns) ≡ read view.arrived (read outline_note ns)
 arrived_is [] = refl
 arrived_is (note.Inner (net_note.Processed n i o) ∷ ns) = arrived_is ns
 arrived_is (note.Inner (net_note.Arrived n) ∷ ns) = ap (λ l. n ∷ l) (arrived_is ns)
 arrived_is (note.Inner n ∷ ns) = arrived_is ns
 arrived_is (n ∷ ns) = arrived_is ns
 
-come_is : (k : ℕ → Bool) (ns : List TwoNote) → list_any k (arrived (inner_notes ns)) ≡ promises.has_come k (read outline_note ns)
+come_is : (k : ℕ → Bool) (ns : List TwoNote) → list_any k (arrivals_in (inner_notes ns)) ≡ promises.has_come k (read outline_note ns)
 come_is k [] = refl
 come_is k (note.Inner (net_note.Arrived n) ∷ ns) = ap (λ b. k n || b) (come_is k ns)
 come_is k (note.Inner (net_note.Processed n i o) ∷ ns) = come_is k ns
@@ -107,13 +110,13 @@ module _ (F : Type 0) {R : Type 0} (f : Semantics R) (laws : FunctionLaws f) (al
   its = S F f laws alloc job is
 
   -- one unit
-  those_are : (u : units.Unit) (ps : List ℕ) → those (is_of f (config_of job) (items_of job) u) ps ≡ promises.of_unit its u ps
+  those_are : (u : units.Unit) (ps : List ℕ) → filter (is_of f (config_of job) (items_of job) u) ps ≡ promises.of_unit its u ps
   those_are u [] = refl
   those_are u (p ∷ ps) = ap (λ l. if is_of f (config_of job) (items_of job) u p then p ∷ l else l) (those_are u ps)
 
   mine_is : (u : units.Unit) → mine f job u ≡ promises.of_unit its u (early F f laws alloc job is ++ late F f laws alloc job is)
   mine_is u =
-      ap (those (is_of f (config_of job) (items_of job) u)) (numbers_split job.at job.packets)
+      ap (filter (is_of f (config_of job) (items_of job) u)) (numbers_split job.at job.packets)
       ∙ those_are u (early F f laws alloc job is ++ late F f laws alloc job is)
 
   kept_is : (o : Option R) (p : ℕ)
@@ -130,13 +133,14 @@ module _ (F : Type 0) {R : Type 0} (f : Semantics R) (laws : FunctionLaws f) (al
       ap (λ k. output_for f job.site o (packet_numbered (items_of job) p) ∷ outputs f (config_of job) (items_of job) k ps) (kept_is o p)
       ∙ ap (λ l. output_for f job.site o (packet_numbered (items_of job) p) ∷ l) (outputs_are (Some (its.step o p)) ps)
 
-  given_is : (u : units.Unit) (ns : List TwoNote) → given f (config_of job) (items_of job) u (inner_notes ns) ≡ promises.given its u (read outline_note ns)
+  given_is : (u : units.Unit) (ns : List TwoNote)
+      → outputs_noted f (config_of job) (items_of job) u (inner_notes ns) ≡ promises.given its u (read outline_note ns)
   given_is u [] = refl
   given_is u (note.Inner (net_note.Processed p i o) ∷ ns) =
       elim (is_of f (config_of job) (items_of job) u p) as (λ b.
       map (λ d. d.output)
-      (if b then record { number = p; node = i + 2; output = o } ∷ done_of (is_of f (config_of job) (items_of job) u) (done (inner_notes ns))
-      else done_of (is_of f (config_of job) (items_of job) u) (done (inner_notes ns)))
+      (if b then record { number = p; instance = i; output = o } ∷ done_where (is_of f (config_of job) (items_of job) u) (dones_in (inner_notes ns))
+      else done_where (is_of f (config_of job) (items_of job) u) (dones_in (inner_notes ns)))
       ≡ (if b then o ∷ promises.given its u (read outline_note ns) else promises.given its u (read outline_note ns))) [
         | true ↦ ap (λ l. o ∷ l) (given_is u ns)
         | false ↦ given_is u ns
@@ -145,22 +149,10 @@ module _ (F : Type 0) {R : Type 0} (f : Semantics R) (laws : FunctionLaws f) (al
   given_is u (note.Inner n ∷ ns) = given_is u ns
   given_is u (n ∷ ns) = given_is u ns
 
-  went_those : (u : units.Unit) (ds : List WasDone)
-      → map (λ d. d.number) (done_of (is_of f (config_of job) (items_of job) u) ds) ≡ those (is_of f (config_of job) (items_of job) u) (map (λ d. d.number) ds)
-  went_those u [] = refl
-  went_those u (d ∷ ds) =
-      elim (is_of f (config_of job) (items_of job) u d.number) as (λ b.
-      map (λ d. d.number)
-      (if b then d ∷ done_of (is_of f (config_of job) (items_of job) u) ds else done_of (is_of f (config_of job) (items_of job) u) ds)
-      ≡ (if b then d.number ∷ those (is_of f (config_of job) (items_of job) u) (map (λ d. d.number) ds)
-      else those (is_of f (config_of job) (items_of job) u) (map (λ d. d.number) ds))) [
-        | true ↦ ap (λ l. d.number ∷ l) (went_those u ds)
-        | false ↦ went_those u ds
-      ]
-
   went_is : (u : units.Unit) (ns : List TwoNote)
-      → went f (config_of job) (items_of job) u (inner_notes ns) ≡ promises.of_unit its u (promises.processed (read outline_note ns))
-  went_is u ns = went_those u (done (inner_notes ns)) ∙ those_are u (numbers_done ns) ∙ ap (promises.of_unit its u) (done_is ns)
+      → processed_of f (config_of job) (items_of job) u (inner_notes ns) ≡ promises.of_unit its u (promises.processed (read outline_note ns))
+  went_is u ns = done_numbers (is_of f (config_of job) (items_of job) u) (dones_in (inner_notes ns)) ∙ those_are u (numbers_done ns)
+      ∙ ap (promises.of_unit its u) (done_is ns)
 
   after_come : (ns : List TwoNote) → has_come job (after_low ns) ≡ promises.has_come its.covers (promises.after_low (read outline_note ns))
   after_come ns = come_is (is_matched job) (after_low ns) ∙ ap (promises.has_come its.covers) (after_is ns)
@@ -294,7 +286,7 @@ module _ (F : Type 0) {R : Type 0} (f : Semantics R) (laws : FunctionLaws f) (al
               ∙ every.answers u
               ∙ ap (λ l. promises.outputs its None (promises.of_unit its u (promises.processed l))) (sym log)
               ∙ ap (promises.outputs its None) (sym (went_is u w.log))
-              ∙ sym (outputs_are None (went f (config_of job) (items_of job) u (inner_notes w.log)));
+              ∙ sym (outputs_are None (processed_of f (config_of job) (items_of job) u (inner_notes w.log)));
           completed = completed;
           laid = λ before after at.
               after_come before

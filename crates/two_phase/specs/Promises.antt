@@ -1,7 +1,8 @@
 -- What every run of a two-phase update keeps, complete or not: each unit's packets are processed in order and once, as by one instance that
 -- nothing moves; the low rule is laid before the high one; the run is short, and goes on to its end. Packets go by their numbers. That the
 -- start and each step are as the tables say stands on `start`, `TwoNode` and `run_two`. This project's own.
-use Rattle.std.specs.Prelude.{◌≡◌, ◌≤◌, ◌⊎◌, ℕ, ◌+◌, ◌*◌, Bool, true, false, if◌then◌else◌, Option, None, Some, List, [], ◌∷◌, ◌++◌, map, filter, filter_map, length, option_to_list, slice_get}
+use Rattle.std.specs.Prelude.{◌≡◌, ◌≤◌, ◌⊎◌, ℕ, ◌+◌, ◌*◌, Bool, true, false, if◌then◌else◌, Option, None, Some}
+use Rattle.std.specs.Prelude.{List, [], ◌∷◌, ◌++◌, map, filter, filter_map, length, option_to_list, slice_get}
 use Rattle.std.specs.List.{list_any, after_first}
 use Rattle.std.specs.FinMap as finite
 use Rattle.flow_filter.specs.Filter.{matches}
@@ -12,9 +13,9 @@ use Rattle.nf_msgs.specs.declared.note.Note.{Note}
 use Rattle.nf_msgs.specs.Nodes.{switch_node}
 use Rattle.actor_net.specs.declared.choice.Choice.{Choice}
 use Rattle.actor_net.specs.Network.{Network, is_enabled, is_done}
-use Rattle.net_world.specs.Fold.{times, IsFront, is_of, fold, outputs, went, given}
+use Rattle.net_world.specs.Fold.{times, IsFront, is_of, fold, outputs, processed_of, outputs_noted}
 use Rattle.net_world.specs.Input.{packet_numbered}
-use Rattle.net_world.specs.Log.{arrived, done, those}
+use Rattle.net_world.specs.Log.{arrivals_in, dones_in}
 use Rattle.two_phase.specs.declared.msg.TwoMsg.{TwoMsg}
 use Rattle.two_phase.specs.declared.note.TwoNote.{TwoNote}
 use Rattle.two_phase.specs.declared.note.TwoNote.TheVariants.{Inner, Low, High, Done, NoPacket}
@@ -69,7 +70,7 @@ module _ (job : UpdateJob) where
 
   -- whether such a packet arrived
   abbrev pub has_come : List TwoNote → Bool
-  has_come log = list_any is_matched (arrived (inner_notes log))
+  has_come log = list_any is_matched (arrivals_in (inner_notes log))
 
   -- the switch counts the packets under way, and the other cells are at home
   pub record Cells {F R : Type 0} (w : Network (TwoNode F R) TwoMsg TwoNote) : Type 0 where
@@ -82,12 +83,12 @@ module _ (job : UpdateJob) where
 module _ {R : Type 0} (f : Semantics R) (job : UpdateJob) where
   -- the packets of a unit in the trace
   abbrev pub mine : units.Unit → List ℕ
-  mine unit = those (is_of f (config_of job) (items_of job) unit) (trace job)
+  mine unit = filter (is_of f (config_of job) (items_of job) unit) (trace job)
 
   -- what a complete run keeps besides
   pub record UpdateCompleted {F : Type 0} (w : Network (TwoNode F R) TwoMsg TwoNote) : Type 0 where
     -- each packet of a unit is processed, and its record is live at one instance alone
-    pub all_went : (unit : units.Unit) → went f (config_of job) (items_of job) unit (inner_notes w.log) ≡ mine unit
+    pub all_went : (unit : units.Unit) → processed_of f (config_of job) (items_of job) unit (inner_notes w.log) ≡ mine unit
     pub live_is : (unit : units.Unit)
         → filter_map (live_in unit) w.nodes ≡ option_to_list (fold f (config_of job) (items_of job) None (mine unit))
     -- the update is done where a packet that the filter matches came after the low rule, and else no packet came
@@ -96,14 +97,14 @@ module _ {R : Type 0} (f : Semantics R) (job : UpdateJob) where
   -- what every run keeps, by these choices
   pub record Published {F : Type 0} (choices : List Choice) (w : Network (TwoNode F R) TwoMsg TwoNote) : Type 0 where
     -- the switch takes the packets of the trace in their order
-    pub in_turn : IsFront (arrived (inner_notes w.log)) (trace job)
+    pub in_turn : IsFront (arrivals_in (inner_notes w.log)) (trace job)
     -- what is processed of a unit is a front of its packets, each packet once at most
-    pub in_order : (unit : units.Unit) → IsFront (went f (config_of job) (items_of job) unit (inner_notes w.log)) (mine unit)
-    pub once : (p : ℕ) → times p (map (λ d. d.number) (done (inner_notes w.log))) ≤ 1
+    pub in_order : (unit : units.Unit) → IsFront (processed_of f (config_of job) (items_of job) unit (inner_notes w.log)) (mine unit)
+    pub once : (p : ℕ) → times p (map (λ d. d.number) (dones_in (inner_notes w.log))) ≤ 1
     -- outputs are those of one instance that nothing moves, and so is the record at the end
     pub outputs_are : (unit : units.Unit)
-        → given f (config_of job) (items_of job) unit (inner_notes w.log)
-        ≡ outputs f (config_of job) (items_of job) None (went f (config_of job) (items_of job) unit (inner_notes w.log))
+        → outputs_noted f (config_of job) (items_of job) unit (inner_notes w.log)
+        ≡ outputs f (config_of job) (items_of job) None (processed_of f (config_of job) (items_of job) unit (inner_notes w.log))
     pub completed : is_done node_ended w ≡ true → UpdateCompleted w
     -- the low rule is laid before the high one, and between them a packet that the filter matches arrived
     pub laid : (before after : List TwoNote) → w.log ≡ before ++ High ∷ after → has_come job (after_low before) ≡ true

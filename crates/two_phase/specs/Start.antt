@@ -7,7 +7,7 @@ use Rattle.flow_filter.specs.declared.site.Site.{Site}
 use Rattle.flow_filter.specs.Limits.{most_packets}
 use Rattle.nf_function.specs.declared.kind.Kind.{Kind}
 use Rattle.switch_rules.specs.Rules.{opened}
-use Rattle.packet_window.specs.Window.{opened as open_window}
+use Rattle.packet_window.specs.Window.{window_at_start as open_window}
 use Rattle.nf_msgs.specs.declared.msg.Msg.{Msg}
 use Rattle.nf_msgs.specs.declared.msg.Msg.TheVariants as msg
 use Rattle.switch_node.specs.declared.switch.TheConstants.{MOST_WINDOW}

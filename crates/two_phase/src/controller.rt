@@ -1,6 +1,6 @@
 //! The controller of a two-phase update, and its row for each message.
 ghost use Rattle.std.specs.Prelude.{◌≡◌, [], ◌++◌, false, None, OnOk};
-ghost use Rattle.two_phase.specs.Tables.{controller_row, controller_step, finishes, is_over};
+ghost use Rattle.two_phase.specs.Tables.{controller_row, controller_step, finish_step, is_over};
 
 use crate::msg::TwoMsg;
 use crate::note::TwoNote;
@@ -164,8 +164,8 @@ impl TwoCtrl {
 
     /// Stops the source, once: where nothing is left to do and the input has ended.
     fn finish(&mut self, out: &mut Outbox<TwoMsg, TwoNote>) -> Result<(), NoMemory>
-        ensures node { OnOk result (self.new ≡ (finishes self.old).node) }
-        ensures sends { OnOk result (out.new.0 ≡ out.old.0 ++ (finishes self.old).sends) }
+        ensures node { OnOk result (self.new ≡ (finish_step self.old).node) }
+        ensures sends { OnOk result (out.new.0 ≡ out.old.0 ++ (finish_step self.old).sends) }
         ensures notes { OnOk result (out.new.1 ≡ out.old.1) }
     {
         if !self.is_over() || !self.ended || self.finished {

@@ -1,7 +1,8 @@
 //! What the controller of an update does until the state is moved.
 ghost use Rattle.std.specs.Prelude.{◌≡◌, ◌<◌, [], ◌∷◌, ◌++◌, OnOk};
 ghost use Rattle.nf_msgs.specs.Nodes.{instance_node};
-ghost use Rattle.two_phase.specs.Tables.{forwards, is_storing, low_asked, on_chunks, on_deleted, on_enabled, on_event, on_restored, on_start, the_update};
+ghost use Rattle.two_phase.specs.Tables.{forward_messages, is_storing, low_asked, on_chunks, on_deleted};
+ghost use Rattle.two_phase.specs.Tables.{on_enabled, on_event, on_restored, on_start, the_update};
 
 use crate::controller::TwoCtrl;
 use crate::msg::TwoMsg;
@@ -179,7 +180,7 @@ pub(crate) fn send_to(
 
 /// Sends packets on to the destination, in order.
 fn forward_all(mut cells: VecDeque<Cell>, out: &mut Outbox<TwoMsg, TwoNote>) -> Result<(), NoMemory>
-    ensures { OnOk result (out.new ≡ (out.old.0 ++ forwards cells.items, out.old.1)) }
+    ensures { OnOk result (out.new ≡ (out.old.0 ++ forward_messages cells.items, out.old.1)) }
 {
     while let Some(cell) = cells.pop_front() {
         out.send(SWITCH, TwoMsg::Forward(cell))?;

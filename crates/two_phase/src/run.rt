@@ -1,7 +1,7 @@
 ghost use Rattle.std.specs.Prelude.{◌≡◌, ◌≢◌, ℕ, true, IfOk};
 ghost use Rattle.std.specs.declared.alloc.Global.{Global as AnAllocator};
 ghost use Rattle.actor_net.specs.Network.{is_done, run};
-ghost use Rattle.actor_net.specs.Replays.{replayed};
+ghost use Rattle.actor_net.specs.Replays.{replay_of};
 ghost use Rattle.actor_net.specs.Schedules.{scheduled};
 ghost use Rattle.actor_net.specs.declared.schedule.TheConstants.{MOST_CHOICES};
 ghost use Rattle.two_phase.specs.Start.{UpdateJob as AJob, IsUpdateJob, two_start};
@@ -22,7 +22,7 @@ pub fn run_two<F: Function>(
     world: World<TwoNode<F>>,
     choices: &[Choice],
 ) -> Result<World<TwoNode<F>>, ReplayFault>
-    ensures replay { result ≢ Err ReplayFault.NoMemory → result ≡ replayed node_ready (node_step F.semantics) choices.now world }
+    ensures replay { result ≢ Err ReplayFault.NoMemory → result ≡ replay_of node_ready (node_step F.semantics) choices.now world }
     ensures published { (alloc : AnAllocator) (job : AJob) → IsUpdateJob F.semantics.kind job → world ≡ two_start alloc job
         → IfOk result (λ reached. Published F.semantics job choices.now reached) }
 {

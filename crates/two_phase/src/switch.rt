@@ -1,8 +1,9 @@
 //! The switch of a two-phase update: packets are copied, then go by the low rule, and then by the high one.
 ghost use Rattle.std.specs.Prelude.{◌≡◌, ◌≤◌, ◌<◌, ◌++◌, [], ◌∷◌, true, IfOk, OnOk};
 ghost use Rattle.switch_rules.specs.Rules.{opened};
-ghost use Rattle.packet_window.specs.Window.{has_room, opened as open_window};
-ghost use Rattle.two_phase.specs.Tables.{arrives, destination_node, goes_to, has_closed, on_finish, on_lay, on_packet, switch_step, takes_in, target_of, the_update};
+ghost use Rattle.packet_window.specs.Window.{has_room, window_at_start as open_window};
+ghost use Rattle.two_phase.specs.Tables.{arrival_step, destination_node, goes_to, has_closed, on_finish};
+ghost use Rattle.two_phase.specs.Tables.{on_lay, on_packet, switch_step, takes_in, target_of, the_update};
 
 use crate::msg::TwoMsg;
 use crate::note::TwoNote;
@@ -137,9 +138,9 @@ impl TwoSwitch {
     ) -> Result<(), NoMemory>
         requires instance { to < INSTANCES }
         requires room { has_room self.old.window ≡ true }
-        ensures node { OnOk result (self.new ≡ (arrives self.old packet to []).node) }
-        ensures sends { OnOk result (out.new.0 ≡ out.old.0 ++ (arrives self.old packet to []).sends) }
-        ensures notes { OnOk result (out.new.1 ≡ out.old.1 ++ (arrives self.old packet to []).notes) }
+        ensures node { OnOk result (self.new ≡ (arrival_step self.old packet to []).node) }
+        ensures sends { OnOk result (out.new.0 ≡ out.old.0 ++ (arrival_step self.old packet to []).sends) }
+        ensures notes { OnOk result (out.new.1 ≡ out.old.1 ++ (arrival_step self.old packet to []).notes) }
     {
         let number = packet.get().number;
         let parcel = self.window.let_in(packet);

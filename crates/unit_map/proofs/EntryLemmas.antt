@@ -1,5 +1,6 @@
 -- Entries by their places and by their keys.
-use Rattle.std.proofs.Common.{◌≡◌, ℕ, Bool, true, false, ◌-◌, ◌<◌, List, [], ◌∷◌, ◌++◌, length, slice_set, Option, Some, None, arith, ap, sym, ◌∙◌, refl, subst, suc, zero, ◌==◌, is_some, filter, take, get_or, Result, Ok, Err, OnOk, OnErr}
+use Rattle.std.proofs.Common.{◌≡◌, ℕ, Bool, true, false, ◌-◌, ◌<◌, List, [], ◌∷◌, ◌++◌, length, slice_set, Option, Some, None, arith}
+use Rattle.std.proofs.Common.{ap, sym, ◌∙◌, refl, subst, suc, zero, ◌==◌, is_some, filter, take, get_or, Result, Ok, Err, OnOk, OnErr}
 use Rattle.std.specs.Prelude.{cond}
 use Rattle.std.specs.Cmp.{IsEquivalence}
 use Rattle.std.specs.List.{slice_get, IsDistinct, AllByRecursion}
@@ -87,7 +88,8 @@ module _ {K V : Type 0} (eq : K → K → Bool) where
       skipped k (p x) x (filter p es) a.0 (absent_filter p k es (rw a.0 at h))
 
   -- an entry's key doesn't stand before it
-  pub absent_before : IsEquivalence eq → (p : K × V → Bool) (es : List (K × V)) (i : ℕ) (e : K × V) → IsDistinct eq (keys_of es) → slice_get es i ≡ Some e → lookup (eq e.0) (filter p (take i es)) ≡ None
+  pub absent_before : IsEquivalence eq → (p : K × V → Bool) (es : List (K × V)) (i : ℕ) (e : K × V) → IsDistinct eq (keys_of es) → slice_get es i ≡ Some e
+      → lookup (eq e.0) (filter p (take i es)) ≡ None
   absent_before laws p [] i e d h = absurd (true≢false (sym (ap is_some h)))
   absent_before laws p (x ∷ es) zero e d h = refl
   absent_before laws p (x ∷ es) (suc i) e d h = skipped e.0 (p x) x (filter p (take i es))
@@ -106,20 +108,24 @@ module _ {K V : Type 0} (eq : K → K → Bool) where
   chosen true c s v l r apart rest = rw (apart refl) refl
   chosen false c s v l r apart rest = rest
 
-  added_last : IsEquivalence eq → (q k : K) (v : V) (es : List (K × V)) → NonePasses (eq k) es → lookup (eq q) (es ++ (k, v) ∷ []) ≡ cond (eq k q) (Some v) (lookup (eq q) es)
+  added_last : IsEquivalence eq → (q k : K) (v : V) (es : List (K × V)) → NonePasses (eq k) es
+      → lookup (eq q) (es ++ (k, v) ∷ []) ≡ cond (eq k q) (Some v) (lookup (eq q) es)
   added_last laws q k v [] h = ap (λ b. cond b (Some v) None) (laws.symm q k)
   added_last laws q k v (e ∷ es) h = chosen (eq q e.0) (eq k q) (Some e.1) (Some v) _ _
       (λ t. laws.symm k q ∙ laws.congr q e.0 k t ∙ laws.symm e.0 k ∙ h.0)
       (added_last laws q k v es h.1)
 
-  pub lookup_added : IsEquivalence eq → (q k : K) (v : V) (es : List (K × V)) → lookup (eq k) es ≡ None → lookup (eq q) (es ++ (k, v) ∷ []) ≡ cond (eq k q) (Some v) (lookup (eq q) es)
+  pub lookup_added : IsEquivalence eq → (q k : K) (v : V) (es : List (K × V)) → lookup (eq k) es ≡ None
+      → lookup (eq q) (es ++ (k, v) ∷ []) ≡ cond (eq k q) (Some v) (lookup (eq q) es)
   lookup_added laws q k v es h = added_last laws q k v es (none_passes_from_lookup (eq k) es h)
 
-  pub distinct_added : IsEquivalence eq → (k : K) (v : V) (es : List (K × V)) → IsDistinct eq (keys_of es) → lookup (eq k) es ≡ None → IsDistinct eq (keys_of (es ++ (k, v) ∷ []))
+  pub distinct_added : IsEquivalence eq → (k : K) (v : V) (es : List (K × V)) → IsDistinct eq (keys_of es) → lookup (eq k) es ≡ None
+      → IsDistinct eq (keys_of (es ++ (k, v) ∷ []))
   distinct_added laws k v es d h = rw (keys_added k v es) (IsDistinct-push laws (keys_of es) k d (sym (is_some-lookup (eq k) es) ∙ ap is_some h))
 
   -- what stands at a key's place is what a look-up finds
-  pub lookup_at_place : IsEquivalence eq → (k : K) (es : List (K × V)) (i : ℕ) → IsDistinct eq (keys_of es) → is_place_of eq es i k ≡ true → lookup (eq k) es ≡ option_map (λ (e : K × V). e.1) (slice_get es i)
+  pub lookup_at_place : IsEquivalence eq → (k : K) (es : List (K × V)) (i : ℕ) → IsDistinct eq (keys_of es) → is_place_of eq es i k ≡ true
+      → lookup (eq k) es ≡ option_map (λ (e : K × V). e.1) (slice_get es i)
   lookup_at_place laws k es i d h =
       let t = entry_at k es i h in
       lookup_alike laws k t.0.0 es t.2 ∙ lookup_from_place laws es i t.0.0 t.0.1 d t.1 ∙ sym (ap (option_map (λ (e : K × V). e.1)) t.1)
@@ -189,7 +195,8 @@ module _ {K R : Type 0} (eq : K → K → Bool) (laws : IsEquivalence eq) where
       (lookup_with_record q es i k w (IsDistinct-tail eq x.0 (keys_of es) d) h)
 
   pub record_read : (es : Entries K R) (i : ℕ) (e : K × Option R) → i < length es → e ≡ get_or es i e → record_at es i ≡ e.1
-  record_read es i e within read = ap (λ (o : Option (K × Option R)). kept_record (option_map (λ (x : K × Option R). x.1) o)) (slice_get_read es (length es) i e refl within read)
+  record_read es i e within read =
+      ap (λ (o : Option (K × Option R)). kept_record (option_map (λ (x : K × Option R). x.1) o)) (slice_get_read es (length es) i e refl within read)
 
   -- a record that is written through an entry that was read
   pub written : (es : Entries K R) (i : ℕ) (e : K × Option R) (w : Option R) → i < length es → e ≡ get_or es i e → slice_set es i (e.0, w) ≡ with_record es i w

@@ -22,7 +22,8 @@ not_free slots a b hash n is_free counted noted e =
     let z : (at slots b).number ≡ 0 = rw e is_free in
     omega (arith, k, z, counted)
 
-slot_stays : (slots : List Slot) (a b hash n : ℕ) (s : Slot) → (at slots a).number ≡ 0 → 0 < n → at slots b ≡ slot_of hash n → at (slice_set slots a s) b ≡ slot_of hash n
+slot_stays : (slots : List Slot) (a b hash n : ℕ) (s : Slot) → (at slots a).number ≡ 0 → 0 < n → at slots b ≡ slot_of hash n
+    → at (slice_set slots a s) b ≡ slot_of hash n
 slot_stays slots a b hash n s is_free counted noted =
     get_or-set_other slots a b s free (not_free slots a b hash n is_free counted noted) ∙ noted
 
@@ -38,7 +39,8 @@ still_noted rules old new a s slots spill within is_free taken note (step, h) = 
     room = rw (slots, length-set old.slots.items a s) h.room;
     within = h.within;
     before = λ m below. rw (slots, length-set old.slots.items a s) (taken_stays old.slots.items a _ s within taken (h.before m below));
-    in_probes = λ below. rw (slots, length-set old.slots.items a s) (slot_stays old.slots.items a _ (rules.hash note.key) note.number s is_free h.counted (h.in_probes below));
+    in_probes = λ below. rw (slots, length-set old.slots.items a s)
+        (slot_stays old.slots.items a _ (rules.hash note.key) note.number s is_free h.counted (h.in_probes below));
     in_tree = λ past. rw spill (h.in_tree past);
   },
 )

@@ -1,5 +1,6 @@
 -- Entries stay noted, and what no note leads to isn't there.
-use Rattle.std.proofs.Common.{◌≡◌, ℕ, Bool, true, false, ◌+◌, ◌<◌, List, [], ◌∷◌, ◌++◌, length, Option, Some, None, ap, sym, ◌∙◌, refl, subst, add-one, suc, zero, ⊎_elim, inl, inr, ◌⊎◌, is_some, filter, take, get_or, length-append}
+use Rattle.std.proofs.Common.{◌≡◌, ℕ, Bool, true, false, ◌+◌, ◌<◌, List, [], ◌∷◌, ◌++◌, length, Option, Some, None, ap, sym, ◌∙◌}
+use Rattle.std.proofs.Common.{refl, subst, add-one, suc, zero, ⊎_elim, inl, inr, ◌⊎◌, is_some, filter, take, get_or, length-append}
 use Rattle.std.specs.Prelude.{cond}
 use Rattle.std.proofs.lemmas.List.Elements.{filter_more}
 use Rattle.std.specs.Cmp.{IsEquivalence, IsTotalOrder, Equal-is}
@@ -79,7 +80,8 @@ module _ {K : Type 0} (rules : KeyRules K) (laws : KeyLaws rules) where
       lookup_tests _ _ (λ z. ap is_eq (laws.ordered.congr x y z e)) m.entries
 
   -- what is noted for a key is noted for each key that is equal
-  pub noted_alike : (index : Index K) (x y : K) (n : ℕ) → rules.eq x y ≡ true → IsNoted rules index (record { key = y; number = n }) → IsNoted rules index (record { key = x; number = n })
+  pub noted_alike : (index : Index K) (x y : K) (n : ℕ) → rules.eq x y ≡ true → IsNoted rules index (record { key = y; number = n })
+      → IsNoted rules index (record { key = x; number = n })
   noted_alike index x y n same (step, h) =
       let e = laws.alike x y same in (
         step,
@@ -123,7 +125,8 @@ module _ {K : Type 0} (rules : KeyRules K) (laws : KeyLaws rules) where
   noted_passed index es i e within read gone noted =
       subst (λ xs. AreNoted rules index (keys_of xs)) (sym (no_more es i e within read gone)) noted
 
-  pub noted_more : {R : Type 0} (old new : Index K) (es : Entries K R) (i : ℕ) (e : K × Option R) → IsDistinct rules.eq (keys_of es) → i < length es → e ≡ get_or es i e → has_record e ≡ true
+  pub noted_more : {R : Type 0} (old new : Index K) (es : Entries K R) (i : ℕ) (e : K × Option R) → IsDistinct rules.eq (keys_of es) → i < length es
+      → e ≡ get_or es i e → has_record e ≡ true
       → ((note : EntryNote K) → rules.eq e.0 note.key ≡ false → IsNoted rules old note → IsNoted rules new note)
       → IsNoted rules new (record { key = e.0; number = length (filter has_record (take i es)) + 1 })
       → AreNoted rules old (keys_of (filter has_record (take i es))) → AreNoted rules new (keys_of (filter has_record (take (i + 1) es)))

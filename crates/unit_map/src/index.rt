@@ -51,7 +51,8 @@ impl<K: Ord + Hash + Copy> Index<K> {
     #[inline(always)]
     pub fn find<V>(&self, entries: &[(K, V)], key: &K) -> Option<usize>
         ensures found { IfSome result (λ place. is_place_of K.eq entries.now place key.now ≡ true) }
-        ensures absent { IfNone result ((n : ℕ) → IsNoted (key_rules K.eq K.cmp K.hash_input) self.now (record { key = key.now; number = n }) → has_key K.eq entries.now n key.now ≡ false) }
+        ensures absent { IfNone result ((n : ℕ) → IsNoted (key_rules K.eq K.cmp K.hash_input) self.now (record { key = key.now; number = n })
+            → has_key K.eq entries.now n key.now ≡ false) }
     {
         if entries.len() == 1 {
             return only_place(entries, key);
@@ -63,7 +64,8 @@ impl<K: Ord + Hash + Copy> Index<K> {
     #[inline(always)]
     fn find_by_hash<V>(&self, entries: &[(K, V)], key: &K) -> Option<usize>
         ensures found { IfSome result (λ place. is_place_of K.eq entries.now place key.now ≡ true) }
-        ensures absent { IfNone result ((n : ℕ) → IsNoted (key_rules K.eq K.cmp K.hash_input) self.now (record { key = key.now; number = n }) → has_key K.eq entries.now n key.now ≡ false) }
+        ensures absent { IfNone result ((n : ℕ) → IsNoted (key_rules K.eq K.cmp K.hash_input) self.now (record { key = key.now; number = n })
+            → has_key K.eq entries.now n key.now ≡ false) }
     {
         if self.slots.len() < PROBES {
             return None;
@@ -213,7 +215,8 @@ impl<K: Ord + Hash + Copy> Index<K> {
         requires counted { 0 < number }
         ensures room { PROBES ≤ vec_len self.new.slots }
         ensures noted { OnOk result (IsNoted (key_rules K.eq K.cmp K.hash_input) self.new (record { key = key; number = number })) }
-        ensures others { (note : EntryNote K) → K.eq key note.key ≡ false → IsNoted (key_rules K.eq K.cmp K.hash_input) self.old note → IsNoted (key_rules K.eq K.cmp K.hash_input) self.new note }
+        ensures others { (note : EntryNote K) → K.eq key note.key ≡ false → IsNoted (key_rules K.eq K.cmp K.hash_input) self.old note
+            → IsNoted (key_rules K.eq K.cmp K.hash_input) self.new note }
     {
         self.room = self.room.saturating_sub(1);
         let hash = hash_of(&key);

@@ -16,6 +16,7 @@ impl<A: Actor> World<A> {
     }
 
     /// The enabled choice at a place from 0, in order of (node, port).
+    #[inline(always)]
     pub(crate) fn nth_enabled(&self, place: usize) -> Option<Choice>
         ensures { result ≡ slice_get (enabled_choices A.is_ready self.now) place }
     {
@@ -32,7 +33,7 @@ impl<A: Actor> World<A> {
     }
 
     /// The last of the enabled choices, in order of (node, port).
-    #[inline]
+    #[inline(always)]
     pub(crate) fn last_enabled(&self) -> Option<Choice>
         ensures { result ≡ slice_get (enabled_choices A.is_ready self.now) (length (enabled_choices A.is_ready self.now) - 1) }
     {
@@ -58,10 +59,11 @@ impl<A: Actor> World<A> {
     }
 
     /// The last of a node's enabled choices, in order of ports.
-    #[inline]
+    #[inline(always)]
     fn last_of(&self, node: u8) -> Option<Choice>
         requires { node < length self.now.nodes }
-        ensures { result ≡ slice_get (ports_below A.is_ready self.now node (length self.now.nodes)) (length (ports_below A.is_ready self.now node (length self.now.nodes)) - 1) }
+        ensures { result ≡ slice_get (ports_below A.is_ready self.now node (length self.now.nodes))
+            (length (ports_below A.is_ready self.now node (length self.now.nodes)) - 1) }
     {
         let nodes = self.nodes.len() as u8;
         for passed in 0..nodes {
@@ -89,6 +91,7 @@ impl<A: Actor> World<A> {
     }
 
     /// The enabled choice of a node at a place from 0, in order of ports.
+    #[inline(always)]
     fn nth_of(&self, node: u8, place: usize) -> Option<Choice>
         requires { node < length self.now.nodes }
         ensures { result ≡ slice_get (ports_below A.is_ready self.now node (length self.now.nodes)) place }

@@ -1,8 +1,7 @@
 //! What the controller does with a command: it is refused with its cause, or its operation begins.
-ghost use Rattle.std.specs.Prelude.{◌≡◌, ◌<◌, ◌∷◌, [], ◌++◌, length, find, is_some, not, All, IfOk, IfSome, OnOk};
-ghost use Rattle.std.specs.List.{filter_map, position};
-ghost use Rattle.std.specs.Str.{bytes_eq};
-ghost use Rattle.ctrl_node.specs.Controller.{begins, begins_between, begins_share, copies_between, on_asked, overlap, refusal, unknown_name};
+ghost use Rattle.std.specs.Prelude.{◌≡◌, ◌<◌, ◌∷◌, [], ◌++◌, find, is_some, not, All, IfOk, IfSome, OnOk};
+ghost use Rattle.std.specs.List.{filter_map};
+ghost use Rattle.ctrl_node.specs.Controller.{begin_step, move_between, share_begin, copy_between, on_asked, overlap, refusal, unknown_name};
 ghost use Rattle.flow_filter.specs.Name.{place_of};
 
 use super::Ctrl;
@@ -10,6 +9,7 @@ use crate::operation::Operation;
 use actor_net::Outbox;
 use basics::{NoMemory, TryCopy};
 use copy_share::{CopyOp, ShareOp};
+use flow_filter::name::place_of;
 use flow_filter::{Filter, Name};
 use move_op::MoveOp;
 use nf_msgs::{Answer, Command, MOST_INSTANCES, Msg, Note, Order};
@@ -97,9 +97,9 @@ impl Ctrl {
 
     /// An operation begins, between the instances with the order's names.
     fn begin(&mut self, op: u32, what: Order, out: &mut Outbox<Msg, Note>) -> Result<(), NoMemory>
-        ensures node { OnOk result (self.new ≡ (begins self.old op what).node) }
-        ensures sends { OnOk result (out.new.0 ≡ out.old.0 ++ (begins self.old op what).sends) }
-        ensures notes { OnOk result (out.new.1 ≡ out.old.1 ++ (begins self.old op what).notes) }
+        ensures node { OnOk result (self.new ≡ (begin_step self.old op what).node) }
+        ensures sends { OnOk result (out.new.0 ≡ out.old.0 ++ (begin_step self.old op what).sends) }
+        ensures notes { OnOk result (out.new.1 ≡ out.old.1 ++ (begin_step self.old op what).notes) }
     {
         match what {
             Order::Move {
@@ -135,9 +135,9 @@ impl Ctrl {
     ) -> Result<(), NoMemory>
         requires source { IfSome source (λ place. place < MOST_INSTANCES) }
         requires destination { IfSome destination (λ place. place < MOST_INSTANCES) }
-        ensures node { OnOk result (self.new ≡ (begins_between self.old op filter.now keep source destination).node) }
-        ensures sends { OnOk result (out.new.0 ≡ out.old.0 ++ (begins_between self.old op filter.now keep source destination).sends) }
-        ensures notes { OnOk result (out.new.1 ≡ out.old.1 ++ (begins_between self.old op filter.now keep source destination).notes) }
+        ensures node { OnOk result (self.new ≡ (move_between self.old op filter.now keep source destination).node) }
+        ensures sends { OnOk result (out.new.0 ≡ out.old.0 ++ (move_between self.old op filter.now keep source destination).sends) }
+        ensures notes { OnOk result (out.new.1 ≡ out.old.1 ++ (move_between self.old op filter.now keep source destination).notes) }
     {
         let Some(source) = source else {
             return Ok(());
@@ -160,9 +160,9 @@ impl Ctrl {
     ) -> Result<(), NoMemory>
         requires source { IfSome source (λ place. place < MOST_INSTANCES) }
         requires destination { IfSome destination (λ place. place < MOST_INSTANCES) }
-        ensures node { OnOk result (self.new ≡ (copies_between self.old op filter source destination).node) }
-        ensures sends { OnOk result (out.new.0 ≡ out.old.0 ++ (copies_between self.old op filter source destination).sends) }
-        ensures notes { OnOk result (out.new.1 ≡ out.old.1 ++ (copies_between self.old op filter source destination).notes) }
+        ensures node { OnOk result (self.new ≡ (copy_between self.old op filter source destination).node) }
+        ensures sends { OnOk result (out.new.0 ≡ out.old.0 ++ (copy_between self.old op filter source destination).sends) }
+        ensures notes { OnOk result (out.new.1 ≡ out.old.1 ++ (copy_between self.old op filter source destination).notes) }
     {
         let Some(source) = source else {
             return Ok(());
@@ -184,9 +184,9 @@ impl Ctrl {
         out: &mut Outbox<Msg, Note>,
     ) -> Result<(), NoMemory>
         requires instances { All (λ member. member < MOST_INSTANCES) members.items }
-        ensures node { OnOk result (self.new ≡ (begins_share self.old op filter.now members.items).node) }
-        ensures sends { OnOk result (out.new.0 ≡ out.old.0 ++ (begins_share self.old op filter.now members.items).sends) }
-        ensures notes { OnOk result (out.new.1 ≡ out.old.1 ++ (begins_share self.old op filter.now members.items).notes) }
+        ensures node { OnOk result (self.new ≡ (share_begin self.old op filter.now members.items).node) }
+        ensures sends { OnOk result (out.new.0 ≡ out.old.0 ++ (share_begin self.old op filter.now members.items).sends) }
+        ensures notes { OnOk result (out.new.1 ≡ out.old.1 ++ (share_begin self.old op filter.now members.items).notes) }
     {
         if members.is_empty() {
             return Ok(());
@@ -216,15 +216,7 @@ impl Ctrl {
         ensures value { result ≡ place_of self.now.names name.now }
         ensures within { IfSome result (λ place. place < MOST_INSTANCES) }
     {
-        let place = first_place(name.items(), self.names.items())?;
+        let place = place_of(self.names.items(), name.items())?;
         Some(place as u8)
     }
-}
-
-/// The place of the first name with these bytes.
-fn first_place(name: &[u8], names: &[Name]) -> Option<usize>
-    ensures place { result ≡ position (λ other. bytes_eq other name.now) names.now }
-    ensures within { IfSome result (λ place. place < length names.now) }
-{
-    names.iter().position(|other| other.items() == name)
 }

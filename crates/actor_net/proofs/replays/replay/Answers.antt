@@ -8,6 +8,7 @@ pub returns : goal.returns
 returns g c = λ _.
     let ready = g.A.Actor.is_ready in
     let step = g.A.Actor.stepped in
-    let none : fault_from ready step 0 c.args.choices.now c.args.world ≡ None = sym c.loop-index.invariant.fault ∙ at_drop_all (λ cs. fault_from ready step c.loop-index.index cs c.loop-index.world) c.args.choices.now c.loop-index.index c.loop-index-test.false in
+    let none : fault_from ready step 0 c.args.choices.now c.args.world ≡ None = sym c.loop-index.invariant.fault
+    ∙ at_drop_all (λ cs. fault_from ready step c.loop-index.index cs c.loop-index.world) c.args.choices.now c.loop-index.index c.loop-index-test.false in
     let world = at_drop_all (λ cs. run step cs c.loop-index.world) c.args.choices.now c.loop-index.index c.loop-index-test.false in
     rw none (ap Ok (sym world ∙ c.loop-index.invariant.world))

@@ -9,6 +9,8 @@ pub returns-clause-round : goal.returns-clause-round
 returns-clause-round g c =
     let first = c.split_off.new.self.items in
     let rest = c.in_ok-rest.rest.items in
-    let parts : c.args.first.items ≡ c.split_off.new.self.items ++ c.in_ok-rest.rest.items = sym (take-append-drop c.alone-alone.result _) ∙ (λ i. sym c.in_ok-rest.ensures.items i ++ sym c.in_ok-rest.ensures.tail i) in
+    let parts : c.args.first.items ≡ c.split_off.new.self.items ++ c.in_ok-rest.rest.items = sym (take-append-drop c.alone-alone.result _)
+    ∙ (λ i. sym c.in_ok-rest.ensures.items i ++ sym c.in_ok-rest.ensures.tail i) in
     subst (λ l. AllInRound g.A.Actor.is_ready g.A.Actor.stepped c.args.first.items l) (sym c.in_ok-append.ensures.items)
-    (all_in_round g.A.Actor.is_ready g.A.Actor.stepped c.args.first.items first rest _ _ parts c.requires.begin c.join-first.ensures.first.0 c.join-first.ensures.first.1 c.join-first.ensures.second.1)
+    (all_in_round g.A.Actor.is_ready g.A.Actor.stepped c.args.first.items first rest _ _ parts c.requires.begin c.join-first.ensures.first.0
+    c.join-first.ensures.first.1 c.join-first.ensures.second.1)

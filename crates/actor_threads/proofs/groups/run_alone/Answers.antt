@@ -6,4 +6,5 @@ use Rattle.actor_threads.proofs.groups.run_alone.Goals as goal
 pub returns-clause-on : goal.returns-clause-on
 returns-clause-on g c =
     let same = c.run_group.auto.members ∙ ap length c.as_mut_slice.ensures.value in
-    lent_go_on g.A.Actor.is_ready g.A.Actor.stepped _ _ _ _ c.as_mut_slice.ensures.value (written_back c.args.members.items c.run_group.new.members c.args.members.len same c.args.members.ok.0) c.run_group.ensures
+    lent_go_on g.A.Actor.is_ready g.A.Actor.stepped _ _ _ _ c.as_mut_slice.ensures.value
+    (written_back c.args.members.items c.run_group.new.members c.args.members.len same c.args.members.ok.0) c.run_group.ensures

@@ -9,5 +9,6 @@ loop-at-preserved g c =
     let within = subst (λ n. c.loop-at.at < n) (sym inv.count) c.loop-at-test.true in
     record {
       count = length-set c.loop-at.members c.loop-at.at c.turn.new.self ∙ inv.count;
-      on = one_goes_on g.A.Actor.is_ready g.A.Actor.stepped c.args.members.now c.loop-at.members c.loop-at.at c.index-members-at.result c.turn.new.self within inv.count inv.on c.turn.ensures;
+      on = one_goes_on g.A.Actor.is_ready g.A.Actor.stepped c.args.members.now c.loop-at.members c.loop-at.at c.index-members-at.result c.turn.new.self
+          within inv.count inv.on c.turn.ensures;
     }

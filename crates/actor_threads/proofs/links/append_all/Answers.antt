@@ -5,4 +5,5 @@ use Rattle.actor_threads.proofs.BatchLemmas.{messages_more}
 use Rattle.actor_threads.proofs.links.append_all.Goals as goal
 
 pub loop-batch-preserved : goal.loop-batch-preserved
-loop-batch-preserved g c = c.in_ok-append.ensures ∙ (λ i. c.loop-batch.invariant i ++ messages (c.into_vec.ensures i)) ∙ messages_more c.args.list.now.items c.loop-batch.yielded c.in-Some.batch
+loop-batch-preserved g c = c.in_ok-append.ensures ∙ (λ i. c.loop-batch.invariant i ++ messages (c.into_vec.ensures i))
+    ∙ messages_more c.args.list.now.items c.loop-batch.yielded c.in-Some.batch

@@ -30,7 +30,10 @@ loop-way_out-preserved g c =
     record {
       within = omega (arith, h.2.2, inv.closed.rows, c.requires.count, length-map c.args.ins.now.items (λ v. v.items));
       rest = rw add-one (sym (rest_after k _ _ _ shown));
-      closed = subst (λ l. RowClosed (k + 1) c.args.row.items (closing (map (λ v. v.items) c.args.ins.now.items) c.args.links.now.items) (closing l c.push.new.self.items)) (sym (row_set (λ v. v.items) c.loop-way_out.ins.items k c.pop_front-in-Some.new.self c.pop_front-in-Some.new.self.items refl))
-          (rw c.in_ok-push.ensures.items (row_closed_more k _ _ _ _ _ c.in-Some-pop_front.way_in c.pop_front-in-Some.new.self.items _ inv.closed (subst (λ n. k < n) inv.closed.rows h.2.2) (read ∙ c.in-Some-pop_front.ensures.items)
+      closed = subst (λ l. RowClosed (k + 1) c.args.row.items (closing (map (λ v. v.items) c.args.ins.now.items) c.args.links.now.items)
+          (closing l c.push.new.self.items))
+          (sym (row_set (λ v. v.items) c.loop-way_out.ins.items k c.pop_front-in-Some.new.self c.pop_front-in-Some.new.self.items refl))
+          (rw c.in_ok-push.ensures.items (row_closed_more k _ _ _ _ _ c.in-Some-pop_front.way_in c.pop_front-in-Some.new.self.items _ inv.closed
+          (subst (λ n. k < n) inv.closed.rows h.2.2) (read ∙ c.in-Some-pop_front.ensures.items)
           (subst (λ v. Closed c.in-Some-pop_front.way_in v c.in_ok-close_way.field-0) (sym h.2.3) c.in_ok-close_way.ensures)));
     }

@@ -13,8 +13,10 @@ loop-receiver-preserved g c =
     let read = row_read (λ v. v.items) c.loop-receiver.takes.items k _ c.index_mut.ensures.value inside in
     let pushed = c.in_ok-push-2.ensures.items ∙ ap (λ l. l ++ c.in_ok-send.take ∷ []) (sym read) in
     record {
-      opened = subst (λ l. RowOpened (k + 1) c.push.new.self.items (map (λ v. v.items) c.args.takes.now.items) l) (sym (row_set (λ v. v.items) c.loop-receiver.takes.items k c.push-in-loop-receiver.new.self _ pushed))
-          (rw c.in_ok-push.ensures.items (row_opened_more k _ _ _ c.in_ok-send.send c.in_ok-send.take inv.opened (subst (λ n. k < n) (sym (length-map c.args.takes.now.items _)) (subst (λ n. k < n) inv.rows inside))
+      opened = subst (λ l. RowOpened (k + 1) c.push.new.self.items (map (λ v. v.items) c.args.takes.now.items) l)
+          (sym (row_set (λ v. v.items) c.loop-receiver.takes.items k c.push-in-loop-receiver.new.self _ pushed))
+          (rw c.in_ok-push.ensures.items (row_opened_more k _ _ _ c.in_ok-send.send c.in_ok-send.take inv.opened
+          (subst (λ n. k < n) (sym (length-map c.args.takes.now.items _)) (subst (λ n. k < n) inv.rows inside))
           (record { link = c.in_ok-send.ensures.link; sent = c.in_ok-send.ensures.done.0; taken = c.in_ok-send.ensures.done.1 })));
       end = inv.end;
       rows = length-set c.loop-receiver.takes.items k _ ∙ inv.rows;

@@ -1,7 +1,7 @@
 -- The world after a round: what is left on the links, the input that stood for node 0 on its own link, and the notes in the order of the choices.
 use Rattle.std.proofs.Common.{◌<◌, [], ◌++◌, sym, ◌∙◌, ap, subst, arith, length, map, slice_set}
 use Rattle.std.proofs.lemmas.List.{length-map, get_or_default}
-use Rattle.actor_net.specs.Histories.{dealt}
+use Rattle.actor_net.specs.Histories.{notes_of_choices}
 use Rattle.actor_net.specs.Merging.{IsMerge}
 use Rattle.actor_net.proofs.LinkLemmas.{inside}
 use Rattle.actor_threads.specs.LinkTable.{row_at, ways_of}
@@ -13,11 +13,13 @@ returns g c =
     let n = length c.args.round_parts.nodes.items in
     let links = c.in_ok-links.links.items in
     let many = sym (length-map c.args.round_parts.ins.items (λ v. v.items)) ∙ c.requires.close.receivers in
-    let closed = subst (λ k. AllClosed k k (ways_of (map (λ v. v.items) c.args.round_parts.ins.items) (map (λ v. v.items) c.args.round_parts.outs.items)) links) many c.in_ok-links.ensures in
+    let closed = subst (λ k. AllClosed k k (ways_of (map (λ v. v.items) c.args.round_parts.ins.items) (map (λ v. v.items) c.args.round_parts.outs.items))
+    links) many c.in_ok-links.ensures in
     let some : 0 < length links = omega (arith, closed.count, inside n 0 0 c.requires.some.0 c.requires.some.0) in
     let empty = c.from_vec-2.ensures ∙ ap (λ l. slice_set links 0 l) (c.replace-input.ensures.after ∙ c.open.ensures) in
     let input = c.replace-input.ensures.value ∙ c.index_mut.ensures.value ∙ get_or_default links 0 _ [] some in
-    let log = c.from_vec-3.ensures ∙ c.in_ok-deal_all.ensures ∙ ap (λ cs. c.args.log.items ++ dealt (λ j. row_at c.args.round_parts.notes.items j) cs) c.items.ensures in
+    let log = c.from_vec-3.ensures ∙ c.in_ok-deal_all.ensures
+    ∙ ap (λ cs. c.args.log.items ++ notes_of_choices (λ j. row_at c.args.round_parts.notes.items j) cs) c.items.ensures in
     record {
       links = links;
       closed = closed;

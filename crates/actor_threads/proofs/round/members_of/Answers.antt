@@ -1,7 +1,7 @@
 -- One more worker stands as the round begins, and in the end each node's.
 use Rattle.std.proofs.Common.{◌≡◌, ◌<◌, ◌+◌, ◌*◌, ℕ, sym, ◌∙◌, ap, subst, arith, length, map, length-append, add-one, slice_index_or}
 use Rattle.std.proofs.lemmas.List.{length-map, map-append}
-use Rattle.actor_threads.specs.Work.{opened, waits}
+use Rattle.actor_threads.specs.Work.{fresh_worker, queues_at}
 use Rattle.actor_threads.specs.LinkTable.{row_at, name_of}
 use Rattle.actor_threads.specs.Round.{StartsAs}
 use Rattle.actor_threads.proofs.NotesByCounts.{rest_after}
@@ -29,7 +29,8 @@ worker_of-requires-clause-ends g c =
     let inv = c.loop-number.invariant in
     let row = mapped_first (λ v. v.items) c.loop-number.number _ _ _ (sym inv.takes ∙ c.in-Some-pop_front-2.ensures.items) in
     let other = mapped_first (λ v. v.items) c.loop-number.number _ _ _ (sym inv.sends ∙ c.in-Some-pop_front.ensures.items) in
-    sym (ap length other) ∙ inv.opened.send_rows c.loop-number.number c.loop-number-test.true ∙ sym (sym (ap length row) ∙ inv.opened.take_rows c.loop-number.number c.loop-number-test.true)
+    sym (ap length other) ∙ inv.opened.send_rows c.loop-number.number c.loop-number-test.true
+    ∙ sym (sym (ap length row) ∙ inv.opened.take_rows c.loop-number.number c.loop-number-test.true)
 
 pub loop-number-preserved : goal.loop-number-preserved
 loop-number-preserved g c =
@@ -46,11 +47,15 @@ loop-number-preserved g c =
     let wide = sym (ap length takes) ∙ inv.opened.take_rows k hn in
     let with = c.in_ok-worker.ensures.worker in
     let names = name_of (map (λ v. v.items) c.from_vec-sends.result.items) in
-    let lists = λ (p : ℕ) (hp : p < n). subst (λ m. p < m → row_at with.kept p ≡ row_at c.loop-number.links.items (p * m + k)) wide (with.lists p) hp ∙ inv.links p k (omega arith) hn in
-    let opened_is = c.open.ensures.worker ∙ with.is ∙ ap (λ l. opened k c.in-Some.node (waits k c.replace-items.result.items with.kept) l c.in-Some-pop_front.sends.items) (sym takes)
-    ∙ ap (λ l. opened k c.in-Some.node (waits k c.replace-items.result.items with.kept) (row_at (map (λ v. v.items) c.from_vec-takes.result.items) k) l) (sym sends) in
+    let lists = λ (p : ℕ) (hp : p < n). subst (λ m. p < m → row_at with.kept p ≡ row_at c.loop-number.links.items (p * m + k)) wide (with.lists p) hp
+    ∙ inv.links p k (omega arith) hn in
+    let opened_is = c.open.ensures.worker ∙ with.is
+    ∙ ap (λ l. fresh_worker k c.in-Some.node (queues_at k c.replace-items.result.items with.kept) l c.in-Some-pop_front.sends.items) (sym takes)
+    ∙ ap (λ l. fresh_worker k c.in-Some.node (queues_at k c.replace-items.result.items with.kept)
+    (row_at (map (λ v. v.items) c.from_vec-takes.result.items) k) l) (sym sends) in
     let new = subst (λ v. StartsAs w names k v) (sym opened_is)
-    (starts_as w n k (map (λ v. v.items) c.from_vec-sends.result.items) (map (λ v. v.items) c.from_vec-takes.result.items) (sym inv.many) hn inv.opened c.in-Some.node _ c.replace-items.result.items with.kept node
+    (starts_as w n k (map (λ v. v.items) c.from_vec-sends.result.items) (map (λ v. v.items) c.from_vec-takes.result.items) (sym inv.many) hn inv.opened
+    c.in-Some.node _ c.replace-items.result.items with.kept node
     (λ z. ap (λ v. v.items) c.replace-items.ensures.value ∙ inv.input z) (with.count ∙ wide) lists) in
     record {
       within = omega (arith, hn);
@@ -63,12 +68,16 @@ loop-number-preserved g c =
       takes = rw add-one (sym (rest_after k _ _ _ took));
       square = c.in_ok-worker.ensures.square ∙ inv.square;
       no_loop = λ z. absurd (omega arith);
-      links = λ p j low hj. subst (λ m. row_at c.worker_of.new.links.items (p * m + j) ≡ row_at c.loop-number.links.items (p * m + j)) wide (c.in_ok-worker.ensures.others p j (subst (λ m. j < m) (sym wide) hj) (λ e. omega (arith, e))) ∙ inv.links p j (omega arith) hj;
+      links = λ p j low hj. subst (λ m. row_at c.worker_of.new.links.items (p * m + j) ≡ row_at c.loop-number.links.items (p * m + j)) wide
+          (c.in_ok-worker.ensures.others p j (subst (λ m. j < m) (sym wide) hj) (λ e. omega (arith, e))) ∙ inv.links p j (omega arith) hj;
       input = λ z. absurd (omega arith);
       later = λ _. ap (λ v. v.items) c.replace-items.ensures.after ∙ c.new.ensures.items;
-      begin = rw c.in_ok-push.ensures.items (one_begins g.A.Actor.is_ready g.A.Actor.stepped c.loop-number.members.items _ _ inv.begin c.open.ensures.worker c.open.ensures.begin);
-      started = λ j d h. subst (λ l. StartsAs w names j (slice_index_or l j d)) (sym (ap (map (λ s. s.worker)) c.in_ok-push.ensures.items ∙ map-append (λ s. s.worker) c.loop-number.members.items _))
-          (started_more w names (map (λ s. s.worker) c.loop-number.members.items) k c.open.result.worker (length-map c.loop-number.members.items _ ∙ inv.members) inv.started new j d h);
+      begin = rw c.in_ok-push.ensures.items
+          (one_begins g.A.Actor.is_ready g.A.Actor.stepped c.loop-number.members.items _ _ inv.begin c.open.ensures.worker c.open.ensures.begin);
+      started = λ j d h. subst (λ l. StartsAs w names j (slice_index_or l j d))
+          (sym (ap (map (λ s. s.worker)) c.in_ok-push.ensures.items ∙ map-append (λ s. s.worker) c.loop-number.members.items _))
+          (started_more w names (map (λ s. s.worker) c.loop-number.members.items) k c.open.result.worker
+          (length-map c.loop-number.members.items _ ∙ inv.members) inv.started new j d h);
     }
 
 pub returns-clause-members : goal.returns-clause-members

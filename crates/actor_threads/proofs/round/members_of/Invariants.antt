@@ -21,5 +21,6 @@ invariant-loop-number g l = record {
   input : l.number ≡ 0 → l.input.items ≡ l.fn.world.input;
   later : 0 < l.number → l.input.items ≡ [];
   begin : All (λ m. IsInRound g.A.Actor.is_ready g.A.Actor.stepped m.worker m) l.members.items;
-  started : (j : ℕ) (d : _) → j < l.number → StartsAs l.fn.world (name_of (map (λ v. v.items) l.initial.sends.items)) j (slice_index_or (map (λ s. s.worker) l.members.items) j d);
+  started : (j : ℕ) (d : _) → j < l.number
+      → StartsAs l.fn.world (name_of (map (λ v. v.items) l.initial.sends.items)) j (slice_index_or (map (λ s. s.worker) l.members.items) j d);
 }

@@ -15,8 +15,10 @@ gather-requires g c =
     let many = ap length nodes ∙ length-map _ _ ∙ length-map _ _ ∙ c.in_ok-after.ensures.count ∙ members_count c.args.world before begin.members in
     record {
       some = (subst (λ n. 0 < n) (sym many) begin.world.some_node, subst (λ n. n < 256) (sym many) begin.world.few_nodes);
-      close = reclose (sym many) (sym (seen (λ (x : WorkerView _ _ _). x.ins) after _ c.in_ok-round_parts.ensures.ins)) (sym (seen (λ (x : WorkerView _ _ _). x.outs) after _ c.in_ok-round_parts.ensures.outs))
-          (can_close_members g.A.Actor.is_ready g.A.Actor.stepped c.args.world begin.world before after begin.members c.in_ok-after.ensures.round c.in_ok-round_parts.ensures.done c.in_ok-after.ensures.count);
+      close = reclose (sym many) (sym (seen (λ (x : WorkerView _ _ _). x.ins) after _ c.in_ok-round_parts.ensures.ins))
+          (sym (seen (λ (x : WorkerView _ _ _). x.outs) after _ c.in_ok-round_parts.ensures.outs))
+          (can_close_members g.A.Actor.is_ready g.A.Actor.stepped c.args.world begin.world before after begin.members c.in_ok-after.ensures.round
+          c.in_ok-round_parts.ensures.done c.in_ok-after.ensures.count);
     }
 
 pub returns : goal.returns
@@ -29,10 +31,20 @@ returns g c =
     let begin = c.in_ok-members.ensures in
     let parts = c.in_ok-round_parts.ensures in
     let same = c.in_ok-after.ensures.count in
-    let left = regather (seen (λ (x : WorkerView _ _ _). x.node) after _ parts.nodes) (seen history_of after _ parts.histories) (seen (λ (x : WorkerView _ _ _). x.notes) after _ parts.notes)
+    let left = regather (seen (λ (x : WorkerView _ _ _). x.node) after _ parts.nodes) (seen history_of after _ parts.histories)
+    (seen (λ (x : WorkerView _ _ _). x.notes) after _ parts.notes)
     (seen (λ (x : WorkerView _ _ _). x.ins) after _ parts.ins) (seen (λ (x : WorkerView _ _ _). x.outs) after _ parts.outs) begin.log c.in_ok-left.ensures in
-    let run = is_run ready step w begin.world before after begin.members c.in_ok-after.ensures.round parts.done same c.in_ok-left.left c.in_ok-left.choices left in
+    let run = is_run ready step w begin.world before after begin.members c.in_ok-after.ensures.round parts.done same c.in_ok-left.left c.in_ok-left.choices
+    left in
     record {
-      run = (run, is_replay ready step w begin.world before after begin.members c.in_ok-after.ensures.round parts.done same c.in_ok-left.left c.in_ok-left.choices left);
-      moves = (none_enabled ready step w begin.world before after begin.members c.in_ok-after.ensures.round parts.done same c.in_ok-left.left c.in_ok-left.choices left, no_choice ready step w c.in_ok-left.choices run);
+      run = (
+        run,
+        is_replay ready step w begin.world before after begin.members c.in_ok-after.ensures.round parts.done same c.in_ok-left.left c.in_ok-left.choices
+            left,
+      );
+      moves = (
+        none_enabled ready step w begin.world before after begin.members c.in_ok-after.ensures.round parts.done same c.in_ok-left.left c.in_ok-left.choices
+            left,
+        no_choice ready step w c.in_ok-left.choices run,
+      );
     }

@@ -13,6 +13,8 @@ loop-preserved g c =
     let joined = c.in_ok-choices.ensures in
     let w = c.args.world in
     record {
-      is_run = subst (λ l. IsRun ready step l w) (sym joined) (runs_join ready step _ _ w inv.is_run (subst (λ v. IsRun ready step c.in_ok-next.more v) inv.world more.0));
-      world = more.1 ∙ ap (run step c.in_ok-next.more) inv.world ∙ sym (run-append step c.loop.choices c.in_ok-next.more w) ∙ ap (λ l. run step l w) (sym joined);
+      is_run = subst (λ l. IsRun ready step l w) (sym joined)
+          (runs_join ready step _ _ w inv.is_run (subst (λ v. IsRun ready step c.in_ok-next.more v) inv.world more.0));
+      world = more.1 ∙ ap (run step c.in_ok-next.more) inv.world ∙ sym (run-append step c.loop.choices c.in_ok-next.more w)
+          ∙ ap (λ l. run step l w) (sym joined);
     }

@@ -9,7 +9,8 @@ returns-clause-nodes g c = let empty = none _ (sym c.in_default.ensures.cases.0 
 
 pub returns-clause-histories : goal.returns-clause-histories
 returns-clause-histories g c = let empty = none _ (sym c.in_default.ensures.cases.0 ∙ c.loop-member.members.ok.0) in
-    sym (append-nil _) ∙ ap (λ l. c.loop-member.round_parts.histories.items ++ map (λ s. record { node = s.worker.number; steps = s.worker.steps }) l) (sym empty) ∙ c.loop-member.invariant.histories
+    sym (append-nil _) ∙ ap (λ l. c.loop-member.round_parts.histories.items ++ map (λ s. record { node = s.worker.number; steps = s.worker.steps }) l)
+    (sym empty) ∙ c.loop-member.invariant.histories
 
 pub returns-clause-notes : goal.returns-clause-notes
 returns-clause-notes g c = let empty = none _ (sym c.in_default.ensures.cases.0 ∙ c.loop-member.members.ok.0) in
@@ -21,4 +22,5 @@ returns-clause-ins g c = let empty = none _ (sym c.in_default.ensures.cases.0 �
 
 pub returns-clause-outs : goal.returns-clause-outs
 returns-clause-outs g c = let empty = none _ (sym c.in_default.ensures.cases.0 ∙ c.loop-member.members.ok.0) in
-    sym (append-nil _) ∙ ap (λ l. map (λ v. v.items) c.loop-member.round_parts.outs.items ++ map (λ s. s.worker.outs) l) (sym empty) ∙ c.loop-member.invariant.outs
+    sym (append-nil _) ∙ ap (λ l. map (λ v. v.items) c.loop-member.round_parts.outs.items ++ map (λ s. s.worker.outs) l) (sym empty)
+    ∙ c.loop-member.invariant.outs

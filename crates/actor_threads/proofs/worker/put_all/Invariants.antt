@@ -7,7 +7,8 @@ abbrev pub invariant-loop-to : goal.invariant-loop-to
 invariant-loop-to g l = record {
   count : length l.outs.items ≡ length l.fn.outs.items;
   link : (r : ℕ) → r < length l.fn.outs.items → (out_at l.outs.items r).link ≡ (out_at l.fn.outs.items r).link;
-  all : (r : ℕ) → r < length l.fn.outs.items → (out_at l.outs.items r).all ++ put_for (length l.fn.outs.items) l.from r l.clock l.outbox.0 ≡ (out_at l.fn.outs.items r).all ++ put_for (length l.fn.outs.items) l.from r l.clock l.fn.outbox.0;
+  all : (r : ℕ) → r < length l.fn.outs.items → (out_at l.outs.items r).all ++ put_for (length l.fn.outs.items) l.from r l.clock l.outbox.0
+      ≡ (out_at l.fn.outs.items r).all ++ put_for (length l.fn.outs.items) l.from r l.clock l.fn.outbox.0;
 }
 
 abbrev pub decreases-loop-to : goal.decreases-loop-to

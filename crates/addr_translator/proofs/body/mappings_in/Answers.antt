@@ -7,7 +7,10 @@ use Rattle.addr_translator.proofs.body.mappings_in.Goals as goal
 pub returns-in_err-mapping : goal.returns-in_err-mapping
 returns-in_err-mapping c =
     let none : first_mapping c.mappings.rest.now ≡ None = search rules in
-    rw (c.from_residual.ensures, none_at c.args.used c.args.bytes.now (c.mappings.record, c.mappings.rest.now) c.mappings.counter c.mappings-test.true c.mappings.invariant none) refl
+    rw (
+      c.from_residual.ensures,
+      none_at c.args.used c.args.bytes.now (c.mappings.record, c.mappings.rest.now) c.mappings.counter c.mappings-test.true c.mappings.invariant none,
+    ) refl
 
 pub mappings-preserved : goal.mappings-preserved
 mappings-preserved c =
@@ -18,4 +21,5 @@ mappings-preserved c =
 
 pub returns : goal.returns
 returns c =
-    read_all c.args.used c.args.bytes.now (c.mappings.record, c.mappings.rest.now) c.mappings.counter c.mappings-test.false c.mappings.auto.counter-end c.mappings.invariant
+    read_all c.args.used c.args.bytes.now (c.mappings.record, c.mappings.rest.now) c.mappings.counter c.mappings-test.false c.mappings.auto.counter-end
+    c.mappings.invariant

@@ -2,7 +2,7 @@
 use Rattle.std.proofs.Common.{◌≡◌, ◌∙◌, false, sym, unwrap_or}
 use Rattle.nf_function.specs.Units.{is_transport}
 use Rattle.asset_monitor.specs.RowLemmas.{watched_other}
-use Rattle.asset_monitor.specs.Table.{counted, nothing}
+use Rattle.asset_monitor.specs.Outputs.{nothing, counted}
 use Rattle.asset_monitor.proofs.table.step_of_host.Goals as goal
 
 pub returns-then-not-is_transport-clause-output : goal.returns-then-not-is_transport-clause-output

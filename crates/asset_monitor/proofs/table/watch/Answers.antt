@@ -1,7 +1,7 @@
 -- A packet is counted after it was looked at.
 use Rattle.std.proofs.Common.{refl}
 use Rattle.asset_monitor.specs.RowLemmas.{watched_in, watched_out}
-use Rattle.asset_monitor.specs.Table.{counted}
+use Rattle.asset_monitor.specs.Outputs.{counted}
 use Rattle.asset_monitor.proofs.table.watch.Goals as goal
 use Rattle.asset_monitor.proofs.table.watch.Goals.{in-Out+in_ok-output-in-Out, in-In}
 

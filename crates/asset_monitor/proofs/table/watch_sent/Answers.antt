@@ -27,7 +27,8 @@ returns-then-is_unseen-clause-kept c =
     rw (
       c.set_banner.ensures.kept,
       c.greeting.ensures,
-      sent_bare c.args.kept.now c.args.packet.now c.args.service c.requires.source c.in-Ok.place c.items.result.now c.items.ensures.value _ c.in-Ok.ensures.listed c.if-is_unseen.ensures,
+      sent_bare c.args.kept.now c.args.packet.now c.args.service c.requires.source c.in-Ok.place c.items.result.now c.items.ensures.value _
+          c.in-Ok.ensures.listed c.if-is_unseen.ensures,
     ) refl
 
 pub returns-then-is_unseen-clause-output : goal.returns-then-is_unseen-clause-output
@@ -35,15 +36,18 @@ returns-then-is_unseen-clause-output c =
     rw (
       c.set_banner.ensures.output,
       c.greeting.ensures,
-      sent_bare c.args.kept.now c.args.packet.now c.args.service c.requires.source c.in-Ok.place c.items.result.now c.items.ensures.value _ c.in-Ok.ensures.listed c.if-is_unseen.ensures,
+      sent_bare c.args.kept.now c.args.packet.now c.args.service c.requires.source c.in-Ok.place c.items.result.now c.items.ensures.value _
+          c.in-Ok.ensures.listed c.if-is_unseen.ensures,
     ) refl
 
 pub returns-else-is_unseen-clause-kept : goal.returns-else-is_unseen-clause-kept
 returns-else-is_unseen-clause-kept c =
-    rw (sent_greeted c.args.kept.now c.args.packet.now c.args.service c.requires.source c.in-Ok.place c.items.result.now c.items.ensures.value _ c.in-Ok.ensures.listed c.if-is_unseen.ensures)
+    rw (sent_greeted c.args.kept.now c.args.packet.now c.args.service c.requires.source c.in-Ok.place c.items.result.now c.items.ensures.value _
+    c.in-Ok.ensures.listed c.if-is_unseen.ensures)
     refl
 
 pub returns-else-is_unseen-clause-output : goal.returns-else-is_unseen-clause-output
 returns-else-is_unseen-clause-output c =
-    rw (sent_greeted c.args.kept.now c.args.packet.now c.args.service c.requires.source c.in-Ok.place c.items.result.now c.items.ensures.value _ c.in-Ok.ensures.listed c.if-is_unseen.ensures)
+    rw (sent_greeted c.args.kept.now c.args.packet.now c.args.service c.requires.source c.in-Ok.place c.items.result.now c.items.ensures.value _
+    c.in-Ok.ensures.listed c.if-is_unseen.ensures)
     c.output-else-is_unseen.ensures

@@ -1,7 +1,7 @@
 -- What the two settings change of a new command.
 use Rattle.std.proofs.Common.{◌∙◌, ap, true}
 use Rattle.clap.specs.Simple.{on_top, app_of_fields}
-use Rattle.command_words.specs.Grammar.{app_with}
+use Rattle.command_words.specs.ClapArguments.{app_with}
 use Rattle.command_words.proofs.grammar.bare.Goals as goal
 
 pub returns : goal.returns

@@ -1,7 +1,7 @@
 -- The arguments that were declared so far.
 use Rattle.std.proofs.Common.{◌≡◌, map, take}
 use Rattle.clap.specs.Words.{app_of}
-use Rattle.command_words.specs.Grammar.{app_with, rule_by}
+use Rattle.command_words.specs.ClapArguments.{app_with, rule_by}
 use Rattle.command_words.proofs.grammar.command_of.Given as goal
 
 -- the command has the arguments so far

@@ -2,7 +2,7 @@
 use Rattle.std.proofs.Common.{◌∙◌, Some, sym, ap, map, string_bytes}
 use Rattle.clap.specs.Words.{app_of, matches_of}
 use Rattle.clap.proofs.WalkLemmas.{both}
-use Rattle.command_words.specs.Grammar.{rows_taken, taken}
+use Rattle.command_words.specs.ClapArguments.{rows_taken, taken}
 use Rattle.command_words.proofs.ClapRefusals.{refused}
 use Rattle.command_words.proofs.grammar.parsed.Goals as goal
 

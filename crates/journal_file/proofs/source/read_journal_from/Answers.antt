@@ -19,7 +19,8 @@ returns-in_err-count-clause-cause g c =
     let p = err_from_is_err_and c.from_residual-in_err-count.result c.from_residual-in_err-count.ensures.1 in
     record {
       later = omega (arith, c.in_ok-header.ensures.cause.later);
-      read = λ h. absurd (other_fault c.from_residual-in_err-count.result c.in_err-count.field-0.0 (p.1 ∙ ap (λ (e : JournalFault). Err e) p.2) c.in_err-count.ensures.bytes h);
+      read = λ h. absurd (other_fault c.from_residual-in_err-count.result c.in_err-count.field-0.0 (p.1 ∙ ap (λ (e : JournalFault). Err e) p.2)
+          c.in_err-count.ensures.bytes h);
     }
 
 pub returns-in_err-choices-clause-value : goal.returns-in_err-choices-clause-value
@@ -27,7 +28,8 @@ returns-in_err-choices-clause-value g c = λ bytes told.
     let head = c.in_ok-header.ensures.value bytes told in
     let is = count_read c.args.kind c.args.instances bytes _ _ _ c.items.ensures head.0 c.in_ok-count.ensures.value in
     let p = err_from_is_err_and c.from_residual-in_err-choices.result c.from_residual-in_err-choices.ensures.1 in
-    rw (p.1, p.2) (body_gives c.args.kind c.args.instances c.in_ok-count.count bytes (g.S.Source.left c.take_choices.new.source) (Err c.in_err-choices.field-0.0) is
+    rw (p.1, p.2) (body_gives c.args.kind c.args.instances c.in_ok-count.count bytes (g.S.Source.left c.take_choices.new.source)
+    (Err c.in_err-choices.field-0.0) is
     (choices_fault c.in_ok-count.count bytes _ _ (c.in_err-choices.ensures.value _ head.1)))
 
 pub returns-then-not-is_empty-clause-value : goal.returns-then-not-is_empty-clause-value

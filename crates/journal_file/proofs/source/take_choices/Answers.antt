@@ -18,7 +18,8 @@ pub returns-in_err-piece-clause-value : goal.returns-in_err-piece-clause-value
 returns-in_err-piece-clause-value g c = λ bytes told.
     let before = c.loop-done.invariant.taken bytes told in
     let p = err_from_is_err_and c.from_residual.result c.from_residual.ensures.1 in
-    rw (p.1, p.2) (piece_fault c.args.count (2 * c.min-wanted.result) bytes (drop (2 * c.loop-done.done) bytes) _ _ (c.in_err-piece.ensures.value _ before.rest))
+    rw (p.1, p.2) (piece_fault c.args.count (2 * c.min-wanted.result) bytes (drop (2 * c.loop-done.done) bytes) _ _
+    (c.in_err-piece.ensures.value _ before.rest))
 
 pub returns-then-items-wanted-clause-value : goal.returns-then-items-wanted-clause-value
 returns-then-items-wanted-clause-value g c = λ bytes told.

@@ -8,7 +8,8 @@ use Rattle.op_script.proofs.input.with_lines.Goals as goal
 
 pub returns-then-stand_after : goal.returns-then-stand_after
 returns-then-stand_after c =
-    all_after c.args.packets c.args.lines.now c.items.result.now c.into_items.result.items c.stand_after.result c.items.ensures.items c.into_items.ensures c.stand_after.ensures c.if-stand_after.true
+    all_after c.args.packets c.args.lines.now c.items.result.now c.into_items.result.items c.stand_after.result c.items.ensures.items c.into_items.ensures
+    c.stand_after.ensures c.if-stand_after.true
 
 pub returns : goal.returns
 returns c = all_written (record { packets = c.args.packets; lines = c.args.lines.now }) c.loop-item.point c.loop-item.waiting.items _ c.loop-item.out.items
@@ -28,7 +29,8 @@ loop-item-preserved c = let rest = c.loop-item.rest.now in let count = c.count_a
   fits = fits_on c.loop-item.waiting.items c.in-Some.item _ c.loop-item.point c.in-Some.ensures.items c.loop-item.invariant.fits;
   short = still_short count rest _ c.loop-item.invariant.short (take_rest rest count);
   ahead = ahead_next (λ line. line.now) c.loop-item.point count rest _ lines c.loop-item.invariant.ahead c.count_at-count.ensures.count (take_rest rest count);
-  so_far = so_far_more (record { packets = c.args.packets; lines = lines }) c.loop-item.point c.loop-item.waiting.items _ c.loop-item.out.items _ c.push_lines.new.out.items _ c.in-Some.item
+  so_far = so_far_more (record { packets = c.args.packets; lines = lines }) c.loop-item.point c.loop-item.waiting.items _ c.loop-item.out.items _
+      c.push_lines.new.out.items _ c.in-Some.item
       (said_first (λ line. line.now) c.loop-item.point count rest lines c.loop-item.invariant.ahead c.count_at-count.ensures.count)
       c.in_ok-push_lines.ensures c.in_ok-push.ensures.items c.in-Some.ensures.items c.loop-item.invariant.so_far;
 }

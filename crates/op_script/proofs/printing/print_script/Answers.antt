@@ -7,17 +7,20 @@ use Rattle.nf_function.specs.declared.kind.Kind.{Kind}
 use Rattle.op_script.specs.declared.script.Script.{Script}
 use Rattle.op_script.specs.Statements.{Word}
 use Rattle.op_script.specs.Printing.{line_text, route_words, line_words, script_text, IsRoute, IsLine, IsScript, SplitsNone}
-use Rattle.op_script.specs.Reading.{route_view, line_view, script_view, script_of}
+use Rattle.op_script.specs.Reading.{line_view, script_view, script_of}
+use Rattle.op_script.specs.ReadingSteps.{route_view}
 use Rattle.op_script.proofs.PrintedScripts.{IsNamed, script_again}
 use Rattle.op_script.proofs.WrittenTexts.{lines_more, all_written, at_item, fits_more}
 use Rattle.op_script.proofs.printing.print_script.Goals as goal
 
 written : (names : List Word) (script : Script) (out : List ℕ) (i : ℕ) → length script.lines.items ≤ i
-    → out ≡ concat (map line_text (map (route_words names) script.routes.items)) ++ concat (map line_text (map line_words (take i script.lines.items))) → out ≡ script_text names script
+    → out ≡ concat (map line_text (map (route_words names) script.routes.items)) ++ concat (map line_text (map line_words (take i script.lines.items)))
+    → out ≡ script_text names script
 unfolding script_text
 written names script out i over text = all_written line_text (route_words names) line_words out script.routes.items script.lines.items i over text
 
-again_of : (kind : Kind) (names : List Word) (script : Script) (out : List ℕ) → IsScript names (script_view script) → AllByRecursion (IsNamed names) script.routes.items → has_twice names ≡ false
+again_of : (kind : Kind) (names : List Word) (script : Script) (out : List ℕ) → IsScript names (script_view script)
+    → AllByRecursion (IsNamed names) script.routes.items → has_twice names ≡ false
     → SplitsNone kind (script_view script)
     → out ≡ script_text names script → length out ≤ 1048576 → script_of kind names out ≡ Ok (script_view script)
 again_of kind names script out is named once whole text short = rw text (script_again kind names script is named once whole (rw text at short))
@@ -29,14 +32,16 @@ loop-route-preserved c =
     record {
       text = lines_more line_text (route_words c.args.names.now) [] _ _ c.args.script.now.routes.items c.loop-route.route-index c.route-item.result
           below is c.loop-route.invariant.text c.in_ok-print_route.ensures.text;
-      named = fits_more (IsNamed c.args.names.now) c.args.script.now.routes.items c.loop-route.route-index c.route-item.result below is c.loop-route.invariant.named c.in_ok-print_route.ensures.name;
+      named = fits_more (IsNamed c.args.names.now) c.args.script.now.routes.items c.loop-route.route-index c.route-item.result below is
+          c.loop-route.invariant.named c.in_ok-print_route.ensures.name;
     }
 
 pub loop-line-init : goal.loop-line-init
 loop-line-init c =
     let all = take_all c.loop-route.route-index c.args.script.now.routes.items (rw c.as_slice-route-items.ensures.value at c.loop-route-test.false) in
     record {
-      text = (rw all at c.loop-route.invariant.text) ∙ sym (append-nil (concat (map line_text (map (route_words c.args.names.now) c.args.script.now.routes.items))));
+      text = (rw all at c.loop-route.invariant.text)
+          ∙ sym (append-nil (concat (map line_text (map (route_words c.args.names.now) c.args.script.now.routes.items))));
       named = rw all at c.loop-route.invariant.named;
     }
 
@@ -56,11 +61,13 @@ returns c =
     let is = written c.args.names.now c.args.script.now c.loop-line.out c.loop-line.line-index over c.loop-line.invariant.text in
     record {
       text = is;
-      again = λ kind once whole short. again_of kind c.args.names.now c.args.script.now c.loop-line.out c.requires c.loop-line.invariant.named once whole is short;
+      again = λ kind once whole short. again_of kind c.args.names.now c.args.script.now c.loop-line.out c.requires c.loop-line.invariant.named once whole is
+          short;
     }
 
 pub print_route-requires : goal.print_route-requires
-print_route-requires c = at_item (IsRoute c.args.names.now) route_view c.args.script.now.routes.items c.loop-route.route-index c.route-item.result c.requires.routes
+print_route-requires c =
+    at_item (IsRoute c.args.names.now) route_view c.args.script.now.routes.items c.loop-route.route-index c.route-item.result c.requires.routes
     (rw c.as_slice-route-items.ensures.value at c.loop-route-test.true) (rw c.as_slice-route-items.ensures.value at c.route-item.is)
 
 pub print_line-requires : goal.print_line-requires

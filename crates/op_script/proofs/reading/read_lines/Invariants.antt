@@ -2,7 +2,8 @@
 use Rattle.std.proofs.Common.{◌≡◌, ◌==◌, ◌+◌, ◌≤◌, option_map}
 use Rattle.std.specs.List.{slice_split}
 use Rattle.basics.specs.Parsing.{remaining_pieces}
-use Rattle.op_script.specs.Reading.{with_lines, start}
+use Rattle.op_script.specs.Reading.{with_lines}
+use Rattle.op_script.specs.ReadingSteps.{start}
 use Rattle.basics.proofs.BytesLeft.{bytes_left}
 use Rattle.op_script.proofs.reading.read_lines.Given as goal
 

@@ -24,7 +24,8 @@ returns-in_err-choices-clause-row g c =
     let named = still_named c.args.asked.now.network.journal c.args.asked.now.has_journal in
     let failed = err_from_is_err_and c.from_residual-in_err-choices.result c.from_residual-in_err-choices.ensures.1 in
     rw (failed.1, failed.2)
-    (journal_row s (asks_audit s) (audits_journal s named) (scenario_of c.args.asked.now.network.site c.in_ok-inputs.inputs) (g.O.Outside.seen c.args.outside.now)
+    (journal_row s (asks_audit s) (audits_journal s named) (scenario_of c.args.asked.now.network.site c.in_ok-inputs.inputs)
+    (g.O.Outside.seen c.args.outside.now)
     (g.O.Outside.seen c.read_inputs.new.outside) (g.O.Outside.seen c.read_choices.new.outside) c.requires c.in_ok-inputs.ensures.only
     c.in_ok-inputs.ensures.given c.in_err-choices.ensures.alone c.in_err-choices.field-0.0
     (counted s (g.O.Outside.seen c.read_inputs.new.outside) (g.O.Outside.seen c.read_choices.new.outside) (Err c.in_err-choices.field-0.0)
@@ -40,6 +41,8 @@ returns-clause-row g c =
     let new = g.O.Outside.seen c.read_choices.new.outside in
     let answers = counted s mid new (Ok c.in_ok-choices.choices) c.len-count.result c.in_ok-choices.ensures.journal (search rules) in
     told_row (record { words = s; scenario = scenario; choices = c.in_ok-choices.choices }) old new c.requires
-    (only s (asks_audit s) (audits_journal s named) scenario old mid new c.requires c.in_ok-inputs.ensures.only c.in_ok-inputs.ensures.given c.in_ok-choices.ensures.alone)
-    (journal_told s (asks_audit s) (audits_journal s named) scenario old mid new c.requires c.in_ok-inputs.ensures.only c.in_ok-inputs.ensures.given c.in_ok-choices.ensures.alone
+    (only s (asks_audit s) (audits_journal s named) scenario old mid new c.requires c.in_ok-inputs.ensures.only c.in_ok-inputs.ensures.given
+    c.in_ok-choices.ensures.alone)
+    (journal_told s (asks_audit s) (audits_journal s named) scenario old mid new c.requires c.in_ok-inputs.ensures.only c.in_ok-inputs.ensures.given
+    c.in_ok-choices.ensures.alone
     c.in_ok-choices.choices answers) c.run_told.result c.run_told.ensures

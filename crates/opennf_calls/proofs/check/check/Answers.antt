@@ -15,11 +15,13 @@ returns-in-Ok-put g c =
     report_written (asks_check (check_view c.args.asked.now)) _ _ _ (one_read Script _ _ refl c.read_canonical.ensures.alone) c.requires
     (report_alone (asks_check (check_view c.args.asked.now)) Script (one_file-check (check_view c.args.asked.now)) refl)
     [] c.in-Ok.text c.in-Ok.ensures.row
-    (subst (λ (text : List ℕ). Wrote Report (g.O.Outside.seen c.read_canonical.new.outside) (g.O.Outside.seen c.put.new.outside) (all_of text)) c.items.ensures c.in-Ok-put.ensures)
+    (subst (λ (text : List ℕ). Wrote Report (g.O.Outside.seen c.read_canonical.new.outside) (g.O.Outside.seen c.put.new.outside) (all_of text))
+    c.items.ensures c.in-Ok-put.ensures)
 
 pub returns : goal.returns
 returns g c =
     report_failed (asks_check (check_view c.args.asked.now)) _ _ _ (one_read Script _ _ refl c.read_canonical.ensures.alone) c.requires
     (report_alone (asks_check (check_view c.args.asked.now)) Script (one_file-check (check_view c.args.asked.now)) refl)
     [] c.in-Ok.text c.in-Ok.ensures.row
-    (subst (λ (text : List ℕ). Wrote Report (g.O.Outside.seen c.read_canonical.new.outside) (g.O.Outside.seen c.put.new.outside) (front_of text)) c.items.ensures c.in-Err-put.ensures)
+    (subst (λ (text : List ℕ). Wrote Report (g.O.Outside.seen c.read_canonical.new.outside) (g.O.Outside.seen c.put.new.outside) (front_of text))
+    c.items.ensures c.in-Err-put.ensures)

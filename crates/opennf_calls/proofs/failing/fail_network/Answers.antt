@@ -7,9 +7,9 @@ use Rattle.trace_reader.specs.Records.{AreNumbered}
 use Rattle.actor_net.specs.declared.choice.Choice.{Choice}
 use Rattle.command_words.specs.RequestViews.{fail_view}
 use Rattle.net_world.specs.Input.{packets}
-use Rattle.net_world.specs.Start.{started}
+use Rattle.net_world.specs.Start.{started_with}
 use Rattle.run_input.proofs.SaidCommands.{packets_in}
-use Rattle.standby_failover.specs.Causes.{IsFailCause, first_of, world_after}
+use Rattle.run_headline.specs.standby_failover.specs.Causes.{IsFailCause, first_of, world_after}
 use Rattle.opennf_calls.specs.Phases.{scenario_of}
 use Rattle.opennf_calls.proofs.FailLemmas.{Left, failover_is, failover_refused}
 use Rattle.opennf_calls.proofs.failing.fail_network.Given.{Over}
@@ -56,7 +56,8 @@ returns-in_err-promoted g c =
     rw (failed.1, failed.2)
     (failover_refused g.row.F.Denot f asked (scenario_of c.args.asked.now.network.site c.args.inputs) c.args.alloc opening.config opening.items.items is.config
     is.items c.args.choices c.in_err-promoted.field-0.0 (λ step same.
-    subst (λ (cs : List Choice). IsFailCause {F = g.row.F.Denot} f (started c.args.alloc opening.config opening.items.items) (first_of cs asked.after) step)
+    subst (λ (cs : List Choice). IsFailCause {F = g.row.F.Denot} f (started_with c.args.alloc opening.config opening.items.items) (first_of cs asked.after)
+    step)
     told (c.in_err-promoted.ensures.not_a_run step (ap Err same))))
 
 pub returns : goal.returns
@@ -70,7 +71,7 @@ returns g c =
     let told : c.items.result.now ≡ c.args.choices = search rules in
     let left = c.in_ok-promoted.ensures in
     let report = c.in_ok-report.ensures in
-    let world = world_after f (started {F = g.row.F.Denot} c.args.alloc opening.config opening.items.items) (first_of c.items.result.now asked.after) in
+    let world = world_after f (started_with {F = g.row.F.Denot} c.args.alloc opening.config opening.items.items) (first_of c.items.result.now asked.after) in
     let taken : c.from_vec-choices.result ≡ take asked.after c.args.choices = search rules in
     failover_is g.row.F.Denot f asked scenario c.args.alloc opening.config opening.items.items is.config is.items c.args.choices opening.head is.head
     c.in_ok-promoted.promoted c.in_ok-report._table

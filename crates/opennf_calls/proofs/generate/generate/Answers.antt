@@ -14,14 +14,20 @@ pub returns-in-Ok : goal.returns-in-Ok
 returns-in-Ok g c =
     let asked = gen_view c.args.asked.now in
     let line : c.as_bytes.result.now ≡ gen_line asked = search rules in
-    let file : Wrote TraceOut (g.O.Outside.seen c.args.outside.now) (g.O.Outside.seen c.write_capture.new.outside) (all_of (capture asked.number asked.packets asked.hosts)) = search rules in
-    let report = subst (λ (text : List ℕ). Wrote Report (g.O.Outside.seen c.write_capture.new.outside) (g.O.Outside.seen c.put.new.outside) (all_of text)) line c.in-Ok.ensures in
+    let file : Wrote TraceOut (g.O.Outside.seen c.args.outside.now) (g.O.Outside.seen c.write_capture.new.outside)
+    (all_of (capture asked.number asked.packets asked.hosts)) =
+    search rules in
+    let report = subst (λ (text : List ℕ). Wrote Report (g.O.Outside.seen c.write_capture.new.outside) (g.O.Outside.seen c.put.new.outside) (all_of text))
+    line c.in-Ok.ensures in
     both_written (asks_gen asked) TraceOut (gen_writes asked) _ _ (none_read _) c.requires (gen_made asked) (gen_texts asked _) _ _ file report
 
 pub returns-in-Err-put : goal.returns-in-Err-put
 returns-in-Err-put g c =
     let asked = gen_view c.args.asked.now in
     let line : c.as_bytes.result.now ≡ gen_line asked = search rules in
-    let file : Wrote TraceOut (g.O.Outside.seen c.args.outside.now) (g.O.Outside.seen c.write_capture.new.outside) (all_of (capture asked.number asked.packets asked.hosts)) = search rules in
-    let report = subst (λ (text : List ℕ). Wrote Report (g.O.Outside.seen c.write_capture.new.outside) (g.O.Outside.seen c.put.new.outside) (front_of text)) line c.in-Err-put.ensures in
+    let file : Wrote TraceOut (g.O.Outside.seen c.args.outside.now) (g.O.Outside.seen c.write_capture.new.outside)
+    (all_of (capture asked.number asked.packets asked.hosts)) =
+    search rules in
+    let report = subst (λ (text : List ℕ). Wrote Report (g.O.Outside.seen c.write_capture.new.outside) (g.O.Outside.seen c.put.new.outside) (front_of text))
+    line c.in-Err-put.ensures in
     second_failed (asks_gen asked) TraceOut (gen_writes asked) _ _ (none_read _) c.requires (gen_made asked) (gen_texts asked _) _ _ file report

@@ -15,4 +15,4 @@ returns-in_err-trace-clause-given g c =
 pub returns-clause-given : goal.returns-clause-given
 returns-clause-given g c =
     both_read (network_view c.args.asked.now) _ _ c.in_ok-script.script c.in_ok-script.ensures.alone c.in_ok-script.ensures.said
-    _ c.in_ok-trace.ensures.alone c.args.asked.now.site (record { bits = refl; len = refl; outside = refl }) c.in_ok-trace.trace c.in_ok-trace.ensures.trace
+    _ c.in_ok-trace.ensures.alone c.args.asked.now.site refl refl c.in_ok-trace.trace c.in_ok-trace.ensures.trace

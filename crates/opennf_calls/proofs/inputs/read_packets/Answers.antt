@@ -5,7 +5,7 @@ use Rattle.opennf_calls.proofs.inputs.read_packets.Goals as goal
 
 pub returns-clause-alone : goal.returns-clause-alone
 returns-clause-alone g c = record {
-  written = left_written g.O.Outside.seen _ _ _ _ _ c.read_in_range.ensures.stays.same_rest (search rules);
-  name = left_name g.O.Outside.seen _ _ _ _ _ c.read_in_range.ensures.stays.same_rest (search rules);
-  others = left_others g.O.Outside.seen _ _ _ _ _ c.read_in_range.ensures.stays.same_rest (search rules);
+  written = left_written g.O.Outside.seen _ _ _ _ _ c.read_trace.ensures.stays.same_rest (search rules);
+  name = left_name g.O.Outside.seen _ _ _ _ _ c.read_trace.ensures.stays.same_rest (search rules);
+  others = left_others g.O.Outside.seen _ _ _ _ _ c.read_trace.ensures.stays.same_rest (search rules);
 }

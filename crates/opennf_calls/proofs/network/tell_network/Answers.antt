@@ -5,9 +5,9 @@ use Rattle.nf_function.specs.declared.kind.Kind.{Kind}
 use Rattle.actor_net.specs.declared.choice.Choice.{Choice}
 use Rattle.command_words.specs.RequestViews.{network_view}
 use Rattle.net_world.specs.Input.{IsInput}
-use Rattle.net_world.specs.Start.{started}
-use Rattle.net_length.proofs.ShortRuns.{short_runs}
-use Rattle.run_report.specs.Audits.{IsAuditCause, world_after}
+use Rattle.net_world.specs.Start.{started_with}
+use Rattle.run_headline.specs.nf_net.proofs.length.ShortRuns.{short_runs}
+use Rattle.run_headline.specs.run_report.specs.Audits.{IsAuditCause, world_after}
 use Rattle.opennf_calls.specs.Phases.{scenario_of}
 use Rattle.opennf_calls.proofs.RunLemmas.{Ran, run_of, run_refused}
 use Rattle.opennf_calls.proofs.network.tell_network.Goals as goal
@@ -19,9 +19,11 @@ returns-in_err-report g c =
     let told : c.items-told.result.now ≡ c.args.choices = search rules in
     let failed = err_from_is_err_and c.from_residual-in_err-report.result c.from_residual-in_err-report.ensures.1 in
     rw (failed.1, failed.2)
-    (run_refused g.row.F.Denot g.F.Function.semantics (network_view c.args.asked.now) (scenario_of c.args.asked.now.site c.args.inputs) c.args.alloc opening.config opening.items.items opening.head is.config is.items
+    (run_refused g.row.F.Denot g.F.Function.semantics (network_view c.args.asked.now) (scenario_of c.args.asked.now.site c.args.inputs) c.args.alloc
+    opening.config opening.items.items opening.head is.config is.items
     c.args.choices c.in_err-report.field-0.0 (λ step same.
-    subst (λ (cs : List Choice). IsAuditCause {F = g.row.F.Denot} g.F.Function.semantics (started c.args.alloc opening.config opening.items.items) cs step) told
+    subst (λ (cs : List Choice). IsAuditCause {F = g.row.F.Denot} g.F.Function.semantics (started_with c.args.alloc opening.config opening.items.items) cs
+    step) told
     (c.in_err-report.ensures.not_a_run step (ap Err same))))
 
 pub returns : goal.returns
@@ -30,11 +32,15 @@ returns g c =
     let is = c.in_ok-config.ensures in
     let report = c.in_ok-report.ensures in
     let told : c.items-told.result.now ≡ c.args.choices = search rules in
-    let start = started {F = g.row.F.Denot} {R = g.row.F-Record.Denot} c.args.alloc opening.config opening.items.items in
+    let start = started_with {F = g.row.F.Denot} {R = g.row.F-Record.Denot} c.args.alloc opening.config opening.items.items in
     let input = subst (λ (k : Kind). IsInput k opening.config opening.items.items) (sym c.requires.kind) is.is_input in (
-      run_of g.row.F.Denot g.F.Function.semantics (network_view c.args.asked.now) (scenario_of c.args.asked.now.site c.args.inputs) c.args.alloc opening.config opening.items.items opening.head is.config is.items
-          g.met.F.Function.laws None (record { choices = c.args.choices; report = c.in_ok-report.report }) (world_after g.F.Function.semantics start c.items-told.result.now)
-          (subst (λ (cs : List Choice). Ran g.row.F.Denot g.F.Function.semantics (network_view c.args.asked.now) (scenario_of c.args.asked.now.site c.args.inputs) c.args.alloc opening.config opening.items.items opening.head is.config is.items cs (world_after g.F.Function.semantics start c.items-told.result.now)) told
+      run_of g.row.F.Denot g.F.Function.semantics (network_view c.args.asked.now) (scenario_of c.args.asked.now.site c.args.inputs) c.args.alloc
+          opening.config opening.items.items opening.head is.config is.items
+          g.met.F.Function.laws None (record { choices = c.args.choices; report = c.in_ok-report.report })
+          (world_after g.F.Function.semantics start c.items-told.result.now)
+          (subst (λ (cs : List Choice). Ran g.row.F.Denot g.F.Function.semantics (network_view c.args.asked.now)
+          (scenario_of c.args.asked.now.site c.args.inputs) c.args.alloc opening.config opening.items.items opening.head is.config is.items cs
+          (world_after g.F.Function.semantics start c.items-told.result.now)) told
           (record {
             leads = report.run.leads;
             complete = report.run.complete;
@@ -43,7 +49,8 @@ returns g c =
             standbys = report.standbys input;
             completed = report.completed input;
             home = report.home input;
-            few = short_runs g.row.F.Denot g.F.Function.semantics g.met.F.Function.laws c.args.alloc opening.config opening.items.items input is.short c.items-told.result.now report.run.leads.is_run;
+            few = short_runs g.row.F.Denot g.F.Function.semantics g.met.F.Function.laws c.args.alloc opening.config opening.items.items input is.short
+                c.items-told.result.now report.run.leads.is_run;
             input = is.is_input;
             kind = c.requires.kind;
           })) (λ schedule same. cc) is.head report.text,

@@ -9,8 +9,10 @@ pub returns : goal.returns
 returns g c =
     let opening = c.in_ok-config.field-0 in
     let is = c.in_ok-config.ensures in
-    run_of g.row.F.Denot g.F.Function.semantics (network_view c.args.asked.now) (scenario_of c.args.asked.now.site c.args.inputs) c.args.alloc opening.config opening.items.items opening.head is.config is.items
-    (g.met.F.Function g.world.𝓛 g.world.𝓜 g.world.𝓡 ((λ s x. x), (λ x. x), (λ x. x), λ x. x)).laws None (record { choices = c.in_ok-world.choices; report = c.in_ok-report.report }) c.in_ok-world.world
+    run_of g.row.F.Denot g.F.Function.semantics (network_view c.args.asked.now) (scenario_of c.args.asked.now.site c.args.inputs) c.args.alloc
+    opening.config opening.items.items opening.head is.config is.items
+    (g.met.F.Function g.world.𝓛 g.world.𝓜 g.world.𝓡 ((λ s x. x), (λ x. x), (λ x. x), λ x. x)).laws None
+    (record { choices = c.in_ok-world.choices; report = c.in_ok-report.report }) c.in_ok-world.world
     (record {
       leads = c.in_ok-world.ensures.leads;
       complete = c.in_ok-world.ensures.complete;

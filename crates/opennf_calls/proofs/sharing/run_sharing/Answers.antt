@@ -18,4 +18,5 @@ for_kind-requires c = (
 pub returns : goal.returns
 returns c =
     let s = strong_view c.args.asked.now in
-    ok_of_kind s.kind c.for_kind.result (λ made R F f. IsSharingOf F f s (sharing_scene c.args.asked.now c.args.trace) c.args.schedule (reports made)) c.for_kind.ensures
+    ok_of_kind s.kind c.for_kind.result (λ made R F f. IsSharingOf F f s (sharing_scene c.args.asked.now c.args.trace) c.args.schedule (reports made))
+    c.for_kind.ensures

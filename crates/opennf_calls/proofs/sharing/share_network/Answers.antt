@@ -3,11 +3,11 @@ use Rattle.std.proofs.Common.{◌≡◌, arith, refl, rules, subst, sym}
 use Rattle.nf_function.specs.declared.kind.Kind.{Kind}
 use Rattle.command_words.specs.RequestViews.{strong_view}
 use Rattle.strong_share.specs.Promises.{StrongCompleted, StrongEnds, StrongPromises}
-use Rattle.strong_share.specs.Runs.{LeadsTo, chosen}
+use Rattle.strong_share.specs.Runs.{LeadsTo, choices_of}
 use Rattle.strong_share.specs.Start.{IsStrongJob, StrongJob, strong_start}
-use Rattle.other_headlines.specs.Strong.{HasStrongHeadline}
-use Rattle.other_headlines.specs.StrongLaw.{IsStrongRun, strong_subject}
-use Rattle.other_headlines.proofs.StrongTexts.{strong_law}
+use Rattle.run_headline.specs.Strong.{HasStrongHeadline}
+use Rattle.run_headline.specs.StrongLaw.{IsStrongRun, strong_subject}
+use Rattle.run_headline.proofs.others.StrongTexts.{strong_law}
 use Rattle.opennf_calls.specs.StrongRuns.{sharing_for, sharing_scene}
 use Rattle.opennf_calls.proofs.StrongRows.{same_sharing}
 use Rattle.opennf_calls.proofs.sharing.share_network.Goals as goal
@@ -16,7 +16,8 @@ pub simulate_strong-ended-requires : goal.simulate_strong-ended-requires
 simulate_strong-ended-requires g c =
     let s = strong_view c.args.asked.now in
     let scene = sharing_scene c.args.asked.now c.args.trace in
-    subst (λ (j : StrongJob). IsStrongJob g.F.Function.semantics.kind j) (sym (same_sharing s scene c.member_count-members.result c.member_count-members.ensures))
+    subst (λ (j : StrongJob). IsStrongJob g.F.Function.semantics.kind j)
+    (sym (same_sharing s scene c.member_count-members.result c.member_count-members.ensures))
     (subst (λ (k : Kind). IsStrongJob k (sharing_for s scene)) (sym c.requires.kind) c.requires.sound.job)
 
 pub unreachable-requires : goal.unreachable-requires
@@ -46,7 +47,8 @@ returns g c =
     record {
       alloc = alloc;
       world = c.in-Ok.ended.0;
-      scheduled = subst (λ (j : StrongJob). c.in-Ok.ended.1 ≡ chosen {F = g.row.F.Denot} f (strong_start alloc j) c.args.schedule) same c.in-Ok.ensures.choices;
+      scheduled = subst (λ (j : StrongJob). c.in-Ok.ended.1 ≡ choices_of {F = g.row.F.Denot} f (strong_start alloc j) c.args.schedule) same
+          c.in-Ok.ensures.choices;
       leads = leads;
       complete = c.in-Ok.ensures.complete;
       promises = subst (λ (j : StrongJob). StrongPromises f j c.in-Ok.ended.0) same c.in-Ok.ensures.promises;

@@ -6,6 +6,7 @@ use Rattle.opennf_calls.proofs.sim.simulate.Goals as goal
 
 pub returns-in-Ok : goal.returns-in-Ok
 returns-in-Ok g c =
-    run_performs (network_view c.args.asked.now) (asks_sim (network_view c.args.asked.now) c.args.schedule) (sim_writes (network_view c.args.asked.now) c.args.schedule)
+    run_performs (network_view c.args.asked.now) (asks_sim (network_view c.args.asked.now) c.args.schedule)
+    (sim_writes (network_view c.args.asked.now) c.args.schedule)
     (g.O.Outside.seen c.args.outside.now) (g.O.Outside.seen c.make.new.outside) (g.O.Outside.seen c.write_results.new.outside)
     c.in-Ok.ensures.only c.requires c.in-Ok.made c.in-Ok.ensures.row c.write_results.result c.write_results.ensures

@@ -24,7 +24,8 @@ returns-in_err-trace-clause-row g c =
     let failed = err_from_is_err_and c.from_residual.result c.from_residual.ensures.1 in
     rw (failed.1, failed.2)
     (capture_row (asks_strong s c.args.schedule) (sharing_reads s c.args.schedule) (g.O.Outside.seen c.args.outside.now)
-    (g.O.Outside.seen c.read_packets.new.outside) c.requires c.in_err-trace.ensures.alone c.in_err-trace.field-0.0 c.in_err-trace.ensures.trace c.in_err-trace.ensures.cause)
+    (g.O.Outside.seen c.read_packets.new.outside) c.requires c.in_err-trace.ensures.alone c.in_err-trace.field-0.0 c.in_err-trace.ensures.trace
+    c.in_err-trace.ensures.cause)
 
 pub returns-clause-row : goal.returns-clause-row
 returns-clause-row g c =

@@ -1,10 +1,10 @@
 -- The choices of the workers lead from the start to a world in which nothing is left to do.
 use Rattle.std.proofs.Common.{subst}
-use Rattle.net_length.proofs.ShortRuns.{short_runs}
+use Rattle.run_headline.specs.nf_net.proofs.length.ShortRuns.{short_runs}
 use Rattle.net_world.specs.Runs.{LeadsTo}
-use Rattle.nf_net.proofs.EveryRun.{keeps_all}
-use Rattle.nf_net.proofs.JudgedRuns.{verdicts}
-use Rattle.nf_net.proofs.StandbyRuns.{standbys}
+use Rattle.run_headline.specs.nf_net.proofs.EveryRun.{keeps_all}
+use Rattle.run_headline.specs.nf_net.proofs.JudgedRuns.{verdicts}
+use Rattle.run_headline.specs.nf_net.proofs.StandbyRuns.{standbys}
 use Rattle.opennf_calls.proofs.threads.run_network.Goals as goal
 
 pub returns : goal.returns
@@ -13,8 +13,10 @@ returns g c =
     -- the function may be sent, so its laws hold in every thread, and in this one
     let laws = (g.met.F.Function g.world.𝓛 g.world.𝓜 g.world.𝓡 ((λ s x. x), (λ x. x), (λ x. x), λ x. x)).laws in
     let run = c.in_ok-world.ensures.run in
-    let leads = subst (λ v. LeadsTo {F = g.row.F.Denot} f v c.in_ok-world.choices c.in_ok-world.world) c.in_ok-opening.ensures (record { is_run = run.0; reached = run.1 }) in
-    let all = keeps_all g.row.F.Denot f laws c.args.alloc c.args.config.now c.args.items.items c.requires c.in_ok-world.choices c.in_ok-world.world leads c.in_ok-world.ensures.complete in
+    let leads = subst (λ v. LeadsTo {F = g.row.F.Denot} f v c.in_ok-world.choices c.in_ok-world.world) c.in_ok-opening.ensures
+    (record { is_run = run.0; reached = run.1 }) in
+    let all = keeps_all g.row.F.Denot f laws c.args.alloc c.args.config.now c.args.items.items c.requires c.in_ok-world.choices c.in_ok-world.world leads
+    c.in_ok-world.ensures.complete in
     record {
       leads = leads;
       complete = c.in_ok-world.ensures.complete;

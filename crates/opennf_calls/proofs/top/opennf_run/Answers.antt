@@ -12,7 +12,8 @@ returns-in-Ok g c =
     let request = request_of (map string_bytes c.args.words.now) in
     let shown = g.O.Outside.shown c.args.outside.now in
     let old = g.O.Outside.seen c.args.outside.now in
-    c.tell.ensures request shown old (ended_words request (asks_run (network_view c.in-Ok.asked)) (as_named shown old (g.O.Outside.seen c.perform_run.new.outside)) (g.O.Outside.seen c.perform_run.new.outside) c.perform_run.result c.in-Ok.ensures c.perform_run.ensures)
+    c.tell.ensures request shown old (ended_words request (asks_run (network_view c.in-Ok.asked)) (as_named shown old
+    (g.O.Outside.seen c.perform_run.new.outside)) (g.O.Outside.seen c.perform_run.new.outside) c.perform_run.result c.in-Ok.ensures c.perform_run.ensures)
 
 pub returns-in-Err : goal.returns-in-Err
 returns-in-Err g c =

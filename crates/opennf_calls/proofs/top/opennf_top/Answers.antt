@@ -20,7 +20,8 @@ returns-in-Run g c =
     let shown = g.O.Outside.shown c.args.outside.now in
     let old = g.O.Outside.seen c.args.outside.now in
     let is : request ≡ Some (asks_run (network_view c.in-Run.asked)) = search rules in
-    c.tell-in-Run.ensures request shown old (ended_words request (asks_run (network_view c.in-Run.asked)) (as_named shown old (g.O.Outside.seen c.perform_run.new.outside)) (g.O.Outside.seen c.perform_run.new.outside) c.perform_run.result is c.perform_run.ensures)
+    c.tell-in-Run.ensures request shown old (ended_words request (asks_run (network_view c.in-Run.asked)) (as_named shown old
+    (g.O.Outside.seen c.perform_run.new.outside)) (g.O.Outside.seen c.perform_run.new.outside) c.perform_run.result is c.perform_run.ensures)
 
 pub returns-in-Calm : goal.returns-in-Calm
 returns-in-Calm g c =
@@ -28,4 +29,5 @@ returns-in-Calm g c =
     let shown = g.O.Outside.shown c.args.outside.now in
     let old = g.O.Outside.seen c.args.outside.now in
     let is : request ≡ Some (calm_view c.in-Calm.asked) = search rules in
-    c.tell-in-Calm.ensures request shown old (ended_words request (calm_view c.in-Calm.asked) (as_named shown old (g.O.Outside.seen c.perform_calm.new.outside)) (g.O.Outside.seen c.perform_calm.new.outside) c.perform_calm.result is c.perform_calm.ensures)
+    c.tell-in-Calm.ensures request shown old (ended_words request (calm_view c.in-Calm.asked) (as_named shown old
+    (g.O.Outside.seen c.perform_calm.new.outside)) (g.O.Outside.seen c.perform_calm.new.outside) c.perform_calm.result is c.perform_calm.ensures)

@@ -18,4 +18,5 @@ for_kind-requires c = (
 pub returns : goal.returns
 returns c =
     let p = published_view c.args.asked.now in
-    ok_of_kind p.kind c.for_kind.result (λ made R F f. IsUpdateOf F f p (scene_of c.args.asked.now c.args.trace) c.args.schedule (reports made)) c.for_kind.ensures
+    ok_of_kind p.kind c.for_kind.result (λ made R F f. IsUpdateOf F f p (scene_of c.args.asked.now c.args.trace) c.args.schedule (reports made))
+    c.for_kind.ensures

@@ -9,15 +9,16 @@ use Rattle.actor_net.specs.Network.{IsRun}
 use Rattle.actor_net.proofs.ScheduleLaws.{scheduled_is_run}
 use Rattle.two_phase.specs.Start.{IsUpdateJob, two_start}
 use Rattle.two_phase.specs.Tables.{node_ended, node_ready, node_step}
-use Rattle.other_headlines.specs.Published.{HasPublishedHeadline}
-use Rattle.other_headlines.specs.PublishedLaw.{IsTwoRun, two_subject}
-use Rattle.other_headlines.proofs.TwoHeadlines.{published_law}
+use Rattle.run_headline.specs.Published.{HasPublishedHeadline}
+use Rattle.run_headline.specs.PublishedLaw.{IsTwoRun, two_subject}
+use Rattle.run_headline.proofs.others.TwoHeadlines.{published_law}
 use Rattle.opennf_calls.specs.UpdateRuns.{scene_of, update_for, update_head}
 use Rattle.opennf_calls.proofs.update.update_network.Goals as goal
 
 pub simulate_two-ended-requires : goal.simulate_two-ended-requires
 simulate_two-ended-requires g c =
-    subst (λ (k : Kind). IsUpdateJob k (update_for (published_view c.args.asked.now) (scene_of c.args.asked.now c.args.trace))) (sym c.requires.kind) c.requires.sound
+    subst (λ (k : Kind). IsUpdateJob k (update_for (published_view c.args.asked.now) (scene_of c.args.asked.now c.args.trace))) (sym c.requires.kind)
+    c.requires.sound
 
 pub returns : goal.returns
 returns g c =
@@ -26,7 +27,8 @@ returns g c =
     let trace = c.args.trace in
     let job = update_for p (scene_of c.args.asked.now trace) in
     let report = c.in_ok-report.ensures
-    ∙ ap (λ (l : List Packet). two_text f (record { kind = p.kind; window = p.window; packets = length l; skipped = trace.skipped; cut = trace.cut }) c.in-Ok.ended.0) c.items.ensures in
+    ∙ ap (λ (l : List Packet). two_text f (record { kind = p.kind; window = p.window; packets = length l; skipped = trace.skipped; cut = trace.cut })
+    c.in-Ok.ended.0) c.items.ensures in
     let is : IsTwoRun g.row.F.Denot f job c.in-Ok.ended.0 = record {
       is_job = subst (λ (k : Kind). IsUpdateJob k job) (sym c.requires.kind) c.requires.sound;
       alloc = c.args.alloc;

@@ -11,7 +11,8 @@ use Rattle.record_table.proofs.ordered.all_found.Goals.{then-is_taken+in_ok-push
 
 pub loop-entry-preserved-in_default : goal.loop-entry-preserved-in_default
 loop-entry-preserved-in_default g c = record {
-  found = found_nothing (option_copied c.args.filter) (pairs_of c.loop-entry.found.items) c.args.entries.now c.loop-entry.entry-index c.entry-item.result c.loop-entry-test.true c.entry-item.is
+  found = found_nothing (option_copied c.args.filter) (pairs_of c.loop-entry.found.items) c.args.entries.now c.loop-entry.entry-index c.entry-item.result
+      c.loop-entry-test.true c.entry-item.is
       c.loop-entry.invariant.found c.in_default.is;
   numbered = c.loop-entry.invariant.numbered;
 }
@@ -26,13 +27,15 @@ loop-entry-preserved g c = elim c.if-is_taken.branch [
         found = ap (λ v. seen filter (pairs_of v.items)) w.found-is ∙ ap (λ l. seen filter (pairs_of l)) w.in_ok-push.ensures.items
             ∙ ap (seen filter) (map_push (λ (e : Found g.row.R.Denot). (e.unit.now, e.record)) so_far more)
             ∙ ap (λ u. seen filter (pairs_of so_far ++ (u, more.record) ∷ [])) w.found_at.ensures.unit
-            ∙ found_one filter (pairs_of so_far) c.args.entries.now c.loop-entry.entry-index c.entry-item.result c.loop-entry-test.true c.entry-item.is c.loop-entry.invariant.found
+            ∙ found_one filter (pairs_of so_far) c.args.entries.now c.loop-entry.entry-index c.entry-item.result c.loop-entry-test.true c.entry-item.is
+            c.loop-entry.invariant.found
             more.record (c.in-Some.is ∙ ap Some (sym w.found_at.ensures.record)) (sym c.is_taken.ensures ∙ w.if-is_taken.true);
         numbered = rw (w.found-is, w.in_ok-push.ensures.items) (All-push IsNumbered so_far more c.loop-entry.invariant.numbered w.found_at.ensures.numbered);
       }
   | else-is_taken w ↦ record {
     found = ap (λ v. seen (option_copied c.args.filter) (pairs_of v.items)) w.found-is
-        ∙ found_other (option_copied c.args.filter) (pairs_of c.loop-entry.found.items) c.args.entries.now c.loop-entry.entry-index c.entry-item.result c.loop-entry-test.true c.entry-item.is
+        ∙ found_other (option_copied c.args.filter) (pairs_of c.loop-entry.found.items) c.args.entries.now c.loop-entry.entry-index c.entry-item.result
+        c.loop-entry-test.true c.entry-item.is
         c.loop-entry.invariant.found c.in-Some.record c.in-Some.is (sym c.is_taken.ensures ∙ w.if-is_taken.false);
     numbered = rw w.found-is c.loop-entry.invariant.numbered;
   }

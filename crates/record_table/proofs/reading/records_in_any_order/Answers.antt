@@ -18,7 +18,8 @@ was_new a true h = ap not (sym h)
 was_new a false h = ap not (sym h)
 
 -- whether the records so far lack the unit
-lacks : (g : Over) (c : In_ok-insert g) → finite.contains_key (records_of g.F.Function.semantics (take c.loop-index.index c.args.chunks.now)) c.in-Some.unit ≡ not c.in_ok-insert.field-0
+lacks : (g : Over) (c : In_ok-insert g)
+    → finite.contains_key (records_of g.F.Function.semantics (take c.loop-index.index c.args.chunks.now)) c.in-Some.unit ≡ not c.in_ok-insert.field-0
 lacks g c = rw (← c.loop-index.invariant.records) (was_new c.in_ok-insert.field-0 _ c.in_ok-insert.ensures.is_new)
 
 found : (g : Over) (c : In_ok-insert g) → spelled g.F.Function.semantics c.index-chunks-index.result ≡ Some (c.in-Some.unit, c.in-Some.record)
@@ -42,7 +43,8 @@ returns-then-not-branch-clause-bad g c =
     let f = g.F.Function.semantics in
     let b = (goal.at.returns-then-not-branch-clause-bad g c).In_ok-insert in
     first_bad f c.args.chunks.now c.loop-index.index c.index-chunks-index.result c.loop-index-test.true c.index-chunks-index.is c.loop-index.invariant.good
-    (bad_again f _ c.index-chunks-index.result c.in-Some.unit c.in-Some.record c.loop-index.invariant.good (found g b) (lacks g b ∙ ap not c.if-not-branch.true))
+    (bad_again f _ c.index-chunks-index.result c.in-Some.unit c.in-Some.record c.loop-index.invariant.good (found g b)
+    (lacks g b ∙ ap not c.if-not-branch.true))
 
 pub loop-index-preserved : goal.loop-index-preserved
 loop-index-preserved g c =
@@ -50,7 +52,8 @@ loop-index-preserved g c =
     let b = (goal.at.loop-index-preserved g c).In_ok-insert in
     let front = take c.loop-index.index c.args.chunks.now in
     let none = lacks g b ∙ ap not c.if-not-branch.false in
-    let more = take_more c.args.chunks.now c.loop-index.index c.index-chunks-index.result c.loop-index-test.true ∙ ap (λ x. front ++ x ∷ []) (sym c.index-chunks-index.is) in
+    let more = take_more c.args.chunks.now c.loop-index.index c.index-chunks-index.result c.loop-index-test.true
+    ∙ ap (λ x. front ++ x ∷ []) (sym c.index-chunks-index.is) in
     let valid : is_sound f c.in-Some.unit (Some c.in-Some.record) ≡ true = rw c.in-Some.is at c.in_ok-unit.ensures.valid in
     record {
       records = c.in_ok-insert.ensures.ok ∙ ap (λ m. finite.insert m c.in-Some.unit c.in-Some.record) c.loop-index.invariant.records

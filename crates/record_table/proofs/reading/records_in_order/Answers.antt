@@ -15,8 +15,10 @@ loop-chunk-preserved g c =
     let i = c.loop-chunk.chunk-index in
     let chunk = c.chunk-item.result in
     let front = take i c.args.chunks.now in
-    let more : take (i + 1) c.args.chunks.now ≡ front ++ chunk ∷ [] = take_more c.args.chunks.now i chunk c.loop-chunk-test.true ∙ ap (λ x. front ++ x ∷ []) (sym c.chunk-item.is) in
+    let more : take (i + 1) c.args.chunks.now ≡ front ++ chunk ∷ [] = take_more c.args.chunks.now i chunk c.loop-chunk-test.true
+    ∙ ap (λ x. front ++ x ∷ []) (sym c.chunk-item.is) in
     let spells : spelled f chunk ≡ Some (c.in-Some.unit, c.in-Some.record) = sym c.in_ok-unit.ensures.found ∙ c.in-Some.is in
     let valid : f.is_valid c.in-Some.unit c.in-Some.record ≡ true = rw c.in-Some.is at c.in_ok-unit.ensures.valid in
     let next : comes_after c.loop-chunk.last c.in-Some.unit ≡ true = sym c.comes_after.ensures ∙ c.if-not-comes_after.false in
-    rw (more, c.in_ok-push.ensures.items) (one_more f front c.loop-chunk.entries.items c.loop-chunk.last chunk c.in-Some.unit c.in-Some.record c.loop-chunk.invariant spells valid next)
+    rw (more, c.in_ok-push.ensures.items)
+    (one_more f front c.loop-chunk.entries.items c.loop-chunk.last chunk c.in-Some.unit c.in-Some.record c.loop-chunk.invariant spells valid next)

@@ -25,4 +25,5 @@ pub returns-clause-last : goal.returns-clause-last
 returns-clause-last c = ap ends_last c.in_ok-items.ensures.items ∙ end_is_last c.args.packets c.args.script.now.lines.items
 
 pub returns-clause-short : goal.returns-clause-short
-returns-clause-short c few = short_is (names_of c.args.setting.now.instances.now.rows.items) c.args.script.now c.args.packets c.in_ok-items.items.items c.requires.script c.in_ok-items.ensures.items few
+returns-clause-short c few = short_is (names_of c.args.setting.now.instances.now.rows.items) c.args.script.now c.args.packets c.in_ok-items.items.items
+    c.requires.script c.in_ok-items.ensures.items few

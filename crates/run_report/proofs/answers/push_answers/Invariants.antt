@@ -2,9 +2,10 @@
 use Rattle.std.proofs.Common.{◌≡◌, ◌++◌, map, drop}
 use Rattle.std.specs.List.{flat_map}
 use Rattle.report_lines.specs.Lines.{by_number}
-use Rattle.run_report.specs.Lines.{answer_line, answer_in}
+use Rattle.run_report.specs.Lines.{answer_line}
 use Rattle.run_report.specs.Seen.{answer_seen}
 use Rattle.run_report.proofs.answers.push_answers.Given as goal
+use Rattle.net_world.specs.Log.{answer_in}
 
 abbrev pub invariant-loop-op : goal.invariant-loop-op
 invariant-loop-op l = record {

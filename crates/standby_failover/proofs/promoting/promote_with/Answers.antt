@@ -1,7 +1,7 @@
 -- The scene is that of the world after the choices, in which all is as the lists say; and the table is that of the instance that takes over, with
 -- the records that stand by there of the affected units.
 use Rattle.std.proofs.Common.{◌≡◌, refl, ap, ◌∙◌}
-use Rattle.net_world.specs.Start.{started}
+use Rattle.net_world.specs.Start.{started_with}
 use Rattle.standby_failover.specs.Causes.{first_of, world_after}
 use Rattle.standby_failover.specs.Failover.{table_at, IsLeft, IsPromoted}
 use Rattle.standby_failover.specs.Scenes.{AreAffected, Stopped, failover_in}
@@ -17,14 +17,16 @@ abbrev stopped : (g : Over) (c : In_ok-promote g) → Stopped g.row.F.Denot g.ro
 stopped g c = record {
   config = c.args.config.now;
   items = c.args.items.items;
-  world = world_after g.F.Function.semantics (started c.args.alloc c.args.config.now c.args.items.items) (first_of c.args.choices.now c.args.failing.now.after);
+  world = world_after g.F.Function.semantics (started_with c.args.alloc c.args.config.now c.args.items.items)
+      (first_of c.args.choices.now c.args.failing.now.after);
   failed = c.args.failing.now.failed;
   to = c.args.failing.now.to;
 }
 
 left : (g : Over) (c : In_ok-promote g) → IsLeft (failover_in g.F.Function.semantics (stopped g c))
 left g c =
-    is_left g.row.F.Denot g.F.Function.semantics g.met.F.Function.laws c.args.alloc c.args.config.now c.args.items.items c.requires.input _ c.args.failing.now.failed
+    is_left g.row.F.Denot g.F.Function.semantics g.met.F.Function.laws c.args.alloc c.args.config.now c.args.items.items c.requires.input _
+    c.args.failing.now.failed
     c.args.failing.now.to
     c.in_ok-world.ensures.reached.is_run
 

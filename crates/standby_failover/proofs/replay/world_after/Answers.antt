@@ -6,7 +6,7 @@ use Rattle.nf_msgs.specs.declared.note.Note.{Note}
 use Rattle.nf_msgs.specs.Nodes.{instance_node}
 use Rattle.actor_net.specs.Network.{Network}
 use Rattle.net_world.specs.declared.node.Node.{Node}
-use Rattle.net_world.specs.Start.{started}
+use Rattle.net_world.specs.Start.{started_with}
 use Rattle.standby_failover.specs.Scenes.{is_instance}
 use Rattle.standby_failover.proofs.InstancesThere.{are_there}
 use Rattle.standby_failover.proofs.ReplayLemmas.{Replayed, index_below, is_reached, is_run, refused, too_few, world_is}
@@ -14,7 +14,7 @@ use Rattle.standby_failover.proofs.replay.world_after.Goals as goal
 
 pub overflow_add-step : goal.overflow_add-step
 overflow_add-step g c =
-    let opening : Network (Node g.row.F.Denot g.row.F-Record.Denot) Msg Note = started c.args.alloc c.args.config.now c.args.items.items in
+    let opening : Network (Node g.row.F.Denot g.row.F-Record.Denot) Msg Note = started_with c.args.alloc c.args.config.now c.args.items.items in
     let least : c.min.result ≡ min c.args.after (length c.args.choices.now) = search rules in
     let v : Replayed g.row.F.Denot g.row.F-Record.Denot =
     record { opening = opening; all = c.args.choices.now; after = c.args.after; taken_count = c.min.result; result = c.run_choices.result } in
@@ -24,7 +24,7 @@ overflow_add-step g c =
 
 pub returns-in-Ok-clause-reached : goal.returns-in-Ok-clause-reached
 returns-in-Ok-clause-reached g c =
-    let opening : Network (Node g.row.F.Denot g.row.F-Record.Denot) Msg Note = started c.args.alloc c.args.config.now c.args.items.items in
+    let opening : Network (Node g.row.F.Denot g.row.F-Record.Denot) Msg Note = started_with c.args.alloc c.args.config.now c.args.items.items in
     let least : c.min.result ≡ min c.args.after (length c.args.choices.now) = search rules in
     let v : Replayed g.row.F.Denot g.row.F-Record.Denot =
     record { opening = opening; all = c.args.choices.now; after = c.args.after; taken_count = c.min.result; result = c.run_choices.result } in
@@ -33,7 +33,7 @@ returns-in-Ok-clause-reached g c =
 
 pub returns-in-Ok-clause-world : goal.returns-in-Ok-clause-world
 returns-in-Ok-clause-world g c =
-    let opening : Network (Node g.row.F.Denot g.row.F-Record.Denot) Msg Note = started c.args.alloc c.args.config.now c.args.items.items in
+    let opening : Network (Node g.row.F.Denot g.row.F-Record.Denot) Msg Note = started_with c.args.alloc c.args.config.now c.args.items.items in
     let least : c.min.result ≡ min c.args.after (length c.args.choices.now) = search rules in
     let v : Replayed g.row.F.Denot g.row.F-Record.Denot =
     record { opening = opening; all = c.args.choices.now; after = c.args.after; taken_count = c.min.result; result = c.run_choices.result } in
@@ -41,7 +41,7 @@ returns-in-Ok-clause-world g c =
 
 pub returns-in-Ok-clause-instances : goal.returns-in-Ok-clause-instances
 returns-in-Ok-clause-instances g c = λ i within.
-    let opening : Network (Node g.row.F.Denot g.row.F-Record.Denot) Msg Note = started c.args.alloc c.args.config.now c.args.items.items in
+    let opening : Network (Node g.row.F.Denot g.row.F-Record.Denot) Msg Note = started_with c.args.alloc c.args.config.now c.args.items.items in
     let least : c.min.result ≡ min c.args.after (length c.args.choices.now) = search rules in
     let v : Replayed g.row.F.Denot g.row.F-Record.Denot =
     record { opening = opening; all = c.args.choices.now; after = c.args.after; taken_count = c.min.result; result = c.run_choices.result } in
@@ -52,7 +52,7 @@ returns-in-Ok-clause-instances g c = λ i within.
 
 pub returns-in-Ok-2-clause-not_a_run : goal.returns-in-Ok-2-clause-not_a_run
 returns-in-Ok-2-clause-not_a_run g c = λ step is.
-    let opening : Network (Node g.row.F.Denot g.row.F-Record.Denot) Msg Note = started c.args.alloc c.args.config.now c.args.items.items in
+    let opening : Network (Node g.row.F.Denot g.row.F-Record.Denot) Msg Note = started_with c.args.alloc c.args.config.now c.args.items.items in
     let least : c.min.result ≡ min c.args.after (length c.args.choices.now) = search rules in
     let v : Replayed g.row.F.Denot g.row.F-Record.Denot =
     record { opening = opening; all = c.args.choices.now; after = c.args.after; taken_count = c.min.result; result = c.run_choices.result } in
@@ -61,7 +61,7 @@ returns-in-Ok-2-clause-not_a_run g c = λ step is.
 
 pub returns-in-Err-NotEnabled-clause-not_a_run : goal.returns-in-Err-NotEnabled-clause-not_a_run
 returns-in-Err-NotEnabled-clause-not_a_run g c =
-    let opening : Network (Node g.row.F.Denot g.row.F-Record.Denot) Msg Note = started c.args.alloc c.args.config.now c.args.items.items in
+    let opening : Network (Node g.row.F.Denot g.row.F-Record.Denot) Msg Note = started_with c.args.alloc c.args.config.now c.args.items.items in
     let least : c.min.result ≡ min c.args.after (length c.args.choices.now) = search rules in
     let v : Replayed g.row.F.Denot g.row.F-Record.Denot =
     record { opening = opening; all = c.args.choices.now; after = c.args.after; taken_count = c.min.result; result = c.run_choices.result } in

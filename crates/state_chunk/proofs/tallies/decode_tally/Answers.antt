@@ -16,4 +16,5 @@ tally_found kind bytes (Err e) are size given = tt
 
 pub returns-clause-spelled : goal.returns-clause-spelled
 returns-clause-spelled c =
-    tally_found c.args.kind c.args.bytes.now c.decoded_tally.result (λ i. omega (arith, c.type_inv.bytes i)) c.decoded_tally.ensures.slots c.decoded_tally.ensures.value
+    tally_found c.args.kind c.args.bytes.now c.decoded_tally.result (λ i. omega (arith, c.type_inv.bytes i)) c.decoded_tally.ensures.slots
+    c.decoded_tally.ensures.value

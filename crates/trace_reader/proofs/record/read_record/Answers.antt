@@ -14,7 +14,8 @@ returns-in_err-next-clause-answers g c = λ bytes told.
       few = found.1;
       whole = found.2;
     } in
-    let gives = gives_at_hand c.args.form c.args.place c.args.count c.in-Some.len bytes c.at_hand-ahead.result.now _ at (search rules) c.in_err-next.ensures.bytes in
+    let gives = gives_at_hand c.args.form c.args.place c.args.count c.in-Some.len bytes c.at_hand-ahead.result.now _ at (search rules)
+    c.in_err-next.ensures.bytes in
     let p = err_from_is_err_and c.from_residual.result c.from_residual.ensures.1 in
     rw (p.1, p.2) (gives_fault (reading c.args.form c.args.place c.args.count (g.S.Source.left c.args.source.now)) bytes
     (reading c.args.form (c.args.place + 0) c.args.count (g.S.Source.left c.args.source.now)) _ (gives.0 ∙ sym c.in_err-next.ensures.gives))
@@ -28,8 +29,10 @@ returns-clause-answers g c = λ bytes told.
       few = found.1;
       whole = found.2;
     } in
-    let gives = gives_at_hand c.args.form c.args.place c.args.count c.in-Some.len bytes c.at_hand-ahead.result.now _ at (search rules) c.in_ok-next.ensures.bytes in
+    let gives = gives_at_hand c.args.form c.args.place c.args.count c.in-Some.len bytes c.at_hand-ahead.result.now _ at (search rules)
+    c.in_ok-next.ensures.bytes in
     let taken = rw (sym c.at_hand-ahead.ensures.bytes) at c.skip.ensures.bytes in
     let left = skipped_ahead _ _ bytes c.at_hand-ahead.result.now (16 + c.in-Some.len) told found.2 taken in
-    gives_record (reading c.args.form c.args.place c.args.count (g.S.Source.left c.args.source.now)) (count_after c.args.count (Ok c.in_ok-next.next)) c.in-Some.len bytes _ c.in_ok-next.next
+    gives_record (reading c.args.form c.args.place c.args.count (g.S.Source.left c.args.source.now)) (count_after c.args.count (Ok c.in_ok-next.next))
+    c.in-Some.len bytes _ c.in_ok-next.next
     (gives.0 ∙ sym c.in_ok-next.ensures.gives) c.in_ok-next.ensures.fits gives.1 (left ∙ ap (λ m. Some (drop m bytes)) gives.1)

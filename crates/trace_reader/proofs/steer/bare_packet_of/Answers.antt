@@ -1,14 +1,16 @@
 -- Where none of the payload is kept, zeros alone stand in its place.
 use Rattle.std.proofs.Common.{◌≡◌, ◌-◌, ◌+◌, ◌++◌, ℕ, List, Some, option_map, ap, sym, ◌∙◌, take, drop, replicate, arith}
 use Rattle.trace_reader.specs.declared.steer.Parts.{Parts}
-use Rattle.trace_reader.specs.Steered.{held_of, nanos_of, packet_of, packet_with}
+use Rattle.trace_reader.specs.Steered.{nanos_of, packet_of, packet_with}
+use Rattle.trace_reader.specs.Opened.{held_of}
 use Rattle.trace_reader.proofs.steer.bare_packet_of.Goals as goal
 
 -- the packet with zeros in place of its payload
 zeros_alone : (k nanos len : ℕ) (f : List ℕ) (parts : Parts) → held_of len parts ≡ 0
     → record (packet_with k nanos len f parts) { head = replicate 64 0 } ≡ packet_with k nanos len f parts
 zeros_alone k nanos len f parts none =
-    ap (λ n. record (packet_with k nanos len f parts) { head = take n (drop (parts.start + parts.header + parts.transport) f) ++ replicate (64 - n) 0 }) (sym none)
+    ap (λ n. record (packet_with k nanos len f parts) { head = take n (drop (parts.start + parts.header + parts.transport) f) ++ replicate (64 - n) 0 })
+    (sym none)
 
 pub returns-clause-value : goal.returns-clause-value
 unfolding packet_of

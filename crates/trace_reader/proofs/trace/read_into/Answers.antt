@@ -5,13 +5,15 @@ use Rattle.nf_io.proofs.TransferLemmas.{StaysOpen-trans}
 use Rattle.trace_reader.specs.declared.reader.TraceReader.{TraceReader}
 use Rattle.trace_reader.specs.Answers.{reading_of, HandsOn}
 use Rattle.trace_reader.proofs.CaptureSoFar.{open_fault}
-use Rattle.trace_reader.proofs.KeeperSoFar.{handed_start, handed_same, handed_packet, handed_skipped, handed_end, handed_cut, handed_fault, into_fault, steered_start, steered_packet}
+use Rattle.trace_reader.proofs.KeeperSoFar.{handed_start, handed_same, handed_packet, handed_skipped, handed_end}
+use Rattle.trace_reader.proofs.KeeperSoFar.{handed_cut, handed_fault, into_fault, steered_start, steered_packet}
 use Rattle.trace_reader.proofs.trace.read_into.Goals as goal
 
 pub returns-in_err-reader-clause-trace : goal.returns-in_err-reader-clause-trace
 returns-in_err-reader-clause-trace g c = λ bytes told.
     let p = err_from_is_err_and c.from_residual.result c.from_residual.ensures.1 in
-    rw (p.1, p.2) (into_fault (HandsOn g.K.Keeper.HasKept c.args.keeper.now c.args.keeper.now) _ (g.S.Source.left c.open.new.source) _ (open_fault bytes (drop 24 bytes) (g.S.Source.left c.open.new.source) (g.S.Source.left c.open.new.source) _ (c.in_err-reader.ensures.form bytes told)))
+    rw (p.1, p.2) (into_fault (HandsOn g.K.Keeper.HasKept c.args.keeper.now c.args.keeper.now) _ (g.S.Source.left c.open.new.source) _
+    (open_fault bytes (drop 24 bytes) (g.S.Source.left c.open.new.source) (g.S.Source.left c.open.new.source) _ (c.in_err-reader.ensures.form bytes told)))
 
 pub records-init : goal.records-init
 records-init g c = record {
@@ -30,7 +32,8 @@ records-preserved-in-Continue-branch-2 g c =
     record {
       running = c.next_bare.ensures.stop ∙ c.records.invariant.running;
       few = omega (arith, moves.0, c.records.invariant.few);
-      told = (λ bytes told. handed_packet g.K.Keeper.HasKept _ _ (reading_of c.next_bare.new.self (g.S.Source.left c.next_bare.new.source)) _ _ _ _ c.in-Some.bare (c.records.invariant.told bytes told)
+      told = (λ bytes told. handed_packet g.K.Keeper.HasKept _ _ (reading_of c.next_bare.new.self (g.S.Source.left c.next_bare.new.source)) _ _ _ _
+          c.in-Some.bare (c.records.invariant.told bytes told)
           c.in-Some.ensures.answers c.next_bare.ensures.form moves.3 c.in_ok-keep-in-Some.ensures);
       steered = steered_packet _ _ _ _ _ _ c.in-Some.bare c.records.invariant.steered moves.3 moves.4 moves.5 c.in_ok-keep-in-Some.ensures;
       later = omega (arith, c.records.invariant.later, c.next_bare.ensures.later);

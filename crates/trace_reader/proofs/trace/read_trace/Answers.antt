@@ -1,7 +1,9 @@
--- The packets that a list took are the trace's.
+-- The packets that were kept are the trace's, and in range.
 use Rattle.std.proofs.Common.{◌≡◌, ◌≤◌, true, All, List, [], Ok, length, ap, sym, ◌∙◌, subst, arith}
+use Rattle.std.proofs.lemmas.List.Elements.{All-nil}
 use Rattle.flow_filter.specs.declared.packet.Packet.{Packet}
 use Rattle.flow_filter.specs.Limits.{most_packets}
+use Rattle.flow_filter.specs.Packet.{IsInRange}
 use Rattle.trace_reader.specs.Steered.{is_steered_proto}
 use Rattle.trace_reader.specs.Records.{AreNumbered}
 use Rattle.trace_reader.proofs.trace.read_trace.Goals as goal
@@ -10,23 +12,28 @@ pub returns-clause-trace : goal.returns-clause-trace
 returns-clause-trace g c = λ bytes told.
     let gives = c.in_ok-end.ensures.trace bytes told in (
       gives.1 ∙ ap (λ (ps : List Packet). Ok (record { packets = ps; skipped = c.in_ok-end.end.skipped; cut = c.in_ok-end.end.cut }))
-          (sym (gives.4 tt [] c.«open».ensures)),
+          (sym ((gives.4 tt [] (c.«open».ensures, All-nil IsInRange)).0)),
       gives.3,
     )
 
 pub returns-clause-numbers : goal.returns-clause-numbers
 returns-clause-numbers g c =
     let handed = c.in_ok-end.ensures.steered in
-    subst (λ (ps : List Packet). AreNumbered 1 ps) (sym (handed.kept tt [] c.«open».ensures)) handed.numbers
+    subst (λ (ps : List Packet). AreNumbered 1 ps) (sym ((handed.kept tt [] (c.«open».ensures, All-nil IsInRange)).0)) handed.numbers
 
 pub returns-clause-steered : goal.returns-clause-steered
 returns-clause-steered g c =
     let handed = c.in_ok-end.ensures.steered in
-    subst (All (λ (packet : Packet). is_steered_proto packet.proto ≡ true)) (sym (handed.kept tt [] c.«open».ensures)) handed.steered
+    subst (All (λ (packet : Packet). is_steered_proto packet.proto ≡ true)) (sym ((handed.kept tt [] (c.«open».ensures, All-nil IsInRange)).0)) handed.steered
+
+pub returns-clause-in_range : goal.returns-clause-in_range
+returns-clause-in_range g c =
+    let kept = c.in_ok-end.ensures.steered.kept tt [] (c.«open».ensures, All-nil IsInRange) in
+    subst (All IsInRange) (sym kept.0) kept.1
 
 pub returns-clause-few : goal.returns-clause-few
 returns-clause-few g c =
     let handed = c.in_ok-end.ensures.steered in
     let most = c.in_ok-end.ensures.few in
     let counted = handed.counted in
-    subst (λ (ps : List Packet). length ps ≤ most_packets) (sym (handed.kept tt [] c.«open».ensures)) (omega (arith, most, counted))
+    subst (λ (ps : List Packet). length ps ≤ most_packets) (sym ((handed.kept tt [] (c.«open».ensures, All-nil IsInRange)).0)) (omega (arith, most, counted))

@@ -8,7 +8,9 @@ use Rattle.actor_net.proofs.world.World.count_of.Goals.{else-node-eq0-via-then-n
 pub returns-then-input_ready : goal.returns-then-input_ready
 returns-then-input_ready g c =
     let world = subst (λ w. IsWorld w) c.self.view_is c.self.invariant.0 in
-    count_first g.A.Actor.is_ready c.args.self.now world c.self.inside.links (c.self.invariant.1 ∙ ap (λ w. length w.nodes) c.self.view_is) (ap (λ w. w.links) c.self.view_is) c.args.node true c.count_to-held.result c.if-node-eq0.true (sym c.input_ready.ensures ∙ c.if-input_ready.true) c.count_to-held.ensures.held
+    count_first g.A.Actor.is_ready c.args.self.now world c.self.inside.links (c.self.invariant.1 ∙ ap (λ w. length w.nodes) c.self.view_is)
+    (ap (λ w. w.links) c.self.view_is) c.args.node true c.count_to-held.result c.if-node-eq0.true (sym c.input_ready.ensures ∙ c.if-input_ready.true)
+    c.count_to-held.ensures.held
 
 pub returns-else-node-eq0 : goal.returns-else-node-eq0
 returns-else-node-eq0 g c =
@@ -17,8 +19,10 @@ returns-else-node-eq0 g c =
     let links = ap (λ w. w.links) c.self.view_is in
     elim c.else-node-eq0.branch [
       | else-node-eq0-via-then-node-eq0+else-input_ready w ↦
-          let first = count_first g.A.Actor.is_ready c.args.self.now world c.self.inside.links nodes links c.args.node false c.count_to-held.result w.if-node-eq0.true (sym w.input_ready.ensures ∙ w.if-input_ready.false) c.count_to-held.ensures.held in
+          let first = count_first g.A.Actor.is_ready c.args.self.now world c.self.inside.links nodes links c.args.node false c.count_to-held.result
+          w.if-node-eq0.true (sym w.input_ready.ensures ∙ w.if-input_ready.false) c.count_to-held.ensures.held in
           omega (arith, first)
       | else-node-eq0-via-else-node-eq0 w ↦
-          count_other g.A.Actor.is_ready c.args.self.now world c.self.inside.links nodes links c.args.node c.count_to-held.result c.requires w.if-node-eq0.false c.count_to-held.ensures.held
+          count_other g.A.Actor.is_ready c.args.self.now world c.self.inside.links nodes links c.args.node c.count_to-held.result c.requires
+          w.if-node-eq0.false c.count_to-held.ensures.held
     ]

@@ -9,7 +9,8 @@ use Rattle.actor_net.proofs.world.World.nth_enabled.Goals as goal
 pub returns-then-left-count : goal.returns-then-left-count
 returns-then-left-count g c =
     let nodes = ap (λ w. length w.nodes) c.self.view_is in
-    c.nth_of.ensures ∙ sym (node_at g.A.Actor.is_ready c.args.self.now c.loop-node.node c.args.place c.loop-node.left (grind (arith, common_steps)) (search rules) c.loop-node.invariant)
+    c.nth_of.ensures ∙ sym (node_at g.A.Actor.is_ready c.args.self.now c.loop-node.node c.args.place c.loop-node.left (grind (arith, common_steps))
+    (search rules) c.loop-node.invariant)
 
 pub returns : goal.returns
 returns g c =

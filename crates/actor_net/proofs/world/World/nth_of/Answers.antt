@@ -14,15 +14,19 @@ byte_is false = refl
 pub returns-then-left-count : goal.returns-then-left-count
 returns-then-left-count g c =
     let nodes = ap (λ w. length w.nodes) c.self.view_is in
-    sym (found_here g.A.Actor.is_ready c.args.self.now c.args.node c.loop-port.port c.args.place c.loop-port.left (bool_byte c.enabled_within-count.result) (grind (arith, common_steps)) (byte_is c.enabled_within-count.result ∙ ap one_if c.enabled_within-count.ensures) c.if-left-count.true c.loop-port.invariant)
+    sym (found_here g.A.Actor.is_ready c.args.self.now c.args.node c.loop-port.port c.args.place c.loop-port.left (bool_byte c.enabled_within-count.result)
+    (grind (arith, common_steps)) (byte_is c.enabled_within-count.result ∙ ap one_if c.enabled_within-count.ensures) c.if-left-count.true
+    c.loop-port.invariant)
 
 pub loop-port-preserved : goal.loop-port-preserved
 loop-port-preserved g c =
-    place_on g.A.Actor.is_ready c.args.self.now c.args.node c.loop-port.port c.args.place c.loop-port.left (bool_byte c.enabled_within-count.result) (byte_is c.enabled_within-count.result ∙ ap one_if c.enabled_within-count.ensures) c.if-left-count.false c.loop-port.invariant
+    place_on g.A.Actor.is_ready c.args.self.now c.args.node c.loop-port.port c.args.place c.loop-port.left (bool_byte c.enabled_within-count.result)
+    (byte_is c.enabled_within-count.result ∙ ap one_if c.enabled_within-count.ensures) c.if-left-count.false c.loop-port.invariant
 
 pub returns : goal.returns
 returns g c =
     let nodes = ap (λ w. length w.nodes) c.self.view_is in
     let ports : c.loop-port.port ≡ length c.args.self.now.nodes = grind (arith, common_steps) in
-    let past : length (ports_below g.A.Actor.is_ready c.args.self.now c.args.node (length c.args.self.now.nodes)) + c.loop-port.left ≡ c.args.place = rw (← ports) (sym c.loop-port.invariant) in
+    let past : length (ports_below g.A.Actor.is_ready c.args.self.now c.args.node (length c.args.self.now.nodes)) + c.loop-port.left ≡ c.args.place =
+    rw (← ports) (sym c.loop-port.invariant) in
     sym (slice_get_past (ports_below g.A.Actor.is_ready c.args.self.now c.args.node (length c.args.self.now.nodes)) c.args.place (omega arith))

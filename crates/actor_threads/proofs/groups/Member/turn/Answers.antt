@@ -7,7 +7,8 @@ pub returns-in-Ok-eq0 : goal.returns-in-Ok-eq0
 returns-in-Ok-eq0 g c =
     let none = c.in-Ok-eq0.field-0-test in
     let count = c.in-Ok-eq0.ensures.count in
-    looks_on g.A.Actor.is_ready g.A.Actor.stepped _ _ c.if-self.false c.in-Ok-eq0.ensures.worked (omega (arith, count, none)) (c.in-Ok-eq0.ensures.moves none) refl refl
+    looks_on g.A.Actor.is_ready g.A.Actor.stepped _ _ c.if-self.false c.in-Ok-eq0.ensures.worked (omega (arith, count, none))
+    (c.in-Ok-eq0.ensures.moves none) refl refl
 
 pub returns-in-Ok : goal.returns-in-Ok
 returns-in-Ok g c = steps_on g.A.Actor.is_ready g.A.Actor.stepped _ _ _ c.if-self.false c.in-Ok.ensures.worked c.in-Ok.ensures.count c.in-Ok.steps-test.1 refl

@@ -10,5 +10,7 @@ returns g c =
     let none = ap (λ w. w.kept) c.self.view_is ∙ c.requires in
     let batch = ap (λ v. v.items) c.replace-used.ensures.after ∙ c.from_vec.ensures.items ∙ c.into_vec.ensures in
     let left = c.next_of.new.batch.items in
-    rw (← c.self.view_is) (drew_from _ _ c.next_of.result c.in-Some.batch left (ap unpacked c.in-Some.ensures.taken ∙ unpacked_more c.self.inside.end.done c.in-Some.batch) none c.in-Some.ensures.same.0
-    (ap (λ l. with_stamp_0 l ++ left) (none_from_before _ _ none)) (subst (λ l. MatchOption c.next_of.result (left ≡ l) (λ x. (x.clock < last_clock) × (l ≡ x ∷ left))) batch c.next_of.ensures.some))
+    rw (← c.self.view_is) (drew_from _ _ c.next_of.result c.in-Some.batch left
+    (ap unpacked c.in-Some.ensures.taken ∙ unpacked_more c.self.inside.end.done c.in-Some.batch) none c.in-Some.ensures.same.0
+    (ap (λ l. with_stamp_0 l ++ left) (none_from_before _ _ none))
+    (subst (λ l. MatchOption c.next_of.result (left ≡ l) (λ x. (x.clock < last_clock) × (l ≡ x ∷ left))) batch c.next_of.ensures.some))

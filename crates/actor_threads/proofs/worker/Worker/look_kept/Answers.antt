@@ -8,7 +8,8 @@ loop-port-preserved g c = record {
   same = c.in_default.ensures.found ∙ c.loop-port.invariant.same;
   few = c.loop-port.invariant.few;
   end = c.loop-port.invariant.end;
-  quiet = below_more _ _ c.loop-port.invariant.quiet (subst (λ v. IsQuietAt g.A.Actor.is_ready v c.loop-port.port) c.loop-port.invariant.same c.in_default.ensures.quiet);
+  quiet = below_more _ _ c.loop-port.invariant.quiet
+      (subst (λ v. IsQuietAt g.A.Actor.is_ready v c.loop-port.port) c.loop-port.invariant.same c.in_default.ensures.quiet);
 }
 
 pub returns-clause-quiet : goal.returns-clause-quiet

@@ -12,11 +12,14 @@ loop-init g c = record {
 }
 
 pub returns-in-Some : goal.returns-in-Some
-returns-in-Some g c = subst (λ v. Found g.A.Actor.is_ready c.args.self.now v (c.next_turn-port.result, c.in-Some.message)) (sym c.stay.ensures) (idled_found g.A.Actor.is_ready _ _ _ _ _ c.loop.invariant.idled (subst (λ v. Found g.A.Actor.is_ready v c.next_taken.new.self (c.next_turn-port.result, c.in-Some.message)) c.next_turn-port.ensures.same c.in-Some.ensures))
+returns-in-Some g c = subst (λ v. Found g.A.Actor.is_ready c.args.self.now v (c.next_turn-port.result, c.in-Some.message)) (sym c.stay.ensures)
+    (idled_found g.A.Actor.is_ready _ _ _ _ _ c.loop.invariant.idled (subst
+    (λ v. Found g.A.Actor.is_ready v c.next_taken.new.self (c.next_turn-port.result, c.in-Some.message)) c.next_turn-port.ensures.same c.in-Some.ensures))
 
 pub loop-preserved : goal.loop-preserved
 loop-preserved g c = record {
-  idled = idled_then g.A.Actor.is_ready _ _ _ c.loop.invariant.idled (subst (λ v. Idled v c.next_taken.new.self) c.next_turn-port.ensures.same c.in_default.ensures);
+  idled = idled_then g.A.Actor.is_ready _ _ _ c.loop.invariant.idled
+      (subst (λ v. Idled v c.next_taken.new.self) c.next_turn-port.ensures.same c.in_default.ensures);
   few = c.loop.invariant.few;
   end = c.loop.invariant.end;
 }

@@ -25,7 +25,8 @@ loop-done-preserved g c =
     let d = c.act-in-loop-done.ensures.stepped (c.in_ok-act-2.was ∙ ap Ok c.if-not-branch-2.false) in
     let more = longer g.A.Actor.is_ready g.A.Actor.stepped _ d.found _ d.port d.took d.looks d.acts in
     record {
-      worked = worked_then g.A.Actor.is_ready g.A.Actor.stepped _ _ _ c.loop-done.invariant.worked (did g.A.Actor.is_ready g.A.Actor.stepped _ d.found _ d.port d.took d.looks d.acts);
+      worked = worked_then g.A.Actor.is_ready g.A.Actor.stepped _ _ _ c.loop-done.invariant.worked
+          (did g.A.Actor.is_ready g.A.Actor.stepped _ d.found _ d.port d.took d.looks d.acts);
       count = omega (arith, more, c.loop-done.invariant.count);
       some = omega (arith, c.loop-done.invariant.some);
     }

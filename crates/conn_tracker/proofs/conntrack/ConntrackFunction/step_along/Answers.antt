@@ -21,12 +21,14 @@ returns-clause-sound c = λ sound.
           known_flow c.args._flow (rw same transport) (search rules) (search rules) (search rules) (search rules) in
           rw w.kept-is (elim c.match-kept.branch [
             | in-None v ↦
-                rw v.next-is (valid_record c.args._flow c.args.packet.now.proto v.first_record-next.result flow same v.first_record-next.ensures.fits v.first_record-next.ensures.within)
+                rw v.next-is (valid_record c.args._flow c.args.packet.now.proto v.first_record-next.result flow same v.first_record-next.ensures.fits
+                v.first_record-next.ensures.within)
             | in-Some v ↦
                 let before : is_sound conntrack (OfFlow c.args._flow) (Some v.in-Some.before) ≡ true =
                 subst (λ (o : Option TrackRecord). is_sound conntrack (OfFlow c.args._flow) o ≡ true) v.in-Some.is sound in
                 rw v.next-is (valid_record c.args._flow c.args.packet.now.proto v.record_after-next.result flow same
-                (v.record_after-next.ensures.fits (record_fits c.args._flow c.args.packet.now.proto v.in-Some.before before same)) v.record_after-next.ensures.within)
+                (v.record_after-next.ensures.fits (record_fits c.args._flow c.args.packet.now.proto v.in-Some.before before same))
+                v.record_after-next.ensures.within)
           ])
       | else-is_transport w ↦ rw w.kept-is (elim c.match-kept.branch [
         | in-None v ↦ rw v.kept-is sound

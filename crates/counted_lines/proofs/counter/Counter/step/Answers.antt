@@ -10,5 +10,6 @@ invariant_of-self c =
       short = c.args.self.now.short;
       some = c.args.self.now.some;
       last = refl;
-      text = next_last c.args.self.now.word.now (take (length c.args.self.now.block - 1) c.args.self.now.block) c.args.self.now.number c.requires more c.args.self.now.text;
+      text = next_last c.args.self.now.word.now (take (length c.args.self.now.block - 1) c.args.self.now.block) c.args.self.now.number c.requires more
+          c.args.self.now.text;
     }

@@ -21,7 +21,8 @@ returns-clause-node c =
       stopped = inside.stopped.items;
     } in
     let done = c.in_ok-answer.ensures in
-    subst (λ t. OnOk c.answer.result (c.close.new.self ≡ (takes_turn t c.args.op (turn_of (finite.get t.operations c.args.op) t.store c.args.port c.args.message)).node)) c.self.view_is
+    subst (λ t. OnOk c.answer.result
+    (c.close.new.self ≡ (takes_turn t c.args.op (turn_of (finite.get t.operations c.args.op) t.store c.args.port c.args.message)).node)) c.self.view_is
     (on_ok_weaker c.answer.result (λ _. node_of s c.close.new.self c.args.op c.args.port c.args.message c.in-Some.answer c.on.new.self c.on.new.store
     done.operations done.store (sym done.answer ∙ c.in-Some.is) c.close.ensures) c.answer.ensures.sends)
 
@@ -38,6 +39,7 @@ returns-clause-sends c =
       stopped = inside.stopped.items;
     } in
     let done = c.in_ok-answer.ensures in
-    subst (λ t. OnOk c.answer.result (c.answer.new.out.0 ≡ c.args.out.now.0 ++ (takes_turn t c.args.op (turn_of (finite.get t.operations c.args.op) t.store c.args.port c.args.message)).sends)) c.self.view_is
+    subst (λ t. OnOk c.answer.result (c.answer.new.out.0
+    ≡ c.args.out.now.0 ++ (takes_turn t c.args.op (turn_of (finite.get t.operations c.args.op) t.store c.args.port c.args.message)).sends)) c.self.view_is
     (on_ok_weaker c.answer.result (sends_of s c.args.op c.args.port c.args.message c.in-Some.answer c.args.out.now.0 c.on.new.out.0 c.answer.new.out.0
     (sym done.answer ∙ c.in-Some.is) done.sends) c.answer.ensures.sends)

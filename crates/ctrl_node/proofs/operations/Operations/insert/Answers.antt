@@ -16,4 +16,5 @@ invariant_of-self-2 c =
 
 pub returns-clause-opened : goal.returns-clause-opened
 returns-clause-opened c =
-    inserted c.self.inside.by_number.entries c.insert_sorted.new.self.entries c.args.self.now c.args.op c.args.operation c.self.view_is c.in_ok-insert_sorted.ensures.updates.0
+    inserted c.self.inside.by_number.entries c.insert_sorted.new.self.entries c.args.self.now c.args.op c.args.operation c.self.view_is
+    c.in_ok-insert_sorted.ensures.updates.0

@@ -11,6 +11,9 @@ use Rattle.ctrl_node.proofs.operations.Operations.lowest_meeting.Goals as goal
 pub returns : goal.returns
 returns c =
     let es = c.self.inside.by_number.entries in
-    let first = find_from_yields_List (λ entry. meets_operation c.args.filter.now entry.1) _ _ c.find.result c.find.ensures.ran (YieldsList-from_rest es c.iter.ensures.rest) (λ x b q k. search (rules, tests)) in
+    let first = find_from_yields_List (λ entry. meets_operation c.args.filter.now entry.1) _ _ c.find.result c.find.ensures.ran
+    (YieldsList-from_rest es c.iter.ensures.rest) (λ x b q k. search (rules, tests)) in
     let named : c.map.result ≡ option_map (λ entry. entry.0) (option_map deref_pair c.find.result) = search (rules, tests) in
-    named ∙ ap (option_map (λ entry. entry.0)) (first ∙ ap (find (λ entry. meets_operation c.args.filter.now entry.1)) (sym (entries-view es c.self.invariant.0))) ∙ ap (λ m. lowest_meeting m c.args.filter.now) c.self.view_is
+    named
+    ∙ ap (option_map (λ entry. entry.0)) (first ∙ ap (find (λ entry. meets_operation c.args.filter.now entry.1)) (sym (entries-view es c.self.invariant.0)))
+    ∙ ap (λ m. lowest_meeting m c.args.filter.now) c.self.view_is

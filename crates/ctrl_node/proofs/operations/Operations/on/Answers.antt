@@ -41,7 +41,8 @@ returns-in_default-clause-operations c =
     let old = c.self.inside.by_number.entries in
     let none : lookup (eqb c.args.op) old ≡ None = sym c.get_mut.ensures.value ∙ ap option_copied_mut c.in_default.is in
     let absent : finite.get c.args.self.now c.args.op ≡ None = ap (λ m. finite.get m c.args.op) (sym c.self.view_is) ∙ (get-view old c.args.op ∙ none) in
-    subst (λ o. view c.get_mut.follows.lender-at-none.entries ≡ with_operation c.args.self.now c.args.op (turn_of o c.args.store.now c.args.sender c.args.message).operation) (sym absent)
+    subst (λ o. view c.get_mut.follows.lender-at-none.entries
+    ≡ with_operation c.args.self.now c.args.op (turn_of o c.args.store.now c.args.sender c.args.message).operation) (sym absent)
     (ap (λ m. view m.entries) c.get_mut.follows.holds-at-none ∙ c.self.view_is)
 
 pub returns-in_default-clause-answer : goal.returns-in_default-clause-answer
@@ -70,7 +71,8 @@ returns-in_default-clause-sends c =
     let old = c.self.inside.by_number.entries in
     let none : lookup (eqb c.args.op) old ≡ None = sym c.get_mut.ensures.value ∙ ap option_copied_mut c.in_default.is in
     let absent : finite.get c.args.self.now c.args.op ≡ None = ap (λ m. finite.get m c.args.op) (sym c.self.view_is) ∙ (get-view old c.args.op ∙ none) in
-    subst (λ o. c.args.out.now.0 ≡ c.args.out.now.0 ++ (turn_of o c.args.store.now c.args.sender c.args.message).sends) (sym absent) (sym (append-nil c.args.out.now.0))
+    subst (λ o. c.args.out.now.0 ≡ c.args.out.now.0 ++ (turn_of o c.args.store.now c.args.sender c.args.message).sends) (sym absent)
+    (sym (append-nil c.args.out.now.0))
 
 pub returns-clause-store : goal.returns-clause-store
 returns-clause-store c =
@@ -84,4 +86,5 @@ returns-clause-sends c =
     let old = c.self.inside.by_number.entries in let was = c.in-Some.operation.now in
     let at : lookup (eqb c.args.op) old ≡ Some was = sym c.get_mut.ensures.value ∙ ap option_copied_mut c.in-Some.is in
     let found : finite.get c.args.self.now c.args.op ≡ Some was = ap (λ m. finite.get m c.args.op) (sym c.self.view_is) ∙ (get-view old c.args.op ∙ at) in
-    subst (λ o. OnOk c.on.result (c.on.new.out.0 ≡ c.args.out.now.0 ++ (turn_of o c.args.store.now c.args.sender c.args.message).sends)) (sym found) c.on.ensures.sends
+    subst (λ o. OnOk c.on.result (c.on.new.out.0 ≡ c.args.out.now.0 ++ (turn_of o c.args.store.now c.args.sender c.args.message).sends)) (sym found)
+    c.on.ensures.sends

@@ -15,4 +15,5 @@ invariant_of-self c =
     )
 
 pub returns : goal.returns
-returns c = removed c.self.inside.by_number.entries c.shift_remove-closed.new.self.entries c.args.self.now c.args.op c.self.view_is c.shift_remove-closed.ensures.updates.0
+returns c = removed c.self.inside.by_number.entries c.shift_remove-closed.new.self.entries c.args.self.now c.args.op c.self.view_is
+    c.shift_remove-closed.ensures.updates.0

@@ -11,7 +11,8 @@ returns-in-Some-clause-own g c = own_rule _ _ (subst (λ rs. HaveOneEach rs) c.s
 
 pub returns-in-Some-clause-named : goal.returns-in-Some-clause-named
 returns-in-Some-clause-named g c op e =
-    let first : decided_by (first_rule c.args.self.now c.args.flow.now) ≡ decided c.in-Some.rule.now.op c.in-Some.rule.now.action = grind (arith, common_steps, c.in-Some.ensures) in
+    let first : decided_by (first_rule c.args.self.now c.args.flow.now) ≡ decided c.in-Some.rule.now.op c.in-Some.rule.now.action =
+    grind (arith, common_steps, c.in-Some.ensures) in
     named_rule _ c.args.flow.now Plain op (subst (λ rs. HaveOneEach rs) c.self.view_is c.self.invariant) (ap named_by (first ∙ sym c.decided.ensures) ∙ e)
 
 pub returns-in-Pass-clause-own : goal.returns-in-Pass-clause-own

@@ -2,7 +2,7 @@
 use Rattle.std.proofs.Common.{◌≡◌, eqb, None, Some, [], ◌∷◌, ◌++◌, set, refl, ap, sym, ◌∙◌}
 use Rattle.std.specs.Prelude.{position}
 use Rattle.event_filter.specs.declared.mark.Mark.TheVariants.{Plain}
-use Rattle.event_filter.specs.Rules.{decide, rule_at, held_at, ruled_by, with_rule}
+use Rattle.event_filter.specs.Rules.{decide, rule_at, held_at, with_rule_of, with_rule}
 use Rattle.event_filter.proofs.RulePlaces.{set-changed, one_each-changed, one_each-push, none-position, rule_at-position, with_rule-some, with_rule-none}
 use Rattle.event_filter.proofs.RuleLookUps.{rule_at-with_rule, held_at-with_rule}
 use Rattle.event_filter.proofs.Decisions.{decide-with_rule_taken, decide-with_rule_passed}
@@ -11,8 +11,9 @@ use Rattle.event_filter.proofs.rules.EventRules.enable.Goals as goal
 pub invariant_of-self : goal.invariant_of-self
 invariant_of-self g c =
     let found : position (λ x. eqb x.op c.args.op) c.self.inside.rules.items ≡ Some c.in-Some.place = cc in
-    rw (set-changed c.self.inside.rules.items c.args.op c.in-Some.place c.index_mut-rule.result.now (ruled_by c.args.filter c.args.action) found c.index_mut-rule.ensures.value c.self.invariant)
-    (one_each-changed c.self.inside.rules.items c.args.op (ruled_by c.args.filter c.args.action) (λ r. refl) c.self.invariant)
+    rw (set-changed c.self.inside.rules.items c.args.op c.in-Some.place c.index_mut-rule.result.now (with_rule_of c.args.filter c.args.action) found
+    c.index_mut-rule.ensures.value c.self.invariant)
+    (one_each-changed c.self.inside.rules.items c.args.op (with_rule_of c.args.filter c.args.action) (λ r. refl) c.self.invariant)
 
 pub returns-in-Some : goal.returns-in-Some
 returns-in-Some g c =
@@ -23,8 +24,8 @@ returns-in-Some g c =
     let act = c.args.action in
     let rule = c.index_mut-rule.result.now in
     let found : position (λ x. eqb x.op op) items ≡ Some c.in-Some.place = cc in
-    let list : set items c.in-Some.place (ruled_by f act rule) ≡ with_rule now op f act
-    = set-changed items op c.in-Some.place rule (ruled_by f act) found c.index_mut-rule.ensures.value c.self.invariant
+    let list : set items c.in-Some.place (with_rule_of f act rule) ≡ with_rule now op f act
+    = set-changed items op c.in-Some.place rule (with_rule_of f act) found c.index_mut-rule.ensures.value c.self.invariant
     ∙ sym (with_rule-some items op rule f act (rule_at-position items op c.in-Some.place rule found c.index_mut-rule.ensures.value))
     ∙ ap (λ rs. with_rule rs op f act) c.self.view_is in
     record {

@@ -14,7 +14,8 @@ pub loop-left-preserved : goal.loop-left-preserved
 loop-left-preserved g c =
     let long : MOST_CHUNKS < length c.loop-left.left.items = search rules in
     record {
-      sends = left_more (record { op = c.args.op; whole = c.of-whole.result; all = _ }) c.loop-left.left.items c.loop-left.out.0 _ c.in_ok-chunks.chunks c.piece.result _ c.loop-left.invariant.sends long
+      sends = left_more (record { op = c.args.op; whole = c.of-whole.result; all = _ }) c.loop-left.left.items c.loop-left.out.0 _ c.in_ok-chunks.chunks
+          c.piece.result _ c.loop-left.invariant.sends long
           c.in_ok-chunks.ensures.left c.in_ok-chunks.ensures.chunks c.piece.ensures c.in_ok-send_piece.ensures.sends;
       notes = c.in_ok-send_piece.ensures.notes ∙ c.loop-left.invariant.notes;
     }
@@ -23,5 +24,6 @@ pub returns-clause-sends : goal.returns-clause-sends
 returns-clause-sends g c =
     let short : length c.loop-left.left.items ≤ MOST_CHUNKS = search rules in
     let same = c.from_vec-chunks.ensures ∙ c.into_vec-2.ensures.items in
-    on_ok_weaker c.send_piece-2.result (λ sends. left_last (record { op = c.args.op; whole = c.of-whole.result; all = _ }) c.loop-left.left.items c.loop-left.out.0 _ c.piece-2.result _ c.loop-left.invariant.sends short
+    on_ok_weaker c.send_piece-2.result (λ sends. left_last (record { op = c.args.op; whole = c.of-whole.result; all = _ }) c.loop-left.left.items
+    c.loop-left.out.0 _ c.piece-2.result _ c.loop-left.invariant.sends short
     same c.piece-2.ensures sends) c.send_piece-2.ensures.sends

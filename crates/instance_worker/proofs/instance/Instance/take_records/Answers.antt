@@ -5,4 +5,5 @@ use Rattle.instance_worker.proofs.instance.Instance.take_records.Goals as goal
 
 pub returns-clause-good : goal.returns-clause-good
 returns-clause-good g c =
-    IfOk-weaker c.are_taken.result _ _ (λ are is. good_taken g.F.Function.semantics c.args.chunks c.sync.result are c.sync.ensures.good c.sync.ensures.refusal is) c.are_taken.ensures
+    IfOk-weaker c.are_taken.result _ _
+    (λ are is. good_taken g.F.Function.semantics c.args.chunks c.sync.result are c.sync.ensures.good c.sync.ensures.refusal is) c.are_taken.ensures

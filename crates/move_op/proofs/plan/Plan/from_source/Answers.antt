@@ -7,4 +7,5 @@ use Rattle.move_op.proofs.plan.Plan.from_source.Goals as goal
 pub returns : goal.returns
 returns c =
     let no = c.in_default in
-    rw (other_of_source c.args.self.now (phase_of c.args.phase) _ c.args.message no.not-Enabled no.not-Piece no.not-Deleted no.not-Restored no.not-Event no.not-Fenced) (search rules)
+    rw (other_of_source c.args.self.now (phase_of c.args.phase) _ c.args.message no.not-Enabled no.not-Piece no.not-Deleted no.not-Restored no.not-Event
+    no.not-Fenced) (search rules)

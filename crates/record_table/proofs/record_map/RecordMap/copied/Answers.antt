@@ -12,7 +12,8 @@ loop-unit-init g c = c.in_ok-reserve.ensures ∙ c.open-copies.ensures ∙ those
 pub loop-unit-preserved : goal.loop-unit-preserved
 loop-unit-preserved g c = elim c.match-get.branch [
   | in-Some+in_ok-copy+in_ok-insert w ↦
-      copied_next c.args.units.now c.loop-unit.unit-index _ c.args.self.now c.loop-unit.copies c.match-get.copies c.loop-unit-test.true c.loop-unit.invariant w.in_ok-copy.field-0
+      copied_next c.args.units.now c.loop-unit.unit-index _ c.args.self.now c.loop-unit.copies c.match-get.copies c.loop-unit-test.true
+      c.loop-unit.invariant w.in_ok-copy.field-0
       (sym c.get.ensures ∙ ap option_copied w.in-Some.is ∙ ap Some (sym w.in_ok-copy.ensures)) (w.copies-is ∙ w.in_ok-insert.ensures.ok)
   | in_default w ↦
       passed_over c.args.units.now c.loop-unit.unit-index _ c.args.self.now c.loop-unit.copies c.match-get.copies c.loop-unit-test.true c.loop-unit.invariant
@@ -20,4 +21,5 @@ loop-unit-preserved g c = elim c.match-get.branch [
 ]
 
 pub returns : goal.returns
-returns g c = c.loop-unit.invariant ∙ ap (λ us. those us c.args.self.now) (take_all c.loop-unit.unit-index c.args.units.now (omega (arith, c.loop-unit-test.false)))
+returns g c =
+    c.loop-unit.invariant ∙ ap (λ us. those us c.args.self.now) (take_all c.loop-unit.unit-index c.args.units.now (omega (arith, c.loop-unit-test.false)))

@@ -36,7 +36,8 @@ invariant_of-self-2 g c = counted g (goal.at.invariant_of-self-2 g c).After-from
 pub returns-clause-is_new : goal.returns-clause-is_new
 returns-clause-is_new g c =
     not_again (is_some c.in_ok-insert.field-0) c.is_none-is_new.result c.is_none-is_new.ensures
-    ∙ ap (λ o. not (is_some o)) (c.in_ok-insert.ensures.was ∙ sym (get-map_of c.self.inside.records c.args.unit) ∙ ap (λ m. finite.get m c.args.unit) c.self.view_is)
+    ∙ ap (λ o. not (is_some o))
+    (c.in_ok-insert.ensures.was ∙ sym (get-map_of c.self.inside.records c.args.unit) ∙ ap (λ m. finite.get m c.args.unit) c.self.view_is)
 
 pub returns-clause-ok : goal.returns-clause-ok
 returns-clause-ok g c = (done g (goal.at.returns-clause-ok g c).After-from).map ∙ ap (λ m. finite.insert m c.args.unit c.args.kept) c.self.view_is

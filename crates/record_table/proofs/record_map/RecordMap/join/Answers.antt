@@ -6,7 +6,7 @@ use Rattle.std.specs.Map.{keys_of}
 use Rattle.std.specs.FinMap as finite
 use Rattle.unit_map.specs.Entries.{is_place_of, with_record}
 use Rattle.unit_map.proofs.EntryLemmas.{place_within, keys_added, map_with_record}
-use Rattle.record_table.specs.Table.{joined, either}
+use Rattle.record_table.specs.Table.{union_of, either}
 use Rattle.record_table.specs.Entries.{map_of}
 use Rattle.record_table.specs.Keeping.{choice}
 use Rattle.record_table.proofs.UnitOrder.{unit_eq, unit_eq_equiv}
@@ -32,11 +32,12 @@ loop-place-init g c =
       left = c.requires;
       found = rw (← c.deref.ensures.value) c.in_ok-places.ensures.found;
       count = c.self.invariant ∙ sym (ap finite.len same);
-      whole = ap (λ m. joined (choice g.F.Function.semantics c.args.keep) m (map_of c.args.entries.items)) (same ∙ c.self.view_is);
+      whole = ap (λ m. union_of (choice g.F.Function.semantics c.args.keep) m (map_of c.args.entries.items)) (same ∙ c.self.view_is);
     }
 
 -- the last unit has the last place
-last : (g : Over) (c : In-Some-pop g) → AllZip (λ u place. is_place_of unit_eq c.loop-place.self-inside.records place u ≡ true) (keys_of c.pop-in-Some.new.self.items) c.pop.new.self.items
+last : (g : Over) (c : In-Some-pop g)
+    → AllZip (λ u place. is_place_of unit_eq c.loop-place.self-inside.records place u ≡ true) (keys_of c.pop-in-Some.new.self.items) c.pop.new.self.items
     × (is_place_of unit_eq c.loop-place.self-inside.records c.in-Some.place c.in-Some-pop.field-0-0 ≡ true)
 last g c =
     let left = c.pop-in-Some.new.self.items in
@@ -45,7 +46,8 @@ last g c =
     zip_front _ (keys_of left) c.pop.new.self.items c.in-Some-pop.field-0-0 c.in-Some.place (rw (keys, c.in-Some.ensures.items) at c.loop-place.invariant.found)
 
 pub record_mut-kept-requires : goal.record_mut-kept-requires
-record_mut-kept-requires g c = place_within unit_eq c.in-Some-pop.field-0-0 c.loop-place.self-inside.records c.in-Some.place (last g (goal.at.record_mut-kept-requires g c).In-Some-pop).1
+record_mut-kept-requires g c = place_within unit_eq c.in-Some-pop.field-0-0 c.loop-place.self-inside.records c.in-Some.place
+    (last g (goal.at.record_mut-kept-requires g c).In-Some-pop).1
 
 pub overflow_add-self : goal.overflow_add-self
 overflow_add-self g c =
@@ -53,7 +55,8 @@ overflow_add-self g c =
     omega (
       arith,
       within_at now now c.in-Some.place c.in-Some-pop.field-0-0 c.loop-place.invariant.held (last g (goal.at.overflow_add-self g c).In-Some-pop).1 (λ q. refl)
-          c.record_mut-kept.result.now c.put.new.kept c.loop-place.self-inside.count c.from-before.result c.from-after.result c.loop-place.invariant.count c.record_mut-kept.ensures.value
+          c.record_mut-kept.result.now c.put.new.kept c.loop-place.self-inside.count c.from-before.result c.from-after.result c.loop-place.invariant.count
+          c.record_mut-kept.ensures.value
           (c.from-before.ensures ∙ ap bool_byte c.is_some.ensures) (c.from-after.ensures ∙ ap bool_byte c.is_some-in-Some.ensures),
     )
 
@@ -67,7 +70,8 @@ loop-place-preserved g c =
     let ends = last g (goal.at.loop-place-preserved g c).In-Some-pop in
     let all : IsDistinct unit_eq (keys_of (left ++ (u, c.in-Some-pop.coming) ∷ [])) = rw c.in-Some-pop.ensures.items at c.loop-place.invariant.left in
     let held : c.put.new.kept ≡ either choose (finite.get (map_of now) u) c.in-Some-pop.coming =
-    c.put.ensures ∙ ap (λ o. either choose o c.in-Some-pop.coming) (c.record_mut-kept.ensures.value ∙ kept_at now now place u c.loop-place.invariant.held ends.1 (λ q. refl)) in
+    c.put.ensures ∙ ap (λ o. either choose o c.in-Some-pop.coming)
+    (c.record_mut-kept.ensures.value ∙ kept_at now now place u c.loop-place.invariant.held ends.1 (λ q. refl)) in
     record {
       held = map_with_record unit_eq unit_eq_equiv now place c.put.new.kept c.loop-place.invariant.held;
       left = keys_front left u c.in-Some-pop.coming all;
@@ -76,12 +80,13 @@ loop-place-preserved g c =
       count = omega (
         arith,
         counted_at now now place u c.loop-place.invariant.held ends.1 (λ q. refl)
-            c.record_mut-kept.result.now c.put.new.kept c.loop-place.self-inside.count c.from-before.result c.from-after.result c.loop-place.invariant.count c.record_mut-kept.ensures.value
+            c.record_mut-kept.result.now c.put.new.kept c.loop-place.self-inside.count c.from-before.result c.from-after.result c.loop-place.invariant.count
+            c.record_mut-kept.ensures.value
             (c.from-before.ensures ∙ ap bool_byte c.is_some.ensures) (c.from-after.ensures ∙ ap bool_byte c.is_some-in-Some.ensures),
       );
       whole = whole_more choose now (with_record now place c.put.new.kept) left u c.in-Some-pop.coming
           (rw (← held) (put_at now now place u c.loop-place.invariant.held ends.1 (λ q. refl) c.put.new.kept)) all
-          ∙ ap (λ es. joined choose (map_of now) (map_of es)) (sym c.in-Some-pop.ensures.items) ∙ c.loop-place.invariant.whole;
+          ∙ ap (λ es. union_of choose (map_of now) (map_of es)) (sym c.in-Some-pop.ensures.items) ∙ c.loop-place.invariant.whole;
     }
 
 pub returns-clause-ok : goal.returns-clause-ok
@@ -91,4 +96,5 @@ returns-clause-ok g c =
     let choose = choice g.F.Function.semantics c.args.keep in
     let none : length places.items ≡ 0 = omega (arith, c.in_default.ensures.cases.0, places.ok) in
     let nothing : entries ≡ [] = no_keys entries (zip_none _ (keys_of entries) places.items none c.loop-place.invariant.found) in
-    sym (whole_none choose (map_of c.loop-place.self-inside.records)) ∙ ap (λ es. joined choose (map_of c.loop-place.self-inside.records) (map_of es)) (sym nothing) ∙ c.loop-place.invariant.whole
+    sym (whole_none choose (map_of c.loop-place.self-inside.records))
+    ∙ ap (λ es. union_of choose (map_of c.loop-place.self-inside.records) (map_of es)) (sym nothing) ∙ c.loop-place.invariant.whole

@@ -10,7 +10,9 @@ loop-unit-init g c = sym (without_none c.args.self.now)
 
 pub loop-unit-preserved : goal.loop-unit-preserved
 loop-unit-preserved g c =
-    without_next c.args.units.now c.loop-unit.unit-index _ c.args.self.now c.loop-unit.self c.take.new.self c.take.ensures c.loop-unit.invariant c.loop-unit-test.true
+    without_next c.args.units.now c.loop-unit.unit-index _ c.args.self.now c.loop-unit.self c.take.new.self c.take.ensures c.loop-unit.invariant
+    c.loop-unit-test.true
 
 pub returns : goal.returns
-returns g c = c.drop_empty.ensures ∙ c.loop-unit.invariant ∙ ap (λ us. without us c.args.self.now) (take_all c.loop-unit.unit-index c.args.units.now (omega (arith, c.loop-unit-test.false)))
+returns g c = c.drop_empty.ensures ∙ c.loop-unit.invariant
+    ∙ ap (λ us. without us c.args.self.now) (take_all c.loop-unit.unit-index c.args.units.now (omega (arith, c.loop-unit-test.false)))

@@ -12,4 +12,14 @@ pub returns-clause-within : goal.returns-clause-within
 returns-clause-within g c = on_ok_weaker c.restore.result (λ is.
     let f = g.F.Function.semantics in
     let few = len-joined (newest f) c.args.self.now.live (records_of f c.args.chunks) in
-    omega (arith, ap (λ t. finite.len t.live) is, few, few_records f c.args.chunks, c.live_count-held.ensures, c.from.ensures, c.from-2.ensures, c.from-3.ensures, c.if-from.false)) c.restore.ensures.table
+    omega (
+      arith,
+      ap (λ t. finite.len t.live) is,
+      few,
+      few_records f c.args.chunks,
+      c.live_count-held.ensures,
+      c.from.ensures,
+      c.from-2.ensures,
+      c.from-3.ensures,
+      c.if-from.false,
+    )) c.restore.ensures.table

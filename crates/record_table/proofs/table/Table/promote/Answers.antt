@@ -17,10 +17,14 @@ pub returns-clause-table : goal.returns-clause-table
 returns-clause-table g c = rw (← c.self.view_is, live_is g c) refl
 
 pub returns-clause-each : goal.returns-clause-each
-returns-clause-each g c = each_promoted c.args.self.now (record { live = c.join.new.self; standby = c.self.inside.standby }) c.args.units.now (returns-clause-table g c)
+returns-clause-each g c =
+    each_promoted c.args.self.now (record { live = c.join.new.self; standby = c.self.inside.standby }) c.args.units.now (returns-clause-table g c)
 
 pub invariant_of-self-2 : goal.invariant_of-self-2
 invariant_of-self-2 g c =
     let f = g.F.Function.semantics in
-    let standby = those c.args.units.now c.self.inside.standby in
-    (rw (live_is g c) (sound_joined f Coming c.self.inside.live standby c.self.invariant.0 (sound_retain_keys f c.self.inside.standby _ c.self.invariant.1)), c.self.invariant.1)
+    let standby = those c.args.units.now c.self.inside.standby in (
+      rw (live_is g c) (sound_joined f Coming c.self.inside.live standby c.self.invariant.0
+          (sound_retain_keys f c.self.inside.standby _ c.self.invariant.1)),
+      c.self.invariant.1,
+    )

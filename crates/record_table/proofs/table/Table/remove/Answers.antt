@@ -20,7 +20,8 @@ invariant_of-self g c = (rw c.remove.ensures (sound_retain_keys g.F.Function.sem
 pub returns-clause-each : goal.returns-clause-each
 returns-clause-each g c u =
     ap (λ m. finite.get m u) c.remove.ensures ∙ get-without c.items.result.now c.self.inside.live u
-    ∙ ap (λ us. cond (is_among us u) None (finite.get c.self.inside.live u)) c.items.ensures ∙ ap (λ t. cond (is_among c.args.units.now u) None (finite.get t.live u)) c.self.view_is
+    ∙ ap (λ us. cond (is_among us u) None (finite.get c.self.inside.live u)) c.items.ensures
+    ∙ ap (λ t. cond (is_among c.args.units.now u) None (finite.get t.live u)) c.self.view_is
 
 pub returns-clause-count : goal.returns-clause-count
 returns-clause-count g c = omega (arith, left g c, ap (λ t. finite.len (finite.retain_keys t.live (is_among c.args.units.now))) c.self.view_is)

@@ -11,7 +11,8 @@ use Rattle.record_table.proofs.ChunkFronts.{not_all_good}
 use Rattle.record_table.proofs.MadeChunks.{made_read}
 use Rattle.record_table.proofs.table.Table.take_in.Goals as goal
 
-not_bad : {R : Type 0} (f : Semantics R) (chunks : List Chunk) (fault : ReadFault) → IsChunkFault f chunks fault → are_good f chunks ≡ true → is_bad (fault_with fault chunks) ≡ false
+not_bad : {R : Type 0} (f : Semantics R) (chunks : List Chunk) (fault : ReadFault) → IsChunkFault f chunks fault → are_good f chunks ≡ true
+    → is_bad (fault_with fault chunks) ≡ false
 not_bad f chunks (Bad place) bad good = absurd (not_all_good f chunks place bad good)
 not_bad f chunks NoMemory bad good = refl
 

@@ -1,7 +1,7 @@
 -- What is found of the affected units is as the definitions say of the world.
 use Rattle.std.proofs.Common.{rules, ◌≡◌, filter, ap, ◌∙◌}
 use Rattle.std.specs.FinMap as finite
-use Rattle.net_world.specs.Log.{arrived}
+use Rattle.net_world.specs.Log.{arrivals_in}
 use Rattle.standby_failover.specs.Failover.{is_in, lost_in_order}
 use Rattle.standby_failover.specs.Scenes.{failover_in}
 use Rattle.standby_failover.proofs.Arrivals.{lost_by_number}
@@ -14,8 +14,8 @@ returns g c = λ v is.
     let listed : c.items.result.now ≡ c.in_ok-order.order = search rules in
     record {
       lost = c.in_ok-lost.ensures
-          ∙ ap (λ ns. filter (λ p. is_in p ns) (arrived s.log.now)) (listed ∙ c.in_ok-order.ensures v is)
-          ∙ ap (λ l. filter (λ p. is_in p (lost_in_order (failover_in f v))) (arrived l)) is.log
+          ∙ ap (λ ns. filter (λ p. is_in p ns) (arrivals_in s.log.now)) (listed ∙ c.in_ok-order.ensures v is)
+          ∙ ap (λ l. filter (λ p. is_in p (lost_in_order (failover_in f v))) (arrivals_in l)) is.log
           ∙ lost_by_number (failover_in f v);
       pending = c.in_ok-pending.ensures v is;
       order = c.in_ok-order.ensures v is;

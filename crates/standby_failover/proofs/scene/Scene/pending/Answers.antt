@@ -6,7 +6,9 @@ use Rattle.standby_failover.specs.Scenes.{affects, failover_in, is_marked}
 use Rattle.standby_failover.proofs.MetNumbers.{left_out, met_came, picked_next, picked_same}
 use Rattle.standby_failover.proofs.SceneSteps.{open_is}
 use Rattle.standby_failover.proofs.scene.Scene.pending.Goals as goal
-use Rattle.standby_failover.proofs.scene.Scene.pending.Goals.{then-not-is_marked+then-affects+in_ok-push, else-not-is_marked, else-not-is_marked-via-then-not-is_marked+else-affects, else-not-is_marked-via-else-not-is_marked}
+use Rattle.standby_failover.proofs.scene.Scene.pending.Goals.{then-not-is_marked+then-affects+in_ok-push, else-not-is_marked}
+use Rattle.standby_failover.proofs.scene.Scene.pending.Goals.{else-not-is_marked-via-then-not-is_marked+else-affects}
+use Rattle.standby_failover.proofs.scene.Scene.pending.Goals.{else-not-is_marked-via-else-not-is_marked}
 
 and_false : (b : Bool) → (b && false) ≡ false
 and_false true = refl

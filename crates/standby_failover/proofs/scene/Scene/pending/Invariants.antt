@@ -1,10 +1,10 @@
 -- The open packets among those that came so far.
 use Rattle.std.proofs.Common.{◌≡◌, filter, take}
-use Rattle.net_world.specs.Log.{arrived}
+use Rattle.net_world.specs.Log.{arrivals_in}
 use Rattle.standby_failover.specs.Failover.{is_open}
 use Rattle.standby_failover.specs.Scenes.{Stopped, IsSceneOf, failover_in}
 use Rattle.standby_failover.proofs.scene.Scene.pending.Given as goal
 
 abbrev pub invariant-loop-note : goal.invariant-loop-note
 invariant-loop-note g l = (v : Stopped g.row.F.Denot g.row.F-Record.Denot) → IsSceneOf g.F.Function.semantics v l.self
-    → l.found ≡ filter (is_open (failover_in g.F.Function.semantics v)) (arrived (take l.note-index l.self.log.now))
+    → l.found ≡ filter (is_open (failover_in g.F.Function.semantics v)) (arrivals_in (take l.note-index l.self.log.now))

@@ -1,8 +1,8 @@
 -- The members so far are stopped.
 use Rattle.std.proofs.Common.{◌≡◌, ◌++◌}
-use Rattle.switch_node.specs.Switch.{stops}
+use Rattle.switch_node.specs.Switch.{stop_messages}
 use Rattle.strong_share.proofs.switch.StrongSwitch.finish.Given as goal
 
 -- the stops so far are sent
 abbrev pub invariant-loop-member : goal.invariant-loop-member
-invariant-loop-member l = l.out ≡ (l.initial.out.0 ++ stops l.member, l.initial.out.1)
+invariant-loop-member l = l.out ≡ (l.initial.out.0 ++ stop_messages l.member, l.initial.out.1)

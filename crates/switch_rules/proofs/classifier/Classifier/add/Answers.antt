@@ -20,8 +20,10 @@ returns-in-Some-clause-groups c = on_ok_weaker c.add.result (λ own rules len ar
     (subst (λ m. position (λ x. mask_eq x.mask m) c.deref.result.now ≡ Some c.in-Some.at) c.of-mask.ensures (sym c.in-Some.ensures)))
     (subst (λ xs. g ≡ get_or xs c.in-Some.at g) c.self.view_is c.index_mut.ensures.value)
     c.add.ensures.mask
-    (λ key. own key ∙ ap (λ k. cond (flow_eq k key && not (is_some (entry g k))) (Some (record { place = c.in-Ok.place; target = r.1 })) (entry g key)) c.values_of-key.ensures
-    ∙ ap (λ n. cond (flow_eq (values_of r.0) key && not (is_some (entry g (values_of r.0)))) (Some (record { place = n; target = r.1 })) (entry g key)) place))) c.add.ensures.entries
+    (λ key. own key ∙ ap (λ k. cond (flow_eq k key && not (is_some (entry g k))) (Some (record { place = c.in-Ok.place; target = r.1 })) (entry g key))
+    c.values_of-key.ensures
+    ∙ ap (λ n. cond (flow_eq (values_of r.0) key && not (is_some (entry g (values_of r.0)))) (Some (record { place = n; target = r.1 })) (entry g key))
+    place))) c.add.ensures.entries
 
 pub returns-in_ok-push-in-None-clause-groups : goal.returns-in_ok-push-in-None-clause-groups
 returns-in_ok-push-in-None-clause-groups c rules len are =
@@ -33,5 +35,6 @@ returns-in_ok-push-in-None-clause-groups c rules len are =
     (subst (λ xs. position (λ x. mask_eq x.mask (mask_of r.0)) xs ≡ None) (c.deref.ensures.value ∙ c.self.view_is)
     (subst (λ m. position (λ x. mask_eq x.mask m) c.deref.result.now ≡ None) c.of-mask.ensures (sym c.in-None.ensures)))
     (c.in_ok-group-in-None.ensures.mask ∙ c.of-mask.ensures)
-    (λ key. c.in_ok-group-in-None.ensures.entries key ∙ ap (λ k. cond (flow_eq k key) (Some (record { place = c.in-Ok.place; target = r.1 })) None) c.values_of-key.ensures
+    (λ key. c.in_ok-group-in-None.ensures.entries key
+    ∙ ap (λ k. cond (flow_eq k key) (Some (record { place = c.in-Ok.place; target = r.1 })) None) c.values_of-key.ensures
     ∙ ap (λ n. cond (flow_eq (values_of r.0) key) (Some (record { place = n; target = r.1 })) None) place))

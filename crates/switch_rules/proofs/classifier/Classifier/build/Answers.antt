@@ -21,4 +21,5 @@ returns-clause-filters c = subst AreFilters (take_all c.loop-place.place c.args.
 
 pub returns-clause-first : goal.returns-clause-first
 returns-clause-first c = answer-first c.args.rules.now c.loop-place.classifier
-    (subst (λ rules. AreGroups rules c.loop-place.classifier) (take_all c.loop-place.place c.args.rules.now c.loop-place-test.false) c.loop-place.invariant.groups)
+    (subst (λ rules. AreGroups rules c.loop-place.classifier) (take_all c.loop-place.place c.args.rules.now c.loop-place-test.false)
+    c.loop-place.invariant.groups)

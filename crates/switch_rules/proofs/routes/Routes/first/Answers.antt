@@ -14,4 +14,4 @@ pub returns-then-len-gt-FEW_RULES-clause-found : goal.returns-then-len-gt-FEW_RU
 returns-then-len-gt-FEW_RULES-clause-found c =
     ap is_some (c.target.ensures.value
     ∙ answer-first c.self.inside.list.items c.self.inside.classifier c.self.invariant.grouped c.args.flow.now c.target.ensures.flow)
-    ∙ c.self.invariant.all c.args.flow.now c.target.ensures.flow
+    ∙ c.self.invariant.all c.args.flow.now

@@ -9,7 +9,7 @@ pub invariant_of-result : goal.invariant_of-result
 invariant_of-result c = record {
   grouped = subst (λ rules. AreGroups rules c.in_ok-classifier.classifier) c.deref.ensures.value c.in_ok-classifier.ensures.groups;
   filters = subst AreFilters c.deref.ensures.value c.in_ok-classifier.ensures.filters;
-  all = λ flow fits. ap (λ rules. is_some (first_match rules flow)) c.in_ok-list.ensures ∙ ap is_some (opened_law c.args.routes.now flow);
+  all = λ flow. ap (λ rules. is_some (first_match rules flow)) c.in_ok-list.ensures ∙ ap is_some (opened_law c.args.routes.now flow);
 }
 
 pub returns-clause-targets : goal.returns-clause-targets

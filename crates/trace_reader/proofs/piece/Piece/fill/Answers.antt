@@ -18,7 +18,8 @@ loop-number-preserved c = record {
       let number = c.loop-number.number in
       let left : end - number + more ≡ suc (end - (number + 1) + more) = omega (arith, c.loop-number-test.true) in
       let before = subst (λ (n : ℕ). records c.args.hosts c.args.first (first_words mix_u64 (c.args.count + more) c.args.words.now)
-      ≡ piece_bytes c.loop-number.self ++ records c.args.hosts number (first_words mix_u64 n c.loop-number.words)) left (c.loop-number.invariant.records more) in
+      ≡ piece_bytes c.loop-number.self ++ records c.args.hosts number (first_words mix_u64 n c.loop-number.words)) left
+      (c.loop-number.invariant.records more) in
       let grown = c.push.ensures.bytes ∙ ap (λ (d : Drawn). piece_bytes c.loop-number.self ++ record_bytes number d) c.of-drawn.ensures.value in
       filled_more _ _ _ c.args.hosts number _ c.loop-number.words (c.next_word.result, c.next_word.new.self) c.next_word.ensures before grown;
 }

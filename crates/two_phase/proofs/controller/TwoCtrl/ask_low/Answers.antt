@@ -1,15 +1,16 @@
 -- What is stored is sent, and then the order to lay the rule.
 use Rattle.std.proofs.Common.{false, [], ◌∷◌, ◌++◌, ap, ◌∙◌}
 use Rattle.two_phase.specs.declared.msg.TwoMsg.TheVariants.{Lay}
-use Rattle.two_phase.specs.Tables.{forwards}
+use Rattle.two_phase.specs.Tables.{forward_messages}
 use Rattle.two_phase.proofs.SentMessages.{after_all}
 use Rattle.two_phase.proofs.controller.TwoCtrl.ask_low.Goals as goal
 
 pub returns-clause-sends : goal.returns-clause-sends
 returns-clause-sends c =
     let before = c.args.out.now.0 in
-    after_all c.send.result c.send.new.self c.forward_all.new.out.0 before (forwards c.args.self.now.store) ((0, Lay false) ∷ []) c.forward_all.new.out.1
+    after_all c.send.result c.send.new.self c.forward_all.new.out.0 before (forward_messages c.args.self.now.store) ((0, Lay false) ∷ [])
+    c.forward_all.new.out.1
     c.send.ensures.ok
     (ap (λ out. out.0) c.in_ok-forward_all.ensures
-    ∙ ap (λ d. before ++ forwards d.items) c.replace.ensures.value
-    ∙ ap (λ s. before ++ forwards s.store) c.self.view_is)
+    ∙ ap (λ d. before ++ forward_messages d.items) c.replace.ensures.value
+    ∙ ap (λ s. before ++ forward_messages s.store) c.self.view_is)

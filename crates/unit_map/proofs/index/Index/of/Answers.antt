@@ -23,12 +23,14 @@ loop-entry-preserved g c =
     let es = c.args.entries.now in
     let i = c.loop-entry.entry-index in
     let here : is_some c.entry-item.result.1 ≡ true = c.is_none.ensures ∙ ap not c.if-is_none.false in
-    let number = subst (λ (n : ℕ). IsNoted (key_rules g.K.PartialEq.eq g.K.Ord.cmp g.K.Hash.hash_input) c.note.new.self (record { key = c.entry-item.result.0; number = n + 1 })) c.loop-entry.invariant.count c.in_ok-note.ensures.noted in
+    let number = subst (λ (n : ℕ). IsNoted (key_rules g.K.PartialEq.eq g.K.Ord.cmp g.K.Hash.hash_input) c.note.new.self
+    (record { key = c.entry-item.result.0; number = n + 1 })) c.loop-entry.invariant.count c.in_ok-note.ensures.noted in
     record {
       room = c.note.ensures.room;
       bound = omega arith;
       count = ap (λ (n : ℕ). n + 1) c.loop-entry.invariant.count ∙ sym (count_more es i c.entry-item.result c.loop-entry-test.true c.entry-item.is here);
-      noted = noted_more _ laws _ _ es i c.entry-item.result c.requires.distinct c.loop-entry-test.true c.entry-item.is here c.note.ensures.others number c.loop-entry.invariant.noted;
+      noted = noted_more _ laws _ _ es i c.entry-item.result c.requires.distinct c.loop-entry-test.true c.entry-item.is here c.note.ensures.others number
+          c.loop-entry.invariant.noted;
     }
 
 pub returns-clause-noted : goal.returns-clause-noted

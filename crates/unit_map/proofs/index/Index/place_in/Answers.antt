@@ -9,7 +9,8 @@ use Rattle.unit_map.proofs.index.Index.place_in.Goals.{In-None}
 
 absent : (g : Over) (c : In-None g) → lookup (g.K.PartialEq.eq c.args.key) c.args.entries.now.items ≡ None
 absent g c =
-    absent_everywhere _ (key_laws g.K.PartialEq.eq g.K.Ord.cmp g.K.Hash.hash_input g.met.K.Eq.laws g.met.K.Ord.total g.met.K.Ord.matches_eq g.met.K.Hash.respects_eq)
+    absent_everywhere _
+    (key_laws g.K.PartialEq.eq g.K.Ord.cmp g.K.Hash.hash_input g.met.K.Eq.laws g.met.K.Ord.total g.met.K.Ord.matches_eq g.met.K.Hash.respects_eq)
     c.args.self.now c.args.key c.args.entries.now.items c.requires.sound.noted (rw c.deref.ensures.value at c.in-None.ensures.absent)
 
 pub add-requires-clause-absent : goal.add-requires-clause-absent
@@ -17,4 +18,5 @@ add-requires-clause-absent g c = absent g (goal.at.add-requires-clause-absent g 
 
 pub returns-in-None-clause-same : goal.returns-in-None-clause-same
 returns-in-None-clause-same g c =
-    record_by_add g.K.PartialEq.eq g.met.K.Eq.laws c.add.result _ _ c.args.key (absent g (goal.at.returns-in-None-clause-same g c).In-None) c.add.ensures.ok c.add.ensures.err
+    record_by_add g.K.PartialEq.eq g.met.K.Eq.laws c.add.result _ _ c.args.key (absent g (goal.at.returns-in-None-clause-same g c).In-None) c.add.ensures.ok
+    c.add.ensures.err

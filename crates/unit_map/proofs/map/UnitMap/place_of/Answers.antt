@@ -10,5 +10,6 @@ IfNone-weaker (Some x) f p = tt
 pub returns-clause-absent : goal.returns-clause-absent
 returns-clause-absent g c =
     let laws = key_laws g.K.PartialEq.eq g.K.Ord.cmp g.K.Hash.hash_input g.met.K.Eq.laws g.met.K.Ord.total g.met.K.Ord.matches_eq g.met.K.Hash.respects_eq in
-    IfNone-weaker c.find.result (λ h. rw (← c.self.view_is) (absent_everywhere _ laws c.self.inside.index c.args.key.now c.self.inside.entries.items c.self.invariant.noted h))
+    IfNone-weaker c.find.result
+    (λ h. rw (← c.self.view_is) (absent_everywhere _ laws c.self.inside.index c.args.key.now c.self.inside.entries.items c.self.invariant.noted h))
     (rw c.deref.ensures.value at c.find.ensures.absent)

@@ -32,7 +32,8 @@ loop-item-preserved g c =
       room = c.place_in.ensures.room;
       sound = c.place_in.ensures.sound;
       found = rw (more, c.in_ok-push.ensures.items) (AllZip-more _ keys c.loop-item.places.items item.0 c.in_ok-place.place
-          (AllZip-weaker _ _ (λ k place h. c.place_in.ensures.stays place k h) keys c.loop-item.places.items c.loop-item.invariant.found) c.in_ok-place.ensures.found);
+          (AllZip-weaker _ _ (λ k place h. c.place_in.ensures.stays place k h) keys c.loop-item.places.items c.loop-item.invariant.found)
+          c.in_ok-place.ensures.found);
       same = λ k. c.place_in.ensures.same k ∙ c.loop-item.invariant.same k;
     }
 

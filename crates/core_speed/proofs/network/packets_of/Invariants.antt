@@ -1,7 +1,0 @@
--- The packets so far are those of the numbers so far.
-use Rattle.std.proofs.Common.{◌≡◌}
-use Rattle.core_speed.specs.NetworkWorld.{packets_below}
-use Rattle.core_speed.proofs.network.packets_of.Given as goal
-
-abbrev pub invariant-loop-number : goal.invariant-loop-number
-invariant-loop-number l = l.all.items ≡ packets_below l.number

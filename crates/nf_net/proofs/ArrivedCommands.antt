@@ -1,0 +1,85 @@
+-- Of every run: where a command has begun, the packets that stand before it in the input have come.
+use Rattle.std.proofs.Common.{◌≡◌, ℕ, ◌+◌, ◌<◌, ◌≤◌, true, false, List, [], ◌∷◌, ◌++◌, length, length-append, refl, sym, ap, ◌∙◌, subst, arith}
+use Rattle.std.specs.Prelude.{nat_lt}
+use Rattle.std.specs.declared.alloc.Global.{Global}
+use Rattle.std.proofs.lemmas.Bool.Decides.{nat_tests}
+use Rattle.std.proofs.lemmas.List.{length-map}
+use Rattle.nf_function.specs.Records.{Laws as FunctionLaws}
+use Rattle.nf_function.specs.Semantics.{Semantics}
+use Rattle.nf_msgs.specs.declared.command.Command.{Command}
+use Rattle.nf_msgs.specs.declared.msg.Msg.{Msg}
+use Rattle.nf_msgs.specs.declared.msg.Msg.TheVariants as msg
+use Rattle.nf_msgs.specs.declared.note.Note.{Note}
+use Rattle.actor_net.specs.declared.choice.Choice.{Choice}
+use Rattle.actor_net.specs.Network.{Network, IsRun, run, queue_at}
+use Rattle.actor_net.proofs.EnabledChoices.{at}
+use Rattle.proof_machines.proofs.unit.Labels.{Each}
+use Rattle.net_world.specs.declared.config.Config.{Config}
+use Rattle.net_world.specs.declared.node.Node.{Node}
+use Rattle.net_world.specs.Commands.{is_begun, has_answered}
+use Rattle.net_world.specs.Input.{commands, packets, IsInput}
+use Rattle.net_world.specs.Log.{arrivals_in}
+use Rattle.net_world.specs.Nodes.{node_step, node_ready}
+use Rattle.proof_outlines.proofs.joined.StartJoined.{given}
+use Rattle.nf_net.proofs.answers.ArrivalLemmas.{numbers, runs_joined}
+use Rattle.nf_net.proofs.answers.BusyLemmas.{is_noted, or_off}
+use Rattle.nf_net.proofs.answers.CommandPromises.{run_busy}
+use Rattle.nf_net.proofs.RunKeeps.{start}
+use Rattle.nf_net.proofs.SettleCounts.{commands-append, longer_end, packets-append}
+use Rattle.nf_net.proofs.SettleKeeps.{run_settles}
+use Rattle.nf_net.proofs.SettleSteps.{Counted, unnoted_waits}
+
+each_there : {X : Type 0} (P : X → Type 0) (xs : List X) (x : X) (ys : List X) → Each P (xs ++ x ∷ ys) → P x
+each_there P [] x ys h = h.0
+each_there P (z ∷ xs) x ys h = each_there P xs x ys h.1
+
+module _ (F : Type 0) {R : Type 0} (f : Semantics R) (laws : FunctionLaws f) (alloc : Global) (c : Config) (items : List Msg) (is : IsInput f.kind c items)
+    (cs : List Choice) (run_is : IsRun node_ready (node_step f) cs (start F f laws alloc c items is)) where
+  abbrev w : Network (Node F R) Msg Note
+  w = run (node_step f) cs (start F f laws alloc c items is)
+
+  abbrev left : List Msg
+  left = queue_at w (at 0 0)
+
+  counts : (xs ys : List Msg) → length (packets (xs ++ ys)) ≡ length (packets xs) + length (packets ys)
+  counts xs ys = ap length (packets-append xs ys) ∙ length-append (packets xs) (packets ys)
+
+  -- all packets that have come, and those that are left
+  turn : length (arrivals_in w.log) + length (packets left) ≡ length (packets items)
+  turn =
+      let h = runs_joined F f laws alloc c items is cs run_is in
+      let both = length-append (arrivals_in w.log) (numbers left) in
+      let same = ap length h.in_turn in
+      let some = length-map (packets left) (λ p. p.number) in
+      let all = length-map (packets items) (λ p. p.number) in
+      omega (arith, both, same, some, all)
+
+  -- what waits in the input hasn't begun
+  waits_on : (ms behind : List Msg) (command : Command) → left ≡ ms ++ msg.InCommand command ∷ behind → is_begun command.op w.log ≡ false
+  waits_on ms behind command e =
+      let b = (run_busy F f laws alloc c items is cs run_is).1 in
+      let none = each_there (λ x. is_noted x.op w.log ≡ false) (commands ms) command (commands behind) (subst (λ xs. Each (λ x. is_noted x.op w.log ≡ false)
+      xs) (ap commands e ∙ commands-append ms (msg.InCommand command ∷ behind)) (unnoted_waits (given f c items is) w b)) in
+      (or_off (is_begun command.op w.log) (has_answered command.op w.log) none).0
+
+  pub came_before : (op : ℕ) → is_begun op w.log ≡ true → (front behind : List Msg) (command : Command) → items ≡ front ++ msg.InCommand command ∷ behind
+      → command.op ≡ op → length (packets front) ≤ length (arrivals_in w.log)
+  came_before op begun front behind command whole same =
+      elim (nat_lt (length behind) (length left)) as (λ b. nat_lt (length behind) (length left) ≡ b → length (packets front) ≤ length (arrivals_in w.log)) [
+        | true ↦ λ on.
+            let more : length behind < length left = grind (arith, nat_tests, on) in
+            let ends = longer_end counted.took left front (msg.InCommand command ∷ behind) (sym counted.whole ∙ whole) (omega (arith, more)) in
+            let never : true ≡ false = sym begun ∙ ap (λ k. is_begun k w.log) (sym same) ∙ waits_on ends.0 behind command ends.1 in
+            cc
+        | false ↦ λ off.
+            let few : length left ≤ length behind = grind (arith, nat_tests, off) in
+            let ends = longer_end front (msg.InCommand command ∷ behind) counted.took left (sym whole ∙ counted.whole) (omega (arith, few)) in
+            let all : length (packets items) ≡ length (packets front) + (length (packets ends.0) + length (packets left)) =
+            ap (λ xs. length (packets xs)) (whole ∙ ap (λ xs. front ++ xs) ends.1) ∙ counts front (ends.0 ++ left)
+            ∙ ap (λ k. length (packets front) + k) (counts ends.0 left) in
+            let own = turn in
+            omega (arith, all, own)
+      ] refl
+    where
+      counted : Counted items w
+      counted = (run_settles F f laws alloc c items is cs run_is).counted

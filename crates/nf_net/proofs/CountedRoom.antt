@@ -1,0 +1,42 @@
+-- In every run no more is processed of a unit than a record counts.
+use Rattle.std.proofs.Common.{ℕ, suc, ◌+◌, ◌≤◌, Bool, true, false, List, [], ◌∷◌, length, arith}
+use Rattle.std.specs.Prelude.{if◌then◌else◌}
+use Rattle.std.specs.declared.alloc.Global.{Global}
+use Rattle.std.proofs.lemmas.List.{length-map}
+use Rattle.nf_function.specs.declared.unit.Unit as units
+use Rattle.nf_function.specs.Records.{Laws as FunctionLaws}
+use Rattle.nf_function.specs.Semantics.{Semantics}
+use Rattle.nf_msgs.specs.declared.msg.Msg.{Msg}
+use Rattle.nf_msgs.specs.declared.note.Note.{Note}
+use Rattle.actor_net.specs.Network.{Network}
+use Rattle.net_world.specs.declared.config.Config.{Config}
+use Rattle.net_world.specs.declared.node.Node.{Node}
+use Rattle.net_world.specs.Fold.{is_of, processed_of}
+use Rattle.net_world.specs.Input.{packets, most_counted, IsInput}
+use Rattle.net_world.specs.Log.{Done, arrivals_in, dones_in, done_where}
+use Rattle.nf_net.proofs.answers.ArrivalLemmas.{numbers, InRun}
+use Rattle.nf_net.proofs.FrontLemmas.{front_length}
+use Rattle.nf_net.proofs.PacketCounts.{few_done}
+
+few_of : (mine : ℕ → Bool) (ds : List Done) → length (done_where mine ds) ≤ length ds
+few_of mine [] = omega arith
+few_of mine (d ∷ ds) =
+    let rest = few_of mine ds in elim (mine d.number) as (λ b. length (if b then d ∷ done_where mine ds else done_where mine ds) ≤ suc (length ds)) [
+      | true ↦ omega (arith, rest)
+      | false ↦ omega (arith, rest)
+    ]
+
+module _ (F : Type 0) {R : Type 0} (f : Semantics R) (laws : FunctionLaws f) (alloc : Global) (c : Config) (items : List Msg)
+    (is : IsInput f.kind c items) where
+  abbrev n : ℕ
+  n = length c.names + 2
+
+  pub room : (w : Network (Node F R) Msg Note) → InRun F f laws alloc c items is w → (u : units.Unit) → length (processed_of f c items u w.log) ≤ most_counted
+  room w h u =
+      let own = length-map (done_where (is_of f c items u) (dones_in w.log)) (λ d. d.number) in
+      let some = few_of (is_of f c items u) (dones_in w.log) in
+      let came = few_done f c items is n w h.joined in
+      let turn = front_length (arrivals_in w.log) (numbers items) (record { rest = _; whole = h.in_turn }) in
+      let all = length-map (packets items) (λ p. p.number) in
+      let few = is.few in
+      omega (arith, own, some, came, turn, all, few)

@@ -1,0 +1,284 @@
+-- The controller's step keeps that its open operations are the commands under way, and sends what the orders say.
+use Rattle.std.proofs.Common.{◌≡◌, ℕ, Bool, true, false, Option, Some, None, List, [], ◌∷◌, ◌++◌, refl, sym, ap, ◌∙◌, subst}
+use Rattle.std.specs.Prelude.{if◌then◌else◌, ◌==◌}
+use Rattle.std.specs.List.{filter_map}
+use Rattle.std.specs.FinMap as finite
+use Rattle.flow_filter.specs.declared.filter.Filter.{Filter}
+use Rattle.nf_function.specs.Semantics.{Semantics}
+use Rattle.packet_pool.specs.Pool.{FullCell}
+use Rattle.nf_msgs.specs.declared.answer.Answer.{Answer}
+use Rattle.nf_msgs.specs.declared.answer.Answer.TheVariants.{Done}
+use Rattle.nf_msgs.specs.declared.command.Order.{Order}
+use Rattle.nf_msgs.specs.declared.command.Order.TheVariants as order
+use Rattle.nf_msgs.specs.declared.msg.Msg.{Msg}
+use Rattle.nf_msgs.specs.declared.msg.Msg.TheVariants as msg
+use Rattle.nf_msgs.specs.declared.note.Note.{Note}
+use Rattle.nf_msgs.specs.declared.note.Note.TheVariants as note
+use Rattle.nf_msgs.specs.Nodes.{switch_node, instance_node}
+use Rattle.nf_msgs.specs.MessageParts.{op_of}
+use Rattle.copy_share.specs.declared.copy_phase.CopyPhase.TheVariants.{Keeping}
+use Rattle.copy_share.specs.Copy.{CopyPlan}
+use Rattle.copy_share.specs.Copy as copy
+use Rattle.copy_share.specs.Share.{SharePlan, ShareState}
+use Rattle.copy_share.specs.Share as share
+use Rattle.move_op.specs.Move.{MovePlan, MoveState, MoveRow, row_in, answer_of, move_at_start}
+use Rattle.ctrl_node.specs.declared.operation.Operation.{Operation}
+use Rattle.ctrl_node.specs.declared.operation.Operation.TheVariants.{Move, Copy, Share}
+use Rattle.ctrl_node.specs.Operations.{turn_of, turn_of_move}
+use Rattle.ctrl_node.specs.Controller.{ControllerState, Step, still, refusal, move_between, copy_between, share_begin, begin_step}
+use Rattle.ctrl_node.specs.Controller.{decision_step, on_asked, on_diverted, queue_step, after_turn, takes_turn, hand_step, numbered, on_event}
+use Rattle.ctrl_node.specs.Controller.{on_final, instance_at, row as controller_row, may_finish, finish_of, step_and_finish, controller_step}
+use Rattle.flow_filter.specs.Name.{place_of}
+use Rattle.event_store.specs.Store.{stored_of}
+use Rattle.actor_net.proofs.WeightLaws.{EachSent}
+use Rattle.proof_outlines.proofs.outline.CopyTurns.{CopyTurn, Idle, Hands, Hands_all, Ends, hands, copy_turn}
+use Rattle.proof_outlines.proofs.outline.OperationTables.{got_insert, remove_insert, NotShared}
+use Rattle.proof_outlines.proofs.joined.Given.{Given}
+use Rattle.proof_outlines.proofs.joined.Joined.{Label}
+use Rattle.nf_net.proofs.answers.ControllerCases.{by_operation, by_queue, by_sender, by_stop}
+use Rattle.nf_net.proofs.answers.BusyOperations.{HasOutcome, IsShareOf, answers_to, IsBusy, Causes, refusal_is}
+use Rattle.nf_net.proofs.answers.BusyChanges.{other_notes, turned as op_turned, set_up as op_set_up, closed as op_closed, dropped, refused, begun as op_begun}
+use Rattle.nf_net.proofs.answers.MoveSays.{Says, answer_is, move_says}
+use Rattle.nf_net.proofs.answers.ShareTells.{is_set_up, is_of_share, AreOfShare, Tells, ShareStep, handed_share, queued_share}
+use Rattle.proof_outlines.proofs.whole.ShareLeft.{answered, noted}
+use Rattle.net_world.specs.Commands.{is_share}
+use Rattle.net_world.proofs.SentMessages.{sent-append}
+
+-- the number of a command that a message brings
+abbrev pub told_in : Msg → List ℕ
+told_in (msg.Asked c) = c.op ∷ []
+told_in (msg.InCommand c) = c.op ∷ []
+told_in m = []
+
+-- what a share sends says nothing of moves
+module _ (g : Given) where
+  share_says : (r : ℕ) (m : Msg) → is_of_share m ≡ true → Says g 1 r m
+  share_says r (msg.PutNo op refused) e = cc
+  share_says r m e = tt
+
+  shares_say : (sends : List (ℕ × Msg)) → AreOfShare sends → EachSent (Says g) 1 sends
+  shares_say [] h = tt
+  shares_say (x ∷ xs) h = (share_says x.0 x.1 h.0, shares_say xs h.1)
+
+  answer_says : (op : ℕ) (answer : Option Answer) (sends : List (ℕ × Msg)) → AreOfShare sends → EachSent (Says g) 1 (answered op answer sends)
+  answer_says op None sends h = shares_say sends h
+  answer_says op (Some why) sends h = sent-append (Says g) 1 sends ((switch_node, msg.Answered op) ∷ []) (shares_say sends h) (tt, tt)
+
+-- the answers to a share that is set up, or isn't
+set_up_answers : (s : ShareState) → is_set_up s.phase ≡ true → answers_to (Share s) ≡ Done ∷ []
+set_up_answers s on = ap (λ b. if b then Done ∷ [] else []) on
+
+not_set_up : (s : ShareState) → is_set_up s.phase ≡ false → answers_to (Share s) ≡ []
+not_set_up s off = ap (λ b. if b then Done ∷ [] else []) off
+
+module _ (g : Given) (log : List Note) (waits : List ℕ) where
+  pub record StepIs (did : Step) : Type 0 where
+    pub busy : IsBusy g did.node.operations (log ++ did.notes) waits
+    pub says : EachSent (Says g) 1 did.sends
+
+  -- the finish behind all else changes nothing of it
+  finished_is : (did : Step) → StepIs did → StepIs (step_and_finish did)
+  finished_is did h = record {
+    busy = elim (may_finish did.node) as (λ b. IsBusy g (if b then record did.node { finish_sent = true } else did.node).operations (log ++ did.notes) waits) [
+      | true ↦ h.busy
+      | false ↦ h.busy
+    ];
+    says = sent-append (Says g) 1 did.sends (finish_of did.node) h.says
+        (elim (may_finish did.node) as (λ b. EachSent (Says g) 1 (if b then (switch_node, msg.Finish) ∷ [] else [])) [ true ↦ (tt, tt) | false ↦ tt ]);
+  }
+
+  module _ (c : ControllerState) (h : IsBusy g c.operations log waits) where
+    still_is : StepIs (still c)
+    still_is = record { busy = other_notes g c.operations log waits h [] tt; says = tt }
+
+    -- a message of an open operation
+    turn_is : (op port : ℕ) (m : Msg) (o : Option Operation) → finite.get c.operations op ≡ o → NotShared o → Says g port 1 m
+        → StepIs (takes_turn c op (turn_of o c.store port m))
+    turn_is op port m (Some (Share s)) is no_share label = absurd no_share
+    turn_is op port m None is no_share label = record { busy = other_notes g c.operations log waits h [] tt; says = tt }
+    turn_is op port m (Some (Copy y)) is no_share label = by_turn _ (copy_turn c op y (h.plan op (Copy y) is).1 is port m)
+      where
+        hands_is : (message : Msg) → Says g 1 (instance_node y.plan.to) message → StepIs (hands c op y message)
+        hands_is message says = record {
+          busy = other_notes g (finite.insert c.operations op (Copy (record y { phase = Keeping }))) log waits (op_turned g c.operations log
+              waits h op (Copy y) (Copy (record y { phase = Keeping })) is ((h.plan op (Copy y) is).0, refl) (finite.insert c.operations op
+              (Copy (record y { phase = Keeping }))) (λ k. got_insert c.operations op k (Copy (record y { phase = Keeping }))) refl tt) [] tt;
+          says = (says, tt);
+        }
+
+        by_turn : (did : Step) → CopyTurn (record { controller = c; op = op; copy = y }) m did → StepIs did
+        by_turn did (Idle e) = subst StepIs (sym e) still_is
+        by_turn did (Hands k chunks e d) = subst StepIs (sym d) (hands_is (msg.Standby y.plan.op chunks) tt)
+        by_turn did (Hands_all k chunk e d) = subst StepIs (sym d) (hands_is (msg.PutAll y.plan.op chunk) tt)
+        by_turn did (Ends d) = subst StepIs (sym d) (record {
+          busy = op_closed g c.operations log waits h op (Copy y) (Copy y) is (h.plan op (Copy y) is) Done refl
+              (ap is_share (h.plan op (Copy y) is).0.order_is) refl;
+          says = (tt, tt);
+        })
+    turn_is op port m (Some (Move mv)) is no_share label = by_answer (answer_of r.next.phase) refl
+      where
+        r : MoveRow
+        r = row_in mv c.store port m
+
+        n : MoveState
+        n = record mv { phase = r.next.phase }
+
+        says : HasOutcome r.next.phase × EachSent (Says g) 1 r.next.sends
+        says = let it = move_says g mv (stored_of c.store mv.plan.op) port m (h.outcome op (Move mv) is) label in (it.outcome, it.says)
+
+        by_answer : (a : Option Answer) → answer_of r.next.phase ≡ a → StepIs (after_turn c op (turn_of_move mv c.store r) a)
+        by_answer None e = record {
+          busy = other_notes g (finite.insert c.operations op (Move n)) log waits (op_turned g c.operations log waits h op (Move mv) (Move n) is
+              (h.plan op (Move mv) is) (finite.insert c.operations op (Move n)) (λ k. got_insert c.operations op k (Move n)) refl says.0) [] tt;
+          says = says.1;
+        }
+        by_answer (Some a) e = record {
+          busy = subst (λ ops. IsBusy g ops (log ++ note.Answered op a ∷ []) waits) (sym (remove_insert c.operations op (Move n)))
+              (op_closed g c.operations log waits h op (Move mv) (Move mv) is (h.plan op (Move mv) is) a (answer_is r.next.phase a says.0 e)
+              (ap is_share (h.plan op (Move mv) is).order_is) refl);
+          says = sent-append (Says g) 1 r.next.sends ((switch_node, msg.Answered op) ∷ []) says.1 (tt, tt);
+        }
+
+    -- an open share
+    share_is : (op : ℕ) (s : ShareState) → finite.get c.operations op ≡ Some (Share s) → (did : Step) → ShareStep c op s did → StepIs did
+    share_is op s there did l = record {
+      busy = by_answer l.answer l.notes_are l.tells;
+      says = subst (EachSent (Says g) 1) (sym l.sends_are) (sent-append (Says g) 1 (answered op l.answer l.first) l.second
+          (answer_says g op l.answer l.first l.first_own) (shares_say g l.second l.second_own));
+    }
+      where
+        now : ShareState
+        now = record s { phase = l.after }
+
+        plan : IsShareOf g op s.plan
+        plan = h.plan op (Share s) there
+
+        by_answer : (o : Option Answer) → did.notes ≡ noted op o → Tells (is_set_up s.phase) (is_set_up l.after) o
+            → IsBusy g did.node.operations (log ++ did.notes) waits
+        by_answer None notes same = subst (λ ns. IsBusy g did.node.operations (log ++ ns) waits) (sym notes)
+            (other_notes g did.node.operations log waits (op_turned g c.operations log waits h op (Share s) (Share now) there plan did.node.operations
+            l.operations (ap (λ b. if b then Done ∷ [] else []) (sym same)) tt) [] tt)
+        by_answer (Some why) notes tells =
+            subst (λ ns. IsBusy g did.node.operations (log ++ ns) waits) (sym (notes ∙ ap (λ a. note.Answered op a ∷ []) tells.0))
+            (op_set_up g c.operations log waits h op (Share s) (Share now) there plan did.node.operations l.operations (ap is_share plan.order_is)
+            (not_set_up s tells.1) (set_up_answers now tells.2) tt)
+
+    handed_is : (op port : ℕ) (m : Msg) → Says g port 1 m → StepIs (hand_step c op port m)
+    handed_is op port m label = by_operation StepIs c op port m
+        (λ no_share. turn_is op port m (finite.get c.operations op) refl no_share label)
+        (λ s is. share_is op s is (hand_step c op port m) (handed_share c op s is (h.plan op (Share s) is).op_is port m))
+
+    diverted_is : (cell : FullCell) → StepIs (on_diverted c cell)
+    diverted_is cell = by_queue StepIs c cell still_is
+        (λ op s is. share_is op s is (queue_step c cell (Some op)) (queued_share c op s is (h.plan op (Share s) is).op_is cell))
+
+    numbered_is : (port : ℕ) (m : Msg) (o : Option ℕ) → Says g port 1 m → StepIs (numbered c port m o)
+    numbered_is port m None label = still_is
+    numbered_is port m (Some op) label = handed_is op port m label
+
+    event_is : (port op : ℕ) (cell : FullCell) (i : Option ℕ) → StepIs (on_event c port op cell i)
+    event_is port op cell i = by_sender StepIs c port op cell i still_is (handed_is op port (msg.Event op cell) tt)
+        (λ k. record { busy = other_notes g c.operations log waits h [] tt; says = (tt, tt) })
+
+    final_is : (i : Option ℕ) → StepIs (on_final c i)
+    final_is i = by_stop StepIs c i still_is (λ k. record { busy = other_notes g c.operations log waits h [] tt; says = tt })
+
+  -- a command that waits
+  module _ (c : ControllerState) (op : ℕ) (what : Order) (names : c.names ≡ g.names) (h : IsBusy g c.operations log (op ∷ waits))
+      (known : g.orders op ≡ Some what) where
+    dropped_is : StepIs (still c)
+    dropped_is = still_is c (dropped g c.operations log op waits h)
+
+    between_is : (source destination : List ℕ) (filter : Filter) (keep : Bool) → what ≡ order.Move source destination filter keep
+        → Causes g c.operations log (op ∷ waits) h what None → (a b : Option ℕ) → place_of c.names source ≡ a → place_of c.names destination ≡ b
+        → StepIs (move_between c op filter keep a b)
+    between_is source destination filter keep is may (Some from) (Some to) e k =
+        let plan : MovePlan = record { op = op; from = from; to = to; filter = filter; keep = keep } in
+        record {
+          busy = op_begun g c.operations log op waits h what (Move (move_at_start plan)) known may (record {
+            source = source;
+            destination = destination;
+            order_is = known ∙ ap Some is;
+            from_is = ap (λ ns. place_of ns source) (sym names) ∙ e;
+            to_is = ap (λ ns. place_of ns destination) (sym names) ∙ k;
+          }) tt refl;
+          says = (tt, tt);
+        }
+    between_is source destination filter keep is may None b e k = dropped_is
+    between_is source destination filter keep is may (Some from) None e k = dropped_is
+
+    copies_is : (source destination : List ℕ) (filter : Option Filter) → what ≡ order.Copy source destination filter
+        → Causes g c.operations log (op ∷ waits) h what None → (a b : Option ℕ) → place_of c.names source ≡ a → place_of c.names destination ≡ b
+        → StepIs (copy_between c op filter a b)
+    copies_is source destination filter is may (Some from) (Some to) e k =
+        let plan : CopyPlan = record { op = op; from = from; to = to; filter = filter } in
+        record {
+          busy = op_begun g c.operations log op waits h what (Copy (copy.copy_at_start plan)) known may (
+            record {
+              source = source;
+              destination = destination;
+              order_is = known ∙ ap Some is;
+              from_is = ap (λ ns. place_of ns source) (sym names) ∙ e;
+              to_is = ap (λ ns. place_of ns destination) (sym names) ∙ k;
+            },
+            refl,
+          ) tt refl;
+          says = (asks_say filter, tt);
+        }
+      where
+        asks_say : (o : Option Filter) → Says g 1 (instance_node from) (copy.asks op o)
+        asks_say None = tt
+        asks_say (Some flt) = tt
+    copies_is source destination filter is may None b e k = dropped_is
+    copies_is source destination filter is may (Some from) None e k = dropped_is
+
+    shares_is : (names : List (List ℕ)) (filter : Filter) → what ≡ order.Share names filter → Causes g c.operations log (op ∷ waits) h what None
+        → (members : List ℕ) → StepIs (share_begin c op filter members)
+    shares_is names filter is may [] = dropped_is
+    shares_is names filter is may (home ∷ others) =
+        let plan : SharePlan = record { op = op; members = home ∷ others; filter = filter; site = c.site } in
+        record {
+          busy = op_begun g c.operations log op waits h what (Share (share.share_at_start plan)) known may
+              (record { op_is = refl; names = names; order_is = known ∙ ap Some is }) tt refl;
+          says = (tt, tt);
+        }
+
+    begins_is : (o : Order) → what ≡ o → Causes g c.operations log (op ∷ waits) h what None → StepIs (begin_step c op o)
+    begins_is (order.Move source destination filter keep) is may =
+        between_is source destination filter keep is may (place_of c.names source) (place_of c.names destination) refl refl
+    begins_is (order.Copy source destination filter) is may =
+        copies_is source destination filter is may (place_of c.names source) (place_of c.names destination) refl refl
+    begins_is (order.Share members filter) is may = shares_is members filter is may (filter_map (place_of c.names) members)
+
+    decided_is : (o : Option Answer) → Causes g c.operations log (op ∷ waits) h what o → StepIs (decision_step c op what o)
+    decided_is None may = begins_is what refl may
+    decided_is (Some a) cause = record { busy = refused g c.operations log op waits h what a known cause; says = (tt, tt) }
+
+    asked_is : StepIs (on_asked c (record { op = op; what = what }))
+    asked_is = elim (finite.contains_key c.operations op) as (λ b. StepIs (if b then still c else decision_step c op what (refusal c what))) [
+      | true ↦ dropped_is
+      | false ↦ decided_is (refusal c what) (refusal_is g c log (op ∷ waits) names h what)
+    ]
+
+module _ {R : Type 0} (f : Semantics R) (g : Given) (log : List Note) (waits : List ℕ) (c : ControllerState) (names : c.names ≡ g.names) where
+  row_busy : (p : ℕ) (m : Msg) → Label f g p 1 m → Says g p 1 m → IsBusy g c.operations log (told_in m ++ waits) → StepIs g log waits (controller_row c p m)
+  row_busy p (msg.Asked k) label says h = elim (p == switch_node) as (λ b. StepIs g log waits (if b then on_asked c k else still c)) [
+    | true ↦ asked_is g log waits c k.op k.what names h label.2.known
+    | false ↦ dropped_is g log waits c k.op k.what names h label.2.known
+  ]
+  row_busy p (msg.Diverted cell) label says h = elim (p == switch_node) as (λ b. StepIs g log waits (if b then on_diverted c cell else still c)) [
+    | true ↦ diverted_is g log waits c h cell
+    | false ↦ still_is g log waits c h
+  ]
+  row_busy p msg.End label says h = elim (p == switch_node) as (λ b. StepIs g log waits (if b then still (record c { end_came = true }) else still c)) [
+    | true ↦ record { busy = other_notes g c.operations log waits h [] tt; says = tt }
+    | false ↦ still_is g log waits c h
+  ]
+  row_busy p (msg.Event op cell) label says h = event_is g log waits c h p op cell (instance_at c p)
+  row_busy p msg.Final label says h = final_is g log waits c h (instance_at c p)
+  row_busy p (msg.InCommand k) label says h = let never = label.0.1 in cc
+  row_busy p m label says h = numbered_is g log waits c h p m (op_of m) says
+
+  pub controller_busy : (p : ℕ) (m : Msg) → Label f g p 1 m → Says g p 1 m → IsBusy g c.operations log (told_in m ++ waits)
+      → StepIs g log waits (controller_step c p m)
+  controller_busy p m label says h = finished_is g log waits (controller_row c p m) (row_busy p m label says h)

@@ -1,0 +1,148 @@
+-- What the log says of commands, of every run: each begins and is answered once at most, and what it was refused for, or may begin
+-- by, was true then.
+use Rattle.std.proofs.Common.{◌≡◌, ℕ, ◌+◌, true, false, Option, Some, None, List, [], ◌∷◌, ◌++◌, map, length, refl, sym, ap, ◌∙◌, subst, arith}
+use Rattle.std.specs.Prelude.{is_some}
+use Rattle.std.specs.declared.alloc.Global.{Global}
+use Rattle.std.specs.Ordering.{nat_cmp}
+use Rattle.std.specs.FinMap as finite
+use Rattle.flow_filter.specs.declared.filter.Filter.{Filter}
+use Rattle.nf_function.specs.Records.{Laws as FunctionLaws}
+use Rattle.nf_function.specs.Semantics.{Semantics}
+use Rattle.nf_msgs.specs.declared.command.Order.TheVariants as order
+use Rattle.nf_msgs.specs.declared.msg.Msg.{Msg}
+use Rattle.nf_msgs.specs.declared.msg.Msg.TheVariants as msg
+use Rattle.nf_msgs.specs.declared.note.Note.{Note}
+use Rattle.actor_net.specs.declared.choice.Choice.{Choice}
+use Rattle.actor_net.specs.Network.{Network, IsRun, run, queue_at}
+use Rattle.actor_net.proofs.EnabledChoices.{at}
+use Rattle.actor_net.proofs.OpeningWorlds.{opening_waiting, opening_on_links}
+use Rattle.actor_net.proofs.RunInduction.{run_induction}
+use Rattle.proof_machines.proofs.unit.Labels.{Each}
+use Rattle.proof_machines.proofs.net.Waits.{Rising}
+use Rattle.ctrl_node.specs.declared.operation.Operation.{Operation}
+use Rattle.ctrl_node.specs.Controller.{controller_at_start as opened_controller}
+use Rattle.net_world.specs.declared.config.Config.{Config}
+use Rattle.net_world.specs.declared.node.Node.{Node}
+use Rattle.net_world.specs.Commands.{Answers, answers_of, is_begun, has_answered, is_share, times_installed}
+use Rattle.net_world.specs.Input.{is_item, commands, order_numbered, IsInput}
+use Rattle.net_world.specs.Nodes.{node_step, node_ready}
+use Rattle.net_world.specs.Start.{first_nodes, started_with}
+use Rattle.proof_outlines.proofs.outline.StateOutline.{all_each}
+use Rattle.proof_outlines.proofs.joined.StartJoined.{given, count_at_start, rising_of}
+use Rattle.proof_outlines.proofs.joined.RunsJoined.{Runs, runs_at_start, runs_next, start_world}
+use Rattle.proof_outlines.proofs.joined.Given.{Given}
+use Rattle.proof_outlines.proofs.joined.Joined.{Joined}
+use Rattle.nf_net.proofs.answers.BusyLemmas.{is_noted, none_answered, or_off}
+use Rattle.nf_net.proofs.answers.BusyOperations.{IsBusy}
+use Rattle.nf_net.proofs.answers.BusyNodes.{numbers}
+use Rattle.nf_net.proofs.answers.BusyRuns.{Busy, waits_of, busy_next}
+use Rattle.nf_net.proofs.answers.InstallRuns.{run_installs, installed_once, refused_none_installed, still_installed}
+use Rattle.nf_net.proofs.answers.InstallSteps.{is_moving}
+use Rattle.nf_net.proofs.answers.MoveSays.{Says}
+
+-- the commands of an input
+numbers_in : (items : List Msg) → Each (λ item. is_item item ≡ true) items → map (λ k. k.op) (commands items) ≡ numbers items
+numbers_in [] ok = refl
+numbers_in (msg.InCommand c ∷ items) ok = ap (λ ns. c.op ∷ ns) (numbers_in items ok.1)
+numbers_in (msg.InPacket p ∷ items) ok = numbers_in items ok.1
+numbers_in (msg.InSettle ∷ items) ok = numbers_in items ok.1
+numbers_in (msg.InEnd ∷ items) ok = numbers_in items ok.1
+numbers_in (m ∷ items) ok = let never : false ≡ true = ok.0 in cc
+
+-- an input says nothing of moves
+says_nothing : (g : Given) (items : List Msg) → Each (λ item. is_item item ≡ true) items → Each (Says g 0 0) items
+says_nothing g [] ok = tt
+says_nothing g (msg.InCommand c ∷ items) ok = (tt, says_nothing g items ok.1)
+says_nothing g (msg.InPacket p ∷ items) ok = (tt, says_nothing g items ok.1)
+says_nothing g (msg.InSettle ∷ items) ok = (tt, says_nothing g items ok.1)
+says_nothing g (msg.InEnd ∷ items) ok = (tt, says_nothing g items ok.1)
+says_nothing g (m ∷ items) ok = let never : false ≡ true = ok.0 in cc
+
+-- nothing is open, and nothing is noted
+busy_at_start : (g : Given) (waits : List ℕ) → Rising 0 waits → IsBusy g finite.empty [] waits
+busy_at_start g waits rising = record {
+  busy = λ op. ap is_some (none op);
+  plan = λ op m there. (let never = sym there ∙ none op in cc);
+  outcome = λ op m there. (let never = sym there ∙ none op in cc);
+  told = λ op m there. (let never = sym there ∙ none op in cc);
+  next = 0;
+  rising = rising;
+  unnoted = λ op late. refl;
+  answered = λ op.
+      record { begun_once = omega arith; answered_once = omega arith; causes = λ what a known is. cc; begins = λ what known is. cc; known = λ is. cc };
+}
+  where
+    none : (op : ℕ) → finite.get (finite.empty {X = Operation} {R = nat_cmp}) op ≡ None
+    none op = finite.get-empty nat_cmp op
+
+module _ (F : Type 0) {R : Type 0} (f : Semantics R) (laws : FunctionLaws f) (alloc : Global) (c : Config) (items : List Msg)
+    (is : IsInput f.kind c items) where
+  abbrev g : Given
+  g = given f c items is
+
+  abbrev first : Network (Node F R) Msg Note
+  first = started_with {F = F} {R = R} alloc c items
+
+  pub start_busy : Busy {F = F} {R = R} g first
+  start_busy =
+      let only = all_each (λ item. is_item item ≡ true) items is.only_items in
+      let count = count_at_start F f alloc c items is in
+      let waits = opening_waiting Note (first_nodes {F = F} {R = R} alloc c) items (omega (arith, count)) in
+      let same : map (λ k. k.op) (commands items) ≡ waits_of first = numbers_in items only ∙ ap (λ xs. numbers xs) (sym (waits 0 0))
+      ∙ ap (λ xs. numbers xs ++ numbers (queue_at first (at 0 0))) (sym (waits 0 1)) in
+      record {
+        controller = opened_controller c.names c.site;
+        controller_is = λ d. refl;
+        is = busy_at_start g (waits_of first) (subst (λ ns. Rising 0 ns) same (rising_of 0 (map (λ k. k.op) (commands items)) is.ops));
+        says = opening_on_links Note (first_nodes {F = F} {R = R} alloc c) items (Says g) (omega (arith, count)) (says_nothing g items only);
+      }
+
+  -- every run leads to a world of a run in which the open operations are the commands under way
+  pub run_busy : (cs : List Choice) → IsRun node_ready (node_step f) cs first
+      → Joined f g (length c.names + 2) (run (node_step f) cs first) × Busy g (run (node_step f) cs first)
+  run_busy cs run_is = (it.0.joined, it.1)
+    where
+      it : Runs F f laws alloc c items is (run (node_step f) cs first) × Busy g (run (node_step f) cs first)
+      it = run_induction node_ready (node_step f) (length c.names + 2) (λ _ w. Runs F f laws alloc c items is w × Busy g w) first
+          (λ _ w k next h. (runs_next F f laws alloc c items is w k next.taking h.0, busy_next f g (length c.names + 2) refl w k next.taking h.0.joined h.1))
+          (start_world F f laws alloc c items is) (count_at_start F f alloc c items is) (runs_at_start F f laws alloc c items is, start_busy) cs run_is
+
+  -- and its log says what is promised of commands
+  pub run_answers : (cs : List Choice) → IsRun node_ready (node_step f) cs first → Answers c items (run (node_step f) cs first).log
+  run_answers cs run_is =
+      let busy = run_busy cs run_is in
+      let b = busy.1 in
+      let h = run_installs F f laws alloc c items is cs run_is in
+      let w = run (node_step f) cs first in
+      record {
+        begun_once = λ op. (b.is.answered op).begun_once;
+        answered_once = λ op. (b.is.answered op).answered_once;
+        causes = λ op. (b.is.answered op).causes;
+        begins = λ op. (b.is.answered op).begins;
+        installed_once = λ op. installed_once f g (length c.names + 2) refl w busy.0 b h op;
+        refused_is_not_installed =
+            λ op what answer known is_answered other. refused_none_installed f g (length c.names + 2) refl w busy.0 b h op answer is_answered other;
+      }
+
+  -- and nothing of a number that no command has
+  pub none_noted : (cs : List Choice) → IsRun node_ready (node_step f) cs first → (op : ℕ) → order_numbered items op ≡ None
+      → (is_begun op (run (node_step f) cs first).log ≡ false) × (answers_of op (run (node_step f) cs first).log ≡ [])
+  none_noted cs run_is op none =
+      let w = run (node_step f) cs first in
+      let busy = run_busy cs run_is in
+      let b = busy.1 in
+      let known = (b.is.answered op).known in
+      let off : is_noted op w.log ≡ false = elim (is_noted op w.log) as (λ x. is_noted op w.log ≡ x → x ≡ false) [
+        | true ↦ λ is. (let never : false ≡ true = sym (ap is_some none) ∙ known is in cc)
+        | false ↦ λ is. refl
+      ] refl in
+      let both = or_off (is_begun op w.log) (has_answered op w.log) off in
+      (both.0, none_answered op w.log both.1)
+
+  -- and the switch changes no rules for a copy
+  pub no_rules : (cs : List Choice) → IsRun node_ready (node_step f) cs first → (op : ℕ) (source destination : List ℕ) (filter : Option Filter)
+      → order_numbered items op ≡ Some (order.Copy source destination filter) → times_installed op (run (node_step f) cs first).log ≡ 0
+  no_rules cs run_is op source destination filter known =
+      let busy = run_busy cs run_is in
+      still_installed f g (length c.names + 2) refl (run (node_step f) cs first) busy.0 busy.1 (run_installs F f laws alloc c items is cs run_is) op
+      (ap is_moving known) (ap is_share known)

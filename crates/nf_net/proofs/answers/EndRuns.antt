@@ -1,0 +1,243 @@
+-- Where nothing is left to be done, no operation is open but shares that are set up, if no command stands after the input's end.
+use Rattle.std.proofs.Common.{◌≡◌, ◌≢◌, ℕ, zero, suc, ◌+◌, ◌<◌, Bool, true, false, None, List, [], ◌∷◌, ◌++◌, length, get_or, refl, sym, ap, ◌∙◌, subst, arith}
+use Rattle.std.specs.Prelude.{if◌then◌else◌, ◌&&◌, ◌==◌, not}
+use Rattle.std.specs.declared.alloc.Global.{Global}
+use Rattle.std.specs.FinMap as finite
+use Rattle.std.proofs.lemmas.Bool.Decides.{nat_tests, Decides-eqb}
+use Rattle.std.proofs.lemmas.Bool.{and_parts}
+use Rattle.nf_function.specs.Records.{Laws as FunctionLaws}
+use Rattle.nf_function.specs.Semantics.{Semantics}
+use Rattle.nf_msgs.specs.declared.msg.Msg.{Msg}
+use Rattle.nf_msgs.specs.declared.msg.Msg.TheVariants as msg
+use Rattle.nf_msgs.specs.declared.note.Note.{Note}
+use Rattle.actor_net.specs.declared.choice.Choice.{Choice}
+use Rattle.actor_net.specs.Network.{Network, Stepped, IsRun, is_done, reaches, run, world_next, queue_at}
+use Rattle.actor_net.proofs.CompleteWorlds.{done_node, done_weight}
+use Rattle.actor_net.proofs.EnabledChoices.{at}
+use Rattle.actor_net.proofs.OpeningWorlds.{opening_waiting, opening_weight}
+use Rattle.actor_net.proofs.RunInduction.{Taking, run_induction}
+use Rattle.actor_net.proofs.StepOutcome.{Takes, taken_outcome}
+use Rattle.actor_net.proofs.WeightLaws.{EachSent, total, sent_weight, total_after}
+use Rattle.proof_machines.proofs.unit.Labels.{Each}
+use Rattle.ctrl_node.specs.Operations.{are_quiet}
+use Rattle.ctrl_node.specs.Controller as controller
+use Rattle.ctrl_node.specs.Controller.{ControllerState, may_finish, controller_step, controller_at_start as opened_controller}
+use Rattle.switch_node.specs.Switch.{SwitchState, switch_step}
+use Rattle.net_world.specs.declared.config.Config.{Config}
+use Rattle.net_world.specs.declared.node.Node.{Node}
+use Rattle.net_world.specs.declared.node.Node.TheVariants.{Switch, Controller}
+use Rattle.net_world.specs.Input.{IsInput, is_item, commands, ends_last}
+use Rattle.net_world.specs.Nodes.{node_step, node_ready, node_ended}
+use Rattle.net_world.specs.Start.{first_nodes, first_switch, started_with}
+use Rattle.nf_net.proofs.answers.BusyRuns.{same_controller}
+use Rattle.nf_net.proofs.answers.CreditCounts.{sent_weight-append}
+use Rattle.nf_net.proofs.answers.EndTables.{sign_in, no_command, in_order, ordered_behind, IsSettled, quiet_settled}
+use Rattle.nf_net.proofs.answers.EndTables.{row_ends, sign_at_switch, sign_at_controller, flag, switch_closes}
+use Rattle.nf_net.proofs.answers.InstallCounts.{finish}
+use Rattle.nf_net.proofs.answers.InstalledRules.{row_counts}
+use Rattle.nf_net.proofs.answers.InstallNotes.{no_install_to, none_sent, items_none}
+use Rattle.proof_outlines.proofs.joined.Given.{Given}
+use Rattle.proof_outlines.proofs.joined.Joined.{Label, Joined, count, node_of}
+use Rattle.proof_outlines.proofs.joined.BesideRuns.{its_takes, its_label, its_labels}
+use Rattle.proof_outlines.proofs.joined.KnownOperations.{AreKnown, known}
+use Rattle.nf_net.proofs.answers.LinePicks.{picked, on_way, at_switch, at_controller, at_instance}
+use Rattle.proof_outlines.proofs.joined.RunsJoined.{Runs, runs_at_start, runs_next, start_world}
+use Rattle.proof_outlines.proofs.joined.StartJoined.{given, all_fit, all_labelled, count_at_start}
+use Rattle.proof_outlines.proofs.outline.StateOutline.{all_each}
+
+-- how far the end of the input has come: on the way to the controller, at the controller, and with the finish to the switch
+pub record IsEnding (closed : ℕ) (c : ControllerState) (way : List Bool) (finishes : ℕ) : Type 0 where
+  pub order : in_order way ≡ true
+  pub ended : c.end_came ≡ true → no_command way ≡ true
+  pub unfinished : c.finish_sent ≡ false → finishes + closed ≡ 0
+  pub finished : c.finish_sent ≡ true → (c.end_came ≡ true) × ((op : ℕ) → IsSettled (finite.get c.operations op))
+
+may_be : (a b q : Bool) → a && not b && q ≡ true → (a ≡ true) × (q ≡ true)
+may_be true false true e = (refl, refl)
+may_be true false false e = cc
+may_be true true q e = cc
+may_be false b q e = cc
+
+-- the controller's step
+module _ (n : ℕ) (reach : reaches n 1 0 ≡ true) {R : Type 0} (f : Semantics R) (g : Given) (c : ControllerState) (are : AreKnown g c) where
+  controller_ending : (closed : ℕ) (p : ℕ) (m : Msg) → Label f g p 1 m → (way : List Bool) (before after : ℕ)
+      → IsEnding closed c (sign_in m ++ way) before → after + finish m ≡ before + sent_weight finish n 1 (controller_step c p m).sends → finish m ≡ 0
+      → IsEnding closed (controller_step c p m).node way after
+  controller_ending closed p m label way before after h weight none = by_may (may_finish r.node) refl weight
+    where
+      r : controller.Step
+      r = controller.row c p m
+
+      by_may : (b : Bool) → may_finish r.node ≡ b → after + finish m ≡ before + sent_weight finish n 1 (r.sends ++ (if b then (0, msg.Finish) ∷ [] else []))
+          → IsEnding closed (if b then record r.node { finish_sent = true } else r.node) way after
+      by_may true e weight =
+          let ends = row_ends g c are way f p m label h.order h.ended in
+          let may = may_be r.node.end_came r.node.finish_sent (are_quiet r.node.operations r.node.store) e in
+          record {
+            order = ordered_behind (sign_in m) way h.order;
+            ended = ends.ended;
+            unfinished = λ off. (let never : true ≡ false = off in cc);
+            finished = λ on. (may.0, quiet_settled r.node.operations r.node.store may.1);
+          }
+      by_may false e weight =
+          let ends = row_ends g c are way f p m label h.order h.ended in
+          let counts = row_counts n reach g 0 c are f p m label in
+          let both = sent_weight-append finish n 1 r.sends [] in
+          let sent = counts.unfinished in
+          record {
+            order = ordered_behind (sign_in m) way h.order;
+            ended = ends.ended;
+            unfinished = λ off. (let was = h.unfinished (sym counts.finish_same ∙ off) in omega (arith, was, weight, none, both, sent));
+            finished = λ on. (let was = h.finished (sym counts.finish_same ∙ on) in ends.settled was.0 was.1);
+          }
+
+pub record Ends {F R : Type 0} (w : Network (Node F R) Msg Note) : Type 0 where
+  pub switch : SwitchState
+  pub switch_is : (d : Node F R) → get_or w.nodes 0 d ≡ Switch switch
+  pub controller : ControllerState
+  pub controller_is : (d : Node F R) → get_or w.nodes 1 d ≡ Controller controller
+  pub is : IsEnding (flag switch.closed) controller (on_way sign_in w) (total finish w)
+
+module _ {F R : Type 0} (f : Semantics R) (g : Given) (n : ℕ) (count_is : n ≡ count f g + 2) where
+  abbrev step : Node F R → ℕ → Msg → Stepped (Node F R) Msg Note
+  step = node_step f
+
+  ends_after : (w : Network (Node F R) Msg Note) (k p : ℕ) (m : Msg) (rest : List Msg) (j : Joined f g n w)
+      (takes : Takes step n w k p (node_of j.nodes k) m rest)
+      → Label f g p k m → EachSent (Label f g) k (step (node_of j.nodes k) p m).sends → Ends w → Ends (world_next step w (at k p))
+  ends_after w zero p m rest j takes labelled labels h =
+      let s = j.nodes.switch in
+      let left = taken_outcome step n w 0 p (node_of j.nodes 0) m rest takes in
+      let is : Switch h.switch ≡ Switch s = sym (h.switch_is (Switch h.switch)) ∙ j.nodes_are 0 takes.some (Switch h.switch) in
+      let same : h.switch ≡ s = cc in
+      let did = switch_closes s f g p m labelled in
+      let closed = did.closed in
+      let was = ap (λ x. flag x.closed) same in
+      let sent = none_sent f g None n 0 (switch_step s m).sends (λ never. cc) labels in
+      let weight = total_after step n w 0 p (node_of j.nodes 0) m rest takes finish in
+      let way = at_switch sign_in step n (omega (arith, count_is)) w p (node_of j.nodes 0) m rest takes did.hands (sign_at_switch f g p m labelled) in
+      record {
+        switch = (switch_step s m).node;
+        switch_is = left.own;
+        controller = h.controller;
+        controller_is = λ d. left.others 1 d (omega arith) ∙ h.controller_is d;
+        is = record {
+          order = subst (λ xs. in_order xs ≡ true) way h.is.order;
+          ended = λ e. subst (λ xs. no_command xs ≡ true) way (h.is.ended e);
+          unfinished = λ off. (let none = h.is.unfinished off in omega (arith, closed, was, sent, weight, none));
+          finished = h.is.finished;
+        };
+      }
+  ends_after w (suc zero) p m rest j takes labelled labels h =
+      let c = j.nodes.controller in
+      let left = taken_outcome step n w 1 p (node_of j.nodes 1) m rest takes in
+      let same : h.controller ≡ c = same_controller {F = F} {R = R} h.controller c
+      (sym (h.controller_is (Controller h.controller)) ∙ j.nodes_are 1 takes.receiver (Controller h.controller)) in
+      let some = takes.some in
+      let reach : reaches n 1 0 ≡ true = grind (arith, nat_tests, some) in
+      let way = at_controller sign_in step n (omega (arith, count_is)) w p (node_of j.nodes 1) m rest takes (sign_at_controller f g p m labelled) in
+      record {
+        switch = h.switch;
+        switch_is = λ d. left.others 0 d (omega arith) ∙ h.switch_is d;
+        controller = (controller_step c p m).node;
+        controller_is = left.own;
+        is = controller_ending n reach f g c (known f g c j.world.ops j.world.shares j.world.next j.shown_is.controller) (flag h.switch.closed) p m labelled
+            (on_way sign_in (world_next step w (at 1 p))) (total finish w) (total finish (world_next step w (at 1 p)))
+            (subst (λ xs. IsEnding (flag h.switch.closed) c xs (total finish w)) way
+            (subst (λ x. IsEnding (flag h.switch.closed) x (on_way sign_in w) (total finish w)) same h.is))
+            (total_after step n w 1 p (node_of j.nodes 1) m rest takes finish) (no_install_to f g None p 1 m (omega arith) labelled);
+      }
+  ends_after w (suc (suc i)) p m rest j takes labelled labels h =
+      let k : ℕ = suc (suc i) in
+      let left = taken_outcome step n w k p (node_of j.nodes k) m rest takes in
+      let other : k ≢ 1 = (λ never. absurd (omega (arith, never))) in
+      let sent = none_sent f g None n k (step (node_of j.nodes k) p m).sends other labels in
+      let none = no_install_to f g None p k m (omega arith) labelled in
+      let weight = total_after step n w k p (node_of j.nodes k) m rest takes finish in
+      let way = at_instance sign_in step n (omega (arith, count_is)) w p (node_of j.nodes k) m rest i takes in
+      record {
+        switch = h.switch;
+        switch_is = λ d. left.others 0 d (omega arith) ∙ h.switch_is d;
+        controller = h.controller;
+        controller_is = λ d. left.others 1 d (omega arith) ∙ h.controller_is d;
+        is = record {
+          order = subst (λ xs. in_order xs ≡ true) way h.is.order;
+          ended = λ e. subst (λ xs. no_command xs ≡ true) way (h.is.ended e);
+          unfinished = λ off. (let was = h.is.unfinished off in omega (arith, sent, none, weight, was));
+          finished = h.is.finished;
+        };
+      }
+
+-- an input whose end is the last
+none_signed : (items : List Msg) → Each (λ item. is_item item ≡ true) items → length (commands items) ≡ 0 → no_command (picked sign_in items) ≡ true
+none_signed [] ok h = refl
+none_signed (msg.InCommand c ∷ items) ok h = absurd (omega (arith, h))
+none_signed (msg.InPacket p ∷ items) ok h = none_signed items ok.1 h
+none_signed (msg.InSettle ∷ items) ok h = none_signed items ok.1 h
+none_signed (msg.InEnd ∷ items) ok h = none_signed items ok.1 h
+none_signed (m ∷ items) ok h = let never : false ≡ true = ok.0 in cc
+
+signed : (items : List Msg) → Each (λ item. is_item item ≡ true) items → ends_last items ≡ true → in_order (picked sign_in items) ≡ true
+signed [] ok h = refl
+signed (msg.InEnd ∷ items) ok h = none_signed items ok.1 ((Decides-eqb (length (commands items)) 0).0 h)
+signed (msg.InCommand c ∷ items) ok h = signed items ok.1 h
+signed (msg.InPacket p ∷ items) ok h = signed items ok.1 h
+signed (msg.InSettle ∷ items) ok h = signed items ok.1 h
+signed (m ∷ items) ok h = let never : false ≡ true = ok.0 in cc
+
+module _ (F : Type 0) {R : Type 0} (f : Semantics R) (laws : FunctionLaws f) (alloc : Global) (c : Config) (items : List Msg) (is : IsInput f.kind c items)
+    (last : ends_last items ≡ true) where
+  abbrev start : Network (Node F R) Msg Note
+  start = started_with {F = F} {R = R} alloc c items
+
+  abbrev nodes : ℕ
+  nodes = length c.names + 2
+
+  ends_at_start : Ends start
+  ends_at_start =
+      let count = count_at_start F f alloc c items is in
+      let only = all_each (λ item. is_item item ≡ true) items is.only_items in
+      let waits = opening_waiting Note (first_nodes {F = F} {R = R} alloc c) items (omega (arith, count)) in
+      let way : picked sign_in items ≡ on_way sign_in start = ap (λ xs. picked sign_in xs) (sym (waits 0 0))
+      ∙ ap (λ xs. picked sign_in xs ++ picked sign_in (queue_at start (at 0 0))) (sym (waits 0 1)) in
+      record {
+        switch = first_switch c;
+        switch_is = λ d. refl;
+        controller = opened_controller c.names c.site;
+        controller_is = λ d. refl;
+        is = record {
+          order = subst (λ xs. in_order xs ≡ true) way (signed items only last);
+          ended = λ e. (let never : false ≡ true = e in cc);
+          unfinished = λ off. (let all = opening_weight Note (first_nodes {F = F} {R = R} alloc c) items finish in
+              let none = items_none f (given f c items is) None items (all_labelled f c items is) in omega (arith, all, none));
+          finished = λ on. (let never : false ≡ true = on in cc);
+        };
+      }
+
+  pub run_ends : (cs : List Choice) → IsRun node_ready (node_step f) cs start → Ends (run (node_step f) cs start)
+  run_ends cs run_is = (run_induction node_ready (node_step f) nodes (λ _ w. Runs F f laws alloc c items is w × Ends w) start
+      (λ _ w k next h. (runs_next F f laws alloc c items is w k next.taking h.0, ends_next w k next.taking h.0 h.1)) (start_world F f laws alloc c items is)
+      (count_at_start F f alloc c items is) (runs_at_start F f laws alloc c items is, ends_at_start) cs run_is).1
+    where
+      ends_next : (w : Network (Node F R) Msg Note) (k : Choice) → Taking node_ready (node_step f) nodes w k → Runs F f laws alloc c items is w → Ends w
+          → Ends (world_next (node_step f) w k)
+      ends_next w k t r h =
+          let g : Given = given f c items is in
+          let fitting = all_fit f c items is in
+          ends_after f g nodes refl w k.node k.port t.message t.rest r.joined (its_takes f laws g fitting nodes refl w k t r.joined r.beside)
+          (its_label f laws g fitting nodes refl w k t r.joined r.beside) (its_labels f laws g fitting nodes refl w k t r.joined r.beside) h
+
+-- where nothing is left to be done, what is open is settled
+pub all_settled : {F R : Type 0} (w : Network (Node F R) Msg Note) → 0 < length w.nodes → is_done node_ended w ≡ true → (h : Ends w) → (op : ℕ)
+    → IsSettled (finite.get h.controller.operations op)
+all_settled {F = F} {R = R} w some done h op = by_sent h.controller.finish_sent refl
+  where
+    by_sent : (b : Bool) → h.controller.finish_sent ≡ b → IsSettled (finite.get h.controller.operations op)
+    by_sent true on = (h.is.finished on).1 op
+    by_sent false off =
+        let ended : node_ended {F = F} {R = R} (Switch h.switch) ≡ true = ap node_ended (sym (h.switch_is (Switch h.switch)))
+        ∙ done_node node_ended w done 0 (Switch h.switch) some in
+        let closed : flag h.switch.closed ≡ 1 = ap flag (and_parts h.switch.closed (h.switch.flying == 0) ended).0 in
+        let none = done_weight node_ended w done finish in
+        let never = h.is.unfinished off in
+        absurd (omega (arith, closed, none, never))

@@ -1,0 +1,344 @@
+-- What each node's step keeps of the input's end: no command comes after it, the controller finishes once no operation is open but shares
+-- that are set up, and the switch closes where it takes the finish.
+use Rattle.std.proofs.Common.{◌≡◌, ℕ, zero, suc, ◌+◌, ◌-◌, ◌≤◌, Bool, true, false, cond, Option}
+use Rattle.std.proofs.Common.{Some, None, List, [], ◌∷◌, ◌++◌, refl, sym, ap, ◌∙◌, subst, arith}
+use Rattle.std.specs.Prelude.{if◌then◌else◌, ◌&&◌, ◌||◌, ◌==◌, not, nat_lt}
+use Rattle.std.specs.List.{filter_map, list_all}
+use Rattle.std.specs.Ordering.{nat_cmp, eq_by_cmp}
+use Rattle.std.specs.FinMap as finite
+use Rattle.std.proofs.lemmas.Bool.{and_parts}
+use Rattle.flow_filter.specs.declared.filter.Filter.{Filter}
+use Rattle.flow_filter.specs.declared.packet.Packet.{Packet}
+use Rattle.nf_function.specs.Semantics.{Semantics}
+use Rattle.packet_pool.specs.Pool.{FullCell, one_more}
+use Rattle.event_filter.specs.declared.mark.Mark.TheVariants as mark
+use Rattle.switch_rules.specs.declared.target.Target.{Target}
+use Rattle.switch_rules.specs.declared.target.Target.TheVariants as target
+use Rattle.switch_rules.specs.Rules.{rules_redirected}
+use Rattle.nf_msgs.specs.declared.answer.Answer.{Answer}
+use Rattle.nf_msgs.specs.declared.command.Command.{Command}
+use Rattle.nf_msgs.specs.declared.command.Order.{Order}
+use Rattle.nf_msgs.specs.declared.command.Order.TheVariants as order
+use Rattle.nf_msgs.specs.declared.msg.Msg.{Msg}
+use Rattle.nf_msgs.specs.declared.msg.Msg.TheVariants as msg
+use Rattle.nf_msgs.specs.declared.note.Note.{Note}
+use Rattle.nf_msgs.specs.declared.note.Note.TheVariants as note
+use Rattle.nf_msgs.specs.Nodes.{instance_node}
+use Rattle.nf_msgs.specs.MessageParts.{op_of}
+use Rattle.actor_net.specs.Histories.{sent_for as core_sent}
+use Rattle.actor_net.proofs.LinkLemmas.{neither}
+use Rattle.proof_machines.proofs.unit.Labels.{Each, each-append}
+use Rattle.ctrl_node.specs.declared.operation.Operation.{Operation}
+use Rattle.ctrl_node.specs.declared.operation.Operation.TheVariants.{Move, Copy, Share}
+use Rattle.move_op.specs.Move.{Store}
+use Rattle.event_store.specs.Store.{stored_of}
+use Rattle.copy_share.specs.declared.share_phase.SharePhase.{SharePhase}
+use Rattle.copy_share.specs.declared.share_phase.SharePhase.TheVariants as phase
+use Rattle.copy_share.specs.Share.{ShareState, is_idle}
+use Rattle.ctrl_node.specs.Operations.{OpenOperations, turn_of, is_quiet, are_quiet}
+use Rattle.ctrl_node.specs.Controller as controller
+use Rattle.ctrl_node.specs.Controller.{ControllerState, Step, still, refusal, move_between, copy_between, share_begin, begin_step, decision_step}
+use Rattle.ctrl_node.specs.Controller.{on_asked, on_diverted, queue_step, takes_turn, hand_step, numbered, on_event, on_final, instance_at}
+use Rattle.flow_filter.specs.Name.{place_of}
+use Rattle.switch_node.specs.Switch as switch
+use Rattle.switch_node.specs.Switch.{SwitchState, switch_step, stop_messages, sends_to_instance, goes_to, target_of, has_room, is_there}
+use Rattle.nf_net.proofs.answers.ControllerCases.{by_operation, by_queue, by_sender, by_stop}
+use Rattle.nf_net.proofs.answers.InstallCounts.{finish}
+use Rattle.nf_net.proofs.answers.ShareTells.{is_set_up, Tells, turn_end, ShareStep, handed_share, queued_share}
+use Rattle.proof_outlines.proofs.outline.OperationTables.{NotShared}
+use Rattle.proof_outlines.proofs.joined.KnownOperations.{AreKnown}
+use Rattle.proof_outlines.proofs.joined.Given.{Given}
+use Rattle.proof_outlines.proofs.joined.Joined.{Label}
+use Rattle.nf_net.proofs.answers.LinePicks.{picked}
+
+-- a command, or the end
+abbrev pub sign_in : Msg → List Bool
+sign_in (msg.Asked c) = true ∷ []
+sign_in (msg.InCommand c) = true ∷ []
+sign_in msg.End = false ∷ []
+sign_in msg.InEnd = false ∷ []
+sign_in m = []
+
+-- no command is there, and none behind an end
+abbrev pub no_command : List Bool → Bool
+no_command [] = true
+no_command (true ∷ xs) = false
+no_command (false ∷ xs) = no_command xs
+
+abbrev pub in_order : List Bool → Bool
+in_order [] = true
+in_order (true ∷ xs) = in_order xs
+in_order (false ∷ xs) = no_command xs
+
+pub none_ordered : (xs : List Bool) → no_command xs ≡ true → in_order xs ≡ true
+none_ordered [] h = refl
+none_ordered (true ∷ xs) h = cc
+none_ordered (false ∷ xs) h = h
+
+pub ordered_behind : (xs ys : List Bool) → in_order (xs ++ ys) ≡ true → in_order ys ≡ true
+ordered_behind [] ys h = h
+ordered_behind (true ∷ xs) ys h = ordered_behind xs ys h
+ordered_behind (false ∷ xs) ys h = none_ordered ys (behind xs ys h)
+  where
+    behind : (us bs : List Bool) → no_command (us ++ bs) ≡ true → no_command bs ≡ true
+    behind [] bs e = e
+    behind (true ∷ us) bs e = cc
+    behind (false ∷ us) bs e = behind us bs e
+
+-- Nothing but shares that are set up is open where all is quiet.
+abbrev pub IsSettled : Option Operation → Type 0
+IsSettled None = Unit {0}
+IsSettled (Some (Share s)) = is_set_up s.phase ≡ true
+IsSettled o = ⊥
+
+idle_set_up : (ph : SharePhase) (cells : List FullCell) → is_idle ph cells ≡ true → is_set_up ph ≡ true
+idle_set_up phase.Fencing cells e = cc
+idle_set_up phase.Getting cells e = cc
+idle_set_up (phase.Setting left) cells e = cc
+idle_set_up ph cells e = refl
+
+quiet_found : (store : Store) (op : ℕ) (es : List (ℕ × Operation)) (o : Operation) → list_all (λ e. is_quiet store e.1) es ≡ true
+    → finite.find nat_cmp op es ≡ Some o → is_quiet store o ≡ true
+quiet_found store op [] o h there = cc
+quiet_found store op (e ∷ es) o h there =
+    let all = and_parts (is_quiet store e.1) (list_all (λ x. is_quiet store x.1) es) h in
+    elim (eq_by_cmp nat_cmp op e.0) as (λ b. cond b (Some e.1) (finite.find nat_cmp op es) ≡ Some o → is_quiet store o ≡ true) [
+      | true ↦ λ here. let same : e.1 ≡ o = cc in subst (λ x. is_quiet store x ≡ true) same all.0
+      | false ↦ λ rest. quiet_found store op es o all.1 rest
+    ] there
+
+pub quiet_settled : (ops : OpenOperations) (store : Store) → are_quiet ops store ≡ true → (op : ℕ) → IsSettled (finite.get ops op)
+quiet_settled ops store h op = by_got (finite.get ops op) refl
+  where
+    quiet : (o : Operation) → finite.get ops op ≡ Some o → is_quiet store o ≡ true
+    quiet o e = quiet_found store op (finite.entries ops) o h (sym (finite.get-entries ops op) ∙ e)
+
+    by_got : (o : Option Operation) → finite.get ops op ≡ o → IsSettled o
+    by_got None e = tt
+    by_got (Some (Move m)) e = let never : false ≡ true = quiet (Move m) e in cc
+    by_got (Some (Copy y)) e = let never : false ≡ true = quiet (Copy y) e in cc
+    by_got (Some (Share s)) e = idle_set_up s.phase (stored_of store s.plan.op) (quiet (Share s) e)
+
+wrong : false ≡ true → ⊥
+wrong e = cc
+
+-- The controller.
+module _ (g : Given) (c : ControllerState) (are : AreKnown g c) where
+  -- what is open is settled
+  abbrev AreSettled : OpenOperations → Type 0
+  AreSettled ops = (op : ℕ) → IsSettled (finite.get ops op)
+
+  -- the input's end is as it was, and nothing opens
+  record Rests (did : Step) : Type 0 where
+    end_same : did.node.end_came ≡ c.end_came
+    settled : AreSettled c.operations → AreSettled did.node.operations
+
+  rests : Rests (still c)
+  rests = record { end_same = refl; settled = λ h. h }
+
+  turn_rests : (op port : ℕ) (m : Msg) (o : Option Operation) → finite.get c.operations op ≡ o → NotShared o
+      → Rests (takes_turn c op (turn_of o c.store port m))
+  turn_rests op port m None is no_share = record { end_same = refl; settled = λ h. h }
+  turn_rests op port m (Some (Move mv)) is no_share = record {
+    end_same = turn_end c op (turn_of (Some (Move mv)) c.store port m) (turn_of (Some (Move mv)) c.store port m).answer;
+    settled = λ h. absurd (subst IsSettled is (h op));
+  }
+  turn_rests op port m (Some (Copy y)) is no_share = record {
+    end_same = turn_end c op (turn_of (Some (Copy y)) c.store port m) (turn_of (Some (Copy y)) c.store port m).answer;
+    settled = λ h. absurd (subst IsSettled is (h op));
+  }
+  turn_rests op port m (Some (Share s)) is no_share = absurd no_share
+
+  -- an open share stays one that is set up
+  share_rests : (op : ℕ) (s : ShareState) → finite.get c.operations op ≡ Some (Share s) → (did : Step) → ShareStep c op s did → Rests did
+  share_rests op s there did l = record {
+    end_same = l.end_same;
+    settled = λ h k. subst IsSettled (sym (l.operations k))
+        (elim (k == op) as (λ b. IsSettled (cond b (Some (Share (record s { phase = l.after }))) (finite.get c.operations k))) [
+          | true ↦ still_set_up (is_set_up s.phase) (is_set_up l.after) l.answer l.tells (subst IsSettled there (h op))
+          | false ↦ h k
+        ]);
+  }
+    where
+      still_set_up : (was now : Bool) (a : Option Answer) → Tells was now a → was ≡ true → now ≡ true
+      still_set_up was now None same on = sym same ∙ on
+      still_set_up was now (Some why) tells on = tells.2
+
+  handed_rests : (op port : ℕ) (m : Msg) → Rests (hand_step c op port m)
+  handed_rests op port m = by_operation Rests c op port m
+      (λ no_share. turn_rests op port m (finite.get c.operations op) refl no_share)
+      (λ s is. share_rests op s is (hand_step c op port m) (handed_share c op s is (are.shares op s is).0 port m))
+
+  diverted_rests : (cell : FullCell) → Rests (on_diverted c cell)
+  diverted_rests cell =
+      by_queue Rests c cell rests (λ op s is. share_rests op s is (queue_step c cell (Some op)) (queued_share c op s is (are.shares op s is).0 cell))
+
+  numbered_rests : (port : ℕ) (m : Msg) (o : Option ℕ) → Rests (numbered c port m o)
+  numbered_rests port m None = rests
+  numbered_rests port m (Some op) = handed_rests op port m
+
+  event_rests : (port op : ℕ) (cell : FullCell) (i : Option ℕ) → Rests (on_event c port op cell i)
+  event_rests port op cell i =
+      by_sender Rests c port op cell i rests (handed_rests op port (msg.Event op cell)) (λ k. record { end_same = refl; settled = λ h. h })
+
+  final_rests : (i : Option ℕ) → Rests (on_final c i)
+  final_rests i = by_stop Rests c i rests (λ k. record { end_same = refl; settled = λ h. h })
+
+  either_rests : (b : Bool) (did : Step) → Rests did → Rests (if b then did else still c)
+  either_rests true did h = h
+  either_rests false did h = rests
+
+  -- a command leaves the input's end as it was
+  abbrev SameEnd : Step → Type 0
+  SameEnd did = did.node.end_came ≡ c.end_came
+
+  between_end : (op : ℕ) (filter : Filter) (keep : Bool) (a b : Option ℕ) → SameEnd (move_between c op filter keep a b)
+  between_end op filter keep (Some a) (Some b) = refl
+  between_end op filter keep None b = refl
+  between_end op filter keep (Some a) None = refl
+
+  copies_end : (op : ℕ) (filter : Option Filter) (a b : Option ℕ) → SameEnd (copy_between c op filter a b)
+  copies_end op filter (Some a) (Some b) = refl
+  copies_end op filter None b = refl
+  copies_end op filter (Some a) None = refl
+
+  shares_end : (op : ℕ) (filter : Filter) (members : List ℕ) → SameEnd (share_begin c op filter members)
+  shares_end op filter [] = refl
+  shares_end op filter (home ∷ others) = refl
+
+  begins_end : (op : ℕ) (what : Order) → SameEnd (begin_step c op what)
+  begins_end op (order.Move source destination filter keep) = between_end op filter keep (place_of c.names source) (place_of c.names destination)
+  begins_end op (order.Copy source destination filter) = copies_end op filter (place_of c.names source) (place_of c.names destination)
+  begins_end op (order.Share members filter) = shares_end op filter (filter_map (place_of c.names) members)
+
+  decided_end : (op : ℕ) (what : Order) (o : Option Answer) → SameEnd (decision_step c op what o)
+  decided_end op what (Some a) = refl
+  decided_end op what None = begins_end op what
+
+  asked_end : (p : ℕ) (k : Command) → SameEnd (controller.row c p (msg.Asked k))
+  asked_end p k = elim (p == 0) as (λ b. SameEnd (if b then on_asked c k else still c)) [
+    | true ↦ elim (finite.contains_key c.operations k.op) as (λ b. SameEnd (if b then still c else decision_step c k.op k.what (refusal c k.what)))
+        [ true ↦ refl | false ↦ decided_end k.op k.what (refusal c k.what) ]
+    | false ↦ refl
+  ]
+
+  -- what is left of the way to the controller after its step, and what it says
+  pub record Ended (did : Step) (way : List Bool) : Type 0 where
+    pub ended : did.node.end_came ≡ true → no_command way ≡ true
+    pub settled : c.end_came ≡ true → AreSettled c.operations → (did.node.end_came ≡ true) × AreSettled did.node.operations
+
+  module _ (way : List Bool) where
+    by_rests : (did : Step) → Rests did → (c.end_came ≡ true → no_command way ≡ true) → Ended did way
+    by_rests did r ended = record { ended = λ e. ended (sym r.end_same ∙ e); settled = λ e h. (r.end_same ∙ e, r.settled h) }
+
+    module _ {R : Type 0} (f : Semantics R) where
+      pub row_ends : (p : ℕ) (m : Msg) → Label f g p 1 m → in_order (sign_in m ++ way) ≡ true → (c.end_came ≡ true → no_command (sign_in m ++ way) ≡ true)
+          → Ended (controller.row c p m) way
+      row_ends p (msg.Asked k) label ordered ended = record {
+        ended = λ e. (let never : false ≡ true = ended (sym (asked_end p k) ∙ e) in cc);
+        settled = λ e h. absurd (let never : false ≡ true = ended e in wrong never);
+      }
+      row_ends p msg.End label ordered ended = elim (p == 0) as (λ b. (p == 0) ≡ b → Ended (if b then still (record c { end_came = true }) else still c) way) [
+        | true ↦ λ on. record { ended = λ e. ordered; settled = λ e h. (refl, h) }
+        | false ↦ λ off. record { ended = λ e. ordered; settled = λ e h. (e, h) }
+      ] refl
+      row_ends p (msg.Diverted cell) label ordered ended = by_rests _ (either_rests (p == 0) (on_diverted c cell) (diverted_rests cell)) ended
+      row_ends p (msg.InCommand k) label ordered ended = let never = label.0.1 in cc
+      row_ends p msg.InEnd label ordered ended = let never = label.1 in cc
+      row_ends p (msg.Event op cell) label ordered ended = by_rests _ (event_rests p op cell (instance_at c p)) ended
+      row_ends p msg.Final label ordered ended = by_rests _ (final_rests (instance_at c p)) ended
+      row_ends p m label ordered ended = by_rests _ (numbered_rests p m (op_of m)) ended
+
+-- where commands and ends come from
+module _ {R : Type 0} (f : Semantics R) (g : Given) where
+  pub sign_at_switch : (p : ℕ) (m : Msg) → Label f g p 0 m → sign_in m ≡ (if 0 == p then sign_in m else [])
+  sign_at_switch p (msg.InCommand c) label = let from = label.0.0 in rw from refl
+  sign_at_switch p msg.InEnd label = let from = label.0 in rw from refl
+  sign_at_switch p (msg.Asked c) label = let never = label.1 in cc
+  sign_at_switch p msg.End label = let never = label.1 in cc
+  sign_at_switch p m label = sym (neither (0 == p))
+
+  pub sign_at_controller : (p : ℕ) (m : Msg) → Label f g p 1 m → sign_in m ≡ (if 0 == p then sign_in m else [])
+  sign_at_controller p (msg.Asked c) label = let from = label.0 in rw from refl
+  sign_at_controller p msg.End label = let from = label.0 in rw from refl
+  sign_at_controller p (msg.InCommand c) label = let never = label.0.1 in cc
+  sign_at_controller p msg.InEnd label = let never = label.1 in cc
+  sign_at_controller p m label = sym (neither (0 == p))
+
+-- The switch hands on commands and the end.
+abbrev NoSign : List (ℕ × Msg) → Type 0
+NoSign sends = Each (λ x. sign_in x.1 ≡ []) sends
+
+no_sign : (r : ℕ) (sends : List (ℕ × Msg)) → NoSign sends → picked sign_in (core_sent r sends) ≡ []
+no_sign r [] h = refl
+no_sign r (x ∷ xs) h = elim (x.0 == r) as (λ b. picked sign_in ((if b then x.1 ∷ [] else []) ++ core_sent r xs) ≡ []) [
+  | true ↦ ap (λ v. v ++ picked sign_in (core_sent r xs)) h.0 ∙ no_sign r xs h.1
+  | false ↦ no_sign r xs h.1
+]
+
+abbrev pub flag : Bool → ℕ
+flag b = if b then 1 else 0
+
+pub flag_most : (b : Bool) → flag b ≤ 1
+flag_most true = omega arith
+flag_most false = omega arith
+
+pub flag_full : (b : Bool) → 1 ≤ flag b → b ≡ true
+flag_full true h = refl
+flag_full false h = absurd (omega (arith, h))
+
+-- what is handed on, and whether the switch closes
+pub record Closes (s : SwitchState) (m : Msg) (did : switch.Step) : Type 0 where
+  pub hands : picked sign_in (core_sent 1 did.sends) ≡ sign_in m
+  pub closed : flag did.node.closed ≤ flag s.closed + finish m
+
+module _ (s : SwitchState) where
+  closes : (m : Msg) → sign_in m ≡ [] → finish m ≡ 0 → (t : SwitchState) → t.closed ≡ s.closed → (sends : List (ℕ × Msg)) (notes : List Note) → NoSign sends
+      → Closes s m (record { node = t; sends = sends; notes = notes })
+  closes m none off t same sends notes h = record { hands = no_sign 1 sends h ∙ sym none; closed = (let e = ap flag same in omega (arith, e)) }
+
+  stops_none : (i : ℕ) → NoSign (stop_messages i)
+  stops_none zero = tt
+  stops_none (suc i) = each-append (λ x. sign_in x.1 ≡ []) (stop_messages i) ((instance_node i, msg.Stop) ∷ []) (stops_none i) (refl, tt)
+
+  still_closes : (m : Msg) → sign_in m ≡ [] → finish m ≡ 0 → Closes s m (switch.still s)
+  still_closes m none off = closes m none off s refl [] [] tt
+
+  goes_closes : (m : Msg) → sign_in m ≡ [] → finish m ≡ 0 → (p : Packet) (t : Target) → Closes s m (goes_to s p t)
+  goes_closes m none off p target.Controller = closes m none off _ refl _ _ (refl, tt)
+  goes_closes m none off p (target.Instance i) =
+      elim (nat_lt i s.instances) as (λ b. Closes s m (if b then switch.arrival_step s p (instance_node i) (msg.Carry mark.Plain) else switch.still s))
+      [ true ↦ closes m none off _ refl _ _ (refl, tt) | false ↦ still_closes m none off ]
+
+  to_closes : (m : Msg) → sign_in m ≡ [] → finish m ≡ 0 → (i : ℕ) (a : Msg) → sign_in a ≡ [] → Closes s m (sends_to_instance s i a)
+  to_closes m none off i a h = elim (nat_lt i s.instances) as (λ b. Closes s m (if b then switch.sends_on s (instance_node i) a else switch.still s))
+      [ true ↦ closes m none off s refl ((instance_node i, a) ∷ []) [] (h, tt) | false ↦ still_closes m none off ]
+
+  install_closes : (op : ℕ) (filter : Filter) (from : ℕ) (to : Target) → Closes s (msg.Install op filter from to) (switch.on_install s op filter from to)
+  install_closes op filter from to = elim (nat_lt from s.instances && is_there s to) as (λ b. Closes s (msg.Install op filter from to) (if b then record {
+    node = record s { rules = rules_redirected (record { filter = filter; from = target.Instance from; to = to }) s.rules };
+    sends = (instance_node from, msg.Fence op) ∷ [];
+    notes = note.Installed op ∷ [];
+  } else switch.still s)) [
+    | true ↦ closes (msg.Install op filter from to) refl refl _ refl _ _ (refl, tt)
+    | false ↦ still_closes (msg.Install op filter from to) refl refl
+  ]
+
+  module _ {R : Type 0} (f : Semantics R) (g : Given) where
+    pub switch_closes : (p : ℕ) (m : Msg) → Label f g p 0 m → Closes s m (switch_step s m)
+    switch_closes p (msg.InPacket q) label =
+        elim (has_room s) as (λ b. Closes s (msg.InPacket q) (if b then goes_to s q (target_of s q) else switch.still s))
+        [ true ↦ goes_closes (msg.InPacket q) refl refl q (target_of s q) | false ↦ still_closes (msg.InPacket q) refl refl ]
+    switch_closes p (msg.InCommand c) label = record { hands = refl; closed = omega arith }
+    switch_closes p msg.InEnd label = record { hands = refl; closed = omega arith }
+    switch_closes p (msg.Forward to k cell) label = to_closes (msg.Forward to k cell) refl refl to (msg.Carry k cell) refl
+    switch_closes p (msg.Install op filter from to) label = install_closes op filter from to
+    switch_closes p (msg.FenceTo op to) label = to_closes (msg.FenceTo op to) refl refl to (msg.Fence op) refl
+    switch_closes p (msg.Answered op) label = closes (msg.Answered op) refl refl _ refl [] [] tt
+    switch_closes p msg.Finish label = record { hands = no_sign 1 (stop_messages s.instances) (stops_none s.instances); closed = omega arith }
+    switch_closes p (msg.Credit cell) label = elim ((s.flying == 0) || not (cell.pool == s.pool.name)) as (λ b. Closes s (msg.Credit cell)
+        (if b then switch.still s else record { node = record s { pool = one_more s.pool; flying = s.flying - 1 }; sends = []; notes = [] }))
+        [ true ↦ still_closes (msg.Credit cell) refl refl | false ↦ closes (msg.Credit cell) refl refl _ refl [] [] tt ]
+    switch_closes p (msg.Asked c) label = let never = label.1 in cc
+    switch_closes p msg.End label = let never = label.1 in cc
+    switch_closes p m label = still_closes m refl refl

@@ -1,0 +1,121 @@
+-- What the controller's step keeps of the changes of the switch's rules: it has sent one for each open move that passes packets on, for each
+-- that was done, and for each open share.
+use Rattle.std.proofs.Common.{◌≡◌, ℕ, ◌+◌, Bool, true, false, cond, Option, Some, None, List, [], ◌∷◌, ◌++◌, refl, sym, ap, ◌∙◌, subst, arith, map}
+use Rattle.std.specs.Prelude.{if◌then◌else◌, ◌==◌, is_some, option_map}
+use Rattle.std.specs.List.{filter_map}
+use Rattle.std.specs.Option.{option_or}
+use Rattle.std.specs.FinMap as finite
+use Rattle.std.proofs.lemmas.Bool.Decides.{nat_tests, Decides-eqb}
+use Rattle.flow_filter.specs.declared.filter.Filter.{Filter}
+use Rattle.nf_function.specs.Semantics.{Semantics}
+use Rattle.packet_pool.specs.Pool.{FullCell}
+use Rattle.event_filter.specs.declared.action.Action.TheVariants as action
+use Rattle.event_filter.specs.declared.mark.Mark.TheVariants as mark
+use Rattle.nf_msgs.specs.declared.answer.Answer.{Answer}
+use Rattle.nf_msgs.specs.declared.answer.Answer.TheVariants.{Done, Unknown, Overlap}
+use Rattle.nf_msgs.specs.declared.command.Order.{Order}
+use Rattle.nf_msgs.specs.declared.command.Order.TheVariants as order
+use Rattle.nf_msgs.specs.declared.msg.Msg.{Msg}
+use Rattle.nf_msgs.specs.declared.msg.Msg.TheVariants as msg
+use Rattle.nf_msgs.specs.declared.note.Note.TheVariants as note
+use Rattle.nf_msgs.specs.Nodes.{instance_node}
+use Rattle.nf_msgs.specs.MessageParts.{op_of}
+use Rattle.copy_share.specs.declared.copy_phase.CopyPhase.TheVariants.{Keeping}
+use Rattle.copy_share.specs.Copy.{CopyState}
+use Rattle.copy_share.specs.Copy as copy
+use Rattle.copy_share.specs.Share.{SharePlan, ShareState}
+use Rattle.copy_share.specs.Share as share
+use Rattle.move_op.specs.Phases.{Phase}
+use Rattle.move_op.specs.Phases as phase
+use Rattle.move_op.specs.Move.{MovePlan, MoveState, MoveRow, row_in, move_at_start, answer_of}
+use Rattle.event_store.specs.Store.{stored_of}
+use Rattle.ctrl_node.specs.declared.operation.Operation.{Operation}
+use Rattle.ctrl_node.specs.declared.operation.Operation.TheVariants.{Move, Copy, Share}
+use Rattle.ctrl_node.specs.Operations.{turn_of, turn_of_move}
+use Rattle.ctrl_node.specs.Controller as controller
+use Rattle.ctrl_node.specs.Controller.{ControllerState, Step, still, refusal, opening_step, move_between, copy_between, share_begin, begin_step}
+use Rattle.ctrl_node.specs.Controller.{decision_step, on_asked, on_diverted, queue_step, after_turn, takes_turn, hand_step, numbered, on_event}
+use Rattle.ctrl_node.specs.Controller.{on_final, instance_at, unknown_name, overlap, may_finish, finish_of, step_and_finish, controller_step}
+use Rattle.flow_filter.specs.Name.{place_of}
+use Rattle.actor_net.specs.Network.{reaches}
+use Rattle.actor_net.proofs.WeightLaws.{sent_weight}
+use Rattle.net_world.specs.Commands.{answers_of}
+use Rattle.proof_outlines.proofs.outline.OperationTables.{got_insert, got_remove, gone_twice, NotShared}
+use Rattle.proof_outlines.proofs.outline.CopyTurns.{CopyTurn, Idle, Hands, Hands_all, Ends, hands, ends}
+use Rattle.proof_outlines.proofs.joined.KnownOperations.{AreKnown, copy_turns}
+use Rattle.nf_net.proofs.answers.ControllerCases.{by_operation, by_queue, by_sender, by_stop}
+use Rattle.nf_net.proofs.answers.CreditCounts.{sent_weight-append}
+use Rattle.nf_net.proofs.answers.InstallCounts.{sent_of, install, finish, done_in, passed, Adds, NoInstall, no_more, no_one, no_both, row_adds}
+use Rattle.nf_net.proofs.answers.ShareTells.{is_of_share, AreOfShare, ShareStep, handed_share, queued_share}
+use Rattle.proof_outlines.proofs.whole.ShareLeft.{answered, noted}
+use Rattle.proof_outlines.proofs.joined.Given.{Given, IsPlan, IsCopyPlan}
+use Rattle.proof_outlines.proofs.joined.Joined.{Label}
+
+-- a command that moves units changes the rules where it is done
+abbrev pub is_moving : Option Order → Bool
+is_moving (Some (order.Move source destination filter keep)) = true
+is_moving o = false
+
+-- how many changes were sent for commands that are answered so, if they move units
+abbrev pub dones : Bool → List Answer → ℕ
+dones moving [] = 0
+dones moving (a ∷ answers) = (if moving then done_in a else 0) + dones moving answers
+
+pub dones-append : (moving : Bool) (xs ys : List Answer) → dones moving (xs ++ ys) ≡ dones moving xs + dones moving ys
+dones-append moving [] ys = omega arith
+dones-append moving (x ∷ xs) ys = let rest = dones-append moving xs ys in omega (arith, rest)
+
+pub dones-none : (moving : Bool) (a : Answer) → done_in a ≡ 0 → dones moving (a ∷ []) ≡ 0
+dones-none true a none = omega (arith, none)
+dones-none false a none = refl
+
+-- and for an open one
+abbrev pub open_in : Option Operation → ℕ
+open_in (Some (Move m)) = passed m.phase
+open_in (Some (Share s)) = 1
+open_in o = 0
+
+pub over_is : (ph : Phase) (a : Answer) → answer_of ph ≡ Some a → passed ph ≡ done_in a
+over_is (phase.Over why) a is = by_some (Some why) is refl
+  where
+    done_of : Option Answer → ℕ
+    done_of (Some x) = done_in x
+    done_of None = 0
+
+    by_some : (o : Option Answer) → o ≡ Some a → o ≡ Some why → done_in why ≡ done_in a
+    by_some o e h = ap done_of (sym h) ∙ ap done_of e
+over_is ph a is = cc
+
+-- what a share sends once it has begun has no change
+share_sent_none : (o : Option ℕ) (m : Msg) → is_of_share m ≡ true → sent_of o m ≡ 0
+share_sent_none o (msg.Install k filter from to) e = cc
+share_sent_none o msg.Finish e = cc
+share_sent_none o m e = refl
+
+pub shares_none : (n : ℕ) (sends : List (ℕ × Msg)) → AreOfShare sends → NoInstall n 1 sends
+shares_none n [] h = λ o. refl
+shares_none n (x ∷ xs) h = no_more n 1 x.0 x.1 (λ o. share_sent_none o x.1 h.0) xs (shares_none n xs h.1)
+
+pub answered_none : (n op : ℕ) (a : Option Answer) (sends : List (ℕ × Msg)) → AreOfShare sends → NoInstall n 1 (answered op a sends)
+answered_none n op None sends h = shares_none n sends h
+answered_none n op (Some why) sends h = no_both n 1 sends ((0, msg.Answered op) ∷ []) (shares_none n sends h) (no_one n 1 0 (msg.Answered op) (λ o. refl))
+
+-- a refusal isn't an answer that it is done
+pub refused_none : (u : Option (List ℕ)) (q : Option ℕ) (a : Answer) → option_or (option_map Unknown u) (option_map Overlap q) ≡ Some a → done_in a ≡ 0
+refused_none (Some name) q a is = by_answer (Unknown name) a is refl
+  where
+    done_of : Option Answer → ℕ
+    done_of (Some x) = done_in x
+    done_of None = 0
+
+    by_answer : (b c : Answer) → Some b ≡ Some c → done_in b ≡ 0 → done_in c ≡ 0
+    by_answer b c e h = sym (ap done_of e) ∙ h
+refused_none None (Some k) a is = by_answer (Overlap k) a is refl
+  where
+    done_of : Option Answer → ℕ
+    done_of (Some x) = done_in x
+    done_of None = 0
+
+    by_answer : (b c : Answer) → Some b ≡ Some c → done_in b ≡ 0 → done_in c ≡ 0
+    by_answer b c e h = sym (ap done_of e) ∙ h
+refused_none None None a is = cc

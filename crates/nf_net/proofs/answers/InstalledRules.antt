@@ -1,0 +1,338 @@
+-- The controller's step has asked for a change of the switch's rules for each open move that passes packets on, each done one and each open share.
+use Rattle.std.proofs.Common.{◌≡◌, ℕ, ◌+◌, Bool, true, false, cond, Option, Some, None, List, [], ◌∷◌, ◌++◌, refl, sym, ap, ◌∙◌, subst, arith, map}
+use Rattle.std.specs.Prelude.{if◌then◌else◌, ◌==◌, is_some}
+use Rattle.std.specs.List.{filter_map}
+use Rattle.std.specs.FinMap as finite
+use Rattle.std.proofs.lemmas.Bool.Decides.{nat_tests, Decides-eqb}
+use Rattle.flow_filter.specs.declared.filter.Filter.{Filter}
+use Rattle.nf_function.specs.Semantics.{Semantics}
+use Rattle.packet_pool.specs.Pool.{FullCell}
+use Rattle.event_filter.specs.declared.action.Action.TheVariants as action
+use Rattle.event_filter.specs.declared.mark.Mark.TheVariants as mark
+use Rattle.nf_msgs.specs.declared.answer.Answer.{Answer}
+use Rattle.nf_msgs.specs.declared.answer.Answer.TheVariants.{Done}
+use Rattle.nf_msgs.specs.declared.command.Order.{Order}
+use Rattle.nf_msgs.specs.declared.command.Order.TheVariants as order
+use Rattle.nf_msgs.specs.declared.msg.Msg.{Msg}
+use Rattle.nf_msgs.specs.declared.msg.Msg.TheVariants as msg
+use Rattle.nf_msgs.specs.declared.note.Note.TheVariants as note
+use Rattle.nf_msgs.specs.Nodes.{instance_node}
+use Rattle.nf_msgs.specs.MessageParts.{op_of}
+use Rattle.copy_share.specs.declared.copy_phase.CopyPhase.TheVariants.{Keeping}
+use Rattle.copy_share.specs.Copy.{CopyState}
+use Rattle.copy_share.specs.Copy as copy
+use Rattle.copy_share.specs.Share.{SharePlan, ShareState}
+use Rattle.copy_share.specs.Share as share
+use Rattle.move_op.specs.Phases as phase
+use Rattle.move_op.specs.Move.{MovePlan, MoveState, MoveRow, row_in, move_at_start, answer_of}
+use Rattle.event_store.specs.Store.{stored_of}
+use Rattle.ctrl_node.specs.declared.operation.Operation.{Operation}
+use Rattle.ctrl_node.specs.declared.operation.Operation.TheVariants.{Move, Copy, Share}
+use Rattle.ctrl_node.specs.Operations.{turn_of, turn_of_move}
+use Rattle.ctrl_node.specs.Controller as controller
+use Rattle.ctrl_node.specs.Controller.{ControllerState, Step, still, refusal, opening_step, move_between, copy_between, share_begin, begin_step}
+use Rattle.ctrl_node.specs.Controller.{decision_step, on_asked, on_diverted, queue_step, after_turn, takes_turn, hand_step, numbered, on_event}
+use Rattle.ctrl_node.specs.Controller.{on_final, instance_at, unknown_name, overlap, may_finish, finish_of, step_and_finish, controller_step}
+use Rattle.flow_filter.specs.Name.{place_of}
+use Rattle.actor_net.specs.Network.{reaches}
+use Rattle.actor_net.proofs.WeightLaws.{sent_weight}
+use Rattle.net_world.specs.Commands.{answers_of}
+use Rattle.proof_outlines.proofs.outline.OperationTables.{got_insert, got_remove, gone_twice, NotShared}
+use Rattle.proof_outlines.proofs.outline.CopyTurns.{CopyTurn, Idle, Hands, Hands_all, Ends, hands, ends}
+use Rattle.proof_outlines.proofs.joined.KnownOperations.{AreKnown, copy_turns}
+use Rattle.nf_net.proofs.answers.ControllerCases.{by_operation, by_queue, by_sender, by_stop}
+use Rattle.nf_net.proofs.answers.CreditCounts.{sent_weight-append}
+use Rattle.nf_net.proofs.answers.InstallCounts.{sent_of, install, finish, done_in, passed, Adds, NoInstall, no_one, no_both, row_adds}
+use Rattle.nf_net.proofs.answers.ShareTells.{ShareStep, handed_share, queued_share}
+use Rattle.proof_outlines.proofs.whole.ShareLeft.{answered, noted}
+use Rattle.proof_outlines.proofs.joined.Given.{Given, IsPlan, IsCopyPlan}
+use Rattle.proof_outlines.proofs.joined.Joined.{Label}
+use Rattle.nf_net.proofs.answers.InstallSteps.{is_moving, dones, dones-none, open_in, over_is, shares_none, answered_none, refused_none}
+
+-- The controller.
+module _ (n : ℕ) (reach : reaches n 1 0 ≡ true) (g : Given) (k : ℕ) (c : ControllerState) where
+  -- whether the command moves units
+  abbrev moving : Bool
+  moving = is_moving (g.orders k)
+
+  -- what the step does for the command
+  pub record Counts (did : Step) : Type 0 where
+    pub sent : open_in (finite.get did.node.operations k) + dones moving (answers_of k did.notes)
+        ≡ open_in (finite.get c.operations k) + sent_weight (install k) n 1 did.sends
+    pub unfinished : sent_weight finish n 1 did.sends ≡ 0
+    pub finish_same : did.node.finish_sent ≡ c.finish_sent
+
+  abbrev pub Sent : Step → Type 0
+  Sent did = open_in (finite.get did.node.operations k) + dones moving (answers_of k did.notes)
+      ≡ open_in (finite.get c.operations k) + sent_weight (install k) n 1 did.sends
+
+  finished_is : (did : Step) → Counts did → Sent (step_and_finish did)
+  finished_is did h =
+      let none : sent_weight (install k) n 1 (finish_of did.node) ≡ 0 = elim (may_finish did.node)
+      as (λ b. sent_weight (install k) n 1 (if b then (0, msg.Finish) ∷ [] else []) ≡ 0) [ true ↦ rw reach refl | false ↦ refl ] in
+      let same : open_in (finite.get (step_and_finish did).node.operations k) ≡ open_in (finite.get did.node.operations k) = elim (may_finish did.node)
+      as (λ b. open_in (finite.get (if b then record did.node { finish_sent = true } else did.node).operations k) ≡ open_in (finite.get did.node.operations k))
+      [ true ↦ refl | false ↦ refl ] in
+      let both = sent_weight-append (install k) n 1 did.sends (finish_of did.node) in
+      let was = h.sent in
+      omega (arith, none, same, both, was)
+
+  still_is : Counts (still c)
+  still_is = record { sent = refl; unfinished = refl; finish_same = refl }
+
+  none_is : (s : ControllerState) (sends : List (ℕ × Msg)) → s.operations ≡ c.operations → s.finish_sent ≡ c.finish_sent → NoInstall n 1 sends
+      → Counts (record { node = s; sends = sends; notes = [] })
+  none_is s sends same kept none = record {
+    sent = (let own = none (Some k) in let all = ap (λ ops. open_in (finite.get ops k)) same in omega (arith, own, all));
+    unfinished = none None;
+    finish_same = kept;
+  }
+
+  module _ (are : AreKnown g c) where
+    -- a copy sends no change
+    hands_is : (op : ℕ) (y : CopyState) → finite.get c.operations op ≡ Some (Copy y) → (m : Msg) → ((o : Option ℕ) → sent_of o m ≡ 0) → Counts (hands c op y m)
+    hands_is op y is m none =
+        let own = no_one n 1 (instance_node y.plan.to) m none in
+        let weighs = own (Some k) in
+        let here : open_in (finite.get (hands c op y m).node.operations k) ≡ open_in (finite.get c.operations k) =
+        ap open_in (got_insert c.operations op k (Copy (record y { phase = Keeping }))) ∙ elim (k == op) as (λ b. (k == op) ≡ b
+        → open_in (cond b (Some (Copy (record y { phase = Keeping }))) (finite.get c.operations k)) ≡ open_in (finite.get c.operations k)) [
+          | true ↦ λ on. sym (ap (λ j. open_in (finite.get c.operations j)) ((Decides-eqb k op).0 on) ∙ ap open_in is)
+          | false ↦ λ off. refl
+        ] refl in
+        record { sent = omega (arith, here, weighs); unfinished = own None; finish_same = refl }
+
+    ends_is : (op : ℕ) (y : CopyState) → finite.get c.operations op ≡ Some (Copy y) → Counts (ends c op)
+    ends_is op y is =
+        let plan : IsCopyPlan g op y.plan = (are.copies op y is).1 in
+        let own = no_one n 1 0 (msg.Answered op) (λ o. refl) in
+        let weighs = own (Some k) in
+        let turned : (op == k) ≡ (k == op) = grind (arith, nat_tests) in
+        let gone = got_remove c.operations op k in
+        let here : open_in (finite.get (finite.remove c.operations op) k) + dones moving (answers_of k (note.Answered op Done ∷ []))
+        ≡ open_in (finite.get c.operations k) =
+        rw (gone, turned) (elim (k == op) as (λ b. (k == op) ≡ b → open_in (cond b None (finite.get c.operations k))
+        + dones moving (map (λ (one : ℕ × Answer). one.1) (if b then (op, Done) ∷ [] else [])) ≡ open_in (finite.get c.operations k)) [
+          | true ↦ λ on.
+              let same : k ≡ op = (Decides-eqb k op).0 on in
+              let still : moving ≡ false = ap (λ j. is_moving (g.orders j)) same ∙ ap is_moving plan.order_is in
+              let none : open_in (finite.get c.operations k) ≡ 0 = ap (λ j. open_in (finite.get c.operations j)) same ∙ ap open_in is in
+              rw still (sym none)
+          | false ↦ λ off. omega arith
+        ] refl) in
+        record { sent = omega (arith, here, weighs); unfinished = own None; finish_same = refl }
+
+    copy_is : (op : ℕ) (y : CopyState) → finite.get c.operations op ≡ Some (Copy y) → (m : Msg) (did : Step)
+        → CopyTurn (record { controller = c; op = op; copy = y }) m did → Counts did
+    copy_is op y is m did (Idle e) = subst Counts (sym e) still_is
+    copy_is op y is m did (Hands j chunks e d) = subst Counts (sym d) (hands_is op y is (msg.Standby y.plan.op chunks) (λ o. refl))
+    copy_is op y is m did (Hands_all j chunk e d) = subst Counts (sym d) (hands_is op y is (msg.PutAll y.plan.op chunk) (λ o. refl))
+    copy_is op y is m did (Ends d) = subst Counts (sym d) (ends_is op y is)
+
+    turn_is : (op port : ℕ) (m : Msg) (o : Option Operation) → finite.get c.operations op ≡ o → NotShared o
+        → Counts (takes_turn c op (turn_of o c.store port m))
+    turn_is op port m (Some (Share s)) is no_share = absurd no_share
+    turn_is op port m None is no_share = record { sent = refl; unfinished = refl; finish_same = refl }
+    turn_is op port m (Some (Copy y)) is no_share = copy_is op y is m _ (copy_turns g c are op y is port m)
+    turn_is op port m (Some (Move mv)) is no_share = by_answer (answer_of r.next.phase) refl
+      where
+        r : MoveRow
+        r = row_in mv c.store port m
+
+        x : MoveState
+        x = record mv { phase = r.next.phase }
+
+        adds : Adds n reach mv.plan mv.phase r.next
+        adds = row_adds n reach mv.plan (stored_of c.store mv.plan.op) mv.phase port m (are.moves op mv is).1
+
+        -- what it sends, by whether the command is the move's
+        sends_are : (after : ℕ) → after ≡ passed r.next.phase
+            → (if k == op then after else open_in (finite.get c.operations k)) ≡ open_in (finite.get c.operations k) + sent_weight (install k) n 1 r.next.sends
+        sends_are after e = elim (k == op) as (λ b. (k == op) ≡ b
+            → (if b then after else open_in (finite.get c.operations k)) ≡ open_in (finite.get c.operations k) + sent_weight (install k) n 1 r.next.sends) [
+              | true ↦ λ on.
+                  let own : mv.plan.op ≡ k = (are.moves op mv is).0 ∙ sym ((Decides-eqb k op).0 on) in
+                  let sent = subst (λ y. sent_weight (install y) n 1 r.next.sends + passed mv.phase ≡ passed r.next.phase) own adds.own in
+                  let before : open_in (finite.get c.operations k) ≡ passed mv.phase = ap (λ y. open_in (finite.get c.operations y)) ((Decides-eqb k op).0 on)
+                  ∙ ap open_in is in
+                  omega (arith, e, sent, before)
+              | false ↦ λ off.
+                  let same = (are.moves op mv is).0 in
+                  let apart : (mv.plan.op == k) ≡ false = grind (arith, nat_tests, off, same) in
+                  let none = adds.other k apart in
+                  omega (arith, none)
+            ] refl
+
+        by_answer : (a : Option Answer) → answer_of r.next.phase ≡ a → Counts (after_turn c op (turn_of_move mv c.store r) a)
+        by_answer None e =
+            let here : open_in (finite.get (finite.insert c.operations op (Move x)) k)
+            ≡ (if k == op then passed r.next.phase else open_in (finite.get c.operations k)) =
+            ap open_in (got_insert c.operations op k (Move x)) ∙ elim (k == op) as (λ b. open_in (cond b (Some (Move x)) (finite.get c.operations k))
+            ≡ (if b then passed r.next.phase else open_in (finite.get c.operations k))) [ true ↦ refl | false ↦ refl ] in
+            let sent = sends_are (passed r.next.phase) refl in
+            record { sent = omega (arith, here, sent); unfinished = adds.unfinished; finish_same = refl }
+        by_answer (Some a) e =
+            let sends = r.next.sends ++ (0, msg.Answered op) ∷ [] in
+            let both = sent_weight-append (install k) n 1 r.next.sends ((0, msg.Answered op) ∷ []) in
+            let none = no_one n 1 0 (msg.Answered op) (λ y. refl) (Some k) in
+            let gone : finite.get (finite.remove (finite.insert c.operations op (Move x)) op) k ≡ cond (k == op) None (finite.get c.operations k) =
+            got_remove (finite.insert c.operations op (Move x)) op k ∙ ap (λ o. cond (k == op) None o) (got_insert c.operations op k (Move x))
+            ∙ gone_twice (k == op) (Some (Move x)) (finite.get c.operations k) in
+            let turned : (op == k) ≡ (k == op) = grind (arith, nat_tests) in
+            let plan : IsPlan g op mv.plan = (are.moves op mv is).2 in
+            let here : open_in (finite.get (finite.remove (finite.insert c.operations op (Move x)) op) k)
+            + dones moving (answers_of k (note.Answered op a ∷ [])) ≡ (if k == op then done_in a else open_in (finite.get c.operations k)) =
+            rw (gone, turned) (elim (k == op) as (λ b. (k == op) ≡ b
+            → open_in (cond b None (finite.get c.operations k)) + dones moving (map (λ (one : ℕ × Answer). one.1) (if b then (op, a) ∷ [] else []))
+            ≡ (if b then done_in a else open_in (finite.get c.operations k))) [
+              | true ↦ λ on.
+                  (let does : moving ≡ true = ap (λ j. is_moving (g.orders j)) ((Decides-eqb k op).0 on) ∙ ap is_moving plan.order_is in rw does (omega arith))
+              | false ↦ λ off. omega arith
+            ] refl) in
+            let sent = sends_are (done_in a) (sym (over_is r.next.phase a e)) in
+            record {
+              sent = omega (arith, both, none, here, sent);
+              unfinished = (let all = sent_weight-append finish n 1 r.next.sends ((0, msg.Answered op) ∷ []) in
+                  let first = adds.unfinished in let last = no_one n 1 0 (msg.Answered op) (λ y. refl) None in omega (arith, all, first, last));
+              finish_same = refl;
+            }
+
+    -- an open share sends no change, and has sent one
+    share_is : (op : ℕ) (s : ShareState) → finite.get c.operations op ≡ Some (Share s) → (did : Step) → ShareStep c op s did → Counts did
+    share_is op s there did l =
+        let quiet : NoInstall n 1 did.sends = subst (NoInstall n 1) (sym l.sends_are)
+        (no_both n 1 (answered op l.answer l.first) l.second (answered_none n op l.answer l.first l.first_own) (shares_none n l.second l.second_own)) in
+        let none = quiet (Some k) in
+        let plan = (are.shares op s there).1 in
+        let still : (k == op) ≡ true → moving ≡ false = (λ on. ap (λ j. is_moving (g.orders j)) ((Decides-eqb k op).0 on) ∙ ap is_moving plan.order_is) in
+        let turned : (op == k) ≡ (k == op) = grind (arith, nat_tests) in
+        let noted_none : dones moving (answers_of k did.notes) ≡ 0 = ap (λ ns. dones moving (answers_of k ns)) l.notes_are
+        ∙ by_answer op l.answer turned still in
+        let same : open_in (finite.get did.node.operations k) ≡ open_in (finite.get c.operations k) = ap open_in (l.operations k) ∙ elim (k == op) as (λ b.
+        (k == op) ≡ b → open_in (cond b (Some (Share (record s { phase = l.after }))) (finite.get c.operations k)) ≡ open_in (finite.get c.operations k)) [
+          | true ↦ λ on. sym (ap (λ j. open_in (finite.get c.operations j)) ((Decides-eqb k op).0 on) ∙ ap open_in there)
+          | false ↦ λ off. refl
+        ] refl in
+        record { sent = omega (arith, none, noted_none, same); unfinished = quiet None; finish_same = l.finish_same }
+      where
+        by_answer : (op : ℕ) (a : Option Answer) → (op == k) ≡ (k == op) → ((k == op) ≡ true → moving ≡ false) → dones moving (answers_of k (noted op a)) ≡ 0
+        by_answer op None turned still = refl
+        by_answer op (Some why) turned still = ap (λ b. dones moving (map (λ (one : ℕ × Answer). one.1) (if b then (op, why) ∷ [] else []))) turned
+            ∙ elim (k == op) as (λ b. (k == op) ≡ b → dones moving (map (λ (one : ℕ × Answer). one.1) (if b then (op, why) ∷ [] else [])) ≡ 0) [
+              | true ↦ λ on. ap (λ b. dones b (why ∷ [])) (still on)
+              | false ↦ λ off. refl
+            ] refl
+
+    handed_is : (op port : ℕ) (m : Msg) → Counts (hand_step c op port m)
+    handed_is op port m = by_operation Counts c op port m
+        (λ no_share. turn_is op port m (finite.get c.operations op) refl no_share)
+        (λ s is. share_is op s is (hand_step c op port m) (handed_share c op s is (are.shares op s is).0 port m))
+
+    diverted_is : (cell : FullCell) → Counts (on_diverted c cell)
+    diverted_is cell =
+        by_queue Counts c cell still_is (λ op s is. share_is op s is (queue_step c cell (Some op)) (queued_share c op s is (are.shares op s is).0 cell))
+
+    numbered_is : (port : ℕ) (m : Msg) (o : Option ℕ) → Counts (numbered c port m o)
+    numbered_is port m None = still_is
+    numbered_is port m (Some op) = handed_is op port m
+
+    event_is : (port op : ℕ) (cell : FullCell) (i : Option ℕ) → Counts (on_event c port op cell i)
+    event_is port op cell i = by_sender Counts c port op cell i still_is (handed_is op port (msg.Event op cell))
+        (λ k. none_is c ((0, msg.Forward k (mark.Pass op) cell) ∷ []) refl refl (no_one n 1 0 (msg.Forward k (mark.Pass op) cell) (λ y. refl)))
+
+    final_is : (i : Option ℕ) → Counts (on_final c i)
+    final_is i = by_stop Counts c i still_is (λ k. none_is _ [] refl refl (λ op. refl))
+
+    -- a command that waits
+    module _ (op : ℕ) (none : finite.get c.operations op ≡ None) where
+      between_is : (filter : Filter) (keep : Bool) (a b : Option ℕ) → Counts (move_between c op filter keep a b)
+      between_is filter keep (Some from) (Some to) =
+          let plan : MovePlan = record { op = op; from = from; to = to; filter = filter; keep = keep } in
+          let sent = no_one n 1 (from + 2) (msg.Enable op filter action.Drop) (λ y. refl) in
+          let own = sent (Some k) in
+          let here : open_in (finite.get (finite.insert c.operations op (Move (move_at_start plan))) k) ≡ open_in (finite.get c.operations k) =
+          ap open_in (got_insert c.operations op k (Move (move_at_start plan))) ∙ elim (k == op)
+          as (λ b. (k == op) ≡ b → open_in (cond b (Some (Move (move_at_start plan))) (finite.get c.operations k)) ≡ open_in (finite.get c.operations k)) [
+            | true ↦ λ on. sym (ap (λ y. open_in (finite.get c.operations y)) ((Decides-eqb k op).0 on) ∙ ap open_in none)
+            | false ↦ λ off. refl
+          ] refl in
+          record { sent = omega (arith, here, own); unfinished = sent None; finish_same = refl }
+      between_is filter keep None b = still_is
+      between_is filter keep (Some from) None = still_is
+
+      -- another operation begins
+      opens_is : (o : Operation) (to : ℕ) (m : Msg) → open_in (Some o) ≡ 0 → ((j : Option ℕ) → sent_of j m ≡ 0) → Counts (opening_step c op o ((to, m) ∷ []))
+      opens_is o to m zero quiet =
+          let sent = no_one n 1 to m quiet in
+          let own = sent (Some k) in
+          let here : open_in (finite.get (finite.insert c.operations op o) k) ≡ open_in (finite.get c.operations k) =
+          ap open_in (got_insert c.operations op k o)
+          ∙ elim (k == op) as (λ b. (k == op) ≡ b → open_in (cond b (Some o) (finite.get c.operations k)) ≡ open_in (finite.get c.operations k)) [
+            | true ↦ λ on. zero ∙ sym (ap (λ y. open_in (finite.get c.operations y)) ((Decides-eqb k op).0 on) ∙ ap open_in none)
+            | false ↦ λ off. refl
+          ] refl in
+          record { sent = omega (arith, here, own); unfinished = sent None; finish_same = refl }
+
+      copies_is : (filter : Option Filter) (a b : Option ℕ) → Counts (copy_between c op filter a b)
+      copies_is filter (Some from) (Some to) = opens_is (Copy (copy.copy_at_start (record { op = op; from = from; to = to; filter = filter })))
+          (instance_node from) (copy.asks op filter) refl (asks_quiet filter)
+        where
+          asks_quiet : (o : Option Filter) (j : Option ℕ) → sent_of j (copy.asks op o) ≡ 0
+          asks_quiet None j = refl
+          asks_quiet (Some flt) j = refl
+      copies_is filter None b = still_is
+      copies_is filter (Some from) None = still_is
+
+      -- a share begins by a change
+      shares_is : (filter : Filter) (members : List ℕ) → Counts (share_begin c op filter members)
+      shares_is filter [] = still_is
+      shares_is filter (home ∷ others) =
+          let plan : SharePlan = record { op = op; members = home ∷ others; filter = filter; site = c.site } in
+          let turned : (op == k) ≡ (k == op) = grind (arith, nat_tests) in
+          let sent : sent_weight (install k) n 1 (share.begin_sends plan) ≡ (if k == op then 1 else 0) = rw (reach, turned) (omega arith) in
+          let here : open_in (finite.get (finite.insert c.operations op (Share (share.share_at_start plan))) k)
+          ≡ open_in (finite.get c.operations k) + (if k == op then 1 else 0) =
+          ap open_in (got_insert c.operations op k (Share (share.share_at_start plan))) ∙ elim (k == op) as (λ b. (k == op) ≡ b → open_in (cond b
+          (Some (Share (share.share_at_start plan))) (finite.get c.operations k)) ≡ open_in (finite.get c.operations k) + (if b then 1 else 0)) [
+            | true ↦ λ on. (let was : open_in (finite.get c.operations k) ≡ 0 = ap (λ y. open_in (finite.get c.operations y)) ((Decides-eqb k op).0 on)
+                ∙ ap open_in none in
+                omega (arith, was))
+            | false ↦ λ off. omega arith
+          ] refl in
+          record { sent = omega (arith, sent, here); unfinished = rw reach refl; finish_same = refl }
+
+      begins_is : (what : Order) → Counts (begin_step c op what)
+      begins_is (order.Move source destination filter keep) = between_is filter keep (place_of c.names source) (place_of c.names destination)
+      begins_is (order.Copy source destination filter) = copies_is filter (place_of c.names source) (place_of c.names destination)
+      begins_is (order.Share members filter) = shares_is filter (filter_map (place_of c.names) members)
+
+      decided_is : (what : Order) (o : Option Answer) → refusal c what ≡ o → Counts (decision_step c op what o)
+      decided_is what None is = begins_is what
+      decided_is what (Some a) is =
+          let refused = refused_none (unknown_name c what) (overlap c what) a is in
+          let sent = no_one n 1 0 (msg.Answered op) (λ y. refl) in
+          let own = sent (Some k) in
+          let noted : dones moving (map (λ (one : ℕ × Answer). one.1) (if op == k then (op, a) ∷ [] else [])) ≡ 0 = elim (op == k) as (λ b.
+          dones moving (map (λ (one : ℕ × Answer). one.1) (if b then (op, a) ∷ [] else [])) ≡ 0) [ true ↦ dones-none moving a refused | false ↦ refl ] in
+          record { sent = omega (arith, own, noted); unfinished = sent None; finish_same = refl }
+
+    asked_is : (op : ℕ) (what : Order) → Counts (on_asked c (record { op = op; what = what }))
+    asked_is op what = by_got (finite.get c.operations op) refl
+      where
+        by_got : (o : Option Operation) → finite.get c.operations op ≡ o → Counts (if is_some o then still c else decision_step c op what (refusal c what))
+        by_got None is = decided_is op is what (refusal c what) refl
+        by_got (Some x) is = still_is
+
+    pub row_counts : {R : Type 0} (f : Semantics R) (port : ℕ) (m : Msg) → Label f g port 1 m → Counts (controller.row c port m)
+    row_counts f port (msg.Asked a) label =
+        elim (port == 0) as (λ b. Counts (if b then on_asked c a else still c)) [ true ↦ asked_is a.op a.what | false ↦ still_is ]
+    row_counts f port (msg.Diverted cell) label =
+        elim (port == 0) as (λ b. Counts (if b then on_diverted c cell else still c)) [ true ↦ diverted_is cell | false ↦ still_is ]
+    row_counts f port msg.End label = elim (port == 0) as (λ b. Counts (if b then still (record c { end_came = true }) else still c))
+        [ true ↦ none_is _ [] refl refl (λ op. refl) | false ↦ still_is ]
+    row_counts f port (msg.Event op cell) label = event_is port op cell (instance_at c port)
+    row_counts f port msg.Final label = final_is (instance_at c port)
+    row_counts f port m label = numbered_is port m (op_of m)
+
+    pub controller_counts : {R : Type 0} (f : Semantics R) (port : ℕ) (m : Msg) → Label f g port 1 m → Sent (controller_step c port m)
+    controller_counts f port m label = finished_is (controller.row c port m) (row_counts f port m label)

@@ -1,0 +1,315 @@
+-- No command is lost: each of the input waits still, or the log says that it began or was answered. So in a complete run each is answered.
+use Rattle.std.proofs.Common.{◌≡◌, ℕ, zero, suc, ◌+◌, ◌≤◌, Bool, true, false, Option, Some, None, List, [], ◌∷◌, ◌++◌, length, refl, sym, ap, ◌∙◌, subst, arith}
+use Rattle.std.specs.Prelude.{if◌then◌else◌, ◌&&◌, ◌||◌, ◌==◌, not, nat_lt, find, is_some, option_map}
+use Rattle.std.specs.List.{filter_map}
+use Rattle.std.specs.Option.{option_or}
+use Rattle.std.specs.declared.alloc.Global.{Global}
+use Rattle.std.specs.FinMap as finite
+use Rattle.std.proofs.lemmas.Bool.Decides.{nat_tests, Decides-eqb, Decides-ltb}
+use Rattle.std.proofs.lemmas.Bool.{and_parts}
+use Rattle.flow_filter.specs.declared.filter.Filter.{Filter}
+use Rattle.nf_function.specs.Records.{Laws as FunctionLaws}
+use Rattle.nf_function.specs.Semantics.{Semantics}
+use Rattle.nf_msgs.specs.declared.answer.Answer.{Answer}
+use Rattle.nf_msgs.specs.declared.answer.Answer.TheVariants.{Done, Unknown, Overlap}
+use Rattle.nf_msgs.specs.declared.command.Order.{Order}
+use Rattle.nf_msgs.specs.declared.command.Order.TheVariants as order
+use Rattle.nf_msgs.specs.declared.msg.Msg.{Msg}
+use Rattle.nf_msgs.specs.declared.msg.Msg.TheVariants as msg
+use Rattle.nf_msgs.specs.declared.note.Note.{Note}
+use Rattle.actor_net.specs.declared.choice.Choice.{Choice}
+use Rattle.actor_net.specs.Network.{Network, Stepped, IsRun, is_done, reaches, run, world_next}
+use Rattle.actor_net.proofs.CompleteWorlds.{done_weight}
+use Rattle.actor_net.proofs.EnabledChoices.{at}
+use Rattle.actor_net.proofs.OpeningWorlds.{opening_weight}
+use Rattle.actor_net.proofs.RunInduction.{Taking, run_induction, run_world}
+use Rattle.actor_net.proofs.StepOutcome.{Takes, taken_outcome}
+use Rattle.actor_net.proofs.WeightLaws.{weigh, total, sent_weight, total_after}
+use Rattle.ctrl_node.specs.declared.operation.Operation.{Operation}
+use Rattle.ctrl_node.specs.declared.operation.Operation.TheVariants.{Move, Copy, Share}
+use Rattle.ctrl_node.specs.Controller as controller
+use Rattle.ctrl_node.specs.Controller.{ControllerState, Step, still, refusal, unknown_name, overlap, move_between}
+use Rattle.ctrl_node.specs.Controller.{copy_between, share_begin, begin_step, decision_step, on_asked, controller_step}
+use Rattle.flow_filter.specs.Name.{place_of}
+use Rattle.switch_node.specs.Switch.{SwitchState, switch_step}
+use Rattle.net_world.specs.declared.config.Config.{Config}
+use Rattle.net_world.specs.declared.node.Node.{Node}
+use Rattle.net_world.specs.declared.node.Node.TheVariants.{Controller}
+use Rattle.net_world.specs.Commands.{is_begun, has_answered, is_share, keeps_off, answers_of}
+use Rattle.net_world.specs.Input.{IsInput, commands, order_numbered, ends_last}
+use Rattle.net_world.specs.Nodes.{node_step, node_ready, node_ended}
+use Rattle.net_world.specs.Start.{first_nodes, started_with}
+use Rattle.net_world.specs.Log.{answers_in}
+use Rattle.net_world.proofs.LogLemmas.{has_begun-append, has_answered-append}
+use Rattle.net_world.proofs.PickedLists.{some_kept}
+use Rattle.proof_outlines.proofs.outline.FiltersApart.{is_whole}
+use Rattle.nf_net.proofs.answers.BusyLemmas.{is_noted}
+use Rattle.nf_net.proofs.answers.BusyRuns.{Busy, same_controller, keeps_is, told_is, busy_next}
+use Rattle.nf_net.proofs.answers.CommandPromises.{start_busy, run_busy}
+use Rattle.nf_net.proofs.answers.EndRuns.{run_ends, all_settled}
+use Rattle.nf_net.proofs.answers.EndTables.{flag, IsSettled, flag_full}
+use Rattle.proof_outlines.proofs.joined.Given.{Given}
+use Rattle.proof_outlines.proofs.joined.Joined.{Label, Joined, count, node_of, is_built}
+use Rattle.proof_outlines.proofs.joined.BesideRuns.{its_takes, its_label}
+use Rattle.proof_outlines.proofs.joined.RunsJoined.{Runs, runs_at_start, runs_next, start_world}
+use Rattle.proof_outlines.proofs.joined.ShareBegins.{names_known}
+use Rattle.proof_outlines.proofs.joined.StartJoined.{given, all_fit, count_at_start}
+
+-- a command of this number that waits
+abbrev pub told : ℕ → Msg → ℕ
+told op (msg.Asked c) = if c.op == op then 1 else 0
+told op (msg.InCommand c) = if c.op == op then 1 else 0
+told op m = 0
+
+-- notes stay
+noted_more : (op : ℕ) (xs ys : List Note) → flag (is_noted op xs) ≤ flag (is_noted op (xs ++ ys))
+noted_more op xs ys =
+    let begun = has_begun-append (λ k. k == op) xs ys in
+    let answers_in = has_answered-append op xs ys in
+    rw (begun, answers_in) (more (is_begun op xs) (is_begun op ys) (has_answered op xs) (has_answered op ys))
+  where
+    more : (a b d e : Bool) → flag (a || d) ≤ flag ((a || b) || (d || e))
+    more true b d e = omega arith
+    more false true d e = elim d as (λ x. flag x ≤ flag (true || (x || e))) [ true ↦ omega arith | false ↦ omega arith ]
+    more false false true e = omega arith
+    more false false false e = omega arith
+
+noted_new : (op : ℕ) (xs ys : List Note) → is_noted op ys ≡ true → is_noted op (xs ++ ys) ≡ true
+noted_new op xs ys h =
+    let begun = has_begun-append (λ k. k == op) xs ys in
+    let answers_in = has_answered-append op xs ys in
+    rw (begun, answers_in) (more (is_begun op xs) (is_begun op ys) (has_answered op xs) (has_answered op ys) h)
+  where
+    more : (a b d e : Bool) → b || e ≡ true → (a || b) || (d || e) ≡ true
+    more true b d e k = refl
+    more false true d e k = refl
+    more false false true e k = refl
+    more false false false true k = refl
+    more false false false false k = cc
+
+-- a share has names
+abbrev NamesSome : Order → Type 0
+NamesSome (order.Share members filter) = 1 ≤ length members
+NamesSome what = Unit {0}
+
+names_some : {R : Type 0} (f : Semantics R) (g : Given) (what : Order) → is_built f g what ≡ true → NamesSome what
+names_some f g (order.Share members filter) built =
+    let two = (Decides-ltb 1 (length members)).0 (and_parts (nat_lt 1 (length members)) _ (and_parts (is_whole f.kind filter) _ built).1).0 in
+    omega (arith, two)
+names_some f g what built = tt
+
+-- The controller begins or answers each command that it takes.
+module _ (g : Given) (log : List Note) (c : ControllerState) (op : ℕ) (open_is : finite.contains_key c.operations op ≡ keeps_off g.names g.orders op log) where
+  abbrev Noted : Step → Type 0
+  Noted did = is_noted op (log ++ did.notes) ≡ true
+
+  self : (op == op) ≡ true
+  self = grind (arith, nat_tests)
+
+  answered_noted : (a : Answer) → Noted (controller.answers c op a)
+  answered_noted a = noted_new op log (controller.answers c op a).notes (let own = self in rw own refl)
+
+  between_noted : (filter : Filter) (keep : Bool) (a b : Option ℕ) → is_some a ≡ true → is_some b ≡ true → Noted (move_between c op filter keep a b)
+  between_noted filter keep (Some a) (Some b) h k = noted_new op log (move_between c op filter keep (Some a) (Some b)).notes (let own = self in rw own refl)
+  between_noted filter keep None b h k = cc
+  between_noted filter keep (Some a) None h k = cc
+
+  copies_noted : (filter : Option Filter) (a b : Option ℕ) → is_some a ≡ true → is_some b ≡ true → Noted (copy_between c op filter a b)
+  copies_noted filter (Some a) (Some b) h k = noted_new op log (copy_between c op filter (Some a) (Some b)).notes (let own = self in rw own refl)
+  copies_noted filter None b h k = cc
+  copies_noted filter (Some a) None h k = cc
+
+  -- two names that are known
+  both_known : (a b : List ℕ) (p q : Bool) → (if not p then Some a else if not q then Some b else None) ≡ None → (p ≡ true) × (q ≡ true)
+  both_known a b true true e = (refl, refl)
+  both_known a b false q e = cc
+  both_known a b true false e = cc
+
+  none_of : (u : Option (List ℕ)) (q : Option ℕ) → option_or (option_map Unknown u) (option_map Overlap q) ≡ None → u ≡ None
+  none_of None q e = refl
+  none_of (Some u) q e = cc
+
+  shares_noted : (filter : Filter) (members : List ℕ) → 1 ≤ length members → Noted (share_begin c op filter members)
+  shares_noted filter [] some = absurd (omega (arith, some))
+  shares_noted filter (home ∷ others) some = noted_new op log (share_begin c op filter (home ∷ others)).notes (let own = self in rw own refl)
+
+  begins_noted : (what : Order) → NamesSome what → refusal c what ≡ None → Noted (begin_step c op what)
+  begins_noted (order.Move source destination filter keep) some none =
+      let known = both_known source destination (is_some (place_of c.names source)) (is_some (place_of c.names destination))
+      (none_of (unknown_name c (order.Move source destination filter keep)) (overlap c (order.Move source destination filter keep)) none) in
+      between_noted filter keep (place_of c.names source) (place_of c.names destination) known.0 known.1
+  begins_noted (order.Copy source destination filter) some none =
+      let known = both_known source destination (is_some (place_of c.names source)) (is_some (place_of c.names destination))
+      (none_of (unknown_name c (order.Copy source destination filter)) (overlap c (order.Copy source destination filter)) none) in
+      copies_noted filter (place_of c.names source) (place_of c.names destination) known.0 known.1
+  begins_noted (order.Share members filter) some none =
+      let known = names_known c.names members (none_of (unknown_name c (order.Share members filter)) (overlap c (order.Share members filter)) none) in
+      let many = known.many in
+      shares_noted filter (filter_map (place_of c.names) members) (omega (arith, many, some))
+
+  decided_noted : (what : Order) → NamesSome what → (o : Option Answer) → refusal c what ≡ o → Noted (decision_step c op what o)
+  decided_noted what some (Some a) is = answered_noted a
+  decided_noted what some None is = begins_noted what some is
+
+  asked_noted : (what : Order) → NamesSome what → Noted (on_asked c (record { op = op; what = what }))
+  asked_noted what some = elim (finite.contains_key c.operations op)
+      as (λ b. finite.contains_key c.operations op ≡ b → Noted (if b then still c else decision_step c op what (refusal c what))) [
+        | true ↦ λ on. (let more = noted_more op log [] in
+            let was = kept_noted (is_begun op log) (is_share (g.orders op)) (has_answered op log) (sym open_is ∙ on) in
+            flag_full (is_noted op (log ++ [])) (omega (arith, more, ap flag was)))
+        | false ↦ λ off. decided_noted what some (refusal c what) refl
+      ] refl
+    where
+      kept_noted : (a s b : Bool) → a && (s || not b) ≡ true → a || b ≡ true
+      kept_noted true s b e = refl
+      kept_noted false s b e = cc
+
+-- What each node's step does with a command.
+module _ {R : Type 0} (f : Semantics R) (g : Given) (op : ℕ) where
+  controller_told : (log : List Note) (c : ControllerState) → ((k : ℕ) → finite.contains_key c.operations k ≡ keeps_off g.names g.orders k log)
+      → (p : ℕ) (m : Msg) → Label f g p 1 m → told op m ≤ flag (is_noted op (log ++ (controller_step c p m).notes))
+  controller_told log c open_is p (msg.InCommand k) label = let never = label.0.1 in cc
+  controller_told log c open_is p (msg.Asked k) label =
+      let noted = asked_noted g log c k.op (open_is k.op) k.what (names_some f g k.what label.2.built) in
+      let from : (p == 0) ≡ true = (Decides-eqb p 0).1 label.0 in
+      let all : is_noted k.op (log ++ (controller_step c p (msg.Asked k)).notes) ≡ true =
+      ap (λ b. is_noted k.op (log ++ (if b then on_asked c k else still c).notes)) from ∙ noted in
+      elim (k.op == op) as (λ b. (k.op == op) ≡ b → (if b then 1 else 0) ≤ flag (is_noted op (log ++ (controller_step c p (msg.Asked k)).notes))) [
+        | true ↦ λ on. (let mine = subst (λ y. is_noted y (log ++ (controller_step c p (msg.Asked k)).notes) ≡ true) ((Decides-eqb k.op op).0 on) all in
+            let one = ap flag mine in omega (arith, one))
+        | false ↦ λ off. omega arith
+      ] refl
+  controller_told log c open_is p m label = omega arith
+
+  switch_told : (n : ℕ) → reaches n 0 1 ≡ true → (s : SwitchState) (p : ℕ) (m : Msg) → Label f g p 0 m
+      → told op m ≤ sent_weight (told op) n 0 (switch_step s m).sends
+  switch_told n reach s p (msg.InCommand k) label = rw reach (omega arith)
+  switch_told n reach s p (msg.Asked k) label = let never = label.1 in cc
+  switch_told n reach s p m label = omega arith
+
+  instance_told : (p k : ℕ) (m : Msg) → 2 ≤ k → Label f g p k m → told op m ≡ 0
+  instance_told p k (msg.Asked c) two label = let one = label.1 in absurd (omega (arith, one, two))
+  instance_told p k (msg.InCommand c) two label = let none = label.0.1 in absurd (omega (arith, none, two))
+  instance_told p k m two label = refl
+
+-- each command of the input waits, began or was answered
+abbrev pub Told : List Msg → {F R : Type 0} → Network (Node F R) Msg Note → Type 0
+Told items w = (op : ℕ) → 1 ≤ weigh (told op) items → 1 ≤ total (told op) w + flag (is_noted op w.log)
+
+module _ {F R : Type 0} (f : Semantics R) (g : Given) (n : ℕ) (count_is : n ≡ count f g + 2) (items : List Msg) where
+  abbrev step : Node F R → ℕ → Msg → Stepped (Node F R) Msg Note
+  step = node_step f
+
+  told_after : (w : Network (Node F R) Msg Note) (k p : ℕ) (m : Msg) (rest : List Msg) (j : Joined f g n w)
+      (takes : Takes step n w k p (node_of j.nodes k) m rest)
+      → Label f g p k m → Busy g w → Told items w → Told items (world_next step w (at k p))
+  told_after w k p m rest j takes labelled b h op some = by_node k takes labelled
+    where
+      -- what is left, by what the step sends and notes
+      left : (k : ℕ) (takes : Takes step n w k p (node_of j.nodes k) m rest)
+          → told op m ≤ sent_weight (told op) n k (step (node_of j.nodes k) p m).sends + flag (is_noted op (w.log ++ (step (node_of j.nodes k) p m).notes))
+          → 1 ≤ total (told op) (world_next step w (at k p)) + flag (is_noted op (world_next step w (at k p)).log)
+      left k takes less =
+          let notes = (step (node_of j.nodes k) p m).notes in
+          let log = ap (λ l. flag (is_noted op l)) (taken_outcome step n w k p (node_of j.nodes k) m rest takes).log in
+          let weight = total_after step n w k p (node_of j.nodes k) m rest takes (told op) in
+          let more = noted_more op w.log notes in
+          let was = h op some in
+          omega (arith, log, weight, more, was, less)
+
+      by_node : (k : ℕ) → Takes step n w k p (node_of j.nodes k) m rest → Label f g p k m
+          → 1 ≤ total (told op) (world_next step w (at k p)) + flag (is_noted op (world_next step w (at k p)).log)
+      by_node zero takes labelled =
+          let reach : reaches n 0 1 ≡ true = grind (arith, nat_tests, count_is) in
+          let sent = switch_told f g op n reach j.nodes.switch p m labelled in
+          left 0 takes (omega (arith, sent))
+      by_node (suc zero) takes labelled =
+          let noted = controller_told f g op w.log j.nodes.controller (keeps_is f g n count_is w j b) p m labelled in
+          left 1 takes (omega (arith, noted))
+      by_node (suc (suc i)) takes labelled =
+          let none = instance_told f g op p (suc (suc i)) m (omega arith) labelled in
+          left (suc (suc i)) takes (omega (arith, none))
+
+-- a command of the input
+listed : (op : ℕ) (items : List Msg) (what : Order) → order_numbered items op ≡ Some what → 1 ≤ weigh (told op) items
+listed op [] what is = cc
+listed op (msg.InCommand c ∷ items) what is = elim (c.op == op) as (λ b.
+    option_map (λ x. x.what) (if b then Some c else find (λ x. x.op == op) (commands items)) ≡ Some what → 1 ≤ (if b then 1 else 0) + weigh (told op) items) [
+      | true ↦ λ here. omega arith
+      | false ↦ λ behind. (let rest = listed op items what behind in omega (arith, rest))
+    ] is
+listed op (m ∷ items) what is = let rest = listed op items what is in omega (arith, rest)
+
+-- a command that isn't kept any longer was answered
+pub closed_answered : (a s b : Bool) → a && (s || not b) ≡ false → 1 ≤ flag (a || b) → b ≡ true
+closed_answered a s true e h = refl
+closed_answered true true false e h = cc
+closed_answered true false false e h = cc
+closed_answered false s false e h = absurd (omega (arith, h))
+
+-- an answer stands among the answers
+pub some_answers : (op : ℕ) (log : List Note) → has_answered op log ≡ true → 1 ≤ length (answers_of op log)
+some_answers op log h = some_kept (λ one. one.0 == op) (λ one. one.1) (answers_in log) h
+
+module _ (F : Type 0) {R : Type 0} (f : Semantics R) (laws : FunctionLaws f) (alloc : Global) (c : Config) (items : List Msg)
+    (is : IsInput f.kind c items) where
+  abbrev start : Network (Node F R) Msg Note
+  start = started_with {F = F} {R = R} alloc c items
+
+  abbrev nodes : ℕ
+  nodes = length c.names + 2
+
+  abbrev g : Given
+  g = given f c items is
+
+  told_at_start : Told items start
+  told_at_start op some = let all = opening_weight Note (first_nodes {F = F} {R = R} alloc c) items (told op) in omega (arith, all, some)
+
+  pub run_told : (cs : List Choice) → IsRun node_ready (node_step f) cs start → Told items (run (node_step f) cs start)
+  run_told cs run_is = (run_induction node_ready (node_step f) nodes (λ _ w. Runs F f laws alloc c items is w × Busy g w × Told items w) start
+      (λ _ w k next h. (
+        runs_next F f laws alloc c items is w k next.taking h.0,
+        busy_next f g nodes refl w k next.taking h.0.joined h.1,
+        told_next w k next.taking h.0 h.1 h.2,
+      ))
+      (start_world F f laws alloc c items is) (count_at_start F f alloc c items is)
+      (runs_at_start F f laws alloc c items is, start_busy F f laws alloc c items is, told_at_start) cs run_is).2
+    where
+      told_next : (w : Network (Node F R) Msg Note) (k : Choice) → Taking node_ready (node_step f) nodes w k → Runs F f laws alloc c items is w → Busy g w
+          → Told items w → Told items (world_next (node_step f) w k)
+      told_next w k t r b h =
+          let fitting = all_fit f c items is in
+          told_after f g nodes refl items w k.node k.port t.message t.rest r.joined (its_takes f laws g fitting nodes refl w k t r.joined r.beside)
+          (its_label f laws g fitting nodes refl w k t r.joined r.beside) b h
+
+  -- in a complete run each command is answered, if none stands behind the input's end
+  pub each_answered : ends_last items ≡ true → (cs : List Choice) → IsRun node_ready (node_step f) cs start
+      → is_done node_ended (run (node_step f) cs start) ≡ true → (op : ℕ) (what : Order) → order_numbered items op ≡ Some what
+      → length (answers_of op (run (node_step f) cs start).log) ≡ 1
+  each_answered last cs run_is done op what known =
+      let w = run (node_step f) cs start in
+      let busy = run_busy F f laws alloc c items is cs run_is in
+      let j = busy.0 in
+      let ends = run_ends F f laws alloc c items is last cs run_is in
+      let world = run_world node_ready (node_step f) nodes start (start_world F f laws alloc c items is) (count_at_start F f alloc c items is) cs run_is in
+      let count = world.1 in
+      let waits = run_told cs run_is op (listed op items what known) in
+      let nothing = done_weight node_ended w done (told op) in
+      let same : ends.controller ≡ j.nodes.controller = same_controller {F = F} {R = R} ends.controller j.nodes.controller
+      (sym (ends.controller_is (Controller ends.controller)) ∙ j.nodes_are 1 (omega arith) (Controller ends.controller)) in
+      let settled : IsSettled (finite.get j.nodes.controller.operations op) = subst (λ x. IsSettled (finite.get x.operations op)) same
+      (all_settled w (omega (arith, count)) done ends op) in
+      by_settled w j busy.1 (omega (arith, waits, nothing)) (finite.get j.nodes.controller.operations op) refl settled
+    where
+      -- a command whose operation isn't open was answered, and so was a share that is set up
+      by_settled : (w : Network (Node F R) Msg Note) (j : Joined f g nodes w) (b : Busy g w) → 1 ≤ flag (is_noted op w.log) → (o : Option Operation)
+          → finite.get j.nodes.controller.operations op ≡ o → IsSettled o → length (answers_of op w.log) ≡ 1
+      by_settled w j b noted None is settled =
+          let few = (b.is.answered op).answered_once in
+          let off : keeps_off g.names g.orders op w.log ≡ false = sym (keeps_is f g nodes refl w j b op) ∙ ap is_some is in
+          let some = some_answers op w.log (closed_answered (is_begun op w.log) (is_share (g.orders op)) (has_answered op w.log) off noted) in
+          omega (arith, few, some)
+      by_settled w j b noted (Some (Share s)) is settled =
+          ap length (told_is f g nodes refl w j b op (Share s) is ∙ ap (λ v. if v then Done ∷ [] else []) settled)
+      by_settled w j b noted (Some (Move m)) is settled = absurd settled
+      by_settled w j b noted (Some (Copy y)) is settled = absurd settled

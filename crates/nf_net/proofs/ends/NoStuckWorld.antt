@@ -1,0 +1,125 @@
+-- A world of a run in which no choice is enabled is complete, where the input has an end: each phase that waits has a message on a link, and what the switch
+-- waits for is under way.
+use Rattle.std.proofs.Common.{◌≡◌, inl, inr, ℕ, ◌+◌, ◌≤◌, true, false, Some, List, [], length, refl, sym, ap, ◌∙◌, subst, arith}
+use Rattle.std.specs.Prelude.{◌&&◌, ◌==◌, slice_get}
+use Rattle.std.specs.declared.alloc.Global.{Global}
+use Rattle.std.proofs.lemmas.Bool.Decides.{Decides-eqb, Decides-ltb}
+use Rattle.std.proofs.lemmas.Option.{slice_get-get_or}
+use Rattle.nf_function.specs.Records.{Laws as FunctionLaws}
+use Rattle.nf_function.specs.Semantics.{Semantics}
+use Rattle.nf_msgs.specs.declared.msg.Msg.{Msg}
+use Rattle.nf_msgs.specs.declared.msg.Msg.TheVariants as msg
+use Rattle.nf_msgs.specs.declared.note.Note.{Note}
+use Rattle.switch_node.specs.declared.switch.TheConstants.{MOST_WAITING}
+use Rattle.switch_node.specs.Switch.{SwitchState, takes_in}
+use Rattle.actor_net.specs.declared.choice.Choice.{Choice}
+use Rattle.actor_net.specs.declared.schedule.TheConstants.{MOST_CHOICES}
+use Rattle.actor_net.specs.Network.{Network, IsWorld, IsRun, is_done, run, queue_at}
+use Rattle.actor_net.specs.Schedules.{enabled_choices, StopsShort}
+use Rattle.actor_net.proofs.DisabledChoices.{IsUnready, stuck_links, stuck_input}
+use Rattle.actor_net.proofs.EnabledChoices.{at}
+use Rattle.actor_net.proofs.RunInduction.{run_world}
+use Rattle.net_world.specs.declared.config.Config.{Config}
+use Rattle.net_world.specs.declared.node.Node.{Node}
+use Rattle.net_world.specs.declared.node.Node.TheVariants.{Switch}
+use Rattle.net_world.specs.Input.{IsInput}
+use Rattle.net_world.specs.Nodes.{node_step, node_ready, node_ended}
+use Rattle.net_world.specs.Start.{started_with}
+use Rattle.proof_outlines.proofs.joined.Joined.{Joined}
+use Rattle.proof_outlines.proofs.joined.RunsJoined.{start_world}
+use Rattle.proof_outlines.proofs.joined.StartJoined.{given, count_at_start}
+use Rattle.nf_net.proofs.answers.ArrivalLemmas.{runs_joined}
+use Rattle.nf_net.proofs.answers.CommandPromises.{run_busy}
+use Rattle.nf_net.proofs.answers.ToldCommands.{run_told}
+use Rattle.nf_net.proofs.SettleKeeps.{run_settles}
+use Rattle.nf_net.proofs.WindowRuns.{in_window}
+use Rattle.net_world.specs.Length.{ends, IsShort}
+use Rattle.nf_net.proofs.length.ShortRuns.{short_runs}
+use Rattle.net_world.proofs.SilentLinks.{all_done}
+use Rattle.nf_net.proofs.ends.TokenRuns.{run_enough}
+use Rattle.nf_net.proofs.ends.EndingRuns.{run_ending}
+use Rattle.nf_net.proofs.ends.AllEnded.{nodes_ended}
+use Rattle.nf_net.proofs.ends.GroundedWorlds.{grounded}
+use Rattle.nf_net.proofs.ends.WaitingWorlds.{none_waits}
+
+-- a switch for which nothing is under way and no command waits takes whatever is next
+takes_all : (s : SwitchState) (m : Msg) → s.flying ≡ 0 → 1 ≤ s.pool.cells → s.waiting ≡ 0 → takes_in s m ≡ true
+takes_all s (msg.InPacket p) flying cells waits = (Decides-ltb s.flying s.pool.cells).1 (omega (arith, flying, cells))
+takes_all s (msg.InCommand k) flying cells waits = (Decides-ltb s.waiting MOST_WAITING).1 (omega (arith, waits))
+takes_all s msg.InSettle flying cells waits = (Decides-eqb s.waiting 0).1 waits
+takes_all s m flying cells waits = refl
+
+module _ (F : Type 0) {R : Type 0} (f : Semantics R) (laws : FunctionLaws f) (alloc : Global) (c : Config) (items : List Msg) (is : IsInput f.kind c items)
+    (some_end : 1 ≤ ends items) where
+  abbrev start : Network (Node F R) Msg Note
+  start = started_with {F = F} {R = R} alloc c items
+
+  abbrev n : ℕ
+  n = length c.names + 2
+
+  module _ (cs : List Choice) (run_is : IsRun node_ready (node_step f) cs start) (none : enabled_choices node_ready (run (node_step f) cs start) ≡ []) where
+    abbrev w : Network (Node F R) Msg Note
+    w = run (node_step f) cs start
+
+    reached : IsWorld w × (length w.nodes ≡ n)
+    reached = run_world node_ready (node_step f) n start (start_world F f laws alloc c items is) (count_at_start F f alloc c items is) cs run_is
+
+    silent : (s r : ℕ) → (r == 0) && (s == 0) ≡ false → queue_at w (at r s) ≡ []
+    silent = stuck_links node_ready w reached.0 none
+
+    joined : Joined f (given f c items is) n w
+    joined = (runs_joined F f laws alloc c items is cs run_is).joined
+
+    rests : (joined.nodes.switch.flying ≡ 0) × (joined.nodes.switch.pool.cells ≡ c.window)
+    rests = grounded f c items is n refl w reached.1 joined (runs_joined F f laws alloc c items is cs run_is).in_turn silent reached.0
+        (in_window F f laws alloc c items is cs run_is)
+
+    nothing_waits : joined.nodes.switch.waiting ≡ 0
+    nothing_waits = none_waits f c items is n refl w reached.0 reached.1 joined (run_busy F f laws alloc c items is cs run_is).1 (run_enough F f laws alloc
+        c items is cs run_is) (run_settles F f laws alloc c items is cs run_is).counted (run_told F f laws alloc c items is cs run_is) silent
+
+    -- so nothing is in the input
+    input_empty : w.input ≡ []
+    input_empty = elim (stuck_input node_ready w reached.0 none) as (λ _. w.input ≡ []) [
+      | inl empty ↦ empty
+      | inr unready ↦ absurd (never unready)
+    ]
+      where
+        never : IsUnready node_ready w (at 0 0) → ⊥
+        never unready =
+            let count = reached.1 in
+            let there : slice_get w.nodes 0 ≡ Some unready.node = unready.node_is in
+            let found : slice_get w.nodes 0 ≡ Some (Switch joined.nodes.switch) = slice_get-get_or w.nodes 0 (Switch joined.nodes.switch)
+            (omega (arith, count)) ∙ ap Some (joined.nodes_are 0 (omega arith) (Switch joined.nodes.switch)) in
+            let same : Some unready.node ≡ Some (Switch joined.nodes.switch) = sym there ∙ found in
+            let is_switch : unready.node ≡ Switch joined.nodes.switch = cc in
+            let window = is.is_config.window.0 in
+            let cells = rests.1 in
+            let takes : takes_in joined.nodes.switch unready.message ≡ true = takes_all joined.nodes.switch unready.message rests.0
+            (omega (arith, cells, window)) nothing_waits in
+            let refused : takes_in joined.nodes.switch unready.message ≡ false = subst (λ x. node_ready x unready.message ≡ false) is_switch unready.refused in
+            let both : true ≡ false = sym takes ∙ refused in
+            cc
+
+    pub no_stuck_world : is_done node_ended w ≡ true
+    no_stuck_world = all_done w reached.0 silent node_ended input_empty (nodes_ended f (given f c items is) n refl w reached.0 reached.1 joined
+        (run_enough F f laws alloc c items is cs run_is) silent (run_ending F f laws alloc c items is some_end cs run_is) input_empty rests.0)
+
+  -- a schedule that stops short took all choices that it may take
+  pub short_is_long : (cs : List Choice) → IsRun node_ready (node_step f) cs start → (count : ℕ)
+      → StopsShort node_ready node_ended (run (node_step f) cs start) count → count ≡ MOST_CHOICES
+  short_is_long cs run_is count short = elim short.stuck as (λ _. count ≡ MOST_CHOICES) [
+    | inl none ↦ (let never : false ≡ true = sym short.incomplete ∙ no_stuck_world cs run_is none in cc)
+    | inr most ↦ most
+  ]
+
+-- and of a short input none stops short
+module _ (F : Type 0) {R : Type 0} (f : Semantics R) (laws : FunctionLaws f) (alloc : Global) (c : Config) (items : List Msg)
+    (is : IsInput f.kind c items) where
+  pub never_short : IsShort items → (cs : List Choice) → IsRun node_ready (node_step f) cs (started_with {F = F} {R = R} alloc c items)
+      → StopsShort node_ready node_ended (run (node_step f) cs (started_with {F = F} {R = R} alloc c items)) (length cs) → ⊥
+  never_short short cs run_is stops =
+      let once = (Decides-eqb (ends items) 1).0 short.ended in
+      let all = short_is_long F f laws alloc c items is (omega (arith, once)) cs run_is (length cs) stops in
+      let few = short_runs F f laws alloc c items is short cs run_is in
+      omega (arith, all, few)

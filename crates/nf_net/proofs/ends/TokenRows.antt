@@ -1,0 +1,266 @@
+-- A copy's and a share's row send what their next phase waits for, or stay as they are on a message that they don't wait for.
+use Rattle.std.proofs.Common.{◌≡◌, ◌≢◌, ℕ, zero, suc, ◌+◌, ◌-◌, ◌≤◌, true, false, Option, Some, None, List, [], ◌∷◌, ◌++◌, map, length, refl, ap, ◌∙◌, arith}
+use Rattle.std.specs.Prelude.{if◌then◌else◌, ◌&&◌, ◌==◌, not}
+use Rattle.std.proofs.lemmas.Bool.Decides.{nat_tests, Decides-eqb}
+use Rattle.nf_function.specs.declared.chunk.Chunk.{Chunk}
+use Rattle.event_filter.specs.declared.mark.Mark.TheVariants as mark
+use Rattle.packet_pool.specs.Pool.{FullCell}
+use Rattle.nf_msgs.specs.declared.answer.Answer.TheVariants.{Done}
+use Rattle.nf_msgs.specs.declared.msg.Msg.{Msg}
+use Rattle.nf_msgs.specs.declared.msg.Msg.TheVariants as msg
+use Rattle.nf_msgs.specs.Nodes.{instance_node}
+use Rattle.copy_share.specs.declared.copy_phase.CopyPhase.{CopyPhase}
+use Rattle.copy_share.specs.declared.copy_phase.CopyPhase.TheVariants as copies
+use Rattle.copy_share.specs.declared.share_phase.SharePhase.{SharePhase}
+use Rattle.copy_share.specs.declared.share_phase.SharePhase.TheVariants as shares
+use Rattle.copy_share.specs.Copy.{CopyPlan, CopyRow}
+use Rattle.copy_share.specs.Copy as copy
+use Rattle.copy_share.specs.Share.{SharePlan, ShareRow, home, others, syncs}
+use Rattle.copy_share.specs.Share as share
+use Rattle.ctrl_node.specs.declared.operation.Operation.{Operation}
+use Rattle.ctrl_node.specs.declared.operation.Operation.TheVariants.{Copy, Share}
+use Rattle.actor_net.specs.Network.{reaches}
+use Rattle.proof_machines.proofs.unit.Labels.{Each}
+use Rattle.nf_net.proofs.answers.EndTables.{flag, flag_most}
+use Rattle.nf_net.proofs.ends.LinkWeights.{sends_weigh, sends_weigh-append}
+use Rattle.nf_net.proofs.ends.Tokens.{Leg, Gets, Alls, Keeps, Syncs, Serves, Token, token, token_of}
+use Rattle.nf_net.proofs.ends.Tokens.{at_instance, in_copy, in_share, awaits, counts, weight, some_left, wanted}
+
+-- of n nodes, what the controller's step on a message from node p does to the operation of number k: it sends what is waited for from now on, or the
+-- operation waits on, for what is still there
+module _ (n k p : ℕ) (m : Msg) where
+  pub data Grants (before after : Option Operation) (sends : List (ℕ × Msg)) : Type 0 where
+    Fresh : wanted after ≤ sends_weigh (weight k after) n 1 sends → Grants before after sends
+    Waits : ((leg : Leg) (node : ℕ) → awaits after leg node ≡ awaits before leg node)
+        → wanted after + weight k after p 1 m ≤ wanted before + sends_weigh (weight k after) n 1 sends → Grants before after sends
+
+  pub grants_more : (a b : Option Operation) (xs ys : List (ℕ × Msg)) → Grants a b xs → Grants a b (xs ++ ys)
+  grants_more a b xs ys (Fresh h) = let both = sends_weigh-append (weight k b) n 1 xs ys in Fresh (omega (arith, both, h))
+  grants_more a b xs ys (Waits same h) = let both = sends_weigh-append (weight k b) n 1 xs ys in Waits same (omega (arith, both, h))
+
+-- A copy's row
+module _ (n k p : ℕ) (plan : CopyPlan) (own : plan.op ≡ k) (to_there : reaches n 1 (instance_node plan.to) ≡ true) (other : plan.from ≢ plan.to) where
+  abbrev copy_at : CopyPhase → Option Operation
+  copy_at ph = Some (Copy (record { plan = plan; phase = ph }))
+
+  abbrev CopyGrants : CopyPhase → Msg → CopyRow → Type 0
+  CopyGrants ph m r = Grants n k p m (copy_at ph) (copy_at r.phase) r.sends
+
+  still_copy : (ph : CopyPhase) (m : Msg) → weight k (copy_at ph) p 1 m ≡ 0 → CopyGrants ph m (copy.next_phase ph [])
+  still_copy ph m none = Waits (λ leg node. refl) (omega (arith, none))
+
+  hands_on : (m a : Msg) → token_of 1 (instance_node plan.to) a ≡ token Keeps plan.op (instance_node plan.to)
+      → CopyGrants copies.Getting m (copy.next_phase copies.Keeping ((instance_node plan.to, a) ∷ []))
+  hands_on m a same =
+      let self : (instance_node plan.to == instance_node plan.to) ≡ true = grind (arith, nat_tests) in
+      let its : (plan.op == k) ≡ true = (Decides-eqb plan.op k).1 own in
+      let one : weight k (copy_at copies.Keeping) 1 (instance_node plan.to) a ≡ 1 = ap (counts k (copy_at copies.Keeping)) same
+      ∙ ap (λ b. flag (b && (plan.op == k))) self ∙ ap flag its in
+      let all : (if reaches n 1 (instance_node plan.to) then weight k (copy_at copies.Keeping) 1 (instance_node plan.to) a else 0) ≡ 1 =
+      ap (λ b. if b then weight k (copy_at copies.Keeping) 1 (instance_node plan.to) a else 0) to_there ∙ one in
+      Fresh (omega (arith, all))
+
+  -- where a message comes from
+  by_sender : (ph : CopyPhase) (m : Msg) → ((p == instance_node plan.from) ≡ true → CopyGrants ph m (copy.from_source plan ph m))
+      → ((p == instance_node plan.from) ≡ false → (p == instance_node plan.to) ≡ true → CopyGrants ph m (copy.from_destination plan ph m))
+      → ((p == instance_node plan.from) ≡ false → (p == instance_node plan.to) ≡ false → CopyGrants ph m (copy.next_phase ph []))
+      → CopyGrants ph m (copy.row (record { plan = plan; phase = ph }) p m)
+  by_sender ph m source destination neither = elim (p == instance_node plan.from) as (λ a. (p == instance_node plan.from) ≡ a → CopyGrants ph m
+      (if a then copy.from_source plan ph m else if p == instance_node plan.to then copy.from_destination plan ph m else copy.next_phase ph [])) [
+        | true ↦ λ on. source on
+        | false ↦ λ off. elim (p == instance_node plan.to)
+            as (λ b. (p == instance_node plan.to) ≡ b → CopyGrants ph m (if b then copy.from_destination plan ph m else copy.next_phase ph []))
+            [ true ↦ λ on. destination off on | false ↦ λ off_to. neither off off_to ] refl
+      ] refl
+
+  over_none : (t : Option Token) → counts k (copy_at copies.Over) t ≡ 0
+  over_none None = refl
+  over_none (Some t) = ap (λ b. flag (b && (t.op == k))) (none t.leg)
+    where
+      none : (leg : Leg) → in_copy plan leg copies.Over t.node ≡ false
+      none Gets = refl
+      none Alls = refl
+      none Keeps = refl
+      none leg = refl
+
+  pub copy_row : (ph : CopyPhase) (m : Msg) → CopyGrants ph m (copy.row (record { plan = plan; phase = ph }) p m)
+  copy_row copies.Getting (msg.Chunks op chunks) =
+      let none : (p == instance_node plan.from) ≡ false → weight k (copy_at copies.Getting) p 1 (msg.Chunks op chunks) ≡ 0 =
+      (λ off. ap (λ b. flag (b && (op == k))) off) in
+      by_sender copies.Getting (msg.Chunks op chunks)
+      (λ on. hands_on (msg.Chunks op chunks) (msg.Standby plan.op chunks) (at_instance Keeps plan.op plan.to))
+      (λ off on. still_copy copies.Getting (msg.Chunks op chunks) (none off)) (λ off off_to. still_copy copies.Getting (msg.Chunks op chunks) (none off))
+  copy_row copies.Getting (msg.AllChunk op chunk) =
+      let none : (p == instance_node plan.from) ≡ false → weight k (copy_at copies.Getting) p 1 (msg.AllChunk op chunk) ≡ 0 =
+      (λ off. ap (λ b. flag (b && (op == k))) off) in
+      by_sender copies.Getting (msg.AllChunk op chunk)
+      (λ on. hands_on (msg.AllChunk op chunk) (msg.PutAll plan.op chunk) (at_instance Keeps plan.op plan.to))
+      (λ off on. still_copy copies.Getting (msg.AllChunk op chunk) (none off)) (λ off off_to. still_copy copies.Getting (msg.AllChunk op chunk) (none off))
+  copy_row copies.Keeping (msg.Kept op) =
+      let none : (p == instance_node plan.to) ≡ false → weight k (copy_at copies.Keeping) p 1 (msg.Kept op) ≡ 0 =
+      (λ off. ap (λ b. flag (b && (op == k))) off) in
+      by_sender copies.Keeping (msg.Kept op) (λ on. still_copy copies.Keeping (msg.Kept op) (none (apart on))) (λ off on. Fresh (omega arith))
+      (λ off off_to. still_copy copies.Keeping (msg.Kept op) (none off_to))
+    where
+      apart : (p == instance_node plan.from) ≡ true → (p == instance_node plan.to) ≡ false
+      apart on = grind (arith, nat_tests, on, other)
+  copy_row copies.Over m = by_sender copies.Over m (λ on. still_copy copies.Over m (over_none (token_of p 1 m)))
+      (λ off on. still_copy copies.Over m (over_none (token_of p 1 m))) (λ off off_to. still_copy copies.Over m (over_none (token_of p 1 m)))
+  copy_row ph m = by_sender ph m (λ on. still_copy ph m refl) (λ off on. still_copy ph m refl) (λ off off_to. still_copy ph m refl)
+
+some_is : (left : ℕ) → (left == 0) ≡ false → some_left left ≡ left
+some_is zero off = cc
+some_is (suc left) off = refl
+
+-- A share's row
+module _ (n k p : ℕ) (plan : SharePlan) (own : plan.op ≡ k) (few : Each (λ member. reaches n 1 (instance_node member) ≡ true) plan.members)
+    (home_there : reaches n 1 (instance_node (home plan)) ≡ true) (switch_there : reaches n 1 0 ≡ true) where
+  abbrev pub share_at : SharePhase → Option Operation
+  share_at ph = Some (Share (record { plan = plan; phase = ph }))
+
+  abbrev ShareGrants : SharePhase → Msg → ShareRow → Type 0
+  ShareGrants ph m r = Grants n k p m (share_at ph) (share_at r.phase) r.sends
+
+  its : (plan.op == k) ≡ true
+  its = (Decides-eqb plan.op k).1 own
+
+  still_share : (ph : SharePhase) (m : Msg) → weight k (share_at ph) p 1 m ≡ 0 → ShareGrants ph m (share.next_phase ph [])
+  still_share ph m none = Waits (λ leg node. refl) (omega (arith, none))
+
+  -- a message of a leg that the phase waits for at that node
+  one_sent : (ph : SharePhase) (leg : Leg) (node to : ℕ) (a : Msg) → reaches n 1 to ≡ true → token_of 1 to a ≡ token leg plan.op node
+      → in_share plan leg ph node ≡ true → sends_weigh (weight k (share_at ph)) n 1 ((to, a) ∷ []) ≡ 1
+  one_sent ph leg node to a there same waits =
+      let one : weight k (share_at ph) 1 to a ≡ 1 = ap (counts k (share_at ph)) same ∙ ap (λ b. flag (b && (plan.op == k))) waits ∙ ap flag its in
+      let all : (if reaches n 1 to then weight k (share_at ph) 1 to a else 0) ≡ 1 = ap (λ b. if b then weight k (share_at ph) 1 to a else 0) there ∙ one in
+      omega (arith, all)
+
+  syncs_weigh : (ph : SharePhase) → ((node : ℕ) → in_share plan Syncs ph node ≡ true) → (chunks : List Chunk) (members : List ℕ)
+      → Each (λ member. reaches n 1 (instance_node member) ≡ true) members → sends_weigh (weight k (share_at ph)) n 1
+      (map (λ member. (instance_node member, msg.Sync (member == home plan) plan.op chunks)) members) ≡ length members
+  syncs_weigh ph waits chunks [] h = refl
+  syncs_weigh ph waits chunks (member ∷ members) h =
+      let one = one_sent ph Syncs (instance_node member) (instance_node member) (msg.Sync (member == home plan) plan.op chunks) h.0
+      (at_instance Syncs plan.op member) (waits (instance_node member)) in
+      let rest = syncs_weigh ph waits chunks members h.1 in
+      omega (arith, one, rest)
+
+  few_others : (one : ℕ) (members : List ℕ) → Each (λ member. reaches n 1 (instance_node member) ≡ true) members
+      → Each (λ member. reaches n 1 (instance_node member) ≡ true) (others (record plan { members = members }) one)
+  few_others one [] h = tt
+  few_others one (member ∷ members) h = elim (member == one) as (λ b. Each (λ x. reaches n 1 (instance_node x) ≡ true)
+      (if not b then member ∷ others (record plan { members = members }) one else others (record plan { members = members }) one)) [
+        | true ↦ few_others one members h.1
+        | false ↦ (h.0, few_others one members h.1)
+      ]
+
+  sync_all : (ph : SharePhase) → ((node : ℕ) → in_share plan Syncs ph node ≡ true) → (one : ℕ) (chunks : List Chunk)
+      → sends_weigh (weight k (share_at ph)) n 1 (syncs plan one chunks) ≡ length (others plan one)
+  sync_all ph waits one chunks = syncs_weigh ph waits chunks (others plan one) (few_others one plan.members few)
+
+  setting_grants : (ph : SharePhase) (m : Msg) (left : ℕ) (sends : List (ℕ × Msg))
+      → left ≤ sends_weigh (weight k (share_at (shares.Setting left))) n 1 sends → ShareGrants ph m (share.setting left sends)
+  setting_grants ph m left sends h = elim (left == 0) as (λ b. (left == 0) ≡ b
+      → ShareGrants ph m (if b then record { phase = shares.Idle; sends = sends; answer = Some Done } else share.next_phase (shares.Setting left) sends)) [
+        | true ↦ λ on. Fresh (omega arith)
+        | false ↦ λ off. (let is = some_is left off in Fresh (omega (arith, is, h)))
+      ] refl
+
+  syncing_grants : (ph : SharePhase) (m : Msg) (left : ℕ) (sends : List (ℕ × Msg))
+      → left ≤ sends_weigh (weight k (share_at (shares.Syncing left))) n 1 sends → ShareGrants ph m (share.syncing left sends)
+  syncing_grants ph m left sends h =
+      elim (left == 0) as (λ b. (left == 0) ≡ b → ShareGrants ph m (share.next_phase (if b then shares.Idle else shares.Syncing left) sends)) [
+        | true ↦ λ on. Fresh (omega arith)
+        | false ↦ λ off. (let is = some_is left off in Fresh (omega (arith, is, h)))
+      ] refl
+
+  fenced_row : (ph : SharePhase) (op : ℕ) → ShareGrants ph (msg.Fenced op) (share.row (record { plan = plan; phase = ph }) p (msg.Fenced op))
+  fenced_row shares.Fencing op = elim (p == instance_node (home plan)) as (λ b. (p == instance_node (home plan)) ≡ b
+      → ShareGrants shares.Fencing (msg.Fenced op) (if b then share.on_fenced plan shares.Fencing else share.next_phase shares.Fencing [])) [
+        | true ↦ λ on.
+            let self : (instance_node (home plan) == instance_node (home plan)) ≡ true = grind (arith, nat_tests) in
+            let one = one_sent shares.Getting Gets (instance_node (home plan)) (instance_node (home plan)) (msg.Get plan.op plan.filter) home_there
+            (at_instance Gets plan.op (home plan)) self in
+            Fresh (omega (arith, one))
+        | false ↦ λ off. still_share shares.Fencing (msg.Fenced op) (ap (λ b. flag (b && (op == k))) off)
+      ] refl
+  fenced_row ph op =
+      elim (p == instance_node (home plan)) as (λ b. ShareGrants ph (msg.Fenced op) (if b then share.on_fenced plan ph else share.next_phase ph []))
+      [ true ↦ still_share ph (msg.Fenced op) refl | false ↦ still_share ph (msg.Fenced op) refl ]
+
+  chunks_row : (ph : SharePhase) (op : ℕ) (chunks : List Chunk)
+      → ShareGrants ph (msg.Chunks op chunks) (share.row (record { plan = plan; phase = ph }) p (msg.Chunks op chunks))
+  chunks_row shares.Getting op chunks = elim (p == instance_node (home plan)) as (λ b. (p == instance_node (home plan)) ≡ b
+      → ShareGrants shares.Getting (msg.Chunks op chunks) (if b then share.on_chunks plan shares.Getting chunks else share.next_phase shares.Getting [])) [
+        | true ↦ λ on. (let left = length (others plan (home plan)) in
+            let all = sync_all (shares.Setting left) (λ node. refl) (home plan) chunks in
+            setting_grants shares.Getting (msg.Chunks op chunks) left (syncs plan (home plan) chunks) (omega (arith, all)))
+        | false ↦ λ off. still_share shares.Getting (msg.Chunks op chunks) (ap (λ b. flag (b && (op == k))) off)
+      ] refl
+  chunks_row ph op chunks = elim (p == instance_node (home plan))
+      as (λ b. ShareGrants ph (msg.Chunks op chunks) (if b then share.on_chunks plan ph chunks else share.next_phase ph []))
+      [ true ↦ still_share ph (msg.Chunks op chunks) refl | false ↦ still_share ph (msg.Chunks op chunks) refl ]
+
+  shared_row : (ph : SharePhase) (op : ℕ) (chunk : Chunk)
+      → ShareGrants ph (msg.Shared op chunk) (share.row (record { plan = plan; phase = ph }) p (msg.Shared op chunk))
+  shared_row (shares.Out member) op chunk =
+      elim (p == instance_node member) as (λ b. (p == instance_node member) ≡ b → ShareGrants (shares.Out member) (msg.Shared op chunk)
+      (if b then share.syncing (length (others plan member)) (syncs plan member (chunk ∷ [])) else share.next_phase (shares.Out member) [])) [
+        | true ↦ λ on. (let left = length (others plan member) in
+            let all = sync_all (shares.Syncing left) (λ node. refl) member (chunk ∷ []) in
+            syncing_grants (shares.Out member) (msg.Shared op chunk) left (syncs plan member (chunk ∷ [])) (omega (arith, all)))
+        | false ↦ λ off. still_share (shares.Out member) (msg.Shared op chunk) (ap (λ b. flag (b && (op == k))) off)
+      ] refl
+  shared_row ph op chunk = still_share ph (msg.Shared op chunk) refl
+
+  same_setting : (leg : Leg) (a b node : ℕ) → in_share plan leg (shares.Setting a) node ≡ in_share plan leg (shares.Setting b) node
+  same_setting Syncs a b node = refl
+  same_setting leg a b node = refl
+
+  same_syncing : (leg : Leg) (a b node : ℕ) → in_share plan leg (shares.Syncing a) node ≡ in_share plan leg (shares.Syncing b) node
+  same_syncing Syncs a b node = refl
+  same_syncing leg a b node = refl
+
+  one_less : (left : ℕ) → (left - 1 == 0) ≡ false → some_left (left - 1) + 1 ≤ some_left left
+  one_less left off =
+      let first = some_is (left - 1) off in
+      let more : (left == 0) ≡ false = grind (arith, nat_tests, off) in
+      let second = some_is left more in
+      let some : 1 ≤ left = grind (arith, nat_tests, more) in
+      omega (arith, first, second, some)
+
+  synced_row : (ph : SharePhase) (op : ℕ) → ShareGrants ph (msg.Synced op) (share.row (record { plan = plan; phase = ph }) p (msg.Synced op))
+  synced_row (shares.Setting left) op = elim (left - 1 == 0) as (λ b. (left - 1 == 0) ≡ b → ShareGrants (shares.Setting left) (msg.Synced op)
+      (if b then record { phase = shares.Idle; sends = []; answer = Some Done } else share.next_phase (shares.Setting (left - 1)) [])) [
+        | true ↦ λ on. Fresh (omega arith)
+        | false ↦ λ off. (let less = one_less left off in
+            let most = flag_most (true && (op == k)) in Waits (λ leg node. same_setting leg (left - 1) left node) (omega (arith, less, most)))
+      ] refl
+  synced_row (shares.Syncing left) op = elim (left - 1 == 0) as (λ b. (left - 1 == 0) ≡ b
+      → ShareGrants (shares.Syncing left) (msg.Synced op) (share.next_phase (if b then shares.Idle else shares.Syncing (left - 1)) [])) [
+        | true ↦ λ on. Fresh (omega arith)
+        | false ↦ λ off. (let less = one_less left off in
+            let most = flag_most (true && (op == k)) in Waits (λ leg node. same_syncing leg (left - 1) left node) (omega (arith, less, most)))
+      ] refl
+  synced_row ph op = still_share ph (msg.Synced op) refl
+
+  pub share_row : (ph : SharePhase) (m : Msg) → ShareGrants ph m (share.row (record { plan = plan; phase = ph }) p m)
+  share_row ph (msg.Fenced op) = fenced_row ph op
+  share_row ph (msg.Chunks op chunks) = chunks_row ph op chunks
+  share_row ph (msg.Shared op chunk) = shared_row ph op chunk
+  share_row ph (msg.Synced op) = synced_row ph op
+  share_row ph m = still_share ph m refl
+
+  -- what is then served
+  pub served_grants : (was ph : SharePhase) (m : Msg) (cells : List FullCell) (first : List (ℕ × Msg)) → Grants n k p m (share_at was) (share_at ph) first
+      → Grants n k p m (share_at was) (share_at (share.service_if_idle plan ph cells).phase) (first ++ (share.service_if_idle plan ph cells).sends)
+  served_grants was shares.Idle m (cell ∷ cells) first h =
+      let member = share.member_of plan cell in
+      let self : (instance_node member == instance_node member) ≡ true = grind (arith, nat_tests) in
+      let one = one_sent (shares.Out member) Serves (instance_node member) 0 (msg.Forward member (mark.Shared plan.op (member == home plan)) cell)
+      switch_there refl self in
+      let both = sends_weigh-append (weight k (share_at (shares.Out member))) n 1 first
+      ((0, msg.Forward member (mark.Shared plan.op (member == home plan)) cell) ∷ []) in
+      Fresh (omega (arith, one, both))
+  served_grants was shares.Idle m [] first h = grants_more n k p m (share_at was) (share_at shares.Idle) first [] h
+  served_grants was ph m cells first h = grants_more n k p m (share_at was) (share_at ph) first [] h

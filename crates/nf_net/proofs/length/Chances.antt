@@ -1,0 +1,71 @@
+-- What can still become pieces of a move, and packets that are still to arrive: what messages and nodes weigh by these two. `a` is the weight of a
+-- packet of the input, `k` that of a move whose source hasn't been asked for its chunks.
+use Rattle.std.proofs.Common.{◌≡◌, ℕ, ◌+◌, List, [], ◌∷◌, ◌++◌, length, arith}
+use Rattle.nf_msgs.specs.declared.msg.Msg.{Msg}
+use Rattle.nf_msgs.specs.declared.msg.Msg.TheVariants as msg
+use Rattle.nf_msgs.specs.declared.note.Note.{Note}
+use Rattle.nf_msgs.specs.declared.note.Note.TheVariants as note
+use Rattle.move_op.specs.Phases.{Phase}
+use Rattle.move_op.specs.Phases.{Freezing}
+use Rattle.ctrl_node.specs.declared.operation.Operation.{Operation}
+use Rattle.ctrl_node.specs.declared.operation.Operation.TheVariants.{Move}
+use Rattle.ctrl_node.specs.Controller.{ControllerState}
+use Rattle.actor_net.specs.Network.{Stepped}
+use Rattle.actor_net.proofs.WeightLaws.{weigh}
+use Rattle.net_world.specs.Log.{arrivals_in}
+use Rattle.net_world.specs.Length.{one_piece, pieces_among}
+use Rattle.nf_net.proofs.length.MapWeights.{in_all}
+use Rattle.nf_net.proofs.length.SentWeights.{sent_cost}
+
+module _ (a k : ℕ) where
+  -- a message that waits: a packet of the input, or a command until its move's source is to send the chunks
+  abbrev pub chance : Msg → ℕ
+  chance (msg.InPacket packet) = a
+  chance (msg.InCommand command) = k
+  chance (msg.Asked command) = k
+  chance (msg.Stream op filter) = k
+  chance message = 0
+
+  -- what is sent, without its pieces
+  abbrev pub chances : List (ℕ × Msg) → ℕ
+  chances sends = sent_cost chance sends
+
+  -- and with them
+  abbrev pub spent : List (ℕ × Msg) → ℕ
+  spent [] = 0
+  spent (x ∷ xs) = one_piece x.1 + chance x.1 + spent xs
+
+  pub spent-append : (xs ys : List (ℕ × Msg)) → spent (xs ++ ys) ≡ spent xs + spent ys
+  spent-append [] ys = omega arith
+  spent-append (x ∷ xs) ys = let rest = spent-append xs ys in omega (arith, rest)
+
+  pub spent_parts : (xs : List (ℕ × Msg)) → spent xs ≡ pieces_among xs + chances xs
+  spent_parts [] = omega arith
+  spent_parts (x ∷ xs) = let rest = spent_parts xs in omega (arith, rest)
+
+  -- a note: a packet that arrived
+  abbrev pub arrival : Note → ℕ
+  arrival (note.Arrived number) = a
+  arrival n = 0
+
+  -- what a step sends and notes
+  abbrev pub uses : {X : Type 0} → Stepped X Msg Note → ℕ
+  uses step = spent step.sends + weigh arrival step.notes
+
+  -- a move whose source hasn't been asked
+  abbrev pub of_phase : Phase → ℕ
+  of_phase Freezing = k
+  of_phase phase = 0
+
+  abbrev pub of_operation : Operation → ℕ
+  of_operation (Move m) = of_phase m.phase
+  of_operation x = 0
+
+  abbrev pub of_controller : ControllerState → ℕ
+  of_controller c = in_all of_operation c.operations
+
+-- a log weighs what arrived
+pub arrivals_weigh : (k : ℕ) (notes : List Note) → weigh (arrival 1 k) notes ≡ length (arrivals_in notes)
+arrivals_weigh k [] = omega arith
+arrivals_weigh k (note.Arrived number ∷ notes) = let rest = arrivals_weigh k notes in omega (arith, rest)
+arrivals_weigh k (n ∷ notes) = let rest = arrivals_weigh k notes in omega (arith, rest)

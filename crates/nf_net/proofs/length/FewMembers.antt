@@ -1,0 +1,65 @@
+-- A share of some of n instances has at most n - 1 members besides one.
+use Rattle.std.proofs.Common.{◌≡◌, ℕ, suc, ◌+◌, ◌<◌, ◌≤◌, true, false, List, [], ◌∷◌, length, refl, sym, ap, ◌∙◌, subst, arith}
+use Rattle.std.specs.Prelude.{if◌then◌else◌, ◌||◌, ◌==◌, not, nat_lt, filter, slice_index}
+use Rattle.std.specs.List.{list_any}
+use Rattle.std.proofs.lemmas.Bool.Decides.{nat_tests, Decides-eqb}
+use Rattle.std.proofs.lemmas.Map.Steps.{length-le_from_distinct_below}
+use Rattle.nf_function.specs.Semantics.{Semantics}
+use Rattle.copy_share.specs.Share.{ShareState, home, others}
+use Rattle.proof_machines.proofs.unit.Labels.{Each}
+use Rattle.proof_machines.proofs.share.Share.{has}
+use Rattle.proof_outlines.proofs.joined.Given.{Given}
+use Rattle.proof_outlines.proofs.joined.Joined.{count, IsShare, IsOutAt}
+use Rattle.nf_net.proofs.length.ControllerCosts.{HasFew}
+
+-- the members but for one
+abbrev but : ℕ → List ℕ → List ℕ
+but one members = filter (λ member. not (member == one)) members
+
+but_fewer : (one : ℕ) (members : List ℕ) → length (but one members) ≤ length members
+but_fewer one [] = omega arith
+but_fewer one (m ∷ ms) =
+    let rest = but_fewer one ms in
+    elim (m == one) as (λ b. length (if not b then m ∷ but one ms else but one ms) ≤ suc (length ms))
+    [ true ↦ omega (arith, rest) | false ↦ omega (arith, rest) ]
+
+-- are one less, where it is a member
+but_one : (one : ℕ) (members : List ℕ) → has members one ≡ true → length (but one members) + 1 ≤ length members
+but_one one [] h = cc
+but_one one (m ∷ ms) h =
+    elim (m == one) as (λ b. (m == one) ≡ b → length (if not b then m ∷ but one ms else but one ms) + 1 ≤ suc (length ms)) [
+      | true ↦ λ e. let rest = but_fewer one ms in omega (arith, rest)
+      | false ↦ λ e.
+          let off : (one == m) ≡ false = grind (arith, nat_tests, e) in
+          let later : has ms one ≡ true = ap (λ b. if b then true else has ms one) (sym off) ∙ h in
+          let rest = but_one one ms later in
+          omega (arith, rest)
+    ] refl
+
+each_below : (n : ℕ) (members : List ℕ) → Each (λ member. nat_lt member n ≡ true) members → (q : ℕ) → list_any (λ k. q == k) members ≡ true → q < n
+each_below n [] h q e = cc
+each_below n (m ∷ ms) h q e =
+    elim (q == m) as (λ b. (q == m) ≡ b → b || list_any (λ k. q == k) ms ≡ true → q < n) [
+      | true ↦ λ is _. let same : q ≡ m = (Decides-eqb q m).0 is in
+          let below : nat_lt m n ≡ true = h.0 in let low : m < n = grind (arith, nat_tests, below) in omega (arith, same, low)
+      | false ↦ λ _ rest. each_below n ms h.1 q rest
+    ] refl e
+
+module _ {R : Type 0} (f : Semantics R) (g : Given) (o : ℕ) (count_is : count f g ≡ 1 + o) (op : ℕ) (s : ShareState) (is : IsShare f g op s) where
+  few : length s.plan.members ≤ 1 + o
+  few = let all = length-le_from_distinct_below s.plan.members (count f g) is.distinct (each_below (count f g) s.plan.members is.few) in
+      omega (arith, all, count_is)
+
+  others_few : (one : ℕ) → has s.plan.members one ≡ true → length (others s.plan one) ≤ o
+  others_few one h = let less = but_one one s.plan.members h in let all = few in omega (arith, less, all)
+
+  home_has : (members : List ℕ) → 1 < length members → has members (slice_index members 0) ≡ true
+  home_has [] some = absurd (omega (arith, some))
+  home_has (m ∷ ms) some = let same : (m == m) ≡ true = grind (arith, nat_tests) in ap (λ b. if b then true else has ms m) same
+
+  -- so the share's messages are few
+  pub has_few : HasFew o s
+  has_few = record {
+    at_home = others_few (home s.plan) (home_has s.plan.members is.some);
+    at_member = λ member out. others_few member (subst (λ ph. IsOutAt f g s.plan.members ph) out is.out);
+  }

@@ -1,0 +1,21 @@
+-- What the open operations weigh together as one of them has taken a message: it is another, or closed.
+use Rattle.std.proofs.Common.{◌≡◌, ℕ, ◌+◌, ◌≤◌, Some, ap, arith}
+use Rattle.std.specs.FinMap as finite
+use Rattle.ctrl_node.specs.declared.operation.Operation.{Operation}
+use Rattle.ctrl_node.specs.Operations.{OpenOperations}
+use Rattle.proof_outlines.proofs.outline.OperationTables.{remove_insert}
+use Rattle.nf_net.proofs.length.MapWeights.{in_all, if_found, insert_weighs, remove_weighs}
+
+module _ (weight : Operation → ℕ) (ops : OpenOperations) (op : ℕ) (old new : Operation) (there : finite.get ops op ≡ Some old) where
+  found : if_found weight (finite.get ops op) ≡ weight old
+  found = ap (if_found weight) there
+
+  pub ops_weigh : in_all weight (finite.insert ops op new) + weight old ≤ in_all weight ops + weight new
+  ops_weigh = let less = insert_weighs weight ops op new in let same = found in omega (arith, less, same)
+
+  pub closed_weigh : in_all weight (finite.remove (finite.insert ops op new) op) + weight old ≤ in_all weight ops
+  closed_weigh =
+      let less = remove_weighs weight ops op in
+      let same = found in
+      let gone = ap (in_all weight) (remove_insert ops op new) in
+      omega (arith, less, same, gone)

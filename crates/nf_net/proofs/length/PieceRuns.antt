@@ -1,0 +1,178 @@
+-- The moves of a run send few pieces: each command streams at most once, and then at most the chunks of as many units as there are packets.
+use Rattle.std.proofs.Common.{◌≡◌, ℕ, zero, suc, ◌+◌, ◌*◌, ◌<◌, ◌≤◌, true, false, List, [], ◌∷◌, ◌++◌, length, refl, subst, arith}
+use Rattle.std.specs.Prelude.{◌/◌}
+use Rattle.std.specs.declared.alloc.Global.{Global}
+use Rattle.std.proofs.Math.Nat.{mul-suc, mul_comm}
+use Rattle.flow_filter.specs.declared.filter.Filter.{Filter}
+use Rattle.nf_function.specs.Records.{Laws as FunctionLaws}
+use Rattle.nf_function.specs.Semantics.{Semantics}
+use Rattle.nf_msgs.specs.declared.msg.Msg.{Msg}
+use Rattle.nf_msgs.specs.declared.msg.Msg.TheVariants as msg
+use Rattle.nf_msgs.specs.declared.note.Note.{Note}
+use Rattle.actor_net.specs.declared.choice.Choice.{Choice}
+use Rattle.actor_net.specs.Network.{Network, Stepped, IsRun, run, world_next}
+use Rattle.actor_net.proofs.EnabledChoices.{at}
+use Rattle.actor_net.proofs.RunInduction.{NextChoice, run_induction}
+use Rattle.actor_net.proofs.StepOutcome.{Takes}
+use Rattle.actor_net.proofs.WeightLaws.{weigh, total, total_after, nodes_after, log_after}
+use Rattle.instance_worker.specs.Pieces.{pieces}
+use Rattle.instance_worker.specs.Instance.{selected_chunks}
+use Rattle.instance_worker.proofs.PieceLemmas.{few_selected}
+use Rattle.net_world.specs.declared.config.Config.{Config}
+use Rattle.net_world.specs.declared.node.Node.{Node}
+use Rattle.net_world.specs.declared.node.Node.TheVariants.{Controller}
+use Rattle.net_world.specs.Input.{IsInput, is_item, packets, commands}
+use Rattle.net_world.specs.Nodes.{node_step, node_ready}
+use Rattle.net_world.specs.Start.{started_with}
+use Rattle.proof_outlines.proofs.outline.StateOutline.{all_each}
+use Rattle.proof_machines.proofs.unit.Labels.{Each}
+use Rattle.proof_outlines.proofs.joined.Given.{Given}
+use Rattle.proof_outlines.proofs.joined.Joined.{Joined, node_of}
+use Rattle.proof_outlines.proofs.joined.StartJoined.{given, count_at_start}
+use Rattle.proof_outlines.proofs.joined.RunsJoined.{Runs, runs_at_start, runs_next, start_world}
+use Rattle.net_world.specs.Length.{pieces_among, pieces_sent, most_pieces}
+use Rattle.nf_net.proofs.length.MapWeights.{empty_weighs}
+use Rattle.nf_net.proofs.length.SentWeights.{few_sent, start_weight}
+use Rattle.nf_net.proofs.length.Chances.{chance, spent_parts, arrival, uses, of_operation, of_controller, arrivals_weigh}
+use Rattle.nf_net.proofs.length.PieceSwitch.{switch_uses}
+use Rattle.nf_net.proofs.length.PieceController.{controller_uses}
+use Rattle.nf_net.proofs.length.PieceInstances.{few_pieces, instance_uses, streamed_few}
+use Rattle.nf_net.proofs.length.LiveUnits.{live_few}
+use Rattle.nf_net.proofs.length.RunLength.{start, nodes, node_is, pieces_next}
+
+module _ {F R : Type 0} (a k : ℕ) where
+  -- a node, and a world with its log
+  abbrev node_chances : Node F R → ℕ
+  node_chances (Controller c) = of_controller a k c
+  node_chances node = 0
+
+  abbrev world_chances : Network (Node F R) Msg Note → ℕ
+  world_chances w = total (chance a k) w + weigh node_chances w.nodes + weigh (arrival a k) w.log
+
+  -- what a step uses and leaves is what there was, and perhaps more
+  abbrev Uses : Node F R → Msg → Stepped (Node F R) Msg Note → ℕ → Type 0
+  Uses node m did more = uses a k did + node_chances did.node ≤ node_chances node + chance a k m + more
+
+module _ {F R : Type 0} (f : Semantics R) (a k : ℕ) (g : Given) (n : ℕ) (w : Network (Node F R) Msg Note) (j : Joined f g n w) where
+  -- where each instance makes few pieces
+  streams : ((i : ℕ) → 2 ≤ i → i < n → (filter : Filter) → length (pieces (selected_chunks f (j.nodes.instance i) filter)) ≤ k) → (i p : ℕ) (m : Msg)
+      → i < n → Uses {F = F} {R = R} a k (node_of j.nodes i) m (node_step f (node_of j.nodes i) p m) 0
+  streams few zero p m there = let falls = switch_uses a k j.nodes.switch m in omega (arith, falls)
+  streams few (suc zero) p m there = let falls = controller_uses a k j.nodes.controller p m in omega (arith, falls)
+  streams few (suc (suc i)) p m there =
+      let its = instance_uses a k f (j.nodes.instance (suc (suc i))) m in
+      let all = its.0 in
+      let less = streamed_few a k f (j.nodes.instance (suc (suc i))) (few (suc (suc i)) (omega arith) there) m in
+      omega (arith, all, less)
+
+  -- and where it makes any
+  sends : (i p : ℕ) (m : Msg)
+      → Uses {F = F} {R = R} a k (node_of j.nodes i) m (node_step f (node_of j.nodes i) p m) (pieces_among (node_step f (node_of j.nodes i) p m).sends)
+  sends zero p m = let falls = switch_uses a k j.nodes.switch m in omega (arith, falls)
+  sends (suc zero) p m = let falls = controller_uses a k j.nodes.controller p m in omega (arith, falls)
+  sends (suc (suc i)) p m =
+      let its = instance_uses a k f (j.nodes.instance (suc (suc i))) m in
+      let all = its.0 in
+      let made = its.1 in
+      omega (arith, all, made)
+
+  -- the world after a choice
+  chances_after : (i p : ℕ) (m : Msg) (rest : List Msg) (more : ℕ) → Takes (node_step f) n w i p (node_of j.nodes i) m rest
+      → Uses {F = F} {R = R} a k (node_of j.nodes i) m (node_step f (node_of j.nodes i) p m) more → pieces_among (node_step f (node_of j.nodes i) p m).sends
+      + world_chances {F = F} {R = R} a k (world_next (node_step f) w (at i p)) ≤ world_chances {F = F} {R = R} a k w + more
+  chances_after i p m rest more takes falls =
+      let did = node_step f (node_of j.nodes i) p m in
+      let messages = total_after (node_step f) n w i p (node_of j.nodes i) m rest takes (chance a k) in
+      let all = nodes_after (node_step f) n w i p (node_of j.nodes i) m rest takes (node_chances {F = F} {R = R} a k) in
+      let log = log_after (node_step f) n w i p (node_of j.nodes i) m rest takes (arrival a k) in
+      let few = few_sent (chance a k) n i did.sends in
+      let parts = spent_parts a k did.sends in
+      omega (arith, messages, all, log, few, parts, falls)
+
+-- what an input weighs
+input_chances : (a k : ℕ) (items : List Msg) → Each (λ item. is_item item ≡ true) items
+    → weigh (chance a k) items ≡ a * length (packets items) + k * length (commands items)
+input_chances a k [] h = omega arith
+input_chances a k (msg.InPacket packet ∷ items) h =
+    let rest = input_chances a k items h.1 in let one = mul-suc a (length (packets items)) in omega (arith, rest, one)
+input_chances a k (msg.InCommand command ∷ items) h =
+    let rest = input_chances a k items h.1 in let one = mul-suc k (length (commands items)) in omega (arith, rest, one)
+input_chances a k (msg.InSettle ∷ items) h = let rest = input_chances a k items h.1 in omega (arith, rest)
+input_chances a k (msg.InEnd ∷ items) h = let rest = input_chances a k items h.1 in omega (arith, rest)
+input_chances a k (m ∷ items) h = let never : false ≡ true = h.0 in cc
+
+module _ (F R : Type 0) (a k : ℕ) (alloc : Global) (c : Config) where
+  -- at the start only the input weighs anything
+  start_chances : (items : List Msg) → Each (λ item. is_item item ≡ true) items
+      → world_chances {F = F} {R = R} a k (started_with alloc c items) ≡ a * length (packets items) + k * length (commands items)
+  start_chances items h =
+      let first = start_weight (chance a k) (node_chances {F = F} {R = R} a k) alloc c (λ i. refl) items in
+      let none = empty_weighs (of_operation a k) in
+      let input = input_chances a k items h in
+      omega (arith, first, none, input)
+
+module _ (F : Type 0) {R : Type 0} (f : Semantics R) (laws : FunctionLaws f) (alloc : Global) (c : Config) (items : List Msg)
+    (is : IsInput f.kind c items) where
+  abbrev begin : Network (Node F R) Msg Note
+  begin = start F f laws alloc c items is
+
+  abbrev n : ℕ
+  n = nodes F f laws alloc c items is
+
+  -- the most pieces of one move
+  abbrev most : ℕ
+  most = length (packets items) / 64 + 1
+
+  -- so far: what arrived, and what was sent
+  record AreFew (cs : List Choice) (w : Network (Node F R) Msg Note) : Type 0 where
+    runs : Runs F f laws alloc c items is w
+    came : world_chances {F = F} {R = R} 1 0 w ≤ length (packets items)
+    sent : pieces_sent f begin cs + world_chances {F = F} {R = R} 0 most w ≤ most * length (commands items)
+
+  few_begin : AreFew [] begin
+  few_begin =
+      let each = all_each (λ item. is_item item ≡ true) items is.only_items in
+      let one = start_chances F R 1 0 alloc c items each in
+      let other = start_chances F R 0 most alloc c items each in
+      record { runs = runs_at_start F f laws alloc c items is; came = omega (arith, one); sent = omega (arith, other) }
+
+  -- each instance has few records
+  few_made : (cs : List Choice) (w : Network (Node F R) Msg Note) (h : AreFew cs w) (i : ℕ) → 2 ≤ i → i < n → (filter : Filter)
+      → length (pieces (selected_chunks f (h.runs.joined.nodes.instance i) filter)) ≤ most
+  few_made cs w h i two there filter =
+      let live = (h.runs.joined.nodes.instance i).table.live in
+      let chunks = few_selected f filter live in
+      let units = live_few f c items is n w h.runs.joined i two there in
+      let log = arrivals_weigh 0 w.log in
+      let came = h.came in
+      few_pieces (selected_chunks f (h.runs.joined.nodes.instance i) filter) (length (packets items)) (omega (arith, chunks, units, log, came))
+
+  few_next : (cs : List Choice) (w : Network (Node F R) Msg Note) (x : Choice) → NextChoice node_ready (node_step f) n begin cs w x → AreFew cs w
+      → AreFew (cs ++ x ∷ []) (world_next (node_step f) w x)
+  few_next cs w x next h =
+      let j = h.runs.joined in
+      let t = next.taking in
+      let g = given f c items is in
+      let takes = subst (λ y. Takes (node_step f) n w x.node x.port y t.message t.rest) (node_is F f laws alloc c items is w x t h.runs) t.takes in
+      let more = pieces_next F f laws alloc c items is cs w x next h.runs in
+      let arrives = chances_after f 1 0 g n w j x.node x.port t.message t.rest _ takes (sends f 1 0 g n w j x.node x.port t.message) in
+      let falls = chances_after f 0 most g n w j x.node x.port t.message t.rest 0 takes
+      (streams f 0 most g n w j (few_made cs w h) x.node x.port t.message takes.receiver) in
+      let came = h.came in
+      let sent = h.sent in
+      record {
+        runs = runs_next F f laws alloc c items is w x t h.runs;
+        came = omega (arith, arrives, came);
+        sent = omega (arith, falls, more, sent);
+      }
+
+  run_few : (cs : List Choice) → IsRun node_ready (node_step f) cs begin → AreFew cs (run (node_step f) cs begin)
+  run_few cs run_is = run_induction node_ready (node_step f) n AreFew begin few_next (start_world F f laws alloc c items is)
+      (count_at_start F f alloc c items is) few_begin cs run_is
+
+  -- a run's moves send at most so many pieces
+  pub pieces_few : (cs : List Choice) → IsRun node_ready (node_step f) cs begin → pieces_sent f begin cs ≤ most_pieces items
+  pieces_few cs run_is =
+      let all = (run_few cs run_is).sent in
+      let turned = mul_comm most (length (commands items)) in
+      omega (arith, all, turned)

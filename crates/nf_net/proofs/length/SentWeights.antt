@@ -1,0 +1,49 @@
+-- What is sent weighs together, and what the nodes and the input of a network weigh at its start.
+use Rattle.std.proofs.Common.{◌≡◌, ℕ, zero, suc, ◌+◌, ◌≤◌, Bool, true, false, List, [], ◌∷◌, length, arith}
+use Rattle.std.specs.Prelude.{if◌then◌else◌}
+use Rattle.std.specs.declared.alloc.Global.{Global}
+use Rattle.ctrl_node.specs.Controller as controller
+use Rattle.nf_msgs.specs.declared.msg.Msg.{Msg}
+use Rattle.nf_msgs.specs.declared.note.Note.{Note}
+use Rattle.actor_net.specs.Network.{reaches}
+use Rattle.actor_net.proofs.OpeningWorlds.{opening_weight}
+use Rattle.actor_net.proofs.WeightLaws.{weigh, weigh-append, total, sent_weight}
+use Rattle.net_world.specs.declared.config.Config.{Config}
+use Rattle.net_world.specs.declared.node.Node.{Node}
+use Rattle.net_world.specs.declared.node.Node.TheVariants.{Switch, Controller, Instance}
+use Rattle.net_world.specs.Start.{first_switch, first_instance, first_instances, first_nodes, started_with}
+
+module _ (f : Msg → ℕ) where
+  -- messages, each with its receiver
+  abbrev pub sent_cost : List (ℕ × Msg) → ℕ
+  sent_cost sends = weigh (λ x. f x.1) sends
+
+  arrives : (b : Bool) (m : ℕ) → (if b then m else 0) ≤ m
+  arrives true m = omega arith
+  arrives false m = omega arith
+
+  -- no more of that comes to a link
+  pub few_sent : (n i : ℕ) (sends : List (ℕ × Msg)) → sent_weight f n i sends ≤ sent_cost sends
+  few_sent n i [] = omega arith
+  few_sent n i (x ∷ xs) =
+      let one = arrives (reaches n i x.0) (f x.1) in
+      let rest = few_sent n i xs in
+      omega (arith, one, rest)
+
+-- a node's weight, which is nothing at an instance that has done nothing
+module _ {F R : Type 0} (f : Msg → ℕ) (h : Node F R → ℕ) (alloc : Global) (c : Config) (fresh : (i : ℕ) → h (Instance (first_instance alloc c i)) ≡ 0) where
+  instances_weigh : (i : ℕ) → weigh h (first_instances alloc c i) ≡ 0
+  instances_weigh zero = omega arith
+  instances_weigh (suc i) =
+      let rest = instances_weigh i in
+      let one = fresh i in
+      let both = weigh-append h (first_instances alloc c i) (Instance (first_instance alloc c i) ∷ []) in
+      omega (arith, rest, one, both)
+
+  -- the world at the start
+  pub start_weight : (items : List Msg) → total f (started_with {F = F} {R = R} alloc c items) + weigh h (started_with {F = F} {R = R} alloc c items).nodes
+      ≡ weigh f items + h (Switch (first_switch c)) + h (Controller (controller.controller_at_start c.names c.site))
+  start_weight items =
+      let messages = opening_weight Note (first_nodes {F = F} {R = R} alloc c) items f in
+      let rest = instances_weigh (length c.names) in
+      omega (arith, messages, rest)

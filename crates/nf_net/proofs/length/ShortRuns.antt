@@ -1,0 +1,60 @@
+-- A run of a short input has fewer choices than a schedule may take.
+use Rattle.std.proofs.Common.{ℕ, ◌+◌, ◌*◌, ◌<◌, ◌≤◌, List, [], ◌∷◌, length, arith}
+use Rattle.std.specs.Prelude.{◌/◌}
+use Rattle.std.specs.declared.alloc.Global.{Global}
+use Rattle.std.proofs.Math.Nat.{mul-le-mul, div-le_of_le-mul}
+use Rattle.nf_function.specs.Records.{Laws as FunctionLaws}
+use Rattle.nf_function.specs.Semantics.{Semantics}
+use Rattle.nf_msgs.specs.declared.msg.Msg.{Msg}
+use Rattle.nf_msgs.specs.declared.msg.Msg.TheVariants as msg
+use Rattle.actor_net.specs.declared.choice.Choice.{Choice}
+use Rattle.actor_net.specs.declared.schedule.TheConstants.{MOST_CHOICES}
+use Rattle.actor_net.specs.Network.{IsRun}
+use Rattle.net_world.specs.declared.config.Config.{Config}
+use Rattle.net_world.specs.Input.{IsInput, packets, commands}
+use Rattle.net_world.specs.Nodes.{node_step, node_ready}
+use Rattle.net_world.specs.Start.{started_with}
+use Rattle.net_world.specs.Length.{lines, pieces_sent, most_pieces, most_choices, IsShort}
+use Rattle.nf_net.proofs.length.PieceRuns.{pieces_few}
+use Rattle.nf_net.proofs.length.RunLength.{run_length}
+
+-- each command is a line
+commands_few : (items : List Msg) → length (commands items) ≤ lines items
+commands_few [] = omega arith
+commands_few (msg.InCommand command ∷ items) = let rest = commands_few items in omega (arith, rest)
+commands_few (msg.InSettle ∷ items) = let rest = commands_few items in omega (arith, rest)
+commands_few (m ∷ items) = commands_few items
+
+-- few pieces, and few choices
+short_pieces : (items : List Msg) → IsShort items → most_pieces items ≤ 15626000
+short_pieces items short =
+    let many = short.few_packets in
+    let few = short.few_lines in
+    let less = commands_few items in
+    let parts : length (packets items) / 64 ≤ 15625 = div-le_of_le-mul 64 (omega (arith, many)) in
+    let orders : length (commands items) ≤ 1000 = omega (arith, few, less) in
+    let each : length (packets items) / 64 + 1 ≤ 15626 = omega (arith, parts) in
+    let all : most_pieces items ≤ 1000 * 15626 = mul-le-mul orders each in
+    omega (arith, all)
+
+short_choices : (n : ℕ) (items : List Msg) (pieces : ℕ) → n ≤ 16 → IsShort items → pieces ≤ 15626000 → most_choices n items pieces < MOST_CHOICES
+short_choices n items pieces some short few =
+    let many = short.few_packets in
+    let told = short.few_lines in
+    let for_packet : 2 * n + 6 ≤ 38 = omega (arith, some) in
+    let for_line : 4 * n + 24 ≤ 88 = omega (arith, some) in
+    let all_packets : (2 * n + 6) * length (packets items) ≤ 38 * 1000000 = mul-le-mul for_packet many in
+    let all_lines : (4 * n + 24) * lines items ≤ 88 * 1000 = mul-le-mul for_line told in
+    omega (arith, all_packets, all_lines, some, few)
+
+module _ (F : Type 0) {R : Type 0} (f : Semantics R) (laws : FunctionLaws f) (alloc : Global) (c : Config) (items : List Msg)
+    (is : IsInput f.kind c items) where
+  pub short_runs : IsShort items → (cs : List Choice) → IsRun node_ready (node_step f) cs (started_with {F = F} {R = R} alloc c items)
+      → length cs < MOST_CHOICES
+  short_runs short cs run_is =
+      let long = run_length F f laws alloc c items is short.ended cs run_is in
+      let sent = pieces_few F f laws alloc c items is cs run_is in
+      let pieces = short_pieces items short in
+      let least = short_choices (length c.names) items (pieces_sent f (started_with {F = F} {R = R} alloc c items) cs) is.is_config.few short
+      (omega (arith, sent, pieces)) in
+      omega (arith, long, least)

@@ -1,0 +1,155 @@
+-- What each message, each open operation and each node weighs: at least as much as the choices that are still to come of it. `o` is the
+-- greatest number of members that a share has besides one.
+use Rattle.std.proofs.Common.{◌≡◌, ℕ, ◌+◌, ◌*◌, ◌≤◌, Bool, true, false, List, ◌++◌, length, arith}
+use Rattle.std.specs.Prelude.{◌||◌}
+use Rattle.event_filter.specs.declared.mark.Mark.{Mark}
+use Rattle.event_filter.specs.declared.mark.Mark.TheVariants as mark
+use Rattle.event_filter.specs.declared.rule.Rule.{Rule}
+use Rattle.packet_pool.specs.Pool.{FullCell}
+use Rattle.nf_msgs.specs.declared.msg.Piece.{Piece}
+use Rattle.nf_msgs.specs.declared.msg.Msg.{Msg}
+use Rattle.nf_msgs.specs.declared.msg.Msg.TheVariants as msg
+use Rattle.move_op.specs.declared.door.Door.{Door}
+use Rattle.move_op.specs.declared.door.Door.TheVariants as door
+use Rattle.move_op.specs.Phases.{Phase}
+use Rattle.move_op.specs.Phases as phase
+use Rattle.copy_share.specs.declared.copy_phase.CopyPhase.{CopyPhase}
+use Rattle.copy_share.specs.declared.copy_phase.CopyPhase.TheVariants as copies
+use Rattle.copy_share.specs.declared.share_phase.SharePhase.{SharePhase}
+use Rattle.copy_share.specs.declared.share_phase.SharePhase.TheVariants as shares
+use Rattle.ctrl_node.specs.declared.operation.Operation.{Operation}
+use Rattle.ctrl_node.specs.declared.operation.Operation.TheVariants.{Move, Copy, Share}
+use Rattle.ctrl_node.specs.Controller.{ControllerState}
+use Rattle.instance_worker.specs.declared.instance.Instance.{Instance as InstanceState}
+use Rattle.actor_net.proofs.WeightLaws.{weigh, weigh-append}
+use Rattle.nf_net.proofs.length.MapWeights.{in_all}
+use Rattle.nf_net.proofs.length.SentWeights.{sent_cost}
+
+abbrev pub one_if : Bool → ℕ
+one_if true = 1
+one_if false = 0
+
+-- a piece that isn't put yet: it is put, and the last one is answered
+abbrev pub of_piece : Piece → ℕ
+of_piece piece = 1 + one_if piece.last
+
+-- a move behind its door
+abbrev pub streaming : Door → ℕ → ℕ
+streaming door.Shut pieces = 10 + pieces
+streaming (door.Asked last) pieces = 9 + pieces
+streaming door.Open pieces = 9 + pieces
+streaming (door.Refused why) pieces = 8
+
+-- a move
+abbrev pub of_move : Phase → ℕ
+of_move phase.Freezing = 12
+of_move (phase.Streaming frozen free came d) = streaming d (weigh of_piece frozen + weigh of_piece free)
+of_move phase.Holding = 7
+of_move phase.Passing = 4
+of_move phase.Ending = 1
+of_move (phase.Restoring why) = 6
+of_move (phase.Returning why) = 4
+of_move (phase.Undoing why) = 1
+of_move (phase.Over why) = 1
+
+-- a copy
+abbrev pub of_copy : CopyPhase → ℕ
+of_copy copies.Getting = 3
+of_copy copies.Keeping = 1
+of_copy copies.Over = 1
+
+-- an instance: its held parcels are still to go home
+abbrev pub of_rules : List (Rule FullCell) → ℕ
+of_rules rules = weigh (λ r. length r.held) rules
+
+abbrev pub of_instance : {F R : Type 0} → InstanceState F R → ℕ
+of_instance i = of_rules i.rules
+
+module _ (o : ℕ) where
+  -- a packet that the controller keeps: it is handed on, carried and processed, its cell goes home, the share is told, and each other member
+  -- takes the record and says so
+  abbrev pub parcel : ℕ
+  parcel = 4 + 2 * o
+
+  abbrev pub kept : List FullCell → ℕ
+  kept cells = weigh (λ cell. parcel) cells
+
+  -- a packet on its way to an instance. A plain one may become an event
+  abbrev pub carried : Mark → ℕ
+  carried mark.Plain = 6 + 2 * o
+  carried (mark.Pass op) = 2
+  carried (mark.Shared op home) = 3 + 2 * o
+
+  -- a packet that an instance processes
+  abbrev pub processing : Mark → ℕ
+  processing mark.Plain = 1
+  processing (mark.Pass op) = 1
+  processing (mark.Shared op home) = 2 + 2 * o
+
+  abbrev pub finish : ℕ
+  finish = 3 + 2 * o
+
+  abbrev pub weight : Msg → ℕ
+  weight (msg.InPacket packet) = 7 + 2 * o
+  weight (msg.InCommand command) = 16 + 2 * o
+  weight msg.InEnd = 2
+  weight (msg.Asked command) = 15 + 2 * o
+  weight (msg.Diverted cell) = 5 + 2 * o
+  weight (msg.Forward to mark cell) = 1 + carried mark
+  weight (msg.Install op filter from to) = 3
+  weight (msg.FenceTo op to) = 3
+  weight msg.Finish = finish
+  weight (msg.Carry mark cell) = carried mark
+  weight (msg.Fence op) = 2
+  weight msg.Stop = 2
+  weight (msg.Enable op filter action) = 2
+  weight (msg.Get op filter) = 2
+  weight (msg.Stream op filter) = 2
+  weight (msg.GetAll op) = 2
+  weight (msg.Delete op gone) = 2
+  weight (msg.Put op piece first) = 1 + one_if (first || piece.last)
+  weight (msg.Restore op chunks) = 2
+  weight (msg.Standby op chunks) = 2
+  weight (msg.PutAll op chunk) = 2
+  weight (msg.Sync home op chunks) = 2
+  weight (msg.Piece op piece) = 4 + one_if piece.last
+  weight (msg.Event op cell) = 5 + 2 * o
+  weight (msg.Shared op chunk) = 1 + 2 * o
+  weight message = 1
+
+  mark_some : (m : Mark) → 1 ≤ carried m
+  mark_some mark.Plain = omega arith
+  mark_some (mark.Pass op) = omega arith
+  mark_some (mark.Shared op home) = omega arith
+
+  -- each message weighs something: it is still to be taken
+  pub some : (m : Msg) → 1 ≤ weight m
+  some (msg.Carry mark cell) = mark_some mark
+  some m = omega arith
+
+  -- what is sent weighs together
+  abbrev pub cost : List (ℕ × Msg) → ℕ
+  cost sends = sent_cost weight sends
+
+  pub cost-append : (xs ys : List (ℕ × Msg)) → cost (xs ++ ys) ≡ cost xs + cost ys
+  cost-append xs ys = weigh-append (λ x. weight x.1) xs ys
+
+  -- a share
+  abbrev pub of_share : SharePhase → ℕ
+  of_share shares.Fencing = 3 + 2 * o
+  of_share shares.Getting = 1 + 2 * o
+  of_share (shares.Setting left) = 1
+  of_share phase = 0
+
+  abbrev pub of_operation : Operation → ℕ
+  of_operation (Move m) = of_move m.phase
+  of_operation (Copy c) = of_copy c.phase
+  of_operation (Share s) = of_share s.phase
+
+  abbrev pub unfinished : Bool → ℕ
+  unfinished true = 0
+  unfinished false = finish
+
+  -- the controller: its operations, what it keeps, and the finish that it hasn't told yet
+  abbrev pub of_controller : ControllerState → ℕ
+  of_controller c = in_all of_operation c.operations + in_all kept c.store + unfinished c.finish_sent

@@ -1,0 +1,306 @@
+-- What a unit sees of a link is its packets there: those that were handed on, those that come by the rules, those on their way by the
+-- switch, and events.
+use Rattle.std.proofs.Common.{◌≡◌, ℕ, Bool, true, false, Option, Some, None, List, [], ◌∷◌, ◌++◌, refl, sym, ap, ◌∙◌}
+use Rattle.std.proofs.lemmas.List.Elements.{filter-append}
+use Rattle.std.specs.Prelude.{if◌then◌else◌, ◌==◌, ◌&&◌, option_map}
+use Rattle.std.specs.List.{cons_option, filter, filter_map, flat_map}
+use Rattle.nf_function.specs.declared.chunk.Chunk.{Chunk}
+use Rattle.nf_function.specs.declared.unit.Unit as units
+use Rattle.nf_function.specs.Semantics.{Semantics}
+use Rattle.record_table.specs.Chunks.{spelled}
+use Rattle.packet_pool.specs.Pool.{FullCell}
+use Rattle.event_filter.specs.declared.mark.Mark.{Mark}
+use Rattle.event_filter.specs.declared.mark.Mark.TheVariants as mark
+use Rattle.switch_rules.specs.declared.target.Target.{Target}
+use Rattle.switch_rules.specs.declared.target.Target.TheVariants as target
+use Rattle.flow_filter.specs.declared.filter.Filter.{Filter}
+use Rattle.nf_msgs.specs.declared.command.Command.{Command}
+use Rattle.nf_msgs.specs.declared.command.Order.{Order}
+use Rattle.nf_msgs.specs.declared.command.Order.TheVariants as order
+use Rattle.nf_msgs.specs.declared.msg.Msg.{Msg}
+use Rattle.nf_msgs.specs.declared.msg.Msg.TheVariants as msg
+use Rattle.nf_msgs.specs.Nodes.{instance_node}
+use Rattle.proof_machines.proofs.unit.Machine.{Item, Carry, Pass, Fence, Event, Forward, Fence_to, Install, Stray, At_a, At_b}
+use Rattle.actor_net.proofs.WeightLaws.{Each}
+use Rattle.proof_machines.proofs.unit.Real.{Frame, where_true, sends_to, add}
+use Rattle.proof_machines.proofs.unit.NetViews.{items}
+use Rattle.proof_machines.proofs.unit.Path.{passes_in, carries, events_in, forwards}
+use Rattle.proof_machines.proofs.unit.Sides.{is_known}
+use Rattle.proof_machines.proofs.net.Net as net
+use Rattle.proof_machines.proofs.net.Net.{seen, MoveAsked}
+use Rattle.proof_machines.proofs.net.Holding.{Seeing, frame}
+use Rattle.proof_machines.proofs.net.NewMessages.{OnNew}
+use Rattle.proof_machines.proofs.net.Shares.{Any, Old, New, WantShare, S_asked, S_shared, EachNew, olds, OpenShare}
+use Rattle.proof_machines.proofs.net.Untaken.{NoShare}
+use Rattle.net_world.specs.Path.{passed_in, carried_in, forwarded_in, handed_over_in, diverted_in}
+use Rattle.proof_outlines.proofs.outline.Outline.{number, want_of}
+use Rattle.proof_outlines.proofs.whole.WholeOutline.{asked_of, want_share_of}
+use Rattle.proof_outlines.proofs.joined.Given.{Given, place}
+use Rattle.proof_outlines.proofs.joined.Joined.{S, shown, Label, FromSwitch, ToSwitch, ToController}
+
+-- an item that is seen, or not, before others
+module _ {R : Type 0} where
+  passes-add : (o : Option (Item R)) (xs : List (Item R)) → passes_in (add o xs) ≡ passes_in (add o []) ++ passes_in xs
+  passes-add None xs = refl
+  passes-add (Some (Pass p)) xs = refl
+  passes-add (Some x) xs = refl
+
+  carries-add : (o : Option (Item R)) (xs : List (Item R)) → carries (add o xs) ≡ carries (add o []) ++ carries xs
+  carries-add None xs = refl
+  carries-add (Some (Carry p)) xs = refl
+  carries-add (Some x) xs = refl
+
+  events-add : (o : Option (Item R)) (xs : List (Item R)) → events_in (add o xs) ≡ events_in (add o []) ++ events_in xs
+  events-add None xs = refl
+  events-add (Some (Event p)) xs = refl
+  events-add (Some x) xs = refl
+
+  forwards-add : (o : Option (Item R)) (xs : List (Item R)) → forwards (add o xs) ≡ forwards (add o []) ++ forwards xs
+  forwards-add None xs = refl
+  forwards-add (Some (Forward w p)) xs = refl
+  forwards-add (Some x) xs = refl
+
+  known-add : (o : Option (Item R)) (xs : List (Item R)) → is_known (add o xs) ≡ true → (is_known (add o []) ≡ true) × (is_known xs ≡ true)
+  known-add None xs e = (refl, e)
+  known-add (Some Stray) xs e = cc
+  known-add (Some x) xs e = (refl, e)
+
+module _ {R : Type 0} (f : Semantics R) (g : Given) (z : Seeing) (es : List OpenShare) where
+  abbrev its : Frame
+  its = frame (S f g) z
+
+  abbrev mine : ℕ → Bool
+  mine = its.mine
+
+  -- moves see nothing of a share's message
+  abbrev pub see_of : Option (Any R) → Option (Item R)
+  see_of None = None
+  see_of (Some (Old a)) = seen its a
+  see_of (Some (New a)) = None
+
+  -- which has nothing of the unit
+  abbrev pub NotShared : Option (Any R) → Type 0
+  NotShared None = Unit {0}
+  NotShared (Some a) = OnNew (NoShare (S f g) z.unit es) a
+
+  -- a message has the packets of the unit that are seen of it
+  record IsRead (m : Msg) (o : Option (Item R)) : Type 0 where
+    pass : filter mine (passed_in m) ≡ passes_in (add o [])
+    carry : filter mine (carried_in m) ≡ carries (add o [])
+    event : filter mine (handed_over_in m) ≡ events_in (add o [])
+    forward : is_known (add o []) ≡ true → filter mine (forwarded_in m) ≡ forwards (add o [])
+
+  either : (m : Msg) (x : Item R) → IsRead m None → IsRead m (Some x) → (b : Bool) → IsRead m (where_true b x)
+  either m x without with_it true = with_it
+  either m x without with_it false = without
+
+  forward_read : (to : ℕ) (m : Mark) (cell : FullCell)
+      → IsRead (msg.Forward to m cell) (where_true (mine (number cell)) (sends_to its (instance_node to) (λ w. Forward w (number cell))))
+  forward_read to m cell =
+      elim (mine (number cell))
+      as (λ b. mine (number cell) ≡ b → IsRead (msg.Forward to m cell) (where_true b (sends_to its (instance_node to) (λ w. Forward w (number cell))))) [
+        | true ↦ λ is. elim (instance_node to == its.from) as (λ a. IsRead (msg.Forward to m cell)
+            (Some (if a then Forward At_a (number cell) else if instance_node to == its.to then Forward At_b (number cell) else Stray))) [
+              | true ↦ record { pass = refl; carry = refl; event = refl; forward = λ _. rw is refl }
+              | false ↦ elim (instance_node to == its.to) as (λ b. IsRead (msg.Forward to m cell) (Some (if b then Forward At_b (number cell) else Stray))) [
+                | true ↦ record { pass = refl; carry = refl; event = refl; forward = λ _. rw is refl }
+                | false ↦ record { pass = refl; carry = refl; event = refl; forward = λ e. cc }
+              ]
+            ]
+        | false ↦ λ off. record { pass = refl; carry = refl; event = refl; forward = λ _. rw off refl }
+      ] refl
+
+  carry_read : (cell : FullCell) → IsRead (msg.Carry mark.Plain cell) (where_true (mine (number cell)) (Carry (number cell)))
+  carry_read cell = elim (mine (number cell)) as (λ b. mine (number cell) ≡ b → IsRead (msg.Carry mark.Plain cell) (where_true b (Carry (number cell)))) [
+    | true ↦ λ is. record { pass = refl; carry = rw is refl; event = refl; forward = λ _. refl }
+    | false ↦ λ off. record { pass = refl; carry = rw off refl; event = refl; forward = λ _. refl }
+  ] refl
+
+  pass_read : (op : ℕ) (cell : FullCell) → IsRead (msg.Carry (mark.Pass op) cell) (where_true (mine (number cell)) (Pass (number cell)))
+  pass_read op cell = elim (mine (number cell)) as (λ b. mine (number cell) ≡ b → IsRead (msg.Carry (mark.Pass op) cell) (where_true b (Pass (number cell)))) [
+    | true ↦ λ is. record { pass = rw is refl; carry = refl; event = refl; forward = λ _. refl }
+    | false ↦ λ off. record { pass = rw off refl; carry = refl; event = refl; forward = λ _. refl }
+  ] refl
+
+  event_read : (op : ℕ) (cell : FullCell) → IsRead (msg.Event op cell) (where_true (mine (number cell)) (Event (number cell)))
+  event_read op cell = elim (mine (number cell)) as (λ b. mine (number cell) ≡ b → IsRead (msg.Event op cell) (where_true b (Event (number cell)))) [
+    | true ↦ λ is. record { pass = refl; carry = refl; event = rw is refl; forward = λ _. refl }
+    | false ↦ λ off. record { pass = refl; carry = refl; event = rw off refl; forward = λ _. refl }
+  ] refl
+
+  fence_read : (op to : ℕ) → IsRead (msg.FenceTo op to) (Some (sends_to its (instance_node to) (λ w. Fence_to w)))
+  fence_read op to = elim (instance_node to == its.from)
+      as (λ a. IsRead (msg.FenceTo op to) (Some (if a then Fence_to At_a else if instance_node to == its.to then Fence_to At_b else Stray))) [
+        | true ↦ record { pass = refl; carry = refl; event = refl; forward = λ _. refl }
+        | false ↦ elim (instance_node to == its.to) as (λ b. IsRead (msg.FenceTo op to) (Some (if b then Fence_to At_b else Stray))) [
+          | true ↦ record { pass = refl; carry = refl; event = refl; forward = λ _. refl }
+          | false ↦ record { pass = refl; carry = refl; event = refl; forward = λ _. refl }
+        ]
+      ]
+
+  install_read : (op : ℕ) (filter : Filter) (from : ℕ) (to : Target)
+      → IsRead (msg.Install op filter from to) (see_of (shown f g (msg.Install op filter from to)))
+  install_read op filter from target.Controller = record { pass = refl; carry = refl; event = refl; forward = λ _. refl }
+  install_read op filter from (target.Instance to) =
+      either (msg.Install op filter from (target.Instance to)) (if (instance_node from == its.from) && (instance_node to == its.to) then Install else Stray)
+      (record { pass = refl; carry = refl; event = refl; forward = λ _. refl })
+      (elim ((instance_node from == its.from) && (instance_node to == its.to))
+      as (λ b. IsRead (msg.Install op filter from (target.Instance to)) (Some (if b then Install else Stray))) [
+        | true ↦ record { pass = refl; carry = refl; event = refl; forward = λ _. refl }
+        | false ↦ record { pass = refl; carry = refl; event = refl; forward = λ _. refl }
+      ]) (op == its.move)
+
+  asked_read : (k : Command) (what : Order) → IsRead (msg.Asked k) (see_of (asked_of f (place g) k.op what))
+  asked_read k (order.Move src dst filter keep) = by_want (want_of (place g) k.op (order.Move src dst filter keep))
+    where
+      by_want : (o : Option MoveAsked) → IsRead (msg.Asked k) (see_of (option_map (λ want. Old (net.Asked want)) o))
+      by_want None = record { pass = refl; carry = refl; event = refl; forward = λ _. refl }
+      by_want (Some x) = record { pass = refl; carry = refl; event = refl; forward = λ _. refl }
+  asked_read k (order.Copy src dst filter) = record { pass = refl; carry = refl; event = refl; forward = λ _. refl }
+  asked_read k (order.Share members filter) = by_want (want_share_of (place g) k.op (order.Share members filter))
+    where
+      by_want : (o : Option WantShare) → IsRead (msg.Asked k) (see_of (option_map (λ want. New (S_asked want)) o))
+      by_want None = record { pass = refl; carry = refl; event = refl; forward = λ _. refl }
+      by_want (Some x) = record { pass = refl; carry = refl; event = refl; forward = λ _. refl }
+
+  chunk_read : (op : ℕ) (chunk : Chunk) → IsRead (msg.Shared op chunk) (see_of (shown f g (msg.Shared op chunk)))
+  chunk_read op chunk = by_entry (spelled f chunk)
+    where
+      by_entry : (o : Option (units.Unit × R)) → IsRead (msg.Shared op chunk) (see_of (option_map (λ entry. New (S_shared op entry)) o))
+      by_entry None = record { pass = refl; carry = refl; event = refl; forward = λ _. refl }
+      by_entry (Some x) = record { pass = refl; carry = refl; event = refl; forward = λ _. refl }
+
+  -- of a message of a run
+  msg_read : (s r : ℕ) (m : Msg) → Label f g s r m → NotShared (shown f g m) → IsRead m (see_of (shown f g m))
+  msg_read s r (msg.Carry mark.Plain cell) l k = carry_read cell
+  msg_read s r (msg.Carry (mark.Pass op) cell) l k = pass_read op cell
+  msg_read s r (msg.Carry (mark.Shared op home) cell) l k =
+      let off : mine (number cell) ≡ false = k in record { pass = rw off refl; carry = refl; event = refl; forward = λ _. refl }
+  msg_read s r (msg.Forward to mark.Plain cell) l k = forward_read to mark.Plain cell
+  msg_read s r (msg.Forward to (mark.Pass op) cell) l k = forward_read to (mark.Pass op) cell
+  msg_read s r (msg.Forward to (mark.Shared op home) cell) l k =
+      let off : mine (number cell) ≡ false = k in record { pass = refl; carry = refl; event = refl; forward = λ _. rw off refl }
+  msg_read s r (msg.Event op cell) l k = event_read op cell
+  msg_read s r (msg.FenceTo op to) l k = either (msg.FenceTo op to) (sends_to its (instance_node to) (λ w. Fence_to w))
+      (record { pass = refl; carry = refl; event = refl; forward = λ _. refl }) (fence_read op to) (op == its.move)
+  msg_read s r (msg.Install op filter from to) l k = install_read op filter from to
+  msg_read s r (msg.Asked c) l k = asked_read c c.what
+  msg_read s r (msg.Shared op chunk) l k = chunk_read op chunk
+  msg_read s r (msg.Fence op) l k = either (msg.Fence op) Fence (record { pass = refl; carry = refl; event = refl; forward = λ _. refl })
+      (record { pass = refl; carry = refl; event = refl; forward = λ _. refl }) (op == its.move)
+  msg_read s r (msg.Enable op filter action) l k = either _ _ (record { pass = refl; carry = refl; event = refl; forward = λ _. refl })
+      (record { pass = refl; carry = refl; event = refl; forward = λ _. refl }) (op == its.move)
+  msg_read s r (msg.Stream op filter) l k = either _ _ (record { pass = refl; carry = refl; event = refl; forward = λ _. refl })
+      (record { pass = refl; carry = refl; event = refl; forward = λ _. refl }) (op == its.move)
+  msg_read s r (msg.Delete op gone) l k = either _ _ (record { pass = refl; carry = refl; event = refl; forward = λ _. refl })
+      (record { pass = refl; carry = refl; event = refl; forward = λ _. refl }) (op == its.move)
+  msg_read s r (msg.Put op piece first) l k = either _ _ (record { pass = refl; carry = refl; event = refl; forward = λ _. refl })
+      (record { pass = refl; carry = refl; event = refl; forward = λ _. refl }) (op == its.move)
+  msg_read s r (msg.Restore op chunks) l k = either _ _ (record { pass = refl; carry = refl; event = refl; forward = λ _. refl })
+      (record { pass = refl; carry = refl; event = refl; forward = λ _. refl }) (op == its.move)
+  msg_read s r (msg.Enabled op) l k = either _ _ (record { pass = refl; carry = refl; event = refl; forward = λ _. refl })
+      (record { pass = refl; carry = refl; event = refl; forward = λ _. refl }) (op == its.move)
+  msg_read s r (msg.Piece op piece) l k = either _ _ (record { pass = refl; carry = refl; event = refl; forward = λ _. refl })
+      (record { pass = refl; carry = refl; event = refl; forward = λ _. refl }) (op == its.move)
+  msg_read s r (msg.Deleted op) l k = either _ _ (record { pass = refl; carry = refl; event = refl; forward = λ _. refl })
+      (record { pass = refl; carry = refl; event = refl; forward = λ _. refl }) (op == its.move)
+  msg_read s r (msg.PutOk op) l k = either _ _ (record { pass = refl; carry = refl; event = refl; forward = λ _. refl })
+      (record { pass = refl; carry = refl; event = refl; forward = λ _. refl }) (op == its.move)
+  msg_read s r (msg.PutNo op refused) l k = either _ _ (record { pass = refl; carry = refl; event = refl; forward = λ _. refl })
+      (record { pass = refl; carry = refl; event = refl; forward = λ _. refl }) (op == its.move)
+  msg_read s r (msg.Restored op) l k = either _ _ (record { pass = refl; carry = refl; event = refl; forward = λ _. refl })
+      (record { pass = refl; carry = refl; event = refl; forward = λ _. refl }) (op == its.move)
+  msg_read s r (msg.Fenced op) l k = either _ _ (record { pass = refl; carry = refl; event = refl; forward = λ _. refl })
+      (record { pass = refl; carry = refl; event = refl; forward = λ _. refl }) (op == its.move)
+  msg_read s r m l k = record { pass = refl; carry = refl; event = refl; forward = λ _. refl }
+
+  -- no packet of it goes to the controller
+  msg_diverts : (m : Msg) → NotShared (shown f g m) → filter mine (diverted_in m) ≡ []
+  msg_diverts (msg.Diverted cell) k = let off : mine (number cell) ≡ false = k in rw off refl
+  msg_diverts m k = refl
+
+  -- and so has a link
+  abbrev pub view : List Msg → List (Item R)
+  view ms = items (seen its) (olds (filter_map (shown f g) ms))
+
+  pub seen_more : (m : Msg) (ms : List Msg) → view (m ∷ ms) ≡ add (see_of (shown f g m)) (view ms)
+  seen_more m ms = by_shown (shown f g m) refl
+    where
+      by_shown : (o : Option (Any R)) → shown f g m ≡ o → view (m ∷ ms) ≡ add (see_of (shown f g m)) (view ms)
+      by_shown None e = rw e refl
+      by_shown (Some (Old a)) e = rw e refl
+      by_shown (Some (New a)) e = rw e refl
+
+  -- the first message of a link, and those behind it
+  pub first_shared : (o : Option (Any R)) (ys : List (Any R)) → EachNew (NoShare (S f g) z.unit es) (cons_option o ys)
+      → NotShared o × EachNew (NoShare (S f g) z.unit es) ys
+  first_shared None ys h = (tt, h)
+  first_shared (Some (Old a)) ys h = (tt, h)
+  first_shared (Some (New a)) ys h = (h.0, h.1)
+
+  pub record AreRead (ms : List Msg) (xs : List (Item R)) : Type 0 where
+    pub pass : filter mine (flat_map passed_in ms) ≡ passes_in xs
+    pub carry : filter mine (flat_map carried_in ms) ≡ carries xs
+    pub event : filter mine (flat_map handed_over_in ms) ≡ events_in xs
+    pub divert : filter mine (flat_map diverted_in ms) ≡ []
+    pub forward : is_known xs ≡ true → filter mine (flat_map forwarded_in ms) ≡ forwards xs
+
+  pub are_read : (s r : ℕ) (ms : List Msg) → Each (Label f g s r) ms → EachNew (NoShare (S f g) z.unit es) (filter_map (shown f g) ms) → AreRead ms (view ms)
+  are_read s r [] h k = record { pass = refl; carry = refl; event = refl; divert = refl; forward = λ _. refl }
+  are_read s r (m ∷ ms) h k =
+      let both = first_shared (shown f g m) (filter_map (shown f g) ms) k in
+      let one = msg_read s r m h.0 both.0 in
+      let rest = are_read s r ms h.1 both.1 in
+      let o = see_of (shown f g m) in
+      let xs = view ms in
+      let more = seen_more m ms in
+      record {
+        pass = filter-append mine (passed_in m) (flat_map passed_in ms) ∙ ap (λ v. v ++ filter mine (flat_map passed_in ms)) one.pass
+            ∙ ap (λ v. passes_in (add o []) ++ v) rest.pass ∙ sym (passes-add o xs) ∙ ap passes_in (sym more);
+        carry = filter-append mine (carried_in m) (flat_map carried_in ms) ∙ ap (λ v. v ++ filter mine (flat_map carried_in ms)) one.carry
+            ∙ ap (λ v. carries (add o []) ++ v) rest.carry ∙ sym (carries-add o xs) ∙ ap carries (sym more);
+        event = filter-append mine (handed_over_in m) (flat_map handed_over_in ms) ∙ ap (λ v. v ++ filter mine (flat_map handed_over_in ms)) one.event
+            ∙ ap (λ v. events_in (add o []) ++ v) rest.event ∙ sym (events-add o xs) ∙ ap events_in (sym more);
+        divert = filter-append mine (diverted_in m) (flat_map diverted_in ms) ∙ ap (λ v. v ++ filter mine (flat_map diverted_in ms)) (msg_diverts m both.0)
+            ∙ rest.divert;
+        forward = λ t.
+            let known = known-add o xs (ap is_known (sym more) ∙ t) in
+            filter-append mine (forwarded_in m) (flat_map forwarded_in ms) ∙ ap (λ v. v ++ filter mine (flat_map forwarded_in ms)) (one.forward known.0)
+            ∙ ap (λ v. forwards (add o []) ++ v) (rest.forward known.1) ∙ sym (forwards-add o xs) ∙ ap forwards (sym more);
+      }
+
+-- On other links there are no such messages.
+module _ {R : Type 0} (f : Semantics R) (g : Given) (s r : ℕ) where
+  no_pass : (m : Msg) → Label f g s r m → (FromSwitch s r → ⊥) → passed_in m ≡ []
+  no_pass (msg.Carry (mark.Pass op) cell) l off = absurd (off l.0)
+  no_pass (msg.Carry mark.Plain cell) l off = refl
+  no_pass (msg.Carry (mark.Shared op home) cell) l off = absurd (off l.0)
+  no_pass m l off = refl
+
+  no_event : (m : Msg) → Label f g s r m → (ToController s r → ⊥) → handed_over_in m ≡ []
+  no_event (msg.Event op cell) l off = absurd (off l.0)
+  no_event m l off = refl
+
+  no_forward : (m : Msg) → Label f g s r m → (ToSwitch s r → ⊥) → forwarded_in m ≡ []
+  no_forward (msg.Forward to mark cell) l off = absurd (off l.0)
+  no_forward m l off = refl
+
+  pub no_passes : (ms : List Msg) → Each (Label f g s r) ms → (FromSwitch s r → ⊥) → flat_map passed_in ms ≡ []
+  no_passes [] h off = refl
+  no_passes (m ∷ ms) h off = rw (no_pass m h.0 off, no_passes ms h.1 off) refl
+
+  pub no_events : (ms : List Msg) → Each (Label f g s r) ms → (ToController s r → ⊥) → flat_map handed_over_in ms ≡ []
+  no_events [] h off = refl
+  no_events (m ∷ ms) h off = rw (no_event m h.0 off, no_events ms h.1 off) refl
+
+  pub no_forwards : (ms : List Msg) → Each (Label f g s r) ms → (ToSwitch s r → ⊥) → flat_map forwarded_in ms ≡ []
+  no_forwards [] h off = refl
+  no_forwards (m ∷ ms) h off = rw (no_forward m h.0 off, no_forwards ms h.1 off) refl
+
+  no_divert : (m : Msg) → Label f g s r m → (s ≡ 0 → r ≡ 1 → ⊥) → diverted_in m ≡ []
+  no_divert (msg.Diverted cell) l off = absurd (off l.0 l.1)
+  no_divert m l off = refl
+
+  pub no_diverts : (ms : List Msg) → Each (Label f g s r) ms → (s ≡ 0 → r ≡ 1 → ⊥) → flat_map diverted_in ms ≡ []
+  no_diverts [] h off = refl
+  no_diverts (m ∷ ms) h off = rw (no_divert m h.0 off, no_diverts ms h.1 off) refl

@@ -1,0 +1,242 @@
+-- What a world has of a unit that no share has on all its links, kind by kind, is what waits there at the seat that shows the unit.
+use Rattle.std.proofs.Common.{◌≡◌, ◌≢◌, ℕ, ◌+◌, ◌<◌, ◌≤◌, Bool, true, false, List, [], ◌++◌, length, refl, sym, ap, ◌∙◌, subst, append-nil, arith}
+use Rattle.std.specs.Prelude.{if◌then◌else◌, ◌==◌, ◌&&◌, nat_lt}
+use Rattle.std.specs.List.{filter, flat_map}
+use Rattle.std.proofs.lemmas.Bool.{ltb-false}
+use Rattle.std.proofs.lemmas.Bool.Decides.{nat_tests, Decides-eqb, Decides-ltb}
+use Rattle.nf_function.specs.declared.unit.Unit as units
+use Rattle.nf_function.specs.Semantics.{Semantics}
+use Rattle.nf_msgs.specs.declared.msg.Msg.{Msg}
+use Rattle.nf_msgs.specs.declared.note.Note.{Note}
+use Rattle.actor_net.specs.Network.{Network, IsWorld, on_link}
+use Rattle.proof_machines.proofs.unit.Machine.{State}
+use Rattle.proof_machines.proofs.unit.Real.{Op}
+use Rattle.proof_machines.proofs.unit.Pairs.{expect}
+use Rattle.proof_machines.proofs.unit.Path.{passes_in, events_in, forwards}
+use Rattle.proof_machines.proofs.unit.Sides.{OneOf, First, Second, is_known}
+use Rattle.proof_machines.proofs.net.Holding.{Seeing, frame, Holds}
+use Rattle.proof_machines.proofs.net.Shares.{moves_of}
+use Rattle.proof_machines.proofs.net.Units.{see}
+use Rattle.proof_machines.proofs.net.Untaken.{Untaken}
+use Rattle.net_world.specs.declared.config.Config.{Config}
+use Rattle.net_world.specs.declared.node.Node.{Node}
+use Rattle.net_world.specs.Input.{IsInput}
+use Rattle.net_world.specs.Path.{passed_in, forwarded_in, handed_over_in, diverted_in, on_links}
+use Rattle.proof_outlines.proofs.outline.Outline.{is_sys}
+use Rattle.proof_outlines.proofs.joined.Given.{Given}
+use Rattle.proof_outlines.proofs.joined.Joined.{S, A, Joined}
+use Rattle.nf_net.proofs.paths.PathSeats.{There, Is_there, Has_none, passed_from, passed_else, events_to}
+use Rattle.nf_net.proofs.paths.PathSeats.{events_else, forwarded_to, forwarded_else, diverted_none}
+use Rattle.nf_net.proofs.paths.PathSums.{those-all, no_link, one_link}
+use Rattle.proof_outlines.proofs.joined.StartJoined.{given}
+
+if_nil : (b : Bool) (xs : List ℕ) → xs ≡ [] → (if b then xs else []) ≡ []
+if_nil true xs e = e
+if_nil false xs e = refl
+
+module _ {F R : Type 0} (f : Semantics R) (c : Config) (items : List Msg) (is : IsInput f.kind c items) (n : ℕ) (count : n ≡ length c.names + 2)
+    (w : Network (Node F R) Msg Note) (nodes : length w.nodes ≡ n) (j : Joined f (given f c items is) n w) (world : IsWorld w)
+    (u : units.Unit) (apart : Untaken (S f (given f c items is)) u (A f (given f c items is)) j.world) (op : Op) (third : ℕ) (x : State R)
+    (holds : Holds (S f (given f c items is)) (see (S f (given f c items is)) (is_sys f (given f c items is).site (given f c items is).packet) u op third)
+    (moves_of (S f (given f c items is)) (A f (given f c items is)) j.world) x) where
+  abbrev g : Given
+  g = given f c items is
+
+  abbrev z : Seeing
+  z = see (S f g) (is_sys f g.site g.packet) u op third
+
+  abbrev mine : ℕ → Bool
+  mine = (frame (S f g) z).mine
+
+  -- what stands on a link, and one link that has all there is
+  module _ (of : Msg → List ℕ) (at : ℕ → ℕ → List ℕ) (is_at : (i k : ℕ) → i < n → k < n → filter mine (flat_map of (on_link w i k)) ≡ at i k) (s r : ℕ)
+      (only : (i k : ℕ) → (i ≡ s → k ≡ r → ⊥) → at i k ≡ []) where
+    links_there : s < n → r < n → filter mine (on_links w of) ≡ at s r
+    links_there hs hr =
+        those-all mine (flat_map of) w.links
+        ∙ one_link w world.square (λ ms. filter mine (flat_map of ms)) s r (rw nodes hs) (rw nodes hr)
+        (λ i k hi hk off. is_at i k (rw (← nodes) hi) (rw (← nodes) hk) ∙ only i k off)
+        ∙ is_at s r hs hr
+
+    links_none : at s r ≡ [] → filter mine (on_links w of) ≡ at s r
+    links_none none =
+        those-all mine (flat_map of) w.links
+        ∙ no_link w world.square (λ ms. filter mine (flat_map of ms)) (λ i k hi hk. is_at i k (rw (← nodes) hi) (rw (← nodes) hk) ∙ empty i k)
+        ∙ sym none
+      where
+        empty : (i k : ℕ) → at i k ≡ []
+        empty i k = elim (i == s) as (λ b. (i == s) ≡ b → at i k ≡ []) [
+          | true ↦ λ a. elim (k == r) as (λ b. (k == r) ≡ b → at i k ≡ []) [
+            | true ↦ λ b. ap (λ v. at v k) ((Decides-eqb i s).0 a) ∙ ap (at s) ((Decides-eqb k r).0 b) ∙ none
+            | false ↦ λ b. only i k (λ _ same. (let never : false ≡ true = sym b ∙ (Decides-eqb k r).1 same in cc))
+          ] refl
+          | false ↦ λ a. only i k (λ same _. (let never : false ≡ true = sym a ∙ (Decides-eqb i s).1 same in cc))
+        ] refl
+
+  abbrev a : ℕ
+  a = op.src
+
+  abbrev b : ℕ
+  b = op.dst
+
+  a_two : 2 ≤ a
+  a_two = holds.nodes.a_is
+
+  b_two : 2 ≤ b
+  b_two = holds.nodes.b_is
+
+  -- packets that the controller handed on
+  abbrev pass_at : ℕ → ℕ → List ℕ
+  pass_at i k = if i == 0 then (if k == a then passes_in x.sa else if k == b then passes_in x.sb else []) else []
+
+  module _ (third_none : passes_in x.sc ≡ []) where
+    expect_pass : (k : ℕ) → passes_in (expect a b third x 0 k) ≡ pass_at 0 k
+    expect_pass k = elim (k == a) as (λ t. passes_in (if t then x.sa else if k == b then x.sb else if k == third then x.sc else [])
+        ≡ (if t then passes_in x.sa else if k == b then passes_in x.sb else [])) [
+          | true ↦ refl
+          | false ↦ elim (k == b) as (λ t. passes_in (if t then x.sb else if k == third then x.sc else []) ≡ (if t then passes_in x.sb else [])) [
+            | true ↦ refl
+            | false ↦ elim (k == third) as (λ t. passes_in (if t then x.sc else []) ≡ []) [ true ↦ third_none | false ↦ refl ]
+          ]
+        ]
+
+    pass_is : (i k : ℕ) → i < n → k < n → filter mine (flat_map passed_in (on_link w i k)) ≡ pass_at i k
+    pass_is i k hi hk = elim (i == 0) as (λ t. (i == 0) ≡ t
+        → filter mine (flat_map passed_in (on_link w i k)) ≡ (if t then (if k == a then passes_in x.sa else if k == b then passes_in x.sb else []) else [])) [
+          | true ↦ λ e. elim (nat_lt k 2) as (λ t. nat_lt k 2 ≡ t
+              → filter mine (flat_map passed_in (on_link w i k)) ≡ (if k == a then passes_in x.sa else if k == b then passes_in x.sb else [])) [
+                | true ↦ λ low.
+                    let off_a : (k == a) ≡ false = grind (arith, nat_tests, low, a_two) in
+                    let off_b : (k == b) ≡ false = grind (arith, nat_tests, low, b_two) in
+                    let small : k < 2 = (Decides-ltb k 2).0 low in
+                    rw (off_a, off_b) (passed_else f c items is n count w nodes j world mine i k hi hk (λ h. absurd (omega (arith, small, h.1))))
+                | false ↦ λ high.
+                    let two : 2 ≤ k = ltb-false k 2 high in
+                    ap (λ v. filter mine (flat_map passed_in (on_link w v k))) ((Decides-eqb i 0).0 e)
+                    ∙ passed_from f c items is n count w nodes j world u apart op third x holds k two hk ∙ expect_pass k
+              ] refl
+          | false ↦ λ e. passed_else f c items is n count w nodes j world mine i k hi hk
+              (λ h. (let never : false ≡ true = sym e ∙ (Decides-eqb i 0).1 h.0 in cc))
+        ] refl
+
+    -- on the link of one side alone
+    pass_only : (side : ℕ) → ((k : ℕ) → k ≢ side → pass_at 0 k ≡ []) → (i k : ℕ) → (i ≡ 0 → k ≡ side → ⊥) → pass_at i k ≡ []
+    pass_only side other i k off =
+        elim (i == 0) as (λ t. (i == 0) ≡ t → (if t then (if k == a then passes_in x.sa else if k == b then passes_in x.sb else []) else []) ≡ []) [
+          | true ↦ λ e. other k (λ same. off ((Decides-eqb i 0).0 e) same)
+          | false ↦ λ _. refl
+        ] refl
+
+    other_a : passes_in x.sb ≡ [] → (k : ℕ) → k ≢ a → pass_at 0 k ≡ []
+    other_a none k off =
+        let out : (k == a) ≡ false = grind (arith, nat_tests, off) in
+        rw out (if_nil (k == b) (passes_in x.sb) none)
+
+    other_b : passes_in x.sa ≡ [] → (k : ℕ) → k ≢ b → pass_at 0 k ≡ []
+    other_b none k off =
+        let out : (k == b) ≡ false = grind (arith, nat_tests, off) in
+        rw (out, none) (if_nil (k == a) [] refl)
+
+    own_a : pass_at 0 a ≡ passes_in x.sa
+    own_a = let self = holds.apart.src in rw self refl
+
+    own_b : pass_at 0 b ≡ passes_in x.sb
+    own_b = let self = holds.apart.dst in let off = holds.apart.dst_src in rw (off, self) refl
+
+    by_there : (side : ℕ) → There n side (pass_at 0 side) → ((k : ℕ) → k ≢ side → pass_at 0 k ≡ []) → filter mine (on_links w passed_in) ≡ pass_at 0 side
+    by_there side (Is_there few) other = links_there passed_in pass_at pass_is 0 side (pass_only side other) (omega (arith, count)) few
+    by_there side (Has_none none) other = links_none passed_in pass_at pass_is 0 side (pass_only side other) none
+
+    pub passes_are : OneOf (passes_in x.sa) (passes_in x.sb) → There n a (passes_in x.sa) → There n b (passes_in x.sb)
+        → filter mine (on_links w passed_in) ≡ passes_in x.sa ++ passes_in x.sb
+    passes_are (First none) at_a at_b = by_there a (subst (There n a) (sym own_a) at_a) (other_a none) ∙ own_a ∙ sym (append-nil (passes_in x.sa))
+        ∙ ap (λ v. passes_in x.sa ++ v) (sym none)
+    passes_are (Second none) at_a at_b = by_there b (subst (There n b) (sym own_b) at_b) (other_b none) ∙ own_b ∙ ap (λ v. v ++ passes_in x.sb) (sym none)
+
+  -- packets on their way by the switch
+  abbrev forward_at : ℕ → ℕ → List ℕ
+  forward_at i k = if (i == 1) && (k == 0) then forwards x.cs else []
+
+  module _ (known : is_known x.cs ≡ true) where
+    forward_is : (i k : ℕ) → i < n → k < n → filter mine (flat_map forwarded_in (on_link w i k)) ≡ forward_at i k
+    forward_is i k hi hk = elim ((i == 1) && (k == 0))
+        as (λ t. (i == 1) && (k == 0) ≡ t → filter mine (flat_map forwarded_in (on_link w i k)) ≡ (if t then forwards x.cs else [])) [
+          | true ↦ λ on.
+              let i1 : i ≡ 1 = grind (arith, nat_tests, on) in
+              let k0 : k ≡ 0 = grind (arith, nat_tests, on) in
+              ap (λ v. filter mine (flat_map forwarded_in (on_link w v k))) i1 ∙ ap (λ v. filter mine (flat_map forwarded_in (on_link w 1 v))) k0
+              ∙ forwarded_to f c items is n count w nodes j world u apart op third x holds known
+          | false ↦ λ off. forwarded_else f c items is n count w nodes j world mine i k hi hk
+              (λ h. (let on : (i == 1) && (k == 0) ≡ true = rw (h.0, h.1) refl in let never : false ≡ true = sym off ∙ on in cc))
+        ] refl
+
+    pub forwards_are : filter mine (on_links w forwarded_in) ≡ forwards x.cs
+    forwards_are = links_there forwarded_in forward_at forward_is 1 0 only (omega (arith, count)) (omega (arith, count))
+      where
+        only : (i k : ℕ) → (i ≡ 1 → k ≡ 0 → ⊥) → forward_at i k ≡ []
+        only i k off = elim ((i == 1) && (k == 0)) as (λ t. (i == 1) && (k == 0) ≡ t → (if t then forwards x.cs else []) ≡ []) [
+          | true ↦ λ on. absurd (off (grind (arith, nat_tests, on)) (grind (arith, nat_tests, on)))
+          | false ↦ λ _. refl
+        ] refl
+
+  -- events
+  abbrev event_at : ℕ → ℕ → List ℕ
+  event_at i k = if k == 1 then (if i == a then events_in x.ac else []) else []
+
+  module _ (none_b : events_in x.bc ≡ []) (none_c : events_in x.cc ≡ []) where
+    expect_event : (i : ℕ) → 2 ≤ i → events_in (expect a b third x i 1) ≡ event_at i 1
+    expect_event i two =
+        let i0 : (i == 0) ≡ false = grind (arith, nat_tests, two) in
+        let i1 : (i == 1) ≡ false = grind (arith, nat_tests, two) in
+        rw (i0, i1) (elim (i == a)
+        as (λ t. events_in (if t then x.ac else if i == b then x.bc else if i == third then x.cc else []) ≡ (if t then events_in x.ac else [])) [
+          | true ↦ refl
+          | false ↦ elim (i == b) as (λ t. events_in (if t then x.bc else if i == third then x.cc else []) ≡ []) [
+            | true ↦ none_b
+            | false ↦ elim (i == third) as (λ t. events_in (if t then x.cc else []) ≡ []) [ true ↦ none_c | false ↦ refl ]
+          ]
+        ])
+
+    event_is : (i k : ℕ) → i < n → k < n → filter mine (flat_map handed_over_in (on_link w i k)) ≡ event_at i k
+    event_is i k hi hk = elim (k == 1)
+        as (λ t. (k == 1) ≡ t → filter mine (flat_map handed_over_in (on_link w i k)) ≡ (if t then (if i == a then events_in x.ac else []) else [])) [
+          | true ↦ λ e.
+              elim (nat_lt i 2) as (λ t. nat_lt i 2 ≡ t → filter mine (flat_map handed_over_in (on_link w i k)) ≡ (if i == a then events_in x.ac else [])) [
+                | true ↦ λ low.
+                    let off : (i == a) ≡ false = grind (arith, nat_tests, low, a_two) in
+                    let small : i < 2 = (Decides-ltb i 2).0 low in
+                    rw off (events_else f c items is n count w nodes j world mine i k hi hk (λ h. absurd (omega (arith, small, h.0))))
+                | false ↦ λ high.
+                    let two : 2 ≤ i = ltb-false i 2 high in
+                    ap (λ v. filter mine (flat_map handed_over_in (on_link w i v))) ((Decides-eqb k 1).0 e)
+                    ∙ events_to f c items is n count w nodes j world u apart op third x holds i two hi ∙ expect_event i two
+              ] refl
+          | false ↦ λ e. events_else f c items is n count w nodes j world mine i k hi hk
+              (λ h. (let never : false ≡ true = sym e ∙ (Decides-eqb k 1).1 h.1 in cc))
+        ] refl
+
+    event_only : (i k : ℕ) → (i ≡ a → k ≡ 1 → ⊥) → event_at i k ≡ []
+    event_only i k off = elim (k == 1) as (λ t. (k == 1) ≡ t → (if t then (if i == a then events_in x.ac else []) else []) ≡ []) [
+      | true ↦ λ e. elim (i == a) as (λ t. (i == a) ≡ t → (if t then events_in x.ac else []) ≡ []) [
+        | true ↦ λ h. absurd (off ((Decides-eqb i a).0 h) ((Decides-eqb k 1).0 e))
+        | false ↦ λ _. refl
+      ] refl
+      | false ↦ λ _. refl
+    ] refl
+
+    own_event : event_at a 1 ≡ events_in x.ac
+    own_event = let self = holds.apart.src in rw self refl
+
+    event_there : There n a (events_in x.ac) → filter mine (on_links w handed_over_in) ≡ event_at a 1
+    event_there (Is_there few) = links_there handed_over_in event_at event_is a 1 event_only few (omega (arith, count))
+    event_there (Has_none none) = links_none handed_over_in event_at event_is a 1 event_only (own_event ∙ none)
+
+    pub events_are : There n a (events_in x.ac) → filter mine (on_links w handed_over_in) ≡ events_in x.ac
+    events_are h = event_there h ∙ own_event
+
+  -- nothing of it is diverted
+  pub diverted_are : filter mine (on_links w diverted_in) ≡ []
+  diverted_are =
+      those-all mine (flat_map diverted_in) w.links
+      ∙ no_link w world.square (λ ms. filter mine (flat_map diverted_in ms))
+      (λ i k hi hk. diverted_none f c items is n count w nodes j world u apart op third x holds i k (rw (← nodes) hi) (rw (← nodes) hk))

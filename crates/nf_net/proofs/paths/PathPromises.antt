@@ -1,0 +1,98 @@
+-- In every run what came of a unit is what was processed and what is under way, and nothing stands in two places.
+use Rattle.std.proofs.Common.{◌≡◌, ℕ, suc, ◌+◌, ◌<◌, ◌≤◌, Bool, true, false, List, [], ◌∷◌, ◌++◌, map, length, refl, sym, ap, ◌∙◌, subst, arith}
+use Rattle.std.specs.Prelude.{if◌then◌else◌, ◌==◌}
+use Rattle.std.proofs.lemmas.Bool.Decides.{nat_tests, Decides-eqb}
+use Rattle.nf_function.specs.declared.unit.Unit as units
+use Rattle.nf_function.specs.Semantics.{Semantics}
+use Rattle.nf_msgs.specs.declared.msg.Msg.{Msg}
+use Rattle.nf_msgs.specs.declared.note.Note.{Note}
+use Rattle.actor_net.specs.Network.{Network, IsWorld}
+use Rattle.proof_machines.proofs.unit.Ends.{same_of}
+use Rattle.proof_machines.proofs.unit.Stages.{IsOrderedAs}
+use Rattle.proof_machines.proofs.unit.Rests.{exactly}
+use Rattle.proof_machines.proofs.net.Readings.{not_both}
+use Rattle.proof_machines.proofs.whole.WhereAll.{WhereAll, Apart_from_shares, Under_share}
+use Rattle.net_world.specs.declared.config.Config.{Config}
+use Rattle.net_world.specs.declared.node.Node.{Node}
+use Rattle.net_world.specs.Input.{packets, IsRising, IsInput}
+use Rattle.net_world.specs.Log.{arrivals_in}
+use Rattle.net_world.specs.Places.{is_loose}
+use Rattle.net_world.specs.Fold.{times, IsFront, arrived_of, processed_of, in_flight_of}
+use Rattle.net_world.proofs.NumberCounts.{times-append}
+use Rattle.proof_outlines.proofs.outline.Outline.{is_sys}
+use Rattle.proof_outlines.proofs.joined.Given.{Given}
+use Rattle.proof_outlines.proofs.joined.Joined.{S, A, came_by, Joined}
+use Rattle.proof_outlines.proofs.joined.RunsJoined.{same_times}
+use Rattle.proof_outlines.proofs.joined.StartJoined.{given}
+use Rattle.nf_net.proofs.paths.PathSeats.{seated}
+use Rattle.nf_net.proofs.paths.SeatPaths as seats
+use Rattle.nf_net.proofs.paths.SharedOwners.{HomesOwn}
+use Rattle.nf_net.proofs.paths.SharedPaths as shares
+
+-- no number stands twice where numbers rise
+rising_above : (p least : ℕ) (ns : List ℕ) → IsRising least ns → p < least → times p ns ≡ 0
+rising_above p least [] h low = refl
+rising_above p least (n ∷ ns) h low =
+    let least_n = h.0 in
+    let off : (p == n) ≡ false = grind (arith, nat_tests, low, least_n) in
+    let rest = rising_above p (suc n) ns h.1 (omega (arith, low, least_n)) in
+    rw (off, rest) refl
+
+pub rising_once : (p least : ℕ) (ns : List ℕ) → IsRising least ns → times p ns ≤ 1
+rising_once p least [] h = omega arith
+rising_once p least (n ∷ ns) h = elim (p == n) as (λ b. (p == n) ≡ b → (if b then 1 else 0) + times p ns ≤ 1) [
+  | true ↦ λ e. (let same : p ≡ n = (Decides-eqb p n).0 e in let rest = rising_above p (suc n) ns h.1 (omega (arith, same)) in omega (arith, rest))
+  | false ↦ λ _. (let rest = rising_once p (suc n) ns h.1 in omega (arith, rest))
+] refl
+
+pub came_once : {F R : Type 0} (f : Semantics R) (c : Config) (items : List Msg) → IsInput f.kind c items → (w : Network (Node F R) Msg Note)
+    → IsFront (arrivals_in w.log) (map (λ p. p.number) (packets items)) → (p : ℕ) → times p (arrivals_in w.log) ≤ 1
+came_once f c items is w in_turn p =
+    let one : times p (map (λ q. q.number) (packets items)) ≤ 1 = rising_once p 0 (map (λ q. q.number) (packets items)) is.numbers in
+    let whole : times p (arrivals_in w.log ++ in_turn.rest) ≡ times p (map (λ q. q.number) (packets items)) = ap (times p) in_turn.whole in
+    let both = times-append p (arrivals_in w.log) in_turn.rest in
+    omega (arith, one, whole, both)
+
+module _ {F R : Type 0} (f : Semantics R) (c : Config) (items : List Msg) (is : IsInput f.kind c items) (n : ℕ) (count : n ≡ length c.names + 2)
+    (w : Network (Node F R) Msg Note) (nodes : length w.nodes ≡ n) (j : Joined f (given f c items is) n w) (world : IsWorld w)
+    (in_turn : IsFront (arrivals_in w.log) (map (λ p. p.number) (packets items))) (told : HomesOwn f c items is n count w j) (u : units.Unit) where
+  abbrev g : Given
+  g = given f c items is
+
+  -- what was processed, and then what is under way, is what came: in order, if no plain move handed the unit on
+  record Ordered : Type 0 where
+    flag : Bool
+    order : IsOrderedAs flag (processed_of f c items u w.log ++ in_flight_of f c items u w) (arrived_of f c items u w.log)
+    flag_is : flag ≡ true → is_loose c items u w.log ≡ true
+
+  ordered : Ordered
+  ordered = by_where (j.shown_is.every.unit u)
+    where
+      by_where : WhereAll (S f g) (A f g) (is_sys f g.site g.packet) u j.world (came_by f g w.log u) → Ordered
+      by_where (Apart_from_shares h none) =
+          let k = seated f c items is n count w nodes j u h.is in
+          record {
+            flag = k.flag;
+            order = subst (λ ps. IsOrderedAs k.flag ps (arrived_of f c items u w.log))
+                (sym (seats.all_is f c items is n count w nodes j world in_turn u h.is h.untaken)) k.order;
+            flag_is = k.flag_is;
+          }
+      by_where (Under_share x before b h o i) = record {
+        flag = b;
+        order = subst (λ ps. IsOrderedAs b ps (arrived_of f c items u w.log))
+            (sym (shares.all_is f c items is n count w nodes j world told u x before (came_by f g w.log u).diverted h)) o;
+        flag_is = i;
+      }
+
+  pub in_place : is_loose c items u w.log ≡ false → processed_of f c items u w.log ++ in_flight_of f c items u w ≡ arrived_of f c items u w.log
+  in_place off = exactly ordered.flag (processed_of f c items u w.log ++ in_flight_of f c items u w) (arrived_of f c items u w.log)
+      (not_both ordered.flag (is_loose c items u w.log) ordered.flag_is off) ordered.order
+
+  pub each_in_place : (p : ℕ) → times p (processed_of f c items u w.log) + times p (in_flight_of f c items u w) ≡ times p (arrived_of f c items u w.log)
+  each_in_place p =
+      let whole = times-append p (processed_of f c items u w.log) (in_flight_of f c items u w) in
+      let same : times p (processed_of f c items u w.log ++ in_flight_of f c items u w) ≡ times p (arrived_of f c items u w.log) =
+      sym (same_times p (processed_of f c items u w.log ++ in_flight_of f c items u w))
+      ∙ same_of ordered.flag (processed_of f c items u w.log ++ in_flight_of f c items u w) (arrived_of f c items u w.log) ordered.order p
+      ∙ same_times p (arrived_of f c items u w.log) in
+      omega (arith, whole, same)

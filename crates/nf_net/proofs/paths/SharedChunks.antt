@@ -1,0 +1,359 @@
+-- No chunk on its way is one of a unit under a share. A record that a member gives, or that the home is told to take, is one of the unit where the unit
+-- sees it so.
+use Rattle.std.proofs.Common.{◌≡◌, ◌≢◌, ℕ, zero, suc, ◌+◌, ◌<◌, Bool, true, false, Option, Some, None}
+use Rattle.std.proofs.Common.{List, [], ◌∷◌, ◌++◌, map, length, refl, sym, ap, ◌∙◌, subst, arith}
+use Rattle.std.specs.Prelude.{if◌then◌else◌, ◌==◌, ◌&&◌, ◌||◌, is_some, option_map, option_to_list}
+use Rattle.std.specs.List.{filter_map, flat_map}
+use Rattle.std.specs.FinMap as finite
+use Rattle.std.proofs.lemmas.Bool.Decides.{nat_tests}
+use Rattle.std.proofs.lemmas.List.Folds.{list_any-append}
+use Rattle.std.proofs.lemmas.Bool.{or_right, or_left}
+use Rattle.nf_function.specs.declared.chunk.Chunk.{Chunk as RealChunk}
+use Rattle.nf_function.specs.declared.unit.Unit as units
+use Rattle.nf_function.specs.Semantics.{Semantics}
+use Rattle.record_table.specs.Table.{same_unit, is_among}
+use Rattle.event_filter.specs.declared.mark.Mark.TheVariants as mark
+use Rattle.event_store.specs.Store.{stored_of}
+use Rattle.switch_rules.specs.declared.target.Target.TheVariants as target
+use Rattle.nf_msgs.specs.declared.command.Order.{Order}
+use Rattle.nf_msgs.specs.declared.command.Order.TheVariants as order
+use Rattle.nf_msgs.specs.declared.msg.Msg.{Msg}
+use Rattle.nf_msgs.specs.declared.msg.Msg.TheVariants as msg
+use Rattle.nf_msgs.specs.declared.note.Note.{Note}
+use Rattle.nf_msgs.specs.Exports.{units_in}
+use Rattle.ctrl_node.specs.declared.operation.Operation.{Operation}
+use Rattle.ctrl_node.specs.declared.operation.Operation.TheVariants.{Move, Copy, Share}
+use Rattle.actor_net.specs.Network.{Network, IsWorld, on_link}
+use Rattle.actor_net.proofs.WeightLaws.{Each as EachOn}
+use Rattle.proof_machines.proofs.unit.Real.{Frame, record_at, chunk_unit, where_true, add, M_fenced, M_install, M_fence_to, see_phase}
+use Rattle.proof_machines.proofs.share.Share.{Item, Item.Carry, Item.Fence, Item.Shared, Item.Diverted, Item.Install, Item.Forward}
+use Rattle.proof_machines.proofs.share.Share.{Item.Get, Item.Sync, Item.Fenced, Item.Chunks, Item.Chunk, Item.Synced, Item.Stray}
+use Rattle.proof_machines.proofs.share.Share.{View}
+use Rattle.proof_machines.proofs.net.Net as net
+use Rattle.proof_machines.proofs.net.Net.{Open, MoveAsked, find_op}
+use Rattle.proof_machines.proofs.net.Ctrl.{each_found}
+use Rattle.proof_machines.proofs.net.Holding.{frame}
+use Rattle.proof_machines.proofs.net.Rest.{RestOp}
+use Rattle.proof_machines.proofs.net.ShareViews.{share_seen, share_expect}
+use Rattle.proof_machines.proofs.net.Shares.{Any, Old, New, WantShare, ShareMsg, Shared_on, Diverted_on, S_asked, S_install}
+use Rattle.proof_machines.proofs.net.Shares.{S_forward, S_get, S_sync, S_chunks, S_shared, S_synced, SeeingShare}
+use Rattle.proof_machines.proofs.net.Under.{Under}
+use Rattle.proof_machines.proofs.net.UnderStarts.{seeing}
+use Rattle.net_world.specs.declared.config.Config.{Config}
+use Rattle.net_world.specs.declared.node.Node.{Node}
+use Rattle.net_world.specs.declared.node.Node.TheVariants.{Switch}
+use Rattle.net_world.specs.Input.{IsInput}
+use Rattle.net_world.specs.Path.{on_links}
+use Rattle.net_world.specs.Records.{chunks_in, kept_for, kept_by, spelled_of}
+use Rattle.net_world.specs.Records as records
+use Rattle.proof_outlines.proofs.outline.ControlOutline.{Sees}
+use Rattle.proof_outlines.proofs.outline.MoveOutline.{units_same}
+use Rattle.proof_outlines.proofs.outline.Outline.{entries, want_of}
+use Rattle.proof_outlines.proofs.whole.OpenShares.{but_shares}
+use Rattle.proof_outlines.proofs.whole.WholeOutline.{asked_of, want_share_of}
+use Rattle.proof_outlines.proofs.joined.Given.{Given, place}
+use Rattle.proof_outlines.proofs.joined.Joined.{S, A, shown, Label, Joined, node_of}
+use Rattle.proof_outlines.proofs.joined.StartJoined.{given}
+use Rattle.nf_net.proofs.paths.ChunkLemmas.{as_spelled, spelled-append, spelled-all, good_spelled, good_units}
+use Rattle.nf_net.proofs.paths.ChunkPlaces.{phase_spelled, none_kept}
+use Rattle.nf_net.proofs.paths.ChunkSums.{kept_records}
+use Rattle.nf_net.proofs.paths.PathNodes.{map_of}
+use Rattle.nf_net.proofs.paths.PathSeats.{labels, loop_is}
+use Rattle.nf_net.proofs.paths.PathSums.{one_at, no_link}
+use Rattle.nf_net.proofs.paths.SharedLinks.{item_of, IsKnown, AreKnown, first_known, view, seen_more}
+use Rattle.nf_net.proofs.paths.SharedPlaces.{v, link_known, link_view}
+
+module _ {R : Type 0} (f : Semantics R) (g : Given) (z : SeeingShare) where
+  abbrev u : units.Unit
+  u = z.unit
+
+  -- a message has no chunk of the unit
+  none_spelled : (cs : List (RealChunk)) → spelled_of f u cs ≡ as_spelled u (option_to_list (record_at u (entries f cs)))
+      → record_at u (entries f cs) ≡ None → spelled_of f u cs ≡ []
+  none_spelled cs is none = is ∙ ap (λ o. as_spelled u (option_to_list o)) none
+
+  msg_nothing : (s r : ℕ) (m : Msg) → Label f g s r m → IsKnown f g z s r (shown f g m) → spelled_of f u (chunks_in m) ≡ []
+  msg_nothing s r (msg.Piece op piece) l k = none_spelled piece.chunks (good_spelled f g u piece.chunks l.1.good) k.1
+  msg_nothing s r (msg.Put op piece first) l k = none_spelled piece.chunks (good_spelled f g u piece.chunks l.1.good) k.1
+  msg_nothing s r (msg.Restore op chunks) l k = none_spelled chunks (good_spelled f g u chunks l.1) k.1
+  msg_nothing s r (msg.PutNo op refused) l k = none_spelled refused.chunks (good_spelled f g u refused.chunks l.1) k.1
+  msg_nothing s r m l k = refl
+
+  -- What is seen as a record that a member gives, and as one to take.
+  record GivesRecord (a : Any R) (kept : R) : Type 0 where
+    n : ℕ
+    entry : units.Unit × R
+    is : a ≡ New (S_shared n entry)
+    own : record_at u (entry ∷ []) ≡ Some kept
+
+  record Takes (a : Any R) (kept : R) : Type 0 where
+    n : ℕ
+    home : Bool
+    cs : List (units.Unit × R)
+    is : a ≡ New (S_sync n home cs)
+    own : record_at u cs ≡ Some kept
+
+  -- an item that isn't what is seen
+  unlike : {X : Type 0} (b : Bool) (it it' : Item R) → (it ≡ it' → X) → where_true b it ≡ Some it' → X
+  unlike true it it' off e = off (let same_item : it ≡ it' = cc in same_item)
+  unlike false it it' off e = cc
+
+  unfit : {X : Type 0} (b : Bool) (it it' : Item R) → (it ≡ it' → X) → (Stray ≡ it' → X) → (if b then it else Stray) ≡ it' → X
+  unfit true it it' off stray e = off e
+  unfit false it it' off stray e = stray e
+
+  numbered : {X : Type 0} (b mine : Bool) (it it' : Item R) → (it ≡ it' → X) → (Stray ≡ it' → X) → (if b then Some it else where_true mine Stray) ≡ Some it' → X
+  numbered true mine it it' off stray e = off (let same_item : it ≡ it' = cc in same_item)
+  numbered false mine it it' off stray e = unlike mine Stray it' stray e
+
+  old_gives : (r : ℕ) (m : net.Msg R) (kept : R) → share_seen (S f g) (A f g) z r (Old m) ≡ Some (Chunk (Some kept)) → GivesRecord (Old m) kept
+  old_gives r (net.Carry_on p) kept e = unlike _ (Carry p) (Chunk (Some kept)) (λ q. cc) e
+  old_gives r (net.Pass_on p) kept e = unlike _ Stray (Chunk (Some kept)) (λ q. cc) e
+  old_gives r (net.Fence_on n) kept e = unlike _ Fence (Chunk (Some kept)) (λ q. cc) e
+  old_gives r (net.Mv h (M_fenced n)) kept e = unlike _ Fenced (Chunk (Some kept)) (λ q. cc) e
+  old_gives r (net.Mv h (M_install n from to)) kept e = unlike _ Stray (Chunk (Some kept)) (λ q. cc) e
+  old_gives r (net.Mv h (M_fence_to n to)) kept e = unlike _ Stray (Chunk (Some kept)) (λ q. cc) e
+  old_gives r (net.Mv h m) kept e = cc
+  old_gives r (net.In_packet p) kept e = cc
+  old_gives r (net.Asked x) kept e = cc
+
+  gives : (r : ℕ) (a : Any R) (kept : R) → share_seen (S f g) (A f g) z r a ≡ Some (Chunk (Some kept)) → GivesRecord a kept
+  gives r (Old m) kept e = old_gives r m kept e
+  gives r (New (Shared_on n home p)) kept e = numbered _ _ _ (Chunk (Some kept)) (λ q. unfit _ (Shared p) (Chunk (Some kept)) (λ t. cc) (λ t. cc) q) (λ q. cc) e
+  gives r (New (Diverted_on p)) kept e = numbered _ _ (Diverted p) (Chunk (Some kept)) (λ q. cc) (λ q. cc) e
+  gives r (New (S_asked x)) kept e = cc
+  gives r (New (S_install n h from)) kept e = unlike _ _ (Chunk (Some kept)) (λ q. unfit _ Install (Chunk (Some kept)) (λ t. cc) (λ t. cc) q) e
+  gives r (New (S_forward n home p to)) kept e =
+      numbered _ _ _ (Chunk (Some kept)) (λ q. unfit _ (Forward p to) (Chunk (Some kept)) (λ t. cc) (λ t. cc) q) (λ q. cc) e
+  gives r (New (S_get n h)) kept e = unlike _ Get (Chunk (Some kept)) (λ q. cc) e
+  gives r (New (S_sync n home cs)) kept e = unlike _ _ (Chunk (Some kept)) (λ q. unfit _ (Sync (record_at u cs)) (Chunk (Some kept)) (λ t. cc) (λ t. cc) q) e
+  gives r (New (S_chunks n cs)) kept e = unlike _ (Chunks (record_at u cs)) (Chunk (Some kept)) (λ q. cc) e
+  gives r (New (S_shared n entry)) kept e =
+      unlike _ (Chunk (record_at u (entry ∷ []))) (Chunk (Some kept)) (λ q. record { n = n; entry = entry; is = refl; own = cc }) e
+  gives r (New (S_synced n)) kept e = unlike _ Synced (Chunk (Some kept)) (λ q. cc) e
+
+  old_takes : (r : ℕ) (m : net.Msg R) (kept : R) → share_seen (S f g) (A f g) z r (Old m) ≡ Some (Sync (Some kept)) → Takes (Old m) kept
+  old_takes r (net.Carry_on p) kept e = unlike _ (Carry p) (Sync (Some kept)) (λ q. cc) e
+  old_takes r (net.Pass_on p) kept e = unlike _ Stray (Sync (Some kept)) (λ q. cc) e
+  old_takes r (net.Fence_on n) kept e = unlike _ Fence (Sync (Some kept)) (λ q. cc) e
+  old_takes r (net.Mv h (M_fenced n)) kept e = unlike _ Fenced (Sync (Some kept)) (λ q. cc) e
+  old_takes r (net.Mv h (M_install n from to)) kept e = unlike _ Stray (Sync (Some kept)) (λ q. cc) e
+  old_takes r (net.Mv h (M_fence_to n to)) kept e = unlike _ Stray (Sync (Some kept)) (λ q. cc) e
+  old_takes r (net.Mv h m) kept e = cc
+  old_takes r (net.In_packet p) kept e = cc
+  old_takes r (net.Asked x) kept e = cc
+
+  takes : (r : ℕ) (a : Any R) (kept : R) → share_seen (S f g) (A f g) z r a ≡ Some (Sync (Some kept)) → Takes a kept
+  takes r (Old m) kept e = old_takes r m kept e
+  takes r (New (Shared_on n home p)) kept e = numbered _ _ _ (Sync (Some kept)) (λ q. unfit _ (Shared p) (Sync (Some kept)) (λ t. cc) (λ t. cc) q) (λ q. cc) e
+  takes r (New (Diverted_on p)) kept e = numbered _ _ (Diverted p) (Sync (Some kept)) (λ q. cc) (λ q. cc) e
+  takes r (New (S_asked x)) kept e = cc
+  takes r (New (S_install n h from)) kept e = unlike _ _ (Sync (Some kept)) (λ q. unfit _ Install (Sync (Some kept)) (λ t. cc) (λ t. cc) q) e
+  takes r (New (S_forward n home p to)) kept e =
+      numbered _ _ _ (Sync (Some kept)) (λ q. unfit _ (Forward p to) (Sync (Some kept)) (λ t. cc) (λ t. cc) q) (λ q. cc) e
+  takes r (New (S_get n h)) kept e = unlike _ Get (Sync (Some kept)) (λ q. cc) e
+  takes r (New (S_sync n home cs)) kept e = unlike _ _ (Sync (Some kept))
+      (λ q. unfit _ (Sync (record_at u cs)) (Sync (Some kept)) (λ t. record { n = n; home = home; cs = cs; is = refl; own = cc }) (λ t. cc) q) e
+  takes r (New (S_chunks n cs)) kept e = unlike _ (Chunks (record_at u cs)) (Sync (Some kept)) (λ q. cc) e
+  takes r (New (S_shared n entry)) kept e = unlike _ (Chunk (record_at u (entry ∷ []))) (Sync (Some kept)) (λ q. cc) e
+  takes r (New (S_synced n)) kept e = unlike _ Synced (Sync (Some kept)) (λ q. cc) e
+
+  -- The messages that are seen so.
+  asked_none : (op : ℕ) (what : Order) (a : ShareMsg R) (kept : (want : WantShare) → New a ≡ New (S_asked want) → ⊥)
+      → asked_of f (place g) op what ≡ Some (New a) → ⊥
+  asked_none op (order.Move src dst filter keep) a kept e = by_want (want_of (place g) op (order.Move src dst filter keep)) e
+    where
+      by_want : (o : Option MoveAsked) → option_map (λ want. Old (net.Asked want)) o ≡ Some (New a) → ⊥
+      by_want None q = cc
+      by_want (Some x) q = cc
+  asked_none op (order.Copy src dst filter) a kept e = cc
+  asked_none op (order.Share members filter) a kept e = by_want (want_share_of (place g) op (order.Share members filter)) e
+    where
+      by_want : (o : Option WantShare) → option_map (λ want. New (S_asked want)) o ≡ Some (New a) → ⊥
+      by_want None q = cc
+      by_want (Some x) q = kept x (let same_message : New (S_asked x) ≡ New a = cc in sym same_message)
+
+  real_gives : (s r : ℕ) (m : Msg) → Label f g s r m → (n : ℕ) (entry : units.Unit × R) (kept : R) → shown f g m ≡ Some (New (S_shared n entry))
+      → record_at u (entry ∷ []) ≡ Some kept → is_among (records.shared_in m) u ≡ true
+  real_gives s r (msg.Shared op chunk) l n entry kept e own =
+      let good = l.1.chunk in
+      let seen : shown f g (msg.Shared op chunk) ≡ Some (New (S_shared op good.entry)) = ap (option_map (λ y. New (S_shared op y))) good.spells in
+      let both : Some (New (S_shared op good.entry)) ≡ Some (New (S_shared n entry)) = sym seen ∙ e in
+      let same_entry : good.entry ≡ entry = cc in
+      let spells = good.spells in
+      let all : entries f (chunk ∷ []) ≡ good.entry ∷ [] = rw spells refl in
+      let named : units_in (chunk ∷ []) ≡ entry.0 ∷ [] = units_same f (place g) (chunk ∷ []) (good, tt)
+      ∙ ap (λ es. map chunk_unit es) (all ∙ ap (λ y. y ∷ []) same_entry) in
+      ap (λ us. is_among us u) named ∙ by_test (same_unit u entry.0) own
+    where
+      by_test : (b : Bool) → (if b then Some entry.1 else None) ≡ Some kept → b || false ≡ true
+      by_test true q = refl
+      by_test false q = cc
+  real_gives s r (msg.Asked c) l n entry kept e own = absurd (asked_none c.op c.what (S_shared n entry) (λ want q. cc) e)
+  real_gives s r (msg.Carry mark.Plain cell) l n entry kept e own = cc
+  real_gives s r (msg.Carry (mark.Pass op) cell) l n entry kept e own = cc
+  real_gives s r (msg.Carry (mark.Shared op home) cell) l n entry kept e own = cc
+  real_gives s r (msg.Forward to mark.Plain cell) l n entry kept e own = cc
+  real_gives s r (msg.Forward to (mark.Pass op) cell) l n entry kept e own = cc
+  real_gives s r (msg.Forward to (mark.Shared op home) cell) l n entry kept e own = cc
+  real_gives s r (msg.Install op filter from target.Controller) l n entry kept e own = cc
+  real_gives s r (msg.Install op filter from (target.Instance to)) l n entry kept e own = cc
+  real_gives s r m l n entry kept e own = cc
+
+  real_takes : (s r : ℕ) (m : Msg) → Label f g s r m → (n : ℕ) (home : Bool) (cs : List (units.Unit × R)) (kept : R)
+      → shown f g m ≡ Some (New (S_sync n home cs)) → record_at u cs ≡ Some kept → is_among (records.synced_in m) u ≡ true
+  real_takes s r (msg.Sync home op chunks) l n flag cs kept e own =
+      let same_chunks : entries f chunks ≡ cs = cc in
+      good_units f g u chunks l.1 ∙ ap is_some (ap (record_at u) same_chunks ∙ own)
+  real_takes s r (msg.Shared op chunk) l n flag cs kept e own =
+      let seen : shown f g (msg.Shared op chunk) ≡ Some (New (S_shared op l.1.chunk.entry)) = ap (option_map (λ y. New (S_shared op y))) l.1.chunk.spells in
+      let both : Some (New (S_shared op l.1.chunk.entry)) ≡ Some (New (S_sync n flag cs)) = sym seen ∙ e in
+      cc
+  real_takes s r (msg.Asked c) l n flag cs kept e own = absurd (asked_none c.op c.what (S_sync n flag cs) (λ want q. cc) e)
+  real_takes s r (msg.Carry mark.Plain cell) l n flag cs kept e own = cc
+  real_takes s r (msg.Carry (mark.Pass op) cell) l n flag cs kept e own = cc
+  real_takes s r (msg.Carry (mark.Shared op home) cell) l n flag cs kept e own = cc
+  real_takes s r (msg.Forward to mark.Plain cell) l n flag cs kept e own = cc
+  real_takes s r (msg.Forward to (mark.Pass op) cell) l n flag cs kept e own = cc
+  real_takes s r (msg.Forward to (mark.Shared op home) cell) l n flag cs kept e own = cc
+  real_takes s r (msg.Install op filter from target.Controller) l n flag cs kept e own = cc
+  real_takes s r (msg.Install op filter from (target.Instance to)) l n flag cs kept e own = cc
+  real_takes s r m l n flag cs kept e own = cc
+
+  -- The unit is among those of a link on which the unit sees such an item alone.
+  module _ (covered : (S f g).takes z.filter z.unit ≡ true) (s r : ℕ) (of : Msg → List units.Unit) (it : Item R)
+      (tells : (m : Msg) → Label f g s r m → item_of f g z r (shown f g m) ≡ Some it → is_among (of m) u ≡ true) where
+    pub among : (ms : List Msg) → EachOn (Label f g s r) ms → view f g z covered r ms ≡ it ∷ [] → is_among (flat_map of ms) u ≡ true
+    among [] h e = cc
+    among (m ∷ ms) h e = list_any-append (same_unit u) (of m) (flat_map of ms)
+        ∙ by_item (λ rest. among ms h.1 rest) (item_of f g z r (shown f g m)) refl (sym (seen_more f g z covered r m ms) ∙ e)
+      where
+        by_item : (view f g z covered r ms ≡ it ∷ [] → is_among (flat_map of ms) u ≡ true) → (o : Option (Item R)) → item_of f g z r (shown f g m) ≡ o
+            → add o (view f g z covered r ms) ≡ it ∷ [] → is_among (of m) u || is_among (flat_map of ms) u ≡ true
+        by_item later None is rest = or_right (is_among (of m) u) (is_among (flat_map of ms) u) (later rest)
+        by_item later (Some other) is rest =
+            let same_item : other ≡ it = cc in or_left (is_among (of m) u) (is_among (flat_map of ms) u) (tells m h.0 (is ∙ ap Some same_item))
+
+  tells_given : (s r : ℕ) (kept : R) (m : Msg) → Label f g s r m → item_of f g z r (shown f g m) ≡ Some (Chunk (Some kept))
+      → is_among (records.shared_in m) u ≡ true
+  tells_given s r kept m l e = by_shown (shown f g m) refl e
+    where
+      by_shown : (o : Option (Any R)) → shown f g m ≡ o → item_of f g z r o ≡ Some (Chunk (Some kept)) → is_among (records.shared_in m) u ≡ true
+      by_shown None is q = cc
+      by_shown (Some a) is q = let it = gives r a kept q in real_gives s r m l it.n it.entry kept (is ∙ ap Some it.is) it.own
+
+  tells_taken : (s r : ℕ) (kept : R) (m : Msg) → Label f g s r m → item_of f g z r (shown f g m) ≡ Some (Sync (Some kept))
+      → is_among (records.synced_in m) u ≡ true
+  tells_taken s r kept m l e = by_shown (shown f g m) refl e
+    where
+      by_shown : (o : Option (Any R)) → shown f g m ≡ o → item_of f g z r o ≡ Some (Sync (Some kept)) → is_among (records.synced_in m) u ≡ true
+      by_shown None is q = cc
+      by_shown (Some a) is q = let it = takes r a kept q in real_takes s r m l it.n it.home it.cs kept (is ∙ ap Some it.is) it.own
+
+-- In a world.
+module _ {F R : Type 0} (f : Semantics R) (c : Config) (items : List Msg) (is : IsInput f.kind c items) (n : ℕ) (count : n ≡ length c.names + 2)
+    (w : Network (Node F R) Msg Note) (nodes : length w.nodes ≡ n) (j : Joined f (given f c items is) n w) (world : IsWorld w)
+    (u : units.Unit) (x : WantShare) (before since : List ℕ) (k : Under (S f (given f c items is)) (A f (given f c items is))
+    (seeing (S f (given f c items is)) (A f (given f c items is)) u x) j.world before since) where
+  abbrev g : Given
+  g = given f c items is
+
+  abbrev z : SeeingShare
+  z = seeing (S f g) (A f g) u x
+
+  abbrev its_view : View R
+  its_view = v f c items is n count w nodes j world u x before since k
+
+  -- a record that a member gives, and one that the home is to take
+  module _ (s r : ℕ) (hs : s < n) (hr : r < n) (off : (s == 0) && (r == 0) ≡ false) (kept : R) where
+    on_labels : EachOn (Label f g s r) (on_link w s r)
+    on_labels = labels f c items is n count w nodes j world s r hs hr off
+
+    shows : (it : Item R) → share_expect its_view s r ≡ it ∷ [] → view f g z k.covered r (on_link w s r) ≡ it ∷ []
+    shows it e = link_view f c items is n count w nodes j world u x before since k s r hs hr off ∙ e
+
+    pub given_on : share_expect its_view s r ≡ Chunk (Some kept) ∷ [] → is_among (flat_map records.shared_in (on_link w s r)) u ≡ true
+    given_on e =
+        among f g z k.covered s r records.shared_in (Chunk (Some kept)) (tells_given f g z s r kept) (on_link w s r) on_labels (shows (Chunk (Some kept)) e)
+
+    pub taken_on : share_expect its_view s r ≡ Sync (Some kept) ∷ [] → is_among (flat_map records.synced_in (on_link w s r)) u ≡ true
+    taken_on e =
+        among f g z k.covered s r records.synced_in (Sync (Some kept)) (tells_taken f g z s r kept) (on_link w s r) on_labels (shows (Sync (Some kept)) e)
+
+  -- No chunk is on its way.
+  none_on_link : (s r : ℕ) (ms : List Msg) → EachOn (Label f g s r) ms → AreKnown f g z k.covered s r (filter_map (shown f g) ms)
+      → spelled_of f u (flat_map chunks_in ms) ≡ []
+  none_on_link s r [] h a = refl
+  none_on_link s r (m ∷ ms) h a =
+      let both = first_known f g z k.covered s r (shown f g m) (filter_map (shown f g) ms) a in
+      let one = msg_nothing f g z s r m h.0 both.0 in
+      let rest = none_on_link s r ms h.1 both.1 in
+      spelled-append f u (chunks_in m) (flat_map chunks_in ms) ∙ rw (one, rest) refl
+
+  on_none : (s r : ℕ) → s < n → r < n → spelled_of f u (flat_map chunks_in (on_link w s r)) ≡ []
+  on_none s r hs hr = elim ((s == 0) && (r == 0)) as (λ t. (s == 0) && (r == 0) ≡ t → spelled_of f u (flat_map chunks_in (on_link w s r)) ≡ []) [
+    | true ↦ λ both.
+        let zs : s ≡ 0 = grind (arith, nat_tests) in
+        let zr : r ≡ 0 = grind (arith, nat_tests) in
+        ap (λ y. spelled_of f u (flat_map chunks_in y)) (ap (λ y. on_link w y r) zs ∙ ap (λ y. on_link w 0 y) zr ∙ loop_is f c items is n count w nodes j world)
+    | false ↦ λ off. none_on_link s r (on_link w s r) (labels f c items is n count w nodes j world s r hs hr off)
+        (link_known f c items is n count w nodes j world u x before since k s r hs hr off)
+  ] refl
+
+  abbrev got : ℕ → Option Operation
+  got q = finite.get j.nodes.controller.operations q
+
+  abbrev kept_at : Option Operation → List (Option (units.Unit × R))
+  kept_at None = []
+  kept_at (Some o) = spelled_of f u (kept_for o)
+
+  move_keeps : (q : ℕ) (e : Open R) → find_op j.world.ops q ≡ Some e → (o : Option Operation) → got q ≡ o
+      → Sees f (place g) (Some e) (but_shares o) (stored_of j.nodes.controller.store q) → kept_at o ≡ []
+  move_keeps q e found None there h = absurd h
+  move_keeps q e found (Some (Copy y)) there h = absurd h
+  move_keeps q e found (Some (Share s)) there h = absurd h
+  move_keeps q e found (Some (Move m)) there h =
+      let its = (each_found (RestOp (S f g) u) q j.world.ops e k.ops found).0 in
+      let fr : Frame = frame (S f g) (record { unit = u; op = e.op; third = 0 }) in
+      phase_spelled f g fr m.phase (j.shown_is.controller.moves q m there).pieces ∙ ap (λ p. as_spelled u (kept_records (see_phase fr p))) (sym h.phase)
+      ∙ ap (as_spelled u) (none_kept f g fr e.phase its.1.0)
+
+  none_keeps : (q : ℕ) (o : Option Operation) → Sees f (place g) None (but_shares o) (stored_of j.nodes.controller.store q) → kept_at o ≡ []
+  none_keeps q None h = refl
+  none_keeps q (Some (Copy y)) h = refl
+  none_keeps q (Some (Move m)) h = absurd h
+  none_keeps q (Some (Share s)) h = refl
+
+  kept_none : (q : ℕ) → kept_at (got q) ≡ []
+  kept_none q = by_open (find_op j.world.ops q) refl
+    where
+      sees : (o : Option (Open R)) → find_op j.world.ops q ≡ o → Sees f (place g) o (but_shares (got q)) (stored_of j.nodes.controller.store q)
+      sees o found = subst (λ y. Sees f (place g) y (but_shares (got q)) (stored_of j.nodes.controller.store q)) found (j.shown_is.controller.opens q).move
+
+      by_open : (o : Option (Open R)) → find_op j.world.ops q ≡ o → kept_at (got q) ≡ []
+      by_open None found = none_keeps q (got q) (sees None found)
+      by_open (Some e) found = move_keeps q e found (got q) refl (sees (Some e) found)
+
+  others_keep : (q : ℕ) → q ≢ 1 → spelled_of f u (kept_by (node_of j.nodes q)) ≡ []
+  others_keep zero off = refl
+  others_keep (suc zero) off = absurd (off refl)
+  others_keep (suc (suc q)) off = refl
+
+  all_kept : spelled_of f u (flat_map kept_by w.nodes) ≡ []
+  all_kept =
+      let d : Node F R = Switch j.nodes.switch in
+      let one : 1 < n = omega (arith, count) in
+      spelled-all f u kept_by w.nodes
+      ∙ one_at (λ y. spelled_of f u (kept_by y)) w.nodes 1 d (rw nodes one)
+      (λ i small off. ap (λ y. spelled_of f u (kept_by y)) (j.nodes_are i (rw (← nodes) small) d) ∙ others_keep i off)
+      ∙ ap (λ y. spelled_of f u (kept_by y)) (j.nodes_are 1 one d)
+      ∙ spelled-all f u (λ e. kept_for e.1) (finite.entries j.nodes.controller.operations)
+      ∙ map_of (λ q o. kept_at o) (λ q. refl) 0 j.nodes.controller.operations (λ q off. kept_none q)
+      ∙ kept_none 0
+
+  pub none_on_way : records.on_way f w u ≡ []
+  none_on_way =
+      spelled-append f u (on_links w chunks_in) (flat_map kept_by w.nodes)
+      ∙ ap (λ l. l ++ spelled_of f u (flat_map kept_by w.nodes)) (spelled-all f u (flat_map chunks_in) w.links
+      ∙ no_link w world.square (λ ms. spelled_of f u (flat_map chunks_in ms)) (λ s r hs hr. on_none s r (rw (← nodes) hs) (rw (← nodes) hr)))
+      ∙ all_kept

@@ -1,0 +1,68 @@
+-- The members of an open share are among the nodes, and a share that a unit is under, as the controller has it. And what is told
+-- of the log: the home of such a share owns the unit.
+use Rattle.std.proofs.Common.{◌≡◌, ℕ, ◌+◌, ◌<◌, true, false, Some, List, [], ◌∷◌, map, length, refl, sym, ap, ◌∙◌, arith}
+use Rattle.std.specs.Prelude.{if◌then◌else◌, ◌==◌, nat_lt}
+use Rattle.std.proofs.lemmas.Bool.Decides.{Decides-eqb, Decides-ltb}
+use Rattle.nf_function.specs.declared.unit.Unit as units
+use Rattle.nf_function.specs.Semantics.{Semantics}
+use Rattle.nf_msgs.specs.declared.msg.Msg.{Msg}
+use Rattle.nf_msgs.specs.declared.note.Note.{Note}
+use Rattle.nf_msgs.specs.Nodes.{instance_node}
+use Rattle.actor_net.specs.Network.{Network}
+use Rattle.proof_machines.proofs.unit.Labels.{Each}
+use Rattle.proof_machines.proofs.share.Share.{View, has}
+use Rattle.proof_machines.proofs.share.Stages.{shape}
+use Rattle.proof_machines.proofs.net.ShareViews.{unit_share, as_share}
+use Rattle.proof_machines.proofs.net.Shares.{WantShare, OpenShare, find_share, SeeingShare}
+use Rattle.proof_machines.proofs.net.Under.{Under}
+use Rattle.proof_machines.proofs.net.UnderStarts.{seeing}
+use Rattle.net_world.specs.declared.config.Config.{Config}
+use Rattle.net_world.specs.declared.node.Node.{Node}
+use Rattle.net_world.specs.Input.{IsInput}
+use Rattle.net_world.specs.Places.{owner}
+use Rattle.proof_outlines.proofs.whole.OpenShares.{real_share, RealShare}
+use Rattle.proof_outlines.proofs.joined.Given.{Given, place}
+use Rattle.proof_outlines.proofs.joined.Joined.{S, A, Joined}
+use Rattle.proof_outlines.proofs.joined.StartJoined.{given}
+
+-- members of a share are instances that are there
+few_nodes : (count : ℕ) (xs : List ℕ) → Each (λ x. nat_lt x count ≡ true) xs → (k : ℕ) → has (map instance_node xs) k ≡ true → k < count + 2
+few_nodes count [] h k is = cc
+few_nodes count (x ∷ xs) h k is =
+    elim (k == instance_node x) as (λ b. (k == instance_node x) ≡ b → (if b then true else has (map instance_node xs) k) ≡ true → k < count + 2) [
+      | true ↦ λ on _. (let same : k ≡ instance_node x = (Decides-eqb k (instance_node x)).0 on in
+          let low : x < count = (Decides-ltb x count).0 h.0 in omega (arith, same, low))
+      | false ↦ λ _ rest. few_nodes count xs h.1 k rest
+    ] refl is
+
+module _ {F R : Type 0} (f : Semantics R) (c : Config) (items : List Msg) (is : IsInput f.kind c items) (n : ℕ) (count : n ≡ length c.names + 2)
+    (w : Network (Node F R) Msg Note) (j : Joined f (given f c items is) n w) where
+  abbrev g : Given
+  g = given f c items is
+
+  -- the members of an open share are among the nodes
+  pub members_few : (e : OpenShare) → find_share j.world.shares e.num ≡ Some e → (k : ℕ) → has e.members k ≡ true → k < n
+  members_few e found k inside =
+      let r = real_share f (place g) g.site j.world.ops j.world.shares j.nodes.controller e.num e j.shown_is.controller.opens found in
+      let few = (j.shown_is.controller.shared e.num r.s r.there).few in
+      let low : k < length c.names + 2 = few_nodes (length c.names) r.s.plan.members few k (ap (λ y. has y.members k) (sym r.sees.is) ∙ inside) in
+      omega (arith, low, count)
+
+  module _ (u : units.Unit) (x : WantShare) (before since : List ℕ) (k : Under (S f g) (A f g) (seeing (S f g) (A f g) u x) j.world before since) where
+    abbrev z : SeeingShare
+    z = seeing (S f g) (A f g) u x
+
+    abbrev v : View R
+    v = shape (unit_share (S f g) (A f g) z) k.stage
+
+    abbrev e : OpenShare
+    e = as_share (S f g) (A f g) z v.phase v.queue
+
+    -- as the controller has it
+    pub real : RealShare f (place g) g.site j.nodes.controller x.num e
+    real = real_share f (place g) g.site j.world.ops j.world.shares j.nodes.controller x.num e j.shown_is.controller.opens k.holds.share
+
+  -- the home of the share that a unit is under owns it, by the log
+  abbrev pub HomesOwn : Type 0
+  HomesOwn = (u : units.Unit) (x : WantShare) (before since : List ℕ) → Under (S f g) (A f g) (seeing (S f g) (A f g) u x) j.world before since
+      → instance_node (owner c items u w.log) ≡ x.home

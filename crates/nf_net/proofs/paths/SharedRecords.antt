@@ -1,0 +1,204 @@
+-- The records of a unit under a share, at the instances of a world: the live one is at the home and has seen all that was processed, or all but the last
+-- packet, whose member has the newer record standing by while one is on its way to the home.
+use Rattle.std.proofs.Common.{◌≡◌, ◌≢◌, ℕ, ◌+◌, ◌<◌, ◌≤◌, true, false, Option, None, List, [], ◌∷◌, ◌++◌, length, refl, sym, ap, ◌∙◌, arith}
+use Rattle.std.specs.Prelude.{if◌then◌else◌, ◌==◌, ◌-◌, nat_lt, slice_get}
+use Rattle.std.specs.List.{flat_map}
+use Rattle.std.specs.FinMap as finite
+use Rattle.std.proofs.lemmas.Bool.{ltb-false, or_left, or_right}
+use Rattle.std.proofs.lemmas.Bool.Decides.{nat_tests, Decides-ltb}
+use Rattle.std.proofs.lemmas.Option.{slice_get_past}
+use Rattle.nf_function.specs.declared.unit.Unit as units
+use Rattle.nf_function.specs.Semantics.{Semantics}
+use Rattle.record_table.specs.Table.{same_unit, is_among}
+use Rattle.nf_msgs.specs.declared.msg.Msg.{Msg}
+use Rattle.nf_msgs.specs.declared.note.Note.{Note}
+use Rattle.nf_msgs.specs.Nodes.{controller_node, instance_node}
+use Rattle.actor_net.specs.Network.{Network, IsWorld, on_link}
+use Rattle.proof_machines.proofs.share.Share.{Ran, UnitShare, View, has, runs}
+use Rattle.proof_machines.proofs.share.Stages.{packets, processed, shape}
+use Rattle.proof_machines.proofs.share.Lists.{self, packets-append}
+use Rattle.proof_machines.proofs.net.Readings.{fold}
+use Rattle.proof_machines.proofs.net.ShareViews.{unit_share, as_share}
+use Rattle.proof_machines.proofs.net.Shares.{WantShare, SeeingShare, ran_of}
+use Rattle.proof_machines.proofs.net.Under.{Under}
+use Rattle.proof_machines.proofs.net.UnderStarts.{seeing, packets_done}
+use Rattle.proof_machines.proofs.net.UnderReadings.{all_done}
+use Rattle.proof_machines.proofs.whole.Readings.{fold_packets}
+use Rattle.net_world.specs.declared.config.Config.{Config}
+use Rattle.net_world.specs.declared.node.Node.{Node}
+use Rattle.net_world.specs.Input.{IsInput}
+use Rattle.net_world.specs.Places.{owner}
+use Rattle.net_world.specs.Fold.{is_of, processed_of}
+use Rattle.net_world.specs.Records.{live_in, live_at, shared_in, synced_in, is_to_take}
+use Rattle.net_world.specs.Standby.{standby_in, standby_at}
+use Rattle.proof_outlines.proofs.joined.Given.{Given}
+use Rattle.proof_outlines.proofs.joined.Joined.{S, A, Joined}
+use Rattle.proof_outlines.proofs.joined.RunsJoined.{done_same}
+use Rattle.proof_outlines.proofs.joined.StartJoined.{given}
+use Rattle.nf_net.proofs.paths.PathSeats.{found_instance}
+use Rattle.nf_net.proofs.paths.SharedChunks.{given_on, taken_on}
+use Rattle.nf_net.proofs.paths.SharedOwners.{HomesOwn, members_few}
+use Rattle.nf_net.proofs.paths.SharedStages.{Comes, From_member, To_home, Ahead, Sees, Sees_all, Is_ahead, sees}
+
+-- the last of those that were done of a unit is the unit's
+last_mine : {R : Type 0} (f : Semantics R) (g : Given) (u : units.Unit) (ds xs : List Ran) (d : Ran) → ran_of (S f g) (A f g) u ds ≡ xs ++ d ∷ []
+    → same_unit ((S f g).packet_unit d.0) u ≡ true
+last_mine f g u [] [] d e = cc
+last_mine f g u [] (y ∷ ys) d e = cc
+last_mine f g u (x ∷ ds) xs d e = elim (same_unit ((S f g).packet_unit x.0) u) as (λ b. same_unit ((S f g).packet_unit x.0) u ≡ b
+    → (if b then x ∷ ran_of (S f g) (A f g) u ds else ran_of (S f g) (A f g) u ds) ≡ xs ++ d ∷ [] → same_unit ((S f g).packet_unit d.0) u ≡ true) [
+      | true ↦ λ on q. by_front on (λ ys more. last_mine f g u ds ys d more) xs q
+      | false ↦ λ _ q. last_mine f g u ds xs d q
+    ] refl e
+  where
+    by_front : same_unit ((S f g).packet_unit x.0) u ≡ true
+        → ((ys : List Ran) → ran_of (S f g) (A f g) u ds ≡ ys ++ d ∷ [] → same_unit ((S f g).packet_unit d.0) u ≡ true) → (ys : List Ran)
+        → x ∷ ran_of (S f g) (A f g) u ds ≡ ys ++ d ∷ [] → same_unit ((S f g).packet_unit d.0) u ≡ true
+    by_front on later [] q = let same_one : x ≡ d = cc in ap (λ y. same_unit ((S f g).packet_unit y.0) u) (sym same_one) ∙ on
+    by_front on later (y ∷ ys) q = let rest : ran_of (S f g) (A f g) u ds ≡ ys ++ d ∷ [] = cc in later ys rest
+
+module _ {F R : Type 0} (f : Semantics R) (c : Config) (items : List Msg) (is : IsInput f.kind c items) (n : ℕ) (count : n ≡ length c.names + 2)
+    (w : Network (Node F R) Msg Note) (nodes : length w.nodes ≡ n) (j : Joined f (given f c items is) n w) (world : IsWorld w)
+    (told : HomesOwn f c items is n count w j) (u : units.Unit) (x : WantShare) (before since : List ℕ) (k : Under (S f (given f c items is))
+    (A f (given f c items is)) (seeing (S f (given f c items is)) (A f (given f c items is)) u x) j.world before since) where
+  abbrev g : Given
+  g = given f c items is
+
+  abbrev z : SeeingShare
+  z = seeing (S f g) (A f g) u x
+
+  abbrev fr : UnitShare R
+  fr = unit_share (S f g) (A f g) z
+
+  abbrev v : View R
+  v = shape fr k.stage
+
+  -- the home, by its instance
+  abbrev pub i0 : ℕ
+  i0 = owner c items u w.log
+
+  home_is : instance_node i0 ≡ x.home
+  home_is = told u x before since k
+
+  few : (m : ℕ) → has x.members m ≡ true → m < n
+  few m inside = members_few f c items is n count w j (as_share (S f g) (A f g) z v.phase v.queue) k.holds.share m inside
+
+  -- what is kept after packets
+  abbrev pub kept : List ℕ → Option R
+  kept ps = fold (S f g).F None ps
+
+  kept_runs : (ds : List Ran) → runs (S f g).F None ds ≡ kept (packets ds)
+  kept_runs ds = fold_packets (S f g).F None ds
+
+  went_is : processed_of f c items u w.log ≡ packets (processed fr k.stage)
+  went_is = sym (done_same f c items is n w j u) ∙ sym (packets_done (S f g) (A f g) u j.world.done)
+      ∙ ap packets (all_done (S f g) (A f g) z j.world before since k)
+
+  -- At an instance.
+  live_there : (m : ℕ) → 2 ≤ m → m < n → live_in u (slice_get w.nodes m) ≡ (S f g).B.at u (j.world.inst m).live
+  live_there m two low =
+      ap (live_in u) (found_instance f c items is n count w nodes j m two low) ∙ ap (λ y. finite.get y.live u) (j.shown_is.instances m two low).outline_is
+
+  standby_there : (m : ℕ) → 2 ≤ m → m < n → standby_in u (slice_get w.nodes m) ≡ (S f g).B.at u (j.world.standby m)
+  standby_there m two low =
+      ap (standby_in u) (found_instance f c items is n count w nodes j m two low) ∙ ap (λ t. finite.get t u) (j.shown_is.instances m two low).standby_is
+
+  home_live : live_at w i0 u ≡ v.own x.home
+  home_live =
+      let same_home = self x.home in
+      ap (λ m. live_in u (slice_get w.nodes m)) home_is ∙ live_there x.home (k.insts x.home k.is.home_in) (few x.home k.is.home_in)
+      ∙ (rw same_home at (k.holds.own x.home k.is.home_in))
+
+  -- no other has a live record
+  pub alone : (i : ℕ) → i ≢ i0 → live_at w i u ≡ None
+  alone i off =
+      let other : (instance_node i == x.home) ≡ false = (let home = home_is in grind (arith, nat_tests, off, home)) in
+      elim (nat_lt (instance_node i) n) as (λ t. nat_lt (instance_node i) n ≡ t → live_at w i u ≡ None) [
+        | true ↦ λ e. live_there (instance_node i) (omega arith) ((Decides-ltb (instance_node i) n).0 e) ∙ k.away (instance_node i) other
+        | false ↦ λ e. ap (live_in u) (slice_get_past w.nodes (instance_node i) (rw nodes (ltb-false (instance_node i) n e)))
+      ] refl
+
+  -- a member has processed the last packet, and the home is to take its record
+  pub record HomeLacksLast : Type 0 where
+    pub last : ℕ
+    pub seen : List ℕ
+    pub last_is : processed_of f c items u w.log ≡ seen ++ last ∷ []
+    pub live : live_at w i0 u ≡ kept seen
+    pub member : ℕ
+    pub member_is : (A f g).member x.members last ≡ instance_node member
+    pub other : member ≢ i0
+    pub stands_by : standby_at w member u ≡ kept (processed_of f c items u w.log)
+    pub on_its_way : is_to_take w u i0 member ≡ true
+    pub its : is_of f c items u last ≡ true
+    pub diverts : v.diverts ≡ true
+
+  pub data HasShared : Type 0 where
+    Saw_all : live_at w i0 u ≡ kept (processed_of f c items u w.log) → HasShared
+    Home_lacks_last : HomeLacksLast → HasShared
+
+  module _ (a : Ahead fr k.stage) where
+    abbrev node : ℕ
+    node = fr.member_of a.last
+
+    inside : has x.members node ≡ true
+    inside = k.is.member_in a.last
+
+    two : 2 ≤ node
+    two = k.insts node inside
+
+    abbrev m : ℕ
+    m = node - 2
+
+    m_is : instance_node m ≡ node
+    m_is = let low = two in omega (arith, low)
+
+    apart : (node == x.home) ≡ false
+    apart = let off = a.away in grind (arith, nat_tests, off)
+
+    -- where the record is
+    comes : Comes fr k.stage node → is_to_take w u i0 m ≡ true
+    comes (From_member r e) =
+        let low = two in
+        let off_0 : (node == 0) ≡ false = grind (arith, nat_tests, low) in
+        let off_1 : (node == 1) ≡ false = grind (arith, nat_tests, low) in
+        let on : is_among (flat_map shared_in (on_link w node controller_node)) u ≡ true = given_on f c items is n count w nodes j world u x before since k
+        node 1 (few node inside) (omega (arith, count)) (rw off_0 refl) r (rw (off_0, off_1) e) in
+        or_left (is_among (flat_map shared_in (on_link w (instance_node m) controller_node)) u)
+        (is_among (flat_map synced_in (on_link w controller_node (instance_node i0))) u)
+        (ap (λ q. is_among (flat_map shared_in (on_link w q controller_node)) u) m_is ∙ on)
+    comes (To_home r e) =
+        let low = k.insts x.home k.is.home_in in
+        let off_0 : (x.home == 0) ≡ false = grind (arith, nat_tests, low) in
+        let on : is_among (flat_map synced_in (on_link w controller_node x.home)) u ≡ true = taken_on f c items is n count w nodes j world u x before since
+        k 1 x.home (omega (arith, count)) (few x.home k.is.home_in) refl r (rw off_0 e) in
+        or_right (is_among (flat_map shared_in (on_link w (instance_node m) controller_node)) u)
+        (is_among (flat_map synced_in (on_link w controller_node (instance_node i0))) u)
+        (ap (λ q. is_among (flat_map synced_in (on_link w controller_node q)) u) home_is ∙ on)
+
+    all_ran : ran_of (S f g) (A f g) u j.world.done ≡ a.seen ++ (a.last, node) ∷ []
+    all_ran = all_done (S f g) (A f g) z j.world before since k ∙ a.all
+
+    behind : HomeLacksLast
+    behind = record {
+      last = a.last;
+      seen = packets a.seen;
+      last_is = went_is ∙ ap packets a.all ∙ packets-append a.seen ((a.last, node) ∷ []);
+      live = home_live ∙ a.live ∙ kept_runs a.seen;
+      member = m;
+      member_is = sym m_is;
+      other = λ same. a.away (sym m_is ∙ ap instance_node same ∙ home_is);
+      stands_by =
+          let off = apart in
+          ap (λ q. standby_in u (slice_get w.nodes q)) m_is ∙ standby_there node two (few node inside)
+          ∙ (rw off at (k.holds.own node inside)) ∙ a.own ∙ kept_runs (processed fr k.stage) ∙ ap kept (sym went_is);
+      on_its_way = comes a.comes;
+      its = last_mine f g u j.world.done a.seen (a.last, node) all_ran;
+      diverts = a.diverts;
+    }
+
+  pub has_shared : HasShared
+  has_shared = by_stage (sees fr k.is k.stage k.fits)
+    where
+      by_stage : Sees fr k.stage → HasShared
+      by_stage (Sees_all e) = Saw_all (home_live ∙ e ∙ kept_runs (processed fr k.stage) ∙ ap kept (sym went_is))
+      by_stage (Is_ahead a) = Home_lacks_last (behind a)

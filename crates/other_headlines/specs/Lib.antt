@@ -1,4 +1,0 @@
-pub mod Strong
-pub mod StrongLaw
-pub mod Published
-pub mod PublishedLaw

@@ -1,5 +1,0 @@
-//! What the proof of the network sees of its nodes: the outline of each message and of each step.
-//!
-//! There is no code here, and nobody has to believe its definitions: they are steps between the network's tables and what is
-//! proved of every run. The outline of a real step is a step of `abstract_net`. No world of a run stands here.
-#![tactic(auto)]

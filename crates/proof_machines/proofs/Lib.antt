@@ -1,0 +1,4 @@
+pub mod unit
+pub mod share
+pub mod net
+pub mod whole

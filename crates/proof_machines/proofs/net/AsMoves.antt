@@ -1,0 +1,216 @@
+-- The whole world's steps as moves see them: a step on a message of a move is, to every unit, that of the moves' world; a step on a
+-- message of a share leaves the controller's moves as they are.
+use Rattle.std.proofs.Common.{◌≡◌, ℕ, Bool, true, false, Option, Some, None, List, [], ◌∷◌, ◌++◌, drop, length, refl, sym, ap, ◌∙◌, append-nil, arith}
+use Rattle.std.specs.Prelude.{if◌then◌else◌, ◌&&◌, ◌==◌}
+use Rattle.std.specs.Option.{option_map_or}
+use Rattle.std.proofs.lemmas.Bool.Decides.{nat_tests}
+use Rattle.proof_machines.proofs.unit.Real.{Chunks, sent_for}
+use Rattle.proof_machines.proofs.share.Share.{Phase, Phase.Fencing, Phase.Getting, Phase.Setting, Phase.Idle, Phase.Out, Phase.Syncing, without_number}
+use Rattle.proof_machines.proofs.net.Net.{Msg, MoveAsked, Sys, process, inst_step, ctrl_step, sw_sends, begin_sends}
+use Rattle.proof_machines.proofs.net.Net.{behind, links_after, inst_next, ctrl_next, sw_next, begin_next}
+use Rattle.proof_machines.proofs.net.Elsewhere.{Elsewhere}
+use Rattle.proof_machines.proofs.net.Shares.{Any, Any.Old, Any.New, ShareMsg, ShareMsg.Shared_on, ShareMsg.Diverted_on, ShareMsg.S_asked}
+use Rattle.proof_machines.proofs.net.Shares.{ShareMsg.S_install, ShareMsg.S_forward, ShareMsg.S_get, ShareMsg.S_sync, ShareMsg.S_chunks, ShareMsg.S_shared}
+use Rattle.proof_machines.proofs.net.Shares.{ShareMsg.S_synced, olds, as_old, Sharing, OpenShare, Told, Told.Is_fenced, Told.Has_chunks, Told.Has_chunk}
+use Rattle.proof_machines.proofs.net.Shares.{Told.Is_synced, Told.Has_packet, syncs, s_row, s_served, told_by, by_share, s_goes, s_left, shared_chunk}
+use Rattle.proof_machines.proofs.net.Shares.{member_step, WholeWorld, moves_of, whole_inst, whole_ctrl, whole_switch, begin_move}
+use Rattle.nf_function.specs.declared.unit.Unit as units
+
+abbrev pub put_old : {R : Type 0} → ℕ → Any R → List (ℕ × Msg R) → List (ℕ × Msg R)
+put_old j (Old m) xs = (j, m) ∷ xs
+put_old j (New m) xs = xs
+
+-- the moves' messages among sends
+abbrev pub old_sends : {R : Type 0} → List (ℕ × Any R) → List (ℕ × Msg R)
+old_sends [] = []
+old_sends (x ∷ xs) = put_old x.0 x.1 (old_sends xs)
+
+pub olds-append : {R : Type 0} (xs ys : List (Any R)) → olds (xs ++ ys) ≡ olds xs ++ olds ys
+olds-append [] ys = refl
+olds-append (Old m ∷ xs) ys = ap (λ v. m ∷ v) (olds-append xs ys)
+olds-append (New m ∷ xs) ys = olds-append xs ys
+
+put_old-append : {R : Type 0} (j : ℕ) (m : Any R) (xs ys : List (ℕ × Msg R)) → put_old j m (xs ++ ys) ≡ put_old j m xs ++ ys
+put_old-append j (Old m) xs ys = refl
+put_old-append j (New m) xs ys = refl
+
+pub old_sends-append : {R : Type 0} (xs ys : List (ℕ × Any R)) → old_sends (xs ++ ys) ≡ old_sends xs ++ old_sends ys
+old_sends-append [] ys = refl
+old_sends-append (x ∷ xs) ys = ap (put_old x.0 x.1) (old_sends-append xs ys) ∙ put_old-append x.0 x.1 (old_sends xs) (old_sends ys)
+
+pub old_sends-old : {R : Type 0} (xs : List (ℕ × Msg R)) → old_sends (as_old xs) ≡ xs
+old_sends-old [] = refl
+old_sends-old (x ∷ xs) = ap (λ v. x ∷ v) (old_sends-old xs)
+
+one_sent : {R : Type 0} (j k : ℕ) (m : Any R) (xs : List (Any R)) (ys : List (ℕ × Msg R)) → olds xs ≡ sent_for j ys
+    → olds (if k == j then m ∷ xs else xs) ≡ sent_for j (put_old k m ys)
+one_sent j k (Old m) xs ys e =
+    elim (k == j) as (λ b. olds (if b then Old m ∷ xs else xs) ≡ (if b then m ∷ sent_for j ys else sent_for j ys)) [ true ↦ ap (λ v. m ∷ v) e | false ↦ e ]
+one_sent j k (New m) xs ys e = elim (k == j) as (λ b. olds (if b then New m ∷ xs else xs) ≡ sent_for j ys) [ true ↦ e | false ↦ e ]
+
+pub olds-sent : {R : Type 0} (j : ℕ) (xs : List (ℕ × Any R)) → olds (sent_for j xs) ≡ sent_for j (old_sends xs)
+olds-sent j [] = refl
+olds-sent j (x ∷ xs) = one_sent j x.0 x.1 (sent_for j xs) (old_sends xs) (olds-sent j xs)
+
+olds-if : {R : Type 0} (b : Bool) (j : ℕ) (xs : List (ℕ × Any R)) → olds (if b then sent_for j xs else []) ≡ (if b then sent_for j (old_sends xs) else [])
+olds-if true j xs = olds-sent j xs
+olds-if false j xs = refl
+
+-- links with sends put on them
+pub olds-put : {R : Type 0} (l : List (Any R)) (b : Bool) (j : ℕ) (xs : List (ℕ × Any R)) (ys : List (ℕ × Msg R)) → old_sends xs ≡ ys
+    → olds (l ++ (if b then sent_for j xs else [])) ≡ olds l ++ (if b then sent_for j ys else [])
+olds-put l b j xs ys e = olds-append l (if b then sent_for j xs else []) ∙ ap (λ v. olds l ++ v) (olds-if b j xs ∙ ap (λ v. if b then sent_for j v else []) e)
+
+pub no_olds-put : {R : Type 0} (l : List (Any R)) (b : Bool) (j : ℕ) (xs : List (ℕ × Any R)) → old_sends xs ≡ []
+    → olds (l ++ (if b then sent_for j xs else [])) ≡ olds l
+no_olds-put l true j xs e = olds-put l true j xs [] e ∙ append-nil (olds l)
+no_olds-put l false j xs e = ap olds (append-nil l)
+
+old-behind : {R : Type 0} (b : Bool) (xs rest : List (Any R)) (m : Msg R) → (b ≡ true → xs ≡ Old m ∷ rest) → olds (behind b xs) ≡ behind b (olds xs)
+old-behind true xs rest m e = ap (λ v. olds (drop 1 v)) (e refl) ∙ sym (ap (λ v. drop 1 (olds v)) (e refl))
+old-behind false xs rest m e = refl
+
+new-behind : {R : Type 0} (b : Bool) (xs rest : List (Any R)) (m : ShareMsg R) → (b ≡ true → xs ≡ New m ∷ rest) → olds (behind b xs) ≡ olds xs
+new-behind true xs rest m e = ap (λ v. olds (drop 1 v)) (e refl) ∙ sym (ap olds (e refl))
+new-behind false xs rest m e = refl
+
+module _ {R : Type 0} (l : ℕ → ℕ → List (Any R)) (p k : ℕ) (rest : List (Any R)) (sends : List (ℕ × Any R)) (ys : List (ℕ × Msg R))
+    (is : old_sends sends ≡ ys) where
+  the_head : (m : Any R) → l p k ≡ m ∷ rest → (i j : ℕ) → (i == p) && (j == k) ≡ true → l i j ≡ m ∷ rest
+  the_head m waits i j e = let ip : i ≡ p = grind (arith, nat_tests) in let jk : j ≡ k = grind (arith, nat_tests) in rw (ip, jk) waits
+
+  -- after a step on a message of a move
+  pub olds-after : (m : Msg R) → l p k ≡ Old m ∷ rest → (i j : ℕ) → olds (links_after l p k sends i j) ≡ links_after (λ i j. olds (l i j)) p k ys i j
+  olds-after m waits i j = olds-put (behind ((i == p) && (j == k)) (l i j)) (i == k) j sends ys is
+      ∙ ap (λ v. v ++ (if i == k then sent_for j ys else [])) (old-behind ((i == p) && (j == k)) (l i j) rest m (the_head (Old m) waits i j))
+
+  -- and on one of a share
+  pub news-after : (m : ShareMsg R) → l p k ≡ New m ∷ rest → (i j : ℕ)
+      → olds (links_after l p k sends i j) ≡ olds (l i j) ++ (if i == k then sent_for j ys else [])
+  news-after m waits i j = olds-put (behind ((i == p) && (j == k)) (l i j)) (i == k) j sends ys is
+      ∙ ap (λ v. v ++ (if i == k then sent_for j ys else [])) (new-behind ((i == p) && (j == k)) (l i j) rest m (the_head (New m) waits i j))
+
+pub no_olds-after : {R : Type 0} (l : ℕ → ℕ → List (Any R)) (p k : ℕ) (m : ShareMsg R) (rest : List (Any R)) (sends : List (ℕ × Any R))
+    → l p k ≡ New m ∷ rest → old_sends sends ≡ [] → (i j : ℕ) → olds (links_after l p k sends i j) ≡ olds (l i j)
+no_olds-after {R} l p k m rest sends waits is i j = news-after l p k rest sends [] is m waits i j ∙ none (i == k)
+  where
+    none : (b : Bool) → olds (l i j) ++ (if b then sent_for {M = Msg R} j [] else []) ≡ olds (l i j)
+    none true = append-nil (olds (l i j))
+    none false = append-nil (olds (l i j))
+
+module _ {R : Type 0} (S : Sys R) (A : Sharing S) where
+  -- a share sends messages of shares alone
+  syncs_new : (n home j : ℕ) (cs : Chunks R) (ms : List ℕ) → old_sends (syncs n home j cs ms) ≡ []
+  syncs_new n home j cs [] = refl
+  syncs_new n home j cs (m ∷ ms) =
+      elim (m == j) as (λ b. old_sends (if b then syncs n home j cs ms else (m, New (S_sync n (m == home) cs)) ∷ syncs n home j cs ms) ≡ [])
+      [ true ↦ syncs_new n home j cs ms | false ↦ syncs_new n home j cs ms ]
+
+  row_new : (e : OpenShare) (sender : ℕ) (told : Told R) (ph : Phase) (q : List ℕ) → old_sends (s_row S A e sender told ph q).sends ≡ []
+  row_new e sender Is_fenced Fencing q = elim (sender == e.home)
+      as (λ b. old_sends (if b then s_goes S A Getting q ((e.home, New (S_get e.num e.filter)) ∷ []) else s_goes S A Fencing q []).sends ≡ [])
+      [ true ↦ refl | false ↦ refl ]
+  row_new e sender (Has_chunks cs) Getting q = elim (sender == e.home) as (λ b. old_sends (if b
+      then s_left S A Setting (length (without_number e.members e.home)) q (syncs e.num e.home e.home cs e.members) else s_goes S A Getting q []).sends
+      ≡ []) [ true ↦ syncs_new e.num e.home e.home cs e.members | false ↦ refl ]
+  row_new e sender (Has_chunk c) (Out m) q = elim (sender == m) as (λ b. old_sends (if b
+      then s_left S A Syncing (length (without_number e.members m)) q (syncs e.num e.home m (c ∷ []) e.members) else s_goes S A (Out m) q []).sends ≡ [])
+      [ true ↦ syncs_new e.num e.home m (c ∷ []) e.members | false ↦ refl ]
+  row_new e sender Is_synced (Setting left) q = refl
+  row_new e sender Is_synced (Syncing left) q = refl
+  row_new e sender (Has_packet p) ph q = refl
+  row_new e sender told ph q = refl
+
+  served_new : (e : OpenShare) (ph : Phase) (q : List ℕ) (xs : List (ℕ × Any R)) → old_sends xs ≡ [] → old_sends (s_served S A e ph q xs).sends ≡ []
+  served_new e Idle (p ∷ q) xs none =
+      old_sends-append xs ((0, New (S_forward e.num (A.member e.members p == e.home) p (A.member e.members p))) ∷ []) ∙ ap (λ v. v ++ []) none
+  served_new e ph q xs none = none
+
+  pub by_share_new : (es : List OpenShare) (sender : ℕ) (o : Option (OpenShare × Told R)) → old_sends (by_share S A es sender o).sends ≡ []
+  by_share_new es sender None = refl
+  by_share_new es sender (Some x) =
+      let r = s_row S A x.0 sender x.1 x.0.phase x.0.queue in
+      served_new x.0 r.phase r.queue r.sends (row_new x.0 sender x.1 x.0.phase x.0.queue)
+
+  chunk_new : (n p : ℕ) (t : S.B.T) → old_sends (shared_chunk S A n p t) ≡ []
+  chunk_new n p t = elim (S.B.at (S.packet_unit p) t) as (λ o. old_sends (option_map_or (λ r. (1, New (S_shared n (S.packet_unit p, r))) ∷ []) o []) ≡ [])
+      [ None ↦ refl | Some r ↦ refl ]
+
+  -- and so does a member
+  pub member_new : (live standby : S.B.T) (m : ShareMsg R) → old_sends (member_step S A live standby m).sends ≡ []
+  member_new live standby (Shared_on n true p) = chunk_new n p (process S live p)
+  member_new live standby (Shared_on n false p) = chunk_new n p (process S standby p)
+  member_new live standby (S_get n g) = refl
+  member_new live standby (S_sync n true cs) = refl
+  member_new live standby (S_sync n false cs) = refl
+  member_new live standby (Diverted_on p) = refl
+  member_new live standby (S_asked x) = refl
+  member_new live standby (S_install n g from) = refl
+  member_new live standby (S_forward n home p to) = refl
+  member_new live standby (S_chunks n cs) = refl
+  member_new live standby (S_shared n c) = refl
+  member_new live standby (S_synced n) = refl
+
+  -- The steps, as moves see them
+  module _ (w : WholeWorld S A) (p : ℕ) (m : Msg R) (rest : List (Any R)) where
+    pub inst_old : (u : units.Unit) (y : ℕ) → w.link p y ≡ Old m ∷ rest
+        → Elsewhere S u (inst_next S (moves_of S A w) p y m) (moves_of S A (whole_inst S A w p y (Old m)))
+    inst_old u y waits = record {
+      target = refl;
+      ops = refl;
+      live = λ k. refl;
+      rules = λ k. refl;
+      link = λ i j _. olds-after w.link p y rest (as_old sent) sent (old_sends-old sent) m waits i j;
+      done = refl;
+    }
+      where
+        sent : List (ℕ × Msg R)
+        sent = (inst_step S (w.inst y) m).sends
+
+    pub ctrl_links : w.link p 1 ≡ Old m ∷ rest → (i j : ℕ) → (moves_of S A (whole_ctrl S A w p (Old m))).link i j ≡ (ctrl_next S (moves_of S A w) p m).link i j
+    ctrl_links waits i j = olds-after w.link p 1 rest (as_old sent ++ its) sent both m waits i j
+      where
+        sent : List (ℕ × Msg R)
+        sent = (ctrl_step w.ops p m).sends
+
+        its : List (ℕ × Any R)
+        its = (by_share S A w.shares p (told_by S A w.shares (Old m))).sends
+
+        both : old_sends (as_old sent ++ its) ≡ sent
+        both = old_sends-append (as_old sent) its ∙ ap (λ v. v ++ old_sends its) (old_sends-old sent)
+            ∙ ap (λ v. sent ++ v) (by_share_new w.shares p (told_by S A w.shares (Old m))) ∙ append-nil sent
+
+    pub ctrl_old : (u : units.Unit) → w.link p 1 ≡ Old m ∷ rest → Elsewhere S u (ctrl_next S (moves_of S A w) p m) (moves_of S A (whole_ctrl S A w p (Old m)))
+    ctrl_old u waits = record { target = refl; ops = refl; live = λ k. refl; rules = λ k. refl; link = λ i j _. ctrl_links waits i j; done = refl }
+
+    pub switch_old : (u : units.Unit) → w.link p 0 ≡ Old m ∷ rest → Elsewhere S u (sw_next S (moves_of S A w) p m) (moves_of S A (whole_switch S A w p (Old m)))
+    switch_old u waits = record {
+      target = refl;
+      ops = refl;
+      live = λ k. refl;
+      rules = λ k. refl;
+      link = λ i j _. olds-after w.link p 0 rest (as_old (sw_sends m)) (sw_sends m) (old_sends-old (sw_sends m)) m waits i j;
+      done = refl;
+    }
+
+  pub ctrl_new : (u : units.Unit) (w : WholeWorld S A) (p : ℕ) (m : ShareMsg R) (rest : List (Any R)) → w.link p 1 ≡ New m ∷ rest
+      → Elsewhere S u (moves_of S A w) (moves_of S A (whole_ctrl S A w p (New m)))
+  ctrl_new u w p m rest waits = record {
+    target = refl;
+    ops = refl;
+    live = λ k. refl;
+    rules = λ k. refl;
+    link = λ i j _. no_olds-after w.link p 1 m rest (by_share S A w.shares p (told_by S A w.shares (New m))).sends waits
+        (by_share_new w.shares p (told_by S A w.shares (New m))) i j;
+    done = refl;
+  }
+
+  pub begin_old : (u : units.Unit) (w : WholeWorld S A) (x : MoveAsked) → Elsewhere S u (begin_next S (moves_of S A w) x) (moves_of S A (begin_move S A w x))
+  begin_old u w x = record {
+    target = refl;
+    ops = refl;
+    live = λ k. refl;
+    rules = λ k. refl;
+    link = λ i j _. olds-put (w.link i j) (i == 1) j (as_old (begin_sends x.num x)) (begin_sends x.num x) (old_sends-old (begin_sends x.num x));
+    done = refl;
+  }

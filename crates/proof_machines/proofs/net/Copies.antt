@@ -1,0 +1,171 @@
+-- Of each unit at most one record is on its way with a move's pieces; what that says of the pieces that the controller keeps.
+use Rattle.std.proofs.Common.{◌≡◌, ℕ, ◌+◌, ◌≤◌, Bool, true, false, Some, None, List, [], ◌∷◌, map, length, refl, sym, ap, ◌∙◌, subst, arith}
+use Rattle.std.specs.Prelude.{if◌then◌else◌, ◌&&◌, ◌==◌, is_some, option_to_list}
+use Rattle.std.proofs.lemmas.Bool.Decides.{nat_tests, Decides-eqb}
+use Rattle.proof_machines.proofs.unit.Machine.{Item, Put_no, State}
+use Rattle.proof_machines.proofs.unit.Real.{Chunks, record_at, RPiece, RPhase}
+use Rattle.proof_machines.proofs.unit.Real.{M_event, M_put_no, Frame, see, see_phase}
+use Rattle.move_op.specs.Phases.{Freezing, Streaming, Holding, Passing, Ending, Restoring, Returning, Undoing, Over}
+use Rattle.proof_machines.proofs.unit.UnitPieces.{records}
+use Rattle.proof_machines.proofs.unit.Labels.{Each, Without, Clean}
+use Rattle.proof_machines.proofs.unit.Kept.{frozen_in, free_in}
+use Rattle.proof_machines.proofs.unit.Pairs.{expect}
+use Rattle.proof_machines.proofs.unit.Seats.{seat_shape}
+use Rattle.proof_machines.proofs.unit.OneCopy.{few_records, records_head}
+use Rattle.proof_machines.proofs.unit.NetViews.{items}
+use Rattle.proof_machines.proofs.net.Net.{Msg, Mv, Sys, IsSys, Open, find_op, World, seen}
+use Rattle.proof_machines.proofs.net.Holding.{Seeing, frame, Label, OpLabel, IsController, Holds}
+use Rattle.proof_machines.proofs.net.Links.{head}
+use Rattle.proof_machines.proofs.net.Ctrl.{none_some, each_found}
+use Rattle.proof_machines.proofs.net.Rest.{NothingOf, Global}
+use Rattle.proof_machines.proofs.net.Units.{Where, Where.At_rest, Where.In_move, shown, see as seeing}
+use Rattle.nf_function.specs.declared.unit.Unit as units
+use Rattle.record_table.specs.Table.{same_unit}
+use Rattle.record_table.proofs.UnitOrder.{same_unit_equiv}
+use Rattle.flow_filter.specs.declared.filter.Filter.{Filter}
+use Rattle.nf_msgs.specs.declared.answer.Answer.{Answer}
+
+module _ {R : Type 0} where
+  -- 1 where the chunks have a record of the unit
+  abbrev pub has : units.Unit → Chunks R → ℕ
+  has u cs = if is_some (record_at u cs) then 1 else 0
+
+  -- how many pieces have one
+  abbrev pub have : units.Unit → List (RPiece R) → ℕ
+  have u [] = 0
+  have u (p ∷ ps) = has u p.chunks + have u ps
+
+  abbrev pub copies : units.Unit → RPhase R → ℕ
+  copies u (Streaming frozen free came door) = have u frozen + have u free
+  copies u ph = 0
+
+  -- none of another move
+  has_none : (u : units.Unit) (cs : Chunks R) → record_at u cs ≡ None → has u cs ≡ 0
+  has_none u cs e = rw e refl
+
+  have_none : (u : units.Unit) (ps : List (RPiece R)) → Each (Without u) ps → have u ps ≡ 0
+  have_none u [] h = refl
+  have_none u (p ∷ ps) h = let a = has_none u p.chunks h.0 in let b = have_none u ps h.1 in rw (a, b) refl
+
+  copies_none : (u : units.Unit) (ph : RPhase R) → Clean u ph → copies u ph ≡ 0
+  copies_none u (Streaming frozen free came door) h = let a = have_none u frozen h.0 in let b = have_none u free h.1 in rw (a, b) refl
+  copies_none u ph h = refl
+
+  -- of its own move as many as the machine has
+  has_own : (u : units.Unit) (cs : Chunks R) → has u cs ≡ length (option_to_list (record_at u cs))
+  has_own u cs = elim (record_at u cs) as (λ o. (if is_some o then 1 else 0) ≡ length (option_to_list o)) [ None ↦ refl | Some r ↦ refl ]
+
+  have_own : (v : Frame) (ps : List (RPiece R)) → have v.unit ps ≡ length (records (map (see v) ps))
+  have_own v [] = refl
+  have_own v (p ∷ ps) = elim (record_at v.unit p.chunks) as (λ o. (if is_some o then 1 else 0) + have v.unit ps
+      ≡ length (elim o as (λ _. List R) [ None ↦ records (map (see v) ps) | Some r ↦ r ∷ records (map (see v) ps) ])) [
+        | None ↦ (let e = have_own v ps in omega (arith, e))
+        | Some r ↦ (let e = have_own v ps in omega (arith, e))
+      ]
+
+  copies_own : (v : Frame) (ph : RPhase R) → copies v.unit ph ≡ length (frozen_in (see_phase v ph)) + length (free_in (see_phase v ph))
+  copies_own v (Streaming frozen free came door) = let a = have_own v frozen in let b = have_own v free in rw (a, b) refl
+  copies_own v Freezing = refl
+  copies_own v Holding = refl
+  copies_own v Passing = refl
+  copies_own v Ending = refl
+  copies_own v (Restoring why) = refl
+  copies_own v (Returning why) = refl
+  copies_own v (Undoing why) = refl
+  copies_own v (Over why) = refl
+
+falsely : true ≡ false → ⊥
+falsely e = cc
+
+module _ {R : Type 0} (S : Sys R) (laws : IsSys S) where
+  one_or_other : (z : Seeing) (w : World S) (x : State R) → Holds S z w x → (n : ℕ) (e : Open R) → find_op w.ops n ≡ Some e → (n == z.op.num) ≡ false
+      → copies z.unit e.phase ≡ 0
+  one_or_other z w x h n e there off =
+      let l = each_found (OpLabel S z) n w.ops e h.ops there in
+      let same : e.op.num ≡ n = (Decides-eqb e.op.num n).0 l.1 in
+      copies_none z.unit e.phase (l.0.1 (rw same off)).0
+
+  -- what the machine says of its own move
+  own_move : (z : Seeing) (w : World S) (x : State R) → Holds S z w x → (n : ℕ) (e : Open R) → find_op w.ops n ≡ Some e → (n == z.op.num) ≡ true
+      → (e.op ≡ z.op) × (copies z.unit e.phase ≡ length (frozen_in x.phase) + length (free_in x.phase))
+  own_move z w x h n e there on =
+      let same : n ≡ z.op.num = (Decides-eqb n z.op.num).0 on in
+      let c : IsController S z (Some e) x = subst (λ o. IsController S z o x) (ap (λ k. find_op w.ops k) (sym same) ∙ there) h.ctrl in
+      (c.0, copies_own (frame S z) e.phase ∙ ap (λ ph. length (frozen_in ph) + length (free_in ph)) c.1)
+
+  -- of a unit, by where it is
+  pub one_copy : (w : World S) → Global S w → (u : units.Unit) (ps : List ℕ) (b : Bool) → Where S laws u w ps b → (n : ℕ) (e : Open R)
+      → find_op w.ops n ≡ Some e → copies u e.phase ≤ 1
+  one_copy w g u ps b here n e there =
+      let k = shown S laws u w ps b g here in
+      let z = seeing S laws u k.op k.third in
+      let x = seat_shape S.F k.seat in
+      elim (n == k.op.num) as (λ b. (n == k.op.num) ≡ b → copies u e.phase ≤ 1) [
+        | true ↦ λ on. (let a = (own_move z w x k.holds n e there on).1 in let few = few_records S.F k.seat in omega (arith, a, few))
+        | false ↦ λ off. (let a = one_or_other z w x k.holds n e there off in omega (arith, a))
+      ] refl
+
+  -- the link from B
+  from_target : (z : Seeing) (w : World S) (x : State R) → Holds S z w x → (i : ℕ) → i ≡ z.op.dst → (m : Msg R) (rest : List (Msg R)) → w.link i 1 ≡ m ∷ rest
+      → (it : Item R) → seen (frame S z) m ≡ Some it → it ∷ items (seen (frame S z)) rest ≡ x.bc
+  from_target z w x h i at m rest waits it is =
+      let b0 = h.apart.dst_0 in
+      let ba = h.apart.dst_src in
+      let bb = h.apart.dst in
+      let two = h.nodes.b_is in
+      let b1 : (z.op.dst == 1) ≡ false = grind (arith, nat_tests, two) in
+      let off : (i == 0) && (1 == 0) ≡ false = rw (at, b0) refl in
+      let all : expect z.op.src z.op.dst z.third x i 1 ≡ x.bc = rw (at, b0, b1, ba, bb) refl in
+      ap (λ o. Rattle.proof_machines.proofs.unit.Real.add o (items (seen (frame S z)) rest)) (sym is) ∙ head S z w.link i 1 m rest waits off []
+      ∙ h.views i 1 ∙ all
+
+  -- and with what was refused and is on its way back
+  pub one_copy_back : (w : World S) → Global S w → (u : units.Unit) (ps : List ℕ) (b : Bool) → Where S laws u w ps b → (n : ℕ) (e : Open R)
+      → find_op w.ops n ≡ Some e → (g : Filter) (why : Answer) (cs : Chunks R) (rest : List (Msg R)) → w.link e.op.dst 1 ≡ Mv g (M_put_no n why cs) ∷ rest
+      → has u cs + copies u e.phase ≤ 1
+  one_copy_back w global u ps b here n e there g why cs rest waits =
+      let k = shown S laws u w ps b global here in
+      let z = seeing S laws u k.op k.third in
+      let x = seat_shape S.F k.seat in
+      elim (n == k.op.num) as (λ b. (n == k.op.num) ≡ b → has u cs + copies u e.phase ≤ 1) [
+        | true ↦ λ on.
+            let own = own_move z w x k.holds n e there on in
+            let a = own.1 in
+            let is : seen (frame S z) (Mv g (M_put_no n why cs)) ≡ Some (Put_no why (record_at u cs)) = rw on refl in
+            let link = from_target z w x k.holds e.op.dst (ap (λ o. o.dst) own.0) (Mv g (M_put_no n why cs)) rest waits (Put_no why (record_at u cs)) is in
+            let back = records_head (Put_no why (record_at u cs)) (items (seen (frame S z)) rest) x.bc link in
+            let one = has_own u cs in
+            let few = few_records S.F k.seat in
+            omega (arith, a, back, one, few)
+        | false ↦ λ off.
+            let a = one_or_other z w x k.holds n e there off in
+            let l = (each_found (OpLabel S z) n w.ops e k.holds.ops there).0.2 in
+            let b0 = l.dst_0 in
+            let no_input : (e.op.dst == 0) && (1 == 0) ≡ false = rw b0 refl in
+            let lab = (subst (λ ms. Each (Label S z e.op.dst) ms) waits (k.holds.labels e.op.dst 1 no_input)).0 in
+            let none = has_none u cs (lab.1 off) in
+            omega (arith, a, none)
+      ] refl
+
+  -- an event that comes is one of an open move
+  pub event_open : (w : World S) (i n p : ℕ) (ps : List ℕ) (b : Bool) → Where S laws (S.packet_unit p) w ps b → (g : Filter) (rest : List (Msg R))
+      → w.link i 1 ≡ Mv g (M_event n p) ∷ rest → find_op w.ops n ≡ None → ⊥
+  event_open w i n p ps bared here g rest waits none = by_where here
+    where
+      u : units.Unit
+      u = S.packet_unit p
+
+      self : same_unit u u ≡ true
+      self = same_unit_equiv.refl u
+
+      no_input : (i == 0) && (1 == 0) ≡ false
+      no_input = elim (i == 0) as (λ b. b && false ≡ false) [ true ↦ refl | false ↦ refl ]
+
+      by_where : Where S laws u w ps bared → ⊥
+      by_where (At_rest owner d l b r o f) =
+          let lab = (subst (λ ms. Each (NothingOf S u i) ms) waits (r.labels i 1 no_input)).0 in
+          let never : true ≡ false = sym self ∙ lab.1 in falsely never
+      by_where (In_move op third e s b there r o f c) =
+          let lab = (subst (λ ms. Each (Label S (seeing S laws u op third) i) ms) waits (r.labels i 1 no_input)).0 in
+          let same : n ≡ op.num = (Decides-eqb n op.num).0 (lab.1 self) in
+          none_some (sym none ∙ ap (λ k. find_op w.ops k) same ∙ there)

@@ -1,0 +1,167 @@
+-- Lists of open moves: what a number finds after a move was written or closed. And of its own move's row a unit sees the machine's,
+-- on any message.
+use Rattle.std.proofs.Common.{◌≡◌, ℕ, Bool, true, false, Option, Some, None, List, [], ◌∷◌, refl, ap, subst}
+use Rattle.std.specs.Prelude.{if◌then◌else◌, ◌&&◌, ◌==◌}
+use Rattle.std.proofs.lemmas.Bool.{eqb-true}
+use Rattle.std.proofs.lemmas.Option.{same_Some}
+use Rattle.proof_machines.proofs.unit.Machine.{Where, At_a, At_b, Item, Enable, Stream, Delete, Put, Restore}
+use Rattle.proof_machines.proofs.unit.Machine.{Fence_to, Install, Stray, ControllerTurn, goes, from_source, from_destination}
+use Rattle.proof_machines.proofs.unit.Real as Real
+use Rattle.proof_machines.proofs.unit.Real.{record_at, M_enable, M_stream, M_delete, M_put, M_restore, M_enabled, M_event, M_piece}
+use Rattle.proof_machines.proofs.unit.Real.{M_deleted, M_put_ok, M_put_no, M_restored, M_fenced, M_forward, M_install, M_fence_to, RPhase}
+use Rattle.proof_machines.proofs.unit.Real.{Op, r_goes, r_from_source, r_from_destination, where_true, see, sends_to, only_mine, see_phase, Sees}
+use Rattle.move_op.specs.Phases.{Over}
+use Rattle.proof_machines.proofs.unit.Seen.{NodesDiffer, frame_of, quiet, did_a, did_b, from_source_seen, from_destination_seen}
+use Rattle.proof_machines.proofs.unit.Labels.{Each}
+use Rattle.proof_machines.proofs.net.Net.{Open, find_op, set_op, close_op, write_op, num_of}
+use Rattle.nf_function.specs.declared.unit.Unit as units
+use Rattle.record_table.specs.Table.{is_among}
+
+pub none_some : {X : Type 0} {P : Type 0} {a : X} → None ≡ Some a → P
+none_some e = cc
+
+-- finding after writing
+pub find_close : {R : Type 0} (n : ℕ) (es : List (Open R)) → find_op (close_op n es) n ≡ None
+find_close n [] = refl
+find_close n (e ∷ es) = elim (e.op.num == n) as (λ b. (e.op.num == n) ≡ b → find_op (if b then close_op n es else e ∷ close_op n es) n ≡ None)
+    [ true ↦ λ _. find_close n es | false ↦ λ off. rw off (find_close n es) ] refl
+
+pub find_set : {R : Type 0} (n : ℕ) (ph : RPhase R) (f : List ℕ) (es : List (Open R)) (e : Open R) → find_op es n ≡ Some e
+    → find_op (set_op n ph f es) n ≡ Some (record e { phase = ph; store = f })
+find_set n ph f [] e there = cc
+find_set {R = R} n ph f (x ∷ es) e there = elim (x.op.num == n) as (λ b. (x.op.num == n) ≡ b → (if b then Some x else find_op es n) ≡ Some e
+    → find_op (if b then record x { phase = ph; store = f } ∷ es else x ∷ set_op n ph f es) n ≡ Some (record e { phase = ph; store = f })) [
+      | true ↦ λ on is. let same : x ≡ e = cc in let g : Open R → Option (Open R) = λ y. Some (record y { phase = ph; store = f }) in rw on (ap g same)
+      | false ↦ λ off is. rw off (find_set n ph f es e is)
+    ] refl there
+
+find_close_other : {R : Type 0} (k n : ℕ) (es : List (Open R)) → (k == n) ≡ false → find_op (close_op k es) n ≡ find_op es n
+find_close_other k n [] off = refl
+find_close_other k n (e ∷ es) off = elim (e.op.num == k)
+    as (λ b. (e.op.num == k) ≡ b → find_op (if b then close_op k es else e ∷ close_op k es) n ≡ (if e.op.num == n then Some e else find_op es n)) [
+      | true ↦ λ on. let same : e.op.num ≡ k = eqb-true e.op.num k on in let out : (e.op.num == n) ≡ false = rw same off in rw out (find_close_other k n es off)
+      | false ↦ λ _. ap (λ o. if e.op.num == n then Some e else o) (find_close_other k n es off)
+    ] refl
+
+find_set_other : {R : Type 0} (k n : ℕ) (ph : RPhase R) (f : List ℕ) (es : List (Open R)) → (k == n) ≡ false → find_op (set_op k ph f es) n ≡ find_op es n
+find_set_other k n ph f [] off = refl
+find_set_other k n ph f (e ∷ es) off = elim (e.op.num == k) as (λ b. (e.op.num == k) ≡ b
+    → find_op (if b then record e { phase = ph; store = f } ∷ es else e ∷ set_op k ph f es) n ≡ (if e.op.num == n then Some e else find_op es n)) [
+      | true ↦ λ on. let same : e.op.num ≡ k = eqb-true e.op.num k on in let out : (e.op.num == n) ≡ false = rw same off in rw out refl
+      | false ↦ λ _. ap (λ o. if e.op.num == n then Some e else o) (find_set_other k n ph f es off)
+    ] refl
+
+pub find_write_other : {R : Type 0} (k n : ℕ) (ph : RPhase R) (f : List ℕ) (es : List (Open R)) → (k == n) ≡ false
+    → find_op (write_op k ph f es) n ≡ find_op es n
+find_write_other k n (Over why) f es off = find_close_other k n es off
+find_write_other k n ph f es off = find_set_other k n ph f es off
+
+pub each_close : {R : Type 0} (P : Open R → Type 0) (k : ℕ) (es : List (Open R)) → Each P es → Each P (close_op k es)
+each_close P k [] h = tt
+each_close P k (e ∷ es) h = elim (e.op.num == k) as (λ b. Each P (if b then close_op k es else e ∷ close_op k es))
+    [ true ↦ each_close P k es h.1 | false ↦ (h.0, each_close P k es h.1) ]
+
+pub each_set : {R : Type 0} (P : Open R → Type 0) (k : ℕ) (ph : RPhase R) (f : List ℕ) (es : List (Open R))
+    → ((e : Open R) → (e.op.num == k) ≡ true → P e → P (record e { phase = ph; store = f })) → Each P es → Each P (set_op k ph f es)
+each_set P k ph f [] g h = tt
+each_set P k ph f (e ∷ es) g h =
+    elim (e.op.num == k) as (λ b. (e.op.num == k) ≡ b → Each P (if b then record e { phase = ph; store = f } ∷ es else e ∷ set_op k ph f es))
+    [ true ↦ λ on. (g e on h.0, h.1) | false ↦ λ _. (h.0, each_set P k ph f es g h.1) ] refl
+
+pub each_write : {R : Type 0} (P : Open R → Type 0) (k : ℕ) (ph : RPhase R) (f : List ℕ) (es : List (Open R))
+    → ((e : Open R) → (e.op.num == k) ≡ true → P e → P (record e { phase = ph; store = f })) → Each P es → Each P (write_op k ph f es)
+each_write P k (Over why) f es g h = each_close P k es h
+each_write P k ph f es g h = each_set P k ph f es g h
+
+pub each_found : {R : Type 0} (P : Open R → Type 0) (k : ℕ) (es : List (Open R)) (e : Open R) → Each P es → find_op es k ≡ Some e
+    → P e × ((e.op.num == k) ≡ true)
+each_found P k [] e h there = cc
+each_found P k (x ∷ es) e h there =
+    elim (x.op.num == k) as (λ b. (x.op.num == k) ≡ b → (if b then Some x else find_op es k) ≡ Some e → P e × ((e.op.num == k) ≡ true)) [
+      | true ↦ λ on is. let same : x ≡ e = cc in (subst P same h.0, subst (λ y. (y.op.num == k) ≡ true) same on)
+      | false ↦ λ _ is. each_found P k es e h.1 is
+    ] refl there
+
+-- a row of a move on each message that bears its number, also on those that it doesn't know
+module _ {R : Type 0} (o : Op) (mine : ℕ → Bool) (u : units.Unit) (t : NodesDiffer o) where
+  its_num : (k : ℕ) (it : Item R) → k ≡ o.num → where_true (k == o.num) it ≡ Some it
+  its_num k it e = let n = t.num in rw (e, n) refl
+
+  pub idle_side : (b c : Bool) (f : Where → Item R) (g : Item R → ControllerTurn R) (d : ControllerTurn R) → ((v : Where) → g (f v) ≡ d) → g Stray ≡ d
+      → g (if b then f At_a else if c then f At_b else Stray) ≡ d
+  idle_side true c f g d e s = e At_a
+  idle_side false true f g d e s = e At_b
+  idle_side false false f g d e s = s
+
+  as_seen_a : (phase : RPhase R) (f : List ℕ) (m : Real.Msg R) (it : Item R) → Real.seen (frame_of o mine u) m ≡ Some it
+      → r_from_source o phase f m ≡ r_goes phase f [] → from_source (see_phase (frame_of o mine u) phase) (only_mine (frame_of o mine u) f) it
+      ≡ goes (see_phase (frame_of o mine u) phase) (only_mine (frame_of o mine u) f)
+      → Sees (frame_of o mine u) (r_from_source o phase f m) (did_a o mine u t phase f (Real.seen (frame_of o mine u) m))
+  as_seen_a phase f m it is none same = rw (none, is, same) (quiet o mine u t phase f)
+
+  as_seen_b : (phase : RPhase R) (f : List ℕ) (m : Real.Msg R) (it : Item R) → Real.seen (frame_of o mine u) m ≡ Some it
+      → r_from_destination o phase f m ≡ r_goes phase f [] → from_destination o.keep (see_phase (frame_of o mine u) phase) (only_mine (frame_of o mine u) f) it
+      ≡ goes (see_phase (frame_of o mine u) phase) (only_mine (frame_of o mine u) f)
+      → Sees (frame_of o mine u) (r_from_destination o phase f m) (did_b o mine u t phase f (Real.seen (frame_of o mine u) m))
+  as_seen_b phase f m it is none same = rw (none, is, same) (quiet o mine u t phase f)
+
+  abbrev ph : RPhase R → Rattle.proof_machines.proofs.unit.Machine.Phase R
+  ph phase = see_phase (frame_of o mine u) phase
+
+  install_a : (phase : RPhase R) (f : List ℕ) (b : Bool)
+      → from_source (ph phase) (only_mine (frame_of o mine u) f) (if b then Install else Stray) ≡ goes (ph phase) (only_mine (frame_of o mine u) f)
+  install_a phase f true = refl
+  install_a phase f false = refl
+
+  install_b : (phase : RPhase R) (f : List ℕ) (b : Bool)
+      → from_destination o.keep (ph phase) (only_mine (frame_of o mine u) f) (if b then Install else Stray) ≡ goes (ph phase) (only_mine (frame_of o mine u) f)
+  install_b phase f true = refl
+  install_b phase f false = refl
+
+  pub ext_a : (phase : RPhase R) (f : List ℕ) (m : Real.Msg R) → num_of m ≡ Some o.num
+      → Sees (frame_of o mine u) (r_from_source o phase f m) (did_a o mine u t phase f (Real.seen (frame_of o mine u) m))
+  ext_a phase f (M_event n p) h = from_source_seen o mine u t phase f (M_event n p) tt
+  ext_a phase f (M_enabled n) h = from_source_seen o mine u t phase f (M_enabled n) (same_Some _ _ h)
+  ext_a phase f (M_piece n p) h = from_source_seen o mine u t phase f (M_piece n p) (same_Some _ _ h)
+  ext_a phase f (M_deleted n) h = from_source_seen o mine u t phase f (M_deleted n) (same_Some _ _ h)
+  ext_a phase f (M_restored n) h = from_source_seen o mine u t phase f (M_restored n) (same_Some _ _ h)
+  ext_a phase f (M_fenced n) h = from_source_seen o mine u t phase f (M_fenced n) (same_Some _ _ h)
+  ext_a phase f (M_put_ok n) h = from_source_seen o mine u t phase f (M_put_ok n) (same_Some _ _ h)
+  ext_a phase f (M_put_no n why cs) h = from_source_seen o mine u t phase f (M_put_no n why cs) (same_Some _ _ h)
+  ext_a phase f (M_enable n k) h = as_seen_a phase f (M_enable n k) (Enable k) (its_num n (Enable k) (same_Some _ _ h)) refl refl
+  ext_a phase f (M_stream n) h = as_seen_a phase f (M_stream n) Stream (its_num n Stream (same_Some _ _ h)) refl refl
+  ext_a phase f (M_delete n us) h = as_seen_a phase f (M_delete n us) (Delete (is_among us u)) (its_num n (Delete (is_among us u)) (same_Some _ _ h)) refl refl
+  ext_a phase f (M_put n p first) h = as_seen_a phase f (M_put n p first) (Put (see (frame_of o mine u) p) first)
+      (its_num n (Put (see (frame_of o mine u) p) first) (same_Some _ _ h)) refl refl
+  ext_a phase f (M_restore n cs) h =
+      as_seen_a phase f (M_restore n cs) (Restore (record_at u cs)) (its_num n (Restore (record_at u cs)) (same_Some _ _ h)) refl refl
+  ext_a phase f (M_forward p to) h = none_some h
+  ext_a phase f (M_install n from to) h = as_seen_a phase f (M_install n from to) (if (from == o.src) && (to == o.dst) then Install else Stray) (its_num n
+      (if (from == o.src) && (to == o.dst) then Install else Stray) (same_Some _ _ h)) refl (install_a phase f ((from == o.src) && (to == o.dst)))
+  ext_a phase f (M_fence_to n to) h = as_seen_a phase f (M_fence_to n to) (sends_to (frame_of o mine u) to (λ w. Fence_to w))
+      (its_num n (sends_to (frame_of o mine u) to (λ w. Fence_to w)) (same_Some _ _ h)) refl (idle_side (to == o.src) (to == o.dst) (λ w. Fence_to w)
+      (from_source (ph phase) (only_mine (frame_of o mine u) f)) (goes (ph phase) (only_mine (frame_of o mine u) f)) (λ _. refl) refl)
+
+  pub ext_b : (phase : RPhase R) (f : List ℕ) (m : Real.Msg R) → num_of m ≡ Some o.num
+      → Sees (frame_of o mine u) (r_from_destination o phase f m) (did_b o mine u t phase f (Real.seen (frame_of o mine u) m))
+  ext_b phase f (M_event n p) h = from_destination_seen o mine u t phase f (M_event n p) tt
+  ext_b phase f (M_enabled n) h = from_destination_seen o mine u t phase f (M_enabled n) (same_Some _ _ h)
+  ext_b phase f (M_piece n p) h = from_destination_seen o mine u t phase f (M_piece n p) (same_Some _ _ h)
+  ext_b phase f (M_deleted n) h = from_destination_seen o mine u t phase f (M_deleted n) (same_Some _ _ h)
+  ext_b phase f (M_restored n) h = from_destination_seen o mine u t phase f (M_restored n) (same_Some _ _ h)
+  ext_b phase f (M_fenced n) h = from_destination_seen o mine u t phase f (M_fenced n) (same_Some _ _ h)
+  ext_b phase f (M_put_ok n) h = from_destination_seen o mine u t phase f (M_put_ok n) (same_Some _ _ h)
+  ext_b phase f (M_put_no n why cs) h = from_destination_seen o mine u t phase f (M_put_no n why cs) (same_Some _ _ h)
+  ext_b phase f (M_enable n k) h = as_seen_b phase f (M_enable n k) (Enable k) (its_num n (Enable k) (same_Some _ _ h)) refl refl
+  ext_b phase f (M_stream n) h = as_seen_b phase f (M_stream n) Stream (its_num n Stream (same_Some _ _ h)) refl refl
+  ext_b phase f (M_delete n us) h = as_seen_b phase f (M_delete n us) (Delete (is_among us u)) (its_num n (Delete (is_among us u)) (same_Some _ _ h)) refl refl
+  ext_b phase f (M_put n p first) h = as_seen_b phase f (M_put n p first) (Put (see (frame_of o mine u) p) first)
+      (its_num n (Put (see (frame_of o mine u) p) first) (same_Some _ _ h)) refl refl
+  ext_b phase f (M_restore n cs) h =
+      as_seen_b phase f (M_restore n cs) (Restore (record_at u cs)) (its_num n (Restore (record_at u cs)) (same_Some _ _ h)) refl refl
+  ext_b phase f (M_forward p to) h = none_some h
+  ext_b phase f (M_install n from to) h = as_seen_b phase f (M_install n from to) (if (from == o.src) && (to == o.dst) then Install else Stray) (its_num n
+      (if (from == o.src) && (to == o.dst) then Install else Stray) (same_Some _ _ h)) refl (install_b phase f ((from == o.src) && (to == o.dst)))
+  ext_b phase f (M_fence_to n to) h = as_seen_b phase f (M_fence_to n to) (sends_to (frame_of o mine u) to (λ w. Fence_to w))
+      (its_num n (sends_to (frame_of o mine u) to (λ w. Fence_to w)) (same_Some _ _ h)) refl (idle_side (to == o.src) (to == o.dst) (λ w. Fence_to w)
+      (from_destination o.keep (ph phase) (only_mine (frame_of o mine u) f)) (goes (ph phase) (only_mine (frame_of o mine u) f)) (λ _. refl) refl)

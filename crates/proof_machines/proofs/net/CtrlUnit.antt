@@ -1,0 +1,299 @@
+-- The controller's step at one unit: of its own move it sees the machine's row, of another move nothing, and all that is open or
+-- sent has its labels.
+use Rattle.std.proofs.Common.{◌≡◌, ℕ, Bool, true, false, Option, Some, None, List, [], ◌∷◌, refl, sym, ap, ◌∙◌, subst}
+use Rattle.std.specs.Prelude.{if◌then◌else◌, ◌==◌}
+use Rattle.std.proofs.lemmas.Bool.{eqb-true, both_ways}
+use Rattle.std.proofs.lemmas.Option.{same_Some}
+use Rattle.proof_machines.proofs.unit.Machine.{Item, Carry, Pass, Fence, Forward, State, Phase, ControllerTurn, goes, from_source, from_destination}
+use Rattle.proof_machines.proofs.unit.Real as Real
+use Rattle.proof_machines.proofs.unit.Real.{M_enable, M_stream, M_delete, M_put, M_restore, M_enabled, M_event, M_piece, M_deleted, M_put_ok}
+use Rattle.proof_machines.proofs.unit.Real.{M_put_no, M_restored, M_fenced, M_forward, M_install, M_fence_to, RPhase, Op, OperationTurn}
+use Rattle.proof_machines.proofs.unit.Real.{r_goes, r_from_source, r_from_destination, Frame, where_true, add, view, only_mine, see_phase, sent_for}
+use Rattle.proof_machines.proofs.unit.Real.{sends_to, Sees}
+use Rattle.move_op.specs.Phases.{Over}
+use Rattle.proof_machines.proofs.unit.Seen.{NodesDiffer, quiet, did_a, did_b}
+use Rattle.proof_machines.proofs.unit.Labels.{Each, Foreign, SentForeign, Clean, StaysClean, from_source_clean, from_destination_clean}
+use Rattle.proof_machines.proofs.unit.Quiet.{Is_quiet, IsNotMine, view_nothing, from_source_quiet, from_destination_quiet}
+use Rattle.proof_machines.proofs.unit.NetViews.{items}
+use Rattle.flow_filter.specs.declared.filter.Filter.{Filter}
+use Rattle.proof_machines.proofs.net.Net.{Msg, In_packet, Asked, Carry_on, Pass_on, Fence_on, Mv, Sys, Open, find_op, write_op}
+use Rattle.proof_machines.proofs.net.Net.{num_of, row_of, row, filter_for, wrap, ControllerMove, found, numbered, ctrl_step, seen}
+use Rattle.proof_machines.proofs.net.Holding.{Seeing, EachSent, frame, MoveLabel, Label, OpLabel, IsController}
+use Rattle.proof_machines.proofs.net.RowNumbers.{OfRow, SentOf, row_numbers}
+use Rattle.proof_machines.proofs.net.Ctrl.{none_some, find_close, find_set, find_write_other, each_write, each_found, idle_side, ext_a, ext_b}
+use Rattle.record_table.specs.Table.{same_unit}
+
+module _ {R : Type 0} (S : Sys R) (z : Seeing) where
+  abbrev fr : Frame
+  fr = frame S z
+
+  abbrev n : ℕ
+  n = z.op.num
+
+  abbrev its : List (Msg R) → List (Item R)
+  its ms = items (seen fr) ms
+
+  pub wrap_view : (g : Filter) (y : ℕ) (xs : List (ℕ × Real.Msg R)) → its (sent_for y (wrap g xs)) ≡ view fr (sent_for y xs)
+  wrap_view g y [] = refl
+  wrap_view g y (x ∷ xs) = elim (x.0 == y) as (λ b. its (if b then Mv (filter_for g x.1) x.1 ∷ sent_for y (wrap g xs) else sent_for y (wrap g xs))
+      ≡ view fr (if b then x.1 ∷ sent_for y xs else sent_for y xs)) [
+        | true ↦ ap (λ v. add (Real.seen fr x.1) v) (wrap_view g y xs)
+        | false ↦ wrap_view g y xs
+      ]
+
+  one_label : (o : Op) (g : Filter) (m : Real.Msg R) → OfRow o m → S.takes g z.unit ≡ (o.num == n) → ((o.num == n) ≡ false → Foreign z.unit m)
+      → MoveLabel S z (filter_for g m) m
+  one_label o g (M_enable k r) e h f = let same = e.0 in (rw same h, e.1)
+  one_label o g (M_stream k) e h f = rw e h
+  one_label o g (M_install k from to) e h f = rw e h
+  one_label o g (M_delete k us) e h f = λ off. f (rw (← e) off)
+  one_label o g (M_put k p first) e h f = λ off. f (rw (← e) off)
+  one_label o g (M_restore k cs) e h f = λ off. f (rw (← e) off)
+  one_label o g (M_fence_to k to) e h f = tt
+  one_label o g (M_forward p to) e h f = tt
+  one_label o g m e h f = absurd e
+
+  pub wrap_labels : (o : Op) (g : Filter) (xs : List (ℕ × Real.Msg R)) → Each (SentOf o) xs → S.takes g z.unit ≡ (o.num == n)
+      → ((o.num == n) ≡ false → Each (SentForeign z.unit) xs) → EachSent (λ j m. Label S z 1 m) (wrap g xs)
+  wrap_labels o g [] a h f = tt
+  wrap_labels o g (x ∷ xs) a h f = ((refl, one_label o g x.1 a.0 h (λ off. (f off).0)), wrap_labels o g xs a.1 h (λ off. (f off).1))
+
+  -- what is seen of a message with another number
+  unseen_if : (b : Bool) (it : Item R) → b ≡ false → where_true b it ≡ None
+  unseen_if b it e = rw e refl
+
+  not_mine : (g : Filter) (k p : ℕ) → (k == n) ≡ false → MoveLabel S z g (M_event k p) → (same_unit (S.packet_unit p) z.unit) ≡ false
+  not_mine g k p off l = elim (same_unit (S.packet_unit p) z.unit) as (λ b. (b ≡ true → (k == n) ≡ true) → b ≡ false)
+      [ true ↦ λ f. let both : false ≡ true = sym off ∙ f refl in cc | false ↦ λ _. refl ] l
+
+  k_off : (j k : ℕ) → Some j ≡ Some k → (k == n) ≡ false → (j == n) ≡ false
+  k_off j k e off = let same : j ≡ k = same_Some _ _ e in rw same off
+
+  unseen_other : (g : Filter) (k : ℕ) (m : Real.Msg R) → num_of m ≡ Some k → (k == n) ≡ false → MoveLabel S z g m → Real.seen fr m ≡ None
+  unseen_other g k (M_event j p) e off l = unseen_if (same_unit (S.packet_unit p) z.unit) _ (not_mine g j p (k_off j k e off) l)
+  unseen_other g k (M_forward p to) e off l = none_some e
+  unseen_other g k (M_enable j r) e off l = unseen_if (j == n) _ (k_off j k e off)
+  unseen_other g k (M_stream j) e off l = unseen_if (j == n) _ (k_off j k e off)
+  unseen_other g k (M_delete j us) e off l = unseen_if (j == n) _ (k_off j k e off)
+  unseen_other g k (M_put j p first) e off l = unseen_if (j == n) _ (k_off j k e off)
+  unseen_other g k (M_restore j cs) e off l = unseen_if (j == n) _ (k_off j k e off)
+  unseen_other g k (M_enabled j) e off l = unseen_if (j == n) _ (k_off j k e off)
+  unseen_other g k (M_piece j p) e off l = unseen_if (j == n) _ (k_off j k e off)
+  unseen_other g k (M_deleted j) e off l = unseen_if (j == n) _ (k_off j k e off)
+  unseen_other g k (M_put_ok j) e off l = unseen_if (j == n) _ (k_off j k e off)
+  unseen_other g k (M_put_no j why cs) e off l = unseen_if (j == n) _ (k_off j k e off)
+  unseen_other g k (M_restored j) e off l = unseen_if (j == n) _ (k_off j k e off)
+  unseen_other g k (M_fenced j) e off l = unseen_if (j == n) _ (k_off j k e off)
+  unseen_other g k (M_install j from to) e off l = unseen_if (j == n) _ (k_off j k e off)
+  unseen_other g k (M_fence_to j to) e off l = unseen_if (j == n) _ (k_off j k e off)
+
+  foreign_of : (g : Filter) (k : ℕ) (m : Real.Msg R) → num_of m ≡ Some k → (k == n) ≡ false → MoveLabel S z g m → Foreign z.unit m
+  foreign_of g k (M_delete j us) e off l = l (k_off j k e off)
+  foreign_of g k (M_put j p first) e off l = l (k_off j k e off)
+  foreign_of g k (M_restore j cs) e off l = l (k_off j k e off)
+  foreign_of g k (M_piece j p) e off l = l (k_off j k e off)
+  foreign_of g k (M_put_no j why cs) e off l = l (k_off j k e off)
+  foreign_of g k m e off l = tt
+
+  not_of : (o : Op) (other : (o.num == n) ≡ false) (g : Filter) (k : ℕ) (m : Real.Msg R) → num_of m ≡ Some k → (k == n) ≡ false → MoveLabel S z g m
+      → IsNotMine fr o other m
+  not_of o other g k (M_event j p) e off l = not_mine g j p (k_off j k e off) l
+  not_of o other g k m e off l = tt
+
+  -- another move's row
+  pub row_quiet : (o : Op) (ph : RPhase R) (f : List ℕ) (port : ℕ) (g : Filter) (k : ℕ) (m : Real.Msg R) → (o.num == n) ≡ false → only_mine fr f ≡ []
+      → num_of m ≡ Some k → (k == n) ≡ false → MoveLabel S z g m → Is_quiet fr (row_of o ph f port m)
+  row_quiet o ph f port g k m other e num off l =
+      elim (port == o.src) as (λ b. Is_quiet fr (if b then r_from_source o ph f m else if port == o.dst then r_from_destination o ph f m else r_goes ph f [])) [
+        | true ↦ from_source_quiet fr o other ph f m (not_of o other g k m num off l) e
+        | false ↦ elim (port == o.dst) as (λ b. Is_quiet fr (if b then r_from_destination o ph f m else r_goes ph f []))
+            [ true ↦ from_destination_quiet fr o other ph f m e | false ↦ (tt, e) ]
+      ]
+
+  pub row_clean : (o : Op) (ph : RPhase R) (f : List ℕ) (port : ℕ) (m : Real.Msg R) → Clean z.unit ph → Foreign z.unit m
+      → StaysClean z.unit (row_of o ph f port m)
+  row_clean o ph f port m c w =
+      elim (port == o.src)
+      as (λ b. StaysClean z.unit (if b then r_from_source o ph f m else if port == o.dst then r_from_destination o ph f m else r_goes ph f [])) [
+        | true ↦ from_source_clean z.unit o ph f m c w
+        | false ↦ elim (port == o.dst) as (λ b. StaysClean z.unit (if b then r_from_destination o ph f m else r_goes ph f []))
+            [ true ↦ from_destination_clean z.unit o ph f m c w | false ↦ (c, tt) ]
+      ]
+
+  module _ (es : List (Open R)) (x : State R) (apart : NodesDiffer z.op) (labs : Each (OpLabel S z) es) (is : IsController S z (find_op es n) x) where
+    pub record SeesController (c : ControllerMove R) (d : ControllerTurn R) : Type 0 where
+      pub ops : Each (OpLabel S z) c.ops
+      pub ctrl : (x' : State R) → x'.phase ≡ d.phase → x'.store ≡ d.store → x'.keep ≡ x.keep → IsController S z (find_op c.ops n) x'
+      pub to_a : its (sent_for z.op.src c.sends) ≡ d.to_a
+      pub to_b : its (sent_for z.op.dst c.sends) ≡ d.to_b
+      pub to_s : its (sent_for 0 c.sends) ≡ d.to_s
+      pub others : (j : ℕ) → (z.op.src == j) ≡ false → (z.op.dst == j) ≡ false → (0 == j) ≡ false → its (sent_for j c.sends) ≡ []
+      pub labels : EachSent (λ j m. Label S z 1 m) c.sends
+
+    same_ctrl : (o : Option (Open R)) (x' : State R) → IsController S z o x → x'.phase ≡ x.phase → x'.store ≡ x.store → x'.keep ≡ x.keep → IsController S z o x'
+    same_ctrl None x' h a b c = rw a h
+    same_ctrl (Some e) x' (h, i, j, k) a b c = (h, i ∙ sym a, j ∙ sym b, k ∙ sym c)
+
+    abbrev stay : ControllerTurn R
+    stay = goes x.phase x.store
+
+    stays : SeesController (record { ops = es; sends = [] }) stay
+    stays = record {
+      ops = labs;
+      ctrl = λ x' a b c. same_ctrl (find_op es n) x' is a b c;
+      to_a = refl;
+      to_b = refl;
+      to_s = refl;
+      others = λ j a b c. refl;
+      labels = tt;
+    }
+
+    -- another move does its row
+    other_found : (k : ℕ) (e : Open R) (port : ℕ) (g : Filter) (m : Real.Msg R) → find_op es k ≡ Some e → num_of m ≡ Some k → (k == n) ≡ false
+        → MoveLabel S z g m → SeesController (found es k port m (Some e)) stay
+    other_found k e port g m there num off l =
+        let a = each_found (OpLabel S z) k es e labs there in
+        let same : e.op.num ≡ k = eqb-true e.op.num k a.1 in
+        let out : (e.op.num == n) ≡ false = rw same off in
+        let clean = a.0.1 out in
+        let did = row e port m in
+        let q = row_quiet e.op e.phase e.store port g k m out clean.1 num off l in
+        let c = row_clean e.op e.phase e.store port m clean.0 (foreign_of g k m num off l) in
+        record {
+          ops = each_write (OpLabel S z) k did.phase did.store es (λ y _ h. (h.0, λ _. (c.0, q.1), h.2)) labs;
+          ctrl = λ x' s t u. subst (λ o. IsController S z o x') (sym (find_write_other k n did.phase did.store es off)) (same_ctrl (find_op es n) x' is s t u);
+          to_a = wrap_view e.filter z.op.src did.sends ∙ view_nothing fr z.op.src did.sends q.0;
+          to_b = wrap_view e.filter z.op.dst did.sends ∙ view_nothing fr z.op.dst did.sends q.0;
+          to_s = wrap_view e.filter 0 did.sends ∙ view_nothing fr 0 did.sends q.0;
+          others = λ j _ _ _. wrap_view e.filter j did.sends ∙ view_nothing fr j did.sends q.0;
+          labels = wrap_labels e.op e.filter did.sends (row_numbers e.op e.phase e.store port m) a.0.0 (λ _. c.1);
+        }
+
+    -- its own move does its row
+    after_write : (e : Open R) (ph : RPhase R) (f : List ℕ) (x' : State R) → find_op es n ≡ Some e → e.op ≡ z.op → see_phase fr ph ≡ x'.phase
+        → only_mine fr f ≡ x'.store → e.op.keep ≡ x'.keep → IsController S z (find_op (write_op n ph f es) n) x'
+    after_write e (Over why) f x' there q a b c = subst (λ o. IsController S z o x') (sym (find_close n es)) (rw (← a) refl)
+    after_write e ph f x' there q a b c = subst (λ o. IsController S z o x') (sym (find_set n ph f es e there)) (q, a, b, c)
+
+    own_does : (e : Open R) (did : OperationTurn R) (d : ControllerTurn R) → find_op es n ≡ Some e → e.op ≡ z.op → e.op.keep ≡ x.keep → Sees fr did d
+        → Each (SentOf z.op) did.sends → SeesController (record { ops = write_op n did.phase did.store es; sends = wrap e.filter did.sends }) d
+    own_does e did d there q keep s nums = record {
+      ops = each_write (OpLabel S z) n did.phase did.store es (λ y on h. (h.0, λ off. absurd (both_ways (y.op.num == n) off on), h.2)) labs;
+      ctrl = λ x' a b c. after_write e did.phase did.store x' there q (s.phase ∙ sym a) (s.store ∙ sym b) (keep ∙ sym c);
+      to_a = wrap_view e.filter z.op.src did.sends ∙ s.to_a;
+      to_b = wrap_view e.filter z.op.dst did.sends ∙ s.to_b;
+      to_s = wrap_view e.filter 0 did.sends ∙ s.to_s;
+      others = λ j a b c. wrap_view e.filter j did.sends ∙ s.others j a b c;
+      labels = wrap_labels z.op e.filter did.sends nums (subst (λ o. S.takes e.filter z.unit ≡ (o.num == n)) q
+          (each_found (OpLabel S z) n es e labs there).0.0) (λ off. absurd (both_ways (z.op.num == n) off apart.num));
+    }
+
+    -- what the machine's controller does, by the tests of the sender
+    abbrev pub mdid : Bool → Bool → Phase R → List ℕ → Option (Item R) → ControllerTurn R
+    mdid a b ph f None = goes ph f
+    mdid a b ph f (Some it) = if a then from_source ph f it else if b then from_destination z.op.keep ph f it else goes ph f
+
+    conv_a : (b : Bool) (did : OperationTurn R) (ph : RPhase R) (f : List ℕ) (o : Option (Item R))
+        → Sees fr did (did_a z.op (λ p. same_unit (S.packet_unit p) z.unit) z.unit apart ph f o)
+        → Sees fr did (mdid true b (see_phase fr ph) (only_mine fr f) o)
+    conv_a b did ph f None s = s
+    conv_a b did ph f (Some it) s = s
+
+    conv_b : (did : OperationTurn R) (ph : RPhase R) (f : List ℕ) (o : Option (Item R))
+        → Sees fr did (did_b z.op (λ p. same_unit (S.packet_unit p) z.unit) z.unit apart ph f o)
+        → Sees fr did (mdid false true (see_phase fr ph) (only_mine fr f) o)
+    conv_b did ph f None s = s
+    conv_b did ph f (Some it) s = s
+
+    conv_0 : (ph : RPhase R) (f : List ℕ) (o : Option (Item R)) → Sees fr (r_goes ph f []) (mdid false false (see_phase fr ph) (only_mine fr f) o)
+    conv_0 ph f None = quiet z.op (λ p. same_unit (S.packet_unit p) z.unit) z.unit apart ph f
+    conv_0 ph f (Some it) = quiet z.op (λ p. same_unit (S.packet_unit p) z.unit) z.unit apart ph f
+
+    own_sees : (ph : RPhase R) (f : List ℕ) (port : ℕ) (m : Real.Msg R) → num_of m ≡ Some n
+        → Sees fr (row_of z.op ph f port m) (mdid (port == z.op.src) (port == z.op.dst) (see_phase fr ph) (only_mine fr f) (Real.seen fr m))
+    own_sees ph f port m num =
+        elim (port == z.op.src) as (λ a. Sees fr
+        (if a then r_from_source z.op ph f m else if port == z.op.dst then r_from_destination z.op ph f m else r_goes ph f [])
+        (mdid a (port == z.op.dst) (see_phase fr ph) (only_mine fr f) (Real.seen fr m))) [
+          | true ↦ conv_a (port == z.op.dst) (r_from_source z.op ph f m) ph f (Real.seen fr m)
+              (ext_a z.op (λ p. same_unit (S.packet_unit p) z.unit) z.unit apart ph f m num)
+          | false ↦ elim (port == z.op.dst)
+              as (λ b. Sees fr (if b then r_from_destination z.op ph f m else r_goes ph f [])
+              (mdid false b (see_phase fr ph) (only_mine fr f) (Real.seen fr m))) [
+                | true ↦ conv_b (r_from_destination z.op ph f m) ph f (Real.seen fr m)
+                    (ext_b z.op (λ p. same_unit (S.packet_unit p) z.unit) z.unit apart ph f m num)
+                | false ↦ conv_0 ph f (Real.seen fr m)
+              ]
+        ]
+
+    own_found : (e : Open R) (port : ℕ) (m : Real.Msg R) → find_op es n ≡ Some e → IsController S z (Some e) x → num_of m ≡ Some n
+        → SeesController (found es n port m (Some e)) (mdid (port == z.op.src) (port == z.op.dst) x.phase x.store (Real.seen fr m))
+    own_found e port m there (q, a, b, c) num =
+        let did = row_of z.op e.phase e.store port m in
+        let s : Sees fr did (mdid (port == z.op.src) (port == z.op.dst) x.phase x.store (Real.seen fr m)) =
+        subst (λ f. Sees fr did (mdid (port == z.op.src) (port == z.op.dst) x.phase f (Real.seen fr m))) b (subst (λ ph. Sees fr did
+        (mdid (port == z.op.src) (port == z.op.dst) ph (only_mine fr e.store) (Real.seen fr m))) a (own_sees e.phase e.store port m num)) in
+        subst (λ o. SeesController (record {
+          ops = write_op n (row_of o e.phase e.store port m).phase (row_of o e.phase e.store port m).store es;
+          sends = wrap e.filter (row_of o e.phase e.store port m).sends;
+        }) (mdid (port == z.op.src) (port == z.op.dst) x.phase x.store (Real.seen fr m))) (sym q)
+        (own_does e did (mdid (port == z.op.src) (port == z.op.dst) x.phase x.store (Real.seen fr m)) there q c s (row_numbers z.op e.phase e.store port m))
+
+    -- an item that the controller does nothing on
+    idle_it : (a b : Bool) (it : Item R) → from_source x.phase x.store it ≡ stay → from_destination z.op.keep x.phase x.store it ≡ stay
+        → mdid a b x.phase x.store (Some it) ≡ stay
+    idle_it true b it e f = e
+    idle_it false true it e f = f
+    idle_it false false it e f = refl
+
+    idle_if : (a b t : Bool) (it : Item R) → from_source x.phase x.store it ≡ stay → from_destination z.op.keep x.phase x.store it ≡ stay
+        → mdid a b x.phase x.store (where_true t it) ≡ stay
+    idle_if a b true it e f = idle_it a b it e f
+    idle_if a b false it e f = refl
+
+    as_stay : {c : ControllerMove R} {d : ControllerTurn R} → d ≡ stay → SeesController c stay → SeesController c d
+    as_stay {c = c} e h = subst (λ d. SeesController c d) (sym e) h
+
+    no_num : (a b : Bool) (m : Real.Msg R) → num_of m ≡ None → mdid a b x.phase x.store (Real.seen fr m) ≡ stay
+    no_num a b (M_forward p to) e = idle_if a b (fr.mine p) (sends_to fr to (λ w. Forward w p)) (idle_side z.op (λ p. same_unit (S.packet_unit p) z.unit)
+        z.unit apart (to == fr.from) (to == fr.to) (λ w. Forward w p) (from_source x.phase x.store) stay (λ _. refl) refl)
+        (idle_side z.op (λ p. same_unit (S.packet_unit p) z.unit) z.unit apart (to == fr.from) (to == fr.to) (λ w. Forward w p)
+        (from_destination z.op.keep x.phase x.store) stay (λ _. refl) refl)
+    no_num a b (M_enable j r) e = none_some (sym e)
+    no_num a b m e = none_some (sym e)
+
+    mv_unit : (port : ℕ) (g : Filter) (m : Real.Msg R) → MoveLabel S z g m → ((it : Item R) → find_op es n ≡ None → Real.seen fr m ≡ Some it → ⊥)
+        → SeesController (numbered es port m (num_of m)) (mdid (port == z.op.src) (port == z.op.dst) x.phase x.store (Real.seen fr m))
+    mv_unit port g m l closed =
+        elim (num_of m)
+        as (λ o. num_of m ≡ o → SeesController (numbered es port m o) (mdid (port == z.op.src) (port == z.op.dst) x.phase x.store (Real.seen fr m))) [
+          | None ↦ λ none. as_stay (no_num (port == z.op.src) (port == z.op.dst) m none) stays
+          | Some k ↦ λ num. elim (k == n) as (λ b. (k == n) ≡ b
+              → SeesController (found es k port m (find_op es k)) (mdid (port == z.op.src) (port == z.op.dst) x.phase x.store (Real.seen fr m))) [
+                | true ↦ λ on. let same : k ≡ n = eqb-true k n on in
+                    subst (λ j. SeesController (found es j port m (find_op es j)) (mdid (port == z.op.src) (port == z.op.dst) x.phase x.store (Real.seen fr m)))
+                    (sym same) (by_op (find_op es n) refl (num ∙ ap Some same))
+                | false ↦ λ off. let none = unseen_other g k m num off l in
+                    subst (λ o. SeesController (found es k port m (find_op es k)) (mdid (port == z.op.src) (port == z.op.dst) x.phase x.store o)) (sym none)
+                    (by_other k (find_op es k) refl num off)
+              ] refl
+        ] refl
+      where
+        by_op : (f : Option (Open R)) → find_op es n ≡ f → num_of m ≡ Some n
+            → SeesController (found es n port m f) (mdid (port == z.op.src) (port == z.op.dst) x.phase x.store (Real.seen fr m))
+        by_op None e num = as_stay (elim (Real.seen fr m) as (λ o. Real.seen fr m ≡ o → mdid (port == z.op.src) (port == z.op.dst) x.phase x.store o ≡ stay)
+            [ None ↦ λ _. refl | Some it ↦ λ s. absurd (closed it e s) ] refl) stays
+        by_op (Some e) there num = own_found e port m there (subst (λ o. IsController S z o x) there is) num
+
+        by_other : (k : ℕ) (f : Option (Open R)) → find_op es k ≡ f → num_of m ≡ Some k → (k == n) ≡ false → SeesController (found es k port m f) stay
+        by_other k None there num off = stays
+        by_other k (Some e) there num off = other_found k e port g m there num off l
+
+    pub ctrl_unit : (port i : ℕ) (m : Msg R) → Label S z i m → ((it : Item R) → find_op es n ≡ None → seen fr m ≡ Some it → ⊥)
+        → SeesController (ctrl_step es port m) (mdid (port == z.op.src) (port == z.op.dst) x.phase x.store (seen fr m))
+    ctrl_unit port i (Mv g m) l closed = mv_unit port g m l.1 closed
+    ctrl_unit port i (Carry_on p) l closed = as_stay (idle_if (port == z.op.src) (port == z.op.dst) (fr.mine p) (Carry p) refl refl) stays
+    ctrl_unit port i (Pass_on p) l closed = as_stay (idle_if (port == z.op.src) (port == z.op.dst) (fr.mine p) (Pass p) refl refl) stays
+    ctrl_unit port i (Fence_on k) l closed = as_stay (idle_if (port == z.op.src) (port == z.op.dst) (k == n) Fence refl refl) stays
+    ctrl_unit port i (In_packet p) l closed = stays
+    ctrl_unit port i (Asked a) l closed = stays

@@ -1,0 +1,354 @@
+-- What holds of the whole world for all units at once stays so with each step of an instance, the controller and the switch, and with each
+-- packet of the input.
+use Rattle.std.proofs.Common.{◌≡◌, ℕ, ◌<◌, Bool, true, false, Option, Some, None, List, [], ◌∷◌, ◌++◌, ◌⊎◌, inl, inr, length, refl, sym, ap, ◌∙◌, subst}
+use Rattle.std.specs.Prelude.{if◌then◌else◌, ◌&&◌, ◌==◌, option_to_list}
+use Rattle.std.specs.Option.{option_map_or}
+use Rattle.std.proofs.lemmas.Bool.Decides.{Decides-eqb}
+use Rattle.proof_machines.proofs.unit.UnitPieces.{first}
+use Rattle.proof_machines.proofs.unit.Cuts.{record_first}
+use Rattle.proof_machines.proofs.unit.Labels.{Each, each_map}
+use Rattle.flow_filter.specs.declared.filter.Filter.{Filter}
+use Rattle.proof_machines.proofs.net.Net.{Msg, Carry_on, Sys, IsSys, process, inst_step, Open, find_op, sw_sends, World, inst_next, ctrl_next, sw_next, in_next}
+use Rattle.proof_machines.proofs.net.Holding.{EachSent}
+use Rattle.proof_machines.proofs.net.Links.{each_put}
+use Rattle.proof_machines.proofs.net.Rest.{Below, Global}
+use Rattle.proof_machines.proofs.net.Every.{inst_global, ctrl_global, switch_global, input_global}
+use Rattle.proof_machines.proofs.net.AsMoves.{old_sends, old_sends-old, olds-put, no_olds-put, olds-after}
+use Rattle.proof_machines.proofs.net.AsMoves.{news-after, no_olds-after, by_share_new, member_new, ctrl_links}
+use Rattle.proof_machines.proofs.net.NewMessages.{OnNew, EachSentNew, each_new_map, each_sent_map, sent_old, sent_old_and, new_after, new_put, new_head}
+use Rattle.proof_machines.proofs.net.ShareLists.{AreNumbersApart, found_each, found_num, each_set_share, find_set, set_find}
+use Rattle.proof_machines.proofs.net.ShareRows.{Tells, told_cases, SentBy, share_row_by}
+use Rattle.proof_machines.proofs.net.GlobalAll.{Opened, Numbered, Disjoint, Within, TakesSome, OfShare, GlobalAll}
+use Rattle.proof_machines.proofs.net.GlobalShares.{each_set_any, nums_set, none_set, ctrl_each, ctrl_none, of_share_set, TakenBy, told_of, sent_of}
+use Rattle.proof_machines.proofs.net.Shares.{Any, Any.Old, Any.New, ShareMsg, ShareMsg.Shared_on, ShareMsg.Diverted_on, ShareMsg.S_asked}
+use Rattle.proof_machines.proofs.net.Shares.{ShareMsg.S_install, ShareMsg.S_forward, ShareMsg.S_get, ShareMsg.S_sync, ShareMsg.S_chunks}
+use Rattle.proof_machines.proofs.net.Shares.{ShareMsg.S_shared, ShareMsg.S_synced, olds, as_old, Sharing, IsSharing, OpenShare, find_share}
+use Rattle.proof_machines.proofs.net.Shares.{set_share, Told, share_row, told_by, SharesStep, by_share, member_step, share_sends}
+use Rattle.proof_machines.proofs.net.Shares.{arrive_sends, old_step, WholeWorld, moves_of, whole_inst, whole_ctrl, whole_switch, whole_input}
+
+module _ {R : Type 0} (S : Sys R) (A : Sharing S) (laws : IsSys S) where
+  -- over links that are the same
+  pub global_as : (w : World S) (l : ℕ → ℕ → List (Msg R)) → ((i j : ℕ) → l i j ≡ w.link i j) → Global S w → Global S (record w { link = l })
+  global_as w l e g = record { messages = λ i j off. subst (λ ms. Each (Below w.next) ms) (sym (e i j)) (g.messages i j off); rules = g.rules; ops = g.ops }
+
+  -- An instance
+  chunk_of_share : (es : List OpenShare) (n p : ℕ) (o : Option R) → Opened es n (λ e. S.takes e.filter (S.packet_unit p) ≡ true)
+      → EachSentNew (OfShare S es) (option_map_or (λ r. (1, New (S_shared n (S.packet_unit p, r))) ∷ []) o [])
+  chunk_of_share es n p None h = tt
+  chunk_of_share es n p (Some r) h = (record { share = h.share; found = h.found; says = h.says }, tt)
+
+  chunk_numbered : (b n p : ℕ) (o : Option R) → EachSentNew (λ _ m. Numbered b m) (option_map_or (λ r. (1, New (S_shared n (S.packet_unit p, r))) ∷ []) o [])
+  chunk_numbered b n p None = tt
+  chunk_numbered b n p (Some r) = (tt, tt)
+
+  taken : (es : List OpenShare) (j n : ℕ) (home : Bool) (p : ℕ) → OfShare S es j (Shared_on n home p)
+      → Opened es n (λ e. S.takes e.filter (S.packet_unit p) ≡ true)
+  taken es j n home p h = record { share = h.share; found = h.found; says = h.says.0 }
+
+  selected_within : (g : Filter) (t : S.B.T) → Within S g (S.B.select (S.takes g) t)
+  selected_within g t v out = record_first v (S.B.select (S.takes g) t)
+      ∙ ap first (laws.laws.selected v (S.takes g) t ∙ ap (λ b. option_to_list (if b then S.B.at v t else None)) out)
+
+  member_of_share : (es : List OpenShare) (live standby : S.B.T) (y : ℕ) (m : ShareMsg R) → OfShare S es y m
+      → EachSentNew (OfShare S es) (member_step S A live standby m).sends
+  member_of_share es live standby y (Shared_on n true p) h = chunk_of_share es n p (S.B.at (S.packet_unit p) (process S live p)) (taken es y n true p h)
+  member_of_share es live standby y (Shared_on n false p) h = chunk_of_share es n p (S.B.at (S.packet_unit p) (process S standby p)) (taken es y n false p h)
+  member_of_share es live standby y (S_get n g) h =
+      ((λ e there. let is : g ≡ e.filter = (h e there).0 in subst (λ f. Within S f (S.B.select (S.takes g) live)) is (selected_within g live)), tt)
+  member_of_share es live standby y (S_sync n true cs) h = (record { share = h.share; found = h.found; says = tt }, tt)
+  member_of_share es live standby y (S_sync n false cs) h = (record { share = h.share; found = h.found; says = tt }, tt)
+  member_of_share es live standby y (Diverted_on p) h = tt
+  member_of_share es live standby y (S_asked x) h = tt
+  member_of_share es live standby y (S_install n g from) h = tt
+  member_of_share es live standby y (S_forward n home p to) h = tt
+  member_of_share es live standby y (S_chunks n cs) h = tt
+  member_of_share es live standby y (S_shared n c) h = tt
+  member_of_share es live standby y (S_synced n) h = tt
+
+  member_numbered : (b : ℕ) (live standby : S.B.T) (m : ShareMsg R) → Numbered b m → EachSentNew (λ _ m. Numbered b m) (member_step S A live standby m).sends
+  member_numbered b live standby (Shared_on n true p) h = chunk_numbered b n p (S.B.at (S.packet_unit p) (process S live p))
+  member_numbered b live standby (Shared_on n false p) h = chunk_numbered b n p (S.B.at (S.packet_unit p) (process S standby p))
+  member_numbered b live standby (S_get n g) h = (h, tt)
+  member_numbered b live standby (S_sync n true cs) h = (tt, tt)
+  member_numbered b live standby (S_sync n false cs) h = (tt, tt)
+  member_numbered b live standby (Diverted_on p) h = tt
+  member_numbered b live standby (S_asked x) h = tt
+  member_numbered b live standby (S_install n g from) h = tt
+  member_numbered b live standby (S_forward n home p to) h = tt
+  member_numbered b live standby (S_chunks n cs) h = tt
+  member_numbered b live standby (S_shared n c) h = tt
+  member_numbered b live standby (S_synced n) h = tt
+
+  pub inst_keeps : (w : WholeWorld S A) → GlobalAll S A w → (p y : ℕ) (m : Any R) (rest : List (Any R)) → (y == 0) ≡ false → w.link p y ≡ m ∷ rest
+      → GlobalAll S A (whole_inst S A w p y m)
+  inst_keeps w g p y (Old m) rest y0 waits =
+      let sent = (inst_step S (w.inst y) m).sends in
+      record {
+        moves = global_as (inst_next S (moves_of S A w) p y m) (λ i j. olds (Rattle.proof_machines.proofs.net.Net.links_after w.link p y (as_old sent) i j))
+            (λ i j. olds-after w.link p y rest (as_old sent) sent (old_sends-old sent) m waits i j)
+            (inst_global S laws (moves_of S A w) g.moves p y m (olds rest) y0 (ap olds waits));
+        messages = new_after (OfShare S w.shares) w.link g.messages p y (as_old sent) (sent_old (OfShare S w.shares) sent);
+        numbers = new_after (λ _ m. Numbered w.next m) w.link g.numbers p y (as_old sent) (sent_old (λ _ m. Numbered w.next m) sent);
+        shares_below = g.shares_below;
+        nums_apart = g.nums_apart;
+        some = g.some;
+        one_kind = g.one_kind;
+        apart_moves = g.apart_moves;
+        apart = g.apart;
+        queues = g.queues;
+      }
+  inst_keeps w g p y (New m) rest y0 waits =
+      let off : (p == 0) && (y == 0) ≡ false = rw y0 (elim (p == 0) as (λ b. b && false ≡ false) [ true ↦ refl | false ↦ refl ]) in
+      let d = member_step S A (w.inst y).live (w.standby y) m in
+      let of = new_head (OfShare S w.shares) w.link g.messages p y m rest off waits in
+      let few = new_head (λ _ m. Numbered w.next m) w.link g.numbers p y m rest off waits in
+      record {
+        moves = record {
+          messages = λ i j e. subst (λ ms. Each (Below w.next) ms)
+              (sym (no_olds-after w.link p y m rest d.sends waits (member_new S A (w.inst y).live (w.standby y) m) i j)) (g.moves.messages i j e);
+          rules = λ k. elim (k == y) as (λ b. Each (λ r. r.num < w.next) (if b then record (w.inst y) { live = d.live } else w.inst k).rules)
+              [ true ↦ g.moves.rules y | false ↦ g.moves.rules k ];
+          ops = g.moves.ops;
+        };
+        messages = new_after (OfShare S w.shares) w.link g.messages p y d.sends (member_of_share w.shares (w.inst y).live (w.standby y) y m of);
+        numbers = new_after (λ _ m. Numbered w.next m) w.link g.numbers p y d.sends (member_numbered w.next (w.inst y).live (w.standby y) m few);
+        shares_below = g.shares_below;
+        nums_apart = g.nums_apart;
+        some = g.some;
+        one_kind = g.one_kind;
+        apart_moves = g.apart_moves;
+        apart = g.apart;
+        queues = g.queues;
+      }
+
+  -- The controller: its shares
+  record SharesOk (w : WholeWorld S A) (s : SharesStep S A) : Type 0 where
+    below : Each (λ e. e.num < w.next) s.shares
+    nums : AreNumbersApart s.shares
+    some : Each (λ e. 0 < length e.members) s.shares
+    none : (n : ℕ) → find_share w.shares n ≡ None → find_share s.shares n ≡ None
+    apart_moves : Each (λ e. Each (λ o. Disjoint S e.filter o.filter) w.ops) s.shares
+    apart : (n k : ℕ) (d e : OpenShare) → find_share s.shares n ≡ Some d → find_share s.shares k ≡ Some e → (n == k) ≡ false → Disjoint S d.filter e.filter
+    queues : Each (λ e. Each (TakenBy S A e) e.queue) s.shares
+    links : (j : ℕ) (m : ShareMsg R) → OfShare S w.shares j m → OfShare S s.shares j m
+    sends : EachSentNew (OfShare S s.shares) s.sends
+    numbers : EachSentNew (λ _ m. Numbered w.next m) s.sends
+
+  sent_numbered : (e : OpenShare) (b j : ℕ) (m : Any R) → e.num < b → SentBy S A e (TakenBy S A e) (Within S e.filter) j m → OnNew (Numbered b) m
+  sent_numbered e b j (New (S_get n g)) few h = subst (λ k. k < b) (sym h.0) few
+  sent_numbered e b j (New (S_sync n home cs)) few h = tt
+  sent_numbered e b j (New (S_forward n home p to)) few h = tt
+  sent_numbered e b j (Old m) few h = tt
+  sent_numbered e b j (New (Shared_on n home p)) few h = tt
+  sent_numbered e b j (New (Diverted_on p)) few h = tt
+  sent_numbered e b j (New (S_asked x)) few h = tt
+  sent_numbered e b j (New (S_install n g from)) few h = tt
+  sent_numbered e b j (New (S_chunks n cs)) few h = absurd h
+  sent_numbered e b j (New (S_shared n c)) few h = tt
+  sent_numbered e b j (New (S_synced n)) few h = tt
+
+  shares_ok : IsSharing S A → (w : WholeWorld S A) → GlobalAll S A w → (p : ℕ) (m : Any R) → OnNew (OfShare S w.shares 1) m
+      → SharesOk w (by_share S A w.shares p (told_by S A w.shares m))
+  shares_ok ok w g p m head =
+      told_cases S A (SharesOk w) w.shares p m g.nums_apart (record {
+        below = g.shares_below;
+        nums = g.nums_apart;
+        some = g.some;
+        none = λ n e. e;
+        apart_moves = g.apart_moves;
+        apart = g.apart;
+        queues = g.queues;
+        links = λ j m h. h;
+        sends = tt;
+        numbers = tt;
+      }) goes
+    where
+      goes : (e : OpenShare) (t : Told R) → find_share w.shares e.num ≡ Some e → Tells S A w.shares m e t → SharesOk w (by_share S A w.shares p (Some (e, t)))
+      goes e t there is =
+          let r = share_row S A e p t in
+          let es = set_share e.num r.phase r.queue w.shares in
+          let k = share_row_by S A e (TakenBy S A e) (Within S e.filter) p t (told_of S A w.shares m e t head is)
+          (found_each (λ e. Each (TakenBy S A e) e.queue) w.shares e.num e g.queues there) in
+          let f = find_set e.num r.phase r.queue w.shares e.num e there in
+          record {
+            below = each_set_any (λ e. e.num < w.next) e.num r.phase r.queue (λ d h. h) w.shares g.shares_below;
+            nums = nums_set e.num r.phase r.queue w.shares g.nums_apart;
+            some = each_set_any (λ e. 0 < length e.members) e.num r.phase r.queue (λ d h. h) w.shares g.some;
+            none = λ n h. none_set e.num r.phase r.queue w.shares n h;
+            apart_moves = each_set_any (λ e. Each (λ o. Disjoint S e.filter o.filter) w.ops) e.num r.phase r.queue (λ d h. h) w.shares g.apart_moves;
+            apart = λ n j x y a b off.
+                let x0 = set_find e.num r.phase r.queue w.shares n x a in
+                let y0 = set_find e.num r.phase r.queue w.shares j y b in
+                subst (λ h. Disjoint S x.filter h) y0.same.filter
+                (subst (λ h. Disjoint S h y0.share.filter) x0.same.filter (g.apart n j x0.share y0.share x0.found y0.found off));
+            queues = each_set_share (λ e. Each (TakenBy S A e) e.queue) e.num r.phase r.queue w.shares e there k.0 g.queues;
+            links = λ j m h. of_share_set S e.num r.phase r.queue w.shares j m h;
+            sends = each_sent_map (SentBy S A e (TakenBy S A e) (Within S e.filter)) (λ j m. OnNew (OfShare S es j) m) (λ j m h. sent_of S A ok es e f.share
+                f.found f.same (found_each (λ e. 0 < length e.members) w.shares e.num e g.some there) j m h) r.sends k.1;
+            numbers = each_sent_map (SentBy S A e (TakenBy S A e) (Within S e.filter)) (λ _ m. OnNew (Numbered w.next) m)
+                (λ j m h. sent_numbered e w.next j m (found_each (λ e. e.num < w.next) w.shares e.num e g.shares_below there) h) r.sends k.1;
+          }
+
+  head_of_share : (w : WholeWorld S A) → GlobalAll S A w → (p k : ℕ) (m : Any R) (rest : List (Any R)) → (p == 0) && (k == 0) ≡ false
+      → w.link p k ≡ m ∷ rest → OnNew (OfShare S w.shares k) m
+  head_of_share w g p k (Old m) rest off waits = tt
+  head_of_share w g p k (New m) rest off waits = new_head (OfShare S w.shares) w.link g.messages p k m rest off waits
+
+  ops_each : (P : Open R → Type 0)
+      → ((e : Open R) (ph : Rattle.proof_machines.proofs.unit.Real.RPhase R) (f : List ℕ) → P e → P (record e { phase = ph; store = f }))
+      → (es : List (Open R)) (p : ℕ) (m : Any R) → Each P es → Each P (old_step S A es p m).ops
+  ops_each P step es p (Old m) h = ctrl_each P step es p m h
+  ops_each P step es p (New m) h = h
+
+  ops_none : (es : List (Open R)) (p : ℕ) (m : Any R) (n : ℕ) → find_op es n ≡ None → find_op (old_step S A es p m).ops n ≡ None
+  ops_none es p (Old m) n none = ctrl_none es p m n none
+  ops_none es p (New m) n none = none
+
+  ctrl_moves : (w : WholeWorld S A) → GlobalAll S A w → (p : ℕ) (m : Any R) (rest : List (Any R)) → w.link p 1 ≡ m ∷ rest
+      → Global S (moves_of S A (whole_ctrl S A w p m))
+  ctrl_moves w g p (Old m) rest waits = global_as (ctrl_next S (moves_of S A w) p m) (moves_of S A (whole_ctrl S A w p (Old m))).link
+      (λ i j. ctrl_links S A w p m rest waits i j) (ctrl_global S laws (moves_of S A w) g.moves p m)
+  ctrl_moves w g p (New m) rest waits = global_as (moves_of S A w) (moves_of S A (whole_ctrl S A w p (New m))).link (λ i j. no_olds-after w.link p 1 m rest
+      (by_share S A w.shares p (told_by S A w.shares (New m))).sends waits (by_share_new S A w.shares p (told_by S A w.shares (New m))) i j) g.moves
+
+  pub ctrl_keeps : IsSharing S A → (w : WholeWorld S A) → GlobalAll S A w → (p : ℕ) (m : Any R) (rest : List (Any R)) → w.link p 1 ≡ m ∷ rest
+      → GlobalAll S A (whole_ctrl S A w p m)
+  ctrl_keeps ok w g p m rest waits =
+      let off : (p == 0) && (1 == 0) ≡ false = elim (p == 0) as (λ b. b && false ≡ false) [ true ↦ refl | false ↦ refl ] in
+      let k = shares_ok ok w g p m (head_of_share w g p 1 m rest off waits) in
+      let s = by_share S A w.shares p (told_by S A w.shares m) in
+      let o = old_step S A w.ops p m in
+      record {
+        moves = ctrl_moves w g p m rest waits;
+        messages = new_after (OfShare S s.shares) w.link (λ i j e. each_new_map (OfShare S w.shares j) (OfShare S s.shares j) (k.links j) (w.link i j)
+            (g.messages i j e)) p 1 (as_old o.sends ++ s.sends) (sent_old_and (OfShare S s.shares) o.sends s.sends k.sends);
+        numbers = new_after (λ _ m. Numbered w.next m) w.link g.numbers p 1 (as_old o.sends ++ s.sends)
+            (sent_old_and (λ _ m. Numbered w.next m) o.sends s.sends k.numbers);
+        shares_below = k.below;
+        nums_apart = k.nums;
+        some = k.some;
+        one_kind = λ n. by_kind k.none n (g.one_kind n);
+        apart_moves = each_map (λ e h. ops_each (λ x. Disjoint S e.filter x.filter) (λ _ _ _ d. d) w.ops p m h) s.shares k.apart_moves;
+        apart = k.apart;
+        queues = k.queues;
+      }
+    where
+      by_kind : ((n : ℕ) → find_share w.shares n ≡ None → find_share (by_share S A w.shares p (told_by S A w.shares m)).shares n ≡ None)
+          → (n : ℕ) → (find_op w.ops n ≡ None) ⊎ (find_share w.shares n ≡ None)
+          → (find_op (old_step S A w.ops p m).ops n ≡ None) ⊎ (find_share (by_share S A w.shares p (told_by S A w.shares m)).shares n ≡ None)
+      by_kind f n (inl none) = inl (ops_none w.ops p m n none)
+      by_kind f n (inr none) = inr (f n none)
+
+  -- The switch
+  fence_below : (w : WholeWorld S A) → GlobalAll S A w → (m : ShareMsg R) → OfShare S w.shares 0 m
+      → EachSent (λ _ x. Below w.next x) (old_sends (share_sends S A m))
+  fence_below w g (S_install n f from) o =
+      let same : o.share.num ≡ n = (Decides-eqb o.share.num n).0 (found_num w.shares n o.share o.found) in
+      (subst (λ k. k < w.next) same (found_each (λ e. e.num < w.next) w.shares n o.share g.shares_below o.found), tt)
+  fence_below w g (S_forward n home p to) o = tt
+  fence_below w g (Shared_on n home p) o = tt
+  fence_below w g (Diverted_on p) o = tt
+  fence_below w g (S_asked x) o = tt
+  fence_below w g (S_get n f) o = tt
+  fence_below w g (S_sync n home cs) o = tt
+  fence_below w g (S_chunks n cs) o = tt
+  fence_below w g (S_shared n c) o = tt
+  fence_below w g (S_synced n) o = tt
+
+  forward_of_share : (es : List OpenShare) (m : ShareMsg R) → OfShare S es 0 m → EachSentNew (OfShare S es) (share_sends S A m)
+  forward_of_share es (S_forward n home p to) o = (record { share = o.share; found = o.found; says = (o.says.0, o.says.2) }, tt)
+  forward_of_share es (S_install n f from) o = (tt, tt)
+  forward_of_share es (Shared_on n home p) o = tt
+  forward_of_share es (Diverted_on p) o = tt
+  forward_of_share es (S_asked x) o = tt
+  forward_of_share es (S_get n f) o = tt
+  forward_of_share es (S_sync n home cs) o = tt
+  forward_of_share es (S_chunks n cs) o = tt
+  forward_of_share es (S_shared n c) o = tt
+  forward_of_share es (S_synced n) o = tt
+
+  forward_numbered : (b : ℕ) (m : ShareMsg R) → EachSentNew (λ _ m. Numbered b m) (share_sends S A m)
+  forward_numbered b (S_forward n home p to) = (tt, tt)
+  forward_numbered b (S_install n f from) = (tt, tt)
+  forward_numbered b (Shared_on n home p) = tt
+  forward_numbered b (Diverted_on p) = tt
+  forward_numbered b (S_asked x) = tt
+  forward_numbered b (S_get n f) = tt
+  forward_numbered b (S_sync n home cs) = tt
+  forward_numbered b (S_chunks n cs) = tt
+  forward_numbered b (S_shared n c) = tt
+  forward_numbered b (S_synced n) = tt
+
+  pub switch_keeps : (w : WholeWorld S A) → GlobalAll S A w → (p : ℕ) (m : Any R) (rest : List (Any R)) → (p == 0) ≡ false → w.link p 0 ≡ m ∷ rest
+      → GlobalAll S A (whole_switch S A w p m)
+  switch_keeps w g p (Old m) rest p0 waits = record {
+    moves = global_as (sw_next S (moves_of S A w) p m) (moves_of S A (whole_switch S A w p (Old m))).link
+        (λ i j. olds-after w.link p 0 rest (as_old (sw_sends m)) (sw_sends m) (old_sends-old (sw_sends m)) m waits i j)
+        (switch_global S laws (moves_of S A w) g.moves p m (olds rest) p0 (ap olds waits));
+    messages = new_after (OfShare S w.shares) w.link g.messages p 0 (as_old (sw_sends m)) (sent_old (OfShare S w.shares) (sw_sends m));
+    numbers = new_after (λ _ m. Numbered w.next m) w.link g.numbers p 0 (as_old (sw_sends m)) (sent_old (λ _ m. Numbered w.next m) (sw_sends m));
+    shares_below = g.shares_below;
+    nums_apart = g.nums_apart;
+    some = g.some;
+    one_kind = g.one_kind;
+    apart_moves = g.apart_moves;
+    apart = g.apart;
+    queues = g.queues;
+  }
+  switch_keeps w g p (New m) rest p0 waits =
+      let off : (p == 0) && (0 == 0) ≡ false = rw p0 refl in
+      let of = new_head (OfShare S w.shares) w.link g.messages p 0 m rest off waits in
+      let fences = old_sends (share_sends S A m) in
+      record {
+        moves = record {
+          messages = λ i j e. subst (λ ms. Each (Below w.next) ms) (sym (news-after w.link p 0 rest (share_sends S A m) fences refl m waits i j))
+              (each_put (λ _ _ x. Below w.next x) (λ i j. olds (w.link i j)) 0 fences g.moves.messages (fence_below w g m of) i j e);
+          rules = g.moves.rules;
+          ops = g.moves.ops;
+        };
+        messages = new_after (OfShare S w.shares) w.link g.messages p 0 (share_sends S A m) (forward_of_share w.shares m of);
+        numbers = new_after (λ _ m. Numbered w.next m) w.link g.numbers p 0 (share_sends S A m) (forward_numbered w.next m);
+        shares_below = g.shares_below;
+        nums_apart = g.nums_apart;
+        some = g.some;
+        one_kind = g.one_kind;
+        apart_moves = g.apart_moves;
+        apart = g.apart;
+        queues = g.queues;
+      }
+
+  -- a packet of the input; what goes to the controller is taken by a share
+  pub input_keeps : (w : WholeWorld S A) → GlobalAll S A w → (q : ℕ) → (w.target (S.packet_unit q) ≡ 1 → TakesSome S w.shares (S.packet_unit q))
+      → GlobalAll S A (whole_input S A w q)
+  input_keeps w g q diverted = record {
+    moves = moved (w.target (S.packet_unit q) == 1) refl;
+    messages = new_put (OfShare S w.shares) w.link g.messages 0 sends (by_target (w.target (S.packet_unit q) == 1) refl);
+    numbers = new_put (λ _ m. Numbered w.next m) w.link g.numbers 0 sends (unnumbered (w.target (S.packet_unit q) == 1) refl);
+    shares_below = g.shares_below;
+    nums_apart = g.nums_apart;
+    some = g.some;
+    one_kind = g.one_kind;
+    apart_moves = g.apart_moves;
+    apart = g.apart;
+    queues = g.queues;
+  }
+    where
+      sends : List (ℕ × Any R)
+      sends = arrive_sends S A (w.target (S.packet_unit q)) q
+
+      by_target : (b : Bool) → (w.target (S.packet_unit q) == 1) ≡ b → EachSentNew (OfShare S w.shares) sends
+      by_target true on = rw on ((refl, diverted ((Decides-eqb (w.target (S.packet_unit q)) 1).0 on)), tt)
+      by_target false off = rw off (tt, tt)
+
+      unnumbered : (b : Bool) → (w.target (S.packet_unit q) == 1) ≡ b → EachSentNew (λ _ m. Numbered w.next m) sends
+      unnumbered true on = rw on (tt, tt)
+      unnumbered false off = rw off (tt, tt)
+
+      moved : (b : Bool) → (w.target (S.packet_unit q) == 1) ≡ b → Global S (moves_of S A (whole_input S A w q))
+      moved true on =
+          let none : old_sends sends ≡ [] = rw on refl in
+          global_as (moves_of S A w) (moves_of S A (whole_input S A w q)).link (λ i j. no_olds-put (w.link i j) (i == 0) j sends none) g.moves
+      moved false off =
+          let one : old_sends sends ≡ (w.target (S.packet_unit q), Carry_on q) ∷ [] = rw off refl in
+          global_as (in_next S (moves_of S A w) q) (moves_of S A (whole_input S A w q)).link (λ i j. olds-put (w.link i j) (i == 0) j sends
+          ((w.target (S.packet_unit q), Carry_on q) ∷ []) one) (input_global S laws (moves_of S A w) g.moves q)

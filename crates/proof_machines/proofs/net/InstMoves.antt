@@ -1,0 +1,232 @@
+-- An instance takes a message of a move: to a unit of that move it is the machine's row, to another unit nothing.
+use Rattle.std.proofs.Common.{◌≡◌, ℕ, Bool, true, false, Option, Some, None, List, [], ◌∷◌, map, length, refl, sym, ap, ◌∙◌, subst}
+use Rattle.std.specs.Prelude.{if◌then◌else◌, ◌&&◌, ◌==◌}
+use Rattle.std.proofs.lemmas.Bool.{eqb-true, both_ways}
+use Rattle.proof_machines.proofs.unit.Machine.{Where, At_a, At_b, joined, Rule, Part, Inst, Did, sends as did_sends, Item, Enable, Enabled, Stream, Delete}
+use Rattle.proof_machines.proofs.unit.Machine.{Deleted, Put, Restore, Restored, Event, Piece, Put_ok, Put_no, Fenced, Forward, Fence_to, Install, Stray}
+use Rattle.proof_machines.proofs.unit.UnitPieces.{ArePiecesOf}
+use Rattle.proof_machines.proofs.unit.Real as Real
+use Rattle.proof_machines.proofs.unit.Real.{Chunks, record_at, RPiece, M_enable, M_stream, M_delete, M_put, M_restore}
+use Rattle.proof_machines.proofs.unit.Real.{M_enabled, M_event, M_piece, M_deleted, M_put_ok, M_put_no, M_restored, M_fenced}
+use Rattle.proof_machines.proofs.unit.Real.{M_forward, M_install, M_fence_to, Frame, where_true, see, sends_to, view, only_mine}
+use Rattle.proof_machines.proofs.unit.Labels.{Each, Without, cut_foreign}
+use Rattle.proof_machines.proofs.unit.Cuts.{all_at, marks, chop, joined-chop}
+use Rattle.proof_machines.proofs.unit.SeenInst.{SeesInstance, r_stream, r_delete, r_restore, r_put, parts_of, stream_seen, delete_seen, restore_seen, put_seen}
+use Rattle.flow_filter.specs.declared.filter.Filter.{Filter}
+use Rattle.proof_machines.proofs.net.Net.{everything, Msg, Sys, IsSys, to_ctrl, NumberedInstance}
+use Rattle.proof_machines.proofs.net.Net.{InstanceTurn, says, with_table, on_move, is_free, held_of, seen}
+use Rattle.proof_machines.proofs.net.Holding.{Seeing, EachSent, frame, MoveLabel, Label, SeesNode}
+use Rattle.proof_machines.proofs.net.RuleLists.{find_set_other, set_own_rule, set_own_held}
+use Rattle.proof_machines.proofs.net.Insts.{InstanceGoes, does, ctrl_sends, ctrl_else, one_else, label_set}
+use Rattle.nf_function.specs.declared.unit.Unit as units
+use Rattle.record_table.specs.Table.{is_among}
+use Rattle.nf_msgs.specs.declared.answer.Answer.{Answer}
+
+module _ {R : Type 0} (S : Sys R) (laws : IsSys S) (z : Seeing) (num : (z.op.num == z.op.num) ≡ true) (w : Where) (i : NumberedInstance S) (x : Inst R)
+    (s : SeesNode S z i x) where
+  abbrev fr : Frame
+  fr = frame S z
+
+  abbrev n : ℕ
+  n = z.op.num
+
+  abbrev Goes : InstanceTurn S → Did R → Type 0
+  Goes did d = InstanceGoes S laws z num did d
+
+  abbrev do_it : List (Part R) → Option Answer → Option (Item R) → Did R
+  do_it parts refuse o = does S laws z num w parts refuse x o
+
+  -- with the flags that the unit can't see
+  pub data MovesInstance (did : InstanceTurn S) (o : Option (Item R)) : Type 0 where
+    Any : ((parts : List (Part R)) (refuse : Option Answer) → Goes did (do_it parts refuse o)) → MovesInstance did o
+    Streams_out : (parts : List (Part R)) → ArePiecesOf parts x.live → o ≡ Some Stream → ((refuse : Option Answer) → Goes did (do_it parts refuse o))
+        → MovesInstance did o
+    Puts_in : (refuse : Option Answer) (h : Part R) (first : Bool) → o ≡ Some (Put h first) → ((parts : List (Part R)) → Goes did (do_it parts refuse o))
+        → MovesInstance did o
+
+  Sent : List (ℕ × Msg R) → Type 0
+  Sent xs = EachSent (λ j m. Label S z 1 m) xs
+
+  idle_goes : Goes (says S i []) (did_sends x [])
+  unfolding Sent
+  idle_goes = record { node = s; to_c = refl; others = λ j e. refl; labels = tt; ran = refl }
+
+  idle_on : (o : Option (Item R)) → ((parts : List (Part R)) (refuse : Option Answer) → do_it parts refuse o ≡ did_sends x []) → MovesInstance (says S i []) o
+  idle_on o e = Any (λ parts refuse. subst (λ d. Goes (says S i []) d) (sym (e parts refuse)) idle_goes)
+
+  -- what the table's step gives
+  of_table : (real : S.B.T × List (Real.Msg R)) (d : Did R) → SeesInstance S.F S.B fr x real d → EachSent (λ j m. Label S z 1 m) (map to_ctrl real.1)
+      → Goes (with_table S i real) d
+  of_table real d t l = record {
+    node = record { live = t.live; rule = s.rule ∙ sym t.rule; held = s.held ∙ sym t.held; rules = s.rules };
+    to_c = ctrl_sends S laws z num everything real.1 ∙ t.to_c;
+    others = λ j e. ctrl_else S laws z num real.1 j e;
+    labels = l;
+    ran = let none = t.ran in rw none refl;
+  }
+
+  -- another move's step leaves the record, and what it sends isn't seen
+  of_other : (real : S.B.T × List (Real.Msg R)) → S.B.at z.unit real.0 ≡ S.B.at z.unit i.live → view fr real.1 ≡ []
+      → EachSent (λ j m. Label S z 1 m) (map to_ctrl real.1) → Goes (with_table S i real) (did_sends x [])
+  of_other real live none l = record {
+    node = record { live = live ∙ s.live; rule = s.rule; held = s.held; rules = s.rules };
+    to_c = ctrl_sends S laws z num everything real.1 ∙ none;
+    others = λ j e. ctrl_else S laws z num real.1 j e;
+    labels = l;
+    ran = refl;
+  }
+
+  enable_goes : (g : Filter) (m : ℕ) (k : Rule) → (S.takes g z.unit ≡ (m == n)) × (is_free k ≡ false)
+      → MovesInstance (on_move S i g (M_enable m k)) (Real.seen fr (M_enable m k))
+  enable_goes g m k l =
+      Any (λ parts refuse. elim (m == n) as (λ b. (m == n) ≡ b → Goes (on_move S i g (M_enable m k)) (do_it parts refuse (where_true b (Enable k)))) [
+        | true ↦ λ e.
+            let same : m ≡ n = eqb-true m n e in subst (λ q. Goes (on_move S i g (M_enable q k)) (do_it parts refuse (Some (Enable k)))) (sym same) (record {
+              node = record {
+                live = s.live;
+                rule = set_own_rule n g k i.rules num;
+                held = ap (only_mine fr) (set_own_held n g k i.rules num) ∙ s.held;
+                rules = label_set S laws z num n g k i.rules (subst (λ q. S.takes g z.unit ≡ (q == n)) same l.0, l.1) s.rules;
+              };
+              to_c = rw num refl;
+              others = λ j off. one_else S laws z num (M_enabled n) j off;
+              labels = ((refl, tt), tt);
+              ran = refl;
+            })
+        | false ↦ λ e.
+            let same = find_set_other n m g k i.rules e in
+            record {
+              node = record {
+                live = s.live;
+                rule = ap Rattle.proof_machines.proofs.net.Net.rule_of same ∙ s.rule;
+                held = ap (λ o. only_mine fr (held_of o)) same ∙ s.held;
+                rules = label_set S laws z num m g k i.rules l s.rules;
+              };
+              to_c = rw e refl;
+              others = λ j off. one_else S laws z num (M_enabled m) j off;
+              labels = ((refl, tt), tt);
+              ran = refl;
+            }
+      ] refl)
+
+  pieces_unseen : (m : ℕ) (ps : List (RPiece R)) → (m == n) ≡ false → view fr (map (λ p. M_piece m p) ps) ≡ []
+  pieces_unseen m [] e = refl
+  pieces_unseen m (p ∷ ps) e = rw e (pieces_unseen m ps e)
+
+  pieces_label : (m : ℕ) (ps : List (RPiece R)) → ((m == n) ≡ false → Each (Without z.unit) ps)
+      → EachSent (λ j x. Label S z 1 x) (map to_ctrl (map (λ p. M_piece m p) ps))
+  pieces_label m [] l = tt
+  pieces_label m (p ∷ ps) l = ((refl, λ off. (l off).0), pieces_label m ps (λ off. (l off).1))
+
+  stream_goes : (g : Filter) (m : ℕ) → S.takes g z.unit ≡ (m == n) → MovesInstance (on_move S i g (M_stream m)) (Real.seen fr (M_stream m))
+  stream_goes g m l =
+      let xs : Chunks R = S.B.select (S.takes g) i.live in
+      elim (m == n) as (λ b. (m == n) ≡ b → MovesInstance (on_move S i g (M_stream m)) (where_true b Stream)) [
+        | true ↦ λ e.
+            let same : m ≡ n = eqb-true m n e in
+            let takes : S.takes g z.unit ≡ true = l ∙ e in
+            let parts = parts_of S.F S.B laws.laws w fr x i.live s.live num (length xs) (S.newest xs) (S.takes g) in
+            subst (λ q. MovesInstance (on_move S i g (M_stream q)) (Some Stream)) (sym same)
+            (Streams_out parts (stream_seen S.F S.B laws.laws w fr x i.live s.live num (length xs) (S.newest xs) (S.takes g) None takes).1 refl
+            (λ refuse. of_table (r_stream S.F S.B n (length xs) (S.newest xs) (S.takes g) i.live) (do_it parts refuse (Some Stream))
+            (stream_seen S.F S.B laws.laws w fr x i.live s.live num (length xs) (S.newest xs) (S.takes g) refuse takes).0
+            (pieces_label n (marks (length xs) (S.newest xs) (chop (length xs) xs)) (λ off. absurd (both_ways (n == n) off num)))))
+        | false ↦ λ e.
+            let out : S.takes g z.unit ≡ false = l ∙ e in
+            let none : all_at z.unit xs ≡ [] = laws.laws.selected z.unit (S.takes g) i.live ∙ rw out refl in
+            Any (λ parts refuse. of_other (r_stream S.F S.B m (length xs) (S.newest xs) (S.takes g) i.live)
+            refl (pieces_unseen m (marks (length xs) (S.newest xs) (chop (length xs) xs)) e)
+            (pieces_label m (marks (length xs) (S.newest xs) (chop (length xs) xs))
+            (λ _. cut_foreign z.unit (length xs) (S.newest xs) (chop (length xs) xs) (ap (all_at z.unit) (joined-chop (length xs) xs) ∙ none))))
+      ] refl
+
+  delete_goes : (g : Filter) (m : ℕ) (us : List units.Unit) → ((m == n) ≡ false → is_among us z.unit ≡ false)
+      → MovesInstance (on_move S i g (M_delete m us)) (Real.seen fr (M_delete m us))
+  delete_goes g m us l = Any (λ parts refuse.
+      elim (m == n) as (λ b. (m == n) ≡ b → Goes (on_move S i g (M_delete m us)) (do_it parts refuse (where_true b (Delete (is_among us z.unit))))) [
+        | true ↦ λ e. let same : m ≡ n = eqb-true m n e in
+            subst (λ q. Goes (on_move S i g (M_delete q us)) (do_it parts refuse (Some (Delete (is_among us z.unit))))) (sym same)
+            (of_table (r_delete S.F S.B n us i.live) (do_it parts refuse (Some (Delete (is_among us z.unit))))
+            (delete_seen S.F S.B laws.laws w fr x i.live s.live num us parts refuse) ((refl, tt), tt))
+        | false ↦ λ e. of_other (r_delete S.F S.B m us i.live) (laws.laws.removed z.unit us i.live ∙ (let out = l e in rw out refl)) (rw e refl)
+            ((refl, tt), tt)
+      ] refl)
+
+  restore_goes : (g : Filter) (m : ℕ) (cs : Chunks R) → ((m == n) ≡ false → record_at z.unit cs ≡ None)
+      → MovesInstance (on_move S i g (M_restore m cs)) (Real.seen fr (M_restore m cs))
+  restore_goes g m cs l = Any (λ parts refuse.
+      elim (m == n) as (λ b. (m == n) ≡ b → Goes (on_move S i g (M_restore m cs)) (do_it parts refuse (where_true b (Restore (record_at z.unit cs))))) [
+        | true ↦ λ e. let same : m ≡ n = eqb-true m n e in
+            subst (λ q. Goes (on_move S i g (M_restore q cs)) (do_it parts refuse (Some (Restore (record_at z.unit cs))))) (sym same)
+            (of_table (r_restore S.F S.B n cs i.live) (do_it parts refuse (Some (Restore (record_at z.unit cs))))
+            (restore_seen S.F S.B laws.laws w fr x i.live s.live num cs parts refuse) ((refl, tt), tt))
+        | false ↦ λ e. of_other (r_restore S.F S.B m cs i.live) (laws.laws.restored z.unit cs i.live ∙ ap (λ o. joined S.F o (S.B.at z.unit i.live)) (l e))
+            (rw e refl) ((refl, tt), tt)
+      ] refl)
+
+  -- a put, by whether it is the first, refused, the last
+  put_label : (m : ℕ) (p : RPiece R) (first : Bool) (refuse : Option Answer) (last : Bool) → p.last ≡ last → ((m == n) ≡ false → Without z.unit p)
+      → EachSent (λ j x. Label S z 1 x) (map to_ctrl (r_put S.F S.B m first refuse p i.live).1)
+  put_label m p false refuse true e l = rw e ((refl, tt), tt)
+  put_label m p false refuse false e l = rw e tt
+  put_label m p true None last e l = ((refl, tt), tt)
+  put_label m p true (Some why) last e l = ((refl, l), tt)
+
+  put_other : (m : ℕ) (p : RPiece R) (first : Bool) (refuse : Option Answer) (last : Bool) → p.last ≡ last → (m == n) ≡ false → Without z.unit p
+      → (S.B.at z.unit (r_put S.F S.B m first refuse p i.live).0 ≡ S.B.at z.unit i.live) × (view fr (r_put S.F S.B m first refuse p i.live).1 ≡ [])
+  put_other m p false refuse true e off l = (laws.laws.restored z.unit p.chunks i.live ∙ ap (λ o. joined S.F o (S.B.at z.unit i.live)) l, rw (e, off) refl)
+  put_other m p false refuse false e off l = (laws.laws.restored z.unit p.chunks i.live ∙ ap (λ o. joined S.F o (S.B.at z.unit i.live)) l, rw e refl)
+  put_other m p true None last e off l = (laws.laws.imported z.unit p.chunks i.live ∙ ap (λ o. joined S.F o (S.B.at z.unit i.live)) l, rw off refl)
+  put_other m p true (Some why) last e off l = (refl, rw off refl)
+
+  put_goes : (g : Filter) (m : ℕ) (p : RPiece R) (first : Bool) → ((m == n) ≡ false → Without z.unit p)
+      → MovesInstance (on_move S i g (M_put m p first)) (Real.seen fr (M_put m p first))
+  put_goes g m p first l = elim (m == n) as (λ b. (m == n) ≡ b → MovesInstance (on_move S i g (M_put m p first)) (where_true b (Put (see fr p) first))) [
+    | true ↦ λ e.
+        let same : m ≡ n = eqb-true m n e in
+        subst (λ q. MovesInstance (on_move S i g (M_put q p first)) (Some (Put (see fr p) first))) (sym same)
+        (Puts_in (S.refuse i.room i.live p) (see fr p) first refl (λ parts. of_table (r_put S.F S.B n first (S.refuse i.room i.live p) p i.live)
+        (do_it parts (S.refuse i.room i.live p) (Some (Put (see fr p) first))) (put_seen S.F S.B laws.laws w fr x i.live s.live num p first p.last parts
+        (S.refuse i.room i.live p) refl) (put_label n p first (S.refuse i.room i.live p) p.last refl (λ off. absurd (both_ways (n == n) off num)))))
+    | false ↦ λ e.
+        let q = put_other m p first (S.refuse i.room i.live p) p.last refl e (l e) in
+        Any (λ parts refuse. of_other (r_put S.F S.B m first (S.refuse i.room i.live p) p i.live) q.0 q.1
+        (put_label m p first (S.refuse i.room i.live p) p.last refl l))
+  ] refl
+
+  side_idle : (b c : Bool) (it : Where → Item R)
+      → ((v : Where) (parts : List (Part R)) (refuse : Option Answer) → do_it parts refuse (Some (it v)) ≡ did_sends x [])
+      → (parts : List (Part R)) (refuse : Option Answer) → do_it parts refuse (Some (if b then it At_a else if c then it At_b else Stray)) ≡ did_sends x []
+  side_idle true c it e parts refuse = e At_a parts refuse
+  side_idle false true it e parts refuse = e At_b parts refuse
+  side_idle false false it e parts refuse = refl
+
+  when_seen : (b : Bool) (it : Item R) → ((parts : List (Part R)) (refuse : Option Answer) → do_it parts refuse (Some it) ≡ did_sends x [])
+      → (parts : List (Part R)) (refuse : Option Answer) → do_it parts refuse (where_true b it) ≡ did_sends x []
+  when_seen true it e parts refuse = e parts refuse
+  when_seen false it e parts refuse = refl
+
+  install_idle : (b : Bool) (parts : List (Part R)) (refuse : Option Answer) → do_it parts refuse (Some (if b then Install else Stray)) ≡ did_sends x []
+  install_idle true parts refuse = refl
+  install_idle false parts refuse = refl
+
+  pub move_goes : (g : Filter) (m : Real.Msg R) → MoveLabel S z g m → MovesInstance (on_move S i g m) (Real.seen fr m)
+  move_goes g (M_enable m k) l = enable_goes g m k l
+  move_goes g (M_stream m) l = stream_goes g m l
+  move_goes g (M_delete m us) l = delete_goes g m us l
+  move_goes g (M_put m p first) l = put_goes g m p first l
+  move_goes g (M_restore m cs) l = restore_goes g m cs l
+  move_goes g (M_enabled m) l = idle_on (Real.seen fr (M_enabled m)) (when_seen (m == n) Enabled (λ _ _. refl))
+  move_goes g (M_event m p) l = idle_on (Real.seen fr (M_event m p)) (when_seen (fr.mine p) (Event p) (λ _ _. refl))
+  move_goes g (M_piece m p) l = idle_on (Real.seen fr (M_piece m p)) (when_seen (m == n) (Piece (see fr p)) (λ _ _. refl))
+  move_goes g (M_deleted m) l = idle_on (Real.seen fr (M_deleted m)) (when_seen (m == n) Deleted (λ _ _. refl))
+  move_goes g (M_put_ok m) l = idle_on (Real.seen fr (M_put_ok m)) (when_seen (m == n) Put_ok (λ _ _. refl))
+  move_goes g (M_put_no m why cs) l = idle_on (Real.seen fr (M_put_no m why cs)) (when_seen (m == n) (Put_no why (record_at z.unit cs)) (λ _ _. refl))
+  move_goes g (M_restored m) l = idle_on (Real.seen fr (M_restored m)) (when_seen (m == n) Restored (λ _ _. refl))
+  move_goes g (M_fenced m) l = idle_on (Real.seen fr (M_fenced m)) (when_seen (m == n) Fenced (λ _ _. refl))
+  move_goes g (M_forward p to) l = idle_on (Real.seen fr (M_forward p to))
+      (when_seen (fr.mine p) (sends_to fr to (λ v. Forward v p)) (side_idle (to == fr.from) (to == fr.to) (λ v. Forward v p) (λ _ _ _. refl)))
+  move_goes g (M_install m from to) l = idle_on (Real.seen fr (M_install m from to))
+      (when_seen (m == n) (if (from == fr.from) && (to == fr.to) then Install else Stray) (install_idle ((from == fr.from) && (to == fr.to))))
+  move_goes g (M_fence_to m to) l = idle_on (Real.seen fr (M_fence_to m to))
+      (when_seen (m == n) (sends_to fr to (λ v. Fence_to v)) (side_idle (to == fr.from) (to == fr.to) (λ v. Fence_to v) (λ _ _ _. refl)))

@@ -1,0 +1,153 @@
+-- An instance takes a message of a move: a unit under a share sees at most a plain packet of it, or the share's fence (`moves_sees`).
+use Rattle.std.proofs.Common.{◌≡◌, ℕ, Bool, true, false, Option, Some, None, List, [], ◌∷◌, map, length, refl, sym, ap, ◌∙◌, subst, arith}
+use Rattle.std.specs.Prelude.{if◌then◌else◌, ◌==◌}
+use Rattle.std.proofs.lemmas.Bool.Decides.{nat_tests}
+use Rattle.proof_machines.proofs.unit.Machine.{Free, Drops, Buffers}
+use Rattle.proof_machines.proofs.unit.Real as Real
+use Rattle.proof_machines.proofs.unit.Real.{RPiece, M_enable, M_stream, M_delete, M_put, M_restore, M_enabled, M_event, M_piece, M_deleted}
+use Rattle.proof_machines.proofs.unit.Real.{M_put_ok, M_put_no, M_restored, M_fenced, M_forward, M_install, M_fence_to, where_true, add, sent_for}
+use Rattle.proof_machines.proofs.unit.Cuts.{marks, chop}
+use Rattle.proof_machines.proofs.unit.SeenInst.{r_put}
+use Rattle.proof_machines.proofs.share.Share as share
+use Rattle.proof_machines.proofs.share.Share.{Item, Item.Carry, Item.Fence, Item.Fenced, Item.Stray, Did, member_does}
+use Rattle.flow_filter.specs.declared.filter.Filter.{Filter}
+use Rattle.proof_machines.proofs.net.Net.{Msg, Msg.In_packet, Msg.Asked, Msg.Carry_on, Msg.Pass_on, Msg.Fence_on, Msg.Mv, Sys, IsSys}
+use Rattle.proof_machines.proofs.net.Net.{Ruling, first_rule, to_ctrl, NumberedInstance, by_kind, by_rule, on_move, inst_step}
+use Rattle.proof_machines.proofs.net.Holding.{EachSent}
+use Rattle.proof_machines.proofs.net.Rest.{NothingOf}
+use Rattle.proof_machines.proofs.net.UnderOld.{LeavesInstance, packet_in}
+use Rattle.proof_machines.proofs.net.ShareViews.{mine, unit_share, move_seen, old_seen, share_items, own_of}
+use Rattle.proof_machines.proofs.net.MemberSteps.{any_step, as_was, does, SeesMember, ran_at}
+use Rattle.proof_machines.proofs.net.Shares.{Any.Old, as_old, Sharing, SeeingShare}
+use Rattle.nf_msgs.specs.declared.answer.Answer.{Answer}
+
+module _ {R : Type 0} (S : Sys R) (A : Sharing S) (z : SeeingShare) where
+  -- sends of which the unit sees nothing
+  abbrev pub Unseen : List (ℕ × Msg R) → Type 0
+  Unseen xs = EachSent (λ _ m. old_seen S A z m ≡ None) xs
+
+  pub unseen_view : (xs : List (ℕ × Msg R)) → Unseen xs → (r : ℕ) → share_items S A z r (sent_for r (as_old xs)) ≡ []
+  unseen_view [] h r = refl
+  unseen_view (x ∷ xs) h r = elim (x.0 == r) as (λ b. share_items S A z r (if b then Old x.1 ∷ sent_for r (as_old xs) else sent_for r (as_old xs)) ≡ [])
+      [ true ↦ ap (λ o. add o (share_items S A z r (sent_for r (as_old xs)))) h.0 ∙ unseen_view xs h.1 r | false ↦ unseen_view xs h.1 r ]
+
+  pieces_unseen : (n : ℕ) (ps : List (RPiece R)) → Unseen (map to_ctrl (map (λ p. M_piece n p) ps))
+  pieces_unseen n [] = tt
+  pieces_unseen n (p ∷ ps) = (refl, pieces_unseen n ps)
+
+  put_unseen : (n : ℕ) (p : RPiece R) (first : Bool) (refuse : Option Answer) (t : S.B.T) (last : Bool) → p.last ≡ last
+      → Unseen (map to_ctrl (r_put S.F S.B n first refuse p t).1)
+  put_unseen n p false refuse t true e = rw e (refl, tt)
+  put_unseen n p false refuse t false e = rw e tt
+  put_unseen n p true None t last e = (refl, tt)
+  put_unseen n p true (Some why) t last e = (refl, tt)
+
+  move_unseen : (i : NumberedInstance S) (g : Filter) (m : Real.Msg R) → Unseen (on_move S i g m).sends
+  move_unseen i g (M_enable n k) = (refl, tt)
+  move_unseen i g (M_stream n) = pieces_unseen n (marks (length (S.B.select (S.takes g) i.live)) (S.newest (S.B.select (S.takes g) i.live))
+      (chop (length (S.B.select (S.takes g) i.live)) (S.B.select (S.takes g) i.live)))
+  move_unseen i g (M_delete n us) = (refl, tt)
+  move_unseen i g (M_put n p first) = put_unseen n p first (S.refuse i.room i.live p) i.live p.last refl
+  move_unseen i g (M_restore n cs) = (refl, tt)
+  move_unseen i g (M_enabled n) = tt
+  move_unseen i g (M_event n p) = tt
+  move_unseen i g (M_piece n p) = tt
+  move_unseen i g (M_deleted n) = tt
+  move_unseen i g (M_put_ok n) = tt
+  move_unseen i g (M_put_no n why cs) = tt
+  move_unseen i g (M_restored n) = tt
+  move_unseen i g (M_fenced n) = tt
+  move_unseen i g (M_forward p to) = tt
+  move_unseen i g (M_install n from to) = tt
+  move_unseen i g (M_fence_to n to) = tt
+
+  carry_unseen : (i : NumberedInstance S) (p : ℕ) (o : Option Ruling) → Unseen (by_rule S i p o).sends
+  carry_unseen i p None = tt
+  carry_unseen i p (Some r) = elim r.rule as (λ k. Unseen (by_kind S i p r.num k).sends) [ Free ↦ tt | Drops ↦ (refl, tt) | Buffers ↦ tt ]
+
+  -- what an instance answers
+  abbrev answer_to : Msg R → List (Item R)
+  answer_to (Fence_on n) = add (where_true (n == z.num) Fenced) []
+  answer_to m = []
+
+  record Answers (i : NumberedInstance S) (m : Msg R) : Type 0 where
+    to_c : share_items S A z 1 (sent_for 1 (as_old (inst_step S i m).sends)) ≡ answer_to m
+    others : (r : ℕ) → (r == 1) ≡ false → share_items S A z r (sent_for r (as_old (inst_step S i m).sends)) ≡ []
+
+  answers : (i : NumberedInstance S) (m : Msg R) → Answers i m
+  answers i (Carry_on p) =
+      let h = carry_unseen i p (first_rule S (S.packet_unit p) i.rules) in
+      record { to_c = unseen_view (inst_step S i (Carry_on p)).sends h 1; others = λ r _. unseen_view (inst_step S i (Carry_on p)).sends h r }
+  answers i (Pass_on p) = record { to_c = refl; others = λ r _. refl }
+  answers i (Fence_on n) = record { to_c = refl; others = λ r off. let other : (1 == r) ≡ false = grind (arith, nat_tests) in rw other refl }
+  answers i (Mv g m) =
+      record { to_c = unseen_view (on_move S i g m).sends (move_unseen i g m) 1; others = λ r _. unseen_view (on_move S i g m).sends (move_unseen i g m) r }
+  answers i (In_packet p) = record { to_c = refl; others = λ r _. refl }
+  answers i (Asked x) = record { to_c = refl; others = λ r _. refl }
+
+  module _ (laws : IsSys S) (y : ℕ) (i : NumberedInstance S) (standby : S.B.T) where
+    abbrev own : Option R
+    own = own_of S A z (y == z.home) i.live standby
+
+    -- a plain packet of the unit is for home
+    abbrev pub AtHome : Msg R → Type 0
+    AtHome (Carry_on p) = mine S A z p ≡ true → (y == z.home) ≡ true
+    AtHome m = Unit {0}
+
+    abbrev Sees : Msg R → Did R → Type 0
+    Sees m x = SeesMember S A laws z y i.live (any_step S A laws z i standby (Old m)) x
+
+    own_live : (b : Bool) (t : S.B.T) → S.B.at z.unit t ≡ S.B.at z.unit i.live → own_of S A z b t standby ≡ own_of S A z b i.live standby
+    own_live true t e = e
+    own_live false t e = refl
+
+    -- its record and its packets are as they were
+    quiet : (m : Msg R) (x : Did R) → LeavesInstance S laws z.unit i (inst_step S i m) [] → x.own ≡ own → x.to_c ≡ answer_to m → x.ran ≡ [] → Sees m x
+    quiet m x h own_is to_c ran = let a = answers i m in record {
+      own = own_live (y == z.home) (inst_step S i m).node.live h.live ∙ sym own_is;
+      away = λ _. h.live;
+      to_c = a.to_c ∙ sym to_c;
+      others = a.others;
+      ran = ran_at S A laws z y (inst_step S i m).ran ∙ ap (share.at_node y) h.ran ∙ sym ran;
+    }
+
+    packet : (p : ℕ) → (y == z.home) ≡ true → LeavesInstance S laws z.unit i (inst_step S i (Carry_on p)) (p ∷ [])
+        → Sees (Carry_on p) (does S A laws z y own (Some (Carry p)))
+    packet p here h = let a = answers i (Carry_on p) in record {
+      own = rw here h.live;
+      away = λ off. let both : true ≡ false = sym here ∙ off in cc;
+      to_c = a.to_c;
+      others = a.others;
+      ran = ran_at S A laws z y (inst_step S i (Carry_on p)).ran ∙ ap (share.at_node y) h.ran;
+    }
+
+    -- a move's messages do nothing at a member
+    quiet_if : (b : Bool) (it : Item R) → member_does (unit_share S A z) y own it ≡ as_was S A laws z own
+        → does S A laws z y own (where_true b it) ≡ as_was S A laws z own
+    quiet_if true it e = e
+    quiet_if false it e = refl
+
+    move_idle : (m : Real.Msg R) → does S A laws z y own (move_seen S A z m) ≡ as_was S A laws z own
+    move_idle (M_fenced n) = quiet_if (n == z.num) Fenced refl
+    move_idle (M_install n from to) = quiet_if (n == z.num) Stray refl
+    move_idle (M_fence_to n to) = quiet_if (n == z.num) Stray refl
+    move_idle m = refl
+
+    fence : (n : ℕ) (b : Bool) → (n == z.num) ≡ b → LeavesInstance S laws z.unit i (inst_step S i (Fence_on n)) []
+        → Sees (Fence_on n) (does S A laws z y own (where_true b Fence))
+    fence n true e h = quiet (Fence_on n) (does S A laws z y own (Some Fence)) h refl (ap (λ b. add (where_true b Fenced) []) (sym e)) refl
+    fence n false e h = quiet (Fence_on n) (as_was S A laws z own) h refl (ap (λ b. add (where_true b Fenced) []) (sym e)) refl
+
+    pub moves_sees : (k : ℕ) (m : Msg R) → LeavesInstance S laws z.unit i (inst_step S i m) (packet_in S laws z.unit m) → NothingOf S z.unit k m → AtHome m
+        → Sees m (does S A laws z y own (old_seen S A z m))
+    moves_sees k (Carry_on p) h l home =
+        elim (mine S A z p) as (λ b. mine S A z p ≡ b → LeavesInstance S laws z.unit i (inst_step S i (Carry_on p)) (if b then p ∷ [] else [])
+        → Sees (Carry_on p) (does S A laws z y own (where_true b (Carry p)))) [
+          | true ↦ λ on g. packet p (home on) g
+          | false ↦ λ _ g. quiet (Carry_on p) (as_was S A laws z own) g refl refl refl
+        ] refl h
+    moves_sees k (Pass_on p) h off home = rw off (quiet (Pass_on p) (as_was S A laws z own) h refl refl refl)
+    moves_sees k (Fence_on n) h l home = fence n (n == z.num) refl h
+    moves_sees k (Mv g m) h l home = let e = move_idle m in subst (λ d. Sees (Mv g m) d) (sym e) (quiet (Mv g m) (as_was S A laws z own) h refl refl refl)
+    moves_sees k (In_packet p) h l home = quiet (In_packet p) (as_was S A laws z own) h refl refl refl
+    moves_sees k (Asked x) h l home = quiet (Asked x) (as_was S A laws z own) h refl refl refl

@@ -1,0 +1,97 @@
+-- A unit at rest, said without any move: a world with it shows a seat at rest, and a seat at rest whose move isn't open is a unit at
+-- rest.
+use Rattle.std.proofs.Common.{◌≡◌, ℕ, ◌≤◌, ◌<◌, Bool, true, false, Option, Some, None, List, [], ◌∷◌, map, refl, sym, ap, ◌∙◌, subst, arith}
+use Rattle.std.specs.Prelude.{if◌then◌else◌, ◌&&◌, ◌==◌}
+use Rattle.std.proofs.lemmas.Bool.Decides.{nat_tests}
+use Rattle.proof_machines.proofs.unit.Machine.{Where, At_a, At_b, At_c, Ran, after, Free, idle, Item, Carry, Stray, Phase, Idle, Over}
+use Rattle.proof_machines.proofs.unit.Lists.{firsts}
+use Rattle.proof_machines.proofs.unit.Real as Real
+use Rattle.proof_machines.proofs.unit.Real.{record_at, M_enable, M_stream, M_delete, M_put, M_restore, M_enabled, M_event, M_piece, M_deleted, M_put_ok}
+use Rattle.proof_machines.proofs.unit.Real.{M_put_no, M_restored, M_fenced, M_forward, M_install, M_fence_to, where_true, add, only_mine, off_if}
+use Rattle.proof_machines.proofs.unit.Seen.{NodesDiffer}
+use Rattle.proof_machines.proofs.unit.Labels.{Each, Without, Clean, each_both}
+use Rattle.proof_machines.proofs.unit.Pairs.{Nodes, expect}
+use Rattle.proof_machines.proofs.unit.Between.{rest_at}
+use Rattle.proof_machines.proofs.unit.NetViews.{items}
+use Rattle.flow_filter.specs.declared.filter.Filter.{Filter}
+use Rattle.proof_machines.proofs.net.Net.{Msg, In_packet, Asked, Carry_on, Pass_on, Fence_on, Mv, Sys, Ruling}
+use Rattle.proof_machines.proofs.net.Net.{find_rule, rule_of, is_free, held_of, Open, find_op, num_of, World, seen}
+use Rattle.proof_machines.proofs.net.Holding.{Seeing, frame, MoveLabel, Label, RuleLabel, OpLabel, SeesNode}
+use Rattle.proof_machines.proofs.net.Holding.{shows, node_at, place, IsController, done_of, Holds}
+use Rattle.nf_function.specs.declared.unit.Unit as units
+use Rattle.record_table.specs.Table.{same_unit, is_among}
+
+abbrev pub packets_at : (ℕ → Bool) → List ℕ → List ℕ
+packets_at mine [] = []
+packets_at mine (p ∷ ps) = if mine p then p ∷ packets_at mine ps else packets_at mine ps
+
+-- numbers below a bound
+abbrev pub IsBelow : ℕ → Option ℕ → Type 0
+IsBelow b None = Unit {0}
+IsBelow b (Some k) = k < b
+
+abbrev pub Below : {R : Type 0} → ℕ → Msg R → Type 0
+Below b (Fence_on k) = k < b
+Below b (Mv g m) = IsBelow b (num_of m)
+Below b m = Unit {0}
+
+module _ {R : Type 0} (S : Sys R) where
+  pub record Global (w : World S) : Type 0 where
+    pub messages : (i j : ℕ) → (i == 0) && (j == 0) ≡ false → Each (Below w.next) (w.link i j)
+    pub rules : (k : ℕ) → Each (λ r. r.num < w.next) (w.inst k).rules
+    pub ops : Each (λ e. e.op.num < w.next) w.ops
+
+module _ {R : Type 0} (S : Sys R) (u : units.Unit) where
+  abbrev pub mine : ℕ → Bool
+  mine p = same_unit (S.packet_unit p) u
+
+  abbrev pub HasNothing : Filter → Real.Msg R → Type 0
+  HasNothing g (M_enable n k) = (S.takes g u ≡ false) × (is_free k ≡ false)
+  HasNothing g (M_stream n) = S.takes g u ≡ false
+  HasNothing g (M_install n from to) = S.takes g u ≡ false
+  HasNothing g (M_event n p) = mine p ≡ false
+  HasNothing g (M_forward p to) = mine p ≡ false
+  HasNothing g (M_delete n us) = is_among us u ≡ false
+  HasNothing g (M_put n p first) = Without u p
+  HasNothing g (M_restore n cs) = record_at u cs ≡ None
+  HasNothing g (M_piece n p) = Without u p
+  HasNothing g (M_put_no n why cs) = record_at u cs ≡ None
+  HasNothing g m = Unit {0}
+
+  -- a message has nothing of the unit but a plain packet
+  abbrev pub NothingOf : ℕ → Msg R → Type 0
+  NothingOf i (Mv g m) = ((i == 0) ≡ false) × HasNothing g m
+  NothingOf i (Pass_on p) = mine p ≡ false
+  NothingOf i m = Unit {0}
+
+  abbrev pub none_mine : List ℕ → List ℕ
+  none_mine [] = []
+  none_mine (p ∷ ps) = if mine p then p ∷ none_mine ps else none_mine ps
+
+  abbrev pub RestRule : Ruling → Type 0
+  RestRule r = (S.takes r.filter u ≡ false) × (none_mine r.held ≡ []) × (is_free r.rule ≡ false)
+
+  abbrev pub RestOp : Open R → Type 0
+  RestOp e = (S.takes e.filter u ≡ false) × (Clean u e.phase × (none_mine e.store ≡ [])) × NodesDiffer e.op
+
+  abbrev pub carries_of : List (Msg R) → List ℕ
+  carries_of [] = []
+  carries_of (Carry_on p ∷ ms) = if mine p then p ∷ carries_of ms else carries_of ms
+  carries_of (m ∷ ms) = carries_of ms
+
+  abbrev pub done_u : List (ℕ × ℕ) → List ℕ
+  done_u [] = []
+  done_u (d ∷ ds) = if same_unit (S.packet_unit d.0) u then d.0 ∷ done_u ds else done_u ds
+
+  pub record Rest (w : World S) (owner : ℕ) (d : List Ran) (l : List ℕ) : Type 0 where
+    pub two : 2 ≤ owner
+    pub links : (i j : ℕ) → (i == 0) && (j == 0) ≡ false → carries_of (w.link i j) ≡ (if (i == 0) && (j == owner) then l else [])
+    pub labels : (i j : ℕ) → (i == 0) && (j == 0) ≡ false → Each (NothingOf i) (w.link i j)
+    pub live : (k : ℕ) → S.B.at u (w.inst k).live ≡ (if k == owner then after S.F d else None)
+    pub rules : (k : ℕ) → Each RestRule (w.inst k).rules
+    pub target : w.target u ≡ owner
+    pub ops : Each RestOp w.ops
+    pub done : done_u w.done ≡ firsts d
+
+pub below_off : (k b n : ℕ) → k < b → b ≤ n → (k == n) ≡ false
+below_off k b n a e = grind (arith, nat_tests, a, e)

@@ -1,0 +1,69 @@
+-- What a move's row sends has that move's number, and is for an instance or the switch.
+use Rattle.std.proofs.Common.{◌≡◌, ℕ, true, false, Option, List, [], ◌∷◌, map, refl}
+use Rattle.std.specs.Prelude.{if◌then◌else◌, ◌==◌}
+use Rattle.nf_msgs.specs.declared.answer.Answer.{Answer}
+use Rattle.move_op.specs.Table.{Said, Nothing, Hold_at_source, Put, Hold_at_destination, Forward, Release, Give_back}
+use Rattle.proof_machines.proofs.unit.Real.{RPiece, Msg, M_enable, M_stream, M_delete, M_put, M_restore, M_forward, M_install, M_fence_to, M_event, M_put_no}
+use Rattle.proof_machines.proofs.unit.Real.{RPhase, Op, OperationTurn, r_goes, r_words, put_to, forward_to, sends_of, r_from_source, r_from_destination}
+use Rattle.proof_machines.proofs.unit.Labels.{Each, each-append}
+use Rattle.proof_machines.proofs.unit.TableRows.{Hold, Any, any_each, any_phase}
+use Rattle.proof_machines.proofs.unit.RealRows.{Brings, BringsBack, from_source_holds, from_destination_holds}
+use Rattle.proof_machines.proofs.net.Net.{row_of, is_free}
+
+abbrev pub OfRow : {R : Type 0} → Op → Msg R → Type 0
+OfRow o (M_enable n k) = (n ≡ o.num) × (is_free k ≡ false)
+OfRow o (M_stream n) = n ≡ o.num
+OfRow o (M_delete n us) = n ≡ o.num
+OfRow o (M_put n p first) = n ≡ o.num
+OfRow o (M_restore n cs) = n ≡ o.num
+OfRow o (M_install n from to) = n ≡ o.num
+OfRow o (M_fence_to n to) = n ≡ o.num
+OfRow o (M_forward p to) = Unit {0}
+OfRow o m = ⊥
+
+abbrev pub SentOf : {R : Type 0} → Op → ℕ × Msg R → Type 0
+SentOf o x = OfRow o x.1
+
+puts_of_row : {R : Type 0} (o : Op) (ps : List (RPiece R)) → Each (SentOf o) (map (put_to o) ps)
+puts_of_row o [] = tt
+puts_of_row o (p ∷ ps) = (refl, puts_of_row o ps)
+
+forwards_of_row : (R : Type 0) (o : Op) (to : ℕ) (f : List ℕ) → Each (SentOf {R = R} o) (map (forward_to to) f)
+forwards_of_row R o to [] = tt
+forwards_of_row R o to (p ∷ f) = (tt, forwards_of_row R o to f)
+
+module _ {R : Type 0} (o : Op) where
+  said_of_row : (said : Said ℕ (RPiece R)) → Each (SentOf o) (sends_of o said)
+  said_of_row Nothing = tt
+  said_of_row Hold_at_source = ((refl, refl), tt)
+  said_of_row Hold_at_destination = ((refl, refl), tt)
+  said_of_row (Put ps) = puts_of_row o ps
+  said_of_row (Forward p) = (tt, tt)
+  said_of_row (Release f) =
+      each-append (SentOf {R = R} o) (map (forward_to o.dst) f) ((0, M_install o.num o.src o.dst) ∷ []) (forwards_of_row R o o.dst f) (refl, tt)
+  said_of_row (Give_back f) =
+      each-append (SentOf {R = R} o) (map (forward_to o.src) f) ((0, M_fence_to o.num o.src) ∷ []) (forwards_of_row R o o.src f) (refl, tt)
+  said_of_row said = (refl, tt)
+
+  abbrev Numbered : OperationTurn R → Type 0
+  Numbered turn = Each (SentOf o) turn.sends
+
+  all_numbered : (f : List ℕ) → Hold (r_words o f) (Any ℕ) (Any (RPiece R)) (Any Answer) (Any (Option Answer)) Numbered Numbered
+  all_numbered f = record { done = tt; refused = λ why x. tt; next = λ ph said x y. said_of_row said; keeps = λ h. h; stores = λ ps x h. h }
+
+  brings : (m : Msg R) → Brings (Any ℕ) (Any (RPiece R)) m
+  brings (M_event n p) = tt
+  brings m = tt
+
+  brings_back : (m : Msg R) → BringsBack (Any (RPiece R)) (Any Answer) m
+  brings_back (M_put_no n why cs) = (tt, λ last. tt)
+  brings_back m = tt
+
+  pub row_numbers : (phase : RPhase R) (f : List ℕ) (port : ℕ) (m : Msg R) → Each (SentOf o) (row_of o phase f port m).sends
+  row_numbers phase f port m =
+      elim (port == o.src)
+      as (λ b. Each (SentOf o) (if b then r_from_source o phase f m else if port == o.dst then r_from_destination o phase f m else r_goes phase f []).sends) [
+        | true ↦ from_source_holds (all_numbered f) (any_each f) phase (any_phase phase) m (brings m)
+        | false ↦ elim (port == o.dst) as (λ b. Each (SentOf o) (if b then r_from_destination o phase f m else r_goes phase f []).sends)
+            [ true ↦ from_destination_holds (all_numbered f) (any_each f) phase (any_phase phase) m (brings_back m) | false ↦ tt ]
+      ]

@@ -1,0 +1,263 @@
+-- The controller takes any message: a unit under a share sees of its own share what the share's machine does, of another share nothing
+-- (`share_sees`), and of a move nothing.
+use Rattle.std.proofs.Common.{◌≡◌, ℕ, ◌≤◌, Bool, true, false, Option, Some, None, List, [], ◌∷◌, ◌⊎◌, inl, inr, refl, sym, ap, ◌∙◌, subst, arith}
+use Rattle.std.specs.Prelude.{if◌then◌else◌, ◌==◌, option_map}
+use Rattle.std.proofs.lemmas.Bool.Decides.{nat_tests, Decides-eqb}
+use Rattle.proof_machines.proofs.unit.Real as Real
+use Rattle.proof_machines.proofs.unit.Real.{record_at, M_fenced, M_install, M_fence_to, Op, where_true, add, sent_for}
+use Rattle.proof_machines.proofs.unit.Labels.{Each}
+use Rattle.proof_machines.proofs.share.Share.{Item, Item.Carry, Item.Fence, Item.Shared, Item.Diverted, Item.Install}
+use Rattle.proof_machines.proofs.share.Share.{Item.Forward, Item.Get, Item.Sync, Item.Fenced, Item.Chunks, Item.Chunk}
+use Rattle.proof_machines.proofs.share.Share.{Item.Synced, Item.Stray, UnitShare, Phase, ControllerTurn, has, waits, share_does}
+use Rattle.proof_machines.proofs.share.Stages.{IsShare}
+use Rattle.flow_filter.specs.declared.filter.Filter.{Filter}
+use Rattle.proof_machines.proofs.net.Net.{Msg.In_packet, Msg.Asked, Msg.Carry_on, Msg.Pass_on, Msg.Fence_on, Msg.Mv}
+use Rattle.proof_machines.proofs.net.Net.{Sys, Open, find_op, row, filter_for, wrap, found, numbered, num_of}
+use Rattle.proof_machines.proofs.net.Holding.{EachSent}
+use Rattle.proof_machines.proofs.net.Ctrl.{each_found}
+use Rattle.proof_machines.proofs.net.RowNumbers.{OfRow, SentOf, row_numbers}
+use Rattle.proof_machines.proofs.net.ShareLists.{found_num}
+use Rattle.proof_machines.proofs.net.ShareRows.{ToldOf, SentBy, share_row_by, taking_found}
+use Rattle.proof_machines.proofs.net.GlobalAll.{GlobalAll}
+use Rattle.proof_machines.proofs.net.OnShareLinks.{Sender, IdleEmpty}
+use Rattle.proof_machines.proofs.net.ShareViews.{mine, unit_share, fit, move_seen, old_seen, new_seen, share_seen, share_items, as_share}
+use Rattle.proof_machines.proofs.net.ShareLabels.{taking_own, taking_other, queue_other}
+use Rattle.proof_machines.proofs.net.MemberMoves.{Unseen}
+use Rattle.proof_machines.proofs.net.OwnShare.{SeesRow, fenced_sees, chunks_sees, chunk_sees, synced_sees, packet_sees}
+use Rattle.proof_machines.proofs.net.Shares.{Any, Any.Old, Any.New, ShareMsg.Shared_on, ShareMsg.Diverted_on, ShareMsg.S_asked}
+use Rattle.proof_machines.proofs.net.Shares.{ShareMsg.S_install, ShareMsg.S_forward, ShareMsg.S_get, ShareMsg.S_sync, ShareMsg.S_chunks}
+use Rattle.proof_machines.proofs.net.Shares.{ShareMsg.S_shared, ShareMsg.S_synced, same, Sharing, OpenShare, find_share, set_share}
+use Rattle.proof_machines.proofs.net.Shares.{share_taking, Told, Told.Is_fenced, Told.Has_chunks, Told.Has_chunk, Told.Is_synced}
+use Rattle.proof_machines.proofs.net.Shares.{Told.Has_packet, share_row, told_by, SharesStep, by_share, WholeWorld, old_step, SeeingShare}
+use Rattle.record_table.proofs.UnitOrder.{same_unit-true}
+
+pub found_set : (n : ℕ) (ph : Phase) (q : List ℕ) (es : List OpenShare) (e : OpenShare) → find_share es n ≡ Some e
+    → find_share (set_share n ph q es) n ≡ Some (record e { phase = ph; queue = q })
+found_set n ph q [] e is = cc
+found_set n ph q (x ∷ es) e is = elim (x.num == n) as (λ b. (x.num == n) ≡ b → (if b then Some x else find_share es n) ≡ Some e
+    → find_share (if b then record x { phase = ph; queue = q } ∷ es else x ∷ set_share n ph q es) n ≡ Some (record e { phase = ph; queue = q })) [
+      | true ↦ λ on there.
+          let same_is : x ≡ e = cc in let change : OpenShare → Option OpenShare = λ y. Some (record y { phase = ph; queue = q }) in rw on (ap change same_is)
+      | false ↦ λ off there. rw off (found_set n ph q es e there)
+    ] refl is
+
+pub found_set_other : (n : ℕ) (ph : Phase) (q : List ℕ) (es : List OpenShare) (k : ℕ) → (n == k) ≡ false → find_share (set_share n ph q es) k ≡ find_share es k
+found_set_other n ph q [] k off = refl
+found_set_other n ph q (x ∷ es) k off = elim (x.num == n) as (λ b. (x.num == n) ≡ b
+    → find_share (if b then record x { phase = ph; queue = q } ∷ es else x ∷ set_share n ph q es) k ≡ (if x.num == k then Some x else find_share es k)) [
+      | true ↦ λ on. let same_is : x.num ≡ n = (Decides-eqb x.num n).0 on in let out : (x.num == k) ≡ false = ap (λ j. j == k) same_is ∙ off in rw out refl
+      | false ↦ λ _. ap (λ o. if x.num == k then Some x else o) (found_set_other n ph q es k off)
+    ] refl
+
+module _ {R : Type 0} (S : Sys R) (A : Sharing S) (z : SeeingShare) where
+  abbrev f : UnitShare R
+  f = unit_share S A z
+
+  -- what the unit sees of a step of the shares
+  pub record Sees_share (s : SharesStep S A) (d : ControllerTurn R) : Type 0 where
+    pub share : find_share s.shares z.num ≡ Some (as_share S A z d.phase d.queue)
+    pub to_s : share_items S A z 0 (sent_for 0 s.sends) ≡ d.to_s
+    pub to : (k : ℕ) → (k == 0) ≡ false → share_items S A z k (sent_for k s.sends) ≡ d.to k
+
+  abbrev pub share_item : Phase → List ℕ → Option (Item R) → ControllerTurn R
+  share_item ph q None = waits ph q
+  share_item ph q (Some it) = share_does f it ph q
+
+  -- the sender of what is seen
+  abbrev pub SenderIf : Phase → ℕ → Option (Item R) → Type 0
+  SenderIf ph p None = Unit {0}
+  SenderIf ph p (Some it) = Sender f ph p it
+
+  -- Another share's sends
+  another : (e : OpenShare) → (e.num == z.num) ≡ false → (j k : ℕ) (m : Any R) → SentBy S A e (λ p. mine S A z p ≡ false) (λ _. Unit {0}) j m
+      → share_seen S A z k m ≡ None
+  another e off j k (New (S_get n g)) h = let none : (n == z.num) ≡ false = ap (λ i. i == z.num) h.0 ∙ off in rw none refl
+  another e off j k (New (S_sync n home cs)) h = let none : (n == z.num) ≡ false = ap (λ i. i == z.num) h.0 ∙ off in rw none refl
+  another e off j k (New (S_forward n home p to)) h = let none : (n == z.num) ≡ false = ap (λ i. i == z.num) h.0 ∙ off in let its = h.1 in rw (none, its) refl
+  another e off j k (Old m) h = absurd h
+  another e off j k (New (Shared_on n home p)) h = absurd h
+  another e off j k (New (Diverted_on p)) h = absurd h
+  another e off j k (New (S_asked x)) h = absurd h
+  another e off j k (New (S_install n g from)) h = absurd h
+  another e off j k (New (S_chunks n cs)) h = absurd h
+  another e off j k (New (S_shared n c)) h = absurd h
+  another e off j k (New (S_synced n)) h = absurd h
+
+  another_view : (e : OpenShare) → (e.num == z.num) ≡ false → (k : ℕ) (xs : List (ℕ × Any R))
+      → EachSent (SentBy S A e (λ p. mine S A z p ≡ false) (λ _. Unit {0})) xs → share_items S A z k (sent_for k xs) ≡ []
+  another_view e off k [] h = refl
+  another_view e off k (x ∷ xs) h = elim (x.0 == k) as (λ b. share_items S A z k (if b then x.1 ∷ sent_for k xs else sent_for k xs) ≡ []) [
+    | true ↦ ap (λ o. add o (share_items S A z k (sent_for k xs))) (another e off x.0 k x.1 h.0) ∙ another_view e off k xs h.1
+    | false ↦ another_view e off k xs h.1
+  ]
+
+  module _ (is : IsShare f) (insts : (k : ℕ) → has z.members k ≡ true → 2 ≤ k) (w : WholeWorld S A) (g : GlobalAll S A w) (covered : S.takes z.filter z.unit
+      ≡ true) (ph : Phase) (q : List ℕ) (there : find_share w.shares z.num ≡ Some (as_share S A z ph q)) (empty : IdleEmpty f ph q) (p : ℕ) where
+    abbrev es : List OpenShare
+    es = w.shares
+
+    as_before : Sees_share (record { shares = es; sends = [] }) (waits ph q)
+    as_before = record { share = there; to_s = refl; to = λ k _. refl }
+
+    -- the unit's own share
+    of_own : (t : Told R) (d : ControllerTurn R) → SeesRow S A z is insts (share_row S A (as_share S A z ph q) p t) d
+        → Sees_share (by_share S A es p (Some (as_share S A z ph q, t))) d
+    of_own t d s =
+        let r = share_row S A (as_share S A z ph q) p t in
+        record {
+          share = found_set z.num r.phase r.queue es (as_share S A z ph q) there ∙ ap (λ x. Some (as_share S A z x r.queue)) s.phase
+              ∙ ap (λ x. Some (as_share S A z d.phase x)) s.queue;
+          to_s = s.to_s;
+          to = s.to;
+        }
+
+    -- another's
+    of_other : (e : OpenShare) (t : Told R) → find_share es e.num ≡ Some e → (e.num == z.num) ≡ false
+        → ToldOf S A e (λ p. mine S A z p ≡ false) (λ _. Unit {0}) t → Sees_share (by_share S A es p (Some (e, t))) (waits ph q)
+    of_other e t found_e off told =
+        let r = share_row S A e p t in
+        let k = share_row_by S A e (λ p. mine S A z p ≡ false) (λ _. Unit {0}) p t told (queue_other S A z w g covered ph q there e.num e found_e off) in
+        record {
+          share = found_set_other e.num r.phase r.queue es z.num off ∙ there;
+          to_s = another_view e off 0 r.sends k.1;
+          to = λ j _. another_view e off j r.sends k.1;
+        }
+
+    by_number : (n : ℕ) (t : Told R) (it : Item R)
+        → ((n == z.num) ≡ true → SeesRow S A z is insts (share_row S A (as_share S A z ph q) p t) (share_does f it ph q))
+        → ((e : OpenShare) → ToldOf S A e (λ p. mine S A z p ≡ false) (λ _. Unit {0}) t)
+        → Sees_share (by_share S A es p (option_map (λ e. (e, t)) (find_share es n))) (share_item ph q (where_true (n == z.num) it))
+    by_number n t it own told = elim (n == z.num)
+        as (λ b. (n == z.num) ≡ b → Sees_share (by_share S A es p (option_map (λ e. (e, t)) (find_share es n))) (share_item ph q (where_true b it))) [
+          | true ↦ λ on. let num : n ≡ z.num = (Decides-eqb n z.num).0 on in
+              subst (λ o. Sees_share (by_share S A es p (option_map (λ e. (e, t)) o)) (share_does f it ph q)) (sym (ap (find_share es) num ∙ there))
+              (of_own t (share_does f it ph q) (own on))
+          | false ↦ λ off. if_found (find_share es n) refl off
+        ] refl
+      where
+        if_found : (o : Option OpenShare) → find_share es n ≡ o → (n == z.num) ≡ false
+            → Sees_share (by_share S A es p (option_map (λ e. (e, t)) o)) (waits ph q)
+        if_found None none off = as_before
+        if_found (Some e) found_e off =
+            let num : e.num ≡ n = (Decides-eqb e.num n).0 (found_num es n e found_e) in
+            of_other e t (ap (find_share es) num ∙ found_e) (ap (λ k. k == z.num) num ∙ off) (told e)
+
+    -- a packet that is diverted
+    diverted : (k : ℕ) → Sees_share (by_share S A es p (option_map (λ e. (e, Has_packet k)) (share_taking S es (S.packet_unit k))))
+        (share_item ph q (new_seen S A z 1 (Diverted_on k)))
+    diverted k = elim (S.takes z.filter (S.packet_unit k)) as (λ b. S.takes z.filter (S.packet_unit k) ≡ b
+        → Sees_share (by_share S A es p (option_map (λ e. (e, Has_packet k)) (share_taking S es (S.packet_unit k))))
+        (share_item ph q (if b then Some (Diverted k) else where_true (mine S A z k) Stray))) [
+          | true ↦ λ on. subst (λ o. Sees_share (by_share S A es p (option_map (λ e. (e, Has_packet k)) o)) (share_does f (Diverted k) ph q))
+              (sym (taking_own S A z w g covered ph q there (S.packet_unit k) on))
+              (of_own (Has_packet k) (share_does f (Diverted k) ph q) (packet_sees S A z is insts ph q p k))
+          | false ↦ λ off. let other = not_its off in rw other (if_taken (share_taking S es (S.packet_unit k)) refl off other)
+        ] refl
+      where
+        not_its : S.takes z.filter (S.packet_unit k) ≡ false → mine S A z k ≡ false
+        not_its off = elim (mine S A z k) as (λ b. mine S A z k ≡ b → b ≡ false) [
+          | true ↦ λ on. let never : true ≡ false = sym covered ∙ ap (S.takes z.filter) (sym (same_unit-true (S.packet_unit k) z.unit on)) ∙ off in cc
+          | false ↦ λ _. refl
+        ] refl
+
+        if_taken : (o : Option OpenShare) → share_taking S es (S.packet_unit k) ≡ o → S.takes z.filter (S.packet_unit k) ≡ false → mine S A z k ≡ false
+            → Sees_share (by_share S A es p (option_map (λ e. (e, Has_packet k)) o)) (waits ph q)
+        if_taken None none off other = as_before
+        if_taken (Some e) taken off other = of_other e (Has_packet k) (taking_found S A es (S.packet_unit k) e g.nums_apart taken)
+            (taking_other S A z w g covered ph q there (S.packet_unit k) e off taken) other
+
+    -- an item that isn't for the controller
+    quiet_if : (b : Bool) (it : Item R) → share_does f it ph q ≡ waits ph q
+        → Sees_share (record { shares = es; sends = [] }) (share_item ph q (where_true b it))
+    quiet_if true it e = subst (λ d. Sees_share (record { shares = es; sends = [] }) d) (sym e) as_before
+    quiet_if false it e = as_before
+
+    quiet_fit : (b : Bool) (it : Item R) → share_does f it ph q ≡ waits ph q → share_does f (fit S A z b it) ph q ≡ waits ph q
+    quiet_fit true it e = e
+    quiet_fit false it e = refl
+
+    quiet_else : (b : Bool) (k : ℕ) (it : Item R) → share_does f it ph q ≡ waits ph q
+        → Sees_share (record { shares = es; sends = [] }) (share_item ph q (if b then Some it else where_true (mine S A z k) Stray))
+    quiet_else true k it e = quiet_if true it e
+    quiet_else false k it e = quiet_if (mine S A z k) Stray refl
+
+    of_sender : (b : Bool) (it : Item R) → b ≡ true → SenderIf ph p (where_true b it) → Sender f ph p it
+    of_sender true it on h = h
+    of_sender false it off h = let never : false ≡ true = off in cc
+
+    move_sees : (h : Filter) (m : Real.Msg R) → SenderIf ph p (move_seen S A z m)
+        → Sees_share (by_share S A es p (told_by S A es (Old (Mv h m)))) (share_item ph q (move_seen S A z m))
+    move_sees h (M_fenced n) from =
+        by_number n Is_fenced Fenced (λ on. fenced_sees S A z is insts ph q p empty (of_sender (n == z.num) Fenced on from)) (λ _. tt)
+    move_sees h (M_install n a b) from = quiet_if (n == z.num) Stray refl
+    move_sees h (M_fence_to n to) from = quiet_if (n == z.num) Stray refl
+    move_sees h m from = as_before
+
+    pub share_sees : (m : Any R) → SenderIf ph p (share_seen S A z 1 m)
+        → Sees_share (by_share S A es p (told_by S A es m)) (share_item ph q (share_seen S A z 1 m))
+    share_sees (Old (Mv h m)) from = move_sees h m from
+    share_sees (Old (Carry_on k)) from = quiet_if (mine S A z k) (Carry k) refl
+    share_sees (Old (Pass_on k)) from = quiet_if (mine S A z k) Stray refl
+    share_sees (Old (Fence_on n)) from = quiet_if (n == z.num) Fence refl
+    share_sees (Old (In_packet k)) from = as_before
+    share_sees (Old (Asked x)) from = as_before
+    share_sees (New (S_chunks n cs)) from = by_number n (Has_chunks cs) (Chunks (record_at z.unit cs))
+        (λ on. chunks_sees S A z is insts ph q p cs empty (of_sender (n == z.num) (Chunks (record_at z.unit cs)) on from)) (λ _. tt)
+    share_sees (New (S_shared n c)) from = by_number n (Has_chunk c) (Chunk (record_at z.unit (c ∷ [])))
+        (λ on. chunk_sees S A z is insts ph q p c empty (of_sender (n == z.num) (Chunk (record_at z.unit (c ∷ []))) on from)) (λ _. tt)
+    share_sees (New (S_synced n)) from = by_number n Is_synced Synced (λ on. synced_sees S A z is insts ph q p empty) (λ _. tt)
+    share_sees (New (Diverted_on k)) from = diverted k
+    share_sees (New (Shared_on n home k)) from =
+        quiet_else (n == z.num) k (fit S A z (same home (1 == z.home)) (Shared k)) (quiet_fit (same home (1 == z.home)) (Shared k) refl)
+    share_sees (New (S_asked x)) from = as_before
+    share_sees (New (S_install n h from_n)) from = quiet_if (n == z.num) (fit S A z (from_n == z.home) Install) (quiet_fit (from_n == z.home) Install refl)
+    share_sees (New (S_forward n home k to)) from =
+        quiet_else (n == z.num) k (fit S A z (same home (to == z.home)) (Forward k to)) (quiet_fit (same home (to == z.home)) (Forward k to) refl)
+    share_sees (New (S_get n h)) from = quiet_if (n == z.num) Get refl
+    share_sees (New (S_sync n home cs)) from = quiet_if (n == z.num) (fit S A z (same home (1 == z.home)) (Sync (record_at z.unit cs)))
+        (quiet_fit (same home (1 == z.home)) (Sync (record_at z.unit cs)) refl)
+
+    -- Moves' rows: none has the share's number
+    row_unseen : (o : Op) (h : Filter) (m : Real.Msg R) → (o.num == z.num) ≡ false → OfRow o m → old_seen S A z (Mv h m) ≡ None
+    row_unseen o h (M_install n a b) off of = let none : (n == z.num) ≡ false = ap (λ k. k == z.num) of ∙ off in rw none refl
+    row_unseen o h (M_fence_to n to) off of = let none : (n == z.num) ≡ false = ap (λ k. k == z.num) of ∙ off in rw none refl
+    row_unseen o h (M_fenced n) off of = absurd of
+    row_unseen o h m off of = refl
+
+    wrap_unseen : (o : Op) (h : Filter) (xs : List (ℕ × Real.Msg R)) → (o.num == z.num) ≡ false → Each (SentOf o) xs → Unseen S A z (wrap h xs)
+    wrap_unseen o h [] off of = tt
+    wrap_unseen o h (x ∷ xs) off of = (row_unseen o (filter_for h x.1) x.1 off of.0, wrap_unseen o h xs off of.1)
+
+    not_move : (n : ℕ) (e : Open R) → find_op w.ops n ≡ Some e → (e.op.num == z.num) ≡ false
+    not_move n e found_e = elim (e.op.num == z.num) as (λ b. (e.op.num == z.num) ≡ b → b ≡ false) [
+      | true ↦ λ on.
+          let own : (e.op.num == n) ≡ true = (each_found (λ _. Unit {0}) n w.ops e (all w.ops) found_e).1 in
+          let num : n ≡ z.num = grind (arith, nat_tests, own, on) in
+          by_kind (g.one_kind n) num
+      | false ↦ λ _. refl
+    ] refl
+      where
+        all : (os : List (Open R)) → Each (λ _. Unit {0}) os
+        all [] = tt
+        all (o ∷ os) = (tt, all os)
+
+        by_kind : (find_op w.ops n ≡ None) ⊎ (find_share w.shares n ≡ None) → n ≡ z.num → true ≡ false
+        by_kind (inl none) num = let never : None ≡ Some e = sym none ∙ found_e in cc
+        by_kind (inr none) num = let never : None ≡ Some (as_share S A z ph q) = sym none ∙ ap (find_share w.shares) num ∙ there in cc
+
+    pub moves_unseen : (m : Any R) → Unseen S A z (old_step S A w.ops p m).sends
+    moves_unseen (New m) = tt
+    moves_unseen (Old (Mv h m)) = by_num (num_of m)
+      where
+        by_op : (n : ℕ) (o : Option (Open R)) → find_op w.ops n ≡ o → Unseen S A z (found w.ops n p m o).sends
+        by_op n None none = tt
+        by_op n (Some e) found_e = wrap_unseen e.op e.filter (row e p m).sends (not_move n e found_e) (row_numbers e.op e.phase e.store p m)
+
+        by_num : (o : Option ℕ) → Unseen S A z (numbered w.ops p m o).sends
+        by_num None = tt
+        by_num (Some n) = by_op n (find_op w.ops n) refl
+    moves_unseen (Old (In_packet k)) = tt
+    moves_unseen (Old (Asked x)) = tt
+    moves_unseen (Old (Carry_on k)) = tt
+    moves_unseen (Old (Pass_on k)) = tt
+    moves_unseen (Old (Fence_on n)) = tt

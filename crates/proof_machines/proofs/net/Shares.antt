@@ -1,0 +1,295 @@
+-- The network with shares: its messages, the shares that are open, and the step of each node. Moves are those of `Net`: a whole world is
+-- also one of `Net` (`moves_of`), whose links leave out what shares and copies send.
+use Rattle.std.proofs.Common.{◌≡◌, ℕ, suc, ◌-◌, ◌<◌, ◌≤◌, Bool, true, false, Option, Some, None, List, [], ◌∷◌, ◌++◌, length}
+use Rattle.std.specs.Prelude.{if◌then◌else◌, ◌&&◌, ◌==◌, option_map, not}
+use Rattle.std.specs.Option.{option_map_or}
+use Rattle.proof_machines.proofs.unit.Real.{Chunks, record_at, M_fenced, sent_for}
+use Rattle.proof_machines.proofs.share.Share as share
+use Rattle.proof_machines.proofs.share.Stages.{distinct}
+use Rattle.flow_filter.specs.declared.filter.Filter.{Filter}
+use Rattle.proof_machines.proofs.net.Net.{Msg, Carry_on, Fence_on, Mv, MoveAsked, Sys, NumberedInstance, inst_step, process, Open, ControllerMove}
+use Rattle.proof_machines.proofs.net.Net.{ctrl_step, sw_target, sw_sends, meets_any, new_op, begin_sends, World, links_after, at_node, put}
+use Rattle.nf_function.specs.declared.unit.Unit as units
+use Rattle.record_table.specs.Table.{same_unit}
+
+-- a share that is asked for; the home is the first member
+pub record WantShare : Type 0 where
+  pub num : ℕ
+  pub home : ℕ
+  pub members : List ℕ
+  pub filter : Filter
+
+-- `home` is the message's own flag. A share's fence and its answer are Net's Fence_on and M_fenced, since the real ones bear a number alone
+pub data ShareMsg (R : Type 0) : Type 0 where
+  Shared_on : (n : ℕ) (home : Bool) (p : ℕ) → ShareMsg R  -- switch to instance: Carry with the mark Shared
+  Diverted_on : (p : ℕ) → ShareMsg R  -- switch to controller
+  S_asked : WantShare → ShareMsg R
+  S_install : (n : ℕ) (g : Filter) (from : ℕ) → ShareMsg R  -- controller to switch: its target is the controller
+  S_forward : (n : ℕ) (home : Bool) (p to : ℕ) → ShareMsg R
+  S_get : (n : ℕ) (g : Filter) → ShareMsg R  -- controller to instance; also a copy's
+  S_sync : (n : ℕ) (home : Bool) (cs : Chunks R) → ShareMsg R
+  S_chunks : (n : ℕ) (cs : Chunks R) → ShareMsg R  -- instance to controller; also a copy's
+  S_shared : (n : ℕ) (c : units.Unit × R) → ShareMsg R
+  S_synced : (n : ℕ) → ShareMsg R
+
+-- a message of a move or of a share
+pub data Any (R : Type 0) : Type 0 where
+  Old : Msg R → Any R
+  New : ShareMsg R → Any R
+
+-- what moves see of a link
+abbrev pub olds : {R : Type 0} → List (Any R) → List (Msg R)
+olds [] = []
+olds (Old m ∷ ms) = m ∷ olds ms
+olds (New m ∷ ms) = olds ms
+
+-- of each message of a share on a link
+abbrev pub EachNew : {R : Type 0} → (ShareMsg R → Type 0) → List (Any R) → Type 0
+EachNew P [] = Unit {0}
+EachNew P (Old m ∷ ms) = EachNew P ms
+EachNew P (New m ∷ ms) = P m × EachNew P ms
+
+abbrev pub same : Bool → Bool → Bool
+same a b = if b then a else not a
+
+-- what a step of moves sends, as sends of the whole world
+abbrev pub as_old : {R : Type 0} → List (ℕ × Msg R) → List (ℕ × Any R)
+as_old [] = []
+as_old (x ∷ xs) = (x.0, Old x.1) ∷ as_old xs
+
+-- what shares need of the function, the tables and the packets, beside Sys
+pub record Sharing {R : Type 0} (S : Sys R) : Type 0 where
+  pub member : List ℕ → ℕ → ℕ  -- the member of a packet: by its ports and its remote address
+  pub replace : Chunks R → S.B.T → S.B.T  -- Sync: the chunks' records in place of those that are there
+
+pub record IsSharing {R : Type 0} (S : Sys R) (A : Sharing S) : Type 0 where
+  pub member_in : (ms : List ℕ) (p : ℕ) → 0 < length ms → share.has ms (A.member ms p) ≡ true
+  pub replaced : (u : units.Unit) (cs : Chunks R) (t : S.B.T) → S.B.at u (A.replace cs t) ≡ share.over (record_at u cs) (S.B.at u t)
+
+-- an open share; it stays open
+pub record OpenShare : Type 0 where
+  pub num : ℕ
+  pub home : ℕ
+  pub members : List ℕ
+  pub filter : Filter
+  pub phase : share.Phase
+  pub queue : List ℕ
+
+abbrev pub new_share : WantShare → OpenShare
+new_share x = record { num = x.num; home = x.home; members = x.members; filter = x.filter; phase = share.Fencing; queue = [] }
+
+abbrev pub find_share : List OpenShare → ℕ → Option OpenShare
+find_share [] n = None
+find_share (e ∷ es) n = if e.num == n then Some e else find_share es n
+
+abbrev pub set_share : ℕ → share.Phase → List ℕ → List OpenShare → List OpenShare
+set_share n ph q [] = []
+set_share n ph q (e ∷ es) = if e.num == n then record e { phase = ph; queue = q } ∷ es else e ∷ set_share n ph q es
+
+-- the share whose filter takes a unit
+abbrev pub share_taking : {R : Type 0} → Sys R → List OpenShare → units.Unit → Option OpenShare
+share_taking S [] u = None
+share_taking S (e ∷ es) u = if S.takes e.filter u then Some e else share_taking S es u
+
+-- what a share is told
+pub data Told (R : Type 0) : Type 0 where
+  Is_fenced : Told R
+  Has_chunks : Chunks R → Told R
+  Has_chunk : units.Unit × R → Told R
+  Is_synced : Told R
+  Has_packet : ℕ → Told R
+
+pub record ShareTurn (R : Type 0) : Type 0 where
+  pub phase : share.Phase
+  pub queue : List ℕ
+  pub sends : List (ℕ × Any R)
+
+-- a Sync to each member but one, in order
+abbrev pub syncs : {R : Type 0} → ℕ → ℕ → ℕ → Chunks R → List ℕ → List (ℕ × Any R)
+syncs n home j cs [] = []
+syncs n home j cs (m ∷ ms) = if m == j then syncs n home j cs ms else (m, New (S_sync n (m == home) cs)) ∷ syncs n home j cs ms
+
+module _ {R : Type 0} (S : Sys R) (A : Sharing S) where
+  -- As the controller's table has it: the row by sender and message, and then the next packet is served where that may be. proof_machines's
+  -- `share_does` is the two in one.
+  abbrev pub s_goes : share.Phase → List ℕ → List (ℕ × Any R) → ShareTurn R
+  s_goes ph q xs = record { phase = ph; queue = q; sends = xs }
+
+  abbrev pub s_left : (ℕ → share.Phase) → ℕ → List ℕ → List (ℕ × Any R) → ShareTurn R
+  s_left ph left q xs = s_goes (if left == 0 then share.Idle else ph left) q xs
+
+  -- told first, so that what isn't named computes in every phase
+  abbrev pub s_row : OpenShare → ℕ → Told R → share.Phase → List ℕ → ShareTurn R
+  s_row e sender Is_fenced share.Fencing q =
+      if sender == e.home then s_goes share.Getting q ((e.home, New (S_get e.num e.filter)) ∷ []) else s_goes share.Fencing q []
+  s_row e sender (Has_chunks cs) share.Getting q = if sender == e.home
+      then s_left share.Setting (length (share.without_number e.members e.home)) q (syncs e.num e.home e.home cs e.members) else s_goes share.Getting q []
+  s_row e sender (Has_chunk c) (share.Out m) q = if sender == m
+      then s_left share.Syncing (length (share.without_number e.members m)) q (syncs e.num e.home m (c ∷ []) e.members) else s_goes (share.Out m) q []
+  s_row e sender Is_synced (share.Setting left) q = s_left share.Setting (left - 1) q []
+  s_row e sender Is_synced (share.Syncing left) q = s_left share.Syncing (left - 1) q []
+  s_row e sender (Has_packet p) ph q = s_goes ph (q ++ p ∷ []) []
+  s_row e sender told ph q = s_goes ph q []
+
+  abbrev pub s_served : OpenShare → share.Phase → List ℕ → List (ℕ × Any R) → ShareTurn R
+  s_served e share.Idle (p ∷ q) xs =
+      s_goes (share.Out (A.member e.members p)) q (xs ++ (0, New (S_forward e.num (A.member e.members p == e.home) p (A.member e.members p))) ∷ [])
+  s_served e ph q xs = s_goes ph q xs
+
+  abbrev pub share_row : OpenShare → ℕ → Told R → ShareTurn R
+  share_row e sender told = let r = s_row e sender told e.phase e.queue in s_served e r.phase r.queue r.sends
+
+  -- the share that a message at the controller is for. (The real controller takes a Diverted from the switch alone: label it by its link.)
+  abbrev pub told_by : List OpenShare → Any R → Option (OpenShare × Told R)
+  told_by es (Old (Mv g (M_fenced n))) = option_map (λ e. (e, Is_fenced)) (find_share es n)
+  told_by es (New (S_chunks n cs)) = option_map (λ e. (e, Has_chunks cs)) (find_share es n)
+  told_by es (New (S_shared n c)) = option_map (λ e. (e, Has_chunk c)) (find_share es n)
+  told_by es (New (S_synced n)) = option_map (λ e. (e, Is_synced)) (find_share es n)
+  told_by es (New (Diverted_on p)) = option_map (λ e. (e, Has_packet p)) (share_taking S es (S.packet_unit p))
+  told_by es m = None
+
+  pub record SharesStep : Type 0 where
+    pub shares : List OpenShare
+    pub sends : List (ℕ × Any R)
+
+  abbrev pub by_share : List OpenShare → ℕ → Option (OpenShare × Told R) → SharesStep
+  by_share es sender None = record { shares = es; sends = [] }
+  by_share es sender (Some x) =
+      record { shares = set_share x.0.num (share_row x.0 sender x.1).phase (share_row x.0 sender x.1).queue es; sends = (share_row x.0 sender x.1).sends }
+
+  -- An instance, on a new message: its two tables
+  pub record MemberTurn : Type 0 where
+    pub live : S.B.T
+    pub standby : S.B.T
+    pub sends : List (ℕ × Any R)
+    pub ran : List ℕ
+
+  -- the chunk of a packet's unit, where it has a record (after the step it has)
+  abbrev pub shared_chunk : ℕ → ℕ → S.B.T → List (ℕ × Any R)
+  shared_chunk n p t = option_map_or (λ r. (1, New (S_shared n (S.packet_unit p, r))) ∷ []) (S.B.at (S.packet_unit p) t) []
+
+  abbrev pub member_step : S.B.T → S.B.T → ShareMsg R → MemberTurn
+  member_step live standby (Shared_on n true p) =
+      record { live = process S live p; standby = standby; sends = shared_chunk n p (process S live p); ran = p ∷ [] }
+  member_step live standby (Shared_on n false p) =
+      record { live = live; standby = process S standby p; sends = shared_chunk n p (process S standby p); ran = p ∷ [] }
+  member_step live standby (S_get n g) = record { live = live; standby = standby; sends = (1, New (S_chunks n (S.B.select (S.takes g) live))) ∷ []; ran = [] }
+  member_step live standby (S_sync n true cs) = record { live = A.replace cs live; standby = standby; sends = (1, New (S_synced n)) ∷ []; ran = [] }
+  member_step live standby (S_sync n false cs) = record { live = live; standby = A.replace cs standby; sends = (1, New (S_synced n)) ∷ []; ran = [] }
+  member_step live standby m = record { live = live; standby = standby; sends = []; ran = [] }
+
+  -- the switch, on a new message
+  abbrev pub share_target : (units.Unit → ℕ) → ShareMsg R → units.Unit → ℕ
+  share_target t (S_install n g from) v = if S.takes g v && (t v == from) then 1 else t v
+  share_target t m v = t v
+
+  abbrev pub share_sends : ShareMsg R → List (ℕ × Any R)
+  share_sends (S_install n g from) = (from, Old (Fence_on n)) ∷ []
+  share_sends (S_forward n home p to) = (to, New (Shared_on n home p)) ∷ []
+  share_sends m = []
+
+  -- the whole world
+  pub record WholeWorld : Type 0 where
+    pub target : units.Unit → ℕ  -- 1 is the controller
+    pub ops : List (Open R)
+    pub shares : List OpenShare
+    pub next : ℕ
+    pub inst : ℕ → NumberedInstance S
+    pub standby : ℕ → S.B.T
+    pub link : ℕ → ℕ → List (Any R)
+    pub done : List (ℕ × ℕ)
+
+  -- as moves see it
+  abbrev pub moves_of : WholeWorld → World S
+  moves_of w = record { target = w.target; ops = w.ops; next = w.next; inst = w.inst; link = λ i j. olds (w.link i j); done = w.done }
+
+  -- a packet of the input: to its unit's instance, or to the controller
+  abbrev pub arrive_sends : ℕ → ℕ → List (ℕ × Any R)
+  arrive_sends t q = if t == 1 then (1, New (Diverted_on q)) ∷ [] else (t, Old (Carry_on q)) ∷ []
+
+  -- steps, one for each kind of node: Old by Net's step, New by those above
+  abbrev pub whole_inst : WholeWorld → ℕ → ℕ → Any R → WholeWorld
+  whole_inst w p y (Old m) = record w {
+    inst = put w.inst y (inst_step S (w.inst y) m).node;
+    link = links_after w.link p y (as_old (inst_step S (w.inst y) m).sends);
+    done = w.done ++ at_node y (inst_step S (w.inst y) m).ran;
+  }
+  whole_inst w p y (New m) =
+      let d = member_step (w.inst y).live (w.standby y) m in
+      record w {
+        inst = put w.inst y (record (w.inst y) { live = d.live });
+        standby = put w.standby y d.standby;
+        link = links_after w.link p y d.sends;
+        done = w.done ++ at_node y d.ran;
+      }
+
+  -- At most one of the two sends anything: no number is that of two operations. The real table looks into one list of operations.
+  abbrev pub old_step : List (Open R) → ℕ → Any R → ControllerMove R
+  old_step es p (Old m) = ctrl_step es p m
+  old_step es p (New m) = record { ops = es; sends = [] }
+
+  abbrev pub whole_ctrl : WholeWorld → ℕ → Any R → WholeWorld
+  whole_ctrl w p m =
+      let s = by_share w.shares p (told_by w.shares m) in
+      record w { ops = (old_step w.ops p m).ops; shares = s.shares; link = links_after w.link p 1 (as_old (old_step w.ops p m).sends ++ s.sends) }
+
+  abbrev pub whole_switch : WholeWorld → ℕ → Any R → WholeWorld
+  whole_switch w p (Old m) = record w { target = λ v. sw_target S w.target m v; link = links_after w.link p 0 (as_old (sw_sends m)) }
+  whole_switch w p (New m) = record w { target = λ v. share_target w.target m v; link = links_after w.link p 0 (share_sends m) }
+
+  abbrev pub whole_input : WholeWorld → ℕ → WholeWorld
+  whole_input w q = record w { link = λ i j. w.link i j ++ (if i == 0 then sent_for j (arrive_sends (w.target (S.packet_unit q)) q) else []) }
+
+  -- a command goes from the input to the controller
+  abbrev pub asks : WholeWorld → Any R → WholeWorld
+  asks w m = record w { link = λ i j. w.link i j ++ (if i == 0 then sent_for j ((1, m) ∷ []) else []) }
+
+  -- begins: of a move, as `Net` has it, and of a share
+  abbrev pub begin_move : WholeWorld → MoveAsked → WholeWorld
+  begin_move w x = record w {
+    ops = w.ops ++ new_op x.num x ∷ [];
+    next = suc x.num;
+    link = λ i j. w.link i j ++ (if i == 1 then sent_for j (as_old (begin_sends x.num x)) else []);
+  }
+
+  abbrev pub begin_share : WholeWorld → WantShare → WholeWorld
+  begin_share w x = record w {
+    shares = w.shares ++ new_share x ∷ [];
+    next = suc x.num;
+    link = λ i j. w.link i j ++ (if i == 1 then sent_for j ((0, New (S_install x.num x.filter x.home)) ∷ []) else []);
+  }
+
+  -- what a copy does, which nothing here sees but for these two: its Get goes out (a number that no share has), and a Standby that is taken
+  -- changes records that stand by; of no unit that a share takes, since the controller refuses a copy whose filter meets a share's
+  abbrev pub puts_get : WholeWorld → ℕ → Filter → ℕ → WholeWorld
+  puts_get w n g src = record w { next = suc n; link = λ i j. w.link i j ++ (if i == 1 then sent_for j ((src, New (S_get n g)) ∷ []) else []) }
+
+  abbrev pub keeps : WholeWorld → ℕ → S.B.T → WholeWorld
+  keeps w y t = record w { standby = put w.standby y t }
+
+  abbrev pub meets_shares : Filter → List OpenShare → Bool
+  meets_shares g [] = false
+  meets_shares g (e ∷ es) = if S.meets g e.filter then true else meets_shares g es
+
+  -- a share may begin; a move may as `May` says, and where its filter meets no share's
+  pub record MayShare (w : WholeWorld) (x : WantShare) : Type 0 where
+    pub fresh : w.next ≤ x.num
+    pub home_in : share.has x.members x.home ≡ true
+    pub apart : distinct x.members ≡ true
+    pub two : 1 < length x.members
+    pub insts : (k : ℕ) → share.has x.members k ≡ true → 2 ≤ k
+    pub moves_apart : meets_any S x.filter w.ops ≡ false
+    pub shares_apart : meets_shares x.filter w.shares ≡ false
+
+  -- what was done of a unit, with places
+  abbrev pub ran_of : units.Unit → List (ℕ × ℕ) → List (ℕ × ℕ)
+  ran_of u [] = []
+  ran_of u (d ∷ ds) = if same_unit (S.packet_unit d.0) u then d ∷ ran_of u ds else ran_of u ds
+
+-- a unit, and its share
+pub record SeeingShare : Type 0 where
+  pub unit : units.Unit
+  pub num : ℕ
+  pub home : ℕ
+  pub members : List ℕ
+  pub filter : Filter

@@ -1,0 +1,153 @@
+-- A unit that no share has: no message of a share and no queue has anything of it, and where a share's filter takes it, its packets go
+-- elsewhere than to the share's home. With the switch's and the controller's steps, which keep it so.
+use Rattle.std.proofs.Common.{◌≡◌, ℕ, true, false, Some, None, List, [], ◌∷◌, ◌++◌, refl, ◌∙◌}
+use Rattle.std.specs.Prelude.{if◌then◌else◌, ◌&&◌, ◌==◌}
+use Rattle.proof_machines.proofs.unit.Real.{Chunks, record_at}
+use Rattle.proof_machines.proofs.unit.Labels.{Each}
+use Rattle.proof_machines.proofs.net.Net.{Sys}
+use Rattle.proof_machines.proofs.net.Rest.{none_mine}
+use Rattle.proof_machines.proofs.net.NewMessages.{OnNew, EachSentNew, each_new_map, each_sent_map, sent_old_and, new_after, new_head}
+use Rattle.proof_machines.proofs.net.ShareLists.{AreNumbersApart, found_each, each_set_share, set_find}
+use Rattle.proof_machines.proofs.net.ShareRows.{Tells, told_cases, ToldOf, SentBy, share_row_by}
+use Rattle.proof_machines.proofs.net.Shares.{Any, Any.Old, Any.New, ShareMsg, ShareMsg.Shared_on, ShareMsg.Diverted_on, ShareMsg.S_asked}
+use Rattle.proof_machines.proofs.net.Shares.{ShareMsg.S_install, ShareMsg.S_forward, ShareMsg.S_get, ShareMsg.S_sync, ShareMsg.S_chunks}
+use Rattle.proof_machines.proofs.net.Shares.{ShareMsg.S_shared, ShareMsg.S_synced, EachNew, as_old, Sharing, OpenShare, find_share}
+use Rattle.proof_machines.proofs.net.Shares.{set_share, Told, share_row, told_by, SharesStep, by_share, WholeWorld, old_step, whole_ctrl}
+use Rattle.nf_function.specs.declared.unit.Unit as units
+use Rattle.record_table.specs.Table.{same_unit}
+use Rattle.record_table.proofs.UnitOrder.{same_unit_equiv}
+
+module _ {R : Type 0} (S : Sys R) (u : units.Unit) where
+  -- a message of a share has nothing of the unit; a copy's chunks may
+  abbrev pub NoShare : List OpenShare → ShareMsg R → Type 0
+  NoShare es (Shared_on n home p) = same_unit (S.packet_unit p) u ≡ false
+  NoShare es (Diverted_on p) = same_unit (S.packet_unit p) u ≡ false
+  NoShare es (S_asked x) = Unit {0}
+  NoShare es (S_install n g from) = Unit {0}
+  NoShare es (S_forward n home p to) = same_unit (S.packet_unit p) u ≡ false
+  NoShare es (S_get n g) = Unit {0}
+  NoShare es (S_sync n home cs) = record_at u cs ≡ None
+  NoShare es (S_chunks n cs) = (e : OpenShare) → find_share es n ≡ Some e → record_at u cs ≡ None
+  NoShare es (S_shared n c) = same_unit c.0 u ≡ false
+  NoShare es (S_synced n) = Unit {0}
+
+  abbrev pub ElsewhereHome : (units.Unit → ℕ) → OpenShare → Type 0
+  ElsewhereHome t e = S.takes e.filter u ≡ true → (e.home == t u) ≡ false
+
+  -- packets of other units
+  abbrev pub Others : List ℕ → Type 0
+  Others ps = Each (λ p. same_unit (S.packet_unit p) u ≡ false) ps
+
+  pub others_of : (ps : List ℕ) → none_mine S u ps ≡ [] → Others ps
+  others_of [] e = tt
+  others_of (p ∷ ps) e = elim (same_unit (S.packet_unit p) u)
+      as (λ b. same_unit (S.packet_unit p) u ≡ b → (if b then p ∷ none_mine S u ps else none_mine S u ps) ≡ [] → Others (p ∷ ps)) [
+        | true ↦ λ _ bad. cc
+        | false ↦ λ off rest. (off, others_of ps rest)
+      ] refl e
+
+  pub none_of : (ps : List ℕ) → Others ps → none_mine S u ps ≡ []
+  none_of [] h = refl
+  none_of (p ∷ ps) h = let off = h.0 in rw off (none_of ps h.1)
+
+  module _ (A : Sharing S) where
+    pub record Untaken (w : WholeWorld S A) : Type 0 where
+      pub homes : Each (ElsewhereHome w.target) w.shares
+      pub queues : Each (λ e. none_mine S u e.queue ≡ []) w.shares
+      pub links : (i j : ℕ) → (i == 0) && (j == 0) ≡ false → EachNew (NoShare w.shares) (w.link i j)
+
+    -- the same shares are found
+    no_share_set : (n : ℕ) (ph : Rattle.proof_machines.proofs.share.Share.Phase) (q : List ℕ) (es : List OpenShare) (m : ShareMsg R) → NoShare es m
+        → NoShare (set_share n ph q es) m
+    no_share_set n ph q es (S_chunks k cs) h = λ e is. let f = set_find n ph q es k e is in h f.share f.found
+    no_share_set n ph q es (Shared_on k home p) h = h
+    no_share_set n ph q es (Diverted_on p) h = h
+    no_share_set n ph q es (S_forward k home p to) h = h
+    no_share_set n ph q es (S_sync k home cs) h = h
+    no_share_set n ph q es (S_shared k c) h = h
+    no_share_set n ph q es (S_asked x) h = tt
+    no_share_set n ph q es (S_install k g from) h = tt
+    no_share_set n ph q es (S_get k g) h = tt
+    no_share_set n ph q es (S_synced k) h = tt
+
+    one_chunk : (c : units.Unit × R) → same_unit c.0 u ≡ false → record_at u (c ∷ []) ≡ None
+    one_chunk c off = let other : same_unit u c.0 ≡ false = same_unit_equiv.symm u c.0 ∙ off in rw other refl
+
+    -- The controller
+    abbrev IsNotIn : Chunks R → Type 0
+    IsNotIn cs = record_at u cs ≡ None
+
+    not_told : (es : List OpenShare) (m : Any R) (e : OpenShare) (t : Told R) → OnNew (NoShare es) m → Tells S A es m e t
+        → ToldOf S A e (λ p. same_unit (S.packet_unit p) u ≡ false) IsNotIn t
+    not_told es (Old m) e t h is = rw is tt
+    not_told es (New (S_chunks n cs)) e t h is = let eq = is.1 in rw eq (h e is.0)
+    not_told es (New (S_shared n c)) e t h is = let eq = is.1 in rw eq (one_chunk c h)
+    not_told es (New (S_synced n)) e t h is = rw is tt
+    not_told es (New (Diverted_on p)) e t h is = let eq = is.1 in rw eq h
+    not_told es (New (Shared_on n home p)) e t h is = absurd is
+    not_told es (New (S_asked x)) e t h is = absurd is
+    not_told es (New (S_install n g from)) e t h is = absurd is
+    not_told es (New (S_forward n home p to)) e t h is = absurd is
+    not_told es (New (S_get n g)) e t h is = absurd is
+    not_told es (New (S_sync n home cs)) e t h is = absurd is
+
+    sent_none : (es : List OpenShare) (e : OpenShare) (j : ℕ) (m : Any R) → SentBy S A e (λ p. same_unit (S.packet_unit p) u ≡ false) IsNotIn j m
+        → OnNew (NoShare es) m
+    sent_none es e j (New (S_get n g)) h = tt
+    sent_none es e j (New (S_sync n home cs)) h = h.1
+    sent_none es e j (New (S_forward n home p to)) h = h.1
+    sent_none es e j (Old m) h = tt
+    sent_none es e j (New (Shared_on n home p)) h = absurd h
+    sent_none es e j (New (Diverted_on p)) h = absurd h
+    sent_none es e j (New (S_asked x)) h = absurd h
+    sent_none es e j (New (S_install n g from)) h = absurd h
+    sent_none es e j (New (S_chunks n cs)) h = absurd h
+    sent_none es e j (New (S_shared n c)) h = absurd h
+    sent_none es e j (New (S_synced n)) h = absurd h
+
+    -- what the shares' step leaves
+    pub record UntakenStep (w : WholeWorld S A) (s : SharesStep S A) : Type 0 where
+      pub homes : Each (ElsewhereHome w.target) s.shares
+      pub queues : Each (λ e. none_mine S u e.queue ≡ []) s.shares
+      pub links : (m : ShareMsg R) → NoShare w.shares m → NoShare s.shares m
+      pub sends : EachSentNew (λ _ m. NoShare s.shares m) s.sends
+
+    shares_untaken : (w : WholeWorld S A) (p : ℕ) (m : Any R) → AreNumbersApart w.shares → Untaken w → OnNew (NoShare w.shares) m
+        → UntakenStep w (by_share S A w.shares p (told_by S A w.shares m))
+    shares_untaken w p m nums h head =
+        told_cases S A (UntakenStep w) w.shares p m nums (record { homes = h.homes; queues = h.queues; links = λ _ k. k; sends = tt }) goes
+      where
+        goes : (e : OpenShare) (t : Told R) → find_share w.shares e.num ≡ Some e → Tells S A w.shares m e t
+            → UntakenStep w (by_share S A w.shares p (Some (e, t)))
+        goes e t there is =
+            let r = share_row S A e p t in
+            let k = share_row_by S A e (λ p. same_unit (S.packet_unit p) u ≡ false) IsNotIn p t (not_told w.shares m e t head is)
+            (others_of e.queue (found_each (λ e. none_mine S u e.queue ≡ []) w.shares e.num e h.queues there)) in
+            record {
+              homes = each_set_share (ElsewhereHome w.target) e.num r.phase r.queue w.shares e there
+                  (found_each (ElsewhereHome w.target) w.shares e.num e h.homes there) h.homes;
+              queues = each_set_share (λ e. none_mine S u e.queue ≡ []) e.num r.phase r.queue w.shares e there (none_of r.queue k.0) h.queues;
+              links = λ m x. no_share_set e.num r.phase r.queue w.shares m x;
+              sends = each_sent_map (SentBy S A e (λ p. same_unit (S.packet_unit p) u ≡ false) IsNotIn)
+                  (λ j m. OnNew (NoShare (set_share e.num r.phase r.queue w.shares)) m)
+                  (λ j m x. sent_none (set_share e.num r.phase r.queue w.shares) e j m x) r.sends k.1;
+            }
+
+    pub head_none : (w : WholeWorld S A) (p k : ℕ) (m : Any R) (rest : List (Any R)) → (p == 0) && (k == 0) ≡ false → w.link p k ≡ m ∷ rest → Untaken w
+        → OnNew (NoShare w.shares) m
+    head_none w p k (Old m) rest off waits h = tt
+    head_none w p k (New m) rest off waits h = new_head (λ _ m. NoShare w.shares m) w.link h.links p k m rest off waits
+
+    pub ctrl_untaken : (w : WholeWorld S A) (p : ℕ) (m : Any R) (rest : List (Any R)) → w.link p 1 ≡ m ∷ rest → AreNumbersApart w.shares → Untaken w
+        → Untaken (whole_ctrl S A w p m)
+    ctrl_untaken w p m rest waits nums h =
+        let off : (p == 0) && (1 == 0) ≡ false = elim (p == 0) as (λ b. b && false ≡ false) [ true ↦ refl | false ↦ refl ] in
+        let k = shares_untaken w p m nums h (head_none w p 1 m rest off waits h) in
+        let s = by_share S A w.shares p (told_by S A w.shares m) in
+        record {
+          homes = k.homes;
+          queues = k.queues;
+          links = new_after (λ _ m. NoShare s.shares m) w.link
+              (λ i j e. each_new_map (NoShare w.shares) (NoShare s.shares) k.links (w.link i j) (h.links i j e)) p 1
+              (as_old (old_step S A w.ops p m).sends ++ s.sends) (sent_old_and (λ _ m. NoShare s.shares m) (old_step S A w.ops p m).sends s.sends k.sends);
+        }

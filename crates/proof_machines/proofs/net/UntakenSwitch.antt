@@ -1,0 +1,217 @@
+-- A unit that no share has, and the switch's steps: it stays where it is, and no share has it. The switch's packets from the input, too.
+use Rattle.std.proofs.Common.{◌≡◌, ℕ, Bool, true, false, Some, None, List, [], ◌∷◌, ◌++◌, ◌⊎◌, inl, inr, refl, sym, ap, ◌∙◌, subst, append-nil, arith}
+use Rattle.std.specs.Prelude.{if◌then◌else◌, ◌&&◌, ◌==◌}
+use Rattle.std.proofs.lemmas.Bool.Decides.{nat_tests, Decides-eqb}
+use Rattle.proof_machines.proofs.unit.Real.{M_install, sent_for}
+use Rattle.proof_machines.proofs.unit.Labels.{Each, each_map}
+use Rattle.proof_machines.proofs.net.Net.{Msg, Msg.In_packet, Msg.Asked, Msg.Carry_on, Msg.Pass_on, Msg.Fence_on, Msg.Mv}
+use Rattle.proof_machines.proofs.net.Net.{Sys, IsSys, Open, find_op, sw_target, sw_sends, sw_next, in_next, World}
+use Rattle.proof_machines.proofs.net.Rest.{NothingOf}
+use Rattle.proof_machines.proofs.net.Units.{Where, Where.At_rest, Where.In_move, Hands_on, switch_where, input_where}
+use Rattle.proof_machines.proofs.net.Elsewhere.{elsewhere_where, fence_where, where_two, where_rests}
+use Rattle.proof_machines.proofs.net.AsMoves.{old_sends, olds-put, no_olds-put, news-after, no_olds-after, switch_old}
+use Rattle.proof_machines.proofs.net.NewMessages.{EachSentNew, sent_old, new_after, new_put, new_head}
+use Rattle.proof_machines.proofs.net.ShareLists.{found_each}
+use Rattle.proof_machines.proofs.net.GlobalAll.{Disjoint, OfShare, GlobalAll}
+use Rattle.proof_machines.proofs.net.Untaken.{NoShare, ElsewhereHome, Untaken, head_none}
+use Rattle.proof_machines.proofs.net.UntakenInst.{Unshared}
+use Rattle.proof_machines.proofs.net.Shares.{Any, Any.Old, Any.New, ShareMsg, ShareMsg.Shared_on, ShareMsg.Diverted_on, ShareMsg.S_asked}
+use Rattle.proof_machines.proofs.net.Shares.{ShareMsg.S_install, ShareMsg.S_forward, ShareMsg.S_get, ShareMsg.S_sync, ShareMsg.S_chunks}
+use Rattle.proof_machines.proofs.net.Shares.{ShareMsg.S_shared, ShareMsg.S_synced, olds, as_old, Sharing, OpenShare, find_share}
+use Rattle.proof_machines.proofs.net.Shares.{share_target, share_sends, arrive_sends, WholeWorld, moves_of, whole_switch, whole_input}
+use Rattle.nf_function.specs.declared.unit.Unit as units
+use Rattle.record_table.specs.Table.{same_unit}
+use Rattle.record_table.proofs.UnitOrder.{same_unit-true}
+
+module _ {R : Type 0} (S : Sys R) (A : Sharing S) (laws : IsSys S) (u : units.Unit) where
+  -- the flag may grow
+  where_grows : (w : World S) (ps : List ℕ) (c d : Bool) → (c ≡ true → d ≡ true) → Where S laws u w ps c → Where S laws u w ps d
+  where_grows w ps c d grows (At_rest owner n l b h o f) = At_rest owner n l b h o (λ e. grows (f e))
+  where_grows w ps c d grows (In_move op third x s b there h o f k) = In_move op third x s b there h o (λ e. grows (f e)) (λ on plain at. grows (k on plain at))
+
+  -- A message of a move
+  pub sw_same : (t : units.Unit → ℕ) (p : ℕ) (m : Msg R) → NothingOf S u p m → sw_target S t m u ≡ t u
+  sw_same t p (Mv g (M_install n from to)) h = let off = h.1 in rw off refl
+  sw_same t p (Mv g m) h = refl
+  sw_same t p (In_packet q) h = refl
+  sw_same t p (Asked x) h = refl
+  sw_same t p (Carry_on q) h = refl
+  sw_same t p (Pass_on q) h = refl
+  sw_same t p (Fence_on n) h = refl
+
+  -- a unit that a share takes is at rest, so no move changes its target
+  homes_after : (ops : List (Open R)) (t v : units.Unit → ℕ) (es : List OpenShare) → (Each (λ o. S.takes o.filter u ≡ false) ops → v u ≡ t u)
+      → Each (λ e. Each (λ o. Disjoint S e.filter o.filter) ops) es → Each (ElsewhereHome S u t) es → Each (ElsewhereHome S u v) es
+  homes_after ops t v [] same a h = tt
+  homes_after ops t v (e ∷ es) same a h = ((λ on. let is = same (each_map (λ o d. d u on) ops a.0) in rw is (h.0 on)), homes_after ops t v es same a.1 h.1)
+
+  old_same : (w : WholeWorld S A) (ps : List ℕ) (c : Bool) (p : ℕ) (m : Msg R) (rest : List (Any R)) → (p == 0) ≡ false → w.link p 0 ≡ Old m ∷ rest
+      → Where S laws u (moves_of S A w) ps c → Each (λ o. S.takes o.filter u ≡ false) w.ops → sw_target S w.target m u ≡ w.target u
+  old_same w ps c p m rest p0 waits h free =
+      let r = where_rests S laws u (moves_of S A w) ps c free h in
+      let off : (p == 0) && (0 == 0) ≡ false = rw p0 refl in
+      sw_same w.target p m (subst (λ ms. Each (NothingOf S u p) ms) (ap olds waits) (r.rest.labels p 0 off)).0
+
+  -- A message of a share
+  share_same : (w : WholeWorld S A) → Untaken S u A w → (m : ShareMsg R) → OfShare S w.shares 0 m → share_target S A w.target m u ≡ w.target u
+  share_same w h (S_install n g from) of = elim (S.takes g u) as (λ b. S.takes g u ≡ b → (if b && (w.target u == from) then 1 else w.target u) ≡ w.target u) [
+    | true ↦ λ on.
+        let takes : S.takes of.share.filter u ≡ true = ap (λ x. S.takes x u) (sym of.says.0) ∙ on in
+        let away : (of.share.home == w.target u) ≡ false = found_each (ElsewhereHome S u w.target) w.shares n of.share h.homes of.found takes in
+        let home : from ≡ of.share.home = of.says.1 in
+        let off : (w.target u == from) ≡ false = grind (arith, nat_tests, away, home) in
+        rw off refl
+    | false ↦ λ _. refl
+  ] refl
+  share_same w h (Shared_on n home p) of = refl
+  share_same w h (Diverted_on p) of = refl
+  share_same w h (S_asked x) of = refl
+  share_same w h (S_forward n home p to) of = refl
+  share_same w h (S_get n f) of = refl
+  share_same w h (S_sync n home cs) of = refl
+  share_same w h (S_chunks n cs) of = refl
+  share_same w h (S_shared n x) of = refl
+  share_same w h (S_synced n) of = refl
+
+  sends_none : (es : List OpenShare) (m : ShareMsg R) → NoShare S u es m → EachSentNew (λ _ m. NoShare S u es m) (share_sends S A m)
+  sends_none es (S_install n g from) h = (tt, tt)
+  sends_none es (S_forward n home p to) h = (h, tt)
+  sends_none es (Shared_on n home p) h = tt
+  sends_none es (Diverted_on p) h = tt
+  sends_none es (S_asked x) h = tt
+  sends_none es (S_get n f) h = tt
+  sends_none es (S_sync n home cs) h = tt
+  sends_none es (S_chunks n cs) h = tt
+  sends_none es (S_shared n x) h = tt
+  sends_none es (S_synced n) h = tt
+
+  not_move : (w : WholeWorld S A) → GlobalAll S A w → (n : ℕ) (e : OpenShare) → find_share w.shares n ≡ Some e → find_op w.ops n ≡ None
+  not_move w g n e there = by_kind (g.one_kind n)
+    where
+      by_kind : (find_op w.ops n ≡ None) ⊎ (find_share w.shares n ≡ None) → find_op w.ops n ≡ None
+      by_kind (inl none) = none
+      by_kind (inr none) = let never : None ≡ Some e = sym none ∙ there in cc
+
+  -- nothing that moves see is sent
+  quiet : (w : WholeWorld S A) (ps : List ℕ) (c : Bool) → Untaken S u A w → (p : ℕ) (m : ShareMsg R) (rest : List (Any R))
+      → w.link p 0 ≡ New m ∷ rest → OfShare S w.shares 0 m → old_sends (share_sends S A m) ≡ [] → Where S laws u (moves_of S A w) ps c
+      → Where S laws u (moves_of S A (whole_switch S A w p (New m))) ps c
+  quiet w ps c h p m rest waits of none is = elsewhere_where S laws u (moves_of S A w) (moves_of S A (whole_switch S A w p (New m))) ps c (record {
+    target = share_same w h m of;
+    ops = refl;
+    live = λ k. refl;
+    rules = λ k. refl;
+    link = λ i j _. no_olds-after w.link p 0 m rest (share_sends S A m) waits none i j;
+    done = refl;
+  }) is
+
+  switch_new : (w : WholeWorld S A) (ps : List ℕ) (c : Bool) → GlobalAll S A w → Untaken S u A w → (p : ℕ) (m : ShareMsg R) (rest : List (Any R))
+      → w.link p 0 ≡ New m ∷ rest → OfShare S w.shares 0 m → Where S laws u (moves_of S A w) ps c
+      → Where S laws u (moves_of S A (whole_switch S A w p (New m))) ps c
+  switch_new w ps c g h p (S_install n f from) rest waits of is =
+      elsewhere_where S laws u fences (moves_of S A (whole_switch S A w p (New (S_install n f from)))) ps c (record {
+        target = share_same w h (S_install n f from) of;
+        ops = refl;
+        live = λ k. refl;
+        rules = λ k. refl;
+        link = λ i j _. news-after w.link p 0 rest ((from, Old (Fence_on n)) ∷ []) ((from, Fence_on n) ∷ []) refl (S_install n f from) waits i j;
+        done = refl;
+      }) (fence_where S laws u (moves_of S A w) ps c n from (not_move w g n of.share of.found) is)
+    where
+      fences : World S
+      fences = record (moves_of S A w) { link = λ i j. olds (w.link i j) ++ (if i == 0 then sent_for j ((from, Fence_on n) ∷ []) else []) }
+  switch_new w ps c g h p (Shared_on n home q) rest waits of is = quiet w ps c h p (Shared_on n home q) rest waits of refl is
+  switch_new w ps c g h p (Diverted_on q) rest waits of is = quiet w ps c h p (Diverted_on q) rest waits of refl is
+  switch_new w ps c g h p (S_asked x) rest waits of is = quiet w ps c h p (S_asked x) rest waits of refl is
+  switch_new w ps c g h p (S_forward n home q to) rest waits of is = quiet w ps c h p (S_forward n home q to) rest waits of refl is
+  switch_new w ps c g h p (S_get n f) rest waits of is = quiet w ps c h p (S_get n f) rest waits of refl is
+  switch_new w ps c g h p (S_sync n home cs) rest waits of is = quiet w ps c h p (S_sync n home cs) rest waits of refl is
+  switch_new w ps c g h p (S_chunks n cs) rest waits of is = quiet w ps c h p (S_chunks n cs) rest waits of refl is
+  switch_new w ps c g h p (S_shared n x) rest waits of is = quiet w ps c h p (S_shared n x) rest waits of refl is
+  switch_new w ps c g h p (S_synced n) rest waits of is = quiet w ps c h p (S_synced n) rest waits of refl is
+
+  -- The steps. No message of a share hands a unit on
+  abbrev pub HandsAny : WholeWorld S A → Any R → Bool → Type 0
+  HandsAny w (Old m) d = Hands_on S laws u (moves_of S A w) m d
+  HandsAny w (New m) d = Unit {0}
+
+  pub switch_unshared : (w : WholeWorld S A) (ps : List ℕ) (c d : Bool) → GlobalAll S A w → (p : ℕ) (m : Any R) (rest : List (Any R)) → (p == 0) ≡ false
+      → w.link p 0 ≡ m ∷ rest → (c ≡ true → d ≡ true) → HandsAny w m d → Unshared S A laws u w ps c → Unshared S A laws u (whole_switch S A w p m) ps d
+  switch_unshared w ps c d g p (Old m) rest p0 waits grows hands h = record {
+    is = elsewhere_where S laws u (sw_next S (moves_of S A w) p m) (moves_of S A (whole_switch S A w p (Old m))) ps d (switch_old S A w p m rest u waits)
+        (switch_where S laws u (moves_of S A w) ps c d g.moves p m (olds rest) p0 (ap olds waits) grows hands h.is);
+    untaken = record {
+      homes = homes_after w.ops w.target (λ v. sw_target S w.target m v) w.shares (λ free. old_same w ps c p m rest p0 waits h.is free) g.apart_moves
+          h.untaken.homes;
+      queues = h.untaken.queues;
+      links = new_after (λ _ m. NoShare S u w.shares m) w.link h.untaken.links p 0 (as_old (sw_sends m))
+          (sent_old (λ _ m. NoShare S u w.shares m) (sw_sends m));
+    };
+  }
+  switch_unshared w ps c d g p (New m) rest p0 waits grows hands h =
+      let off : (p == 0) && (0 == 0) ≡ false = rw p0 refl in
+      let of = new_head (OfShare S w.shares) w.link g.messages p 0 m rest off waits in
+      let none = head_none S u A w p 0 (New m) rest off waits h.untaken in
+      record {
+        is = where_grows (moves_of S A (whole_switch S A w p (New m))) ps c d grows (switch_new w ps c g h.untaken p m rest waits of h.is);
+        untaken = record {
+          homes = each_map (λ e k on. let same = share_same w h.untaken m of in rw same (k on)) w.shares h.untaken.homes;
+          queues = h.untaken.queues;
+          links = new_after (λ _ m. NoShare S u w.shares m) w.link h.untaken.links p 0 (share_sends S A m) (sends_none w.shares m none);
+        };
+      }
+
+  -- a packet of the input
+  pub input_unshared : (w : WholeWorld S A) (ps : List ℕ) (c : Bool) → GlobalAll S A w → (q : ℕ) → Unshared S A laws u w ps c
+      → Unshared S A laws u (whole_input S A w q) (ps ++ (if same_unit (S.packet_unit q) u then q ∷ [] else [])) c
+  input_unshared w ps c g q h = by_target (w.target (S.packet_unit q) == 1) refl
+    where
+      sends : List (ℕ × Any R)
+      sends = arrive_sends S A (w.target (S.packet_unit q)) q
+
+      by_target : (b : Bool) → (w.target (S.packet_unit q) == 1) ≡ b
+          → Unshared S A laws u (whole_input S A w q) (ps ++ (if same_unit (S.packet_unit q) u then q ∷ [] else [])) c
+      by_target true on =
+          let two = where_two S laws u (moves_of S A w) ps c h.is in
+          let one : w.target (S.packet_unit q) ≡ 1 = (Decides-eqb (w.target (S.packet_unit q)) 1).0 on in
+          let other : same_unit (S.packet_unit q) u ≡ false = elim (same_unit (S.packet_unit q) u) as (λ b. same_unit (S.packet_unit q) u ≡ b → b ≡ false) [
+            | true ↦ λ its. let there : w.target u ≡ 1 = ap w.target (sym (same_unit-true (S.packet_unit q) u its)) ∙ one in
+                let never : ⊥ = omega (arith, two, there) in absurd never
+            | false ↦ λ _. refl
+          ] refl in
+          let all : ps ++ (if same_unit (S.packet_unit q) u then q ∷ [] else []) ≡ ps = rw other (append-nil ps) in
+          let none : old_sends sends ≡ [] = rw on refl in
+          record {
+            is = subst (λ v. Where S laws u (moves_of S A (whole_input S A w q)) v c) (sym all)
+                (elsewhere_where S laws u (moves_of S A w) (moves_of S A (whole_input S A w q)) ps c (record {
+                  target = refl;
+                  ops = refl;
+                  live = λ k. refl;
+                  rules = λ k. refl;
+                  link = λ i j _. no_olds-put (w.link i j) (i == 0) j sends none;
+                  done = refl;
+                }) h.is);
+            untaken = record {
+              homes = h.untaken.homes;
+              queues = h.untaken.queues;
+              links = new_put (λ _ m. NoShare S u w.shares m) w.link h.untaken.links 0 sends (rw on (other, tt));
+            };
+          }
+      by_target false off =
+          let carried : old_sends sends ≡ (w.target (S.packet_unit q), Carry_on q) ∷ [] = rw off refl in
+          record {
+            is = elsewhere_where S laws u (in_next S (moves_of S A w) q) (moves_of S A (whole_input S A w q))
+                (ps ++ (if same_unit (S.packet_unit q) u then q ∷ [] else [])) c (record {
+                  target = refl;
+                  ops = refl;
+                  live = λ k. refl;
+                  rules = λ k. refl;
+                  link = λ i j _. olds-put (w.link i j) (i == 0) j sends ((w.target (S.packet_unit q), Carry_on q) ∷ []) carried;
+                  done = refl;
+                }) (input_where S laws u (moves_of S A w) ps c g.moves q h.is);
+            untaken = record {
+              homes = h.untaken.homes;
+              queues = h.untaken.queues;
+              links = new_put (λ _ m. NoShare S u w.shares m) w.link h.untaken.links 0 sends (rw off (tt, tt));
+            };
+          }

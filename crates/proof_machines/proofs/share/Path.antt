@@ -1,0 +1,113 @@
+-- The path of a stage is what waits of the unit in its view, place by place: carried to members, forwarded, plain on the link to home, in
+-- the queue, and diverted.
+use Rattle.std.proofs.Common.{◌≡◌, ℕ, Bool, true, false, cond, ◌==◌, List, [], ◌∷◌, ◌++◌, map, refl, sym, ap, subst, append_assoc, append-nil, arith}
+use Rattle.std.proofs.lemmas.Bool.Decides.{nat_tests, Decides-eqb}
+use Rattle.proof_machines.proofs.share.Share.{Item, Item.Carry, Item.Fence, Item.Shared, Item.Diverted}
+use Rattle.proof_machines.proofs.share.Share.{Item.Forward, UnitShare, View, has, if_mine, mine_in, only, nowhere}
+use Rattle.proof_machines.proofs.share.Stages.{Stage, Stage.Diverting, Stage.Fence_goes, Stage.Fenced_comes, Stage.Get_goes}
+use Rattle.proof_machines.proofs.share.Stages.{Stage.Chunks_come, Stage.Spreads, Stage.Resting, Stage.Forwards}
+use Rattle.proof_machines.proofs.share.Stages.{Stage.Carries, Stage.Chunk_comes, shape, path, distinct, IsShare}
+use Rattle.proof_machines.proofs.share.Lists.{self, apart_of}
+
+-- what stands at these nodes, one node after the other
+abbrev pub gather : {X : Type 0} → List ℕ → (ℕ → List X) → List X
+gather [] g = []
+gather (m ∷ ms) g = g m ++ gather ms g
+
+abbrev pub carries : {R : Type 0} → List (Item R) → List ℕ
+carries [] = []
+carries (Carry p ∷ xs) = p ∷ carries xs
+carries (_ ∷ xs) = carries xs
+
+abbrev pub shared_in : {R : Type 0} → UnitShare R → List (Item R) → List ℕ
+shared_in f [] = []
+shared_in f (Shared p ∷ xs) = if_mine f p ++ shared_in f xs
+shared_in f (_ ∷ xs) = shared_in f xs
+
+abbrev pub forwarded : {R : Type 0} → UnitShare R → List (Item R) → List ℕ
+forwarded f [] = []
+forwarded f (Forward p m ∷ xs) = if_mine f p ++ forwarded f xs
+forwarded f (_ ∷ xs) = forwarded f xs
+
+abbrev pub diverted : {R : Type 0} → UnitShare R → List (Item R) → List ℕ
+diverted f [] = []
+diverted f (Diverted p ∷ xs) = if_mine f p ++ diverted f xs
+diverted f (_ ∷ xs) = diverted f xs
+
+abbrev pub path_of : {R : Type 0} → UnitShare R → View R → List ℕ
+path_of f x = shared_in f (gather f.members x.sw) ++ (forwarded f x.cs ++ (carries (x.sw f.home) ++ (mine_in f x.queue ++ diverted f x.sc)))
+
+pub gather_none : {X : Type 0} (ms : List ℕ) → gather ms (nowhere {X = X}) ≡ []
+gather_none [] = refl
+gather_none (m ∷ ms) = gather_none ms
+
+gather_outside : {X : Type 0} (ms : List ℕ) (h : ℕ) (xs : List X) → has ms h ≡ false → gather ms (only h xs) ≡ []
+gather_outside [] h xs out = refl
+gather_outside (m ∷ ms) h xs out =
+    elim (h == m) as (λ b. (h == m) ≡ b → cond b true (has ms h) ≡ false → cond (m == h) xs [] ++ gather ms (only h xs) ≡ []) [
+      | true ↦ λ _ n. cc
+      | false ↦ λ off n. let other : (m == h) ≡ false = grind (arith, nat_tests) in rw other (gather_outside ms h xs n)
+    ] refl out
+
+-- what stands at one of the nodes alone
+pub gather_only : {X : Type 0} (ms : List ℕ) (h : ℕ) (xs : List X) → distinct ms ≡ true → has ms h ≡ true → gather ms (only h xs) ≡ xs
+gather_only [] h xs apart inside = cc
+gather_only (m ∷ ms) h xs apart inside =
+    let a = apart_of (has ms m) (distinct ms) apart in
+    elim (h == m) as (λ b. (h == m) ≡ b → cond b true (has ms h) ≡ true → cond (m == h) xs [] ++ gather ms (only h xs) ≡ xs) [
+      | true ↦ λ t _.
+          let same : h ≡ m = (Decides-eqb h m).0 t in
+          let none = gather_outside ms h xs (subst (λ k. has ms k ≡ false) (sym same) a.0) in
+          let back : (m == h) ≡ true = rw same (self m) in
+          rw (back, none) (append-nil xs)
+      | false ↦ λ off n. let other : (m == h) ≡ false = grind (arith, nat_tests) in rw other (gather_only ms h xs a.1 n)
+    ] refl inside
+
+abbrev carry : {R : Type 0} → ℕ → Item R
+carry p = Carry p
+
+abbrev shared : {R : Type 0} → ℕ → Item R
+shared p = Shared p
+
+abbrev divert : {R : Type 0} → ℕ → Item R
+divert p = Diverted p
+
+carries-append : {R : Type 0} (xs ys : List (Item R)) → carries (xs ++ ys) ≡ carries xs ++ carries ys
+carries-append [] ys = refl
+carries-append (Carry p ∷ xs) ys = ap (λ z. p ∷ z) (carries-append xs ys)
+carries-append (x ∷ xs) ys = carries-append xs ys
+
+all_carries : (R : Type 0) (l : List ℕ) → carries (map (carry {R = R}) l) ≡ l
+all_carries R [] = refl
+all_carries R (p ∷ l) = ap (λ z. p ∷ z) (all_carries R l)
+
+no_shared : {R : Type 0} (f : UnitShare R) (l : List ℕ) → shared_in f (map carry l) ≡ []
+no_shared f [] = refl
+no_shared f (p ∷ l) = no_shared f l
+
+no_shared_fence : {R : Type 0} (f : UnitShare R) (l : List ℕ) → shared_in f (map carry l ++ Fence ∷ []) ≡ []
+no_shared_fence f [] = refl
+no_shared_fence f (p ∷ l) = no_shared_fence f l
+
+all_diverted : {R : Type 0} (f : UnitShare R) (v : List ℕ) → diverted f (map divert v) ≡ mine_in f v
+all_diverted f [] = refl
+all_diverted f (p ∷ v) = ap (λ z. if_mine f p ++ z) (all_diverted f v)
+
+-- at home nothing but plain packets counts as such, whichever member the share's packet is on its way to
+not_plain : (R : Type 0) (b : Bool) (p : ℕ) → carries {R = R} (cond b (Shared p ∷ []) []) ≡ []
+not_plain R true p = refl
+not_plain R false p = refl
+
+ruleset reads = (carries-append, all_carries, no_shared, no_shared_fence, all_diverted, not_plain, gather_none, append_assoc, append-nil)
+
+pub path_is : {R : Type 0} (f : UnitShare R) → IsShare f → (s : Stage R) → path_of f (shape f s) ≡ path f s
+path_is f is (Diverting d b l) = rw (gather_only f.members f.home (map carry l) is.apart is.home_in, self f.home) (simp reads)
+path_is f is (Fence_goes d b l q v) = rw (gather_only f.members f.home (map carry l ++ Fence ∷ []) is.apart is.home_in, self f.home) (simp reads)
+path_is f is (Fenced_comes d b q v) = simp reads
+path_is f is (Get_goes d b q v) = simp reads
+path_is f is (Chunks_come d b q v) = simp reads
+path_is f is (Spreads first d e b c at o left q v) = simp reads
+path_is f is (Resting d e v) = simp reads
+path_is f is (Forwards d e p q v) = simp reads
+path_is f is (Carries d e p q v) = rw (gather_only f.members (f.member_of p) (shared p ∷ []) is.apart (is.member_in p)) (simp reads)
+path_is f is (Chunk_comes d e p q v) = simp reads

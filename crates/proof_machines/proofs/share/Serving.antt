@@ -1,0 +1,200 @@
+-- Each move from each stage in which a share serves a packet, up to the Sync that it gives.
+use Rattle.std.proofs.Common.{◌≡◌, ℕ, Bool, true, false, cond, ◌==◌, None, List, [], ◌∷◌, ◌++◌, length, inl, inr, refl, sym, ap, append_assoc, append-nil}
+use Rattle.proof_machines.proofs.share.Share.{Ran, Item.Shared, Item.Chunk, UnitShare, Phase.Syncing, put, sync_to, ShareMachineStep}
+use Rattle.proof_machines.proofs.share.Share.{ShareMachineStep.Arrive, ShareMachineStep.Take_cs, ShareMachineStep.Take_sc}
+use Rattle.proof_machines.proofs.share.Share.{ShareMachineStep.Take_sw, ShareMachineStep.Take_back, has, without_number, if_mine}
+use Rattle.proof_machines.proofs.share.Share.{at_node, runs, after, chunk_of, over, moved, from_sw, from_back}
+use Rattle.proof_machines.proofs.share.Stages.{Turn, is_pending, Stage.Spreads, Stage.Resting, Stage.Forwards, Stage.Carries}
+use Rattle.proof_machines.proofs.share.Stages.{Stage.Chunk_comes, front, shape, served, IsFront, IsShare, Behind, brings, Leads}
+use Rattle.proof_machines.proofs.share.Lists.{runs-append, served-append, distinct-without, counts_turns, turns_sent, turn_of, in_without, turn_self, served_at}
+use Rattle.proof_machines.proofs.share.Setting.{links, orders, at_only, front_same, same_but_sc, same_view, stays}
+use Rattle.proof_machines.proofs.share.FencedSetting.{sync_goes, none_comes, turns, some_left, at_least_one}
+
+module _ {R : Type 0} (f : UnitShare R) where
+  pub resting : (d : List Ran) (e v : List ℕ) → (m : ShareMachineStep) → Leads f (Resting d e v) (moved f (shape f (Resting d e v)) m) (brings f m)
+  resting d e v (Arrive p) = record {
+    next = Resting d e (v ++ p ∷ []);
+    fits = tt;
+    alike = same_but_sc f _ _ (simp links);
+    early_is = simp orders;
+    late_is = simp orders;
+    longer = λ k _. front_same (d ++ served f e);
+  }
+  resting d e (p ∷ v) Take_sc = record {
+    next = Forwards d e p [] v;
+    fits = tt;
+    alike = same_view f _;
+    early_is = simp orders;
+    late_is = simp orders;
+    longer = λ k _. front_same (d ++ served f e);
+  }
+  resting d e [] Take_sc = stays f (Resting d e []) tt
+  resting d e v m = stays f (Resting d e v) tt
+
+  pub forwards : (d : List Ran) (e : List ℕ) (p : ℕ) (q v : List ℕ) → (m : ShareMachineStep)
+      → Leads f (Forwards d e p q v) (moved f (shape f (Forwards d e p q v)) m) (brings f m)
+  forwards d e p q v (Arrive r) = record {
+    next = Forwards d e p q (v ++ r ∷ []);
+    fits = tt;
+    alike = same_but_sc f _ _ (simp links);
+    early_is = simp orders;
+    late_is = simp orders;
+    longer = λ k _. front_same (d ++ served f e);
+  }
+  forwards d e p q (r ∷ v) Take_sc = record {
+    next = Forwards d e p (q ++ r ∷ []) v;
+    fits = tt;
+    alike = same_view f _;
+    early_is = simp orders;
+    late_is = simp orders;
+    longer = λ k _. front_same (d ++ served f e);
+  }
+  forwards d e p q v Take_cs = record {
+    next = Carries d e p q v;
+    fits = tt;
+    alike = same_view f _;
+    early_is = simp orders;
+    late_is = simp orders;
+    longer = λ k _. front_same (d ++ served f e);
+  }
+  forwards d e p q [] Take_sc = stays f (Forwards d e p q []) tt
+  forwards d e p q v m = stays f (Forwards d e p q v) tt
+
+  -- the member's record and what is done, once it took its packet
+  took : (d : List Ran) (e : List ℕ) (p : ℕ)
+      → runs f.F (after f (d ++ served f e)) (at_node (f.member_of p) (if_mine f p)) ≡ after f (d ++ served f (e ++ if_mine f p))
+  took d e p = rw (served_at f p, served-append f e (if_mine f p), ← append_assoc d (served f e) (served f (if_mine f p)))
+      (sym (runs-append f.F None (d ++ served f e) (served f (if_mine f p))))
+
+  took_done : (d : List Ran) (e : List ℕ) (p : ℕ) → (d ++ served f e) ++ at_node (f.member_of p) (if_mine f p) ≡ d ++ served f (e ++ if_mine f p)
+  took_done d e p = rw (served_at f p, served-append f e (if_mine f p)) (append_assoc d (served f e) (served f (if_mine f p)))
+
+  pub took_more : (d : List Ran) (e : List ℕ) (p : ℕ) → IsFront (d ++ served f e) (d ++ served f (e ++ if_mine f p))
+  took_more d e p = (served f (if_mine f p), rw (served-append f e (if_mine f p)) (sym (append_assoc d (served f e) (served f (if_mine f p)))))
+
+  -- a value at one place, under a function
+  cond-at : {X Y : Type 0} (t : Bool) (g : X → Y) (x y : X) → cond t (g x) (g y) ≡ g (cond t x y)
+  cond-at true g x y = refl
+  cond-at false g x y = refl
+
+  longer_at : (t : Bool) (old new : List Ran) → IsFront old new → IsFront old (cond t new old)
+  longer_at true old new h = h
+  longer_at false old new h = front_same old
+
+  pub carries : (d : List Ran) (e : List ℕ) (p : ℕ) (q v : List ℕ) → (m : ShareMachineStep)
+      → Leads f (Carries d e p q v) (moved f (shape f (Carries d e p q v)) m) (brings f m)
+  carries d e p q v (Arrive r) = record {
+    next = Carries d e p q (v ++ r ∷ []);
+    fits = tt;
+    alike = same_but_sc f _ _ (simp links);
+    early_is = simp orders;
+    late_is = simp orders;
+    longer = λ k _. front_same (d ++ served f e);
+  }
+  carries d e p q (r ∷ v) Take_sc = record {
+    next = Carries d e p (q ++ r ∷ []) v;
+    fits = tt;
+    alike = same_view f _;
+    early_is = simp orders;
+    late_is = simp orders;
+    longer = λ k _. front_same (d ++ served f e);
+  }
+  carries d e p q v (Take_sw j) =
+      at_only (λ n ys. Leads f (Carries d e p q v) (from_sw f (shape f (Carries d e p q v)) n ys) []) (f.member_of p) j (Shared p ∷ []) (record {
+        next = Chunk_comes d e p q v;
+        fits = tt;
+        alike = record {
+          sw = λ k. simp links;
+          sc = refl;
+          cs = refl;
+          to = λ k. refl;
+          back = λ k. rw (took d e p) refl;
+          own = λ k _. rw (took d e p) (cond-at (k == f.member_of p) (after f) (d ++ served f (e ++ if_mine f p)) (d ++ served f e));
+          phase = refl;
+          queue = refl;
+          diverts = refl;
+          done = took_done d e p;
+        };
+        early_is = simp orders;
+        late_is = simp orders;
+        longer = λ k _. longer_at (k == f.member_of p) (d ++ served f e) (d ++ served f (e ++ if_mine f p)) (took_more d e p);
+      }) (stays f (Carries d e p q v) tt)
+  carries d e p q [] Take_sc = stays f (Carries d e p q []) tt
+  carries d e p q v m = stays f (Carries d e p q v) tt
+
+  -- the chunk that a member sent, over what another has
+  renews : (d : List Ran) (e : List ℕ) (p : ℕ)
+      → over (chunk_of f p (after f (d ++ served f (e ++ if_mine f p)))) (after f (d ++ served f e)) ≡ after f (d ++ served f (e ++ if_mine f p))
+  renews d e p =
+      rw (← took d e p) (elim (f.mine p) as (λ t. over (cond t (runs f.F (after f (d ++ served f e)) (at_node (f.member_of p) (cond t (p ∷ []) []))) None)
+      (after f (d ++ served f e)) ≡ runs f.F (after f (d ++ served f e)) (at_node (f.member_of p) (cond t (p ∷ []) []))) [ true ↦ refl | false ↦ refl ])
+
+  -- home is behind by the packet, where it is the unit's
+  just_took : (d : List Ran) (e : List ℕ) (p : ℕ) (at : ℕ → Turn) → is_pending (at (f.member_of p)) ≡ false
+      → Behind f (d ++ served f e) (d ++ served f (e ++ if_mine f p)) at
+  just_took d e p at off =
+      elim (f.mine p) as (λ t. Behind f (d ++ served f e) (d ++ served f (e ++ cond t (p ∷ []) [])) at) [
+        | true ↦ inr (p, (rw (served-append f e (p ∷ [])) (sym (append_assoc d (served f e) ((p, f.member_of p) ∷ []))), off))
+        | false ↦ inl (rw (append-nil e) refl)
+      ]
+
+  chunk_arrives : IsShare f → (d : List Ran) (e : List ℕ) (p : ℕ) (q v : List ℕ) → Leads f (Chunk_comes d e p q v)
+      (from_back f (shape f (Chunk_comes d e p q v)) (f.member_of p) (Chunk (chunk_of f p (after f (d ++ served f (e ++ if_mine f p)))) ∷ [])) []
+  chunk_arrives is d e p q v =
+      let m = f.member_of p in
+      let o = without_number f.members m in
+      let c = chunk_of f p (after f (d ++ served f (e ++ if_mine f p))) in
+      at_least_one f (Chunk_comes d e p q v) (record (shape f (Chunk_comes d e p q v)) { back = put (shape f (Chunk_comes d e p q v)).back m [] }) Syncing
+      (length o) q (sync_to o c) (some_left f is m) (record {
+        next = Spreads false d (e ++ if_mine f p) (λ k. d ++ served f e) c (turn_of o) o (length o) q v;
+        fits = record {
+          gives = λ k _. renews d e p;
+          fronts = λ k. took_more d e p;
+          counts = counts_turns o;
+          some = some_left f is m;
+          sent = turns_sent o;
+          lately = λ _. just_took d e p (turn_of o) (ap is_pending (turn_self f.members m));
+          inside = λ k e. in_without f.members m k e;
+          apart = distinct-without f.members m is.apart;
+        };
+        alike = record {
+          sw = λ k. refl;
+          sc = refl;
+          cs = refl;
+          to = λ k. sync_goes f (has o k) c;
+          back = λ k. simp links (none_comes f (has o k));
+          own = λ k h. rw (turns f f.members m k (d ++ served f (e ++ if_mine f p)) (d ++ served f e) h) refl;
+          phase = refl;
+          queue = refl;
+          diverts = refl;
+          done = refl;
+        };
+        early_is = simp orders;
+        late_is = simp orders;
+        longer = λ k h. rw (turns f f.members m k (d ++ served f (e ++ if_mine f p)) (d ++ served f e) h)
+            (front_same (cond (k == m) (d ++ served f (e ++ if_mine f p)) (d ++ served f e)));
+      })
+
+  pub chunk_comes : IsShare f → (d : List Ran) (e : List ℕ) (p : ℕ) (q v : List ℕ) → (m : ShareMachineStep)
+      → Leads f (Chunk_comes d e p q v) (moved f (shape f (Chunk_comes d e p q v)) m) (brings f m)
+  chunk_comes is d e p q v (Arrive r) = record {
+    next = Chunk_comes d e p q (v ++ r ∷ []);
+    fits = tt;
+    alike = same_but_sc f _ _ (simp links);
+    early_is = simp orders;
+    late_is = simp orders;
+    longer = λ k _. front_same (front f (Chunk_comes d e p q v) k);
+  }
+  chunk_comes is d e p q (r ∷ v) Take_sc = record {
+    next = Chunk_comes d e p (q ++ r ∷ []) v;
+    fits = tt;
+    alike = same_view f _;
+    early_is = simp orders;
+    late_is = simp orders;
+    longer = λ k _. front_same (front f (Chunk_comes d e p q v) k);
+  }
+  chunk_comes is d e p q v (Take_back j) =
+      at_only (λ n ys. Leads f (Chunk_comes d e p q v) (from_back f (shape f (Chunk_comes d e p q v)) n ys) []) (f.member_of p) j
+      (Chunk (chunk_of f p (after f (d ++ served f (e ++ if_mine f p)))) ∷ []) (chunk_arrives is d e p q v) (stays f (Chunk_comes d e p q v) tt)
+  chunk_comes is d e p q [] Take_sc = stays f (Chunk_comes d e p q []) tt
+  chunk_comes is d e p q v m = stays f (Chunk_comes d e p q v) tt

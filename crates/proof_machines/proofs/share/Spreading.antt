@@ -1,0 +1,301 @@
+-- Each move while a Sync goes round among the members.
+use Rattle.std.proofs.Common.{◌≡◌, ℕ, ◌+◌, ◌-◌, Bool, true, false, cond, ◌==◌, Option, List, []}
+use Rattle.std.proofs.Common.{◌∷◌, ◌++◌, map, inl, inr, refl, sym, subst, ◌∙◌, append-nil, arith}
+use Rattle.std.proofs.lemmas.Bool.Decides.{nat_tests, Decides-eqb}
+use Rattle.proof_machines.proofs.share.Share.{Ran, Item, Item.Diverted, Item.Sync, Item.Synced, UnitShare, ShareMachineStep, ShareMachineStep.Arrive}
+use Rattle.proof_machines.proofs.share.Share.{ShareMachineStep.Take_sc, ShareMachineStep.Take_to, ShareMachineStep.Take_back, has, if_mine, after}
+use Rattle.proof_machines.proofs.share.Share.{over, put, moved, from_to, from_back, put_ctrl, waits, serve, Phase.Setting, Phase.Syncing}
+use Rattle.proof_machines.proofs.share.Stages.{Turn, Turn.Going, Turn.Coming, Turn.Quiet, is_going, is_pending, goes_to}
+use Rattle.proof_machines.proofs.share.Stages.{comes_from, count, Stage, Stage.Spreads, Stage.Resting, Stage.Forwards}
+use Rattle.proof_machines.proofs.share.Stages.{front, shape, served, IsFront, FitsSpread, Behind, brings, Leads}
+use Rattle.proof_machines.proofs.share.Lists.{count-put, count-zero, pending-put}
+use Rattle.proof_machines.proofs.share.Setting.{links, orders, front_same, same_but_sc, stays}
+use Rattle.proof_machines.proofs.share.Records.{not_pending}
+
+module _ {R : Type 0} (f : UnitShare R) where
+  module _ (first : Bool) (d : List Ran) (e : List ℕ) (b : ℕ → List Ran) (c : Option R) (at : ℕ → Turn) (o : List ℕ) (left : ℕ) (q v : List ℕ)
+      (h : FitsSpread f (d ++ served f e) (record { seen = b; chunk = c; turn = at; asked = o; left = left })) where
+    abbrev n : List Ran
+    n = d ++ served f e
+
+    abbrev here : Stage R
+    here = Spreads first d e b c at o left q v
+
+    arrive : (p : ℕ) → Leads f here (moved f (shape f here) (Arrive p)) (if_mine f p)
+    arrive p = record {
+      next = Spreads first d e b c at o left q (v ++ p ∷ []);
+      fits = h;
+      alike = same_but_sc f _ _ (simp links);
+      early_is = simp orders;
+      late_is = simp orders;
+      longer = λ k _. front_same (front f here k);
+    }
+
+    -- where home still has to take its Sync, it is as far behind as it was
+    still_behind : (t : Turn) → is_going t ≡ false → (j : ℕ) → is_pending (at j) ≡ true → is_going (put at j t f.home) ≡ true
+        → Behind f (b f.home) n (put at j t)
+    still_behind t off j on g =
+        let before : is_going (at f.home) ≡ true = elim (f.home == j) as (λ s. is_going (cond s t (at f.home)) ≡ true → is_going (at f.home) ≡ true)
+        [ true ↦ λ bad. let never : false ≡ true = sym off ∙ bad in cc | false ↦ λ good. good ] g in
+        elim (h.lately before) as (λ _. Behind f (b f.home) n (put at j t)) [
+          | inl a ↦ inl a
+          | inr a ↦ inr (a.0, (a.1.0, pending-put at j (f.member_of a.0) t on a.1.1))
+        ]
+
+    -- a Sync is taken
+    going : (j : ℕ) → at j ≡ Going → has o j ≡ true → Leads f here (from_to f (shape f here) j (Sync c ∷ [])) []
+    going j is there = record {
+      next = Spreads first d e b c (put at j Coming) o left q v;
+      fits = record {
+        gives = h.gives;
+        fronts = h.fronts;
+        counts = let more = count-put at j Coming o h.apart there in
+            let one : is_pending (at j) ≡ true = rw is refl in let same = rw one at more in omega (arith, same, h.counts);
+        some = h.some;
+        sent = λ k. elim (k == j) as (λ t. (k == j) ≡ t → is_pending (cond t Coming (at k)) ≡ true → has o k ≡ true)
+            [ true ↦ λ s _. rw ((Decides-eqb k j).0 s) there | false ↦ λ _ p. h.sent k p ] refl;
+        lately = still_behind Coming refl j (rw is refl);
+        inside = h.inside;
+        apart = h.apart;
+      };
+      alike = record {
+        sw = λ k. refl;
+        sc = refl;
+        cs = refl;
+        to = λ k. elim (k == j) as (λ t. cond t [] (goes_to c (at k)) ≡ goes_to c (cond t Coming (at k))) [ true ↦ refl | false ↦ refl ];
+        back = λ k. elim (k == j) as (λ t. (k == j) ≡ t → comes_from {R = R} (at k) ++ cond t (Synced ∷ []) [] ≡ comes_from (cond t Coming (at k))) [
+          | true ↦ λ s. let goes : at k ≡ Going = rw ((Decides-eqb k j).0 s) is in rw goes refl
+          | false ↦ λ _. append-nil (comes_from (at k))
+        ] refl;
+        own = λ k m. elim (k == j) as (λ t. (k == j) ≡ t → cond t (over c (after f (cond (is_going (at j)) (b j) n)))
+            (after f (cond (is_going (at k)) (b k) n)) ≡ after f (cond (is_going (cond t Coming (at k))) (b k) n)) [
+              | true ↦ λ s. rw is (h.gives j (subst (λ y. has f.members y ≡ true) ((Decides-eqb k j).0 s) m))
+              | false ↦ λ _. refl
+            ] refl;
+        phase = refl;
+        queue = refl;
+        diverts = refl;
+        done = append-nil n;
+      };
+      early_is = simp orders;
+      late_is = simp orders;
+      longer = λ k _. elim (k == j) as (λ t. IsFront (cond (is_going (at k)) (b k) n) (cond (is_going (cond t Coming (at k))) (b k) n)) [
+        | true ↦ elim (is_going (at k)) as (λ g. IsFront (cond g (b k) n) n) [ true ↦ h.fronts k | false ↦ front_same n ]
+        | false ↦ front_same (cond (is_going (at k)) (b k) n)
+      ];
+    }
+
+    -- one answer fewer is waited for
+    fewer : (j : ℕ) → at j ≡ Coming → has o j ≡ true → count (put at j Quiet) o + 1 ≡ left
+    fewer j is there =
+        let less = count-put at j Quiet o h.apart there in
+        let one : is_pending (at j) ≡ true = rw is refl in let same = rw one at less in omega (arith, same, h.counts)
+
+    still_sent : (j k : ℕ) → is_pending (put at j Quiet k) ≡ true → has o k ≡ true
+    still_sent j k = elim (k == j) as (λ t. is_pending (cond t Quiet (at k)) ≡ true → has o k ≡ true) [ true ↦ λ w. cc | false ↦ λ p. h.sent k p ]
+
+    one_less : (j : ℕ) → at j ≡ Coming → has o j ≡ true → (left - 1 == 0) ≡ false
+        → FitsSpread f n (record { seen = b; chunk = c; turn = put at j Quiet; asked = o; left = left - 1 })
+    one_less j is there more = record {
+      gives = h.gives;
+      fronts = h.fronts;
+      counts = let less = fewer j is there in omega arith;
+      some = more;
+      sent = still_sent j;
+      lately = still_behind Quiet refl j (rw is refl);
+      inside = h.inside;
+      apart = h.apart;
+    }
+
+    -- the last answer: then every other member is quiet
+    all_quiet : (j : ℕ) → at j ≡ Coming → has o j ≡ true → left ≡ 1 → (k : ℕ) → is_pending (put at j Quiet k) ≡ false
+    all_quiet j is there last k =
+        let zero : count (put at j Quiet) o ≡ 0 = let less = fewer j is there in omega arith in
+        elim (is_pending (put at j Quiet k)) as (λ t. is_pending (put at j Quiet k) ≡ t → t ≡ false) [
+          | true ↦ λ p. sym p ∙ count-zero (put at j Quiet) o zero k (still_sent j k p)
+          | false ↦ λ _. refl
+        ] refl
+
+    quiet_to : (t : Turn) → is_pending t ≡ false → goes_to c t ≡ []
+    quiet_to Going e = cc
+    quiet_to Coming e = refl
+    quiet_to Quiet e = refl
+
+    quiet_back : (t : Turn) → is_pending t ≡ false → ◌≡◌ {A = List (Item R)} (comes_from t) []
+    quiet_back Going e = cc
+    quiet_back Coming e = cc
+    quiet_back Quiet e = refl
+
+    gone_to : (j : ℕ) → at j ≡ Coming → ((k : ℕ) → is_pending (put at j Quiet k) ≡ false) → (k : ℕ) → goes_to c (at k) ≡ []
+    gone_to j is off k = elim (k == j) as (λ t. (k == j) ≡ t → is_pending (cond t Quiet (at k)) ≡ false → goes_to c (at k) ≡ []) [
+      | true ↦ λ s _. let comes : at k ≡ Coming = rw ((Decides-eqb k j).0 s) is in rw comes refl
+      | false ↦ λ _ p. quiet_to (at k) p
+    ] refl (off k)
+
+    gone_back : (j : ℕ) → ((k : ℕ) → is_pending (put at j Quiet k) ≡ false) → (k : ℕ) → cond (k == j) [] (comes_from {R = R} (at k)) ≡ []
+    gone_back j off k = elim (k == j) as (λ t. is_pending (cond t Quiet (at k)) ≡ false → cond t [] (comes_from {R = R} (at k)) ≡ []) [
+      | true ↦ λ _. refl
+      | false ↦ λ p. quiet_back (at k) p
+    ] (off k)
+
+    not_going : (j : ℕ) → at j ≡ Coming → ((k : ℕ) → is_pending (put at j Quiet k) ≡ false) → (k : ℕ) → is_going (at k) ≡ false
+    not_going j is off k = elim (k == j) as (λ t. (k == j) ≡ t → is_pending (cond t Quiet (at k)) ≡ false → is_going (at k) ≡ false) [
+      | true ↦ λ s _. let comes : at k ≡ Coming = rw ((Decides-eqb k j).0 s) is in rw comes refl
+      | false ↦ λ _ p. not_pending (at k) p
+    ] refl (off k)
+
+    -- an answer is taken, and more are waited for
+    next_answer : (j : ℕ) → at j ≡ Coming → has o j ≡ true → (left - 1 == 0) ≡ false → Leads f here
+        (put_ctrl (record (shape f here) { back = put (λ k. comes_from (at k)) j [] }) (waits (cond first (Setting (left - 1)) (Syncing (left - 1))) q)) []
+    next_answer j is there more = record {
+      next = Spreads first d e b c (put at j Quiet) o (left - 1) q v;
+      fits = one_less j is there more;
+      alike = record {
+        sw = λ k. refl;
+        sc = refl;
+        cs = refl;
+        to = λ k. append-nil (goes_to c (at k)) ∙ (elim (k == j) as (λ t. (k == j) ≡ t → goes_to c (at k) ≡ goes_to c (cond t Quiet (at k))) [
+          | true ↦ λ s. let comes : at k ≡ Coming = rw ((Decides-eqb k j).0 s) is in rw comes refl
+          | false ↦ λ _. refl
+        ] refl);
+        back = λ k. elim (k == j) as (λ t. cond t [] (comes_from {R = R} (at k)) ≡ comes_from (cond t Quiet (at k))) [ true ↦ refl | false ↦ refl ];
+        own = λ k m. elim (k == j) as (λ t. (k == j) ≡ t → after f (cond (is_going (at k)) (b k) n) ≡ after f (cond (is_going (cond t Quiet (at k))) (b k) n)) [
+          | true ↦ λ s. let comes : at k ≡ Coming = rw ((Decides-eqb k j).0 s) is in rw comes refl
+          | false ↦ λ _. refl
+        ] refl;
+        phase = refl;
+        queue = refl;
+        diverts = refl;
+        done = refl;
+      };
+      early_is = simp orders;
+      late_is = simp orders;
+      longer = λ k _. elim (k == j) as (λ t. (k == j) ≡ t → IsFront (cond (is_going (at k)) (b k) n) (cond (is_going (cond t Quiet (at k))) (b k) n)) [
+        | true ↦ λ s. let comes : at k ≡ Coming = rw ((Decides-eqb k j).0 s) is in rw comes (front_same n)
+        | false ↦ λ _. front_same (cond (is_going (at k)) (b k) n)
+      ] refl;
+    }
+
+  -- the last answer is taken: the next packet of the queue is served
+  last_answer : (first : Bool) (d : List Ran) (e : List ℕ) (b : ℕ → List Ran) (c : Option R) (at : ℕ → Turn) (o : List ℕ) (left : ℕ) (q v : List ℕ)
+      (h : FitsSpread f (d ++ served f e) (record { seen = b; chunk = c; turn = at; asked = o; left = left }))
+      → (j : ℕ) → at j ≡ Coming → has o j ≡ true → left ≡ 1 → Leads f (Spreads first d e b c at o left q v)
+      (put_ctrl (record (shape f (Spreads first d e b c at o left q v)) { back = put (λ k. comes_from (at k)) j [] }) (serve f q)) []
+  last_answer first d e b c at o left [] v h j is there last =
+      let off = all_quiet first d e b c at o left [] v h j is there last in
+      record {
+        next = Resting d e v;
+        fits = tt;
+        alike = record {
+          sw = λ k. refl;
+          sc = refl;
+          cs = refl;
+          to = λ k. append-nil (goes_to c (at k)) ∙ gone_to first d e b c at o left [] v h j is off k;
+          back = λ k. gone_back first d e b c at o left [] v h j off k;
+          own = λ k _. rw (not_going first d e b c at o left [] v h j is off k) refl;
+          phase = refl;
+          queue = refl;
+          diverts = refl;
+          done = refl;
+        };
+        early_is = simp orders;
+        late_is = simp orders;
+        longer = λ k _. rw (not_going first d e b c at o left [] v h j is off k) (front_same (d ++ served f e));
+      }
+  last_answer first d e b c at o left (p ∷ q) v h j is there last =
+      let off = all_quiet first d e b c at o left (p ∷ q) v h j is there last in
+      record {
+        next = Forwards d e p q v;
+        fits = tt;
+        alike = record {
+          sw = λ k. refl;
+          sc = refl;
+          cs = refl;
+          to = λ k. append-nil (goes_to c (at k)) ∙ gone_to first d e b c at o left (p ∷ q) v h j is off k;
+          back = λ k. gone_back first d e b c at o left (p ∷ q) v h j off k;
+          own = λ k _. rw (not_going first d e b c at o left (p ∷ q) v h j is off k) refl;
+          phase = refl;
+          queue = refl;
+          diverts = refl;
+          done = refl;
+        };
+        early_is = simp orders;
+        late_is = simp orders;
+        longer = λ k _. rw (not_going first d e b c at o left (p ∷ q) v h j is off k) (front_same (d ++ served f e));
+      }
+
+  module _ (d : List Ran) (e : List ℕ) (b : ℕ → List Ran) (c : Option R) (at : ℕ → Turn) (o : List ℕ) (left : ℕ) (q v : List ℕ)
+      (h : FitsSpread f (d ++ served f e) (record { seen = b; chunk = c; turn = at; asked = o; left = left })) where
+    taken_to : (first : Bool) (j : ℕ) → Leads f (Spreads first d e b c at o left q v) (moved f (shape f (Spreads first d e b c at o left q v)) (Take_to j)) []
+    taken_to first j =
+        elim (at j)
+        as (λ t. at j ≡ t → Leads f (Spreads first d e b c at o left q v) (from_to f (shape f (Spreads first d e b c at o left q v)) j (goes_to c t)) []) [
+          | Going ↦ λ is. going first d e b c at o left q v h j is (h.sent j (rw is refl))
+          | Coming ↦ λ _. stays f (Spreads first d e b c at o left q v) h
+          | Quiet ↦ λ _. stays f (Spreads first d e b c at o left q v) h
+        ] refl
+
+    last_one : (left - 1 == 0) ≡ true → left ≡ 1
+    last_one last = let before = h.some in grind (arith, nat_tests)
+
+    answered : (first : Bool) (j : ℕ) → at j ≡ Coming
+        → Leads f (Spreads first d e b c at o left q v) (from_back f (shape f (Spreads first d e b c at o left q v)) j (Synced ∷ [])) []
+    answered true j is =
+        let there = h.sent j (rw is refl) in
+        elim (left - 1 == 0) as (λ t. (left - 1 == 0) ≡ t → Leads f (Spreads true d e b c at o left q v) (put_ctrl (record (shape f
+        (Spreads true d e b c at o left q v)) { back = put (λ k. comes_from (at k)) j [] }) (cond t (serve f q) (waits (Setting (left - 1)) q))) []) [
+          | true ↦ λ last. last_answer true d e b c at o left q v h j is there (last_one last)
+          | false ↦ next_answer true d e b c at o left q v h j is there
+        ] refl
+    answered false j is =
+        let there = h.sent j (rw is refl) in
+        elim (left - 1 == 0) as (λ t. (left - 1 == 0) ≡ t → Leads f (Spreads false d e b c at o left q v) (put_ctrl (record (shape f
+        (Spreads false d e b c at o left q v)) { back = put (λ k. comes_from (at k)) j [] }) (cond t (serve f q) (waits (Syncing (left - 1)) q))) []) [
+          | true ↦ λ last. last_answer false d e b c at o left q v h j is there (last_one last)
+          | false ↦ next_answer false d e b c at o left q v h j is there
+        ] refl
+
+    taken_back : (first : Bool) (j : ℕ)
+        → Leads f (Spreads first d e b c at o left q v) (moved f (shape f (Spreads first d e b c at o left q v)) (Take_back j)) []
+    taken_back first j =
+        elim (at j) as (λ t. at j ≡ t
+        → Leads f (Spreads first d e b c at o left q v) (from_back f (shape f (Spreads first d e b c at o left q v)) j (comes_from t)) []) [
+          | Going ↦ λ _. stays f (Spreads first d e b c at o left q v) h
+          | Coming ↦ λ is. answered first j is
+          | Quiet ↦ λ _. stays f (Spreads first d e b c at o left q v) h
+        ] refl
+
+  queued : (first : Bool) (d : List Ran) (e : List ℕ) (b : ℕ → List Ran) (c : Option R) (at : ℕ → Turn) (o : List ℕ) (left : ℕ) (q : List ℕ) (p : ℕ)
+      (v : List ℕ) (h : FitsSpread f (d ++ served f e) (record { seen = b; chunk = c; turn = at; asked = o; left = left }))
+      → Leads f (Spreads first d e b c at o left q (p ∷ v)) (put_ctrl (record (shape f (Spreads first d e b c at o left q (p ∷ v))) { sc = map Diverted v })
+      (waits (cond first (Setting left) (Syncing left)) (q ++ p ∷ []))) []
+  queued first d e b c at o left q p v h = record {
+    next = Spreads first d e b c at o left (q ++ p ∷ []) v;
+    fits = h;
+    alike = record {
+      sw = λ k. refl;
+      sc = refl;
+      cs = refl;
+      to = λ k. append-nil (goes_to c (at k));
+      back = λ k. refl;
+      own = λ k _. refl;
+      phase = refl;
+      queue = refl;
+      diverts = refl;
+      done = refl;
+    };
+    early_is = simp orders;
+    late_is = simp orders;
+    longer = λ k _. front_same (front f (Spreads first d e b c at o left q (p ∷ v)) k);
+  }
+
+  pub spreads : (first : Bool) (d : List Ran) (e : List ℕ) (b : ℕ → List Ran) (c : Option R) (at : ℕ → Turn) (o : List ℕ) (left : ℕ) (q v : List ℕ)
+      (h : FitsSpread f (d ++ served f e) (record { seen = b; chunk = c; turn = at; asked = o; left = left })) (m : ShareMachineStep)
+      → Leads f (Spreads first d e b c at o left q v) (moved f (shape f (Spreads first d e b c at o left q v)) m) (brings f m)
+  spreads first d e b c at o left q v h (Arrive p) = arrive first d e b c at o left q v h p
+  spreads first d e b c at o left q v h (Take_to j) = taken_to d e b c at o left q v h first j
+  spreads first d e b c at o left q v h (Take_back j) = taken_back d e b c at o left q v h first j
+  spreads first d e b c at o left q [] h Take_sc = stays f (Spreads first d e b c at o left q []) h
+  spreads true d e b c at o left q (p ∷ v) h Take_sc = queued true d e b c at o left q p v h
+  spreads false d e b c at o left q (p ∷ v) h Take_sc = queued false d e b c at o left q p v h
+  spreads first d e b c at o left q v h m = stays f (Spreads first d e b c at o left q v) h

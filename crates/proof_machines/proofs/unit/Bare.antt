@@ -1,0 +1,166 @@
+-- A stage without any packet of the unit has no record of it and holds nothing; a step in which no packet comes leaves it so.
+use Rattle.std.proofs.Common.{◌≡◌, ℕ, ◌+◌, Bool, true, false, Option, Some, None, List, [], ◌∷◌, ◌++◌, map, refl, ap, ◌∙◌, arith}
+use Rattle.std.specs.Prelude.{if◌then◌else◌, ◌==◌, option_to_list}
+use Rattle.std.proofs.lemmas.Bool.Decides.{Decides-eqb}
+use Rattle.proof_machines.proofs.unit.Machine.{Ran, Steps, after, Part, Rule, Free, Drops, Buffers, Item}
+use Rattle.proof_machines.proofs.unit.Machine.{Carry, Pass, Fence, Enable, Put, next, State, MachineStep}
+use Rattle.proof_machines.proofs.unit.Lists.{firsts, marked}
+use Rattle.proof_machines.proofs.unit.UnitPieces.{nil_left, nil_right}
+use Rattle.proof_machines.proofs.unit.Stages.{Stage, At_rest, Streams, Is_wide, shape, path, all_of, loose, times, Same, IsOrderedAs, Allowed, arrived_by}
+use Rattle.proof_machines.proofs.unit.Path.{passes_in, carries, path_of, path_is}
+use Rattle.proof_machines.proofs.unit.Kept.{Kept, Nowhere, Is_live, On_way, Twice, is_kept, lives, on_way, records_on, frozen_in}
+use Rattle.proof_machines.proofs.unit.Steps.{goes_on}
+
+-- what the switch sends to B
+abbrev pub from_switch : {R : Type 0} → List (Item R) → Bool
+from_switch [] = true
+from_switch (Carry p ∷ xs) = from_switch xs
+from_switch (Pass p ∷ xs) = from_switch xs
+from_switch (Fence ∷ xs) = from_switch xs
+from_switch (_ ∷ xs) = false
+
+-- what the controller sends to B
+abbrev pub to_dest : {R : Type 0} → List (Item R) → Bool
+to_dest [] = true
+to_dest (Enable Buffers ∷ xs) = to_dest xs
+to_dest (Put h first ∷ xs) = to_dest xs
+to_dest (_ ∷ xs) = false
+
+abbrev pub fences : {R : Type 0} → List (Item R) → Bool
+fences [] = true
+fences (Fence ∷ xs) = fences xs
+fences (_ ∷ xs) = false
+
+abbrev pub not_drops : Rule → Bool
+not_drops Drops = false
+not_drops r = true
+
+from_switch-append : {R : Type 0} (xs ys : List (Item R)) → from_switch xs ≡ true → from_switch (xs ++ ys) ≡ from_switch ys
+from_switch-append [] ys e = refl
+from_switch-append (Carry p ∷ xs) ys e = from_switch-append xs ys e
+from_switch-append (Pass p ∷ xs) ys e = from_switch-append xs ys e
+from_switch-append (Fence ∷ xs) ys e = from_switch-append xs ys e
+from_switch-append (x ∷ xs) ys e = cc
+
+abbrev carry : {R : Type 0} → ℕ → Item R
+carry p = Carry p
+
+abbrev pass : {R : Type 0} → ℕ → Item R
+pass p = Pass p
+
+carries_from : (R : Type 0) (l : List ℕ) → from_switch (map (carry {R = R}) l) ≡ true
+carries_from R [] = refl
+carries_from R (p ∷ l) = carries_from R l
+
+passes_from : (R : Type 0) (l : List ℕ) → from_switch (map (pass {R = R}) l) ≡ true
+passes_from R [] = refl
+passes_from R (p ∷ l) = passes_from R l
+
+mixed_from : (R : Type 0) (x : List (Bool × ℕ)) → from_switch (map (marked {R = R}) x) ≡ true
+mixed_from R [] = refl
+mixed_from R ((true, p) ∷ x) = mixed_from R x
+mixed_from R ((false, p) ∷ x) = mixed_from R x
+
+puts_to : {R : Type 0} (w : List (Part R)) → to_dest (map next w) ≡ true
+puts_to [] = refl
+puts_to (h ∷ w) = puts_to w
+
+pub sb_kind : {R : Type 0} (F : Steps R) (s : Stage F) → from_switch (shape F s).sb ≡ true
+sb_kind F (At_rest d l k) = refl
+sb_kind F s = first_of (simp (from_switch-append, carries_from, passes_from, mixed_from), cc)
+
+pub cb_kind : {R : Type 0} (F : Steps R) (s : Stage F) → to_dest (shape F s).cb ≡ true
+cb_kind F (Streams d f y q l k (Is_wide g w) fl) = puts_to w
+cb_kind F (Streams d f y q l k s fl) = refl
+cb_kind F (At_rest d l k) = refl
+cb_kind F s = refl
+
+if_not_drops : (k : Bool) → not_drops (if k then Buffers else Free) ≡ true
+if_not_drops true = refl
+if_not_drops false = refl
+
+pub b_rule : {R : Type 0} (F : Steps R) (s : Stage F) → not_drops (shape F s).b.rule ≡ true
+b_rule F (At_rest d l k) = refl
+b_rule F s = first_of (simp if_not_drops, cc)
+
+pub firsts_nil : (d : List Ran) → firsts d ≡ [] → d ≡ []
+firsts_nil [] e = refl
+firsts_nil (x ∷ d) e = cc
+
+-- lists with the same packets as none
+same_nil : (xs : List ℕ) → Same xs [] → xs ≡ []
+same_nil [] same = refl
+same_nil (x ∷ xs) same =
+    let one : (x == x) ≡ true = (Decides-eqb x x).1 refl in
+    let e = same x in
+    let f : 1 + times x xs ≡ 0 = rw one at e in
+    let never : ⊥ = omega arith in absurd never
+
+order_nil : (b : Bool) (xs ys : List ℕ) → IsOrderedAs b xs ys → ys ≡ [] → xs ≡ []
+order_nil true xs ys o e = same_nil xs (λ p. o p ∙ ap (λ z. times p z) e)
+order_nil false xs ys o e = o ∙ e
+
+-- a step with no packet leaves none
+pub stays_bare : {R : Type 0} (F : Steps R) (s : Stage F) (m : MachineStep R) (a : Allowed (shape F s) m) → all_of s ≡ [] → arrived_by m ≡ []
+    → all_of (goes_on F s m a).0 ≡ []
+stays_bare F s m a bare none =
+    let g = goes_on F s m a in
+    order_nil (loose g.0) (all_of g.0) (all_of s ++ arrived_by m) g.2 (rw (bare, none) refl)
+
+fences_alone : {R : Type 0} (xs : List (Item R)) → from_switch xs ≡ true → carries xs ≡ [] → passes_in xs ≡ [] → fences xs ≡ true
+fences_alone [] s c p = refl
+fences_alone (Fence ∷ xs) s c p = fences_alone xs s c p
+fences_alone (Carry n ∷ xs) s c p = cc
+fences_alone (Pass n ∷ xs) s c p = cc
+fences_alone (x ∷ xs) s c p = cc
+
+pub record Bare {R : Type 0} (u : State R) : Type 0 where
+  pub done : u.done ≡ []
+  pub held : u.b.held ≡ []
+  pub a_live : u.a.live ≡ None
+  pub live : u.b.live ≡ None
+  pub way : on_way u ≡ []
+  pub cb_none : records_on u.cb ≡ []
+  pub cb_is : to_dest u.cb ≡ true
+  pub sb_is : fences u.sb ≡ true
+  pub rule : not_drops u.b.rule ≡ true
+
+nil_option : {R : Type 0} (o : Option R) → option_to_list o ≡ [] → o ≡ None
+nil_option None e = refl
+nil_option (Some r) e = cc
+
+-- where nothing was processed there is no record
+no_record : {R : Type 0} (o a : Option R) (live way : List R) → o ≡ None → Kept o a live way → (live ≡ []) × (way ≡ [])
+no_record o a live way e (Nowhere _ x y) = (x, y)
+no_record o a live way e (Is_live r is x y) = let never : ⊥ = cc in absurd never
+no_record o a live way e (On_way r is x y) = let never : ⊥ = cc in absurd never
+no_record o a live way e (Twice r is _ x y) = let never : ⊥ = cc in absurd never
+
+pub bare_facts : {R : Type 0} (F : Steps R) (s : Stage F) → all_of s ≡ [] → Bare (shape F s)
+bare_facts F s bare =
+    let u = shape F s in
+    let done : u.done ≡ [] = firsts_nil u.done (nil_left (firsts u.done) (path s) bare) in
+    let none : path_of u ≡ [] = path_is F s ∙ nil_right (firsts u.done) (path s) bare in
+    let p1 = nil_right (passes_in u.sa) _ none in
+    let p2 = nil_right (passes_in u.sb) _ p1 in
+    let p3 = nil_right _ _ p2 in
+    let p4 = nil_right u.store _ p3 in
+    let p5 = nil_right _ _ p4 in
+    let p6 = nil_right u.a.held _ p5 in
+    let p7 = nil_right (carries u.sa) _ p6 in
+    let kept = no_record (after F u.done) u.a.live (lives u) (on_way u) (ap (λ z. after F z) done) (is_kept F s) in
+    let l1 = nil_right (option_to_list u.a.live) _ kept.0 in
+    let w1 = nil_right (records_on u.ac) _ kept.1 in
+    let w2 = nil_right (frozen_in u.phase) _ w1 in
+    let w3 = nil_right (records_on u.bc) _ w2 in
+    record {
+      done = done;
+      held = nil_left u.b.held (carries u.sb) p7;
+      a_live = nil_option u.a.live (nil_left (option_to_list u.a.live) _ kept.0);
+      way = kept.1;
+      live = nil_option u.b.live (nil_left (option_to_list u.b.live) _ l1);
+      cb_none = nil_left (records_on u.cb) _ w3;
+      cb_is = cb_kind F s;
+      sb_is = fences_alone u.sb (sb_kind F s) (nil_right u.b.held (carries u.sb) p7) (nil_left (passes_in u.sb) _ p1);
+      rule = b_rule F s;
+    }

@@ -1,0 +1,112 @@
+-- A source's records, cut into pieces: each unit sees its record in exactly one of them, and the last alone has the mark.
+use Rattle.std.proofs.Common.{◌≡◌, ℕ, suc, zero, true, false, Option, Some, None, List, [], ◌∷◌, ◌++◌}
+use Rattle.std.proofs.Common.{map, length, take, drop, refl, sym, ap, ◌∙◌, append-nil, take-append-drop}
+use Rattle.std.specs.Prelude.{if◌then◌else◌, ◌==◌, option_to_list, nat_le}
+use Rattle.nf_function.specs.declared.unit.Unit as units
+use Rattle.record_table.specs.Table.{same_unit}
+use Rattle.proof_machines.proofs.unit.Machine.{is_nil, Piece}
+use Rattle.proof_machines.proofs.unit.UnitPieces.{ArePiecesOf, records, closes, first, nil_left, nil_right, first_of_one}
+use Rattle.proof_machines.proofs.unit.Real.{Chunks, record_at, RPiece, Msg, M_piece, Frame, see, view}
+
+-- all records of a unit in chunks
+abbrev pub all_at : {R : Type 0} → units.Unit → Chunks R → List R
+all_at u [] = []
+all_at u (c ∷ cs) = if same_unit u c.0 then c.1 ∷ all_at u cs else all_at u cs
+
+-- lists end to end
+abbrev pub joined_up : {X : Type 0} → List (List X) → List X
+joined_up [] = []
+joined_up (x ∷ xs) = x ++ joined_up xs
+
+-- pieces of these chunks in order, the last of them marked
+abbrev pub marks : {R : Type 0} → ℕ → ℕ → List (Chunks R) → List (RPiece R)
+marks total newest [] = []
+marks total newest (c ∷ cs) = record { chunks = c; total = total; newest = newest; last = is_nil cs } ∷ marks total newest cs
+
+-- at most 64 in each; the first argument is at least the length
+abbrev pub chop : {X : Type 0} → ℕ → List X → List (List X)
+chop zero xs = xs ∷ []
+chop (suc n) xs = if nat_le (length xs) 64 then xs ∷ [] else take 64 xs ∷ chop n (drop 64 xs)
+
+pub joined-chop : {X : Type 0} (n : ℕ) (xs : List X) → joined_up (chop n xs) ≡ xs
+joined-chop zero xs = append-nil xs
+joined-chop (suc n) xs =
+    elim (nat_le (length xs) 64) as (λ b. joined_up (if b then xs ∷ [] else take 64 xs ∷ chop n (drop 64 xs)) ≡ xs) [
+      | true ↦ append-nil xs
+      | false ↦ ap (λ z. take 64 xs ++ z) (joined-chop n (drop 64 xs)) ∙ take-append-drop 64 xs
+    ]
+
+pub is_nil-chop : {X : Type 0} (n : ℕ) (xs : List X) → is_nil (chop n xs) ≡ false
+is_nil-chop zero xs = refl
+is_nil-chop (suc n) xs =
+    elim (nat_le (length xs) 64) as (λ b. is_nil (if b then xs ∷ [] else take 64 xs ∷ chop n (drop 64 xs)) ≡ false) [ true ↦ refl | false ↦ refl ]
+
+pub all_at-append : {R : Type 0} (u : units.Unit) (x y : Chunks R) → all_at u (x ++ y) ≡ all_at u x ++ all_at u y
+all_at-append u [] y = refl
+all_at-append u (c ∷ x) y =
+    elim (same_unit u c.0) as (λ b. (if b then c.1 ∷ all_at u (x ++ y) else all_at u (x ++ y)) ≡ (if b then c.1 ∷ all_at u x else all_at u x) ++ all_at u y) [
+      | true ↦ ap (λ z. c.1 ∷ z) (all_at-append u x y)
+      | false ↦ all_at-append u x y
+    ]
+
+pub record_first : {R : Type 0} (u : units.Unit) (x : Chunks R) → record_at u x ≡ first (all_at u x)
+record_first u [] = refl
+record_first u (c ∷ x) =
+    elim (same_unit u c.0) as (λ b. (if b then Some c.1 else record_at u x) ≡ first (if b then c.1 ∷ all_at u x else all_at u x)) [
+      | true ↦ refl
+      | false ↦ record_first u x
+    ]
+
+-- the parts of a list of at most one are such lists
+halves : {R : Type 0} (x y : List R) (o : Option R) → x ++ y ≡ option_to_list o
+    → (p : Option R) × (q : Option R) × (x ≡ option_to_list p) × (y ≡ option_to_list q)
+halves [] y o e = (None, o, refl, e)
+halves (a ∷ x) y None e = let never : ⊥ = cc in absurd never
+halves (a ∷ x) y (Some r) e =
+    let none : x ++ y ≡ [] = cc in
+    (Some a, None, ap (λ z. a ∷ z) (nil_left x y none), nil_right x y none)
+
+list_of_own : {R : Type 0} (o : Option R) (xs : List R) → elim o as (λ _. List R) [ None ↦ xs | Some r ↦ r ∷ xs ] ≡ option_to_list o ++ xs
+list_of_own None xs = refl
+list_of_own (Some r) xs = refl
+
+all_records : {R : Type 0} (v : Frame) (total newest : ℕ) (cs : List (Chunks R)) (o : Option R) → all_at v.unit (joined_up cs) ≡ option_to_list o
+    → records (map (see v) (marks total newest cs)) ≡ option_to_list o
+all_records v total newest [] o e = e
+all_records v total newest (c ∷ cs) o e =
+    let parts = halves (all_at v.unit c) (all_at v.unit (joined_up cs)) o (sym (all_at-append v.unit c (joined_up cs)) ∙ e) in
+    let own : record_at v.unit c ≡ parts.0 = record_first v.unit c ∙ ap first parts.2 ∙ first_of_one parts.0 in
+    list_of_own (record_at v.unit c) (records (map (see v) (marks total newest cs)))
+    ∙ ap (λ z. option_to_list z ++ records (map (see v) (marks total newest cs))) own
+    ∙ ap (λ z. z ++ records (map (see v) (marks total newest cs))) (sym parts.2)
+    ∙ ap (λ z. all_at v.unit c ++ z) (all_records v total newest cs parts.1 parts.3 ∙ sym parts.3)
+    ∙ sym (all_at-append v.unit c (joined_up cs)) ∙ e
+
+all_closes : {R : Type 0} (v : Frame) (total newest : ℕ) (c : Chunks R) (cs : List (Chunks R)) → closes (map (see v) (marks total newest (c ∷ cs))) ≡ true
+all_closes v total newest c [] = refl
+all_closes v total newest c (k ∷ cs) = all_closes v total newest k cs
+
+-- what a Stream sends is what the machine's move allows
+pub cut_fits : {R : Type 0} (v : Frame) (total newest : ℕ) (cs : List (Chunks R)) (o : Option R) → is_nil cs ≡ false
+    → all_at v.unit (joined_up cs) ≡ option_to_list o → ArePiecesOf (map (see v) (marks total newest cs)) o
+cut_fits v total newest [] o some e = let never : ⊥ = cc in absurd never
+cut_fits v total newest (c ∷ cs) o some e = record { one = all_records v total newest (c ∷ cs) o e; ends = all_closes v total newest c cs }
+
+pub chopped_fits : {R : Type 0} (v : Frame) (total newest n : ℕ) (xs : Chunks R) (o : Option R) → all_at v.unit xs ≡ option_to_list o
+    → ArePiecesOf (map (see v) (marks total newest (chop n xs))) o
+chopped_fits v total newest n xs o e =
+    let same = joined-chop n xs in
+    cut_fits v total newest (chop n xs) o (is_nil-chop n xs) (rw same e)
+
+abbrev r_piece_of : {R : Type 0} → ℕ → RPiece R → Msg R
+r_piece_of n p = M_piece n p
+
+-- and the unit sees each of them
+pub view_pieces : {R : Type 0} (v : Frame) (ps : List (RPiece R)) → (v.move == v.move) ≡ true → view v (map (r_piece_of v.move) ps) ≡ map Piece (map (see v) ps)
+view_pieces v [] e = refl
+view_pieces v (p ∷ ps) e = rw e (ap (λ z. Piece (see v p) ∷ z) (view_pieces v ps e))
+
+-- for a take of another message any pieces serve: these are allowed
+pub some_parts : {R : Type 0} (o : Option R) → ArePiecesOf (record { own = o; last = true } ∷ []) o
+some_parts None = record { one = refl; ends = refl }
+some_parts (Some r) = record { one = refl; ends = refl }

@@ -1,0 +1,181 @@
+-- Where an instance processes packets of the unit in a step of the machine, its record is that of the fold of all that was done before.
+use Rattle.std.proofs.Common.{◌≡◌, ◌≢◌, ℕ, Bool, true, false, Option, Some, None, List, [], ◌∷◌, ◌++◌, map, refl, sym, ap, ◌∙◌, subst, append-nil}
+use Rattle.std.specs.Prelude.{if◌then◌else◌}
+use Rattle.nf_msgs.specs.declared.answer.Answer.{Answer}
+use Rattle.proof_machines.proofs.unit.Machine.{Where, At_a, At_b, Steps, after, Part, Inst, inst_does, put, Item, Carry}
+use Rattle.proof_machines.proofs.unit.Machine.{Pass, Fence, Put, delete, next, State, Take_sa, Take_sb, put_a, put_b, moved}
+use Rattle.proof_machines.proofs.unit.UnitPieces.{nil_right}
+use Rattle.proof_machines.proofs.unit.Stages.{drops, Stage, At_rest, Begun, Frozen, Stream_goes, Streams, All_put, Hold_goes, Held}
+use Rattle.proof_machines.proofs.unit.Stages.{Laying, Turned, Fenced_a, Ending_b, Fence_b, Turned_loose, Fenced_loose, Ending_loose}
+use Rattle.proof_machines.proofs.unit.Stages.{Fence_loose, Fenced_b, Moved, Restore_goes, Restored_comes, Turn_goes, Turned_back}
+use Rattle.proof_machines.proofs.unit.Stages.{Returned, Fence_a, Fenced_back, Undone, Doorway, Is_wide, puts_of, shape, all_of}
+use Rattle.proof_machines.proofs.unit.Bare.{bare_facts, stays_bare}
+use Rattle.proof_machines.proofs.unit.Steps.{goes_on}
+use Rattle.proof_machines.proofs.unit.Seats.{UnitSeat, Covered, Is_beside, Is_away, seat_shape}
+use Rattle.proof_machines.proofs.unit.Lists.{cons_nil}
+
+-- a message at which no instance processes anything
+abbrev pub still_item : {R : Type 0} → Item R → Bool
+still_item (Carry p) = false
+still_item (Pass p) = false
+still_item Fence = false
+still_item it = true
+
+abbrev all_still : {R : Type 0} → List (Item R) → Bool
+all_still [] = true
+all_still (x ∷ xs) = if still_item x then all_still xs else false
+
+still_head : {R : Type 0} (it : Item R) (v xs : List (Item R)) → xs ≡ it ∷ v → all_still xs ≡ true → still_item it ≡ true
+still_head it v xs e ok =
+    elim (still_item it) as (λ b. (if b then all_still v else false) ≡ true → b ≡ true) [ true ↦ λ _. refl | false ↦ λ n. n ] (ap all_still (sym e) ∙ ok)
+
+still_deletes : {R : Type 0} (q : List (Part R)) → all_still (map delete q) ≡ true
+still_deletes [] = refl
+still_deletes (h ∷ q) = still_deletes q
+
+still_nexts : {R : Type 0} (q : List (Part R)) → all_still (map next q) ≡ true
+still_nexts [] = refl
+still_nexts (h ∷ q) = still_nexts q
+
+-- the controller sends none that isn't so
+ca_stage : {R : Type 0} (F : Steps R) (s : Stage F) → all_still (shape F s).ca ≡ true
+ca_stage F (Streams d f y q l k s w) = still_deletes q
+ca_stage F s = refl
+
+puts_still : {R : Type 0} (s : Doorway R) → all_still (puts_of s) ≡ true
+puts_still (Is_wide g w) = still_nexts w
+puts_still s = refl
+
+cb_stage : {R : Type 0} (F : Steps R) (s : Stage F) → all_still (shape F s).cb ≡ true
+cb_stage F (Streams d f y q l k s w) = puts_still s
+cb_stage F s = refl
+
+pub still_ca : {R : Type 0} (F : Steps R) (s : UnitSeat F) (it : Item R) (v : List (Item R)) → (seat_shape F s).ca ≡ it ∷ v → still_item it ≡ true
+still_ca F (Covered s) it v e = still_head it v (shape F s).ca e (ca_stage F s)
+still_ca F (Is_beside s) it v e = still_head it v (shape F s.base).ca e (ca_stage F s.base)
+still_ca F (Is_away s) it v e = still_head it v (shape F s.base).ca e (ca_stage F s.base)
+
+pub still_cb : {R : Type 0} (F : Steps R) (s : UnitSeat F) (it : Item R) (v : List (Item R)) → (seat_shape F s).cb ≡ it ∷ v → still_item it ≡ true
+still_cb F (Covered s) it v e = still_head it v (shape F s).cb e (cb_stage F s)
+still_cb F (Is_beside s) it v e = still_head it v (shape F s.base).cb e (cb_stage F s.base)
+still_cb F (Is_away s) it v e = still_head it v (shape F s.base).cb e (cb_stage F s.base)
+
+put_still : {R : Type 0} (F : Steps R) (first : Bool) (refuse : Option Answer) (i : Inst R) (h : Part R) → (put F first refuse i h).ran ≡ []
+put_still F false refuse i h = refl
+put_still F true None i h = refl
+put_still F true (Some why) i h = refl
+
+pub still_ran : {R : Type 0} (F : Steps R) (w : Where) (parts : List (Part R)) (refuse : Option Answer) (i : Inst R) (it : Item R) → still_item it ≡ true
+    → (inst_does F w parts refuse i it).ran ≡ []
+still_ran F w parts refuse i (Carry p) e = cc
+still_ran F w parts refuse i (Pass p) e = cc
+still_ran F w parts refuse i Fence e = cc
+still_ran F w parts refuse i (Put h first) e = put_still F first refuse i h
+still_ran F w parts refuse i it e = refl
+
+-- what is processed doesn't hang on the flags
+pub ran_same : {R : Type 0} (F : Steps R) (w : Where) (parts : List (Part R)) (refuse : Option Answer) (i : Inst R) (it : Item R)
+    → (inst_does F w [] None i it).ran ≡ (inst_does F w parts refuse i it).ran
+ran_same F w parts refuse i (Put h first) = put_still F first None i h ∙ sym (put_still F first refuse i h)
+ran_same F w parts refuse i it = refl
+
+-- Covered units: A's record, B's, and C's nothing. Packets of a frozen unit aren't processed.
+dropped : {R : Type 0} (F : Steps R) (o : Option R) (l : List ℕ) (it : Item R) (v : List (Item R)) → map Carry l ≡ it ∷ v
+    → (inst_does F At_a [] None (drops o) it).ran ≡ []
+dropped F o [] it v e = cons_nil (sym e)
+dropped F o (p ∷ l) it v e = let same : Carry p ≡ it = cc in subst (λ x. (inst_does F At_a [] None (drops o) x).ran ≡ []) same refl
+
+dropped_fence : {R : Type 0} (F : Steps R) (o : Option R) (l : List ℕ) (it : Item R) (v : List (Item R)) → map Carry l ++ Fence ∷ [] ≡ it ∷ v
+    → (inst_does F At_a [] None (drops o) it).ran ≡ []
+dropped_fence F o [] it v e = let same : Fence ≡ it = cc in subst (λ x. (inst_does F At_a [] None (drops o) x).ran ≡ []) same refl
+dropped_fence F o (p ∷ l) it v e = let same : Carry p ≡ it = cc in subst (λ x. (inst_does F At_a [] None (drops o) x).ran ≡ []) same refl
+
+abbrev RunsNothing : {R : Type 0} → Steps R → State R → Item R → Type 0
+RunsNothing F u it = (inst_does F At_a [] None u.a it).ran ≢ []
+
+sa_stage : {R : Type 0} (F : Steps R) (s : Stage F) (it : Item R) (v : List (Item R)) → (shape F s).sa ≡ it ∷ v → RunsNothing F (shape F s) it
+    → (shape F s).a.live ≡ after F (shape F s).done
+sa_stage F (Streams d f y q l k s w) it v e r = absurd (r (dropped F _ l it v e))
+sa_stage F (All_put d f y l k) it v e r = absurd (r (dropped F None l it v e))
+sa_stage F (Hold_goes d f y l) it v e r = absurd (r (dropped F None l it v e))
+sa_stage F (Held d f y l) it v e r = absurd (r (dropped F None l it v e))
+sa_stage F (Laying d x f g y l k) it v e r = absurd (r (dropped F None l it v e))
+sa_stage F (Restore_goes d f y l k why) it v e r = absurd (r (dropped F None l it v e))
+sa_stage F (Turned d x f y l h) it v e r = absurd (r (dropped_fence F None l it v e))
+sa_stage F (Turned_loose d x f y l) it v e r = absurd (r (dropped_fence F None l it v e))
+sa_stage F (Fenced_a d x f y h) it v e r = cons_nil (sym e)
+sa_stage F (Ending_b d x f h) it v e r = cons_nil (sym e)
+sa_stage F (Fence_b d x n h) it v e r = cons_nil (sym e)
+sa_stage F (Fenced_loose d x f y) it v e r = cons_nil (sym e)
+sa_stage F (Ending_loose d x f) it v e r = cons_nil (sym e)
+sa_stage F (Fence_loose d x n) it v e r = cons_nil (sym e)
+sa_stage F (Fenced_b d l k) it v e r = cons_nil (sym e)
+sa_stage F (Moved d l k) it v e r = cons_nil (sym e)
+sa_stage F (At_rest d l k) it v e r = refl
+sa_stage F s it v e r = refl
+
+sb_stage : {R : Type 0} (F : Steps R) (s : Stage F) (it : Item R) (v : List (Item R)) → (shape F s).sb ≡ it ∷ v → (shape F s).b.live ≡ after F (shape F s).done
+sb_stage F (At_rest d l k) it v e = cons_nil (sym e)
+sb_stage F (Begun d l k) it v e = cons_nil (sym e)
+sb_stage F (Frozen d y l k) it v e = cons_nil (sym e)
+sb_stage F (Stream_goes d f y l k) it v e = cons_nil (sym e)
+sb_stage F (Streams d f y q l k s w) it v e = cons_nil (sym e)
+sb_stage F (Restore_goes d f y l k why) it v e = cons_nil (sym e)
+sb_stage F (Restored_comes d f y g l k why) it v e = cons_nil (sym e)
+sb_stage F (Turn_goes d f y l k why) it v e = cons_nil (sym e)
+sb_stage F (Turned_back d f y h l k why) it v e = cons_nil (sym e)
+sb_stage F (Returned d x f h k why) it v e = cons_nil (sym e)
+sb_stage F (Fence_a d x n h k why) it v e = cons_nil (sym e)
+sb_stage F (Fenced_back d l k why) it v e = cons_nil (sym e)
+sb_stage F (Undone d l k why) it v e = cons_nil (sym e)
+sb_stage F s it v e = refl
+
+pub sc_stage : {R : Type 0} (F : Steps R) (s : Stage F) → (shape F s).sc ≡ []
+sc_stage F (At_rest d l k) = refl
+sc_stage F s = refl
+
+-- Another seat's base: nothing of the unit is ever done there.
+taken_sa : {R : Type 0} (F : Steps R) (u : State R) (it : Item R) (v : List (Item R)) → u.sa ≡ it ∷ v
+    → (moved F u Take_sa).done ≡ u.done ++ (inst_does F At_a [] None u.a it).ran
+taken_sa {R = R} F u it v e = ap (λ l. (elim l as (λ _. State R) [ [] ↦ u | x ∷ xs ↦ put_a (record u { sa = xs }) (inst_does F At_a [] None u.a x) ]).done) e
+
+pub bare_sa : {R : Type 0} (F : Steps R) (s : Stage F) → all_of s ≡ [] → (it : Item R) (v : List (Item R)) → (shape F s).sa ≡ it ∷ v
+    → (inst_does F At_a [] None (shape F s).a it).ran ≡ []
+bare_sa F s bare it v e =
+    let u = shape F s in
+    let g = goes_on F s Take_sa tt in
+    let none : (moved F u Take_sa).done ≡ [] = ap (λ x. x.done) g.1 ∙ (bare_facts F g.0 (stays_bare F s Take_sa tt bare refl)).done in
+    nil_right u.done (inst_does F At_a [] None u.a it).ran (sym (taken_sa F u it v e) ∙ none)
+
+taken_sb : {R : Type 0} (F : Steps R) (u : State R) (it : Item R) (v : List (Item R)) → u.sb ≡ it ∷ v
+    → (moved F u Take_sb).done ≡ u.done ++ (inst_does F At_b [] None u.b it).ran
+taken_sb {R = R} F u it v e = ap (λ l. (elim l as (λ _. State R) [ [] ↦ u | x ∷ xs ↦ put_b (record u { sb = xs }) (inst_does F At_b [] None u.b x) ]).done) e
+
+pub bare_sb : {R : Type 0} (F : Steps R) (s : Stage F) → all_of s ≡ [] → (it : Item R) (v : List (Item R)) → (shape F s).sb ≡ it ∷ v
+    → (inst_does F At_b [] None (shape F s).b it).ran ≡ []
+bare_sb F s bare it v e =
+    let u = shape F s in
+    let g = goes_on F s Take_sb tt in
+    let none : (moved F u Take_sb).done ≡ [] = ap (λ x. x.done) g.1 ∙ (bare_facts F g.0 (stays_bare F s Take_sb tt bare refl)).done in
+    nil_right u.done (inst_does F At_b [] None u.b it).ran (sym (taken_sb F u it v e) ∙ none)
+
+-- The links from the switch, at any seat.
+pub fresh_sa : {R : Type 0} (F : Steps R) (s : UnitSeat F) (it : Item R) (v : List (Item R)) (parts : List (Part R)) (refuse : Option Answer)
+    → (seat_shape F s).sa ≡ it ∷ v → (inst_does F At_a parts refuse (seat_shape F s).a it).ran ≢ []
+    → (seat_shape F s).a.live ≡ after F (seat_shape F s).done
+fresh_sa F (Covered s) it v parts refuse e r = sa_stage F s it v e (λ n. r (sym (ran_same F At_a parts refuse (shape F s).a it) ∙ n))
+fresh_sa F (Is_beside s) it v parts refuse e r = absurd (r (sym (ran_same F At_a parts refuse (shape F s.base).a it) ∙ bare_sa F s.base s.bare it v e))
+fresh_sa F (Is_away s) it v parts refuse e r = absurd (r (sym (ran_same F At_a parts refuse (shape F s.base).a it) ∙ bare_sa F s.base s.bare it v e))
+
+pub fresh_sb : {R : Type 0} (F : Steps R) (s : UnitSeat F) (it : Item R) (v : List (Item R)) (parts : List (Part R)) (refuse : Option Answer)
+    → (seat_shape F s).sb ≡ it ∷ v → (inst_does F At_b parts refuse (seat_shape F s).b it).ran ≢ []
+    → (seat_shape F s).b.live ≡ after F (seat_shape F s).done
+fresh_sb F (Covered s) it v parts refuse e r = sb_stage F s it v e
+fresh_sb F (Is_beside s) it v parts refuse e r = let none = (bare_facts F s.base s.bare).done in rw (none, append-nil s.d) refl
+fresh_sb F (Is_away s) it v parts refuse e r = absurd (r (sym (ran_same F At_b parts refuse (shape F s.base).b it) ∙ bare_sb F s.base s.bare it v e))
+
+pub fresh_sc : {R : Type 0} (F : Steps R) (s : UnitSeat F) (it : Item R) (v : List (Item R)) → (seat_shape F s).sc ≡ it ∷ v
+    → (seat_shape F s).c.live ≡ after F (seat_shape F s).done
+fresh_sc F (Covered s) it v e = cons_nil (sym e ∙ sc_stage F s)
+fresh_sc F (Is_beside s) it v e = cons_nil (sym e ∙ sc_stage F s.base)
+fresh_sc F (Is_away s) it v e = let none = (bare_facts F s.base s.bare).done in rw (none, append-nil s.d) refl

@@ -1,0 +1,115 @@
+-- Another move's pieces have nothing of the unit: at the source that cuts them, at the controller that keeps them, and so in all
+-- that it sends.
+use Rattle.std.proofs.Common.{◌≡◌, ℕ, false, None, Option, List, [], ◌∷◌, ◌++◌, map, refl, sym, ap, ◌∙◌}
+use Rattle.std.specs.Prelude.{is_some}
+use Rattle.nf_function.specs.declared.unit.Unit as units
+use Rattle.record_table.specs.Table.{is_among}
+use Rattle.nf_msgs.specs.declared.answer.Answer.{Answer}
+pub use Rattle.actor_net.proofs.WeightLaws.{Each, each-append}
+use Rattle.move_op.specs.Phases.{Streaming}
+use Rattle.move_op.specs.Table.{Said, Nothing, Remove, Restore, Ask, Put, Release, Give_back}
+use Rattle.proof_machines.proofs.unit.UnitPieces.{nil_left, nil_right}
+use Rattle.proof_machines.proofs.unit.Real.{Chunks, record_at, RPiece, chunks_of, Msg, M_delete, M_put, M_restore, M_piece, M_put_no, M_install, M_fence_to}
+use Rattle.proof_machines.proofs.unit.Real.{RPhase, Op, OperationTurn, r_words, put_to, forward_to, sends_of, r_from_source, r_from_destination}
+use Rattle.proof_machines.proofs.unit.TableRows.{PhaseHas, SaidHas, Hold, Any, any_each, any_door}
+use Rattle.proof_machines.proofs.unit.RealRows.{Brings, BringsBack, from_source_holds, from_destination_holds}
+use Rattle.proof_machines.proofs.unit.Seen.{is_among-units, record_at-append}
+use Rattle.proof_machines.proofs.unit.Cuts.{all_at, all_at-append, record_first, joined_up, marks}
+
+pub each_map : {X : Type 0} {P Q : X → Type 0} → ((x : X) → P x → Q x) → (xs : List X) → Each P xs → Each Q xs
+each_map g [] h = tt
+each_map g (x ∷ xs) h = (g x h.0, each_map g xs h.1)
+
+pub each_both : {X : Type 0} {P Q T : X → Type 0} → ((x : X) → P x → Q x → T x) → (xs : List X) → Each P xs → Each Q xs → Each T xs
+each_both g [] p q = tt
+each_both g (x ∷ xs) p q = (g x p.0 q.0, each_both g xs p.1 q.1)
+
+pub each_any : {X : Type 0} (xs : List X) → Each (λ _. Unit {0}) xs
+each_any [] = tt
+each_any (x ∷ xs) = (tt, each_any xs)
+
+abbrev pub Without : {R : Type 0} → units.Unit → RPiece R → Type 0
+Without u p = record_at u p.chunks ≡ None
+
+abbrev pub Foreign : {R : Type 0} → units.Unit → Msg R → Type 0
+Foreign u (M_delete o us) = is_among us u ≡ false
+Foreign u (M_put o p first) = Without u p
+Foreign u (M_restore o cs) = record_at u cs ≡ None
+Foreign u (M_piece o p) = Without u p
+Foreign u (M_put_no o why cs) = record_at u cs ≡ None
+Foreign u m = Unit {0}
+
+abbrev pub SentForeign : {R : Type 0} → units.Unit → ℕ × Msg R → Type 0
+SentForeign u x = Foreign u x.1
+
+abbrev pub Clean : {R : Type 0} → units.Unit → RPhase R → Type 0
+Clean u (Streaming fz fr came door) = Each (Without u) fz × Each (Without u) fr
+Clean u phase = Unit {0}
+
+abbrev pub StaysClean : {R : Type 0} → units.Unit → OperationTurn R → Type 0
+StaysClean u did = Clean u did.phase × Each (SentForeign u) did.sends
+
+-- the pieces that a source cuts for another filter
+pub cut_foreign : {R : Type 0} (u : units.Unit) (total newest : ℕ) (cs : List (Chunks R)) → all_at u (joined_up cs) ≡ []
+    → Each (Without u) (marks total newest cs)
+cut_foreign u total newest [] e = tt
+cut_foreign u total newest (c ∷ cs) e =
+    let both : all_at u c ++ all_at u (joined_up cs) ≡ [] = sym (all_at-append u c (joined_up cs)) ∙ e in
+    let none = nil_left (all_at u c) (all_at u (joined_up cs)) both in
+    (record_first u c ∙ rw none refl, cut_foreign u total newest cs (nil_right (all_at u c) (all_at u (joined_up cs)) both))
+
+pieces_foreign : {R : Type 0} (u : units.Unit) (ps : List (RPiece R)) → Each (Without u) ps → record_at u (chunks_of ps) ≡ None
+pieces_foreign u [] e = refl
+pieces_foreign u (p ∷ ps) e = let a = e.0 in let b = pieces_foreign u ps e.1 in record_at-append u p.chunks (chunks_of ps) ∙ rw (a, b) refl
+
+puts_foreign : {R : Type 0} (u : units.Unit) (o : Op) (ps : List (RPiece R)) → Each (Without u) ps → Each (SentForeign u) (map (put_to o) ps)
+puts_foreign u o [] e = tt
+puts_foreign u o (p ∷ ps) e = (e.0, puts_foreign u o ps e.1)
+
+forwards_foreign : (R : Type 0) (u : units.Unit) (to : ℕ) (f : List ℕ) → Each (SentForeign u) (map (forward_to {R = R} to) f)
+forwards_foreign R u to [] = tt
+forwards_foreign R u to (p ∷ f) = (tt, forwards_foreign R u to f)
+
+module _ {R : Type 0} (u : units.Unit) (o : Op) where
+  said_foreign : (said : Said ℕ (RPiece R)) → SaidHas (Any ℕ) (Without u) said → Each (SentForeign u) (sends_of o said)
+  said_foreign Nothing h = tt
+  said_foreign (Remove p) h = (is_among-units u p.chunks ∙ ap is_some h, tt)
+  said_foreign (Restore ps) h = (pieces_foreign u ps h, tt)
+  said_foreign (Ask p) h = (h, tt)
+  said_foreign (Put ps) h = puts_foreign u o ps h
+  said_foreign (Release f) h =
+      each-append (SentForeign {R = R} u) (map (forward_to o.dst) f) ((0, M_install o.num o.src o.dst) ∷ []) (forwards_foreign R u o.dst f) (tt, tt)
+  said_foreign (Give_back f) h =
+      each-append (SentForeign {R = R} u) (map (forward_to o.src) f) ((0, M_fence_to o.num o.src) ∷ []) (forwards_foreign R u o.src f) (tt, tt)
+  said_foreign said h = (tt, tt)
+
+  has_none : (phase : RPhase R) → Clean u phase → PhaseHas (Without u) (Any Answer) (Any (Option Answer)) phase
+  has_none (Streaming fz fr came d) c = (c.0, (c.1, any_door d))
+  has_none phase c = tt
+
+  is_clean : (phase : RPhase R) → PhaseHas (Without u) (Any Answer) (Any (Option Answer)) phase → Clean u phase
+  is_clean (Streaming fz fr came d) h = (h.0, h.1.0)
+  is_clean phase h = tt
+
+  all_clean : (f : List ℕ) → Hold (r_words {R = R} o f) (Any ℕ) (Without u) (Any Answer) (Any (Option Answer)) (StaysClean u) (StaysClean u)
+  all_clean f = record {
+    done = tt;
+    refused = λ why x. tt;
+    next = λ ph said x y. (is_clean ph x, said_foreign said y);
+    keeps = λ h. h;
+    stores = λ ps all h. h;
+  }
+
+  brings : (m : Msg R) → Foreign u m → Brings (Any ℕ) (Without u) m
+  brings (M_piece n p) w = w
+  brings m w = tt
+
+  brings_back : (m : Msg R) → Foreign u m → BringsBack (Without u) (Any Answer) m
+  brings_back (M_put_no n why cs) w = (tt, λ last. w)
+  brings_back m w = tt
+
+  pub from_source_clean : (phase : RPhase R) (f : List ℕ) (m : Msg R) → Clean u phase → Foreign u m → StaysClean u (r_from_source o phase f m)
+  from_source_clean phase f m c w = from_source_holds (all_clean f) (any_each f) phase (has_none phase c) m (brings m w)
+
+  pub from_destination_clean : (phase : RPhase R) (f : List ℕ) (m : Msg R) → Clean u phase → Foreign u m → StaysClean u (r_from_destination o phase f m)
+  from_destination_clean phase f m c w = from_destination_holds (all_clean f) (any_each f) phase (has_none phase c) m (brings_back m w)

@@ -1,0 +1,171 @@
+-- Laws over `++` of the lists in a stage: processed packets, plain packets mixed with passed ones, and events mixed with pieces and
+-- Deleteds.
+use Rattle.std.proofs.Common.{◌≡◌, ℕ, Bool, true, false, Option, None, Some, List, [], ◌∷◌, ◌++◌, map, refl, ap}
+use Rattle.std.specs.Prelude.{if◌then◌else◌, is_some}
+use Rattle.proof_machines.proofs.unit.Machine.{Where, Ran, on, Steps, runs, Part, Item, Carry, Pass, Event, Piece, Deleted, is_nil}
+
+pub nil_is : {X : Type 0} (xs : List X) → is_nil xs ≡ true → xs ≡ []
+nil_is [] e = refl
+nil_is (x ∷ xs) e = cc
+
+pub none_is : {X : Type 0} (o : Option X) → is_some o ≡ false → o ≡ None
+none_is None e = refl
+none_is (Some x) e = cc
+
+pub runs-append : {R : Type 0} (F : Steps R) (o : Option R) (d e : List Ran) → runs F o (d ++ e) ≡ runs F (runs F o d) e
+runs-append F o [] e = refl
+runs-append F o (x ∷ d) e = runs-append F (Some (F.step o x.0)) d e
+
+-- the packets of what was processed
+abbrev pub firsts : List Ran → List ℕ
+firsts [] = []
+firsts (x ∷ xs) = x.0 ∷ firsts xs
+
+pub firsts-append : (d e : List Ran) → firsts (d ++ e) ≡ firsts d ++ firsts e
+firsts-append [] e = refl
+firsts-append (x ∷ d) e = ap (λ z. x.0 ∷ z) (firsts-append d e)
+
+pub firsts-on : (w : Where) (h : List ℕ) → firsts (map (on w) h) ≡ h
+firsts-on w [] = refl
+firsts-on w (x ∷ h) = ap (λ z. x ∷ z) (firsts-on w h)
+
+-- pass and plain packets mixed: true is a pass
+abbrev pub marked : {R : Type 0} → Bool × ℕ → Item R
+marked x = if x.0 then Pass x.1 else Carry x.1
+
+abbrev pub passing : ℕ → Bool × ℕ
+passing p = (true, p)
+
+abbrev pub plain : ℕ → Bool × ℕ
+plain p = (false, p)
+
+abbrev pub passes : List (Bool × ℕ) → List ℕ
+passes [] = []
+passes (x ∷ xs) = if x.0 then x.1 ∷ passes xs else passes xs
+
+abbrev pub plains : List (Bool × ℕ) → List ℕ
+plains [] = []
+plains (x ∷ xs) = if x.0 then plains xs else x.1 ∷ plains xs
+
+pub passes-append : (xs ys : List (Bool × ℕ)) → passes (xs ++ ys) ≡ passes xs ++ passes ys
+passes-append [] ys = refl
+passes-append (x ∷ xs) ys =
+    elim x.0 as (λ b. (if b then x.1 ∷ passes (xs ++ ys) else passes (xs ++ ys)) ≡ (if b then x.1 ∷ passes xs else passes xs) ++ passes ys) [
+      | true ↦ ap (λ z. x.1 ∷ z) (passes-append xs ys)
+      | false ↦ passes-append xs ys
+    ]
+
+pub plains-append : (xs ys : List (Bool × ℕ)) → plains (xs ++ ys) ≡ plains xs ++ plains ys
+plains-append [] ys = refl
+plains-append (x ∷ xs) ys =
+    elim x.0 as (λ b. (if b then plains (xs ++ ys) else x.1 ∷ plains (xs ++ ys)) ≡ (if b then plains xs else x.1 ∷ plains xs) ++ plains ys) [
+      | true ↦ plains-append xs ys
+      | false ↦ ap (λ z. x.1 ∷ z) (plains-append xs ys)
+    ]
+
+pub passes-passing : (xs : List ℕ) → passes (map passing xs) ≡ xs
+passes-passing [] = refl
+passes-passing (x ∷ xs) = ap (λ z. x ∷ z) (passes-passing xs)
+
+pub plains-passing : (xs : List ℕ) → plains (map passing xs) ≡ []
+plains-passing [] = refl
+plains-passing (x ∷ xs) = plains-passing xs
+
+pub passes-plain : (xs : List ℕ) → passes (map plain xs) ≡ []
+passes-plain [] = refl
+passes-plain (x ∷ xs) = passes-plain xs
+
+pub plains-plain : (xs : List ℕ) → plains (map plain xs) ≡ xs
+plains-plain [] = refl
+plains-plain (x ∷ xs) = ap (λ z. x ∷ z) (plains-plain xs)
+
+pub marked-passing : {R : Type 0} (xs : List ℕ) → map (marked {R = R}) (map passing xs) ≡ map Pass xs
+marked-passing [] = refl
+marked-passing (x ∷ xs) = ap (λ z. Pass x ∷ z) (marked-passing xs)
+
+pub marked-plain : {R : Type 0} (xs : List ℕ) → map (marked {R = R}) (map plain xs) ≡ map Carry xs
+marked-plain [] = refl
+marked-plain (x ∷ xs) = ap (λ z. Carry x ∷ z) (marked-plain xs)
+
+-- the link from the source while the move streams: events, pieces and the Deleteds of pieces that the controller keeps
+pub data Mix (R : Type 0) : Type 0 where
+  Ev : ℕ → Mix R
+  Pc : Part R → Mix R
+  Dd : Part R → Mix R
+
+abbrev pub shown : {R : Type 0} → Mix R → Item R
+shown (Ev p) = Event p
+shown (Pc h) = Piece h
+shown (Dd h) = Deleted
+
+abbrev pub events : {R : Type 0} → List (Mix R) → List ℕ
+events [] = []
+events (Ev p ∷ y) = p ∷ events y
+events (Pc h ∷ y) = events y
+events (Dd h ∷ y) = events y
+
+abbrev pub parts_in : {R : Type 0} → List (Mix R) → List (Part R)
+parts_in [] = []
+parts_in (Ev p ∷ y) = parts_in y
+parts_in (Pc h ∷ y) = h ∷ parts_in y
+parts_in (Dd h ∷ y) = parts_in y
+
+-- the pieces whose Deleted is on the link
+abbrev pub named : {R : Type 0} → List (Mix R) → List (Part R)
+named [] = []
+named (Ev p ∷ y) = named y
+named (Pc h ∷ y) = named y
+named (Dd h ∷ y) = h ∷ named y
+
+pub events-append : {R : Type 0} (x y : List (Mix R)) → events (x ++ y) ≡ events x ++ events y
+events-append [] y = refl
+events-append (Ev p ∷ x) y = ap (λ z. p ∷ z) (events-append x y)
+events-append (Pc h ∷ x) y = events-append x y
+events-append (Dd h ∷ x) y = events-append x y
+
+pub pieces-append : {R : Type 0} (x y : List (Mix R)) → parts_in (x ++ y) ≡ parts_in x ++ parts_in y
+pieces-append [] y = refl
+pieces-append (Ev p ∷ x) y = pieces-append x y
+pieces-append (Pc h ∷ x) y = ap (λ z. h ∷ z) (pieces-append x y)
+pieces-append (Dd h ∷ x) y = pieces-append x y
+
+pub named-append : {R : Type 0} (x y : List (Mix R)) → named (x ++ y) ≡ named x ++ named y
+named-append [] y = refl
+named-append (Ev p ∷ x) y = named-append x y
+named-append (Pc h ∷ x) y = named-append x y
+named-append (Dd h ∷ x) y = ap (λ z. h ∷ z) (named-append x y)
+
+-- the link as Stream leaves it
+pub events-sent : {R : Type 0} (e : List ℕ) (ps : List (Part R)) → events (map Ev e ++ map Pc ps) ≡ e
+events-sent [] [] = refl
+events-sent [] (p ∷ ps) = events-sent [] ps
+events-sent (x ∷ e) ps = ap (λ z. x ∷ z) (events-sent e ps)
+
+pub pieces-sent : {R : Type 0} (e : List ℕ) (ps : List (Part R)) → parts_in (map Ev e ++ map Pc ps) ≡ ps
+pieces-sent [] [] = refl
+pieces-sent [] (p ∷ ps) = ap (λ z. p ∷ z) (pieces-sent [] ps)
+pieces-sent (x ∷ e) ps = pieces-sent e ps
+
+pub named-sent : {R : Type 0} (e : List ℕ) (ps : List (Part R)) → named (map Ev e ++ map Pc ps) ≡ []
+named-sent [] [] = refl
+named-sent [] (p ∷ ps) = named-sent [] ps
+named-sent (x ∷ e) ps = named-sent e ps
+
+pub shown-sent : {R : Type 0} (e : List ℕ) (ps : List (Part R)) → map shown (map Ev e ++ map Pc ps) ≡ map Event e ++ map Piece ps
+shown-sent [] [] = refl
+shown-sent [] (p ∷ ps) = ap (λ z. Piece p ∷ z) (shown-sent [] ps)
+shown-sent (x ∷ e) ps = ap (λ z. Event x ∷ z) (shown-sent e ps)
+
+pub cons_nil : {X Y : Type 0} {x : X} {xs : List X} → x ∷ xs ≡ [] → Y
+cons_nil e = cc
+
+pub map_nil : {X Y : Type 0} (g : X → Y) (xs : List X) → map g xs ≡ [] → xs ≡ []
+map_nil g [] e = refl
+map_nil g (x ∷ xs) e = cons_nil e
+
+-- where no piece and no Deleted is left, the link has events alone
+pub shown-events : {R : Type 0} (y : List (Mix R)) → named y ≡ [] → parts_in y ≡ [] → map shown y ≡ map Event (events y)
+shown-events [] n p = refl
+shown-events (Ev x ∷ y) n p = ap (λ z. Event x ∷ z) (shown-events y n p)
+shown-events (Pc h ∷ y) n p = cons_nil p
+shown-events (Dd h ∷ y) n p = cons_nil n

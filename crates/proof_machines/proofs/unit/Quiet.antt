@@ -1,0 +1,95 @@
+-- A row of another move shows the unit nothing: what it sends isn't seen, and it still keeps no packet of the unit.
+use Rattle.std.proofs.Common.{◌≡◌, ℕ, Bool, true, false, None, Option, List, [], ◌∷◌, map, refl}
+use Rattle.std.specs.Prelude.{if◌then◌else◌, ◌==◌}
+use Rattle.nf_msgs.specs.declared.answer.Answer.{Answer}
+use Rattle.move_op.specs.Table.{Said, Nothing, Put, Forward, Release, Give_back}
+use Rattle.proof_machines.proofs.unit.Real.{RPiece, Msg, M_event, M_put_no, M_install, M_fence_to, RPhase, Op, OperationTurn, r_words, put_to, forward_to}
+use Rattle.proof_machines.proofs.unit.Real.{sends_of, r_from_source, r_from_destination, Frame, where_true, seen, view, only_mine, sent_for}
+use Rattle.proof_machines.proofs.unit.Labels.{Each, each-append}
+use Rattle.proof_machines.proofs.unit.Lists.{cons_nil}
+use Rattle.proof_machines.proofs.unit.TableRows.{Hold, SaidHas, Any, any_phase}
+use Rattle.proof_machines.proofs.unit.RealRows.{Brings, BringsBack, from_source_holds, from_destination_holds}
+
+abbrev pub Unseen : {R : Type 0} → Frame → ℕ × Msg R → Type 0
+Unseen v x = seen v x.1 ≡ None
+
+abbrev pub Is_quiet : {R : Type 0} → Frame → OperationTurn R → Type 0
+Is_quiet v did = Each (Unseen v) did.sends × (only_mine v did.store ≡ [])
+
+-- nothing is seen at any receiver
+pub view_nothing : {R : Type 0} (v : Frame) (y : ℕ) (xs : List (ℕ × Msg R)) → Each (Unseen v) xs → view v (sent_for y xs) ≡ []
+view_nothing v y [] e = refl
+view_nothing v y (x ∷ xs) e =
+    elim (x.0 == y) as (λ b. view v (if b then x.1 ∷ sent_for y xs else sent_for y xs) ≡ []) [
+      | true ↦ (let none = e.0 in rw none (view_nothing v y xs e.1))
+      | false ↦ view_nothing v y xs e.1
+    ]
+
+unseen_if : {X : Type 0} (b : Bool) (x : X) → b ≡ false → where_true b x ≡ None
+unseen_if true x e = let never : true ≡ false = e in cc
+unseen_if false x e = refl
+
+-- a packet of another unit
+abbrev pub Other : Frame → ℕ → Type 0
+Other v p = v.mine p ≡ false
+
+-- a list that keeps no packet of the unit
+none_mine : (v : Frame) (f : List ℕ) → only_mine v f ≡ [] → Each (Other v) f
+none_mine v [] e = tt
+none_mine v (p ∷ f) e = elim (v.mine p)
+    as (λ b. v.mine p ≡ b → (if b then p ∷ only_mine v f else only_mine v f) ≡ [] → (v.mine p ≡ false) × Each (Other v) f) [
+      | true ↦ λ is some. cons_nil some
+      | false ↦ λ off rest. (off, none_mine v f rest)
+    ] refl e
+
+only_none : (v : Frame) (f : List ℕ) → Each (Other v) f → only_mine v f ≡ []
+only_none v [] h = refl
+only_none v (p ∷ f) h = let off = h.0 in rw off (only_none v f h.1)
+
+forwards_unseen : (R : Type 0) (v : Frame) (to : ℕ) (f : List ℕ) → Each (Other v) f → Each (Unseen {R = R} v) (map (forward_to to) f)
+forwards_unseen R v to [] h = tt
+forwards_unseen R v to (p ∷ f) h = (unseen_if (v.mine p) _ h.0, forwards_unseen R v to f h.1)
+
+module _ {R : Type 0} (v : Frame) (o : Op) (other : (o.num == v.move) ≡ false) where
+  puts_unseen : (fr : List (RPiece R)) → Each (Unseen v) (map (put_to o) fr)
+  puts_unseen [] = tt
+  puts_unseen (p ∷ fr) = (unseen_if (o.num == v.move) _ other, puts_unseen fr)
+
+  said_unseen : (said : Said ℕ (RPiece R)) → SaidHas (Other v) (Any (RPiece R)) said → Each (Unseen v) (sends_of o said)
+  said_unseen Nothing h = tt
+  said_unseen (Put ps) h = puts_unseen ps
+  said_unseen (Forward p) h = (unseen_if (v.mine p) _ h, tt)
+  said_unseen (Release f) h = each-append (Unseen {R = R} v) (map (forward_to o.dst) f) ((0, M_install o.num o.src o.dst) ∷ [])
+      (forwards_unseen R v o.dst f h) (unseen_if (o.num == v.move) _ other, tt)
+  said_unseen (Give_back f) h = each-append (Unseen {R = R} v) (map (forward_to o.src) f) ((0, M_fence_to o.num o.src) ∷ [])
+      (forwards_unseen R v o.src f h) (unseen_if (o.num == v.move) _ other, tt)
+  said_unseen said h = (unseen_if (o.num == v.move) _ other, tt)
+
+  all_quiet : (f : List ℕ) → only_mine v f ≡ []
+      → Hold (r_words o f) (Other v) (Any (RPiece R)) (Any Answer) (Any (Option Answer)) (Is_quiet v) (Is_quiet v)
+  all_quiet f e = record {
+    done = tt;
+    refused = λ why x. tt;
+    next = λ ph said x y. (said_unseen said y, e);
+    keeps = λ h. h;
+    stores = λ ps all h. (h.0, only_none v ps all);
+  }
+
+  -- an event of the unit has the number of its own move
+  abbrev pub IsNotMine : Msg R → Type 0
+  IsNotMine (M_event n p) = v.mine p ≡ false
+  IsNotMine m = Unit {0}
+
+  brings : (m : Msg R) → IsNotMine m → Brings (Other v) (Any (RPiece R)) m
+  brings (M_event n p) h = h
+  brings m h = tt
+
+  brings_back : (m : Msg R) → BringsBack (Any (RPiece R)) (Any Answer) m
+  brings_back (M_put_no n why cs) = (tt, λ last. tt)
+  brings_back m = tt
+
+  pub from_source_quiet : (phase : RPhase R) (f : List ℕ) (m : Msg R) → IsNotMine m → only_mine v f ≡ [] → Is_quiet v (r_from_source o phase f m)
+  from_source_quiet phase f m h e = from_source_holds (all_quiet f e) (none_mine v f e) phase (any_phase phase) m (brings m h)
+
+  pub from_destination_quiet : (phase : RPhase R) (f : List ℕ) (m : Msg R) → only_mine v f ≡ [] → Is_quiet v (r_from_destination o phase f m)
+  from_destination_quiet phase f m e = from_destination_holds (all_quiet f e) (none_mine v f e) phase (any_phase phase) m (brings_back m)

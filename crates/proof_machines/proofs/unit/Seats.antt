@@ -1,0 +1,128 @@
+-- Seats: a unit that the move covers, one that its destination owns already, one of a third instance. Each step leads from a seat to
+-- a seat, and without a message the move is over.
+use Rattle.std.proofs.Common.{◌≡◌, ℕ, ◌+◌, Bool, true, false, List, [], ◌∷◌, ◌++◌, refl, sym, ap, ◌∙◌, arith}
+use Rattle.proof_machines.proofs.unit.Machine.{Where, At_b, At_c, Ran, Steps, Free, Item, Carry, State, MachineStep, moved}
+use Rattle.proof_machines.proofs.unit.Stages.{Stage, At_rest, shape, path, processed, all_of, loose, side_of, IsOrderedAs, Placed, Allowed, arrived_by}
+use Rattle.proof_machines.proofs.unit.Steps.{goes_on}
+use Rattle.proof_machines.proofs.unit.Away.{Away, shape_away, all_away, away_goes_on}
+use Rattle.proof_machines.proofs.unit.DestinationUnits.{DestinationUnit, strip, shape_beside, all_beside, beside_goes_on}
+use Rattle.proof_machines.proofs.unit.Path.{carries}
+use Rattle.proof_machines.proofs.unit.Falls.{weigh}
+use Rattle.proof_machines.proofs.unit.Controls.{control, controls, single, one_message, never_true}
+use Rattle.proof_machines.proofs.unit.Rests.{is_over, Silent, rests, none_carried}
+
+pub data UnitSeat {R : Type 0} (F : Steps R) : Type 0 where
+  Covered : Stage F → UnitSeat F
+  Is_beside : DestinationUnit F → UnitSeat F
+  Is_away : Away F → UnitSeat F
+
+-- whether the move covers the unit
+abbrev pub is_covered : {R : Type 0} {F : Steps R} → UnitSeat F → Bool
+is_covered (Covered s) = true
+is_covered (Is_beside s) = false
+is_covered (Is_away s) = false
+
+abbrev pub seat_shape : {R : Type 0} → (F : Steps R) → UnitSeat F → State R
+seat_shape F (Covered s) = shape F s
+seat_shape F (Is_beside s) = shape_beside F s
+seat_shape F (Is_away s) = shape_away F s
+
+abbrev pub seat_all : {R : Type 0} {F : Steps R} → UnitSeat F → List ℕ
+seat_all (Covered s) = all_of s
+seat_all (Is_beside s) = all_beside s
+seat_all (Is_away s) = all_away s
+
+abbrev pub seat_done : {R : Type 0} {F : Steps R} → UnitSeat F → List Ran
+seat_done (Covered s) = processed s
+seat_done (Is_beside s) = s.d
+seat_done (Is_away s) = s.d
+
+abbrev pub seat_side : {R : Type 0} {F : Steps R} → UnitSeat F → Where
+seat_side (Covered s) = side_of s
+seat_side (Is_beside s) = At_b
+seat_side (Is_away s) = At_c
+
+abbrev pub seat_loose : {R : Type 0} {F : Steps R} → UnitSeat F → Bool
+seat_loose (Covered s) = loose s
+seat_loose (Is_beside s) = false
+seat_loose (Is_away s) = false
+
+-- where the move's own message stands
+abbrev pub base_of : {R : Type 0} {F : Steps R} → UnitSeat F → Stage F
+base_of (Covered s) = s
+base_of (Is_beside s) = s.base
+base_of (Is_away s) = s.base
+
+abbrev pub SeatGoesOn : {R : Type 0} → (F : Steps R) → UnitSeat F → MachineStep R → Type 0
+SeatGoesOn F s m = (t : UnitSeat F) × (moved F (seat_shape F s) m ≡ seat_shape F t) × IsOrderedAs (seat_loose t) (seat_all t) (seat_all s ++ arrived_by m)
+    × Placed (seat_side s) (seat_done s) (seat_done t)
+
+-- what the source is asked for is the same in all three
+pub seat_allowed : {R : Type 0} (F : Steps R) (s : UnitSeat F) → (seat_shape F s).a.live ≡ (shape F (base_of s)).a.live
+seat_allowed F (Covered s) = refl
+seat_allowed F (Is_beside s) = refl
+seat_allowed F (Is_away s) = refl
+
+pub seat_goes_on : {R : Type 0} (F : Steps R) (s : UnitSeat F) (m : MachineStep R) → Allowed (shape F (base_of s)) m → SeatGoesOn F s m
+seat_goes_on F (Covered s) m a = let g = goes_on F s m a in (Covered g.0, g.1, g.2, g.3)
+seat_goes_on F (Is_beside s) m a = let g = beside_goes_on F s m a in (Is_beside g.0, g.1, g.2, g.3)
+seat_goes_on F (Is_away s) m a = let g = away_goes_on F s m a in (Is_away g.0, g.1, g.2, g.3)
+
+-- whichever step it takes
+pub covered_stays : {R : Type 0} (F : Steps R) (s : UnitSeat F) (m : MachineStep R) (a : Allowed (shape F (base_of s)) m)
+    → is_covered (seat_goes_on F s m a).0 ≡ is_covered s
+unfolding seat_goes_on
+covered_stays F (Covered s) m a = refl
+covered_stays F (Is_beside s) m a = refl
+covered_stays F (Is_away s) m a = refl
+
+-- the controller's phase is that of the message
+pub seat_phase : {R : Type 0} (F : Steps R) (s : UnitSeat F) → (seat_shape F s).phase ≡ (shape F (base_of s)).phase
+seat_phase F (Covered s) = refl
+seat_phase F (Is_beside s) = refl
+seat_phase F (Is_away s) = refl
+
+-- and outside Streaming it is one message, whichever unit looks
+stripped : {R : Type 0} (z : List (Item R)) → weigh control z ≡ weigh control (strip z)
+stripped [] = refl
+stripped (Carry p ∷ z) = let e = stripped z in omega arith
+stripped (x ∷ z) = ap (λ n. control x + n) (stripped z)
+
+pub seat_message : {R : Type 0} (F : Steps R) (s : UnitSeat F) → single (seat_shape F s).phase ≡ true → controls (seat_shape F s) ≡ 1
+seat_message F (Covered s) i = one_message F s i
+seat_message F (Is_away s) i = one_message F s.base i
+seat_message F (Is_beside s) i = let e = one_message F s.base i in let z = stripped s.z in let y = s.strips in rw (z, y) e
+
+-- no message anywhere: the move has ended, whichever unit looks
+strip_nil : {R : Type 0} (z : List (Item R)) → z ≡ [] → strip z ≡ []
+strip_nil z e = rw e refl
+
+pub seat_rests : {R : Type 0} (F : Steps R) (s : UnitSeat F) → Silent (seat_shape F s) → is_over (seat_shape F s).phase ≡ true
+seat_rests F (Covered s) h = (rests F s h).0
+seat_rests F (Is_away s) h = (rests F s.base (record { sa = h.sa; sb = h.sb; ac = h.ac; bc = h.bc; ca = h.ca; cb = h.cb; cs = h.cs })).0
+seat_rests F (Is_beside s) h =
+    (rests F s.base (record { sa = h.sa; sb = sym s.strips ∙ strip_nil s.z h.sb; ac = h.ac; bc = h.bc; ca = h.ca; cb = h.cb; cs = h.cs })).0
+
+pub over_free : {R : Type 0} (F : Steps R) (s : Stage F) → is_over (shape F s).phase ≡ true → (shape F s).b.rule ≡ Free
+over_free F (At_rest d l k) e = refl
+over_free F s e = search (never_true)
+
+-- what has arrived and isn't processed
+abbrev pub seat_path : {R : Type 0} {F : Steps R} → UnitSeat F → List ℕ
+seat_path (Covered s) = path s
+seat_path (Is_beside s) = s.h ++ carries s.z
+seat_path (Is_away s) = s.l
+
+no_carry : {R : Type 0} (z : List (Item R)) → z ≡ [] → carries z ≡ []
+no_carry z e = rw e refl
+
+-- and no packet is left
+pub seat_complete : {R : Type 0} (F : Steps R) (s : UnitSeat F) → Silent (seat_shape F s) → (seat_shape F s).sc ≡ []
+    → (is_over (seat_shape F s).phase ≡ true) × (seat_path s ≡ [])
+seat_complete F (Covered s) h c = rests F s h
+seat_complete {R = R} F (Is_away s) h c = (seat_rests F (Is_away s) h, none_carried R s.l c)
+seat_complete F (Is_beside s) h c =
+    let over = seat_rests F (Is_beside s) h in
+    let none = s.free (over_free F s.base over) in
+    let z = no_carry s.z h.sb in
+    (over, rw (none, z) refl)

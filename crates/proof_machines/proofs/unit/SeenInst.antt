@@ -1,0 +1,108 @@
+-- Of an instance's rows on pieces one unit sees the machine's instance. Of the table that needs four laws of look-ups.
+use Rattle.std.proofs.Common.{◌≡◌, ℕ, Bool, true, false, Option, Some, None, List, [], ◌∷◌, map, length, refl, ap, ◌∙◌}
+use Rattle.std.specs.Prelude.{if◌then◌else◌, ◌==◌, option_to_list}
+use Rattle.nf_function.specs.declared.unit.Unit as units
+use Rattle.record_table.specs.Table.{is_among}
+use Rattle.nf_msgs.specs.declared.answer.Answer.{Answer}
+use Rattle.proof_machines.proofs.unit.Machine.{Where, Steps, joined, Part, Stream, Delete, Put, Restore, Inst, Did, inst_does}
+use Rattle.proof_machines.proofs.unit.UnitPieces.{ArePiecesOf}
+use Rattle.proof_machines.proofs.unit.Real.{Chunks, record_at, RPiece, Msg, M_piece, M_deleted, M_put_ok, M_put_no, M_restored, Frame, see, view}
+use Rattle.proof_machines.proofs.unit.Cuts.{all_at, marks, chop, chopped_fits, view_pieces}
+
+-- a table, by look-ups
+pub record Tables (R : Type 0) : Type 1 where
+  pub T : Type 0
+  pub at : units.Unit → T → Option R
+  pub select : (units.Unit → Bool) → T → Chunks R
+  pub remove : List units.Unit → T → T
+  pub import : Chunks R → T → T
+  pub restore : Chunks R → T → T
+
+pub record Laws {R : Type 0} (F : Steps R) (B : Tables R) : Type 0 where
+  pub selected : (u : units.Unit) (g : units.Unit → Bool) (t : B.T) → all_at u (B.select g t) ≡ option_to_list (if g u then B.at u t else None)
+  pub removed : (u : units.Unit) (us : List units.Unit) (t : B.T) → B.at u (B.remove us t) ≡ (if is_among us u then None else B.at u t)
+  pub imported : (u : units.Unit) (cs : Chunks R) (t : B.T) → B.at u (B.import cs t) ≡ joined F (record_at u cs) (B.at u t)
+  pub restored : (u : units.Unit) (cs : Chunks R) (t : B.T) → B.at u (B.restore cs t) ≡ joined F (record_at u cs) (B.at u t)
+
+module _ {R : Type 0} (F : Steps R) (B : Tables R) where
+  abbrev pub r_stream : ℕ → ℕ → ℕ → (units.Unit → Bool) → B.T → B.T × List (Msg R)
+  r_stream o total newest g t = (t, map (λ p. M_piece o p) (marks total newest (chop (length (B.select g t)) (B.select g t))))
+
+  abbrev pub r_delete : ℕ → List units.Unit → B.T → B.T × List (Msg R)
+  r_delete o us t = (B.remove us t, M_deleted o ∷ [])
+
+  abbrev pub r_restore : ℕ → Chunks R → B.T → B.T × List (Msg R)
+  r_restore o cs t = (B.restore cs t, M_restored o ∷ [])
+
+  -- a put; why a first piece is refused comes from the whole table
+  abbrev pub r_put : ℕ → Bool → Option Answer → RPiece R → B.T → B.T × List (Msg R)
+  r_put o false refuse p t = (B.restore p.chunks t, if p.last then M_put_ok o ∷ [] else [])
+  r_put o true None p t = (B.import p.chunks t, M_put_ok o ∷ [])
+  r_put o true (Some why) p t = (t, M_put_no o why p.chunks ∷ [])
+
+  -- the record of the unit, what is sent, and nothing else of it
+  pub record SeesInstance (v : Frame) (i : Inst R) (real : B.T × List (Msg R)) (did : Did R) : Type 0 where
+    pub live : B.at v.unit real.0 ≡ did.inst.live
+    pub rule : did.inst.rule ≡ i.rule
+    pub held : did.inst.held ≡ i.held
+    pub to_c : view v real.1 ≡ did.to_c
+    pub ran : did.ran ≡ []
+
+  module _ (laws : Laws F B) (w : Where) (v : Frame) (i : Inst R) (t : B.T) (is : B.at v.unit t ≡ i.live) (same : (v.move == v.move) ≡ true) where
+    -- the pieces that this source sends
+    abbrev pub parts_of : ℕ → ℕ → (units.Unit → Bool) → List (Part R)
+    parts_of total newest g = map (see v) (marks total newest (chop (length (B.select g t)) (B.select g t)))
+
+    pub stream_seen : (total newest : ℕ) (g : units.Unit → Bool) (refuse : Option Answer) → g v.unit ≡ true → SeesInstance v i
+        (r_stream v.move total newest g t) (inst_does F w (parts_of total newest g) refuse i Stream) × ArePiecesOf (parts_of total newest g) i.live
+    stream_seen total newest g refuse takes_it =
+        let xs = B.select g t in
+        let own : all_at v.unit xs ≡ option_to_list i.live = laws.selected v.unit g t ∙ rw (takes_it, is) refl in (
+          record { live = is; rule = refl; held = refl; to_c = view_pieces v (marks total newest (chop (length xs) xs)) same; ran = refl },
+          chopped_fits v total newest (length xs) xs i.live own,
+        )
+
+    pub delete_seen : (us : List units.Unit) (parts : List (Part R)) (refuse : Option Answer)
+        → SeesInstance v i (r_delete v.move us t) (inst_does F w parts refuse i (Delete (is_among us v.unit)))
+    delete_seen us parts refuse = record {
+      live = laws.removed v.unit us t ∙ ap (λ o. if is_among us v.unit then None else o) is;
+      rule = refl;
+      held = refl;
+      to_c = rw same refl;
+      ran = refl;
+    }
+
+    pub restore_seen : (cs : Chunks R) (parts : List (Part R)) (refuse : Option Answer)
+        → SeesInstance v i (r_restore v.move cs t) (inst_does F w parts refuse i (Restore (record_at v.unit cs)))
+    restore_seen cs parts refuse = record {
+      live = laws.restored v.unit cs t ∙ ap (λ o. joined F (record_at v.unit cs) o) is;
+      rule = refl;
+      held = refl;
+      to_c = rw same refl;
+      ran = refl;
+    }
+
+    pub put_seen : (p : RPiece R) (first last : Bool) (parts : List (Part R)) (refuse : Option Answer) → p.last ≡ last
+        → SeesInstance v i (r_put v.move first refuse p t) (inst_does F w parts refuse i (Put (see v p) first))
+    put_seen p false true parts refuse e = rw e (record {
+      live = laws.restored v.unit p.chunks t ∙ ap (λ o. joined F (record_at v.unit p.chunks) o) is;
+      rule = refl;
+      held = refl;
+      to_c = rw same refl;
+      ran = refl;
+    })
+    put_seen p false false parts refuse e = rw e (record {
+      live = laws.restored v.unit p.chunks t ∙ ap (λ o. joined F (record_at v.unit p.chunks) o) is;
+      rule = refl;
+      held = refl;
+      to_c = refl;
+      ran = refl;
+    })
+    put_seen p true last parts None e = record {
+      live = laws.imported v.unit p.chunks t ∙ ap (λ o. joined F (record_at v.unit p.chunks) o) is;
+      rule = refl;
+      held = refl;
+      to_c = rw same refl;
+      ran = refl;
+    }
+    put_seen p true last parts (Some why) e = record { live = is; rule = refl; held = refl; to_c = rw same refl; ran = refl }

@@ -1,0 +1,308 @@
+-- Where the packets of a unit stand at a seat: those at the instance that the switch sends it to come last, and each kind stands at
+-- one side.
+use Rattle.std.proofs.Common.{◌≡◌, ℕ, Bool, true, false, List, [], ◌∷◌, ◌++◌, map, refl, sym, ap, ◌∙◌, append_assoc, append-nil}
+use Rattle.proof_machines.proofs.unit.Machine.{Where, At_a, At_b, At_c, Steps, Item, Carry, Pass, Stray}
+use Rattle.proof_machines.proofs.unit.Machine.{Inst, Phase, Passing, Ending, Undoing, Over, State}
+use Rattle.proof_machines.proofs.unit.Lists.{firsts}
+use Rattle.proof_machines.proofs.unit.UnitPieces.{nil_left, nil_right}
+use Rattle.proof_machines.proofs.unit.Stages.{Stage, At_rest, Streams, Is_shut, Is_agreed, Laying, Turned, Fenced_a, Ending_b, Fence_b, Turned_loose}
+use Rattle.proof_machines.proofs.unit.Stages.{Fenced_loose, Ending_loose, Fence_loose, Fenced_b, Moved, shape, path, all_of, to_a, to_b}
+use Rattle.proof_machines.proofs.unit.Path.{passes_in, carries, events_in, forwards, path_of, path_is, passes_in-append, no_passes, all_carries, no_carries}
+use Rattle.proof_machines.proofs.unit.DestinationUnits.{strip, DestinationUnit, shape_beside}
+use Rattle.proof_machines.proofs.unit.Away.{Away, shape_away}
+use Rattle.proof_machines.proofs.unit.Rests.{is_over}
+use Rattle.proof_machines.proofs.unit.Seats.{UnitSeat, Covered, Is_beside, Is_away, seat_shape, seat_path}
+
+-- what an instance holds, and behind it what comes to it by the rules
+abbrev pub at_side : {R : Type 0} → Inst R → List (Item R) → List ℕ
+at_side i link = i.held ++ carries link
+
+-- the path, with what stands at instances in this order
+abbrev pub places : {R : Type 0} → State R → List ℕ → List ℕ
+places x last = passes_in x.sa ++ (passes_in x.sb ++ (forwards x.cs ++ (x.store ++ (events_in x.ac ++ last))))
+
+-- one of two lists has nothing
+pub data OneOf (xs ys : List ℕ) : Type 0 where
+  First : ys ≡ [] → OneOf xs ys
+  Second : xs ≡ [] → OneOf xs ys
+
+-- nothing goes to another than A and B
+abbrev pub is_known : {R : Type 0} → List (Item R) → Bool
+is_known [] = true
+is_known (Stray ∷ xs) = false
+is_known (_ ∷ xs) = is_known xs
+
+-- what the controller stored has gone on, or nothing was stored yet
+abbrev pub is_released : {R : Type 0} → Phase R → Bool
+is_released Passing = true
+is_released Ending = true
+is_released (Undoing why) = true
+is_released (Over why) = true
+is_released phase = false
+
+-- last comes what stands at the target; at a side that isn't the target, it is the source where the destination is the target
+pub data Last {R : Type 0} (x : State R) (way : List ℕ) : Type 0 where
+  At_source : x.target ≡ At_a → at_side x.b x.sb ≡ [] → at_side x.c x.sc ≡ [] → way ≡ places x (at_side x.a x.sa) → Last x way
+  At_destination : x.target ≡ At_b → at_side x.c x.sc ≡ [] → way ≡ places x (at_side x.a x.sa ++ at_side x.b x.sb) → Last x way
+  At_third : x.target ≡ At_c → at_side x.a x.sa ≡ [] → at_side x.b x.sb ≡ [] → way ≡ places x (at_side x.c x.sc) → Last x way
+
+pub record SidesStand {R : Type 0} (x : State R) (way : List ℕ) : Type 0 where
+  pub handed : OneOf (passes_in x.sa) (passes_in x.sb)
+  pub third : passes_in x.sc ≡ []
+  pub events_b : events_in x.bc ≡ []
+  pub events_c : events_in x.cc ≡ []
+  pub known : is_known x.cs ≡ true
+  pub released : is_released x.phase ≡ true → x.store ≡ []
+  pub last : Last x way
+
+-- The third instance has nothing at a stage.
+record Plain {R : Type 0} (x : State R) : Type 0 where
+  sc : x.sc ≡ []
+  from_c : x.cc ≡ []
+  held : x.c.held ≡ []
+
+plain : {R : Type 0} (F : Steps R) (s : Stage F) → Plain (shape F s)
+plain F (At_rest d l k) = record { sc = refl; from_c = refl; held = refl }
+plain F s = record { sc = refl; from_c = refl; held = refl }
+
+handed_at : {R : Type 0} (F : Steps R) (s : Stage F) → OneOf (passes_in (shape F s).sa) (passes_in (shape F s).sb)
+handed_at {R = R} F (Laying d x f g e l k) = Second (no_passes R l)
+handed_at F (Turned d x f e l h) = Second (simp (passes_in-append, no_passes))
+handed_at F (Fenced_a d x f e h) = Second refl
+handed_at F (Ending_b d x f h) = Second refl
+handed_at F (Fence_b d x n h) = Second refl
+handed_at F (Turned_loose d x f e l) = Second (simp (passes_in-append, no_passes))
+handed_at F (Fenced_loose d x f e) = Second refl
+handed_at F (Ending_loose d x f) = Second refl
+handed_at F (Fence_loose d x n) = Second refl
+handed_at F (Fenced_b d l k) = Second refl
+handed_at F (Moved d l k) = Second refl
+handed_at F (At_rest d l k) = First refl
+handed_at F s = First refl
+
+is_known-append : {R : Type 0} (xs ys : List (Item R)) → is_known xs ≡ true → is_known (xs ++ ys) ≡ is_known ys
+is_known-append [] ys e = refl
+is_known-append (Stray ∷ xs) ys e = cc
+is_known-append (x ∷ xs) ys e = is_known-append xs ys e
+
+to_b_known : (R : Type 0) (l : List ℕ) → is_known (map (to_b {R = R}) l) ≡ true
+to_b_known R [] = refl
+to_b_known R (p ∷ l) = to_b_known R l
+
+to_a_known : (R : Type 0) (l : List ℕ) → is_known (map (to_a {R = R}) l) ≡ true
+to_a_known R [] = refl
+to_a_known R (p ∷ l) = to_a_known R l
+
+known_at : {R : Type 0} (F : Steps R) (s : Stage F) → is_known (shape F s).cs ≡ true
+known_at F (At_rest d l k) = refl
+known_at F s = first_of (simp (is_known-append, to_b_known, to_a_known), cc)
+
+-- what comes from the destination is no packet
+events_b_at : {R : Type 0} (F : Steps R) (s : Stage F) → events_in (shape F s).bc ≡ []
+events_b_at F (Streams d f y q l k Is_shut w) = refl
+events_b_at F (Streams d f y q l k (Is_agreed h v) w) = refl
+events_b_at F (Streams d f y q l k s w) = refl
+events_b_at F (At_rest d l k) = refl
+events_b_at F s = refl
+
+released_at : {R : Type 0} (F : Steps R) (s : Stage F) → is_released (shape F s).phase ≡ true → (shape F s).store ≡ []
+released_at F (At_rest d l k) h = refl
+released_at F s h = cc
+
+-- before the switch changes its rules the destination has nothing
+early : {R : Type 0} (F : Steps R) (s : Stage F) → (shape F s).target ≡ At_a → at_side (shape F s).b (shape F s).sb ≡ []
+early {R = R} F (Laying d x f g e l k) h = no_carries R x
+early F (At_rest d l k) h = refl
+early F s h = cc
+
+not_third : {R : Type 0} (F : Steps R) (s : Stage F) → (shape F s).target ≡ At_c → ⊥
+not_third F (At_rest d l k) h = cc
+not_third F s h = cc
+
+split : {R : Type 0} (x : State R) → path_of x ≡ places x (at_side x.a x.sa ++ at_side x.b x.sb)
+split x = ap (λ v. places x v) (sym (append_assoc x.a.held (carries x.sa) (at_side x.b x.sb)))
+
+nothing_on : {R : Type 0} (i : Inst R) (link : List (Item R)) → i.held ≡ [] → link ≡ [] → at_side i link ≡ []
+nothing_on i link h e = rw (h, e) refl
+
+last_at : {R : Type 0} (F : Steps R) (s : Stage F) → Last (shape F s) (path s)
+last_at F s = by_target (shape F s).target refl
+  where
+    way : path s ≡ places (shape F s) (at_side (shape F s).a (shape F s).sa ++ at_side (shape F s).b (shape F s).sb)
+    way = sym (path_is F s) ∙ split (shape F s)
+
+    away : at_side (shape F s).c (shape F s).sc ≡ []
+    away = nothing_on (shape F s).c (shape F s).sc (plain F s).held (plain F s).sc
+
+    by_target : (w : Where) → (shape F s).target ≡ w → Last (shape F s) (path s)
+    by_target At_a e = At_source e (early F s e) away (way ∙ ap (λ v. places (shape F s) (at_side (shape F s).a (shape F s).sa ++ v)) (early F s e)
+        ∙ ap (λ v. places (shape F s) v) (append-nil (at_side (shape F s).a (shape F s).sa)))
+    by_target At_b e = At_destination e away way
+    by_target At_c e = absurd (not_third F s e)
+
+stage_stands : {R : Type 0} (F : Steps R) (s : Stage F) → SidesStand (shape F s) (path s)
+stage_stands F s = record {
+  handed = handed_at F s;
+  third = ap passes_in (plain F s).sc;
+  events_b = events_b_at F s;
+  events_c = ap events_in (plain F s).from_c;
+  known = known_at F s;
+  released = released_at F s;
+  last = last_at F s;
+}
+
+-- A stage without any packet of the unit has none anywhere.
+record HasNone {R : Type 0} (x : State R) : Type 0 where
+  passes_a : passes_in x.sa ≡ []
+  passes_b : passes_in x.sb ≡ []
+  forwards_s : forwards x.cs ≡ []
+  store : x.store ≡ []
+  events_a : events_in x.ac ≡ []
+  held_a : x.a.held ≡ []
+  carries_a : carries x.sa ≡ []
+  held_b : x.b.held ≡ []
+  carries_b : carries x.sb ≡ []
+
+none_of : {R : Type 0} (x : State R) → path_of x ≡ [] → HasNone x
+none_of x p0 =
+    let p1 = nil_right (passes_in x.sa) _ p0 in
+    let p2 = nil_right (passes_in x.sb) _ p1 in
+    let p3 = nil_right (forwards x.cs) _ p2 in
+    let p4 = nil_right x.store _ p3 in
+    let p5 = nil_right (events_in x.ac) _ p4 in
+    let p6 = nil_right x.a.held _ p5 in
+    let p7 = nil_right (carries x.sa) _ p6 in
+    record {
+      passes_a = nil_left (passes_in x.sa) _ p0;
+      passes_b = nil_left (passes_in x.sb) _ p1;
+      forwards_s = nil_left (forwards x.cs) _ p2;
+      store = nil_left x.store _ p3;
+      events_a = nil_left (events_in x.ac) _ p4;
+      held_a = nil_left x.a.held _ p5;
+      carries_a = nil_left (carries x.sa) _ p6;
+      held_b = nil_left x.b.held _ p7;
+      carries_b = nil_right x.b.held _ p7;
+    }
+
+bare_none : {R : Type 0} (F : Steps R) (s : Stage F) → all_of s ≡ [] → HasNone (shape F s)
+bare_none F s bare = none_of (shape F s) (path_is F s ∙ nil_right (firsts (shape F s).done) (path s) bare)
+
+passes-strip : {R : Type 0} (z : List (Item R)) → passes_in z ≡ passes_in (strip z)
+passes-strip [] = refl
+passes-strip (Carry p ∷ z) = passes-strip z
+passes-strip (Pass p ∷ z) = ap (λ v. p ∷ v) (passes-strip z)
+passes-strip (x ∷ z) = passes-strip z
+
+beside_stands : {R : Type 0} (F : Steps R) (s : DestinationUnit F) → SidesStand (shape_beside F s) (s.h ++ carries s.z)
+beside_stands F s =
+    let base = stage_stands F s.base in
+    let none = bare_none F s.base s.bare in
+    let third = plain F s.base in
+    let own : passes_in s.z ≡ [] = passes-strip s.z ∙ ap passes_in s.strips ∙ none.passes_b in
+    record {
+      handed = First own;
+      third = base.third;
+      events_b = base.events_b;
+      events_c = base.events_c;
+      known = base.known;
+      released = base.released;
+      last = At_destination refl (nothing_on (shape F s.base).c (shape F s.base).sc third.held third.sc)
+          (rw (none.passes_a, own, none.forwards_s, none.store, none.events_a, none.held_a, none.carries_a) refl);
+    }
+
+away_stands : {R : Type 0} (F : Steps R) (s : Away F) → SidesStand (shape_away F s) s.l
+away_stands {R = R} F s =
+    let base = stage_stands F s.base in
+    let none = bare_none F s.base s.bare in
+    record {
+      handed = base.handed;
+      third = no_passes R s.l;
+      events_b = base.events_b;
+      events_c = base.events_c;
+      known = base.known;
+      released = base.released;
+      last = At_third refl (rw (none.held_a, none.carries_a) refl) (rw (none.held_b, none.carries_b) refl)
+          (rw (none.passes_a, none.passes_b, none.forwards_s, none.store, none.events_a) (sym (all_carries R s.l)));
+    }
+
+pub seat_stands : {R : Type 0} (F : Steps R) (s : UnitSeat F) → SidesStand (seat_shape F s) (seat_path s)
+seat_stands F (Covered s) = stage_stands F s
+seat_stands F (Is_beside s) = beside_stands F s
+seat_stands F (Is_away s) = away_stands F s
+
+pub over_released : {R : Type 0} (p : Phase R) → is_over p ≡ true → is_released p ≡ true
+over_released (Over why) e = refl
+over_released p e = cc
+
+-- where nothing waits, nothing stands anywhere
+pub record Empty {R : Type 0} (x : State R) : Type 0 where
+  pub passes_a : passes_in x.sa ≡ []
+  pub passes_b : passes_in x.sb ≡ []
+  pub forwards_s : forwards x.cs ≡ []
+  pub store : x.store ≡ []
+  pub events_a : events_in x.ac ≡ []
+  pub at_a : at_side x.a x.sa ≡ []
+  pub at_b : at_side x.b x.sb ≡ []
+  pub at_c : at_side x.c x.sc ≡ []
+
+-- the parts of a path that has nothing
+record Parts {R : Type 0} (x : State R) (last : List ℕ) : Type 0 where
+  passes_a : passes_in x.sa ≡ []
+  passes_b : passes_in x.sb ≡ []
+  forwards_s : forwards x.cs ≡ []
+  store : x.store ≡ []
+  events_a : events_in x.ac ≡ []
+  none_last : last ≡ []
+
+parts : {R : Type 0} (x : State R) (last : List ℕ) → places x last ≡ [] → Parts x last
+parts x last p0 =
+    let p1 = nil_right (passes_in x.sa) _ p0 in
+    let p2 = nil_right (passes_in x.sb) _ p1 in
+    let p3 = nil_right (forwards x.cs) _ p2 in
+    let p4 = nil_right x.store _ p3 in
+    record {
+      passes_a = nil_left (passes_in x.sa) _ p0;
+      passes_b = nil_left (passes_in x.sb) _ p1;
+      forwards_s = nil_left (forwards x.cs) _ p2;
+      store = nil_left x.store _ p3;
+      events_a = nil_left (events_in x.ac) _ p4;
+      none_last = nil_right (events_in x.ac) _ p4;
+    }
+
+pub empty_of : {R : Type 0} (x : State R) (way : List ℕ) → Last x way → way ≡ [] → Empty x
+empty_of x way (At_source t b c e) none =
+    let p = parts x (at_side x.a x.sa) (sym e ∙ none) in
+    record {
+      passes_a = p.passes_a;
+      passes_b = p.passes_b;
+      forwards_s = p.forwards_s;
+      store = p.store;
+      events_a = p.events_a;
+      at_a = p.none_last;
+      at_b = b;
+      at_c = c;
+    }
+empty_of x way (At_destination t c e) none =
+    let p = parts x (at_side x.a x.sa ++ at_side x.b x.sb) (sym e ∙ none) in
+    record {
+      passes_a = p.passes_a;
+      passes_b = p.passes_b;
+      forwards_s = p.forwards_s;
+      store = p.store;
+      events_a = p.events_a;
+      at_a = nil_left (at_side x.a x.sa) _ p.none_last;
+      at_b = nil_right (at_side x.a x.sa) _ p.none_last;
+      at_c = c;
+    }
+empty_of x way (At_third t a b e) none =
+    let p = parts x (at_side x.c x.sc) (sym e ∙ none) in
+    record {
+      passes_a = p.passes_a;
+      passes_b = p.passes_b;
+      forwards_s = p.forwards_s;
+      store = p.store;
+      events_a = p.events_a;
+      at_a = a;
+      at_b = b;
+      at_c = p.none_last;
+    }

@@ -1,0 +1,124 @@
+-- What is read off where a unit is in the whole world: its done packets and those that wait are all that came, in order unless a move without a
+-- buffer took it; its records; and that what came while its packets were diverted is processed after all else, each packet at its member.
+use Rattle.std.proofs.Common.{◌≡◌, ◌≢◌, ℕ, ◌≤◌, Bool, true, false, Option, Some, None, List, [], ◌∷◌, ◌++◌, refl, sym, ap, ◌∙◌, subst}
+use Rattle.std.specs.Prelude.{if◌then◌else◌, ◌==◌}
+use Rattle.proof_machines.proofs.unit.Machine.{Steps}
+use Rattle.proof_machines.proofs.unit.Stages.{times}
+use Rattle.proof_machines.proofs.unit.Ends.{same_of}
+use Rattle.proof_machines.proofs.unit.Rests.{exactly}
+use Rattle.proof_machines.proofs.share.Share.{Ran, has, runs}
+use Rattle.proof_machines.proofs.share.Stages.{packets, path, served, shape, IsFront, Lacks}
+use Rattle.proof_machines.proofs.share.Order.{parts}
+use Rattle.proof_machines.proofs.share.Lists.{self}
+use Rattle.proof_machines.proofs.net.Net.{Sys, IsSys}
+use Rattle.proof_machines.proofs.net.Rest.{done_u}
+use Rattle.proof_machines.proofs.net.Readings.{fold, not_both, In_order, order_of, RecordOf, record_of}
+use Rattle.proof_machines.proofs.net.Elsewhere.{where_two}
+use Rattle.proof_machines.proofs.net.GlobalAll.{GlobalAll}
+use Rattle.proof_machines.proofs.net.ShareViews.{unit_share, as_share}
+use Rattle.proof_machines.proofs.net.Under.{Under}
+use Rattle.proof_machines.proofs.net.UnderStarts.{seeing, packets_done}
+use Rattle.proof_machines.proofs.net.UnderReadings.{all_done, under_order, under_records}
+use Rattle.proof_machines.proofs.net.Shares.{WantShare, Sharing, OpenShare, find_share, WholeWorld, moves_of, ran_of, SeeingShare}
+use Rattle.proof_machines.proofs.whole.WhereAll.{Came, WhereAll, Apart_from_shares, Under_share}
+use Rattle.nf_function.specs.declared.unit.Unit as units
+
+-- the fold looks at the packets alone
+pub fold_packets : {R : Type 0} (F : Steps R) (o : Option R) (ds : List Ran) → runs F o ds ≡ fold F o (packets ds)
+fold_packets F o [] = refl
+fold_packets F o (d ∷ ds) = fold_packets F (Some (F.step o d.0)) ds
+
+module _ {R : Type 0} (S : Sys R) (A : Sharing S) (laws : IsSys S) (u : units.Unit) where
+  pub fold_done : (o : Option R) (ds : List Ran) → runs S.F o (ran_of S A u ds) ≡ fold S.F o (done_u S u ds)
+  fold_done o ds = fold_packets S.F o (ran_of S A u ds) ∙ ap (fold S.F o) (packets_done S A u ds)
+
+  -- done and waiting are what came
+  pub order_all : (w : WholeWorld S A) (k : Came) → WhereAll S A laws u w k → In_order S laws u (done_u S u w.done) k.all k.bared
+  order_all w k (Apart_from_shares h none) = order_of S laws u (moves_of S A w) k.all k.bared h.is
+  order_all w k (Under_share x before b h o f) =
+      let e = under_order S A (seeing S A u x) w before k.diverted h in
+      record {
+        waits = path (unit_share S A (seeing S A u x)) h.stage;
+        exact = λ off. e ∙ exactly b (before ++ k.diverted) k.all (not_both b k.bared f off) o;
+        same = λ p. ap (λ v. times p v) e ∙ same_of b (before ++ k.diverted) k.all o p;
+      }
+
+  -- the unit with its open share
+  abbrev pub seen_by : OpenShare → SeeingShare
+  seen_by e = record { unit = u; num = e.num; home = e.home; members = e.members; filter = e.filter }
+
+  -- a share that has the unit
+  pub record ItsShare (w : WholeWorld S A) (e : OpenShare) : Type 0 where
+    pub found : find_share w.shares e.num ≡ Some e
+    pub takes : S.takes e.filter u ≡ true
+    pub home_in : has e.members e.home ≡ true
+
+  -- Under a share each member's record is the fold of a front of what was done. The live one has seen all, or all but the last packet, which
+  -- another member has processed and seen; it is the one that is live.
+  pub record SharedRecords (w : WholeWorld S A) (e : OpenShare) : Type 0 where
+    pub its : ItsShare w e
+    pub seen : ℕ → List Ran
+    pub live : S.B.at u (w.inst e.home).live ≡ runs S.F None (seen e.home)
+    pub standby : (k : ℕ) → has e.members k ≡ true → (k == e.home) ≡ false → S.B.at u (w.standby k) ≡ runs S.F None (seen k)
+    pub fronts : (k : ℕ) → IsFront (seen k) (ran_of S A u w.done)
+    pub lacks : Lacks (unit_share S A (seen_by e)) (seen e.home) (ran_of S A u w.done) seen
+    pub away : (k : ℕ) → (k == e.home) ≡ false → S.B.at u (w.inst k).live ≡ None
+
+  pub data RecordsAll (w : WholeWorld S A) : Type 0 where
+    By_moves : RecordOf S laws u (moves_of S A w) → RecordsAll w
+    By_share : (e : OpenShare) → SharedRecords w e → RecordsAll w
+
+  -- as the controller has its share
+  abbrev pub its_share : (w : WholeWorld S A) (x : WantShare) (before since : List ℕ) → Under S A (seeing S A u x) w before since → OpenShare
+  its_share w x before since h = let v = shape (unit_share S A (seeing S A u x)) h.stage in as_share S A (seeing S A u x) v.phase v.queue
+
+  pub records_all : (w : WholeWorld S A) (k : Came) → GlobalAll S A w → WhereAll S A laws u w k → RecordsAll w
+  records_all w k g (Apart_from_shares h none) = By_moves (record_of S laws u (moves_of S A w) k.all k.bared g.moves h.is)
+  records_all w k g (Under_share x before b h o f) =
+      let r = under_records S A (seeing S A u x) w before k.diverted h in
+      let home = self x.home in
+      By_share (its_share w x before k.diverted h) (record {
+        its = record { found = h.holds.share; takes = h.covered; home_in = h.is.home_in };
+        seen = r.seen;
+        live = rw home at (r.own x.home h.is.home_in);
+        standby = λ n inside off. rw off at (r.own n inside);
+        fronts = r.fronts;
+        lacks = r.live;
+        away = r.away;
+      })
+
+  -- what came while the unit's packets were diverted is processed behind all else, in order, each packet at its member
+  pub record Served (w : WholeWorld S A) (k : Came) (e : OpenShare) : Type 0 where
+    pub its : ItsShare w e
+    pub before : List Ran
+    pub since : List ℕ
+    pub waits : List ℕ
+    pub done : ran_of S A u w.done ≡ before ++ served (unit_share S A (seen_by e)) since
+    pub came : k.diverted ≡ since ++ waits
+
+  pub served_all : (w : WholeWorld S A) (k : Came) → WhereAll S A laws u w k → k.diverted ≢ [] → (e : OpenShare) × Served w k e
+  served_all w k (Apart_from_shares h none) some = absurd (some none)
+  served_all w k (Under_share x before b h o f) some =
+      let p = parts (unit_share S A (seeing S A u x)) h.stage in
+      let served_so : Served w k (its_share w x before k.diverted h) = record {
+        its = record { found = h.holds.share; takes = h.covered; home_in = h.is.home_in };
+        before = p.before;
+        since = p.since;
+        waits = p.late_waits;
+        done = all_done S A (seeing S A u x) w before k.diverted h ∙ p.done;
+        came = h.since_is ∙ p.late_is;
+      } in
+      (its_share w x before k.diverted h, served_so)
+
+  -- its packets go to an instance, or to the controller where a share has it
+  pub data TargetIs (w : WholeWorld S A) : Type 0 where
+    An_instance : 2 ≤ w.target u → TargetIs w
+    The_controller : w.target u ≡ 1 → (e : OpenShare) → ItsShare w e → TargetIs w
+
+  pub target_all : (w : WholeWorld S A) (k : Came) → WhereAll S A laws u w k → TargetIs w
+  target_all w k (Apart_from_shares h none) = An_instance (where_two S laws u (moves_of S A w) k.all k.bared h.is)
+  target_all w k (Under_share x before b h o f) = by_view (shape (unit_share S A (seeing S A u x)) h.stage).diverts h.holds.target
+    where
+      by_view : (d : Bool) → w.target u ≡ (if d then 1 else x.home) → TargetIs w
+      by_view true at = The_controller at (its_share w x before k.diverted h) (record { found = h.holds.share; takes = h.covered; home_in = h.is.home_in })
+      by_view false at = An_instance (subst (λ n. 2 ≤ n) (sym at) (h.insts x.home h.is.home_in))

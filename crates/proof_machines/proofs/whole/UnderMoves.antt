@@ -1,0 +1,77 @@
+-- What moves have of a unit under a share: nothing. No open move takes it, keeps a record or a packet of it, and no message of a move has one. So a
+-- unit that an open move takes, and that of an event, is apart from shares.
+use Rattle.std.proofs.Common.{◌≡◌, ℕ, true, false, Some, None, List, [], ◌∷◌, refl, sym, ◌∙◌, subst}
+use Rattle.std.specs.Prelude.{◌&&◌, ◌==◌}
+use Rattle.proof_machines.proofs.unit.Real.{Chunks, record_at, RPiece, RPhase, M_event, M_put_no, M_install}
+use Rattle.move_op.specs.Phases.{Streaming}
+use Rattle.proof_machines.proofs.unit.Labels.{Each, Without, Clean}
+use Rattle.flow_filter.specs.declared.filter.Filter.{Filter}
+use Rattle.proof_machines.proofs.net.Net.{Msg, Mv, Sys, IsSys, Open, find_op}
+use Rattle.proof_machines.proofs.net.Ctrl.{each_found}
+use Rattle.proof_machines.proofs.net.Copies.{has, have, copies}
+use Rattle.proof_machines.proofs.net.Rest.{RestOp, NothingOf, none_mine}
+use Rattle.proof_machines.proofs.net.Under.{Under}
+use Rattle.proof_machines.proofs.net.Shares.{Any, Any.Old, olds, Sharing, WholeWorld, moves_of, SeeingShare}
+use Rattle.proof_machines.proofs.net.Units.{Where}
+use Rattle.proof_machines.proofs.net.UnderStarts.{seeing}
+use Rattle.proof_machines.proofs.whole.WhereAll.{Came, WhereAll, Apart_from_shares, Under_share}
+use Rattle.nf_function.specs.declared.unit.Unit as units
+use Rattle.nf_msgs.specs.declared.answer.Answer.{Answer}
+use Rattle.record_table.specs.Table.{same_unit}
+
+has_none : {R : Type 0} (u : units.Unit) (cs : Chunks R) → record_at u cs ≡ None → has u cs ≡ 0
+has_none u cs e = rw e refl
+
+have_none : {R : Type 0} (u : units.Unit) (ps : List (RPiece R)) → Each (Without u) ps → have u ps ≡ 0
+have_none u [] h = refl
+have_none u (p ∷ ps) h = let a = has_none u p.chunks h.0 in let b = have_none u ps h.1 in rw (a, b) refl
+
+copies_none : {R : Type 0} (u : units.Unit) (ph : RPhase R) → Clean u ph → copies u ph ≡ 0
+copies_none u (Streaming frozen free came door) h = let a = have_none u frozen h.0 in let b = have_none u free h.1 in rw (a, b) refl
+copies_none u ph h = refl
+
+module _ {R : Type 0} (S : Sys R) (A : Sharing S) (z : SeeingShare) (w : WholeWorld S A) (before since : List ℕ) (h : Under S A z w before since) where
+  -- Of an open move
+  module _ (n : ℕ) (e : Open R) (there : find_op w.ops n ≡ Some e) where
+    its : RestOp S z.unit e
+    its = (each_found (RestOp S z.unit) n w.ops e h.ops there).0
+
+    pub not_taken : S.takes e.filter z.unit ≡ false
+    not_taken = its.0
+
+    pub no_copies : copies z.unit e.phase ≡ 0
+    no_copies = copies_none z.unit e.phase its.1.0
+
+    pub none_stored : none_mine S z.unit e.store ≡ []
+    none_stored = its.1.1
+
+  -- Of a message that is taken next
+  head_label : (i j : ℕ) → (i == 0) && (j == 0) ≡ false → (m : Msg R) (rest : List (Any R)) → w.link i j ≡ Old m ∷ rest → NothingOf S z.unit i m
+  head_label i j off m rest waits = (subst (λ ms. Each (NothingOf S z.unit i) (olds ms)) waits (h.labels i j off)).0
+
+  to_controller : (i : ℕ) → (i == 0) && (1 == 0) ≡ false
+  to_controller i = elim (i == 0) as (λ b. b && false ≡ false) [ true ↦ refl | false ↦ refl ]
+
+  pub none_back : (i n : ℕ) (g : Filter) (why : Answer) (cs : Chunks R) (rest : List (Any R)) → w.link i 1 ≡ Old (Mv g (M_put_no n why cs)) ∷ rest
+      → has z.unit cs ≡ 0
+  none_back i n g why cs rest waits = has_none z.unit cs (head_label i 1 (to_controller i) (Mv g (M_put_no n why cs)) rest waits).1
+
+  pub no_event : (i n p : ℕ) (g : Filter) (rest : List (Any R)) → w.link i 1 ≡ Old (Mv g (M_event n p)) ∷ rest → same_unit (S.packet_unit p) z.unit ≡ false
+  no_event i n p g rest waits = (head_label i 1 (to_controller i) (Mv g (M_event n p)) rest waits).1
+
+  pub no_change : (n from to : ℕ) (g : Filter) (rest : List (Any R)) → w.link 1 0 ≡ Old (Mv g (M_install n from to)) ∷ rest → S.takes g z.unit ≡ false
+  no_change n from to g rest waits = (head_label 1 0 refl (Mv g (M_install n from to)) rest waits).1
+
+module _ {R : Type 0} (S : Sys R) (A : Sharing S) (laws : IsSys S) (u : units.Unit) (w : WholeWorld S A) (k : Came) where
+  -- as moves know it
+  pub move_apart : WhereAll S A laws u w k → (n : ℕ) (e : Open R) → find_op w.ops n ≡ Some e → S.takes e.filter u ≡ true
+      → Where S laws u (moves_of S A w) k.all k.bared
+  move_apart (Apart_from_shares h none) n e there takes = h.is
+  move_apart (Under_share x before b h o f) n e there takes =
+      let never : true ≡ false = sym takes ∙ not_taken S A (seeing S A u x) w before k.diverted h n e there in cc
+
+  pub event_apart : WhereAll S A laws u w k → (i n p : ℕ) (g : Filter) (rest : List (Any R)) → w.link i 1 ≡ Old (Mv g (M_event n p)) ∷ rest
+      → same_unit (S.packet_unit p) u ≡ true → Where S laws u (moves_of S A w) k.all k.bared
+  event_apart (Apart_from_shares h none) i n p g rest waits on = h.is
+  event_apart (Under_share x before b h o f) i n p g rest waits on =
+      let never : true ≡ false = sym on ∙ no_event S A (seeing S A u x) w before k.diverted h i n p g rest waits in cc

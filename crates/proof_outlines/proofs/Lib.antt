@@ -1,0 +1,3 @@
+pub mod outline
+pub mod whole
+pub mod joined

@@ -1,0 +1,104 @@
+-- The controller's step on a message of a run leads from a world of a run to one.
+use Rattle.std.proofs.Common.{◌≡◌, ℕ, ◌≤◌, true, false, Option, Some, None, refl, arith}
+use Rattle.std.specs.Prelude.{if◌then◌else◌, ◌==◌}
+use Rattle.nf_function.specs.Records.{Laws as FunctionLaws}
+use Rattle.nf_function.specs.Semantics.{Semantics}
+use Rattle.event_store.specs.Store.{stored_of}
+use Rattle.nf_msgs.specs.declared.msg.Msg.{Msg}
+use Rattle.nf_msgs.specs.declared.msg.Msg.TheVariants as msg
+use Rattle.nf_msgs.specs.Nodes.{switch_node}
+use Rattle.ctrl_node.specs.Controller.{ControllerState, still, instance_at, on_final, row}
+use Rattle.proof_machines.proofs.unit.Real as real
+use Rattle.proof_machines.proofs.unit.Labels.{each_map}
+use Rattle.net_world.specs.Nodes.{node_step}
+use Rattle.proof_outlines.proofs.outline.Outline.{outline_piece}
+use Rattle.proof_outlines.proofs.outline.MoveOutline.{IsChunk, enabled_row, piece_row, deleted_row, put_ok_row, restored_row}
+use Rattle.proof_outlines.proofs.joined.ControllerScenes.{RowLeads, lead, stays}
+use Rattle.proof_outlines.proofs.joined.ControllerTurns.{numbered_leads, put_no_leads, event_leads}
+use Rattle.proof_outlines.proofs.joined.ControllerBegins.{CopiesNext}
+use Rattle.proof_outlines.proofs.joined.ControllerAsked.{asked_leads}
+use Rattle.proof_outlines.proofs.joined.ControllerCopies.{chunks_leads, all_chunk_leads, kept_leads}
+use Rattle.proof_outlines.proofs.joined.ShareSteps.{fenced_leads, shared_leads, synced_leads, diverted_leads}
+use Rattle.proof_outlines.proofs.joined.Given.{Given, place}
+use Rattle.proof_outlines.proofs.joined.Joined.{Scene, AreShown, IsTaken, Leads, IsGoodChunk, node_of}
+
+not_two : {X : Type 0} → 2 ≤ 1 → X
+not_two e = let never : ⊥ = omega (arith, e) in absurd never
+
+not_zero : {X : Type 0} → ◌≡◌ {A = ℕ} 1 0 → X
+not_zero e = let never : ⊥ = omega (arith, e) in absurd never
+
+module _ {F R : Type 0} (f : Semantics R) (g : Given) (n : ℕ) (x : Scene F f g) (p : ℕ) (are : AreShown f g n x) where
+  abbrev c : ControllerState
+  c = x.nodes.controller
+
+  abbrev IsTakenHere : Msg → Type 0
+  IsTakenHere m = IsTaken f g n x (record { node = 1; port = p; message = m })
+
+  end_leads : IsTakenHere msg.End → RowLeads f g x p msg.End (row c p msg.End)
+  end_leads is = elim (p == switch_node) as (λ b. RowLeads f g x p msg.End (if b then still (record c { end_came = true }) else still c)) [
+    | true ↦ stays f g n x p msg.End are is (still (record c { end_came = true })) refl refl refl refl refl tt
+        (record { arrived_is = refl; done_is = refl; installed_is = refl }) (λ a e. cc)
+    | false ↦ stays f g n x p msg.End are is (still c) refl refl refl refl refl tt (record { arrived_is = refl; done_is = refl; installed_is = refl })
+        (λ a e. cc)
+  ]
+
+  final_leads : IsTakenHere msg.Final → (o : Option ℕ) → RowLeads f g x p msg.Final (on_final c o)
+  final_leads is None = stays f g n x p msg.Final are is (on_final c None) refl refl refl refl refl tt
+      (record { arrived_is = refl; done_is = refl; installed_is = refl }) (λ a e. cc)
+  final_leads is (Some i) = stays f g n x p msg.Final are is (on_final c (Some i)) refl refl refl refl refl tt
+      (record { arrived_is = refl; done_is = refl; installed_is = refl }) (λ a e. cc)
+
+  row_leads : (m : Msg) → IsTakenHere m → CopiesNext f g x m → RowLeads f g x p m (row c p m)
+  row_leads (msg.Asked command) is next = asked_leads f g n x p command are is next
+  row_leads msg.End is next = end_leads is
+  row_leads msg.Final is next = final_leads is (instance_at c p)
+  row_leads (msg.Event op cell) is next = event_leads f g n x p op cell are is
+  row_leads (msg.PutNo op refused) is next = put_no_leads f g n x p op refused are is
+  row_leads (msg.Enabled op) is next = numbered_leads f g n x p (msg.Enabled op) are is op (real.M_enabled op) refl refl refl refl refl (λ s. refl)
+      (λ mv h. enabled_row f (place g) mv.plan mv.phase (stored_of c.store op) p op)
+  row_leads (msg.Piece op piece) is next = numbered_leads f g n x p (msg.Piece op piece) are is op (real.M_piece op (outline_piece f piece))
+      refl refl refl refl refl (λ s. refl) (λ mv h. piece_row f (place g) mv.plan mv.phase (stored_of c.store op) p op piece
+      (each_map {P = (IsGoodChunk f g)} {Q = (IsChunk f (place g))} (λ y k. k.chunk) piece.chunks is.label.1.good.each))
+  row_leads (msg.Deleted op) is next = numbered_leads f g n x p (msg.Deleted op) are is op (real.M_deleted op) refl refl refl refl refl (λ s. refl)
+      (λ mv h. deleted_row f (place g) mv.plan mv.phase (stored_of c.store op) p op)
+  row_leads (msg.PutOk op) is next = numbered_leads f g n x p (msg.PutOk op) are is op (real.M_put_ok op) refl refl refl refl refl (λ s. refl)
+      (λ mv h. put_ok_row f (place g) mv.plan mv.phase (stored_of c.store op) p op)
+  row_leads (msg.Restored op) is next = numbered_leads f g n x p (msg.Restored op) are is op (real.M_restored op) refl refl refl refl refl (λ s. refl)
+      (λ mv h. restored_row f (place g) mv.plan mv.phase (stored_of c.store op) p op)
+  row_leads (msg.Fenced op) is next = fenced_leads f g n x p are op is
+  row_leads (msg.InPacket packet) is next = not_zero is.label.0.1
+  row_leads (msg.InCommand command) is next = not_zero is.label.0.1
+  row_leads msg.InSettle is next = not_zero is.label.1
+  row_leads msg.InEnd is next = not_zero is.label.1
+  row_leads (msg.Forward to mark cell) is next = not_zero is.label.0.1
+  row_leads (msg.Install op filter from to) is next = not_zero is.label.0.1
+  row_leads (msg.FenceTo op to) is next = not_zero is.label.0.1
+  row_leads (msg.Answered op) is next = not_zero is.label.1
+  row_leads msg.Finish is next = not_zero is.label.1
+  row_leads (msg.Carry mark cell) is next = not_two is.label.0.1
+  row_leads (msg.Fence op) is next = not_two is.label.1
+  row_leads msg.Stop is next = not_two is.label.1
+  row_leads (msg.Enable op filter action) is next = not_two is.label.0.1
+  row_leads (msg.Stream op filter) is next = not_two is.label.0.1
+  row_leads (msg.Delete op gone) is next = not_two is.label.1
+  row_leads (msg.Put op piece first) is next = not_two is.label.0.1
+  row_leads (msg.Restore op chunks) is next = not_two is.label.0.1
+  row_leads (msg.Credit cell) is next = not_zero is.label.1
+  row_leads (msg.Diverted cell) is next = diverted_leads f g n x p are cell is
+  row_leads (msg.Get op filter) is next = not_two is.label.0.1
+  row_leads (msg.GetAll op) is next = not_two is.label.1
+  row_leads (msg.Standby op chunks) is next = not_two is.label.0.1
+  row_leads (msg.PutAll op chunk) is next = not_two is.label.1
+  row_leads (msg.Sync home op chunks) is next = not_two is.label.0.1
+  row_leads (msg.Chunks op chunks) is next = chunks_leads f g n x p op are chunks is
+  row_leads (msg.AllChunk op chunk) is next = all_chunk_leads f g n x p op are chunk is
+  row_leads (msg.Kept op) is next = kept_leads f g n x p op are is
+  row_leads (msg.Seen op packet) is next = absurd is.label
+  row_leads (msg.Shared op chunk) is next = shared_leads f g n x p are op chunk is
+  row_leads (msg.Synced op) is next = synced_leads f g n x p are op is
+
+module _ {F R : Type 0} (f : Semantics R) (laws : FunctionLaws f) (g : Given) where
+  pub controller_leads : (n : ℕ) (x : Scene F f g) (p : ℕ) (m : Msg) → AreShown f g n x → IsTaken f g n x (record { node = 1; port = p; message = m })
+      → CopiesNext f g x m → Leads f g n x (record { node = 1; port = p; message = m }) (node_step f (node_of x.nodes 1) p m)
+  controller_leads n x p m are is next = lead f g n x p m (row x.nodes.controller p m) are (row_leads f g n x p are m is next)

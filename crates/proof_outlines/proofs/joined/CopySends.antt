@@ -1,0 +1,246 @@
+-- What the controller sends for copies: it asks for records as a copy begins, or for a share, and hands on what came. Nothing else is of a copy.
+use Rattle.std.proofs.Common.{◌≡◌, ℕ, Bool, true, false, Option, Some, None, List, [], ◌∷◌, ◌++◌, map, refl}
+use Rattle.std.specs.Prelude.{if◌then◌else◌, ◌-◌, ◌==◌, length}
+use Rattle.std.specs.List.{filter_map}
+use Rattle.std.specs.FinMap as finite
+use Rattle.flow_filter.specs.declared.filter.Filter.{Filter}
+use Rattle.flow_filter.specs.Flow.{flow_of}
+use Rattle.nf_function.specs.declared.chunk.Chunk.{Chunk}
+use Rattle.event_filter.specs.declared.mark.Mark.TheVariants.{Pass}
+use Rattle.packet_pool.specs.Pool.{FullCell}
+use Rattle.nf_msgs.specs.declared.answer.Answer.{Answer}
+use Rattle.nf_msgs.specs.declared.answer.Answer.TheVariants.{Done}
+use Rattle.nf_msgs.specs.declared.command.Command.{Command}
+use Rattle.nf_msgs.specs.declared.command.Order.{Order}
+use Rattle.nf_msgs.specs.declared.command.Order.TheVariants as order
+use Rattle.nf_msgs.specs.declared.msg.Msg.{Msg}
+use Rattle.nf_msgs.specs.declared.msg.Msg.TheVariants as msg
+use Rattle.nf_msgs.specs.Nodes.{switch_node, instance_node}
+use Rattle.nf_msgs.specs.MessageParts.{op_of}
+use Rattle.event_store.specs.Store.{stored_of, with_parcels}
+use Rattle.move_op.specs.Move.{next_phase, source, destination, from_source}
+use Rattle.move_op.specs.Move.{from_destination, row}
+use Rattle.move_op.specs.Table.{on_event}
+use Rattle.ctrl_node.specs.declared.operation.Operation.{Operation}
+use Rattle.copy_share.specs.declared.copy_phase.CopyPhase.{CopyPhase}
+use Rattle.copy_share.specs.declared.copy_phase.CopyPhase.TheVariants as copies
+use Rattle.copy_share.specs.declared.share_phase.SharePhase.{SharePhase}
+use Rattle.copy_share.specs.declared.share_phase.SharePhase.TheVariants as shares
+use Rattle.copy_share.specs.Copy.{CopyPlan, CopyState}
+use Rattle.copy_share.specs.Copy as copy
+use Rattle.copy_share.specs.Share.{SharePlan, ShareState, home, others as members_but}
+use Rattle.copy_share.specs.Share as share
+use Rattle.ctrl_node.specs.declared.operation.Operation.TheVariants.{Move, Copy, Share}
+use Rattle.ctrl_node.specs.Operations.{Turn, turn_of, serving_of, share_of}
+use Rattle.flow_filter.specs.Name.{place_of}
+use Rattle.ctrl_node.specs.Controller as ctrl
+use Rattle.ctrl_node.specs.Controller.{ControllerState}
+use Rattle.proof_machines.proofs.unit.Labels.{Each, each-append}
+use Rattle.proof_outlines.proofs.outline.MoveRows.{is_of_move, all_sent}
+use Rattle.proof_outlines.proofs.joined.CopyAnswers.{is_uncopied, AreUncopied}
+
+-- What a move sends.
+of_move : (m : Msg) → is_of_move m ≡ true → is_uncopied m ≡ true
+of_move (msg.Get op filter) h = cc
+of_move (msg.Chunks op chunks) h = cc
+of_move (msg.Standby op chunks) h = cc
+of_move (msg.PutAll op chunk) h = cc
+of_move (msg.Kept op) h = cc
+of_move m h = refl
+
+-- What holds of each message that isn't a copy's, of what a copy or a share asks for, and of what a copy hands on, holds of all that is sent.
+module _ (P : Msg → Type 0) (others : (m : Msg) → is_uncopied m ≡ true → P m) where
+  abbrev pub EachIs : List (ℕ × Msg) → Type 0
+  EachIs sends = Each (λ x. P x.1) sends
+
+  each_other : (sends : List (ℕ × Msg)) → AreUncopied sends → EachIs sends
+  each_other [] h = tt
+  each_other (x ∷ xs) h = (others x.1 h.0, each_other xs h.1)
+
+  each-both : (xs ys : List (ℕ × Msg)) → EachIs xs → EachIs ys → EachIs (xs ++ ys)
+  each-both xs ys a b = each-append (λ x. P x.1) xs ys a b
+
+  -- What a copy sends.
+  abbrev HandsSo : ℕ → Msg → Type 0
+  HandsSo op m = (k : ℕ) (chunks : List Chunk) → m ≡ msg.Chunks k chunks → P (msg.Standby op chunks)
+
+  abbrev HandsAllSo : ℕ → Msg → Type 0
+  HandsAllSo op m = (k : ℕ) (chunk : Chunk) → m ≡ msg.AllChunk k chunk → P (msg.PutAll op chunk)
+
+  source_hands : (plan : CopyPlan) (ph : CopyPhase) (m : Msg) → HandsSo plan.op m → HandsAllSo plan.op m → EachIs (copy.from_source plan ph m).sends
+  source_hands plan copies.Getting (msg.Chunks op chunks) a b = (a op chunks refl, tt)
+  source_hands plan copies.Getting (msg.AllChunk op chunk) a b = (b op chunk refl, tt)
+  source_hands plan ph m a b = tt
+
+  destination_hands : (plan : CopyPlan) (ph : CopyPhase) (m : Msg) → EachIs (copy.from_destination plan ph m).sends
+  destination_hands plan copies.Keeping (msg.Kept op) = tt
+  destination_hands plan ph m = tt
+
+  copy_hands : (y : CopyState) (port : ℕ) (m : Msg) → HandsSo y.plan.op m → HandsAllSo y.plan.op m → EachIs (copy.row y port m).sends
+  copy_hands y port m a b =
+      elim (port == instance_node y.plan.from) as (λ t. EachIs (if t then copy.from_source y.plan y.phase m else if port == instance_node y.plan.to
+      then copy.from_destination y.plan y.phase m else copy.next_phase y.phase []).sends) [
+        | true ↦ source_hands y.plan y.phase m a b
+        | false ↦ elim (port == instance_node y.plan.to)
+            as (λ t. EachIs (if t then copy.from_destination y.plan y.phase m else copy.next_phase y.phase []).sends) [
+              | true ↦ destination_hands y.plan y.phase m
+              | false ↦ tt
+            ]
+      ]
+
+  -- What a share sends.
+  syncs_sent : (plan : SharePlan) (members : List ℕ) (chunks : List Chunk)
+      → EachIs (map (λ member. (instance_node member, msg.Sync (member == home plan) plan.op chunks)) members)
+  syncs_sent plan [] chunks = tt
+  syncs_sent plan (member ∷ members) chunks = (others (msg.Sync (member == home plan) plan.op chunks) refl, syncs_sent plan members chunks)
+
+  setting_sent : (left : ℕ) (sends : List (ℕ × Msg)) → EachIs sends → EachIs (share.setting left sends).sends
+  setting_sent left sends h = elim (left == 0)
+      as (λ b. EachIs (if b then record { phase = shares.Idle; sends = sends; answer = Some Done } else share.next_phase (shares.Setting left) sends).sends)
+      [ true ↦ h | false ↦ h ]
+
+  fenced_sent : (plan : SharePlan) (ph : SharePhase) → P (msg.Get plan.op plan.filter) → EachIs (share.on_fenced plan ph).sends
+  fenced_sent plan shares.Fencing its = (its, tt)
+  fenced_sent plan ph its = tt
+
+  first_sent : (plan : SharePlan) (ph : SharePhase) (chunks : List Chunk) → EachIs (share.on_chunks plan ph chunks).sends
+  first_sent plan shares.Getting chunks =
+      setting_sent (length (members_but plan (home plan))) (share.syncs plan (home plan) chunks) (syncs_sent plan (members_but plan (home plan)) chunks)
+  first_sent plan ph chunks = tt
+
+  shared_sent : (plan : SharePlan) (ph : SharePhase) (port : ℕ) (chunk : Chunk) → EachIs (share.on_shared plan ph port chunk).sends
+  shared_sent plan (shares.Out member) port chunk = elim (port == instance_node member) as (λ b. EachIs (if b
+      then share.syncing (length (members_but plan member)) (share.syncs plan member (chunk ∷ [])) else share.next_phase (shares.Out member) []).sends) [
+        | true ↦ syncs_sent plan (members_but plan member) (chunk ∷ [])
+        | false ↦ tt
+      ]
+  shared_sent plan ph port chunk = tt
+
+  synced_sent : (ph : SharePhase) → EachIs (share.on_synced ph).sends
+  synced_sent (shares.Setting left) = setting_sent (left - 1) [] tt
+  synced_sent (shares.Syncing left) = tt
+  synced_sent ph = tt
+
+  share_sent : (y : ShareState) (port : ℕ) (m : Msg) → P (msg.Get y.plan.op y.plan.filter) → EachIs (share.row y port m).sends
+  share_sent y port (msg.Fenced op) its =
+      elim (port == instance_node (home y.plan)) as (λ b. EachIs (if b then share.on_fenced y.plan y.phase else share.next_phase y.phase []).sends)
+      [ true ↦ fenced_sent y.plan y.phase its | false ↦ tt ]
+  share_sent y port (msg.Chunks op chunks) its =
+      elim (port == instance_node (home y.plan)) as (λ b. EachIs (if b then share.on_chunks y.plan y.phase chunks else share.next_phase y.phase []).sends)
+      [ true ↦ first_sent y.plan y.phase chunks | false ↦ tt ]
+  share_sent y port (msg.Shared op chunk) its = shared_sent y.plan y.phase port chunk
+  share_sent y port (msg.Synced op) its = synced_sent y.phase
+  share_sent y port m its = tt
+
+  served_sent : (plan : SharePlan) (ph : SharePhase) (cells : List FullCell) → EachIs (share.service_if_idle plan ph cells).sends
+  served_sent plan shares.Idle (cell ∷ cells) = (others _ refl, tt)
+  served_sent plan shares.Idle [] = tt
+  served_sent plan ph cells = tt
+
+  serving_sent : (s : ControllerState) (o : Option Operation) → EachIs (serving_of o s.store).sends
+  serving_sent s None = tt
+  serving_sent s (Some (Move mv)) = tt
+  serving_sent s (Some (Copy y)) = tt
+  serving_sent s (Some (Share y)) = served_sent y.plan y.phase (stored_of s.store y.plan.op)
+
+  serves_sent : (s : ControllerState) (op : ℕ) → EachIs (ctrl.serve_step s op).sends
+  serves_sent s op = serving_sent s (finite.get s.operations op)
+
+  -- what an open operation is to send for a message
+  abbrev pub TurnSo : Option Operation → Msg → Type 0
+  TurnSo (Some (Copy y)) m = HandsSo y.plan.op m × HandsAllSo y.plan.op m
+  TurnSo (Some (Share y)) m = P (msg.Get y.plan.op y.plan.filter)
+  TurnSo o m = Unit {0}
+
+  -- and a command, as it begins
+  abbrev pub BeginSo : Msg → Type 0
+  BeginSo m = (k : Command) (source destination : List ℕ) (filter : Option Filter) → m ≡ msg.Asked k → k.what ≡ order.Copy source destination filter
+      → P (copy.asks k.op filter)
+
+  module _ (s : ControllerState) (port : ℕ) where
+    turn_sent : (o : Option Operation) (m : Msg) → TurnSo o m → EachIs (turn_of o s.store port m).sends
+    turn_sent None m its = tt
+    turn_sent (Some (Move mv)) m its = each_other _ (all_sent (λ x. is_uncopied x ≡ true) of_move mv.plan mv.phase (stored_of s.store mv.plan.op) port m)
+    turn_sent (Some (Copy y)) m its = copy_hands y port m its.0 its.1
+    turn_sent (Some (Share y)) m its = share_sent y port m its
+
+    after_sent : (op : ℕ) (t : Turn) (o : Option Answer) → EachIs t.sends → EachIs (ctrl.after_turn s op t o).sends
+    after_sent op t None h = h
+    after_sent op t (Some a) h = each-both t.sends ((switch_node, msg.Answered op) ∷ []) h (others (msg.Answered op) refl, tt)
+
+    pub handed_sent : (op : ℕ) (m : Msg) → TurnSo (finite.get s.operations op) m → EachIs (ctrl.hand_step s op port m).sends
+    handed_sent op m its =
+        let t = turn_of (finite.get s.operations op) s.store port m in
+        let did = ctrl.takes_turn s op t in
+        each-both did.sends (ctrl.serve_step did.node op).sends (after_sent op t t.answer (turn_sent (finite.get s.operations op) m its))
+        (serves_sent did.node op)
+
+    -- for each open operation
+    abbrev pub TurnsSo : Msg → Type 0
+    TurnsSo m = (op : ℕ) → op_of m ≡ Some op → TurnSo (finite.get s.operations op) m
+
+    numbered_sent : (m : Msg) (o : Option ℕ) → op_of m ≡ o → TurnsSo m → EachIs (ctrl.numbered s port m o).sends
+    numbered_sent m None e its = tt
+    numbered_sent m (Some op) e its = handed_sent op m (its op e)
+
+    event_sent : (op : ℕ) (cell : FullCell) (o : Option ℕ) → TurnsSo (msg.Event op cell) → EachIs (ctrl.on_event s port op cell o).sends
+    event_sent op cell None its = tt
+    event_sent op cell (Some i) its = elim (finite.contains_key s.operations op) as (λ b. EachIs (if b then ctrl.hand_step s op port (msg.Event op cell)
+        else record { node = s; sends = (switch_node, msg.Forward i (Pass op) cell) ∷ []; notes = [] }).sends) [
+          | true ↦ handed_sent op (msg.Event op cell) (its op refl)
+          | false ↦ (others (msg.Forward i (Pass op) cell) refl, tt)
+        ]
+
+    pub final_sent : (o : Option ℕ) → EachIs (ctrl.on_final s o).sends
+    final_sent None = tt
+    final_sent (Some i) = tt
+
+    pub queued_sent : (cell : FullCell) (o : Option ℕ) → EachIs (ctrl.queue_step s cell o).sends
+    queued_sent cell None = tt
+    queued_sent cell (Some op) = serves_sent (record s { store = with_parcels s.store op (stored_of s.store op ++ cell ∷ []) }) op
+
+    moves_sent : (op : ℕ) (filter : Filter) (keep : Bool) (from to : Option ℕ) → EachIs (ctrl.move_between s op filter keep from to).sends
+    moves_sent op filter keep (Some from) (Some to) = (others _ refl, tt)
+    moves_sent op filter keep (Some from) None = tt
+    moves_sent op filter keep None to = tt
+
+    copies_sent : (op : ℕ) (filter : Option Filter) (from to : Option ℕ) → P (copy.asks op filter) → EachIs (ctrl.copy_between s op filter from to).sends
+    copies_sent op filter (Some from) (Some to) its = (its, tt)
+    copies_sent op filter (Some from) None its = tt
+    copies_sent op filter None to its = tt
+
+    shares_sent : (op : ℕ) (filter : Filter) (members : List ℕ) → EachIs (ctrl.share_begin s op filter members).sends
+    shares_sent op filter [] = tt
+    shares_sent op filter (member ∷ members) = (others _ refl, tt)
+
+    begins_sent : (k : Command) (what : Order) → k.what ≡ what → BeginSo (msg.Asked k) → EachIs (ctrl.begin_step s k.op what).sends
+    begins_sent k (order.Move source destination filter keep) e its = moves_sent k.op filter keep (place_of s.names source) (place_of s.names destination)
+    begins_sent k (order.Copy source destination filter) e its =
+        copies_sent k.op filter (place_of s.names source) (place_of s.names destination) (its k source destination filter refl e)
+    begins_sent k (order.Share members filter) e its = shares_sent k.op filter (filter_map (place_of s.names) members)
+
+    decided_sent : (k : Command) (o : Option Answer) → BeginSo (msg.Asked k) → EachIs (ctrl.decision_step s k.op k.what o).sends
+    decided_sent k (Some a) its = (others (msg.Answered k.op) refl, tt)
+    decided_sent k None its = begins_sent k k.what refl its
+
+    pub asked_sent : (k : Command) → BeginSo (msg.Asked k) → EachIs (ctrl.on_asked s k).sends
+    asked_sent k its = elim (finite.contains_key s.operations k.op)
+        as (λ b. EachIs (if b then ctrl.still s else ctrl.decision_step s k.op k.what (ctrl.refusal s k.what)).sends)
+        [ true ↦ tt | false ↦ decided_sent k (ctrl.refusal s k.what) its ]
+
+    row_sent : (m : Msg) → TurnsSo m → BeginSo m → EachIs (ctrl.row s port m).sends
+    row_sent (msg.Asked k) its begins =
+        elim (port == switch_node) as (λ b. EachIs (if b then ctrl.on_asked s k else ctrl.still s).sends) [ true ↦ asked_sent k begins | false ↦ tt ]
+    row_sent (msg.Diverted cell) its begins = elim (port == switch_node) as (λ b. EachIs (if b then ctrl.on_diverted s cell else ctrl.still s).sends)
+        [ true ↦ queued_sent cell (share_of s.operations (flow_of s.site cell.packet).0) | false ↦ tt ]
+    row_sent msg.End its begins =
+        elim (port == switch_node) as (λ b. EachIs (if b then ctrl.still (record s { end_came = true }) else ctrl.still s).sends) [ true ↦ tt | false ↦ tt ]
+    row_sent (msg.Event op cell) its begins = event_sent op cell (ctrl.instance_at s port) its
+    row_sent msg.Final its begins = final_sent (ctrl.instance_at s port)
+    row_sent m its begins = numbered_sent m (op_of m) refl its
+
+    pub controller_sent : (m : Msg) → TurnsSo m → BeginSo m → EachIs (ctrl.controller_step s port m).sends
+    controller_sent m its begins =
+        let did = ctrl.row s port m in
+        each-both did.sends (ctrl.finish_of did.node) (row_sent m its begins) (elim (ctrl.may_finish did.node)
+        as (λ b. EachIs (if b then (switch_node, msg.Finish) ∷ [] else [])) [ true ↦ (others msg.Finish refl, tt) | false ↦ tt ])

@@ -1,0 +1,103 @@
+-- Every run of a network leads to a world of a run; what is then read off the log of a unit.
+use Rattle.std.proofs.Common.{◌≡◌, ℕ, ◌+◌, ◌≤◌, true, false, List, [], ◌∷◌, ◌++◌, map, length, refl, sym, ap, ◌∙◌, arith}
+use Rattle.std.specs.Prelude.{if◌then◌else◌, ◌==◌}
+use Rattle.std.specs.declared.alloc.Global.{Global}
+use Rattle.nf_function.specs.declared.unit.Unit as units
+use Rattle.nf_function.specs.Records.{Laws as FunctionLaws}
+use Rattle.nf_function.specs.Semantics.{Semantics}
+use Rattle.nf_msgs.specs.declared.msg.Msg.{Msg}
+use Rattle.nf_msgs.specs.declared.note.Note.{Note}
+use Rattle.actor_net.specs.declared.choice.Choice.{Choice}
+use Rattle.actor_net.specs.Network.{Network, IsWorld, IsRun, run, world_next}
+use Rattle.actor_net.proofs.OpeningWorlds.{opening_world}
+use Rattle.actor_net.proofs.RunInduction.{Taking, run_induction}
+use Rattle.proof_machines.proofs.unit.Stages as stages
+use Rattle.proof_machines.proofs.net.Rest.{done_u}
+use Rattle.proof_machines.proofs.net.Readings.{In_order}
+use Rattle.proof_machines.proofs.whole.Readings.{order_all}
+use Rattle.net_world.specs.declared.config.Config.{Config}
+use Rattle.net_world.specs.declared.node.Node.{Node}
+use Rattle.net_world.specs.Input.{IsInput}
+use Rattle.net_world.specs.Log.{Done, dones_in, done_where}
+use Rattle.net_world.specs.Places.{is_loose}
+use Rattle.net_world.specs.Nodes.{node_step, node_ready}
+use Rattle.net_world.specs.Start.{first_nodes, started_with}
+use Rattle.net_world.specs.Fold.{times, IsFront, is_of, arrived_of, processed_of}
+use Rattle.proof_outlines.proofs.outline.Outline.{is_sys}
+use Rattle.net_world.proofs.StartingLemmas.{few_nodes}
+use Rattle.net_world.proofs.NumberCounts.{times-append}
+use Rattle.proof_outlines.proofs.joined.StartJoined.{given, all_fit, count_at_start, start_joined}
+use Rattle.proof_outlines.proofs.joined.Given.{Given}
+use Rattle.proof_outlines.proofs.joined.Joined.{S, A, by_node, came_by, Joined}
+use Rattle.proof_outlines.proofs.joined.BesideRuns.{HasBeside, next_joined, beside_next, beside_at_start}
+
+module _ (F : Type 0) {R : Type 0} (f : Semantics R) (laws : FunctionLaws f) (alloc : Global) (c : Config) (items : List Msg)
+    (is : IsInput f.kind c items) where
+  pub start_world : IsWorld (started_with {F = F} {R = R} alloc c items)
+  start_world = let few = few_nodes alloc c (first_nodes {F = F} {R = R} alloc c) is.is_config refl in opening_world (first_nodes alloc c) items few.0 few.1
+
+  abbrev g : Given
+  g = given f c items is
+
+  abbrev n : ℕ
+  n = length c.names + 2
+
+  -- a world of a run, with what is kept beside it
+  pub record Runs (w : Network (Node F R) Msg Note) : Type 0 where
+    pub joined : Joined f g n w
+    pub beside : HasBeside f g n w joined
+
+  pub runs_at_start : Runs (started_with alloc c items)
+  runs_at_start = record { joined = start_joined F f alloc c items is; beside = beside_at_start F f alloc c items is }
+
+  pub runs_next : (w : Network (Node F R) Msg Note) (k : Choice) → Taking node_ready (node_step f) n w k → Runs w → Runs (world_next (node_step f) w k)
+  runs_next w k t r = record {
+    joined = next_joined f laws g (all_fit f c items is) n refl w k t r.joined r.beside;
+    beside = beside_next f laws g (all_fit f c items is) n refl w k t r.joined r.beside;
+  }
+
+  pub run_beside : (cs : List Choice) → IsRun node_ready (node_step f) cs (started_with {F = F} {R = R} alloc c items)
+      → Runs (run (node_step f) cs (started_with {F = F} {R = R} alloc c items))
+  run_beside cs run_is = run_induction node_ready (node_step f) n (λ _ w. Runs w) (started_with alloc c items) (λ _ w k on r. runs_next w k on.taking r)
+      start_world (count_at_start F f alloc c items is) runs_at_start cs run_is
+
+module _ {R : Type 0} (f : Semantics R) (c : Config) (items : List Msg) (is : IsInput f.kind c items) where
+  abbrev gi : Given
+  gi = given f c items is
+
+  -- what was done of a unit
+  pub went_same : (u : units.Unit) (ds : List Done) → done_u (S f gi) u (by_node f gi ds) ≡ map (λ d. d.number) (done_where (is_of f c items u) ds)
+  went_same u [] = refl
+  went_same u (d ∷ ds) =
+      elim (is_of f c items u d.number) as (λ b. (if b then d.number ∷ done_u (S f gi) u (by_node f gi ds) else done_u (S f gi) u (by_node f gi ds))
+      ≡ map (λ x. x.number) (if b then d ∷ done_where (is_of f c items u) ds else done_where (is_of f c items u) ds)) [
+        | true ↦ ap (λ xs. d.number ∷ xs) (went_same u ds)
+        | false ↦ went_same u ds
+      ]
+
+pub same_times : (p : ℕ) (xs : List ℕ) → stages.times p xs ≡ times p xs
+same_times p [] = refl
+same_times p (x ∷ xs) = ap (λ k. (if p == x then 1 else 0) + k) (same_times p xs)
+
+module _ {F R : Type 0} (f : Semantics R) (c : Config) (items : List Msg) (is : IsInput f.kind c items) (n : ℕ) (w : Network (Node F R) Msg Note)
+    (j : Joined f (given f c items is) n w) where
+  abbrev gj : Given
+  gj = given f c items is
+
+  pub done_same : (u : units.Unit) → done_u (S f gj) u j.world.done ≡ processed_of f c items u w.log
+  done_same u = ap (done_u (S f gj) u) j.shown_is.done_is ∙ went_same f c items is u (dones_in w.log)
+
+  ordered : (u : units.Unit)
+      → In_order (S f gj) (is_sys f gj.site gj.packet) u (done_u (S f gj) u j.world.done) (arrived_of f c items u w.log) (is_loose c items u w.log)
+  ordered u = order_all (S f gj) (A f gj) (is_sys f gj.site gj.packet) u j.world (came_by f gj w.log u) (j.shown_is.every.unit u)
+
+  pub in_order : (u : units.Unit) → is_loose c items u w.log ≡ false → IsFront (processed_of f c items u w.log) (arrived_of f c items u w.log)
+  in_order u off = record { rest = (ordered u).waits; whole = ap (λ xs. xs ++ (ordered u).waits) (sym (done_same u)) ∙ (ordered u).exact off }
+
+  pub once : (u : units.Unit) (p : ℕ) → times p (processed_of f c items u w.log) ≤ times p (arrived_of f c items u w.log)
+  once u p =
+      let whole = times-append p (processed_of f c items u w.log) (ordered u).waits in
+      let same : times p (processed_of f c items u w.log ++ (ordered u).waits) ≡ times p (arrived_of f c items u w.log) =
+      ap (λ xs. times p (xs ++ (ordered u).waits)) (sym (done_same u)) ∙ sym (same_times p (done_u (S f gj) u j.world.done ++ (ordered u).waits))
+      ∙ (ordered u).same p ∙ same_times p (arrived_of f c items u w.log) in
+      omega (arith, whole, same)

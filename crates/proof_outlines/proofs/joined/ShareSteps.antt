@@ -1,0 +1,175 @@
+-- The controller's step on a message that a share looks at: a fence's answer, a record of one unit, an answer to records, and a packet whose
+-- target is the controller.
+use Rattle.std.proofs.Common.{◌≡◌, ℕ, true, false, Option, Some, None, List, [], refl, sym, ap, ◌∙◌, subst, arith}
+use Rattle.std.specs.Prelude.{if◌then◌else◌, ◌==◌, option_map}
+use Rattle.std.specs.FinMap as finite
+use Rattle.std.proofs.lemmas.Bool.Decides.{Decides-eqb}
+use Rattle.std.proofs.lemmas.Option.{same_Some}
+use Rattle.nf_function.specs.declared.chunk.Chunk.{Chunk}
+use Rattle.nf_function.specs.declared.unit.Unit as units
+use Rattle.nf_function.specs.Semantics.{Semantics}
+use Rattle.event_store.specs.Store.{stored_of}
+use Rattle.packet_pool.specs.Pool.{FullCell}
+use Rattle.nf_msgs.specs.declared.msg.Msg.{Msg}
+use Rattle.nf_msgs.specs.declared.msg.Msg.TheVariants as msg
+use Rattle.nf_msgs.specs.Nodes.{switch_node}
+use Rattle.move_op.specs.Move as move
+use Rattle.move_op.specs.Move.{MoveState}
+use Rattle.copy_share.specs.Share.{ShareState}
+use Rattle.ctrl_node.specs.declared.operation.Operation.{Operation}
+use Rattle.ctrl_node.specs.declared.operation.Operation.TheVariants.{Move, Copy, Share}
+use Rattle.ctrl_node.specs.Operations.{turn_of, turn_of_move}
+use Rattle.ctrl_node.specs.Controller.{ControllerState, still, after_turn, takes_turn, hand_step, queue_step, on_diverted}
+use Rattle.proof_machines.proofs.unit.Real as real
+use Rattle.proof_machines.proofs.net.Shares.{Any, New, S_shared, S_synced, Diverted_on, OpenShare, find_share}
+use Rattle.proof_machines.proofs.net.Shares.{share_taking, Told, Is_fenced, Has_chunk, Is_synced, Has_packet, by_share}
+use Rattle.proof_machines.proofs.net.ShareRows.{taking_found}
+use Rattle.proof_outlines.proofs.outline.Outline.{number}
+use Rattle.proof_outlines.proofs.outline.MoveOutline.{fenced_row}
+use Rattle.proof_outlines.proofs.outline.CopyTurns.{is_copied}
+use Rattle.proof_outlines.proofs.outline.OperationTables.{insert_same, NotShared, handed_is}
+use Rattle.proof_outlines.proofs.whole.OpenShares.{joins, real_share, StepFollows}
+use Rattle.proof_outlines.proofs.whole.ControlAll.{fenced_follows, shared_follows, synced_follows}
+use Rattle.proof_outlines.proofs.whole.DivertedAll.{AreApart, taken_is, none_is, diverted_follows}
+use Rattle.proof_outlines.proofs.joined.Given.{Given, place}
+use Rattle.proof_outlines.proofs.joined.Joined.{Scene, AreShown, IsTaken, S, A, shown}
+use Rattle.proof_outlines.proofs.joined.ControllerScenes.{RowLeads, Idles, step_on}
+use Rattle.proof_outlines.proofs.joined.ControllerChanges.{NotMove}
+use Rattle.proof_outlines.proofs.joined.ControllerTurns.{no_share_open, none_leads, copy_leads, still_leads, well_leads, share_below, share_leads, told_leads}
+use Rattle.proof_outlines.proofs.joined.ShareTurns.{DidWell, share_queued_well}
+
+-- a message that an open move doesn't look at
+move_stays : (c : ControllerState) (op : ℕ) (mv : MoveState) (p : ℕ) (m : Msg) → move.answer_of mv.phase ≡ None
+    → finite.get c.operations op ≡ Some (Move mv) → move.row mv (stored_of c.store mv.plan.op) p m ≡ move.keeps (move.next_phase mv.phase [])
+    → hand_step c op p m ≡ still c
+move_stays c op mv p m going there quiet =
+    handed_is c op p m (subst NotShared (sym there) tt)
+    ∙ ap (λ o. takes_turn c op (turn_of o c.store p m)) there
+    ∙ ap (λ r. takes_turn c op (turn_of_move mv c.store r)) quiet
+    ∙ ap (λ a. after_turn c op (turn_of_move mv c.store (move.keeps (move.next_phase mv.phase []))) a) going
+    ∙ ap (λ ops. still (record c { operations = ops })) (insert_same c.operations op (Move mv) there)
+
+shared_unlooked : (mv : MoveState) (events : List FullCell) (p op : ℕ) (chunk : Chunk)
+    → move.row mv events p (msg.Shared op chunk) ≡ move.keeps (move.next_phase mv.phase [])
+shared_unlooked mv events p op chunk = elim (p == move.source mv.plan) as (λ a. (if a then move.keeps (move.next_phase mv.phase [])
+    else if p == move.destination mv.plan then move.keeps (move.next_phase mv.phase []) else move.keeps (move.next_phase mv.phase []))
+    ≡ move.keeps (move.next_phase mv.phase [])) [
+      | true ↦ refl
+      | false ↦ elim (p == move.destination mv.plan) as (λ b. (if b then move.keeps (move.next_phase mv.phase []) else move.keeps (move.next_phase mv.phase []))
+          ≡ move.keeps (move.next_phase mv.phase [])) [ true ↦ refl | false ↦ refl ]
+    ]
+
+synced_unlooked : (mv : MoveState) (events : List FullCell) (p op : ℕ) → move.row mv events p (msg.Synced op) ≡ move.keeps (move.next_phase mv.phase [])
+synced_unlooked mv events p op = elim (p == move.source mv.plan) as (λ a. (if a then move.keeps (move.next_phase mv.phase [])
+    else if p == move.destination mv.plan then move.keeps (move.next_phase mv.phase []) else move.keeps (move.next_phase mv.phase []))
+    ≡ move.keeps (move.next_phase mv.phase [])) [
+      | true ↦ refl
+      | false ↦ elim (p == move.destination mv.plan) as (λ b. (if b then move.keeps (move.next_phase mv.phase []) else move.keeps (move.next_phase mv.phase []))
+          ≡ move.keeps (move.next_phase mv.phase [])) [ true ↦ refl | false ↦ refl ]
+    ]
+
+module _ {F R : Type 0} (f : Semantics R) (g : Given) (n : ℕ) (x : Scene F f g) (p : ℕ) (are : AreShown f g n x) where
+  abbrev c : ControllerState
+  c = x.nodes.controller
+
+  abbrev IsTakenHere : Msg → Type 0
+  IsTakenHere m = IsTaken f g n x (record { node = 1; port = p; message = m })
+
+  -- a share that isn't there is told nothing
+  untold : (op : ℕ) (t : Told R) → find_share x.world.shares op ≡ None → joins f g.site g.packet (place g) (record { ops = x.world.ops; sends = [] })
+      (by_share (S f g) (A f g) x.world.shares p (option_map (λ e. (e, t)) (find_share x.world.shares op)))
+      ≡ record { ops = x.world.ops; shares = x.world.shares; sends = [] }
+  untold op t none = ap (λ o. joins f g.site g.packet (place g) (record { ops = x.world.ops; sends = [] })
+      (by_share (S f g) (A f g) x.world.shares p (option_map (λ e. (e, t)) o))) none
+
+  pub fenced_leads : (op : ℕ) → IsTakenHere (msg.Fenced op) → RowLeads f g x p (msg.Fenced op) (hand_step c op p (msg.Fenced op))
+  fenced_leads op is = told_leads f g n x p (msg.Fenced op) are is op (real.M_fenced op) refl refl refl refl
+      (λ none. ap (option_map (λ e. (e, Is_fenced))) none)
+      (λ mv h. fenced_row f (place g) mv.plan mv.phase (stored_of c.store op) p op h.refusing)
+      (fenced_follows f g.site g.packet (place g) c x.world.ops x.world.shares are.controller.opens op p (are.controller.genuine op)
+      (λ mv has. fenced_row f (place g) mv.plan mv.phase (stored_of c.store op) p op (are.controller.moves op mv has).refusing))
+
+  -- a message that no move and no copy looks at
+  module _ (m : Msg) (is : IsTakenHere m) (op : ℕ) (a : Any R) (seen : shown f g m ≡ Some a) (other : is_copied m ≡ false)
+      (idle : find_share x.world.shares op ≡ None → Idles f g n x p m are is a) where
+    stays_idle : find_share x.world.shares op ≡ None → (b : Any R) → shown f g m ≡ Some b → Idles f g n x p m are is b
+    stays_idle none b e = subst (Idles f g n x p m are is) (same_Some _ _ (sym seen ∙ e)) (idle none)
+
+    by_share_alone : ((mv : MoveState) → finite.get c.operations op ≡ Some (Move mv) → hand_step c op p m ≡ still c)
+        → ((s : ShareState) → finite.get c.operations op ≡ Some (Share s) → RowLeads f g x p m (hand_step c op p m))
+        → RowLeads f g x p m (hand_step c op p m)
+    by_share_alone of_move of_share = by_got (finite.get c.operations op) refl
+      where
+        by_got : (o : Option Operation) → finite.get c.operations op ≡ o → RowLeads f g x p m (hand_step c op p m)
+        by_got None e = none_leads f g n x p m are is op e (stays_idle (no_share_open f g n x p m are is op None e refl))
+        by_got (Some (Move mv)) e =
+            still_leads f g n x p m are is (hand_step c op p m) (of_move mv e) (stays_idle (no_share_open f g n x p m are is op (Some (Move mv)) e refl))
+        by_got (Some (Copy y)) e = copy_leads f g n x p m are is op y e other (stays_idle (no_share_open f g n x p m are is op (Some (Copy y)) e refl))
+        by_got (Some (Share s)) e = of_share s e
+
+  pub shared_leads : (op : ℕ) (chunk : Chunk) → IsTakenHere (msg.Shared op chunk)
+      → RowLeads f g x p (msg.Shared op chunk) (hand_step c op p (msg.Shared op chunk))
+  shared_leads op chunk is =
+      let m = msg.Shared op chunk in
+      let good = is.label.1.chunk in
+      let a : Any R = New (S_shared op good.entry) in
+      let seen : shown f g m ≡ Some a = ap (option_map (λ e. New (S_shared op e))) good.spells in
+      by_share_alone m is op a seen refl (untold op (Has_chunk good.entry))
+      (λ mv there. move_stays c op mv p m (are.controller.going op mv there) there (shared_unlooked mv (stored_of c.store mv.plan.op) p op chunk))
+      (λ s there. share_leads f g n x p m are is op s there a seen (shared_follows f g.site g.packet (place g) c x.world.ops x.world.shares
+      are.controller.opens op p chunk good.entry good.spells (are.controller.genuine op) (λ mv has. are.controller.going op mv has)) refl)
+
+  pub synced_leads : (op : ℕ) → IsTakenHere (msg.Synced op) → RowLeads f g x p (msg.Synced op) (hand_step c op p (msg.Synced op))
+  synced_leads op is =
+      let m = msg.Synced op in
+      by_share_alone m is op (New (S_synced op)) refl refl (untold op Is_synced)
+      (λ mv there. move_stays c op mv p m (are.controller.going op mv there) there (synced_unlooked mv (stored_of c.store mv.plan.op) p op))
+      (λ s there. share_leads f g n x p m are is op s there (New (S_synced op)) refl (synced_follows f g.site g.packet (place g) c x.world.ops
+      x.world.shares are.controller.opens op p (are.controller.genuine op) (λ mv has. are.controller.going op mv has)) refl)
+
+  -- A packet whose target is the controller.
+  module _ (cell : FullCell) (is : IsTakenHere (msg.Diverted cell)) where
+    abbrev its_unit : units.Unit
+    its_unit = (S f g).packet_unit (number cell)
+
+    one_share : (j k : ℕ) (d e : OpenShare) → find_share x.world.shares j ≡ Some d → find_share x.world.shares k ≡ Some e
+        → (S f g).takes d.filter its_unit ≡ true → (S f g).takes e.filter its_unit ≡ true → j ≡ k
+    one_share j k d e at_j at_k takes_d takes_e = elim (j == k) as (λ b. (j == k) ≡ b → j ≡ k) [
+      | true ↦ λ on. (Decides-eqb j k).0 on
+      | false ↦ λ off. let never : true ≡ false = sym takes_e ∙ are.every.global.apart j k d e at_j at_k off its_unit takes_d in cc
+    ] refl
+
+    apart : AreApart f g.site g.packet (place g) c x.world.ops x.world.shares are.controller.opens its_unit
+    apart = record { nums = are.every.global.nums_apart; whole = λ k s there. (are.controller.shared k s there).whole; one = one_share }
+
+    follows : StepFollows f g.site g.packet (place g) (on_diverted c cell) (step_on f g n x p (msg.Diverted cell) are is (New (Diverted_on (number cell))))
+    follows = diverted_follows f g.site g.packet (place g) c x.world.ops x.world.shares are.controller.opens cell are.controller.site is.label.2 apart p
+        are.controller.genuine
+
+    taken_leads : (e : OpenShare) → share_taking (S f g) x.world.shares its_unit ≡ Some e → RowLeads f g x p (msg.Diverted cell) (on_diverted c cell)
+    taken_leads e taking =
+        let own = taken_is f g.site g.packet (place g) c x.world.ops x.world.shares are.controller.opens cell are.controller.site is.label.2 apart e taking in
+        let r = real_share f (place g) g.site x.world.ops x.world.shares c e.num e are.controller.opens
+        (taking_found (S f g) (A f g) x.world.shares its_unit e are.every.global.nums_apart taking) in
+        let below = share_below f g n x p (msg.Diverted cell) are is e.num r.s r.there in
+        let well : DidWell f g c e.num (on_diverted c cell) = subst (DidWell f g c e.num) (sym (ap (queue_step c cell) own))
+        (share_queued_well f g c e.num r.s r.there (are.controller.shared e.num r.s r.there) (are.controller.genuine e.num) cell is.label.2) in
+        well_leads f g n x p (msg.Diverted cell) are is e.num (on_diverted c cell) (New (Diverted_on (number cell))) refl follows refl
+        (subst NotMove (sym r.there) tt) (λ least. (let never : ⊥ = omega (arith, below, least) in absurd never)) well
+
+    free_leads : share_taking (S f g) x.world.shares its_unit ≡ None → RowLeads f g x p (msg.Diverted cell) (on_diverted c cell)
+    free_leads free =
+        let none = none_is f g.site g.packet (place g) c x.world.ops x.world.shares are.controller.opens cell are.controller.site is.label.2 apart free in
+        still_leads f g n x p (msg.Diverted cell) are is (on_diverted c cell) (ap (queue_step c cell) none)
+        (λ a e. subst (Idles f g n x p (msg.Diverted cell) are is) (same_Some _ _ e) (ap (λ o. joins f g.site g.packet (place g)
+        (record { ops = x.world.ops; sends = [] }) (by_share (S f g) (A f g) x.world.shares p (option_map (λ y. (y, Has_packet (number cell))) o))) free))
+
+    pub diverted_leads : RowLeads f g x p (msg.Diverted cell) (if p == switch_node then on_diverted c cell else still c)
+    diverted_leads =
+        let on : (p == switch_node) ≡ true = (Decides-eqb p switch_node).1 is.label.0 in
+        subst (λ b. RowLeads f g x p (msg.Diverted cell) (if b then on_diverted c cell else still c)) (sym on)
+        (by_taking (share_taking (S f g) x.world.shares its_unit) refl)
+      where
+        by_taking : (o : Option OpenShare) → share_taking (S f g) x.world.shares its_unit ≡ o → RowLeads f g x p (msg.Diverted cell) (on_diverted c cell)
+        by_taking (Some e) taking = taken_leads e taking
+        by_taking None free = free_leads free

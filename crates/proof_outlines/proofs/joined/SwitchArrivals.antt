@@ -1,0 +1,215 @@
+-- The switch's step on an item of the input, and on a cell that comes home, leads from a world of a run to one.
+use Rattle.std.proofs.Common.{◌≡◌, ℕ, ◌+◌, ◌-◌, ◌≤◌, Bool, true, false, Option, Some, None, List, [], ◌∷◌}
+use Rattle.std.proofs.Common.{◌++◌, drop, append_assoc, append-nil, refl, sym, ap, ◌∙◌, subst, arith}
+use Rattle.std.specs.Prelude.{if◌then◌else◌, ◌&&◌, ◌||◌, ◌==◌, not, unwrap_or}
+use Rattle.std.specs.List.{filter}
+use Rattle.std.proofs.lemmas.Bool.Decides.{nat_tests}
+use Rattle.std.proofs.lemmas.List.Elements.{filter-append}
+use Rattle.flow_filter.specs.declared.packet.Packet.{Packet}
+use Rattle.flow_filter.specs.Flow.{flow_of}
+use Rattle.nf_function.specs.declared.unit.Unit as units
+use Rattle.nf_function.specs.Semantics.{Semantics, unit_at}
+use Rattle.record_table.proofs.UnitOrder.{same_unit-true}
+use Rattle.event_filter.specs.declared.mark.Mark.TheVariants as mark
+use Rattle.packet_pool.specs.Pool.{FullCell, one_less, one_more}
+use Rattle.switch_rules.specs.declared.target.Target.{Target}
+use Rattle.switch_rules.specs.declared.target.Target.TheVariants as target
+use Rattle.switch_rules.specs.Rules.{first_match}
+use Rattle.nf_msgs.specs.declared.command.Command.{Command}
+use Rattle.nf_msgs.specs.declared.msg.Msg.{Msg}
+use Rattle.nf_msgs.specs.declared.msg.Msg.TheVariants as msg
+use Rattle.nf_msgs.specs.declared.note.Note.{Note}
+use Rattle.nf_msgs.specs.declared.note.Note.TheVariants as note
+use Rattle.nf_msgs.specs.Nodes.{instance_node}
+use Rattle.switch_node.specs.Switch.{SwitchState, arrival_step, goes_to, has_room, is_there, on_packet, on_command, on_credit, still, target_of}
+use Rattle.actor_net.proofs.WaitingMessages.{less_first}
+use Rattle.actor_net.proofs.WeightLaws.{EachSent}
+use Rattle.actor_net.proofs.LinkLemmas.{neither}
+use Rattle.proof_machines.proofs.unit.Real.{sent_for}
+use Rattle.proof_machines.proofs.net.Net as net
+use Rattle.proof_machines.proofs.net.Net.{MoveAsked}
+use Rattle.proof_machines.proofs.net.Waits.{Rising}
+use Rattle.proof_machines.proofs.net.Shares.{Any, Old, New, Diverted_on, S_asked, WantShare, WholeWorld, arrive_sends, asks, whole_input}
+use Rattle.proof_machines.proofs.whole.WhereAll.{comes}
+use Rattle.proof_machines.proofs.whole.EveryAll.{EveryAll, input_every_all, asks_move_every_all, asks_share_every_all}
+use Rattle.net_world.specs.Nodes.{as_node}
+use Rattle.net_world.specs.declared.node.Node.TheVariants.{Switch}
+use Rattle.net_world.specs.Log.{arrivals_in, installs_in}
+use Rattle.net_world.proofs.LogLemmas.{arrived-append}
+use Rattle.proof_outlines.proofs.outline.FiltersApart.{unit_fits}
+use Rattle.proof_outlines.proofs.outline.Outline.{want_of, is_sys}
+use Rattle.proof_outlines.proofs.whole.WholeOutline.{asked_of, outline_all, is_sharing, want_share_of}
+use Rattle.proof_outlines.proofs.whole.AskedShare.{asked_move, asked_share, asked_none, is_wanted, command_unseen}
+use Rattle.proof_outlines.proofs.whole.SwitchAll.{target_node, GoesToTarget}
+use Rattle.proof_outlines.proofs.whole.SwitchWorlds.{command_takes, packet_takes}
+use Rattle.proof_outlines.proofs.joined.LogLemmas.{diverted_in-append, every_same, owners_on, loose_on}
+use Rattle.proof_outlines.proofs.joined.OwnerLemmas.{unit_is_fit}
+use Rattle.proof_outlines.proofs.joined.SwitchLemmas.{rising_without, want_num, after, asked_nums-append, every_on, others_same, quiet, same_switch}
+use Rattle.proof_outlines.proofs.joined.Given.{Given, place, is_diverted, owner_by, diverted_in, target_by}
+use Rattle.proof_outlines.proofs.joined.Joined.{Genuine, GenuinePacket, IsCommand, IsSwitch, Label, S, A}
+use Rattle.proof_outlines.proofs.joined.Joined.{asked_nums, came_by, commands, is_of, shown, Scene, AreShown, Leads}
+use Rattle.proof_outlines.proofs.joined.NextNumbers.{same_grows}
+
+-- the message that a packet goes on in, by its target
+abbrev message_for : Target → FullCell → Msg
+message_for (target.Instance i) cell = msg.Carry mark.Plain cell
+message_for target.Controller cell = msg.Diverted cell
+
+goes_is : (s : SwitchState) (q : Packet) (k : Target) → is_there s k ≡ true → goes_to s q k ≡ arrival_step s q (target_node k) (message_for k)
+goes_is s q (target.Instance i) there = rw there refl
+goes_is s q target.Controller there = refl
+
+-- no command is among what a packet is sent on in
+none_arrives : {R : Type 0} (f : Semantics R) (g : Given) (t p : ℕ) → asked_nums (sent_for 1 (arrive_sends (S f g) (A f g) t p)) ≡ []
+none_arrives {R = R} f g t p =
+    elim (t == 1) as (λ b. asked_nums {R = R} (sent_for 1 (if b then (1, New (Diverted_on p)) ∷ [] else (t, Old (net.Carry_on p)) ∷ [])) ≡ []) [
+      | true ↦ refl
+      | false ↦ elim (t == 1) as (λ b. asked_nums {R = R} (if b then Old (net.Carry_on p) ∷ [] else []) ≡ []) [ true ↦ refl | false ↦ refl ]
+    ]
+
+-- packets that go to the controller are of a unit that a share has
+sent_to_one : (g : Given) (u : units.Unit) (ops : List ℕ) → (target_by g u ops == 1) ≡ is_diverted g u ops
+sent_to_one g u ops = elim (is_diverted g u ops) as (λ b. ((if b then 1 else instance_node (owner_by g u ops)) == 1) ≡ b) [
+  | true ↦ refl
+  | false ↦ grind (arith, nat_tests)
+]
+
+module _ {R : Type 0} (f : Semantics R) (g : Given) where
+  labels_for : (k : Target) (cell : FullCell) → Genuine f g cell → EachSent (Label f g) 0 ((target_node k, message_for k cell) ∷ [])
+  labels_for (target.Instance i) cell genuine = (((refl, omega arith), genuine), tt)
+  labels_for target.Controller cell genuine = ((refl, refl, genuine), tt)
+
+module _ {F R : Type 0} (f : Semantics R) (g : Given) (n : ℕ) (x : Scene F f g) (are : AreShown f g n x) where
+  abbrev s : SwitchState
+  s = x.nodes.switch
+
+  -- what came of each unit when a packet arrives
+  module _ (q : Packet) (genuine : GenuinePacket f g q) where
+    abbrev notes : List Note
+    notes = note.Arrived q.number ∷ []
+
+    its_fits : (u : units.Unit) → is_of f g u q.number ≡ true → unit_fits f.kind u ≡ true
+    its_fits u mine =
+        let same : unit_at f.kind g.site q ≡ u = ap (unit_at f.kind g.site) genuine.same ∙ same_unit-true (unit_at f.kind g.site (g.packet q.number)) u mine in
+        subst (λ v. unit_fits f.kind v ≡ true) same (unit_is_fit f.kind (flow_of g.site q).0 genuine.fits)
+
+    diverted_of : (u : units.Unit) (b : Bool) → is_of f g u q.number ≡ b → (if x.world.target u == 1 then (if b then q.number ∷ [] else []) else [])
+        ≡ (if b && is_diverted g u (installs_in x.log) then q.number ∷ [] else [])
+    diverted_of u true mine = ap (λ t. if t == 1 then q.number ∷ [] else []) (are.owners u (its_fits u mine))
+        ∙ ap (λ b. if b then q.number ∷ [] else []) (sent_to_one g u (installs_in x.log))
+    diverted_of u false mine = neither (x.world.target u == 1)
+
+    came_in : (u : units.Unit) → comes (S f g) (A f g) (is_sys f g.site g.packet) u x.world q.number (came_by f g x.log u) ≡ came_by f g (x.log ++ notes) u
+    came_in u =
+        let all : filter (is_of f g u) (arrivals_in (x.log ++ notes))
+        ≡ filter (is_of f g u) (arrivals_in x.log) ++ (if is_of f g u q.number then q.number ∷ [] else []) =
+        ap (filter (is_of f g u)) (arrived-append x.log notes) ∙ filter-append (is_of f g u) (arrivals_in x.log) (q.number ∷ []) in
+        let diverted : diverted_in g (is_of f g u) u [] (x.log ++ notes)
+        ≡ diverted_in g (is_of f g u) u [] x.log ++ (if x.world.target u == 1 then (if is_of f g u q.number then q.number ∷ [] else []) else []) =
+        diverted_in-append g (is_of f g u) u [] x.log notes
+        ∙ ap (λ v. diverted_in g (is_of f g u) u [] x.log ++ v) (sym (diverted_of u (is_of f g u q.number) refl)) in
+        let bared = loose_on f g n x are notes refl u in
+        rw (all, diverted, ← bared) refl
+
+  -- a packet of the input
+  pub packet_leads : (q : Packet) (items : List Msg) → GenuinePacket f g q → has_room s ≡ true → x.input ≡ msg.InPacket q ∷ items
+      → Leads f g n x (record { node = 0; port = 0; message = msg.InPacket q }) (as_node Switch (on_packet s q))
+  packet_leads q items genuine room waits =
+      let o : GoesToTarget f.kind s x.world.target (flow_of g.site q).0 = are.switch.routes (flow_of g.site q).0 genuine.fits in
+      let found : target_of s q ≡ o.target = ap (λ z. unwrap_or (first_match s.rules (flow_of z q).0) (target.Instance 0)) are.switch.site
+      ∙ ap (λ z. unwrap_or z (target.Instance 0)) o.first in
+      let did : on_packet s q ≡ arrival_step s q (target_node o.target) (message_for o.target) =
+      ap (λ b. if b then goes_to s q (target_of s q) else still s) room ∙ ap (goes_to s q) found ∙ goes_is s q o.target o.there in
+      let t : SwitchState = record s { pool = one_less s.pool; flying = s.flying + 1 } in
+      let left : commands f g (drop 1 x.input) ≡ commands f g x.input = ap (λ v. commands f g (drop 1 v)) waits ∙ sym (ap (commands f g) waits) in
+      let next : WholeWorld (S f g) (A f g) = whole_input (S f g) (A f g) x.world q.number in
+      let takes = packet_takes f g.site g.packet (place g) x.world s are.switch.routes q are.switch.site genuine.same genuine.fits room in
+      let outs : List (ℕ × Any R) = arrive_sends (S f g) (A f g) (x.world.target (unit_at f.kind g.site (g.packet q.number))) q.number in
+      let kept : asked_nums (next.link 0 1) ≡ asked_nums (x.world.link 0 1) = asked_nums-append (x.world.link 0 1) (sent_for 1 outs)
+      ∙ ap (λ v. asked_nums (x.world.link 0 1) ++ v) (none_arrives f g (x.world.target (unit_at f.kind g.site (g.packet q.number))) q.number)
+      ∙ append-nil (asked_nums (x.world.link 0 1)) in
+      let every = every_same (S f g) (A f g) (is_sys f g.site g.packet) next _ _ (came_in q genuine)
+      (input_every_all (S f g) (A f g) (is_sys f g.site g.packet) (is_sharing f g.site g.packet) x.world (came_by f g x.log) are.every q.number) in
+      subst (λ st. Leads f g n x (record { node = 0; port = 0; message = msg.InPacket q }) (as_node Switch st)) (sym did) (record {
+        nodes = record x.nodes { switch = t };
+        own = refl;
+        others = others_same x.nodes t;
+        world = next;
+        links = λ i j. takes.links i j ∙ ap (λ st. x.world.link i j ++ (if i == 0 then sent_for j (outline_all f (place g) st.sends) else [])) did;
+        labels = labels_for f g o.target (record { pool = s.pool.name; packet = q })
+            (record { same = genuine.same; transport = genuine.transport; fits = genuine.fits; pool = are.switch.pool });
+        grows = same_grows (msg.InPacket q) x.world.next;
+        shown_is = after f g n x are t x.world.target next.link (note.Arrived q.number ∷ []) (drop 1 x.input) (same_switch f g s t x.world.target refl refl
+            refl refl are.switch) every (owners_on f g n x are (note.Arrived q.number ∷ []) refl) refl (rw (kept, left) are.rising);
+      })
+
+  -- a command of the input
+  module _ (c : Command) (items : List Msg) (is : IsCommand f g c) (waits : x.input ≡ msg.InCommand c ∷ items) where
+    switch : IsSwitch f g (on_command s c).node x.world.target
+    switch = same_switch f g s (on_command s c).node x.world.target refl refl refl refl are.switch
+
+    rises : Rising x.world.next (asked_nums (x.world.link 0 1) ++ c.op ∷ commands f g items)
+    rises = subst (λ v. Rising x.world.next (asked_nums (x.world.link 0 1) ++ commands f g v)) waits are.rising
+
+    left : commands f g (drop 1 x.input) ≡ commands f g items
+    left = ap (λ v. commands f g (drop 1 v)) waits
+
+    -- that isn't seen, or goes to the controller
+    unseen_leads : asked_of f (place g) c.op c.what ≡ None
+        → Leads f g n x (record { node = 0; port = 0; message = msg.InCommand c }) (as_node Switch (on_command s c))
+    unseen_leads e = quiet f g n x are 0 (msg.InCommand c) (on_command s c).node ((1, msg.Asked c) ∷ []) refl (command_unseen f (place g) s c e)
+        ((refl, refl, is), tt) switch (rw left (rising_without x.world.next c.op (asked_nums (x.world.link 0 1)) (commands f g items) rises))
+
+    asked_leads : (m : Any R) → asked_of f (place g) c.op c.what ≡ Some m → asked_nums (m ∷ []) ≡ c.op ∷ []
+        → EveryAll (S f g) (A f g) (is_sys f g.site g.packet) (asks (S f g) (A f g) x.world m) (came_by f g x.log)
+        → Leads f g n x (record { node = 0; port = 0; message = msg.InCommand c }) (as_node Switch (on_command s c))
+    asked_leads m e num every =
+        let next : WholeWorld (S f g) (A f g) = asks (S f g) (A f g) x.world m in
+        let rising : asked_nums (next.link 0 1) ++ commands f g (drop 1 x.input) ≡ asked_nums (x.world.link 0 1) ++ c.op ∷ commands f g items =
+        ap (λ v. v ++ commands f g (drop 1 x.input)) (asked_nums-append (x.world.link 0 1) (m ∷ []) ∙ ap (λ v. asked_nums (x.world.link 0 1) ++ v) num)
+        ∙ append_assoc (asked_nums (x.world.link 0 1)) (c.op ∷ []) (commands f g (drop 1 x.input))
+        ∙ ap (λ v. asked_nums (x.world.link 0 1) ++ c.op ∷ v) left in
+        record {
+          nodes = record x.nodes { switch = (on_command s c).node };
+          own = refl;
+          others = others_same x.nodes (on_command s c).node;
+          world = next;
+          links = (command_takes f g.site g.packet (place g) x.world s are.switch.routes c m e).links;
+          labels = ((refl, refl, is), tt);
+          grows = same_grows (msg.InCommand c) x.world.next;
+          shown_is = after f g n x are (on_command s c).node x.world.target next.link [] (drop 1 x.input) switch (every_on f g n x are next every)
+              (owners_on f g n x are [] refl) refl (rw rising rises);
+        }
+
+    pub command_leads : Leads f g n x (record { node = 0; port = 0; message = msg.InCommand c }) (as_node Switch (on_command s c))
+    command_leads = by_want (want_of (place g) c.op c.what) (want_share_of (place g) c.op c.what) refl refl
+      where
+        by_want : (o : Option MoveAsked) (k : Option WantShare) → want_of (place g) c.op c.what ≡ o → want_share_of (place g) c.op c.what ≡ k
+            → Leads f g n x (record { node = 0; port = 0; message = msg.InCommand c }) (as_node Switch (on_command s c))
+        by_want (Some w) k a b = asked_leads (Old (net.Asked w)) (asked_move f (place g) c.op c.what w a) (ap (λ k. k ∷ [])
+            (want_num c.op c.what (place g) w a)) (asks_move_every_all (S f g) (A f g) (is_sys f g.site g.packet) x.world (came_by f g x.log) are.every w)
+        by_want None (Some w) a b =
+            asked_leads (New (S_asked w)) (asked_share f (place g) c.op c.what w b) (ap (λ k. k ∷ []) (is_wanted (place g) c.op c.what w b).num)
+            (asks_share_every_all (S f g) (A f g) (is_sys f g.site g.packet) x.world (came_by f g x.log) are.every w)
+        by_want None None a b = unseen_leads (asked_none f (place g) c.op c.what a b)
+
+  -- an item of the input that isn't seen
+  pub item_leads : (m : Msg) (items : List Msg) (sends : List (ℕ × Msg)) → x.input ≡ m ∷ items → commands f g (m ∷ items) ≡ commands f g items
+      → shown f g m ≡ None → outline_all f (place g) sends ≡ [] → EachSent (Label f g) 0 sends
+      → Leads f g n x (record { node = 0; port = 0; message = m }) (record { node = Switch s; sends = sends; notes = [] })
+  item_leads m items sends waits same unseen nothing labels =
+      let left : commands f g (drop 1 x.input) ≡ commands f g x.input = ap (λ v. commands f g (drop 1 v)) waits ∙ sym same ∙ sym (ap (commands f g) waits) in
+      quiet f g n x are 0 m s sends unseen nothing labels are.switch (rw left are.rising)
+
+  -- a packet's cell comes home
+  pub credit_leads : (p : ℕ) (cell : FullCell) → 2 ≤ p
+      → Leads f g n x (record { node = 0; port = p; message = msg.Credit cell }) (as_node Switch (on_credit s cell))
+  credit_leads p cell two =
+      let off : (0 == p) ≡ false = grind (arith, nat_tests, two) in
+      let rising : Rising x.world.next (asked_nums (x.world.link 0 1) ++ commands f g (less_first ((0 == 0) && (0 == p)) x.input)) = rw off are.rising in
+      elim ((s.flying == 0) || not (cell.pool == s.pool.name)) as (λ b. Leads f g n x (record { node = 0; port = p; message = msg.Credit cell })
+      (as_node Switch (if b then still s else record { node = record s { pool = one_more s.pool; flying = s.flying - 1 }; sends = []; notes = [] }))) [
+        | true ↦ quiet f g n x are p (msg.Credit cell) s [] refl refl tt are.switch rising
+        | false ↦ quiet f g n x are p (msg.Credit cell) (record s { pool = one_more s.pool; flying = s.flying - 1 }) [] refl refl tt
+            (same_switch f g s _ x.world.target refl refl refl refl are.switch) rising
+      ]

@@ -1,0 +1,343 @@
+-- The switch's step on a message of a run leads from a world of a run to one.
+use Rattle.std.proofs.Common.{◌≡◌, ℕ, ◌-◌, Bool, true, Some, List, [], ◌∷◌, ◌++◌, refl, sym, ap, ◌∙◌, subst, arith}
+use Rattle.std.specs.Prelude.{nat_lt}
+use Rattle.std.proofs.lemmas.Bool.{and_parts}
+use Rattle.flow_filter.specs.declared.filter.Filter.{Filter}
+use Rattle.flow_filter.specs.declared.packet.Packet.{Packet}
+use Rattle.nf_function.specs.declared.unit.Unit as units
+use Rattle.nf_function.specs.Records.{Laws as FunctionLaws}
+use Rattle.nf_function.specs.Semantics.{Semantics}
+use Rattle.event_filter.specs.declared.mark.Mark.TheVariants as mark
+use Rattle.packet_pool.specs.Pool.{FullCell}
+use Rattle.switch_rules.specs.declared.target.Target.{Target}
+use Rattle.switch_rules.specs.declared.target.Target.TheVariants as target
+use Rattle.switch_rules.specs.Rules.{rules_redirected}
+use Rattle.switch_rules.proofs.RedirectLaws.{AreFilters-redirected}
+use Rattle.nf_msgs.specs.declared.command.Command.{Command}
+use Rattle.nf_msgs.specs.declared.msg.Msg.{Msg}
+use Rattle.nf_msgs.specs.declared.msg.Msg.TheVariants as msg
+use Rattle.nf_msgs.specs.declared.note.Note.{Note}
+use Rattle.nf_msgs.specs.declared.note.Note.TheVariants as note
+use Rattle.nf_msgs.specs.Nodes.{instance_node}
+use Rattle.switch_node.specs.Switch.{SwitchState, on_install, sends_to_instance, is_there, stop_messages}
+use Rattle.actor_net.proofs.WeightLaws.{EachSent}
+use Rattle.proof_machines.proofs.unit.Real as real
+use Rattle.proof_machines.proofs.net.Net as net
+use Rattle.proof_machines.proofs.net.Net.{everything, find_op, links_after, sw_target}
+use Rattle.proof_machines.proofs.net.UntakenSwitch.{HandsAny}
+use Rattle.proof_machines.proofs.net.Shares.{Any, Old, New, S_forward, S_install, WholeWorld, whole_switch, share_target}
+use Rattle.proof_machines.proofs.whole.EveryAll.{EveryAll, switch_every_all}
+use Rattle.net_world.specs.Nodes.{as_node, node_step}
+use Rattle.net_world.specs.declared.node.Node.TheVariants.{Switch}
+use Rattle.net_world.specs.Log.{arrivals_in, dones_in, installs_in}
+use Rattle.proof_outlines.proofs.outline.FiltersApart.{filter_fits, filter_is, is_whole, takes_whole, unit_fits}
+use Rattle.proof_outlines.proofs.outline.Outline.{number, is_sys}
+use Rattle.proof_outlines.proofs.whole.WholeOutline.{outline_all, is_sharing}
+use Rattle.proof_outlines.proofs.whole.SwitchAll.{RoutesAll, stops_all}
+use Rattle.proof_outlines.proofs.whole.SwitchWorlds.{move_installs, share_installs}
+use Rattle.proof_outlines.proofs.joined.Given.{Given, place, IsInstall, IsDivert, loose_by, owner_by, target_by}
+use Rattle.proof_outlines.proofs.joined.HandedUnits.{handed, handed_to_share, loose_begins, loose_stays, owner_at, plain_hands, plain_is}
+use Rattle.proof_outlines.proofs.joined.LogLemmas.{came_more, every_same, loose_on, owners_on}
+use Rattle.proof_outlines.proofs.joined.SwitchLemmas.{NoneAsked, after, nums_put, others_same, quiet, same_switch, stops_labels}
+use Rattle.proof_outlines.proofs.joined.SwitchArrivals.{command_leads, credit_leads, item_leads, packet_leads}
+use Rattle.proof_outlines.proofs.joined.Joined.{Scene, AreShown, IsTaken, Leads, IsSwitch, Label, Genuine, S, A, asked_nums, came_by, count, node_of, shown}
+use Rattle.proof_outlines.proofs.joined.NextNumbers.{same_grows}
+
+module _ {F R : Type 0} (f : Semantics R) (g : Given) (n : ℕ) (x : Scene F f g) (are : AreShown f g n x) where
+  abbrev s : SwitchState
+  s = x.nodes.switch
+
+  -- what the log tells after a message of the controller that the abstract network sees, which leaves these targets
+  record Told (a : Any R) (to : units.Unit → ℕ) (notes : List Note) : Type 0 where
+    still : arrivals_in notes ≡ []
+    none : dones_in notes ≡ []
+    owners : (u : units.Unit) → unit_fits f.kind u ≡ true → to u ≡ target_by g u (installs_in (x.log ++ notes))
+    stays : (u : units.Unit) → loose_by g u (installs_in x.log) ≡ true → loose_by g u (installs_in (x.log ++ notes)) ≡ true
+    hands : (u : units.Unit) → HandsAny (S f g) (A f g) (is_sys f g.site g.packet) u x.world a (loose_by g u (installs_in (x.log ++ notes)))
+
+  -- the world after it
+  abbrev sent_world : (units.Unit → ℕ) → List (ℕ × Any R) → WholeWorld (S f g) (A f g)
+  sent_world to outs = record x.world { target = to; link = λ i j. links_after x.world.link 1 0 outs i j }
+
+  -- such a message
+  seen_step : (m : Msg) (a : Any R) (rest : List (Any R)) (t : SwitchState) (sends : List (ℕ × Msg)) (notes : List Note) (to : units.Unit → ℕ)
+      → shown f g m ≡ Some a → x.world.link 1 0 ≡ a ∷ rest → whole_switch (S f g) (A f g) x.world 1 a ≡ sent_world to (outline_all f (place g) sends)
+      → NoneAsked (outline_all f (place g) sends) → EachSent (Label f g) 0 sends → IsSwitch f g t to → Told a to notes
+      → Leads f g n x (record { node = 0; port = 1; message = m }) (record { node = Switch t; sends = sends; notes = notes })
+  seen_step m a rest t sends notes to seen waits next_is silent labels switch told =
+      let outs : List (ℕ × Any R) = outline_all f (place g) sends in
+      let next : WholeWorld (S f g) (A f g) = sent_world to outs in
+      let moved = switch_every_all (S f g) (A f g) (is_sys f g.site g.packet) (is_sharing f g.site g.packet) x.world (came_by f g x.log)
+      (λ u. loose_by g u (installs_in (x.log ++ notes))) are.every 1 a rest refl waits told.stays told.hands in
+      let every = every_same (S f g) (A f g) (is_sys f g.site g.packet) next _ (came_by f g (x.log ++ notes))
+      (λ u. sym (came_more f g x.log notes told.still u)) (subst (λ w. EveryAll (S f g) (A f g) (is_sys f g.site g.packet) w
+      (λ u. record (came_by f g x.log u) { bared = loose_by g u (installs_in (x.log ++ notes)) })) next_is moved) in
+      let same : asked_nums (next.link 0 1) ≡ asked_nums (x.world.link 0 1) = nums_put (x.world.link 0 1) 1 outs silent in
+      record {
+        nodes = record x.nodes { switch = t };
+        own = refl;
+        others = others_same x.nodes t;
+        world = next;
+        links = λ i j. rw seen refl;
+        labels = labels;
+        grows = same_grows m x.world.next;
+        shown_is = after f g n x are t to next.link notes x.input switch every told.owners told.none (rw same are.rising);
+      }
+
+  -- a message that changes no rule
+  told_nothing : (a : Any R)
+      → ((u : units.Unit) → HandsAny (S f g) (A f g) (is_sys f g.site g.packet) u x.world a (loose_by g u (installs_in (x.log ++ []))))
+      → Told a x.world.target []
+  told_nothing a hands = record {
+    still = refl;
+    none = refl;
+    owners = owners_on f g n x are [] refl;
+    stays = λ u e. sym (loose_on f g n x are [] refl u) ∙ e;
+    hands = hands;
+  }
+
+  there : (i : ℕ) → nat_lt i (count f g) ≡ true → nat_lt i s.instances ≡ true
+  there i e = let same = are.switch.instances in rw same e
+
+  passed_leads : (to op : ℕ) (cell : FullCell) (rest : List (Any R)) → nat_lt to (count f g) ≡ true → Genuine f g cell
+      → x.world.link 1 0 ≡ Old (net.Mv everything (real.M_forward (number cell) (instance_node to))) ∷ rest
+      → Leads f g n x (record { node = 0; port = 1; message = msg.Forward to (mark.Pass op) cell })
+      (as_node Switch (sends_to_instance s to (msg.Carry (mark.Pass op) cell)))
+  passed_leads to op cell rest e genuine waits =
+      let is_there = there to e in
+      rw is_there (seen_step (msg.Forward to (mark.Pass op) cell) _ rest s ((instance_node to, msg.Carry (mark.Pass op) cell) ∷ []) [] x.world.target refl
+      waits refl (refl, tt) (((refl, omega arith), genuine), tt) are.switch (told_nothing _ (λ u h k from to e is _ _ _ _. cc)))
+
+  shared_leads : (to op : ℕ) (home : Bool) (cell : FullCell) (rest : List (Any R)) → nat_lt to (count f g) ≡ true
+      → Genuine f g cell → x.world.link 1 0 ≡ New (S_forward op home (number cell) (instance_node to)) ∷ rest
+      → Leads f g n x (record { node = 0; port = 1; message = msg.Forward to (mark.Shared op home) cell })
+      (as_node Switch (sends_to_instance s to (msg.Carry (mark.Shared op home) cell)))
+  shared_leads to op home cell rest e genuine waits =
+      let is_there = there to e in
+      rw is_there (seen_step (msg.Forward to (mark.Shared op home) cell) _ rest s ((instance_node to, msg.Carry (mark.Shared op home) cell) ∷ []) []
+      x.world.target refl waits refl (refl, tt) (((refl, omega arith), genuine), tt) are.switch (told_nothing _ (λ u. tt)))
+
+  fence_leads : (op to : ℕ) (rest : List (Any R)) → nat_lt to (count f g) ≡ true
+      → x.world.link 1 0 ≡ Old (net.Mv everything (real.M_fence_to op (instance_node to))) ∷ rest
+      → Leads f g n x (record { node = 0; port = 1; message = msg.FenceTo op to }) (as_node Switch (sends_to_instance s to (msg.Fence op)))
+  fence_leads op to rest e waits =
+      let is_there = there to e in
+      rw is_there (seen_step (msg.FenceTo op to) _ rest s ((instance_node to, msg.Fence op) ∷ []) [] x.world.target refl waits refl (refl, tt)
+      ((refl, omega arith), tt) are.switch (told_nothing _ (λ u h k from to e is _ _ _ _. cc)))
+
+  -- A change of the rules
+  abbrev changed : Filter → ℕ → Target → SwitchState
+  changed filter from to = record s { rules = rules_redirected (record { filter = filter; from = target.Instance from; to = to }) s.rules }
+
+  install_is : (op : ℕ) (filter : Filter) (from : ℕ) (to : Target) → nat_lt from s.instances ≡ true → is_there s to ≡ true → on_install s op filter from to
+      ≡ record { node = changed filter from to; sends = (instance_node from, msg.Fence op) ∷ []; notes = note.Installed op ∷ [] }
+  install_is op filter from to a b = rw (a, b) refl
+
+  changed_switch : (op : ℕ) (filter : Filter) (from : ℕ) (to : Target) (next : units.Unit → ℕ) → nat_lt from s.instances ≡ true → is_there s to ≡ true
+      → is_whole f.kind filter ≡ true → RoutesAll f.kind (on_install s op filter from to).node next → IsSwitch f g (changed filter from to) next
+  changed_switch op filter from to next a b whole routes = record {
+    site = are.switch.site;
+    instances = are.switch.instances;
+    filters = AreFilters-redirected (record { filter = filter; from = target.Instance from; to = to }) s.rules are.switch.filters
+        (filter_is filter (and_parts (filter_fits filter) _ whole).0);
+    routes = subst (λ st. RoutesAll f.kind st.node next) (install_is op filter from to a b) routes;
+    pool = are.switch.pool;
+  }
+
+  told_install : (op : ℕ) (filter : Filter) (from to : ℕ) → is_whole f.kind filter ≡ true
+      → IsInstall g op (record { filter = filter; from = from; to = target.Instance to })
+      → Told (Old (net.Mv filter (real.M_install op (instance_node from) (instance_node to))))
+      (λ v. sw_target (S f g) x.world.target (net.Mv filter (real.M_install op (instance_node from) (instance_node to))) v) (note.Installed op ∷ [])
+  told_install op filter from to whole its = record {
+    still = refl;
+    none = refl;
+    owners = λ u fits. handed f g op filter from to its x.world.target u fits x.log whole (are.owners u fits);
+    stays = λ u e. loose_stays g u x.log op e;
+    hands = λ u h k src dst e same there plain taken at.
+        (let number : op ≡ k = cc in let is_from : instance_node from ≡ src = cc in let is_filter : filter ≡ h = cc in
+        let takes_it : takes_whole f.kind filter u ≡ true = ap (λ y. takes_whole f.kind y u) is_filter ∙ taken in
+        let fits : unit_fits f.kind u ≡ true = (and_parts (unit_fits f.kind u) _ (and_parts (is_whole f.kind filter) _ takes_it).1).0 in
+        let owns : owner_by g u (installs_in x.log) ≡ from = owner_at g u (installs_in x.log) from (sym (are.owners u fits) ∙ at ∙ sym is_from) in
+        loose_begins g u x.log op (plain_hands f g op filter from to its u (owner_by g u (installs_in x.log))
+        (and_parts (unit_fits f.kind u) _ ((and_parts (is_whole f.kind filter) _ takes_it).1)).1 owns
+        (plain_is f g x.nodes.controller x.world.ops x.world.shares x.world.next are.controller op e (ap (find_op x.world.ops) number ∙ there) plain
+        its.plan its.plan_is)));
+  }
+
+  install_leads : (op : ℕ) (filter : Filter) (from to : ℕ) (rest : List (Any R)) → nat_lt from (count f g) ≡ true → nat_lt to (count f g) ≡ true
+      → is_whole f.kind filter ≡ true → IsInstall g op (record { filter = filter; from = from; to = target.Instance to })
+      → x.world.link 1 0 ≡ Old (net.Mv filter (real.M_install op (instance_node from) (instance_node to))) ∷ rest
+      → Leads f g n x (record { node = 0; port = 1; message = msg.Install op filter from (target.Instance to) })
+      (as_node Switch (on_install s op filter from (target.Instance to)))
+  install_leads op filter from to rest a b whole its waits =
+      let goes = move_installs f g.site g.packet (place g) x.world s are.switch.routes 1 op filter from to are.switch.filters whole (there from a)
+      (there to b) in
+      subst (λ st. Leads f g n x (record { node = 0; port = 1; message = msg.Install op filter from (target.Instance to) }) (as_node Switch st))
+      (sym (install_is op filter from (target.Instance to) (there from a) (there to b)))
+      (seen_step (msg.Install op filter from (target.Instance to)) _ rest (changed filter from (target.Instance to))
+      ((instance_node from, msg.Fence op) ∷ []) (note.Installed op ∷ []) _ refl waits refl (refl, tt) ((refl, omega arith), tt)
+      (changed_switch op filter from (target.Instance to) _ (there from a) (there to b) whole goes.routes) (told_install op filter from to whole its))
+
+  -- to the controller, for a share
+  told_divert : (op : ℕ) (filter : Filter) (from : ℕ) → is_whole f.kind filter ≡ true → IsDivert g op filter from
+      → Told (New (S_install op filter (instance_node from)))
+      (λ v. share_target (S f g) (A f g) x.world.target (S_install op filter (instance_node from)) v) (note.Installed op ∷ [])
+  told_divert op filter from whole its = record {
+    still = refl;
+    none = refl;
+    owners = λ u fits. handed_to_share f g op filter from its x.world.target u fits x.log whole (are.owners u fits);
+    stays = λ u e. loose_stays g u x.log op e;
+    hands = λ u. tt;
+  }
+
+  divert_leads : (op : ℕ) (filter : Filter) (from : ℕ) (rest : List (Any R)) → nat_lt from (count f g) ≡ true
+      → is_whole f.kind filter ≡ true → IsDivert g op filter from → x.world.link 1 0 ≡ New (S_install op filter (instance_node from)) ∷ rest
+      → Leads f g n x (record { node = 0; port = 1; message = msg.Install op filter from target.Controller })
+      (as_node Switch (on_install s op filter from target.Controller))
+  divert_leads op filter from rest a whole its waits =
+      let goes = share_installs f g.site g.packet (place g) x.world s are.switch.routes 1 op filter from are.switch.filters whole (there from a) in
+      subst (λ st. Leads f g n x (record { node = 0; port = 1; message = msg.Install op filter from target.Controller }) (as_node Switch st))
+      (sym (install_is op filter from target.Controller (there from a) refl))
+      (seen_step (msg.Install op filter from target.Controller) _ rest (changed filter from target.Controller)
+      ((instance_node from, msg.Fence op) ∷ []) (note.Installed op ∷ []) _ refl waits refl (refl, tt) ((refl, omega arith), tt)
+      (changed_switch op filter from target.Controller _ (there from a) refl whole goes.routes) (told_divert op filter from whole its))
+
+-- the messages that come to the switch in a run
+data Comes (m : Msg) : Type 0 where
+  Packet_in : (q : Packet) → m ≡ msg.InPacket q → Comes m
+  Command_in : (c : Command) → m ≡ msg.InCommand c → Comes m
+  Settle_in : m ≡ msg.InSettle → Comes m
+  End_in : m ≡ msg.InEnd → Comes m
+  Passes : (to op : ℕ) (cell : FullCell) → m ≡ msg.Forward to (mark.Pass op) cell → Comes m
+  Shares_out : (to op : ℕ) (home : Bool) (cell : FullCell) → m ≡ msg.Forward to (mark.Shared op home) cell → Comes m
+  Installs : (op : ℕ) (filter : Filter) (from to : ℕ) → m ≡ msg.Install op filter from (target.Instance to) → Comes m
+  Diverts : (op : ℕ) (filter : Filter) (from : ℕ) → m ≡ msg.Install op filter from target.Controller → Comes m
+  Fences : (op to : ℕ) → m ≡ msg.FenceTo op to → Comes m
+  Answers : (op : ℕ) → m ≡ msg.Answered op → Comes m
+  Finishes : m ≡ msg.Finish → Comes m
+  Credits : (cell : FullCell) → m ≡ msg.Credit cell → Comes m
+
+module _ {R : Type 0} (f : Semantics R) (g : Given) where
+  -- by the labels no other comes
+  comes : (p : ℕ) (m : Msg) → Label f g p 0 m → Comes m
+  comes p (msg.InPacket q) e = Packet_in q refl
+  comes p (msg.InCommand c) e = Command_in c refl
+  comes p msg.InSettle e = Settle_in refl
+  comes p msg.InEnd e = End_in refl
+  comes p (msg.Forward to mark.Plain cell) e = let never = e.2 in cc
+  comes p (msg.Forward to (mark.Pass op) cell) e = Passes to op cell refl
+  comes p (msg.Forward to (mark.Shared op home) cell) e = Shares_out to op home cell refl
+  comes p (msg.Install op filter from (target.Instance to)) e = Installs op filter from to refl
+  comes p (msg.Install op filter from target.Controller) e = Diverts op filter from refl
+  comes p (msg.FenceTo op to) e = Fences op to refl
+  comes p (msg.Answered op) e = Answers op refl
+  comes p msg.Finish e = Finishes refl
+  comes p (msg.Credit cell) e = Credits cell refl
+  comes p (msg.Asked c) e = let r = e.1 in cc
+  comes p msg.End e = let r = e.1 in cc
+  comes p (msg.Diverted cell) e = let r = e.1 in cc
+  comes p (msg.Carry mark cell) e = let r = e.0.1 in absurd (omega (arith, r))
+  comes p (msg.Fence op) e = let r = e.1 in absurd (omega (arith, r))
+  comes p msg.Stop e = let r = e.1 in absurd (omega (arith, r))
+  comes p (msg.Enable op filter action) e = let r = e.0.1 in absurd (omega (arith, r))
+  comes p (msg.Stream op filter) e = let r = e.0.1 in absurd (omega (arith, r))
+  comes p (msg.Delete op gone) e = let r = e.1 in absurd (omega (arith, r))
+  comes p (msg.Put op piece first) e = let r = e.0.1 in absurd (omega (arith, r))
+  comes p (msg.Restore op chunks) e = let r = e.0.1 in absurd (omega (arith, r))
+  comes p (msg.Enabled op) e = let r = e.1 in cc
+  comes p (msg.Piece op piece) e = let r = e.0.1 in cc
+  comes p (msg.Deleted op) e = let r = e.1 in cc
+  comes p (msg.PutOk op) e = let r = e.1 in cc
+  comes p (msg.PutNo op refused) e = let r = e.0.1 in cc
+  comes p (msg.Restored op) e = let r = e.1 in cc
+  comes p (msg.Event op cell) e = let r = e.0.1 in cc
+  comes p (msg.Fenced op) e = let r = e.1 in cc
+  comes p (msg.Get op filter) e = let r = e.0.1 in absurd (omega (arith, r))
+  comes p (msg.GetAll op) e = let r = e.1 in absurd (omega (arith, r))
+  comes p (msg.Standby op chunks) e = let r = e.0.1 in absurd (omega (arith, r))
+  comes p (msg.PutAll op chunk) e = let r = e.1 in absurd (omega (arith, r))
+  comes p (msg.Sync home op chunks) e = let r = e.0.1 in absurd (omega (arith, r))
+  comes p (msg.Chunks op chunks) e = let r = e.0.1 in cc
+  comes p (msg.Shared op chunk) e = let r = e.0.1 in cc
+  comes p (msg.Synced op) e = let r = e.1 in cc
+  comes p (msg.AllChunk op chunk) e = let r = e.1 in cc
+  comes p (msg.Kept op) e = let r = e.1 in cc
+  comes p msg.Final e = let r = e.1 in cc
+  comes p m e = absurd e
+
+module _ {F R : Type 0} (f : Semantics R) (g : Given) (n : ℕ) (x : Scene F f g) where
+  -- a step on a message from a port leads to a world of a run
+  abbrev Does : ℕ → Msg → Type 0
+  Does p m = IsTaken f g n x (record { node = 0; port = p; message = m })
+      → Leads f g n x (record { node = 0; port = p; message = m }) (node_step f (node_of x.nodes 0) p m)
+
+  at_port : (m : Msg) (k p : ℕ) → p ≡ k → Does k m → Does p m
+  at_port m k p same d = subst (λ i. Does i m) (sym same) d
+
+  at_message : (p : ℕ) (m k : Msg) → m ≡ k → Does p k → Does p m
+  at_message p m k same d = subst (λ i. Does p i) (sym same) d
+
+  module _ (are : AreShown f g n x) where
+    does_packet : (p : ℕ) (q : Packet) → Does p (msg.InPacket q)
+    does_packet p q is = at_port (msg.InPacket q) 0 p is.label.0.0 (λ t. packet_leads f g n x are q t.items t.label.1 (t.ready refl refl) (t.item refl refl)) is
+
+    does_command : (p : ℕ) (c : Command) → Does p (msg.InCommand c)
+    does_command p c is = at_port (msg.InCommand c) 0 p is.label.0.0 (λ t. command_leads f g n x are c t.items t.label.1 (t.item refl refl)) is
+
+    does_settle : (p : ℕ) → Does p msg.InSettle
+    does_settle p is = at_port msg.InSettle 0 p is.label.0 (λ t. item_leads f g n x are msg.InSettle t.items [] (t.item refl refl) refl refl refl tt) is
+
+    does_end : (p : ℕ) → Does p msg.InEnd
+    does_end p is = at_port msg.InEnd 0 p is.label.0
+        (λ t. item_leads f g n x are msg.InEnd t.items ((1, msg.End) ∷ []) (t.item refl refl) refl refl refl ((refl, refl), tt)) is
+
+    does_pass : (p to op : ℕ) (cell : FullCell) → Does p (msg.Forward to (mark.Pass op) cell)
+    does_pass p to op cell is = at_port (msg.Forward to (mark.Pass op) cell) 1 p is.label.0.0
+        (λ t. passed_leads f g n x are to op cell t.rest t.label.1 t.label.3 (t.head refl _ refl)) is
+
+    does_share : (p to op : ℕ) (home : Bool) (cell : FullCell) → Does p (msg.Forward to (mark.Shared op home) cell)
+    does_share p to op home cell is = at_port (msg.Forward to (mark.Shared op home) cell) 1 p is.label.0.0
+        (λ t. shared_leads f g n x are to op home cell t.rest t.label.1 t.label.3 (t.head refl _ refl)) is
+
+    does_install : (p op : ℕ) (filter : Filter) (from to : ℕ) → Does p (msg.Install op filter from (target.Instance to))
+    does_install p op filter from to is = at_port (msg.Install op filter from (target.Instance to)) 1 p is.label.0.0
+        (λ t. install_leads f g n x are op filter from to t.rest t.label.1 t.label.2 t.label.3 t.label.4 (t.head refl _ refl)) is
+
+    does_divert : (p op : ℕ) (filter : Filter) (from : ℕ) → Does p (msg.Install op filter from target.Controller)
+    does_divert p op filter from is = at_port (msg.Install op filter from target.Controller) 1 p is.label.0.0
+        (λ t. divert_leads f g n x are op filter from t.rest t.label.1 t.label.3 t.label.4 (t.head refl _ refl)) is
+
+    does_fence : (p op to : ℕ) → Does p (msg.FenceTo op to)
+    does_fence p op to is = at_port (msg.FenceTo op to) 1 p is.label.0.0 (λ t. fence_leads f g n x are op to t.rest t.label.1 (t.head refl _ refl)) is
+
+    does_answer : (p op : ℕ) → Does p (msg.Answered op)
+    does_answer p op is =
+        let t : SwitchState = record x.nodes.switch { waiting = x.nodes.switch.waiting - 1 } in
+        at_port (msg.Answered op) 1 p is.label.0 (λ _. quiet f g n x are 1 (msg.Answered op) t [] refl refl tt
+        (same_switch f g x.nodes.switch t x.world.target refl refl refl refl are.switch) are.rising) is
+
+    does_finish : (p : ℕ) → Does p msg.Finish
+    does_finish p is =
+        let t : SwitchState = record x.nodes.switch { closed = true } in
+        at_port msg.Finish 1 p is.label.0 (λ _. quiet f g n x are 1 msg.Finish t (stop_messages x.nodes.switch.instances)
+        refl (stops_all f g.site g.packet (place g) x.nodes.switch.instances) (stops_labels f g x.nodes.switch.instances)
+        (same_switch f g x.nodes.switch t x.world.target refl refl refl refl are.switch) are.rising) is
+
+    does : (p : ℕ) (m : Msg) → Comes m → Does p m
+    does p m (Packet_in q e) = at_message p m (msg.InPacket q) e (does_packet p q)
+    does p m (Command_in c e) = at_message p m (msg.InCommand c) e (does_command p c)
+    does p m (Settle_in e) = at_message p m msg.InSettle e (does_settle p)
+    does p m (End_in e) = at_message p m msg.InEnd e (does_end p)
+    does p m (Passes to op cell e) = at_message p m (msg.Forward to (mark.Pass op) cell) e (does_pass p to op cell)
+    does p m (Shares_out to op home cell e) = at_message p m (msg.Forward to (mark.Shared op home) cell) e (does_share p to op home cell)
+    does p m (Installs op filter from to e) = at_message p m (msg.Install op filter from (target.Instance to)) e (does_install p op filter from to)
+    does p m (Diverts op filter from e) = at_message p m (msg.Install op filter from target.Controller) e (does_divert p op filter from)
+    does p m (Fences op to e) = at_message p m (msg.FenceTo op to) e (does_fence p op to)
+    does p m (Answers op e) = at_message p m (msg.Answered op) e (does_answer p op)
+    does p m (Finishes e) = at_message p m msg.Finish e (does_finish p)
+    does p m (Credits cell e) = at_message p m (msg.Credit cell) e (λ is. credit_leads f g n x are p cell is.label.0)
+
+module _ {F R : Type 0} (f : Semantics R) (laws : FunctionLaws f) (g : Given) where
+  pub switch_leads : (n : ℕ) (x : Scene F f g) (p : ℕ) (m : Msg) → AreShown f g n x → IsTaken f g n x (record { node = 0; port = p; message = m })
+      → Leads f g n x (record { node = 0; port = p; message = m }) (node_step f (node_of x.nodes 0) p m)
+  switch_leads n x p m are is = does f g n x are p m (comes f g p m is.label) is

@@ -1,0 +1,81 @@
+-- How often a unit stands among chunks; chunks in which none stands twice are of distinct units.
+use Rattle.std.proofs.Common.{◌≡◌, ℕ, ◌+◌, ◌≤◌, true, false, Some, List, [], ◌∷◌, ◌++◌, map, refl, sym, ap, ◌∙◌, subst, arith}
+use Rattle.std.specs.Prelude.{if◌then◌else◌, is_some}
+use Rattle.std.specs.List.{AllByRecursion, IsDistinct}
+use Rattle.std.specs.Map.{keys_of}
+use Rattle.nf_function.specs.declared.unit.Unit as units
+use Rattle.nf_function.specs.Semantics.{Semantics}
+use Rattle.record_table.specs.Table.{same_unit}
+use Rattle.record_table.specs.Chunks.{spelled}
+use Rattle.record_table.proofs.UnitOrder.{same_unit_equiv, same_unit-true}
+use Rattle.nf_msgs.specs.declared.msg.Piece.{Piece}
+use Rattle.move_op.specs.Move.{chunks_of}
+use Rattle.proof_machines.proofs.unit.Labels.{Each}
+use Rattle.proof_machines.proofs.unit.Real.{Chunks, record_at}
+use Rattle.proof_outlines.proofs.outline.Outline.{entries, outline_piece}
+use Rattle.proof_outlines.proofs.outline.InstanceOutline.{filter_map-put}
+use Rattle.proof_machines.proofs.net.Copies.{has, have}
+use Rattle.proof_outlines.proofs.joined.Given.{Given}
+use Rattle.proof_outlines.proofs.joined.Joined.{AreGoodChunks}
+
+module _ {R : Type 0} where
+  -- how many entries are the unit's
+  abbrev pub times : units.Unit → Chunks R → ℕ
+  times u [] = 0
+  times u (e ∷ es) = (if same_unit u e.0 then 1 else 0) + times u es
+
+  pub times-append : (u : units.Unit) (xs ys : Chunks R) → times u (xs ++ ys) ≡ times u xs + times u ys
+  times-append u [] ys = omega arith
+  times-append u (e ∷ xs) ys = let rest = times-append u xs ys in omega (arith, rest)
+
+  -- none of the entries is the unit's
+  none_same : (u : units.Unit) (es : Chunks R) → times u es ≡ 0 → AllByRecursion (λ y. same_unit u y ≡ false) (keys_of es)
+  none_same u [] h = tt
+  none_same u (e ∷ es) h =
+      elim (same_unit u e.0)
+      as (λ b. same_unit u e.0 ≡ b → (if b then 1 else 0) + times u es ≡ 0 → AllByRecursion (λ y. same_unit u y ≡ false) (keys_of (e ∷ es))) [
+        | true ↦ λ is more. absurd (omega (arith, more))
+        | false ↦ λ is more. (is, none_same u es (omega (arith, more)))
+      ] refl h
+
+  same_none : (u : units.Unit) (es : Chunks R) → AllByRecursion (λ y. same_unit u y ≡ false) (keys_of es) → times u es ≡ 0
+  same_none u [] h = refl
+  same_none u (e ∷ es) h = let other = h.0 in let rest = same_none u es h.1 in rw (other, rest) refl
+
+  pub distinct_from_times : (es : Chunks R) → ((u : units.Unit) → times u es ≤ 1) → IsDistinct same_unit (keys_of es)
+  unfolding IsDistinct
+  distinct_from_times [] h = tt
+  distinct_from_times (e ∷ es) h =
+      let own = same_unit_equiv.refl e.0 in
+      let one : 1 + times e.0 es ≤ 1 = subst (λ b. (if b then 1 else 0) + times e.0 es ≤ 1) own (h e.0) in
+      (none_same e.0 es (omega (arith, one)), distinct_from_times es (λ u. let both = h u in omega (arith, both)))
+
+  pub times_from_distinct : (es : Chunks R) → IsDistinct same_unit (keys_of es) → (u : units.Unit) → times u es ≤ 1
+  unfolding IsDistinct
+  times_from_distinct [] h u = omega arith
+  times_from_distinct (e ∷ es) h u =
+      elim (same_unit u e.0) as (λ b. same_unit u e.0 ≡ b → (if b then 1 else 0) + times u es ≤ 1) [
+        | true ↦ λ is. let none = subst (λ x. times x es ≡ 0) (sym (same_unit-true u e.0 is)) (same_none e.0 es h.0) in omega (arith, none)
+        | false ↦ λ is. let rest = times_from_distinct es h.1 u in omega (arith, rest)
+      ] refl
+
+  -- where no unit stands twice, one stands once where it has a record
+  pub times_is_has : (es : Chunks R) → IsDistinct same_unit (keys_of es) → (u : units.Unit) → times u es ≡ has u es
+  unfolding IsDistinct
+  times_is_has [] h u = refl
+  times_is_has (e ∷ es) h u =
+      elim (same_unit u e.0)
+      as (λ b. same_unit u e.0 ≡ b → (if b then 1 else 0) + times u es ≡ (if is_some (if b then Some e.1 else record_at u es) then 1 else 0)) [
+        | true ↦ λ is. let none = subst (λ x. times x es ≡ 0) (sym (same_unit-true u e.0 is)) (same_none e.0 es h.0) in omega (arith, none)
+        | false ↦ λ is. let rest = times_is_has es h.1 u in omega (arith, rest)
+      ] refl
+
+module _ {R : Type 0} (f : Semantics R) (g : Given) where
+  -- of pieces of such chunks, as many have the unit as it stands in them
+  pub times_chunks : (ps : List Piece) → Each (λ p. AreGoodChunks f g p.chunks) ps → (u : units.Unit)
+      → times u (entries f (chunks_of ps)) ≡ have u (map (outline_piece f) ps)
+  times_chunks [] h u = refl
+  times_chunks (p ∷ ps) h u =
+      let own = times_is_has (entries f p.chunks) h.0.distinct u in
+      let rest = times_chunks ps h.1 u in
+      ap (times u) (filter_map-put (spelled f) p.chunks (chunks_of ps)) ∙ times-append u (entries f p.chunks) (entries f (chunks_of ps)) ∙ rw (own, rest) refl

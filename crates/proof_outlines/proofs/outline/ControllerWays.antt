@@ -1,0 +1,108 @@
+-- The ways in which the controller goes on with a message: what holds of each of them holds of its row.
+use Rattle.std.proofs.Common.{ℕ, Bool, true, false, Option, Some, None, List, [], ◌∷◌}
+use Rattle.std.specs.Prelude.{if◌then◌else◌, ◌==◌, slice_set}
+use Rattle.std.specs.List.{filter_map}
+use Rattle.std.specs.FinMap as finite
+use Rattle.flow_filter.specs.declared.filter.Filter.{Filter}
+use Rattle.flow_filter.specs.Flow.{flow_of}
+use Rattle.event_filter.specs.declared.mark.Mark.TheVariants.{Pass}
+use Rattle.packet_pool.specs.Pool.{FullCell}
+use Rattle.nf_msgs.specs.declared.answer.Answer.{Answer}
+use Rattle.nf_msgs.specs.declared.command.Command.{Command}
+use Rattle.nf_msgs.specs.declared.command.Order.{Order}
+use Rattle.nf_msgs.specs.declared.command.Order.TheVariants as order
+use Rattle.nf_msgs.specs.declared.msg.Msg.{Msg}
+use Rattle.nf_msgs.specs.declared.msg.Msg.TheVariants as msg
+use Rattle.nf_msgs.specs.Nodes.{switch_node}
+use Rattle.nf_msgs.specs.MessageParts.{op_of}
+use Rattle.copy_share.specs.Share.{SharePlan}
+use Rattle.copy_share.specs.Share as share
+use Rattle.ctrl_node.specs.declared.operation.Operation.TheVariants.{Share}
+use Rattle.ctrl_node.specs.Operations.{share_of}
+use Rattle.flow_filter.specs.Name.{place_of}
+use Rattle.ctrl_node.specs.Controller as ctrl
+use Rattle.ctrl_node.specs.Controller.{ControllerState, Step}
+
+module _ (c : ControllerState) (Allows : Msg → Step → Type 0) where
+  abbrev share_plan : ℕ → Filter → ℕ → List ℕ → SharePlan
+  share_plan op filter home others = record { op = op; members = home ∷ others; filter = filter; site = c.site }
+
+  -- nothing, the end, a final message, an event that goes back, a message or a packet of an open operation, and a command that is answered or begins
+  pub record WaysOfController : Type 0 where
+    pub still : (m : Msg) → Allows m (ctrl.still c)
+    pub ended : Allows msg.End (ctrl.still (record c { end_came = true }))
+    pub stopped : (i : ℕ) → Allows msg.Final (ctrl.still (record c { stopped = slice_set c.stopped i true }))
+    pub returned : (op i : ℕ) (cell : FullCell)
+        → Allows (msg.Event op cell) (record { node = c; sends = (switch_node, msg.Forward i (Pass op) cell) ∷ []; notes = [] })
+    pub handed : (op port : ℕ) (m : Msg) → Allows m (ctrl.hand_step c op port m)
+    pub queued : (op : ℕ) (cell : FullCell) → Allows (msg.Diverted cell) (ctrl.queue_step c cell (Some op))
+    pub answers : (k : Command) (op : ℕ) (answer : Answer) → Allows (msg.Asked k) (ctrl.answers c op answer)
+    pub moves : (k : Command) (op from to : ℕ) (filter : Filter) (keep : Bool)
+        → Allows (msg.Asked k) (ctrl.move_begin c (record { op = op; from = from; to = to; filter = filter; keep = keep }))
+    pub copies : (k : Command) (op from to : ℕ) (filter : Option Filter)
+        → Allows (msg.Asked k) (ctrl.copy_begin c (record { op = op; from = from; to = to; filter = filter }))
+    pub shares : (k : Command) (op : ℕ) (filter : Filter) (home : ℕ) (others : List ℕ) → Allows (msg.Asked k)
+        (ctrl.opening_step c op (Share (share.share_at_start (share_plan op filter home others))) (share.begin_sends (share_plan op filter home others)))
+
+  module _ (ways : WaysOfController) where
+    by_number : (port : ℕ) (m : Msg) (o : Option ℕ) → Allows m (ctrl.numbered c port m o)
+    by_number port m None = ways.still m
+    by_number port m (Some op) = ways.handed op port m
+
+    by_share : (cell : FullCell) (o : Option ℕ) → Allows (msg.Diverted cell) (ctrl.queue_step c cell o)
+    by_share cell None = ways.still (msg.Diverted cell)
+    by_share cell (Some op) = ways.queued op cell
+
+    by_event : (port op : ℕ) (cell : FullCell) (o : Option ℕ) → Allows (msg.Event op cell) (ctrl.on_event c port op cell o)
+    by_event port op cell None = ways.still (msg.Event op cell)
+    by_event port op cell (Some i) = elim (finite.contains_key c.operations op) as (λ b. Allows (msg.Event op cell) (if b
+        then ctrl.hand_step c op port (msg.Event op cell) else record { node = c; sends = (switch_node, msg.Forward i (Pass op) cell) ∷ []; notes = [] })) [
+          | true ↦ ways.handed op port (msg.Event op cell)
+          | false ↦ ways.returned op i cell
+        ]
+
+    by_final : (o : Option ℕ) → Allows msg.Final (ctrl.on_final c o)
+    by_final None = ways.still msg.Final
+    by_final (Some i) = ways.stopped i
+
+    by_order : (k : Command) (op : ℕ) (what : Order) → Allows (msg.Asked k) (ctrl.begin_step c op what)
+    by_order k op (order.Move source destination filter keep) = between (place_of c.names source) (place_of c.names destination)
+      where
+        between : (from to : Option ℕ) → Allows (msg.Asked k) (ctrl.move_between c op filter keep from to)
+        between (Some from) (Some to) = ways.moves k op from to filter keep
+        between (Some from) None = ways.still (msg.Asked k)
+        between None to = ways.still (msg.Asked k)
+    by_order k op (order.Copy source destination filter) = between (place_of c.names source) (place_of c.names destination)
+      where
+        between : (from to : Option ℕ) → Allows (msg.Asked k) (ctrl.copy_between c op filter from to)
+        between (Some from) (Some to) = ways.copies k op from to filter
+        between (Some from) None = ways.still (msg.Asked k)
+        between None to = ways.still (msg.Asked k)
+    by_order k op (order.Share members filter) = among (filter_map (place_of c.names) members)
+      where
+        among : (places : List ℕ) → Allows (msg.Asked k) (ctrl.share_begin c op filter places)
+        among [] = ways.still (msg.Asked k)
+        among (home ∷ others) = ways.shares k op filter home others
+
+    by_refusal : (k : Command) (op : ℕ) (what : Order) (o : Option Answer) → Allows (msg.Asked k) (ctrl.decision_step c op what o)
+    by_refusal k op what (Some answer) = ways.answers k op answer
+    by_refusal k op what None = by_order k op what
+
+    by_command : (k : Command) → Allows (msg.Asked k) (ctrl.on_asked c k)
+    by_command k = elim (finite.contains_key c.operations k.op)
+        as (λ b. Allows (msg.Asked k) (if b then ctrl.still c else ctrl.decision_step c k.op k.what (ctrl.refusal c k.what))) [
+          | true ↦ ways.still (msg.Asked k)
+          | false ↦ by_refusal k k.op k.what (ctrl.refusal c k.what)
+        ]
+
+    pub row_fits : (port : ℕ) (m : Msg) → Allows m (ctrl.row c port m)
+    row_fits port (msg.Asked k) = elim (port == switch_node) as (λ b. Allows (msg.Asked k) (if b then ctrl.on_asked c k else ctrl.still c))
+        [ true ↦ by_command k | false ↦ ways.still (msg.Asked k) ]
+    row_fits port (msg.Diverted cell) =
+        elim (port == switch_node) as (λ b. Allows (msg.Diverted cell) (if b then ctrl.on_diverted c cell else ctrl.still c))
+        [ true ↦ by_share cell (share_of c.operations (flow_of c.site cell.packet).0) | false ↦ ways.still (msg.Diverted cell) ]
+    row_fits port msg.End = elim (port == switch_node) as (λ b. Allows msg.End (if b then ctrl.still (record c { end_came = true }) else ctrl.still c))
+        [ true ↦ ways.ended | false ↦ ways.still msg.End ]
+    row_fits port (msg.Event op cell) = by_event port op cell (ctrl.instance_at c port)
+    row_fits port msg.Final = by_final (ctrl.instance_at c port)
+    row_fits port m = by_number port m (op_of m)

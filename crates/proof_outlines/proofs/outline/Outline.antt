@@ -1,0 +1,158 @@
+-- The outlines of messages and instances, packets by their numbers and chunks by their records; and that the real function, filters
+-- and tables have the laws of the abstract network.
+use Rattle.std.proofs.Common.{◌≡◌, ℕ, Bool, Option, Some, None, List, [], ◌∷◌, map, refl, ap, ◌∙◌}
+use Rattle.std.specs.Prelude.{if◌then◌else◌, ◌&&◌, ◌+◌, max, nat_lt, option_map}
+use Rattle.std.specs.List.{filter_map}
+use Rattle.std.specs.FinMap as finite
+use Rattle.flow_filter.specs.declared.filter.Filter.{Filter}
+use Rattle.flow_filter.specs.declared.packet.Packet.{Packet}
+use Rattle.flow_filter.specs.declared.site.Site.{Site}
+use Rattle.flow_filter.specs.Filter.{meets}
+use Rattle.nf_function.specs.declared.chunk.Chunk.{Chunk}
+use Rattle.nf_function.specs.declared.unit.Unit as units
+use Rattle.nf_function.specs.Units.{unit_cmp}
+use Rattle.nf_function.specs.UnitOrder.{units_total}
+use Rattle.nf_function.specs.Records.{newest}
+use Rattle.nf_function.specs.Semantics.{Semantics, unit_at}
+use Rattle.state_chunk.specs.Format.{version_number}
+use Rattle.record_table.specs.Table.{Records, same_unit}
+use Rattle.record_table.specs.Chunks.{spelled}
+use Rattle.record_table.proofs.UnitOrder.{same_unit_equiv}
+use Rattle.event_filter.specs.declared.action.Action.{Action}
+use Rattle.event_filter.specs.declared.action.Action.TheVariants as action
+use Rattle.event_filter.specs.declared.mark.Mark.TheVariants as mark
+use Rattle.event_filter.specs.declared.rule.Rule.{Rule as EventRule}
+use Rattle.packet_pool.specs.Pool.{FullCell}
+use Rattle.switch_rules.specs.declared.target.Target.{Target}
+use Rattle.switch_rules.specs.declared.target.Target.TheVariants as target
+use Rattle.nf_msgs.specs.declared.answer.Answer.{Answer}
+use Rattle.nf_msgs.specs.declared.answer.Answer.TheVariants as answer
+use Rattle.nf_msgs.specs.declared.command.Order.{Order}
+use Rattle.nf_msgs.specs.declared.command.Order.TheVariants as order
+use Rattle.nf_msgs.specs.declared.msg.Piece.{Piece}
+use Rattle.nf_msgs.specs.declared.msg.Msg.{Msg}
+use Rattle.nf_msgs.specs.declared.msg.Msg.TheVariants as msg
+use Rattle.nf_msgs.specs.declared.note.Note.{Note}
+use Rattle.nf_msgs.specs.declared.note.Note.TheVariants as note
+use Rattle.nf_msgs.specs.Nodes.{instance_node}
+use Rattle.instance_worker.specs.declared.instance.Instance.{Instance}
+use Rattle.proof_machines.proofs.unit.Machine as machine
+use Rattle.proof_machines.proofs.unit.Real as real
+use Rattle.proof_machines.proofs.unit.Real.{Chunks, RPiece}
+use Rattle.proof_machines.proofs.unit.RecordTables.{live_table, live_laws}
+use Rattle.proof_machines.proofs.net.Net as net
+use Rattle.proof_machines.proofs.net.Net.{Sys, IsSys, Ruling, Room, MoveAsked, NumberedInstance, everything}
+use Rattle.proof_outlines.proofs.outline.FiltersApart.{takes_whole, filters_apart}
+
+-- a cell by its packet's number
+abbrev pub number : FullCell → ℕ
+number cell = cell.packet.number
+
+abbrev pub rule_of : Action → machine.Rule
+rule_of action.Process = machine.Free
+rule_of action.Buffer = machine.Buffers
+rule_of action.Drop = machine.Drops
+
+abbrev pub outline_rule : EventRule FullCell → Ruling
+outline_rule r = record { num = r.op; filter = r.filter; rule = rule_of r.action; held = map number r.held }
+
+-- two places that are both there
+abbrev pub want_at : ℕ → Filter → Bool → Option ℕ → Option ℕ → Option MoveAsked
+want_at op filter keep (Some from) (Some to) = Some (record { num = op; src = instance_node from; dst = instance_node to; keep = keep; filter = filter })
+want_at op filter keep from to = None
+
+-- what a command asks for, by the places of instances' names
+abbrev pub want_of : (List ℕ → Option ℕ) → ℕ → Order → Option MoveAsked
+want_of place op (order.Move src dst filter keep) = want_at op filter keep (place src) (place dst)
+want_of place op what = None
+
+module _ {R : Type 0} (f : Semantics R) where
+  -- chunks by the records that they spell
+  abbrev pub entries : List Chunk → Chunks R
+  entries chunks = filter_map (spelled f) chunks
+
+  -- the highest version of these records, and at least 1
+  abbrev pub newest_in : Chunks R → ℕ
+  newest_in [] = 1
+  newest_in (c ∷ cs) = max (version_number (f.is_timed c.1)) (newest_in cs)
+
+  abbrev pub outline_piece : Piece → RPiece R
+  outline_piece p = record { chunks = entries p.chunks; total = p.total; newest = p.newest; last = p.last }
+
+  -- a change of the rules between two instances
+  abbrev pub outline_install : ℕ → Filter → ℕ → Target → Option (net.Msg R)
+  outline_install op filter from (target.Instance to) = Some (net.Mv filter (real.M_install op (instance_node from) (instance_node to)))
+  outline_install op filter from target.Controller = None
+
+  -- a message; nothing of those that no move looks at
+  abbrev pub outline : (List ℕ → Option ℕ) → Msg → Option (net.Msg R)
+  outline place (msg.Asked c) = option_map net.Asked (want_of place c.op c.what)
+  outline place (msg.Carry mark.Plain cell) = Some (net.Carry_on (number cell))
+  outline place (msg.Carry (mark.Pass op) cell) = Some (net.Pass_on (number cell))
+  outline place (msg.Fence op) = Some (net.Fence_on op)
+  outline place (msg.Forward to mark cell) = Some (net.Mv everything (real.M_forward (number cell) (instance_node to)))
+  outline place (msg.Install op filter from to) = outline_install op filter from to
+  outline place (msg.FenceTo op to) = Some (net.Mv everything (real.M_fence_to op (instance_node to)))
+  outline place (msg.Enable op filter action) = Some (net.Mv filter (real.M_enable op (rule_of action)))
+  outline place (msg.Stream op filter) = Some (net.Mv filter (real.M_stream op))
+  outline place (msg.Delete op gone) = Some (net.Mv everything (real.M_delete op gone))
+  outline place (msg.Put op piece first) = Some (net.Mv everything (real.M_put op (outline_piece piece) first))
+  outline place (msg.Restore op chunks) = Some (net.Mv everything (real.M_restore op (entries chunks)))
+  outline place (msg.Enabled op) = Some (net.Mv everything (real.M_enabled op))
+  outline place (msg.Event op cell) = Some (net.Mv everything (real.M_event op (number cell)))
+  outline place (msg.Piece op piece) = Some (net.Mv everything (real.M_piece op (outline_piece piece)))
+  outline place (msg.Deleted op) = Some (net.Mv everything (real.M_deleted op))
+  outline place (msg.PutOk op) = Some (net.Mv everything (real.M_put_ok op))
+  outline place (msg.PutNo op refused) = Some (net.Mv everything (real.M_put_no op refused.why (entries refused.chunks)))
+  outline place (msg.Restored op) = Some (net.Mv everything (real.M_restored op))
+  outline place (msg.Fenced op) = Some (net.Mv everything (real.M_fenced op))
+  outline place message = None
+
+  -- what is sent, each with its receiver
+  abbrev pub outline_sent : (List ℕ → Option ℕ) → ℕ × Msg → Option (ℕ × net.Msg R)
+  outline_sent place sent = option_map (λ m. (sent.0, m)) (outline place sent.1)
+
+  abbrev pub outline_sends : (List ℕ → Option ℕ) → List (ℕ × Msg) → List (ℕ × net.Msg R)
+  outline_sends place sends = filter_map (outline_sent place) sends
+
+-- the number of a packet that was processed
+abbrev pub ran_in : Note → Option ℕ
+ran_in (note.Processed number instance output) = Some number
+ran_in n = None
+
+module _ {R : Type 0} (f : Semantics R) (site : Site) (packet : ℕ → Packet) where
+  -- why a piece that is put first is refused, if it is
+  abbrev pub refuses : Room → Records R → RPiece R → Option Answer
+  refuses room t p =
+      if nat_lt room.limit (finite.len t + p.total) then Some (answer.Import (finite.len t) p.total room.limit)
+      else if room.marked && nat_lt 1 p.newest then Some (answer.Old p.newest 1)
+      else None
+
+  -- the network that the proof of moves is about
+  abbrev pub sys : Sys R
+  sys = record {
+    F = record { step = λ o p. (f.stepped site o (packet p)).kept; newer = λ coming held. newest f held coming };
+    B = live_table f;
+    packet_unit = λ p. unit_at f.kind site (packet p);
+    takes = takes_whole f.kind;
+    meets = meets;
+    newest = newest_in f;
+    refuse = refuses;
+    write = λ u r t. finite.insert t u r;
+    empty = finite.empty;
+  }
+
+  written : (u v : units.Unit) (r : R) (t : Records R) → finite.get (finite.insert t v r) u ≡ (if same_unit v u then Some r else finite.get t u)
+  written u v r t = finite.get-insert units_total t v r u ∙ ap (λ b. if b then Some r else finite.get t u) (same_unit_equiv.symm u v)
+
+  pub is_sys : IsSys sys
+  is_sys = record {
+    laws = live_laws sys.F f (λ coming held. refl);
+    written = written;
+    nothing = λ u. finite.get-empty unit_cmp u;
+    apart = filters_apart f.kind;
+  }
+
+module _ {F R : Type 0} (f : Semantics R) (site : Site) (packet : ℕ → Packet) where
+  abbrev pub outline_instance : Instance F R → NumberedInstance (sys f site packet)
+  outline_instance i = record { live = i.table.live; rules = map outline_rule i.rules; room = record { limit = i.limit; marked = i.marked } }

@@ -1,0 +1,128 @@
+-- What messages of shares and copies leave in an instance's tables: valid records in both, and by look-ups what a copy's records leave of
+-- those that stand by.
+use Rattle.std.proofs.Common.{◌≡◌, ℕ, Bool, true, false, cond, Option, Some, None, List, [], ◌∷◌, refl, sym, ap, ◌∙◌, subst}
+use Rattle.std.specs.FinMap as finite
+use Rattle.flow_filter.specs.declared.filter.Filter.{Filter}
+use Rattle.nf_function.specs.declared.chunk.Chunk.{Chunk}
+use Rattle.nf_function.specs.declared.unit.Unit as units
+use Rattle.nf_function.specs.UnitOrder.{units_total}
+use Rattle.nf_function.specs.Records.{is_newer, newest, Laws as FunctionLaws}
+use Rattle.nf_function.specs.Semantics.{Semantics, is_sound}
+use Rattle.record_table.specs.Table.{Records, TableView, same_unit, AreSound, part, with_part, after_packet, either, union_of, newest_of, replaced_by}
+use Rattle.record_table.specs.Chunks.{records_of, are_good}
+use Rattle.record_table.proofs.UnitOrder.{same_unit-true}
+use Rattle.record_table.proofs.RecordLookUps.{get-joined}
+use Rattle.event_filter.specs.declared.mark.Mark.TheVariants as mark
+use Rattle.packet_pool.specs.Pool.{FullCell}
+use Rattle.nf_msgs.specs.declared.msg.Msg.{Msg}
+use Rattle.instance_worker.specs.declared.instance.Instance.{Instance}
+use Rattle.instance_worker.specs.Instance.{process_step, on_carry, on_get, on_standby, on_sync, instance_step}
+use Rattle.proof_machines.proofs.unit.Real.{Chunks, record_at}
+use Rattle.proof_outlines.proofs.outline.Outline.{entries}
+use Rattle.proof_outlines.proofs.outline.StateOutline.{AreValid}
+use Rattle.proof_outlines.proofs.whole.StandbyKept.{leaves_standby, step_unshared}
+
+-- what holds of both records holds of the one that is chosen
+abbrev Chooses : {R : Type 0} → (R → R → R) → Type 1
+Chooses {R} choose = (P : R → Type 0) (held coming : R) → P held → P coming → P (choose held coming)
+
+either_has : {R : Type 0} (choose : R → R → R) → Chooses choose → (P : Option R → Type 0) (held coming : Option R) → P held → P coming
+    → P (either choose held coming)
+either_has {R = R} choose one P held None a b = subst P (same held) a
+  where
+    same : (o : Option R) → o ≡ either choose o None
+    same None = refl
+    same (Some r) = refl
+either_has choose one P None (Some c) a b = b
+either_has choose one P (Some h) (Some c) a b = one (λ r. P (Some r)) h c a b
+
+chooses_coming : {R : Type 0} → Chooses {R = R} (λ held coming. coming)
+chooses_coming P held coming a b = b
+
+chooses_newest : {R : Type 0} (f : Semantics R) → Chooses (newest f)
+chooses_newest f P held coming a b = elim (is_newer f held coming) as (λ t. P (cond t held coming)) [ true ↦ a | false ↦ b ]
+
+joined_sound : {R : Type 0} (f : Semantics R) (choose : R → R → R) → Chooses choose → (held coming : Records R) → AreSound f held → AreSound f coming
+    → AreSound f (union_of choose held coming)
+joined_sound f choose one held coming a b u = subst (λ o. is_sound f u o ≡ true) (sym (get-joined choose held coming u))
+    (either_has choose one (λ o. is_sound f u o ≡ true) (finite.get held u) (finite.get coming u) (a u) (b u))
+
+module _ {R : Type 0} (f : Semantics R) where
+  -- what stands by of a unit where a copy's chunks came
+  kept_at : (t : Records R) (chunks : List Chunk) (u : units.Unit)
+      → finite.get (newest_of f t (records_of f chunks)) u ≡ either (newest f) (finite.get t u) (record_at u (entries f chunks))
+  unfolding records_of
+  kept_at t chunks u = get-joined (newest f) t (finite.from_entries (entries f chunks)) u
+      ∙ ap (either (newest f) (finite.get t u)) (finite.get-from_entries units_total (entries f chunks) u)
+
+  -- it is what stood there or what came, and so all that holds of both
+  pub kept_has : (P : Option R → Type 0) (t : Records R) (chunks : List Chunk) (u : units.Unit) → P (finite.get t u) → P (record_at u (entries f chunks))
+      → P (finite.get (newest_of f t (records_of f chunks)) u)
+  kept_has P t chunks u a b =
+      subst P (sym (kept_at t chunks u)) (either_has (newest f) (chooses_newest f) P (finite.get t u) (record_at u (entries f chunks)) a b)
+
+  -- and what stood there, where nothing came
+  pub kept_same : (t : Records R) (chunks : List Chunk) (u : units.Unit) → record_at u (entries f chunks) ≡ None
+      → finite.get (newest_of f t (records_of f chunks)) u ≡ finite.get t u
+  kept_same t chunks u none = kept_at t chunks u ∙ ap (either (newest f) (finite.get t u)) none ∙ same (finite.get t u)
+    where
+      same : (o : Option R) → either (newest f) o None ≡ o
+      same None = refl
+      same (Some r) = refl
+
+  -- each record of both tables is valid for its unit
+  pub record AreBothSound (t : TableView R) : Type 0 where
+    pub live : AreSound f t.live
+    pub standby : AreSound f t.standby
+
+  with_part_sound : (t : TableView R) (home : Bool) (records : Records R) → AreBothSound t → AreSound f records → AreBothSound (with_part t home records)
+  with_part_sound t true records h sound = record { live = sound; standby = h.standby }
+  with_part_sound t false records h sound = record { live = h.live; standby = sound }
+
+  part_sound : (t : TableView R) (home : Bool) → AreBothSound t → AreSound f (part t home)
+  part_sound t true h = h.live
+  part_sound t false h = h.standby
+
+module _ {R : Type 0} (f : Semantics R) (laws : FunctionLaws f) where
+  valid_at : (es : Chunks R) → AreValid f laws es → (u : units.Unit) → is_sound f u (record_at u es) ≡ true
+  valid_at [] h u = refl
+  valid_at (e ∷ es) h u = elim (same_unit u e.0) as (λ b. same_unit u e.0 ≡ b → is_sound f u (cond b (Some e.1) (record_at u es)) ≡ true) [
+    | true ↦ λ same. rw (same_unit-true u e.0 same) h.0
+    | false ↦ λ _. valid_at es h.1 u
+  ] refl
+
+  -- what valid chunks bring
+  sound_records : (chunks : List Chunk) → AreValid f laws (entries f chunks) → AreSound f (records_of f chunks)
+  unfolding records_of
+  sound_records chunks valid u =
+      subst (λ o. is_sound f u o ≡ true) (sym (finite.get-from_entries units_total (entries f chunks) u)) (valid_at (entries f chunks) valid u)
+
+module _ {F R : Type 0} (f : Semantics R) (laws : FunctionLaws f) where
+  -- Each step of a member leaves valid records.
+  pub shared_sound : (i : Instance F R) (op : ℕ) (home : Bool) (cell : FullCell) → AreBothSound f i.table
+      → AreSound f (after_packet f i.site (part i.table home) cell.packet) → AreBothSound f (on_carry f i (mark.Shared op home) cell).node.table
+  unfolding on_carry process_step
+  shared_sound i op home cell h sound = with_part_sound f i.table home (after_packet f i.site (part i.table home) cell.packet) h sound
+
+  pub get_sound : (i : Instance F R) (op : ℕ) (g : Filter) → AreBothSound f i.table → AreBothSound f (on_get f i op g).node.table
+  unfolding on_get
+  get_sound i op g h = h
+
+  pub sync_sound : (i : Instance F R) (home : Bool) (op : ℕ) (chunks : List Chunk) → are_good f chunks ≡ true → AreValid f laws (entries f chunks)
+      → AreBothSound f i.table → AreBothSound f (on_sync f i home op chunks).node.table
+  unfolding on_sync
+  sync_sound i home op chunks good valid h = rw good (with_part_sound f i.table home (replaced_by (part i.table home) (records_of f chunks)) h (joined_sound
+      f (λ held coming. coming) chooses_coming (part i.table home) (records_of f chunks) (part_sound f i.table home h) (sound_records f laws chunks valid)))
+
+  pub standby_sound : (i : Instance F R) (op : ℕ) (chunks : List Chunk) → are_good f chunks ≡ true → AreValid f laws (entries f chunks)
+      → AreBothSound f i.table → AreBothSound f (on_standby f i op chunks).node.table
+  unfolding on_standby
+  standby_sound i op chunks good valid h = rw good (record {
+    live = h.live;
+    standby = joined_sound f (newest f) (chooses_newest f) i.table.standby (records_of f chunks) h.standby (sound_records f laws chunks valid);
+  })
+
+  -- and so does each other, where its live records are valid
+  pub step_sound : (place : List ℕ → Option ℕ) (i : Instance F R) (m : Msg) → leaves_standby m ≡ true → AreBothSound f i.table
+      → AreSound f (instance_step f i m).node.table.live → AreBothSound f (instance_step f i m).node.table
+  step_sound place i m e h sound = record { live = sound; standby = subst (AreSound f) (sym (step_unshared f place i m e).standby) h.standby }

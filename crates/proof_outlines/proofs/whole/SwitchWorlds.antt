@@ -1,0 +1,109 @@
+-- The switch's step in a world of the network with shares whose targets are those of its rules: so they are in the world after the abstract step.
+use Rattle.std.proofs.Common.{◌≡◌, ℕ, Bool, true, false, Option, Some, List, [], ◌++◌, refl, sym, ap}
+use Rattle.std.specs.Prelude.{if◌then◌else◌, ◌==◌, nat_lt}
+use Rattle.flow_filter.specs.declared.filter.Filter.{Filter}
+use Rattle.flow_filter.specs.declared.packet.Packet.{Packet}
+use Rattle.flow_filter.specs.declared.site.Site.{Site}
+use Rattle.flow_filter.specs.Flow.{flow_of}
+use Rattle.nf_function.specs.Semantics.{Semantics}
+use Rattle.event_filter.specs.declared.mark.Mark.TheVariants as mark
+use Rattle.switch_rules.specs.declared.target.Target.{Target}
+use Rattle.switch_rules.specs.declared.target.Target.TheVariants as target
+use Rattle.switch_rules.specs.Rules.{AreFilters}
+use Rattle.packet_pool.specs.Pool.{FullCell}
+use Rattle.nf_msgs.specs.declared.command.Command.{Command}
+use Rattle.nf_msgs.specs.declared.msg.Msg.TheVariants as msg
+use Rattle.nf_msgs.specs.Nodes.{instance_node}
+use Rattle.switch_node.specs.Switch.{SwitchState, Step, arrival_step, still, goes_to, has_room, target_of, on_packet, on_command, on_install, sends_to_instance}
+use Rattle.proof_machines.proofs.unit.Real as real
+use Rattle.proof_machines.proofs.unit.Real.{sent_for}
+use Rattle.proof_machines.proofs.net.Net as net
+use Rattle.proof_machines.proofs.net.Net.{links_after, everything}
+use Rattle.proof_machines.proofs.net.Shares.{Any, Old, New, WholeWorld, S_install, S_forward, whole_switch, whole_input, asks}
+use Rattle.proof_outlines.proofs.outline.FiltersApart.{flow_fits, is_whole}
+use Rattle.proof_outlines.proofs.outline.Outline.{number}
+use Rattle.proof_outlines.proofs.whole.AskedShare.{command_all}
+use Rattle.proof_outlines.proofs.whole.SwitchAll.{RoutesAll, routes_same, arrive_all, forward_passed, forward_shared}
+use Rattle.proof_outlines.proofs.whole.SwitchAll.{fence_all, install_moved, install_shared, routes_moved, routes_shared}
+use Rattle.proof_outlines.proofs.whole.WholeOutline.{asked_of, outline_all, S, A}
+
+-- what a packet leaves of the switch's rules
+record SameRules (s t : SwitchState) : Type 0 where
+  rules : t.rules ≡ s.rules
+  instances : t.instances ≡ s.instances
+
+goes_same : (s : SwitchState) (p : Packet) (t : Target) → SameRules s (goes_to s p t).node
+goes_same s p target.Controller = record { rules = refl; instances = refl }
+goes_same s p (target.Instance i) =
+    elim (nat_lt i s.instances) as (λ b. SameRules s (if b then arrival_step s p (instance_node i) (msg.Carry mark.Plain) else still s).node)
+    [ true ↦ record { rules = refl; instances = refl } | false ↦ record { rules = refl; instances = refl } ]
+
+packet_same : (s : SwitchState) (p : Packet) → SameRules s (on_packet s p).node
+packet_same s p = elim (has_room s) as (λ b. SameRules s (if b then goes_to s p (target_of s p) else still s).node)
+    [ true ↦ goes_same s p (target_of s p) | false ↦ record { rules = refl; instances = refl } ]
+
+module _ {R : Type 0} (f : Semantics R) (site : Site) (packet : ℕ → Packet) (place : List ℕ → Option ℕ)
+    (w : WholeWorld (S f site packet) (A f site packet)) where
+  -- what a step of the switch leaves on a message from p
+  pub record SwitchesTo (p : ℕ) (next : WholeWorld (S f site packet) (A f site packet)) (step : Step) : Type 0 where
+    pub routes : RoutesAll f.kind step.node next.target
+    pub links : (a b : ℕ) → next.link a b ≡ links_after w.link p 0 (outline_all f place step.sends) a b
+
+  -- and on an item of the input
+  pub record TakesIn (next : WholeWorld (S f site packet) (A f site packet)) (step : Step) : Type 0 where
+    pub routes : RoutesAll f.kind step.node next.target
+    pub links : (a b : ℕ) → next.link a b ≡ w.link a b ++ (if a == 0 then sent_for b (outline_all f place step.sends) else [])
+
+  module _ (s : SwitchState) (routes : RoutesAll f.kind s w.target) where
+    pub packet_takes : (q : Packet) → s.site ≡ site → q ≡ packet q.number → flow_fits (flow_of site q).0 ≡ true → has_room s ≡ true
+        → TakesIn (whole_input (S f site packet) (A f site packet) w q.number) (on_packet s q)
+    packet_takes q at genuine fits room =
+        let same = packet_same s q in
+        record {
+          routes = routes_same f.kind s (on_packet s q).node w.target same.rules same.instances routes;
+          links = λ a b. ap (λ sends. w.link a b ++ (if a == 0 then sent_for b sends else []))
+              (sym (arrive_all f site packet place s w.target q at genuine fits routes room));
+        }
+
+    pub command_takes : (c : Command) (m : Any R) → asked_of f place c.op c.what ≡ Some m
+        → TakesIn (asks (S f site packet) (A f site packet) w m) (on_command s c)
+    command_takes c m e = record {
+      routes = routes_same f.kind s (on_command s c).node w.target refl refl routes;
+      links = λ a b. ap (λ sends. w.link a b ++ (if a == 0 then sent_for b sends else [])) (sym (command_all f place s c m e));
+    }
+
+    module _ (p : ℕ) where
+      abbrev sent_as : (xs : List (ℕ × Any R)) → (a b : ℕ) → List (Any R)
+      sent_as xs a b = links_after w.link p 0 xs a b
+
+      pub passed_goes : (i op : ℕ) (cell : FullCell) → nat_lt i s.instances ≡ true
+          → SwitchesTo p (whole_switch (S f site packet) (A f site packet) w p (Old (net.Mv everything (real.M_forward (number cell) (instance_node i)))))
+          (sends_to_instance s i (msg.Carry (mark.Pass op) cell))
+      passed_goes i op cell there =
+          record { routes = rw there routes; links = λ a b. ap (λ xs. sent_as xs a b) (sym (forward_passed f site packet place s i op cell there)) }
+
+      pub shared_goes : (i op : ℕ) (home : Bool) (cell : FullCell) → nat_lt i s.instances ≡ true
+          → SwitchesTo p (whole_switch (S f site packet) (A f site packet) w p (New (S_forward op home (number cell) (instance_node i))))
+          (sends_to_instance s i (msg.Carry (mark.Shared op home) cell))
+      shared_goes i op home cell there =
+          record { routes = rw there routes; links = λ a b. ap (λ xs. sent_as xs a b) (sym (forward_shared f site packet place s i op home cell there)) }
+
+      pub fence_goes : (i op : ℕ) → nat_lt i s.instances ≡ true → SwitchesTo p (whole_switch (S f site packet) (A f site packet) w p
+          (Old (net.Mv everything (real.M_fence_to op (instance_node i))))) (sends_to_instance s i (msg.Fence op))
+      fence_goes i op there = record { routes = rw there routes; links = λ a b. ap (λ xs. sent_as xs a b) (sym (fence_all f site packet place s i op there)) }
+
+      pub move_installs : (op : ℕ) (g : Filter) (from to : ℕ) → AreFilters s.rules
+          → is_whole f.kind g ≡ true → nat_lt from s.instances ≡ true → nat_lt to s.instances ≡ true
+          → SwitchesTo p (whole_switch (S f site packet) (A f site packet) w p (Old (net.Mv g (real.M_install op (instance_node from) (instance_node to)))))
+          (on_install s op g from (target.Instance to))
+      move_installs op g from to filters whole a b = record {
+        routes = routes_moved f site packet place s w.target op g from to filters whole a b routes;
+        links = λ i j. ap (λ xs. sent_as xs i j) (sym (install_moved f site packet place s op g from to a b));
+      }
+
+      pub share_installs : (op : ℕ) (g : Filter) (from : ℕ) → AreFilters s.rules → is_whole f.kind g ≡ true → nat_lt from s.instances ≡ true → SwitchesTo p
+          (whole_switch (S f site packet) (A f site packet) w p (New (S_install op g (instance_node from)))) (on_install s op g from target.Controller)
+      share_installs op g from filters whole a = record {
+        routes = routes_shared f site packet place s w.target op g from filters whole a routes;
+        links = λ i j. ap (λ xs. sent_as xs i j) (sym (install_shared f site packet place s op g from a));
+      }

@@ -1,0 +1,361 @@
+-- What each copy that is done took stands by at its destination at the end of a completed run, or what is newer; with all else that stands by.
+use Rattle.std.proofs.Common.{◌≡◌, ℕ, ◌+◌, ◌≤◌, Bool, true, false, ◌||◌, not, cond, Option, Some, None}
+use Rattle.std.proofs.Common.{List, [], ◌∷◌, ◌++◌, append_assoc, length, length-append, map, take}
+use Rattle.std.proofs.Common.{refl, sym, ap, ◌∙◌, subst, arith}
+use Rattle.std.specs.Prelude.{if◌then◌else◌, ◌==◌, filter, filter_map, find, is_some, option_map, option_to_list, unwrap_or, zip}
+use Rattle.std.specs.List.{AllByRecursion, before_first, list_any}
+use Rattle.std.specs.Option.{option_map_or}
+use Rattle.std.specs.Str.{bytes_eq}
+use Rattle.std.specs.declared.alloc.Global.{Global}
+use Rattle.std.proofs.lemmas.Bool.Decides.{Decides-eqb}
+use Rattle.std.proofs.lemmas.List.Elements.{recursion_from_All}
+use Rattle.std.proofs.lemmas.List.Quantifiers.{position-Some}
+use Rattle.flow_filter.specs.declared.filter.Filter.{Filter}
+use Rattle.flow_filter.specs.declared.packet.Packet.{Packet}
+use Rattle.flow_filter.specs.Name.{has_twice, place_of}
+use Rattle.nf_function.specs.declared.unit.Unit as units
+use Rattle.nf_function.specs.Records.{Laws as FunctionLaws}
+use Rattle.nf_function.specs.Semantics.{Semantics}
+use Rattle.nf_function.specs.Units.{takes}
+use Rattle.nf_msgs.specs.declared.answer.Answer.{Answer}
+use Rattle.nf_msgs.specs.declared.answer.Answer.TheVariants as answers
+use Rattle.nf_msgs.specs.declared.command.Command.{Command}
+use Rattle.nf_msgs.specs.declared.command.Order.{Order}
+use Rattle.nf_msgs.specs.declared.command.Order.TheVariants.{Move, Copy, Share}
+use Rattle.nf_msgs.specs.declared.msg.Msg.{Msg}
+use Rattle.nf_msgs.specs.declared.msg.Msg.TheVariants as msg
+use Rattle.nf_msgs.specs.declared.note.Note.{Note}
+use Rattle.nf_msgs.specs.declared.note.Note.TheVariants as note
+use Rattle.ctrl_node.specs.Controller.{unknown_in}
+use Rattle.actor_net.specs.declared.choice.Choice.{Choice}
+use Rattle.actor_net.specs.Network.{Network, IsRun, run}
+use Rattle.actor_net.proofs.RunLaws.{run_splits}
+use Rattle.net_world.specs.declared.config.Config.{Config}
+use Rattle.net_world.specs.declared.node.Node.{Node}
+use Rattle.net_world.specs.Commands.{answers_of, is_begun}
+use Rattle.net_world.specs.Fold as folds
+use Rattle.net_world.specs.Input.{IsProper, commands, no_packet, order_numbered, packet_numbered, packets}
+use Rattle.net_world.specs.Jobs.{course_of, job_of}
+use Rattle.net_world.specs.Log.{dones_in, done_where}
+use Rattle.net_world.specs.Nodes.{node_ready, node_step}
+use Rattle.net_world.specs.Places.{first_owner, owner}
+use Rattle.net_world.specs.Standby.{standby_at, StandsBy}
+use Rattle.net_world.specs.Start.{started_with}
+use Rattle.net_world.specs.Verdicts.{before_export, export_in}
+use Rattle.net_world.proofs.PickedLists.{before_first-cons}
+use Rattle.report_lines.specs.Lines.{by_unit}
+use Rattle.run_report.specs.proof_outlines.proofs.joined.StartJoined.{all_fit}
+use Rattle.run_report.specs.nf_net.specs.Copies.{IsCopied, UnitCopy}
+use Rattle.run_report.specs.nf_net.proofs.EveryRun.{every_run}
+use Rattle.run_report.specs.nf_net.proofs.FrontLemmas.{front_length}
+use Rattle.run_report.specs.nf_net.proofs.SettleCounts.{packets-append}
+use Rattle.run_report.specs.nf_net.proofs.StandbyFronts.{still_some}
+use Rattle.run_headline.specs.Causes.{is_answered, is_done}
+use Rattle.run_headline.specs.Headline.{is_covered, packets_of}
+use Rattle.run_headline.specs.Instances.{AreStandbys, HasBrought, IsAsNew, StaysAt, dones_of, records_under}
+use Rattle.run_headline.specs.Law.{IsCompleted, done_in, points_of}
+use Rattle.run_headline.proofs.AnswerLines.{answer_to, answered_so}
+use Rattle.run_headline.proofs.FoundNumbers.{IsFound, all_found}
+use Rattle.run_headline.proofs.InstanceLines.{done_unrefused, fronts, here, of, packets_found, said, shared, standbys, stands_after, told_is}
+use Rattle.run_headline.proofs.RecordsUnder.{under_name}
+use Rattle.run_headline.proofs.UnitOutputs.{IsThere, mine, part}
+use Rattle.run_headline.proofs.UnmovedUnits.{not_covered, owner_is}
+
+-- The log before a note of what was given, and the lines of packets that were processed by then.
+module _ {X : Type 0} (p : X → Bool) where
+  and_after : (xs : List X) → (rest : List X) × (xs ≡ before_first p xs ++ rest)
+  and_after [] = ([], refl)
+  and_after (x ∷ xs) =
+      let more = and_after xs in
+      let parts = elim (p x) as (λ b. (rest : List X) × (x ∷ xs ≡ (if b then [] else x ∷ before_first p xs) ++ rest)) [
+        | true ↦ (x ∷ xs, refl)
+        | false ↦ (more.0, ap (λ l. x ∷ l) more.1)
+      ] in
+      (parts.0, parts.1 ∙ ap (λ l. l ++ parts.0) (sym (before_first-cons p x xs)))
+
+after_export : (op : ℕ) (log : List Note) → (rest : List Note) × (log ≡ before_export op log ++ rest)
+after_export op log = and_after (λ n. option_map_or (λ one. one.0 == op) (export_in n) false) log
+
+first_dones : (xs ys : List Note) → take (length (dones_in xs)) (filter_map done_in (xs ++ ys)) ≡ filter_map done_in xs
+first_dones [] ys = refl
+first_dones (note.Processed number i output ∷ xs) ys = ap (λ l. (number, i) ∷ l) (first_dones xs ys)
+first_dones (note.Arrived number ∷ xs) ys = first_dones xs ys
+first_dones (note.Begun op ∷ xs) ys = first_dones xs ys
+first_dones (note.Exported i op us ∷ xs) ys = first_dones xs ys
+first_dones (note.Imported i op us ∷ xs) ys = first_dones xs ys
+first_dones (note.Kept i op us ∷ xs) ys = first_dones xs ys
+first_dones (note.Installed op ∷ xs) ys = first_dones xs ys
+first_dones (note.Answered op answer ∷ xs) ys = first_dones xs ys
+
+-- lines that pass a test are no more than what was processed of some, where these pass too
+few_dones : (test : ℕ → Bool) (own : ℕ → Bool) → ((p : ℕ) → test p ≡ true → own p ≡ true) → (xs : List Note)
+    → length (filter (λ d. test d.0) (filter_map done_in xs)) ≤ length (map (λ d. d.number) (done_where own (dones_in xs)))
+few_dones test own less [] = omega arith
+few_dones test own less (note.Processed number i output ∷ xs) =
+    let more = few_dones test own less xs in
+    elim (test number) as (λ b. test number ≡ b
+    → length (cond b ((number, i) ∷ filter (λ d. test d.0) (filter_map done_in xs)) (filter (λ d. test d.0) (filter_map done_in xs)))
+    ≤ length (map (λ d. d.number) (done_where own (dones_in (note.Processed number i output ∷ xs))))) [
+      | true ↦ λ on. (let its = less number on in rw its (omega (arith, more)))
+      | false ↦ λ off. elim (own number) as (λ b. length (filter (λ d. test d.0) (filter_map done_in xs))
+          ≤ length (map (λ d. d.number)
+          (if b then record { number = number; instance = i; output = output } ∷ done_where own (dones_in xs) else done_where own (dones_in xs)))) [
+            | true ↦ omega (arith, more)
+            | false ↦ omega (arith, more)
+          ]
+    ] refl
+few_dones test own less (note.Arrived number ∷ xs) = few_dones test own less xs
+few_dones test own less (note.Begun op ∷ xs) = few_dones test own less xs
+few_dones test own less (note.Exported i op us ∷ xs) = few_dones test own less xs
+few_dones test own less (note.Imported i op us ∷ xs) = few_dones test own less xs
+few_dones test own less (note.Kept i op us ∷ xs) = few_dones test own less xs
+few_dones test own less (note.Installed op ∷ xs) = few_dones test own less xs
+few_dones test own less (note.Answered op answer ∷ xs) = few_dones test own less xs
+
+done_only : (a : Answer) → is_done a ≡ true → a ≡ answers.Done
+done_only answers.Done is = refl
+done_only (answers.Unknown name) is = cc
+done_only (answers.Overlap op) is = cc
+done_only (answers.Import held coming limit) is = cc
+done_only (answers.Old newest reads) is = cc
+
+-- Two names that are known.
+record BothKnown (names : List (List ℕ)) (a b : List ℕ) : Type 0 where
+  first : ℕ
+  second : ℕ
+  first_is : place_of names a ≡ Some first
+  second_is : place_of names b ≡ Some second
+
+both_known : (names : List (List ℕ)) (a b : List ℕ) → find (λ name. not (is_some (place_of names name))) (a ∷ b ∷ []) ≡ None → BothKnown names a b
+both_known names a b none = by_places (place_of names a) (place_of names b) refl refl
+    none
+  where
+    by_places : (x y : Option ℕ) → place_of names a ≡ x → place_of names b ≡ y
+        → find (λ name. not (is_some (place_of names name))) (a ∷ b ∷ []) ≡ None → BothKnown names a b
+    by_places (Some i) (Some k) p q h = record { first = i; second = k; first_is = p; second_is = q }
+    by_places None y p q h =
+        let never : Some a ≡ None = sym (ap (λ o. if not (is_some o) then Some a else find (λ name. not (is_some (place_of names name))) (b ∷ [])) p) ∙ h in
+        cc
+    by_places (Some i) None p q h =
+        let inner : find (λ name. not (is_some (place_of names name))) (b ∷ []) ≡ None =
+        sym (ap (λ o. if not (is_some o) then Some a else find (λ name. not (is_some (place_of names name))) (b ∷ [])) p) ∙ h in
+        let never : Some b ≡ None = sym (ap (λ o. if not (is_some o) then Some b else None) q) ∙ inner in
+        cc
+
+module _ {R : Type 0} (F : Type 0) (f : Semantics R) (laws : FunctionLaws f) (alloc : Global) (c : Config) (items : List Msg) (choices : List Choice)
+    (is : IsCompleted F f alloc c items choices) where
+  abbrev first : Network (Node F R) Msg Note
+  first = started_with alloc c items
+
+  abbrev w : Network (Node F R) Msg Note
+  w = run (node_step f) choices first
+
+  -- a line of a packet of the unit is of a packet that the unit has
+  own_line : (u : units.Unit) (p : ℕ) (ps : List Packet) → AllByRecursion (IsThere f c items u) ps
+      → list_any (λ q. q.number == p) (filter (part f c items u) ps) ≡ true → mine f c items u p ≡ true
+  own_line u p [] all h = cc
+  own_line u p (q ∷ ps) all h = elim (part f c items u q) as (λ b. part f c items u q ≡ b
+      → list_any (λ x. x.number == p) (cond b (q ∷ filter (part f c items u) ps) (filter (part f c items u) ps)) ≡ true → mine f c items u p ≡ true) [
+        | true ↦ λ on some. elim (q.number == p)
+            as (λ b. (q.number == p) ≡ b → (b || list_any (λ x. x.number == p) (filter (part f c items u) ps)) ≡ true → mine f c items u p ≡ true) [
+              | true ↦ λ same _. ap (λ k. mine f c items u k) (sym ((Decides-eqb q.number p).0 same))
+                  ∙ ap (part f c items u) (ap (λ o. unwrap_or o no_packet) all.0) ∙ on
+              | false ↦ λ _ more. own_line u p ps all.1 more
+            ] refl some
+        | false ↦ λ _ more. own_line u p ps all.1 more
+      ] refl h
+
+  -- A copy of units that is done.
+  module _ (once : has_twice c.names ≡ false) (front behind : List Msg) (k : Command) (whole : items ≡ front ++ msg.InCommand k ∷ behind)
+      (order : order_numbered items k.op ≡ Some k.what) (is_answer : is_answered is_done (said F f laws alloc c items choices is).answers k.op ≡ true)
+      (source destination : List ℕ) (taken : Filter) (what_is : k.what ≡ Copy source destination (Some taken)) where
+    answer : (a : Answer) × (answers_of k.op w.log ≡ a ∷ [])
+    answer = answer_to w.log is.promises.answers.answered_once items is.answers k.op k.what order
+
+    is_one : is_done answer.0 ≡ true
+    is_one = answered_so is_done answer.0 k.op w.log answer.1 is_answer
+
+    done_is : answers_of k.op w.log ≡ answers.Done ∷ []
+    done_is = answer.1 ∙ ap (λ a. a ∷ []) (done_only answer.0 is_one)
+
+    begun : is_begun k.op w.log ≡ true
+    begun = elim (is_begun k.op w.log) as (λ b. is_begun k.op w.log ≡ b → b ≡ true) [
+      | true ↦ λ _. refl
+      | false ↦ λ off. (let never = sym (done_unrefused answer.0 is_one) ∙ is.verdicts.refused k.op answer.0 off answer.1 in cc)
+    ] refl
+
+    known : BothKnown c.names source destination
+    known = both_known c.names source destination
+        (subst (λ what. unknown_in c.names what ≡ None) what_is (is.promises.answers.begins k.op k.what order begun).known)
+
+    abbrev copy : UnitCopy
+    copy = record { op = k.op; source = known.first; destination = known.second; filter = taken }
+
+    copied : IsCopied (job_of f c items) (course_of first choices) copy
+    copied = is.standbys.copied copy (record {
+      source = source;
+      destination = destination;
+      order_is = order ∙ ap Some what_is;
+      source_is = known.first_is;
+      destination_is = known.second_is;
+    }) done_is
+
+    -- the world in which the source gave what it had
+    abbrev given_at : Network (Node F R) Msg Note
+    given_at = run (node_step f) copied.before first
+
+    its_run : IsRun node_ready (node_step f) copied.before first
+    its_run = (run_splits node_ready (node_step f) copied.before copied.later first
+        (subst (λ xs. IsRun node_ready (node_step f) xs first) (sym copied.whole) is.is_run)).0
+
+    abbrev moment : ℕ
+    moment = length (dones_in given_at.log)
+
+    late : length (packets front) ≤ moment + c.window
+    late =
+        let came = copied.to_give.came front behind k whole refl in
+        let few = (every_run F f laws alloc c items is.is_input copied.before its_run).window.under_way in
+        omega (arith, came, few)
+
+    log_is : (rest : List Note) × (w.log ≡ given_at.log ++ rest)
+    log_is = let it = after_export k.op w.log in (it.0, it.1 ∙ ap (λ l. l ++ it.0) copied.gave)
+
+    -- A unit of it that stays at its source.
+    module _ (u : units.Unit) (on : takes taken u ≡ true)
+        (at : StaysAt (of F f laws alloc c items choices is) (said F f laws alloc c items choices is) u source) where
+      abbrev went : List ℕ
+      went = folds.processed_of f c items u given_at.log
+
+      few : dones_of (of F f laws alloc c items choices is) (said F f laws alloc c items choices is) u moment ≤ length went
+      few =
+          let own = (λ (p : ℕ). own_line u p (packets items) (packets_found F f laws alloc c items choices is)) in
+          let less = few_dones (λ p. list_any (λ q. q.number == p) (packets_of (of F f laws alloc c items choices is) u)) (mine f c items u) own given_at.log in
+          subst (λ ds. length (filter (λ d. list_any (λ q. q.number == d.0) (packets_of (of F f laws alloc c items choices is) u)) ds) ≤ length went)
+          (sym (ap (λ l. take moment (filter_map done_in l)) log_is.1 ∙ first_dones given_at.log log_is.0)) less
+
+      off : is_covered (of F f laws alloc c items choices is) (said F f laws alloc c items choices is).answers u ≡ false
+      off = not_covered f c items w.log is.promises.answers is.answers u at.unmoved
+
+      owned : owner c items u given_at.log ≡ known.first
+      owned =
+          let at_first = owner_is f c items w.log is.promises.answers is.answers u at.unmoved given_at.log log_is.0 log_is.1 in
+          let places : Some known.first ≡ Some (first_owner u c.routes) = sym known.first_is ∙ at.routed in
+          let same : known.first ≡ first_owner u c.routes = cc in
+          at_first ∙ sym same
+
+      abbrev under : List R
+      under = records_under u destination (standbys F f laws alloc c items choices is)
+
+      under_is : under ≡ option_to_list (standby_at w known.second u)
+      under_is =
+          let place = position-Some (λ other. bytes_eq other destination) c.names known.second [] known.second_is in
+          let nodes = here F f laws alloc c items choices is in
+          ap (λ l. records_under u destination (by_unit false l)) (told_is F f laws alloc c items choices is)
+          ∙ under_name u destination false c.names nodes.instances known.second nodes.many once place.0 place.1
+          ∙ ap option_to_list (sym (nodes.stands u known.second))
+
+      abbrev IsNew : Type 0
+      IsNew = IsAsNew (of F f laws alloc c items choices is) u
+          (dones_of (of F f laws alloc c items choices is) (said F f laws alloc c items choices is) u moment) under
+
+      -- what stands by is the record of a front that is long enough
+      by_standby : (s : StandsBy (job_of f c items) w known.second u) → length went ≤ length s.front → IsNew
+      by_standby s long = record {
+        count = length s.front;
+        enough = (let less = few in omega (arith, less, long));
+        records_are = under_is ∙ ap option_to_list (s.there ∙ sym (stands_after F f laws alloc c items choices is known.second u s off));
+      }
+
+      -- a packet leaves a record
+      none_went : (ps : List ℕ) → folds.fold f c items None ps ≡ None → ps ≡ []
+      none_went [] none = refl
+      none_went (p ∷ ps) none =
+          let one : folds.fold f c items None (p ∷ []) ≡ Some (f.stepped c.site None (packet_numbered items p)).kept =
+          (let transport = (all_fit f c items is.is_input p).transport in rw transport refl) in
+          let more = still_some f c items (p ∷ []) (p ∷ ps) (f.stepped c.site None (packet_numbered items p)).kept (record { rest = ps; whole = refl }) one in
+          let never : None ≡ Some more.0 = sym none ∙ more.1 in
+          cc
+
+      -- nothing was there then
+      by_none : length went ≡ 0 → (o : Option R) → standby_at w known.second u ≡ o → IsNew
+      by_none short None there = record {
+        count = 0;
+        enough = (let less = few in omega (arith, less, short));
+        records_are = under_is ∙ ap option_to_list there;
+      }
+      by_none short (Some r) there = by_standby (is.standbys.fronts known.second u r there) (omega (arith, short))
+
+      by_fold : (o : Option R) → folds.fold f c items None went ≡ o → IsNew
+      by_fold None none = by_none (ap length (none_went went none)) (standby_at w known.second u) refl
+      by_fold (Some kept) some =
+          let it = copied.stands u kept on (copied.to_give.owned u kept on owned some) in
+          by_standby it.0 (front_length went it.0.front it.1)
+
+      as_new : IsNew
+      as_new = by_fold (folds.fold f c items None went) refl
+
+  same_names : {a d x y : List ℕ} {o p : Filter} → Copy a d (Some o) ≡ Copy x y (Some p) → (a ≡ x) × (d ≡ y) × (o ≡ p)
+  same_names e = (cc, cc, cc)
+
+  brought_by : has_twice c.names ≡ false → (front behind : List Msg) (k : Command) → items ≡ front ++ msg.InCommand k ∷ behind
+      → order_numbered items k.op ≡ Some k.what
+      → is_answered is_done (said F f laws alloc c items choices is).answers k.op ≡ true → (what : Order) → k.what ≡ what
+      → HasBrought (of F f laws alloc c items choices is) (said F f laws alloc c items choices is) (standbys F f laws alloc c items choices is)
+      (k, length (packets front))
+  brought_by once front behind k whole order is_answer (Copy source destination (Some taken)) what_is = record {
+    moment = moment once front behind k whole order is_answer source destination taken what_is;
+    late = late once front behind k whole order is_answer source destination taken what_is;
+    stands = λ s d t u same on at. (let e = same_names (sym same ∙ what_is) in
+        subst (λ n. IsAsNew (of F f laws alloc c items choices is) u (dones_of (of F f laws alloc c items choices is)
+        (said F f laws alloc c items choices is) u (moment once front behind k whole order is_answer source destination taken what_is))
+        (records_under u n (standbys F f laws alloc c items choices is))) (sym e.1)
+        (as_new once front behind k whole order is_answer source destination taken what_is u (ap (λ q. takes q u) (sym e.2) ∙ on)
+        (subst (StaysAt (of F f laws alloc c items choices is) (said F f laws alloc c items choices is) u) e.0 at)));
+  }
+  brought_by once front behind k whole order is_answer (Copy source destination None) what_is = record {
+    moment = length (packets front);
+    late = omega arith;
+    stands = λ s d t u same on at. (let never : Copy s d (Some t) ≡ Copy source destination None = sym same ∙ what_is in cc);
+  }
+  brought_by once front behind k whole order is_answer (Move source destination filter keep) what_is = record {
+    moment = length (packets front);
+    late = omega arith;
+    stands = λ s d t u same on at. (let never : Copy s d (Some t) ≡ Move source destination filter keep = sym same ∙ what_is in cc);
+  }
+  brought_by once front behind k whole order is_answer (Share members filter) what_is = record {
+    moment = length (packets front);
+    late = omega arith;
+    stands = λ s d t u same on at. (let never : Copy s d (Some t) ≡ Share members filter = sym same ∙ what_is in cc);
+  }
+
+  abbrev Brought : Command × ℕ → Type 0
+  Brought e = is_answered is_done (said F f laws alloc c items choices is).answers e.0.op ≡ true
+      → HasBrought (of F f laws alloc c items choices is) (said F f laws alloc c items choices is) (standbys F f laws alloc c items choices is) e
+
+  -- command by command
+  all_brought : has_twice c.names ≡ false → (front rest : List Msg) (n : ℕ) → items ≡ front ++ rest → n ≡ length (packets front)
+      → AllByRecursion (IsFound (λ k. k.op) (commands items)) (commands rest) → AllByRecursion Brought (zip (commands rest) (points_of n rest))
+  all_brought once front [] n whole count found = tt
+  all_brought once front (msg.InPacket p ∷ rest) n whole count found =
+      all_brought once (front ++ msg.InPacket p ∷ []) rest (n + 1) (whole ∙ sym (append_assoc front (msg.InPacket p ∷ []) rest))
+      (let more = ap length (packets-append front (msg.InPacket p ∷ [])) in
+      let both = length-append (packets front) (p ∷ []) in omega (arith, count, more, both)) found
+  all_brought once front (msg.InCommand k ∷ rest) n whole count found = (
+    λ is_answer. subst (λ m. HasBrought (of F f laws alloc c items choices is) (said F f laws alloc c items choices is)
+        (standbys F f laws alloc c items choices is) (k, m)) (sym count)
+        (brought_by once front rest k whole (ap (option_map (λ x. x.what)) found.0) is_answer k.what refl),
+    all_brought once (front ++ msg.InCommand k ∷ []) rest n (whole ∙ sym (append_assoc front (msg.InCommand k ∷ []) rest))
+        (let more = ap length (packets-append front (msg.InCommand k ∷ [])) in
+        let both = length-append (packets front) [] in omega (arith, count, more, both)) found.1,
+  )
+  all_brought once front (m ∷ rest) n whole count found =
+      all_brought once (front ++ m ∷ []) rest n (whole ∙ sym (append_assoc front (m ∷ []) rest))
+      (let more = ap length (packets-append front (m ∷ [])) in let both = length-append (packets front) [] in omega (arith, count, more, both)) found
+
+  pub are_standbys : AreStandbys (of F f laws alloc c items choices is) (said F f laws alloc c items choices is) (standbys F f laws alloc c items choices is)
+  are_standbys = record {
+    fronts = fronts F f laws alloc c items choices is;
+    shared = λ once. shared F f laws alloc c items choices is once (commands items) (all_found (λ k. k.op) 0 (commands items) is.is_input.ops)
+        (recursion_from_All (λ k. IsProper f.kind k.what) (commands items) is.is_input.orders);
+    copied = λ once. all_brought once [] items 0 refl refl (all_found (λ k. k.op) 0 (commands items) is.is_input.ops);
+  }

@@ -1,0 +1,224 @@
+//! Tests of runs of the network by threads.
+ghost use Rattle.std.specs.Prelude.{◌≡◌, ◌<◌, ◌≤◌, true, vec_len, All, IfOk};
+ghost use Rattle.flow_filter.specs.Limits.{most_window};
+ghost use Rattle.nf_function.specs.Units.{is_transport};
+ghost use Rattle.nf_function.specs.declared.kind.Kind.TheVariants.{Conntrack as OfFlows};
+ghost use Rattle.trace_reader.specs.Records.{AreNumbered};
+ghost use Rattle.opennf_calls.specs.net_world.specs.Input.{IsInput};
+
+use actor_net::{Choice, Choices, World};
+use actor_threads::{Gate, OpenGate};
+use command_words::instances::instances_of;
+use conn_tracker::Conntrack;
+use flow_filter::{Name, Packet, Prefix, Site, Text, UDP};
+use nf_function::Kind;
+use nf_msgs::{Msg, Names, Note};
+use op_script::{PacketItems, read_script};
+use opennf_calls::threads::run_network;
+use opennf_calls::{Config, Head, Node, Setting, audited, input_of, report};
+use std::alloc::Global;
+use std::sync::Wait;
+use std::sync::atomic::{AtomicU64, Ordering};
+use std::test::Fail;
+use std::thread;
+use std::thread::Threads;
+
+/// How many packets may be under way in the runs with moves: fewer than there are.
+const WINDOW: u32 = 8;
+
+/// The instances a and b.
+fn instances(alloc: Global) -> Result<Vec<Name>, Fail>
+    ensures { IfOk result (λ names. vec_len names ≡ 2) }
+{
+    let mut names = Vec::new(alloc);
+    names.push(Name::read(alloc, b"a")?.ok_or("no name")?)?;
+    names.push(Name::read(alloc, b"b")?.ok_or("no name")?)?;
+    Ok(names)
+}
+
+/// The UDP packet with this number, of the local port 5000 for even numbers and 5001 for odd ones.
+fn packet(number: u32) -> Packet
+    ensures number { result.number ≡ number }
+    ensures steered { is_transport result.proto ≡ true }
+{
+    Packet {
+        nanos: 0,
+        number,
+        src: 0x0a00_0001,
+        dst: 0xc000_0209,
+        length: 20,
+        sport: 5000 + (number % 2) as u16,
+        dport: 53,
+        proto: UDP,
+        flags: 0,
+        held: 0,
+        head: [0; 64],
+    }
+}
+
+fn packets(alloc: Global, count: u32) -> Result<PacketItems, Fail>
+    requires { count < 2000 }
+    ensures numbers { IfOk result (AreNumbered 1) }
+    ensures steered { IfOk result (All (λ packet. is_transport packet.proto ≡ true)) }
+{
+    let mut packets = PacketItems::open(alloc);
+    for number in 0..count {
+        let next = packet(number + 1);
+        packets.push(alloc, &next)?;
+    }
+    Ok(packets)
+}
+
+/// What the instances a and b are given, by the text of a script.
+fn given(alloc: Global, script: &[u8], count: u32, window: u32) -> Result<(Config, Vec<Msg>), Fail>
+    requires count { count < 2000 }
+    requires window { (1 ≤ window) × (window ≤ most_window) }
+    ensures { IfOk result (λ given. IsInput OfFlows given.0 given.1.items) }
+{
+    let instances = instances_of(alloc, Some("a:9,b:9"))?.ok_or("no instances")?;
+    let names = instances.names(alloc)?;
+    let script = read_script(alloc, script, Kind::Conntrack, names.items())?;
+    let inside = Prefix {
+        bits: 0x0a00_0000,
+        len: 24,
+    };
+    let setting = Setting {
+        kind: Kind::Conntrack,
+        instances: &instances,
+        site: Site {
+            inside,
+            outside: None,
+        },
+        window,
+    };
+    let packets = packets(alloc, count)?;
+    Ok(input_of(alloc, &setting, &script, packets)?)
+}
+
+/// The number of each packet as often as it was processed, the least first.
+fn processed(alloc: Global, world: &World<Node<Conntrack>>) -> Result<Vec<u32>, Fail> {
+    let mut numbers = Vec::new(alloc);
+    for note in world.log() {
+        if let Note::Processed { number, .. } = note {
+            numbers.push(*number)?;
+        }
+    }
+    numbers.sort()?;
+    Ok(numbers)
+}
+
+/// Some packets are under way when the move begins, and some come while it is open.
+static MOVES: &str = "route any a\nat 9 move a b lport=5001 order\nat 20 move b a any lossfree\n";
+
+#[test]
+fn each_packet_of_two_moves_is_processed_once(rt: HostRuntime) -> Result<(), Fail> {
+    let alloc = rt.alloc();
+    let mut expected = Vec::new(alloc);
+    for number in 0..40u32 {
+        expected.push(number + 1)?;
+    }
+    for _ in 0..20 {
+        let (config, items) = given(alloc, MOVES.as_bytes(), 40, WINDOW)?;
+        let (world, _choices) = run_network::<_, Conntrack, _>(
+            &rt, alloc, &config, items, &OpenGate,
+        )?;
+        assert!(rt; world.complete());
+        assert_eq!(rt; processed(alloc, &world)?.as_slice(), expected.as_slice());
+    }
+    Ok(())
+}
+
+/// What the report of a run of forty packets repeats.
+fn head(alloc: Global) -> Result<Head, Fail> {
+    Ok(Head {
+        kind: Kind::Conntrack,
+        names: Names::from_vec(instances(alloc)?),
+        window: WINDOW,
+        packets: 40,
+        skipped: 0,
+        cut: false,
+    })
+}
+
+/// The report of a run by threads, and its choices.
+fn run_told<R: Threads + Wait + Sync>(rt: &R, alloc: Global) -> Result<(Text, Choices), Fail> {
+    let (config, items) = given(alloc, MOVES.as_bytes(), 40, WINDOW)?;
+    let (world, choices) = run_network::<_, Conntrack, _>(rt, alloc, &config, items, &OpenGate)?;
+    let text = report::<Conntrack>(alloc, &head(alloc)?, &world, false)?;
+    Ok((text, choices))
+}
+
+/// The report of the same run, by its choices alone.
+fn audit_told(alloc: Global, choices: &[Choice]) -> Result<Text, Fail> {
+    let (config, items) = given(alloc, MOVES.as_bytes(), 40, WINDOW)?;
+    let text = audited::<Conntrack>(alloc, &config, items, &head(alloc)?, choices, false)?;
+    Ok(text)
+}
+
+#[test]
+fn the_choices_of_threads_are_audited_to_the_same_report(rt: HostRuntime) -> Result<(), Fail> {
+    let (text, choices) = run_told(&rt, rt.alloc())?;
+    let again = audit_told(rt.alloc(), choices.items())?;
+    assert_eq!(rt; text.items(), again.items());
+    Ok(())
+}
+
+/// A gate that holds each pass of an instance until the other is in one, for a while. It counts the passes.
+#[derive(Drop)]
+struct Meeting {
+    a: AtomicU64,
+    b: AtomicU64,
+    met: AtomicU64,
+    passes: AtomicU64,
+}
+
+impl Meeting {
+    fn open() -> Self {
+        Meeting {
+            a: AtomicU64::new(0),
+            b: AtomicU64::new(0),
+            met: AtomicU64::new(0),
+            passes: AtomicU64::new(0),
+        }
+    }
+
+    fn meet(&self, mine: &AtomicU64, other: &AtomicU64) {
+        mine.store(1, Ordering::SeqCst);
+        for _ in 0..1000 {
+            if other.load(Ordering::SeqCst) == 1 {
+                self.met.store(1, Ordering::SeqCst);
+            }
+            if self.met.load(Ordering::SeqCst) == 1 {
+                break;
+            }
+            thread::yield_now();
+        }
+        mine.store(0, Ordering::SeqCst);
+    }
+}
+
+impl Gate for Meeting {
+    fn pass(&self, node: u8, _step: u64) {
+        self.passes.fetch_add(1, Ordering::SeqCst);
+        match node {
+            2 => self.meet(&self.a, &self.b),
+            3 => self.meet(&self.b, &self.a),
+            _ => {}
+        }
+    }
+}
+
+#[test]
+fn both_instances_are_in_a_pass_at_once(rt: HostRuntime) -> Result<(), Fail> {
+    let alloc = rt.alloc();
+    let gate = Meeting::open();
+    let script = "route lport=5001 b\nroute any a\n";
+    let (config, items) = given(alloc, script.as_bytes(), 1024, 64)?;
+    let (_world, choices) = run_network::<_, Conntrack, _>(&rt, alloc, &config, items, &gate)?;
+    assert_eq!(rt; gate.met.load(Ordering::SeqCst), 1);
+    assert_eq!(rt;
+        gate.passes.load(Ordering::SeqCst),
+        choices.items().len() as u64
+    );
+    Ok(())
+}
