@@ -25,9 +25,6 @@ pub mod Away
 pub mod DestinationUnits
 pub mod Ends
 pub mod Rests
-pub mod Falls
-pub mod Length
-pub mod Controls
 pub mod Labels
 pub mod Seats
 pub mod SeatLaws

@@ -9,9 +9,8 @@ use Rattle.proof_machines.proofs.share.Share.{Phase, Phase.Fencing, Phase.Gettin
 use Rattle.proof_machines.proofs.net.Net.{Msg, MoveAsked, Sys, process, inst_step, ctrl_step, sw_sends, begin_sends}
 use Rattle.proof_machines.proofs.net.Net.{behind, links_after, inst_next, ctrl_next, sw_next, begin_next}
 use Rattle.proof_machines.proofs.net.Elsewhere.{Elsewhere}
-use Rattle.proof_machines.proofs.net.Shares.{Any, Any.Old, Any.New, ShareMsg, ShareMsg.Shared_on, ShareMsg.Diverted_on, ShareMsg.S_asked}
-use Rattle.proof_machines.proofs.net.Shares.{ShareMsg.S_install, ShareMsg.S_forward, ShareMsg.S_get, ShareMsg.S_sync, ShareMsg.S_chunks, ShareMsg.S_shared}
-use Rattle.proof_machines.proofs.net.Shares.{ShareMsg.S_synced, olds, as_old, Sharing, OpenShare, Told, Told.Is_fenced, Told.Has_chunks, Told.Has_chunk}
+use Rattle.proof_machines.proofs.net.Shares.{Any, Any.Old, Any.New, ShareMsg, ShareMsg.Shared_on, ShareMsg.S_forward, ShareMsg.S_get, ShareMsg.S_sync}
+use Rattle.proof_machines.proofs.net.Shares.{ShareMsg.S_shared, olds, as_old, Sharing, OpenShare, Told, Told.Is_fenced, Told.Has_chunks, Told.Has_chunk}
 use Rattle.proof_machines.proofs.net.Shares.{Told.Is_synced, Told.Has_packet, syncs, s_row, s_served, told_by, by_share, s_goes, s_left, shared_chunk}
 use Rattle.proof_machines.proofs.net.Shares.{member_step, WholeWorld, moves_of, whole_inst, whole_ctrl, whole_switch, begin_move}
 use Rattle.nf_function.specs.declared.unit.Unit as units
@@ -140,16 +139,9 @@ module _ {R : Type 0} (S : Sys R) (A : Sharing S) where
   pub member_new : (live standby : S.B.T) (m : ShareMsg R) → old_sends (member_step S A live standby m).sends ≡ []
   member_new live standby (Shared_on n true p) = chunk_new n p (process S live p)
   member_new live standby (Shared_on n false p) = chunk_new n p (process S standby p)
-  member_new live standby (S_get n g) = refl
   member_new live standby (S_sync n true cs) = refl
   member_new live standby (S_sync n false cs) = refl
-  member_new live standby (Diverted_on p) = refl
-  member_new live standby (S_asked x) = refl
-  member_new live standby (S_install n g from) = refl
-  member_new live standby (S_forward n home p to) = refl
-  member_new live standby (S_chunks n cs) = refl
-  member_new live standby (S_shared n c) = refl
-  member_new live standby (S_synced n) = refl
+  member_new live standby m = refl
 
   -- The steps, as moves see them
   module _ (w : WholeWorld S A) (p : ℕ) (m : Msg R) (rest : List (Any R)) where

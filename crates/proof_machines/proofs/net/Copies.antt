@@ -3,9 +3,8 @@ use Rattle.std.proofs.Common.{◌≡◌, ℕ, ◌+◌, ◌≤◌, Bool, true, fa
 use Rattle.std.specs.Prelude.{if◌then◌else◌, ◌&&◌, ◌==◌, is_some, option_to_list}
 use Rattle.std.proofs.lemmas.Bool.Decides.{nat_tests, Decides-eqb}
 use Rattle.proof_machines.proofs.unit.Machine.{Item, Put_no, State}
-use Rattle.proof_machines.proofs.unit.Real.{Chunks, record_at, RPiece, RPhase}
-use Rattle.proof_machines.proofs.unit.Real.{M_event, M_put_no, Frame, see, see_phase}
-use Rattle.move_op.specs.Phases.{Freezing, Streaming, Holding, Passing, Ending, Restoring, Returning, Undoing, Over}
+use Rattle.proof_machines.proofs.unit.Real.{Chunks, record_at, RPiece, RPhase, M_event, M_put_no, Frame, see, see_phase}
+use Rattle.move_op.specs.Phases.{Streaming}
 use Rattle.proof_machines.proofs.unit.UnitPieces.{records}
 use Rattle.proof_machines.proofs.unit.Labels.{Each, Without, Clean}
 use Rattle.proof_machines.proofs.unit.Kept.{frozen_in, free_in}
@@ -65,14 +64,7 @@ module _ {R : Type 0} where
 
   copies_own : (v : Frame) (ph : RPhase R) → copies v.unit ph ≡ length (frozen_in (see_phase v ph)) + length (free_in (see_phase v ph))
   copies_own v (Streaming frozen free came door) = let a = have_own v frozen in let b = have_own v free in rw (a, b) refl
-  copies_own v Freezing = refl
-  copies_own v Holding = refl
-  copies_own v Passing = refl
-  copies_own v Ending = refl
-  copies_own v (Restoring why) = refl
-  copies_own v (Returning why) = refl
-  copies_own v (Undoing why) = refl
-  copies_own v (Over why) = refl
+  copies_own v phase = refl
 
 falsely : true ≡ false → ⊥
 falsely e = cc

@@ -7,9 +7,8 @@ use Rattle.std.proofs.lemmas.Option.{same_Some}
 use Rattle.proof_machines.proofs.unit.Machine.{Where, At_a, At_b, Item, Enable, Stream, Delete, Put, Restore}
 use Rattle.proof_machines.proofs.unit.Machine.{Fence_to, Install, Stray, ControllerTurn, goes, from_source, from_destination}
 use Rattle.proof_machines.proofs.unit.Real as Real
-use Rattle.proof_machines.proofs.unit.Real.{record_at, M_enable, M_stream, M_delete, M_put, M_restore, M_enabled, M_event, M_piece}
-use Rattle.proof_machines.proofs.unit.Real.{M_deleted, M_put_ok, M_put_no, M_restored, M_fenced, M_forward, M_install, M_fence_to, RPhase}
-use Rattle.proof_machines.proofs.unit.Real.{Op, r_goes, r_from_source, r_from_destination, where_true, see, sends_to, only_mine, see_phase, Sees}
+use Rattle.proof_machines.proofs.unit.Real.{record_at, M_enable, M_stream, M_delete, M_put, M_restore, M_event, M_forward, M_install, M_fence_to, RPhase, Op}
+use Rattle.proof_machines.proofs.unit.Real.{r_goes, r_from_source, r_from_destination, where_true, see, sends_to, only_mine, see_phase, Sees}
 use Rattle.move_op.specs.Phases.{Over}
 use Rattle.proof_machines.proofs.unit.Seen.{NodesDiffer, frame_of, quiet, did_a, did_b, from_source_seen, from_destination_seen}
 use Rattle.proof_machines.proofs.unit.Labels.{Each}
@@ -121,13 +120,6 @@ module _ {R : Type 0} (o : Op) (mine : ℕ → Bool) (u : units.Unit) (t : Nodes
   pub ext_a : (phase : RPhase R) (f : List ℕ) (m : Real.Msg R) → num_of m ≡ Some o.num
       → Sees (frame_of o mine u) (r_from_source o phase f m) (did_a o mine u t phase f (Real.seen (frame_of o mine u) m))
   ext_a phase f (M_event n p) h = from_source_seen o mine u t phase f (M_event n p) tt
-  ext_a phase f (M_enabled n) h = from_source_seen o mine u t phase f (M_enabled n) (same_Some _ _ h)
-  ext_a phase f (M_piece n p) h = from_source_seen o mine u t phase f (M_piece n p) (same_Some _ _ h)
-  ext_a phase f (M_deleted n) h = from_source_seen o mine u t phase f (M_deleted n) (same_Some _ _ h)
-  ext_a phase f (M_restored n) h = from_source_seen o mine u t phase f (M_restored n) (same_Some _ _ h)
-  ext_a phase f (M_fenced n) h = from_source_seen o mine u t phase f (M_fenced n) (same_Some _ _ h)
-  ext_a phase f (M_put_ok n) h = from_source_seen o mine u t phase f (M_put_ok n) (same_Some _ _ h)
-  ext_a phase f (M_put_no n why cs) h = from_source_seen o mine u t phase f (M_put_no n why cs) (same_Some _ _ h)
   ext_a phase f (M_enable n k) h = as_seen_a phase f (M_enable n k) (Enable k) (its_num n (Enable k) (same_Some _ _ h)) refl refl
   ext_a phase f (M_stream n) h = as_seen_a phase f (M_stream n) Stream (its_num n Stream (same_Some _ _ h)) refl refl
   ext_a phase f (M_delete n us) h = as_seen_a phase f (M_delete n us) (Delete (is_among us u)) (its_num n (Delete (is_among us u)) (same_Some _ _ h)) refl refl
@@ -141,17 +133,11 @@ module _ {R : Type 0} (o : Op) (mine : ℕ → Bool) (u : units.Unit) (t : Nodes
   ext_a phase f (M_fence_to n to) h = as_seen_a phase f (M_fence_to n to) (sends_to (frame_of o mine u) to (λ w. Fence_to w))
       (its_num n (sends_to (frame_of o mine u) to (λ w. Fence_to w)) (same_Some _ _ h)) refl (idle_side (to == o.src) (to == o.dst) (λ w. Fence_to w)
       (from_source (ph phase) (only_mine (frame_of o mine u) f)) (goes (ph phase) (only_mine (frame_of o mine u) f)) (λ _. refl) refl)
+  ext_a phase f m h = from_source_seen o mine u t phase f m (same_Some _ _ h)
 
   pub ext_b : (phase : RPhase R) (f : List ℕ) (m : Real.Msg R) → num_of m ≡ Some o.num
       → Sees (frame_of o mine u) (r_from_destination o phase f m) (did_b o mine u t phase f (Real.seen (frame_of o mine u) m))
   ext_b phase f (M_event n p) h = from_destination_seen o mine u t phase f (M_event n p) tt
-  ext_b phase f (M_enabled n) h = from_destination_seen o mine u t phase f (M_enabled n) (same_Some _ _ h)
-  ext_b phase f (M_piece n p) h = from_destination_seen o mine u t phase f (M_piece n p) (same_Some _ _ h)
-  ext_b phase f (M_deleted n) h = from_destination_seen o mine u t phase f (M_deleted n) (same_Some _ _ h)
-  ext_b phase f (M_restored n) h = from_destination_seen o mine u t phase f (M_restored n) (same_Some _ _ h)
-  ext_b phase f (M_fenced n) h = from_destination_seen o mine u t phase f (M_fenced n) (same_Some _ _ h)
-  ext_b phase f (M_put_ok n) h = from_destination_seen o mine u t phase f (M_put_ok n) (same_Some _ _ h)
-  ext_b phase f (M_put_no n why cs) h = from_destination_seen o mine u t phase f (M_put_no n why cs) (same_Some _ _ h)
   ext_b phase f (M_enable n k) h = as_seen_b phase f (M_enable n k) (Enable k) (its_num n (Enable k) (same_Some _ _ h)) refl refl
   ext_b phase f (M_stream n) h = as_seen_b phase f (M_stream n) Stream (its_num n Stream (same_Some _ _ h)) refl refl
   ext_b phase f (M_delete n us) h = as_seen_b phase f (M_delete n us) (Delete (is_among us u)) (its_num n (Delete (is_among us u)) (same_Some _ _ h)) refl refl
@@ -165,3 +151,4 @@ module _ {R : Type 0} (o : Op) (mine : ℕ → Bool) (u : units.Unit) (t : Nodes
   ext_b phase f (M_fence_to n to) h = as_seen_b phase f (M_fence_to n to) (sends_to (frame_of o mine u) to (λ w. Fence_to w))
       (its_num n (sends_to (frame_of o mine u) to (λ w. Fence_to w)) (same_Some _ _ h)) refl (idle_side (to == o.src) (to == o.dst) (λ w. Fence_to w)
       (from_destination o.keep (ph phase) (only_mine (frame_of o mine u) f)) (goes (ph phase) (only_mine (frame_of o mine u) f)) (λ _. refl) refl)
+  ext_b phase f m h = from_destination_seen o mine u t phase f m (same_Some _ _ h)

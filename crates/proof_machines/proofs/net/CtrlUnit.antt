@@ -6,10 +6,9 @@ use Rattle.std.proofs.lemmas.Bool.{eqb-true, both_ways}
 use Rattle.std.proofs.lemmas.Option.{same_Some}
 use Rattle.proof_machines.proofs.unit.Machine.{Item, Carry, Pass, Fence, Forward, State, Phase, ControllerTurn, goes, from_source, from_destination}
 use Rattle.proof_machines.proofs.unit.Real as Real
-use Rattle.proof_machines.proofs.unit.Real.{M_enable, M_stream, M_delete, M_put, M_restore, M_enabled, M_event, M_piece, M_deleted, M_put_ok}
-use Rattle.proof_machines.proofs.unit.Real.{M_put_no, M_restored, M_fenced, M_forward, M_install, M_fence_to, RPhase, Op, OperationTurn}
-use Rattle.proof_machines.proofs.unit.Real.{r_goes, r_from_source, r_from_destination, Frame, where_true, add, view, only_mine, see_phase, sent_for}
-use Rattle.proof_machines.proofs.unit.Real.{sends_to, Sees}
+use Rattle.proof_machines.proofs.unit.Real.{M_enable, M_stream, M_delete, M_put, M_restore, M_enabled, M_event, M_piece, M_deleted, M_put_ok, M_put_no}
+use Rattle.proof_machines.proofs.unit.Real.{M_restored, M_fenced, M_forward, M_install, M_fence_to, RPhase, Op, OperationTurn, r_goes, r_from_source}
+use Rattle.proof_machines.proofs.unit.Real.{r_from_destination, Frame, where_true, add, view, only_mine, see_phase, sent_for, sends_to, Sees}
 use Rattle.move_op.specs.Phases.{Over}
 use Rattle.proof_machines.proofs.unit.Seen.{NodesDiffer, quiet, did_a, did_b}
 use Rattle.proof_machines.proofs.unit.Labels.{Each, Foreign, SentForeign, Clean, StaysClean, from_source_clean, from_destination_clean}

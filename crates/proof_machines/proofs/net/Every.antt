@@ -1,27 +1,24 @@
 -- The invariant of a world: numbers below the next one, and for every unit where it is. Each step keeps it, and so do begins and ends.
-use Rattle.std.proofs.Common.{◌≡◌, ℕ, suc, ◌<◌, ◌≤◌, Bool, true, false, Option, Some, None, List, [], ◌∷◌, ◌++◌, map, length, refl, subst, arith}
+use Rattle.std.proofs.Common.{◌≡◌, ℕ, suc, ◌<◌, ◌≤◌, Bool, true, false, Option, Some, None, List, [], ◌∷◌, map, length, refl, subst, arith}
 use Rattle.std.specs.Prelude.{if◌then◌else◌, ◌&&◌, ◌==◌}
 use Rattle.proof_machines.proofs.unit.Machine.{Rule, Free, Drops, Buffers}
 use Rattle.proof_machines.proofs.unit.Real as Real
-use Rattle.proof_machines.proofs.unit.Real.{RPiece, M_enable, M_stream, M_delete, M_put, M_restore, M_piece, M_forward, M_install, M_fence_to, Op, sent_for}
+use Rattle.proof_machines.proofs.unit.Real.{RPiece, M_enable, M_stream, M_delete, M_put, M_restore, M_piece, M_forward, M_install, M_fence_to, Op}
 use Rattle.proof_machines.proofs.unit.Cuts.{marks, chop}
 use Rattle.proof_machines.proofs.unit.Labels.{Each, each-append, each_map}
 use Rattle.proof_machines.proofs.unit.SeenInst.{r_put}
 use Rattle.flow_filter.specs.declared.filter.Filter.{Filter}
-use Rattle.proof_machines.proofs.net.Net.{inst_next, ctrl_next, sw_next, in_next, begin_next, Msg, In_packet, Asked, Carry_on}
-use Rattle.proof_machines.proofs.net.Net.{Pass_on, Fence_on, Mv, MoveAsked, Sys, IsSys, Ruling, first_rule, set_rule, hold, holding}
-use Rattle.proof_machines.proofs.net.Net.{drop_rule, to_ctrl, NumberedInstance, by_kind, by_rule, inst_step, Open, find_op, num_of}
-use Rattle.proof_machines.proofs.net.Net.{row, wrap, found, numbered, ctrl_step, sw_sends, new_op, begin_sends, World}
+use Rattle.proof_machines.proofs.net.Net.{inst_next, ctrl_next, sw_next, in_next, begin_next, Msg, Carry_on, Pass_on, Fence_on, Mv, MoveAsked, Sys, IsSys}
+use Rattle.proof_machines.proofs.net.Net.{Ruling, first_rule, set_rule, hold, holding, drop_rule, to_ctrl, NumberedInstance, by_kind, by_rule, inst_step, Open}
+use Rattle.proof_machines.proofs.net.Net.{find_op, num_of, row, wrap, found, numbered, ctrl_step, sw_sends, new_op, begin_sends, World}
 use Rattle.proof_machines.proofs.net.RuleLists.{each-change, each_set}
 use Rattle.proof_machines.proofs.net.Holding.{EachSent}
 use Rattle.proof_machines.proofs.net.Links.{each_after, each_put}
 use Rattle.proof_machines.proofs.net.RowNumbers.{OfRow, SentOf, row_numbers}
 use Rattle.proof_machines.proofs.net.Ctrl.{each_write, each_found}
 use Rattle.proof_machines.proofs.net.Rest.{Below, IsBelow, Global}
-use Rattle.proof_machines.proofs.net.Units.{Where, May, Hands_on, inst_where, ctrl_where, switch_where, input_where, put_where}
-use Rattle.proof_machines.proofs.net.ToldUnits.{begin_where}
+use Rattle.proof_machines.proofs.net.Units.{Where}
 use Rattle.nf_function.specs.declared.unit.Unit as units
-use Rattle.record_table.specs.Table.{same_unit}
 use Rattle.nf_msgs.specs.declared.answer.Answer.{Answer}
 
 module _ {R : Type 0} (S : Sys R) (laws : IsSys S) where
@@ -85,9 +82,7 @@ module _ {R : Type 0} (S : Sys R) (laws : IsSys S) where
     inst_below i (Mv g (M_delete n us)) e h = ((e, tt), h)
     inst_below i (Mv g (M_put n p first)) e h = (put_below i n p first (S.refuse i.room i.live p) p.last refl e, h)
     inst_below i (Mv g (M_restore n cs)) e h = ((e, tt), h)
-    inst_below i (Mv g m) e h = (tt, h)
-    inst_below i (In_packet p) e h = (tt, h)
-    inst_below i (Asked x) e h = (tt, h)
+    inst_below i m e h = (tt, h)
 
     -- the controller
     of_row_below : (o : Op) (m : Real.Msg R) → o.num < b → OfRow o m → IsBelow b (num_of m)
@@ -182,10 +177,7 @@ module _ {R : Type 0} (S : Sys R) (laws : IsSys S) where
   below_more : (a b : ℕ) → a ≤ b → (m : Msg R) → Below a m → Below b m
   below_more a b few (Mv g m) e = below_num_more a b few (num_of m) e
   below_more a b few (Fence_on k) e = omega (arith, e, few)
-  below_more a b few (Carry_on p) e = tt
-  below_more a b few (Pass_on p) e = tt
-  below_more a b few (In_packet p) e = tt
-  below_more a b few (Asked y) e = tt
+  below_more a b few m e = tt
 
   pub global_more : (w : World S) → Global S w → (b : ℕ) → w.next ≤ b → Global S (record w { next = b })
   global_more w g b few = record {
@@ -206,72 +198,3 @@ module _ {R : Type 0} (S : Sys R) (laws : IsSys S) where
   pub record Every (w : World S) (arrived : units.Unit → List ℕ) (bared : units.Unit → Bool) : Type 0 where
     pub global : Global S w
     pub unit : (u : units.Unit) → Where S laws u w (arrived u) (bared u)
-
-  abbrev pub inst_to : World S → ℕ → ℕ → Msg R → World S
-  inst_to w p y m = inst_next S w p y m
-
-  abbrev pub ctrl_to : World S → ℕ → Msg R → World S
-  ctrl_to w p m = ctrl_next S w p m
-
-  abbrev pub sw_to : World S → ℕ → Msg R → World S
-  sw_to w p m = sw_next S w p m
-
-  abbrev pub in_to : World S → ℕ → World S
-  in_to w q = in_next S w q
-
-  pub inst_every : (w : World S) (arrived : units.Unit → List ℕ) (bared : units.Unit → Bool) → Every w arrived bared
-      → (p y : ℕ) (m : Msg R) (rest : List (Msg R)) → (y == 0) ≡ false → (y == 1) ≡ false → w.link p y ≡ m ∷ rest → Every (inst_to w p y m) arrived bared
-  inst_every w arrived bared h p y m rest y0 y1 waits = record {
-    global = inst_global w h.global p y m rest y0 waits;
-    unit = λ u. inst_where S laws u w (arrived u) (bared u) h.global p y m rest y0 y1 waits (h.unit u);
-  }
-
-  pub ctrl_every : (w : World S) (arrived : units.Unit → List ℕ) (bared : units.Unit → Bool) → Every w arrived bared
-      → (p : ℕ) (m : Msg R) (rest : List (Msg R)) → w.link p 1 ≡ m ∷ rest → Every (ctrl_to w p m) arrived bared
-  ctrl_every w arrived bared h p m rest waits = record {
-    global = ctrl_global w h.global p m;
-    unit = λ u. ctrl_where S laws u w (arrived u) (bared u) h.global p m rest waits (h.unit u);
-  }
-
-  -- the switch's step, by what it says of the units that a move without a buffer hands on
-  pub switch_every : (w : World S) (arrived : units.Unit → List ℕ) (bared after : units.Unit → Bool) → Every w arrived bared
-      → (p : ℕ) (m : Msg R) (rest : List (Msg R)) → (p == 0) ≡ false → w.link p 0 ≡ m ∷ rest → ((u : units.Unit) → bared u ≡ true → after u ≡ true)
-      → ((u : units.Unit) → Hands_on S laws u w m (after u)) → Every (sw_to w p m) arrived after
-  switch_every w arrived bared after h p m rest p0 waits grows hands = record {
-    global = switch_global w h.global p m rest p0 waits;
-    unit = λ u. switch_where S laws u w (arrived u) (bared u) (after u) h.global p m rest p0 waits (grows u) (hands u) (h.unit u);
-  }
-
-  pub input_every : (w : World S) (arrived : units.Unit → List ℕ) (bared : units.Unit → Bool) → Every w arrived bared → (q : ℕ)
-      → Every (in_to w q) (λ u. arrived u ++ (if same_unit (S.packet_unit q) u then q ∷ [] else [])) bared
-  input_every w arrived bared h q = record {
-    global = input_global w h.global q;
-    unit = λ u. input_where S laws u w (arrived u) (bared u) h.global q (h.unit u);
-  }
-
-  -- a command goes from the input to the controller
-  abbrev pub said : World S → MoveAsked → World S
-  said w x = record w { link = λ i j. w.link i j ++ (if i == 0 then sent_for j ((1, Asked x) ∷ []) else []) }
-
-  pub said_every : (w : World S) (arrived : units.Unit → List ℕ) (bared : units.Unit → Bool) → Every w arrived bared → (x : MoveAsked)
-      → Every (said w x) arrived bared
-  said_every w arrived bared h x = record {
-    global = record {
-      messages = each_put (λ _ _ m. Below w.next m) w.link 0 ((1, Asked x) ∷ []) h.global.messages (tt, tt);
-      rules = h.global.rules;
-      ops = h.global.ops;
-    };
-    unit = λ u. put_where S laws u w (arrived u) (bared u) h.global 0 1 (Asked x) (λ z. refl) (λ z. tt) (h.unit u);
-  }
-
-  -- a move begins
-  abbrev pub begins : World S → MoveAsked → World S
-  begins w x = begin_next S w x
-
-  pub begin_every : (w : World S) (arrived : units.Unit → List ℕ) (bared : units.Unit → Bool) → Every w arrived bared → (x : MoveAsked) → May S w x
-      → Every (begins w x) arrived bared
-  begin_every w arrived bared h x may = record {
-    global = begin_global w h.global x may.fresh;
-    unit = λ u. begin_where S laws u w (arrived u) (bared u) x h.global
-        (record { fresh = may.fresh; src = may.src; dst = may.dst; other = may.other; apart = may.apart }) (h.unit u);
-  }

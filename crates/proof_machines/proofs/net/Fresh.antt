@@ -1,22 +1,19 @@
 -- Where an instance processes packets of a unit, its record of the unit is the fold of all that was done of it before.
-use Rattle.std.proofs.Common.{◌≡◌, ◌≢◌, ℕ, Bool, true, false, Option, Some, None, List, [], ◌∷◌, refl, sym, ap, ◌∙◌, subst}
+use Rattle.std.proofs.Common.{◌≡◌, ◌≢◌, ℕ, true, false, Option, Some, None, List, [], ◌∷◌, refl, sym, ap, ◌∙◌, subst}
 use Rattle.std.specs.Prelude.{◌==◌}
-use Rattle.proof_machines.proofs.unit.Machine.{At_a, At_b, Where as Side, Part, Inst, Did, sends as did_sends, inst_does, Item, State, after}
+use Rattle.proof_machines.proofs.unit.Machine.{At_a, At_b, Where as Side, Part, Inst, Did, sends as did_sends, inst_does, Item, State}
 use Rattle.proof_machines.proofs.unit.Lists.{firsts}
 use Rattle.proof_machines.proofs.unit.Pairs.{ShownBy, By_sa, By_sb, By_sc, By_ca, By_cb, By_ac, By_bc, By_cc, By_cs, shown_by}
 use Rattle.proof_machines.proofs.unit.Seats.{UnitSeat, seat_shape}
-use Rattle.proof_machines.proofs.unit.Fresh.{still_ca, still_cb, still_ran, fresh_sa, fresh_sb, fresh_sc}
+use Rattle.proof_machines.proofs.unit.Fresh.{still_ca, still_cb, still_ran}
 use Rattle.proof_machines.proofs.unit.NetViews.{items}
 use Rattle.proof_machines.proofs.net.Net.{Msg, Sys, IsSys, InstanceTurn, World, inst_step, seen}
 use Rattle.proof_machines.proofs.net.Holding.{Seeing, sides_of, frame, SeesNode, node_at, Holds}
 use Rattle.proof_machines.proofs.net.Insts.{InstanceGoes, does}
 use Rattle.proof_machines.proofs.net.InstMoves.{MovesInstance, Any, Streams_out, Puts_in}
-use Rattle.proof_machines.proofs.net.InstWorld.{num, label, step_at, here, is_src, is_dst, is_third, shown}
-use Rattle.proof_machines.proofs.net.Rest.{none_mine, done_u}
-use Rattle.proof_machines.proofs.net.RestingSeats.{same_mine, same_done}
-use Rattle.proof_machines.proofs.net.Readings.{fold, fold_runs}
-use Rattle.proof_machines.proofs.net.Units.{shown as shown_unit, see}
-use Rattle.proof_machines.proofs.net.Every.{Every}
+use Rattle.proof_machines.proofs.net.InstWorld.{num, label, step_at, here, is_src, is_dst, shown}
+use Rattle.proof_machines.proofs.net.Rest.{none_mine}
+use Rattle.proof_machines.proofs.net.RestingSeats.{same_mine}
 use Rattle.nf_function.specs.declared.unit.Unit as units
 use Rattle.nf_msgs.specs.declared.answer.Answer.{Answer}
 
@@ -78,25 +75,6 @@ module _ {R : Type 0} (S : Sys R) (laws : IsSys S) (z : Seeing) where
                   (subst (λ o. InstanceGoes S laws z own did (does S laws z own wh g.parts g.refuse k o)) is g.goes),
             )
 
-        by_link : ShownBy (sides_of z) x (record { from = p; to = y; items = it ∷ v }) → (node_at S z x y).live ≡ after S.F x.done
-        by_link (By_sa ya p0 e) =
-            let at = is_src S laws z w s h p y m rest y0 y1 waits it is ya in
-            let g = its_ran At_a x.a at in ap (λ k. k.live) at ∙ fresh_sa S.F s it v g.0 g.1 e g.2
-        by_link (By_sb yb p0 e) =
-            let at = is_dst S laws z w s h p y m rest y0 y1 waits it is yb in
-            let g = its_ran At_b x.b at in ap (λ k. k.live) at ∙ fresh_sb S.F s it v g.0 g.1 e g.2
-        by_link (By_sc yc p0 e) = let at = is_third S laws z w s h p y m rest y0 y1 waits it is yc in ap (λ k. k.live) at ∙ fresh_sc S.F s it v e
-        by_link (By_ca ya p1 e) =
-            let g = its_ran At_a x.a (is_src S laws z w s h p y m rest y0 y1 waits it is ya) in
-            absurd (g.2 (still_ran S.F At_a g.0 g.1 x.a it (still_ca S.F s it v e)))
-        by_link (By_cb yb p1 e) =
-            let g = its_ran At_b x.b (is_dst S laws z w s h p y m rest y0 y1 waits it is yb) in
-            absurd (g.2 (still_ran S.F At_b g.0 g.1 x.b it (still_cb S.F s it v e)))
-        by_link (By_ac e _ _) = absurd (falsely (sym y1 ∙ ap (λ q. q == 1) e))
-        by_link (By_bc e _ _) = absurd (falsely (sym y1 ∙ ap (λ q. q == 1) e))
-        by_link (By_cc e _ _) = absurd (falsely (sym y1 ∙ ap (λ q. q == 1) e))
-        by_link (By_cs e _ _) = absurd (falsely (sym y0 ∙ ap (λ q. q == 0) e))
-
       -- the link that the message comes from is one from the switch
       pub data From_switch : Type 0 where
         From_sa : y ≡ z.op.src → From_switch
@@ -124,21 +102,3 @@ module _ {R : Type 0} (S : Sys R) (laws : IsSys S) (z : Seeing) where
           let i = some_seen in
           from_switch i.0 i.1
           (shown_by z.op.src z.op.dst z.third h.nodes x p y i.0 (items (seen (frame S z)) rest) (shown S laws z w s h p y m rest y0 y1 waits i.0 i.1))
-
-      fresh_seat : (node_at S z x y).live ≡ after S.F x.done
-      fresh_seat = let i = some_seen in
-          by_link i.0 i.1
-          (shown_by z.op.src z.op.dst z.third h.nodes x p y i.0 (items (seen (frame S z)) rest) (shown S laws z w s h p y m rest y0 y1 waits i.0 i.1))
-
-module _ {R : Type 0} (S : Sys R) (laws : IsSys S) where
-  pub fresh : (w : World S) (arrived : units.Unit → List ℕ) (bared : units.Unit → Bool) → Every S laws w arrived bared
-      → (p y : ℕ) (m : Msg R) (rest : List (Msg R)) → (y == 0) ≡ false → (y == 1) ≡ false → w.link p y ≡ m ∷ rest → (u : units.Unit)
-      → none_mine S u (inst_step S (w.inst y) m).ran ≢ [] → S.B.at u (w.inst y).live ≡ fold S.F None (done_u S u w.done)
-  fresh w arrived bared h p y m rest y0 y1 waits u some =
-      let k = shown_unit S laws u w (arrived u) (bared u) h.global (h.unit u) in
-      let z = see S laws u k.op k.third in
-      let x = seat_shape S.F k.seat in
-      (k.holds.insts y).live
-      ∙ fresh_seat S laws z w k.seat k.holds p y m rest y0 y1 waits some
-      ∙ fold_runs S.F None x.done
-      ∙ ap (λ d. fold S.F None d) (sym (same_done S z w.done ∙ k.holds.done))

@@ -6,10 +6,10 @@ use Rattle.proof_machines.proofs.unit.Real.{Chunks, record_at}
 use Rattle.proof_machines.proofs.unit.Labels.{Each}
 use Rattle.proof_machines.proofs.share.Share.{has}
 use Rattle.flow_filter.specs.declared.filter.Filter.{Filter}
-use Rattle.proof_machines.proofs.net.Net.{Sys, find_op}
+use Rattle.proof_machines.proofs.net.Net.{Sys, NumberedInstance, find_op}
 use Rattle.proof_machines.proofs.net.Rest.{Global}
 use Rattle.proof_machines.proofs.net.ShareLists.{AreNumbersApart}
-use Rattle.proof_machines.proofs.net.Shares.{ShareMsg, ShareMsg.Shared_on, ShareMsg.Diverted_on, ShareMsg.S_asked, ShareMsg.S_install}
+use Rattle.proof_machines.proofs.net.Shares.{Any, ShareMsg, ShareMsg.Shared_on, ShareMsg.Diverted_on, ShareMsg.S_asked, ShareMsg.S_install}
 use Rattle.proof_machines.proofs.net.Shares.{ShareMsg.S_forward, ShareMsg.S_get, ShareMsg.S_sync, ShareMsg.S_chunks, ShareMsg.S_shared}
 use Rattle.proof_machines.proofs.net.Shares.{ShareMsg.S_synced, EachNew, same, Sharing, OpenShare, find_share, share_taking, WholeWorld, moves_of}
 use Rattle.nf_function.specs.declared.unit.Unit as units
@@ -68,3 +68,22 @@ module _ {R : Type 0} (S : Sys R) where
       pub apart_moves : Each (λ e. Each (λ o. Disjoint e.filter o.filter) w.ops) w.shares
       pub apart : (n k : ℕ) (d e : OpenShare) → find_share w.shares n ≡ Some d → find_share w.shares k ≡ Some e → (n == k) ≡ false → Disjoint d.filter e.filter
       pub queues : Each (λ e. Each (λ p. S.takes e.filter (S.packet_unit p) ≡ true) e.queue) w.shares
+
+    -- where moves and shares are as they were
+    pub same_shares : {w : WholeWorld S A} {target : units.Unit → ℕ} {next : ℕ} {inst : ℕ → NumberedInstance S} {standby : ℕ → S.B.T}
+        {link : ℕ → ℕ → List (Any R)} {done : List (ℕ × ℕ)} → GlobalAll w
+        → let v = record w { target = target; next = next; inst = inst; standby = standby; link = link; done = done } in Global S (moves_of S A v)
+        → ((i j : ℕ) → (i == 0) && (j == 0) ≡ false → EachNew (OfShare w.shares j) (link i j))
+        → ((i j : ℕ) → (i == 0) && (j == 0) ≡ false → EachNew (Numbered next) (link i j)) → Each (λ e. e.num < next) w.shares → GlobalAll v
+    same_shares g moves messages numbers shares_below = record {
+      moves = moves;
+      messages = messages;
+      numbers = numbers;
+      shares_below = shares_below;
+      nums_apart = g.nums_apart;
+      some = g.some;
+      one_kind = g.one_kind;
+      apart_moves = g.apart_moves;
+      apart = g.apart;
+      queues = g.queues;
+    }

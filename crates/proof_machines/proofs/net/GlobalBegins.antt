@@ -14,13 +14,12 @@ use Rattle.proof_machines.proofs.net.Every.{begin_global, global_more}
 use Rattle.proof_machines.proofs.net.AsMoves.{old_sends-old, olds-put, no_olds-put}
 use Rattle.proof_machines.proofs.net.NewMessages.{each_new_map, each_new_both, sent_old, new_put}
 use Rattle.proof_machines.proofs.net.ShareLists.{find_old, find_new}
-use Rattle.proof_machines.proofs.net.GlobalAll.{Numbered, Disjoint, disjoint_sym, OfShare, GlobalAll}
+use Rattle.proof_machines.proofs.net.GlobalAll.{Numbered, Disjoint, disjoint_sym, OfShare, GlobalAll, same_shares}
 use Rattle.proof_machines.proofs.net.GlobalShares.{nums_more, not_yet, ops_not_yet, ops_old, of_share_more}
 use Rattle.proof_machines.proofs.net.GlobalSteps.{global_as}
-use Rattle.proof_machines.proofs.net.Shares.{Any, Any.Old, Any.New, ShareMsg, ShareMsg.Shared_on, ShareMsg.Diverted_on, ShareMsg.S_asked}
-use Rattle.proof_machines.proofs.net.Shares.{ShareMsg.S_install, ShareMsg.S_forward, ShareMsg.S_get, ShareMsg.S_sync, ShareMsg.S_chunks}
-use Rattle.proof_machines.proofs.net.Shares.{ShareMsg.S_shared, ShareMsg.S_synced, WantShare, olds, as_old, Sharing, OpenShare, new_share, find_share}
-use Rattle.proof_machines.proofs.net.Shares.{WholeWorld, moves_of, asks, begin_move, begin_share, puts_get, keeps, meets_shares, MayShare}
+use Rattle.proof_machines.proofs.net.Shares.{Any, Any.Old, Any.New, ShareMsg, ShareMsg.S_asked, ShareMsg.S_install, ShareMsg.S_get, ShareMsg.S_chunks}
+use Rattle.proof_machines.proofs.net.Shares.{WantShare, olds, as_old, Sharing, OpenShare, new_share, find_share, WholeWorld, moves_of, asks, begin_move}
+use Rattle.proof_machines.proofs.net.Shares.{begin_share, puts_get, keeps, meets_shares, MayShare}
 
 module _ {R : Type 0} (S : Sys R) (A : Sharing S) (laws : IsSys S) where
   -- filters that don't meet take no unit together
@@ -40,14 +39,7 @@ module _ {R : Type 0} (S : Sys R) (A : Sharing S) (laws : IsSys S) where
   numbered_more : (a b : ℕ) → a ≤ b → (m : ShareMsg R) → Numbered a m → Numbered b m
   numbered_more a b few (S_get n g) h = omega (arith, h, few)
   numbered_more a b few (S_chunks n cs) h = omega (arith, h, few)
-  numbered_more a b few (Shared_on n home p) h = tt
-  numbered_more a b few (Diverted_on p) h = tt
-  numbered_more a b few (S_asked x) h = tt
-  numbered_more a b few (S_install n g from) h = tt
-  numbered_more a b few (S_forward n home p to) h = tt
-  numbered_more a b few (S_sync n home cs) h = tt
-  numbered_more a b few (S_shared n c) h = tt
-  numbered_more a b few (S_synced n) h = tt
+  numbered_more a b few m h = tt
 
   numbers_more : (w : WholeWorld S A) → GlobalAll S A w → (b : ℕ) → w.next ≤ b → (i j : ℕ) → (i == 0) && (j == 0) ≡ false
       → Rattle.proof_machines.proofs.net.Shares.EachNew (Numbered b) (w.link i j)
@@ -162,69 +154,37 @@ module _ {R : Type 0} (S : Sys R) (A : Sharing S) (laws : IsSys S) where
       let few : w.next ≤ suc n = omega (arith, fresh) in
       let more = global_more S laws (moves_of S A w) g.moves (suc n) few in
       let get : List (ℕ × Any R) = (src, New (S_get n f)) ∷ [] in
-      record {
-        moves = record {
-          messages = λ i j e. subst (λ ms. Each (Below (suc n)) ms) (sym (no_olds-put (w.link i j) (i == 1) j get refl)) (more.messages i j e);
-          rules = more.rules;
-          ops = more.ops;
-        };
-        messages = new_put (OfShare S w.shares) w.link g.messages 1 get
-            ((λ e is. let never : None ≡ Some e = sym (not_yet w.shares n w.next fresh g.shares_below) ∙ is in cc), tt);
-        numbers = new_put (λ _ m. Numbered (suc n) m) w.link (numbers_more w g (suc n) few) 1 get (omega arith, tt);
-        shares_below = shares_more w g (suc n) few;
-        nums_apart = g.nums_apart;
-        some = g.some;
-        one_kind = g.one_kind;
-        apart_moves = g.apart_moves;
-        apart = g.apart;
-        queues = g.queues;
-      }
+      same_shares S A g
+      (record {
+        messages = λ i j e. subst (λ ms. Each (Below (suc n)) ms) (sym (no_olds-put (w.link i j) (i == 1) j get refl)) (more.messages i j e);
+        rules = more.rules;
+        ops = more.ops;
+      })
+      (new_put (OfShare S w.shares) w.link g.messages 1 get
+      ((λ e is. let never : None ≡ Some e = sym (not_yet w.shares n w.next fresh g.shares_below) ∙ is in cc), tt))
+      (new_put (λ _ m. Numbered (suc n) m) w.link (numbers_more w g (suc n) few) 1 get (omega arith, tt))
+      (shares_more w g (suc n) few)
 
   pub keeps_keeps : (w : WholeWorld S A) → GlobalAll S A w → (y : ℕ) (t : S.B.T) → GlobalAll S A (keeps S A w y t)
-  keeps_keeps w g y t = record {
-    moves = g.moves;
-    messages = g.messages;
-    numbers = g.numbers;
-    shares_below = g.shares_below;
-    nums_apart = g.nums_apart;
-    some = g.some;
-    one_kind = g.one_kind;
-    apart_moves = g.apart_moves;
-    apart = g.apart;
-    queues = g.queues;
-  }
+  keeps_keeps w g y t = same_shares S A g g.moves g.messages g.numbers g.shares_below
 
   -- a command goes to the controller
   pub asks_move_keeps : (w : WholeWorld S A) → GlobalAll S A w → (x : MoveAsked) → GlobalAll S A (asks S A w (Old (Asked x)))
-  asks_move_keeps w g x = record {
-    moves = record {
-      messages = λ i j e. subst (λ ms. Each (Below w.next) ms) (sym (olds-put (w.link i j) (i == 0) j ((1, Old (Asked x)) ∷ []) ((1, Asked x) ∷ []) refl))
-          (each_put (λ _ _ m. Below w.next m) (λ i j. olds (w.link i j)) 0 ((1, Asked x) ∷ []) g.moves.messages (tt, tt) i j e);
-      rules = g.moves.rules;
-      ops = g.moves.ops;
-    };
-    messages = new_put (OfShare S w.shares) w.link g.messages 0 ((1, Old (Asked x)) ∷ []) (tt, tt);
-    numbers = new_put (λ _ m. Numbered w.next m) w.link g.numbers 0 ((1, Old (Asked x)) ∷ []) (tt, tt);
-    shares_below = g.shares_below;
-    nums_apart = g.nums_apart;
-    some = g.some;
-    one_kind = g.one_kind;
-    apart_moves = g.apart_moves;
-    apart = g.apart;
-    queues = g.queues;
-  }
+  asks_move_keeps w g x = same_shares S A g
+      (record {
+        messages = λ i j e. subst (λ ms. Each (Below w.next) ms) (sym (olds-put (w.link i j) (i == 0) j ((1, Old (Asked x)) ∷ []) ((1, Asked x) ∷ []) refl))
+            (each_put (λ _ _ m. Below w.next m) (λ i j. olds (w.link i j)) 0 ((1, Asked x) ∷ []) g.moves.messages (tt, tt) i j e);
+        rules = g.moves.rules;
+        ops = g.moves.ops;
+      })
+      (new_put (OfShare S w.shares) w.link g.messages 0 ((1, Old (Asked x)) ∷ []) (tt, tt))
+      (new_put (λ _ m. Numbered w.next m) w.link g.numbers 0 ((1, Old (Asked x)) ∷ []) (tt, tt))
+      g.shares_below
 
   pub asks_share_keeps : (w : WholeWorld S A) → GlobalAll S A w → (x : WantShare) → GlobalAll S A (asks S A w (New (S_asked x)))
-  asks_share_keeps w g x = record {
-    moves = global_as S A laws (moves_of S A w) (moves_of S A (asks S A w (New (S_asked x)))).link
-        (λ i j. no_olds-put (w.link i j) (i == 0) j ((1, New (S_asked x)) ∷ []) refl) g.moves;
-    messages = new_put (OfShare S w.shares) w.link g.messages 0 ((1, New (S_asked x)) ∷ []) (tt, tt);
-    numbers = new_put (λ _ m. Numbered w.next m) w.link g.numbers 0 ((1, New (S_asked x)) ∷ []) (tt, tt);
-    shares_below = g.shares_below;
-    nums_apart = g.nums_apart;
-    some = g.some;
-    one_kind = g.one_kind;
-    apart_moves = g.apart_moves;
-    apart = g.apart;
-    queues = g.queues;
-  }
+  asks_share_keeps w g x = same_shares S A g
+      (global_as S A laws (moves_of S A w) (moves_of S A (asks S A w (New (S_asked x)))).link
+      (λ i j. no_olds-put (w.link i j) (i == 0) j ((1, New (S_asked x)) ∷ []) refl) g.moves)
+      (new_put (OfShare S w.shares) w.link g.messages 0 ((1, New (S_asked x)) ∷ []) (tt, tt))
+      (new_put (λ _ m. Numbered w.next m) w.link g.numbers 0 ((1, New (S_asked x)) ∷ []) (tt, tt))
+      g.shares_below

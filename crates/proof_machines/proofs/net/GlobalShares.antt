@@ -195,12 +195,7 @@ module _ {R : Type 0} (S : Sys R) where
     told_of es (New (S_synced n)) e t h is = rw is tt
     told_of es (New (Diverted_on p)) e t h is =
         let eq = is.1 in let k = (taking_each S A (λ _. Unit {0}) es (S.packet_unit p) e (each_any es) is.0).1 in rw eq k
-    told_of es (New (Shared_on n home p)) e t h is = absurd is
-    told_of es (New (S_asked x)) e t h is = absurd is
-    told_of es (New (S_install n g from)) e t h is = absurd is
-    told_of es (New (S_forward n home p to)) e t h is = absurd is
-    told_of es (New (S_get n g)) e t h is = absurd is
-    told_of es (New (S_sync n home cs)) e t h is = absurd is
+    told_of es m e t h is = absurd is
 
     -- d is the share e after its step
     pub sent_of : IsSharing S A → (es : List OpenShare) (e d : OpenShare) → find_share es e.num ≡ Some d → SameShare d e → 0 < length e.members
@@ -223,10 +218,4 @@ module _ {R : Type 0} (S : Sys R) where
       );
     }
     sent_of ok es e d there s some j (Old m) h = tt
-    sent_of ok es e d there s some j (New (Shared_on n home p)) h = absurd h
-    sent_of ok es e d there s some j (New (Diverted_on p)) h = absurd h
-    sent_of ok es e d there s some j (New (S_asked x)) h = absurd h
-    sent_of ok es e d there s some j (New (S_install n g from)) h = absurd h
-    sent_of ok es e d there s some j (New (S_chunks n cs)) h = absurd h
-    sent_of ok es e d there s some j (New (S_shared n c)) h = absurd h
-    sent_of ok es e d there s some j (New (S_synced n)) h = absurd h
+    sent_of ok es e d there s some j m h = absurd h

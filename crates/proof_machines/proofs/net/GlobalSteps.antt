@@ -18,13 +18,12 @@ use Rattle.proof_machines.proofs.net.AsMoves.{news-after, no_olds-after, by_shar
 use Rattle.proof_machines.proofs.net.NewMessages.{OnNew, EachSentNew, each_new_map, each_sent_map, sent_old, sent_old_and, new_after, new_put, new_head}
 use Rattle.proof_machines.proofs.net.ShareLists.{AreNumbersApart, found_each, found_num, each_set_share, find_set, set_find}
 use Rattle.proof_machines.proofs.net.ShareRows.{Tells, told_cases, SentBy, share_row_by}
-use Rattle.proof_machines.proofs.net.GlobalAll.{Opened, Numbered, Disjoint, Within, TakesSome, OfShare, GlobalAll}
+use Rattle.proof_machines.proofs.net.GlobalAll.{Opened, Numbered, Disjoint, Within, TakesSome, OfShare, GlobalAll, same_shares}
 use Rattle.proof_machines.proofs.net.GlobalShares.{each_set_any, nums_set, none_set, ctrl_each, ctrl_none, of_share_set, TakenBy, told_of, sent_of}
-use Rattle.proof_machines.proofs.net.Shares.{Any, Any.Old, Any.New, ShareMsg, ShareMsg.Shared_on, ShareMsg.Diverted_on, ShareMsg.S_asked}
-use Rattle.proof_machines.proofs.net.Shares.{ShareMsg.S_install, ShareMsg.S_forward, ShareMsg.S_get, ShareMsg.S_sync, ShareMsg.S_chunks}
-use Rattle.proof_machines.proofs.net.Shares.{ShareMsg.S_shared, ShareMsg.S_synced, olds, as_old, Sharing, IsSharing, OpenShare, find_share}
-use Rattle.proof_machines.proofs.net.Shares.{set_share, Told, share_row, told_by, SharesStep, by_share, member_step, share_sends}
-use Rattle.proof_machines.proofs.net.Shares.{arrive_sends, old_step, WholeWorld, moves_of, whole_inst, whole_ctrl, whole_switch, whole_input}
+use Rattle.proof_machines.proofs.net.Shares.{Any, Any.Old, Any.New, ShareMsg, ShareMsg.Shared_on, ShareMsg.S_install, ShareMsg.S_forward, ShareMsg.S_get}
+use Rattle.proof_machines.proofs.net.Shares.{ShareMsg.S_sync, ShareMsg.S_chunks, ShareMsg.S_shared, olds, as_old, Sharing, IsSharing, OpenShare, find_share}
+use Rattle.proof_machines.proofs.net.Shares.{set_share, Told, share_row, told_by, SharesStep, by_share, member_step, share_sends, arrive_sends, old_step}
+use Rattle.proof_machines.proofs.net.Shares.{WholeWorld, moves_of, whole_inst, whole_ctrl, whole_switch, whole_input}
 
 module _ {R : Type 0} (S : Sys R) (A : Sharing S) (laws : IsSys S) where
   -- over links that are the same
@@ -57,13 +56,7 @@ module _ {R : Type 0} (S : Sys R) (A : Sharing S) (laws : IsSys S) where
       ((λ e there. let is : g ≡ e.filter = (h e there).0 in subst (λ f. Within S f (S.B.select (S.takes g) live)) is (selected_within g live)), tt)
   member_of_share es live standby y (S_sync n true cs) h = (record { share = h.share; found = h.found; says = tt }, tt)
   member_of_share es live standby y (S_sync n false cs) h = (record { share = h.share; found = h.found; says = tt }, tt)
-  member_of_share es live standby y (Diverted_on p) h = tt
-  member_of_share es live standby y (S_asked x) h = tt
-  member_of_share es live standby y (S_install n g from) h = tt
-  member_of_share es live standby y (S_forward n home p to) h = tt
-  member_of_share es live standby y (S_chunks n cs) h = tt
-  member_of_share es live standby y (S_shared n c) h = tt
-  member_of_share es live standby y (S_synced n) h = tt
+  member_of_share es live standby y m h = tt
 
   member_numbered : (b : ℕ) (live standby : S.B.T) (m : ShareMsg R) → Numbered b m → EachSentNew (λ _ m. Numbered b m) (member_step S A live standby m).sends
   member_numbered b live standby (Shared_on n true p) h = chunk_numbered b n p (S.B.at (S.packet_unit p) (process S live p))
@@ -71,55 +64,35 @@ module _ {R : Type 0} (S : Sys R) (A : Sharing S) (laws : IsSys S) where
   member_numbered b live standby (S_get n g) h = (h, tt)
   member_numbered b live standby (S_sync n true cs) h = (tt, tt)
   member_numbered b live standby (S_sync n false cs) h = (tt, tt)
-  member_numbered b live standby (Diverted_on p) h = tt
-  member_numbered b live standby (S_asked x) h = tt
-  member_numbered b live standby (S_install n g from) h = tt
-  member_numbered b live standby (S_forward n home p to) h = tt
-  member_numbered b live standby (S_chunks n cs) h = tt
-  member_numbered b live standby (S_shared n c) h = tt
-  member_numbered b live standby (S_synced n) h = tt
+  member_numbered b live standby m h = tt
 
   pub inst_keeps : (w : WholeWorld S A) → GlobalAll S A w → (p y : ℕ) (m : Any R) (rest : List (Any R)) → (y == 0) ≡ false → w.link p y ≡ m ∷ rest
       → GlobalAll S A (whole_inst S A w p y m)
   inst_keeps w g p y (Old m) rest y0 waits =
       let sent = (inst_step S (w.inst y) m).sends in
-      record {
-        moves = global_as (inst_next S (moves_of S A w) p y m) (λ i j. olds (Rattle.proof_machines.proofs.net.Net.links_after w.link p y (as_old sent) i j))
-            (λ i j. olds-after w.link p y rest (as_old sent) sent (old_sends-old sent) m waits i j)
-            (inst_global S laws (moves_of S A w) g.moves p y m (olds rest) y0 (ap olds waits));
-        messages = new_after (OfShare S w.shares) w.link g.messages p y (as_old sent) (sent_old (OfShare S w.shares) sent);
-        numbers = new_after (λ _ m. Numbered w.next m) w.link g.numbers p y (as_old sent) (sent_old (λ _ m. Numbered w.next m) sent);
-        shares_below = g.shares_below;
-        nums_apart = g.nums_apart;
-        some = g.some;
-        one_kind = g.one_kind;
-        apart_moves = g.apart_moves;
-        apart = g.apart;
-        queues = g.queues;
-      }
+      same_shares S A g
+      (global_as (inst_next S (moves_of S A w) p y m) (λ i j. olds (Rattle.proof_machines.proofs.net.Net.links_after w.link p y (as_old sent) i j))
+      (λ i j. olds-after w.link p y rest (as_old sent) sent (old_sends-old sent) m waits i j)
+      (inst_global S laws (moves_of S A w) g.moves p y m (olds rest) y0 (ap olds waits)))
+      (new_after (OfShare S w.shares) w.link g.messages p y (as_old sent) (sent_old (OfShare S w.shares) sent))
+      (new_after (λ _ m. Numbered w.next m) w.link g.numbers p y (as_old sent) (sent_old (λ _ m. Numbered w.next m) sent))
+      g.shares_below
   inst_keeps w g p y (New m) rest y0 waits =
       let off : (p == 0) && (y == 0) ≡ false = rw y0 (elim (p == 0) as (λ b. b && false ≡ false) [ true ↦ refl | false ↦ refl ]) in
       let d = member_step S A (w.inst y).live (w.standby y) m in
       let of = new_head (OfShare S w.shares) w.link g.messages p y m rest off waits in
       let few = new_head (λ _ m. Numbered w.next m) w.link g.numbers p y m rest off waits in
-      record {
-        moves = record {
-          messages = λ i j e. subst (λ ms. Each (Below w.next) ms)
-              (sym (no_olds-after w.link p y m rest d.sends waits (member_new S A (w.inst y).live (w.standby y) m) i j)) (g.moves.messages i j e);
-          rules = λ k. elim (k == y) as (λ b. Each (λ r. r.num < w.next) (if b then record (w.inst y) { live = d.live } else w.inst k).rules)
-              [ true ↦ g.moves.rules y | false ↦ g.moves.rules k ];
-          ops = g.moves.ops;
-        };
-        messages = new_after (OfShare S w.shares) w.link g.messages p y d.sends (member_of_share w.shares (w.inst y).live (w.standby y) y m of);
-        numbers = new_after (λ _ m. Numbered w.next m) w.link g.numbers p y d.sends (member_numbered w.next (w.inst y).live (w.standby y) m few);
-        shares_below = g.shares_below;
-        nums_apart = g.nums_apart;
-        some = g.some;
-        one_kind = g.one_kind;
-        apart_moves = g.apart_moves;
-        apart = g.apart;
-        queues = g.queues;
-      }
+      same_shares S A g
+      (record {
+        messages = λ i j e. subst (λ ms. Each (Below w.next) ms)
+            (sym (no_olds-after w.link p y m rest d.sends waits (member_new S A (w.inst y).live (w.standby y) m) i j)) (g.moves.messages i j e);
+        rules = λ k. elim (k == y) as (λ b. Each (λ r. r.num < w.next) (if b then record (w.inst y) { live = d.live } else w.inst k).rules)
+            [ true ↦ g.moves.rules y | false ↦ g.moves.rules k ];
+        ops = g.moves.ops;
+      })
+      (new_after (OfShare S w.shares) w.link g.messages p y d.sends (member_of_share w.shares (w.inst y).live (w.standby y) y m of))
+      (new_after (λ _ m. Numbered w.next m) w.link g.numbers p y d.sends (member_numbered w.next (w.inst y).live (w.standby y) m few))
+      g.shares_below
 
   -- The controller: its shares
   record SharesOk (w : WholeWorld S A) (s : SharesStep S A) : Type 0 where
@@ -136,16 +109,8 @@ module _ {R : Type 0} (S : Sys R) (A : Sharing S) (laws : IsSys S) where
 
   sent_numbered : (e : OpenShare) (b j : ℕ) (m : Any R) → e.num < b → SentBy S A e (TakenBy S A e) (Within S e.filter) j m → OnNew (Numbered b) m
   sent_numbered e b j (New (S_get n g)) few h = subst (λ k. k < b) (sym h.0) few
-  sent_numbered e b j (New (S_sync n home cs)) few h = tt
-  sent_numbered e b j (New (S_forward n home p to)) few h = tt
-  sent_numbered e b j (Old m) few h = tt
-  sent_numbered e b j (New (Shared_on n home p)) few h = tt
-  sent_numbered e b j (New (Diverted_on p)) few h = tt
-  sent_numbered e b j (New (S_asked x)) few h = tt
-  sent_numbered e b j (New (S_install n g from)) few h = tt
   sent_numbered e b j (New (S_chunks n cs)) few h = absurd h
-  sent_numbered e b j (New (S_shared n c)) few h = tt
-  sent_numbered e b j (New (S_synced n)) few h = tt
+  sent_numbered e b j m few h = tt
 
   shares_ok : IsSharing S A → (w : WholeWorld S A) → GlobalAll S A w → (p : ℕ) (m : Any R) → OnNew (OfShare S w.shares 1) m
       → SharesOk w (by_share S A w.shares p (told_by S A w.shares m))
@@ -245,93 +210,50 @@ module _ {R : Type 0} (S : Sys R) (A : Sharing S) (laws : IsSys S) where
   fence_below w g (S_install n f from) o =
       let same : o.share.num ≡ n = (Decides-eqb o.share.num n).0 (found_num w.shares n o.share o.found) in
       (subst (λ k. k < w.next) same (found_each (λ e. e.num < w.next) w.shares n o.share g.shares_below o.found), tt)
-  fence_below w g (S_forward n home p to) o = tt
-  fence_below w g (Shared_on n home p) o = tt
-  fence_below w g (Diverted_on p) o = tt
-  fence_below w g (S_asked x) o = tt
-  fence_below w g (S_get n f) o = tt
-  fence_below w g (S_sync n home cs) o = tt
-  fence_below w g (S_chunks n cs) o = tt
-  fence_below w g (S_shared n c) o = tt
-  fence_below w g (S_synced n) o = tt
+  fence_below w g m o = tt
 
   forward_of_share : (es : List OpenShare) (m : ShareMsg R) → OfShare S es 0 m → EachSentNew (OfShare S es) (share_sends S A m)
   forward_of_share es (S_forward n home p to) o = (record { share = o.share; found = o.found; says = (o.says.0, o.says.2) }, tt)
   forward_of_share es (S_install n f from) o = (tt, tt)
-  forward_of_share es (Shared_on n home p) o = tt
-  forward_of_share es (Diverted_on p) o = tt
-  forward_of_share es (S_asked x) o = tt
-  forward_of_share es (S_get n f) o = tt
-  forward_of_share es (S_sync n home cs) o = tt
-  forward_of_share es (S_chunks n cs) o = tt
-  forward_of_share es (S_shared n c) o = tt
-  forward_of_share es (S_synced n) o = tt
+  forward_of_share es m o = tt
 
   forward_numbered : (b : ℕ) (m : ShareMsg R) → EachSentNew (λ _ m. Numbered b m) (share_sends S A m)
   forward_numbered b (S_forward n home p to) = (tt, tt)
   forward_numbered b (S_install n f from) = (tt, tt)
-  forward_numbered b (Shared_on n home p) = tt
-  forward_numbered b (Diverted_on p) = tt
-  forward_numbered b (S_asked x) = tt
-  forward_numbered b (S_get n f) = tt
-  forward_numbered b (S_sync n home cs) = tt
-  forward_numbered b (S_chunks n cs) = tt
-  forward_numbered b (S_shared n c) = tt
-  forward_numbered b (S_synced n) = tt
+  forward_numbered b m = tt
 
   pub switch_keeps : (w : WholeWorld S A) → GlobalAll S A w → (p : ℕ) (m : Any R) (rest : List (Any R)) → (p == 0) ≡ false → w.link p 0 ≡ m ∷ rest
       → GlobalAll S A (whole_switch S A w p m)
-  switch_keeps w g p (Old m) rest p0 waits = record {
-    moves = global_as (sw_next S (moves_of S A w) p m) (moves_of S A (whole_switch S A w p (Old m))).link
-        (λ i j. olds-after w.link p 0 rest (as_old (sw_sends m)) (sw_sends m) (old_sends-old (sw_sends m)) m waits i j)
-        (switch_global S laws (moves_of S A w) g.moves p m (olds rest) p0 (ap olds waits));
-    messages = new_after (OfShare S w.shares) w.link g.messages p 0 (as_old (sw_sends m)) (sent_old (OfShare S w.shares) (sw_sends m));
-    numbers = new_after (λ _ m. Numbered w.next m) w.link g.numbers p 0 (as_old (sw_sends m)) (sent_old (λ _ m. Numbered w.next m) (sw_sends m));
-    shares_below = g.shares_below;
-    nums_apart = g.nums_apart;
-    some = g.some;
-    one_kind = g.one_kind;
-    apart_moves = g.apart_moves;
-    apart = g.apart;
-    queues = g.queues;
-  }
+  switch_keeps w g p (Old m) rest p0 waits = same_shares S A g
+      (global_as (sw_next S (moves_of S A w) p m) (moves_of S A (whole_switch S A w p (Old m))).link
+      (λ i j. olds-after w.link p 0 rest (as_old (sw_sends m)) (sw_sends m) (old_sends-old (sw_sends m)) m waits i j)
+      (switch_global S laws (moves_of S A w) g.moves p m (olds rest) p0 (ap olds waits)))
+      (new_after (OfShare S w.shares) w.link g.messages p 0 (as_old (sw_sends m)) (sent_old (OfShare S w.shares) (sw_sends m)))
+      (new_after (λ _ m. Numbered w.next m) w.link g.numbers p 0 (as_old (sw_sends m)) (sent_old (λ _ m. Numbered w.next m) (sw_sends m)))
+      g.shares_below
   switch_keeps w g p (New m) rest p0 waits =
       let off : (p == 0) && (0 == 0) ≡ false = rw p0 refl in
       let of = new_head (OfShare S w.shares) w.link g.messages p 0 m rest off waits in
       let fences = old_sends (share_sends S A m) in
-      record {
-        moves = record {
-          messages = λ i j e. subst (λ ms. Each (Below w.next) ms) (sym (news-after w.link p 0 rest (share_sends S A m) fences refl m waits i j))
-              (each_put (λ _ _ x. Below w.next x) (λ i j. olds (w.link i j)) 0 fences g.moves.messages (fence_below w g m of) i j e);
-          rules = g.moves.rules;
-          ops = g.moves.ops;
-        };
-        messages = new_after (OfShare S w.shares) w.link g.messages p 0 (share_sends S A m) (forward_of_share w.shares m of);
-        numbers = new_after (λ _ m. Numbered w.next m) w.link g.numbers p 0 (share_sends S A m) (forward_numbered w.next m);
-        shares_below = g.shares_below;
-        nums_apart = g.nums_apart;
-        some = g.some;
-        one_kind = g.one_kind;
-        apart_moves = g.apart_moves;
-        apart = g.apart;
-        queues = g.queues;
-      }
+      same_shares S A g
+      (record {
+        messages = λ i j e. subst (λ ms. Each (Below w.next) ms) (sym (news-after w.link p 0 rest (share_sends S A m) fences refl m waits i j))
+            (each_put (λ _ _ x. Below w.next x) (λ i j. olds (w.link i j)) 0 fences g.moves.messages (fence_below w g m of) i j e);
+        rules = g.moves.rules;
+        ops = g.moves.ops;
+      })
+      (new_after (OfShare S w.shares) w.link g.messages p 0 (share_sends S A m) (forward_of_share w.shares m of))
+      (new_after (λ _ m. Numbered w.next m) w.link g.numbers p 0 (share_sends S A m) (forward_numbered w.next m))
+      g.shares_below
 
   -- a packet of the input; what goes to the controller is taken by a share
   pub input_keeps : (w : WholeWorld S A) → GlobalAll S A w → (q : ℕ) → (w.target (S.packet_unit q) ≡ 1 → TakesSome S w.shares (S.packet_unit q))
       → GlobalAll S A (whole_input S A w q)
-  input_keeps w g q diverted = record {
-    moves = moved (w.target (S.packet_unit q) == 1) refl;
-    messages = new_put (OfShare S w.shares) w.link g.messages 0 sends (by_target (w.target (S.packet_unit q) == 1) refl);
-    numbers = new_put (λ _ m. Numbered w.next m) w.link g.numbers 0 sends (unnumbered (w.target (S.packet_unit q) == 1) refl);
-    shares_below = g.shares_below;
-    nums_apart = g.nums_apart;
-    some = g.some;
-    one_kind = g.one_kind;
-    apart_moves = g.apart_moves;
-    apart = g.apart;
-    queues = g.queues;
-  }
+  input_keeps w g q diverted = same_shares S A g
+      (moved (w.target (S.packet_unit q) == 1) refl)
+      (new_put (OfShare S w.shares) w.link g.messages 0 sends (by_target (w.target (S.packet_unit q) == 1) refl))
+      (new_put (λ _ m. Numbered w.next m) w.link g.numbers 0 sends (unnumbered (w.target (S.packet_unit q) == 1) refl))
+      g.shares_below
     where
       sends : List (ℕ × Any R)
       sends = arrive_sends S A (w.target (S.packet_unit q)) q

@@ -76,9 +76,6 @@ module _ {R : Type 0} (S : Sys R) (laws : IsSys S) (z : Seeing) where
     no_input : (p == 0) && (y == 0) ≡ false
     no_input = rw y0 (elim (p == 0) as (λ b. b && false ≡ false) [ true ↦ refl | false ↦ refl ])
 
-    abbrev Goes : Inst R → Did R → Type 0
-    Goes k d = InstanceGoes S laws z num did d
-
     pub label : Label S z p m
     label = (subst (λ ms. Each (Label S z p) ms) waits (h.labels p y no_input)).0
 

@@ -4,8 +4,8 @@ use Rattle.std.specs.Prelude.{if◌then◌else◌, ◌==◌}
 use Rattle.std.proofs.lemmas.Bool.Decides.{nat_tests}
 use Rattle.proof_machines.proofs.unit.Machine.{Free, Drops, Buffers}
 use Rattle.proof_machines.proofs.unit.Real as Real
-use Rattle.proof_machines.proofs.unit.Real.{RPiece, M_enable, M_stream, M_delete, M_put, M_restore, M_enabled, M_event, M_piece, M_deleted}
-use Rattle.proof_machines.proofs.unit.Real.{M_put_ok, M_put_no, M_restored, M_fenced, M_forward, M_install, M_fence_to, where_true, add, sent_for}
+use Rattle.proof_machines.proofs.unit.Real.{RPiece, M_enable, M_stream, M_delete, M_put, M_restore, M_piece}
+use Rattle.proof_machines.proofs.unit.Real.{M_fenced, M_install, M_fence_to, where_true, add, sent_for}
 use Rattle.proof_machines.proofs.unit.Cuts.{marks, chop}
 use Rattle.proof_machines.proofs.unit.SeenInst.{r_put}
 use Rattle.proof_machines.proofs.share.Share as share
@@ -49,17 +49,7 @@ module _ {R : Type 0} (S : Sys R) (A : Sharing S) (z : SeeingShare) where
   move_unseen i g (M_delete n us) = (refl, tt)
   move_unseen i g (M_put n p first) = put_unseen n p first (S.refuse i.room i.live p) i.live p.last refl
   move_unseen i g (M_restore n cs) = (refl, tt)
-  move_unseen i g (M_enabled n) = tt
-  move_unseen i g (M_event n p) = tt
-  move_unseen i g (M_piece n p) = tt
-  move_unseen i g (M_deleted n) = tt
-  move_unseen i g (M_put_ok n) = tt
-  move_unseen i g (M_put_no n why cs) = tt
-  move_unseen i g (M_restored n) = tt
-  move_unseen i g (M_fenced n) = tt
-  move_unseen i g (M_forward p to) = tt
-  move_unseen i g (M_install n from to) = tt
-  move_unseen i g (M_fence_to n to) = tt
+  move_unseen i g m = tt
 
   carry_unseen : (i : NumberedInstance S) (p : ℕ) (o : Option Ruling) → Unseen (by_rule S i p o).sends
   carry_unseen i p None = tt
@@ -78,12 +68,10 @@ module _ {R : Type 0} (S : Sys R) (A : Sharing S) (z : SeeingShare) where
   answers i (Carry_on p) =
       let h = carry_unseen i p (first_rule S (S.packet_unit p) i.rules) in
       record { to_c = unseen_view (inst_step S i (Carry_on p)).sends h 1; others = λ r _. unseen_view (inst_step S i (Carry_on p)).sends h r }
-  answers i (Pass_on p) = record { to_c = refl; others = λ r _. refl }
   answers i (Fence_on n) = record { to_c = refl; others = λ r off. let other : (1 == r) ≡ false = grind (arith, nat_tests) in rw other refl }
   answers i (Mv g m) =
       record { to_c = unseen_view (on_move S i g m).sends (move_unseen i g m) 1; others = λ r _. unseen_view (on_move S i g m).sends (move_unseen i g m) r }
-  answers i (In_packet p) = record { to_c = refl; others = λ r _. refl }
-  answers i (Asked x) = record { to_c = refl; others = λ r _. refl }
+  answers i m = record { to_c = refl; others = λ r _. refl }
 
   module _ (laws : IsSys S) (y : ℕ) (i : NumberedInstance S) (standby : S.B.T) where
     abbrev own : Option R

@@ -16,10 +16,9 @@ use Rattle.proof_machines.proofs.net.Net.{Sys, IsSys, NumberedInstance, process,
 use Rattle.proof_machines.proofs.net.Rest.{none_mine}
 use Rattle.proof_machines.proofs.net.ShareViews.{mine, unit_share, fit, new_seen, share_items, own_of}
 use Rattle.proof_machines.proofs.net.ShareLabels.{ShareLabel}
-use Rattle.proof_machines.proofs.net.Shares.{Any, Any.Old, Any.New, ShareMsg, ShareMsg.Shared_on, ShareMsg.Diverted_on}
-use Rattle.proof_machines.proofs.net.Shares.{ShareMsg.S_asked, ShareMsg.S_install, ShareMsg.S_forward, ShareMsg.S_get}
-use Rattle.proof_machines.proofs.net.Shares.{ShareMsg.S_sync, ShareMsg.S_chunks, ShareMsg.S_shared, ShareMsg.S_synced, same, as_old}
-use Rattle.proof_machines.proofs.net.Shares.{Sharing, IsSharing, shared_chunk, MemberTurn, member_step, ran_of, SeeingShare}
+use Rattle.proof_machines.proofs.net.Shares.{Any, Any.Old, Any.New, ShareMsg, ShareMsg.Shared_on, ShareMsg.Diverted_on, ShareMsg.S_asked, ShareMsg.S_install}
+use Rattle.proof_machines.proofs.net.Shares.{ShareMsg.S_forward, ShareMsg.S_get, ShareMsg.S_sync, ShareMsg.S_chunks, ShareMsg.S_shared, ShareMsg.S_synced, same}
+use Rattle.proof_machines.proofs.net.Shares.{as_old, Sharing, IsSharing, shared_chunk, MemberTurn, member_step, ran_of, SeeingShare}
 use Rattle.record_table.proofs.UnitOrder.{same_unit_equiv, same_unit-true}
 
 pub same_true : (b : Bool) → same true b ≡ true → b ≡ true

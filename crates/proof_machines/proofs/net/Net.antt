@@ -2,7 +2,7 @@
 -- switch's routes, worlds, and the step of each node. A move's messages are those of `proof_machines`'s `Real`, with the move's filter
 -- on Enable, Stream and Install.
 use Rattle.std.proofs.Common.{◌≡◌, ℕ, suc, Bool, true, false, Option, Some, None, List, [], ◌∷◌, ◌++◌, length, map, drop}
-use Rattle.std.specs.Prelude.{if◌then◌else◌, ◌&&◌, ◌==◌, not, nat_lt, is_some}
+use Rattle.std.specs.Prelude.{if◌then◌else◌, ◌&&◌, ◌==◌, is_some}
 use Rattle.proof_machines.proofs.unit.Machine.{Steps, Rule, Free, Drops, Buffers, Item, Carry, Pass, Fence}
 use Rattle.proof_machines.proofs.unit.Real as Real
 use Rattle.proof_machines.proofs.unit.Real.{Chunks, RPiece, M_enable, M_stream, M_delete, M_put, M_restore, M_enabled, M_event, M_piece}
@@ -250,9 +250,6 @@ ctrl_step es port m = record { ops = es; sends = [] }
 abbrev pub meets_any : {R : Type 0} → Sys R → Filter → List (Open R) → Bool
 meets_any S g [] = false
 meets_any S g (e ∷ es) = if S.meets g e.filter then true else meets_any S g es
-
-abbrev pub may_begin : {R : Type 0} → Sys R → List (Open R) → MoveAsked → Bool
-may_begin S es x = (nat_lt 1 x.src && nat_lt 1 x.dst) && (not (x.src == x.dst) && not (meets_any S x.filter es))
 
 abbrev pub new_op : {R : Type 0} → ℕ → MoveAsked → Open R
 new_op n x = record { op = record { num = n; src = x.src; dst = x.dst; keep = x.keep }; filter = x.filter; phase = Freezing; store = [] }

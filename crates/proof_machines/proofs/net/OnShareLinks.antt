@@ -37,19 +37,14 @@ module _ {R : Type 0} (f : UnitShare R) where
   answer_from ph p Quiet it rest e = no_item it rest e
 
   pub back_sender : (s : Stage R) (p : ℕ) (it : Item R) (rest : List (Item R)) → (shape f s).back p ≡ it ∷ rest → Sender f (shape f s).phase p it
-  back_sender (Diverting d b l) p it rest e = no_item it rest e
-  back_sender (Fence_goes d b l q v) p it rest e = no_item it rest e
   back_sender (Fenced_comes d b q v) p it rest e = let a = head_at f.home p Fenced it rest e in subst (Sender f Fencing p) a.1 a.0
-  back_sender (Get_goes d b q v) p it rest e = no_item it rest e
   back_sender (Chunks_come d b q v) p it rest e = let a = head_at f.home p (Chunks (after f d)) it rest e in subst (Sender f Getting p) a.1 a.0
   back_sender (Spreads first d e₁ b c at o left q v) p it rest e = answer_from (shape f (Spreads first d e₁ b c at o left q v)).phase p (at p) it rest e
-  back_sender (Resting d e₁ v) p it rest e = no_item it rest e
-  back_sender (Forwards d e₁ k q v) p it rest e = no_item it rest e
-  back_sender (Carries d e₁ k q v) p it rest e = no_item it rest e
   back_sender (Chunk_comes d e₁ k q v) p it rest e =
       let a = head_at (f.member_of k) p (Chunk (chunk_of f k (after f (d ++ served f (e₁ ++ if_mine f k))))) it rest e in
       let out : Out (f.member_of k) ≡ Out p = ap Out (sym a.0) in
       subst (Sender f (Out (f.member_of k)) p) a.1 out
+  back_sender s p it rest e = no_item it rest e
 
   -- from the switch only what is diverted comes
   diverted_from : (ph : Phase) (p : ℕ) (v : List ℕ) (it : Item R) (rest : List (Item R)) → map Diverted v ≡ it ∷ rest → Sender f ph p it
@@ -73,15 +68,8 @@ module _ {R : Type 0} (f : UnitShare R) where
 
   pub cs_items : (s : Stage R) (it : Item R) (rest : List (Item R)) → (shape f s).cs ≡ it ∷ rest → To_switch it
   cs_items (Diverting d b l) it rest e = let same : Install ≡ it = cc in subst To_switch same tt
-  cs_items (Fence_goes d b l q v) it rest e = no_item it rest e
-  cs_items (Fenced_comes d b q v) it rest e = no_item it rest e
-  cs_items (Get_goes d b q v) it rest e = no_item it rest e
-  cs_items (Chunks_come d b q v) it rest e = no_item it rest e
-  cs_items (Spreads first d e₁ b c at o left q v) it rest e = no_item it rest e
-  cs_items (Resting d e₁ v) it rest e = no_item it rest e
   cs_items (Forwards d e₁ p q v) it rest e = let same : Forward p (f.member_of p) ≡ it = cc in subst To_switch same tt
-  cs_items (Carries d e₁ p q v) it rest e = no_item it rest e
-  cs_items (Chunk_comes d e₁ p q v) it rest e = no_item it rest e
+  cs_items s it rest e = no_item it rest e
 
   abbrev pub IdleEmpty : Phase → List ℕ → Type 0
   IdleEmpty Idle q = q ≡ []
@@ -93,13 +81,6 @@ module _ {R : Type 0} (f : UnitShare R) where
 
   -- a share that is idle has an empty queue
   pub idle_empty : (s : Stage R) → IdleEmpty (shape f s).phase (shape f s).queue
-  idle_empty (Diverting d b l) = tt
-  idle_empty (Fence_goes d b l q v) = tt
-  idle_empty (Fenced_comes d b q v) = tt
-  idle_empty (Get_goes d b q v) = tt
-  idle_empty (Chunks_come d b q v) = tt
   idle_empty (Spreads first d e b c at o left q v) = spread_idle first left q
   idle_empty (Resting d e v) = refl
-  idle_empty (Forwards d e p q v) = tt
-  idle_empty (Carries d e p q v) = tt
-  idle_empty (Chunk_comes d e p q v) = tt
+  idle_empty s = tt

@@ -138,9 +138,7 @@ module _ {R : Type 0} (S : Sys R) (A : Sharing S) (z : SeeingShare) (is : IsShar
   still Idle q empty = rw empty (record { phase = refl; queue = refl; to_s = refl; to = λ k _. refl })
   still Fencing q empty = plain Fencing q [] nowhere refl (λ k _. refl) Fencing q
   still Getting q empty = plain Getting q [] nowhere refl (λ k _. refl) Getting q
-  still (Setting left) q empty = plain (Setting left) q [] nowhere refl (λ k _. refl) (Setting left) q
-  still (Out m) q empty = plain (Out m) q [] nowhere refl (λ k _. refl) (Out m) q
-  still (Syncing left) q empty = plain (Syncing left) q [] nowhere refl (λ k _. refl) (Syncing left) q
+  still x q empty = plain x q [] nowhere refl (λ k _. refl) x q
 
   abbrev Row : Phase → List ℕ → ℕ → Told R → ShareTurn R
   Row ph q sender told = share_row S A (as_share S A z ph q) sender told
@@ -163,10 +161,8 @@ module _ {R : Type 0} (S : Sys R) (A : Sharing S) (z : SeeingShare) (is : IsShar
         to = λ k _. get_seen k;
       })
   fenced_sees Getting q sender empty from = still Getting q empty
-  fenced_sees (Setting left) q sender empty from = still (Setting left) q empty
   fenced_sees Idle q sender empty from = still Idle q empty
-  fenced_sees (Out m) q sender empty from = still (Out m) q empty
-  fenced_sees (Syncing left) q sender empty from = still (Syncing left) q empty
+  fenced_sees x q sender empty from = still x q empty
 
   pub chunks_sees : (ph : Phase) (q : List ℕ) (sender : ℕ) (cs : Real.Chunks R) → IdleEmpty f ph q → Sender f ph sender (Chunks (record_at z.unit cs))
       → SeesRow (Row ph q sender (Has_chunks cs)) (share_does f (Chunks (record_at z.unit cs)) ph q)
@@ -175,10 +171,8 @@ module _ {R : Type 0} (S : Sys R) (A : Sharing S) (z : SeeingShare) (is : IsShar
       rw on (setting_sees Getting q (syncs z.num z.home z.home cs z.members) (sync_to (without_number z.members z.home) (record_at z.unit cs))
       (none_to_s z.home cs) (λ k _. syncs_seen z.home cs k) (length (without_number z.members z.home)) q)
   chunks_sees Fencing q sender cs empty from = still Fencing q empty
-  chunks_sees (Setting left) q sender cs empty from = still (Setting left) q empty
   chunks_sees Idle q sender cs empty from = still Idle q empty
-  chunks_sees (Out m) q sender cs empty from = still (Out m) q empty
-  chunks_sees (Syncing left) q sender cs empty from = still (Syncing left) q empty
+  chunks_sees x q sender cs empty from = still x q empty
 
   pub chunk_sees : (ph : Phase) (q : List ℕ) (sender : ℕ) (c : units.Unit × R) → IdleEmpty f ph q → Sender f ph sender (Chunk (record_at z.unit (c ∷ [])))
       → SeesRow (Row ph q sender (Has_chunk c)) (share_does f (Chunk (record_at z.unit (c ∷ []))) ph q)
@@ -208,6 +202,4 @@ module _ {R : Type 0} (S : Sys R) (A : Sharing S) (z : SeeingShare) (is : IsShar
       (served_next Idle q [] nowhere refl (λ k _. refl) (q ++ p ∷ []))
   packet_sees Fencing q sender p = plain Fencing q [] nowhere refl (λ k _. refl) Fencing (q ++ p ∷ [])
   packet_sees Getting q sender p = plain Getting q [] nowhere refl (λ k _. refl) Getting (q ++ p ∷ [])
-  packet_sees (Setting left) q sender p = plain (Setting left) q [] nowhere refl (λ k _. refl) (Setting left) (q ++ p ∷ [])
-  packet_sees (Out m) q sender p = plain (Out m) q [] nowhere refl (λ k _. refl) (Out m) (q ++ p ∷ [])
-  packet_sees (Syncing left) q sender p = plain (Syncing left) q [] nowhere refl (λ k _. refl) (Syncing left) (q ++ p ∷ [])
+  packet_sees x q sender p = plain x q [] nowhere refl (λ k _. refl) x (q ++ p ∷ [])

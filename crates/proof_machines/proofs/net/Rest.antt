@@ -1,29 +1,18 @@
 -- A unit at rest, said without any move: a world with it shows a seat at rest, and a seat at rest whose move isn't open is a unit at
 -- rest.
-use Rattle.std.proofs.Common.{◌≡◌, ℕ, ◌≤◌, ◌<◌, Bool, true, false, Option, Some, None, List, [], ◌∷◌, map, refl, sym, ap, ◌∙◌, subst, arith}
+use Rattle.std.proofs.Common.{◌≡◌, ℕ, ◌≤◌, ◌<◌, Bool, false, Option, Some, None, List, [], ◌∷◌, arith}
 use Rattle.std.specs.Prelude.{if◌then◌else◌, ◌&&◌, ◌==◌}
 use Rattle.std.proofs.lemmas.Bool.Decides.{nat_tests}
-use Rattle.proof_machines.proofs.unit.Machine.{Where, At_a, At_b, At_c, Ran, after, Free, idle, Item, Carry, Stray, Phase, Idle, Over}
+use Rattle.proof_machines.proofs.unit.Machine.{Ran, after}
 use Rattle.proof_machines.proofs.unit.Lists.{firsts}
 use Rattle.proof_machines.proofs.unit.Real as Real
-use Rattle.proof_machines.proofs.unit.Real.{record_at, M_enable, M_stream, M_delete, M_put, M_restore, M_enabled, M_event, M_piece, M_deleted, M_put_ok}
-use Rattle.proof_machines.proofs.unit.Real.{M_put_no, M_restored, M_fenced, M_forward, M_install, M_fence_to, where_true, add, only_mine, off_if}
+use Rattle.proof_machines.proofs.unit.Real.{record_at, M_enable, M_stream, M_delete, M_put, M_restore, M_event, M_piece, M_put_no, M_forward, M_install}
 use Rattle.proof_machines.proofs.unit.Seen.{NodesDiffer}
-use Rattle.proof_machines.proofs.unit.Labels.{Each, Without, Clean, each_both}
-use Rattle.proof_machines.proofs.unit.Pairs.{Nodes, expect}
-use Rattle.proof_machines.proofs.unit.Between.{rest_at}
-use Rattle.proof_machines.proofs.unit.NetViews.{items}
+use Rattle.proof_machines.proofs.unit.Labels.{Each, Without, Clean}
 use Rattle.flow_filter.specs.declared.filter.Filter.{Filter}
-use Rattle.proof_machines.proofs.net.Net.{Msg, In_packet, Asked, Carry_on, Pass_on, Fence_on, Mv, Sys, Ruling}
-use Rattle.proof_machines.proofs.net.Net.{find_rule, rule_of, is_free, held_of, Open, find_op, num_of, World, seen}
-use Rattle.proof_machines.proofs.net.Holding.{Seeing, frame, MoveLabel, Label, RuleLabel, OpLabel, SeesNode}
-use Rattle.proof_machines.proofs.net.Holding.{shows, node_at, place, IsController, done_of, Holds}
+use Rattle.proof_machines.proofs.net.Net.{Msg, Carry_on, Pass_on, Fence_on, Mv, Sys, Ruling, is_free, Open, num_of, World}
 use Rattle.nf_function.specs.declared.unit.Unit as units
 use Rattle.record_table.specs.Table.{same_unit, is_among}
-
-abbrev pub packets_at : (ℕ → Bool) → List ℕ → List ℕ
-packets_at mine [] = []
-packets_at mine (p ∷ ps) = if mine p then p ∷ packets_at mine ps else packets_at mine ps
 
 -- numbers below a bound
 abbrev pub IsBelow : ℕ → Option ℕ → Type 0

@@ -44,9 +44,6 @@ module _ {R : Type 0} (S : Sys R) (z : Seeing) where
     off : (k : ℕ) → k < b → (k == n) ≡ false
     off k e = below_off k b n e new
 
-    never_num : {P : Type 0} (k : ℕ) → k < b → (k == n) ≡ true → P
-    never_num k e on = let both : false ≡ true = sym (off k e) ∙ on in cc
-
     pub mv_label : (g : Filter) (m : Real.Msg R) → IsBelow b (num_of m) → HasNothing S u g m → MoveLabel S z g m
     mv_label g (M_enable k r) e h = (h.0 ∙ sym (off k e), h.1)
     mv_label g (M_stream k) e h = h ∙ sym (off k e)
@@ -191,11 +188,6 @@ module _ {R : Type 0} (S : Sys R) (z : Seeing) where
             | false ↦ λ e. view_rest w.next new i (w.link i j) (g.messages i j e) (h.labels i j e) ∙ ap (λ v. map Carry v) (h.links i j e)
                 ∙ map_if w.next new ((i == 0) && (j == place S z side)) l
           ] refl
-
-  -- From an ended move back to rest.
-  abbrev is_carry : Item R → Bool
-  is_carry (Carry p) = true
-  is_carry it = false
 
   abbrev no_carry : Option (Item R) → Bool
   no_carry None = true

@@ -21,16 +21,12 @@ module _ {R : Type 0} (S : Sys R) (A : Sharing S) (z : SeeingShare) where
   -- on a link to node r
   abbrev pub ShareLabel : ℕ → ShareMsg R → Type 0
   ShareLabel r (Shared_on n home p) = ((n == z.num) ≡ true → same home (r == z.home) ≡ true) × ((n == z.num) ≡ false → mine S A z p ≡ false)
-  ShareLabel r (Diverted_on p) = Unit {0}
-  ShareLabel r (S_asked x) = Unit {0}
   ShareLabel r (S_install n g from) = ((n == z.num) ≡ true → (g ≡ z.filter) × (from ≡ z.home)) × ((n == z.num) ≡ false → Disjoint S z.filter g)
   ShareLabel r (S_forward n home p to) =
       ((n == z.num) ≡ true → (same home (to == z.home) ≡ true) × (has z.members to ≡ true)) × ((n == z.num) ≡ false → mine S A z p ≡ false)
   ShareLabel r (S_get n g) = (n == z.num) ≡ true → (r ≡ z.home) × (g ≡ z.filter)
   ShareLabel r (S_sync n home cs) = ((n == z.num) ≡ true → same home (r == z.home) ≡ true) × ((n == z.num) ≡ false → record_at z.unit cs ≡ None)
-  ShareLabel r (S_chunks n cs) = Unit {0}
-  ShareLabel r (S_shared n c) = Unit {0}
-  ShareLabel r (S_synced n) = Unit {0}
+  ShareLabel r m = Unit {0}
 
   takes_some : (es : List OpenShare) (n : ℕ) (e : OpenShare) (v : units.Unit) → find_share es n ≡ Some e → S.takes e.filter v ≡ true
       → (d : OpenShare) × (share_taking S es v ≡ Some d)

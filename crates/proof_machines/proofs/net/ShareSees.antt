@@ -11,7 +11,7 @@ use Rattle.proof_machines.proofs.share.Share.{Item.Forward, Item.Get, Item.Sync,
 use Rattle.proof_machines.proofs.share.Share.{Item.Synced, Item.Stray, UnitShare, Phase, ControllerTurn, has, waits, share_does}
 use Rattle.proof_machines.proofs.share.Stages.{IsShare}
 use Rattle.flow_filter.specs.declared.filter.Filter.{Filter}
-use Rattle.proof_machines.proofs.net.Net.{Msg.In_packet, Msg.Asked, Msg.Carry_on, Msg.Pass_on, Msg.Fence_on, Msg.Mv}
+use Rattle.proof_machines.proofs.net.Net.{Msg.In_packet, Msg.Carry_on, Msg.Pass_on, Msg.Fence_on, Msg.Mv}
 use Rattle.proof_machines.proofs.net.Net.{Sys, Open, find_op, row, filter_for, wrap, found, numbered, num_of}
 use Rattle.proof_machines.proofs.net.Holding.{EachSent}
 use Rattle.proof_machines.proofs.net.Ctrl.{each_found}
@@ -24,10 +24,9 @@ use Rattle.proof_machines.proofs.net.ShareViews.{mine, unit_share, fit, move_see
 use Rattle.proof_machines.proofs.net.ShareLabels.{taking_own, taking_other, queue_other}
 use Rattle.proof_machines.proofs.net.MemberMoves.{Unseen}
 use Rattle.proof_machines.proofs.net.OwnShare.{SeesRow, fenced_sees, chunks_sees, chunk_sees, synced_sees, packet_sees}
-use Rattle.proof_machines.proofs.net.Shares.{Any, Any.Old, Any.New, ShareMsg.Shared_on, ShareMsg.Diverted_on, ShareMsg.S_asked}
-use Rattle.proof_machines.proofs.net.Shares.{ShareMsg.S_install, ShareMsg.S_forward, ShareMsg.S_get, ShareMsg.S_sync, ShareMsg.S_chunks}
-use Rattle.proof_machines.proofs.net.Shares.{ShareMsg.S_shared, ShareMsg.S_synced, same, Sharing, OpenShare, find_share, set_share}
-use Rattle.proof_machines.proofs.net.Shares.{share_taking, Told, Told.Is_fenced, Told.Has_chunks, Told.Has_chunk, Told.Is_synced}
+use Rattle.proof_machines.proofs.net.Shares.{Any, Any.Old, Any.New, ShareMsg.Shared_on, ShareMsg.Diverted_on, ShareMsg.S_install, ShareMsg.S_forward}
+use Rattle.proof_machines.proofs.net.Shares.{ShareMsg.S_get, ShareMsg.S_sync, ShareMsg.S_chunks, ShareMsg.S_shared, ShareMsg.S_synced, same, Sharing, OpenShare}
+use Rattle.proof_machines.proofs.net.Shares.{find_share, set_share, share_taking, Told, Told.Is_fenced, Told.Has_chunks, Told.Has_chunk, Told.Is_synced}
 use Rattle.proof_machines.proofs.net.Shares.{Told.Has_packet, share_row, told_by, SharesStep, by_share, WholeWorld, old_step, SeeingShare}
 use Rattle.record_table.proofs.UnitOrder.{same_unit-true}
 
@@ -74,14 +73,7 @@ module _ {R : Type 0} (S : Sys R) (A : Sharing S) (z : SeeingShare) where
   another e off j k (New (S_get n g)) h = let none : (n == z.num) ≡ false = ap (λ i. i == z.num) h.0 ∙ off in rw none refl
   another e off j k (New (S_sync n home cs)) h = let none : (n == z.num) ≡ false = ap (λ i. i == z.num) h.0 ∙ off in rw none refl
   another e off j k (New (S_forward n home p to)) h = let none : (n == z.num) ≡ false = ap (λ i. i == z.num) h.0 ∙ off in let its = h.1 in rw (none, its) refl
-  another e off j k (Old m) h = absurd h
-  another e off j k (New (Shared_on n home p)) h = absurd h
-  another e off j k (New (Diverted_on p)) h = absurd h
-  another e off j k (New (S_asked x)) h = absurd h
-  another e off j k (New (S_install n g from)) h = absurd h
-  another e off j k (New (S_chunks n cs)) h = absurd h
-  another e off j k (New (S_shared n c)) h = absurd h
-  another e off j k (New (S_synced n)) h = absurd h
+  another e off j k m h = absurd h
 
   another_view : (e : OpenShare) → (e.num == z.num) ≡ false → (k : ℕ) (xs : List (ℕ × Any R))
       → EachSent (SentBy S A e (λ p. mine S A z p ≡ false) (λ _. Unit {0})) xs → share_items S A z k (sent_for k xs) ≡ []
@@ -199,8 +191,6 @@ module _ {R : Type 0} (S : Sys R) (A : Sharing S) (z : SeeingShare) where
     share_sees (Old (Carry_on k)) from = quiet_if (mine S A z k) (Carry k) refl
     share_sees (Old (Pass_on k)) from = quiet_if (mine S A z k) Stray refl
     share_sees (Old (Fence_on n)) from = quiet_if (n == z.num) Fence refl
-    share_sees (Old (In_packet k)) from = as_before
-    share_sees (Old (Asked x)) from = as_before
     share_sees (New (S_chunks n cs)) from = by_number n (Has_chunks cs) (Chunks (record_at z.unit cs))
         (λ on. chunks_sees S A z is insts ph q p cs empty (of_sender (n == z.num) (Chunks (record_at z.unit cs)) on from)) (λ _. tt)
     share_sees (New (S_shared n c)) from = by_number n (Has_chunk c) (Chunk (record_at z.unit (c ∷ [])))
@@ -209,13 +199,13 @@ module _ {R : Type 0} (S : Sys R) (A : Sharing S) (z : SeeingShare) where
     share_sees (New (Diverted_on k)) from = diverted k
     share_sees (New (Shared_on n home k)) from =
         quiet_else (n == z.num) k (fit S A z (same home (1 == z.home)) (Shared k)) (quiet_fit (same home (1 == z.home)) (Shared k) refl)
-    share_sees (New (S_asked x)) from = as_before
     share_sees (New (S_install n h from_n)) from = quiet_if (n == z.num) (fit S A z (from_n == z.home) Install) (quiet_fit (from_n == z.home) Install refl)
     share_sees (New (S_forward n home k to)) from =
         quiet_else (n == z.num) k (fit S A z (same home (to == z.home)) (Forward k to)) (quiet_fit (same home (to == z.home)) (Forward k to) refl)
     share_sees (New (S_get n h)) from = quiet_if (n == z.num) Get refl
     share_sees (New (S_sync n home cs)) from = quiet_if (n == z.num) (fit S A z (same home (1 == z.home)) (Sync (record_at z.unit cs)))
         (quiet_fit (same home (1 == z.home)) (Sync (record_at z.unit cs)) refl)
+    share_sees m from = as_before
 
     -- Moves' rows: none has the share's number
     row_unseen : (o : Op) (h : Filter) (m : Real.Msg R) → (o.num == z.num) ≡ false → OfRow o m → old_seen S A z (Mv h m) ≡ None
@@ -257,7 +247,4 @@ module _ {R : Type 0} (S : Sys R) (A : Sharing S) (z : SeeingShare) where
         by_num None = tt
         by_num (Some n) = by_op n (find_op w.ops n) refl
     moves_unseen (Old (In_packet k)) = tt
-    moves_unseen (Old (Asked x)) = tt
-    moves_unseen (Old (Carry_on k)) = tt
-    moves_unseen (Old (Pass_on k)) = tt
-    moves_unseen (Old (Fence_on n)) = tt
+    moves_unseen m = tt

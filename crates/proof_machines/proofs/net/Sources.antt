@@ -4,16 +4,14 @@ use Rattle.std.proofs.Common.{◌≡◌, ◌≢◌, ℕ, Bool, true, false, Some
 use Rattle.std.specs.Prelude.{if◌then◌else◌, ◌==◌, ◌&&◌}
 use Rattle.std.proofs.lemmas.Bool.Decides.{Decides-eqb}
 use Rattle.proof_machines.proofs.unit.Machine.{At_a, Steps, Item, Fence_to, Install, Stray, Phase, Passing, Ending, Over, State, Ended}
-use Rattle.proof_machines.proofs.unit.Real.{M_install, RPhase}
-use Rattle.proof_machines.proofs.unit.Real.{Op, Frame, see_phase, where_true, add}
-use Rattle.move_op.specs.Phases.{Freezing, Streaming, Holding, Restoring, Returning, Undoing}
+use Rattle.proof_machines.proofs.unit.Real.{M_install, RPhase, Op, Frame, see_phase, where_true, add}
+use Rattle.move_op.specs.Phases.{Freezing}
 use Rattle.proof_machines.proofs.unit.Stages.{Stage, Laying, Turned, Fenced_a, Ending_b, Fence_b, Turned_loose, Fenced_loose}
 use Rattle.proof_machines.proofs.unit.Stages.{Ending_loose, Fence_loose, Fenced_b, Moved, Returned, shape, to_a}
 use Rattle.proof_machines.proofs.unit.Labels.{Each}
 use Rattle.proof_machines.proofs.unit.Seats.{UnitSeat, Covered, Is_beside, Is_away, seat_shape}
 use Rattle.proof_machines.proofs.unit.NetViews.{items}
-use Rattle.proof_machines.proofs.unit.Controls.{never_true}
-use Rattle.proof_machines.proofs.unit.Lists.{cons_nil}
+use Rattle.proof_machines.proofs.unit.Lists.{never_true, cons_nil}
 use Rattle.flow_filter.specs.declared.filter.Filter.{Filter}
 use Rattle.proof_machines.proofs.net.Net.{Msg, Mv, Sys, IsSys, Open, World, find_op, inst_step, seen}
 use Rattle.proof_machines.proofs.net.Holding.{frame, Label, IsController, OpLabel, Holds}
@@ -38,15 +36,7 @@ is_early_real ph = true
 
 seen_early : {R : Type 0} (v : Frame) (ph : RPhase R) → is_early (see_phase v ph) ≡ is_early_real ph
 seen_early v Freezing = refl
-seen_early v (Streaming fz fr came door) = refl
-seen_early v Holding = refl
-seen_early v Passing = refl
-seen_early v Ending = refl
-seen_early v (Restoring why) = refl
-seen_early v (Returning why) = refl
-seen_early v (Undoing why) = refl
-seen_early v (Over None) = refl
-seen_early v (Over (Some why)) = refl
+seen_early v phase = refl
 
 -- a change of the rules, which is a stray item where it isn't from the source to the destination
 abbrev is_install : {R : Type 0} → Item R → Bool

@@ -12,7 +12,7 @@ use Rattle.proof_machines.proofs.unit.Pairs.{By_sa, By_sb, By_sc, By_ca, By_cb, 
 use Rattle.proof_machines.proofs.unit.Labels.{Each}
 use Rattle.proof_machines.proofs.unit.Seats.{UnitSeat, seat_shape, seat_all, seat_loose}
 use Rattle.proof_machines.proofs.unit.NetViews.{items}
-use Rattle.proof_machines.proofs.unit.Controls.{never_true}
+use Rattle.proof_machines.proofs.unit.Lists.{never_true}
 use Rattle.flow_filter.specs.declared.filter.Filter.{Filter}
 use Rattle.proof_machines.proofs.net.Net.{sw_next, in_next, Msg, In_packet, Asked, Carry_on, Pass_on, Fence_on, Mv}
 use Rattle.proof_machines.proofs.net.Net.{Sys, IsSys, Open, find_op, sw_target, sw_sends, World, links_after, seen}
@@ -32,9 +32,6 @@ module _ {R : Type 0} (S : Sys R) (laws : IsSys S) (z : Seeing) where
   sends_label (Mv g (M_forward p to)) = (tt, tt)
   sends_label (Mv g (M_install n from to)) = (tt, tt)
   sends_label (Mv g (M_fence_to n to)) = (tt, tt)
-  sends_label (Mv g (M_enable n k)) = tt
-  sends_label (Mv g m) = tt
-  sends_label (Carry_on p) = tt
   sends_label m = tt
 
   module _ (w : World S) (s : UnitSeat S.F) (h : Holds S z w (seat_shape S.F s)) (p : ℕ) (m : Msg R) (rest : List (Msg R)) (p0 : (p == 0) ≡ false)

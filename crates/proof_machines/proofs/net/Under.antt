@@ -1,41 +1,22 @@
 -- A unit under a share (`Under`): the world shows it a stage of its share, and no move has anything of it. Each node's step keeps it: the
 -- stage goes on, no member's record has seen less, and what is processed is at its place.
-use Rattle.std.proofs.Common.{◌≡◌, ℕ, ◌≤◌, Bool, true, false, None, List, [], ◌∷◌, ◌++◌, ◌⊎◌, inl}
-use Rattle.std.proofs.Common.{inr, refl, sym, ap, ◌∙◌, subst, append-nil, append_assoc, arith}
+use Rattle.std.proofs.Common.{◌≡◌, ℕ, ◌≤◌, true, false, None, List, [], ◌∷◌, ◌++◌, refl, sym, ap, ◌∙◌, subst, append-nil}
 use Rattle.std.specs.Prelude.{if◌then◌else◌, ◌&&◌, ◌==◌}
-use Rattle.std.proofs.lemmas.Bool.Decides.{nat_tests, Decides-eqb}
 use Rattle.actor_net.proofs.LinkLemmas.{neither}
-use Rattle.proof_machines.proofs.unit.Real.{M_install, M_fence_to, M_forward, where_true, add, sent_for}
+use Rattle.proof_machines.proofs.unit.Real.{sent_for}
 use Rattle.proof_machines.proofs.unit.Labels.{Each}
-use Rattle.proof_machines.proofs.share.Share.{Item.Carry, UnitShare, ShareMachineStep.Arrive, has, if_mine, moved}
-use Rattle.proof_machines.proofs.share.Stages.{Stage, Stage.Diverting, Stage.Fence_goes, Stage.Fenced_comes, Stage.Get_goes}
-use Rattle.proof_machines.proofs.share.Stages.{Stage.Chunks_come, Stage.Spreads, Stage.Resting, Stage.Forwards, Stage.Carries}
-use Rattle.proof_machines.proofs.share.Stages.{Stage.Chunk_comes, front, processed, early, late, shape, IsFront, IsShare, FitsStage}
+use Rattle.proof_machines.proofs.share.Share.{UnitShare, has, moved}
+use Rattle.proof_machines.proofs.share.Stages.{Stage, front, processed, early, late, shape, IsFront, IsShare, FitsStage}
 use Rattle.proof_machines.proofs.share.Steps.{goes_on}
-use Rattle.proof_machines.proofs.share.Heads.{to_members, meets_sw, meets_to}
 use Rattle.proof_machines.proofs.share.Places.{Grows, placed}
-use Rattle.proof_machines.proofs.net.Net.{Msg, Msg.In_packet, Msg.Asked, Msg.Carry_on, Msg.Pass_on, Msg.Fence_on}
-use Rattle.proof_machines.proofs.net.Net.{Msg.Mv, Sys, IsSys, inst_step, sw_sends, ctrl_step, links_after}
+use Rattle.proof_machines.proofs.net.Net.{Msg, Sys, links_after}
 use Rattle.proof_machines.proofs.net.Holding.{EachSent}
 use Rattle.proof_machines.proofs.net.Links.{each_after, each_put}
-use Rattle.proof_machines.proofs.net.Rest.{Below, RestRule, RestOp, NothingOf}
-use Rattle.proof_machines.proofs.net.AsMoves.{old_sends, old_sends-append, old_sends-old, olds-put, olds-after, news-after, member_new, by_share_new}
-use Rattle.proof_machines.proofs.net.NewMessages.{each_sent_map, new_head}
-use Rattle.proof_machines.proofs.net.GlobalAll.{OfShare, GlobalAll}
-use Rattle.proof_machines.proofs.net.UnderOld.{inst_leaves, ctrl_leaves}
-use Rattle.proof_machines.proofs.net.ShareViews.{mine, unit_share, share_seen, share_items, own_at, ShareHolds}
+use Rattle.proof_machines.proofs.net.Rest.{RestRule, RestOp, NothingOf}
+use Rattle.proof_machines.proofs.net.AsMoves.{old_sends, olds-put, olds-after, news-after}
+use Rattle.proof_machines.proofs.net.ShareViews.{unit_share, ShareHolds}
 use Rattle.proof_machines.proofs.net.ShareLinks.{Goes, Goes.Nothing, Goes.Moves_so, holds_alike}
-use Rattle.proof_machines.proofs.net.ShareLabels.{label_of}
-use Rattle.proof_machines.proofs.net.MemberSteps.{does, SeesMember, member_sees}
-use Rattle.proof_machines.proofs.net.MemberMoves.{AtHome, moves_sees}
-use Rattle.proof_machines.proofs.net.UnderInst.{did_at, heads, inst_from, inst_goes}
-use Rattle.proof_machines.proofs.net.UnderCtrl.{ctrl_goes}
-use Rattle.proof_machines.proofs.net.UnderSwitch.{NoDiverts, LabelAt, switch_goes}
-use Rattle.proof_machines.proofs.net.UnderInput.{Comes, Comes.Not_its, Comes.Arrives, comes}
-use Rattle.proof_machines.proofs.net.Shares.{Any, Any.Old, Any.New, ShareMsg, ShareMsg.Shared_on, ShareMsg.Diverted_on, ShareMsg.S_asked}
-use Rattle.proof_machines.proofs.net.Shares.{ShareMsg.S_install, ShareMsg.S_forward, ShareMsg.S_get, ShareMsg.S_sync, ShareMsg.S_chunks}
-use Rattle.proof_machines.proofs.net.Shares.{ShareMsg.S_shared, ShareMsg.S_synced, olds, as_old, Sharing, IsSharing, told_by, by_share}
-use Rattle.proof_machines.proofs.net.Shares.{share_sends, arrive_sends, WholeWorld, whole_inst, whole_ctrl, whole_switch, whole_input, SeeingShare}
+use Rattle.proof_machines.proofs.net.Shares.{Any, Any.Old, Any.New, ShareMsg, olds, Sharing, WholeWorld, SeeingShare}
 
 module _ {R : Type 0} (S : Sys R) (A : Sharing S) (z : SeeingShare) where
   abbrev pub f : UnitShare R

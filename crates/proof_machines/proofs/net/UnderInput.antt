@@ -7,6 +7,7 @@ use Rattle.std.proofs.lemmas.Cmp.{nat_eq_equiv}
 use Rattle.proof_machines.proofs.unit.Real.{where_true, add, sent_for}
 use Rattle.proof_machines.proofs.share.Share.{Item, Item.Carry, Item.Diverted, Item.Stray, UnitShare, View}
 use Rattle.proof_machines.proofs.share.Share.{ShareMachineStep.Arrive, if_mine, joined, only, nowhere, moved}
+use Rattle.proof_machines.proofs.share.Setting.{same_but_sc, same_but_sw}
 use Rattle.proof_machines.proofs.net.Net.{Msg.Carry_on, Sys}
 use Rattle.proof_machines.proofs.net.ShareViews.{mine, share_expect, unit_share, share_items, ShareHolds}
 use Rattle.proof_machines.proofs.net.ShareLinks.{in_links, none_links, view_put, lone_view, lone_unseen, holds_alike}
@@ -78,18 +79,7 @@ module _ {R : Type 0} (S : Sys R) (A : Sharing S) (z : SeeingShare) where
         (holds_alike S A z w' (record x { sc = x.sc ++ Diverted q ∷ []; sw = joined x.sw nowhere }) (record x { sc = x.sc ++ Diverted q ∷ [] })
         (goes_in (Diverted q ∷ []) nowhere (diverted_at on takes 1) (λ k off. let other : (1 == k) ≡ false = grind (arith, nat_tests) in
         diverted_at on takes k ∙ rw other refl))
-        (record {
-          sw = λ k. append-nil (x.sw k);
-          sc = refl;
-          cs = refl;
-          to = λ k. refl;
-          back = λ k. refl;
-          own = λ k _. refl;
-          phase = refl;
-          queue = refl;
-          diverts = refl;
-          done = refl;
-        }))
+        (same_but_sw f _ _ (λ k. append-nil (x.sw k))))
 
     outside : S.takes z.filter (S.packet_unit q) ≡ false → mine S A z q ≡ false
     outside off = elim (mine S A z q) as (λ b. mine S A z q ≡ b → b ≡ false) [
@@ -124,18 +114,8 @@ module _ {R : Type 0} (S : Sys R) (A : Sharing S) (z : SeeingShare) where
         (ap (λ b. if b then record x { sc = x.sc ++ Diverted q ∷ [] } else record x { sw = joined x.sw (only f.home (map Carry (if_mine f q))) }) diverts
         ∙ ap (λ b. record x { sw = joined x.sw (only f.home (map Carry (if b then q ∷ [] else []))) }) on)
         (holds_alike S A z w' (record x { sc = x.sc ++ []; sw = joined x.sw (only z.home (Carry q ∷ [])) })
-        (record x { sw = joined x.sw (only z.home (Carry q ∷ [])) }) (goes_in [] (only z.home (Carry q ∷ [])) (at 1 ∙ rw apart refl) (λ k _. at k)) (record {
-          sw = λ k. refl;
-          sc = append-nil x.sc;
-          cs = refl;
-          to = λ k. refl;
-          back = λ k. refl;
-          own = λ k _. refl;
-          phase = refl;
-          queue = refl;
-          diverts = refl;
-          done = refl;
-        }))
+        (record x { sw = joined x.sw (only z.home (Carry q ∷ [])) }) (goes_in [] (only z.home (Carry q ∷ [])) (at 1 ∙ rw apart refl) (λ k _. at k))
+        (same_but_sc f _ _ (append-nil x.sc)))
 
     another : (target == 1) ≡ false → mine S A z q ≡ false → Comes w' x q
     another off other = unseen (not_its other)

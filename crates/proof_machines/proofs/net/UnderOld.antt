@@ -19,8 +19,7 @@ use Rattle.proof_machines.proofs.net.Insts.{InstanceGoes, does, carry_goes, pass
 use Rattle.proof_machines.proofs.net.InstMoves.{MovesInstance, MovesInstance.Any, MovesInstance.Streams_out, MovesInstance.Puts_in, move_goes}
 use Rattle.proof_machines.proofs.net.CtrlUnit.{SeesController, mdid, ctrl_unit}
 use Rattle.proof_machines.proofs.net.Rest.{Below, RestRule, RestOp, NothingOf, none_mine}
-use Rattle.proof_machines.proofs.net.RestingSeats.{same_mine, mv_label, mv_unseen}
-use Rattle.proof_machines.proofs.net.RestingSeats.{no_rule, no_op, rule_labels, op_labels, rules_rest, ops_rest, mv_nothing}
+use Rattle.proof_machines.proofs.net.RestingSeats.{same_mine, mv_label, mv_unseen, no_rule, no_op, rule_labels, op_labels, rules_rest, ops_rest, mv_nothing}
 use Rattle.proof_machines.proofs.net.GlobalShares.{ctrl_none}
 use Rattle.nf_function.specs.declared.unit.Unit as units
 use Rattle.record_table.specs.Table.{same_unit}
@@ -65,10 +64,7 @@ module _ {R : Type 0} (S : Sys R) (laws : IsSys S) (u : units.Unit) where
     nothing_one : (i : ℕ) (m : Msg R) → seen (frame S z) m ≡ None → Label S z i m → NothingOf S u i m
     nothing_one i (Mv g m) none l = (l.0, mv_nothing S z g m none l.1)
     nothing_one i (Pass_on p) none l = off_if (mine p) _ none
-    nothing_one i (Carry_on p) none l = tt
-    nothing_one i (Fence_on k) none l = tt
-    nothing_one i (In_packet p) none l = tt
-    nothing_one i (Asked x) none l = tt
+    nothing_one i m none l = tt
 
     add_nil : (o : Option (moves.Item R)) (v : List (moves.Item R)) → add o v ≡ [] → (o ≡ None) × (v ≡ [])
     add_nil None v e = (refl, e)
@@ -197,8 +193,4 @@ module _ {R : Type 0} (S : Sys R) (laws : IsSys S) (u : units.Unit) where
             ops = ops_rest S z (ctrl_step es port (Mv g m)).ops (ctrl_none es port (Mv g m) b none_open) quiet.ops;
             sends = nothing_sent (ctrl_step es port (Mv g m)).sends quiet.labels (of_none (ctrl_step es port (Mv g m)) quiet);
           }
-      ctrl_leaves port k (Carry_on p) few_m h = as_before
-      ctrl_leaves port k (Pass_on p) few_m h = as_before
-      ctrl_leaves port k (Fence_on n) few_m h = as_before
-      ctrl_leaves port k (In_packet p) few_m h = as_before
-      ctrl_leaves port k (Asked a) few_m h = as_before
+      ctrl_leaves port k m few_m h = as_before

@@ -4,26 +4,22 @@ use Rattle.std.proofs.Common.{◌≡◌, ◌≢◌, ℕ, ◌≤◌, ◌<◌, tru
 use Rattle.std.specs.Prelude.{◌&&◌, ◌==◌}
 use Rattle.std.proofs.lemmas.Bool.Decides.{nat_tests}
 use Rattle.proof_machines.proofs.unit.Real.{add}
-use Rattle.proof_machines.proofs.unit.Labels.{Each}
-use Rattle.proof_machines.proofs.share.Share.{Ran, Item, Item.Carry, Item.Fence, Item.Shared, Item.Diverted, Item.Install, Item.Forward, Item.Get}
-use Rattle.proof_machines.proofs.share.Share.{Item.Sync, Item.Fenced, Item.Chunks, Item.Chunk, Item.Synced, Item.Stray, UnitShare, View, has, runs, after}
+use Rattle.proof_machines.proofs.share.Share.{Ran, Item, Item.Carry, Item.Shared, UnitShare, View, has, runs, after}
 use Rattle.proof_machines.proofs.share.Stages.{front, processed, packets, late, path, shape, IsFront, Lacks}
 use Rattle.proof_machines.proofs.share.Records.{own_is, done_is, is_live, seen_front}
 use Rattle.proof_machines.proofs.share.Order.{in_order}
 use Rattle.proof_machines.proofs.share.Heads.{Meets, to_members, meets_sw, meets_to}
 use Rattle.proof_machines.proofs.share.Rests.{Rests, rests}
-use Rattle.proof_machines.proofs.net.Net.{Msg, Sys, IsSys, sw_target, at_node}
-use Rattle.proof_machines.proofs.net.Rest.{NothingOf, done_u}
-use Rattle.proof_machines.proofs.net.UntakenSwitch.{sw_same}
-use Rattle.proof_machines.proofs.net.GlobalAll.{TakesSome, GlobalAll}
-use Rattle.proof_machines.proofs.net.ShareViews.{share_expect, unit_share, share_seen, share_items, own_at, as_share}
-use Rattle.proof_machines.proofs.net.ShareLabels.{taking_own}
+use Rattle.proof_machines.proofs.net.Net.{Sys, IsSys, at_node}
+use Rattle.proof_machines.proofs.net.Rest.{done_u}
+use Rattle.proof_machines.proofs.net.GlobalAll.{GlobalAll}
+use Rattle.proof_machines.proofs.net.ShareViews.{share_expect, unit_share, share_seen, share_items, own_at}
 use Rattle.proof_machines.proofs.net.MemberSteps.{does}
 use Rattle.proof_machines.proofs.net.UnderInst.{did_at, heads, inst_from}
 use Rattle.proof_machines.proofs.net.Under.{Under}
 use Rattle.proof_machines.proofs.net.UnderSteps.{inst_keeps}
 use Rattle.proof_machines.proofs.net.UnderStarts.{packets_done}
-use Rattle.proof_machines.proofs.net.Shares.{Any, Any.Old, olds, Sharing, IsSharing, WholeWorld, ran_of, SeeingShare}
+use Rattle.proof_machines.proofs.net.Shares.{Any, Sharing, IsSharing, WholeWorld, ran_of, SeeingShare}
 
 module _ {R : Type 0} (S : Sys R) (A : Sharing S) (z : SeeingShare) (w : WholeWorld S A) (before since : List ℕ) (u : Under S A z w before since) where
   abbrev f : UnitShare R
@@ -34,19 +30,6 @@ module _ {R : Type 0} (S : Sys R) (A : Sharing S) (z : SeeingShare) (w : WholeWo
 
   pub all_done : done ≡ processed f u.stage
   all_done = u.holds.done ∙ done_is f u.stage
-
-  -- a share takes the unit, and a move's message leaves its target
-  pub under_taken : GlobalAll S A w → TakesSome S w.shares z.unit
-  under_taken g = (
-    as_share S A z (shape f u.stage).phase (shape f u.stage).queue,
-    taking_own S A z w g u.covered (shape f u.stage).phase (shape f u.stage).queue u.holds.share z.unit u.covered,
-  )
-
-  pub under_target : IsSys S → (p : ℕ) (m : Msg R) (rest : List (Any R)) → (p == 0) ≡ false → w.link p 0 ≡ Old m ∷ rest
-      → sw_target S w.target m z.unit ≡ w.target z.unit
-  under_target laws p m rest p0 waits =
-      let off : (p == 0) && (0 == 0) ≡ false = rw p0 refl in
-      sw_same S A laws z.unit w.target p m (subst (λ ms. Each (NothingOf S z.unit p) (olds ms)) waits (u.labels p 0 off)).0
 
   -- done and waiting are what arrived
   pub under_order : done_u S z.unit w.done ++ path f u.stage ≡ before ++ since
@@ -90,17 +73,7 @@ module _ {R : Type 0} (S : Sys R) (A : Sharing S) (z : SeeingShare) (w : WholeWo
     meets_all : (it : Item R) → Has_run (Some it) → Meets f u.stage y it → after f (front f u.stage y) ≡ after f (processed f u.stage)
     meets_all (Carry q) r h = h.1
     meets_all (Shared q) r h = h.1
-    meets_all Fence r h = absurd (r refl)
-    meets_all (Diverted q) r h = absurd (r refl)
-    meets_all Install r h = absurd (r refl)
-    meets_all (Forward q k) r h = absurd (r refl)
-    meets_all Get r h = absurd (r refl)
-    meets_all (Sync c) r h = absurd (r refl)
-    meets_all Fenced r h = absurd (r refl)
-    meets_all (Chunks c) r h = absurd (r refl)
-    meets_all (Chunk c) r h = absurd (r refl)
-    meets_all Synced r h = absurd (r refl)
-    meets_all Stray r h = absurd (r refl)
+    meets_all it r h = absurd (r refl)
 
     pub record FreshAt : Type 0 where
       pub inside : has z.members y ≡ true

@@ -6,14 +6,11 @@ use Rattle.actor_net.proofs.LinkLemmas.{neither}
 use Rattle.proof_machines.proofs.unit.Real.{M_install, M_fence_to, M_forward, where_true, add}
 use Rattle.proof_machines.proofs.unit.Labels.{Each}
 use Rattle.proof_machines.proofs.share.Share.{Item.Carry, ShareMachineStep.Arrive, has, if_mine, moved}
-use Rattle.proof_machines.proofs.share.Stages.{Stage, Stage.Diverting, Stage.Fence_goes, Stage.Fenced_comes, Stage.Get_goes}
-use Rattle.proof_machines.proofs.share.Stages.{Stage.Chunks_come, Stage.Spreads, Stage.Resting, Stage.Forwards}
-use Rattle.proof_machines.proofs.share.Stages.{Stage.Carries, Stage.Chunk_comes, late, shape, IsShare, FitsStage}
+use Rattle.proof_machines.proofs.share.Stages.{Stage, Stage.Diverting, late, shape, IsShare, FitsStage}
 use Rattle.proof_machines.proofs.share.Steps.{goes_on}
 use Rattle.proof_machines.proofs.share.Heads.{to_members, meets_sw, meets_to}
 use Rattle.proof_machines.proofs.share.Places.{placed}
-use Rattle.proof_machines.proofs.net.Net.{Msg, Msg.In_packet, Msg.Asked, Msg.Carry_on, Msg.Pass_on}
-use Rattle.proof_machines.proofs.net.Net.{Msg.Fence_on, Msg.Mv, Sys, IsSys, inst_step, sw_sends, ctrl_step}
+use Rattle.proof_machines.proofs.net.Net.{Msg, Msg.Carry_on, Msg.Pass_on, Msg.Mv, Sys, IsSys, inst_step, sw_sends, ctrl_step}
 use Rattle.proof_machines.proofs.net.Holding.{EachSent}
 use Rattle.proof_machines.proofs.net.Rest.{Below, RestRule, NothingOf}
 use Rattle.proof_machines.proofs.net.AsMoves.{old_sends, old_sends-append, old_sends-old, member_new, by_share_new}
@@ -29,10 +26,8 @@ use Rattle.proof_machines.proofs.net.UnderInst.{did_at, heads, inst_from, inst_g
 use Rattle.proof_machines.proofs.net.UnderCtrl.{ctrl_goes}
 use Rattle.proof_machines.proofs.net.UnderSwitch.{NoDiverts, LabelAt, switch_goes}
 use Rattle.proof_machines.proofs.net.UnderInput.{Comes, Comes.Not_its, Comes.Arrives, comes}
-use Rattle.proof_machines.proofs.net.Shares.{Any, Any.Old, Any.New, ShareMsg, ShareMsg.Shared_on, ShareMsg.Diverted_on, ShareMsg.S_asked}
-use Rattle.proof_machines.proofs.net.Shares.{ShareMsg.S_install, ShareMsg.S_forward, ShareMsg.S_get, ShareMsg.S_sync, ShareMsg.S_chunks}
-use Rattle.proof_machines.proofs.net.Shares.{ShareMsg.S_shared, ShareMsg.S_synced, as_old, Sharing, IsSharing, told_by, by_share, share_sends}
-use Rattle.proof_machines.proofs.net.Shares.{arrive_sends, WholeWorld, whole_inst, whole_ctrl, whole_switch, whole_input, SeeingShare}
+use Rattle.proof_machines.proofs.net.Shares.{Any, Any.Old, Any.New, ShareMsg, ShareMsg.Diverted_on, ShareMsg.S_install, as_old, Sharing, IsSharing, told_by}
+use Rattle.proof_machines.proofs.net.Shares.{by_share, share_sends, arrive_sends, WholeWorld, whole_inst, whole_ctrl, whole_switch, whole_input, SeeingShare}
 use Rattle.proof_machines.proofs.net.Under.{f, Under, Goes_on, NextStage, stays, next, KeepsRest, leads_to, goes_to, head_old, after_old, after_new, put_labels}
 
 module _ {R : Type 0} (S : Sys R) (A : Sharing S) (z : SeeingShare) where
@@ -40,10 +35,7 @@ module _ {R : Type 0} (S : Sys R) (A : Sharing S) (z : SeeingShare) where
   of_sender : (y : ℕ) → (y == 0) ≡ false → (m : Msg R) → NothingOf S z.unit 1 m → NothingOf S z.unit y m
   of_sender y y0 (Mv g m) h = (y0, h.1)
   of_sender y y0 (Pass_on p) h = h
-  of_sender y y0 (Carry_on p) h = tt
-  of_sender y y0 (Fence_on n) h = tt
-  of_sender y y0 (In_packet p) h = tt
-  of_sender y y0 (Asked x) h = tt
+  of_sender y y0 m h = tt
 
   module _ (laws : IsSys S) (ok : IsSharing S A) where
     -- An instance: of a move's message and of a share's
@@ -75,11 +67,7 @@ module _ {R : Type 0} (S : Sys R) (A : Sharing S) (z : SeeingShare) where
 
       at_home : (m : Msg R) (rest : List (Any R)) → w.link p y ≡ Old m ∷ rest → AtHome S A z laws y (w.inst y) (w.standby y) m
       at_home (Carry_on q) rest waits = λ on. carried_home q rest waits on
-      at_home (Pass_on q) rest waits = tt
-      at_home (Fence_on n) rest waits = tt
-      at_home (Mv h m) rest waits = tt
-      at_home (In_packet q) rest waits = tt
-      at_home (Asked x) rest waits = tt
+      at_home m rest waits = tt
 
       away_after : (m : Any R) → SeesMember S A laws z y (w.inst y).live (did_at S A laws z w y m) (does S A laws z y (own_at S A z w y) (share_seen S A z y m))
           → (k : ℕ) → (k == z.home) ≡ false → S.B.at z.unit (if k == y then (did_at S A laws z w y m).live else (w.inst k).live) ≡ None
@@ -185,24 +173,11 @@ module _ {R : Type 0} (S : Sys R) (A : Sharing S) (z : SeeingShare) where
     switch_labels k (Mv g (M_forward q to)) h = (h.1, tt)
     switch_labels k (Mv g (M_install n a b)) h = (tt, tt)
     switch_labels k (Mv g (M_fence_to n to)) h = (tt, tt)
-    switch_labels k (Mv g m) h = tt
-    switch_labels k (Carry_on q) h = tt
-    switch_labels k (Pass_on q) h = tt
-    switch_labels k (Fence_on n) h = tt
-    switch_labels k (In_packet q) h = tt
-    switch_labels k (Asked a) h = tt
+    switch_labels k m h = tt
 
     fence_labels : (m : ShareMsg R) → EachSent (λ _ m. NothingOf S z.unit 0 m) (old_sends (share_sends S A m))
     fence_labels (S_install n h from) = (tt, tt)
-    fence_labels (S_forward n home q to) = tt
-    fence_labels (Shared_on n home q) = tt
-    fence_labels (Diverted_on q) = tt
-    fence_labels (S_asked a) = tt
-    fence_labels (S_get n h) = tt
-    fence_labels (S_sync n home cs) = tt
-    fence_labels (S_chunks n cs) = tt
-    fence_labels (S_shared n c) = tt
-    fence_labels (S_synced n) = tt
+    fence_labels m = tt
 
     pub under_switch : (w : WholeWorld S A) (before since : List ℕ) → GlobalAll S A w
         → (u : Under S A z w before since) (p : ℕ) (m : Any R) (rest : List (Any R))
@@ -280,15 +255,7 @@ module _ {R : Type 0} (S : Sys R) (A : Sharing S) (z : SeeingShare) where
   -- nothing has arrived since where nothing is diverted, so what arrives is last
   none_since : (s : Stage R) → (shape (f S A z) s).diverts ≡ false → late (f S A z) s ≡ []
   none_since (Diverting d b l) e = refl
-  none_since (Fence_goes d b l q v) e = cc
-  none_since (Fenced_comes d b q v) e = cc
-  none_since (Get_goes d b q v) e = cc
-  none_since (Chunks_come d b q v) e = cc
-  none_since (Spreads first d e₁ b c at o left q v) e = cc
-  none_since (Resting d e₁ v) e = cc
-  none_since (Forwards d e₁ p q v) e = cc
-  none_since (Carries d e₁ p q v) e = cc
-  none_since (Chunk_comes d e₁ p q v) e = cc
+  none_since s e = cc
 
   pub comes_last : (w : WholeWorld S A) (before since : List ℕ) (u : Under S A z w before since) (ps : List ℕ)
       → (before ++ (if (shape (f S A z) u.stage).diverts then [] else ps)) ++ (since ++ (if (shape (f S A z) u.stage).diverts then ps else []))

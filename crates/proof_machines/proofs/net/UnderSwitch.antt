@@ -82,12 +82,7 @@ module _ {R : Type 0} (S : Sys R) (A : Sharing S) (laws : IsSys S) (z : SeeingSh
   sends_unseen k (Mv g (M_forward q to)) l none = (let off = l.1 in rw off refl, tt)
   sends_unseen k (Mv g (M_install n a b)) l none = (let off = off_if (n == z.num) Stray none in rw off refl, tt)
   sends_unseen k (Mv g (M_fence_to n to)) l none = (let off = off_if (n == z.num) Stray none in rw off refl, tt)
-  sends_unseen k (Mv g m) l none = tt
-  sends_unseen k (Carry_on q) l none = tt
-  sends_unseen k (Pass_on q) l none = tt
-  sends_unseen k (Fence_on n) l none = tt
-  sends_unseen k (In_packet q) l none = tt
-  sends_unseen k (Asked a) l none = tt
+  sends_unseen k m l none = tt
 
   -- the fence after an Install, the packet after a Forward
   fence_at : (n from k : ℕ) → (n == z.num) ≡ true → from ≡ z.home
@@ -169,9 +164,6 @@ module _ {R : Type 0} (S : Sys R) (A : Sharing S) (laws : IsSys S) (z : SeeingSh
             diverts = diverts;
             done = h.done;
           })))
-
-    none_sent : (r : ℕ) → share_items S A z r (sent_for r []) ≡ []
-    none_sent r = refl
 
     old_goes : (k : ℕ) (m : Msg R) (rest : List (Any R)) → w.link p 0 ≡ Old m ∷ rest → NothingOf S z.unit k m → NoDiverts w (Old m)
         → Goes S A z (Next_to w p (Old m)) x

@@ -1,11 +1,10 @@
 -- Each node's step and each begin of a move leaves a unit at rest or in a move, with all its packets that arrived.
 use Rattle.std.proofs.Common.{◌≡◌, ◌≢◌, ℕ, suc, ◌+◌, ◌≤◌, ◌<◌, Bool, true, false, Option, Some, None}
-use Rattle.std.proofs.Common.{List, [], ◌∷◌, ◌++◌, map, refl, sym, ap, ◌∙◌, subst, append-nil, arith}
+use Rattle.std.proofs.Common.{List, [], ◌∷◌, ◌++◌, refl, sym, ap, ◌∙◌, subst, append-nil, arith}
 use Rattle.std.specs.Prelude.{if◌then◌else◌, ◌&&◌, ◌||◌, ◌==◌}
 use Rattle.std.proofs.lemmas.Bool.Decides.{nat_tests, Decides-eqb}
 use Rattle.proof_machines.proofs.share.Lists.{self}
-use Rattle.proof_machines.proofs.unit.Machine.{Where as Side, At_a, At_b, At_c, Ran, after, Drops, Item, Enable, State, Idle, Freezing, Begin, moved}
-use Rattle.proof_machines.proofs.unit.Machine.{Over}
+use Rattle.proof_machines.proofs.unit.Machine.{At_a, At_b, Ran, after, Drops, Item, Enable, State, Freezing}
 use Rattle.proof_machines.proofs.unit.Lists.{firsts}
 use Rattle.proof_machines.proofs.unit.Stages.{Stage, Turned_loose, Fenced_loose, Ending_loose, Fence_loose, shape, loose, times, IsOrderedAs}
 use Rattle.proof_machines.proofs.unit.Loose.{times-append}
@@ -15,15 +14,14 @@ use Rattle.proof_machines.proofs.unit.Seen.{NodesDiffer}
 use Rattle.proof_machines.proofs.unit.Labels.{Each, each-append}
 use Rattle.proof_machines.proofs.unit.Pairs.{Nodes, expect}
 use Rattle.proof_machines.proofs.unit.Rests.{is_over}
-use Rattle.proof_machines.proofs.unit.Between.{AtRestNow, Rests_at, seat_ends, rest_at, seat_at, seat_begins}
+use Rattle.proof_machines.proofs.unit.Between.{AtRestNow, Rests_at, seat_ends, seat_at}
 use Rattle.proof_machines.proofs.unit.Seats.{UnitSeat, Covered, Is_beside, Is_away, is_covered, seat_shape, seat_all, seat_loose}
 use Rattle.flow_filter.specs.declared.filter.Filter.{Filter}
-use Rattle.proof_machines.proofs.net.Net.{inst_next, ctrl_next, sw_next, in_next, begin_next, sw_target, Msg, In_packet, Asked, Carry_on, Pass_on}
-use Rattle.proof_machines.proofs.net.Net.{Fence_on, Mv, MoveAsked, Sys, IsSys, Open, find_op, meets_any, new_op, begin_sends, World, seen}
+use Rattle.proof_machines.proofs.net.Net.{inst_next, ctrl_next, sw_next, in_next, begin_next, sw_target, Msg}
+use Rattle.proof_machines.proofs.net.Net.{Mv, MoveAsked, Sys, IsSys, Open, find_op, meets_any, new_op, begin_sends, World, seen}
 use Rattle.proof_machines.proofs.net.Holding.{Seeing, frame, Label, OpLabel, place, IsController, Holds}
 use Rattle.proof_machines.proofs.net.Links.{sent, view_put, each_put}
-use Rattle.proof_machines.proofs.net.Ctrl.{each_found}
-use Rattle.proof_machines.proofs.net.InstWorld.{Goes_to, moves_on, inst_holds}
+use Rattle.proof_machines.proofs.net.InstWorld.{Goes_to, inst_holds}
 use Rattle.proof_machines.proofs.net.OtherWorld.{ctrl_holds, put_unseen, one_unseen}
 use Rattle.proof_machines.proofs.net.SwitchWorld.{switch_holds, input_holds}
 use Rattle.proof_machines.proofs.net.Rest.{Rest, Global}
@@ -221,12 +219,7 @@ module _ {R : Type 0} (S : Sys R) (laws : IsSys S) (u : units.Unit) where
       by_msg : (m : Msg R) → Label S (see op third) p m → Hands_on w m d → sw_target S w.target m u ≡ op.dst → d ≡ true
       by_msg (Mv x (M_install n from to)) lab hands at =
           install_flag w d op e s x n from to there keep lab.1 hands before on plain (S.takes x u) (w.target u == from) refl refl at
-      by_msg (Mv x m) lab hands at = before on plain at
-      by_msg (In_packet q) lab hands at = before on plain at
-      by_msg (Asked x) lab hands at = before on plain at
-      by_msg (Carry_on q) lab hands at = before on plain at
-      by_msg (Pass_on q) lab hands at = before on plain at
-      by_msg (Fence_on q) lab hands at = before on plain at
+      by_msg m lab hands at = before on plain at
 
   pub switch_where : (w : World S) (ps : List ℕ) (c d : Bool) → Global S w → (p : ℕ) (m : Msg R) (rest : List (Msg R)) → (p == 0) ≡ false
       → w.link p 0 ≡ m ∷ rest → (c ≡ true → d ≡ true) → Hands_on w m d → Where w ps c → Where (sw_next S w p m) ps d

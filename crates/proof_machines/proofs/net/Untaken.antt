@@ -22,14 +22,11 @@ module _ {R : Type 0} (S : Sys R) (u : units.Unit) where
   abbrev pub NoShare : List OpenShare → ShareMsg R → Type 0
   NoShare es (Shared_on n home p) = same_unit (S.packet_unit p) u ≡ false
   NoShare es (Diverted_on p) = same_unit (S.packet_unit p) u ≡ false
-  NoShare es (S_asked x) = Unit {0}
-  NoShare es (S_install n g from) = Unit {0}
   NoShare es (S_forward n home p to) = same_unit (S.packet_unit p) u ≡ false
-  NoShare es (S_get n g) = Unit {0}
   NoShare es (S_sync n home cs) = record_at u cs ≡ None
   NoShare es (S_chunks n cs) = (e : OpenShare) → find_share es n ≡ Some e → record_at u cs ≡ None
   NoShare es (S_shared n c) = same_unit c.0 u ≡ false
-  NoShare es (S_synced n) = Unit {0}
+  NoShare es m = Unit {0}
 
   abbrev pub ElsewhereHome : (units.Unit → ℕ) → OpenShare → Type 0
   ElsewhereHome t e = S.takes e.filter u ≡ true → (e.home == t u) ≡ false
@@ -60,15 +57,11 @@ module _ {R : Type 0} (S : Sys R) (u : units.Unit) where
     no_share_set : (n : ℕ) (ph : Rattle.proof_machines.proofs.share.Share.Phase) (q : List ℕ) (es : List OpenShare) (m : ShareMsg R) → NoShare es m
         → NoShare (set_share n ph q es) m
     no_share_set n ph q es (S_chunks k cs) h = λ e is. let f = set_find n ph q es k e is in h f.share f.found
-    no_share_set n ph q es (Shared_on k home p) h = h
-    no_share_set n ph q es (Diverted_on p) h = h
-    no_share_set n ph q es (S_forward k home p to) h = h
-    no_share_set n ph q es (S_sync k home cs) h = h
-    no_share_set n ph q es (S_shared k c) h = h
     no_share_set n ph q es (S_asked x) h = tt
     no_share_set n ph q es (S_install k g from) h = tt
     no_share_set n ph q es (S_get k g) h = tt
     no_share_set n ph q es (S_synced k) h = tt
+    no_share_set n ph q es m h = h
 
     one_chunk : (c : units.Unit × R) → same_unit c.0 u ≡ false → record_at u (c ∷ []) ≡ None
     one_chunk c off = let other : same_unit u c.0 ≡ false = same_unit_equiv.symm u c.0 ∙ off in rw other refl
@@ -84,12 +77,7 @@ module _ {R : Type 0} (S : Sys R) (u : units.Unit) where
     not_told es (New (S_shared n c)) e t h is = let eq = is.1 in rw eq (one_chunk c h)
     not_told es (New (S_synced n)) e t h is = rw is tt
     not_told es (New (Diverted_on p)) e t h is = let eq = is.1 in rw eq h
-    not_told es (New (Shared_on n home p)) e t h is = absurd is
-    not_told es (New (S_asked x)) e t h is = absurd is
-    not_told es (New (S_install n g from)) e t h is = absurd is
-    not_told es (New (S_forward n home p to)) e t h is = absurd is
-    not_told es (New (S_get n g)) e t h is = absurd is
-    not_told es (New (S_sync n home cs)) e t h is = absurd is
+    not_told es m e t h is = absurd is
 
     sent_none : (es : List OpenShare) (e : OpenShare) (j : ℕ) (m : Any R) → SentBy S A e (λ p. same_unit (S.packet_unit p) u ≡ false) IsNotIn j m
         → OnNew (NoShare es) m
@@ -97,13 +85,7 @@ module _ {R : Type 0} (S : Sys R) (u : units.Unit) where
     sent_none es e j (New (S_sync n home cs)) h = h.1
     sent_none es e j (New (S_forward n home p to)) h = h.1
     sent_none es e j (Old m) h = tt
-    sent_none es e j (New (Shared_on n home p)) h = absurd h
-    sent_none es e j (New (Diverted_on p)) h = absurd h
-    sent_none es e j (New (S_asked x)) h = absurd h
-    sent_none es e j (New (S_install n g from)) h = absurd h
-    sent_none es e j (New (S_chunks n cs)) h = absurd h
-    sent_none es e j (New (S_shared n c)) h = absurd h
-    sent_none es e j (New (S_synced n)) h = absurd h
+    sent_none es e j m h = absurd h
 
     -- what the shares' step leaves
     pub record UntakenStep (w : WholeWorld S A) (s : SharesStep S A) : Type 0 where

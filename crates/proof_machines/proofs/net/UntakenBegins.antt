@@ -17,10 +17,9 @@ use Rattle.proof_machines.proofs.net.ShareLists.{find_old}
 use Rattle.proof_machines.proofs.net.GlobalAll.{Numbered, GlobalAll}
 use Rattle.proof_machines.proofs.net.Untaken.{NoShare, ElsewhereHome}
 use Rattle.proof_machines.proofs.net.UntakenInst.{Unshared}
-use Rattle.proof_machines.proofs.net.Shares.{Any, Any.Old, Any.New, ShareMsg, ShareMsg.Shared_on, ShareMsg.Diverted_on}
-use Rattle.proof_machines.proofs.net.Shares.{ShareMsg.S_asked, ShareMsg.S_install, ShareMsg.S_forward, ShareMsg.S_get, ShareMsg.S_sync}
-use Rattle.proof_machines.proofs.net.Shares.{ShareMsg.S_chunks, ShareMsg.S_shared, ShareMsg.S_synced, WantShare, olds, as_old, Sharing}
-use Rattle.proof_machines.proofs.net.Shares.{OpenShare, new_share, WholeWorld, moves_of, asks, begin_move, begin_share, puts_get, keeps}
+use Rattle.proof_machines.proofs.net.Shares.{Any, Any.Old, Any.New, ShareMsg, ShareMsg.S_asked, ShareMsg.S_install, ShareMsg.S_get, ShareMsg.S_chunks}
+use Rattle.proof_machines.proofs.net.Shares.{ShareMsg.S_synced, WantShare, olds, as_old, Sharing, OpenShare, new_share, WholeWorld, moves_of, asks, begin_move}
+use Rattle.proof_machines.proofs.net.Shares.{begin_share, puts_get, keeps}
 use Rattle.nf_function.specs.declared.unit.Unit as units
 
 module _ {R : Type 0} (S : Sys R) (A : Sharing S) (laws : IsSys S) (u : units.Unit) where
@@ -55,15 +54,11 @@ module _ {R : Type 0} (S : Sys R) (A : Sharing S) (laws : IsSys S) (u : units.Un
   no_share_more : (es : List OpenShare) (x : OpenShare) (b : ℕ) → b ≤ x.num → (m : ShareMsg R) → Numbered b m → NoShare S u es m → NoShare S u (es ++ x ∷ []) m
   no_share_more es x b fresh (S_chunks k cs) few h = λ e is.
       let off : (x.num == k) ≡ false = grind (arith, nat_tests, few, fresh) in h e (sym (find_old es x k off) ∙ is)
-  no_share_more es x b fresh (Shared_on k home p) few h = h
-  no_share_more es x b fresh (Diverted_on p) few h = h
-  no_share_more es x b fresh (S_forward k home p to) few h = h
-  no_share_more es x b fresh (S_sync k home cs) few h = h
-  no_share_more es x b fresh (S_shared k c) few h = h
   no_share_more es x b fresh (S_asked y) few h = tt
   no_share_more es x b fresh (S_install k g from) few h = tt
   no_share_more es x b fresh (S_get k g) few h = tt
   no_share_more es x b fresh (S_synced k) few h = tt
+  no_share_more es x b fresh m few h = h
 
   -- a share that doesn't take the unit, or whose home isn't where its packets go
   pub share_unshared : (w : WholeWorld S A) (ps : List ℕ) (c : Bool) → GlobalAll S A w → (x : WantShare) → w.next ≤ x.num

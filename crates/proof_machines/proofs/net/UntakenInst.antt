@@ -16,10 +16,9 @@ use Rattle.proof_machines.proofs.net.NewMessages.{EachSentNew, sent_old, new_aft
 use Rattle.proof_machines.proofs.net.ShareLists.{found_each}
 use Rattle.proof_machines.proofs.net.GlobalAll.{Disjoint, OfShare, GlobalAll}
 use Rattle.proof_machines.proofs.net.Untaken.{NoShare, ElsewhereHome, Untaken, head_none, ctrl_untaken}
-use Rattle.proof_machines.proofs.net.Shares.{Any, Any.Old, Any.New, ShareMsg, ShareMsg.Shared_on, ShareMsg.Diverted_on, ShareMsg.S_asked}
-use Rattle.proof_machines.proofs.net.Shares.{ShareMsg.S_install, ShareMsg.S_forward, ShareMsg.S_get, ShareMsg.S_sync, ShareMsg.S_chunks}
-use Rattle.proof_machines.proofs.net.Shares.{ShareMsg.S_shared, ShareMsg.S_synced, olds, as_old, Sharing, IsSharing, OpenShare}
-use Rattle.proof_machines.proofs.net.Shares.{find_share, shared_chunk, member_step, WholeWorld, moves_of, whole_inst, whole_ctrl}
+use Rattle.proof_machines.proofs.net.Shares.{Any, Any.Old, Any.New, ShareMsg, ShareMsg.Shared_on, ShareMsg.S_get, ShareMsg.S_sync, ShareMsg.S_shared, olds}
+use Rattle.proof_machines.proofs.net.Shares.{as_old, Sharing, IsSharing, OpenShare, find_share, shared_chunk, member_step, WholeWorld, moves_of, whole_inst}
+use Rattle.proof_machines.proofs.net.Shares.{whole_ctrl}
 use Rattle.nf_function.specs.declared.unit.Unit as units
 use Rattle.record_table.specs.Table.{same_unit}
 
@@ -67,14 +66,7 @@ module _ {R : Type 0} (S : Sys R) (A : Sharing S) (laws : IsSys S) (u : units.Un
     | false ↦ λ _. refl
   ] refl
   gets_none w ps c y g h (Shared_on n home p) of = tt
-  gets_none w ps c y g h (Diverted_on p) of = tt
-  gets_none w ps c y g h (S_asked x) of = tt
-  gets_none w ps c y g h (S_install n f from) of = tt
-  gets_none w ps c y g h (S_forward n home p to) of = tt
-  gets_none w ps c y g h (S_sync n home cs) of = tt
-  gets_none w ps c y g h (S_chunks n cs) of = tt
-  gets_none w ps c y g h (S_shared n x) of = tt
-  gets_none w ps c y g h (S_synced n) of = tt
+  gets_none w ps c y g h m of = tt
 
   -- what an instance leaves, on a message of a share
   record Leaves (w : WholeWorld S A) (y : ℕ) (m : ShareMsg R) : Type 0 where
@@ -113,13 +105,7 @@ module _ {R : Type 0} (S : Sys R) (A : Sharing S) (laws : IsSys S) (u : units.Un
   member_leaves ok w y (S_sync n true cs) off gets =
       record { live = ok.replaced u cs (w.inst y).live ∙ ap (λ o. over o (S.B.at u (w.inst y).live)) off; ran = nothing_ran; sends = (tt, tt) }
   member_leaves ok w y (S_sync n false cs) off gets = record { live = refl; ran = nothing_ran; sends = (tt, tt) }
-  member_leaves ok w y (Diverted_on p) off gets = record { live = refl; ran = nothing_ran; sends = tt }
-  member_leaves ok w y (S_asked x) off gets = record { live = refl; ran = nothing_ran; sends = tt }
-  member_leaves ok w y (S_install n f from) off gets = record { live = refl; ran = nothing_ran; sends = tt }
-  member_leaves ok w y (S_forward n home p to) off gets = record { live = refl; ran = nothing_ran; sends = tt }
-  member_leaves ok w y (S_chunks n cs) off gets = record { live = refl; ran = nothing_ran; sends = tt }
-  member_leaves ok w y (S_shared n x) off gets = record { live = refl; ran = nothing_ran; sends = tt }
-  member_leaves ok w y (S_synced n) off gets = record { live = refl; ran = nothing_ran; sends = tt }
+  member_leaves ok w y m off gets = record { live = refl; ran = nothing_ran; sends = tt }
 
   -- The steps
   pub inst_unshared : IsSharing S A → (w : WholeWorld S A) (ps : List ℕ) (c : Bool) → GlobalAll S A w → (p y : ℕ) (m : Any R) (rest : List (Any R))

@@ -4,8 +4,7 @@ use Rattle.std.specs.Prelude.{if◌then◌else◌, ◌&&◌, ◌==◌}
 use Rattle.std.proofs.lemmas.Bool.Decides.{nat_tests, Decides-eqb}
 use Rattle.proof_machines.proofs.unit.Real.{M_install, sent_for}
 use Rattle.proof_machines.proofs.unit.Labels.{Each, each_map}
-use Rattle.proof_machines.proofs.net.Net.{Msg, Msg.In_packet, Msg.Asked, Msg.Carry_on, Msg.Pass_on, Msg.Fence_on, Msg.Mv}
-use Rattle.proof_machines.proofs.net.Net.{Sys, IsSys, Open, find_op, sw_target, sw_sends, sw_next, in_next, World}
+use Rattle.proof_machines.proofs.net.Net.{Msg, Msg.Carry_on, Msg.Fence_on, Msg.Mv, Sys, IsSys, Open, find_op, sw_target, sw_sends, sw_next, in_next, World}
 use Rattle.proof_machines.proofs.net.Rest.{NothingOf}
 use Rattle.proof_machines.proofs.net.Units.{Where, Where.At_rest, Where.In_move, Hands_on, switch_where, input_where}
 use Rattle.proof_machines.proofs.net.Elsewhere.{elsewhere_where, fence_where, where_two, where_rests}
@@ -15,10 +14,8 @@ use Rattle.proof_machines.proofs.net.ShareLists.{found_each}
 use Rattle.proof_machines.proofs.net.GlobalAll.{Disjoint, OfShare, GlobalAll}
 use Rattle.proof_machines.proofs.net.Untaken.{NoShare, ElsewhereHome, Untaken, head_none}
 use Rattle.proof_machines.proofs.net.UntakenInst.{Unshared}
-use Rattle.proof_machines.proofs.net.Shares.{Any, Any.Old, Any.New, ShareMsg, ShareMsg.Shared_on, ShareMsg.Diverted_on, ShareMsg.S_asked}
-use Rattle.proof_machines.proofs.net.Shares.{ShareMsg.S_install, ShareMsg.S_forward, ShareMsg.S_get, ShareMsg.S_sync, ShareMsg.S_chunks}
-use Rattle.proof_machines.proofs.net.Shares.{ShareMsg.S_shared, ShareMsg.S_synced, olds, as_old, Sharing, OpenShare, find_share}
-use Rattle.proof_machines.proofs.net.Shares.{share_target, share_sends, arrive_sends, WholeWorld, moves_of, whole_switch, whole_input}
+use Rattle.proof_machines.proofs.net.Shares.{Any, Any.Old, Any.New, ShareMsg, ShareMsg.Shared_on, ShareMsg.S_install, ShareMsg.S_forward, olds, as_old, Sharing}
+use Rattle.proof_machines.proofs.net.Shares.{OpenShare, find_share, share_target, share_sends, arrive_sends, WholeWorld, moves_of, whole_switch, whole_input}
 use Rattle.nf_function.specs.declared.unit.Unit as units
 use Rattle.record_table.specs.Table.{same_unit}
 use Rattle.record_table.proofs.UnitOrder.{same_unit-true}
@@ -32,12 +29,7 @@ module _ {R : Type 0} (S : Sys R) (A : Sharing S) (laws : IsSys S) (u : units.Un
   -- A message of a move
   pub sw_same : (t : units.Unit → ℕ) (p : ℕ) (m : Msg R) → NothingOf S u p m → sw_target S t m u ≡ t u
   sw_same t p (Mv g (M_install n from to)) h = let off = h.1 in rw off refl
-  sw_same t p (Mv g m) h = refl
-  sw_same t p (In_packet q) h = refl
-  sw_same t p (Asked x) h = refl
-  sw_same t p (Carry_on q) h = refl
-  sw_same t p (Pass_on q) h = refl
-  sw_same t p (Fence_on n) h = refl
+  sw_same t p m h = refl
 
   -- a unit that a share takes is at rest, so no move changes its target
   homes_after : (ops : List (Open R)) (t v : units.Unit → ℕ) (es : List OpenShare) → (Each (λ o. S.takes o.filter u ≡ false) ops → v u ≡ t u)
@@ -64,26 +56,12 @@ module _ {R : Type 0} (S : Sys R) (A : Sharing S) (laws : IsSys S) (u : units.Un
     | false ↦ λ _. refl
   ] refl
   share_same w h (Shared_on n home p) of = refl
-  share_same w h (Diverted_on p) of = refl
-  share_same w h (S_asked x) of = refl
-  share_same w h (S_forward n home p to) of = refl
-  share_same w h (S_get n f) of = refl
-  share_same w h (S_sync n home cs) of = refl
-  share_same w h (S_chunks n cs) of = refl
-  share_same w h (S_shared n x) of = refl
-  share_same w h (S_synced n) of = refl
+  share_same w h m of = refl
 
   sends_none : (es : List OpenShare) (m : ShareMsg R) → NoShare S u es m → EachSentNew (λ _ m. NoShare S u es m) (share_sends S A m)
   sends_none es (S_install n g from) h = (tt, tt)
   sends_none es (S_forward n home p to) h = (h, tt)
-  sends_none es (Shared_on n home p) h = tt
-  sends_none es (Diverted_on p) h = tt
-  sends_none es (S_asked x) h = tt
-  sends_none es (S_get n f) h = tt
-  sends_none es (S_sync n home cs) h = tt
-  sends_none es (S_chunks n cs) h = tt
-  sends_none es (S_shared n x) h = tt
-  sends_none es (S_synced n) h = tt
+  sends_none es m h = tt
 
   not_move : (w : WholeWorld S A) → GlobalAll S A w → (n : ℕ) (e : OpenShare) → find_share w.shares n ≡ Some e → find_op w.ops n ≡ None
   not_move w g n e there = by_kind (g.one_kind n)
@@ -120,15 +98,7 @@ module _ {R : Type 0} (S : Sys R) (A : Sharing S) (laws : IsSys S) (u : units.Un
     where
       fences : World S
       fences = record (moves_of S A w) { link = λ i j. olds (w.link i j) ++ (if i == 0 then sent_for j ((from, Fence_on n) ∷ []) else []) }
-  switch_new w ps c g h p (Shared_on n home q) rest waits of is = quiet w ps c h p (Shared_on n home q) rest waits of refl is
-  switch_new w ps c g h p (Diverted_on q) rest waits of is = quiet w ps c h p (Diverted_on q) rest waits of refl is
-  switch_new w ps c g h p (S_asked x) rest waits of is = quiet w ps c h p (S_asked x) rest waits of refl is
-  switch_new w ps c g h p (S_forward n home q to) rest waits of is = quiet w ps c h p (S_forward n home q to) rest waits of refl is
-  switch_new w ps c g h p (S_get n f) rest waits of is = quiet w ps c h p (S_get n f) rest waits of refl is
-  switch_new w ps c g h p (S_sync n home cs) rest waits of is = quiet w ps c h p (S_sync n home cs) rest waits of refl is
-  switch_new w ps c g h p (S_chunks n cs) rest waits of is = quiet w ps c h p (S_chunks n cs) rest waits of refl is
-  switch_new w ps c g h p (S_shared n x) rest waits of is = quiet w ps c h p (S_shared n x) rest waits of refl is
-  switch_new w ps c g h p (S_synced n) rest waits of is = quiet w ps c h p (S_synced n) rest waits of refl is
+  switch_new w ps c g h p m rest waits of is = quiet w ps c h p m rest waits of refl is
 
   -- The steps. No message of a share hands a unit on
   abbrev pub HandsAny : WholeWorld S A → Any R → Bool → Type 0

@@ -4,103 +4,36 @@ use Rattle.std.proofs.Common.{◌∷◌, ◌++◌, length, refl, sym, ap, subst,
 use Rattle.std.proofs.lemmas.Bool.Decides.{nat_tests}
 use Rattle.proof_machines.proofs.share.Share.{Ran, Item, Item.Get, Item.Sync, Item.Fenced, Item.Chunks, UnitShare, View, Phase, Phase.Setting, put}
 use Rattle.proof_machines.proofs.share.Share.{put_ctrl, waits, serve, answers, sync_to, ShareMachineStep, ShareMachineStep.Arrive, ShareMachineStep.Take_sc}
-use Rattle.proof_machines.proofs.share.Share.{ShareMachineStep.Take_to, ShareMachineStep.Take_back, has, without_number, after, moved, from_to, from_back}
+use Rattle.proof_machines.proofs.share.Share.{ShareMachineStep.Take_to, ShareMachineStep.Take_back, has, without_number, after, over, moved, from_to, from_back}
 use Rattle.proof_machines.proofs.share.Stages.{Turn.Going, Turn.Quiet, is_going, goes_to, comes_from, Stage, Stage.Fenced_comes}
-use Rattle.proof_machines.proofs.share.Stages.{Stage.Get_goes, Stage.Chunks_come, Stage.Spreads, front, shape, IsFront, IsShare, brings, Leads}
+use Rattle.proof_machines.proofs.share.Stages.{Stage.Get_goes, Stage.Chunks_come, Stage.Spreads, shape, IsFront, IsShare, FitsSpread, Behind, brings, Leads}
 use Rattle.proof_machines.proofs.share.Lists.{self, over_front, has-without, distinct-without, length-without}
 use Rattle.proof_machines.proofs.share.Lists.{counts_turns, turns_sent, turn_of, in_without, turn_self}
-use Rattle.proof_machines.proofs.share.Setting.{links, orders, at_only, front_same, front_more, same_but_sc, same_view, stays, seen_more}
+use Rattle.proof_machines.proofs.share.Setting.{links, orders, at_only, front_same, front_more, alike_in, same_view, same_but_sc, same_but_to}
+use Rattle.proof_machines.proofs.share.Setting.{leads, leads_same, stays, seen_more}
 
 module _ {R : Type 0} (f : UnitShare R) where
   pub fenced_comes : (d : List Ran) (b : ℕ → List Ran) (q v : List ℕ) → ((k : ℕ) → IsFront (b k) d) → (m : ShareMachineStep)
       → Leads f (Fenced_comes d b q v) (moved f (shape f (Fenced_comes d b q v)) m) (brings f m)
-  fenced_comes d b q v h (Arrive p) = record {
-    next = Fenced_comes d b q (v ++ p ∷ []);
-    fits = h;
-    alike = same_but_sc f _ _ (simp links);
-    early_is = simp orders;
-    late_is = simp orders;
-    longer = λ k _. front_same (front f (Fenced_comes d b q v) k);
-  }
-  fenced_comes d b q (p ∷ v) h Take_sc = record {
-    next = Fenced_comes d b (q ++ p ∷ []) v;
-    fits = h;
-    alike = same_view f _;
-    early_is = simp orders;
-    late_is = simp orders;
-    longer = λ k _. front_same (front f (Fenced_comes d b q v) k);
-  }
+  fenced_comes d b q v h (Arrive p) =
+      leads_same f (Fenced_comes d b q (v ++ p ∷ [])) h (same_but_sc f _ _ (simp links)) (simp orders) (simp orders) (λ k. refl)
+  fenced_comes d b q (p ∷ v) h Take_sc = leads_same f (Fenced_comes d b (q ++ p ∷ []) v) h (same_view f _) (simp orders) (simp orders) (λ k. refl)
   fenced_comes d b q v h (Take_back j) =
-      at_only (λ n ys. Leads f (Fenced_comes d b q v) (from_back f (shape f (Fenced_comes d b q v)) n ys) []) f.home j (Fenced ∷ []) (record {
-        next = Get_goes d b q v;
-        fits = h;
-        alike = record {
-          sw = λ k. refl;
-          sc = refl;
-          cs = refl;
-          to = λ k. refl;
-          back = λ k. simp links;
-          own = λ k _. refl;
-          phase = refl;
-          queue = refl;
-          diverts = refl;
-          done = refl;
-        };
-        early_is = simp orders;
-        late_is = simp orders;
-        longer = λ k _. front_same (front f (Fenced_comes d b q v) k);
-      }) (stays f (Fenced_comes d b q v) h)
+      at_only (λ n ys. Leads f (Fenced_comes d b q v) (from_back f (shape f (Fenced_comes d b q v)) n ys) []) f.home j (Fenced ∷ [])
+      (leads_same f (Get_goes d b q v) h (alike_in f (λ k. refl) (λ k. refl) (λ k. simp links) (λ k _. refl) refl) (simp orders) (simp orders) (λ k. refl))
+      (stays f (Fenced_comes d b q v) h)
   fenced_comes d b q [] h Take_sc = stays f (Fenced_comes d b q []) h
   fenced_comes d b q v h m = stays f (Fenced_comes d b q v) h
 
   pub get_goes : (d : List Ran) (b : ℕ → List Ran) (q v : List ℕ) → ((k : ℕ) → IsFront (b k) d) → (m : ShareMachineStep)
       → Leads f (Get_goes d b q v) (moved f (shape f (Get_goes d b q v)) m) (brings f m)
-  get_goes d b q v h (Arrive p) = record {
-    next = Get_goes d b q (v ++ p ∷ []);
-    fits = h;
-    alike = same_but_sc f _ _ (simp links);
-    early_is = simp orders;
-    late_is = simp orders;
-    longer = λ k _. front_same (front f (Get_goes d b q v) k);
-  }
-  get_goes d b q (p ∷ v) h Take_sc = record {
-    next = Get_goes d b (q ++ p ∷ []) v;
-    fits = h;
-    alike = record {
-      sw = λ k. refl;
-      sc = refl;
-      cs = refl;
-      to = λ k. simp links;
-      back = λ k. refl;
-      own = λ k _. refl;
-      phase = refl;
-      queue = refl;
-      diverts = refl;
-      done = refl;
-    };
-    early_is = simp orders;
-    late_is = simp orders;
-    longer = λ k _. front_same (front f (Get_goes d b q v) k);
-  }
-  get_goes d b q v h (Take_to j) = at_only (λ n ys. Leads f (Get_goes d b q v) (from_to f (shape f (Get_goes d b q v)) n ys) []) f.home j (Get ∷ []) (record {
-    next = Chunks_come d b q v;
-    fits = h;
-    alike = record {
-      sw = λ k. refl;
-      sc = refl;
-      cs = refl;
-      to = λ k. simp links;
-      back = λ k. rw (self f.home) refl;
-      own = λ k _. rw (self f.home) (seen_more f (k == f.home) d d (b k) (after f d) refl);
-      phase = refl;
-      queue = refl;
-      diverts = refl;
-      done = append-nil d;
-    };
-    early_is = simp orders;
-    late_is = simp orders;
-    longer = λ k _. front_same (front f (Get_goes d b q v) k);
-  }) (stays f (Get_goes d b q v) h)
+  get_goes d b q v h (Arrive p) =
+      leads_same f (Get_goes d b q (v ++ p ∷ [])) h (same_but_sc f _ _ (simp links)) (simp orders) (simp orders) (λ k. refl)
+  get_goes d b q (p ∷ v) h Take_sc = leads_same f (Get_goes d b (q ++ p ∷ []) v) h (same_but_to f _ _ (λ k. simp links)) (simp orders) (simp orders) (λ k. refl)
+  get_goes d b q v h (Take_to j) = at_only (λ n ys. Leads f (Get_goes d b q v) (from_to f (shape f (Get_goes d b q v)) n ys) []) f.home j (Get ∷ [])
+      (leads_same f (Chunks_come d b q v) h (alike_in f (λ k. refl) (λ k. simp links) (λ k. rw (self f.home) refl)
+      (λ k _. rw (self f.home) (seen_more f (k == f.home) d d (b k) (after f d) refl)) (append-nil d)) (simp orders) (simp orders) (λ k. refl))
+      (stays f (Get_goes d b q v) h)
   get_goes d b q [] h Take_sc = stays f (Get_goes d b q []) h
   get_goes d b q v h m = stays f (Get_goes d b q v) h
 
@@ -127,6 +60,22 @@ module _ {R : Type 0} (f : UnitShare R) where
       let others = length-without f.members j is.apart in
       grind (arith, nat_tests)
 
+  -- a Sync has just gone to all members but this one
+  pub just_sent : IsShare f → (m : ℕ) {n : List Ran} {b : ℕ → List Ran} {c : Option R}
+      → ((k : ℕ) → has f.members k ≡ true → over c (after f (b k)) ≡ after f n) → ((k : ℕ) → IsFront (b k) n)
+      → (is_going (turn_of (without_number f.members m) f.home) ≡ true → Behind f (b f.home) n (turn_of (without_number f.members m)))
+      → let o = without_number f.members m in FitsSpread f n (record { seen = b; chunk = c; turn = turn_of o; asked = o; left = length o })
+  just_sent is m gives fronts lately = let o = without_number f.members m in record {
+    gives = gives;
+    fronts = fronts;
+    counts = counts_turns o;
+    some = some_left is m;
+    sent = turns_sent o;
+    lately = lately;
+    inside = λ k e. in_without f.members m k e;
+    apart = distinct-without f.members m is.apart;
+  }
+
   -- the controller waits for one answer at least
   pub at_least_one : (s : Stage R) (x : View R) (phase : ℕ → Phase) (left : ℕ) (q : List ℕ) (to : ℕ → List (Item R)) → (left == 0) ≡ false
       → Leads f s (put_ctrl x (record (waits (phase left) q) { to = to })) [] → Leads f s (put_ctrl x (record (answers f phase left q) { to = to })) []
@@ -137,54 +86,19 @@ module _ {R : Type 0} (f : UnitShare R) where
   chunks_arrive is d b q v h =
       let o = without_number f.members f.home in
       at_least_one (Chunks_come d b q v) (record (shape f (Chunks_come d b q v)) { back = put (shape f (Chunks_come d b q v)).back f.home [] }) Setting
-      (length o) q (sync_to o (after f d)) (some_left is f.home) (record {
-        next = Spreads true d [] b (after f d) (turn_of o) o (length o) q v;
-        fits = record {
-          gives = λ k _. rw (append-nil d) (over_front f.F (b k) d (h k));
-          fronts = λ k. front_more (b k) d [] (h k);
-          counts = counts_turns o;
-          some = some_left is f.home;
-          sent = turns_sent o;
-          lately = λ g.
-              let off : is_going (turn_of o f.home) ≡ false = ap is_going (turn_self f.members f.home) in let never : true ≡ false = sym g ∙ off in cc;
-          inside = λ k e. in_without f.members f.home k e;
-          apart = distinct-without f.members f.home is.apart;
-        };
-        alike = record {
-          sw = λ k. refl;
-          sc = refl;
-          cs = refl;
-          to = λ k. sync_goes (has o k) (after f d);
-          back = λ k. simp links (none_comes (has o k));
-          own = λ k m. rw (append-nil d, turns f.members f.home k d (b k) m) refl;
-          phase = refl;
-          queue = refl;
-          diverts = refl;
-          done = sym (append-nil d);
-        };
-        early_is = simp orders;
-        late_is = simp orders;
-        longer = λ k m. rw (append-nil d, turns f.members f.home k d (b k) m) (front_same (cond (k == f.home) d (b k)));
-      })
+      (length o) q (sync_to o (after f d)) (some_left is f.home)
+      (leads f (Spreads true d [] b (after f d) (turn_of o) o (length o) q v)
+      (just_sent is f.home (λ k _. rw (append-nil d) (over_front f.F (b k) d (h k))) (λ k. front_more (b k) d [] (h k))
+      (λ g. let never : true ≡ false = sym g ∙ ap is_going (turn_self f.members f.home) in cc))
+      (alike_in f (λ k. refl) (λ k. sync_goes (has o k) (after f d)) (λ k. simp links (none_comes (has o k)))
+      (λ k m. rw (append-nil d, turns f.members f.home k d (b k) m) refl) (sym (append-nil d))) (simp orders) (simp orders)
+      (λ k m. rw (append-nil d, turns f.members f.home k d (b k) m) (front_same (cond (k == f.home) d (b k)))))
 
   pub chunks_come : IsShare f → (d : List Ran) (b : ℕ → List Ran) (q v : List ℕ) → ((k : ℕ) → IsFront (b k) d) → (m : ShareMachineStep)
       → Leads f (Chunks_come d b q v) (moved f (shape f (Chunks_come d b q v)) m) (brings f m)
-  chunks_come is d b q v h (Arrive p) = record {
-    next = Chunks_come d b q (v ++ p ∷ []);
-    fits = h;
-    alike = same_but_sc f _ _ (simp links);
-    early_is = simp orders;
-    late_is = simp orders;
-    longer = λ k _. front_same (front f (Chunks_come d b q v) k);
-  }
-  chunks_come is d b q (p ∷ v) h Take_sc = record {
-    next = Chunks_come d b (q ++ p ∷ []) v;
-    fits = h;
-    alike = same_view f _;
-    early_is = simp orders;
-    late_is = simp orders;
-    longer = λ k _. front_same (front f (Chunks_come d b q v) k);
-  }
+  chunks_come is d b q v h (Arrive p) =
+      leads_same f (Chunks_come d b q (v ++ p ∷ [])) h (same_but_sc f _ _ (simp links)) (simp orders) (simp orders) (λ k. refl)
+  chunks_come is d b q (p ∷ v) h Take_sc = leads_same f (Chunks_come d b (q ++ p ∷ []) v) h (same_view f _) (simp orders) (simp orders) (λ k. refl)
   chunks_come is d b q v h (Take_back j) = at_only (λ n ys. Leads f (Chunks_come d b q v) (from_back f (shape f (Chunks_come d b q v)) n ys) []) f.home j
       (Chunks (after f d) ∷ []) (chunks_arrive is d b q v h) (stays f (Chunks_come d b q v) h)
   chunks_come is d b q [] h Take_sc = stays f (Chunks_come d b q []) h

@@ -4,8 +4,8 @@ use Rattle.std.proofs.Common.{◌≡◌, ℕ, true, false, cond, ◌==◌, Optio
 use Rattle.std.proofs.lemmas.Bool.Decides.{Decides-eqb}
 use Rattle.proof_machines.proofs.share.Share.{Ran, Item, Item.Carry, Item.Fence, Item.Shared, Item.Get, Item.Sync, UnitShare, View, has, only, over, after}
 use Rattle.proof_machines.proofs.share.Stages.{Turn, Turn.Going, Turn.Coming, Turn.Quiet, is_going, is_pending, goes_to, Stage, Stage.Diverting}
-use Rattle.proof_machines.proofs.share.Stages.{Stage.Fence_goes, Stage.Fenced_comes, Stage.Get_goes, Stage.Chunks_come, Stage.Spreads, Stage.Resting}
-use Rattle.proof_machines.proofs.share.Stages.{Stage.Forwards, Stage.Carries, Stage.Chunk_comes, front, processed, shape, IsFront, IsShare, FitsStage}
+use Rattle.proof_machines.proofs.share.Stages.{Stage.Fence_goes, Stage.Fenced_comes, Stage.Get_goes, Stage.Chunks_come, Stage.Spreads}
+use Rattle.proof_machines.proofs.share.Stages.{Stage.Carries, front, processed, shape, IsFront, IsShare, FitsStage}
 use Rattle.proof_machines.proofs.share.Lists.{self}
 
 -- a link that only one node has leads to that node
@@ -45,10 +45,8 @@ module _ {R : Type 0} (f : UnitShare R) where
       | false ↦ λ p. quiet_to c (at k) p
     ] refl;
   }
-  to_members is (Resting d e v) h = record { sw = λ k _. refl; to = λ k _. refl }
-  to_members is (Forwards d e p q v) h = record { sw = λ k _. refl; to = λ k _. refl }
   to_members is (Carries d e p q v) h = record { sw = λ k out. none_outside (f.member_of p) k (Shared p ∷ []) f.members (is.member_in p) out; to = λ k _. refl }
-  to_members is (Chunk_comes d e p q v) h = record { sw = λ k _. refl; to = λ k _. refl }
+  to_members is s h = record { sw = λ k _. refl; to = λ k _. refl }
 
   -- the record at a node has all that was done
   abbrev HasAll : Stage R → ℕ → Type 0
@@ -82,16 +80,10 @@ module _ {R : Type 0} (f : UnitShare R) where
       let a = at_head f.home j (map Carry l) it rest e in first_plain (Diverting d b l) j l it rest a.1 (a.0, home_has d (b j) j a.0)
   meets_sw (Fence_goes d b l q v) j it rest e =
       let a = at_head f.home j (map Carry l ++ Fence ∷ []) it rest e in first_fence (Fence_goes d b l q v) j l it rest a.1 (a.0, home_has d (b j) j a.0)
-  meets_sw (Fenced_comes d b q v) j it rest e = no_head (Fenced_comes d b q v) j it rest e
-  meets_sw (Get_goes d b q v) j it rest e = no_head (Get_goes d b q v) j it rest e
-  meets_sw (Chunks_come d b q v) j it rest e = no_head (Chunks_come d b q v) j it rest e
-  meets_sw (Spreads first d e₁ b c at o left q v) j it rest e = no_head (Spreads first d e₁ b c at o left q v) j it rest e
-  meets_sw (Resting d e₁ v) j it rest e = no_head (Resting d e₁ v) j it rest e
-  meets_sw (Forwards d e₁ p q v) j it rest e = no_head (Forwards d e₁ p q v) j it rest e
   meets_sw (Carries d e₁ p q v) j it rest e =
       let a = at_head (f.member_of p) j (Shared p ∷ []) it rest e in
       let list = a.1 in let same : Shared p ≡ it = cc in subst (Meets (Carries d e₁ p q v) j) same (a.0, refl)
-  meets_sw (Chunk_comes d e₁ p q v) j it rest e = no_head (Chunk_comes d e₁ p q v) j it rest e
+  meets_sw s j it rest e = no_head s j it rest e
 
   sync_meets : (s : Stage R) (j : ℕ) (c : Option R) (t : Turn) (it : Item R) (rest : List (Item R)) → goes_to c t ≡ it ∷ rest
       → (is_going t ≡ true → Meets s j (Sync c)) → Meets s j it
@@ -101,15 +93,8 @@ module _ {R : Type 0} (f : UnitShare R) where
 
   pub meets_to : (s : Stage R) → FitsStage f s → (j : ℕ) → has f.members j ≡ true → (it : Item R) (rest : List (Item R)) → (shape f s).to j ≡ it ∷ rest
       → Meets s j it
-  meets_to (Diverting d b l) h j m it rest e = no_head (Diverting d b l) j it rest e
-  meets_to (Fence_goes d b l q v) h j m it rest e = no_head (Fence_goes d b l q v) j it rest e
-  meets_to (Fenced_comes d b q v) h j m it rest e = no_head (Fenced_comes d b q v) j it rest e
   meets_to (Get_goes d b q v) h j m it rest e =
       let a = at_head f.home j (Get ∷ []) it rest e in let list = a.1 in let same : Get ≡ it = cc in subst (Meets (Get_goes d b q v) j) same tt
-  meets_to (Chunks_come d b q v) h j m it rest e = no_head (Chunks_come d b q v) j it rest e
   meets_to (Spreads first d e₁ b c at o left q v) h j m it rest e =
       sync_meets (Spreads first d e₁ b c at o left q v) j c (at j) it rest e (λ g. rw g (h.fronts j, h.gives j m))
-  meets_to (Resting d e₁ v) h j m it rest e = no_head (Resting d e₁ v) j it rest e
-  meets_to (Forwards d e₁ p q v) h j m it rest e = no_head (Forwards d e₁ p q v) j it rest e
-  meets_to (Carries d e₁ p q v) h j m it rest e = no_head (Carries d e₁ p q v) j it rest e
-  meets_to (Chunk_comes d e₁ p q v) h j m it rest e = no_head (Chunk_comes d e₁ p q v) j it rest e
+  meets_to s h j m it rest e = no_head s j it rest e

@@ -4,9 +4,7 @@ use Rattle.std.proofs.Common.{◌≡◌, ℕ, Bool, true, false, cond, ◌==◌,
 use Rattle.std.proofs.lemmas.Bool.Decides.{nat_tests, Decides-eqb}
 use Rattle.proof_machines.proofs.share.Share.{Item, Item.Carry, Item.Fence, Item.Shared, Item.Diverted}
 use Rattle.proof_machines.proofs.share.Share.{Item.Forward, UnitShare, View, has, if_mine, mine_in, only, nowhere}
-use Rattle.proof_machines.proofs.share.Stages.{Stage, Stage.Diverting, Stage.Fence_goes, Stage.Fenced_comes, Stage.Get_goes}
-use Rattle.proof_machines.proofs.share.Stages.{Stage.Chunks_come, Stage.Spreads, Stage.Resting, Stage.Forwards}
-use Rattle.proof_machines.proofs.share.Stages.{Stage.Carries, Stage.Chunk_comes, shape, path, distinct, IsShare}
+use Rattle.proof_machines.proofs.share.Stages.{Stage, Stage.Diverting, Stage.Fence_goes, Stage.Carries, shape, path, distinct, IsShare}
 use Rattle.proof_machines.proofs.share.Lists.{self, apart_of}
 
 -- what stands at these nodes, one node after the other
@@ -103,11 +101,5 @@ ruleset reads = (carries-append, all_carries, no_shared, no_shared_fence, all_di
 pub path_is : {R : Type 0} (f : UnitShare R) → IsShare f → (s : Stage R) → path_of f (shape f s) ≡ path f s
 path_is f is (Diverting d b l) = rw (gather_only f.members f.home (map carry l) is.apart is.home_in, self f.home) (simp reads)
 path_is f is (Fence_goes d b l q v) = rw (gather_only f.members f.home (map carry l ++ Fence ∷ []) is.apart is.home_in, self f.home) (simp reads)
-path_is f is (Fenced_comes d b q v) = simp reads
-path_is f is (Get_goes d b q v) = simp reads
-path_is f is (Chunks_come d b q v) = simp reads
-path_is f is (Spreads first d e b c at o left q v) = simp reads
-path_is f is (Resting d e v) = simp reads
-path_is f is (Forwards d e p q v) = simp reads
 path_is f is (Carries d e p q v) = rw (gather_only f.members (f.member_of p) (shared p ∷ []) is.apart (is.member_in p)) (simp reads)
-path_is f is (Chunk_comes d e p q v) = simp reads
+path_is f is s = simp reads

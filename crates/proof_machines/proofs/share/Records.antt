@@ -21,27 +21,11 @@ either false old new h = h
 module _ {R : Type 0} (f : UnitShare R) where
   pub own_is : (s : Stage R) (k : ℕ) → (shape f s).own k ≡ after f (front f s k)
   own_is (Diverting d b l) k = refl
-  own_is (Fence_goes d b l q v) k = refl
-  own_is (Fenced_comes d b q v) k = refl
-  own_is (Get_goes d b q v) k = refl
-  own_is (Chunks_come d b q v) k = refl
-  own_is (Spreads first d e b c at o left q v) k = refl
-  own_is (Resting d e v) k = refl
-  own_is (Forwards d e p q v) k = refl
-  own_is (Carries d e p q v) k = refl
-  own_is (Chunk_comes d e p q v) k = refl
+  own_is s k = refl
 
   pub done_is : (s : Stage R) → (shape f s).done ≡ processed f s
   done_is (Diverting d b l) = refl
-  done_is (Fence_goes d b l q v) = refl
-  done_is (Fenced_comes d b q v) = refl
-  done_is (Get_goes d b q v) = refl
-  done_is (Chunks_come d b q v) = refl
-  done_is (Spreads first d e b c at o left q v) = refl
-  done_is (Resting d e v) = refl
-  done_is (Forwards d e p q v) = refl
-  done_is (Carries d e p q v) = refl
-  done_is (Chunk_comes d e p q v) = refl
+  done_is s = refl
 
   -- the processed packets, with one that is the unit's or isn't
   abbrev with_one : List Ran → List ℕ → ℕ → Bool → List Ran
@@ -65,11 +49,6 @@ module _ {R : Type 0} (f : UnitShare R) where
   still_behind n b at (inr a) = inr (a.0, (a.1.0, rw (not_pending (at (f.member_of a.0)) a.1.1) refl))
 
   pub is_live : (s : Stage R) → FitsStage f s → Live f s
-  is_live (Diverting d b l) h = inl (rw (self f.home) refl)
-  is_live (Fence_goes d b l q v) h = inl (rw (self f.home) refl)
-  is_live (Fenced_comes d b q v) h = inl (rw (self f.home) refl)
-  is_live (Get_goes d b q v) h = inl (rw (self f.home) refl)
-  is_live (Chunks_come d b q v) h = inl (rw (self f.home) refl)
   is_live (Spreads first d e b c at o left q v) h =
       elim (is_going (at f.home)) as (λ t. is_going (at f.home) ≡ t
       → Lacks f (cond t (b f.home) (d ++ served f e)) (d ++ served f e) (λ k. cond (is_going (at k)) (b k) (d ++ served f e))) [
@@ -80,6 +59,7 @@ module _ {R : Type 0} (f : UnitShare R) where
   is_live (Forwards d e p q v) h = inl refl
   is_live (Carries d e p q v) h = inl refl
   is_live (Chunk_comes d e p q v) h = took d e p (f.mine p)
+  is_live s h = inl (rw (self f.home) refl)
 
   -- each member's record has seen a front of what was processed
   pub seen_front : (s : Stage R) → FitsStage f s → (k : ℕ) → IsFront (front f s k) (processed f s)

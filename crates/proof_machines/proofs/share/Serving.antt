@@ -1,62 +1,27 @@
 -- Each move from each stage in which a share serves a packet, up to the Sync that it gives.
 use Rattle.std.proofs.Common.{◌≡◌, ℕ, Bool, true, false, cond, ◌==◌, None, List, [], ◌∷◌, ◌++◌, length, inl, inr, refl, sym, ap, append_assoc, append-nil}
-use Rattle.proof_machines.proofs.share.Share.{Ran, Item.Shared, Item.Chunk, UnitShare, Phase.Syncing, put, sync_to, ShareMachineStep}
-use Rattle.proof_machines.proofs.share.Share.{ShareMachineStep.Arrive, ShareMachineStep.Take_cs, ShareMachineStep.Take_sc}
-use Rattle.proof_machines.proofs.share.Share.{ShareMachineStep.Take_sw, ShareMachineStep.Take_back, has, without_number, if_mine}
-use Rattle.proof_machines.proofs.share.Share.{at_node, runs, after, chunk_of, over, moved, from_sw, from_back}
+use Rattle.proof_machines.proofs.share.Share.{Ran, Item.Shared, Item.Chunk, UnitShare, Phase.Syncing, put, sync_to, ShareMachineStep, ShareMachineStep.Arrive}
+use Rattle.proof_machines.proofs.share.Share.{ShareMachineStep.Take_cs, ShareMachineStep.Take_sc, ShareMachineStep.Take_sw, ShareMachineStep.Take_back, has}
+use Rattle.proof_machines.proofs.share.Share.{without_number, if_mine, at_node, runs, after, chunk_of, over, moved, from_sw, from_back}
 use Rattle.proof_machines.proofs.share.Stages.{Turn, is_pending, Stage.Spreads, Stage.Resting, Stage.Forwards, Stage.Carries}
-use Rattle.proof_machines.proofs.share.Stages.{Stage.Chunk_comes, front, shape, served, IsFront, IsShare, Behind, brings, Leads}
-use Rattle.proof_machines.proofs.share.Lists.{runs-append, served-append, distinct-without, counts_turns, turns_sent, turn_of, in_without, turn_self, served_at}
-use Rattle.proof_machines.proofs.share.Setting.{links, orders, at_only, front_same, same_but_sc, same_view, stays}
-use Rattle.proof_machines.proofs.share.FencedSetting.{sync_goes, none_comes, turns, some_left, at_least_one}
+use Rattle.proof_machines.proofs.share.Stages.{Stage.Chunk_comes, shape, served, IsFront, IsShare, Behind, brings, Leads}
+use Rattle.proof_machines.proofs.share.Lists.{runs-append, served-append, turn_of, turn_self, served_at}
+use Rattle.proof_machines.proofs.share.Setting.{links, orders, at_only, front_same, alike_in, same_but_sc, same_view, leads, leads_same, stays}
+use Rattle.proof_machines.proofs.share.FencedSetting.{sync_goes, none_comes, turns, some_left, just_sent, at_least_one}
 
 module _ {R : Type 0} (f : UnitShare R) where
   pub resting : (d : List Ran) (e v : List ℕ) → (m : ShareMachineStep) → Leads f (Resting d e v) (moved f (shape f (Resting d e v)) m) (brings f m)
-  resting d e v (Arrive p) = record {
-    next = Resting d e (v ++ p ∷ []);
-    fits = tt;
-    alike = same_but_sc f _ _ (simp links);
-    early_is = simp orders;
-    late_is = simp orders;
-    longer = λ k _. front_same (d ++ served f e);
-  }
-  resting d e (p ∷ v) Take_sc = record {
-    next = Forwards d e p [] v;
-    fits = tt;
-    alike = same_view f _;
-    early_is = simp orders;
-    late_is = simp orders;
-    longer = λ k _. front_same (d ++ served f e);
-  }
+  resting d e v (Arrive p) = leads_same f (Resting d e (v ++ p ∷ [])) tt (same_but_sc f _ _ (simp links)) (simp orders) (simp orders) (λ k. refl)
+  resting d e (p ∷ v) Take_sc = leads_same f (Forwards d e p [] v) tt (same_view f _) (simp orders) (simp orders) (λ k. refl)
   resting d e [] Take_sc = stays f (Resting d e []) tt
   resting d e v m = stays f (Resting d e v) tt
 
   pub forwards : (d : List Ran) (e : List ℕ) (p : ℕ) (q v : List ℕ) → (m : ShareMachineStep)
       → Leads f (Forwards d e p q v) (moved f (shape f (Forwards d e p q v)) m) (brings f m)
-  forwards d e p q v (Arrive r) = record {
-    next = Forwards d e p q (v ++ r ∷ []);
-    fits = tt;
-    alike = same_but_sc f _ _ (simp links);
-    early_is = simp orders;
-    late_is = simp orders;
-    longer = λ k _. front_same (d ++ served f e);
-  }
-  forwards d e p q (r ∷ v) Take_sc = record {
-    next = Forwards d e p (q ++ r ∷ []) v;
-    fits = tt;
-    alike = same_view f _;
-    early_is = simp orders;
-    late_is = simp orders;
-    longer = λ k _. front_same (d ++ served f e);
-  }
-  forwards d e p q v Take_cs = record {
-    next = Carries d e p q v;
-    fits = tt;
-    alike = same_view f _;
-    early_is = simp orders;
-    late_is = simp orders;
-    longer = λ k _. front_same (d ++ served f e);
-  }
+  forwards d e p q v (Arrive r) =
+      leads_same f (Forwards d e p q (v ++ r ∷ [])) tt (same_but_sc f _ _ (simp links)) (simp orders) (simp orders) (λ k. refl)
+  forwards d e p q (r ∷ v) Take_sc = leads_same f (Forwards d e p (q ++ r ∷ []) v) tt (same_view f _) (simp orders) (simp orders) (λ k. refl)
+  forwards d e p q v Take_cs = leads_same f (Carries d e p q v) tt (same_view f _) (simp orders) (simp orders) (λ k. refl)
   forwards d e p q [] Take_sc = stays f (Forwards d e p q []) tt
   forwards d e p q v m = stays f (Forwards d e p q v) tt
 
@@ -83,42 +48,15 @@ module _ {R : Type 0} (f : UnitShare R) where
 
   pub carries : (d : List Ran) (e : List ℕ) (p : ℕ) (q v : List ℕ) → (m : ShareMachineStep)
       → Leads f (Carries d e p q v) (moved f (shape f (Carries d e p q v)) m) (brings f m)
-  carries d e p q v (Arrive r) = record {
-    next = Carries d e p q (v ++ r ∷ []);
-    fits = tt;
-    alike = same_but_sc f _ _ (simp links);
-    early_is = simp orders;
-    late_is = simp orders;
-    longer = λ k _. front_same (d ++ served f e);
-  }
-  carries d e p q (r ∷ v) Take_sc = record {
-    next = Carries d e p (q ++ r ∷ []) v;
-    fits = tt;
-    alike = same_view f _;
-    early_is = simp orders;
-    late_is = simp orders;
-    longer = λ k _. front_same (d ++ served f e);
-  }
+  carries d e p q v (Arrive r) =
+      leads_same f (Carries d e p q (v ++ r ∷ [])) tt (same_but_sc f _ _ (simp links)) (simp orders) (simp orders) (λ k. refl)
+  carries d e p q (r ∷ v) Take_sc = leads_same f (Carries d e p (q ++ r ∷ []) v) tt (same_view f _) (simp orders) (simp orders) (λ k. refl)
   carries d e p q v (Take_sw j) =
-      at_only (λ n ys. Leads f (Carries d e p q v) (from_sw f (shape f (Carries d e p q v)) n ys) []) (f.member_of p) j (Shared p ∷ []) (record {
-        next = Chunk_comes d e p q v;
-        fits = tt;
-        alike = record {
-          sw = λ k. simp links;
-          sc = refl;
-          cs = refl;
-          to = λ k. refl;
-          back = λ k. rw (took d e p) refl;
-          own = λ k _. rw (took d e p) (cond-at (k == f.member_of p) (after f) (d ++ served f (e ++ if_mine f p)) (d ++ served f e));
-          phase = refl;
-          queue = refl;
-          diverts = refl;
-          done = took_done d e p;
-        };
-        early_is = simp orders;
-        late_is = simp orders;
-        longer = λ k _. longer_at (k == f.member_of p) (d ++ served f e) (d ++ served f (e ++ if_mine f p)) (took_more d e p);
-      }) (stays f (Carries d e p q v) tt)
+      at_only (λ n ys. Leads f (Carries d e p q v) (from_sw f (shape f (Carries d e p q v)) n ys) []) (f.member_of p) j (Shared p ∷ [])
+      (leads f (Chunk_comes d e p q v) tt (alike_in f (λ k. simp links) (λ k. refl) (λ k. rw (took d e p) refl)
+      (λ k _. rw (took d e p) (cond-at (k == f.member_of p) (after f) (d ++ served f (e ++ if_mine f p)) (d ++ served f e))) (took_done d e p))
+      (simp orders) (simp orders) (λ k _. longer_at (k == f.member_of p) (d ++ served f e) (d ++ served f (e ++ if_mine f p)) (took_more d e p)))
+      (stays f (Carries d e p q v) tt)
   carries d e p q [] Take_sc = stays f (Carries d e p q []) tt
   carries d e p q v m = stays f (Carries d e p q v) tt
 
@@ -145,54 +83,20 @@ module _ {R : Type 0} (f : UnitShare R) where
       let o = without_number f.members m in
       let c = chunk_of f p (after f (d ++ served f (e ++ if_mine f p))) in
       at_least_one f (Chunk_comes d e p q v) (record (shape f (Chunk_comes d e p q v)) { back = put (shape f (Chunk_comes d e p q v)).back m [] }) Syncing
-      (length o) q (sync_to o c) (some_left f is m) (record {
-        next = Spreads false d (e ++ if_mine f p) (λ k. d ++ served f e) c (turn_of o) o (length o) q v;
-        fits = record {
-          gives = λ k _. renews d e p;
-          fronts = λ k. took_more d e p;
-          counts = counts_turns o;
-          some = some_left f is m;
-          sent = turns_sent o;
-          lately = λ _. just_took d e p (turn_of o) (ap is_pending (turn_self f.members m));
-          inside = λ k e. in_without f.members m k e;
-          apart = distinct-without f.members m is.apart;
-        };
-        alike = record {
-          sw = λ k. refl;
-          sc = refl;
-          cs = refl;
-          to = λ k. sync_goes f (has o k) c;
-          back = λ k. simp links (none_comes f (has o k));
-          own = λ k h. rw (turns f f.members m k (d ++ served f (e ++ if_mine f p)) (d ++ served f e) h) refl;
-          phase = refl;
-          queue = refl;
-          diverts = refl;
-          done = refl;
-        };
-        early_is = simp orders;
-        late_is = simp orders;
-        longer = λ k h. rw (turns f f.members m k (d ++ served f (e ++ if_mine f p)) (d ++ served f e) h)
-            (front_same (cond (k == m) (d ++ served f (e ++ if_mine f p)) (d ++ served f e)));
-      })
+      (length o) q (sync_to o c) (some_left f is m)
+      (leads f (Spreads false d (e ++ if_mine f p) (λ k. d ++ served f e) c (turn_of o) o (length o) q v)
+      (just_sent f is m (λ k _. renews d e p) (λ k. took_more d e p)
+      (λ _. just_took d e p (turn_of o) (ap is_pending (turn_self f.members m))))
+      (alike_in f (λ k. refl) (λ k. sync_goes f (has o k) c) (λ k. simp links (none_comes f (has o k)))
+      (λ k h. rw (turns f f.members m k (d ++ served f (e ++ if_mine f p)) (d ++ served f e) h) refl) refl) (simp orders) (simp orders)
+      (λ k h. rw (turns f f.members m k (d ++ served f (e ++ if_mine f p)) (d ++ served f e) h)
+      (front_same (cond (k == m) (d ++ served f (e ++ if_mine f p)) (d ++ served f e)))))
 
   pub chunk_comes : IsShare f → (d : List Ran) (e : List ℕ) (p : ℕ) (q v : List ℕ) → (m : ShareMachineStep)
       → Leads f (Chunk_comes d e p q v) (moved f (shape f (Chunk_comes d e p q v)) m) (brings f m)
-  chunk_comes is d e p q v (Arrive r) = record {
-    next = Chunk_comes d e p q (v ++ r ∷ []);
-    fits = tt;
-    alike = same_but_sc f _ _ (simp links);
-    early_is = simp orders;
-    late_is = simp orders;
-    longer = λ k _. front_same (front f (Chunk_comes d e p q v) k);
-  }
-  chunk_comes is d e p q (r ∷ v) Take_sc = record {
-    next = Chunk_comes d e p (q ++ r ∷ []) v;
-    fits = tt;
-    alike = same_view f _;
-    early_is = simp orders;
-    late_is = simp orders;
-    longer = λ k _. front_same (front f (Chunk_comes d e p q v) k);
-  }
+  chunk_comes is d e p q v (Arrive r) =
+      leads_same f (Chunk_comes d e p q (v ++ r ∷ [])) tt (same_but_sc f _ _ (simp links)) (simp orders) (simp orders) (λ k. refl)
+  chunk_comes is d e p q (r ∷ v) Take_sc = leads_same f (Chunk_comes d e p (q ++ r ∷ []) v) tt (same_view f _) (simp orders) (simp orders) (λ k. refl)
   chunk_comes is d e p q v (Take_back j) =
       at_only (λ n ys. Leads f (Chunk_comes d e p q v) (from_back f (shape f (Chunk_comes d e p q v)) n ys) []) (f.member_of p) j
       (Chunk (chunk_of f p (after f (d ++ served f (e ++ if_mine f p)))) ∷ []) (chunk_arrives is d e p q v) (stays f (Chunk_comes d e p q v) tt)

@@ -1,35 +1,28 @@
 -- Each move while a Sync goes round among the members.
 use Rattle.std.proofs.Common.{◌≡◌, ℕ, ◌+◌, ◌-◌, Bool, true, false, cond, ◌==◌, Option, List, []}
-use Rattle.std.proofs.Common.{◌∷◌, ◌++◌, map, inl, inr, refl, sym, subst, ◌∙◌, append-nil, arith}
+use Rattle.std.proofs.Common.{◌∷◌, ◌++◌, map, inl, inr, refl, sym, ap, subst, ◌∙◌, append-nil, arith}
 use Rattle.std.proofs.lemmas.Bool.Decides.{nat_tests, Decides-eqb}
-use Rattle.proof_machines.proofs.share.Share.{Ran, Item, Item.Diverted, Item.Sync, Item.Synced, UnitShare, ShareMachineStep, ShareMachineStep.Arrive}
+use Rattle.proof_machines.proofs.share.Share.{Ran, Item, Item.Diverted, Item.Sync, Item.Synced, UnitShare, View, ShareMachineStep, ShareMachineStep.Arrive}
 use Rattle.proof_machines.proofs.share.Share.{ShareMachineStep.Take_sc, ShareMachineStep.Take_to, ShareMachineStep.Take_back, has, if_mine, after}
 use Rattle.proof_machines.proofs.share.Share.{over, put, moved, from_to, from_back, put_ctrl, waits, serve, Phase.Setting, Phase.Syncing}
-use Rattle.proof_machines.proofs.share.Stages.{Turn, Turn.Going, Turn.Coming, Turn.Quiet, is_going, is_pending, goes_to}
-use Rattle.proof_machines.proofs.share.Stages.{comes_from, count, Stage, Stage.Spreads, Stage.Resting, Stage.Forwards}
-use Rattle.proof_machines.proofs.share.Stages.{front, shape, served, IsFront, FitsSpread, Behind, brings, Leads}
+use Rattle.proof_machines.proofs.share.Stages.{Turn, Turn.Going, Turn.Coming, Turn.Quiet, is_going, is_pending, goes_to, comes_from, count, Stage}
+use Rattle.proof_machines.proofs.share.Stages.{Stage.Spreads, Stage.Resting, Stage.Forwards, shape, served, IsFront, FitsSpread, Behind, brings, Leads}
 use Rattle.proof_machines.proofs.share.Lists.{count-put, count-zero, pending-put}
-use Rattle.proof_machines.proofs.share.Setting.{links, orders, front_same, same_but_sc, stays}
+use Rattle.proof_machines.proofs.share.Setting.{links, orders, front_same, alike_in, same_but_sc, same_but_to, leads, leads_same, stays}
 use Rattle.proof_machines.proofs.share.Records.{not_pending}
 
 module _ {R : Type 0} (f : UnitShare R) where
-  module _ (first : Bool) (d : List Ran) (e : List ℕ) (b : ℕ → List Ran) (c : Option R) (at : ℕ → Turn) (o : List ℕ) (left : ℕ) (q v : List ℕ)
+  module _ (d : List Ran) (e : List ℕ) (b : ℕ → List Ran) (c : Option R) (at : ℕ → Turn) (o : List ℕ) (left : ℕ) (q v : List ℕ)
       (h : FitsSpread f (d ++ served f e) (record { seen = b; chunk = c; turn = at; asked = o; left = left })) where
     abbrev n : List Ran
     n = d ++ served f e
 
-    abbrev here : Stage R
-    here = Spreads first d e b c at o left q v
+    abbrev here : Bool → Stage R
+    here first = Spreads first d e b c at o left q v
 
-    arrive : (p : ℕ) → Leads f here (moved f (shape f here) (Arrive p)) (if_mine f p)
-    arrive p = record {
-      next = Spreads first d e b c at o left q (v ++ p ∷ []);
-      fits = h;
-      alike = same_but_sc f _ _ (simp links);
-      early_is = simp orders;
-      late_is = simp orders;
-      longer = λ k _. front_same (front f here k);
-    }
+    arrive : (first : Bool) (p : ℕ) → Leads f (here first) (moved f (shape f (here first)) (Arrive p)) (if_mine f p)
+    arrive first p =
+        leads_same f (Spreads first d e b c at o left q (v ++ p ∷ [])) h (same_but_sc f _ _ (simp links)) (simp orders) (simp orders) (λ k. refl)
 
     -- where home still has to take its Sync, it is as far behind as it was
     still_behind : (t : Turn) → is_going t ≡ false → (j : ℕ) → is_pending (at j) ≡ true → is_going (put at j t f.home) ≡ true
@@ -43,8 +36,8 @@ module _ {R : Type 0} (f : UnitShare R) where
         ]
 
     -- a Sync is taken
-    going : (j : ℕ) → at j ≡ Going → has o j ≡ true → Leads f here (from_to f (shape f here) j (Sync c ∷ [])) []
-    going j is there = record {
+    going : (first : Bool) (j : ℕ) → at j ≡ Going → has o j ≡ true → Leads f (here first) (from_to f (shape f (here first)) j (Sync c ∷ [])) []
+    going first j is there = record {
       next = Spreads first d e b c (put at j Coming) o left q v;
       fits = record {
         gives = h.gives;
@@ -58,25 +51,18 @@ module _ {R : Type 0} (f : UnitShare R) where
         inside = h.inside;
         apart = h.apart;
       };
-      alike = record {
-        sw = λ k. refl;
-        sc = refl;
-        cs = refl;
-        to = λ k. elim (k == j) as (λ t. cond t [] (goes_to c (at k)) ≡ goes_to c (cond t Coming (at k))) [ true ↦ refl | false ↦ refl ];
-        back = λ k. elim (k == j) as (λ t. (k == j) ≡ t → comes_from {R = R} (at k) ++ cond t (Synced ∷ []) [] ≡ comes_from (cond t Coming (at k))) [
-          | true ↦ λ s. let goes : at k ≡ Going = rw ((Decides-eqb k j).0 s) is in rw goes refl
-          | false ↦ λ _. append-nil (comes_from (at k))
-        ] refl;
-        own = λ k m. elim (k == j) as (λ t. (k == j) ≡ t → cond t (over c (after f (cond (is_going (at j)) (b j) n)))
-            (after f (cond (is_going (at k)) (b k) n)) ≡ after f (cond (is_going (cond t Coming (at k))) (b k) n)) [
-              | true ↦ λ s. rw is (h.gives j (subst (λ y. has f.members y ≡ true) ((Decides-eqb k j).0 s) m))
-              | false ↦ λ _. refl
-            ] refl;
-        phase = refl;
-        queue = refl;
-        diverts = refl;
-        done = append-nil n;
-      };
+      alike = alike_in f (λ k. refl)
+          (λ k. elim (k == j) as (λ t. cond t [] (goes_to c (at k)) ≡ goes_to c (cond t Coming (at k))) [ true ↦ refl | false ↦ refl ])
+          (λ k. elim (k == j) as (λ t. (k == j) ≡ t → comes_from {R = R} (at k) ++ cond t (Synced ∷ []) [] ≡ comes_from (cond t Coming (at k))) [
+            | true ↦ λ s. let goes : at k ≡ Going = rw ((Decides-eqb k j).0 s) is in rw goes refl
+            | false ↦ λ _. append-nil (comes_from (at k))
+          ] refl)
+          (λ k m. elim (k == j) as (λ t. (k == j) ≡ t → cond t (over c (after f (cond (is_going (at j)) (b j) n)))
+          (after f (cond (is_going (at k)) (b k) n)) ≡ after f (cond (is_going (cond t Coming (at k))) (b k) n)) [
+            | true ↦ λ s. rw is (h.gives j (subst (λ y. has f.members y ≡ true) ((Decides-eqb k j).0 s) m))
+            | false ↦ λ _. refl
+          ] refl)
+          (append-nil n);
       early_is = simp orders;
       late_is = simp orders;
       longer = λ k _. elim (k == j) as (λ t. IsFront (cond (is_going (at k)) (b k) n) (cond (is_going (cond t Coming (at k))) (b k) n)) [
@@ -126,176 +112,102 @@ module _ {R : Type 0} (f : UnitShare R) where
     quiet_back Coming e = cc
     quiet_back Quiet e = refl
 
-    gone_to : (j : ℕ) → at j ≡ Coming → ((k : ℕ) → is_pending (put at j Quiet k) ≡ false) → (k : ℕ) → goes_to c (at k) ≡ []
-    gone_to j is off k = elim (k == j) as (λ t. (k == j) ≡ t → is_pending (cond t Quiet (at k)) ≡ false → goes_to c (at k) ≡ []) [
-      | true ↦ λ s _. let comes : at k ≡ Coming = rw ((Decides-eqb k j).0 s) is in rw comes refl
-      | false ↦ λ _ p. quiet_to (at k) p
-    ] refl (off k)
-
     gone_back : (j : ℕ) → ((k : ℕ) → is_pending (put at j Quiet k) ≡ false) → (k : ℕ) → cond (k == j) [] (comes_from {R = R} (at k)) ≡ []
     gone_back j off k = elim (k == j) as (λ t. is_pending (cond t Quiet (at k)) ≡ false → cond t [] (comes_from {R = R} (at k)) ≡ []) [
       | true ↦ λ _. refl
       | false ↦ λ p. quiet_back (at k) p
     ] (off k)
 
-    not_going : (j : ℕ) → at j ≡ Coming → ((k : ℕ) → is_pending (put at j Quiet k) ≡ false) → (k : ℕ) → is_going (at k) ≡ false
-    not_going j is off k = elim (k == j) as (λ t. (k == j) ≡ t → is_pending (cond t Quiet (at k)) ≡ false → is_going (at k) ≡ false) [
-      | true ↦ λ s _. let comes : at k ≡ Coming = rw ((Decides-eqb k j).0 s) is in rw comes refl
-      | false ↦ λ _ p. not_pending (at k) p
-    ] refl (off k)
+    -- what sees no difference between an answer on its way and none
+    quiet_as : {X : Type 0} (j : ℕ) → at j ≡ Coming → (g : Turn → X) → g Coming ≡ g Quiet → (k : ℕ) → g (at k) ≡ g (put at j Quiet k)
+    quiet_as j is g same k = elim (k == j) as (λ t. (k == j) ≡ t → g (at k) ≡ g (cond t Quiet (at k))) [
+      | true ↦ λ s. let comes : at k ≡ Coming = rw ((Decides-eqb k j).0 s) is in ap g comes ∙ same
+      | false ↦ λ _. refl
+    ] refl
 
-    -- an answer is taken, and more are waited for
-    next_answer : (j : ℕ) → at j ≡ Coming → has o j ≡ true → (left - 1 == 0) ≡ false → Leads f here
-        (put_ctrl (record (shape f here) { back = put (λ k. comes_from (at k)) j [] }) (waits (cond first (Setting (left - 1)) (Syncing (left - 1))) q)) []
-    next_answer j is there more = record {
+    gone_to : (j : ℕ) → at j ≡ Coming → ((k : ℕ) → is_pending (put at j Quiet k) ≡ false) → (k : ℕ) → goes_to c (at k) ≡ []
+    gone_to j is off k = quiet_as j is (goes_to c) refl k ∙ quiet_to (put at j Quiet k) (off k)
+
+    not_going : (j : ℕ) → at j ≡ Coming → ((k : ℕ) → is_pending (put at j Quiet k) ≡ false) → (k : ℕ) → is_going (at k) ≡ false
+    not_going j is off k = quiet_as j is is_going refl k ∙ not_pending (put at j Quiet k) (off k)
+
+    -- once an answer is taken
+    abbrev answer_taken : Bool → ℕ → View R
+    answer_taken first j = record (shape f (here first)) { back = put (λ k. comes_from (at k)) j [] }
+
+    -- more answers are waited for
+    next_answer : (first : Bool) (j : ℕ) → at j ≡ Coming → has o j ≡ true → (left - 1 == 0) ≡ false
+        → Leads f (here first) (put_ctrl (answer_taken first j) (waits (cond first (Setting (left - 1)) (Syncing (left - 1))) q)) []
+    next_answer first j is there more = record {
       next = Spreads first d e b c (put at j Quiet) o (left - 1) q v;
       fits = one_less j is there more;
-      alike = record {
-        sw = λ k. refl;
-        sc = refl;
-        cs = refl;
-        to = λ k. append-nil (goes_to c (at k)) ∙ (elim (k == j) as (λ t. (k == j) ≡ t → goes_to c (at k) ≡ goes_to c (cond t Quiet (at k))) [
-          | true ↦ λ s. let comes : at k ≡ Coming = rw ((Decides-eqb k j).0 s) is in rw comes refl
-          | false ↦ λ _. refl
-        ] refl);
-        back = λ k. elim (k == j) as (λ t. cond t [] (comes_from {R = R} (at k)) ≡ comes_from (cond t Quiet (at k))) [ true ↦ refl | false ↦ refl ];
-        own = λ k m. elim (k == j) as (λ t. (k == j) ≡ t → after f (cond (is_going (at k)) (b k) n) ≡ after f (cond (is_going (cond t Quiet (at k))) (b k) n)) [
-          | true ↦ λ s. let comes : at k ≡ Coming = rw ((Decides-eqb k j).0 s) is in rw comes refl
-          | false ↦ λ _. refl
-        ] refl;
-        phase = refl;
-        queue = refl;
-        diverts = refl;
-        done = refl;
-      };
+      alike = alike_in f (λ k. refl) (λ k. append-nil (goes_to c (at k)) ∙ quiet_as j is (goes_to c) refl k)
+          (λ k. elim (k == j) as (λ t. cond t [] (comes_from {R = R} (at k)) ≡ comes_from (cond t Quiet (at k))) [ true ↦ refl | false ↦ refl ])
+          (λ k _. quiet_as j is (λ t. after f (cond (is_going t) (b k) n)) refl k) refl;
       early_is = simp orders;
       late_is = simp orders;
-      longer = λ k _. elim (k == j) as (λ t. (k == j) ≡ t → IsFront (cond (is_going (at k)) (b k) n) (cond (is_going (cond t Quiet (at k))) (b k) n)) [
-        | true ↦ λ s. let comes : at k ≡ Coming = rw ((Decides-eqb k j).0 s) is in rw comes (front_same n)
-        | false ↦ λ _. front_same (cond (is_going (at k)) (b k) n)
-      ] refl;
+      longer = λ k _. subst (λ xs. IsFront (cond (is_going (at k)) (b k) n) xs) (quiet_as j is (λ t. cond (is_going t) (b k) n) refl k)
+          (front_same (cond (is_going (at k)) (b k) n));
     }
 
-  -- the last answer is taken: the next packet of the queue is served
-  last_answer : (first : Bool) (d : List Ran) (e : List ℕ) (b : ℕ → List Ran) (c : Option R) (at : ℕ → Turn) (o : List ℕ) (left : ℕ) (q v : List ℕ)
-      (h : FitsSpread f (d ++ served f e) (record { seen = b; chunk = c; turn = at; asked = o; left = left }))
-      → (j : ℕ) → at j ≡ Coming → has o j ≡ true → left ≡ 1 → Leads f (Spreads first d e b c at o left q v)
-      (put_ctrl (record (shape f (Spreads first d e b c at o left q v)) { back = put (λ k. comes_from (at k)) j [] }) (serve f q)) []
-  last_answer first d e b c at o left [] v h j is there last =
-      let off = all_quiet first d e b c at o left [] v h j is there last in
-      record {
-        next = Resting d e v;
-        fits = tt;
-        alike = record {
-          sw = λ k. refl;
-          sc = refl;
-          cs = refl;
-          to = λ k. append-nil (goes_to c (at k)) ∙ gone_to first d e b c at o left [] v h j is off k;
-          back = λ k. gone_back first d e b c at o left [] v h j off k;
-          own = λ k _. rw (not_going first d e b c at o left [] v h j is off k) refl;
-          phase = refl;
-          queue = refl;
-          diverts = refl;
-          done = refl;
-        };
-        early_is = simp orders;
-        late_is = simp orders;
-        longer = λ k _. rw (not_going first d e b c at o left [] v h j is off k) (front_same (d ++ served f e));
-      }
-  last_answer first d e b c at o left (p ∷ q) v h j is there last =
-      let off = all_quiet first d e b c at o left (p ∷ q) v h j is there last in
-      record {
-        next = Forwards d e p q v;
-        fits = tt;
-        alike = record {
-          sw = λ k. refl;
-          sc = refl;
-          cs = refl;
-          to = λ k. append-nil (goes_to c (at k)) ∙ gone_to first d e b c at o left (p ∷ q) v h j is off k;
-          back = λ k. gone_back first d e b c at o left (p ∷ q) v h j off k;
-          own = λ k _. rw (not_going first d e b c at o left (p ∷ q) v h j is off k) refl;
-          phase = refl;
-          queue = refl;
-          diverts = refl;
-          done = refl;
-        };
-        early_is = simp orders;
-        late_is = simp orders;
-        longer = λ k _. rw (not_going first d e b c at o left (p ∷ q) v h j is off k) (front_same (d ++ served f e));
-      }
-
-  module _ (d : List Ran) (e : List ℕ) (b : ℕ → List Ran) (c : Option R) (at : ℕ → Turn) (o : List ℕ) (left : ℕ) (q v : List ℕ)
-      (h : FitsSpread f (d ++ served f e) (record { seen = b; chunk = c; turn = at; asked = o; left = left })) where
-    taken_to : (first : Bool) (j : ℕ) → Leads f (Spreads first d e b c at o left q v) (moved f (shape f (Spreads first d e b c at o left q v)) (Take_to j)) []
-    taken_to first j =
-        elim (at j)
-        as (λ t. at j ≡ t → Leads f (Spreads first d e b c at o left q v) (from_to f (shape f (Spreads first d e b c at o left q v)) j (goes_to c t)) []) [
-          | Going ↦ λ is. going first d e b c at o left q v h j is (h.sent j (rw is refl))
-          | Coming ↦ λ _. stays f (Spreads first d e b c at o left q v) h
-          | Quiet ↦ λ _. stays f (Spreads first d e b c at o left q v) h
-        ] refl
+    -- it was the last: the next packet of the queue is served
+    last_answer : (first : Bool) (j : ℕ) → at j ≡ Coming → has o j ≡ true → left ≡ 1 → Leads f (here first) (put_ctrl (answer_taken first j) (serve f q)) []
+    last_answer first j is there last =
+        let off = all_quiet j is there last in
+        let to : (k : ℕ) → goes_to c (at k) ++ [] ≡ [] = λ k. append-nil (goes_to c (at k)) ∙ gone_to j is off k in
+        elim q as (λ qs. Leads f (Spreads first d e b c at o left qs v)
+        (put_ctrl (record (shape f (Spreads first d e b c at o left qs v)) { back = put (λ k. comes_from (at k)) j [] }) (serve f qs)) []) [
+          | [] ↦ leads f (Resting d e v) tt (alike_in f (λ k. refl) to (gone_back j off) (λ k _. rw (not_going j is off k) refl) refl) (simp orders)
+              (simp orders) (λ k _. rw (not_going j is off k) (front_same n))
+          | p ∷ qs ↦ leads f (Forwards d e p qs v) tt (alike_in f (λ k. refl) to (gone_back j off) (λ k _. rw (not_going j is off k) refl) refl)
+              (simp orders) (simp orders) (λ k _. rw (not_going j is off k) (front_same n))
+        ]
 
     last_one : (left - 1 == 0) ≡ true → left ≡ 1
     last_one last = let before = h.some in grind (arith, nat_tests)
 
-    answered : (first : Bool) (j : ℕ) → at j ≡ Coming
-        → Leads f (Spreads first d e b c at o left q v) (from_back f (shape f (Spreads first d e b c at o left q v)) j (Synced ∷ [])) []
-    answered true j is =
+    by_left : (first : Bool) (j : ℕ) → at j ≡ Coming → Leads f (here first)
+        (put_ctrl (answer_taken first j) (cond (left - 1 == 0) (serve f q) (waits (cond first (Setting (left - 1)) (Syncing (left - 1))) q))) []
+    by_left first j is =
         let there = h.sent j (rw is refl) in
-        elim (left - 1 == 0) as (λ t. (left - 1 == 0) ≡ t → Leads f (Spreads true d e b c at o left q v) (put_ctrl (record (shape f
-        (Spreads true d e b c at o left q v)) { back = put (λ k. comes_from (at k)) j [] }) (cond t (serve f q) (waits (Setting (left - 1)) q))) []) [
-          | true ↦ λ last. last_answer true d e b c at o left q v h j is there (last_one last)
-          | false ↦ next_answer true d e b c at o left q v h j is there
-        ] refl
-    answered false j is =
-        let there = h.sent j (rw is refl) in
-        elim (left - 1 == 0) as (λ t. (left - 1 == 0) ≡ t → Leads f (Spreads false d e b c at o left q v) (put_ctrl (record (shape f
-        (Spreads false d e b c at o left q v)) { back = put (λ k. comes_from (at k)) j [] }) (cond t (serve f q) (waits (Syncing (left - 1)) q))) []) [
-          | true ↦ λ last. last_answer false d e b c at o left q v h j is there (last_one last)
-          | false ↦ next_answer false d e b c at o left q v h j is there
+        elim (left - 1 == 0) as (λ t. (left - 1 == 0) ≡ t → Leads f (here first)
+        (put_ctrl (answer_taken first j) (cond t (serve f q) (waits (cond first (Setting (left - 1)) (Syncing (left - 1))) q))) []) [
+          | true ↦ λ last. last_answer first j is there (last_one last)
+          | false ↦ next_answer first j is there
         ] refl
 
-    taken_back : (first : Bool) (j : ℕ)
-        → Leads f (Spreads first d e b c at o left q v) (moved f (shape f (Spreads first d e b c at o left q v)) (Take_back j)) []
-    taken_back first j =
-        elim (at j) as (λ t. at j ≡ t
-        → Leads f (Spreads first d e b c at o left q v) (from_back f (shape f (Spreads first d e b c at o left q v)) j (comes_from t)) []) [
-          | Going ↦ λ _. stays f (Spreads first d e b c at o left q v) h
-          | Coming ↦ λ is. answered first j is
-          | Quiet ↦ λ _. stays f (Spreads first d e b c at o left q v) h
-        ] refl
+    answered : (first : Bool) (j : ℕ) → at j ≡ Coming → Leads f (here first) (from_back f (shape f (here first)) j (Synced ∷ [])) []
+    answered true j is = by_left true j is
+    answered false j is = by_left false j is
 
-  queued : (first : Bool) (d : List Ran) (e : List ℕ) (b : ℕ → List Ran) (c : Option R) (at : ℕ → Turn) (o : List ℕ) (left : ℕ) (q : List ℕ) (p : ℕ)
-      (v : List ℕ) (h : FitsSpread f (d ++ served f e) (record { seen = b; chunk = c; turn = at; asked = o; left = left }))
-      → Leads f (Spreads first d e b c at o left q (p ∷ v)) (put_ctrl (record (shape f (Spreads first d e b c at o left q (p ∷ v))) { sc = map Diverted v })
-      (waits (cond first (Setting left) (Syncing left)) (q ++ p ∷ []))) []
-  queued first d e b c at o left q p v h = record {
-    next = Spreads first d e b c at o left (q ++ p ∷ []) v;
-    fits = h;
-    alike = record {
-      sw = λ k. refl;
-      sc = refl;
-      cs = refl;
-      to = λ k. append-nil (goes_to c (at k));
-      back = λ k. refl;
-      own = λ k _. refl;
-      phase = refl;
-      queue = refl;
-      diverts = refl;
-      done = refl;
-    };
-    early_is = simp orders;
-    late_is = simp orders;
-    longer = λ k _. front_same (front f (Spreads first d e b c at o left q (p ∷ v)) k);
-  }
+    taken_to : (first : Bool) (j : ℕ) → Leads f (here first) (moved f (shape f (here first)) (Take_to j)) []
+    taken_to first j = elim (at j) as (λ t. at j ≡ t → Leads f (here first) (from_to f (shape f (here first)) j (goes_to c t)) []) [
+      | Going ↦ λ is. going first j is (h.sent j (rw is refl))
+      | Coming ↦ λ _. stays f (here first) h
+      | Quiet ↦ λ _. stays f (here first) h
+    ] refl
+
+    taken_back : (first : Bool) (j : ℕ) → Leads f (here first) (moved f (shape f (here first)) (Take_back j)) []
+    taken_back first j = elim (at j) as (λ t. at j ≡ t → Leads f (here first) (from_back f (shape f (here first)) j (comes_from t)) []) [
+      | Going ↦ λ _. stays f (here first) h
+      | Coming ↦ λ is. answered first j is
+      | Quiet ↦ λ _. stays f (here first) h
+    ] refl
+
+    -- what is diverted comes into the queue
+    queued : (first : Bool) (p : ℕ) → Leads f (Spreads first d e b c at o left q (p ∷ v))
+        (put_ctrl (record (shape f (Spreads first d e b c at o left q (p ∷ v))) { sc = map Diverted v })
+        (waits (cond first (Setting left) (Syncing left)) (q ++ p ∷ []))) []
+    queued first p = leads_same f (Spreads first d e b c at o left (q ++ p ∷ []) v) h (same_but_to f _ _ (λ k. append-nil (goes_to c (at k))))
+        (simp orders) (simp orders) (λ k. refl)
 
   pub spreads : (first : Bool) (d : List Ran) (e : List ℕ) (b : ℕ → List Ran) (c : Option R) (at : ℕ → Turn) (o : List ℕ) (left : ℕ) (q v : List ℕ)
       (h : FitsSpread f (d ++ served f e) (record { seen = b; chunk = c; turn = at; asked = o; left = left })) (m : ShareMachineStep)
       → Leads f (Spreads first d e b c at o left q v) (moved f (shape f (Spreads first d e b c at o left q v)) m) (brings f m)
-  spreads first d e b c at o left q v h (Arrive p) = arrive first d e b c at o left q v h p
+  spreads first d e b c at o left q v h (Arrive p) = arrive d e b c at o left q v h first p
   spreads first d e b c at o left q v h (Take_to j) = taken_to d e b c at o left q v h first j
   spreads first d e b c at o left q v h (Take_back j) = taken_back d e b c at o left q v h first j
   spreads first d e b c at o left q [] h Take_sc = stays f (Spreads first d e b c at o left q []) h
-  spreads true d e b c at o left q (p ∷ v) h Take_sc = queued true d e b c at o left q p v h
-  spreads false d e b c at o left q (p ∷ v) h Take_sc = queued false d e b c at o left q p v h
+  spreads true d e b c at o left q (p ∷ v) h Take_sc = queued d e b c at o left q v h true p
+  spreads false d e b c at o left q (p ∷ v) h Take_sc = queued d e b c at o left q v h false p
   spreads first d e b c at o left q v h m = stays f (Spreads first d e b c at o left q v) h

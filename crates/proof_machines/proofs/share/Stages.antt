@@ -207,10 +207,7 @@ FitsStage f (Fenced_comes d b q v) = (k : ℕ) → IsFront (b k) d
 FitsStage f (Get_goes d b q v) = (k : ℕ) → IsFront (b k) d
 FitsStage f (Chunks_come d b q v) = (k : ℕ) → IsFront (b k) d
 FitsStage f (Spreads first d e b c at o left q v) = FitsSpread f (d ++ served f e) (record { seen = b; chunk = c; turn = at; asked = o; left = left })
-FitsStage f (Resting d e v) = Unit {0}
-FitsStage f (Forwards d e p q v) = Unit {0}
-FitsStage f (Carries d e p q v) = Unit {0}
-FitsStage f (Chunk_comes d e p q v) = Unit {0}
+FitsStage f s = Unit {0}
 
 -- two views agree, node by node
 pub record Alike {R : Type 0} (f : UnitShare R) (x y : View R) : Type 0 where

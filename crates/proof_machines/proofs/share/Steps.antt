@@ -1,8 +1,7 @@
 -- Each move from each stage leads to a stage, in order and with no record that has seen less (`goes_on`).
 use Rattle.proof_machines.proofs.share.Share.{UnitShare, ShareMachineStep, moved}
-use Rattle.proof_machines.proofs.share.Stages.{Stage, Stage.Diverting, Stage.Fence_goes, Stage.Fenced_comes, Stage.Get_goes}
-use Rattle.proof_machines.proofs.share.Stages.{Stage.Chunks_come, Stage.Spreads, Stage.Resting, Stage.Forwards}
-use Rattle.proof_machines.proofs.share.Stages.{Stage.Carries, Stage.Chunk_comes, shape, IsShare, FitsStage, brings, Leads}
+use Rattle.proof_machines.proofs.share.Stages.{Stage, Stage.Diverting, Stage.Fence_goes, Stage.Fenced_comes, Stage.Get_goes, Stage.Chunks_come, Stage.Spreads}
+use Rattle.proof_machines.proofs.share.Stages.{Stage.Resting, Stage.Forwards, Stage.Carries, Stage.Chunk_comes, shape, IsShare, FitsStage, brings, Leads}
 use Rattle.proof_machines.proofs.share.Setting.{diverting, fence_goes}
 use Rattle.proof_machines.proofs.share.FencedSetting.{fenced_comes, get_goes, chunks_come}
 use Rattle.proof_machines.proofs.share.Spreading.{spreads}

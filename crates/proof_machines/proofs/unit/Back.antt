@@ -2,9 +2,8 @@
 -- move.
 use Rattle.std.proofs.Common.{◌≡◌, ℕ, Bool, true, false, Option, Some, None, List, [], ◌∷◌, ◌++◌, map, refl}
 use Rattle.nf_msgs.specs.declared.answer.Answer.{Answer}
-use Rattle.proof_machines.proofs.unit.Machine.{At_a, Ran, on, Steps, after, MachineStep, Arrive, Take_sa, Take_ac, Take_ca, Take_cs}
+use Rattle.proof_machines.proofs.unit.Machine.{At_a, Ran, on, Steps, after, MachineStep, Arrive, Take_sa, Take_ac, Take_ca, Take_cs, joined}
 use Rattle.proof_machines.proofs.unit.Lists.{passing, plain, passes-plain, plains-plain, marked-plain}
-use Rattle.proof_machines.proofs.unit.Machine.{joined}
 use Rattle.proof_machines.proofs.unit.Stages.{Restore_goes, Restored_comes, Turn_goes, Turned_back, Returned, Fence_a, Fenced_back, Undone, GoesOn}
 use Rattle.proof_machines.proofs.unit.Early.{shapes, paths, still, one_more}
 

@@ -1,7 +1,7 @@
 -- A seat begins as a unit at rest at one side, and a move that is over leaves it so.
 use Rattle.std.proofs.Common.{◌≡◌, ℕ, Bool, true, Some, None, List, [], ◌∷◌, ◌++◌, map, refl, ap, append-nil}
 use Rattle.proof_machines.proofs.unit.Machine.{Where, At_a, At_b, At_c, Ran, Steps, after, Item, Carry, idle, Phase, Idle, Over, State, Ended}
-use Rattle.proof_machines.proofs.unit.Lists.{firsts}
+use Rattle.proof_machines.proofs.unit.Lists.{firsts, never_true}
 use Rattle.proof_machines.proofs.unit.UnitPieces.{nil_left, nil_right}
 use Rattle.proof_machines.proofs.unit.Stages.{Stage, At_rest, Moved, Undone, rest, shape, all_of}
 use Rattle.proof_machines.proofs.unit.Path.{carries}
@@ -9,7 +9,6 @@ use Rattle.proof_machines.proofs.unit.DestinationUnits.{strip, beside}
 use Rattle.proof_machines.proofs.unit.Bare.{firsts_nil}
 use Rattle.proof_machines.proofs.unit.Rests.{is_over}
 use Rattle.proof_machines.proofs.unit.Seats.{UnitSeat, Covered, Is_beside, Is_away, seat_shape, seat_all, over_free}
-use Rattle.proof_machines.proofs.unit.Controls.{never_true}
 
 -- a unit at rest at one side: its packets on that side's link, its record live there
 abbrev pub rest_at : {R : Type 0} → Steps R → Where → List Ran → List ℕ → Phase R → Bool → State R

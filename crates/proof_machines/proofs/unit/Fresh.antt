@@ -5,10 +5,8 @@ use Rattle.nf_msgs.specs.declared.answer.Answer.{Answer}
 use Rattle.proof_machines.proofs.unit.Machine.{Where, At_a, At_b, Steps, after, Part, Inst, inst_does, put, Item, Carry}
 use Rattle.proof_machines.proofs.unit.Machine.{Pass, Fence, Put, delete, next, State, Take_sa, Take_sb, put_a, put_b, moved}
 use Rattle.proof_machines.proofs.unit.UnitPieces.{nil_right}
-use Rattle.proof_machines.proofs.unit.Stages.{drops, Stage, At_rest, Begun, Frozen, Stream_goes, Streams, All_put, Hold_goes, Held}
-use Rattle.proof_machines.proofs.unit.Stages.{Laying, Turned, Fenced_a, Ending_b, Fence_b, Turned_loose, Fenced_loose, Ending_loose}
-use Rattle.proof_machines.proofs.unit.Stages.{Fence_loose, Fenced_b, Moved, Restore_goes, Restored_comes, Turn_goes, Turned_back}
-use Rattle.proof_machines.proofs.unit.Stages.{Returned, Fence_a, Fenced_back, Undone, Doorway, Is_wide, puts_of, shape, all_of}
+use Rattle.proof_machines.proofs.unit.Stages.{drops, Stage, At_rest, Streams, All_put, Hold_goes, Held, Laying, Turned, Turned_loose, Restore_goes, Doorway}
+use Rattle.proof_machines.proofs.unit.Stages.{Is_wide, puts_of, shape, all_of}
 use Rattle.proof_machines.proofs.unit.Bare.{bare_facts, stays_bare}
 use Rattle.proof_machines.proofs.unit.Steps.{goes_on}
 use Rattle.proof_machines.proofs.unit.Seats.{UnitSeat, Covered, Is_beside, Is_away, seat_shape}
@@ -85,7 +83,7 @@ dropped : {R : Type 0} (F : Steps R) (o : Option R) (l : List ℕ) (it : Item R)
 dropped F o [] it v e = cons_nil (sym e)
 dropped F o (p ∷ l) it v e = let same : Carry p ≡ it = cc in subst (λ x. (inst_does F At_a [] None (drops o) x).ran ≡ []) same refl
 
-dropped_fence : {R : Type 0} (F : Steps R) (o : Option R) (l : List ℕ) (it : Item R) (v : List (Item R)) → map Carry l ++ Fence ∷ [] ≡ it ∷ v
+pub dropped_fence : {R : Type 0} (F : Steps R) (o : Option R) (l : List ℕ) (it : Item R) (v : List (Item R)) → map Carry l ++ Fence ∷ [] ≡ it ∷ v
     → (inst_does F At_a [] None (drops o) it).ran ≡ []
 dropped_fence F o [] it v e = let same : Fence ≡ it = cc in subst (λ x. (inst_does F At_a [] None (drops o) x).ran ≡ []) same refl
 dropped_fence F o (p ∷ l) it v e = let same : Carry p ≡ it = cc in subst (λ x. (inst_does F At_a [] None (drops o) x).ran ≡ []) same refl
@@ -103,32 +101,11 @@ sa_stage F (Laying d x f g y l k) it v e r = absurd (r (dropped F None l it v e)
 sa_stage F (Restore_goes d f y l k why) it v e r = absurd (r (dropped F None l it v e))
 sa_stage F (Turned d x f y l h) it v e r = absurd (r (dropped_fence F None l it v e))
 sa_stage F (Turned_loose d x f y l) it v e r = absurd (r (dropped_fence F None l it v e))
-sa_stage F (Fenced_a d x f y h) it v e r = cons_nil (sym e)
-sa_stage F (Ending_b d x f h) it v e r = cons_nil (sym e)
-sa_stage F (Fence_b d x n h) it v e r = cons_nil (sym e)
-sa_stage F (Fenced_loose d x f y) it v e r = cons_nil (sym e)
-sa_stage F (Ending_loose d x f) it v e r = cons_nil (sym e)
-sa_stage F (Fence_loose d x n) it v e r = cons_nil (sym e)
-sa_stage F (Fenced_b d l k) it v e r = cons_nil (sym e)
-sa_stage F (Moved d l k) it v e r = cons_nil (sym e)
-sa_stage F (At_rest d l k) it v e r = refl
-sa_stage F s it v e r = refl
+sa_stage F s it v e r = cc
 
 sb_stage : {R : Type 0} (F : Steps R) (s : Stage F) (it : Item R) (v : List (Item R)) → (shape F s).sb ≡ it ∷ v → (shape F s).b.live ≡ after F (shape F s).done
-sb_stage F (At_rest d l k) it v e = cons_nil (sym e)
-sb_stage F (Begun d l k) it v e = cons_nil (sym e)
-sb_stage F (Frozen d y l k) it v e = cons_nil (sym e)
-sb_stage F (Stream_goes d f y l k) it v e = cons_nil (sym e)
-sb_stage F (Streams d f y q l k s w) it v e = cons_nil (sym e)
-sb_stage F (Restore_goes d f y l k why) it v e = cons_nil (sym e)
-sb_stage F (Restored_comes d f y g l k why) it v e = cons_nil (sym e)
-sb_stage F (Turn_goes d f y l k why) it v e = cons_nil (sym e)
-sb_stage F (Turned_back d f y h l k why) it v e = cons_nil (sym e)
-sb_stage F (Returned d x f h k why) it v e = cons_nil (sym e)
-sb_stage F (Fence_a d x n h k why) it v e = cons_nil (sym e)
-sb_stage F (Fenced_back d l k why) it v e = cons_nil (sym e)
-sb_stage F (Undone d l k why) it v e = cons_nil (sym e)
-sb_stage F s it v e = refl
+sb_stage F (At_rest d l k) it v e = cc
+sb_stage F s it v e = cc
 
 pub sc_stage : {R : Type 0} (F : Steps R) (s : Stage F) → (shape F s).sc ≡ []
 sc_stage F (At_rest d l k) = refl

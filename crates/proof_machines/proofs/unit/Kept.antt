@@ -120,20 +120,14 @@ way_records (Is_wide g w) = records w
 way_records (Is_refused v why) = records v
 
 front_records : {R : Type 0} (s : Doorway R) → records (front s) ≡ put_records s ++ way_records s
-front_records Is_shut = refl
-front_records (Is_asked h v) = refl
 front_records (Is_agreed h v) = records-append (h ∷ []) v
-front_records (Is_denied h v why) = refl
 front_records (Is_wide g w) = records-append g w
-front_records (Is_refused v why) = refl
+front_records x = refl
 
 live_first : {R : Type 0} (s : Doorway R) → live_of s ≡ first (put_records s)
-live_first Is_shut = refl
-live_first (Is_asked h v) = refl
 live_first (Is_agreed h v) = pick_first (h ∷ [])
-live_first (Is_denied h v why) = refl
 live_first (Is_wide g w) = pick_first g
-live_first (Is_refused v why) = refl
+live_first x = refl
 
 way_is : {R : Type 0} (s : Doorway R) (q : List (Part R))
     → records_on (answers_of s) ++ (records_on (puts_of s) ++ (records (free_of s) ++ records_on (map delete q))) ≡ way_records s

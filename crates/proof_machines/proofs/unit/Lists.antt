@@ -156,6 +156,9 @@ shown-sent [] [] = refl
 shown-sent [] (p ∷ ps) = ap (λ z. Piece p ∷ z) (shown-sent [] ps)
 shown-sent (x ∷ e) ps = ap (λ z. Event x ∷ z) (shown-sent e ps)
 
+pub never_true : {Y : Type 0} → false ≡ true → Y
+never_true e = cc
+
 pub cons_nil : {X Y : Type 0} {x : X} {xs : List X} → x ∷ xs ≡ [] → Y
 cons_nil e = cc
 

@@ -12,9 +12,8 @@ use Rattle.move_op.specs.Table as said
 use Rattle.move_op.specs.Table.{Words, on_event, on_source_enabled, on_piece, on_deleted, on_restored, on_source_fenced, on_put_ok, on_put_no}
 use Rattle.move_op.specs.Table.{on_destination_enabled, on_destination_fenced}
 use Rattle.proof_machines.proofs.unit.TableViews.{map_phase}
-use Rattle.proof_machines.proofs.unit.Machine.{Where, At_a, At_b, Rule, Buffers, Part, Item, Enable, Stream, Delete, Put}
-use Rattle.proof_machines.proofs.unit.Machine.{Restore, Enabled, Event, Piece, Deleted, Put_ok, Put_no, Restored, Fenced, Forward}
-use Rattle.proof_machines.proofs.unit.Machine.{Fence_to, Install, Stray, Ended, Phase, ControllerTurn}
+use Rattle.proof_machines.proofs.unit.Machine.{Where, At_a, At_b, Rule, Buffers, Part, Item, Enable, Stream, Delete, Put, Restore, Enabled, Event, Piece}
+use Rattle.proof_machines.proofs.unit.Machine.{Deleted, Put_ok, Put_no, Restored, Fenced, Forward, Fence_to, Install, Stray, Ended, Phase, ControllerTurn}
 
 -- chunks mean units with their records
 abbrev pub Chunks : Type 0 → Type 0

@@ -1,48 +1,15 @@
--- The order of a unit that is never loose, and the machine at rest: with no message on a link the move has ended and no packet is
--- left.
-use Rattle.std.proofs.Common.{◌≡◌, ℕ, Bool, true, false, List, [], ◌∷◌, ◌++◌, map, refl, sym, ap, ◌∙◌, subst, append_assoc, append-nil}
-use Rattle.std.specs.Prelude.{◌&&◌, not}
-use Rattle.proof_machines.proofs.unit.Machine.{Where, At_b, Ran, Steps, Part, Item, Carry, Phase, Over, delete, State, MachineStep, moved}
+-- The machine at rest: with no message on a link the move has ended and no packet is left.
+use Rattle.std.proofs.Common.{◌≡◌, ℕ, Bool, true, false, List, [], ◌∷◌, ◌++◌, map, refl, sym}
+use Rattle.proof_machines.proofs.unit.Machine.{Ran, Steps, Part, Item, Carry, Phase, Over, delete, State}
 use Rattle.proof_machines.proofs.unit.Lists.{Mix, shown, cons_nil, map_nil}
 use Rattle.proof_machines.proofs.unit.Stages.{Stage, At_rest, Begun, Frozen, Stream_goes, Streams, All_put, Hold_goes, Held, Laying, Turned, Fenced_a}
 use Rattle.proof_machines.proofs.unit.Stages.{Ending_b, Fence_b, Turned_loose, Fenced_loose, Ending_loose, Fence_loose, Fenced_b, Moved, Restore_goes}
 use Rattle.proof_machines.proofs.unit.Stages.{Restored_comes, Turn_goes, Turned_back, Returned, Fence_a, Fenced_back, Undone, Doorway, Is_shut, Is_asked}
-use Rattle.proof_machines.proofs.unit.Stages.{Is_agreed, Is_denied, Is_wide, Is_refused, Flows, body, shape, path, all_of, loose, IsOrderedAs, arrived_by}
-use Rattle.proof_machines.proofs.unit.Ends.{run, AllAllowed, arrived}
-use Rattle.proof_machines.proofs.unit.Steps.{goes_on}
-
--- a unit is loose where the rule was changed by a move without a buffer
-abbrev pub is_b : Where → Bool
-is_b At_b = true
-is_b w = false
-
-abbrev pub loose_in : {R : Type 0} → State R → Bool
-loose_in u = is_b u.target && not u.keep
-
-pub loose_is : {R : Type 0} (F : Steps R) (s : Stage F) → loose_in (shape F s) ≡ false → loose s ≡ false
-loose_is F (Turned_loose d x f e l) i = let never : true ≡ false = i in never
-loose_is F (Fenced_loose d x f e) i = let never : true ≡ false = i in never
-loose_is F (Ending_loose d x f) i = let never : true ≡ false = i in never
-loose_is F (Fence_loose d x n) i = let never : true ≡ false = i in never
-loose_is F s i = refl
-
-abbrev pub Tight : {R : Type 0} → Steps R → State R → List (MachineStep R) → Type 0
-Tight F u [] = Unit {0}
-Tight F u (m ∷ ms) = (loose_in (moved F u m) ≡ false) × Tight F (moved F u m) ms
+use Rattle.proof_machines.proofs.unit.Stages.{Is_agreed, Is_denied, Is_wide, Is_refused, Flows, body, shape, path, IsOrderedAs}
 
 pub exactly : (b : Bool) (xs ys : List ℕ) → b ≡ false → IsOrderedAs b xs ys → xs ≡ ys
 exactly true xs ys e o = let never : true ≡ false = e in cc
 exactly false xs ys e o = o
-
-pub exact_on : {R : Type 0} (F : Steps R) (ms : List (MachineStep R)) (s : Stage F) → AllAllowed F (shape F s) ms → Tight F (shape F s) ms
-    → (t : Stage F) × (run F (shape F s) ms ≡ shape F t) × (all_of t ≡ all_of s ++ arrived ms)
-exact_on F [] s a h = (s, refl, sym (append-nil (all_of s)))
-exact_on F (m ∷ ms) s a h =
-    let g = goes_on F s m a.0 in
-    let is = g.1 in
-    let r = exact_on F ms g.0 (subst (λ u. AllAllowed F u ms) is a.1) (subst (λ u. Tight F u ms) is h.1) in
-    let here = exactly (loose g.0) (all_of g.0) (all_of s ++ arrived_by m) (loose_is F g.0 (ap loose_in (sym is) ∙ h.0)) g.2 in
-    (r.0, ap (λ u. run F u ms) is ∙ r.1, r.2 ∙ ap (λ z. z ++ arrived ms) here ∙ append_assoc (all_of s) (arrived_by m) (arrived ms))
 
 -- no message on a link
 pub record Silent {R : Type 0} (u : State R) : Type 0 where

@@ -1,15 +1,14 @@
 -- Seats: a unit that the move covers, one that its destination owns already, one of a third instance. Each step leads from a seat to
 -- a seat, and without a message the move is over.
-use Rattle.std.proofs.Common.{◌≡◌, ℕ, ◌+◌, Bool, true, false, List, [], ◌∷◌, ◌++◌, refl, sym, ap, ◌∙◌, arith}
-use Rattle.proof_machines.proofs.unit.Machine.{Where, At_b, At_c, Ran, Steps, Free, Item, Carry, State, MachineStep, moved}
+use Rattle.std.proofs.Common.{◌≡◌, ℕ, ◌+◌, Bool, true, false, List, [], ◌++◌, refl, sym, ◌∙◌}
+use Rattle.proof_machines.proofs.unit.Machine.{Where, At_b, At_c, Ran, Steps, Free, Item, State, MachineStep, moved}
 use Rattle.proof_machines.proofs.unit.Stages.{Stage, At_rest, shape, path, processed, all_of, loose, side_of, IsOrderedAs, Placed, Allowed, arrived_by}
 use Rattle.proof_machines.proofs.unit.Steps.{goes_on}
 use Rattle.proof_machines.proofs.unit.Away.{Away, shape_away, all_away, away_goes_on}
 use Rattle.proof_machines.proofs.unit.DestinationUnits.{DestinationUnit, strip, shape_beside, all_beside, beside_goes_on}
 use Rattle.proof_machines.proofs.unit.Path.{carries}
-use Rattle.proof_machines.proofs.unit.Falls.{weigh}
-use Rattle.proof_machines.proofs.unit.Controls.{control, controls, single, one_message, never_true}
-use Rattle.proof_machines.proofs.unit.Rests.{is_over, Silent, rests, none_carried}
+use Rattle.proof_machines.proofs.unit.Lists.{never_true}
+use Rattle.proof_machines.proofs.unit.Rests.{is_over, Silent, rests}
 
 pub data UnitSeat {R : Type 0} (F : Steps R) : Type 0 where
   Covered : Stage F → UnitSeat F
@@ -76,23 +75,6 @@ covered_stays F (Covered s) m a = refl
 covered_stays F (Is_beside s) m a = refl
 covered_stays F (Is_away s) m a = refl
 
--- the controller's phase is that of the message
-pub seat_phase : {R : Type 0} (F : Steps R) (s : UnitSeat F) → (seat_shape F s).phase ≡ (shape F (base_of s)).phase
-seat_phase F (Covered s) = refl
-seat_phase F (Is_beside s) = refl
-seat_phase F (Is_away s) = refl
-
--- and outside Streaming it is one message, whichever unit looks
-stripped : {R : Type 0} (z : List (Item R)) → weigh control z ≡ weigh control (strip z)
-stripped [] = refl
-stripped (Carry p ∷ z) = let e = stripped z in omega arith
-stripped (x ∷ z) = ap (λ n. control x + n) (stripped z)
-
-pub seat_message : {R : Type 0} (F : Steps R) (s : UnitSeat F) → single (seat_shape F s).phase ≡ true → controls (seat_shape F s) ≡ 1
-seat_message F (Covered s) i = one_message F s i
-seat_message F (Is_away s) i = one_message F s.base i
-seat_message F (Is_beside s) i = let e = one_message F s.base i in let z = stripped s.z in let y = s.strips in rw (z, y) e
-
 -- no message anywhere: the move has ended, whichever unit looks
 strip_nil : {R : Type 0} (z : List (Item R)) → z ≡ [] → strip z ≡ []
 strip_nil z e = rw e refl
@@ -112,17 +94,3 @@ abbrev pub seat_path : {R : Type 0} {F : Steps R} → UnitSeat F → List ℕ
 seat_path (Covered s) = path s
 seat_path (Is_beside s) = s.h ++ carries s.z
 seat_path (Is_away s) = s.l
-
-no_carry : {R : Type 0} (z : List (Item R)) → z ≡ [] → carries z ≡ []
-no_carry z e = rw e refl
-
--- and no packet is left
-pub seat_complete : {R : Type 0} (F : Steps R) (s : UnitSeat F) → Silent (seat_shape F s) → (seat_shape F s).sc ≡ []
-    → (is_over (seat_shape F s).phase ≡ true) × (seat_path s ≡ [])
-seat_complete F (Covered s) h c = rests F s h
-seat_complete {R = R} F (Is_away s) h c = (seat_rests F (Is_away s) h, none_carried R s.l c)
-seat_complete F (Is_beside s) h c =
-    let over = seat_rests F (Is_beside s) h in
-    let none = s.free (over_free F s.base over) in
-    let z = no_carry s.z h.sb in
-    (over, rw (none, z) refl)

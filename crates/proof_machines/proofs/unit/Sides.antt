@@ -1,8 +1,7 @@
 -- Where the packets of a unit stand at a seat: those at the instance that the switch sends it to come last, and each kind stands at
 -- one side.
 use Rattle.std.proofs.Common.{◌≡◌, ℕ, Bool, true, false, List, [], ◌∷◌, ◌++◌, map, refl, sym, ap, ◌∙◌, append_assoc, append-nil}
-use Rattle.proof_machines.proofs.unit.Machine.{Where, At_a, At_b, At_c, Steps, Item, Carry, Pass, Stray}
-use Rattle.proof_machines.proofs.unit.Machine.{Inst, Phase, Passing, Ending, Undoing, Over, State}
+use Rattle.proof_machines.proofs.unit.Machine.{Where, At_a, At_b, At_c, Steps, Item, Carry, Pass, Stray, Inst, Phase, Passing, Ending, Undoing, Over, State}
 use Rattle.proof_machines.proofs.unit.Lists.{firsts}
 use Rattle.proof_machines.proofs.unit.UnitPieces.{nil_left, nil_right}
 use Rattle.proof_machines.proofs.unit.Stages.{Stage, At_rest, Streams, Is_shut, Is_agreed, Laying, Turned, Fenced_a, Ending_b, Fence_b, Turned_loose}
@@ -245,64 +244,28 @@ pub record Empty {R : Type 0} (x : State R) : Type 0 where
   pub at_b : at_side x.b x.sb ≡ []
   pub at_c : at_side x.c x.sc ≡ []
 
--- the parts of a path that has nothing
-record Parts {R : Type 0} (x : State R) (last : List ℕ) : Type 0 where
-  passes_a : passes_in x.sa ≡ []
-  passes_b : passes_in x.sb ≡ []
-  forwards_s : forwards x.cs ≡ []
-  store : x.store ≡ []
-  events_a : events_in x.ac ≡ []
-  none_last : last ≡ []
-
-parts : {R : Type 0} (x : State R) (last : List ℕ) → places x last ≡ [] → Parts x last
-parts x last p0 =
+-- a path that has nothing has none at its last places
+empty_from : {R : Type 0} (x : State R) (last : List ℕ) → places x last ≡ [] → (last ≡ [] → at_side x.a x.sa ≡ []) → (last ≡ [] → at_side x.b x.sb ≡ [])
+    → (last ≡ [] → at_side x.c x.sc ≡ []) → Empty x
+empty_from x last p0 a b c =
     let p1 = nil_right (passes_in x.sa) _ p0 in
     let p2 = nil_right (passes_in x.sb) _ p1 in
     let p3 = nil_right (forwards x.cs) _ p2 in
     let p4 = nil_right x.store _ p3 in
+    let none = nil_right (events_in x.ac) _ p4 in
     record {
       passes_a = nil_left (passes_in x.sa) _ p0;
       passes_b = nil_left (passes_in x.sb) _ p1;
       forwards_s = nil_left (forwards x.cs) _ p2;
       store = nil_left x.store _ p3;
       events_a = nil_left (events_in x.ac) _ p4;
-      none_last = nil_right (events_in x.ac) _ p4;
+      at_a = a none;
+      at_b = b none;
+      at_c = c none;
     }
 
 pub empty_of : {R : Type 0} (x : State R) (way : List ℕ) → Last x way → way ≡ [] → Empty x
-empty_of x way (At_source t b c e) none =
-    let p = parts x (at_side x.a x.sa) (sym e ∙ none) in
-    record {
-      passes_a = p.passes_a;
-      passes_b = p.passes_b;
-      forwards_s = p.forwards_s;
-      store = p.store;
-      events_a = p.events_a;
-      at_a = p.none_last;
-      at_b = b;
-      at_c = c;
-    }
+empty_of x way (At_source t b c e) none = empty_from x (at_side x.a x.sa) (sym e ∙ none) (λ p. p) (λ _. b) (λ _. c)
 empty_of x way (At_destination t c e) none =
-    let p = parts x (at_side x.a x.sa ++ at_side x.b x.sb) (sym e ∙ none) in
-    record {
-      passes_a = p.passes_a;
-      passes_b = p.passes_b;
-      forwards_s = p.forwards_s;
-      store = p.store;
-      events_a = p.events_a;
-      at_a = nil_left (at_side x.a x.sa) _ p.none_last;
-      at_b = nil_right (at_side x.a x.sa) _ p.none_last;
-      at_c = c;
-    }
-empty_of x way (At_third t a b e) none =
-    let p = parts x (at_side x.c x.sc) (sym e ∙ none) in
-    record {
-      passes_a = p.passes_a;
-      passes_b = p.passes_b;
-      forwards_s = p.forwards_s;
-      store = p.store;
-      events_a = p.events_a;
-      at_a = a;
-      at_b = b;
-      at_c = p.none_last;
-    }
+    empty_from x (at_side x.a x.sa ++ at_side x.b x.sb) (sym e ∙ none) (nil_left (at_side x.a x.sa) _) (nil_right (at_side x.a x.sa) _) (λ _. c)
+empty_of x way (At_third t a b e) none = empty_from x (at_side x.c x.sc) (sym e ∙ none) (λ _. a) (λ _. b) (λ p. p)

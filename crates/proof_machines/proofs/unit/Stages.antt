@@ -3,11 +3,10 @@
 use Rattle.std.proofs.Common.{◌≡◌, ℕ, ◌+◌, Bool, true, false, Option, Some, None, List, [], ◌∷◌, ◌++◌, map, subst}
 use Rattle.std.specs.Prelude.{if◌then◌else◌, ◌==◌}
 use Rattle.nf_msgs.specs.declared.answer.Answer.{Answer}
-use Rattle.proof_machines.proofs.unit.Machine.{Where, At_a, At_b, Ran, on, Steps, after, Part, pick, is_nil, Item, Carry, Pass, Fence, Enable, Stream}
-use Rattle.proof_machines.proofs.unit.Machine.{Put, Restore, Enabled, Event, Put_ok, Put_no, Restored, Fenced, Forward, Fence_to, Install, Free, Drops}
-use Rattle.proof_machines.proofs.unit.Machine.{Buffers, Inst, idle, Door, Shut, Asked, Open, Refused, Idle, Freezing, Streaming, Holding, Passing}
-use Rattle.proof_machines.proofs.unit.Machine.{Ending, Restoring, Returning, Undoing, Over, next, delete, State, MachineStep, Arrive, Take_ca, moved}
-use Rattle.proof_machines.proofs.unit.Machine.{Ended}
+use Rattle.proof_machines.proofs.unit.Machine.{Where, At_a, At_b, Ran, on, Steps, after, Part, pick, is_nil, Item, Carry, Pass, Fence, Enable, Stream, Put}
+use Rattle.proof_machines.proofs.unit.Machine.{Restore, Enabled, Event, Put_ok, Put_no, Restored, Fenced, Forward, Fence_to, Install, Free, Drops, Buffers}
+use Rattle.proof_machines.proofs.unit.Machine.{Inst, idle, Door, Shut, Asked, Open, Refused, Idle, Freezing, Streaming, Holding, Passing, Ending, Restoring}
+use Rattle.proof_machines.proofs.unit.Machine.{Returning, Undoing, Over, next, delete, State, MachineStep, Arrive, Take_ca, moved, Ended}
 use Rattle.proof_machines.proofs.unit.Lists.{firsts, marked, passes, plains, Mix, shown, events, parts_in, named}
 use Rattle.proof_machines.proofs.unit.UnitPieces.{ArePiecesOf}
 

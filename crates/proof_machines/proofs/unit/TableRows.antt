@@ -119,9 +119,6 @@ module _ {P C O N T : Type 0} {w : Words P C O N T} {Is : P → Type 0} {Fits : 
   pub put_no_holds : (why : Answer) (back : Bool → C) → Why why → ((last : Bool) → Fits (back last)) → (ph : PhaseOf C O) → Has ph
       → Leads (on_put_no w ph why back)
   put_no_holds why back is fits (Streaming a b came (Asked last)) x = push_holds a (back last ∷ b) came (Refused why) x.0 (fits last, x.1.0) is
-  put_no_holds why back is fits (Streaming a b came Shut) x = stays (Streaming a b came Shut) x
-  put_no_holds why back is fits (Streaming a b came Open) x = stays (Streaming a b came Open) x
-  put_no_holds why back is fits (Streaming a b came (Refused w)) x = stays (Streaming a b came (Refused w)) x
   put_no_holds why back is fits ph x = stays ph x
 
   pub destination_fenced_holds : (ph : PhaseOf C O) → Has ph → Leads (on_destination_fenced w ph)

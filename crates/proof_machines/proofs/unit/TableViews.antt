@@ -123,9 +123,6 @@ module _ {P C O N T Q D U M V : Type 0} {w : Words P C O N T} {v : Words Q D U M
   put_no_follows why back seen_back same (Streaming a b came (Asked last)) =
       subst (λ d. Leads (push_on w a (back last ∷ b) came (Refused why)) (push_on v (map g a) (d ∷ map g b) came (Refused why)))
       (sym (same last)) (pushed a (back last ∷ b) came (Refused why))
-  put_no_follows why back seen_back same (Streaming a b came Shut) = f.nothing (Streaming a b came Shut)
-  put_no_follows why back seen_back same (Streaming a b came Open) = f.nothing (Streaming a b came Open)
-  put_no_follows why back seen_back same (Streaming a b came (Refused w)) = f.nothing (Streaming a b came (Refused w))
   put_no_follows why back seen_back same ph = f.nothing ph
 
   pub destination_enabled_follows : (ph : PhaseOf C O) → Gives (on_destination_enabled w ph stored) (on_destination_enabled v (map_phase g h ph) seen)

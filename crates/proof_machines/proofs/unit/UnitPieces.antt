@@ -1,5 +1,5 @@
 -- The pieces of a move as one unit sees them: its record is in exactly one of them, and the last alone has the mark of the last.
-use Rattle.std.proofs.Common.{◌≡◌, ◌≢◌, Bool, true, false, Option, Some, None, List, [], ◌∷◌, ◌++◌, refl, sym, ap, ◌∙◌, subst}
+use Rattle.std.proofs.Common.{◌≡◌, Bool, true, false, Option, Some, None, List, [], ◌∷◌, ◌++◌, refl, sym, ap, ◌∙◌, subst}
 use Rattle.std.specs.Prelude.{if◌then◌else◌, option_to_list}
 use Rattle.proof_machines.proofs.unit.Machine.{Part, pick, or_own, is_nil}
 use Rattle.proof_machines.proofs.unit.Lists.{nil_is}
@@ -105,17 +105,6 @@ pub nil_right : {X : Type 0} (x y : List X) → x ++ y ≡ [] → y ≡ []
 nil_right [] y e = e
 nil_right (a ∷ x) y e = cc
 
--- a list of pieces is never empty
-pub some_piece : {R : Type 0} (ps : List (Part R)) (o : Option R) → ArePiecesOf ps o → ps ≢ []
-some_piece [] o f e = let never = f.ends in cc
-some_piece (h ∷ t) o f e = cc
-
 pub not_nil : {R : Type 0} (ps : List (Part R)) (o : Option R) → ArePiecesOf ps o → is_nil ps ≡ false
 not_nil [] o f = let never = f.ends in cc
 not_nil (h ∷ t) o f = refl
-
--- two Bools that are both true
-pub both_nil : {X Y : Type 0} (x : List X) (y : List Y) → (if is_nil x then is_nil y else false) ≡ true → (x ≡ []) × (y ≡ [])
-both_nil [] [] e = (refl, refl)
-both_nil [] (a ∷ y) e = cc
-both_nil (a ∷ x) y e = cc

@@ -123,14 +123,7 @@ module _ {R : Type 0} (S : Sys R) (A : Sharing S) (laws : IsSys S) (u : units.Un
               (front_over S A laws u (ran_of S A u w.done) (record_at u cs) (S.B.at u (w.standby y)) chunk (fr.standby y)));
           sends = (tt, tt);
         }
-    leaves wh fr (Diverted_on q) waits = record { more = []; done = nothing_ran; standby = as_before (S.B.at u (w.standby y)) (fr.standby y); sends = tt }
-    leaves wh fr (S_asked a) waits = record { more = []; done = nothing_ran; standby = as_before (S.B.at u (w.standby y)) (fr.standby y); sends = tt }
-    leaves wh fr (S_install n f from) waits = record { more = []; done = nothing_ran; standby = as_before (S.B.at u (w.standby y)) (fr.standby y); sends = tt }
-    leaves wh fr (S_forward n home q to) waits =
-        record { more = []; done = nothing_ran; standby = as_before (S.B.at u (w.standby y)) (fr.standby y); sends = tt }
-    leaves wh fr (S_chunks n cs) waits = record { more = []; done = nothing_ran; standby = as_before (S.B.at u (w.standby y)) (fr.standby y); sends = tt }
-    leaves wh fr (S_shared n c) waits = record { more = []; done = nothing_ran; standby = as_before (S.B.at u (w.standby y)) (fr.standby y); sends = tt }
-    leaves wh fr (S_synced n) waits = record { more = []; done = nothing_ran; standby = as_before (S.B.at u (w.standby y)) (fr.standby y); sends = tt }
+    leaves wh fr m waits = record { more = []; done = nothing_ran; standby = as_before (S.B.at u (w.standby y)) (fr.standby y); sends = tt }
 
     -- messages on the links, once more is done
     links_more : Fronts S A laws u w → (more : List Ran) → (i j : ℕ) → (i == 0) && (j == 0) ≡ false
@@ -177,25 +170,13 @@ module _ {R : Type 0} (S : Sys R) (A : Sharing S) (laws : IsSys S) (u : units.Un
   told_front ds es (New (S_shared n c)) e t h is = let eq = is.1 in rw eq h
   told_front ds es (New (S_synced n)) e t h is = rw is tt
   told_front ds es (New (Diverted_on p)) e t h is = let eq = is.1 in rw eq tt
-  told_front ds es (New (Shared_on n home p)) e t h is = absurd is
-  told_front ds es (New (S_asked x)) e t h is = absurd is
-  told_front ds es (New (S_install n g from)) e t h is = absurd is
-  told_front ds es (New (S_forward n home p to)) e t h is = absurd is
-  told_front ds es (New (S_get n g)) e t h is = absurd is
-  told_front ds es (New (S_sync n home cs)) e t h is = absurd is
+  told_front ds es m e t h is = absurd is
 
   sent_front : (ds : List Ran) (e : OpenShare) (j : ℕ) (m : Any R) → SentBy S A e (λ _. Unit {0}) (In_front ds) j m → OnNew (MsgFront S A laws u ds) m
-  sent_front ds e j (New (S_get n g)) h = tt
   sent_front ds e j (New (S_sync n home cs)) h = h.1
-  sent_front ds e j (New (S_forward n home p to)) h = tt
-  sent_front ds e j (Old m) h = tt
-  sent_front ds e j (New (Shared_on n home p)) h = tt
-  sent_front ds e j (New (Diverted_on p)) h = tt
-  sent_front ds e j (New (S_asked x)) h = tt
-  sent_front ds e j (New (S_install n g from)) h = tt
   sent_front ds e j (New (S_chunks n cs)) h = absurd h
   sent_front ds e j (New (S_shared n c)) h = absurd h
-  sent_front ds e j (New (S_synced n)) h = tt
+  sent_front ds e j m h = tt
 
   head_front : (w : WholeWorld S A) → Fronts S A laws u w → (p j : ℕ) (m : Any R) (rest : List (Any R)) → (p == 0) && (j == 0) ≡ false
       → w.link p j ≡ m ∷ rest → OnNew (MsgFront S A laws u (ran_of S A u w.done)) m
@@ -225,14 +206,7 @@ module _ {R : Type 0} (S : Sys R) (A : Sharing S) (laws : IsSys S) (u : units.Un
   no_chunk : (ds : List Ran) (m : ShareMsg R) → EachSentNew (λ _ x. MsgFront S A laws u ds x) (share_sends S A m)
   no_chunk ds (S_install n f from) = (tt, tt)
   no_chunk ds (S_forward n home p to) = (tt, tt)
-  no_chunk ds (Shared_on n home p) = tt
-  no_chunk ds (Diverted_on p) = tt
-  no_chunk ds (S_asked x) = tt
-  no_chunk ds (S_get n f) = tt
-  no_chunk ds (S_sync n home cs) = tt
-  no_chunk ds (S_chunks n cs) = tt
-  no_chunk ds (S_shared n c) = tt
-  no_chunk ds (S_synced n) = tt
+  no_chunk ds m = tt
 
   pub switch_fronts : (w : WholeWorld S A) → Fronts S A laws u w → (p : ℕ) (m : Any R) → Fronts S A laws u (whole_switch S A w p m)
   switch_fronts w fr p (Old m) = record {

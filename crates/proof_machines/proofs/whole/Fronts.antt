@@ -21,9 +21,8 @@ use Rattle.proof_machines.proofs.net.NewMessages.{EachSentNew}
 use Rattle.proof_machines.proofs.net.GlobalAll.{GlobalAll}
 use Rattle.proof_machines.proofs.net.ShareLinks.{ran_of-append}
 use Rattle.proof_machines.proofs.net.UnderStarts.{FrontBy}
-use Rattle.proof_machines.proofs.net.Shares.{Any.New, ShareMsg, ShareMsg.Shared_on, ShareMsg.Diverted_on, ShareMsg.S_asked, ShareMsg.S_install}
-use Rattle.proof_machines.proofs.net.Shares.{ShareMsg.S_forward, ShareMsg.S_get, ShareMsg.S_sync, ShareMsg.S_chunks, ShareMsg.S_shared}
-use Rattle.proof_machines.proofs.net.Shares.{ShareMsg.S_synced, EachNew, Sharing, shared_chunk, WholeWorld, moves_of, ran_of}
+use Rattle.proof_machines.proofs.net.Shares.{Any.New, ShareMsg, ShareMsg.S_sync, ShareMsg.S_chunks, ShareMsg.S_shared, EachNew, Sharing, shared_chunk}
+use Rattle.proof_machines.proofs.net.Shares.{WholeWorld, moves_of, ran_of}
 use Rattle.proof_machines.proofs.whole.WhereAll.{Came, WhereAll}
 use Rattle.proof_machines.proofs.whole.Readings.{fold_done, RecordsAll, By_moves, By_share, records_all}
 use Rattle.nf_function.specs.declared.unit.Unit as units
@@ -73,16 +72,10 @@ module _ {R : Type 0} (S : Sys R) (A : Sharing S) (laws : IsSys S) (u : units.Un
     pub front : IsFront seen ds
 
   abbrev pub MsgFront : List Ran → ShareMsg R → Type 0
-  MsgFront ds (Shared_on n home p) = Unit {0}
-  MsgFront ds (Diverted_on p) = Unit {0}
-  MsgFront ds (S_asked x) = Unit {0}
-  MsgFront ds (S_install n g from) = Unit {0}
-  MsgFront ds (S_forward n home p to) = Unit {0}
-  MsgFront ds (S_get n g) = Unit {0}
   MsgFront ds (S_sync n home cs) = FrontOf ds (record_at u cs)
   MsgFront ds (S_chunks n cs) = FrontOf ds (record_at u cs)
   MsgFront ds (S_shared n c) = FrontOf ds (record_at u (c ∷ []))
-  MsgFront ds (S_synced n) = Unit {0}
+  MsgFront ds m = Unit {0}
 
   pub record Fronts (w : WholeWorld S A) : Type 0 where
     pub standby : (k : ℕ) → FrontOf (ran_of S A u w.done) (S.B.at u (w.standby k))
@@ -109,13 +102,7 @@ module _ {R : Type 0} (S : Sys R) (A : Sharing S) (laws : IsSys S) (u : units.Un
   msg_more ds es (S_sync n home cs) h = front_more ds es (record_at u cs) h
   msg_more ds es (S_chunks n cs) h = front_more ds es (record_at u cs) h
   msg_more ds es (S_shared n c) h = front_more ds es (record_at u (c ∷ [])) h
-  msg_more ds es (Shared_on n home p) h = tt
-  msg_more ds es (Diverted_on p) h = tt
-  msg_more ds es (S_asked x) h = tt
-  msg_more ds es (S_install n g from) h = tt
-  msg_more ds es (S_forward n home p to) h = tt
-  msg_more ds es (S_get n g) h = tt
-  msg_more ds es (S_synced n) h = tt
+  msg_more ds es m h = tt
 
   pub ran_more : (xs ys : List Ran) → ran_of S A u (xs ++ ys) ≡ ran_of S A u xs ++ ran_of S A u ys
   ran_more xs ys = ran_of-append S A (record { unit = u; num = 0; home = 0; members = []; filter = everything }) xs ys

@@ -3,7 +3,7 @@
 use Rattle.std.proofs.Common.{◌≡◌, ◌≢◌, ℕ, suc, Bool, true, false, Option, Some, None, List, [], ◌∷◌, refl, sym, ap, ◌∙◌, subst, arith}
 use Rattle.std.specs.Prelude.{◌==◌}
 use Rattle.proof_machines.proofs.unit.Machine.{At_a, At_b, At_c, Where as Side, Steps, Ran, Part, Inst, Did, inst_does, Item, State, after}
-use Rattle.proof_machines.proofs.unit.Lists.{firsts, cons_nil}
+use Rattle.proof_machines.proofs.unit.Lists.{firsts, cons_nil, never_true}
 use Rattle.proof_machines.proofs.unit.Pairs.{ShownBy, By_sa, By_sb, By_sc, By_ca, By_cb, By_ac, By_bc, By_cc, By_cs, shown_by}
 use Rattle.proof_machines.proofs.unit.Stages.{At_rest}
 use Rattle.proof_machines.proofs.unit.Seats.{UnitSeat, Covered, Is_beside, Is_away, seat_shape}
@@ -11,7 +11,6 @@ use Rattle.proof_machines.proofs.unit.Between.{seat_at}
 use Rattle.proof_machines.proofs.unit.Fresh.{still_ca, still_cb, still_ran, fresh_sa, fresh_sb, fresh_sc, sc_stage}
 use Rattle.proof_machines.proofs.unit.Real.{Op}
 use Rattle.proof_machines.proofs.unit.NetViews.{items}
-use Rattle.proof_machines.proofs.unit.Controls.{never_true}
 use Rattle.proof_machines.proofs.net.Net.{Msg, Sys, IsSys, InstanceTurn, Open, World, find_op, inst_step, seen}
 use Rattle.proof_machines.proofs.net.Holding.{Seeing, sides_of, frame, SeesNode, node_at, place, IsController, OpLabel, Holds}
 use Rattle.proof_machines.proofs.net.Ctrl.{each_found}

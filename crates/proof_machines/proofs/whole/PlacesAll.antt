@@ -16,10 +16,8 @@ use Rattle.proof_machines.proofs.net.Under.{Under, Goes_on}
 use Rattle.proof_machines.proofs.net.UnderSteps.{under_inst}
 use Rattle.proof_machines.proofs.net.UnderStarts.{seeing}
 use Rattle.proof_machines.proofs.net.UnderReadings.{all_done, under_fresh}
-use Rattle.proof_machines.proofs.net.Shares.{Any, Any.Old, Any.New, ShareMsg, ShareMsg.Shared_on, ShareMsg.Diverted_on}
-use Rattle.proof_machines.proofs.net.Shares.{ShareMsg.S_asked, ShareMsg.S_install, ShareMsg.S_forward, ShareMsg.S_get, ShareMsg.S_sync}
-use Rattle.proof_machines.proofs.net.Shares.{ShareMsg.S_chunks, ShareMsg.S_shared, ShareMsg.S_synced, olds, Sharing, IsSharing}
-use Rattle.proof_machines.proofs.net.Shares.{OpenShare, WantShare, member_step, WholeWorld, whole_inst, moves_of, ran_of, SeeingShare}
+use Rattle.proof_machines.proofs.net.Shares.{Any, Any.Old, Any.New, ShareMsg, ShareMsg.Shared_on, ShareMsg.S_sync, olds, Sharing, IsSharing, OpenShare}
+use Rattle.proof_machines.proofs.net.Shares.{WantShare, member_step, WholeWorld, whole_inst, moves_of, ran_of, SeeingShare}
 use Rattle.proof_machines.proofs.whole.WhereAll.{Came, WhereAll, Apart_from_shares, Under_share}
 use Rattle.proof_machines.proofs.whole.Readings.{fold_done, seen_by, ItsShare, its_share}
 use Rattle.proof_machines.proofs.whole.Fronts.{ran_more}
@@ -63,16 +61,9 @@ module _ {R : Type 0} (S : Sys R) (A : Sharing S) (laws : IsSys S) where
     none_ran : (es : List OpenShare) (live standby : S.B.T) (m : ShareMsg R) → NoShare S u es m → none_mine S u (member_step S A live standby m).ran ≡ []
     none_ran es live standby (Shared_on n true p) off = rw off refl
     none_ran es live standby (Shared_on n false p) off = rw off refl
-    none_ran es live standby (S_get n g) off = refl
     none_ran es live standby (S_sync n true cs) off = refl
     none_ran es live standby (S_sync n false cs) off = refl
-    none_ran es live standby (Diverted_on p) off = refl
-    none_ran es live standby (S_asked x) off = refl
-    none_ran es live standby (S_install n g from) off = refl
-    none_ran es live standby (S_forward n home p to) off = refl
-    none_ran es live standby (S_chunks n cs) off = refl
-    none_ran es live standby (S_shared n c) off = refl
-    none_ran es live standby (S_synced n) off = refl
+    none_ran es live standby m off = refl
 
     under_placed : (ok : IsSharing S A) (w : WholeWorld S A) (x : WantShare) (before since : List ℕ) → GlobalAll S A w
         → Under S A (seeing S A u x) w before since → (p y : ℕ) (m : Any R) (rest : List (Any R)) → (y == 0) ≡ false → (y == 1) ≡ false

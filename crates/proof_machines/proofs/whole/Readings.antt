@@ -1,24 +1,22 @@
 -- What is read off where a unit is in the whole world: its done packets and those that wait are all that came, in order unless a move without a
--- buffer took it; its records; and that what came while its packets were diverted is processed after all else, each packet at its member.
-use Rattle.std.proofs.Common.{◌≡◌, ◌≢◌, ℕ, ◌≤◌, Bool, true, false, Option, Some, None, List, [], ◌∷◌, ◌++◌, refl, sym, ap, ◌∙◌, subst}
-use Rattle.std.specs.Prelude.{if◌then◌else◌, ◌==◌}
+-- buffer took it; and its records.
+use Rattle.std.proofs.Common.{◌≡◌, ℕ, true, false, Option, Some, None, List, [], ◌∷◌, ◌++◌, refl, ap, ◌∙◌}
+use Rattle.std.specs.Prelude.{◌==◌}
 use Rattle.proof_machines.proofs.unit.Machine.{Steps}
 use Rattle.proof_machines.proofs.unit.Stages.{times}
 use Rattle.proof_machines.proofs.unit.Ends.{same_of}
 use Rattle.proof_machines.proofs.unit.Rests.{exactly}
 use Rattle.proof_machines.proofs.share.Share.{Ran, has, runs}
-use Rattle.proof_machines.proofs.share.Stages.{packets, path, served, shape, IsFront, Lacks}
-use Rattle.proof_machines.proofs.share.Order.{parts}
+use Rattle.proof_machines.proofs.share.Stages.{packets, path, shape, IsFront, Lacks}
 use Rattle.proof_machines.proofs.share.Lists.{self}
 use Rattle.proof_machines.proofs.net.Net.{Sys, IsSys}
 use Rattle.proof_machines.proofs.net.Rest.{done_u}
 use Rattle.proof_machines.proofs.net.Readings.{fold, not_both, In_order, order_of, RecordOf, record_of}
-use Rattle.proof_machines.proofs.net.Elsewhere.{where_two}
 use Rattle.proof_machines.proofs.net.GlobalAll.{GlobalAll}
 use Rattle.proof_machines.proofs.net.ShareViews.{unit_share, as_share}
 use Rattle.proof_machines.proofs.net.Under.{Under}
 use Rattle.proof_machines.proofs.net.UnderStarts.{seeing, packets_done}
-use Rattle.proof_machines.proofs.net.UnderReadings.{all_done, under_order, under_records}
+use Rattle.proof_machines.proofs.net.UnderReadings.{under_order, under_records}
 use Rattle.proof_machines.proofs.net.Shares.{WantShare, Sharing, OpenShare, find_share, WholeWorld, moves_of, ran_of, SeeingShare}
 use Rattle.proof_machines.proofs.whole.WhereAll.{Came, WhereAll, Apart_from_shares, Under_share}
 use Rattle.nf_function.specs.declared.unit.Unit as units
@@ -86,39 +84,3 @@ module _ {R : Type 0} (S : Sys R) (A : Sharing S) (laws : IsSys S) (u : units.Un
         lacks = r.live;
         away = r.away;
       })
-
-  -- what came while the unit's packets were diverted is processed behind all else, in order, each packet at its member
-  pub record Served (w : WholeWorld S A) (k : Came) (e : OpenShare) : Type 0 where
-    pub its : ItsShare w e
-    pub before : List Ran
-    pub since : List ℕ
-    pub waits : List ℕ
-    pub done : ran_of S A u w.done ≡ before ++ served (unit_share S A (seen_by e)) since
-    pub came : k.diverted ≡ since ++ waits
-
-  pub served_all : (w : WholeWorld S A) (k : Came) → WhereAll S A laws u w k → k.diverted ≢ [] → (e : OpenShare) × Served w k e
-  served_all w k (Apart_from_shares h none) some = absurd (some none)
-  served_all w k (Under_share x before b h o f) some =
-      let p = parts (unit_share S A (seeing S A u x)) h.stage in
-      let served_so : Served w k (its_share w x before k.diverted h) = record {
-        its = record { found = h.holds.share; takes = h.covered; home_in = h.is.home_in };
-        before = p.before;
-        since = p.since;
-        waits = p.late_waits;
-        done = all_done S A (seeing S A u x) w before k.diverted h ∙ p.done;
-        came = h.since_is ∙ p.late_is;
-      } in
-      (its_share w x before k.diverted h, served_so)
-
-  -- its packets go to an instance, or to the controller where a share has it
-  pub data TargetIs (w : WholeWorld S A) : Type 0 where
-    An_instance : 2 ≤ w.target u → TargetIs w
-    The_controller : w.target u ≡ 1 → (e : OpenShare) → ItsShare w e → TargetIs w
-
-  pub target_all : (w : WholeWorld S A) (k : Came) → WhereAll S A laws u w k → TargetIs w
-  target_all w k (Apart_from_shares h none) = An_instance (where_two S laws u (moves_of S A w) k.all k.bared h.is)
-  target_all w k (Under_share x before b h o f) = by_view (shape (unit_share S A (seeing S A u x)) h.stage).diverts h.holds.target
-    where
-      by_view : (d : Bool) → w.target u ≡ (if d then 1 else x.home) → TargetIs w
-      by_view true at = The_controller at (its_share w x before k.diverted h) (record { found = h.holds.share; takes = h.covered; home_in = h.is.home_in })
-      by_view false at = An_instance (subst (λ n. 2 ≤ n) (sym at) (h.insts x.home h.is.home_in))

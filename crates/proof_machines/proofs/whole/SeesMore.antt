@@ -21,9 +21,8 @@ use Rattle.proof_machines.proofs.net.Under.{Under}
 use Rattle.proof_machines.proofs.net.UnderSteps.{under_inst}
 use Rattle.proof_machines.proofs.net.UnderStarts.{seeing}
 use Rattle.proof_machines.proofs.net.UnderReadings.{all_done}
-use Rattle.proof_machines.proofs.net.Shares.{Any, Any.Old, Any.New, ShareMsg, ShareMsg.Shared_on, ShareMsg.Diverted_on, ShareMsg.S_asked}
-use Rattle.proof_machines.proofs.net.Shares.{ShareMsg.S_install, ShareMsg.S_forward, ShareMsg.S_get, ShareMsg.S_sync, ShareMsg.S_chunks, ShareMsg.S_shared}
-use Rattle.proof_machines.proofs.net.Shares.{ShareMsg.S_synced, WantShare, Sharing, IsSharing, member_step, WholeWorld, whole_inst, ran_of, SeeingShare}
+use Rattle.proof_machines.proofs.net.Shares.{Any, Any.Old, Any.New, ShareMsg, ShareMsg.Shared_on, ShareMsg.S_sync, WantShare, Sharing, IsSharing, member_step}
+use Rattle.proof_machines.proofs.net.Shares.{WholeWorld, whole_inst, ran_of, SeeingShare}
 use Rattle.proof_machines.proofs.whole.WhereAll.{Came, WhereAll, Apart_from_shares, Under_share}
 use Rattle.proof_machines.proofs.whole.Fronts.{Fronts, ran_more, same_after, its_then}
 use Rattle.proof_machines.proofs.whole.FrontSteps.{no_input, table_seen, inst_fronts}
@@ -145,16 +144,7 @@ module _ {R : Type 0} (S : Sys R) (A : Sharing S) (laws : IsSys S) (u : units.Un
     new_sees : (m : ShareMsg R) → w.link p y ≡ New m ∷ rest → Sees (New m) y
     new_sees (Shared_on n false q) waits = packet_sees n q waits
     new_sees (S_sync n false cs) waits = sync_sees n cs waits wh
-    new_sees (Shared_on n true q) waits = as_it_was (New (Shared_on n true q)) waits y (left_there (Shared_on n true q))
-    new_sees (S_sync n true cs) waits = as_it_was (New (S_sync n true cs)) waits y (left_there (S_sync n true cs))
-    new_sees (S_get n i) waits = as_it_was (New (S_get n i)) waits y (left_there (S_get n i))
-    new_sees (Diverted_on q) waits = as_it_was (New (Diverted_on q)) waits y (left_there (Diverted_on q))
-    new_sees (S_asked a) waits = as_it_was (New (S_asked a)) waits y (left_there (S_asked a))
-    new_sees (S_install n i from) waits = as_it_was (New (S_install n i from)) waits y (left_there (S_install n i from))
-    new_sees (S_forward n home q to) waits = as_it_was (New (S_forward n home q to)) waits y (left_there (S_forward n home q to))
-    new_sees (S_chunks n cs) waits = as_it_was (New (S_chunks n cs)) waits y (left_there (S_chunks n cs))
-    new_sees (S_shared n c) waits = as_it_was (New (S_shared n c)) waits y (left_there (S_shared n c))
-    new_sees (S_synced n) waits = as_it_was (New (S_synced n)) waits y (left_there (S_synced n))
+    new_sees m waits = as_it_was (New m) waits y (left_there m)
 
     pub inst_sees : (m : Any R) → w.link p y ≡ m ∷ rest → (j : ℕ)
         → Sees_more (ran_of S A u (whole_inst S A w p y m).done) (S.B.at u (w.standby j)) (S.B.at u ((whole_inst S A w p y m).standby j))

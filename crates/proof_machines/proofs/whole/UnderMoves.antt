@@ -69,9 +69,3 @@ module _ {R : Type 0} (S : Sys R) (A : Sharing S) (laws : IsSys S) (u : units.Un
   move_apart (Apart_from_shares h none) n e there takes = h.is
   move_apart (Under_share x before b h o f) n e there takes =
       let never : true ≡ false = sym takes ∙ not_taken S A (seeing S A u x) w before k.diverted h n e there in cc
-
-  pub event_apart : WhereAll S A laws u w k → (i n p : ℕ) (g : Filter) (rest : List (Any R)) → w.link i 1 ≡ Old (Mv g (M_event n p)) ∷ rest
-      → same_unit (S.packet_unit p) u ≡ true → Where S laws u (moves_of S A w) k.all k.bared
-  event_apart (Apart_from_shares h none) i n p g rest waits on = h.is
-  event_apart (Under_share x before b h o f) i n p g rest waits on =
-      let never : true ≡ false = sym on ∙ no_event S A (seeing S A u x) w before k.diverted h i n p g rest waits in cc
