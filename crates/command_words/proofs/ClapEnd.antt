@@ -1,5 +1,5 @@
 -- After the last word: clap's defaults say nothing of what the words gave, and it asks for what is required.
-use Rattle.std.proofs.Common.{◌≡◌, ◌∙◌, ℕ, Bool, cond, true, false, ◌&&◌, ◌||◌, not, ◌+◌, refl}
+use Rattle.std.proofs.Common.{◌≡◌, ◌∙◌, ℕ, Bool, cond, true, false, ◌&&◌, ◌||◌, not, refl}
 use Rattle.std.proofs.Common.{sym, ap, List, [], ◌∷◌, ◌++◌, Some, None, append-nil, append_assoc}
 use Rattle.std.specs.Prelude.{codes, option_and_then, option_map}
 use Rattle.std.specs.List.{find, fold, list_all, list_any}

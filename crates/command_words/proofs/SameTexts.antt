@@ -8,7 +8,7 @@ use Rattle.std.specs.Str.{bytes_eq}
 use Rattle.clap.specs.Lexer.{long_of, name_and_value, usize_max}
 use Rattle.clap.specs.Faults.{check_fault, defaults_fault, settle_fault, use_fault, walk_fault}
 use Rattle.clap.specs.Kinds.{Kinds, or_else}
-use Rattle.clap.specs.Walk.{Held, Row, Rule, Waiting, arg_by_id, arg_by_long, arg_by_short, finished, has_row, idle, settled, settled_rows, used, with_default}
+use Rattle.clap.specs.Walk.{Held, Row, Rule, Waiting, arg_by_id, arg_by_long, arg_by_short, finished, has_row, idle, settled, settled_rows, with_default}
 use Rattle.clap.specs.declared.error.kind.ErrorKind.TheVariants as kind
 use Rattle.command_words.specs.ClapArguments.{given_in, taken}
 use Rattle.flow_filter.specs.Name.{has_twice}

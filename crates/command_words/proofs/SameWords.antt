@@ -7,7 +7,7 @@ use Rattle.clap.specs.Faults.{built_fault, entered_fault, level_fault, long_faul
 use Rattle.clap.specs.Kinds.{or_else}
 use Rattle.clap.specs.Simple.{App, entered}
 use Rattle.clap.specs.Walk.{Row, Rule, arg_by_id, arg_by_long, arg_by_short, done, idle, nothing_held}
-use Rattle.clap.specs.Walk.{rows_after, walk, long_met, option, settled_rows, used, waits}
+use Rattle.clap.specs.Walk.{rows_after, walk, long_met, option, settled_rows, used}
 use Rattle.clap.specs.declared.error.kind.ErrorKind.TheVariants as kind
 use Rattle.command_words.specs.declared.forms.ArgumentKind.{ArgumentKind}
 use Rattle.command_words.specs.declared.forms.ArgumentKind.TheVariants.{Positional, OptionalPositional, Required, Optional, Flag}

@@ -28,48 +28,27 @@ is_required (kind, name) = false
 abbrev pub place_names : List Argument → List Text
 place_names arguments = map (λ (a : Argument). a.1) (filter is_place arguments)
 
--- FUNCTION --instances LIST --inside PREFIX [--outside ADDR] [--window W] [--journal FILE] [--summary] TRACE [SCRIPT]
-abbrev pub run_arguments : List Argument
-run_arguments = (Positional, codes "function") ∷ (Required, codes "instances") ∷ (Required, codes "inside") ∷ (Optional, codes "outside")
-    ∷ (Optional, codes "window") ∷ (Optional, codes "journal") ∷ (Flag, codes "summary") ∷ (Positional, codes "trace")
-    ∷ (OptionalPositional, codes "script") ∷ []
-
--- FUNCTION --instances LIST --inside PREFIX [--outside ADDR] [--window W] [--schedule S] [--journal FILE] [--summary] TRACE [SCRIPT]
-abbrev pub sim_arguments : List Argument
-sim_arguments = (Positional, codes "function") ∷ (Required, codes "instances") ∷ (Required, codes "inside") ∷ (Optional, codes "outside")
-    ∷ (Optional, codes "window") ∷ (Optional, codes "schedule") ∷ (Optional, codes "journal") ∷ (Flag, codes "summary")
-    ∷ (Positional, codes "trace") ∷ (OptionalPositional, codes "script") ∷ []
-
--- FUNCTION --instances LIST --inside PREFIX [--outside ADDR] [--window W] --journal FILE --failed NAME --to NAME --after J TRACE [SCRIPT]
-abbrev pub fail_arguments : List Argument
-fail_arguments = (Positional, codes "function") ∷ (Required, codes "instances") ∷ (Required, codes "inside") ∷ (Optional, codes "outside")
-    ∷ (Optional, codes "window") ∷ (Required, codes "journal") ∷ (Required, codes "failed") ∷ (Required, codes "to")
-    ∷ (Required, codes "after") ∷ (Positional, codes "trace") ∷ (OptionalPositional, codes "script") ∷ []
-
--- FUNCTION --instances LIST SCRIPT
-abbrev pub check_arguments : List Argument
-check_arguments = (Positional, codes "function") ∷ (Required, codes "instances") ∷ (Positional, codes "script") ∷ []
-
--- NUMBER --packets N --hosts H TRACE
-abbrev pub gen_arguments : List Argument
-gen_arguments = (Positional, codes "number") ∷ (Required, codes "packets") ∷ (Required, codes "hosts") ∷ (Positional, codes "trace") ∷ []
-
--- FUNCTION --inside PREFIX [--outside ADDR] [--window W] [--schedule S] TRACE K FILTER
-abbrev pub published_arguments : List Argument
-published_arguments = (Positional, codes "function") ∷ (Required, codes "inside") ∷ (Optional, codes "outside") ∷ (Optional, codes "window")
-    ∷ (Optional, codes "schedule") ∷ (Positional, codes "trace") ∷ (Positional, codes "at") ∷ (Positional, codes "filter") ∷ []
-
--- FUNCTION --instances LIST --inside PREFIX [--outside ADDR] [--window W] [--schedule S] TRACE [FILTER]
-abbrev pub strong_arguments : List Argument
-strong_arguments = (Positional, codes "function") ∷ (Required, codes "instances") ∷ (Required, codes "inside") ∷ (Optional, codes "outside")
-    ∷ (Optional, codes "window") ∷ (Optional, codes "schedule") ∷ (Positional, codes "trace") ∷ (OptionalPositional, codes "filter") ∷ []
-
 -- the arguments of each form
 abbrev pub arguments_of : Form → List Argument
-arguments_of Run = run_arguments
-arguments_of Sim = sim_arguments
-arguments_of Fail = fail_arguments
-arguments_of Check = check_arguments
-arguments_of Gen = gen_arguments
-arguments_of Published = published_arguments
-arguments_of Strong = strong_arguments
+-- FUNCTION --instances LIST --inside PREFIX [--outside ADDR] [--window W] [--journal FILE] [--summary] TRACE [SCRIPT]
+arguments_of Run = (Positional, codes "function") ∷ (Required, codes "instances") ∷ (Required, codes "inside") ∷ (Optional, codes "outside")
+    ∷ (Optional, codes "window") ∷ (Optional, codes "journal") ∷ (Flag, codes "summary") ∷ (Positional, codes "trace")
+    ∷ (OptionalPositional, codes "script") ∷ []
+-- FUNCTION --instances LIST --inside PREFIX [--outside ADDR] [--window W] [--schedule S] [--journal FILE] [--summary] TRACE [SCRIPT]
+arguments_of Sim = (Positional, codes "function") ∷ (Required, codes "instances") ∷ (Required, codes "inside") ∷ (Optional, codes "outside")
+    ∷ (Optional, codes "window") ∷ (Optional, codes "schedule") ∷ (Optional, codes "journal") ∷ (Flag, codes "summary")
+    ∷ (Positional, codes "trace") ∷ (OptionalPositional, codes "script") ∷ []
+-- FUNCTION --instances LIST --inside PREFIX [--outside ADDR] [--window W] --journal FILE --failed NAME --to NAME --after J TRACE [SCRIPT]
+arguments_of Fail = (Positional, codes "function") ∷ (Required, codes "instances") ∷ (Required, codes "inside") ∷ (Optional, codes "outside")
+    ∷ (Optional, codes "window") ∷ (Required, codes "journal") ∷ (Required, codes "failed") ∷ (Required, codes "to")
+    ∷ (Required, codes "after") ∷ (Positional, codes "trace") ∷ (OptionalPositional, codes "script") ∷ []
+-- FUNCTION --instances LIST SCRIPT
+arguments_of Check = (Positional, codes "function") ∷ (Required, codes "instances") ∷ (Positional, codes "script") ∷ []
+-- NUMBER --packets N --hosts H TRACE
+arguments_of Gen = (Positional, codes "number") ∷ (Required, codes "packets") ∷ (Required, codes "hosts") ∷ (Positional, codes "trace") ∷ []
+-- FUNCTION --inside PREFIX [--outside ADDR] [--window W] [--schedule S] TRACE K FILTER
+arguments_of Published = (Positional, codes "function") ∷ (Required, codes "inside") ∷ (Optional, codes "outside") ∷ (Optional, codes "window")
+    ∷ (Optional, codes "schedule") ∷ (Positional, codes "trace") ∷ (Positional, codes "at") ∷ (Positional, codes "filter") ∷ []
+-- FUNCTION --instances LIST --inside PREFIX [--outside ADDR] [--window W] [--schedule S] TRACE [FILTER]
+arguments_of Strong = (Positional, codes "function") ∷ (Required, codes "instances") ∷ (Required, codes "inside") ∷ (Optional, codes "outside")
+    ∷ (Optional, codes "window") ∷ (Optional, codes "schedule") ∷ (Positional, codes "trace") ∷ (OptionalPositional, codes "filter") ∷ []

@@ -33,15 +33,9 @@ fn fail_values<'a>(alloc: Global, given: &Given<'a>) -> Result<FailRequest<'a>, 
     ensures { Reads fail_view result (fail_values (given_view given.now)) }
 {
     let network = network_values(alloc, given)?;
-    let Some(failed) = place_of(&network.instances, given.text("failed")) else {
-        return Err(ArgumentsFault::Usage);
-    };
-    let Some(to) = place_of(&network.instances, given.text("to")) else {
-        return Err(ArgumentsFault::Usage);
-    };
-    let Some(after) = given_number(given.text("after")) else {
-        return Err(ArgumentsFault::Usage);
-    };
+    let failed = place_of(&network.instances, given.text("failed")).ok_or(ArgumentsFault::Usage)?;
+    let to = place_of(&network.instances, given.text("to")).ok_or(ArgumentsFault::Usage)?;
+    let after = given_number(given.text("after")).ok_or(ArgumentsFault::Usage)?;
     if network.journal.is_none() || failed == to {
         return Err(ArgumentsFault::Usage);
     }

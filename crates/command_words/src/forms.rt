@@ -36,78 +36,80 @@ pub enum Form {
     Strong,
 }
 
-static RUN: [(ArgumentKind, &str); 9] = [
-    (ArgumentKind::Positional, "function"),
-    (ArgumentKind::Required, "instances"),
-    (ArgumentKind::Required, "inside"),
-    (ArgumentKind::Optional, "outside"),
-    (ArgumentKind::Optional, "window"),
-    (ArgumentKind::Optional, "journal"),
-    (ArgumentKind::Flag, "summary"),
-    (ArgumentKind::Positional, "trace"),
-    (ArgumentKind::OptionalPositional, "script"),
+/// What an argument is, and its name.
+type Argument = (ArgumentKind, &'static str);
+
+const FUNCTION: Argument = (ArgumentKind::Positional, "function");
+
+const INSTANCES: Argument = (ArgumentKind::Required, "instances");
+
+const INSIDE: Argument = (ArgumentKind::Required, "inside");
+
+const OUTSIDE: Argument = (ArgumentKind::Optional, "outside");
+
+const WINDOW: Argument = (ArgumentKind::Optional, "window");
+
+const SCHEDULE: Argument = (ArgumentKind::Optional, "schedule");
+
+const JOURNAL: Argument = (ArgumentKind::Optional, "journal");
+
+const SUMMARY: Argument = (ArgumentKind::Flag, "summary");
+
+const TRACE: Argument = (ArgumentKind::Positional, "trace");
+
+const SCRIPT: Argument = (ArgumentKind::OptionalPositional, "script");
+
+static RUN: [Argument; 9] = [
+    FUNCTION, INSTANCES, INSIDE, OUTSIDE, WINDOW, JOURNAL, SUMMARY, TRACE, SCRIPT,
 ];
 
-static SIM: [(ArgumentKind, &str); 10] = [
-    (ArgumentKind::Positional, "function"),
-    (ArgumentKind::Required, "instances"),
-    (ArgumentKind::Required, "inside"),
-    (ArgumentKind::Optional, "outside"),
-    (ArgumentKind::Optional, "window"),
-    (ArgumentKind::Optional, "schedule"),
-    (ArgumentKind::Optional, "journal"),
-    (ArgumentKind::Flag, "summary"),
-    (ArgumentKind::Positional, "trace"),
-    (ArgumentKind::OptionalPositional, "script"),
+static SIM: [Argument; 10] = [
+    FUNCTION, INSTANCES, INSIDE, OUTSIDE, WINDOW, SCHEDULE, JOURNAL, SUMMARY, TRACE, SCRIPT,
 ];
 
-static FAIL: [(ArgumentKind, &str); 11] = [
-    (ArgumentKind::Positional, "function"),
-    (ArgumentKind::Required, "instances"),
-    (ArgumentKind::Required, "inside"),
-    (ArgumentKind::Optional, "outside"),
-    (ArgumentKind::Optional, "window"),
+static FAIL: [Argument; 11] = [
+    FUNCTION,
+    INSTANCES,
+    INSIDE,
+    OUTSIDE,
+    WINDOW,
     (ArgumentKind::Required, "journal"),
     (ArgumentKind::Required, "failed"),
     (ArgumentKind::Required, "to"),
     (ArgumentKind::Required, "after"),
-    (ArgumentKind::Positional, "trace"),
-    (ArgumentKind::OptionalPositional, "script"),
+    TRACE,
+    SCRIPT,
 ];
 
-static CHECK: [(ArgumentKind, &str); 3] = [
-    (ArgumentKind::Positional, "function"),
-    (ArgumentKind::Required, "instances"),
-    (ArgumentKind::Positional, "script"),
-];
+static CHECK: [Argument; 3] = [FUNCTION, INSTANCES, (ArgumentKind::Positional, "script")];
 
-static PUBLISHED: [(ArgumentKind, &str); 8] = [
-    (ArgumentKind::Positional, "function"),
-    (ArgumentKind::Required, "inside"),
-    (ArgumentKind::Optional, "outside"),
-    (ArgumentKind::Optional, "window"),
-    (ArgumentKind::Optional, "schedule"),
-    (ArgumentKind::Positional, "trace"),
+static PUBLISHED: [Argument; 8] = [
+    FUNCTION,
+    INSIDE,
+    OUTSIDE,
+    WINDOW,
+    SCHEDULE,
+    TRACE,
     (ArgumentKind::Positional, "at"),
     (ArgumentKind::Positional, "filter"),
 ];
 
-static STRONG: [(ArgumentKind, &str); 8] = [
-    (ArgumentKind::Positional, "function"),
-    (ArgumentKind::Required, "instances"),
-    (ArgumentKind::Required, "inside"),
-    (ArgumentKind::Optional, "outside"),
-    (ArgumentKind::Optional, "window"),
-    (ArgumentKind::Optional, "schedule"),
-    (ArgumentKind::Positional, "trace"),
+static STRONG: [Argument; 8] = [
+    FUNCTION,
+    INSTANCES,
+    INSIDE,
+    OUTSIDE,
+    WINDOW,
+    SCHEDULE,
+    TRACE,
     (ArgumentKind::OptionalPositional, "filter"),
 ];
 
-static GEN: [(ArgumentKind, &str); 4] = [
+static GEN: [Argument; 4] = [
     (ArgumentKind::Positional, "number"),
     (ArgumentKind::Required, "packets"),
     (ArgumentKind::Required, "hosts"),
-    (ArgumentKind::Positional, "trace"),
+    TRACE,
 ];
 
 impl Form {

@@ -63,6 +63,7 @@ pub fn same_as_clap()
 {}
 
 /// Laws of the grammar, for words with any texts in them: which names the texts are given for, and what is refused. The text of a flag is `true`.
+#[tactic(auto, unfolding(crate::specs::Grammar::pairs_of, crate::specs::Grammar::read_words, std::specs::Prelude::chars))]
 pub fn written_words()
     ensures sim { (f l p t : Text) → pairs_of SimForm ((codes "--instances=" ++ l) ∷ (codes "--inside=" ++ p) ∷ codes "--" ∷ f ∷ t ∷ [])
         ≡ Some ((codes "instances", l) ∷ (codes "inside", p) ∷ (codes "function", f) ∷ (codes "trace", t) ∷ []) }

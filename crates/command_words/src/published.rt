@@ -30,12 +30,8 @@ pub(crate) fn ask_published<'a>(
     ensures { Reads calm_view result (published_of (map string_bytes words.entry.now)) }
 {
     let given = read(alloc, Form::Published, words)?;
-    let Some(publishing) = published_values(&given) else {
-        return Err(ArgumentsFault::Usage);
-    };
-    let Some(schedule) = schedule_of(given.text("schedule")) else {
-        return Err(ArgumentsFault::Usage);
-    };
+    let publishing = published_values(&given).ok_or(ArgumentsFault::Usage)?;
+    let schedule = schedule_of(given.text("schedule")).ok_or(ArgumentsFault::Usage)?;
     Ok(CalmRequest::Published(publishing, schedule))
 }
 

@@ -34,9 +34,7 @@ pub(crate) fn ask_strong<'a>(
 {
     let given = read(alloc, Form::Strong, words)?;
     let asked = strong_values(alloc, &given)?;
-    let Some(schedule) = schedule_of(given.text("schedule")) else {
-        return Err(ArgumentsFault::Usage);
-    };
+    let schedule = schedule_of(given.text("schedule")).ok_or(ArgumentsFault::Usage)?;
     Ok(CalmRequest::Strong(asked, schedule))
 }
 
@@ -45,27 +43,13 @@ pub(crate) fn ask_strong<'a>(
 fn strong_values<'a>(alloc: Global, given: &Given<'a>) -> Result<StrongRequest<'a>, ArgumentsFault>
     ensures { Reads strong_view result (strong_values (given_view given.now)) }
 {
-    let Some(kind) = function_of(given.text("function")) else {
-        return Err(ArgumentsFault::Usage);
-    };
-    let Some(names) = members_of(alloc, given.text("instances"))? else {
-        return Err(ArgumentsFault::Usage);
-    };
-    let Some(inside) = inside_of(given.text("inside")) else {
-        return Err(ArgumentsFault::Usage);
-    };
-    let Some(site) = site_of(kind, inside, given.text("outside")) else {
-        return Err(ArgumentsFault::Usage);
-    };
-    let Some(window) = window_of(given.text("window")) else {
-        return Err(ArgumentsFault::Usage);
-    };
-    let Some(filter) = filter_if(kind, given.text("filter")) else {
-        return Err(ArgumentsFault::Usage);
-    };
-    let Some(trace) = file_of(given.text("trace")) else {
-        return Err(ArgumentsFault::Usage);
-    };
+    let kind = function_of(given.text("function")).ok_or(ArgumentsFault::Usage)?;
+    let names = members_of(alloc, given.text("instances"))?.ok_or(ArgumentsFault::Usage)?;
+    let inside = inside_of(given.text("inside")).ok_or(ArgumentsFault::Usage)?;
+    let site = site_of(kind, inside, given.text("outside")).ok_or(ArgumentsFault::Usage)?;
+    let window = window_of(given.text("window")).ok_or(ArgumentsFault::Usage)?;
+    let filter = filter_if(kind, given.text("filter")).ok_or(ArgumentsFault::Usage)?;
+    let trace = file_of(given.text("trace")).ok_or(ArgumentsFault::Usage)?;
     Ok(StrongRequest {
         kind,
         names,

@@ -104,9 +104,7 @@ fn ask_sim<'a>(alloc: Global, words: &'a [String]) -> Result<CalmRequest<'a>, Ar
 {
     let given = read(alloc, Form::Sim, words)?;
     let network = network_values(alloc, &given)?;
-    let Some(schedule) = schedule_of(given.text("schedule")) else {
-        return Err(ArgumentsFault::Usage);
-    };
+    let schedule = schedule_of(given.text("schedule")).ok_or(ArgumentsFault::Usage)?;
     Ok(CalmRequest::Sim(network, schedule))
 }
 
@@ -136,9 +134,7 @@ fn ask_gen<'a>(alloc: Global, words: &'a [String]) -> Result<CalmRequest<'a>, Ar
     ensures { Reads calm_view result (gen_of (map string_bytes words.entry.now)) }
 {
     let given = read(alloc, Form::Gen, words)?;
-    let Some(generating) = gen_values(&given) else {
-        return Err(ArgumentsFault::Usage);
-    };
+    let generating = gen_values(&given).ok_or(ArgumentsFault::Usage)?;
     Ok(CalmRequest::Gen(generating))
 }
 
@@ -150,30 +146,14 @@ pub(crate) fn network_values<'a>(
 ) -> Result<NetworkRequest<'a>, ArgumentsFault>
     ensures { Reads network_view result (network_values (given_view given.now)) }
 {
-    let Some(kind) = function_of(given.text("function")) else {
-        return Err(ArgumentsFault::Usage);
-    };
-    let Some(instances) = instances_of(alloc, given.text("instances"))? else {
-        return Err(ArgumentsFault::Usage);
-    };
-    let Some(inside) = inside_of(given.text("inside")) else {
-        return Err(ArgumentsFault::Usage);
-    };
-    let Some(site) = site_of(kind, inside, given.text("outside")) else {
-        return Err(ArgumentsFault::Usage);
-    };
-    let Some(window) = window_of(given.text("window")) else {
-        return Err(ArgumentsFault::Usage);
-    };
-    let Some(journal) = file_if(given.text("journal")) else {
-        return Err(ArgumentsFault::Usage);
-    };
-    let Some(trace) = file_of(given.text("trace")) else {
-        return Err(ArgumentsFault::Usage);
-    };
-    let Some(script) = file_if(given.text("script")) else {
-        return Err(ArgumentsFault::Usage);
-    };
+    let kind = function_of(given.text("function")).ok_or(ArgumentsFault::Usage)?;
+    let instances = instances_of(alloc, given.text("instances"))?.ok_or(ArgumentsFault::Usage)?;
+    let inside = inside_of(given.text("inside")).ok_or(ArgumentsFault::Usage)?;
+    let site = site_of(kind, inside, given.text("outside")).ok_or(ArgumentsFault::Usage)?;
+    let window = window_of(given.text("window")).ok_or(ArgumentsFault::Usage)?;
+    let journal = file_if(given.text("journal")).ok_or(ArgumentsFault::Usage)?;
+    let trace = file_of(given.text("trace")).ok_or(ArgumentsFault::Usage)?;
+    let script = file_if(given.text("script")).ok_or(ArgumentsFault::Usage)?;
     Ok(NetworkRequest {
         kind,
         instances,
@@ -191,15 +171,9 @@ pub(crate) fn network_values<'a>(
 fn check_values<'a>(alloc: Global, given: &Given<'a>) -> Result<Checking<'a>, ArgumentsFault>
     ensures { Reads check_view result (check_values (given_view given.now)) }
 {
-    let Some(kind) = function_of(given.text("function")) else {
-        return Err(ArgumentsFault::Usage);
-    };
-    let Some(instances) = instances_of(alloc, given.text("instances"))? else {
-        return Err(ArgumentsFault::Usage);
-    };
-    let Some(script) = file_of(given.text("script")) else {
-        return Err(ArgumentsFault::Usage);
-    };
+    let kind = function_of(given.text("function")).ok_or(ArgumentsFault::Usage)?;
+    let instances = instances_of(alloc, given.text("instances"))?.ok_or(ArgumentsFault::Usage)?;
+    let script = file_of(given.text("script")).ok_or(ArgumentsFault::Usage)?;
     Ok(Checking {
         kind,
         instances,

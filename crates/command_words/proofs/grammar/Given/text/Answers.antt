@@ -1,5 +1,5 @@
 -- A text that clap found is of the words or a default.
-use Rattle.std.proofs.Common.{◌∙◌, Bool, not, sym, ap}
+use Rattle.std.proofs.Common.{◌∙◌, not, sym, ap}
 use Rattle.clap.specs.Facts.{explicit_source}
 use Rattle.clap.specs.Words.{found_of}
 use Rattle.command_words.specs.Grammar.{value_of}
