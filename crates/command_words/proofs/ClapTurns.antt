@@ -40,10 +40,6 @@ Fails kinds = (kind : ErrorKind) × (more : Kinds) × (kinds ≡ kind ∷ more)
 pub fails_first : (xs ys : Kinds) → Fails xs → Fails (or_else xs ys)
 fails_first xs ys f = (f.0, f.1, rw f.2 refl)
 
-pub fails_then : (xs ys : Kinds) → Fails ys → Fails (or_else xs ys)
-fails_then [] ys f = f
-fails_then (x ∷ xs) ys f = (x, xs, refl)
-
 -- ---- the whole walk, and its faults
 
 abbrev pub at_end : List Rule → Held → Kinds

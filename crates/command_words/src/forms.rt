@@ -59,6 +59,20 @@ const TRACE: Argument = (ArgumentKind::Positional, "trace");
 
 const SCRIPT: Argument = (ArgumentKind::OptionalPositional, "script");
 
+const TOLD: Argument = (ArgumentKind::Required, "journal");
+
+const FAILED: Argument = (ArgumentKind::Required, "failed");
+
+const TO: Argument = (ArgumentKind::Required, "to");
+
+const AFTER: Argument = (ArgumentKind::Required, "after");
+
+const AT: Argument = (ArgumentKind::Positional, "at");
+
+const FILTER: Argument = (ArgumentKind::Positional, "filter");
+
+const SHARED: Argument = (ArgumentKind::OptionalPositional, "filter");
+
 static RUN: [Argument; 9] = [
     FUNCTION, INSTANCES, INSIDE, OUTSIDE, WINDOW, JOURNAL, SUMMARY, TRACE, SCRIPT,
 ];
@@ -68,41 +82,17 @@ static SIM: [Argument; 10] = [
 ];
 
 static FAIL: [Argument; 11] = [
-    FUNCTION,
-    INSTANCES,
-    INSIDE,
-    OUTSIDE,
-    WINDOW,
-    (ArgumentKind::Required, "journal"),
-    (ArgumentKind::Required, "failed"),
-    (ArgumentKind::Required, "to"),
-    (ArgumentKind::Required, "after"),
-    TRACE,
-    SCRIPT,
+    FUNCTION, INSTANCES, INSIDE, OUTSIDE, WINDOW, TOLD, FAILED, TO, AFTER, TRACE, SCRIPT,
 ];
 
 static CHECK: [Argument; 3] = [FUNCTION, INSTANCES, (ArgumentKind::Positional, "script")];
 
 static PUBLISHED: [Argument; 8] = [
-    FUNCTION,
-    INSIDE,
-    OUTSIDE,
-    WINDOW,
-    SCHEDULE,
-    TRACE,
-    (ArgumentKind::Positional, "at"),
-    (ArgumentKind::Positional, "filter"),
+    FUNCTION, INSIDE, OUTSIDE, WINDOW, SCHEDULE, TRACE, AT, FILTER,
 ];
 
 static STRONG: [Argument; 8] = [
-    FUNCTION,
-    INSTANCES,
-    INSIDE,
-    OUTSIDE,
-    WINDOW,
-    SCHEDULE,
-    TRACE,
-    (ArgumentKind::OptionalPositional, "filter"),
+    FUNCTION, INSTANCES, INSIDE, OUTSIDE, WINDOW, SCHEDULE, TRACE, SHARED,
 ];
 
 static GEN: [Argument; 4] = [
