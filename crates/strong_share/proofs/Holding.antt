@@ -1,5 +1,5 @@
 -- What every scene of a run keeps: labels of messages, the order at members, how packets are served, answers to packets, and where the end is.
-use Rattle.std.proofs.Common.{◌≡◌, ℕ, ◌+◌, ◌<◌, true, None, ◌++◌, map}
+use Rattle.std.proofs.Common.{◌≡◌, ℕ, ◌+◌, ◌<◌, true, None, List, ◌++◌, map, ap, ◌∙◌}
 use Rattle.std.specs.Prelude.{if◌then◌else◌, not, filter, flat_map}
 use Rattle.std.specs.FinMap as finite
 use Rattle.nf_function.specs.declared.unit.Unit as units
@@ -112,3 +112,34 @@ module _ {F R : Type 0} (f : Semantics R) (job : StrongJob) where
     pub tight : IsTight f job (sight job x)
     pub answered : (u : units.Unit) → outputs_of f job u x.log ≡ outputs f job None (processed_of f job u x.log)
     pub ends : Ends job x
+
+  -- The end goes on: what waits in the input and between the switch and the controller changes, and weighs as much as before.
+  pub end_moves : (x : Scene F R) (input up down : List Msg) → Holds x → Each (in_label job) input → Each (up_label job) up → Each (down_label job) down
+      → flat_map packet_in input ≡ flat_map packet_in x.input → weigh end_in input + weigh end_in up + weigh end_in down ≡ ends_left job x
+      → Holds (record x { input = input; up = up; down = down })
+  end_moves x input up down h fit_in fit_up fit_down packets same = record {
+    labelled = record {
+      input = fit_in;
+      up = fit_up;
+      down = fit_down;
+      out = h.labelled.out;
+      back = h.labelled.back;
+      home = h.labelled.home;
+      switch = h.labelled.switch;
+      members = h.labelled.members;
+      member = h.labelled.member;
+    };
+    ordered = record {
+      in_turn = ap (λ ps. arrivals_in x.log ++ ps) packets ∙ h.ordered.in_turn;
+      each_member = h.ordered.each_member;
+      others = h.ordered.others;
+      right = h.ordered.right;
+    };
+    serves = h.serves;
+    tight = h.tight;
+    answered = h.answered;
+    ends = record {
+      closed = ap (λ e. e + (if x.switch.window.closed then 1 else 0)) same ∙ h.ends.closed;
+      stopped = λ k k_in. ap (λ e. e + weigh stop_in (x.out k) + (if (x.member k).ended then 1 else 0)) same ∙ h.ends.stopped k k_in;
+    };
+  }

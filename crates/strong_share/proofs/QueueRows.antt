@@ -13,7 +13,7 @@ use Rattle.actor_net.specs.Histories.{sent_for}
 use Rattle.actor_net.proofs.WeightLaws.{Each, each-append, weigh, weigh-append}
 use Rattle.strong_share.specs.declared.note.StrongNote.TheVariants.{Queued}
 use Rattle.strong_share.specs.declared.serving.Serving.{Serving}
-use Rattle.strong_share.specs.declared.serving.Serving.TheVariants.{Idle, Out, Syncing}
+use Rattle.strong_share.specs.declared.serving.Serving.TheVariants.{Idle}
 use Rattle.strong_share.specs.declared.queued_packet.QueuedPacket.{QueuedPacket}
 use Rattle.strong_share.specs.Parts.{ControllerState}
 use Rattle.strong_share.specs.Tables.{serve_row, serve_step, with_event, controller_step, is_home, the_share, member_at, row_of_port, row_of_member}
@@ -24,7 +24,7 @@ use Rattle.strong_share.proofs.Scenes.{Scene, controller_did}
 use Rattle.strong_share.proofs.ServedPackets.{number, Sight, served, served_from, IsRaised, Serves, Agrees}
 use Rattle.strong_share.proofs.ServedPackets.{serves_alike, tight_alike, serves_queued, serves_front}
 use Rattle.strong_share.proofs.Reading.{packet_in, plain_in, event_in, answer_in, end_in, stop_in, taken_has, taken_first, each_taken, head_of, sent_one}
-use Rattle.strong_share.proofs.Holding.{up_label, down_label, back_label, Labelled, IsRight, Ordered, Ends, ends_left, sight, Holds}
+use Rattle.strong_share.proofs.Holding.{up_label, down_label, back_label, Labelled, IsRight, Ordered, Ends, ends_left, sight, Holds, end_moves}
 use Rattle.strong_share.proofs.LogLemmas.{arrived-append, entries-append, queue_order-append, events_of-queued, done-append}
 
 -- serving notes nothing
@@ -32,29 +32,23 @@ pub no_notes : (c : ControllerState) → (serve_step c).notes ≡ []
 no_notes c = by c.serving c.queue
   where
     by : (s : Serving) (q : List QueuedPacket) → (serve_row c s q).notes ≡ []
-    by Idle [] = refl
     by Idle (r ∷ rest) = refl
-    by (Out m) q = refl
-    by (Syncing left) q = refl
+    by s q = refl
 
 -- it sends to members alone
 pub serves_members : (c : ControllerState) (to : ℕ) → ((i : ℕ) → (i + 2 == to) ≡ false) → sent_for to (serve_step c).sends ≡ []
 serves_members c to apart = by c.serving c.queue
   where
     by : (s : Serving) (q : List QueuedPacket) → sent_for to (serve_row c s q).sends ≡ []
-    by Idle [] = refl
     by Idle (r ∷ rest) = ap (λ b. (if b then Carry (mark.Shared the_share (is_home r.member)) r.cell ∷ [] else []) ++ []) (apart r.member)
-    by (Out m) q = refl
-    by (Syncing left) q = refl
+    by s q = refl
 
 served_members : (c : ControllerState) → (serve_step c).node.members ≡ c.members
 served_members c = by c.serving c.queue
   where
     by : (s : Serving) (q : List QueuedPacket) → (serve_row c s q).node.members ≡ c.members
-    by Idle [] = refl
     by Idle (r ∷ rest) = refl
-    by (Out m) q = refl
-    by (Syncing left) q = refl
+    by s q = refl
 
 module _ {F R : Type 0} (f : Semantics R) (job : StrongJob) where
   -- The end comes: the switch is to stop all members.
@@ -68,34 +62,10 @@ module _ {F R : Type 0} (f : Semantics R) (job : StrongJob) where
       nothing k = ap (λ b. x.to k ++ ((if b then Finish ∷ [] else []) ++ [])) (zero_two k) ∙ append-nil (x.to k)
 
   pub finished_holds : (x : Scene F R) (rest : List Msg) → Holds f job x → x.up ≡ End ∷ rest → Holds f job (finished x rest)
-  finished_holds x rest h is = record {
-    labelled = record {
-      input = h.labelled.input;
-      up = label.1;
-      down = each-append down' x.down (Finish ∷ []) h.labelled.down (tt, tt);
-      out = h.labelled.out;
-      back = h.labelled.back;
-      home = h.labelled.home;
-      switch = h.labelled.switch;
-      members = h.labelled.members;
-      member = h.labelled.member;
-    };
-    ordered = record { in_turn = h.ordered.in_turn; each_member = h.ordered.each_member; others = h.ordered.others; right = h.ordered.right };
-    serves = h.serves;
-    tight = h.tight;
-    answered = h.answered;
-    ends = record {
-      closed = ap (λ e. e + (if x.switch.window.closed then 1 else 0)) same ∙ h.ends.closed;
-      stopped = λ k k_in. ap (λ e. e + weigh stop_in (x.out k) + (if (x.member k).ended then 1 else 0)) same ∙ h.ends.stopped k k_in;
-    };
-  }
+  finished_holds x rest h is =
+      end_moves f job x x.input rest (x.down ++ Finish ∷ []) h h.labelled.input (head_of (up_label job) x.up End rest is h.labelled.up).1
+      (each-append (down_label job) x.down (Finish ∷ []) h.labelled.down (tt, tt)) refl same
     where
-      down' : Msg → Type 0
-      down' = down_label job
-
-      label : Unit {0} × Each (up_label job) rest
-      label = head_of (up_label job) x.up End rest is h.labelled.up
-
       same : weigh end_in x.input + weigh end_in rest + weigh end_in (x.down ++ Finish ∷ []) ≡ ends_left job x
       same = let all = ap (weigh end_in) is in let both = weigh-append end_in x.down (Finish ∷ []) in omega (arith, all, both)
 
@@ -118,17 +88,6 @@ module _ {F R : Type 0} (f : Semantics R) (job : StrongJob) where
             down = x.down ++ sent_for 0 (serve_row x.controller s q).sends;
             to = λ k. x.to k ++ sent_for (k + 2) (serve_row x.controller s q).sends;
           }))
-      by Idle [] e is =
-          record {
-            serving = refl;
-            queue = refl;
-            to = λ k _. append-nil (x.to k);
-            answers = λ k _. refl;
-            queued = refl;
-            processed = refl;
-            own = λ k _ u. refl;
-            other = λ k _ u. refl;
-          }
       by Idle (r ∷ rest) e is = record {
         serving = refl;
         queue = refl;
@@ -139,18 +98,7 @@ module _ {F R : Type 0} (f : Semantics R) (job : StrongJob) where
         own = λ k _ u. refl;
         other = λ k _ u. refl;
       }
-      by (Out m) q e is =
-          record {
-            serving = refl;
-            queue = refl;
-            to = λ k _. append-nil (x.to k);
-            answers = λ k _. refl;
-            queued = refl;
-            processed = refl;
-            own = λ k _ u. refl;
-            other = λ k _ u. refl;
-          }
-      by (Syncing left) q e is =
+      by s q e is =
           record {
             serving = refl;
             queue = refl;

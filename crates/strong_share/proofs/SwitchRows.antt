@@ -27,7 +27,7 @@ use Rattle.strong_share.proofs.Scenes.{Scene, switch_did}
 use Rattle.strong_share.proofs.ServedPackets.{one_if, Agrees, serves_alike, tight_alike}
 use Rattle.strong_share.proofs.Reading.{packet_in, plain_in, end_in, stop_in, more_at, each_taken}
 use Rattle.strong_share.proofs.Reading.{each_at, head_of, sent_one, stops_sent, stops_other, event_in}
-use Rattle.strong_share.proofs.Holding.{in_label, up_label, down_label, out_label, home_label, IsSwitch, IsRight, ends_left, sight, Holds}
+use Rattle.strong_share.proofs.Holding.{in_label, up_label, down_label, out_label, home_label, IsSwitch, IsRight, ends_left, sight, Holds, end_moves}
 use Rattle.strong_share.proofs.LogLemmas.{arrived-append, entry_numbers, member_numbers, IsQuiet, quiet_log, answered_same}
 use Rattle.switch_node.specs.Switch.{stop_messages}
 
@@ -211,39 +211,10 @@ module _ {F R : Type 0} (f : Semantics R) (job : StrongJob) where
       nothing k = ap (λ b. x.out k ++ ((if b then End ∷ [] else []) ++ [])) (one_two k) ∙ append-nil (x.out k)
 
   pub ended_holds : (x : Scene F R) (rest : List Msg) → Holds f job x → x.input ≡ InEnd ∷ rest → Holds f job (ended_in x rest)
-  ended_holds x rest h is = record {
-    labelled = record {
-      input = label.1;
-      up = each-append up_label' x.up (End ∷ []) h.labelled.up (tt, tt);
-      down = h.labelled.down;
-      out = h.labelled.out;
-      back = h.labelled.back;
-      home = h.labelled.home;
-      switch = h.labelled.switch;
-      members = h.labelled.members;
-      member = h.labelled.member;
-    };
-    ordered = record {
-      in_turn = ap (λ ms. arrivals_in x.log ++ flat_map packet_in ms) (sym is) ∙ h.ordered.in_turn;
-      each_member = h.ordered.each_member;
-      others = h.ordered.others;
-      right = h.ordered.right;
-    };
-    serves = h.serves;
-    tight = h.tight;
-    answered = h.answered;
-    ends = record {
-      closed = ap (λ e. e + (if x.switch.window.closed then 1 else 0)) same ∙ h.ends.closed;
-      stopped = λ k k_in. ap (λ e. e + weigh stop_in (x.out k) + (if (x.member k).ended then 1 else 0)) same ∙ h.ends.stopped k k_in;
-    };
-  }
+  ended_holds x rest h is =
+      end_moves f job x rest (x.up ++ End ∷ []) x.down h (head_of (in_label job) x.input InEnd rest is h.labelled.input).1
+      (each-append (up_label job) x.up (End ∷ []) h.labelled.up (tt, tt)) h.labelled.down (ap (flat_map packet_in) (sym is)) same
     where
-      up_label' : Msg → Type 0
-      up_label' = up_label job
-
-      label : Unit {0} × Each (in_label job) rest
-      label = head_of (in_label job) x.input InEnd rest is h.labelled.input
-
       same : weigh end_in rest + weigh end_in (x.up ++ End ∷ []) + weigh end_in x.down ≡ ends_left job x
       same = let all = ap (weigh end_in) is in let both = weigh-append end_in x.up (End ∷ []) in omega (arith, all, both)
 
