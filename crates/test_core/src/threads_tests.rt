@@ -1,13 +1,13 @@
 //! Tests of runs by threads: their choices replay to the world that they leave, and two workers are in a step at once.
 ghost use Rattle.std.specs.Prelude.{◌==◌, ◌-◌, ◌<◌, true, if◌then◌else◌, [], ◌∷◌};
 
+use crate::meeting::Meeting;
 use actor_net::{Actor, Choice, Outbox, World, replay};
 use actor_threads::{Gate, OpenGate, run_round, run_threads};
 use basics::NoMemory;
 use std::alloc::Global;
 use std::sync::atomic::{AtomicU64, Ordering};
 use std::test::Fail;
-use std::thread;
 
 /// A node that passes what it hears on to two others, counted down, and notes it.
 #[derive(Drop)]
@@ -72,51 +72,6 @@ fn sixteen_chatting_nodes_are_replayed_100_times(rt: HostRuntime) -> Result<(), 
     Ok(())
 }
 
-/// A gate that holds nodes 1 and 2 until both are in a pass at once, for a while. It counts the passes.
-#[derive(Drop)]
-struct Meeting {
-    first: AtomicU64,
-    second: AtomicU64,
-    met: AtomicU64,
-    passes: AtomicU64,
-}
-
-impl Meeting {
-    fn open() -> Self {
-        Meeting {
-            first: AtomicU64::new(0),
-            second: AtomicU64::new(0),
-            met: AtomicU64::new(0),
-            passes: AtomicU64::new(0),
-        }
-    }
-
-    fn meet(&self, mine: &AtomicU64, other: &AtomicU64) {
-        mine.store(1, Ordering::SeqCst);
-        for _ in 0..1000 {
-            if other.load(Ordering::SeqCst) == 1 {
-                self.met.store(1, Ordering::SeqCst);
-            }
-            if self.met.load(Ordering::SeqCst) == 1 {
-                break;
-            }
-            thread::yield_now();
-        }
-        mine.store(0, Ordering::SeqCst);
-    }
-}
-
-impl Gate for Meeting {
-    fn pass(&self, node: u8, _step: u64) {
-        self.passes.fetch_add(1, Ordering::SeqCst);
-        match node {
-            1 => self.meet(&self.first, &self.second),
-            2 => self.meet(&self.second, &self.first),
-            _ => {}
-        }
-    }
-}
-
 /// A world of three chatting nodes in which so many messages wait for each of nodes 1 and 2, and none for node 0.
 fn crowded(alloc: Global, items: usize) -> Result<World<Chatter>, Fail> {
     let mut world = chat(alloc, 3, items, 1)?;
@@ -132,14 +87,11 @@ fn crowded(alloc: Global, items: usize) -> Result<World<Chatter>, Fail> {
 /// Both workers have messages from the start, and so many that neither is through before the other begins.
 #[test]
 fn two_workers_are_in_a_pass_at_once(rt: HostRuntime) -> Result<(), Fail> {
-    let gate = Meeting::open();
+    let gate = Meeting::open(1, 2);
     let world = crowded(rt.alloc(), 1024)?;
     let (_end, choices) = run_threads(&rt, rt.alloc(), world, &gate)?;
-    assert_eq!(rt; gate.met.load(Ordering::SeqCst), 1);
-    assert_eq!(rt;
-        gate.passes.load(Ordering::SeqCst),
-        choices.items().len() as u64
-    );
+    assert!(rt; gate.met());
+    assert_eq!(rt; gate.passes(), choices.items().len() as u64);
     Ok(())
 }
 

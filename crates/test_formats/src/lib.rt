@@ -24,7 +24,7 @@ mod outside_tests;
 #[cfg(test)]
 mod published_words_tests;
 #[cfg(test)]
-mod run_words_tests;
+mod run_words;
 #[cfg(test)]
 mod script_tests;
 #[cfg(test)]

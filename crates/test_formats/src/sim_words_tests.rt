@@ -1,233 +1,80 @@
 //! Tests of `command_words`: words with `sim`.
 
-use crate::words_tests::{first_wrong, split};
+use crate::words_tests::{calm_request, split};
 use actor_net::Schedule;
-use command_words::{CalmRequest, Request, parse_command};
+use command_words::CalmRequest;
 use nf_function::Kind;
 use std::test::Fail;
 
-/// Words with `sim`, and the command that they ask for, or `usage`.
-static SIM: [(&str, &str); 54] = [
-    (
-        "x sim conntrack --instances a --inside 10.0.0.0/24 --schedule last t",
-        "sim",
-    ),
-    (
-        "x sim --schedule=last conntrack --inside=10.0.0.0/24 t --instances=a",
-        "sim",
-    ),
-    (
-        "x sim conntrack --instances a --inside 10.0.0.0/24 --schedule last -",
-        "sim",
-    ),
-    (
-        "x sim conntrack --instances a --inside 10.0.0.0/24 --schedule last -- -t",
-        "sim",
-    ),
-    (
-        "x sim conntrack --instances a --inside 10.0.0.0/24 --schedule last -- --",
-        "sim",
-    ),
-    (
-        "x sim conntrack --instances a --inside 10.0.0.0/24 --schedule last -t",
-        "usage",
-    ),
-    (
-        "x sim conntrack --instances a --inside 10.0.0.0/24 --schedule last t s",
-        "sim",
-    ),
-    (
-        "x sim conntrack --instances a --inside 10.0.0.0/24 --schedule first t",
-        "sim",
-    ),
-    (
-        "x sim conntrack --instances a --inside 10.0.0.0/24 t",
-        "sim",
-    ),
-    (
-        "x sim conntrack --instances a:5 --inside 10.0.0.0/24 --schedule last t",
-        "sim",
-    ),
-    (
-        "x sim conntrack --instances a,b --inside 10.0.0.0/24 --schedule last t",
-        "sim",
-    ),
-    (
-        "x sim conntrack --instances a --inside 10.0.0.0/24 --schedule last --window 256 t",
-        "sim",
-    ),
-    (
-        "x sim nat --instances a --inside 10.0.0.0/24 --outside 203.0.113.1 --schedule last t",
-        "sim",
-    ),
-    (
-        "x sim conntrack --instances a --inside 10.0.0.0/24 --outside 203.0.113.1 --schedule last t",
-        "usage",
-    ),
-    (
-        "x sim conntrack --instances a --inside 10.0.0.0 --schedule last t",
-        "usage",
-    ),
-    (
-        "x sim conntrack --instances a --inside 10.0.0.1/24 --schedule last t",
-        "usage",
-    ),
-    (
-        "x sim conntrack --instances a --inside 10.0.0.0/024 --schedule last t",
-        "usage",
-    ),
-    (
-        "x sim conntrack --instances a --instances a --inside 10.0.0.0/24 --schedule last t",
-        "usage",
-    ),
-    (
-        "x sim conntrack --instances a --inside 10.0.0.0/24 --schedule last --summary t",
-        "sim",
-    ),
-    (
-        "x sim conntrack --instances a --inside 10.0.0.0/24 --sched last t",
-        "usage",
-    ),
-    (
-        "x sim conntrack --instances a --inside 10.0.0.0/24 --schedule last --help t",
-        "usage",
-    ),
-    ("x sim monitor --instances a --inside 0.0.0.0/0 t", "sim"),
-    (
-        "x sim nat --instances a,b:0 --inside=10.0.0.0/24 --outside=10.0.1.0 --window=1 t s",
-        "sim",
-    ),
-    (
-        "x sim conntrack --instances a,b,c,d,e,f,g,h,i,j,k,l,m,n,o,p --inside 10.0.0.0/8 t s",
-        "sim",
-    ),
-    (
-        "x sim conntrack --instances a,b,c,d,e,f,g,h,i,j,k,l,m,n,o,p,q --inside 10.0.0.0/8 t s",
-        "usage",
-    ),
-    (
-        "x sim conntrack --instances a,b,a --inside 10.0.0.0/24 t s",
-        "usage",
-    ),
-    (
-        "x sim conntrack --instances a --inside 10.0.0.0/24 --schedule 0 t",
-        "sim",
-    ),
-    (
-        "x sim conntrack --instances a --inside 10.0.0.0/24 --schedule 18446744073709551615 t",
-        "sim",
-    ),
-    (
-        "x sim conntrack --instances a --inside 10.0.0.0/24 --schedule 18446744073709551616 t",
-        "usage",
-    ),
-    (
-        "x sim conntrack --instances a --inside 10.0.0.0/24 --schedule 07 t",
-        "usage",
-    ),
-    (
-        "x sim conntrack --instances a --inside 10.0.0.0/24 --schedule= t",
-        "usage",
-    ),
-    (
-        "x sim conntrack --instances a --inside 10.0.0.0/24 --window 1 t",
-        "sim",
-    ),
-    (
-        "x sim conntrack --instances a --inside 10.0.0.0/24 --window 4096 t",
-        "sim",
-    ),
-    (
-        "x sim conntrack --instances a --inside 10.0.0.0/24 --window 0 t",
-        "usage",
-    ),
-    (
-        "x sim conntrack --instances a --inside 10.0.0.0/24 --window 4097 t",
-        "usage",
-    ),
-    (
-        "x sim conntrack --instances a --inside 10.0.0.0/24 --window 1 --window 1 t",
-        "usage",
-    ),
-    (
-        "x sim conntrack --instances a --inside 10.0.0.0/24 t -- -s",
-        "sim",
-    ),
-    (
-        "x sim conntrack --instances a --inside 10.0.0.0/24 t ",
-        "usage",
-    ),
-    (
-        "x sim conntrack --instances a --inside 10.0.0.0/24 t s u",
-        "usage",
-    ),
-    ("x sim nat --instances a --inside 10.0.0.0/24 t", "usage"),
-    (
-        "x sim nat --instances a --inside 10.0.0.0/24 --outside 10.0.0.255 t",
-        "usage",
-    ),
-    (
-        "x sim nat --instances a --inside 10.0.0.0/23 --outside 203.0.113.1 t",
-        "usage",
-    ),
-    (
-        "x sim nat --instances a --inside 10.0.0.0/24 --outside 203.0.113 t",
-        "usage",
-    ),
-    (
-        "x sim monitor --instances a --inside 10.0.0.0/24 --outside 203.0.113.1 t",
-        "usage",
-    ),
-    ("x sim conntrack --instances a t", "usage"),
-    ("x sim conntrack t", "usage"),
-    (
-        "x --schedule last sim conntrack --instances a --inside 10.0.0.0/24 t",
-        "usage",
-    ),
-    (
-        "x sim conntrack --instances a --inside 10.0.0.0/33 --schedule last t",
-        "usage",
-    ),
-    (
-        "x sim conntrack --instances a --inside 10.0.0.0/24 --schedule -last t",
-        "usage",
-    ),
-    (
-        "x sim conntrack --instances a --inside 10.0.0.0/24 --journal j --summary --schedule 7 t",
-        "sim",
-    ),
-    (
-        "x sim conntrack --instances a --inside 10.0.0.0/24 --journal= t",
-        "usage",
-    ),
-    (
-        "x sim conntrack --instances a --inside 10.0.0.0/24 --summary=x t",
-        "usage",
-    ),
-    (
-        "x sim conntrack --instances a --inside 10.0.0.0/24 --schedule last --schedule last t",
-        "usage",
-    ),
-    (
-        "x sim conntrack --instances a,b:v1 --inside 10.0.0.0/24 t",
-        "sim",
-    ),
+/// Lines of words that ask for `sim`.
+pub(crate) static SIM: [&str; 23] = [
+    "x sim conntrack --instances a --inside 10.0.0.0/24 --schedule last t",
+    "x sim --schedule=last conntrack --inside=10.0.0.0/24 t --instances=a",
+    "x sim conntrack --instances a --inside 10.0.0.0/24 --schedule last -",
+    "x sim conntrack --instances a --inside 10.0.0.0/24 --schedule last -- -t",
+    "x sim conntrack --instances a --inside 10.0.0.0/24 --schedule last -- --",
+    "x sim conntrack --instances a --inside 10.0.0.0/24 --schedule last t s",
+    "x sim conntrack --instances a --inside 10.0.0.0/24 --schedule first t",
+    "x sim conntrack --instances a --inside 10.0.0.0/24 t",
+    "x sim conntrack --instances a:5 --inside 10.0.0.0/24 --schedule last t",
+    "x sim conntrack --instances a,b --inside 10.0.0.0/24 --schedule last t",
+    "x sim conntrack --instances a --inside 10.0.0.0/24 --schedule last --window 256 t",
+    "x sim nat --instances a --inside 10.0.0.0/24 --outside 203.0.113.1 --schedule last t",
+    "x sim conntrack --instances a --inside 10.0.0.0/24 --schedule last --summary t",
+    "x sim monitor --instances a --inside 0.0.0.0/0 t",
+    "x sim nat --instances a,b:0 --inside=10.0.0.0/24 --outside=10.0.1.0 --window=1 t s",
+    "x sim conntrack --instances a,b,c,d,e,f,g,h,i,j,k,l,m,n,o,p --inside 10.0.0.0/8 t s",
+    "x sim conntrack --instances a --inside 10.0.0.0/24 --schedule 0 t",
+    "x sim conntrack --instances a --inside 10.0.0.0/24 --schedule 18446744073709551615 t",
+    "x sim conntrack --instances a --inside 10.0.0.0/24 --window 1 t",
+    "x sim conntrack --instances a --inside 10.0.0.0/24 --window 4096 t",
+    "x sim conntrack --instances a --inside 10.0.0.0/24 t -- -s",
+    "x sim conntrack --instances a --inside 10.0.0.0/24 --journal j --summary --schedule 7 t",
+    "x sim conntrack --instances a,b:v1 --inside 10.0.0.0/24 t",
 ];
 
-#[test]
-fn words_of_sim_are_a_command_or_usage(rt: HostRuntime) -> Result<(), Fail> {
-    assert_eq!(rt; first_wrong(rt.alloc(), SIM.as_slice())?, None);
-    Ok(())
-}
+/// Lines with `sim` that are refused.
+pub(crate) static NO_SIM: [&str; 31] = [
+    "x sim conntrack --instances a --inside 10.0.0.0/24 --schedule last -t",
+    "x sim conntrack --instances a --inside 10.0.0.0/24 --outside 203.0.113.1 --schedule last t",
+    "x sim conntrack --instances a --inside 10.0.0.0 --schedule last t",
+    "x sim conntrack --instances a --inside 10.0.0.1/24 --schedule last t",
+    "x sim conntrack --instances a --inside 10.0.0.0/024 --schedule last t",
+    "x sim conntrack --instances a --instances a --inside 10.0.0.0/24 --schedule last t",
+    "x sim conntrack --instances a --inside 10.0.0.0/24 --sched last t",
+    "x sim conntrack --instances a --inside 10.0.0.0/24 --schedule last --help t",
+    "x sim conntrack --instances a,b,c,d,e,f,g,h,i,j,k,l,m,n,o,p,q --inside 10.0.0.0/8 t s",
+    "x sim conntrack --instances a,b,a --inside 10.0.0.0/24 t s",
+    "x sim conntrack --instances a --inside 10.0.0.0/24 --schedule 18446744073709551616 t",
+    "x sim conntrack --instances a --inside 10.0.0.0/24 --schedule 07 t",
+    "x sim conntrack --instances a --inside 10.0.0.0/24 --schedule= t",
+    "x sim conntrack --instances a --inside 10.0.0.0/24 --window 0 t",
+    "x sim conntrack --instances a --inside 10.0.0.0/24 --window 4097 t",
+    "x sim conntrack --instances a --inside 10.0.0.0/24 --window 1 --window 1 t",
+    "x sim conntrack --instances a --inside 10.0.0.0/24 t ",
+    "x sim conntrack --instances a --inside 10.0.0.0/24 t s u",
+    "x sim nat --instances a --inside 10.0.0.0/24 t",
+    "x sim nat --instances a --inside 10.0.0.0/24 --outside 10.0.0.255 t",
+    "x sim nat --instances a --inside 10.0.0.0/23 --outside 203.0.113.1 t",
+    "x sim nat --instances a --inside 10.0.0.0/24 --outside 203.0.113 t",
+    "x sim monitor --instances a --inside 10.0.0.0/24 --outside 203.0.113.1 t",
+    "x sim conntrack --instances a t",
+    "x sim conntrack t",
+    "x --schedule last sim conntrack --instances a --inside 10.0.0.0/24 t",
+    "x sim conntrack --instances a --inside 10.0.0.0/33 --schedule last t",
+    "x sim conntrack --instances a --inside 10.0.0.0/24 --schedule -last t",
+    "x sim conntrack --instances a --inside 10.0.0.0/24 --journal= t",
+    "x sim conntrack --instances a --inside 10.0.0.0/24 --summary=x t",
+    "x sim conntrack --instances a --inside 10.0.0.0/24 --schedule last --schedule last t",
+];
 
 #[test]
 fn sim_gives_all_that_its_words_say(rt: HostRuntime) -> Result<(), Fail> {
     let line =
         "x sim nat --instances a,b:5:v1 --inside 10.0.0.0/24 --outside 203.0.113.1 --window 7 --schedule 9 --journal j --summary t s";
     let words = split(rt.alloc(), line)?;
-    let request = parse_command(rt.alloc(), words.as_slice());
-    let Ok(Request::Calm(CalmRequest::Sim(asked, schedule))) = request else {
-        return Err(Fail::from("no sim"));
+    let CalmRequest::Sim(asked, schedule) = calm_request(rt.alloc(), words.as_slice())? else {
+        return Err("no sim".into());
     };
     assert_eq!(rt; asked.kind, Kind::Nat);
     let [a, b] = asked.instances.rows.as_slice() else {
@@ -259,9 +106,8 @@ fn what_sim_may_leave_out_has_its_own_value(rt: HostRuntime) -> Result<(), Fail>
         rt.alloc(),
         "x sim monitor --instances a --inside 10.0.0.0/8 t",
     )?;
-    let request = parse_command(rt.alloc(), words.as_slice());
-    let Ok(Request::Calm(CalmRequest::Sim(asked, schedule))) = request else {
-        return Err(Fail::from("no sim"));
+    let CalmRequest::Sim(asked, schedule) = calm_request(rt.alloc(), words.as_slice())? else {
+        return Err("no sim".into());
     };
     assert_eq!(rt; asked.kind, Kind::Monitor);
     assert_eq!(rt; asked.site.outside, None);

@@ -1,43 +1,44 @@
-//! Tests of `command_words`: words that are refused, and words that ask for a generated capture. Beside this file stand those of the other
-//! commands.
+//! Tests of `command_words`: words of each command that ask for it or are refused, and what those of `gen` give. The words of the other commands
+//! stand beside this file.
 
+use crate::check_words_tests::{CHECK, NO_CHECK};
+use crate::fail_words_tests::{FAIL, NO_FAIL};
+use crate::published_words_tests::{NO_PUBLISHED, PUBLISHED};
+use crate::run_words::{AUDIT, NO_RUN_NOR_AUDIT, RUN};
+use crate::sim_words_tests::{NO_SIM, SIM};
+use crate::strong_words_tests::{NO_STRONG, STRONG};
 use basics::NoMemory;
 use command_words::{ArgumentsFault, CalmRequest, Request, parse_command};
 use std::alloc::Global;
 use std::test::Fail;
 
-/// Words with `gen` and with no command, and the command that they ask for, or `usage`.
-static GEN_AND_OTHERS: [(&str, &str); 21] = [
-    ("x --help", "usage"),
-    ("x gen 7 --packets 3 --hosts 1 t", "gen"),
-    ("x gen --hosts=256 --packets=1000000 0 t", "gen"),
-    (
-        "x gen 18446744073709551615 --packets 1 --hosts 1 -- -t",
-        "gen",
-    ),
-    (
-        "x gen 18446744073709551616 --packets 1 --hosts 1 t",
-        "usage",
-    ),
-    ("x gen 0 --packets 0 --hosts 1 t", "usage"),
-    ("x gen 0 --packets 1 --hosts 257 t", "usage"),
-    ("x gen 0 --packets 1000001 --hosts 1 t", "usage"),
-    ("x gen 0 --packets 1 --hosts 0 t", "usage"),
-    ("x gen 07 --packets 3 --hosts 1 t", "usage"),
-    ("x gen 7 --packets 03 --hosts 1 t", "usage"),
-    ("x gen -7 --packets 3 --hosts 1 t", "usage"),
-    ("x gen 7 --packets 3 t", "usage"),
-    ("x gen 7 --packets 3 --hosts 1", "usage"),
-    ("x gen 7 --packets 3 --hosts 1 ", "usage"),
-    ("x gen 7 --packets 3 --hosts 1 t s", "usage"),
-    ("x gen 7 --packets 3 --packets 3 --hosts 1 t", "usage"),
-    (
-        "x gen 7 --packets 3 --hosts 1 --inside 10.0.0.0/24 t",
-        "usage",
-    ),
-    ("x --packets 3 gen 7 --hosts 1 t", "usage"),
-    ("x", "usage"),
-    ("x gen 7 --packets 3 --hosts 1 --summary t", "usage"),
+/// Lines of words that ask for `gen`.
+static GEN: [&str; 3] = [
+    "x gen 7 --packets 3 --hosts 1 t",
+    "x gen --hosts=256 --packets=1000000 0 t",
+    "x gen 18446744073709551615 --packets 1 --hosts 1 -- -t",
+];
+
+/// Lines with `gen`, or with no command, that are refused.
+static NO_GEN: [&str; 18] = [
+    "x --help",
+    "x gen 18446744073709551616 --packets 1 --hosts 1 t",
+    "x gen 0 --packets 0 --hosts 1 t",
+    "x gen 0 --packets 1 --hosts 257 t",
+    "x gen 0 --packets 1000001 --hosts 1 t",
+    "x gen 0 --packets 1 --hosts 0 t",
+    "x gen 07 --packets 3 --hosts 1 t",
+    "x gen 7 --packets 03 --hosts 1 t",
+    "x gen -7 --packets 3 --hosts 1 t",
+    "x gen 7 --packets 3 t",
+    "x gen 7 --packets 3 --hosts 1",
+    "x gen 7 --packets 3 --hosts 1 ",
+    "x gen 7 --packets 3 --hosts 1 t s",
+    "x gen 7 --packets 3 --packets 3 --hosts 1 t",
+    "x gen 7 --packets 3 --hosts 1 --inside 10.0.0.0/24 t",
+    "x --packets 3 gen 7 --hosts 1 t",
+    "x",
+    "x gen 7 --packets 3 --hosts 1 --summary t",
 ];
 
 /// The words of a line.
@@ -63,32 +64,59 @@ fn asked(reading: Result<Request<'_>, ArgumentsFault>) -> &'static str {
     }
 }
 
-/// The first row whose words ask for another command than it says.
-pub(crate) fn first_wrong(
+/// The first of these lines whose words ask for another command than this.
+fn first_wrong(
     alloc: Global,
-    rows: &[(&'static str, &'static str)],
+    command: &str,
+    lines: &[&'static str],
 ) -> Result<Option<&'static str>, NoMemory> {
-    for (line, expected) in rows {
+    for line in lines {
         let words = split(alloc, line)?;
-        if asked(parse_command(alloc, words.as_slice())) != *expected {
+        if asked(parse_command(alloc, words.as_slice())) != command {
             return Ok(Some(*line));
         }
     }
     Ok(None)
 }
 
+/// The command that words ask for, of those that start no threads.
+pub(crate) fn calm_request(alloc: Global, words: &[String]) -> Result<CalmRequest<'_>, Fail> {
+    match parse_command(alloc, words) {
+        Ok(Request::Calm(asked)) => Ok(asked),
+        Ok(Request::Run(_)) | Err(_) => Err("no calm command".into()),
+    }
+}
+
 #[test]
-fn words_of_gen_are_a_command_or_usage(rt: HostRuntime) -> Result<(), Fail> {
-    assert_eq!(rt; first_wrong(rt.alloc(), GEN_AND_OTHERS.as_slice())?, None);
+fn words_ask_for_a_command_or_are_refused(rt: HostRuntime) -> Result<(), Fail> {
+    let tables = [
+        ("gen", GEN.as_slice()),
+        ("check", CHECK.as_slice()),
+        ("sim", SIM.as_slice()),
+        ("run", RUN.as_slice()),
+        ("audit", AUDIT.as_slice()),
+        ("fail", FAIL.as_slice()),
+        ("published", PUBLISHED.as_slice()),
+        ("strong", STRONG.as_slice()),
+        ("usage", NO_GEN.as_slice()),
+        ("usage", NO_CHECK.as_slice()),
+        ("usage", NO_SIM.as_slice()),
+        ("usage", NO_RUN_NOR_AUDIT.as_slice()),
+        ("usage", NO_FAIL.as_slice()),
+        ("usage", NO_PUBLISHED.as_slice()),
+        ("usage", NO_STRONG.as_slice()),
+    ];
+    for (command, lines) in tables {
+        assert_eq!(rt; first_wrong(rt.alloc(), command, lines)?, None, "{command}");
+    }
     Ok(())
 }
 
 #[test]
 fn gen_gives_its_numbers_and_the_file(rt: HostRuntime) -> Result<(), Fail> {
     let words = split(rt.alloc(), "x gen 7 --hosts 200 --packets 10000 t")?;
-    let Ok(Request::Calm(CalmRequest::Gen(asked))) = parse_command(rt.alloc(), words.as_slice())
-    else {
-        return Err(Fail::from("no gen"));
+    let CalmRequest::Gen(asked) = calm_request(rt.alloc(), words.as_slice())? else {
+        return Err("no gen".into());
     };
     assert_eq!(rt;
         (asked.number, asked.packets, asked.hosts),

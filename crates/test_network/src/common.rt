@@ -79,24 +79,46 @@ fn is_flow(_flow: Flow)
     ensures { IsFlow _flow }
 {}
 
-/// The item of a command to move the flow of the local port 5001 from a to b, in the order of packets.
-pub fn asked(alloc: Global, op: u32) -> Result<Msg, Fail>
+/// What a command asks of the flow of the local port 5001.
+#[derive(Clone, Copy)]
+pub enum Asked {
+    /// Its record is copied from a to b.
+    Copy,
+    /// It moves from a to b, and its packets keep their order.
+    Move,
+    /// It is shared between a, its home, and b. Its packets are b's.
+    Share,
+}
+
+/// The item of the command with this number.
+pub fn command(alloc: Global, op: u32, asked: Asked) -> Result<Msg, Fail>
     ensures { IfOk result (λ item. (what : AnOrder) × (item ≡ Msg.InCommand (record { op = op; what = what })) × IsProper OfFlows what) }
 {
-    let src = Name::read(alloc, b"a")?.ok_or("no name")?;
-    let dst = Name::read(alloc, b"b")?.ok_or("no name")?;
-    if src.items() == dst.items() {
+    let a = Name::read(alloc, b"a")?.ok_or("no name")?;
+    let b = Name::read(alloc, b"b")?.ok_or("no name")?;
+    if a.items() == b.items() {
         return Err("one instance alone".into());
     }
     let filter = Filter {
         lport: Some(5001),
         ..Filter::ANY
     };
-    let what = Order::Move {
-        src,
-        dst,
-        filter,
-        keep: true,
+    let what = match asked {
+        Asked::Copy => Order::Copy {
+            src: a,
+            dst: b,
+            filter: Some(filter),
+        },
+        Asked::Move => Order::Move {
+            src: a,
+            dst: b,
+            filter,
+            keep: true,
+        },
+        Asked::Share => Order::Share {
+            members: Names::from_vec(Vec::from_array(alloc, [a, b])?),
+            filter,
+        },
     };
     Ok(Msg::InCommand(Boxed::new(alloc, Command { op, what })?))
 }

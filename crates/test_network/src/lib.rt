@@ -7,8 +7,4 @@
 #[cfg(test)]
 mod common;
 #[cfg(test)]
-mod copy_tests;
-#[cfg(test)]
-mod move_tests;
-#[cfg(test)]
-mod share_tests;
+mod run_tests;

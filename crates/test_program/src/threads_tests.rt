@@ -7,7 +7,7 @@ ghost use Rattle.trace_reader.specs.Records.{AreNumbered};
 ghost use Rattle.opennf_calls.specs.net_world.specs.Input.{IsInput};
 
 use actor_net::{Choice, Choices, World};
-use actor_threads::{Gate, OpenGate};
+use actor_threads::OpenGate;
 use command_words::instances::instances_of;
 use conn_tracker::Conntrack;
 use flow_filter::{Name, Packet, Prefix, Site, Text, UDP};
@@ -18,10 +18,9 @@ use opennf_calls::threads::run_network;
 use opennf_calls::{Config, Head, Node, Setting, audited, input_of, report};
 use std::alloc::Global;
 use std::sync::Wait;
-use std::sync::atomic::{AtomicU64, Ordering};
 use std::test::Fail;
-use std::thread;
 use std::thread::Threads;
+use test_core::meeting::Meeting;
 
 /// How many packets may be under way in the runs with moves: fewer than there are.
 const WINDOW: u32 = 8;
@@ -163,62 +162,19 @@ fn the_choices_of_threads_are_audited_to_the_same_report(rt: HostRuntime) -> Res
     Ok(())
 }
 
-/// A gate that holds each pass of an instance until the other is in one, for a while. It counts the passes.
-#[derive(Drop)]
-struct Meeting {
-    a: AtomicU64,
-    b: AtomicU64,
-    met: AtomicU64,
-    passes: AtomicU64,
-}
+/// The nodes of the instances a and b.
+const A: u8 = 2;
 
-impl Meeting {
-    fn open() -> Self {
-        Meeting {
-            a: AtomicU64::new(0),
-            b: AtomicU64::new(0),
-            met: AtomicU64::new(0),
-            passes: AtomicU64::new(0),
-        }
-    }
-
-    fn meet(&self, mine: &AtomicU64, other: &AtomicU64) {
-        mine.store(1, Ordering::SeqCst);
-        for _ in 0..1000 {
-            if other.load(Ordering::SeqCst) == 1 {
-                self.met.store(1, Ordering::SeqCst);
-            }
-            if self.met.load(Ordering::SeqCst) == 1 {
-                break;
-            }
-            thread::yield_now();
-        }
-        mine.store(0, Ordering::SeqCst);
-    }
-}
-
-impl Gate for Meeting {
-    fn pass(&self, node: u8, _step: u64) {
-        self.passes.fetch_add(1, Ordering::SeqCst);
-        match node {
-            2 => self.meet(&self.a, &self.b),
-            3 => self.meet(&self.b, &self.a),
-            _ => {}
-        }
-    }
-}
+const B: u8 = 3;
 
 #[test]
 fn both_instances_are_in_a_pass_at_once(rt: HostRuntime) -> Result<(), Fail> {
     let alloc = rt.alloc();
-    let gate = Meeting::open();
+    let gate = Meeting::open(A, B);
     let script = "route lport=5001 b\nroute any a\n";
     let (config, items) = given(alloc, script.as_bytes(), 1024, 64)?;
     let (_world, choices) = run_network::<_, Conntrack, _>(&rt, alloc, &config, items, &gate)?;
-    assert_eq!(rt; gate.met.load(Ordering::SeqCst), 1);
-    assert_eq!(rt;
-        gate.passes.load(Ordering::SeqCst),
-        choices.items().len() as u64
-    );
+    assert!(rt; gate.met());
+    assert_eq!(rt; gate.passes(), choices.items().len() as u64);
     Ok(())
 }
