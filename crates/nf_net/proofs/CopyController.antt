@@ -1,65 +1,20 @@
 -- What the controller's step sends for copies of units is known, where what it takes was; and a copy is answered where its destination has kept what
 -- came.
-use Rattle.std.proofs.Common.{◌≡◌, ℕ, Bool, true, false, Option, Some, None, List, [], ◌∷◌, ◌++◌, refl, sym, ap, ◌∙◌, subst, arith}
-use Rattle.std.specs.Prelude.{if◌then◌else◌, ◌==◌, ◌||◌, is_some, option_map}
-use Rattle.std.specs.List.{filter_map}
+use Rattle.std.proofs.Common.{◌≡◌, ℕ, Bool, true, false, Option, Some, None, List, [], ◌∷◌, ◌++◌, refl, sym, ◌∙◌}
+use Rattle.std.specs.Prelude.{if◌then◌else◌, ◌==◌, option_map}
 use Rattle.std.specs.Option.{option_or}
-use Rattle.std.specs.FinMap as finite
-use Rattle.std.proofs.Math.Bool.{or-true}
-use Rattle.std.proofs.lemmas.Bool.Decides.{Decides-eqb, nat_tests}
-use Rattle.flow_filter.specs.declared.filter.Filter.{Filter}
-use Rattle.flow_filter.specs.Name.{place_of}
-use Rattle.nf_function.specs.declared.chunk.Chunk.{Chunk}
-use Rattle.nf_function.specs.Semantics.{Semantics}
-use Rattle.event_store.specs.Store.{stored_of}
-use Rattle.packet_pool.specs.Pool.{FullCell}
 use Rattle.nf_msgs.specs.declared.answer.Answer.{Answer}
 use Rattle.nf_msgs.specs.declared.answer.Answer.TheVariants.{Done, Overlap, Unknown}
-use Rattle.nf_msgs.specs.declared.command.Order.{Order}
-use Rattle.nf_msgs.specs.declared.command.Order.TheVariants as order
 use Rattle.nf_msgs.specs.declared.msg.Msg.{Msg}
 use Rattle.nf_msgs.specs.declared.msg.Msg.TheVariants as msg
-use Rattle.nf_msgs.specs.declared.note.Note.{Note}
-use Rattle.nf_msgs.specs.declared.note.Note.TheVariants as note
-use Rattle.nf_msgs.specs.MessageParts.{op_of}
 use Rattle.nf_msgs.specs.Nodes.{instance_node}
-use Rattle.move_op.specs.Move.{MoveState, MoveRow, row_in}
 use Rattle.copy_share.specs.declared.copy_phase.CopyPhase.{CopyPhase}
 use Rattle.copy_share.specs.declared.copy_phase.CopyPhase.TheVariants as copies
 use Rattle.copy_share.specs.Copy.{CopyPlan, CopyState}
 use Rattle.copy_share.specs.Copy as copying
-use Rattle.copy_share.specs.Share.{ShareState}
-use Rattle.ctrl_node.specs.declared.operation.Operation.{Operation}
-use Rattle.ctrl_node.specs.declared.operation.Operation.TheVariants.{Move, Copy, Share}
-use Rattle.ctrl_node.specs.Operations.{turn_of, turn_of_move, turn_of_copy}
-use Rattle.ctrl_node.specs.Controller as ctrl
-use Rattle.ctrl_node.specs.Controller.{ControllerState, Step, still}
-use Rattle.actor_net.specs.declared.choice.Choice.{Choice}
-use Rattle.actor_net.specs.Network.{Network}
-use Rattle.actor_net.proofs.WeightLaws.{EachSent}
 use Rattle.proof_machines.proofs.unit.Labels.{Each}
-use Rattle.proof_machines.proofs.net.Net.{Open}
-use Rattle.proof_machines.proofs.net.Shares.{OpenShare}
-use Rattle.net_world.specs.declared.config.Config.{Config}
-use Rattle.net_world.specs.declared.node.Node.{Node}
-use Rattle.net_world.specs.Commands.{is_begun, answers_of}
-use Rattle.net_world.specs.Input.{IsInput}
-use Rattle.net_world.proofs.LogLemmas.{has_begun-append}
-use Rattle.net_world.proofs.SentMessages.{sent-append}
-use Rattle.proof_outlines.proofs.outline.CopyTurns.{CopyTurn, Idle, Hands, Hands_all, Ends, hands, ends, copy_turn}
-use Rattle.proof_outlines.proofs.outline.OperationTables.{NotShared}
-use Rattle.proof_outlines.proofs.whole.ShareLeft.{answered, noted}
-use Rattle.proof_outlines.proofs.joined.CopyAnswers.{is_uncopied}
-use Rattle.proof_outlines.proofs.joined.CopySends.{TurnSo, handed_sent, queued_sent}
-use Rattle.proof_outlines.proofs.joined.Given.{Given, IsCopyPlan}
-use Rattle.proof_outlines.proofs.joined.Joined.{Label, IsController}
-use Rattle.proof_outlines.proofs.joined.StartJoined.{given}
-use Rattle.nf_net.proofs.answers.BusyLemmas.{first_is}
-use Rattle.nf_net.proofs.answers.ControllerCases.{by_operation, by_queue, by_sender, by_stop}
-use Rattle.nf_net.proofs.answers.ShareTells.{is_of_share, AreOfShare, ShareStep, handed_share, queued_share}
-use Rattle.nf_net.specs.Copies.{UnitCopy, IsOrdered}
-use Rattle.nf_net.proofs.CopyFacts.{WasKept, Told, told_still}
-use Rattle.nf_net.proofs.NoCopyMessages.{is_of_copy, AreNoCopies, row_none}
+use Rattle.proof_outlines.proofs.whole.ShareLeft.{answered}
+use Rattle.nf_net.proofs.answers.ShareTells.{is_of_share, AreOfShare}
 
 -- A copy ends by the message that its destination has kept what came.
 going_on : (ph : CopyPhase) (a : Answer) → copying.answer_of ph ≡ None → copying.answer_of ph ≡ Some a → ⊥

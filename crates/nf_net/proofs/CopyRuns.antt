@@ -47,7 +47,7 @@ use Rattle.net_world.specs.Verdicts.{exported_for, before_export}
 use Rattle.net_world.proofs.LogLemmas.{answers_of-append}
 use Rattle.proof_outlines.proofs.outline.StateOutline.{all_each}
 use Rattle.proof_outlines.proofs.joined.BesideRuns.{its_takes, its_label, its_labels}
-use Rattle.proof_outlines.proofs.joined.CopyAnswers.{IsAnswer, get_sent, standby_sent, put_all_sent}
+use Rattle.proof_outlines.proofs.joined.CopyAnswers.{IsAnswer, get_sent, standby_sent, put_all_sent, other_none}
 use Rattle.proof_outlines.proofs.joined.Given.{Given}
 use Rattle.proof_outlines.proofs.joined.Joined.{Label, Joined, node_of}
 use Rattle.proof_outlines.proofs.joined.RunsJoined.{start_world}
@@ -65,7 +65,6 @@ use Rattle.nf_net.proofs.CountedRoom.{room}
 use Rattle.nf_net.proofs.JudgedRuns.{run_judging}
 use Rattle.nf_net.proofs.JudgedSteps.{OneOf, In_first, In_second, one_of, none_once}
 use Rattle.nf_net.proofs.JudgedTables.{used_few}
-use Rattle.nf_net.proofs.NoCopyMessages.{other_none}
 use Rattle.nf_net.proofs.RunKeeps.{start}
 use Rattle.nf_net.proofs.StandbyFronts.{went_more}
 use Rattle.nf_net.proofs.VerdictLemmas.{none_exported, exported_new, before_export_new}

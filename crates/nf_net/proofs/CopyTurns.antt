@@ -43,20 +43,21 @@ use Rattle.net_world.specs.Commands.{is_begun, answers_of}
 use Rattle.net_world.specs.Input.{IsInput}
 use Rattle.net_world.proofs.LogLemmas.{has_begun-append}
 use Rattle.net_world.proofs.SentMessages.{sent-append}
+use Rattle.proof_outlines.proofs.outline.ControllerWays.{row_by}
 use Rattle.proof_outlines.proofs.outline.CopyTurns.{CopyTurn, Idle, Hands, Hands_all, Ends, hands, ends, copy_turn}
 use Rattle.proof_outlines.proofs.outline.OperationTables.{NotShared}
 use Rattle.proof_outlines.proofs.whole.ShareLeft.{noted}
-use Rattle.proof_outlines.proofs.joined.CopyAnswers.{is_uncopied}
+use Rattle.proof_outlines.proofs.joined.CopyAnswers.{is_uncopied, is_of_copy, AreNoCopies, move_none}
+use Rattle.proof_outlines.proofs.outline.MoveRows.{all_sent}
 use Rattle.proof_outlines.proofs.joined.CopySends.{TurnSo, handed_sent, queued_sent}
 use Rattle.proof_outlines.proofs.joined.Given.{Given, IsCopyPlan}
 use Rattle.proof_outlines.proofs.joined.Joined.{Label, IsController}
 use Rattle.proof_outlines.proofs.joined.StartJoined.{given}
 use Rattle.nf_net.proofs.answers.BusyLemmas.{first_is}
-use Rattle.nf_net.proofs.answers.ControllerCases.{by_operation, by_queue, by_sender, by_stop}
+use Rattle.nf_net.proofs.answers.ControllerCases.{by_operation, by_queue}
 use Rattle.nf_net.proofs.answers.ShareTells.{ShareStep, handed_share, queued_share}
 use Rattle.nf_net.specs.Copies.{UnitCopy, IsOrdered}
 use Rattle.nf_net.proofs.CopyFacts.{WasKept, Told, told_still}
-use Rattle.nf_net.proofs.NoCopyMessages.{is_of_copy, AreNoCopies, row_none}
 use Rattle.nf_net.proofs.CopyController.{row_ends, not_refused, is_shared, answer_shared}
 
 module _ {F R : Type 0} (f : Semantics R) (c : Config) (items : List Msg) (is : IsInput f.kind c items) (start : Network (Node F R) Msg Note) (cs : List Choice)
@@ -247,7 +248,7 @@ module _ {F R : Type 0} (f : Semantics R) (c : Config) (items : List Msg) (is : 
     turn_did op m (Some (Share x)) at no_share its was = absurd no_share
     turn_did op m (Some (Copy y)) at no_share its was = copy_did op y at m its was
     turn_did op m (Some (Move mv)) at no_share its was =
-        move_did op mv at (row_in mv s.store p m) (row_none mv.plan (stored_of s.store mv.plan.op) mv.phase p m) _
+        move_did op mv at (row_in mv s.store p m) (all_sent (λ x. is_of_copy x ≡ false) move_none mv.plan mv.phase (stored_of s.store mv.plan.op) p m) _
 
     asks_not : (op : ℕ) (m : Msg) (x : ShareState) → finite.get s.operations op ≡ Some (Share x) → Each (λ y. AsksNot y.1) (ctrl.hand_step s op p m).sends
     asks_not op m x there = handed_sent AsksNot others s p op m (subst (λ o. TurnSo AsksNot others o m) (sym there) (share_not op x there))
@@ -260,13 +261,6 @@ module _ {F R : Type 0} (f : Semantics R) (c : Config) (items : List Msg) (is : 
     diverted_did : (cell : FullCell) → Did (ctrl.on_diverted s cell)
     diverted_did cell = by_queue Did s cell still_did (λ op x at. share_did op x (ctrl.queue_step s cell (Some op)) at
         (queued_share s op x at (known.shared op x at).op_is cell) (queued_sent AsksNot others s p cell (Some op)))
-
-    numbered_did : (m : Msg) (o : Option ℕ) → op_of m ≡ o → Told f c items start cs log p 1 m → Did (ctrl.numbered s p m o)
-    numbered_did m None its was = still_did
-    numbered_did m (Some op) its was = handed_did op m its was
-
-    event_did : (op : ℕ) (cell : FullCell) (i : Option ℕ) → Did (ctrl.on_event s p op cell i)
-    event_did op cell i = by_sender Did s p op cell i still_did (handed_did op (msg.Event op cell) refl tt) (λ k. quiet _ refl (tt, tt))
 
     -- A command that waits.
     module _ (op : ℕ) (none : finite.get s.operations op ≡ None) where
@@ -332,15 +326,15 @@ module _ {F R : Type 0} (f : Semantics R) (c : Config) (items : List Msg) (is : 
         by_got (Some x) at = still_did
 
     row_did : (m : Msg) → Label f g p 1 m → Told f c items start cs log p 1 m → Did (ctrl.row s p m)
-    row_did (msg.Asked a) label was =
-        elim (p == 0) as (λ b. Did (if b then ctrl.on_asked s a else still s)) [ true ↦ asked_did a.op a.what label.2.known | false ↦ still_did ]
-    row_did (msg.Diverted cell) label was =
-        elim (p == 0) as (λ b. Did (if b then ctrl.on_diverted s cell else still s)) [ true ↦ diverted_did cell | false ↦ still_did ]
-    row_did msg.End label was =
-        elim (p == 0) as (λ b. Did (if b then still (record s { end_came = true }) else still s)) [ true ↦ quiet _ refl tt | false ↦ still_did ]
-    row_did (msg.Event op cell) label was = event_did op cell (ctrl.instance_at s p)
-    row_did msg.Final label was = by_stop Did s (ctrl.instance_at s p) still_did (λ k. quiet _ refl tt)
-    row_did m label was = numbered_did m (op_of m) refl was
+    row_did = row_by s p (λ m did. Label f g p 1 m → Told f c items start cs log p 1 m → Did did) (record {
+      still = λ m label was. still_did;
+      ended = λ label was. quiet _ refl tt;
+      stopped = λ i label was. quiet _ refl tt;
+      returned = λ op i cell label was. quiet _ refl (tt, tt);
+      handed = λ op m its label was. handed_did op m its was;
+      diverted = λ cell label was. diverted_did cell;
+      asked = λ k label was. asked_did k.op k.what label.2.known;
+    })
 
     -- with the finish behind all else
     finished_did : (did : Step) → Did did → Did (ctrl.step_and_finish did)

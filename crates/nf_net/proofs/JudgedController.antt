@@ -32,15 +32,16 @@ use Rattle.ctrl_node.specs.declared.operation.Operation.TheVariants.{Move, Copy,
 use Rattle.ctrl_node.specs.Operations.{OpenOperations, turn_of, turn_of_move}
 use Rattle.ctrl_node.specs.Controller as controller
 use Rattle.ctrl_node.specs.Controller.{ControllerState, Step, still, refusal, move_between, copy_between, share_begin, begin_step}
-use Rattle.ctrl_node.specs.Controller.{decision_step, on_asked, on_diverted, after_turn, takes_turn, hand_step, numbered, on_event}
-use Rattle.ctrl_node.specs.Controller.{on_final, instance_at, unknown_name, overlap, may_finish, step_and_finish, controller_step}
+use Rattle.ctrl_node.specs.Controller.{decision_step, on_asked, on_diverted, after_turn, takes_turn, hand_step}
+use Rattle.ctrl_node.specs.Controller.{unknown_name, overlap, may_finish, step_and_finish, controller_step}
 use Rattle.flow_filter.specs.Name.{place_of}
 use Rattle.actor_net.proofs.WeightLaws.{EachSent, sent_weight}
 use Rattle.net_world.specs.Commands.{is_begun}
 use Rattle.net_world.specs.Verdicts.{is_refusal}
 use Rattle.net_world.proofs.SentMessages.{sent-append}
+use Rattle.proof_outlines.proofs.outline.ControllerWays.{row_by}
 use Rattle.proof_outlines.proofs.outline.OperationTables.{got_insert, got_remove, gone_twice, NotShared}
-use Rattle.nf_net.proofs.answers.ControllerCases.{by_operation, by_queue, by_sender, by_stop}
+use Rattle.nf_net.proofs.answers.ControllerCases.{by_operation, by_queue}
 use Rattle.nf_net.proofs.answers.ControllerActs.{other_there}
 use Rattle.nf_net.proofs.JudgedShares.{handed_shared, queued_shared}
 use Rattle.nf_net.proofs.JudgedTables as tables
@@ -234,17 +235,6 @@ module _ (Part : ℕ → Piece → Type 0) (Verdict : ℕ → Answer → Type 0)
       diverted_is cell = by_queue StepIs c cell still_is (λ op s is.
           let it = shares op s is in queued_shared Part Verdict Goes Still log n c knows op s is it.1 (busy op (Share s) is) it.0 cell)
 
-      numbered_is : (port : ℕ) (m : Msg) (o : Option ℕ) → op_of m ≡ o → Said Part Verdict Goes port 1 m → StepIs (numbered c port m o)
-      numbered_is port m None own label = still_is
-      numbered_is port m (Some op) own label = handed_is op port m own label
-
-      event_is : (port op : ℕ) (cell : FullCell) (i : Option ℕ) → StepIs (on_event c port op cell i)
-      event_is port op cell i = by_sender StepIs c port op cell i still_is (handed_is op port (msg.Event op cell) refl tt)
-          (λ k. quiet_is c ((0, msg.Forward k (Pass op) cell) ∷ []) refl (tt, tt) (λ first. no_one n 1 first 0 (msg.Forward k (Pass op) cell) (λ y. refl)))
-
-      final_is : (i : Option ℕ) → StepIs (on_final c i)
-      final_is i = by_stop StepIs c i still_is (λ k. quiet_is _ [] refl tt (λ first op. refl))
-
       -- a command that waits, of which nothing is noted
       module _ (op : ℕ) (new : is_begun op log ≡ false) (none : finite.get c.operations op ≡ None) where
         -- before it began nothing was sent once for it
@@ -380,15 +370,16 @@ module _ (Part : ℕ → Piece → Type 0) (Verdict : ℕ → Answer → Type 0)
           by_got (Some x) is = still_is
 
       row_is : (port : ℕ) (m : Msg) → Said Part Verdict Goes port 1 m → IsNew log m → StepIs (controller.row c port m)
-      row_is port (msg.Asked a) label new =
-          elim (port == 0) as (λ b. StepIs (if b then on_asked c a else still c)) [ true ↦ asked_is a.op a.what new | false ↦ still_is ]
-      row_is port (msg.Diverted cell) label new =
-          elim (port == 0) as (λ b. StepIs (if b then on_diverted c cell else still c)) [ true ↦ diverted_is cell | false ↦ still_is ]
-      row_is port msg.End label new = elim (port == 0) as (λ b. StepIs (if b then still (record c { end_came = true }) else still c))
-          [ true ↦ quiet_is _ [] refl tt (λ first op. refl) | false ↦ still_is ]
-      row_is port (msg.Event op cell) label new = event_is port op cell (instance_at c port)
-      row_is port msg.Final label new = final_is (instance_at c port)
-      row_is port m label new = numbered_is port m (op_of m) refl label
+      row_is port = row_by c port (λ m did. Said Part Verdict Goes port 1 m → IsNew log m → StepIs did) (record {
+        still = λ m said new. still_is;
+        ended = λ said new. quiet_is _ [] refl tt (λ first op. refl);
+        stopped = λ i said new. quiet_is _ [] refl tt (λ first op. refl);
+        returned = λ op i cell said new.
+            quiet_is c ((0, msg.Forward i (Pass op) cell) ∷ []) refl (tt, tt) (λ first. no_one n 1 first 0 (msg.Forward i (Pass op) cell) (λ y. refl));
+        handed = λ op m its said new. handed_is op port m its said;
+        diverted = λ cell said new. diverted_is cell;
+        asked = λ k said new. asked_is k.op k.what new;
+      })
 
       pub controller_judges : (port : ℕ) (m : Msg) → Said Part Verdict Goes port 1 m → IsNew log m → StepIs (controller_step c port m)
       controller_judges port m label new = finished_is (controller.row c port m) (row_is port m label new)

@@ -34,7 +34,6 @@ pub mod MemberLemmas
 pub mod MembersServed
 pub mod MoveJudged
 pub mod MovedRecords
-pub mod NoCopyMessages
 pub mod NumberedChunks
 pub mod NumberedUnits
 pub mod OutputLemmas

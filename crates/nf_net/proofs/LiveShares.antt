@@ -47,7 +47,7 @@ use Rattle.net_world.specs.Places.{is_at, is_home, owner, shared_among}
 use Rattle.net_world.specs.Records.{live_in, live_at}
 use Rattle.proof_outlines.proofs.outline.FiltersApart.{unit_fits, is_whole, takes_whole}
 use Rattle.proof_outlines.proofs.outline.Outline.{is_sys}
-use Rattle.proof_outlines.proofs.outline.SwitchOutline.{same_node}
+use Rattle.proof_outlines.proofs.whole.SwitchAll.{same_node}
 use Rattle.proof_outlines.proofs.whole.OpenShares.{Both, RealShare, real_share}
 use Rattle.proof_outlines.proofs.joined.Given.{Given, place}
 use Rattle.proof_outlines.proofs.joined.Joined.{S, A, IsShare, Joined, came_by}

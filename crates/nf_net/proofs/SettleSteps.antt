@@ -1,14 +1,11 @@
 -- Each choice of a run keeps that the switch counts the commands that wait for their answer, and so that what stands before a settle that
 -- it has taken is answered.
-use Rattle.std.proofs.Common.{◌≡◌, ◌≢◌, ℕ, zero, suc, ◌+◌, ◌-◌, ◌^◌, ◌<◌, ◌≤◌, Bool, true, false, List, [], ◌∷◌, ◌++◌}
-use Rattle.std.proofs.Common.{length, length-append, get_or, drop, append_assoc, refl, sym, ap, ◌∙◌, subst, arith}
+use Rattle.std.proofs.Common.{◌≡◌, ◌≢◌, ℕ, suc, ◌+◌, ◌-◌, ◌^◌, ◌<◌, ◌≤◌, true, false, List, [], ◌∷◌, ◌++◌}
+use Rattle.std.proofs.Common.{length, length-append, get_or, refl, ap, ◌∙◌, arith}
 use Rattle.std.specs.Prelude.{if◌then◌else◌, ◌&&◌, ◌||◌, ◌==◌, not, nat_lt, min}
-use Rattle.std.specs.declared.alloc.Global.{Global}
-use Rattle.std.proofs.lemmas.Bool.Decides.{nat_tests, Decides-eqb, Decides-ltb}
+use Rattle.std.proofs.lemmas.Bool.Decides.{Decides-ltb}
 use Rattle.proof_machines.proofs.share.Lists.{cond-same}
-use Rattle.nf_function.specs.Records.{Laws as FunctionLaws}
 use Rattle.nf_function.specs.Semantics.{Semantics}
-use Rattle.nf_msgs.specs.declared.answer.Answer.{Answer}
 use Rattle.nf_msgs.specs.declared.msg.Msg.{Msg}
 use Rattle.nf_msgs.specs.declared.msg.Msg.TheVariants as msg
 use Rattle.nf_msgs.specs.declared.note.Note.{Note}
@@ -23,35 +20,24 @@ use Rattle.nf_msgs.specs.Nodes.{instance_node}
 use Rattle.switch_node.specs.declared.switch.TheConstants.{MOST_WAITING}
 use Rattle.switch_node.specs.Switch as switches
 use Rattle.switch_node.specs.Switch.{SwitchState, switch_step, takes_in}
-use Rattle.ctrl_node.specs.Controller.{controller_step}
-use Rattle.actor_net.specs.Network.{Network, Stepped, is_input, reaches, world_next, queue_at}
+use Rattle.actor_net.specs.Network.{Network, reaches, queue_at}
 use Rattle.actor_net.proofs.EnabledChoices.{at}
-use Rattle.actor_net.proofs.StepOutcome.{Takes, taken_outcome}
-use Rattle.actor_net.proofs.WaitingMessages.{less_first}
-use Rattle.actor_net.proofs.WeightLaws.{EachSent, weigh, total, sent_weight, total_after}
+use Rattle.actor_net.proofs.WeightLaws.{EachSent, weigh, total, sent_weight}
 use Rattle.proof_machines.proofs.unit.Labels.{Each, each_map}
 use Rattle.proof_machines.proofs.net.Waits.{Rising}
-use Rattle.net_world.specs.declared.config.Config.{Config}
 use Rattle.net_world.specs.declared.node.Node.{Node}
 use Rattle.net_world.specs.declared.node.Node.TheVariants.{Switch}
-use Rattle.net_world.specs.Commands.{is_begun, has_answered, answers_of}
-use Rattle.net_world.specs.Input.{commands, IsInput}
-use Rattle.net_world.specs.Nodes.{node_step, node_ready}
-use Rattle.net_world.proofs.LogLemmas.{answers_of-append}
+use Rattle.net_world.specs.Commands.{is_begun, has_answered}
+use Rattle.net_world.specs.Input.{commands}
 use Rattle.nf_net.proofs.answers.AnswerSends.{answering}
 use Rattle.nf_net.proofs.answers.BusyController.{told_in}
-use Rattle.nf_net.proofs.answers.BusyLemmas.{is_noted, or_off, other_not_answered}
-use Rattle.nf_net.proofs.answers.BusyNodes.{switch_hands, instance_says}
+use Rattle.nf_net.proofs.answers.BusyLemmas.{is_noted, or_off}
 use Rattle.nf_net.proofs.answers.BusyRuns.{Busy, waits_of}
-use Rattle.nf_net.proofs.answers.ControllerActs.{SaysSo, SaysSo.Neither, SaysSo.Begins, SaysSo.Answers, controller_acts}
-use Rattle.proof_outlines.proofs.joined.KnownOperations.{known}
 use Rattle.proof_outlines.proofs.joined.Given.{Given}
-use Rattle.proof_outlines.proofs.joined.Joined.{Label, Joined, node_of}
+use Rattle.proof_outlines.proofs.joined.Joined.{Label}
 use Rattle.nf_net.proofs.answers.LinePicks.{picked}
 use Rattle.nf_net.proofs.SettleCounts.{answered_in, AllAnswered, answered_in-append, answered_most, all_answered, none_answered_in}
-use Rattle.nf_net.proofs.SettleCounts.{all_answered_more, answered_in_same, answered_one, low_commands, commands-append, same_ends}
-use Rattle.proof_outlines.proofs.joined.StartJoined.{given}
-use Rattle.nf_net.proofs.answers.ToldCommands.{some_answers}
+use Rattle.nf_net.proofs.SettleCounts.{low_commands, commands-append}
 
 abbrev pub switch_in : {F R : Type 0} → SwitchState → Node F R → SwitchState
 switch_in s (Switch t) = t

@@ -4,11 +4,11 @@ pub mod ControllerWays
 pub mod CopyTurns
 pub mod FiltersApart
 pub mod InstanceOutline
+pub mod InstanceWays
 pub mod LinkOutline
 pub mod MoveOutline
 pub mod MoveRows
 pub mod OperationTables
 pub mod Outline
 pub mod StateOutline
-pub mod SwitchOutline
 pub mod SwitchWays

@@ -17,7 +17,6 @@ use Rattle.nf_msgs.specs.declared.msg.Msg.{Msg}
 use Rattle.nf_msgs.specs.declared.msg.Msg.TheVariants as msg
 use Rattle.nf_msgs.specs.declared.note.Note.{Note}
 use Rattle.nf_msgs.specs.declared.note.Note.TheVariants as note
-use Rattle.nf_msgs.specs.MessageParts.{op_of}
 use Rattle.event_store.specs.Store.{stored_of}
 use Rattle.copy_share.specs.declared.copy_phase.CopyPhase.TheVariants.{Keeping}
 use Rattle.copy_share.specs.Copy.{CopyPlan, CopyState}
@@ -30,13 +29,14 @@ use Rattle.ctrl_node.specs.declared.operation.Operation.TheVariants.{Move, Copy,
 use Rattle.ctrl_node.specs.Operations.{turn_of, turn_of_move}
 use Rattle.ctrl_node.specs.Controller as controller
 use Rattle.ctrl_node.specs.Controller.{ControllerState, Step, still, refusal, move_between, copy_between, share_begin, begin_step}
-use Rattle.ctrl_node.specs.Controller.{decision_step, on_asked, on_diverted, queue_step, after_turn, takes_turn, hand_step, numbered}
-use Rattle.ctrl_node.specs.Controller.{on_event, on_final, instance_at, may_finish, finish_of, step_and_finish, controller_step}
+use Rattle.ctrl_node.specs.Controller.{decision_step, on_asked, on_diverted, queue_step, after_turn, takes_turn, hand_step}
+use Rattle.ctrl_node.specs.Controller.{may_finish, finish_of, step_and_finish, controller_step}
 use Rattle.flow_filter.specs.Name.{place_of}
 use Rattle.actor_net.specs.Network.{reaches}
 use Rattle.actor_net.proofs.WeightLaws.{sent_weight}
-use Rattle.nf_net.proofs.answers.ControllerCases.{by_operation, by_queue, by_sender, by_stop}
+use Rattle.nf_net.proofs.answers.ControllerCases.{by_operation, by_queue}
 use Rattle.nf_net.proofs.answers.AnswerSends.{answering, NoAnswer, none_weighs, row_quiet}
+use Rattle.proof_outlines.proofs.outline.ControllerWays.{row_by}
 use Rattle.proof_outlines.proofs.joined.ControllerChanges.{NotMove}
 use Rattle.proof_outlines.proofs.outline.CopyTurns.{CopyTurn, Idle, Hands, Hands_all, Ends, hands, ends}
 use Rattle.proof_outlines.proofs.joined.KnownOperations.{AreKnown, copy_turns}
@@ -238,17 +238,6 @@ module _ (g : Given) (n : ℕ) (reach : reaches n 1 0 ≡ true) (c : ControllerS
     diverted_acts cell =
         by_queue Acts c cell still_acts (λ op s is. share_acts op s is (queue_step c cell (Some op)) (queued_share c op s is (are.shares op s is).0 cell))
 
-    numbered_acts : (port : ℕ) (m : Msg) (o : Option ℕ) → Acts (numbered c port m o)
-    numbered_acts port m None = still_acts
-    numbered_acts port m (Some op) = handed_acts op port m
-
-    event_acts : (port op : ℕ) (cell : FullCell) (i : Option ℕ) → Acts (on_event c port op cell i)
-    event_acts port op cell i = by_sender Acts c port op cell i still_acts (handed_acts op port (msg.Event op cell))
-        (λ k. quiet_acts c ((0, msg.Forward k (mark.Pass op) cell) ∷ []) refl (refl, tt))
-
-    final_acts : (i : Option ℕ) → Acts (on_final c i)
-    final_acts i = by_stop Acts c i still_acts (λ k. quiet_acts _ [] refl tt)
-
     -- a command that waits
     module _ (op : ℕ) (none : finite.get c.operations op ≡ None) where
       between_acts : (filter : Filter) (keep : Bool) (a b : Option ℕ) → Acts (move_between c op filter keep a b)
@@ -310,15 +299,15 @@ module _ (g : Given) (n : ℕ) (reach : reaches n 1 0 ≡ true) (c : ControllerS
         by_got (Some x) is = still_acts
 
     row_acts : {R : Type 0} (f : Semantics R) (port : ℕ) (m : Msg) → Label f g port 1 m → Acts (controller.row c port m)
-    row_acts f port (msg.Asked a) label =
-        elim (port == 0) as (λ b. Acts (if b then on_asked c a else still c)) [ true ↦ asked_acts a.op a.what label.2.known | false ↦ still_acts ]
-    row_acts f port (msg.Diverted cell) label =
-        elim (port == 0) as (λ b. Acts (if b then on_diverted c cell else still c)) [ true ↦ diverted_acts cell | false ↦ still_acts ]
-    row_acts f port msg.End label = elim (port == 0) as (λ b. Acts (if b then still (record c { end_came = true }) else still c))
-        [ true ↦ quiet_acts _ [] refl tt | false ↦ still_acts ]
-    row_acts f port (msg.Event op cell) label = event_acts port op cell (instance_at c port)
-    row_acts f port msg.Final label = final_acts (instance_at c port)
-    row_acts f port m label = numbered_acts port m (op_of m)
+    row_acts f port = row_by c port (λ m did. Label f g port 1 m → Acts did) (record {
+      still = λ m label. still_acts;
+      ended = λ label. quiet_acts _ [] refl tt;
+      stopped = λ i label. quiet_acts _ [] refl tt;
+      returned = λ op i cell label. quiet_acts c ((0, msg.Forward i (mark.Pass op) cell) ∷ []) refl (refl, tt);
+      handed = λ op m its label. handed_acts op port m;
+      diverted = λ cell label. diverted_acts cell;
+      asked = λ k label. asked_acts k.op k.what label.2.known;
+    })
 
     pub controller_acts : {R : Type 0} (f : Semantics R) (port : ℕ) (m : Msg) → Label f g port 1 m → Acts (controller_step c port m)
     controller_acts f port m label = finished_acts (controller.row c port m) (row_acts f port m label)

@@ -1,21 +1,14 @@
 -- How many cells a step sends home, and how many packets it notes: an instance sends one home for each packet that it processes.
-use Rattle.std.proofs.Common.{◌≡◌, ℕ, ◌+◌, ◌<◌, ◌≤◌, Bool, true, false, Option, Some, None, Result, Ok, Err}
+use Rattle.std.proofs.Common.{◌≡◌, ℕ, ◌+◌, ◌<◌, ◌≤◌, true, false, Option, Some, None}
 use Rattle.std.proofs.Common.{List, [], ◌∷◌, ◌++◌, map, length, length-append, refl, sym, ap, ◌∙◌, arith}
-use Rattle.std.specs.Prelude.{if◌then◌else◌, ◌||◌, nat_lt}
+use Rattle.std.specs.Prelude.{if◌then◌else◌, ◌||◌}
 use Rattle.proof_machines.proofs.share.Lists.{cond-same}
-use Rattle.flow_filter.specs.Flow.{flow_of}
 use Rattle.nf_function.specs.declared.chunk.Chunk.{Chunk}
 use Rattle.nf_function.specs.declared.unit.Unit as units
 use Rattle.nf_function.specs.Semantics.{Semantics, unit_at}
-use Rattle.record_table.specs.Chunks.{are_good}
 use Rattle.event_filter.specs.declared.mark.Mark.{Mark}
 use Rattle.event_filter.specs.declared.mark.Mark.TheVariants as mark
-use Rattle.event_filter.specs.declared.decide.Decide.{Decide}
-use Rattle.event_filter.specs.declared.decide.Decide.TheVariants as decide
-use Rattle.event_filter.specs.Rules as rules
 use Rattle.packet_pool.specs.Pool.{FullCell}
-use Rattle.state_chunk.specs.declared.fault.ChunkFault.{ChunkFault}
-use Rattle.nf_msgs.specs.declared.answer.Answer.{Answer}
 use Rattle.nf_msgs.specs.declared.msg.Piece.{Piece}
 use Rattle.nf_msgs.specs.declared.msg.Msg.{Msg}
 use Rattle.nf_msgs.specs.declared.msg.Msg.TheVariants as msg
@@ -23,12 +16,12 @@ use Rattle.nf_msgs.specs.declared.note.Note.{Note}
 use Rattle.instance_worker.specs.declared.instance.Instance.{Instance}
 use Rattle.instance_worker.specs.Pieces.{pieces}
 use Rattle.instance_worker.specs.Instance.{Step, to_controller, chunk_told, share_message, still, tell_step, tells_and_notes, and_then, selected_chunks}
-use Rattle.instance_worker.specs.Instance.{process_step, all_processed, carry_step, where_good, piece_refusal, piece_put, instance_step, on_carry}
-use Rattle.instance_worker.specs.Instance.{on_fence, on_get, on_stream, on_put, on_restore, on_standby, on_sync, on_put_all, tally_put}
+use Rattle.instance_worker.specs.Instance.{process_step, instance_step}
 use Rattle.actor_net.specs.Network.{reaches}
 use Rattle.actor_net.proofs.WeightLaws.{EachSent, sent_weight}
 use Rattle.net_world.specs.Log.{arrivals_in, dones_in}
 use Rattle.net_world.proofs.LogLemmas.{arrived-append, done-append}
+use Rattle.proof_outlines.proofs.outline.InstanceWays.{instance_fits}
 use Rattle.proof_outlines.proofs.joined.Given.{Given}
 use Rattle.proof_outlines.proofs.joined.Joined.{Label}
 
@@ -110,88 +103,32 @@ module _ {F R : Type 0} (f : Semantics R) (n k : ℕ) (reach : reaches n k 0 ≡
       let home : sent_weight credit n k ((0, msg.Credit cell) ∷ []) ≡ 1 = rw reach refl in
       record { came = refl; even = omega (arith, both, told_is, home) }
 
-  all_processed_are : (i : Instance F R) (cells : List FullCell) → IsEven (all_processed f i cells)
-  unfolding all_processed
-  all_processed_are i [] = still_is i
-  all_processed_are i (cell ∷ cells) = both_are (process_step f i mark.Plain cell) (λ j. all_processed f j cells) (processed_is i mark.Plain cell)
-      (all_processed_are (process_step f i mark.Plain cell).node cells)
-
-  carried_is : (i : Instance F R) (m : Mark) (cell : FullCell) (d : Decide) → IsEven (carry_step f i m cell d)
-  carried_is i m cell decide.Process = processed_is i m cell
-  carried_is i m cell (decide.ProcessAndEvent op) = both_are (process_step f i m cell) (λ j. tell_step j (msg.Seen op cell.packet)) (processed_is i m cell)
-      (tells_is (process_step f i m cell).node (msg.Seen op cell.packet) refl)
-  carried_is i m cell (decide.Event op) = tells_is i (msg.Event op cell) refl
-  carried_is i m cell (decide.Buffer op) = still_is (record i { rules = rules.with_held i.rules op cell })
-
-  carry_is : (i : Instance F R) (m : Mark) (cell : FullCell) → IsEven (on_carry f i m cell)
-  unfolding on_carry
-  carry_is i m cell = carried_is i m cell (rules.decide i.rules (flow_of i.site cell.packet).0 m)
-
-  fence_is : (i : Instance F R) (op : ℕ) → IsEven (on_fence f i op)
-  unfolding on_fence
-  fence_is i op =
-      let all = all_processed f (record i { rules = rules.without_rule i.rules op }) (rules.held_at i.rules op) in
-      both_are all (λ j. tell_step j (msg.Fenced op)) (all_processed_are (record i { rules = rules.without_rule i.rules op }) (rules.held_at i.rules op))
-      (tells_is all.node (msg.Fenced op) refl)
-
-  good_is : (i : Instance F R) (chunks : List Chunk) (step : Step F R) → IsEven step → IsEven (where_good f i chunks step)
-  good_is i chunks step h = elim (are_good f chunks) as (λ b. IsEven (if b then step else still i)) [ true ↦ h | false ↦ still_is i ]
-
-  get_is : (i : Instance F R) (op : ℕ) (filter : _) → IsEven (on_get f i op filter)
-  unfolding on_get
-  get_is i op filter = notes_is i (msg.Chunks op (selected_chunks f i filter)) _ refl refl refl
-
-  stream_is : (i : Instance F R) (op : ℕ) (filter : _) → IsEven (on_stream f i op filter)
-  unfolding on_stream
-  stream_is i op filter = record { came = refl; even = all_told n k (msg.Piece op) (λ p. refl) (pieces (selected_chunks f i filter)) }
-
-  put_it_is : (i : Instance F R) (op : ℕ) (piece : Piece) (answered : Bool) (o : Option Answer) → IsEven (piece_put f i op piece answered o)
-  put_it_is i op piece answered (Some why) = tells_is i (msg.PutNo op (record { why = why; chunks = piece.chunks })) refl
-  put_it_is i op piece answered None = good_is i piece.chunks _ (record {
-    came = refl;
-    even = elim answered as (λ b. sent_weight credit n k (to_controller (if b then msg.PutOk op ∷ [] else [])) ≡ 0)
-        [ true ↦ told_none n k (msg.PutOk op) refl | false ↦ refl ];
-  })
-
-  put_is : (i : Instance F R) (op : ℕ) (piece : Piece) (first : Bool) → IsEven (on_put f i op piece first)
-  unfolding on_put
-  put_is i op piece first = elim (nat_lt piece.total (length piece.chunks))
-      as (λ b. IsEven (if b then still i else piece_put f i op piece (first || piece.last) (if first then piece_refusal i piece else None)))
-      [ true ↦ still_is i | false ↦ put_it_is i op piece (first || piece.last) (if first then piece_refusal i piece else None) ]
-
-  restore_is : (i : Instance F R) (op : ℕ) (chunks : List Chunk) → IsEven (on_restore f i op chunks)
-  unfolding on_restore
-  restore_is i op chunks = good_is i chunks _ (notes_is _ (msg.Restored op) _ refl refl refl)
-
-  standby_is : (i : Instance F R) (op : ℕ) (chunks : List Chunk) → IsEven (on_standby f i op chunks)
-  unfolding on_standby
-  standby_is i op chunks = good_is i chunks _ (notes_is _ (msg.Kept op) _ refl refl refl)
-
-  sync_is : (i : Instance F R) (home : Bool) (op : ℕ) (chunks : List Chunk) → IsEven (on_sync f i home op chunks)
-  unfolding on_sync
-  sync_is i home op chunks = good_is i chunks _ (notes_is _ (msg.Synced op) _ refl refl refl)
-
-  tally_is : (i : Instance F R) (op : ℕ) (read : Result (List ℕ) ChunkFault) → IsEven (tally_put i op read)
-  tally_is i op (Ok slots) = tells_is _ (msg.Kept op) refl
-  tally_is i op (Err fault) = still_is i
-
-  put_all_is : (i : Instance F R) (op : ℕ) (chunk : Chunk) → IsEven (on_put_all f i op chunk)
-  unfolding on_put_all
-  put_all_is i op chunk = tally_is i op _
-
   -- what an instance does with any message
   pub instance_is : (i : Instance F R) (m : Msg) → IsEven (instance_step f i m)
-  instance_is i (msg.Carry mark parcel) = carry_is i mark parcel
-  instance_is i (msg.Fence op) = fence_is i op
-  instance_is i msg.Stop = tells_is (record i { ended = true }) msg.Final refl
-  instance_is i (msg.Enable op filter action) = tells_is _ (msg.Enabled op) refl
-  instance_is i (msg.Get op filter) = get_is i op filter
-  instance_is i (msg.Stream op filter) = stream_is i op filter
-  instance_is i (msg.GetAll op) = tells_is i (msg.AllChunk op _) refl
-  instance_is i (msg.Delete op gone) = tells_is _ (msg.Deleted op) refl
-  instance_is i (msg.Put op piece first) = put_is i op piece first
-  instance_is i (msg.Restore op chunks) = restore_is i op chunks
-  instance_is i (msg.Standby op chunks) = standby_is i op chunks
-  instance_is i (msg.PutAll op chunk) = put_all_is i op chunk
-  instance_is i (msg.Sync home op chunks) = sync_is i home op chunks
-  instance_is i m = still_is i
+  instance_is = instance_fits f (λ _ _ did. IsEven did) (record {
+    still = λ i m. still_is i;
+    held = λ i mk cell op. still_is _;
+    processed = λ i mk cell. processed_is i mk cell;
+    released = λ i op cell. processed_is i mark.Plain cell;
+    both = λ i m did next w a b. both_are did next a b;
+    unruled = λ i op did h. h;
+    seen = λ i mk cell op. tells_is i (msg.Seen op cell.packet) refl;
+    event = λ i mk cell op. tells_is i (msg.Event op cell) refl;
+    fenced = λ i op. tells_is i (msg.Fenced op) refl;
+    stopped = λ i. tells_is (record i { ended = true }) msg.Final refl;
+    enabled = λ i op filter action. tells_is _ (msg.Enabled op) refl;
+    given = λ i op filter. notes_is i (msg.Chunks op (selected_chunks f i filter)) _ refl refl refl;
+    streamed = λ i op filter. record { came = refl; even = all_told n k (msg.Piece op) (λ p. refl) (pieces (selected_chunks f i filter)) };
+    all_given = λ i op. tells_is i (msg.AllChunk op _) refl;
+    deleted = λ i op gone. tells_is _ (msg.Deleted op) refl;
+    refused = λ i op piece first why is. tells_is i (msg.PutNo op (record { why = why; chunks = piece.chunks })) refl;
+    taken = λ i op piece first is. record {
+      came = refl;
+      even = elim (first || piece.last) as (λ b. sent_weight credit n k (to_controller (if b then msg.PutOk op ∷ [] else [])) ≡ 0)
+          [ true ↦ told_none n k (msg.PutOk op) refl | false ↦ refl ];
+    };
+    restored = λ i op chunks. notes_is _ (msg.Restored op) _ refl refl refl;
+    stood_by = λ i op chunks. notes_is _ (msg.Kept op) _ refl refl refl;
+    synced = λ i home op chunks. notes_is _ (msg.Synced op) _ refl refl refl;
+    merged = λ i op chunk slots is. tells_is _ (msg.Kept op) refl;
+  })

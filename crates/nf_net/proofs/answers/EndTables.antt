@@ -3,7 +3,7 @@
 use Rattle.std.proofs.Common.{◌≡◌, ℕ, zero, suc, ◌+◌, ◌-◌, ◌≤◌, Bool, true, false, cond, Option}
 use Rattle.std.proofs.Common.{Some, None, List, [], ◌∷◌, ◌++◌, refl, sym, ap, ◌∙◌, subst, arith}
 use Rattle.std.specs.Prelude.{if◌then◌else◌, ◌&&◌, ◌||◌, ◌==◌, not, nat_lt}
-use Rattle.std.specs.List.{filter_map, list_all}
+use Rattle.std.specs.List.{list_all}
 use Rattle.std.specs.Ordering.{nat_cmp, eq_by_cmp}
 use Rattle.std.specs.FinMap as finite
 use Rattle.std.proofs.lemmas.Bool.{and_parts}
@@ -16,9 +16,6 @@ use Rattle.switch_rules.specs.declared.target.Target.{Target}
 use Rattle.switch_rules.specs.declared.target.Target.TheVariants as target
 use Rattle.switch_rules.specs.Rules.{rules_redirected}
 use Rattle.nf_msgs.specs.declared.answer.Answer.{Answer}
-use Rattle.nf_msgs.specs.declared.command.Command.{Command}
-use Rattle.nf_msgs.specs.declared.command.Order.{Order}
-use Rattle.nf_msgs.specs.declared.command.Order.TheVariants as order
 use Rattle.nf_msgs.specs.declared.msg.Msg.{Msg}
 use Rattle.nf_msgs.specs.declared.msg.Msg.TheVariants as msg
 use Rattle.nf_msgs.specs.declared.note.Note.{Note}
@@ -37,14 +34,14 @@ use Rattle.copy_share.specs.declared.share_phase.SharePhase.TheVariants as phase
 use Rattle.copy_share.specs.Share.{ShareState, is_idle}
 use Rattle.ctrl_node.specs.Operations.{OpenOperations, turn_of, is_quiet, are_quiet}
 use Rattle.ctrl_node.specs.Controller as controller
-use Rattle.ctrl_node.specs.Controller.{ControllerState, Step, still, refusal, move_between, copy_between, share_begin, begin_step, decision_step}
-use Rattle.ctrl_node.specs.Controller.{on_asked, on_diverted, queue_step, takes_turn, hand_step, numbered, on_event, on_final, instance_at}
-use Rattle.flow_filter.specs.Name.{place_of}
+use Rattle.ctrl_node.specs.Controller.{ControllerState, Step, still}
+use Rattle.ctrl_node.specs.Controller.{on_diverted, queue_step, takes_turn, hand_step, numbered, on_event, on_final, instance_at}
 use Rattle.switch_node.specs.Switch as switch
 use Rattle.switch_node.specs.Switch.{SwitchState, switch_step, stop_messages, sends_to_instance, goes_to, target_of, has_room, is_there}
 use Rattle.nf_net.proofs.answers.ControllerCases.{by_operation, by_queue, by_sender, by_stop}
 use Rattle.nf_net.proofs.answers.InstallCounts.{finish}
 use Rattle.nf_net.proofs.answers.ShareTells.{is_set_up, Tells, turn_end, ShareStep, handed_share, queued_share}
+use Rattle.proof_outlines.proofs.outline.ControllerWays.{row_fits}
 use Rattle.proof_outlines.proofs.outline.OperationTables.{NotShared}
 use Rattle.proof_outlines.proofs.joined.KnownOperations.{AreKnown}
 use Rattle.proof_outlines.proofs.joined.Given.{Given}
@@ -192,35 +189,23 @@ module _ (g : Given) (c : ControllerState) (are : AreKnown g c) where
   abbrev SameEnd : Step → Type 0
   SameEnd did = did.node.end_came ≡ c.end_came
 
-  between_end : (op : ℕ) (filter : Filter) (keep : Bool) (a b : Option ℕ) → SameEnd (move_between c op filter keep a b)
-  between_end op filter keep (Some a) (Some b) = refl
-  between_end op filter keep None b = refl
-  between_end op filter keep (Some a) None = refl
+  abbrev is_asked : Msg → Bool
+  is_asked (msg.Asked k) = true
+  is_asked m = false
 
-  copies_end : (op : ℕ) (filter : Option Filter) (a b : Option ℕ) → SameEnd (copy_between c op filter a b)
-  copies_end op filter (Some a) (Some b) = refl
-  copies_end op filter None b = refl
-  copies_end op filter (Some a) None = refl
-
-  shares_end : (op : ℕ) (filter : Filter) (members : List ℕ) → SameEnd (share_begin c op filter members)
-  shares_end op filter [] = refl
-  shares_end op filter (home ∷ others) = refl
-
-  begins_end : (op : ℕ) (what : Order) → SameEnd (begin_step c op what)
-  begins_end op (order.Move source destination filter keep) = between_end op filter keep (place_of c.names source) (place_of c.names destination)
-  begins_end op (order.Copy source destination filter) = copies_end op filter (place_of c.names source) (place_of c.names destination)
-  begins_end op (order.Share members filter) = shares_end op filter (filter_map (place_of c.names) members)
-
-  decided_end : (op : ℕ) (what : Order) (o : Option Answer) → SameEnd (decision_step c op what o)
-  decided_end op what (Some a) = refl
-  decided_end op what None = begins_end op what
-
-  asked_end : (p : ℕ) (k : Command) → SameEnd (controller.row c p (msg.Asked k))
-  asked_end p k = elim (p == 0) as (λ b. SameEnd (if b then on_asked c k else still c)) [
-    | true ↦ elim (finite.contains_key c.operations k.op) as (λ b. SameEnd (if b then still c else decision_step c k.op k.what (refusal c k.what)))
-        [ true ↦ refl | false ↦ decided_end k.op k.what (refusal c k.what) ]
-    | false ↦ refl
-  ]
+  asked_end : (p : ℕ) (m : Msg) → is_asked m ≡ true → SameEnd (controller.row c p m)
+  asked_end = row_fits c (λ m did. is_asked m ≡ true → SameEnd did) (record {
+    still = λ m asked. refl;
+    ended = λ asked. cc;
+    stopped = λ i asked. cc;
+    returned = λ op i cell asked. refl;
+    handed = λ op port m asked. (handed_rests op port m).end_same;
+    queued = λ op cell asked. refl;
+    answers = λ k op answer asked. refl;
+    moves = λ k op from to filter keep asked. refl;
+    copies = λ k op from to filter asked. refl;
+    shares = λ k op filter home others asked. refl;
+  })
 
   -- what is left of the way to the controller after its step, and what it says
   pub record Ended (did : Step) (way : List Bool) : Type 0 where
@@ -235,7 +220,7 @@ module _ (g : Given) (c : ControllerState) (are : AreKnown g c) where
       pub row_ends : (p : ℕ) (m : Msg) → Label f g p 1 m → in_order (sign_in m ++ way) ≡ true → (c.end_came ≡ true → no_command (sign_in m ++ way) ≡ true)
           → Ended (controller.row c p m) way
       row_ends p (msg.Asked k) label ordered ended = record {
-        ended = λ e. (let never : false ≡ true = ended (sym (asked_end p k) ∙ e) in cc);
+        ended = λ e. (let never : false ≡ true = ended (sym (asked_end p (msg.Asked k) refl) ∙ e) in cc);
         settled = λ e h. absurd (let never : false ≡ true = ended e in wrong never);
       }
       row_ends p msg.End label ordered ended = elim (p == 0) as (λ b. (p == 0) ≡ b → Ended (if b then still (record c { end_came = true }) else still c) way) [

@@ -17,7 +17,6 @@ use Rattle.nf_msgs.specs.declared.msg.Msg.{Msg}
 use Rattle.nf_msgs.specs.declared.msg.Msg.TheVariants as msg
 use Rattle.nf_msgs.specs.declared.note.Note.TheVariants as note
 use Rattle.nf_msgs.specs.Nodes.{instance_node}
-use Rattle.nf_msgs.specs.MessageParts.{op_of}
 use Rattle.copy_share.specs.declared.copy_phase.CopyPhase.TheVariants.{Keeping}
 use Rattle.copy_share.specs.Copy.{CopyState}
 use Rattle.copy_share.specs.Copy as copy
@@ -31,16 +30,17 @@ use Rattle.ctrl_node.specs.declared.operation.Operation.TheVariants.{Move, Copy,
 use Rattle.ctrl_node.specs.Operations.{turn_of, turn_of_move}
 use Rattle.ctrl_node.specs.Controller as controller
 use Rattle.ctrl_node.specs.Controller.{ControllerState, Step, still, refusal, opening_step, move_between, copy_between, share_begin, begin_step}
-use Rattle.ctrl_node.specs.Controller.{decision_step, on_asked, on_diverted, queue_step, after_turn, takes_turn, hand_step, numbered, on_event}
-use Rattle.ctrl_node.specs.Controller.{on_final, instance_at, unknown_name, overlap, may_finish, finish_of, step_and_finish, controller_step}
+use Rattle.ctrl_node.specs.Controller.{decision_step, on_asked, on_diverted, queue_step, after_turn, takes_turn, hand_step}
+use Rattle.ctrl_node.specs.Controller.{unknown_name, overlap, may_finish, finish_of, step_and_finish, controller_step}
 use Rattle.flow_filter.specs.Name.{place_of}
 use Rattle.actor_net.specs.Network.{reaches}
 use Rattle.actor_net.proofs.WeightLaws.{sent_weight}
 use Rattle.net_world.specs.Commands.{answers_of}
+use Rattle.proof_outlines.proofs.outline.ControllerWays.{row_by}
 use Rattle.proof_outlines.proofs.outline.OperationTables.{got_insert, got_remove, gone_twice, NotShared}
 use Rattle.proof_outlines.proofs.outline.CopyTurns.{CopyTurn, Idle, Hands, Hands_all, Ends, hands, ends}
 use Rattle.proof_outlines.proofs.joined.KnownOperations.{AreKnown, copy_turns}
-use Rattle.nf_net.proofs.answers.ControllerCases.{by_operation, by_queue, by_sender, by_stop}
+use Rattle.nf_net.proofs.answers.ControllerCases.{by_operation, by_queue}
 use Rattle.nf_net.proofs.answers.CreditCounts.{sent_weight-append}
 use Rattle.nf_net.proofs.answers.InstallCounts.{sent_of, install, finish, done_in, passed, Adds, NoInstall, no_one, no_both, row_adds}
 use Rattle.nf_net.proofs.answers.ShareTells.{ShareStep, handed_share, queued_share}
@@ -232,17 +232,6 @@ module _ (n : ℕ) (reach : reaches n 1 0 ≡ true) (g : Given) (k : ℕ) (c : C
     diverted_is cell =
         by_queue Counts c cell still_is (λ op s is. share_is op s is (queue_step c cell (Some op)) (queued_share c op s is (are.shares op s is).0 cell))
 
-    numbered_is : (port : ℕ) (m : Msg) (o : Option ℕ) → Counts (numbered c port m o)
-    numbered_is port m None = still_is
-    numbered_is port m (Some op) = handed_is op port m
-
-    event_is : (port op : ℕ) (cell : FullCell) (i : Option ℕ) → Counts (on_event c port op cell i)
-    event_is port op cell i = by_sender Counts c port op cell i still_is (handed_is op port (msg.Event op cell))
-        (λ k. none_is c ((0, msg.Forward k (mark.Pass op) cell) ∷ []) refl refl (no_one n 1 0 (msg.Forward k (mark.Pass op) cell) (λ y. refl)))
-
-    final_is : (i : Option ℕ) → Counts (on_final c i)
-    final_is i = by_stop Counts c i still_is (λ k. none_is _ [] refl refl (λ op. refl))
-
     -- a command that waits
     module _ (op : ℕ) (none : finite.get c.operations op ≡ None) where
       between_is : (filter : Filter) (keep : Bool) (a b : Option ℕ) → Counts (move_between c op filter keep a b)
@@ -324,15 +313,15 @@ module _ (n : ℕ) (reach : reaches n 1 0 ≡ true) (g : Given) (k : ℕ) (c : C
         by_got (Some x) is = still_is
 
     pub row_counts : {R : Type 0} (f : Semantics R) (port : ℕ) (m : Msg) → Label f g port 1 m → Counts (controller.row c port m)
-    row_counts f port (msg.Asked a) label =
-        elim (port == 0) as (λ b. Counts (if b then on_asked c a else still c)) [ true ↦ asked_is a.op a.what | false ↦ still_is ]
-    row_counts f port (msg.Diverted cell) label =
-        elim (port == 0) as (λ b. Counts (if b then on_diverted c cell else still c)) [ true ↦ diverted_is cell | false ↦ still_is ]
-    row_counts f port msg.End label = elim (port == 0) as (λ b. Counts (if b then still (record c { end_came = true }) else still c))
-        [ true ↦ none_is _ [] refl refl (λ op. refl) | false ↦ still_is ]
-    row_counts f port (msg.Event op cell) label = event_is port op cell (instance_at c port)
-    row_counts f port msg.Final label = final_is (instance_at c port)
-    row_counts f port m label = numbered_is port m (op_of m)
+    row_counts f port m label = row_by c port (λ _ did. Counts did) (record {
+      still = λ m. still_is;
+      ended = none_is _ [] refl refl (λ op. refl);
+      stopped = λ i. none_is _ [] refl refl (λ op. refl);
+      returned = λ op i cell. none_is c ((0, msg.Forward i (mark.Pass op) cell) ∷ []) refl refl (no_one n 1 0 (msg.Forward i (mark.Pass op) cell) (λ y. refl));
+      handed = λ op m its. handed_is op port m;
+      diverted = λ cell. diverted_is cell;
+      asked = λ k. asked_is k.op k.what;
+    }) m
 
     pub controller_counts : {R : Type 0} (f : Semantics R) (port : ℕ) (m : Msg) → Label f g port 1 m → Sent (controller_step c port m)
     controller_counts f port m label = finished_is (controller.row c port m) (row_counts f port m label)

@@ -3,32 +3,24 @@
 use Rattle.std.proofs.Common.{◌≡◌, ◌⊎◌, inl, inr, ℕ, zero, suc, ◌+◌, ◌-◌, ◌<◌, ◌≤◌, Bool, true, false, Option, Some}
 use Rattle.std.proofs.Common.{None, List, [], ◌∷◌, ◌++◌, length, get_or, set, refl, sym, ap, ◌∙◌, subst, arith}
 use Rattle.std.specs.Prelude.{if◌then◌else◌, ◌&&◌, ◌||◌, ◌==◌, not, nat_lt, nat_le}
-use Rattle.std.specs.List.{filter_map}
 use Rattle.std.specs.FinMap as finite
 use Rattle.std.proofs.lemmas.Bool.Decides.{nat_tests, Decides-eqb}
 use Rattle.std.proofs.lemmas.List.{get_or-set_same, length-set}
-use Rattle.flow_filter.specs.declared.filter.Filter.{Filter}
-use Rattle.flow_filter.specs.Flow.{flow_of}
 use Rattle.flow_filter.specs.declared.packet.Packet.{Packet}
 use Rattle.nf_function.specs.Semantics.{Semantics}
 use Rattle.event_filter.specs.declared.mark.Mark.TheVariants as mark
-use Rattle.packet_pool.specs.Pool.{FullCell, one_more}
+use Rattle.packet_pool.specs.Pool.{one_more}
 use Rattle.switch_rules.specs.declared.target.Target.{Target}
 use Rattle.switch_rules.specs.declared.target.Target.TheVariants as target
 use Rattle.switch_rules.specs.Rules.{rules_redirected}
 use Rattle.nf_msgs.specs.declared.answer.Answer.{Answer}
-use Rattle.nf_msgs.specs.declared.command.Command.{Command}
-use Rattle.nf_msgs.specs.declared.command.Order.{Order}
-use Rattle.nf_msgs.specs.declared.command.Order.TheVariants as order
 use Rattle.nf_msgs.specs.declared.msg.Msg.{Msg}
 use Rattle.nf_msgs.specs.declared.msg.Msg.TheVariants as msg
 use Rattle.nf_msgs.specs.declared.note.Note.TheVariants as note
 use Rattle.nf_msgs.specs.Nodes.{instance_node}
-use Rattle.nf_msgs.specs.MessageParts.{op_of}
-use Rattle.ctrl_node.specs.Operations.{Turn, turn_of, lasts, share_of, are_quiet}
+use Rattle.ctrl_node.specs.Operations.{Turn, turn_of, lasts, are_quiet}
 use Rattle.ctrl_node.specs.Controller as ctrl
 use Rattle.ctrl_node.specs.Controller.{ControllerState, Step, may_finish, controller_step}
-use Rattle.flow_filter.specs.Name.{place_of}
 use Rattle.switch_node.specs.Switch as switches
 use Rattle.switch_node.specs.Switch.{SwitchState, switch_step, stop_messages}
 use Rattle.actor_net.specs.Network.{reaches}
@@ -37,6 +29,7 @@ use Rattle.actor_net.proofs.LinkLemmas.{put_on_link}
 use Rattle.actor_net.proofs.WeightLaws.{weigh, sent_weight}
 use Rattle.nf_net.proofs.answers.CreditCounts.{sent_weight-append}
 use Rattle.nf_net.proofs.answers.InstallCounts.{finish}
+use Rattle.proof_outlines.proofs.outline.ControllerWays.{row_fits}
 use Rattle.proof_outlines.proofs.joined.Given.{Given}
 use Rattle.proof_outlines.proofs.joined.Joined.{Label}
 
@@ -75,51 +68,19 @@ module _ (c : ControllerState) where
       let t = turn_of (finite.get c.operations op) c.store p m in
       serves_aside (ctrl.takes_turn c op t).node op (after_aside op t t.answer)
 
-  between_aside : (op : ℕ) (filter : Filter) (keep : Bool) (a b : Option ℕ) → Aside (ctrl.move_between c op filter keep a b).node
-  between_aside op filter keep (Some a) (Some b) = refl
-  between_aside op filter keep None b = refl
-  between_aside op filter keep (Some a) None = refl
-
-  copies_aside : (op : ℕ) (filter : Option Filter) (a b : Option ℕ) → Aside (ctrl.copy_between c op filter a b).node
-  copies_aside op filter (Some a) (Some b) = refl
-  copies_aside op filter None b = refl
-  copies_aside op filter (Some a) None = refl
-
-  shares_aside : (op : ℕ) (filter : Filter) (members : List ℕ) → Aside (ctrl.share_begin c op filter members).node
-  shares_aside op filter [] = refl
-  shares_aside op filter (member ∷ others) = refl
-
-  begins_aside : (op : ℕ) (what : Order) → Aside (ctrl.begin_step c op what).node
-  begins_aside op (order.Move source destination filter keep) = between_aside op filter keep (place_of c.names source) (place_of c.names destination)
-  begins_aside op (order.Copy source destination filter) = copies_aside op filter (place_of c.names source) (place_of c.names destination)
-  begins_aside op (order.Share members filter) = shares_aside op filter (filter_map (place_of c.names) members)
-
-  decided_aside : (op : ℕ) (what : Order) (o : Option Answer) → Aside (ctrl.decision_step c op what o).node
-  decided_aside op what (Some a) = refl
-  decided_aside op what None = begins_aside op what
-
-  asked_aside : (k : Command) → Aside (ctrl.on_asked c k).node
-  asked_aside k = elim (finite.contains_key c.operations k.op)
-      as (λ b. Aside (if b then ctrl.still c else ctrl.decision_step c k.op k.what (ctrl.refusal c k.what)).node)
-      [ true ↦ refl | false ↦ decided_aside k.op k.what (ctrl.refusal c k.what) ]
-
-  queued_aside : (cell : FullCell) (o : Option ℕ) → Aside (ctrl.queue_step c cell o).node
-  queued_aside cell None = refl
-  queued_aside cell (Some op) = refl
-
-  numbered_aside : (p : ℕ) (m : Msg) (o : Option ℕ) → Aside (ctrl.numbered c p m o).node
-  numbered_aside p m None = refl
-  numbered_aside p m (Some op) = handed_aside op p m
-
-  event_aside : (p op : ℕ) (cell : FullCell) (o : Option ℕ) → Aside (ctrl.on_event c p op cell o).node
-  event_aside p op cell None = refl
-  event_aside p op cell (Some i) = elim (finite.contains_key c.operations op) as (λ b. Aside (if b then ctrl.hand_step c op p (msg.Event op cell)
-      else record { node = c; sends = (0, msg.Forward i (mark.Pass op) cell) ∷ []; notes = [] }).node)
-      [ true ↦ handed_aside op p (msg.Event op cell) | false ↦ refl ]
-
-  either_aside : (b : Bool) (did : Step) → Aside did.node → Aside (if b then did else ctrl.still c).node
-  either_aside true did h = h
-  either_aside false did h = refl
+  row_aside : (p : ℕ) (m : Msg) → ending m ≡ 0 → final m ≡ 0 → Aside (ctrl.row c p m).node
+  row_aside = row_fits c (λ m did. ending m ≡ 0 → final m ≡ 0 → Aside did.node) (record {
+    still = λ m going other. refl;
+    ended = λ going other. absurd (omega (arith, going));
+    stopped = λ i going other. absurd (omega (arith, other));
+    returned = λ op i cell going other. refl;
+    handed = λ op port m going other. handed_aside op port m;
+    queued = λ op cell going other. refl;
+    answers = λ k op answer going other. refl;
+    moves = λ k op from to filter keep going other. refl;
+    copies = λ k op from to filter going other. refl;
+    shares = λ k op filter home others going other. refl;
+  })
 
   -- what becomes of the end and of the stopped instances
   pub record RowEnds (p : ℕ) (m : Msg) (node : ControllerState) : Type 0 where
@@ -180,10 +141,6 @@ module _ (c : ControllerState) where
     }
 
     row_ends : {R : Type 0} (f : Semantics R) (g : Given) (p : ℕ) (m : Msg) → Label f g p 1 m → RowEnds p m (ctrl.row c p m).node
-    row_ends f g p (msg.Asked k) label = aside_ends p (msg.Asked k) _ refl refl (either_aside (p == 0) (ctrl.on_asked c k) (asked_aside k))
-    row_ends f g p (msg.Diverted cell) label = aside_ends p (msg.Diverted cell) _ refl refl
-        (either_aside (p == 0) (ctrl.on_diverted c cell) (queued_aside cell (share_of c.operations (flow_of c.site cell.packet).0)))
-    row_ends f g p (msg.Event op cell) label = aside_ends p (msg.Event op cell) _ refl refl (event_aside p op cell (ctrl.instance_at c p))
     row_ends f g p msg.Final label = final_ends p (ctrl.instance_at c p) refl
     row_ends f g p msg.End label =
         let from : (p == 0) ≡ true = (Decides-eqb p 0).1 label.0 in
@@ -197,7 +154,7 @@ module _ (c : ControllerState) where
           stops = λ i some. absurd (omega (arith, some));
         })
     row_ends f g p msg.InEnd label = let never = label.1 in cc
-    row_ends f g p m label = aside_ends p m _ refl refl (numbered_aside p m (op_of m))
+    row_ends f g p m label = aside_ends p m _ refl refl (row_aside p m refl refl)
 
     -- and behind the finish
     pub record ControllerEnds (n p : ℕ) (m : Msg) (did : Step) : Type 0 where

@@ -2,9 +2,8 @@
 -- stop, and not otherwise.
 use Rattle.std.proofs.Common.{◌≡◌, ℕ, zero, suc, ◌^◌, ◌<◌, Bool, true, false, Option, Some, None, Ok, List}
 use Rattle.std.proofs.Common.{[], ◌∷◌, ◌++◌, map, length, slice_index, refl, sym, ap, ◌∙◌, subst, arith}
-use Rattle.std.specs.Prelude.{if◌then◌else◌, ◌||◌, nat_lt, slice_set}
+use Rattle.std.specs.Prelude.{if◌then◌else◌, ◌||◌, slice_set}
 use Rattle.std.proofs.lemmas.List.{length-set}
-use Rattle.flow_filter.specs.Flow.{flow_of}
 use Rattle.nf_function.specs.declared.chunk.Chunk.{Chunk}
 use Rattle.nf_function.specs.declared.unit.Unit as units
 use Rattle.nf_function.specs.Semantics.{Semantics, count, unit_at}
@@ -13,14 +12,10 @@ use Rattle.nf_function.proofs.MergeLemmas.{merge_laws}
 use Rattle.state_chunk.specs.Format.{IsTally, tally_bytes}
 use Rattle.state_chunk.specs.Reading.{tally_read}
 use Rattle.state_chunk.proofs.TallyLemmas.{tally_read-tally_bytes}
-use Rattle.record_table.specs.Chunks.{are_good}
 use Rattle.event_filter.specs.declared.mark.Mark.{Mark}
 use Rattle.event_filter.specs.declared.mark.Mark.TheVariants as mark
-use Rattle.event_filter.specs.declared.decide.Decide.{Decide}
-use Rattle.event_filter.specs.declared.decide.Decide.TheVariants as decide
 use Rattle.event_filter.specs.Rules as rules
 use Rattle.packet_pool.specs.Pool.{FullCell}
-use Rattle.nf_msgs.specs.declared.answer.Answer.{Answer}
 use Rattle.nf_msgs.specs.declared.msg.Piece.{Piece}
 use Rattle.nf_msgs.specs.declared.msg.Msg.{Msg}
 use Rattle.nf_msgs.specs.declared.msg.Msg.TheVariants as msg
@@ -28,9 +23,9 @@ use Rattle.nf_msgs.specs.declared.note.Note.{Note}
 use Rattle.instance_worker.specs.declared.instance.Instance.{Instance}
 use Rattle.instance_worker.specs.Pieces.{pieces}
 use Rattle.instance_worker.specs.Instance.{Step, to_controller, chunk_told, share_message, still, tell_step, tells_and_notes, and_then, selected_chunks}
-use Rattle.instance_worker.specs.Instance.{process_step, all_processed, carry_step, where_good, piece_refusal, piece_put, instance_step, on_carry}
-use Rattle.instance_worker.specs.Instance.{on_fence, on_get, on_stream, on_put, on_restore, on_standby, on_sync, on_put_all, tally_put}
+use Rattle.instance_worker.specs.Instance.{process_step, instance_step}
 use Rattle.proof_machines.proofs.unit.Labels.{Each, each-append}
+use Rattle.proof_outlines.proofs.outline.InstanceWays.{instance_fits}
 
 -- one count changed
 set_low : (slots : List ℕ) (i v : ℕ) → v < 2 ^ 64 → ((j : ℕ) → slice_index slots j < 2 ^ 64) → (j : ℕ) → slice_index (slice_set slots i v) j < 2 ^ 64
@@ -89,6 +84,10 @@ module _ {R : Type 0} (f : Semantics R) where
   pieces_give op [] = tt
   pieces_give op (p ∷ ps) = (tt, pieces_give op ps)
 
+abbrev is_stop : Msg → Bool
+is_stop msg.Stop = true
+is_stop m = false
+
 module _ {F R : Type 0} (f : Semantics R) where
   -- a step that leaves a tally, and gives none but such; and whether the instance has then ended
   pub record StepLeaves (over : Bool) (did : Step F R) : Type 0 where
@@ -127,88 +126,37 @@ module _ {F R : Type 0} (f : Semantics R) where
     sends = shared_gives (process_step f i m cell).node m (unit_at f.kind i.site cell.packet) ((0, msg.Credit cell) ∷ []) (tt, tt);
   }
 
-  all_leave : (i : Instance F R) (cells : List FullCell) → Has i → StepLeaves i.ended (all_processed f i cells)
-  unfolding all_processed
-  all_leave i [] h = still_leaves i h
-  all_leave i (cell ∷ cells) h = (let first = processed_leaves i mark.Plain cell h in
-      then_leaves i.ended (process_step f i mark.Plain cell) (λ j. all_processed f j cells) first
-      (all_leave (process_step f i mark.Plain cell).node cells first.tally))
-
-  carried_leaves : (i : Instance F R) (m : Mark) (cell : FullCell) (d : Decide) → Has i → StepLeaves i.ended (carry_step f i m cell d)
-  carried_leaves i m cell decide.Process h = processed_leaves i m cell h
-  carried_leaves i m cell (decide.ProcessAndEvent op) h = (let first = processed_leaves i m cell h in
-      then_leaves i.ended (process_step f i m cell) (λ j. tell_step j (msg.Seen op cell.packet)) first
-      (tells_leaves (process_step f i m cell).node (msg.Seen op cell.packet) first.tally tt))
-  carried_leaves i m cell (decide.Event op) h = tells_leaves i (msg.Event op cell) h tt
-  carried_leaves i m cell (decide.Buffer op) h = still_leaves (record i { rules = rules.with_held i.rules op cell }) h
-
-  carry_leaves : (i : Instance F R) (m : Mark) (cell : FullCell) → Has i → StepLeaves i.ended (on_carry f i m cell)
-  unfolding on_carry
-  carry_leaves i m cell h = carried_leaves i m cell (rules.decide i.rules (flow_of i.site cell.packet).0 m) h
-
-  fence_leaves : (i : Instance F R) (op : ℕ) → Has i → StepLeaves i.ended (on_fence f i op)
-  unfolding on_fence
-  fence_leaves i op h =
-      let before : Instance F R = record i { rules = rules.without_rule i.rules op } in
-      let all = all_processed f before (rules.held_at i.rules op) in
-      let first = all_leave before (rules.held_at i.rules op) h in
-      then_leaves i.ended all (λ j. tell_step j (msg.Fenced op)) first (tells_leaves all.node (msg.Fenced op) first.tally tt)
-
-  good_leaves : (i : Instance F R) (chunks : List Chunk) (did : Step F R) → Has i → StepLeaves i.ended did → StepLeaves i.ended (where_good f i chunks did)
-  good_leaves i chunks did h l = elim (are_good f chunks) as (λ b. StepLeaves i.ended (if b then did else still i)) [ true ↦ l | false ↦ still_leaves i h ]
-
-  get_leaves : (i : Instance F R) (op : ℕ) (filter : _) → Has i → StepLeaves i.ended (on_get f i op filter)
-  unfolding on_get
-  get_leaves i op filter h = notes_leaves i (msg.Chunks op (selected_chunks f i filter)) _ h tt
-
-  stream_leaves : (i : Instance F R) (op : ℕ) (filter : _) → Has i → StepLeaves i.ended (on_stream f i op filter)
-  unfolding on_stream
-  stream_leaves i op filter h = record { ended = refl; tally = h; sends = pieces_give f op (pieces (selected_chunks f i filter)) }
-
-  piece_leaves : (i : Instance F R) (op : ℕ) (piece : Piece) (is_answered : Bool) (o : Option Answer) → Has i
-      → StepLeaves i.ended (piece_put f i op piece is_answered o)
-  piece_leaves i op piece is_answered (Some why) h = tells_leaves i (msg.PutNo op (record { why = why; chunks = piece.chunks })) h tt
-  piece_leaves i op piece is_answered None h = good_leaves i piece.chunks _ h (record {
-    ended = refl;
-    tally = h;
-    sends = elim is_answered as (λ b. AllGiveTally f (to_controller (if b then msg.PutOk op ∷ [] else []))) [ true ↦ (tt, tt) | false ↦ tt ];
+  -- what it does where it isn't told to stop
+  goes_on : (i : Instance F R) (m : Msg) → is_stop m ≡ false → Has i → MergesTally f m → StepLeaves i.ended (instance_step f i m)
+  goes_on = instance_fits f (λ i m did. is_stop m ≡ false → Has i → MergesTally f m → StepLeaves i.ended did) (record {
+    still = λ i m e h its. still_leaves i h;
+    held = λ i mk cell op e h its. still_leaves (record i { rules = rules.with_held i.rules op cell }) h;
+    processed = λ i mk cell e h its. processed_leaves i mk cell h;
+    released = λ i op cell e h its. processed_leaves i mark.Plain cell h;
+    both = λ i m did next w a b e h its. (let first = a e h its in then_leaves i.ended did next first (b e first.tally its));
+    unruled = λ i op did a. a;
+    seen = λ i mk cell op e h its. tells_leaves i (msg.Seen op cell.packet) h tt;
+    event = λ i mk cell op e h its. tells_leaves i (msg.Event op cell) h tt;
+    fenced = λ i op e h its. tells_leaves i (msg.Fenced op) h tt;
+    stopped = λ i e h its. cc;
+    enabled = λ i op filter action e h its. tells_leaves _ (msg.Enabled op) h tt;
+    given = λ i op filter e h its. notes_leaves i (msg.Chunks op (selected_chunks f i filter)) _ h tt;
+    streamed = λ i op filter e h its. record { ended = refl; tally = h; sends = pieces_give f op (pieces (selected_chunks f i filter)) };
+    all_given = λ i op e h its. tells_leaves i (msg.AllChunk op _) h (record { slots = i.tally.slots; bytes = refl; tally = h });
+    deleted = λ i op gone e h its. tells_leaves _ (msg.Deleted op) h tt;
+    refused = λ i op piece first why is e h its. tells_leaves i (msg.PutNo op (record { why = why; chunks = piece.chunks })) h tt;
+    taken = λ i op piece first is e h its. record {
+      ended = refl;
+      tally = h;
+      sends = elim (first || piece.last) as (λ b. AllGiveTally f (to_controller (if b then msg.PutOk op ∷ [] else []))) [ true ↦ (tt, tt) | false ↦ tt ];
+    };
+    restored = λ i op chunks e h its. notes_leaves _ (msg.Restored op) _ h tt;
+    stood_by = λ i op chunks e h its. notes_leaves _ (msg.Kept op) _ h tt;
+    synced = λ i home op chunks e h its. notes_leaves _ (msg.Synced op) _ h tt;
+    merged = λ i op chunk slots is e h its. (let both = sym (reads f chunk its) ∙ is in let same : its.slots ≡ slots = cc in
+        tells_leaves _ (msg.Kept op) (merged_is i.tally.slots slots h (subst IsTally same its.tally)) tt);
   })
 
-  put_leaves : (i : Instance F R) (op : ℕ) (piece : Piece) (first : Bool) → Has i → StepLeaves i.ended (on_put f i op piece first)
-  unfolding on_put
-  put_leaves i op piece first h = elim (nat_lt piece.total (length piece.chunks))
-      as (λ b. StepLeaves i.ended (if b then still i else piece_put f i op piece (first || piece.last) (if first then piece_refusal i piece else None)))
-      [ true ↦ still_leaves i h | false ↦ piece_leaves i op piece (first || piece.last) (if first then piece_refusal i piece else None) h ]
-
-  restore_leaves : (i : Instance F R) (op : ℕ) (chunks : List Chunk) → Has i → StepLeaves i.ended (on_restore f i op chunks)
-  unfolding on_restore
-  restore_leaves i op chunks h = good_leaves i chunks _ h (notes_leaves _ (msg.Restored op) _ h tt)
-
-  standby_leaves : (i : Instance F R) (op : ℕ) (chunks : List Chunk) → Has i → StepLeaves i.ended (on_standby f i op chunks)
-  unfolding on_standby
-  standby_leaves i op chunks h = good_leaves i chunks _ h (notes_leaves _ (msg.Kept op) _ h tt)
-
-  sync_leaves : (i : Instance F R) (home : Bool) (op : ℕ) (chunks : List Chunk) → Has i → StepLeaves i.ended (on_sync f i home op chunks)
-  unfolding on_sync
-  sync_leaves i home op chunks h = good_leaves i chunks _ h (notes_leaves _ (msg.Synced op) _ h tt)
-
-  put_all_leaves : (i : Instance F R) (op : ℕ) (chunk : Chunk) → Has i → IsTallyChunk f chunk → StepLeaves i.ended (on_put_all f i op chunk)
-  unfolding on_put_all
-  put_all_leaves i op chunk h is = subst (λ r. StepLeaves i.ended (tally_put i op r)) (sym (reads f chunk is))
-      (tells_leaves _ (msg.Kept op) (merged_is i.tally.slots is.slots h is.tally) tt)
-
   pub instance_leaves : (i : Instance F R) (m : Msg) → Has i → MergesTally f m → StepLeaves (over_by m i.ended) (instance_step f i m)
-  instance_leaves i (msg.Carry mark parcel) h is = carry_leaves i mark parcel h
-  instance_leaves i (msg.Fence op) h is = fence_leaves i op h
   instance_leaves i msg.Stop h is = tells_leaves (record i { ended = true }) msg.Final h tt
-  instance_leaves i (msg.Enable op filter action) h is = tells_leaves _ (msg.Enabled op) h tt
-  instance_leaves i (msg.Get op filter) h is = get_leaves i op filter h
-  instance_leaves i (msg.Stream op filter) h is = stream_leaves i op filter h
-  instance_leaves i (msg.GetAll op) h is = tells_leaves i (msg.AllChunk op _) h (record { slots = i.tally.slots; bytes = refl; tally = h })
-  instance_leaves i (msg.Delete op gone) h is = tells_leaves _ (msg.Deleted op) h tt
-  instance_leaves i (msg.Put op piece first) h is = put_leaves i op piece first h
-  instance_leaves i (msg.Restore op chunks) h is = restore_leaves i op chunks h
-  instance_leaves i (msg.Standby op chunks) h is = standby_leaves i op chunks h
-  instance_leaves i (msg.PutAll op chunk) h is = put_all_leaves i op chunk h is
-  instance_leaves i (msg.Sync home op chunks) h is = sync_leaves i home op chunks h
-  instance_leaves i m h is = still_leaves i h
+  instance_leaves i m h is = goes_on i m refl h is

@@ -1,27 +1,19 @@
 -- What an instance sends as it takes a message: pieces where it is asked for a move's chunks, as many as these make, and nothing else that counts.
 use Rattle.std.proofs.Common.{◌≡◌, ℕ, zero, suc, ◌+◌, ◌*◌, ◌<◌, ◌≤◌, Bool, true, false, Option, None, Some}
-use Rattle.std.proofs.Common.{Result, Ok, Err, List, [], ◌∷◌, map, length, length-drop, drop, take, refl, arith}
-use Rattle.std.specs.Prelude.{if◌then◌else◌, ◌||◌, nat_lt, nat_le, option_map, ◌/◌}
+use Rattle.std.proofs.Common.{List, [], ◌∷◌, map, length, length-drop, drop, take, refl, arith}
+use Rattle.std.specs.Prelude.{if◌then◌else◌, ◌||◌, nat_le, option_map, ◌/◌}
 use Rattle.std.specs.FinMap as finite
 use Rattle.std.proofs.lemmas.Bool.Decides.{nat_tests}
 use Rattle.std.proofs.lemmas.Nat.{le-div}
 use Rattle.flow_filter.specs.declared.filter.Filter.{Filter}
-use Rattle.flow_filter.specs.Flow.{flow_of}
 use Rattle.nf_function.specs.declared.chunk.Chunk.{Chunk}
 use Rattle.nf_function.specs.declared.unit.Unit as units
 use Rattle.nf_function.specs.Semantics.{Semantics, unit_at}
 use Rattle.state_chunk.specs.Format.{record_chunk}
-use Rattle.state_chunk.specs.Reading.{tally_read}
-use Rattle.state_chunk.specs.declared.fault.ChunkFault.{ChunkFault}
 use Rattle.record_table.specs.Table.{part}
-use Rattle.record_table.specs.Chunks.{are_good}
 use Rattle.event_filter.specs.declared.mark.Mark.{Mark}
 use Rattle.event_filter.specs.declared.mark.Mark.TheVariants as mark
-use Rattle.event_filter.specs.declared.decide.Decide.{Decide}
-use Rattle.event_filter.specs.declared.decide.Decide.TheVariants as decide
-use Rattle.event_filter.specs.Rules as rules
 use Rattle.packet_pool.specs.Pool.{FullCell}
-use Rattle.nf_msgs.specs.declared.answer.Answer.{Answer}
 use Rattle.nf_msgs.specs.declared.msg.Piece.{Piece}
 use Rattle.nf_msgs.specs.declared.msg.Msg.{Msg}
 use Rattle.nf_msgs.specs.declared.msg.Msg.TheVariants as msg
@@ -30,10 +22,11 @@ use Rattle.instance_worker.specs.declared.instance.Instance.{Instance}
 use Rattle.instance_worker.specs.declared.pieces.WholePieces.{WholePieces}
 use Rattle.instance_worker.specs.Pieces.{piece_of, pieces_from, pieces, whole_of}
 use Rattle.instance_worker.specs.Instance.{Step, to_controller, chunk_told, share_message, still, and_then, selected_chunks, process_step}
-use Rattle.instance_worker.specs.Instance.{all_processed, carry_step, where_good, piece_refusal, piece_put, instance_step, on_carry}
-use Rattle.instance_worker.specs.Instance.{on_fence, on_get, on_stream, on_put, on_restore, on_standby, on_sync, on_put_all, tally_put}
+use Rattle.instance_worker.specs.Instance.{instance_step}
+use Rattle.instance_worker.specs.Instance.{on_stream}
 use Rattle.actor_net.proofs.WeightLaws.{weigh-append}
 use Rattle.net_world.specs.Length.{pieces_among}
+use Rattle.proof_outlines.proofs.outline.InstanceWays.{instance_fits}
 use Rattle.nf_net.proofs.length.Chances.{chance, spent, spent-append, spent_parts, arrival, uses}
 
 more_than : (x : ℕ) → nat_le x 64 ≡ false → 64 < x
@@ -77,6 +70,10 @@ module _ (a k op : ℕ) where
   told_pieces [] = (omega arith, omega arith)
   told_pieces (p ∷ ps) = let rest = told_pieces ps in let all = rest.0 in let its = rest.1 in (omega (arith, all), omega (arith, its))
 
+abbrev is_stream : Msg → Bool
+is_stream (msg.Stream op filter) = true
+is_stream m = false
+
 -- as many pieces as an instance is asked for
 abbrev pub streamed : {F R : Type 0} → Semantics R → Instance F R → Msg → ℕ
 streamed f i (msg.Stream op filter) = length (pieces (selected_chunks f i filter))
@@ -108,78 +105,32 @@ module _ (a k : ℕ) {F R : Type 0} (f : Semantics R) where
       let none = shared_none after mk u in
       omega (arith, both, none)
 
-  all_none : (i : Instance F R) (cells : List FullCell) → UsesNone (all_processed f i cells)
-  unfolding all_processed
-  all_none i [] = omega arith
-  all_none i (cell ∷ cells) = then_none (process_step f i mark.Plain cell) (λ j. all_processed f j cells) (processed_none i mark.Plain cell)
-      (all_none (process_step f i mark.Plain cell).node cells)
-
-  carried_none : (i : Instance F R) (mk : Mark) (cell : FullCell) (d : Decide) → UsesNone (carry_step f i mk cell d)
-  carried_none i mk cell decide.Process = processed_none i mk cell
-  carried_none i mk cell (decide.ProcessAndEvent op) =
-      let first = processed_none i mk cell in
-      let one = process_step f i mk cell in
-      let sends = spent-append a k one.sends (to_controller (msg.Seen op cell.packet ∷ [])) in
-      let notes = weigh-append (arrival a k) one.notes [] in
-      omega (arith, first, sends, notes)
-  carried_none i mk cell (decide.Event op) = omega arith
-  carried_none i mk cell (decide.Buffer op) = omega arith
-
-  carry_none : (i : Instance F R) (mk : Mark) (cell : FullCell) → UsesNone (on_carry f i mk cell)
-  unfolding on_carry
-  carry_none i mk cell = carried_none i mk cell (rules.decide i.rules (flow_of i.site cell.packet).0 mk)
-
-  fence_none : (i : Instance F R) (op : ℕ) → UsesNone (on_fence f i op)
-  unfolding on_fence
-  fence_none i op =
-      let from : Instance F R = record i { rules = rules.without_rule i.rules op } in
-      let all = all_processed f from (rules.held_at i.rules op) in
-      let first = all_none from (rules.held_at i.rules op) in
-      let sends = spent-append a k all.sends (to_controller (msg.Fenced op ∷ [])) in
-      let notes = weigh-append (arrival a k) all.notes [] in
-      omega (arith, first, sends, notes)
-
-  -- state
-  good_none : (i : Instance F R) (chunks : List Chunk) (step : Step F R) → UsesNone step → UsesNone (where_good f i chunks step)
-  good_none i chunks step h = elim (are_good f chunks) as (λ b. UsesNone (if b then step else still i)) [ true ↦ h | false ↦ omega arith ]
-
-  get_none : (i : Instance F R) (op : ℕ) (filter : Filter) → UsesNone (on_get f i op filter)
-  unfolding on_get
-  get_none i op filter = omega arith
-
-  put_none : (i : Instance F R) (op : ℕ) (piece : Piece) (first : Bool) → UsesNone (on_put f i op piece first)
-  unfolding on_put
-  put_none i op piece first =
-      elim (nat_lt piece.total (length piece.chunks))
-      as (λ b. UsesNone (if b then still i else piece_put f i op piece (first || piece.last) (if first then piece_refusal i piece else None))) [
-        | true ↦ omega arith
-        | false ↦ by_refusal (first || piece.last) (if first then piece_refusal i piece else None)
-      ]
-    where
-      by_refusal : (answered : Bool) (x : Option Answer) → UsesNone (piece_put f i op piece answered x)
-      by_refusal answered (Some why) = omega arith
-      by_refusal answered None = good_none i piece.chunks _
-          (elim answered as (λ b. spent a k (to_controller (if b then msg.PutOk op ∷ [] else [])) + 0 ≡ 0) [ true ↦ omega arith | false ↦ omega arith ])
-
-  restore_none : (i : Instance F R) (op : ℕ) (chunks : List Chunk) → UsesNone (on_restore f i op chunks)
-  unfolding on_restore
-  restore_none i op chunks = good_none i chunks _ (omega arith)
-
-  standby_none : (i : Instance F R) (op : ℕ) (chunks : List Chunk) → UsesNone (on_standby f i op chunks)
-  unfolding on_standby
-  standby_none i op chunks = good_none i chunks _ (omega arith)
-
-  sync_none : (i : Instance F R) (home : Bool) (op : ℕ) (chunks : List Chunk) → UsesNone (on_sync f i home op chunks)
-  unfolding on_sync
-  sync_none i home op chunks = good_none i chunks _ (omega arith)
-
-  tally_none : (i : Instance F R) (op : ℕ) (read : Result (List ℕ) ChunkFault) → UsesNone (tally_put i op read)
-  tally_none i op (Ok slots) = omega arith
-  tally_none i op (Err fault) = omega arith
-
-  put_all_none : (i : Instance F R) (op : ℕ) (chunk : Chunk) → UsesNone (on_put_all f i op chunk)
-  unfolding on_put_all
-  put_all_none i op chunk = tally_none i op (tally_read f.kind chunk.bytes)
+  -- a step of another message
+  none_used : (i : Instance F R) (m : Msg) → is_stream m ≡ false → UsesNone (instance_step f i m)
+  none_used = instance_fits f (λ _ m did. is_stream m ≡ false → UsesNone did) (record {
+    still = λ i m e. omega arith;
+    held = λ i mk cell op e. omega arith;
+    processed = λ i mk cell e. processed_none i mk cell;
+    released = λ i op cell e. processed_none i mark.Plain cell;
+    both = λ i m did next w first second e. then_none did next (first e) (second e);
+    unruled = λ i op did h. h;
+    seen = λ i mk cell op e. omega arith;
+    event = λ i mk cell op e. omega arith;
+    fenced = λ i op e. omega arith;
+    stopped = λ i e. omega arith;
+    enabled = λ i op filter action e. omega arith;
+    given = λ i op filter e. omega arith;
+    streamed = λ i op filter e. cc;
+    all_given = λ i op e. omega arith;
+    deleted = λ i op gone e. omega arith;
+    refused = λ i op piece first why is e. omega arith;
+    taken = λ i op piece first is e. elim (first || piece.last)
+        as (λ b. spent a k (to_controller (if b then msg.PutOk op ∷ [] else [])) + 0 ≡ 0) [ true ↦ omega arith | false ↦ omega arith ];
+    restored = λ i op chunks e. omega arith;
+    stood_by = λ i op chunks e. omega arith;
+    synced = λ i home op chunks e. omega arith;
+    merged = λ i op chunk slots is e. omega arith;
+  })
 
   abbrev pub Streams : Instance F R → Msg → Step F R → Type 0
   Streams i m step = (uses a k step ≡ streamed f i m) × (pieces_among step.sends ≡ streamed f i m)
@@ -194,15 +145,7 @@ module _ (a k : ℕ) {F R : Type 0} (f : Semantics R) where
   -- each step of an instance
   pub instance_uses : (i : Instance F R) (m : Msg) → Streams i m (instance_step f i m)
   instance_uses i (msg.Stream op filter) = stream_uses i op filter
-  instance_uses i (msg.Carry mk cell) = no_pieces (on_carry f i mk cell) (carry_none i mk cell)
-  instance_uses i (msg.Fence op) = no_pieces (on_fence f i op) (fence_none i op)
-  instance_uses i (msg.Get op filter) = no_pieces (on_get f i op filter) (get_none i op filter)
-  instance_uses i (msg.Put op piece first) = no_pieces (on_put f i op piece first) (put_none i op piece first)
-  instance_uses i (msg.Restore op chunks) = no_pieces (on_restore f i op chunks) (restore_none i op chunks)
-  instance_uses i (msg.Standby op chunks) = no_pieces (on_standby f i op chunks) (standby_none i op chunks)
-  instance_uses i (msg.PutAll op chunk) = no_pieces (on_put_all f i op chunk) (put_all_none i op chunk)
-  instance_uses i (msg.Sync home op chunks) = no_pieces (on_sync f i home op chunks) (sync_none i home op chunks)
-  instance_uses i m = (omega arith, omega arith)
+  instance_uses i m = no_pieces (instance_step f i m) (none_used i m refl)
 
   -- a message allows them, where the instance has few records
   pub streamed_few : (i : Instance F R) → ((filter : Filter) → length (pieces (selected_chunks f i filter)) ≤ k) → (m : Msg) → streamed f i m ≤ chance a k m

@@ -79,19 +79,18 @@ module _ {R : Type 0} (f : Semantics R) (g : Given) (z : SeeingShare) where
   msg_nothing s r (msg.PutNo op refused) l k = none_spelled refused.chunks (good_spelled f g u refused.chunks l.1) k.1
   msg_nothing s r m l k = refl
 
-  -- What is seen as a record that a member gives, and as one to take.
-  record GivesRecord (a : Any R) (kept : R) : Type 0 where
-    n : ℕ
-    entry : units.Unit × R
-    is : a ≡ New (S_shared n entry)
-    own : record_at u (entry ∷ []) ≡ Some kept
+  -- What is seen as a record: one that a member gives, or one to take.
+  data IsSource (a : Any R) (it : Item R) : Type 0 where
+    Gives : (n : ℕ) (entry : units.Unit × R) → a ≡ New (S_shared n entry) → it ≡ Chunk (record_at u (entry ∷ [])) → IsSource a it
+    Takes : (n : ℕ) (home : Bool) (cs : List (units.Unit × R)) → a ≡ New (S_sync n home cs) → it ≡ Sync (record_at u cs) → IsSource a it
 
-  record Takes (a : Any R) (kept : R) : Type 0 where
-    n : ℕ
-    home : Bool
-    cs : List (units.Unit × R)
-    is : a ≡ New (S_sync n home cs)
-    own : record_at u cs ≡ Some kept
+  abbrev is_record : Item R → Bool
+  is_record (Chunk o) = true
+  is_record (Sync o) = true
+  is_record it = false
+
+  other : {X : Type 0} (it it' : Item R) → is_record it ≡ false → is_record it' ≡ true → it ≡ it' → X
+  other it it' off on same = let never : false ≡ true = sym off ∙ ap is_record same ∙ on in cc
 
   -- an item that isn't what is seen
   unlike : {X : Type 0} (b : Bool) (it it' : Item R) → (it ≡ it' → X) → where_true b it ≡ Some it' → X
@@ -106,57 +105,32 @@ module _ {R : Type 0} (f : Semantics R) (g : Given) (z : SeeingShare) where
   numbered true mine it it' off stray e = off (let same_item : it ≡ it' = cc in same_item)
   numbered false mine it it' off stray e = unlike mine Stray it' stray e
 
-  old_gives : (r : ℕ) (m : net.Msg R) (kept : R) → share_seen (S f g) (A f g) z r (Old m) ≡ Some (Chunk (Some kept)) → GivesRecord (Old m) kept
-  old_gives r (net.Carry_on p) kept e = unlike _ (Carry p) (Chunk (Some kept)) (λ q. cc) e
-  old_gives r (net.Pass_on p) kept e = unlike _ Stray (Chunk (Some kept)) (λ q. cc) e
-  old_gives r (net.Fence_on n) kept e = unlike _ Fence (Chunk (Some kept)) (λ q. cc) e
-  old_gives r (net.Mv h (M_fenced n)) kept e = unlike _ Fenced (Chunk (Some kept)) (λ q. cc) e
-  old_gives r (net.Mv h (M_install n from to)) kept e = unlike _ Stray (Chunk (Some kept)) (λ q. cc) e
-  old_gives r (net.Mv h (M_fence_to n to)) kept e = unlike _ Stray (Chunk (Some kept)) (λ q. cc) e
-  old_gives r (net.Mv h m) kept e = cc
-  old_gives r (net.In_packet p) kept e = cc
-  old_gives r (net.Asked x) kept e = cc
+  old_source : (r : ℕ) (m : net.Msg R) (it : Item R) → is_record it ≡ true → share_seen (S f g) (A f g) z r (Old m) ≡ Some it → IsSource (Old m) it
+  old_source r (net.Carry_on p) it on e = unlike _ (Carry p) it (other (Carry p) it refl on) e
+  old_source r (net.Pass_on p) it on e = unlike _ Stray it (other Stray it refl on) e
+  old_source r (net.Fence_on n) it on e = unlike _ Fence it (other Fence it refl on) e
+  old_source r (net.Mv h (M_fenced n)) it on e = unlike _ Fenced it (other Fenced it refl on) e
+  old_source r (net.Mv h (M_install n from to)) it on e = unlike _ Stray it (other Stray it refl on) e
+  old_source r (net.Mv h (M_fence_to n to)) it on e = unlike _ Stray it (other Stray it refl on) e
+  old_source r (net.Mv h m) it on e = cc
+  old_source r (net.In_packet p) it on e = cc
+  old_source r (net.Asked x) it on e = cc
 
-  gives : (r : ℕ) (a : Any R) (kept : R) → share_seen (S f g) (A f g) z r a ≡ Some (Chunk (Some kept)) → GivesRecord a kept
-  gives r (Old m) kept e = old_gives r m kept e
-  gives r (New (Shared_on n home p)) kept e = numbered _ _ _ (Chunk (Some kept)) (λ q. unfit _ (Shared p) (Chunk (Some kept)) (λ t. cc) (λ t. cc) q) (λ q. cc) e
-  gives r (New (Diverted_on p)) kept e = numbered _ _ (Diverted p) (Chunk (Some kept)) (λ q. cc) (λ q. cc) e
-  gives r (New (S_asked x)) kept e = cc
-  gives r (New (S_install n h from)) kept e = unlike _ _ (Chunk (Some kept)) (λ q. unfit _ Install (Chunk (Some kept)) (λ t. cc) (λ t. cc) q) e
-  gives r (New (S_forward n home p to)) kept e =
-      numbered _ _ _ (Chunk (Some kept)) (λ q. unfit _ (Forward p to) (Chunk (Some kept)) (λ t. cc) (λ t. cc) q) (λ q. cc) e
-  gives r (New (S_get n h)) kept e = unlike _ Get (Chunk (Some kept)) (λ q. cc) e
-  gives r (New (S_sync n home cs)) kept e = unlike _ _ (Chunk (Some kept)) (λ q. unfit _ (Sync (record_at u cs)) (Chunk (Some kept)) (λ t. cc) (λ t. cc) q) e
-  gives r (New (S_chunks n cs)) kept e = unlike _ (Chunks (record_at u cs)) (Chunk (Some kept)) (λ q. cc) e
-  gives r (New (S_shared n entry)) kept e =
-      unlike _ (Chunk (record_at u (entry ∷ []))) (Chunk (Some kept)) (λ q. record { n = n; entry = entry; is = refl; own = cc }) e
-  gives r (New (S_synced n)) kept e = unlike _ Synced (Chunk (Some kept)) (λ q. cc) e
-
-  old_takes : (r : ℕ) (m : net.Msg R) (kept : R) → share_seen (S f g) (A f g) z r (Old m) ≡ Some (Sync (Some kept)) → Takes (Old m) kept
-  old_takes r (net.Carry_on p) kept e = unlike _ (Carry p) (Sync (Some kept)) (λ q. cc) e
-  old_takes r (net.Pass_on p) kept e = unlike _ Stray (Sync (Some kept)) (λ q. cc) e
-  old_takes r (net.Fence_on n) kept e = unlike _ Fence (Sync (Some kept)) (λ q. cc) e
-  old_takes r (net.Mv h (M_fenced n)) kept e = unlike _ Fenced (Sync (Some kept)) (λ q. cc) e
-  old_takes r (net.Mv h (M_install n from to)) kept e = unlike _ Stray (Sync (Some kept)) (λ q. cc) e
-  old_takes r (net.Mv h (M_fence_to n to)) kept e = unlike _ Stray (Sync (Some kept)) (λ q. cc) e
-  old_takes r (net.Mv h m) kept e = cc
-  old_takes r (net.In_packet p) kept e = cc
-  old_takes r (net.Asked x) kept e = cc
-
-  takes : (r : ℕ) (a : Any R) (kept : R) → share_seen (S f g) (A f g) z r a ≡ Some (Sync (Some kept)) → Takes a kept
-  takes r (Old m) kept e = old_takes r m kept e
-  takes r (New (Shared_on n home p)) kept e = numbered _ _ _ (Sync (Some kept)) (λ q. unfit _ (Shared p) (Sync (Some kept)) (λ t. cc) (λ t. cc) q) (λ q. cc) e
-  takes r (New (Diverted_on p)) kept e = numbered _ _ (Diverted p) (Sync (Some kept)) (λ q. cc) (λ q. cc) e
-  takes r (New (S_asked x)) kept e = cc
-  takes r (New (S_install n h from)) kept e = unlike _ _ (Sync (Some kept)) (λ q. unfit _ Install (Sync (Some kept)) (λ t. cc) (λ t. cc) q) e
-  takes r (New (S_forward n home p to)) kept e =
-      numbered _ _ _ (Sync (Some kept)) (λ q. unfit _ (Forward p to) (Sync (Some kept)) (λ t. cc) (λ t. cc) q) (λ q. cc) e
-  takes r (New (S_get n h)) kept e = unlike _ Get (Sync (Some kept)) (λ q. cc) e
-  takes r (New (S_sync n home cs)) kept e = unlike _ _ (Sync (Some kept))
-      (λ q. unfit _ (Sync (record_at u cs)) (Sync (Some kept)) (λ t. record { n = n; home = home; cs = cs; is = refl; own = cc }) (λ t. cc) q) e
-  takes r (New (S_chunks n cs)) kept e = unlike _ (Chunks (record_at u cs)) (Sync (Some kept)) (λ q. cc) e
-  takes r (New (S_shared n entry)) kept e = unlike _ (Chunk (record_at u (entry ∷ []))) (Sync (Some kept)) (λ q. cc) e
-  takes r (New (S_synced n)) kept e = unlike _ Synced (Sync (Some kept)) (λ q. cc) e
+  source : (r : ℕ) (a : Any R) (it : Item R) → is_record it ≡ true → share_seen (S f g) (A f g) z r a ≡ Some it → IsSource a it
+  source r (Old m) it on e = old_source r m it on e
+  source r (New (Shared_on n home p)) it on e =
+      numbered _ _ _ it (λ q. unfit _ (Shared p) it (other (Shared p) it refl on) (other Stray it refl on) q) (other Stray it refl on) e
+  source r (New (Diverted_on p)) it on e = numbered _ _ (Diverted p) it (other (Diverted p) it refl on) (other Stray it refl on) e
+  source r (New (S_asked x)) it on e = cc
+  source r (New (S_install n h from)) it on e = unlike _ _ it (λ q. unfit _ Install it (other Install it refl on) (other Stray it refl on) q) e
+  source r (New (S_forward n home p to)) it on e =
+      numbered _ _ _ it (λ q. unfit _ (Forward p to) it (other (Forward p to) it refl on) (other Stray it refl on) q) (other Stray it refl on) e
+  source r (New (S_get n h)) it on e = unlike _ Get it (other Get it refl on) e
+  source r (New (S_sync n home cs)) it on e =
+      unlike _ _ it (λ q. unfit _ (Sync (record_at u cs)) it (λ t. Takes n home cs refl (sym t)) (other Stray it refl on) q) e
+  source r (New (S_chunks n cs)) it on e = unlike _ (Chunks (record_at u cs)) it (other (Chunks (record_at u cs)) it refl on) e
+  source r (New (S_shared n entry)) it on e = unlike _ (Chunk (record_at u (entry ∷ []))) it (λ q. Gives n entry refl (sym q)) e
+  source r (New (S_synced n)) it on e = unlike _ Synced it (other Synced it refl on) e
 
   -- The messages that are seen so.
   asked_none : (op : ℕ) (what : Order) (a : ShareMsg R) (kept : (want : WantShare) → New a ≡ New (S_asked want) → ⊥)
@@ -240,7 +214,11 @@ module _ {R : Type 0} (f : Semantics R) (g : Given) (z : SeeingShare) where
     where
       by_shown : (o : Option (Any R)) → shown f g m ≡ o → item_of f g z r o ≡ Some (Chunk (Some kept)) → is_among (records.shared_in m) u ≡ true
       by_shown None is q = cc
-      by_shown (Some a) is q = let it = gives r a kept q in real_gives s r m l it.n it.entry kept (is ∙ ap Some it.is) it.own
+      by_shown (Some a) is q = by_source (source r a (Chunk (Some kept)) refl q)
+        where
+          by_source : IsSource a (Chunk (Some kept)) → is_among (records.shared_in m) u ≡ true
+          by_source (Gives n entry same own) = real_gives s r m l n entry kept (is ∙ ap Some same) cc
+          by_source (Takes n home cs same own) = cc
 
   tells_taken : (s r : ℕ) (kept : R) (m : Msg) → Label f g s r m → item_of f g z r (shown f g m) ≡ Some (Sync (Some kept))
       → is_among (records.synced_in m) u ≡ true
@@ -248,7 +226,11 @@ module _ {R : Type 0} (f : Semantics R) (g : Given) (z : SeeingShare) where
     where
       by_shown : (o : Option (Any R)) → shown f g m ≡ o → item_of f g z r o ≡ Some (Sync (Some kept)) → is_among (records.synced_in m) u ≡ true
       by_shown None is q = cc
-      by_shown (Some a) is q = let it = takes r a kept q in real_takes s r m l it.n it.home it.cs kept (is ∙ ap Some it.is) it.own
+      by_shown (Some a) is q = by_source (source r a (Sync (Some kept)) refl q)
+        where
+          by_source : IsSource a (Sync (Some kept)) → is_among (records.synced_in m) u ≡ true
+          by_source (Gives n entry same own) = cc
+          by_source (Takes n home cs same own) = real_takes s r m l n home cs kept (is ∙ ap Some same) cc
 
 -- In a world.
 module _ {F R : Type 0} (f : Semantics R) (c : Config) (items : List Msg) (is : IsInput f.kind c items) (n : ℕ) (count : n ≡ length c.names + 2)

@@ -4,7 +4,6 @@ use Rattle.std.specs.Prelude.{if◌then◌else◌, ◌==◌}
 use Rattle.std.specs.FinMap as finite
 use Rattle.std.proofs.lemmas.Bool.Decides.{nat_tests, Decides-eqb}
 use Rattle.flow_filter.specs.Flow.{flow_of}
-use Rattle.event_filter.specs.declared.mark.Mark.TheVariants.{Pass}
 use Rattle.packet_pool.specs.Pool.{FullCell}
 use Rattle.event_store.specs.Store.{stored_of, with_parcels}
 use Rattle.nf_msgs.specs.declared.command.Command.{Command}
@@ -21,6 +20,7 @@ use Rattle.ctrl_node.specs.declared.operation.Operation.TheVariants.{Move, Copy,
 use Rattle.ctrl_node.specs.Operations.{turn_of, share_of, turn_of_copy}
 use Rattle.ctrl_node.specs.Controller as ctrl
 use Rattle.ctrl_node.specs.Controller.{ControllerState, Step}
+use Rattle.proof_outlines.proofs.outline.ControllerWays.{row_by}
 use Rattle.proof_outlines.proofs.outline.OperationTables.{got_insert, got_remove, handed_is, NotShared}
 use Rattle.proof_outlines.proofs.joined.CopyCounts.{keeps_of, in_phase, keeping, keeps_sent, keeps_sent-append, IsLight, light_others}
 use Rattle.proof_outlines.proofs.joined.CopyCounts.{none_light, other_light, serves_at, handed_at, decided_at, row_falls}
@@ -115,18 +115,6 @@ module _ (n : ℕ) (c : ControllerState) (port : ℕ) (numbered : AreNumbered c)
               by_got (Some (Share s)) e = none_kept (subst (λ o. TurnSo (IsLight n) (light_others n) o m) (sym e) refl) (ap keeping e)
               by_got (Some (Copy y)) e = own_turn y e m its
 
-  numbered_falls : (m : Msg) (o : Option ℕ) → op_of m ≡ o → Falls m (ctrl.numbered c port m o)
-  numbered_falls m None e = omega arith
-  numbered_falls m (Some op) e = handed_falls op m e
-
-  event_falls : (op : ℕ) (cell : FullCell) (o : Option ℕ) → Falls (msg.Event op cell) (ctrl.on_event c port op cell o)
-  event_falls op cell None = omega arith
-  event_falls op cell (Some i) = elim (finite.contains_key c.operations op) as (λ b. Falls (msg.Event op cell) (if b
-      then ctrl.hand_step c op port (msg.Event op cell) else record { node = c; sends = (switch_node, msg.Forward i (Pass op) cell) ∷ []; notes = [] })) [
-        | true ↦ handed_falls op (msg.Event op cell) refl
-        | false ↦ omega arith
-      ]
-
   asked_falls : (k : Command) → Falls (msg.Asked k) (ctrl.on_asked c k)
   asked_falls k = by_test (k.op == n) refl
     where
@@ -178,19 +166,15 @@ module _ (n : ℕ) (c : ControllerState) (port : ℕ) (numbered : AreNumbered c)
           by_got (Some (Copy y)) e = stays (msg.Diverted cell) (ctrl.serve_step d op) (rw e refl) light
 
   row_falls_all : (m : Msg) → Falls m (ctrl.row c port m)
-  row_falls_all (msg.Asked k) = elim (port == switch_node) as (λ b. Falls (msg.Asked k) (if b then ctrl.on_asked c k else ctrl.still c))
-      [ true ↦ asked_falls k | false ↦ omega arith ]
-  row_falls_all (msg.Diverted cell) = elim (port == switch_node) as (λ b. Falls (msg.Diverted cell) (if b then ctrl.on_diverted c cell else ctrl.still c))
-      [ true ↦ queued_falls cell (share_of c.operations (flow_of c.site cell.packet).0) | false ↦ omega arith ]
-  row_falls_all msg.End = elim (port == switch_node) as (λ b. Falls msg.End (if b then ctrl.still (record c { end_came = true }) else ctrl.still c))
-      [ true ↦ omega arith | false ↦ omega arith ]
-  row_falls_all (msg.Event op cell) = event_falls op cell (ctrl.instance_at c port)
-  row_falls_all msg.Final = final (ctrl.instance_at c port)
-    where
-      final : (o : Option ℕ) → Falls msg.Final (ctrl.on_final c o)
-      final None = omega arith
-      final (Some i) = omega arith
-  row_falls_all m = numbered_falls m (op_of m) refl
+  row_falls_all = row_by c port Falls (record {
+    still = λ m. omega arith;
+    ended = omega arith;
+    stopped = λ i. omega arith;
+    returned = λ op i cell. omega arith;
+    handed = λ op m its. handed_falls op m its;
+    diverted = λ cell. queued_falls cell (share_of c.operations (flow_of c.site cell.packet).0);
+    asked = λ k. asked_falls k;
+  })
 
   pub controller_falls : (m : Msg) → Falls m (ctrl.controller_step c port m)
   controller_falls m =

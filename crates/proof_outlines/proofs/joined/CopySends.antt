@@ -20,7 +20,6 @@ use Rattle.nf_msgs.specs.MessageParts.{op_of}
 use Rattle.event_store.specs.Store.{stored_of, with_parcels}
 use Rattle.move_op.specs.Move.{next_phase, source, destination, from_source}
 use Rattle.move_op.specs.Move.{from_destination, row}
-use Rattle.move_op.specs.Table.{on_event}
 use Rattle.ctrl_node.specs.declared.operation.Operation.{Operation}
 use Rattle.copy_share.specs.declared.copy_phase.CopyPhase.{CopyPhase}
 use Rattle.copy_share.specs.declared.copy_phase.CopyPhase.TheVariants as copies
@@ -36,17 +35,9 @@ use Rattle.flow_filter.specs.Name.{place_of}
 use Rattle.ctrl_node.specs.Controller as ctrl
 use Rattle.ctrl_node.specs.Controller.{ControllerState}
 use Rattle.proof_machines.proofs.unit.Labels.{Each, each-append}
-use Rattle.proof_outlines.proofs.outline.MoveRows.{is_of_move, all_sent}
-use Rattle.proof_outlines.proofs.joined.CopyAnswers.{is_uncopied, AreUncopied}
-
--- What a move sends.
-of_move : (m : Msg) → is_of_move m ≡ true → is_uncopied m ≡ true
-of_move (msg.Get op filter) h = cc
-of_move (msg.Chunks op chunks) h = cc
-of_move (msg.Standby op chunks) h = cc
-of_move (msg.PutAll op chunk) h = cc
-of_move (msg.Kept op) h = cc
-of_move m h = refl
+use Rattle.proof_outlines.proofs.outline.ControllerWays.{row_by}
+use Rattle.proof_outlines.proofs.outline.MoveRows.{all_sent}
+use Rattle.proof_outlines.proofs.joined.CopyAnswers.{is_uncopied, AreUncopied, no_copy, move_none}
 
 -- What holds of each message that isn't a copy's, of what a copy or a share asks for, and of what a copy hands on, holds of all that is sent.
 module _ (P : Msg → Type 0) (others : (m : Msg) → is_uncopied m ≡ true → P m) where
@@ -160,7 +151,8 @@ module _ (P : Msg → Type 0) (others : (m : Msg) → is_uncopied m ≡ true →
   module _ (s : ControllerState) (port : ℕ) where
     turn_sent : (o : Option Operation) (m : Msg) → TurnSo o m → EachIs (turn_of o s.store port m).sends
     turn_sent None m its = tt
-    turn_sent (Some (Move mv)) m its = each_other _ (all_sent (λ x. is_uncopied x ≡ true) of_move mv.plan mv.phase (stored_of s.store mv.plan.op) port m)
+    turn_sent (Some (Move mv)) m its = each_other _ (all_sent (λ x. is_uncopied x ≡ true) (λ x h. no_copy x (move_none x h))
+        mv.plan mv.phase (stored_of s.store mv.plan.op) port m)
     turn_sent (Some (Copy y)) m its = copy_hands y port m its.0 its.1
     turn_sent (Some (Share y)) m its = share_sent y port m its
 
@@ -178,22 +170,6 @@ module _ (P : Msg → Type 0) (others : (m : Msg) → is_uncopied m ≡ true →
     -- for each open operation
     abbrev pub TurnsSo : Msg → Type 0
     TurnsSo m = (op : ℕ) → op_of m ≡ Some op → TurnSo (finite.get s.operations op) m
-
-    numbered_sent : (m : Msg) (o : Option ℕ) → op_of m ≡ o → TurnsSo m → EachIs (ctrl.numbered s port m o).sends
-    numbered_sent m None e its = tt
-    numbered_sent m (Some op) e its = handed_sent op m (its op e)
-
-    event_sent : (op : ℕ) (cell : FullCell) (o : Option ℕ) → TurnsSo (msg.Event op cell) → EachIs (ctrl.on_event s port op cell o).sends
-    event_sent op cell None its = tt
-    event_sent op cell (Some i) its = elim (finite.contains_key s.operations op) as (λ b. EachIs (if b then ctrl.hand_step s op port (msg.Event op cell)
-        else record { node = s; sends = (switch_node, msg.Forward i (Pass op) cell) ∷ []; notes = [] }).sends) [
-          | true ↦ handed_sent op (msg.Event op cell) (its op refl)
-          | false ↦ (others (msg.Forward i (Pass op) cell) refl, tt)
-        ]
-
-    pub final_sent : (o : Option ℕ) → EachIs (ctrl.on_final s o).sends
-    final_sent None = tt
-    final_sent (Some i) = tt
 
     pub queued_sent : (cell : FullCell) (o : Option ℕ) → EachIs (ctrl.queue_step s cell o).sends
     queued_sent cell None = tt
@@ -229,15 +205,15 @@ module _ (P : Msg → Type 0) (others : (m : Msg) → is_uncopied m ≡ true →
         [ true ↦ tt | false ↦ decided_sent k (ctrl.refusal s k.what) its ]
 
     row_sent : (m : Msg) → TurnsSo m → BeginSo m → EachIs (ctrl.row s port m).sends
-    row_sent (msg.Asked k) its begins =
-        elim (port == switch_node) as (λ b. EachIs (if b then ctrl.on_asked s k else ctrl.still s).sends) [ true ↦ asked_sent k begins | false ↦ tt ]
-    row_sent (msg.Diverted cell) its begins = elim (port == switch_node) as (λ b. EachIs (if b then ctrl.on_diverted s cell else ctrl.still s).sends)
-        [ true ↦ queued_sent cell (share_of s.operations (flow_of s.site cell.packet).0) | false ↦ tt ]
-    row_sent msg.End its begins =
-        elim (port == switch_node) as (λ b. EachIs (if b then ctrl.still (record s { end_came = true }) else ctrl.still s).sends) [ true ↦ tt | false ↦ tt ]
-    row_sent (msg.Event op cell) its begins = event_sent op cell (ctrl.instance_at s port) its
-    row_sent msg.Final its begins = final_sent (ctrl.instance_at s port)
-    row_sent m its begins = numbered_sent m (op_of m) refl its
+    row_sent = row_by s port (λ m did. TurnsSo m → BeginSo m → EachIs did.sends) (record {
+      still = λ m its begins. tt;
+      ended = λ its begins. tt;
+      stopped = λ i its begins. tt;
+      returned = λ op i cell its begins. (others (msg.Forward i (Pass op) cell) refl, tt);
+      handed = λ op m e its begins. handed_sent op m (its op e);
+      diverted = λ cell its begins. queued_sent cell (share_of s.operations (flow_of s.site cell.packet).0);
+      asked = λ k its begins. asked_sent k begins;
+    })
 
     pub controller_sent : (m : Msg) → TurnsSo m → BeginSo m → EachIs (ctrl.controller_step s port m).sends
     controller_sent m its begins =

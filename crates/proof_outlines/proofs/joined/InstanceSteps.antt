@@ -1,56 +1,38 @@
 -- An instance's step on a message of a run leads from a world of a run to one.
-use Rattle.std.proofs.Common.{◌≡◌, ◌≢◌, ℕ, zero, suc, ◌<◌, ◌≤◌, Bool, true, false, Some, None, List, [], ◌++◌, refl, sym, ap, ◌∙◌, subst, append-nil, arith}
+use Rattle.std.proofs.Common.{◌≡◌, ◌≢◌, ℕ, zero, suc, ◌<◌, ◌≤◌, true, false, Some, None, List, [], ◌++◌, refl, sym, ap, ◌∙◌, subst, append-nil, arith}
 use Rattle.std.specs.Prelude.{if◌then◌else◌, ◌&&◌, ◌==◌}
 use Rattle.std.specs.List.{filter_map}
 use Rattle.std.proofs.lemmas.Bool.Decides.{nat_tests, Decides-eqb}
 use Rattle.std.proofs.Math.Bool.{and-false}
-use Rattle.flow_filter.specs.declared.filter.Filter.{Filter}
-use Rattle.nf_function.specs.declared.chunk.Chunk.{Chunk}
 use Rattle.nf_function.specs.declared.unit.Unit as units
-use Rattle.nf_function.specs.Records.{Fits, Laws as FunctionLaws}
+use Rattle.nf_function.specs.Records.{Laws as FunctionLaws}
 use Rattle.nf_function.specs.Semantics.{Semantics}
-use Rattle.record_table.specs.Table.{Records, AreSound, newest_of}
-use Rattle.record_table.specs.Chunks.{records_of}
-use Rattle.nf_msgs.specs.declared.msg.Piece.{Piece}
+use Rattle.record_table.specs.Table.{Records, AreSound}
 use Rattle.nf_msgs.specs.declared.msg.Msg.{Msg}
-use Rattle.nf_msgs.specs.declared.msg.Msg.TheVariants as msg
 use Rattle.nf_msgs.specs.declared.note.Note.{Note}
-use Rattle.packet_pool.specs.Pool.{FullCell}
-use Rattle.event_filter.specs.declared.action.Action.{Action}
-use Rattle.event_filter.specs.declared.mark.Mark.TheVariants as mark
 use Rattle.instance_worker.specs.declared.instance.Instance.{Instance as InstanceState}
-use Rattle.instance_worker.specs.Instance.{Step, instance_step, on_standby}
+use Rattle.instance_worker.specs.Instance.{Step, instance_step}
 use Rattle.actor_net.proofs.WaitingMessages.{less_first}
-use Rattle.proof_machines.proofs.unit.Real as real
 use Rattle.proof_machines.proofs.unit.Real.{sent_for}
-use Rattle.proof_machines.proofs.net.Net as net
-use Rattle.proof_machines.proofs.net.Net.{inst_step, links_after, at_node, put, behind, everything, is_free}
+use Rattle.proof_machines.proofs.net.Net.{inst_step, links_after, at_node, put, behind}
 use Rattle.proof_machines.proofs.net.Waits.{Rising}
-use Rattle.proof_machines.proofs.net.Shares.{Any, Old, New, ShareMsg, Shared_on, S_get, S_sync, as_old, WholeWorld, member_step, whole_inst, keeps}
+use Rattle.proof_machines.proofs.net.Shares.{Any, Old, New, as_old, WholeWorld, member_step, whole_inst, keeps}
 use Rattle.proof_machines.proofs.whole.EveryAll.{EveryAll, inst_every_all, MayKeep, keeps_every_all}
 use Rattle.net_world.specs.declared.node.Node.TheVariants.{Instance}
-use Rattle.net_world.specs.Nodes.{as_node, node_step}
+use Rattle.net_world.specs.Nodes.{as_node}
 use Rattle.net_world.specs.Log.{dones_in, installs_in}
 use Rattle.net_world.proofs.LogLemmas.{done-append}
-use Rattle.proof_outlines.proofs.outline.FiltersApart.{is_whole, unit_fits}
-use Rattle.proof_outlines.proofs.outline.Outline.{number, rule_of, entries, outline_piece, ran_in, is_sys, outline_instance}
-use Rattle.proof_outlines.proofs.outline.InstanceOutline.{Follows, carry_follows, pass_follows, fence_follows, enable_follows}
-use Rattle.proof_outlines.proofs.outline.StateOutline.{stream_follows, delete_follows, put_follows, restore_follows}
+use Rattle.proof_outlines.proofs.outline.FiltersApart.{unit_fits}
+use Rattle.proof_outlines.proofs.outline.Outline.{number, ran_in, is_sys}
 use Rattle.proof_outlines.proofs.whole.WholeOutline.{is_sharing}
-use Rattle.proof_outlines.proofs.whole.MemberOutline.{MemberFollows, shared_follows, get_follows, sync_follows}
-use Rattle.proof_outlines.proofs.whole.MemberTables.{AreBothSound, shared_sound, get_sound, sync_sound, standby_sound, step_sound}
-use Rattle.proof_outlines.proofs.whole.StandbyKept.{leaves_standby, whole_follows, Keeps, standby_keeps, stop_keeps, get_all_keeps, put_all_keeps}
-use Rattle.proof_outlines.proofs.whole.InstanceWorlds.{ShowsAt, StepsTo, KeepsTo, old_steps, new_steps, keeps_steps}
+use Rattle.proof_outlines.proofs.whole.InstanceWorlds.{ShowsAt, StepsTo, KeepsTo}
 use Rattle.proof_outlines.proofs.joined.LogLemmas.{by_node-append, every_same, owners_on, came_on}
 use Rattle.proof_outlines.proofs.joined.InstanceNotes.{AreOwn, none_arrived, none_installed, done_own}
-use Rattle.proof_outlines.proofs.joined.InstanceKeeps.{has_records, valid_chunks, chunks_good}
-use Rattle.proof_outlines.proofs.joined.InstanceRows.{IsRight, Leaves, sound_part, carry_leaves, pass_leaves, shared_leaves, fence_leaves}
-use Rattle.proof_outlines.proofs.joined.InstanceRows.{stop_leaves, enable_leaves, stream_leaves, delete_leaves, put_leaves, restore_leaves}
-use Rattle.proof_outlines.proofs.joined.CopyRows.{get_leaves, get_all_leaves, standby_leaves, put_all_leaves, sync_leaves}
-use Rattle.proof_outlines.proofs.joined.StandbyChunks.{MayStandBy, same_may_keep, chunks_may_keep}
+use Rattle.proof_outlines.proofs.joined.InstanceKeeps.{has_records}
+use Rattle.proof_outlines.proofs.joined.InstanceRows.{Leaves}
 use Rattle.proof_outlines.proofs.joined.Given.{Given, place, target_by}
-use Rattle.proof_outlines.proofs.joined.Joined.{Nodes, Took, Scene, S, A, shown, commands, asked_nums, came_by, by_node, links_next, Genuine, AreGoodChunks}
-use Rattle.proof_outlines.proofs.joined.Joined.{IsGoodPiece, Label, IsSwitch, IsController, IsInstanceAt, AreShown, IsTaken, Leads, node_of, Grows}
+use Rattle.proof_outlines.proofs.joined.Joined.{Nodes, Took, Scene, S, A, shown, commands, asked_nums, came_by, by_node, links_next}
+use Rattle.proof_outlines.proofs.joined.Joined.{IsSwitch, IsController, IsInstanceAt, AreShown, IsTaken, Leads, node_of, Grows}
 use Rattle.proof_outlines.proofs.joined.NextNumbers.{same_grows}
 
 module _ {F R : Type 0} (f : Semantics R) (laws : FunctionLaws f) (g : Given) (n : ℕ) (x : Scene F f g) (p : ℕ) (j : ℕ) where

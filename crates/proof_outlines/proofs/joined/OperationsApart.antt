@@ -8,7 +8,6 @@ use Rattle.std.proofs.lemmas.Bool.Decides.{nat_tests, Decides-eqb}
 use Rattle.flow_filter.specs.declared.filter.Filter.{Filter}
 use Rattle.flow_filter.specs.Filter.{meets}
 use Rattle.flow_filter.specs.Flow.{flow_of}
-use Rattle.event_filter.specs.declared.mark.Mark.TheVariants as mark
 use Rattle.packet_pool.specs.Pool.{FullCell}
 use Rattle.event_store.specs.Store.{stored_of, with_parcels}
 use Rattle.move_op.specs.Move.{Store}
@@ -17,14 +16,13 @@ use Rattle.nf_msgs.specs.declared.command.Command.{Command}
 use Rattle.nf_msgs.specs.declared.command.Order.{Order}
 use Rattle.nf_msgs.specs.declared.command.Order.TheVariants as order
 use Rattle.nf_msgs.specs.declared.msg.Msg.{Msg}
-use Rattle.nf_msgs.specs.declared.msg.Msg.TheVariants as msg
-use Rattle.nf_msgs.specs.MessageParts.{op_of}
 use Rattle.ctrl_node.specs.declared.operation.Operation.{Operation}
 use Rattle.ctrl_node.specs.declared.operation.Operation.TheVariants.{Move, Copy, Share}
 use Rattle.ctrl_node.specs.Operations.{OpenOperations, filter_of, lowest_meeting, meets_operation, lasts, Turn, turn_of, serving_of, share_of, with_operation}
 use Rattle.flow_filter.specs.Name.{place_of}
 use Rattle.ctrl_node.specs.Controller as ctrl
 use Rattle.ctrl_node.specs.Controller.{ControllerState, controller_step}
+use Rattle.proof_outlines.proofs.outline.ControllerWays.{row_by}
 use Rattle.proof_outlines.proofs.outline.OperationTables.{got_insert, got_remove}
 use Rattle.proof_outlines.proofs.joined.ControllerBegins.{no_overlap, none_meets}
 
@@ -213,32 +211,16 @@ module _ (c : ControllerState) (port : ℕ) where
   queued_apart cell (Some op) =
       stays_so (ctrl.queue_step c cell (Some op)).node (serves_stays (record c { store = with_parcels c.store op (stored_of c.store op ++ cell ∷ []) }) op)
 
-  numbered_apart : (m : Msg) (o : Option ℕ) → KeepsSo (ctrl.numbered c port m o).node
-  numbered_apart m None = λ apart. apart
-  numbered_apart m (Some op) = stays_so (ctrl.hand_step c op port m).node (handed_stays op m)
-
-  event_apart : (op : ℕ) (cell : FullCell) (o : Option ℕ) → KeepsSo (ctrl.on_event c port op cell o).node
-  event_apart op cell None = λ apart. apart
-  event_apart op cell (Some i) = elim (finite.contains_key c.operations op) as (λ b. KeepsSo (if b then ctrl.hand_step c op port (msg.Event op cell)
-      else record { node = c; sends = (0, msg.Forward i (mark.Pass op) cell) ∷ []; notes = [] }).node) [
-        | true ↦ stays_so (ctrl.hand_step c op port (msg.Event op cell)).node (handed_stays op (msg.Event op cell))
-        | false ↦ λ apart. apart
-      ]
-
-  final_apart : (o : Option ℕ) → KeepsSo (ctrl.on_final c o).node
-  final_apart None apart = apart
-  final_apart (Some i) apart = apart
-
   row_apart : (m : Msg) → KeepsSo (ctrl.row c port m).node
-  row_apart (msg.Asked k) =
-      elim (port == 0) as (λ b. KeepsSo (if b then ctrl.on_asked c k else ctrl.still c).node) [ true ↦ asked_apart k | false ↦ λ apart. apart ]
-  row_apart (msg.Diverted cell) = elim (port == 0) as (λ b. KeepsSo (if b then ctrl.on_diverted c cell else ctrl.still c).node)
-      [ true ↦ queued_apart cell (share_of c.operations (flow_of c.site cell.packet).0) | false ↦ λ apart. apart ]
-  row_apart msg.End = elim (port == 0) as (λ b. KeepsSo (if b then ctrl.still (record c { end_came = true }) else ctrl.still c).node)
-      [ true ↦ λ apart. apart | false ↦ λ apart. apart ]
-  row_apart (msg.Event op cell) = event_apart op cell (ctrl.instance_at c port)
-  row_apart msg.Final = final_apart (ctrl.instance_at c port)
-  row_apart m = numbered_apart m (op_of m)
+  row_apart = row_by c port (λ _ did. KeepsSo did.node) (record {
+    still = λ m apart. apart;
+    ended = λ apart. apart;
+    stopped = λ i apart. apart;
+    returned = λ op i cell apart. apart;
+    handed = λ op m its. stays_so (ctrl.hand_step c op port m).node (handed_stays op m);
+    diverted = λ cell. queued_apart cell (share_of c.operations (flow_of c.site cell.packet).0);
+    asked = λ k. asked_apart k;
+  })
 
   -- what is apart stays apart with a message
   pub controller_apart : (m : Msg) → AllApart c.operations → AllApart (controller_step c port m).node.operations

@@ -1,26 +1,15 @@
 -- What the steps of the nodes note: an instance what it processed, gave and took, and the others nothing that was processed.
-use Rattle.std.proofs.Common.{◌≡◌, ℕ, ◌-◌, Bool, true, false, Option, Some, None, List, [], ◌∷◌, length, refl, ◌∙◌, subst}
-use Rattle.std.specs.Prelude.{if◌then◌else◌, ◌||◌, nat_lt, Result, Ok, Err}
+use Rattle.std.proofs.Common.{◌≡◌, ℕ, ◌-◌, Bool, true, false, Option, Some, None, List, [], ◌∷◌, refl, ◌∙◌, subst}
 use Rattle.std.specs.FinMap as finite
 use Rattle.proof_outlines.proofs.outline.ControllerWays.{row_fits}
 use Rattle.proof_outlines.proofs.outline.SwitchWays.{step_fits}
-use Rattle.state_chunk.specs.declared.fault.ChunkFault.{ChunkFault}
-use Rattle.state_chunk.specs.Reading.{tally_read}
-use Rattle.nf_function.specs.declared.chunk.Chunk.{Chunk}
+use Rattle.proof_outlines.proofs.outline.InstanceWays.{instance_fits}
 use Rattle.nf_function.specs.Semantics.{Semantics}
-use Rattle.record_table.specs.Chunks.{are_good}
 use Rattle.event_filter.specs.declared.mark.Mark.{Mark}
 use Rattle.event_filter.specs.declared.mark.Mark.TheVariants as mark
-use Rattle.event_filter.specs.declared.decide.Decide.{Decide}
-use Rattle.event_filter.specs.declared.decide.Decide.TheVariants as decide
-use Rattle.event_filter.specs.Rules as rules
-use Rattle.flow_filter.specs.Flow.{flow_of}
-use Rattle.flow_filter.specs.declared.filter.Filter.{Filter}
 use Rattle.packet_pool.specs.Pool.{FullCell}
 use Rattle.nf_msgs.specs.declared.answer.Answer.{Answer}
-use Rattle.nf_msgs.specs.declared.msg.Piece.{Piece}
 use Rattle.nf_msgs.specs.declared.msg.Msg.{Msg}
-use Rattle.nf_msgs.specs.declared.msg.Msg.TheVariants as msg
 use Rattle.nf_msgs.specs.declared.note.Note.{Note}
 use Rattle.nf_msgs.specs.declared.note.Note.TheVariants as note
 use Rattle.switch_node.specs.Switch.{SwitchState, switch_step}
@@ -28,8 +17,7 @@ use Rattle.ctrl_node.specs.Controller as controllers
 use Rattle.ctrl_node.specs.Controller.{ControllerState, controller_step}
 use Rattle.ctrl_node.specs.Operations.{Turn, turn_of}
 use Rattle.instance_worker.specs.declared.instance.Instance.{Instance}
-use Rattle.instance_worker.specs.Instance.{Step, still, process_step, all_processed, carry_step, on_carry, on_fence, on_get, on_stream, on_put}
-use Rattle.instance_worker.specs.Instance.{piece_put, piece_refusal, where_good, on_restore, on_standby, on_put_all, tally_put, on_sync, instance_step}
+use Rattle.instance_worker.specs.Instance.{Step, and_then, instance_step, process_step, still}
 use Rattle.proof_machines.proofs.unit.Labels.{Each, each-append}
 use Rattle.net_world.specs.Log.{dones_in, done_in}
 use Rattle.net_world.proofs.PickedLists.{none_picked}
@@ -74,101 +62,43 @@ uninstalled_unprocessed (n ∷ ns) h = (refl, uninstalled_unprocessed ns h.1)
 -- An instance.
 module _ {F R : Type 0} (f : Semantics R) where
   abbrev Quiet : Instance F R → Step F R → Type 0
-  Quiet i step = Each (IsQuiet i.index) step.notes
-
-  processed_index : (i : Instance F R) (m : Mark) (cell : FullCell) → (process_step f i m cell).node.index ≡ i.index
-  unfolding process_step
-  processed_index i mark.Plain cell = refl
-  processed_index i (mark.Pass op) cell = refl
-  processed_index i (mark.Shared op true) cell = refl
-  processed_index i (mark.Shared op false) cell = refl
+  Quiet i did = (did.node.index ≡ i.index) × Each (IsQuiet i.index) did.notes
 
   processed_quiet : (i : Instance F R) (m : Mark) (cell : FullCell) → Quiet i (process_step f i m cell)
   unfolding process_step
-  processed_quiet i m cell = (refl, tt)
+  processed_quiet i m cell = (refl, (refl, tt))
 
-  all_quiet : (k : ℕ) (i : Instance F R) (cells : List FullCell) → i.index ≡ k → Each (IsQuiet k) (all_processed f i cells).notes
-  unfolding all_processed
-  all_quiet k i [] e = tt
-  all_quiet k i (cell ∷ cells) e =
-      let one = subst (λ n. Each (IsQuiet n) (process_step f i mark.Plain cell).notes) e (processed_quiet i mark.Plain cell) in
-      each-append (IsQuiet k) (process_step f i mark.Plain cell).notes _ one
-      (all_quiet k (process_step f i mark.Plain cell).node cells (processed_index i mark.Plain cell ∙ e))
-
-  carried_quiet : (i : Instance F R) (m : Mark) (cell : FullCell) (d : Decide) → Quiet i (carry_step f i m cell d)
-  carried_quiet i m cell decide.Process = processed_quiet i m cell
-  carried_quiet i m cell (decide.ProcessAndEvent op) = each-append (IsQuiet i.index) (process_step f i m cell).notes [] (processed_quiet i m cell) tt
-  carried_quiet i m cell (decide.Event op) = tt
-  carried_quiet i m cell (decide.Buffer op) = tt
-
-  carry_quiet : (i : Instance F R) (m : Mark) (cell : FullCell) → Quiet i (on_carry f i m cell)
-  unfolding on_carry
-  carry_quiet i m cell = carried_quiet i m cell (rules.decide i.rules (flow_of i.site cell.packet).0 m)
-
-  fence_quiet : (i : Instance F R) (op : ℕ) → Quiet i (on_fence f i op)
-  unfolding on_fence
-  fence_quiet i op =
-      let j : Instance F R = record i { rules = rules.without_rule i.rules op } in
-      each-append (IsQuiet i.index) (all_processed f j (rules.held_at i.rules op)).notes [] (all_quiet i.index j (rules.held_at i.rules op) refl) tt
-
-  get_quiet : (i : Instance F R) (op : ℕ) (filter : Filter) → Quiet i (on_get f i op filter)
-  unfolding on_get
-  get_quiet i op filter = (tt, tt)
-
-  stream_quiet : (i : Instance F R) (op : ℕ) (filter : Filter) → Quiet i (on_stream f i op filter)
-  unfolding on_stream
-  stream_quiet i op filter = (tt, tt)
-
-  good_quiet : (i : Instance F R) (chunks : List Chunk) (step : Step F R) → Quiet i step → Quiet i (where_good f i chunks step)
-  good_quiet i chunks step h = elim (are_good f chunks) as (λ b. Quiet i (if b then step else still i)) [ true ↦ h | false ↦ tt ]
-
-  put_by : (i : Instance F R) (op : ℕ) (piece : Piece) (answered : Bool) (o : Option Answer) → Quiet i (piece_put f i op piece answered o)
-  put_by i op piece answered (Some why) = tt
-  put_by i op piece answered None = good_quiet i piece.chunks _ (tt, tt)
-
-  put_quiet : (i : Instance F R) (op : ℕ) (piece : Piece) (first : Bool) → Quiet i (on_put f i op piece first)
-  unfolding on_put
-  put_quiet i op piece first = elim (nat_lt piece.total (length piece.chunks))
-      as (λ b. Quiet i (if b then still i else piece_put f i op piece (first || piece.last) (if first then piece_refusal i piece else None))) [
-        | true ↦ tt
-        | false ↦ put_by i op piece (first || piece.last) (if first then piece_refusal i piece else None)
-      ]
-
-  restore_quiet : (i : Instance F R) (op : ℕ) (chunks : List Chunk) → Quiet i (on_restore f i op chunks)
-  unfolding on_restore
-  restore_quiet i op chunks = good_quiet i chunks _ (tt, tt)
-
-  standby_quiet : (i : Instance F R) (op : ℕ) (chunks : List Chunk) → Quiet i (on_standby f i op chunks)
-  unfolding on_standby
-  standby_quiet i op chunks = good_quiet i chunks _ (tt, tt)
-
-  sync_quiet : (i : Instance F R) (home : Bool) (op : ℕ) (chunks : List Chunk) → Quiet i (on_sync f i home op chunks)
-  unfolding on_sync
-  sync_quiet i home op chunks = good_quiet i chunks _ (tt, tt)
-
-  tally_quiet : (i : Instance F R) (op : ℕ) (r : Result (List ℕ) ChunkFault) → Quiet i (tally_put i op r)
-  tally_quiet i op (Ok slots) = tt
-  tally_quiet i op (Err fault) = tt
-
-  put_all_quiet : (i : Instance F R) (op : ℕ) (chunk : Chunk) → Quiet i (on_put_all f i op chunk)
-  unfolding on_put_all
-  put_all_quiet i op chunk = tally_quiet i op (tally_read f.kind chunk.bytes)
+  both_quiet : (i : Instance F R) (did : Step F R) (next : Instance F R → Step F R) → Quiet i did → Quiet did.node (next did.node)
+      → Quiet i (and_then did next)
+  both_quiet i did next a b = (
+    b.0 ∙ a.0,
+    each-append (IsQuiet i.index) did.notes (next did.node).notes a.1 (subst (λ k. Each (IsQuiet k) (next did.node).notes) a.0 b.1),
+  )
 
   pub instance_quiet : (i : Instance F R) (m : Msg) → Each (IsQuiet i.index) (instance_step f i m).notes
-  instance_quiet i (msg.Carry m cell) = carry_quiet i m cell
-  instance_quiet i (msg.Fence op) = fence_quiet i op
-  instance_quiet i msg.Stop = tt
-  instance_quiet i (msg.Enable op filter act) = tt
-  instance_quiet i (msg.Get op filter) = get_quiet i op filter
-  instance_quiet i (msg.Stream op filter) = stream_quiet i op filter
-  instance_quiet i (msg.GetAll op) = tt
-  instance_quiet i (msg.Delete op gone) = tt
-  instance_quiet i (msg.Put op piece first) = put_quiet i op piece first
-  instance_quiet i (msg.Restore op chunks) = restore_quiet i op chunks
-  instance_quiet i (msg.Standby op chunks) = standby_quiet i op chunks
-  instance_quiet i (msg.PutAll op chunk) = put_all_quiet i op chunk
-  instance_quiet i (msg.Sync home op chunks) = sync_quiet i home op chunks
-  instance_quiet i m = tt
+  instance_quiet i m = (instance_fits f (λ j _ did. Quiet j did) (record {
+    still = λ j m. (refl, tt);
+    held = λ j mk cell op. (refl, tt);
+    processed = λ j mk cell. processed_quiet j mk cell;
+    released = λ j op cell. processed_quiet j mark.Plain cell;
+    both = λ j m did next w a b. both_quiet j did next a b;
+    unruled = λ j op did h. h;
+    seen = λ j mk cell op. (refl, tt);
+    event = λ j mk cell op. (refl, tt);
+    fenced = λ j op. (refl, tt);
+    stopped = λ j. (refl, tt);
+    enabled = λ j op filter action. (refl, tt);
+    given = λ j op filter. (refl, (tt, tt));
+    streamed = λ j op filter. (refl, (tt, tt));
+    all_given = λ j op. (refl, tt);
+    deleted = λ j op gone. (refl, tt);
+    refused = λ j op piece first why is. (refl, tt);
+    taken = λ j op piece first is. (refl, (tt, tt));
+    restored = λ j op chunks. (refl, (tt, tt));
+    stood_by = λ j op chunks. (refl, (tt, tt));
+    synced = λ j home op chunks. (refl, (tt, tt));
+    merged = λ j op chunk slots is. (refl, tt);
+  }) i m).1
 
 -- The switch.
 pub switch_unprocessed : (s : SwitchState) (m : Msg) → AreUnprocessed (switch_step s m).notes

@@ -1,5 +1,5 @@
 -- The ways in which the controller goes on with a message: what holds of each of them holds of its row.
-use Rattle.std.proofs.Common.{ℕ, Bool, true, false, Option, Some, None, List, [], ◌∷◌}
+use Rattle.std.proofs.Common.{◌≡◌, ℕ, Bool, true, false, Option, Some, None, List, [], ◌∷◌, refl}
 use Rattle.std.specs.Prelude.{if◌then◌else◌, ◌==◌, slice_set}
 use Rattle.std.specs.List.{filter_map}
 use Rattle.std.specs.FinMap as finite
@@ -23,6 +23,47 @@ use Rattle.flow_filter.specs.Name.{place_of}
 use Rattle.ctrl_node.specs.Controller as ctrl
 use Rattle.ctrl_node.specs.Controller.{ControllerState, Step}
 
+-- The ways of a row, a command taken as a whole: nothing, the end, a final message, an event that goes back, a message of some number, a packet of a
+-- share, and a command.
+module _ (c : ControllerState) (port : ℕ) (Allows : Msg → Step → Type 0) where
+  pub record WaysOfRow : Type 0 where
+    pub still : (m : Msg) → Allows m (ctrl.still c)
+    pub ended : Allows msg.End (ctrl.still (record c { end_came = true }))
+    pub stopped : (i : ℕ) → Allows msg.Final (ctrl.still (record c { stopped = slice_set c.stopped i true }))
+    pub returned : (op i : ℕ) (cell : FullCell)
+        → Allows (msg.Event op cell) (record { node = c; sends = (switch_node, msg.Forward i (Pass op) cell) ∷ []; notes = [] })
+    pub handed : (op : ℕ) (m : Msg) → op_of m ≡ Some op → Allows m (ctrl.hand_step c op port m)
+    pub diverted : (cell : FullCell) → Allows (msg.Diverted cell) (ctrl.on_diverted c cell)
+    pub asked : (k : Command) → Allows (msg.Asked k) (ctrl.on_asked c k)
+
+  module _ (ways : WaysOfRow) where
+    by_number : (m : Msg) (o : Option ℕ) → op_of m ≡ o → Allows m (ctrl.numbered c port m o)
+    by_number m None is = ways.still m
+    by_number m (Some op) is = ways.handed op m is
+
+    by_event : (op : ℕ) (cell : FullCell) (o : Option ℕ) → Allows (msg.Event op cell) (ctrl.on_event c port op cell o)
+    by_event op cell None = ways.still (msg.Event op cell)
+    by_event op cell (Some i) = elim (finite.contains_key c.operations op) as (λ b. Allows (msg.Event op cell) (if b
+        then ctrl.hand_step c op port (msg.Event op cell) else record { node = c; sends = (switch_node, msg.Forward i (Pass op) cell) ∷ []; notes = [] })) [
+          | true ↦ ways.handed op (msg.Event op cell) refl
+          | false ↦ ways.returned op i cell
+        ]
+
+    by_final : (o : Option ℕ) → Allows msg.Final (ctrl.on_final c o)
+    by_final None = ways.still msg.Final
+    by_final (Some i) = ways.stopped i
+
+    pub row_by : (m : Msg) → Allows m (ctrl.row c port m)
+    row_by (msg.Asked k) = elim (port == switch_node) as (λ b. Allows (msg.Asked k) (if b then ctrl.on_asked c k else ctrl.still c))
+        [ true ↦ ways.asked k | false ↦ ways.still (msg.Asked k) ]
+    row_by (msg.Diverted cell) = elim (port == switch_node) as (λ b. Allows (msg.Diverted cell) (if b then ctrl.on_diverted c cell else ctrl.still c))
+        [ true ↦ ways.diverted cell | false ↦ ways.still (msg.Diverted cell) ]
+    row_by msg.End = elim (port == switch_node) as (λ b. Allows msg.End (if b then ctrl.still (record c { end_came = true }) else ctrl.still c))
+        [ true ↦ ways.ended | false ↦ ways.still msg.End ]
+    row_by (msg.Event op cell) = by_event op cell (ctrl.instance_at c port)
+    row_by msg.Final = by_final (ctrl.instance_at c port)
+    row_by m = by_number m (op_of m) refl
+
 module _ (c : ControllerState) (Allows : Msg → Step → Type 0) where
   abbrev share_plan : ℕ → Filter → ℕ → List ℕ → SharePlan
   share_plan op filter home others = record { op = op; members = home ∷ others; filter = filter; site = c.site }
@@ -45,25 +86,9 @@ module _ (c : ControllerState) (Allows : Msg → Step → Type 0) where
         (ctrl.opening_step c op (Share (share.share_at_start (share_plan op filter home others))) (share.begin_sends (share_plan op filter home others)))
 
   module _ (ways : WaysOfController) where
-    by_number : (port : ℕ) (m : Msg) (o : Option ℕ) → Allows m (ctrl.numbered c port m o)
-    by_number port m None = ways.still m
-    by_number port m (Some op) = ways.handed op port m
-
     by_share : (cell : FullCell) (o : Option ℕ) → Allows (msg.Diverted cell) (ctrl.queue_step c cell o)
     by_share cell None = ways.still (msg.Diverted cell)
     by_share cell (Some op) = ways.queued op cell
-
-    by_event : (port op : ℕ) (cell : FullCell) (o : Option ℕ) → Allows (msg.Event op cell) (ctrl.on_event c port op cell o)
-    by_event port op cell None = ways.still (msg.Event op cell)
-    by_event port op cell (Some i) = elim (finite.contains_key c.operations op) as (λ b. Allows (msg.Event op cell) (if b
-        then ctrl.hand_step c op port (msg.Event op cell) else record { node = c; sends = (switch_node, msg.Forward i (Pass op) cell) ∷ []; notes = [] })) [
-          | true ↦ ways.handed op port (msg.Event op cell)
-          | false ↦ ways.returned op i cell
-        ]
-
-    by_final : (o : Option ℕ) → Allows msg.Final (ctrl.on_final c o)
-    by_final None = ways.still msg.Final
-    by_final (Some i) = ways.stopped i
 
     by_order : (k : Command) (op : ℕ) (what : Order) → Allows (msg.Asked k) (ctrl.begin_step c op what)
     by_order k op (order.Move source destination filter keep) = between (place_of c.names source) (place_of c.names destination)
@@ -96,13 +121,12 @@ module _ (c : ControllerState) (Allows : Msg → Step → Type 0) where
         ]
 
     pub row_fits : (port : ℕ) (m : Msg) → Allows m (ctrl.row c port m)
-    row_fits port (msg.Asked k) = elim (port == switch_node) as (λ b. Allows (msg.Asked k) (if b then ctrl.on_asked c k else ctrl.still c))
-        [ true ↦ by_command k | false ↦ ways.still (msg.Asked k) ]
-    row_fits port (msg.Diverted cell) =
-        elim (port == switch_node) as (λ b. Allows (msg.Diverted cell) (if b then ctrl.on_diverted c cell else ctrl.still c))
-        [ true ↦ by_share cell (share_of c.operations (flow_of c.site cell.packet).0) | false ↦ ways.still (msg.Diverted cell) ]
-    row_fits port msg.End = elim (port == switch_node) as (λ b. Allows msg.End (if b then ctrl.still (record c { end_came = true }) else ctrl.still c))
-        [ true ↦ ways.ended | false ↦ ways.still msg.End ]
-    row_fits port (msg.Event op cell) = by_event port op cell (ctrl.instance_at c port)
-    row_fits port msg.Final = by_final (ctrl.instance_at c port)
-    row_fits port m = by_number port m (op_of m)
+    row_fits port = row_by c port Allows (record {
+      still = ways.still;
+      ended = ways.ended;
+      stopped = ways.stopped;
+      returned = ways.returned;
+      handed = λ op m is. ways.handed op port m;
+      diverted = λ cell. by_share cell (share_of c.operations (flow_of c.site cell.packet).0);
+      asked = by_command;
+    })

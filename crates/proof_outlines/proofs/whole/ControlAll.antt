@@ -1,6 +1,6 @@
 -- The controller's step on each message of an operation's number is that of the network with shares: what the operation under the number is
 -- told, and nothing where there is none or a copy.
-use Rattle.std.proofs.Common.{◌≡◌, ℕ, ◌<◌, true, false, Option, Some, None, List, [], ◌∷◌, ◌++◌, map, length, refl, sym, ap, ◌∙◌, subst, append-nil}
+use Rattle.std.proofs.Common.{◌≡◌, ℕ, ◌<◌, true, false, Option, Some, None, List, [], map, length, refl, sym, ap, ◌∙◌, subst, append-nil}
 use Rattle.std.specs.Prelude.{if◌then◌else◌, ◌==◌, option_map}
 use Rattle.std.specs.FinMap as finite
 use Rattle.flow_filter.specs.declared.packet.Packet.{Packet}
@@ -13,27 +13,26 @@ use Rattle.packet_pool.specs.Pool.{FullCell}
 use Rattle.event_store.specs.Store.{stored_of}
 use Rattle.nf_msgs.specs.declared.msg.Msg.{Msg}
 use Rattle.nf_msgs.specs.declared.msg.Msg.TheVariants as msg
-use Rattle.nf_msgs.specs.Nodes.{switch_node}
 use Rattle.move_op.specs.Move as move
 use Rattle.move_op.specs.Move.{MoveState}
 use Rattle.copy_share.specs.Share.{ShareState}
 use Rattle.copy_share.specs.Share as share
 use Rattle.ctrl_node.specs.declared.operation.Operation.{Operation}
 use Rattle.ctrl_node.specs.declared.operation.Operation.TheVariants.{Move, Copy, Share}
-use Rattle.ctrl_node.specs.Controller.{ControllerState, Step, hand_step, may_finish, step_and_finish}
+use Rattle.ctrl_node.specs.Controller.{ControllerState, hand_step}
 use Rattle.proof_machines.proofs.unit.Real as real
 use Rattle.proof_machines.proofs.net.Net as net
 use Rattle.proof_machines.proofs.net.Net.{Sys, Open, ControllerMove, everything, find_op, found, num_of, numbered}
 use Rattle.proof_machines.proofs.net.Shares.{Any, Old, New, S_chunks, S_shared, S_synced, Sharing, OpenShare, find_share, Told}
 use Rattle.proof_machines.proofs.net.Shares.{Is_fenced, Has_chunks, Has_chunk, Is_synced, share_row, as_old, told_by, by_share, old_step}
 use Rattle.proof_outlines.proofs.outline.Outline.{number, entries, sys}
-use Rattle.proof_outlines.proofs.outline.InstanceOutline.{IsGenuine, filter_map-put}
+use Rattle.proof_outlines.proofs.outline.InstanceOutline.{IsGenuine}
 use Rattle.proof_outlines.proofs.outline.MoveOutline.{outline_plan, outline_phase, RowFollows}
 use Rattle.proof_machines.proofs.unit.Labels.{Each}
-use Rattle.proof_outlines.proofs.whole.WholeOutline.{outline_each, outline_all, sharing}
+use Rattle.proof_outlines.proofs.whole.WholeOutline.{sharing}
 use Rattle.proof_outlines.proofs.whole.ShareOutline.{outline_share, ShareFollows, fenced_rows, chunks_rows, shared_rows, synced_rows}
 use Rattle.proof_outlines.proofs.whole.OpenShares.{but_shares, share_in, IsUnseen, SeesAny, OpensAll, no_op}
-use Rattle.proof_outlines.proofs.whole.OpenShares.{no_open_share, both, joins, AllStep, all_step, StepFollows}
+use Rattle.proof_outlines.proofs.whole.OpenShares.{no_open_share, both, joins, all_step, StepFollows}
 use Rattle.proof_outlines.proofs.whole.ShareTurns.{share_handed, share_quiet}
 use Rattle.proof_outlines.proofs.whole.OtherTurns.{Same, none_handed, copy_handed, move_quiet, move_handed}
 
@@ -253,18 +252,3 @@ module _ {R : Type 0} (f : Semantics R) (at : Site) (packet : ℕ → Packet) (p
 
   pub kept_follows : (port : ℕ) → Going → Same f at packet place c ops shares h n (hand_step c n port (msg.Kept n))
   kept_follows port going = hidden_follows port (msg.Kept n) going (λ mv events. unlooked mv events port (msg.Kept n) refl refl) (λ s. refl)
-
--- The finish behind a step.
-module _ {R : Type 0} (f : Semantics R) (at : Site) (packet : ℕ → Packet) (place : List ℕ → Option ℕ) where
-  pub finished_follows : (step : Step) (did : AllStep R) → StepFollows f at packet place step did → StepFollows f at packet place (step_and_finish step) did
-  finished_follows step did s = elim (may_finish step.node) as (λ b. StepFollows f at packet place (record {
-    node = if b then record step.node { finish_sent = true } else step.node;
-    sends = step.sends ++ (if b then (switch_node, msg.Finish) ∷ [] else []);
-    notes = step.notes;
-  }) did) [
-    | true ↦ record {
-      opens = s.opens;
-      sends = filter_map-put (outline_each f place) step.sends ((switch_node, msg.Finish) ∷ []) ∙ append-nil (outline_all f place step.sends) ∙ s.sends;
-    }
-    | false ↦ record { opens = s.opens; sends = ap (outline_all f place) (append-nil step.sends) ∙ s.sends }
-  ]

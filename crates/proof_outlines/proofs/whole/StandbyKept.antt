@@ -1,32 +1,28 @@
 -- Which messages leave what stands by at an instance as it is: those of moves, of which a member's step is then that of the abstract network, and
 -- those that are seen nowhere; and what a copy leaves there.
-use Rattle.std.proofs.Common.{◌≡◌, ℕ, Bool, true, false, Option, Some, None, List, [], ◌∷◌, map, refl, ap, ◌∙◌}
-use Rattle.std.specs.Prelude.{if◌then◌else◌, ◌||◌, nat_lt, Result, Ok, Err, length}
+use Rattle.std.proofs.Common.{◌≡◌, ℕ, Bool, true, false, Option, List, [], ◌∷◌, map, refl, ap, ◌∙◌}
+use Rattle.std.specs.Prelude.{if◌then◌else◌, ◌||◌, Result, Ok, Err}
 use Rattle.std.specs.List.{filter_map}
-use Rattle.flow_filter.specs.declared.filter.Filter.{Filter}
 use Rattle.flow_filter.specs.declared.packet.Packet.{Packet}
 use Rattle.flow_filter.specs.declared.site.Site.{Site}
-use Rattle.flow_filter.specs.Flow.{flow_of}
 use Rattle.nf_function.specs.declared.chunk.Chunk.{Chunk}
 use Rattle.nf_function.specs.Semantics.{Semantics}
 use Rattle.state_chunk.specs.declared.fault.ChunkFault.{ChunkFault}
 use Rattle.state_chunk.specs.Reading.{tally_read}
 use Rattle.record_table.specs.Table.{Records, newest_of}
 use Rattle.record_table.specs.Chunks.{records_of, are_good}
-use Rattle.event_filter.specs.declared.decide.Decide.{Decide}
-use Rattle.event_filter.specs.declared.decide.Decide.TheVariants as decide
+use Rattle.event_filter.specs.declared.mark.Mark.{Mark}
 use Rattle.event_filter.specs.declared.mark.Mark.TheVariants as mark
-use Rattle.event_filter.specs.Rules as rules
 use Rattle.packet_pool.specs.Pool.{FullCell}
-use Rattle.nf_msgs.specs.declared.answer.Answer.{Answer}
 use Rattle.nf_msgs.specs.declared.msg.Piece.{Piece as APiece}
 use Rattle.nf_msgs.specs.declared.msg.Msg.{Msg}
 use Rattle.nf_msgs.specs.declared.msg.Msg.TheVariants as msg
 use Rattle.instance_worker.specs.declared.instance.Instance.{Instance}
 use Rattle.instance_worker.specs.Pieces.{pieces}
-use Rattle.instance_worker.specs.Instance.{Step, still, tell_step, and_then, to_controller, process_step, all_processed, carry_step}
-use Rattle.instance_worker.specs.Instance.{on_carry, on_fence, on_stop, on_stream, on_get_all, on_put, piece_put, piece_refusal}
-use Rattle.instance_worker.specs.Instance.{where_good, on_restore, on_standby, tally_put, on_put_all, selected_chunks, instance_step}
+use Rattle.instance_worker.specs.Instance.{Step, still, and_then, to_controller, process_step}
+use Rattle.instance_worker.specs.Instance.{on_stop, on_get_all}
+use Rattle.instance_worker.specs.Instance.{on_standby, tally_put, on_put_all, selected_chunks, instance_step}
+use Rattle.proof_outlines.proofs.outline.InstanceWays.{instance_fits}
 use Rattle.proof_machines.proofs.unit.Labels.{each-append}
 use Rattle.proof_machines.proofs.net.Net.{InstanceTurn}
 use Rattle.proof_machines.proofs.net.Shares.{as_old}
@@ -81,83 +77,36 @@ module _ {F R : Type 0} (f : Semantics R) (place : List ℕ → Option ℕ) wher
   unfolding process_step
   passed_unshared i op cell = record { standby = refl; sends = (refl, tt) }
 
-  carried_unshared : (i : Instance F R) (cell : FullCell) (d : Decide) → SharesNothing i (carry_step f i mark.Plain cell d)
-  carried_unshared i cell decide.Process = plain_unshared i cell
-  carried_unshared i cell (decide.ProcessAndEvent op) = then_unshared i (process_step f i mark.Plain cell) (λ j. tell_step j (msg.Seen op cell.packet))
-      (plain_unshared i cell) (record { standby = refl; sends = (refl, tt) })
-  carried_unshared i cell (decide.Event op) = record { standby = refl; sends = (refl, tt) }
-  carried_unshared i cell (decide.Buffer op) = record { standby = refl; sends = tt }
-
-  all_unshared : (i : Instance F R) (cells : List FullCell) → SharesNothing i (all_processed f i cells)
-  unfolding all_processed
-  all_unshared i [] = still_unshared i
-  all_unshared i (cell ∷ cells) = then_unshared i (process_step f i mark.Plain cell) (λ j. all_processed f j cells) (plain_unshared i cell)
-      (all_unshared (process_step f i mark.Plain cell).node cells)
-
-  carry_unshared : (i : Instance F R) (cell : FullCell) → SharesNothing i (on_carry f i mark.Plain cell)
-  unfolding on_carry
-  carry_unshared i cell = carried_unshared i cell (rules.decide i.rules (flow_of i.site cell.packet).0 mark.Plain)
-
-  pass_unshared : (i : Instance F R) (op : ℕ) (cell : FullCell) → SharesNothing i (on_carry f i (mark.Pass op) cell)
-  unfolding on_carry
-  pass_unshared i op cell = passed_unshared i op cell
-
-  fence_unshared : (i : Instance F R) (op : ℕ) → SharesNothing i (on_fence f i op)
-  unfolding on_fence
-  fence_unshared i op =
-      let without = record i { rules = rules.without_rule i.rules op } in
-      let all = all_unshared without (rules.held_at i.rules op) in
-      record {
-        standby = all.standby;
-        sends = each-append (λ sent. IsUnshared f place sent.1) (all_processed f without (rules.held_at i.rules op)).sends _ all.sends (refl, tt);
-      }
-
-  -- state
-  good_unshared : (i : Instance F R) (chunks : List Chunk) (step : Step F R) → SharesNothing i step → SharesNothing i (where_good f i chunks step)
-  good_unshared i chunks step h = elim (are_good f chunks) as (λ b. SharesNothing i (if b then step else still i)) [ true ↦ h | false ↦ still_unshared i ]
-
-  piece_unshared : (i : Instance F R) (op : ℕ) (piece : APiece) (answered : Bool) (o : Option Answer) → SharesNothing i (piece_put f i op piece answered o)
-  piece_unshared i op piece answered (Some why) = record { standby = refl; sends = (refl, tt) }
-  piece_unshared i op piece answered None = good_unshared i piece.chunks _ (record { standby = refl; sends = answered_unshared f place op answered })
-
-  put_unshared : (i : Instance F R) (op : ℕ) (piece : APiece) (first : Bool) → SharesNothing i (on_put f i op piece first)
-  unfolding on_put
-  put_unshared i op piece first = elim (nat_lt piece.total (length piece.chunks))
-      as (λ b. SharesNothing i (if b then still i else piece_put f i op piece (first || piece.last) (if first then piece_refusal i piece else None))) [
-        | true ↦ still_unshared i
-        | false ↦ piece_unshared i op piece (first || piece.last) (if first then piece_refusal i piece else None)
-      ]
-
-  stream_unshared : (i : Instance F R) (op : ℕ) (g : Filter) → SharesNothing i (on_stream f i op g)
-  unfolding on_stream
-  stream_unshared i op g = record { standby = refl; sends = pieces_unshared f place op (pieces (selected_chunks f i g)) }
-
-  restore_unshared : (i : Instance F R) (op : ℕ) (chunks : List Chunk) → SharesNothing i (on_restore f i op chunks)
-  unfolding on_restore
-  restore_unshared i op chunks = good_unshared i chunks _ (record { standby = refl; sends = (refl, tt) })
-
-  tally_unshared : (i : Instance F R) (op : ℕ) (r : Result (List ℕ) ChunkFault) → SharesNothing i (tally_put i op r)
-  tally_unshared i op (Ok slots) = record { standby = refl; sends = (refl, tt) }
-  tally_unshared i op (Err fault) = still_unshared i
-
-  put_all_unshared : (i : Instance F R) (op : ℕ) (chunk : Chunk) → SharesNothing i (on_put_all f i op chunk)
-  unfolding on_put_all
-  put_all_unshared i op chunk = tally_unshared i op (tally_read f.kind chunk.bytes)
+  carried_unshared : (i : Instance F R) (m : Mark) (cell : FullCell) → leaves_standby (msg.Carry m cell) ≡ true → SharesNothing i (process_step f i m cell)
+  carried_unshared i mark.Plain cell e = plain_unshared i cell
+  carried_unshared i (mark.Pass op) cell e = passed_unshared i op cell
+  carried_unshared i (mark.Shared op home) cell e = cc
 
   -- each of them leaves what stands by as it is
   pub step_unshared : (i : Instance F R) (m : Msg) → leaves_standby m ≡ true → SharesNothing i (instance_step f i m)
-  step_unshared i (msg.Carry mark.Plain cell) e = carry_unshared i cell
-  step_unshared i (msg.Carry (mark.Pass op) cell) e = pass_unshared i op cell
-  step_unshared i (msg.Fence op) e = fence_unshared i op
-  step_unshared i msg.Stop e = record { standby = refl; sends = (refl, tt) }
-  step_unshared i (msg.Enable op filter action) e = record { standby = refl; sends = (refl, tt) }
-  step_unshared i (msg.Stream op filter) e = stream_unshared i op filter
-  step_unshared i (msg.GetAll op) e = record { standby = refl; sends = (refl, tt) }
-  step_unshared i (msg.Delete op gone) e = record { standby = refl; sends = (refl, tt) }
-  step_unshared i (msg.Put op piece first) e = put_unshared i op piece first
-  step_unshared i (msg.Restore op chunks) e = restore_unshared i op chunks
-  step_unshared i (msg.PutAll op chunk) e = put_all_unshared i op chunk
-  step_unshared i m e = cc
+  step_unshared = instance_fits f (λ i m did. leaves_standby m ≡ true → SharesNothing i did) (record {
+    still = λ i m e. still_unshared i;
+    held = λ i mk cell op e. record { standby = refl; sends = tt };
+    processed = λ i mk cell e. carried_unshared i mk cell e;
+    released = λ i op cell e. plain_unshared i cell;
+    both = λ i m did next w a b e. then_unshared i did next (a e) (b e);
+    unruled = λ i op did a e. (let all = a e in record { standby = all.standby; sends = all.sends });
+    seen = λ i mk cell op e. record { standby = refl; sends = (refl, tt) };
+    event = λ i mk cell op e. record { standby = refl; sends = (refl, tt) };
+    fenced = λ i op e. record { standby = refl; sends = (refl, tt) };
+    stopped = λ i e. record { standby = refl; sends = (refl, tt) };
+    enabled = λ i op filter action e. record { standby = refl; sends = (refl, tt) };
+    given = λ i op filter e. cc;
+    streamed = λ i op filter e. record { standby = refl; sends = pieces_unshared f place op (pieces (selected_chunks f i filter)) };
+    all_given = λ i op e. record { standby = refl; sends = (refl, tt) };
+    deleted = λ i op gone e. record { standby = refl; sends = (refl, tt) };
+    refused = λ i op piece first why is e. record { standby = refl; sends = (refl, tt) };
+    taken = λ i op piece first is e. record { standby = refl; sends = answered_unshared f place op (first || piece.last) };
+    restored = λ i op chunks e. record { standby = refl; sends = (refl, tt) };
+    stood_by = λ i op chunks e. cc;
+    synced = λ i home op chunks e. cc;
+    merged = λ i op chunk slots is e. record { standby = refl; sends = (refl, tt) };
+  })
 
 module _ {F R : Type 0} (f : Semantics R) (site : Site) (packet : ℕ → Packet) (place : List ℕ → Option ℕ) where
   -- what a step does on a message of a move, as the network with shares sees it

@@ -30,7 +30,6 @@ use Rattle.proof_machines.proofs.net.Shares.{as_old, arrive_sends, share_target,
 use Rattle.proof_outlines.proofs.outline.FiltersApart.{filter_fits, filter_is, flow_fits, flow_is, is_whole, takes_whole, whole_takes}
 use Rattle.proof_outlines.proofs.outline.InstanceOutline.{filter_map-put}
 use Rattle.proof_outlines.proofs.outline.Outline.{number, sys}
-use Rattle.proof_outlines.proofs.outline.SwitchOutline.{Routes}
 use Rattle.proof_outlines.proofs.whole.WholeOutline.{outline_each, outline_all, sharing}
 
 -- the node that a target is
@@ -48,11 +47,6 @@ pub record GoesToTarget (kind : Kind) (s : SwitchState) (to : units.Unit → ℕ
 abbrev pub RoutesAll : Kind → SwitchState → (units.Unit → ℕ) → Type 0
 RoutesAll kind s to = (flow : Flow) → flow_fits flow ≡ true → GoesToTarget kind s to flow
 
--- where each flow goes to an instance
-pub routes_all : (kind : Kind) (s : SwitchState) (to : units.Unit → ℕ) → Routes kind s to → RoutesAll kind s to
-routes_all kind s to routes flow fits =
-    let o = routes flow fits in record { target = target.Instance o.instance; first = o.first; node = o.node; there = o.there }
-
 -- a switch that has the same rules and instances
 pub routes_same : (kind : Kind) (s t : SwitchState) (to : units.Unit → ℕ) → t.rules ≡ s.rules → t.instances ≡ s.instances → RoutesAll kind s to
     → RoutesAll kind t to
@@ -63,12 +57,15 @@ routes_same kind s t to rules instances routes flow fits =
     there (target.Instance i) e = rw instances e
     there target.Controller e = refl
 
--- targets are equal where their nodes are
-same_target : (t : Target) (from : ℕ) → target_eq t (target.Instance from) ≡ (target_node t == instance_node from)
-same_target (target.Instance i) from = elim (i == from) as (λ b. (i == from) ≡ b → b ≡ (instance_node i == instance_node from)) [
+pub same_node : (i j : ℕ) → (i == j) ≡ (instance_node i == instance_node j)
+same_node i j = elim (i == j) as (λ b. (i == j) ≡ b → b ≡ (instance_node i == instance_node j)) [
   | true ↦ λ e. grind (arith, nat_tests)
   | false ↦ λ e. grind (arith, nat_tests)
 ] refl
+
+-- targets are equal where their nodes are
+same_target : (t : Target) (from : ℕ) → target_eq t (target.Instance from) ≡ (target_node t == instance_node from)
+same_target (target.Instance i) from = same_node i from
 same_target target.Controller from = let off : (1 == instance_node from) ≡ false = grind (arith, nat_tests) in sym off
 
 module _ {R : Type 0} (f : Semantics R) (site : Site) (packet : ℕ → Packet) (place : List ℕ → Option ℕ) where
@@ -87,11 +84,6 @@ module _ {R : Type 0} (f : Semantics R) (site : Site) (packet : ℕ → Packet) 
       ∙ ap (λ t. unwrap_or t (target.Instance 0)) o.first in
       let node : to (unit_at f.kind site (packet p.number)) ≡ target_node o.target = ap (λ q. to (unit_at f.kind site q)) (sym genuine) ∙ o.node in
       rw (room, found, node) (sent_to s p o.target o.there)
-
-  -- What the controller asks: packets of moves and of shares, fences, changed rules.
-  pub forward_passed : (s : SwitchState) (i op : ℕ) (cell : FullCell) → nat_lt i s.instances ≡ true → outline_all f place
-      (sends_to_instance s i (msg.Carry (mark.Pass op) cell)).sends ≡ as_old (sw_sends (net.Mv everything (real.M_forward (number cell) (instance_node i))))
-  forward_passed s i op cell there = rw there refl
 
   pub forward_shared : (s : SwitchState) (i op : ℕ) (home : Bool) (cell : FullCell) → nat_lt i s.instances ≡ true
       → outline_all f place (sends_to_instance s i (msg.Carry (mark.Shared op home) cell)).sends

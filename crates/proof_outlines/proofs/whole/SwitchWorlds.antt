@@ -23,7 +23,7 @@ use Rattle.proof_machines.proofs.net.Shares.{Any, Old, New, WholeWorld, S_instal
 use Rattle.proof_outlines.proofs.outline.FiltersApart.{flow_fits, is_whole}
 use Rattle.proof_outlines.proofs.outline.Outline.{number}
 use Rattle.proof_outlines.proofs.whole.AskedShare.{command_all}
-use Rattle.proof_outlines.proofs.whole.SwitchAll.{RoutesAll, routes_same, arrive_all, forward_passed, forward_shared}
+use Rattle.proof_outlines.proofs.whole.SwitchAll.{RoutesAll, routes_same, arrive_all, forward_shared}
 use Rattle.proof_outlines.proofs.whole.SwitchAll.{fence_all, install_moved, install_shared, routes_moved, routes_shared}
 use Rattle.proof_outlines.proofs.whole.WholeOutline.{asked_of, outline_all, S, A}
 
@@ -75,12 +75,6 @@ module _ {R : Type 0} (f : Semantics R) (site : Site) (packet : ℕ → Packet) 
     module _ (p : ℕ) where
       abbrev sent_as : (xs : List (ℕ × Any R)) → (a b : ℕ) → List (Any R)
       sent_as xs a b = links_after w.link p 0 xs a b
-
-      pub passed_goes : (i op : ℕ) (cell : FullCell) → nat_lt i s.instances ≡ true
-          → SwitchesTo p (whole_switch (S f site packet) (A f site packet) w p (Old (net.Mv everything (real.M_forward (number cell) (instance_node i)))))
-          (sends_to_instance s i (msg.Carry (mark.Pass op) cell))
-      passed_goes i op cell there =
-          record { routes = rw there routes; links = λ a b. ap (λ xs. sent_as xs a b) (sym (forward_passed f site packet place s i op cell there)) }
 
       pub shared_goes : (i op : ℕ) (home : Bool) (cell : FullCell) → nat_lt i s.instances ≡ true
           → SwitchesTo p (whole_switch (S f site packet) (A f site packet) w p (New (S_forward op home (number cell) (instance_node i))))
