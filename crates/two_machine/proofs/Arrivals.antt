@@ -1,18 +1,18 @@
 -- What each step notes of arrivals, and where the input and its end are.
 use Rattle.std.proofs.Common.{◌≡◌, ℕ, Bool, true, false, List, [], ◌∷◌, ◌++◌, refl, sym, ap, ◌∙◌, append-nil}
 use Rattle.std.specs.Prelude.{if◌then◌else◌, ◌==◌}
-use Rattle.two_machine.proofs.Machine.{Rule, Free, Drops, Buffers, Target, To_a, To_both, To_b}
+use Rattle.two_machine.proofs.Machine.{Free, Target, To_a, To_both, To_b}
 use Rattle.two_machine.proofs.Tables
-use Rattle.two_machine.proofs.Tables.{System, Msg, Note, Switch, Ctrl, Inst, Step, In_packet, In_start, In_end, Start, End, Copied, Laid, Forward, Lay}
-use Rattle.two_machine.proofs.Tables.{Finish, Carry, Pass, Stop, Enable, Get, Delete, Restore, Fence, Enabled, Chunks, Deleted, Restored, Event, Seen}
-use Rattle.two_machine.proofs.Tables.{Fenced, Final, Credit, has_room, goes, switch_step, processed, all_processed, ruled, inst_step, ctrl_step, takes_in}
+use Rattle.two_machine.proofs.Tables.{System, Msg, Switch, Ctrl, Inst, In_packet, In_start, In_end, Start, End, Copied, Laid, Forward, Lay, Finish, Carry}
+use Rattle.two_machine.proofs.Tables.{Stop, Fence, Credit, goes, switch_step, processed, all_processed, inst_step, ctrl_step, takes_in, Step}
 use Rattle.two_machine.proofs.View.{World, Observer, read, read-append, arrived, item}
-use Rattle.two_machine.proofs.Labels.{IsSelected, InInput, OnSc, OnCs, OnAc, OnBc, OnBack, Label}
+use Rattle.two_machine.proofs.Places.{Place, Cs, In, Sc, Aw, Bw, Ac, Bc, Sa, Ca, Sb, Cb, choice, with_waits, comes}
+use Rattle.two_machine.proofs.Labels.{IsSelected, OnBack, Label}
+use Rattle.two_machine.proofs.Rows.{Carried, Runs, carried, kind}
 use Rattle.two_machine.proofs.Puts.{sent, result}
-use Rattle.two_machine.proofs.Places.{Place, In, Cs, Aw, Bw, Sc, Ac, Bc, Sa, Ca, Sb, Cb, with_waits, comes}
 use Rattle.two_machine.proofs.Shapes.{copied}
 use Rattle.actor_net.proofs.WeightLaws.{Each, each-append}
-use Rattle.two_machine.proofs.StepLabels.{ctrl_ok, gives_sc, gives_ac, gives_bc}
+use Rattle.two_machine.proofs.StepLabels.{ctrl_ok, ended_by, gives}
 
 -- the packets of an input
 abbrev pub coming : {C : Type 0} → Msg C → List ℕ
@@ -59,7 +59,7 @@ pub data EndAt {T C O : Type 0} (v : World T C O) : Type 0 where
   Has_come : v.input ≡ [] → Each NotEnd v.sc → v.ct.ended ≡ true → EndAt v
 
 module _ {U T C R O : Type 0} (S : System U T C R O) where
-  pub quiet_copied : (o : Observer U) (xs : List (Msg C)) → Each (OnSc S) xs → Each Quiet xs → copied (read (item S o) xs) ≡ []
+  pub quiet_copied : (o : Observer U) (xs : List (Msg C)) → Each (Label S Sc) xs → Each Quiet xs → copied (read (item S o) xs) ≡ []
   quiet_copied o [] l h = refl
   quiet_copied o (Start ∷ xs) l h = quiet_copied o xs l.1 h.1
   quiet_copied o (Laid high ∷ xs) l h = quiet_copied o xs l.1 h.1
@@ -77,13 +77,13 @@ module _ {U T C R O : Type 0} (S : System U T C R O) where
   lay_notes true = refl
   lay_notes false = refl
 
-  in_notes : (s : Switch) (m : Msg C) → InInput S m → takes_in S s m ≡ true → read arrived (switch_step S s m).notes ≡ comes In m
+  in_notes : (s : Switch) (m : Msg C) → Label S In m → takes_in S s m ≡ true → read arrived (switch_step S s m).notes ≡ comes In m
   in_notes s (In_packet p) h ready = rw ready (goes_notes (if S.covers p then s.target else To_a) s p)
   in_notes s In_start h ready = refl
   in_notes s In_end h ready = refl
   in_notes s m h ready = absurd h
 
-  cs_notes : (s : Switch) (m : Msg C) → OnCs S m → read arrived (switch_step S s m).notes ≡ []
+  cs_notes : (s : Switch) (m : Msg C) → Label S Cs m → read arrived (switch_step S s m).notes ≡ []
   cs_notes s (Forward p) h = refl
   cs_notes s (Lay true) h = refl
   cs_notes s (Lay false) h = refl
@@ -98,17 +98,12 @@ module _ {U T C R O : Type 0} (S : System U T C R O) where
   all_notes n i [] = refl
   all_notes n i (p ∷ ps) = all_notes n (processed S n i p).node ps
 
-  ruled_notes : (r : Rule) (n : ℕ) (i : Inst T) (p : ℕ) → read arrived (ruled S r n i p).notes ≡ []
-  ruled_notes Free n i p = refl
-  ruled_notes Drops n i p = refl
-  ruled_notes Buffers n i p = refl
+  carry_notes : {n : ℕ} {i : Inst T} {p : ℕ} {did : Step S (Inst T)} → Carried S n i p did → read arrived did.notes ≡ []
+  carry_notes (Runs free) = refl
+  carry_notes run = refl
 
   pub inst_notes : (n : ℕ) (i : Inst T) (m : Msg C) → read arrived (inst_step S n i m).notes ≡ []
-  inst_notes n i (Carry p) =
-      elim (S.covers p) as (λ b. read arrived (if b then ruled S i.rule n i p else processed S n i p).notes ≡ []) [
-        | true ↦ ruled_notes i.rule n i p
-        | false ↦ refl
-      ]
+  inst_notes n i (Carry p) = carry_notes (carried S n i p)
   inst_notes n i Fence = all_notes n (record i { rule = Free; held = [] }) i.held
   inst_notes n i m = refl
 
@@ -123,11 +118,11 @@ module _ {U T C R O : Type 0} (S : System U T C R O) where
   arrivals Aw v m rest h ready k = read-append arrived v.log (switch_step S v.sw m).notes ∙ ap (λ xs. read arrived v.log ++ xs) (back_notes v.sw m h)
   arrivals Bw v m rest h ready k = read-append arrived v.log (switch_step S v.sw m).notes ∙ ap (λ xs. read arrived v.log ++ xs) (back_notes v.sw m h)
   arrivals Sc v m rest h ready k =
-      read-append arrived v.log (ctrl_step S v.ct 0 m).notes ∙ ap (λ xs. read arrived v.log ++ xs) (ctrl_ok S v.ct 0 m k (gives_sc S m h)).quiet
+      read-append arrived v.log (ctrl_step S v.ct 0 m).notes ∙ ap (λ xs. read arrived v.log ++ xs) (ctrl_ok S v.ct 0 m k (gives S Sc m h)).quiet
   arrivals Ac v m rest h ready k =
-      read-append arrived v.log (ctrl_step S v.ct 2 m).notes ∙ ap (λ xs. read arrived v.log ++ xs) (ctrl_ok S v.ct 2 m k (gives_ac S m h)).quiet
+      read-append arrived v.log (ctrl_step S v.ct 2 m).notes ∙ ap (λ xs. read arrived v.log ++ xs) (ctrl_ok S v.ct 2 m k (gives S Ac m h)).quiet
   arrivals Bc v m rest h ready k =
-      read-append arrived v.log (ctrl_step S v.ct 3 m).notes ∙ ap (λ xs. read arrived v.log ++ xs) (ctrl_ok S v.ct 3 m k (gives_bc S m h)).quiet
+      read-append arrived v.log (ctrl_step S v.ct 3 m).notes ∙ ap (λ xs. read arrived v.log ++ xs) (ctrl_ok S v.ct 3 m k (gives S Bc m h)).quiet
   arrivals Sa v m rest h ready k = read-append arrived v.log (inst_step S 0 v.a m).notes ∙ ap (λ xs. read arrived v.log ++ xs) (inst_notes 0 v.a m)
   arrivals Ca v m rest h ready k = read-append arrived v.log (inst_step S 0 v.a m).notes ∙ ap (λ xs. read arrived v.log ++ xs) (inst_notes 0 v.a m)
   arrivals Sb v m rest h ready k = read-append arrived v.log (inst_step S 1 v.b m).notes ∙ ap (λ xs. read arrived v.log ++ xs) (inst_notes 1 v.b m)
@@ -139,7 +134,7 @@ module _ {U T C R O : Type 0} (S : System U T C R O) where
   goes_sc To_both s p = (tt, tt)
   goes_sc To_b s p = tt
 
-  end_in : (v : World T C O) (m : Msg C) (rest : List (Msg C)) → InInput S m → takes_in S v.sw m ≡ true → EndAt (with_waits S In (m ∷ rest) v)
+  end_in : (v : World T C O) (m : Msg C) (rest : List (Msg C)) → Label S In m → takes_in S v.sw m ≡ true → EndAt (with_waits S In (m ∷ rest) v)
       → EndAt (result S In (with_waits S In rest v) m)
   end_in v (In_packet p) rest h ready (In_input_still last none not_yet) =
       In_input_still last
@@ -154,7 +149,7 @@ module _ {U T C R O : Type 0} (S : System U T C R O) where
   end_in v m rest h ready (Has_come none no_end has) = cc
 
   -- what the switch sends the controller otherwise says nothing of the end
-  quiet_cs : (s : Switch) (m : Msg C) → OnCs S m → Each Quiet (sent 1 (switch_step S s m).sends)
+  quiet_cs : (s : Switch) (m : Msg C) → Label S Cs m → Each Quiet (sent 1 (switch_step S s m).sends)
   quiet_cs s (Forward p) h = tt
   quiet_cs s (Lay high) h = (tt, tt)
   quiet_cs s (Finish to) h = by (to == 0)
@@ -164,12 +159,12 @@ module _ {U T C R O : Type 0} (S : System U T C R O) where
       by false = tt
   quiet_cs s m h = absurd h
 
-  not_end : (xs : List (Msg C)) → Each (OnSc S) xs → Each Quiet xs → Each NotEnd xs
+  not_end : (xs : List (Msg C)) → Each (Label S Sc) xs → Each Quiet xs → Each NotEnd xs
   not_end [] l h = tt
   not_end (End ∷ xs) l h = absurd h.0
   not_end (x ∷ xs) l h = (tt, not_end xs l.1 h.1)
 
-  more_sc : (v w : World T C O) (xs : List (Msg C)) → Each (OnSc S) xs → Each Quiet xs → w.input ≡ v.input → w.sc ≡ v.sc ++ xs → w.ct.ended ≡ v.ct.ended
+  more_sc : (v w : World T C O) (xs : List (Msg C)) → Each (Label S Sc) xs → Each Quiet xs → w.input ≡ v.input → w.sc ≡ v.sc ++ xs → w.ct.ended ≡ v.ct.ended
       → EndAt v → EndAt w
   more_sc v w xs l q input sc ended (In_input_still last none not_yet) =
       In_input_still (rw input last) (rw sc (each-append NotEnd v.sc xs none (not_end xs l q))) (ended ∙ not_yet)
@@ -180,7 +175,7 @@ module _ {U T C R O : Type 0} (S : System U T C R O) where
   same_sc : (v w : World T C O) → w.input ≡ v.input → w.sc ≡ v.sc → w.ct.ended ≡ v.ct.ended → EndAt v → EndAt w
   same_sc v w input sc ended h = more_sc v w [] tt tt input (sc ∙ sym (append-nil v.sc)) ended h
 
-  end_sc : (v : World T C O) (m : Msg C) (rest : List (Msg C)) → OnSc S m → IsSelected S v.ct.kept → EndAt (with_waits S Sc (m ∷ rest) v)
+  end_sc : (v : World T C O) (m : Msg C) (rest : List (Msg C)) → Label S Sc m → IsSelected S v.ct.kept → EndAt (with_waits S Sc (m ∷ rest) v)
       → EndAt (result S Sc (with_waits S Sc rest v) m)
   end_sc v End rest h k (In_input_still last none not_yet) = absurd none.0
   end_sc v End rest h k (On_link none one not_yet) = Has_come none (quiet_not rest one) (ctrl_ok S v.ct 0 End k tt).ended
@@ -205,28 +200,18 @@ module _ {U T C R O : Type 0} (S : System U T C R O) where
   quiet_back s (Credit p) h = refl
   quiet_back s m h = absurd h
 
-  ended_ac : (m : Msg C) (c : Ctrl C) (port : ℕ) → IsSelected S c.kept → OnAc S m → (ctrl_step S c port m).node.ended ≡ c.ended
-  ended_ac Enabled c port k h = (ctrl_ok S c port Enabled k tt).ended
-  ended_ac (Chunks cs) c port k h = (ctrl_ok S c port (Chunks cs) k h).ended
-  ended_ac Deleted c port k h = (ctrl_ok S c port Deleted k tt).ended
-  ended_ac (Event p) c port k h = (ctrl_ok S c port (Event p) k tt).ended
-  ended_ac Final c port k h = (ctrl_ok S c port Final k tt).ended
-  ended_ac m c port k h = absurd h
+  -- and neither do the instances
+  ended_at : (pl : Place) (m : Msg C) (c : Ctrl C) → Label S pl m → (pl ≡ Sc → ⊥) → ended_by S (kind (choice pl).port m) c ≡ c.ended
+  ended_at Sc m c h other = absurd (other refl)
+  ended_at pl End c h other = absurd h
+  ended_at pl m c h other = refl
 
-  ended_bc : (m : Msg C) (c : Ctrl C) (port : ℕ) → IsSelected S c.kept → OnBc S m → (ctrl_step S c port m).node.ended ≡ c.ended
-  ended_bc Restored c port k h = (ctrl_ok S c port Restored k tt).ended
-  ended_bc Enabled c port k h = (ctrl_ok S c port Enabled k tt).ended
-  ended_bc Fenced c port k h = (ctrl_ok S c port Fenced k tt).ended
-  ended_bc (Seen p) c port k h = (ctrl_ok S c port (Seen p) k tt).ended
-  ended_bc Final c port k h = (ctrl_ok S c port Final k tt).ended
-  ended_bc m c port k h = absurd h
-
-  on_sc_cs : (s : Switch) (m : Msg C) → OnCs S m → Each (OnSc S) (sent 1 (switch_step S s m).sends)
+  on_sc_cs : (s : Switch) (m : Msg C) → Label S Cs m → Each (Label S Sc) (sent 1 (switch_step S s m).sends)
   on_sc_cs s (Forward p) h = tt
   on_sc_cs s (Lay high) h = (tt, tt)
   on_sc_cs s (Finish to) h = by (to == 0)
     where
-      by : (b : Bool) → Each (OnSc S) (sent {M = Msg C} 1 ((if b then 2 else 3, Stop) ∷ []))
+      by : (b : Bool) → Each (Label S Sc) (sent {M = Msg C} 1 ((if b then 2 else 3, Stop) ∷ []))
       by true = tt
       by false = tt
   on_sc_cs s m h = absurd h
@@ -244,8 +229,12 @@ module _ {U T C R O : Type 0} (S : System U T C R O) where
       let none = quiet_back v.sw m h in
       same_sc (with_waits S Bw (m ∷ rest) v) (result S Bw (with_waits S Bw rest v) m) refl (rw none (append-nil v.sc)) refl e
   end_goes Sc v m rest h ready k e = end_sc v m rest h k e
-  end_goes Ac v m rest h ready k e = same_sc (with_waits S Ac (m ∷ rest) v) (result S Ac (with_waits S Ac rest v) m) refl refl (ended_ac m v.ct 2 k h) e
-  end_goes Bc v m rest h ready k e = same_sc (with_waits S Bc (m ∷ rest) v) (result S Bc (with_waits S Bc rest v) m) refl refl (ended_bc m v.ct 3 k h) e
+  end_goes Ac v m rest h ready k e =
+      let same = (ctrl_ok S v.ct 2 m k (gives S Ac m h)).ended ∙ ended_at Ac m v.ct h (λ never. cc) in
+      same_sc (with_waits S Ac (m ∷ rest) v) (result S Ac (with_waits S Ac rest v) m) refl refl same e
+  end_goes Bc v m rest h ready k e =
+      let same = (ctrl_ok S v.ct 3 m k (gives S Bc m h)).ended ∙ ended_at Bc m v.ct h (λ never. cc) in
+      same_sc (with_waits S Bc (m ∷ rest) v) (result S Bc (with_waits S Bc rest v) m) refl refl same e
   end_goes Sa v m rest h ready k e = same_sc (with_waits S Sa (m ∷ rest) v) (result S Sa (with_waits S Sa rest v) m) refl refl refl e
   end_goes Ca v m rest h ready k e = same_sc (with_waits S Ca (m ∷ rest) v) (result S Ca (with_waits S Ca rest v) m) refl refl refl e
   end_goes Sb v m rest h ready k e = same_sc (with_waits S Sb (m ∷ rest) v) (result S Sb (with_waits S Sb rest v) m) refl refl refl e

@@ -1,19 +1,17 @@
 -- The switch counts the packets under way: those on links, in the store, and held.
 use Rattle.std.proofs.Common.{◌≡◌, ◌≢◌, ℕ, ◌+◌, Bool, true, false, List, [], ◌∷◌, ◌++◌, length, refl, ap, ◌∙◌, arith}
-use Rattle.std.specs.Prelude.{if◌then◌else◌, ◌==◌, ◌&&◌, not}
+use Rattle.std.specs.Prelude.{if◌then◌else◌, ◌==◌}
 use Rattle.std.proofs.lemmas.List.{length_push}
-use Rattle.two_machine.proofs.Machine.{Rule, Free, Drops, Buffers, Target, To_a, To_both, To_b, Phase, Idle, Freezing, Getting}
-use Rattle.two_machine.proofs.Machine.{Deleting, Putting, Holding, Laying, Waiting, Turning, Settling, Ending, Over, same}
-use Rattle.two_machine.proofs.Tables
-use Rattle.two_machine.proofs.Tables.{System, Msg, Note, Switch, Ctrl, Inst, Step, In_packet, In_start, In_end, Start, End, Copied, Laid}
-use Rattle.two_machine.proofs.Tables.{Forward, Lay, Finish, Carry, Pass, Stop, Enable, Get, Delete, Restore, Fence, Enabled, Chunks, Deleted}
-use Rattle.two_machine.proofs.Tables.{Restored, Event, Seen, Fenced, Final, Credit, none, has_room, goes, switch_step, processed, all_processed}
-use Rattle.two_machine.proofs.Tables.{ruled, inst_step, on_start, on_enabled, on_chunks, on_deleted, on_restored, on_event, on_laid, on_copied}
-use Rattle.two_machine.proofs.Tables.{on_fenced, on_final, forwards, ctrl_row, and_then, soon_at, is_over, finishes, soon, ctrl_step, takes_in}
+use Rattle.two_machine.proofs.Machine.{Free, Drops, Target, To_a, To_both, To_b}
+use Rattle.two_machine.proofs.Tables.{System, Msg, Switch, Ctrl, Inst, Step, In_packet, In_start, In_end, Forward, Lay, Finish, Carry, Pass, Stop, Enable}
+use Rattle.two_machine.proofs.Tables.{Get, Delete, Restore, Fence, Event, Fenced, Credit, goes, switch_step, processed, all_processed, inst_step, forwards}
+use Rattle.two_machine.proofs.Tables.{ctrl_row, soon_at, finishes, ctrl_step, takes_in}
 use Rattle.two_machine.proofs.View.{World, read-append}
-use Rattle.two_machine.proofs.Labels.{InInput, OnSa, OnSb, OnSc, OnCs, OnCa, OnCb, OnAc, OnBc, OnBack, Label}
+use Rattle.two_machine.proofs.Places.{Place, Ac, Bc, Ca, Cb, Cs, In, Sa, Sb, Sc, Aw, Bw, with_waits}
+use Rattle.two_machine.proofs.Labels.{OnBack, Label}
+use Rattle.two_machine.proofs.Rows.{Kind, Cell, kind, Row, Lays_low, Stores, Finishes, Not_yet, Asks, row, soon_row, finish_row, Carried, Runs, Hands_out}
+use Rattle.two_machine.proofs.Rows.{Held, carried}
 use Rattle.two_machine.proofs.Puts.{to_one, sent, put_switch, put_ctrl, put_a, put_b, result}
-use Rattle.two_machine.proofs.Places.{Place, In, Cs, Aw, Bw, Sc, Ac, Bc, Sa, Ca, Sb, Cb, with_waits}
 use Rattle.two_machine.proofs.Arrivals.{Ready}
 use Rattle.actor_net.proofs.WeightLaws.{weigh, weigh-append}
 
@@ -26,9 +24,10 @@ cell (Event p) = 1
 cell (Credit p) = 1
 cell m = 0
 
-abbrev pub events_only : {C : Type 0} → Msg C → ℕ
-events_only (Event p) = 1
-events_only m = 0
+-- and whether a message brings the controller one
+abbrev pub cell_in : {C : Type 0} → Kind C → ℕ
+cell_in Cell = 1
+cell_in k = 0
 
 module _ {U T C R O : Type 0} (S : System U T C R O) where
   abbrev pub cells : World T C O → ℕ
@@ -48,117 +47,29 @@ module _ {U T C R O : Type 0} (S : System U T C R O) where
   stored_all [] = refl
   stored_all (p ∷ ps) = omega (arith, stored_all ps)
 
-  start_keeps : (c : Ctrl C) (ph : Phase) → Keeps c (on_start S ph c) 0
-  start_keeps c Idle = omega arith
-  start_keeps c ph = omega arith
+  row_keeps : {c : Ctrl C} {k : Kind C} {did : Step S (Ctrl C)} → Row S c k did → Keeps c did (cell_in k)
+  row_keeps {c} (Lays_low e) = omega (arith, stored_all c.store)
+  row_keeps {c} (Stores p) = let more = length_push c.store p in omega (arith, more)
+  row_keeps r = omega arith
 
-  enabled_keeps : (c : Ctrl C) (ph : Phase) → Keeps c (on_enabled S ph c) 0
-  enabled_keeps c Freezing = omega arith
-  enabled_keeps c Holding = omega (arith, stored_all c.store)
-  enabled_keeps c ph = omega arith
-
-  chunks_keeps : (c : Ctrl C) (ph : Phase) (cs : C) → Keeps c (on_chunks S ph c cs) 0
-  chunks_keeps c Getting cs = omega arith
-  chunks_keeps c ph cs = omega arith
-
-  deleted_keeps : (c : Ctrl C) (ph : Phase) → Keeps c (on_deleted S ph c) 0
-  deleted_keeps c Deleting = omega arith
-  deleted_keeps c ph = omega arith
-
-  restored_keeps : (c : Ctrl C) (ph : Phase) → Keeps c (on_restored S ph c) 0
-  restored_keeps c Putting = omega arith
-  restored_keeps c ph = omega arith
-
-  event_keeps : (c : Ctrl C) (ph : Phase) (p : ℕ) → Keeps c (on_event S ph c p) 1
-  event_keeps c Idle p = let more = length_push c.store p in omega (arith, more)
-  event_keeps c Freezing p = let more = length_push c.store p in omega (arith, more)
-  event_keeps c Getting p = let more = length_push c.store p in omega (arith, more)
-  event_keeps c Deleting p = let more = length_push c.store p in omega (arith, more)
-  event_keeps c Putting p = let more = length_push c.store p in omega (arith, more)
-  event_keeps c Holding p = let more = length_push c.store p in omega (arith, more)
-  event_keeps c ph p = omega arith
-
-  laid_keeps : (c : Ctrl C) (ph : Phase) (high : Bool) → Keeps c (on_laid S ph high c) 0
-  laid_keeps c Laying false = omega arith
-  laid_keeps c Turning true = omega arith
-  laid_keeps c ph high = omega arith
-
-  copied_keeps : (c : Ctrl C) (ph : Phase) (p : ℕ) → Keeps c (on_copied S ph c p) 0
-  copied_keeps c Waiting p = omega arith
-  copied_keeps c Turning p = omega arith
-  copied_keeps c ph p = omega arith
-
-  fenced_keeps : (c : Ctrl C) (ph : Phase) → Keeps c (on_fenced S ph c) 0
-  fenced_keeps c Ending = omega arith
-  fenced_keeps c ph = omega arith
-
-  row_keeps : (c : Ctrl C) (port : ℕ) (m : Msg C) → Keeps c (ctrl_row S c port m) (weigh events_only (m ∷ []))
-  row_keeps c port Start = start_keeps c c.phase
-  row_keeps c port (Copied p) = copied_keeps c c.phase p
-  row_keeps c port (Laid high) = laid_keeps c c.phase high
-  row_keeps c port Enabled = enabled_keeps c c.phase
-  row_keeps c port (Chunks cs) = chunks_keeps c c.phase cs
-  row_keeps c port Deleted = deleted_keeps c c.phase
-  row_keeps c port Restored = restored_keeps c c.phase
-  row_keeps c port (Event p) = event_keeps c c.phase p
-  row_keeps c port Fenced = fenced_keeps c c.phase
-  row_keeps c port Final =
-      elim (port == 2) as (λ b.
-      Keeps c
-      (if b then record { node = c; sends = (0, Finish 1) ∷ []; notes = [] }
-      else record { node = record c { stopped = true }; sends = []; notes = [] })
-      0) [
-        | true ↦ omega arith
-        | false ↦ omega arith
-      ]
-  row_keeps c port m = omega arith
-
-  soon_at_keeps : (c : Ctrl C) (ph : Phase) → Keeps c (soon_at S ph c) 0
-  soon_at_keeps c Settling =
-      elim (same c.seen c.last) as (λ b.
-      Keeps c
-      (if b then record { node = record c { phase = Ending }; sends = (3, Fence) ∷ []; notes = [] }
-      else record { node = c; sends = []; notes = [] })
-      0) [
-        | true ↦ omega arith
-        | false ↦ omega arith
-      ]
-  soon_at_keeps c Waiting =
-      elim c.ended as (λ b.
-      Keeps c
-      (if b then record { node = record c { phase = Over }; sends = []; notes = Tables.No_packet ∷ [] }
-      else record { node = c; sends = []; notes = [] })
-      0) [
-        | true ↦ omega arith
-        | false ↦ omega arith
-      ]
-  soon_at_keeps c ph = omega arith
-
-  finish_keeps : (c : Ctrl C) → Keeps c (finishes S c) 0
-  finish_keeps c =
-      elim (is_over S c.phase && (c.ended && not c.finished)) as (λ b.
-      Keeps c
-      (if b then record { node = record c { finished = true }; sends = (0, Finish 0) ∷ []; notes = [] }
-      else record { node = c; sends = []; notes = [] })
-      0) [
-        | true ↦ omega arith
-        | false ↦ omega arith
-      ]
+  finish_keeps : {c : Ctrl C} {did : Step S (Ctrl C)} → Finishes S c did → Keeps c did 0
+  finish_keeps (Not_yet e) = omega arith
+  finish_keeps (Asks e over) = omega arith
 
   sent_cells : (xs ys : List (ℕ × Msg C)) → weigh cell (sent 0 (xs ++ ys)) ≡ weigh cell (sent 0 xs) + weigh cell (sent 0 ys)
   sent_cells xs ys = ap (weigh cell) (read-append (to_one 0) xs ys) ∙ weigh-append cell (sent 0 xs) (sent 0 ys)
 
-  step_keeps : (c : Ctrl C) (port : ℕ) (m : Msg C) → Keeps c (ctrl_step S c port m) (weigh events_only (m ∷ []))
+  step_keeps : (c : Ctrl C) (port : ℕ) (m : Msg C) → Keeps c (ctrl_step S c port m) (cell_in (kind port m))
   step_keeps c port m =
-      let row = ctrl_row S c port m in
-      let next = soon_at S row.node.phase row.node in
+      let first = ctrl_row S c port m in
+      let next = soon_at S first.node.phase first.node in
       let last = finishes S next.node in
-      let one = row_keeps c port m in
-      let two = soon_at_keeps row.node row.node.phase in
-      let three = finish_keeps next.node in
-      let first = sent_cells row.sends (next.sends ++ last.sends) in
-      let second = sent_cells next.sends last.sends in
-      omega (arith, one, two, three, first, second)
+      let one = row_keeps (row S c port m) in
+      let two = row_keeps (soon_row S first.node first.node.phase refl) in
+      let three = finish_keeps (finish_row S next.node) in
+      let sent_first = sent_cells first.sends (next.sends ++ last.sends) in
+      let sent_next = sent_cells next.sends last.sends in
+      omega (arith, one, two, three, sent_first, sent_next)
 
   -- steps at each node
   ctrl_counts : (window : ℕ) (v : World T C O) (did : Step S (Ctrl C)) (n : ℕ) → Keeps v.ct did n → v.sw.flying ≡ cells v + n → v.sw.window ≡ window
@@ -196,7 +107,7 @@ module _ {U T C R O : Type 0} (S : System U T C R O) where
   goes_cells To_both s p = (omega arith, refl)
   goes_cells To_b s p = (omega arith, refl)
 
-  in_cells : (s : Switch) (m : Msg C) → InInput S m → takes_in S s m ≡ true
+  in_cells : (s : Switch) (m : Msg C) → Label S In m → takes_in S s m ≡ true
       → ((switch_step S s m).node.flying + 0 ≡ s.flying + weigh cell (sent 2 (switch_step S s m).sends) + weigh cell (sent 3 (switch_step S s m).sends))
       × ((switch_step S s m).node.window ≡ s.window)
   in_cells s (In_packet p) l ready = rw ready (goes_cells (if S.covers p then s.target else To_a) s p)
@@ -204,7 +115,7 @@ module _ {U T C R O : Type 0} (S : System U T C R O) where
   in_cells s In_end l ready = (omega arith, refl)
   in_cells s m l ready = absurd l
 
-  cs_cells : (s : Switch) (m : Msg C) → OnCs S m
+  cs_cells : (s : Switch) (m : Msg C) → Label S Cs m
       →
       ((switch_step S s m).node.flying + cell m
       ≡ s.flying + weigh cell (sent 2 (switch_step S s m).sends) + weigh cell (sent 3 (switch_step S s m).sends))
@@ -231,28 +142,19 @@ module _ {U T C R O : Type 0} (S : System U T C R O) where
   back_cells s (Credit p) n l e = (omega (arith, e), refl)
   back_cells s m n l e = absurd l
 
-  ruled_cells : (r : Rule) (i : Inst T) (p : ℕ)
-      → length (ruled S r 0 i p).node.held + weigh cell (sent 0 (ruled S r 0 i p).sends) + weigh cell (sent 1 (ruled S r 0 i p).sends) ≡ length i.held + 1
-  ruled_cells Free i p = omega arith
-  ruled_cells Drops i p = omega arith
-  ruled_cells Buffers i p = omega (arith, length_push i.held p)
+  carry_a : {i : Inst T} {p : ℕ} {did : Step S (Inst T)} → Carried S 0 i p did
+      → length did.node.held + weigh cell (sent 0 did.sends) + weigh cell (sent 1 did.sends) ≡ length i.held + 1
+  carry_a {i} {p} (Held covers) = omega (arith, length_push i.held p)
+  carry_a run = omega arith
 
-  sa_cells : (i : Inst T) (m : Msg C) → OnSa S m
+  sa_cells : (i : Inst T) (m : Msg C) → Label S Sa m
       → length (inst_step S 0 i m).node.held + weigh cell (sent 0 (inst_step S 0 i m).sends) + weigh cell (sent 1 (inst_step S 0 i m).sends)
       ≡ length i.held + cell m
-  sa_cells i (Carry p) l =
-      elim (S.covers p) as (λ b.
-      length (if b then ruled S i.rule 0 i p else processed S 0 i p).node.held
-      + weigh cell (sent 0 (if b then ruled S i.rule 0 i p else processed S 0 i p).sends)
-      + weigh cell (sent 1 (if b then ruled S i.rule 0 i p else processed S 0 i p).sends)
-      ≡ length i.held + 1) [
-        | true ↦ ruled_cells i.rule i p
-        | false ↦ omega arith
-      ]
+  sa_cells i (Carry p) l = carry_a (carried S 0 i p)
   sa_cells i Stop l = omega arith
   sa_cells i m l = absurd l
 
-  ca_cells : (i : Inst T) (m : Msg C) → OnCa S m
+  ca_cells : (i : Inst T) (m : Msg C) → Label S Ca m
       → length (inst_step S 0 i m).node.held + weigh cell (sent 0 (inst_step S 0 i m).sends) + weigh cell (sent 1 (inst_step S 0 i m).sends)
       ≡ length i.held + 0
   ca_cells i (Enable r) l = omega arith
@@ -260,21 +162,15 @@ module _ {U T C R O : Type 0} (S : System U T C R O) where
   ca_cells i (Delete c) l = omega arith
   ca_cells i m l = absurd l
 
-  ruled_b : (r : Rule) (i : Inst T) (p : ℕ) → r ≢ Drops → length (ruled S r 1 i p).node.held + weigh cell (sent 0 (ruled S r 1 i p).sends) ≡ length i.held + 1
-  ruled_b Free i p h = omega arith
-  ruled_b Drops i p h = absurd (h refl)
-  ruled_b Buffers i p h = omega (arith, length_push i.held p)
+  carry_b : {i : Inst T} {p : ℕ} {did : Step S (Inst T)} → i.rule ≢ Drops → Carried S 1 i p did
+      → length did.node.held + weigh cell (sent 0 did.sends) ≡ length i.held + 1
+  carry_b no_drop (Runs free) = omega arith
+  carry_b no_drop (Hands_out drops covers) = absurd (no_drop drops)
+  carry_b {i} {p} no_drop (Held covers) = omega (arith, length_push i.held p)
 
-  sb_cells : (i : Inst T) (m : Msg C) → i.rule ≢ Drops → OnSb S m
+  sb_cells : (i : Inst T) (m : Msg C) → i.rule ≢ Drops → Label S Sb m
       → length (inst_step S 1 i m).node.held + weigh cell (sent 0 (inst_step S 1 i m).sends) ≡ length i.held + cell m
-  sb_cells i (Carry p) no_drop l =
-      elim (S.covers p) as (λ b.
-      length (if b then ruled S i.rule 1 i p else processed S 1 i p).node.held
-      + weigh cell (sent 0 (if b then ruled S i.rule 1 i p else processed S 1 i p).sends)
-      ≡ length i.held + 1) [
-        | true ↦ ruled_b i.rule i p no_drop
-        | false ↦ omega arith
-      ]
+  sb_cells i (Carry p) no_drop l = carry_b no_drop (carried S 1 i p)
   sb_cells i (Pass p) no_drop l = omega arith
   sb_cells i Stop no_drop l = omega arith
   sb_cells i m no_drop l = absurd l
@@ -284,34 +180,27 @@ module _ {U T C R O : Type 0} (S : System U T C R O) where
   all_cells i [] = (refl, refl)
   all_cells i (p ∷ ps) = let rest = all_cells (processed S 1 i p).node ps in (rest.0, omega (arith, rest.1))
 
-  cb_cells : (i : Inst T) (m : Msg C) → OnCb S m → length (inst_step S 1 i m).node.held + weigh cell (sent 0 (inst_step S 1 i m).sends) ≡ length i.held + 0
+  cb_cells : (i : Inst T) (m : Msg C) → Label S Cb m → length (inst_step S 1 i m).node.held + weigh cell (sent 0 (inst_step S 1 i m).sends) ≡ length i.held + 0
   cb_cells i (Enable r) l = omega arith
   cb_cells i (Restore c) l = omega arith
   cb_cells i Fence l = let all = all_cells (record i { rule = Free; held = [] }) i.held in let one = all.0 in let two = all.1 in omega (arith, one, two)
   cb_cells i m l = absurd l
 
-  sc_cells : (m : Msg C) → OnSc S m → weigh events_only (m ∷ []) ≡ 0
-  sc_cells Start l = refl
-  sc_cells End l = refl
-  sc_cells (Copied p) l = refl
-  sc_cells (Laid high) l = refl
-  sc_cells m l = absurd l
-
-  ac_cells : (m : Msg C) → OnAc S m → weigh events_only (m ∷ []) ≡ cell m
-  ac_cells Enabled l = refl
-  ac_cells (Chunks c) l = refl
-  ac_cells Deleted l = refl
+  ac_cells : (m : Msg C) → Label S Ac m → cell_in (kind 2 m) ≡ cell m
+  ac_cells (Carry p) l = absurd l
+  ac_cells (Pass p) l = absurd l
+  ac_cells (Forward p) l = absurd l
+  ac_cells (Credit p) l = absurd l
   ac_cells (Event p) l = refl
-  ac_cells Final l = refl
-  ac_cells m l = absurd l
+  ac_cells m l = refl
 
-  bc_cells : (m : Msg C) → OnBc S m → weigh events_only (m ∷ []) ≡ 0
-  bc_cells Restored l = refl
-  bc_cells Enabled l = refl
-  bc_cells Fenced l = refl
-  bc_cells (Seen p) l = refl
-  bc_cells Final l = refl
-  bc_cells m l = absurd l
+  bc_cells : (m : Msg C) → Label S Bc m → cell_in (kind 3 m) ≡ 0
+  bc_cells (Event p) l = absurd l
+  bc_cells m l = refl
+
+  sc_cells : (m : Msg C) → Label S Sc m → cell_in (kind 0 m) ≡ 0
+  sc_cells (Event p) l = absurd l
+  sc_cells m l = refl
 
   pub counts_keeps : (window : ℕ) (pl : Place) (v : World T C O) (m : Msg C) (rest : List (Msg C)) → Label S pl m → Ready S pl v m → v.b.rule ≢ Drops
       → Counts window (with_waits S pl (m ∷ rest) v) → Counts window (result S pl (with_waits S pl rest v) m)
@@ -336,17 +225,17 @@ module _ {U T C R O : Type 0} (S : System U T C R O) where
   counts_keeps window Sc v m rest l ready no_drop h =
       let f = h.flying in
       let is = sc_cells m l in
-      ctrl_counts window (with_waits S Sc rest v) (ctrl_step S v.ct 0 m) (weigh events_only (m ∷ [])) (step_keeps v.ct 0 m) (omega (arith, f, is))
+      ctrl_counts window (with_waits S Sc rest v) (ctrl_step S v.ct 0 m) (cell_in (kind 0 m)) (step_keeps v.ct 0 m) (omega (arith, f, is))
       h.window_is
   counts_keeps window Ac v m rest l ready no_drop h =
       let f = h.flying in
       let is = ac_cells m l in
-      ctrl_counts window (with_waits S Ac rest v) (ctrl_step S v.ct 2 m) (weigh events_only (m ∷ [])) (step_keeps v.ct 2 m) (omega (arith, f, is))
+      ctrl_counts window (with_waits S Ac rest v) (ctrl_step S v.ct 2 m) (cell_in (kind 2 m)) (step_keeps v.ct 2 m) (omega (arith, f, is))
       h.window_is
   counts_keeps window Bc v m rest l ready no_drop h =
       let f = h.flying in
       let is = bc_cells m l in
-      ctrl_counts window (with_waits S Bc rest v) (ctrl_step S v.ct 3 m) (weigh events_only (m ∷ [])) (step_keeps v.ct 3 m) (omega (arith, f, is))
+      ctrl_counts window (with_waits S Bc rest v) (ctrl_step S v.ct 3 m) (cell_in (kind 3 m)) (step_keeps v.ct 3 m) (omega (arith, f, is))
       h.window_is
   counts_keeps window Sa v m rest l ready no_drop h =
       let f = h.flying in a_counts window (with_waits S Sa rest v) (inst_step S 0 v.a m) (cell m) (sa_cells v.a m l) (omega (arith, f)) h.window_is

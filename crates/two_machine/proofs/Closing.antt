@@ -22,66 +22,52 @@ ends Stop = 2 ∷ []
 ends Final = 3 ∷ []
 ends m = []
 
-abbrev pub on_cs : Close → List ℕ
-on_cs Finish_a = 0 ∷ []
-on_cs Finish_b = 1 ∷ []
-on_cs k = []
+-- what is seen of it: its messages on the links, what the controller has asked for and been told, who has stopped, and whether it may begin
+pub record Signs : Type 0 where
+  pub cs : List ℕ
+  pub sa : List ℕ
+  pub sb : List ℕ
+  pub ac : List ℕ
+  pub bc : List ℕ
+  pub finished : Bool
+  pub stopped : Bool
+  pub a : Bool
+  pub b : Bool
+  pub closed : Bool
+  pub over : Bool
 
-abbrev pub on_sa : Close → List ℕ
-on_sa Stop_a = 2 ∷ []
-on_sa k = []
+abbrev pub no_signs : Signs
+no_signs = record { cs = []; sa = []; sb = []; ac = []; bc = []; finished = false; stopped = false; a = false; b = false; closed = false; over = false }
 
-abbrev pub on_sb : Close → List ℕ
-on_sb Stop_b = 2 ∷ []
-on_sb k = []
-
-abbrev pub on_ac : Close → List ℕ
-on_ac Final_a = 3 ∷ []
-on_ac k = []
-
-abbrev pub on_bc : Close → List ℕ
-on_bc Final_b = 3 ∷ []
-on_bc k = []
-
-abbrev pub is_sent : Close → Bool
-is_sent Unsent = false
-is_sent k = true
-
-abbrev pub is_closed : Close → Bool
-is_closed Closed = true
-is_closed k = false
-
-abbrev pub a_has_stopped : Close → Bool
-a_has_stopped Unsent = false
-a_has_stopped Finish_a = false
-a_has_stopped Stop_a = false
-a_has_stopped k = true
-
-abbrev pub switch_has_closed : Close → Bool
-switch_has_closed Stop_b = true
-switch_has_closed Final_b = true
-switch_has_closed Closed = true
-switch_has_closed k = false
-
-abbrev pub b_has_stopped : Close → Bool
-b_has_stopped Final_b = true
-b_has_stopped Closed = true
-b_has_stopped k = false
+abbrev pub signs : Close → Signs
+signs Unsent = no_signs
+signs Finish_a = record no_signs { cs = 0 ∷ []; finished = true; over = true }
+signs Stop_a = record no_signs { sa = 2 ∷ []; finished = true; over = true }
+signs Final_a = record no_signs { ac = 3 ∷ []; finished = true; a = true; over = true }
+signs Finish_b = record no_signs { cs = 1 ∷ []; finished = true; a = true; over = true }
+signs Stop_b = record no_signs { sb = 2 ∷ []; finished = true; a = true; closed = true; over = true }
+signs Final_b = record no_signs { bc = 3 ∷ []; finished = true; a = true; b = true; closed = true; over = true }
+signs Closed = record no_signs { finished = true; stopped = true; a = true; b = true; closed = true; over = true }
 
 module _ {U T C R O : Type 0} (S : System U T C R O) where
   abbrev pub is_at_end : Ctrl C → Bool
   is_at_end c = is_over S c.phase && c.ended
 
+  abbrev pub seen_signs : World T C O → Signs
+  seen_signs v = record {
+    cs = read ends v.cs;
+    sa = read ends v.sa;
+    sb = read ends v.sb;
+    ac = read ends v.ac;
+    bc = read ends v.bc;
+    finished = v.ct.finished;
+    stopped = v.ct.stopped;
+    a = v.a.stopped;
+    b = v.b.stopped;
+    closed = v.sw.closed;
+    over = is_at_end v.ct;
+  }
+
   pub record Closing (v : World T C O) : Type 0 where
     pub at : Close
-    pub cs : read ends v.cs ≡ on_cs at
-    pub sa : read ends v.sa ≡ on_sa at
-    pub sb : read ends v.sb ≡ on_sb at
-    pub ac : read ends v.ac ≡ on_ac at
-    pub bc : read ends v.bc ≡ on_bc at
-    pub finished : v.ct.finished ≡ is_sent at
-    pub stopped : v.ct.stopped ≡ is_closed at
-    pub a : v.a.stopped ≡ a_has_stopped at
-    pub b : v.b.stopped ≡ b_has_stopped at
-    pub closed : v.sw.closed ≡ switch_has_closed at
-    pub over : is_at_end v.ct ≡ is_sent at
+    pub is : seen_signs v ≡ signs at

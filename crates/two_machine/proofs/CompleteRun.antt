@@ -1,81 +1,41 @@
 -- In a complete run all was processed, each record stands at one instance alone, and the verdict is true.
-use Rattle.std.proofs.Common.{◌≡◌, ℕ, suc, Bool, true, false, Option, None, List, [], ◌∷◌, ◌++◌}
-use Rattle.std.proofs.Common.{length, refl, sym, ap, subst, ◌∙◌, append-nil, arith, ◌⊎◌, inl, inr}
-use Rattle.std.specs.Prelude.{if◌then◌else◌, ◌==◌, ◌&&◌}
-use Rattle.std.specs.List.{list_all}
+use Rattle.std.proofs.Common.{◌≡◌, ℕ, Bool, true, false, Option, None, List, [], ◌∷◌, ◌++◌, refl, sym, ap, subst, ◌∙◌, append-nil, arith, ◌⊎◌, inl, inr}
+use Rattle.std.specs.Prelude.{if◌then◌else◌}
 use Rattle.std.proofs.lemmas.Bool.{false≢true}
-use Rattle.std.proofs.lemmas.Bool.Decides.{nat_tests}
 use Rattle.actor_net.specs.declared.choice.Choice.{Choice}
 use Rattle.actor_net.specs.Network.{Network, run, IsRun, is_done}
 use Rattle.two_machine.proofs.Machine.{Over, Scan, Is_done, Is_none, No_low, after, Frame, State}
-use Rattle.two_machine.proofs.Stages.{Stage, Turn, No_packet_came, Low_goes, Low_comes, Waits, High_goes, Late}
-use Rattle.two_machine.proofs.Stages.{High_comes, Settles, Last, Fence_goes, Fenced_comes, Is_over, Early, Not_begun}
-use Rattle.two_machine.proofs.Stages.{Enable_goes, Part, Before, Storing, Passing, Turned, Ends, done, path, Fits, Rises}
+use Rattle.two_machine.proofs.Stages.{Stage, No_packet_came, High_comes, Is_over, Not_begun, Before, Storing, Passing, Turned, Ends, done, path, Fits, Rises}
 use Rattle.two_machine.proofs.Stages as stages
-use Rattle.two_machine.proofs.Tables.{System, Laws, Msg, Note, Node, Done, No_packet, is_over, node_step, node_ready, node_ended}
+use Rattle.two_machine.proofs.Tables.{System, Laws, Msg, Note, Node, Is_switch, Done, No_packet, is_over, node_step, node_ready, node_ended}
 use Rattle.two_machine.proofs.View.{World, net, read, those, carries, arrived, ran, scans, Observer, Nobody, Of_unit, IsTaken, frame, view}
 use Rattle.two_machine.proofs.Arrivals.{coming}
-use Rattle.two_machine.proofs.Runs.{Holds}
+use Rattle.two_machine.proofs.Runs.{Holds, Reached}
 use Rattle.two_machine.proofs.Outputs.{mine, record_by, by_log}
-use Rattle.two_machine.proofs.Closing.{Close, Closed, Closing, is_sent, is_closed}
+use Rattle.two_machine.proofs.Closing.{Close, Closed, Closing, signs}
 use Rattle.two_machine.proofs.Promises.{listed, processed, has_come, after_low, verdicts, of_unit, fold, live_in, start, LeadsTo, Complete}
 use Rattle.two_machine.proofs.Scans.{came_by, verdicts_by, is_wrong, scan_right, from_start, the_verdict}
-use Rattle.two_machine.proofs.EveryRun.{ReachedWith, reach_with, first_closing, ran_is, own_is, own_those}
-use Rattle.two_machine.proofs.EveryRun.{fold_is, done_is, WithRight, WithStays, taken_run, untaken_run}
+use Rattle.two_machine.proofs.EveryRun.{ran_is, own_is, own_those, fold_is, done_is, WithRight, WithStays, taken_run, untaken_run}
+use Rattle.two_machine.proofs.RunLengths.{Counted, nobody_run}
+use Rattle.two_machine.proofs.Places.{Place, In, Cs, Ac, Sa, Sb, choice, waits, waiting_at}
+use Rattle.actor_net.proofs.CompleteWorlds.{done_waiting, done_node}
 use Rattle.two_machine.proofs.Shapes.{shape}
-use Rattle.actor_net.proofs.WeightLaws.{Each}
-use Rattle.two_machine.proofs.TakenMessages.{labels_less}
-use Rattle.two_machine.proofs.Starts.{first_world, opens, first_holds}
 use Rattle.two_machine.proofs.ClosingController.{over_is, and_first}
-use Rattle.two_machine.proofs.ClosingPlaces.{closing_keeps}
-
-pub empty_list : {X : Type 0} (l : List X) → (length l == 0) ≡ true → l ≡ []
-empty_list [] e = refl
-empty_list (x ∷ l) e = absurd (false≢true (sym (more (length l)) ∙ e))
-  where
-    more : (n : ℕ) → (suc n == 0) ≡ false
-    more n = grind (arith, nat_tests)
-
-both_true : (a b : Bool) → a && b ≡ true → (a ≡ true) × (b ≡ true)
-both_true true true e = (refl, refl)
-both_true true false e = absurd (false≢true e)
-both_true false b e = absurd (false≢true e)
-
-pub all_each : {X : Type 0} (p : X → Bool) (xs : List X) → list_all p xs ≡ true → Each (λ x. p x ≡ true) xs
-all_each p [] e = tt
-all_each p (x ∷ xs) e = let two = both_true (p x) (list_all p xs) e in (two.0, all_each p xs two.1)
 
 module _ {U T C R O : Type 0} (S : System U T C R O) where
   -- a world in which nothing is left to do
-  pub record Empty (v : World T C O) : Type 0 where
-    pub input : v.input ≡ []
-    pub sa : v.sa ≡ []
-    pub sb : v.sb ≡ []
-    pub cs : v.cs ≡ []
-    pub ac : v.ac ≡ []
-    pub stopped : v.ct.stopped ≡ true
+  pub emptied : (v : World T C O) → is_done (node_ended S) (net v) ≡ true → (pl : Place) → waits S pl v ≡ []
+  emptied v e pl = sym (waiting_at S pl v) ∙ done_waiting (node_ended S) (net v) e (choice pl)
 
-  pub emptied : (v : World T C O) → is_done (node_ended S) (net v) ≡ true → Empty v
-  emptied v e =
-      let two = both_true ((length v.input == 0) && list_all (λ l. length l == 0) (net v).links) (list_all (node_ended S) (net v).nodes) e in
-      let one = both_true (length v.input == 0) (list_all (λ l. length l == 0) (net v).links) two.0 in
-      let links = all_each (λ l. length l == 0) (net v).links one.1 in
-      let nodes = all_each (node_ended S) (net v).nodes two.1 in
-      record {
-        input = empty_list v.input one.0;
-        sa = empty_list v.sa links.1.1.0;
-        sb = empty_list v.sb links.1.1.1.0;
-        cs = empty_list v.cs links.1.1.1.1.0;
-        ac = empty_list v.ac links.1.1.1.1.1.1.1.1.1.0;
-        stopped = nodes.1.0;
-      }
-
-  closed_only : (k : Close) → is_closed k ≡ true → is_sent k ≡ true
+  closed_only : (k : Close) → (signs k).stopped ≡ true → (signs k).over ≡ true
   closed_only Closed e = refl
   closed_only k e = absurd (false≢true e)
 
-  pub is_over_there : (v : World T C O) → Closing S v → Empty v → v.ct.phase ≡ Over
-  is_over_there v c e = over_is S v.ct.phase (and_first S (is_over S v.ct.phase) v.ct.ended (c.over ∙ closed_only c.at (sym c.stopped ∙ e.stopped))).0
+  pub is_over_there : (v : World T C O) → Closing S v → is_done (node_ended S) (net v) ≡ true → v.ct.phase ≡ Over
+  is_over_there v c e =
+      let stopped : v.ct.stopped ≡ true = done_node (node_ended S) (net v) e 1 (Is_switch v.sw) (omega arith) in
+      let over = ap (λ x. x.over) c.is ∙ closed_only c.at (sym (ap (λ x. x.stopped) c.is) ∙ stopped) in
+      over_is S v.ct.phase (and_first S (is_over S v.ct.phase) v.ct.ended over).0
 
 -- the stages in which the update is over
 pub data Ended : Stage → Type 0 where
@@ -83,34 +43,17 @@ pub data Ended : Stage → Type 0 where
   Without : (d : List ℕ) (s : Option ℕ) (z x g e l : List ℕ) (t : Option ℕ) (c : List ℕ) (b : Bool) → Ended (Passing No_packet_came d s z x g e l t c b)
 
 module _ {R : Type 0} (f : Frame R) where
-  early_ended : (n : Early) (d l : List ℕ) (b : Bool) → (shape f (Before n d l b)).c.phase ≡ Over → Ended (Before n d l b)
-  early_ended Not_begun d l b e = cc
-  early_ended Enable_goes d l b e = cc
-
-  part_ended : (n : Part) (d g e l : List ℕ) (b : Bool) → (shape f (Storing n d g e l b)).c.phase ≡ Over → Ended (Storing n d g e l b)
-  part_ended stages.Get_goes d g e l b is = cc
-  part_ended n d g e l b is = cc
-
-  turn_ended : (n : Turn) (d : List ℕ) (s : Option ℕ) (z x g e l : List ℕ) (t : Option ℕ) (c : List ℕ) (b : Bool)
-      → (shape f (Passing n d s z x g e l t c b)).c.phase ≡ Over → Ended (Passing n d s z x g e l t c b)
-  turn_ended No_packet_came d s z x g e l t c b is = Without d s z x g e l t c b
-  turn_ended n d s z x g e l t c b is = cc
-
-  late_ended : (n : Late) (d : List ℕ) (s : Option ℕ) (z x g e l : List ℕ) (t : Option ℕ) (c h y : List ℕ) (b : Bool)
-      → (shape f (Turned n d s z x g e l t c h y b)).c.phase ≡ Over → Ended (Turned n d s z x g e l t c h y b)
-  late_ended High_comes d s z x g e l t c h y b is = cc
-  late_ended Settles d s z x g e l t c h y b is = cc
-
-  last_ended : (n : Last) (d : List ℕ) (s t : Option ℕ) (h y : List ℕ) (b : Bool) → (shape f (Ends n d s t h y b)).c.phase ≡ Over → Ended (Ends n d s t h y b)
-  last_ended Is_over d s t h y b is = With_done d s t h y b
-  last_ended n d s t h y b is = cc
-
   pub ended_at : (s : Stage) → (shape f s).c.phase ≡ Over → Ended s
-  ended_at (Before n d l b) e = early_ended n d l b e
-  ended_at (Storing n d g e l b) is = part_ended n d g e l b is
-  ended_at (Passing n d s z x g e l t c b) is = turn_ended n d s z x g e l t c b is
-  ended_at (Turned n d s z x g e l t c h y b) is = late_ended n d s z x g e l t c h y b is
-  ended_at (Ends n d s t h y b) is = last_ended n d s t h y b is
+  ended_at (Before Not_begun d l b) e = cc
+  ended_at (Before n d l b) e = cc
+  ended_at (Storing stages.Get_goes d g e l b) is = cc
+  ended_at (Storing n d g e l b) is = cc
+  ended_at (Passing No_packet_came d s z x g e l t c b) is = Without d s z x g e l t c b
+  ended_at (Passing n d s z x g e l t c b) is = cc
+  ended_at (Turned High_comes d s z x g e l t c h y b) is = cc
+  ended_at (Turned n d s z x g e l t c h y b) is = cc
+  ended_at (Ends Is_over d s t h y b) is = With_done d s t h y b
+  ended_at (Ends n d s t h y b) is = cc
 
   -- nothing waits there where nothing stands on the links
   pub no_path : (s : Stage) → Ended s → Fits s → (x : State R) → x ≡ shape f s → x.passes ≡ [] → x.plains ≡ [] → x.forwards ≡ [] → x.events ≡ [] → x.sa ≡ []
@@ -136,22 +79,22 @@ module _ {R : Type 0} (f : Frame R) where
 
 module _ {U T C R O : Type 0} (S : System U T C R O) (laws : Laws S) (window : ℕ) (early late : List ℕ) (rises : Rises 0 (early ++ late)) where
   -- no packet of the filter waits anywhere
-  none_waits : (o : Observer U) (its : IsTaken S o) (v : World T C O) (h : Holds S laws o its (early ++ late) rises v) → Closing S v → Empty S v
+  none_waits : (o : Observer U) (its : IsTaken S o) (v : World T C O) (h : Holds S laws o its (early ++ late) rises v) → is_done (node_ended S) (net v) ≡ true
       → Ended h.stage × (done h.stage ≡ those S.covers (read arrived v.log))
-  none_waits o its v h c e =
-      let over = is_over_there S v c e in
+  none_waits o its v h e =
+      let over = is_over_there S v h.closing e in
       let ended = ended_at (frame S o) h.stage (ap (λ x. x.c.phase) (sym h.alike) ∙ over) in
-      let sa = e.sa in
-      let sb = e.sb in
-      let cs = e.cs in
-      let ac = e.ac in
+      let sa = emptied S v e Sa in
+      let sb = emptied S v e Sb in
+      let cs = emptied S v e Cs in
+      let ac = emptied S v e Ac in
       let none = no_path (frame S o) h.stage ended h.fits (view S o v) h.alike (rw sb refl) (rw sb refl) (rw cs refl) (rw ac refl) (rw sa refl) in
       (ended, sym (append-nil (done h.stage)) ∙ ap (λ xs. done h.stage ++ xs) (sym none) ∙ h.order)
 
-  arrived_all : (o : Observer U) (its : IsTaken S o) (v : World T C O) (h : Holds S laws o its (early ++ late) rises v) → Empty S v
+  arrived_all : (o : Observer U) (its : IsTaken S o) (v : World T C O) (h : Holds S laws o its (early ++ late) rises v) → is_done (node_ended S) (net v) ≡ true
       → read arrived v.log ≡ early ++ late
   arrived_all o its v h e =
-      let input = e.input in sym (append-nil (read arrived v.log)) ∙ sym (ap (λ l. read arrived v.log ++ read coming l) input) ∙ h.arrivals_are
+      let input = emptied S v e In in sym (append-nil (read arrived v.log)) ∙ sym (ap (λ l. read arrived v.log ++ read coming l) input) ∙ h.arrivals_are
 
   -- what is known of a unit at the end
   pub record UnitEnd (u : U) (w : Network (Node T C) (Msg C) (Note O)) : Type 0 where
@@ -170,14 +113,14 @@ module _ {U T C R O : Type 0} (S : System U T C R O) (laws : Laws S) (window : �
       fold_is S laws window early late rises u None (read ran log)
       ∙ ap (λ xs. fold S None xs) (ap (of_unit S u) (sym (ran_is log)) ∙ from_own u log e)
 
-  end_taken : (u : U) (its : S.takes u ≡ true) (w : Network (Node T C) (Msg C) (Note O)) → WithRight S laws window early late rises u its w
+  end_taken : {n : ℕ} (u : U) (its : S.takes u ≡ true) (w : Network (Node T C) (Msg C) (Note O)) → WithRight S laws window early late rises u its n w
       → is_done (node_ended S) w ≡ true → UnitEnd u w
   end_taken u its w r done_there =
       let here = r.is in
       let v = r.world in
       let h = r.holds in
-      let e = emptied S v (subst (λ y. is_done (node_ended S) y ≡ true) here done_there) in
-      let two = none_waits (Of_unit u) its v h r.more.1 e in
+      let e = subst (λ y. is_done (node_ended S) y ≡ true) here done_there in
+      let two = none_waits (Of_unit u) its v h e in
       let came = arrived_all (Of_unit u) its v h e in
       let dones : done h.stage ≡ those S.covers (read ran v.log) =
       done_is S laws window early late rises u (Of_unit u) h.stage ∙ sym (ap (λ x. x.done) h.alike) in
@@ -191,15 +134,15 @@ module _ {U T C R O : Type 0} (S : System U T C R O) (laws : Laws S) (window : �
       ap (λ x. x.b.live) h.alike ∙ records.1 ∙ by_log S laws u its (early ++ late) rises v h ∙ record_all u v.log own_all in
       rw here (record { all = from_own u v.log own_all; live = ap (λ o. listed o (listed (S.at v.b.table u) [])) a ∙ ap (λ o. listed o []) b })
 
-  end_untaken : (u : U) (not_its : S.takes u ≡ false) (w : Network (Node T C) (Msg C) (Note O)) → WithStays S laws window early late rises u not_its w
+  end_untaken : {n : ℕ} (u : U) (not_its : S.takes u ≡ false) (w : Network (Node T C) (Msg C) (Note O)) → WithStays S laws window early late rises u not_its n w
       → is_done (node_ended S) w ≡ true → UnitEnd u w
   end_untaken u not_its w r done_there =
       let here = r.is in
       let v = r.world in
       let h = r.holds in
-      let q = r.more.0 in
-      let e = emptied S v (subst (λ y. is_done (node_ended S) y ≡ true) here done_there) in
-      let sa = e.sa in
+      let q = r.more in
+      let e = subst (λ y. is_done (node_ended S) y ≡ true) here done_there in
+      let sa = emptied S v e Sa in
       let came = arrived_all Nobody tt v h e in
       let own_all : those (mine S laws u) (read ran v.log) ≡ those (mine S laws u) (early ++ late) =
       sym (append-nil (those (mine S laws u) (read ran v.log)))
@@ -229,31 +172,14 @@ module _ {U T C R O : Type 0} (S : System U T C R O) (laws : Laws S) (window : �
   either_scan x y e (inl is) = inl (e ∙ is)
   either_scan x y e (inr is) = inr (e ∙ is)
 
-  -- nobody's world, with how far the closing is
-  nobody_run : (cs : List Choice) → IsRun (node_ready S) (node_step S) cs (start S window early late)
-      → ReachedWith S laws Nobody tt (early ++ late) rises (Closing S)
-      (λ pl v x rest ready h q. closing_keeps S pl v x rest (labels_less S pl v x rest h.labels).0 q) (run (node_step S) cs (start S window early late))
-  nobody_run cs is =
-      reach_with S laws Nobody tt (early ++ late) rises (Closing S)
-      (λ pl v x rest ready h q. closing_keeps S pl v x rest (labels_less S pl v x rest h.labels).0 q) cs (start S window early late)
-      (record {
-        world = first_world S window early late;
-        is = opens S window early late;
-        holds = first_holds S laws Nobody tt window early late rises;
-        more = first_closing S window early late;
-      })
-      is
-
-  end_verdict : (w : Network (Node T C) (Msg C) (Note O))
-      → ReachedWith S laws Nobody tt (early ++ late) rises (Closing S)
-      (λ pl v x rest ready h q. closing_keeps S pl v x rest (labels_less S pl v x rest h.labels).0 q) w
+  end_verdict : {n : ℕ} (w : Network (Node T C) (Msg C) (Note O)) → Reached S laws Nobody tt (early ++ late) rises (Counted S laws window early late rises) n w
       → is_done (node_ended S) w ≡ true → verdicts w.log ≡ (if has_come S.covers (after_low w.log) then Done ∷ [] else No_packet ∷ [])
   end_verdict w r done_there =
       let here = r.is in
       let v = r.world in
       let h = r.holds in
-      let e = emptied S v (subst (λ y. is_done (node_ended S) y ≡ true) here done_there) in
-      let two = none_waits Nobody tt v h r.more e in
+      let e = subst (λ y. is_done (node_ended S) y ≡ true) here done_there in
+      let two = none_waits Nobody tt v h e in
       let scan : scans S No_low v.log ≡ (shape (frame S Nobody) h.stage).scan = ap (λ x. x.scan) h.alike in
       let right : is_wrong (scans S No_low v.log) ≡ false = ap is_wrong scan ∙ scan_right (frame S Nobody) h.stage in
       rw here
@@ -271,5 +197,5 @@ module _ {U T C R O : Type 0} (S : System U T C R O) (laws : Laws S) (window : �
         live = λ u. (ends u).live;
         verdict =
             subst (λ y. verdicts y.log ≡ (if has_come S.covers (after_low y.log) then Done ∷ [] else No_packet ∷ [])) (sym reached)
-            (end_verdict (run (node_step S) cs (start S window early late)) (nobody_run cs leads.is_run) there);
+            (end_verdict (run (node_step S) cs (start S window early late)) (nobody_run S laws window early late rises cs leads.is_run) there);
       }

@@ -1,16 +1,16 @@
 -- What is seen of a step of the controller is the machine's.
-use Rattle.std.proofs.Common.{◌≡◌, ℕ, Bool, true, false, Option, Some, None, List, [], ◌∷◌, ◌++◌, refl, sym, ap, ◌∙◌, append_assoc, append-nil}
-use Rattle.std.specs.Prelude.{if◌then◌else◌, ◌&&◌, not}
+use Rattle.std.proofs.Common.{◌≡◌, ℕ, Bool, true, false, Option, Some, None, List, [], ◌∷◌, ◌++◌, refl, ap, ◌∙◌, append_assoc, append-nil}
+use Rattle.std.specs.Prelude.{if◌then◌else◌}
 use Rattle.two_machine.proofs.Machine as m
-use Rattle.two_machine.proofs.Machine.{Phase, Idle, Freezing, Getting, Deleting, Putting, Holding, Laying}
-use Rattle.two_machine.proofs.Machine.{Waiting, Turning, Settling, Ending, Over, Item, State, same}
+use Rattle.two_machine.proofs.Machine.{Phase, Idle, Freezing, Getting, Deleting, Putting, Holding, Laying, Waiting, Turning, Settling, Ending, Over, State}
+use Rattle.two_machine.proofs.Machine.{same}
 use Rattle.two_machine.proofs.Tables
-use Rattle.two_machine.proofs.Tables.{System, Laws, Msg, Note, Ctrl, Step, Start, End, Copied, Laid, Enabled, Chunks, Deleted, Restored, Event, Seen}
-use Rattle.two_machine.proofs.Tables.{Fenced, Final, Finish, forwards, none, on_start, on_enabled, on_chunks, on_deleted, on_restored, on_event}
-use Rattle.two_machine.proofs.Tables.{on_laid, on_copied, on_fenced, on_final, ctrl_row, and_then, soon_at, is_over, finishes, soon, ctrl_step}
-use Rattle.two_machine.proofs.View.{World, Observer, Nobody, Of_unit, read, read-append, those-append, carries, passes, forwarded}
-use Rattle.two_machine.proofs.View.{events, seen, starts, arrived, ran, frame, inside, item, scans, scans-append, view}
-use Rattle.two_machine.proofs.Puts.{sent, put_ctrl}
+use Rattle.two_machine.proofs.Tables.{System, Laws, Msg, Ctrl, Step, End, Seen, Finish, forwards, none, on_start, on_enabled, on_chunks, on_deleted}
+use Rattle.two_machine.proofs.Tables.{on_restored, on_event, on_laid, on_copied, on_fenced, ctrl_row, soon_at, finishes, soon, ctrl_step}
+use Rattle.two_machine.proofs.View.{World, Observer, Nobody, Of_unit, read, read-append, those-append, forwarded, seen, frame, inside, item, scans-append}
+use Rattle.two_machine.proofs.View.{view}
+use Rattle.two_machine.proofs.Rows.{Finishes, Not_yet, Asks, finish_row}
+use Rattle.two_machine.proofs.Puts.{sent, put_ctrl, put_twice}
 
 pub ruleset reads = (read-append, those-append, scans-append, append_assoc, append-nil)
 
@@ -27,22 +27,9 @@ module _ {U T C R O : Type 0} (S : System U T C R O) (laws : Laws S) (o : Observ
           both_none true = refl
           both_none false = refl
 
-  -- two steps of the controller, one after the other
-  pub put_twice : (v : World T C O) (one : Step S (Ctrl C)) (next : Ctrl C → Step S (Ctrl C))
-      → put_ctrl S v (and_then S one next) ≡ put_ctrl S (put_ctrl S v one) (next one.node)
-  put_twice v one next = simp (read-append, append_assoc)
-
-  finishes_unseen : (v : World T C O) → view S o (put_ctrl S v (finishes S v.ct)) ≡ view S o v
-  finishes_unseen v =
-      elim (is_over S v.ct.phase && (v.ct.ended && not v.ct.finished)) as (λ b.
-      view S o
-      (put_ctrl S v
-      (if b then record { node = record v.ct { finished = true }; sends = (0, Finish 0) ∷ []; notes = [] }
-      else record { node = v.ct; sends = []; notes = [] }))
-      ≡ view S o v) [
-        | true ↦ simp reads
-        | false ↦ simp reads
-      ]
+  finishes_unseen : (v : World T C O) {did : Step S (Ctrl C)} → Finishes S v.ct did → view S o (put_ctrl S v did) ≡ view S o v
+  finishes_unseen v (Not_yet e) = simp reads
+  finishes_unseen v (Asks e over) = simp reads
 
   soon_first : (v : World T C O) (ph : Phase) → view S o (put_ctrl S v (soon_at S ph v.ct)) ≡ m.soon_at (frame S o) ph (view S o v)
   soon_first v Settling =
@@ -75,14 +62,14 @@ module _ {U T C R O : Type 0} (S : System U T C R O) (laws : Laws S) (o : Observ
   pub soon_seen : (v : World T C O) → view S o (put_ctrl S v (soon S v.ct)) ≡ m.soon (frame S o) (view S o v)
   soon_seen v =
       let first = soon_at S v.ct.phase v.ct in
-      ap (view S o) (put_twice v first (finishes S)) ∙ finishes_unseen (put_ctrl S v first) ∙ soon_first v v.ct.phase
+      ap (view S o) (put_twice S v first (finishes S)) ∙ finishes_unseen (put_ctrl S v first) (finish_row S first.node) ∙ soon_first v v.ct.phase
 
   -- a row, and then that
-  pub step_seen : (v : World T C O) (port : ℕ) (msg : Msg C) (x : State R) → view S o (put_ctrl S v (ctrl_row S v.ct port msg)) ≡ x
+  pub step_seen : (v : World T C O) (port : ℕ) (msg : Msg C) {x : State R} → view S o (put_ctrl S v (ctrl_row S v.ct port msg)) ≡ x
       → view S o (put_ctrl S v (ctrl_step S v.ct port msg)) ≡ m.soon (frame S o) x
-  step_seen v port msg x row =
+  step_seen v port msg row =
       let first = ctrl_row S v.ct port msg in
-      ap (view S o) (put_twice v first (soon S)) ∙ soon_seen (put_ctrl S v first) ∙ ap (m.soon (frame S o)) row
+      ap (view S o) (put_twice S v first (soon S)) ∙ soon_seen (put_ctrl S v first) ∙ ap (m.soon (frame S o)) row
 
   -- the stored packets go on as forwards
   forwards_all : (ps : List ℕ) → read forwarded (sent 0 (forwards S ps)) ≡ ps

@@ -1,87 +1,26 @@
 -- Order, each packet at most once, true outputs, Low before High, for every run.
-use Rattle.std.proofs.Common.{◌≡◌, ◌≤◌, ℕ, ◌+◌, Bool, true, false, Option, Some, None, List, [], ◌∷◌, ◌++◌, refl, sym, ap, subst, ◌∙◌, append_assoc, arith}
+use Rattle.std.proofs.Common.{◌≡◌, ◌≤◌, ℕ, ◌+◌, length, Bool, true, false, Option, Some, None, List, [], ◌∷◌, ◌++◌, refl, sym, ap, subst, ◌∙◌, append_assoc}
+use Rattle.std.proofs.Common.{arith}
 use Rattle.std.specs.Prelude.{if◌then◌else◌, ◌==◌}
 use Rattle.std.proofs.lemmas.Bool.{false≢true}
 use Rattle.std.proofs.lemmas.Bool.Decides.{nat_tests, Decides-eqb}
 use Rattle.actor_net.specs.declared.choice.Choice.{Choice}
-use Rattle.actor_net.specs.Network.{Network, is_enabled, world_next, run, IsRun}
+use Rattle.actor_net.specs.Network.{Network, run, IsRun}
 use Rattle.two_machine.proofs.Machine.{folded}
 use Rattle.two_machine.proofs.Stages.{Stage, Before, Storing, Passing, Turned, Ends, done, path, Rises}
 use Rattle.two_machine.proofs.Tables.{System, Laws, Msg, Note, Node, Arrived, Processed, Low, High, Done, No_packet, node_step, node_ready}
-use Rattle.two_machine.proofs.View.{World, net, read, those, those-append, carries, arrived, ran, Observer, Nobody, Of_unit, IsTaken, frame}
-use Rattle.two_machine.proofs.Places.{Place, choice, with_waits}
-use Rattle.two_machine.proofs.Puts.{result}
-use Rattle.two_machine.proofs.Arrivals.{coming, Ready}
-use Rattle.two_machine.proofs.Runs.{Holds, known, keeps, next_equal}
+use Rattle.two_machine.proofs.View.{read, those, those-append, carries, arrived, ran, Observer, Nobody, Of_unit, frame}
+use Rattle.two_machine.proofs.Places.{with_waits}
+use Rattle.two_machine.proofs.Arrivals.{coming}
+use Rattle.two_machine.proofs.Runs.{Reached, known}
 use Rattle.two_machine.proofs.Outputs.{mine, its_frame, told, due, IsRight, right_keeps, cover_mine}
 use Rattle.two_machine.proofs.Untaken.{Stays, stays_keeps}
-use Rattle.two_machine.proofs.Closing.{Unsent, Closing}
+use Rattle.two_machine.proofs.RunLengths.{nobody_run}
 use Rattle.two_machine.proofs.Promises.{times, IsFront, processed, of_unit, fold, outputs, given, start, LeadsTo, Every}
 use Rattle.two_machine.proofs.Scans.{scan_right, low_before_high, is_wrong}
 use Rattle.two_machine.proofs.Shapes.{shape}
-use Rattle.two_machine.proofs.TakenMessages.{finds, labels_less, written, kept_there}
-use Rattle.two_machine.proofs.Starts.{first_world, opens, first_holds, every_run}
-use Rattle.two_machine.proofs.ClosingPlaces.{closing_keeps}
-
--- what holds besides of every world of a run
-module _ {U T C R O : Type 0} (S : System U T C R O) (laws : Laws S) (o : Observer U) (its : IsTaken S o) (all : List ℕ) (rises : Rises 0 all)
-    (Q : World T C O → Type 0)
-    (goes : (pl : Place) (v : World T C O) (x : Msg C) (rest : List (Msg C)) → Ready S pl v x → Holds S laws o its all rises (with_waits S pl (x ∷ rest) v)
-    → Q (with_waits S pl (x ∷ rest) v) → Q (result S pl (with_waits S pl rest v) x))
-  where
-    pub record ReachedWith (w : Network (Node T C) (Msg C) (Note O)) : Type 0 where
-      pub world : World T C O
-      pub is : w ≡ net world
-      pub holds : Holds S laws o its all rises world
-      pub more : Q world
-
-    next_with : (pl : Place) (v : World T C O) (x : Msg C) (rest : List (Msg C)) → Ready S pl v x
-        → Holds S laws o its all rises (with_waits S pl (x ∷ rest) v) → Q (with_waits S pl (x ∷ rest) v)
-        → ReachedWith (world_next (node_step S) (net (with_waits S pl (x ∷ rest) v)) (choice pl))
-    next_with pl v x rest ready h q = record {
-      world = result S pl (with_waits S pl rest v) x;
-      is = next_equal S laws o its all rises pl v x rest h;
-      holds = keeps S laws o its all rises pl v x rest ready h;
-      more = goes pl v x rest ready h q;
-    }
-
-    step_with : (v : World T C O) (c : Choice) → Holds S laws o its all rises v → Q v → is_enabled (node_ready S) (net v) c ≡ true
-        → ReachedWith (world_next (node_step S) (net v) c)
-    step_with v c h q on =
-        let took = finds S v c.node c.port on in
-        let wrote = written S took.place v (took.message ∷ took.rest) took.waits_is in
-        let holds : Holds S laws o its all rises (with_waits S took.place (took.message ∷ took.rest) v) = subst (Holds S laws o its all rises) wrote h in
-        let more : Q (with_waits S took.place (took.message ∷ took.rest) v) = subst Q wrote q in
-        let next = next_with took.place v took.message took.rest took.ready holds more in
-        let at : c ≡ choice took.place = took.is in
-        subst (λ y. ReachedWith (world_next (node_step S) (net v) y)) (sym at)
-        (subst (λ y. ReachedWith (world_next (node_step S) (net y) (choice took.place))) (sym wrote) next)
-
-    pub reach_with : (cs : List Choice) (w : Network (Node T C) (Msg C) (Note O)) → ReachedWith w → IsRun (node_ready S) (node_step S) cs w
-        → ReachedWith (run (node_step S) cs w)
-    reach_with [] w r is = r
-    reach_with (c ∷ cs) w r is =
-        let here = r.is in
-        let on : is_enabled (node_ready S) (net r.world) c ≡ true = subst (λ y. is_enabled (node_ready S) y c ≡ true) here is.0 in
-        reach_with cs (world_next (node_step S) w c)
-        (subst (λ y. ReachedWith (world_next (node_step S) y c)) (sym here) (step_with r.world c r.holds r.more on)) is.1
-
-pub first_closing : {U T C R O : Type 0} (S : System U T C R O) (window : ℕ) (early late : List ℕ) → Closing S (first_world S window early late)
-first_closing S window early late =
-    record {
-      at = Unsent;
-      cs = refl;
-      sa = refl;
-      sb = refl;
-      ac = refl;
-      bc = refl;
-      finished = refl;
-      stopped = refl;
-      a = refl;
-      b = refl;
-      closed = refl;
-      over = refl;
-    }
+use Rattle.two_machine.proofs.TakenMessages.{labels_less, kept_there}
+use Rattle.two_machine.proofs.Starts.{every_run}
 
 -- lists of numbers
 times_front : (p : ℕ) (xs ys : List ℕ) → times p xs ≤ times p (xs ++ ys)
@@ -198,59 +137,28 @@ module _ {U T C R O : Type 0} (S : System U T C R O) (laws : Laws S) (window : �
   done_is o (Turned n d s z x g e l t c h y b) = refl
   done_is o (Ends n d s t h y b) = refl
 
-  abbrev pub WithRight : S.takes u ≡ true → Network (Node T C) (Msg C) (Note O) → Type 0
-  WithRight its w =
-      ReachedWith S laws (Of_unit u) its (early ++ late) rises (λ v. IsRight S laws u v.log × Closing S v)
-      (λ pl v x rest ready h q.
-      (right_keeps S laws u its (early ++ late) rises pl v x rest h q.0, closing_keeps S pl v x rest (labels_less S pl v x rest h.labels).0 q.1))
-      w
+  abbrev pub WithRight : S.takes u ≡ true → ℕ → Network (Node T C) (Msg C) (Note O) → Type 0
+  WithRight its n w = Reached S laws (Of_unit u) its (early ++ late) rises (λ n v. IsRight S laws u v.log) n w
 
-  abbrev pub WithStays : S.takes u ≡ false → Network (Node T C) (Msg C) (Note O) → Type 0
-  WithStays not_its w =
-      ReachedWith S laws Nobody tt (early ++ late) rises (λ v. Stays S laws u not_its v × Closing S v)
-      (λ pl v x rest ready h q. (
-        stays_keeps S laws u not_its pl v x rest (labels_less S pl v x rest h.labels).0 ready (kept_there S pl v (x ∷ rest) h.labels)
-            (known S laws Nobody tt (early ++ late) rises (with_waits S pl (x ∷ rest) v) h) q.0,
-        closing_keeps S pl v x rest
-            (labels_less S pl v x rest h.labels).0 q.1,
-      ))
-      w
+  abbrev pub WithStays : S.takes u ≡ false → ℕ → Network (Node T C) (Msg C) (Note O) → Type 0
+  WithStays not_its n w = Reached S laws Nobody tt (early ++ late) rises (λ n v. Stays S laws u not_its v) n w
 
   pub taken_run : (its : S.takes u ≡ true) (cs : List Choice) → IsRun (node_ready S) (node_step S) cs (start S window early late)
-      → WithRight its (run (node_step S) cs (start S window early late))
+      → WithRight its (length cs + 0) (run (node_step S) cs (start S window early late))
   taken_run its cs is =
-      reach_with S laws (Of_unit u) its (early ++ late) rises (λ v. IsRight S laws u v.log × Closing S v)
-      (λ pl v x rest ready h q.
-      (right_keeps S laws u its (early ++ late) rises pl v x rest h q.0, closing_keeps S pl v x rest (labels_less S pl v x rest h.labels).0 q.1))
-      cs (start S window early late)
-      (record {
-        world = first_world S window early late;
-        is = opens S window early late;
-        holds = first_holds S laws (Of_unit u) its window early late rises;
-        more = (refl, first_closing S window early late);
-      })
-      is
+      every_run S laws (Of_unit u) its window early late rises (λ n v. IsRight S laws u v.log)
+      (λ n pl v x rest ready h q. right_keeps S laws u its (early ++ late) rises pl v x rest h q) refl cs is
 
   pub untaken_run : (not_its : S.takes u ≡ false) (cs : List Choice) → IsRun (node_ready S) (node_step S) cs (start S window early late)
-      → WithStays not_its (run (node_step S) cs (start S window early late))
+      → WithStays not_its (length cs + 0) (run (node_step S) cs (start S window early late))
   untaken_run not_its cs is =
-      reach_with S laws Nobody tt (early ++ late) rises (λ v. Stays S laws u not_its v × Closing S v)
-      (λ pl v x rest ready h q. (
-        stays_keeps S laws u not_its pl v x rest (labels_less S pl v x rest h.labels).0 ready (kept_there S pl v (x ∷ rest) h.labels)
-            (known S laws Nobody tt (early ++ late) rises (with_waits S pl (x ∷ rest) v) h) q.0,
-        closing_keeps S pl v x rest
-            (labels_less S pl v x rest h.labels).0 q.1,
-      ))
-      cs (start S window early late)
-      (record {
-        world = first_world S window early late;
-        is = opens S window early late;
-        holds = first_holds S laws Nobody tt window early late rises;
-        more = (record { a_is = laws.nothing u; b_is = laws.nothing u; order = refl; right = refl }, first_closing S window early late);
-      })
-      is
+      every_run S laws Nobody tt window early late rises (λ n v. Stays S laws u not_its v)
+      (λ n pl v x rest ready h q.
+      stays_keeps S laws u not_its pl v x rest (labels_less S pl v x rest h.labels).0 ready (kept_there S pl v (x ∷ rest) h.labels)
+      (known S laws Nobody tt (early ++ late) rises (with_waits S pl (x ∷ rest) v) h) q)
+      (record { a_is = laws.nothing u; b_is = laws.nothing u; order = refl; right = refl }) cs is
 
-  pub facts_taken : (its : S.takes u ≡ true) (w : Network (Node T C) (Msg C) (Note O)) → WithRight its w → UnitFacts w
+  pub facts_taken : {n : ℕ} (its : S.takes u ≡ true) (w : Network (Node T C) (Msg C) (Note O)) → WithRight its n w → UnitFacts w
   facts_taken its w r =
       let here = r.is in
       let v = r.world in
@@ -265,17 +173,17 @@ module _ {U T C R O : Type 0} (S : System U T C R O) (laws : Laws S) (window : �
       rw here
       (record {
         front = front_from v.log (read coming v.input) (those (mine S laws u) (path h.stage)) order h.arrivals_are;
-        answers = answers_from v.log r.more.0;
+        answers = answers_from v.log r.more;
       })
 
-  pub facts_untaken : (not_its : S.takes u ≡ false) (w : Network (Node T C) (Msg C) (Note O)) → WithStays not_its w → UnitFacts w
+  pub facts_untaken : {n : ℕ} (not_its : S.takes u ≡ false) (w : Network (Node T C) (Msg C) (Note O)) → WithStays not_its n w → UnitFacts w
   facts_untaken not_its w r =
       let here = r.is in
       let v = r.world in
       rw here
       (record {
-        front = front_from v.log (read coming v.input) (those (mine S laws u) (read carries v.sa)) r.more.0.order r.holds.arrivals_are;
-        answers = answers_from v.log r.more.0.right;
+        front = front_from v.log (read coming v.input) (those (mine S laws u) (read carries v.sa)) r.more.order r.holds.arrivals_are;
+        answers = answers_from v.log r.more.right;
       })
 
   pub unit_facts : (cs : List Choice) → IsRun (node_ready S) (node_step S) cs (start S window early late)
@@ -319,7 +227,7 @@ module _ {U T C R O : Type 0} (S : System U T C R O) (laws : Laws S) (window : �
       let reached = leads.reached in
       let facts : (u : U) → UnitFacts S laws window early late rises u w =
       λ u. subst (UnitFacts S laws window early late rises u) (sym reached) (unit_facts S laws window early late rises u cs leads.is_run) in
-      let nobody = every_run S laws Nobody tt window early late rises cs leads.is_run in
+      let nobody = nobody_run S laws window early late rises cs leads.is_run in
       let world = reached ∙ nobody.is in
       let right =
       subst (λ x. is_wrong x.scan ≡ false) (sym nobody.holds.alike) (scan_right (frame S Nobody) nobody.holds.stage) in

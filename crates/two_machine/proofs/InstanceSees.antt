@@ -3,9 +3,8 @@ use Rattle.std.proofs.Common.{◌≡◌, ◌≢◌, ℕ, Bool, true, false, Opti
 use Rattle.std.specs.Prelude.{if◌then◌else◌, ◌==◌, is_some}
 use Rattle.std.proofs.lemmas.Bool.{false≢true}
 use Rattle.two_machine.proofs.Machine as m
-use Rattle.two_machine.proofs.Machine.{Rule, Free, Drops, Buffers, Target, To_a, To_both, To_b, Item, State, stepped, folded, laid}
-use Rattle.two_machine.proofs.Tables.{System, Laws, Msg, Note, Inst, Switch, Step, processed, all_processed}
-use Rattle.two_machine.proofs.Tables.{ruled, on_carry, on_pass, on_fence, inst_step, goes, switch_step}
+use Rattle.two_machine.proofs.Machine.{Rule, Free, Drops, Buffers, Target, To_a, To_both, To_b, State, stepped, folded}
+use Rattle.two_machine.proofs.Tables.{System, Laws, Inst, Step, processed, all_processed, ruled, on_pass, on_fence, inst_step, goes, switch_step}
 use Rattle.two_machine.proofs.Tables as t
 use Rattle.two_machine.proofs.View.{World, Observer, Nobody, Of_unit, read-append, is_of, frame, own, inside, IsTaken, view}
 use Rattle.two_machine.proofs.Labels.{IsSelected}

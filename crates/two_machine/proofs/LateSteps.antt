@@ -2,24 +2,29 @@
 use Rattle.std.proofs.Common.{◌≡◌, ℕ, Bool, true, false, Option, Some, None, List, [], ◌∷◌, ◌++◌, refl, sym, ap, subst, ◌∙◌, append_assoc, append-nil}
 use Rattle.std.specs.Prelude.{is_some}
 use Rattle.std.proofs.lemmas.Bool.{false≢true}
-use Rattle.two_machine.proofs.Machine.{Laid, Frame, Move, End_comes, Arrive, Take_sa, Take_pass, Take_plain, Take_sc}
-use Rattle.two_machine.proofs.Machine.{Take_forward, Take_cs, Take_cb, Take_event, Take_seen, Take_bc, Idles, same, soon}
-use Rattle.two_machine.proofs.Stages.{Turn, Low_goes, Low_comes, Waits, High_goes, No_packet_came, Late, High_comes, Settles, Last, Fence_goes}
-use Rattle.two_machine.proofs.Stages.{Fenced_comes, Is_over, Old, old, Copies, Stage, Before, Storing, Passing, Turned, Ends, to_list, waits}
-use Rattle.two_machine.proofs.Stages.{since_seen, old_path, done, path, last_of, Rises, Follows, LastFits, PassingFits, TurnedFits, Fits}
-use Rattle.two_machine.proofs.Laws.{folded-append, copies-append, copied-copies, copied_all, last_put}
-use Rattle.two_machine.proofs.Laws.{append_nil_left, append_nil_right, rises_after, rises_front, only_one, both}
+use Rattle.two_machine.proofs.Machine.{Laid, Frame, Move, End_comes, Arrive, Take_sa, Take_pass, Take_plain, Take_sc, Take_forward, Take_cs, Take_cb}
+use Rattle.two_machine.proofs.Machine.{Take_event, Take_seen, Take_bc, Idles, same, soon}
+use Rattle.two_machine.proofs.Stages.{Turn, Low_goes, Low_comes, Waits, High_goes, No_packet_came, Late, High_comes, Settles, Last, Fence_goes, Fenced_comes}
+use Rattle.two_machine.proofs.Stages.{Is_over, Old, old, Copies, Stage, Before, Storing, Passing, Turned, Ends, to_list, waits, since_seen, old_path, done}
+use Rattle.two_machine.proofs.Stages.{path, last_of, Rises, Follows, LastFits, copying, PathFits, fit, Fits}
+use Rattle.two_machine.proofs.Laws.{folded-append, copies-append, copied-copies, copied_all, last_put, append_nil_left, append_nil_right, rises_after}
+use Rattle.two_machine.proofs.Laws.{rises_front, only_one, both}
 use Rattle.two_machine.proofs.EarlySteps.{stays, paths, before, storing}
-use Rattle.two_machine.proofs.Shapes.{shape, Allowed, Leads, GoesOn}
+use Rattle.two_machine.proofs.Shapes.{shape, Allowed, Leads, to, GoesOn}
 
 ruleset shapes = (append_assoc, append-nil, folded-append, copies-append)
-
-abbrev pub copying : Option ℕ → List ℕ → Copies
-copying t c = record { last = t; coming = c }
 
 -- the old path with its packets at other places
 pub refollow : {d : List ℕ} {o : Old} {c : Copies} → (w : Old) → Follows d o c → since_seen w ≡ since_seen o → old_path w ≡ old_path o → Follows d w c
 refollow {d} {o} {c} w h one two = record { front = h.front; joined = ap (λ xs. h.front ++ xs) one ∙ h.joined; last = λ x e. ap last_of two ∙ h.last x e }
+
+-- what fits, with another path
+refit : {d e : List ℕ} {o w : Old} {c : Copies} {b : Bool} {Own : Type 0} → Follows e w c → PathFits d o c b Own → PathFits e w c b Own
+refit follows h = fit follows h.none_after h.own
+
+walks : {d : List ℕ} {o : Old} {c : Copies} {b : Bool} {Own : Type 0} (w : Old) → PathFits d o c b Own → since_seen w ≡ since_seen o
+    → old_path w ≡ old_path o → PathFits d w c b Own
+walks w h one two = refit (refollow w h.follows one two) h
 
 -- a packet is processed
 pub follow_pass : (d : List ℕ) (s : Option ℕ) (z x g e l : List ℕ) (c : Copies) (p : ℕ) → Follows d (old s z (p ∷ x) g e l) c
@@ -68,160 +73,71 @@ follow_copy d o (Some v) c p h = record { front = h.front; joined = h.joined; la
 
 module _ {R : Type 0} (f : Frame R) where
   pub passing : (n : Turn) (d : List ℕ) (s : Option ℕ) (z x g e l : List ℕ) (t : Option ℕ) (c : List ℕ) (b : Bool)
-      → PassingFits n d (old s z x g e l) (copying t c) b → (m : Move) → Allowed (shape f (Passing n d s z x g e l t c b)) m
+      → Fits (Passing n d s z x g e l t c b) → (m : Move) → Allowed (shape f (Passing n d s z x g e l t c b)) m
       → GoesOn f (Passing n d s z x g e l t c b) m
   passing Waits d s z x g e l t c true h m a = absurd (false≢true (sym h.own))
-  passing Low_goes d s z x g e l t c b h (Arrive p) a = record {
-    next = Passing Low_goes d s z x g e (l ++ p ∷ []) t c b;
-    fits = record { follows = follow_first d s z x g e l t c p h.own.1 h.own.0 h.follows; none_after = h.none_after; own = h.own };
-    alike = refl;
-    order = simp paths;
-  }
-  passing Low_comes d s z x g e l t [] b h (Arrive p) a = record {
-    next = Passing Low_comes d s z x g e (l ++ p ∷ []) t (p ∷ []) b;
-    fits = record { follows = follow_both d s z x g e l t [] p h.follows; none_after = λ is. absurd (false≢true (sym a ∙ is)); own = tt };
-    alike = refl;
-    order = simp paths;
-  }
-  passing Low_comes d s z x g e l t (q ∷ c) b h (Arrive p) a = record {
-    next = Passing Low_comes d s z x g e (l ++ p ∷ []) t (q ∷ (c ++ p ∷ [])) b;
-    fits = record { follows = follow_both d s z x g e l t (q ∷ c) p h.follows; none_after = λ is. absurd (false≢true (sym a ∙ is)); own = tt };
-    alike = simp shapes;
-    order = simp paths;
-  }
-  passing Waits d s z x g e l t [] false h (Arrive p) a = record {
-    next = Passing Waits d s z x g e (l ++ p ∷ []) t (p ∷ []) false;
-    fits = record { follows = follow_both d s z x g e l t [] p h.follows; none_after = λ is. absurd (false≢true is); own = refl };
-    alike = refl;
-    order = simp paths;
-  }
-  passing Waits d s z x g e l t (q ∷ c) false h (Arrive p) a = record {
-    next = Passing Waits d s z x g e (l ++ p ∷ []) t (q ∷ (c ++ p ∷ [])) false;
-    fits = record { follows = follow_both d s z x g e l t (q ∷ c) p h.follows; none_after = λ is. absurd (false≢true is); own = refl };
-    alike = simp shapes;
-    order = simp paths;
-  }
-  passing High_goes d s z x g e l t c b h (Arrive p) a = record {
-    next = Passing High_goes d s z x g e (l ++ p ∷ []) t (c ++ p ∷ []) b;
-    fits = record { follows = follow_both d s z x g e l t c p h.follows; none_after = λ is. absurd (false≢true (sym a ∙ is)); own = h.own };
-    alike = simp shapes;
-    order = simp paths;
-  }
+  passing Low_goes d s z x g e l t c b h (Arrive p) a =
+      to (Passing Low_goes d s z x g e (l ++ p ∷ []) t c b) (refit (follow_first d s z x g e l t c p h.own.1 h.own.0 h.follows) h) refl (simp paths)
+  passing Low_comes d s z x g e l t [] b h (Arrive p) a =
+      to (Passing Low_comes d s z x g e (l ++ p ∷ []) t (p ∷ []) b)
+      (fit (follow_both d s z x g e l t [] p h.follows) (λ is. absurd (false≢true (sym a ∙ is))) tt) refl (simp paths)
+  passing Low_comes d s z x g e l t (q ∷ c) b h (Arrive p) a =
+      to (Passing Low_comes d s z x g e (l ++ p ∷ []) t (q ∷ (c ++ p ∷ [])) b)
+      (fit (follow_both d s z x g e l t (q ∷ c) p h.follows) (λ is. absurd (false≢true (sym a ∙ is))) tt) (simp shapes) (simp paths)
+  passing Waits d s z x g e l t [] false h (Arrive p) a =
+      to (Passing Waits d s z x g e (l ++ p ∷ []) t (p ∷ []) false)
+      (fit (follow_both d s z x g e l t [] p h.follows) (λ is. absurd (false≢true is)) refl) refl (simp paths)
+  passing Waits d s z x g e l t (q ∷ c) false h (Arrive p) a =
+      to (Passing Waits d s z x g e (l ++ p ∷ []) t (q ∷ (c ++ p ∷ [])) false)
+      (fit (follow_both d s z x g e l t (q ∷ c) p h.follows) (λ is. absurd (false≢true is)) refl) (simp shapes) (simp paths)
+  passing High_goes d s z x g e l t c b h (Arrive p) a =
+      to (Passing High_goes d s z x g e (l ++ p ∷ []) t (c ++ p ∷ []) b)
+      (fit (follow_both d s z x g e l t c p h.follows) (λ is. absurd (false≢true (sym a ∙ is))) h.own) (simp shapes) (simp paths)
   passing No_packet_came d s z x g e l t c b h (Arrive p) a = absurd (false≢true (sym a ∙ h.own.1))
   passing n d s z x g e [] t c b h Take_sa a = stays f (Passing n d s z x g e [] t c b) h
-  passing n d s z x g e (p ∷ l) t c b h Take_sa a = record {
-    next = Passing n d s z x g (e ++ p ∷ []) l t c b;
-    fits = record { follows = refollow (old s z x g (e ++ p ∷ []) l) h.follows refl (simp paths); none_after = h.none_after; own = h.own };
-    alike = refl;
-    order = simp paths;
-  }
+  passing n d s z x g e (p ∷ l) t c b h Take_sa a =
+      to (Passing n d s z x g (e ++ p ∷ []) l t c b) (walks (old s z x g (e ++ p ∷ []) l) h refl (simp paths)) refl (simp paths)
   passing n d s z [] g e l t c b h Take_pass a = stays f (Passing n d s z [] g e l t c b) h
-  passing n d s z (p ∷ x) g e l t c b h Take_pass a = record {
-    next = Passing n (d ++ p ∷ []) s (z ++ p ∷ []) x g e l t c b;
-    fits = record { follows = follow_pass d s z x g e l (copying t c) p h.follows; none_after = h.none_after; own = h.own };
-    alike = simp shapes;
-    order = simp paths;
-  }
+  passing n d s z (p ∷ x) g e l t c b h Take_pass a =
+      to (Passing n (d ++ p ∷ []) s (z ++ p ∷ []) x g e l t c b) (refit (follow_pass d s z x g e l (copying t c) p h.follows) h) (simp shapes) (simp paths)
   passing n d s z x [] e l t c b h Take_forward a = stays f (Passing n d s z x [] e l t c b) h
-  passing n d s z x (p ∷ g) e l t c b h Take_forward a = record {
-    next = Passing n d s z (x ++ p ∷ []) g e l t c b;
-    fits = record { follows = refollow (old s z (x ++ p ∷ []) g e l) h.follows refl (simp paths); none_after = h.none_after; own = h.own };
-    alike = refl;
-    order = simp paths;
-  }
+  passing n d s z x (p ∷ g) e l t c b h Take_forward a =
+      to (Passing n d s z (x ++ p ∷ []) g e l t c b) (walks (old s z (x ++ p ∷ []) g e l) h refl (simp paths)) refl (simp paths)
   passing n d s z x g [] l t c b h Take_event a = stays f (Passing n d s z x g [] l t c b) h
-  passing Low_goes d s z x g (p ∷ e) l t c b h Take_event a = record {
-    next = Passing Low_goes d s z x (g ++ p ∷ []) e l t c b;
-    fits = record { follows = refollow (old s z x (g ++ p ∷ []) e l) h.follows refl (simp paths); none_after = h.none_after; own = h.own };
-    alike = refl;
-    order = simp paths;
-  }
-  passing n d s z x g (p ∷ e) l t c b h Take_event a = record {
-    next = Passing n d s z x (g ++ p ∷ []) e l t c b;
-    fits = record { follows = refollow (old s z x (g ++ p ∷ []) e l) h.follows refl (simp paths); none_after = h.none_after; own = h.own };
-    alike = refl;
-    order = simp paths;
-  }
+  passing Low_goes d s z x g (p ∷ e) l t c b h Take_event a =
+      to (Passing Low_goes d s z x (g ++ p ∷ []) e l t c b) (walks (old s z x (g ++ p ∷ []) e l) h refl (simp paths)) refl (simp paths)
+  passing n d s z x g (p ∷ e) l t c b h Take_event a =
+      to (Passing n d s z x (g ++ p ∷ []) e l t c b) (walks (old s z x (g ++ p ∷ []) e l) h refl (simp paths)) refl (simp paths)
   passing n d s [] x g e l t c b h Take_seen a = stays f (Passing n d s [] x g e l t c b) h
-  passing Low_goes d s (p ∷ z) x g e l t c b h Take_seen a = record {
-    next = Passing Low_goes d (Some p) z x g e l t c b;
-    fits = record { follows = follow_seen d s z x g e l (copying t c) p h.follows; none_after = h.none_after; own = h.own };
-    alike = refl;
-    order = simp paths;
-  }
-  passing n d s (p ∷ z) x g e l t c b h Take_seen a = record {
-    next = Passing n d (Some p) z x g e l t c b;
-    fits = record { follows = follow_seen d s z x g e l (copying t c) p h.follows; none_after = h.none_after; own = h.own };
-    alike = refl;
-    order = simp paths;
-  }
-  passing Low_comes d s z x g e l t [] true h Take_sc a = record {
-    next = Passing No_packet_came d s z x g e l t [] true;
-    fits = record { follows = h.follows; none_after = h.none_after; own = (refl, refl) };
-    alike = refl;
-    order = simp paths;
-  }
+  passing Low_goes d s (p ∷ z) x g e l t c b h Take_seen a =
+      to (Passing Low_goes d (Some p) z x g e l t c b) (refit (follow_seen d s z x g e l (copying t c) p h.follows) h) refl (simp paths)
+  passing n d s (p ∷ z) x g e l t c b h Take_seen a =
+      to (Passing n d (Some p) z x g e l t c b) (refit (follow_seen d s z x g e l (copying t c) p h.follows) h) refl (simp paths)
+  passing Low_comes d s z x g e l t [] true h Take_sc a =
+      to (Passing No_packet_came d s z x g e l t [] true) (fit h.follows h.none_after (refl, refl)) refl (simp paths)
   passing Low_comes d s z x g e l t (q ∷ c) true h Take_sc a = let none = h.none_after refl in cc
-  passing Low_comes d s z x g e l t c false h Take_sc a = record {
-    next = Passing Waits d s z x g e l t c false;
-    fits = record { follows = h.follows; none_after = h.none_after; own = refl };
-    alike = refl;
-    order = simp paths;
-  }
+  passing Low_comes d s z x g e l t c false h Take_sc a = to (Passing Waits d s z x g e l t c false) (fit h.follows h.none_after refl) refl (simp paths)
   passing Waits d s z x g e l t [] false h Take_sc a = stays f (Passing Waits d s z x g e l t [] false) h
-  passing Waits d s z x g e l t (p ∷ c) false h Take_sc a = record {
-    next = Passing High_goes d s z x g e l (Some p) c false;
-    fits = record { follows = follow_copy d (old s z x g e l) t c p h.follows; none_after = λ is. absurd (false≢true is); own = refl };
-    alike = refl;
-    order = simp paths;
-  }
+  passing Waits d s z x g e l t (p ∷ c) false h Take_sc a =
+      to (Passing High_goes d s z x g e l (Some p) c false)
+      (fit (follow_copy d (old s z x g e l) t c p h.follows) (λ is. absurd (false≢true is)) refl) refl (simp paths)
   passing High_goes d s z x g e l t [] b h Take_sc a = stays f (Passing High_goes d s z x g e l t [] b) h
-  passing High_goes d s z x g e l t (p ∷ c) b h Take_sc a = record {
-    next = Passing High_goes d s z x g e l (Some p) c b;
-    fits = record { follows = follow_copy d (old s z x g e l) t c p h.follows; none_after = λ is. let none = h.none_after is in cc; own = refl };
-    alike = refl;
-    order = simp paths;
-  }
+  passing High_goes d s z x g e l t (p ∷ c) b h Take_sc a =
+      to (Passing High_goes d s z x g e l (Some p) c b)
+      (fit (follow_copy d (old s z x g e l) t c p h.follows) (λ is. let none = h.none_after is in cc) refl) refl (simp paths)
   passing n d s z x g e l t c b h Take_sc a = stays f (Passing n d s z x g e l t c b) h
-  passing Low_goes d s z x g e l t [] b h Take_cs a = record {
-    next = Passing Low_comes d s z x g e l t [] b;
-    fits = record { follows = h.follows; none_after = h.none_after; own = tt };
-    alike = refl;
-    order = simp paths;
-  }
+  passing Low_goes d s z x g e l t [] b h Take_cs a = to (Passing Low_comes d s z x g e l t [] b) (fit h.follows h.none_after tt) refl (simp paths)
   passing Low_goes d s z x g e l t (q ∷ c) b h Take_cs a = let none = h.own.0 in cc
-  passing High_goes d s z x g e l t c b h Take_cs a = record {
-    next = Turned High_comes d s z x g e l t c [] [] b;
-    fits = record { follows = h.follows; none_after = h.none_after; own = h.own };
-    alike = refl;
-    order = simp paths;
-  }
+  passing High_goes d s z x g e l t c b h Take_cs a = to (Turned High_comes d s z x g e l t c [] [] b) (refit h.follows h) refl (simp paths)
   passing n d s z x g e l t c b h Take_cs a = stays f (Passing n d s z x g e l t c b) h
-  passing Low_goes d s z x g e l t c b h End_comes a = record {
-    next = Passing Low_goes d s z x g e l t c true;
-    fits = record { follows = h.follows; none_after = λ _. h.own.0; own = h.own };
-    alike = refl;
-    order = simp paths;
-  }
-  passing Low_comes d s z x g e l t c b h End_comes a = record {
-    next = Passing Low_comes d s z x g e l t c true;
-    fits = record { follows = h.follows; none_after = λ _. sym (copied_all R c) ∙ a.1; own = tt };
-    alike = refl;
-    order = simp paths;
-  }
-  passing Waits d s z x g e l t [] false h End_comes a = record {
-    next = Passing No_packet_came d s z x g e l t [] true;
-    fits = record { follows = h.follows; none_after = λ _. refl; own = (refl, refl) };
-    alike = refl;
-    order = simp paths;
-  }
+  passing Low_goes d s z x g e l t c b h End_comes a = to (Passing Low_goes d s z x g e l t c true) (fit h.follows (λ _. h.own.0) h.own) refl (simp paths)
+  passing Low_comes d s z x g e l t c b h End_comes a =
+      to (Passing Low_comes d s z x g e l t c true) (fit h.follows (λ _. sym (copied_all R c) ∙ a.1) tt) refl (simp paths)
+  passing Waits d s z x g e l t [] false h End_comes a =
+      to (Passing No_packet_came d s z x g e l t [] true) (fit h.follows (λ _. refl) (refl, refl)) refl (simp paths)
   passing Waits d s z x g e l t (q ∷ c) false h End_comes a = let none = a.1 in cc
-  passing High_goes d s z x g e l t c b h End_comes a = record {
-    next = Passing High_goes d s z x g e l t c true;
-    fits = record { follows = h.follows; none_after = λ _. sym (copied_all R c) ∙ a.1; own = h.own };
-    alike = refl;
-    order = simp paths;
-  }
+  passing High_goes d s z x g e l t c b h End_comes a =
+      to (Passing High_goes d s z x g e l t c true) (fit h.follows (λ _. sym (copied_all R c) ∙ a.1) h.own) refl (simp paths)
   passing No_packet_came d s z x g e l t c b h End_comes a = absurd (false≢true (sym a.0 ∙ h.own.1))
   passing Waits d s z x g e l t c false h Idles a = stays f (Passing Waits d s z x g e l t c false) h
   passing n d s z x g e l t c b h Idles a = stays f (Passing n d s z x g e l t c b) h
@@ -242,12 +158,8 @@ module _ {R : Type 0} (f : Frame R) where
   settles : (n : Late) (r : Option ℕ) (q : List ℕ) (d : List ℕ) (s : Option ℕ) (z x g e l : List ℕ) (t : Option ℕ) (h y : List ℕ) (b : Bool) (k : ℕ)
       → Follows d (old s z x g e l) (copying t []) → is_some t ≡ true → Rises k (d ++ (waits (old s z x g e l) ++ (h ++ y))) → (now : Bool) → same s t ≡ now
       → Leads f (Turned n d r q x g e l t [] h y b) (soon f (shape f (Turned Settles d s z x g e l t [] h y b))) []
-  settles n r q d s z x g e l t h y b k w some rises false is = record {
-    next = Turned Settles d s z x g e l t [] h y b;
-    fits = record { follows = w; none_after = λ _. refl; own = (refl, is, some) };
-    alike = rw is refl;
-    order = simp paths;
-  }
+  settles n r q d s z x g e l t h y b k w some rises false is =
+      to (Turned Settles d s z x g e l t [] h y b) (fit w (λ _. refl) (refl, is, some)) (rw is refl) (simp paths)
   settles n r q d s z x g e l t h y b k w some rises true is =
       let two = both s t is in
       let seen = two.one in
@@ -268,108 +180,61 @@ module _ {R : Type 0} (f : Frame R) where
       })
 
   pub turned : (n : Late) (d : List ℕ) (s : Option ℕ) (z x g e l : List ℕ) (t : Option ℕ) (c h y : List ℕ) (b : Bool)
-      → TurnedFits n d (old s z x g e l) (copying t c) b → (k : ℕ) → Rises k (d ++ (waits (old s z x g e l) ++ (h ++ y))) → (m : Move)
+      → Fits (Turned n d s z x g e l t c h y b) → (k : ℕ) → Rises k (d ++ (waits (old s z x g e l) ++ (h ++ y))) → (m : Move)
       → Allowed (shape f (Turned n d s z x g e l t c h y b)) m → GoesOn f (Turned n d s z x g e l t c h y b) m
-  turned n d s z x g e l t c h y b w k rises (Arrive p) a = record {
-    next = Turned n d s z x g e l t c h (y ++ p ∷ []) b;
-    fits = w;
-    alike = refl;
-    order = simp paths;
-  }
+  turned n d s z x g e l t c h y b w k rises (Arrive p) a = to (Turned n d s z x g e l t c h (y ++ p ∷ []) b) w refl (simp paths)
   turned n d s z x g e [] t c h y b w k rises Take_sa a = stays f (Turned n d s z x g e [] t c h y b) w
-  turned n d s z x g e (p ∷ l) t c h y b w k rises Take_sa a = record {
-    next = Turned n d s z x g (e ++ p ∷ []) l t c h y b;
-    fits = record { follows = refollow (old s z x g (e ++ p ∷ []) l) w.follows refl (simp paths); none_after = w.none_after; own = w.own };
-    alike = refl;
-    order = simp paths;
-  }
+  turned n d s z x g e (p ∷ l) t c h y b w k rises Take_sa a =
+      to (Turned n d s z x g (e ++ p ∷ []) l t c h y b) (walks (old s z x g (e ++ p ∷ []) l) w refl (simp paths)) refl (simp paths)
   turned n d s z [] g e l t c h y b w k rises Take_pass a = stays f (Turned n d s z [] g e l t c h y b) w
-  turned n d s z (p ∷ x) g e l t c h y b w k rises Take_pass a = record {
-    next = Turned n (d ++ p ∷ []) s (z ++ p ∷ []) x g e l t c h y b;
-    fits = record { follows = follow_pass d s z x g e l (copying t c) p w.follows; none_after = w.none_after; own = w.own };
-    alike = simp shapes;
-    order = simp paths;
-  }
+  turned n d s z (p ∷ x) g e l t c h y b w k rises Take_pass a =
+      to (Turned n (d ++ p ∷ []) s (z ++ p ∷ []) x g e l t c h y b) (refit (follow_pass d s z x g e l (copying t c) p w.follows) w) (simp shapes) (simp paths)
   turned n d s z x [] e l t c h y b w k rises Take_forward a = stays f (Turned n d s z x [] e l t c h y b) w
-  turned n d s z x (p ∷ g) e l t c h y b w k rises Take_forward a = record {
-    next = Turned n d s z (x ++ p ∷ []) g e l t c h y b;
-    fits = record { follows = refollow (old s z (x ++ p ∷ []) g e l) w.follows refl (simp paths); none_after = w.none_after; own = w.own };
-    alike = refl;
-    order = simp paths;
-  }
+  turned n d s z x (p ∷ g) e l t c h y b w k rises Take_forward a =
+      to (Turned n d s z (x ++ p ∷ []) g e l t c h y b) (walks (old s z (x ++ p ∷ []) g e l) w refl (simp paths)) refl (simp paths)
   turned n d s z x g e l t c h [] b w k rises Take_plain a = stays f (Turned n d s z x g e l t c h [] b) w
-  turned n d s z x g e l t c h (p ∷ y) b w k rises Take_plain a = record {
-    next = Turned n d s z x g e l t c (h ++ p ∷ []) y b;
-    fits = w;
-    alike = refl;
-    order = simp paths;
-  }
+  turned n d s z x g e l t c h (p ∷ y) b w k rises Take_plain a = to (Turned n d s z x g e l t c (h ++ p ∷ []) y b) w refl (simp paths)
   turned n d s z x g [] l t c h y b w k rises Take_event a = stays f (Turned n d s z x g [] l t c h y b) w
-  turned High_comes d s z x g (p ∷ e) l t c h y b w k rises Take_event a = record {
-    next = Turned High_comes d s z x (g ++ p ∷ []) e l t c h y b;
-    fits = record { follows = refollow (old s z x (g ++ p ∷ []) e l) w.follows refl (simp paths); none_after = w.none_after; own = w.own };
-    alike = refl;
-    order = simp paths;
-  }
-  turned Settles d s z x g (p ∷ e) l t c h y b w k rises Take_event a = record {
-    next = Turned Settles d s z x (g ++ p ∷ []) e l t c h y b;
-    fits = record { follows = refollow (old s z x (g ++ p ∷ []) e l) w.follows refl (simp paths); none_after = w.none_after; own = w.own };
-    alike = let not_yet = w.own.1 in rw not_yet refl;
-    order = simp paths;
-  }
+  turned High_comes d s z x g (p ∷ e) l t c h y b w k rises Take_event a =
+      to (Turned High_comes d s z x (g ++ p ∷ []) e l t c h y b) (walks (old s z x (g ++ p ∷ []) e l) w refl (simp paths)) refl (simp paths)
+  turned Settles d s z x g (p ∷ e) l t c h y b w k rises Take_event a =
+      to (Turned Settles d s z x (g ++ p ∷ []) e l t c h y b)
+      (walks (old s z x (g ++ p ∷ []) e l) w refl (simp paths)) (let not_yet = w.own.1 in rw not_yet refl) (simp paths)
   turned n d s [] x g e l t c h y b w k rises Take_seen a = stays f (Turned n d s [] x g e l t c h y b) w
-  turned High_comes d s (p ∷ z) x g e l t c h y b w k rises Take_seen a = record {
-    next = Turned High_comes d (Some p) z x g e l t c h y b;
-    fits = record { follows = follow_seen d s z x g e l (copying t c) p w.follows; none_after = w.none_after; own = w.own };
-    alike = refl;
-    order = simp paths;
-  }
+  turned High_comes d s (p ∷ z) x g e l t c h y b w k rises Take_seen a =
+      to (Turned High_comes d (Some p) z x g e l t c h y b) (refit (follow_seen d s z x g e l (copying t c) p w.follows) w) refl (simp paths)
   turned Settles d s (p ∷ z) x g e l t [] h y b w k rises Take_seen a =
       settles Settles s (p ∷ z) d (Some p) z x g e l t h y b k (follow_seen d s z x g e l (copying t []) p w.follows) w.own.2 rises (same (Some p) t) refl
   turned Settles d s (p ∷ z) x g e l t (q ∷ c) h y b w k rises Take_seen a = let none = w.own.0 in cc
   turned High_comes d s z x g e l t [] h y b w k rises Take_sc a = settles High_comes s z d s z x g e l t h y b k w.follows w.own rises (same s t) refl
-  turned High_comes d s z x g e l t (p ∷ c) h y b w k rises Take_sc a = record {
-    next = Turned High_comes d s z x g e l (Some p) c h y b;
-    fits = record { follows = follow_copy d (old s z x g e l) t c p w.follows; none_after = λ is. let none = w.none_after is in cc; own = refl };
-    alike = refl;
-    order = simp paths;
-  }
+  turned High_comes d s z x g e l t (p ∷ c) h y b w k rises Take_sc a =
+      to (Turned High_comes d s z x g e l (Some p) c h y b)
+      (fit (follow_copy d (old s z x g e l) t c p w.follows) (λ is. let none = w.none_after is in cc) refl) refl (simp paths)
   turned n d s z x g e l t c h y b w k rises Take_sc a = stays f (Turned n d s z x g e l t c h y b) w
-  turned High_comes d s z x g e l t c h y b w k rises End_comes a = record {
-    next = Turned High_comes d s z x g e l t c h y true;
-    fits = record { follows = w.follows; none_after = λ _. let none = copied-copies R c (Laid true ∷ []) in sym (append-nil c) ∙ sym none ∙ a.1; own = w.own };
-    alike = refl;
-    order = simp paths;
-  }
-  turned Settles d s z x g e l t c h y b w k rises End_comes a = record {
-    next = Turned Settles d s z x g e l t c h y true;
-    fits = record { follows = w.follows; none_after = λ _. w.own.0; own = w.own };
-    alike = let not_yet = w.own.1 in rw not_yet refl;
-    order = simp paths;
-  }
+  turned High_comes d s z x g e l t c h y b w k rises End_comes a =
+      to (Turned High_comes d s z x g e l t c h y true)
+      (fit w.follows (λ _. let none = copied-copies R c (Laid true ∷ []) in sym (append-nil c) ∙ sym none ∙ a.1) w.own) refl (simp paths)
+  turned Settles d s z x g e l t c h y b w k rises End_comes a =
+      to (Turned Settles d s z x g e l t c h y true) (fit w.follows (λ _. w.own.0) w.own) (let not_yet = w.own.1 in rw not_yet refl) (simp paths)
   turned High_comes d s z x g e l t c h y b w k rises Idles a = stays f (Turned High_comes d s z x g e l t c h y b) w
-  turned Settles d s z x g e l t c h y b w k rises Idles a = record {
-    next = Turned Settles d s z x g e l t c h y b;
-    fits = w;
-    alike = let not_yet = w.own.1 in rw not_yet refl;
-    order = simp paths;
-  }
+  turned Settles d s z x g e l t c h y b w k rises Idles a =
+      to (Turned Settles d s z x g e l t c h y b) w (let not_yet = w.own.1 in rw not_yet refl) (simp paths)
   turned n d s z x g e l t c h y b w k rises m a = stays f (Turned n d s z x g e l t c h y b) w
 
   pub ends : (n : Last) (d : List ℕ) (s t : Option ℕ) (h y : List ℕ) (b : Bool) → LastFits n h → (m : Move) → GoesOn f (Ends n d s t h y b) m
-  ends Fence_goes d s t h y b w (Arrive p) = record { next = Ends Fence_goes d s t h (y ++ p ∷ []) b; fits = w; alike = refl; order = simp paths }
-  ends n d s t h y b w (Arrive p) = record { next = Ends n d s t h (y ++ p ∷ []) b; fits = w; alike = refl; order = simp paths }
+  ends Fence_goes d s t h y b w (Arrive p) = to (Ends Fence_goes d s t h (y ++ p ∷ []) b) w refl (simp paths)
+  ends n d s t h y b w (Arrive p) = to (Ends n d s t h (y ++ p ∷ []) b) w refl (simp paths)
   ends n d s t h [] b w Take_plain = stays f (Ends n d s t h [] b) w
-  ends Fence_goes d s t h (p ∷ y) b w Take_plain = record { next = Ends Fence_goes d s t (h ++ p ∷ []) y b; fits = tt; alike = refl; order = simp paths }
-  ends n d s t [] (p ∷ y) b w Take_plain = record { next = Ends n (d ++ p ∷ []) s t [] y b; fits = w; alike = simp shapes; order = simp paths }
+  ends Fence_goes d s t h (p ∷ y) b w Take_plain = to (Ends Fence_goes d s t (h ++ p ∷ []) y b) tt refl (simp paths)
+  ends n d s t [] (p ∷ y) b w Take_plain = to (Ends n (d ++ p ∷ []) s t [] y b) w (simp shapes) (simp paths)
   ends Fenced_comes d s t (q ∷ h) (p ∷ y) b w Take_plain = cc
   ends Is_over d s t (q ∷ h) (p ∷ y) b w Take_plain = cc
-  ends Fence_goes d s t h y b w Take_cb = record { next = Ends Fenced_comes (d ++ h) s t [] y b; fits = refl; alike = simp shapes; order = simp paths }
+  ends Fence_goes d s t h y b w Take_cb = to (Ends Fenced_comes (d ++ h) s t [] y b) refl (simp shapes) (simp paths)
   ends n d s t h y b w Take_cb = stays f (Ends n d s t h y b) w
-  ends Fenced_comes d s t h y b w Take_bc = record { next = Ends Is_over d s t h y b; fits = w; alike = refl; order = simp paths }
+  ends Fenced_comes d s t h y b w Take_bc = to (Ends Is_over d s t h y b) w refl (simp paths)
   ends n d s t h y b w Take_bc = stays f (Ends n d s t h y b) w
-  ends Fence_goes d s t h y b w End_comes = record { next = Ends Fence_goes d s t h y true; fits = w; alike = refl; order = simp paths }
-  ends n d s t h y b w End_comes = record { next = Ends n d s t h y true; fits = w; alike = refl; order = simp paths }
+  ends Fence_goes d s t h y b w End_comes = to (Ends Fence_goes d s t h y true) w refl (simp paths)
+  ends n d s t h y b w End_comes = to (Ends n d s t h y true) w refl (simp paths)
   ends Fence_goes d s t h y b w Idles = stays f (Ends Fence_goes d s t h y b) w
   ends n d s t h y b w Idles = stays f (Ends n d s t h y b) w
   ends n d s t h y b w m = stays f (Ends n d s t h y b) w

@@ -30,6 +30,7 @@ pub mod ClosingSteps
 pub mod ClosingPlaces
 pub mod CompleteRun
 pub mod Weights
+pub mod Rows
 pub mod WeightSteps
 pub mod RunLengths
 pub mod Cells

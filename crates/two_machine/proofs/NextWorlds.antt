@@ -7,10 +7,11 @@ use Rattle.two_machine.proofs.Tables
 use Rattle.two_machine.proofs.Tables.{System, Msg, Note, Is_switch, Is_ctrl, Is_inst, switch_step, inst_step, ctrl_step, node_step, as_node}
 use Rattle.two_machine.proofs.View.{World, net}
 use Rattle.two_machine.proofs.Labels.{Labels, Label}
-use Rattle.two_machine.proofs.Puts.{From_a, From_b, put_switch, put_ctrl, put_a, put_b, after_switch, after_ctrl}
-use Rattle.two_machine.proofs.Puts.{after_a, after_b, labels_switch, labels_ctrl, labels_a, labels_b, result}
+use Rattle.two_machine.proofs.Rows.{kind}
+use Rattle.two_machine.proofs.Puts.{From_a, From_b, put_switch, put_ctrl, put_a, put_b, after_switch, after_ctrl, after_a, after_b, labels_switch}
+use Rattle.two_machine.proofs.Puts.{labels_ctrl, labels_a, labels_b, result}
 use Rattle.two_machine.proofs.Places.{Place, In, Cs, Aw, Bw, Sc, Ac, Bc, Sa, Ca, Sb, Cb, choice, with_waits}
-use Rattle.two_machine.proofs.StepLabels.{switch_ok, sa_ok, ca_ok, sb_ok, cb_ok, ctrl_ok, GivesChunks, gives_ac, gives_bc, gives_sc}
+use Rattle.two_machine.proofs.StepLabels.{switch_ok, sa_ok, ca_ok, sb_ok, cb_ok, ctrl_ok, GivesChunks, gives}
 
 module _ {U T C R O : Type 0} (S : System U T C R O) where
   -- the world after a message was taken: the core's, with its labels
@@ -25,7 +26,7 @@ module _ {U T C R O : Type 0} (S : System U T C R O) where
       let ok = switch_ok S v.sw m in
       record { is = after_switch S v (switch_step S v.sw m) ok; labels = labels_switch S v (switch_step S v.sw m) l ok }
 
-  by_ctrl : (v : World T C O) (port : ℕ) (m : Msg C) → Labels S v → GivesChunks S m
+  by_ctrl : (v : World T C O) (port : ℕ) (m : Msg C) → Labels S v → GivesChunks S (kind port m)
       → IsNext (after (net v) 1 (as_node S Is_ctrl (ctrl_step S v.ct port m))) (put_ctrl S v (ctrl_step S v.ct port m))
   by_ctrl v port m l gives =
       let ok = ctrl_ok S v.ct port m l.kept gives in
@@ -45,9 +46,9 @@ module _ {U T C R O : Type 0} (S : System U T C R O) where
   next_is Cs v m rest no_drop h l = by_switch (with_waits S Cs rest v) m l
   next_is Aw v m rest no_drop h l = by_switch (with_waits S Aw rest v) m l
   next_is Bw v m rest no_drop h l = by_switch (with_waits S Bw rest v) m l
-  next_is Sc v m rest no_drop h l = by_ctrl (with_waits S Sc rest v) 0 m l (gives_sc S m h)
-  next_is Ac v m rest no_drop h l = by_ctrl (with_waits S Ac rest v) 2 m l (gives_ac S m h)
-  next_is Bc v m rest no_drop h l = by_ctrl (with_waits S Bc rest v) 3 m l (gives_bc S m h)
+  next_is Sc v m rest no_drop h l = by_ctrl (with_waits S Sc rest v) 0 m l (gives S Sc m h)
+  next_is Ac v m rest no_drop h l = by_ctrl (with_waits S Ac rest v) 2 m l (gives S Ac m h)
+  next_is Bc v m rest no_drop h l = by_ctrl (with_waits S Bc rest v) 3 m l (gives S Bc m h)
   next_is Sa v m rest no_drop h l = by_a (with_waits S Sa rest v) m l (sa_ok S v.a m h)
   next_is Ca v m rest no_drop h l = by_a (with_waits S Ca rest v) m l (ca_ok S v.a m h)
   next_is Sb v m rest no_drop h l = by_b (with_waits S Sb rest v) m l (sb_ok S v.b m no_drop h)

@@ -3,18 +3,19 @@ use Rattle.std.proofs.Common.{◌≡◌, ℕ, Bool, true, false, Option, Some, N
 use Rattle.std.specs.Prelude.{if◌then◌else◌}
 use Rattle.std.proofs.lemmas.Bool.{false≢true}
 use Rattle.two_machine.proofs.Machine as m
-use Rattle.two_machine.proofs.Machine.{Rule, Free, Drops, Buffers, Target, To_a, To_both, To_b, Item, State, Frame, stepped, folded, after}
-use Rattle.two_machine.proofs.Stages.{Stage, Part, Restore_goes, Hold_goes, Before, Storing, Passing, Turned, Ends, done, Rises}
-use Rattle.two_machine.proofs.Tables.{System, Laws, Msg, Note, Switch, Inst, In_packet, Lay, Carry, Pass, Stop, Enable, Get, Delete, Restore}
-use Rattle.two_machine.proofs.Tables.{Fence, Processed, has_room, goes, switch_step, processed, all_processed, ruled, inst_step, ctrl_step}
+use Rattle.two_machine.proofs.Machine.{Free, Target, To_a, To_both, To_b, Item, State, Frame, stepped, folded, after}
+use Rattle.two_machine.proofs.Stages.{Stage, Restore_goes, Before, Storing, Passing, Turned, Ends, done, Rises}
+use Rattle.two_machine.proofs.Tables.{System, Laws, Msg, Note, Switch, Inst, In_packet, Lay, Carry, Pass, Stop, Enable, Get, Delete, Restore, Fence}
+use Rattle.two_machine.proofs.Tables.{Processed, has_room, goes, switch_step, processed, all_processed, inst_step, ctrl_step, Step}
 use Rattle.two_machine.proofs.View.{World, read, read-append, those, carries, passes, item, ran, Of_unit, frame, view}
-use Rattle.two_machine.proofs.Labels.{OnSa, OnCa, OnSb, OnCb}
-use Rattle.two_machine.proofs.Places.{Place, In, Cs, Aw, Bw, Sc, Ac, Bc, Sa, Ca, Sb, Cb, with_waits}
+use Rattle.two_machine.proofs.Places.{Place, Ca, Cb, Sa, Sb, In, Cs, Aw, Bw, Sc, Ac, Bc, with_waits}
+use Rattle.two_machine.proofs.Labels.{Label}
+use Rattle.two_machine.proofs.Rows.{Carried, Runs, Hands_out, Held, carried}
 use Rattle.two_machine.proofs.Puts.{result}
 use Rattle.two_machine.proofs.Runs.{Holds}
 use Rattle.two_machine.proofs.Shapes.{shape}
 use Rattle.actor_net.proofs.WeightLaws.{Each}
-use Rattle.two_machine.proofs.StepLabels.{ctrl_ok, gives_sc, gives_ac, gives_bc}
+use Rattle.two_machine.proofs.StepLabels.{ctrl_ok, gives}
 
 -- where a packet is processed, the record is that of all that was done
 pub record Fresh {R : Type 0} (f : Frame R) (x : State R) (d : List ℕ) : Type 0 where
@@ -24,15 +25,15 @@ pub record Fresh {R : Type 0} (f : Frame R) (x : State R) (d : List ℕ) : Type 
   pub fence : (l : List (Item R)) → x.cb ≡ m.Fence ∷ l → x.b.live ≡ after f d
 
 module _ {R : Type 0} (f : Frame R) where
-  part_fence : (n : Part) (d g e l : List ℕ) (b : Bool) (k : List (Item R)) → (shape f (Storing n d g e l b)).cb ≡ m.Fence ∷ k
-      → (shape f (Storing n d g e l b)).b.live ≡ after f d
-  part_fence Restore_goes d g e l b k is = cc
-  part_fence Hold_goes d g e l b k is = cc
-  part_fence n d g e l b k is = cc
+  fence_there : (s : Stage) (k : List (Item R)) → (shape f s).cb ≡ m.Fence ∷ k → (shape f s).b.live ≡ after f (done s)
+  fence_there (Storing Restore_goes d g e l b) k is = cc
+  fence_there (Storing n d g e l b) k is = cc
+  fence_there (Ends n d s t h y b) k is = refl
+  fence_there s k is = cc
 
   pub fresh_at : (s : Stage) → Fresh f (shape f s) (done s)
   fresh_at (Before n d l b) = record { at_a = λ _. refl; plain = λ p k is. cc; pass = λ p k is. cc; fence = λ k is. cc }
-  fresh_at (Storing n d g e l b) = record { at_a = λ is. cc; plain = λ p k is. cc; pass = λ p k is. cc; fence = part_fence n d g e l b }
+  fresh_at (Storing n d g e l b) = record { at_a = λ is. cc; plain = λ p k is. cc; pass = λ p k is. cc; fence = fence_there (Storing n d g e l b) }
   fresh_at (Passing n d s z x g e l t c b) = record { at_a = λ is. cc; plain = λ p k is. cc; pass = λ p k is. refl; fence = λ k is. cc }
   fresh_at (Turned n d s z x g e l t c h y b) = record { at_a = λ is. cc; plain = λ p k is. refl; pass = λ p k is. refl; fence = λ k is. cc }
   fresh_at (Ends n d s t h y b) = record { at_a = λ is. cc; plain = λ p k is. refl; pass = λ p k is. cc; fence = λ k is. refl }
@@ -126,9 +127,6 @@ module _ {U T C R O : Type 0} (S : System U T C R O) (laws : Laws S) (u : U) whe
   ran_fence n i = ran_all n (record i { rule = Free; held = [] }) i.held
 
   -- packets of other units
-  Others : List ℕ → Type 0
-  Others ps = Each (λ p. mine p ≡ false) ps
-
   pub due_other : (r : Option R) (ps : List ℕ) → Each (λ p. mine p ≡ false) ps → due r ps ≡ []
   due_other r [] h = refl
   due_other r (p ∷ ps) h = let other = h.0 in rw other (due_other r ps h.1)
@@ -193,9 +191,6 @@ module _ {U T C R O : Type 0} (S : System U T C R O) (laws : Laws S) (u : U) whe
 
 -- a unit that the filter takes
 module _ {U T C R O : Type 0} (S : System U T C R O) (laws : Laws S) (u : U) (its : S.takes u ≡ true) (all : List ℕ) (rises : Rises 0 all) where
-  abbrev Held : World T C O → Type 0
-  Held v = Holds S laws (Of_unit u) its all rises v
-
   -- the stage's record is that of the log
   pub by_log : (v : World T C O) (h : Holds S laws (Of_unit u) its all rises v) → after (its_frame S laws u) (done h.stage) ≡ record_by S laws u v.log
   by_log v h =
@@ -212,49 +207,35 @@ module _ {U T C R O : Type 0} (S : System U T C R O) (laws : Laws S) (u : U) (it
   fresh_here : (v : World T C O) (h : Holds S laws (Of_unit u) its all rises v) → Fresh (its_frame S laws u) (view S (Of_unit u) v) (done h.stage)
   fresh_here v h = subst (λ x. Fresh (its_frame S laws u) x (done h.stage)) (sym h.alike) (fresh_at (its_frame S laws u) h.stage)
 
-  right_sa : (v : World T C O) (x : Msg C) (rest : List (Msg C)) → OnSa S x → Holds S laws (Of_unit u) its all rises (with_waits S Sa (x ∷ rest) v)
+  right_sa : (v : World T C O) (x : Msg C) (rest : List (Msg C)) → Label S Sa x → Holds S laws (Of_unit u) its all rises (with_waits S Sa (x ∷ rest) v)
       → IsRight S laws u v.log → IsRight S laws u (v.log ++ (inst_step S 0 v.a x).notes)
-  right_sa v (Carry p) rest l h right = by (S.covers p) refl
+  right_sa v (Carry p) rest l h right = by (carried S 0 v.a p)
     where
       fresh : Fresh (its_frame S laws u) (view S (Of_unit u) (with_waits S Sa (Carry p ∷ rest) v)) (done h.stage)
       fresh = fresh_here (with_waits S Sa (Carry p ∷ rest) v) h
 
-      by_rule : (r : Rule) → v.a.rule ≡ r → IsRight S laws u (v.log ++ (ruled S r 0 v.a p).notes)
-      by_rule Free e =
+      by : {did : Step S (Inst T)} → Carried S 0 v.a p did → IsRight S laws u (v.log ++ did.notes)
+      by (Runs free) =
           right_more S laws u v.log (processed S 0 v.a p).notes right
-          (right_one S laws u 0 v.a.table p (record_by S laws u v.log) (λ _. fresh.at_a e ∙ by_log (with_waits S Sa (Carry p ∷ rest) v) h))
-      by_rule Drops e = right_none S laws u v.log [] right refl
-      by_rule Buffers e = right_none S laws u v.log [] right refl
-
-      by : (b : Bool) → S.covers p ≡ b → IsRight S laws u (v.log ++ (if b then ruled S v.a.rule 0 v.a p else processed S 0 v.a p).notes)
-      by true e = by_rule v.a.rule refl
-      by false e =
-          right_more S laws u v.log (processed S 0 v.a p).notes right
-          (right_one S laws u 0 v.a.table p (record_by S laws u v.log) (λ own. absurd (false≢true (sym (not_mine S laws u its p e) ∙ own))))
+          (right_one S laws u 0 v.a.table p (record_by S laws u v.log)
+          (λ own. fresh.at_a (free (cover_mine S laws u its p own)) ∙ by_log (with_waits S Sa (Carry p ∷ rest) v) h))
+      by (Hands_out drops covers) = right_none S laws u v.log [] right refl
+      by (Held covers) = right_none S laws u v.log [] right refl
   right_sa v Stop rest l h right = right_none S laws u v.log [] right refl
   right_sa v x rest l h right = absurd l
 
-  right_sb : (v : World T C O) (x : Msg C) (rest : List (Msg C)) → OnSb S x → Holds S laws (Of_unit u) its all rises (with_waits S Sb (x ∷ rest) v)
+  right_sb : (v : World T C O) (x : Msg C) (rest : List (Msg C)) → Label S Sb x → Holds S laws (Of_unit u) its all rises (with_waits S Sb (x ∷ rest) v)
       → IsRight S laws u v.log → IsRight S laws u (v.log ++ (inst_step S 1 v.b x).notes)
-  right_sb v (Carry p) rest l h right = by (S.covers p)
+  right_sb v (Carry p) rest l h right = by (carried S 1 v.b p)
     where
-      fresh : Fresh (its_frame S laws u) (view S (Of_unit u) (with_waits S Sb (Carry p ∷ rest) v)) (done h.stage)
-      fresh = fresh_here (with_waits S Sb (Carry p ∷ rest) v) h
-
-      one : IsRight S laws u (v.log ++ (processed S 1 v.b p).notes)
-      one =
+      by : {did : Step S (Inst T)} → Carried S 1 v.b p did → IsRight S laws u (v.log ++ did.notes)
+      by (Runs free) =
+          let fresh = fresh_here (with_waits S Sb (Carry p ∷ rest) v) h in
           right_more S laws u v.log (processed S 1 v.b p).notes right
           (right_one S laws u 1 v.b.table p (record_by S laws u v.log)
           (λ _. fresh.plain p (read carries rest) refl ∙ by_log (with_waits S Sb (Carry p ∷ rest) v) h))
-
-      by_rule : (r : Rule) → IsRight S laws u (v.log ++ (ruled S r 1 v.b p).notes)
-      by_rule Free = one
-      by_rule Drops = right_none S laws u v.log [] right refl
-      by_rule Buffers = right_none S laws u v.log [] right refl
-
-      by : (b : Bool) → IsRight S laws u (v.log ++ (if b then ruled S v.b.rule 1 v.b p else processed S 1 v.b p).notes)
-      by true = by_rule v.b.rule
-      by false = one
+      by (Hands_out drops covers) = right_none S laws u v.log [] right refl
+      by (Held covers) = right_none S laws u v.log [] right refl
   right_sb v (Pass p) rest l h right =
       let fresh = fresh_here (with_waits S Sb (Pass p ∷ rest) v) h in
       right_more S laws u v.log (processed S 1 v.b p).notes right
@@ -263,7 +244,7 @@ module _ {U T C R O : Type 0} (S : System U T C R O) (laws : Laws S) (u : U) (it
   right_sb v Stop rest l h right = right_none S laws u v.log [] right refl
   right_sb v x rest l h right = absurd l
 
-  right_cb : (v : World T C O) (x : Msg C) (rest : List (Msg C)) → OnCb S x → Holds S laws (Of_unit u) its all rises (with_waits S Cb (x ∷ rest) v)
+  right_cb : (v : World T C O) (x : Msg C) (rest : List (Msg C)) → Label S Cb x → Holds S laws (Of_unit u) its all rises (with_waits S Cb (x ∷ rest) v)
       → IsRight S laws u v.log → IsRight S laws u (v.log ++ (inst_step S 1 v.b x).notes)
   right_cb v (Enable r) rest l h right = right_none S laws u v.log [] right refl
   right_cb v (Restore c) rest l h right = right_none S laws u v.log [] right refl
@@ -275,7 +256,7 @@ module _ {U T C R O : Type 0} (S : System U T C R O) (laws : Laws S) (u : U) (it
       (right_all S laws u 1 i v.b.held (record_by S laws u v.log) has ∙ ap (due S laws u (record_by S laws u v.log)) (sym (ran_fence S laws u 1 v.b)))
   right_cb v x rest l h right = absurd l
 
-  right_ca : (v : World T C O) (x : Msg C) → OnCa S x → IsRight S laws u v.log → IsRight S laws u (v.log ++ (inst_step S 0 v.a x).notes)
+  right_ca : (v : World T C O) (x : Msg C) → Label S Ca x → IsRight S laws u v.log → IsRight S laws u (v.log ++ (inst_step S 0 v.a x).notes)
   right_ca v (Enable r) l right = right_none S laws u v.log [] right refl
   right_ca v Get l right = right_none S laws u v.log [] right refl
   right_ca v (Delete c) l right = right_none S laws u v.log [] right refl
@@ -288,11 +269,11 @@ module _ {U T C R O : Type 0} (S : System U T C R O) (laws : Laws S) (u : U) (it
   right_keeps Aw v x rest h right = right_none S laws u v.log (switch_step S v.sw x).notes right (switch_ran S laws u v.sw x)
   right_keeps Bw v x rest h right = right_none S laws u v.log (switch_step S v.sw x).notes right (switch_ran S laws u v.sw x)
   right_keeps Sc v x rest h right =
-      right_none S laws u v.log (ctrl_step S v.ct 0 x).notes right (ctrl_ok S v.ct 0 x h.labels.kept (gives_sc S x (h.labels.standing Sc).0)).unrun
+      right_none S laws u v.log (ctrl_step S v.ct 0 x).notes right (ctrl_ok S v.ct 0 x h.labels.kept (gives S Sc x (h.labels.standing Sc).0)).unrun
   right_keeps Ac v x rest h right =
-      right_none S laws u v.log (ctrl_step S v.ct 2 x).notes right (ctrl_ok S v.ct 2 x h.labels.kept (gives_ac S x (h.labels.standing Ac).0)).unrun
+      right_none S laws u v.log (ctrl_step S v.ct 2 x).notes right (ctrl_ok S v.ct 2 x h.labels.kept (gives S Ac x (h.labels.standing Ac).0)).unrun
   right_keeps Bc v x rest h right =
-      right_none S laws u v.log (ctrl_step S v.ct 3 x).notes right (ctrl_ok S v.ct 3 x h.labels.kept (gives_bc S x (h.labels.standing Bc).0)).unrun
+      right_none S laws u v.log (ctrl_step S v.ct 3 x).notes right (ctrl_ok S v.ct 3 x h.labels.kept (gives S Bc x (h.labels.standing Bc).0)).unrun
   right_keeps Sa v x rest h right = right_sa v x rest (h.labels.standing Sa).0 h right
   right_keeps Ca v x rest h right = right_ca v x (h.labels.standing Ca).0 right
   right_keeps Sb v x rest h right = right_sb v x rest (h.labels.standing Sb).0 h right

@@ -1,8 +1,9 @@
 -- The places at which a message can be taken, and what waits there.
-use Rattle.std.proofs.Common.{ℕ, List, [], ◌∷◌}
+use Rattle.std.proofs.Common.{◌≡◌, ℕ, List, [], ◌∷◌, refl}
 use Rattle.actor_net.specs.declared.choice.Choice.{Choice}
+use Rattle.actor_net.specs.Network.{queue_at}
 use Rattle.two_machine.proofs.Tables.{System, Msg, In_packet}
-use Rattle.two_machine.proofs.View.{World}
+use Rattle.two_machine.proofs.View.{World, net}
 
 pub data Place : Type 0 where
   In : Place
@@ -62,3 +63,7 @@ module _ {U T C R O : Type 0} (S : System U T C R O) where
   with_waits Ca l v = record v { ca = l }
   with_waits Sb l v = record v { sb = l }
   with_waits Cb l v = record v { cb = l }
+
+  pub waiting_at : (pl : Place) (v : World T C O) → queue_at (net v) (choice pl) ≡ waits pl v
+  waiting_at In v = refl
+  waiting_at pl v = refl

@@ -4,8 +4,8 @@ use Rattle.std.specs.Prelude.{if◌then◌else◌, ◌==◌, ◌||◌}
 use Rattle.actor_net.specs.declared.choice.Choice.{Choice}
 use Rattle.actor_net.specs.Network.{Network, IsRun, is_enabled, is_done, run}
 use Rattle.actor_net.specs.Opening.{opening}
-use Rattle.two_machine.proofs.Tables.{System, Msg, Note, Node, Arrived, Processed, Low, High, Done, No_packet}
-use Rattle.two_machine.proofs.Tables.{Is_switch, Is_inst, node_step, node_ready, node_ended, first_nodes, items}
+use Rattle.two_machine.proofs.Tables.{System, Msg, Note, Node, Arrived, Processed, Low, High, Done, No_packet, Is_switch, Is_inst, node_step, node_ready}
+use Rattle.two_machine.proofs.Tables.{node_ended, first_nodes, items}
 use Rattle.two_machine.proofs.View.{read, arrived}
 
 -- how often a number stands in a list

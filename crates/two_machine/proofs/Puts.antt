@@ -1,12 +1,14 @@
 -- What a step of each node leaves of the world, link by link, is what the core's network leaves, with the labels of its messages; and the world after
 -- a message of a place was taken.
-use Rattle.std.proofs.Common.{◌≡◌, ℕ, zero, suc, List, [], ◌∷◌, ◌++◌, ap, ◌∙◌, append_assoc, append-nil}
+use Rattle.std.proofs.Common.{◌≡◌, true, false, refl, subst, ℕ, zero, suc, List, [], ◌∷◌, ◌++◌, ap, ◌∙◌, append_assoc, append-nil}
 use Rattle.std.specs.Prelude.{if◌then◌else◌, ◌==◌}
+use Rattle.std.proofs.lemmas.Bool.Decides.{Decides-eqb}
 use Rattle.actor_net.specs.Network.{links_after, after}
-use Rattle.two_machine.proofs.Tables.{System, Msg, Switch, Ctrl, Inst, Is_switch, Is_ctrl, Is_inst, Step, switch_step, inst_step, ctrl_step, as_node}
-use Rattle.two_machine.proofs.View.{World, net, read}
-use Rattle.two_machine.proofs.Labels.{IsSelected, OnSa, OnSb, OnSc, OnCs, OnCa, OnCb, OnAc, OnBc, OnBack, Label, Labels}
-use Rattle.two_machine.proofs.Places.{Place, In, Cs, Aw, Bw, Sc, Ac, Bc, Sa, Ca, Sb, Cb, waits}
+use Rattle.two_machine.proofs.Tables.{System, Msg, Switch, Ctrl, Inst, Is_switch, Is_ctrl, Is_inst, Step, switch_step, inst_step, ctrl_step, and_then}
+use Rattle.two_machine.proofs.Tables.{as_node}
+use Rattle.two_machine.proofs.View.{World, net, read, read-append}
+use Rattle.two_machine.proofs.Places.{Place, Ac, Bc, Ca, Cb, Cs, Sa, Sb, Sc, In, Aw, Bw, waits}
+use Rattle.two_machine.proofs.Labels.{IsSelected, OnBack, Label, Labels}
 use Rattle.actor_net.proofs.WeightLaws.{Each, each-append}
 
 -- what is sent to a node
@@ -16,30 +18,38 @@ to_one k x = if x.0 == k then x.1 ∷ [] else []
 abbrev pub sent : {M : Type 0} → ℕ → List (ℕ × M) → List M
 sent k xs = read (to_one k) xs
 
+each_sent : {M : Type 0} (P : ℕ → M → Type 0) (k : ℕ) (xs : List (ℕ × M)) → Each (λ x. P x.0 x.1) xs → Each (P k) (sent k xs)
+each_sent P k [] h = tt
+each_sent P k (x ∷ xs) h =
+    elim (x.0 == k) as (λ b. (x.0 == k) ≡ b → Each (P k) ((if b then x.1 ∷ [] else []) ++ sent k xs)) [
+      | true ↦ λ is. let same : x.0 ≡ k = (Decides-eqb x.0 k).0 is in (subst (λ y. P y x.1) same h.0, each_sent P k xs h.1)
+      | false ↦ λ _. each_sent P k xs h.1
+    ] refl
+
 module _ {U T C R O : Type 0} (S : System U T C R O) where
   -- what each node may send, by its receiver
   abbrev pub From_switch : ℕ → Msg C → Type 0
   From_switch zero m = ⊥
-  From_switch (suc zero) m = OnSc S m
-  From_switch (suc (suc zero)) m = OnSa S m
-  From_switch (suc (suc (suc zero))) m = OnSb S m
+  From_switch (suc zero) m = Label S Sc m
+  From_switch (suc (suc zero)) m = Label S Sa m
+  From_switch (suc (suc (suc zero))) m = Label S Sb m
   From_switch (suc (suc (suc (suc k)))) m = ⊥
 
   abbrev pub FromCtrl : ℕ → Msg C → Type 0
-  FromCtrl zero m = OnCs S m
+  FromCtrl zero m = Label S Cs m
   FromCtrl (suc zero) m = ⊥
-  FromCtrl (suc (suc zero)) m = OnCa S m
-  FromCtrl (suc (suc (suc zero))) m = OnCb S m
+  FromCtrl (suc (suc zero)) m = Label S Ca m
+  FromCtrl (suc (suc (suc zero))) m = Label S Cb m
   FromCtrl (suc (suc (suc (suc k)))) m = ⊥
 
   abbrev pub From_a : ℕ → Msg C → Type 0
   From_a zero m = OnBack S m
-  From_a (suc zero) m = OnAc S m
+  From_a (suc zero) m = Label S Ac m
   From_a (suc (suc k)) m = ⊥
 
   abbrev pub From_b : ℕ → Msg C → Type 0
   From_b zero m = OnBack S m
-  From_b (suc zero) m = OnBc S m
+  From_b (suc zero) m = Label S Bc m
   From_b (suc (suc k)) m = ⊥
 
   -- what a step leaves
@@ -56,6 +66,11 @@ module _ {U T C R O : Type 0} (S : System U T C R O) where
 
   abbrev pub put_b : World T C O → Step S (Inst T) → World T C O
   put_b v did = record v { b = did.node; bw = v.bw ++ sent 0 did.sends; bc = v.bc ++ sent 1 did.sends; log = v.log ++ did.notes }
+
+  -- two steps of the controller, one after the other
+  pub put_twice : (v : World T C O) (one : Step S (Ctrl C)) (next : Ctrl C → Step S (Ctrl C))
+      → put_ctrl v (and_then S one next) ≡ put_ctrl (put_ctrl v one) (next one.node)
+  put_twice v one next = simp (read-append, append_assoc)
 
   abbrev links : World T C O → List (List (Msg C))
   links v = (net v).links
@@ -108,43 +123,14 @@ module _ {U T C R O : Type 0} (S : System U T C R O) where
       → after (net v) 3 (as_node S (Is_inst 1) did) ≡ net (put_b v did)
   after_b v did h = ap (λ ls. record (net (put_b v did)) { links = ls }) (by_b v did.sends h)
 
-  -- labels of what is sent
-  each_switch : (xs : List (ℕ × Msg C)) → Each (λ x. From_switch x.0 x.1) xs
-      → Each (OnSc S) (sent 1 xs) × Each (OnSa S) (sent 2 xs) × Each (OnSb S) (sent 3 xs)
-  each_switch [] h = (tt, tt, tt)
-  each_switch ((zero, m) ∷ xs) h = absurd h.0
-  each_switch ((suc zero, m) ∷ xs) h = let r = each_switch xs h.1 in ((h.0, r.0), r.1, r.2)
-  each_switch ((suc (suc zero), m) ∷ xs) h = let r = each_switch xs h.1 in (r.0, (h.0, r.1), r.2)
-  each_switch ((suc (suc (suc zero)), m) ∷ xs) h = let r = each_switch xs h.1 in (r.0, r.1, (h.0, r.2))
-  each_switch ((suc (suc (suc (suc k))), m) ∷ xs) h = absurd h.0
-
-  each_ctrl : (xs : List (ℕ × Msg C)) → Each (λ x. FromCtrl x.0 x.1) xs → Each (OnCs S) (sent 0 xs) × Each (OnCa S) (sent 2 xs) × Each (OnCb S) (sent 3 xs)
-  each_ctrl [] h = (tt, tt, tt)
-  each_ctrl ((zero, m) ∷ xs) h = let r = each_ctrl xs h.1 in ((h.0, r.0), r.1, r.2)
-  each_ctrl ((suc zero, m) ∷ xs) h = absurd h.0
-  each_ctrl ((suc (suc zero), m) ∷ xs) h = let r = each_ctrl xs h.1 in (r.0, (h.0, r.1), r.2)
-  each_ctrl ((suc (suc (suc zero)), m) ∷ xs) h = let r = each_ctrl xs h.1 in (r.0, r.1, (h.0, r.2))
-  each_ctrl ((suc (suc (suc (suc k))), m) ∷ xs) h = absurd h.0
-
-  each_a : (xs : List (ℕ × Msg C)) → Each (λ x. From_a x.0 x.1) xs → Each (OnBack S) (sent 0 xs) × Each (OnAc S) (sent 1 xs)
-  each_a [] h = (tt, tt)
-  each_a ((zero, m) ∷ xs) h = let r = each_a xs h.1 in ((h.0, r.0), r.1)
-  each_a ((suc zero, m) ∷ xs) h = let r = each_a xs h.1 in (r.0, (h.0, r.1))
-  each_a ((suc (suc k), m) ∷ xs) h = absurd h.0
-
-  each_b : (xs : List (ℕ × Msg C)) → Each (λ x. From_b x.0 x.1) xs → Each (OnBack S) (sent 0 xs) × Each (OnBc S) (sent 1 xs)
-  each_b [] h = (tt, tt)
-  each_b ((zero, m) ∷ xs) h = let r = each_b xs h.1 in ((h.0, r.0), r.1)
-  each_b ((suc zero, m) ∷ xs) h = let r = each_b xs h.1 in (r.0, (h.0, r.1))
-  each_b ((suc (suc k), m) ∷ xs) h = absurd h.0
-
+  -- labels of what stands there then
   pub labels_switch : (v : World T C O) (did : Step S Switch) → Labels S v → Each (λ x. From_switch x.0 x.1) did.sends → Labels S (put_switch v did)
   labels_switch v did l h = record { standing = at; kept = l.kept }
     where
       at : (pl : Place) → Each (Label S pl) (waits S pl (put_switch v did))
-      at Sc = each-append (OnSc S) v.sc (sent 1 did.sends) (l.standing Sc) (each_switch did.sends h).0
-      at Sa = each-append (OnSa S) v.sa (sent 2 did.sends) (l.standing Sa) (each_switch did.sends h).1
-      at Sb = each-append (OnSb S) v.sb (sent 3 did.sends) (l.standing Sb) (each_switch did.sends h).2
+      at Sc = each-append (Label S Sc) v.sc (sent 1 did.sends) (l.standing Sc) (each_sent From_switch 1 did.sends h)
+      at Sa = each-append (Label S Sa) v.sa (sent 2 did.sends) (l.standing Sa) (each_sent From_switch 2 did.sends h)
+      at Sb = each-append (Label S Sb) v.sb (sent 3 did.sends) (l.standing Sb) (each_sent From_switch 3 did.sends h)
       at pl = l.standing pl
 
   pub labels_ctrl : (v : World T C O) (did : Step S (Ctrl C)) → Labels S v → IsSelected S did.node.kept → Each (λ x. FromCtrl x.0 x.1) did.sends
@@ -152,25 +138,25 @@ module _ {U T C R O : Type 0} (S : System U T C R O) where
   labels_ctrl v did l kept h = record { standing = at; kept = kept }
     where
       at : (pl : Place) → Each (Label S pl) (waits S pl (put_ctrl v did))
-      at Cs = each-append (OnCs S) v.cs (sent 0 did.sends) (l.standing Cs) (each_ctrl did.sends h).0
-      at Ca = each-append (OnCa S) v.ca (sent 2 did.sends) (l.standing Ca) (each_ctrl did.sends h).1
-      at Cb = each-append (OnCb S) v.cb (sent 3 did.sends) (l.standing Cb) (each_ctrl did.sends h).2
+      at Cs = each-append (Label S Cs) v.cs (sent 0 did.sends) (l.standing Cs) (each_sent FromCtrl 0 did.sends h)
+      at Ca = each-append (Label S Ca) v.ca (sent 2 did.sends) (l.standing Ca) (each_sent FromCtrl 2 did.sends h)
+      at Cb = each-append (Label S Cb) v.cb (sent 3 did.sends) (l.standing Cb) (each_sent FromCtrl 3 did.sends h)
       at pl = l.standing pl
 
   pub labels_a : (v : World T C O) (did : Step S (Inst T)) → Labels S v → Each (λ x. From_a x.0 x.1) did.sends → Labels S (put_a v did)
   labels_a v did l h = record { standing = at; kept = l.kept }
     where
       at : (pl : Place) → Each (Label S pl) (waits S pl (put_a v did))
-      at Aw = each-append (OnBack S) v.aw (sent 0 did.sends) (l.standing Aw) (each_a did.sends h).0
-      at Ac = each-append (OnAc S) v.ac (sent 1 did.sends) (l.standing Ac) (each_a did.sends h).1
+      at Aw = each-append (OnBack S) v.aw (sent 0 did.sends) (l.standing Aw) (each_sent From_a 0 did.sends h)
+      at Ac = each-append (Label S Ac) v.ac (sent 1 did.sends) (l.standing Ac) (each_sent From_a 1 did.sends h)
       at pl = l.standing pl
 
   pub labels_b : (v : World T C O) (did : Step S (Inst T)) → Labels S v → Each (λ x. From_b x.0 x.1) did.sends → Labels S (put_b v did)
   labels_b v did l h = record { standing = at; kept = l.kept }
     where
       at : (pl : Place) → Each (Label S pl) (waits S pl (put_b v did))
-      at Bw = each-append (OnBack S) v.bw (sent 0 did.sends) (l.standing Bw) (each_b did.sends h).0
-      at Bc = each-append (OnBc S) v.bc (sent 1 did.sends) (l.standing Bc) (each_b did.sends h).1
+      at Bw = each-append (OnBack S) v.bw (sent 0 did.sends) (l.standing Bw) (each_sent From_b 0 did.sends h)
+      at Bc = each-append (Label S Bc) v.bc (sent 1 did.sends) (l.standing Bc) (each_sent From_b 1 did.sends h)
       at pl = l.standing pl
 
   -- the world after its node took this message

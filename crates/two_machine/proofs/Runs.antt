@@ -1,6 +1,6 @@
 -- What holds of every world of a run, complete or not: each observer sees a stage, with the packets in order.
-use Rattle.std.proofs.Common.{◌≡◌, ◌<◌, ℕ, Bool, true, false, Option, Some, None, List, [], ◌∷◌}
-use Rattle.std.proofs.Common.{◌++◌, refl, sym, ap, subst, ◌∙◌, append_assoc, append-nil, arith}
+use Rattle.std.proofs.Common.{◌≡◌, ◌<◌, ℕ, suc, ◌+◌, length, Bool, true, false, Option, Some, None, List, [], ◌∷◌, ◌++◌, refl, sym, ap, subst, ◌∙◌}
+use Rattle.std.proofs.Common.{append_assoc, append-nil, arith}
 use Rattle.std.specs.Prelude.{if◌then◌else◌}
 use Rattle.actor_net.specs.declared.choice.Choice.{Choice}
 use Rattle.actor_net.specs.Network.{Network, is_enabled, world_next, run, IsRun}
@@ -19,6 +19,8 @@ use Rattle.two_machine.proofs.Arrivals.{coming, EndAt, In_input_still, On_link, 
 use Rattle.two_machine.proofs.TakenMessages.{finds, labels_less, kept_there, written, log_there, rule_there, left_in}
 use Rattle.two_machine.proofs.Shapes.{shape}
 use Rattle.actor_net.proofs.WeightLaws.{Each}
+use Rattle.two_machine.proofs.Closing.{Closing}
+use Rattle.two_machine.proofs.ClosingPlaces.{closing_keeps}
 use Rattle.two_machine.proofs.NextWorlds.{IsNext, next_is}
 
 module _ {U T C R O : Type 0} (S : System U T C R O) where
@@ -27,6 +29,7 @@ module _ {U T C R O : Type 0} (S : System U T C R O) where
     pub record Holds (v : World T C O) : Type 0 where
       pub labels : Labels S v
       pub end_at : EndAt v
+      pub closing : Closing S v
       pub arrivals_are : read arrived v.log ++ read coming v.input ≡ all
       pub stage : Stage
       pub fits : Fits stage
@@ -100,6 +103,7 @@ module _ {U T C R O : Type 0} (S : System U T C R O) where
         record {
           labels = (next_of pl two.0 two.1 knowing).labels;
           end_at = end_goes S pl v x rest two.0 ready kept h.end_at;
+          closing = closing_keeps S pl v x rest two.0 h.closing;
           arrivals_are =
               ap (λ xs. xs ++ read coming (result S pl (with_waits S pl rest v) x).input) came
               ∙ append_assoc (read arrived v.log) (comes pl x) (read coming (result S pl (with_waits S pl rest v) x).input)
@@ -121,12 +125,6 @@ module _ {U T C R O : Type 0} (S : System U T C R O) where
             → IsNext S (world_next (node_step S) (net (with_waits S pl (x ∷ rest) v)) (choice pl)) (result S pl (with_waits S pl rest v) x)
         next_of pl h l k = next_is S pl v x rest (rule_there S pl v (x ∷ rest) k.no_drop) h l
 
-    -- the same of the core's world
-    pub record Reached (w : Network (Node T C) (Msg C) (Note O)) : Type 0 where
-      pub world : World T C O
-      pub is : w ≡ net world
-      pub holds : Holds world
-
     pub next_equal : (pl : Place) (v : World T C O) (x : Msg C) (rest : List (Msg C)) → Holds (with_waits S pl (x ∷ rest) v)
         → world_next (node_step S) (net (with_waits S pl (x ∷ rest) v)) (choice pl) ≡ net (result S pl (with_waits S pl rest v) x)
     next_equal pl v x rest h =
@@ -134,24 +132,41 @@ module _ {U T C R O : Type 0} (S : System U T C R O) where
         let knowing = known (with_waits S pl (x ∷ rest) v) h in
         (next_is S pl v x rest (rule_there S pl v (x ∷ rest) knowing.no_drop) two.0 two.1).is
 
-    pub next_world : (pl : Place) (v : World T C O) (x : Msg C) (rest : List (Msg C)) → Ready S pl v x → Holds (with_waits S pl (x ∷ rest) v)
-        → Reached (world_next (node_step S) (net (with_waits S pl (x ∷ rest) v)) (choice pl))
-    next_world pl v x rest ready h = record { world = result S pl (with_waits S pl rest v) x; is = next_equal pl v x rest h; holds = keeps pl v x rest ready h }
+    -- the core's world after so many choices, and what holds of it besides
+    pub record Reached (Q : ℕ → World T C O → Type 0) (n : ℕ) (w : Network (Node T C) (Msg C) (Note O)) : Type 0 where
+      pub world : World T C O
+      pub is : w ≡ net world
+      pub holds : Holds world
+      pub more : Q n world
 
-    pub step_reaches : (v : World T C O) (c : Choice) → Holds v → is_enabled (node_ready S) (net v) c ≡ true → Reached (world_next (node_step S) (net v) c)
-    step_reaches v c h on =
-        let took = finds S v c.node c.port on in
-        let wrote = written S took.place v (took.message ∷ took.rest) took.waits_is in
-        let holds : Holds (with_waits S took.place (took.message ∷ took.rest) v) = subst Holds wrote h in
-        let next = next_world took.place v took.message took.rest took.ready holds in
-        let at : c ≡ choice took.place = took.is in
-        subst (λ y. Reached (world_next (node_step S) (net v) y)) (sym at)
-        (subst (λ y. Reached (world_next (node_step S) (net y) (choice took.place))) (sym wrote) next)
+    -- what holds besides goes on with each message that is taken
+    abbrev pub Keeps : (ℕ → World T C O → Type 0) → Type 0
+    Keeps Q = (n : ℕ) (pl : Place) (v : World T C O) (x : Msg C) (rest : List (Msg C)) → Ready S pl v x → Holds (with_waits S pl (x ∷ rest) v)
+        → Q n (with_waits S pl (x ∷ rest) v) → Q (suc n) (result S pl (with_waits S pl rest v) x)
 
-    pub reach : (cs : List Choice) (w : Network (Node T C) (Msg C) (Note O)) → Reached w → IsRun (node_ready S) (node_step S) cs w
-        → Reached (run (node_step S) cs w)
-    reach [] w r is = r
-    reach (c ∷ cs) w r is =
-        let here = r.is in
-        let on : is_enabled (node_ready S) (net r.world) c ≡ true = subst (λ y. is_enabled (node_ready S) y c ≡ true) here is.0 in
-        reach cs (world_next (node_step S) w c) (subst (λ y. Reached (world_next (node_step S) y c)) (sym here) (step_reaches r.world c r.holds on)) is.1
+    module _ (Q : ℕ → World T C O → Type 0) (goes : Keeps Q) where
+      pub step_reaches : (n : ℕ) (v : World T C O) (c : Choice) → Holds v → Q n v → is_enabled (node_ready S) (net v) c ≡ true
+          → Reached Q (suc n) (world_next (node_step S) (net v) c)
+      step_reaches n v c h q on =
+          let took = finds S v c.node c.port on in
+          let wrote = written S took.place v (took.message ∷ took.rest) took.waits_is in
+          let holds : Holds (with_waits S took.place (took.message ∷ took.rest) v) = subst Holds wrote h in
+          let more : Q n (with_waits S took.place (took.message ∷ took.rest) v) = subst (Q n) wrote q in
+          let at : c ≡ choice took.place = took.is in
+          subst (λ y. Reached Q (suc n) (world_next (node_step S) (net v) y)) (sym at)
+          (subst (λ y. Reached Q (suc n) (world_next (node_step S) (net y) (choice took.place))) (sym wrote) (record {
+            world = result S took.place (with_waits S took.place took.rest v) took.message;
+            is = next_equal took.place v took.message took.rest holds;
+            holds = keeps took.place v took.message took.rest took.ready holds;
+            more = goes n took.place v took.message took.rest took.ready holds more;
+          }))
+
+      pub reach : (cs : List Choice) (n : ℕ) (w : Network (Node T C) (Msg C) (Note O)) → Reached Q n w → IsRun (node_ready S) (node_step S) cs w
+          → Reached Q (length cs + n) (run (node_step S) cs w)
+      reach [] n w r is = let counts : n ≡ 0 + n = omega arith in subst (λ k. Reached Q k w) counts r
+      reach (c ∷ cs) n w r is =
+          let here = r.is in
+          let on : is_enabled (node_ready S) (net r.world) c ≡ true = subst (λ y. is_enabled (node_ready S) y c ≡ true) here is.0 in
+          let next = subst (λ y. Reached Q (suc n) (world_next (node_step S) y c)) (sym here) (step_reaches n r.world c r.holds r.more on) in
+          let counts : length cs + suc n ≡ suc (length cs) + n = omega arith in
+          subst (λ k. Reached Q k (run (node_step S) (c ∷ cs) w)) counts (reach cs (suc n) (world_next (node_step S) w c) next is.1)

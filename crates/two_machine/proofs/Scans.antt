@@ -1,9 +1,9 @@
 -- What the scan of a log tells: Low before High with a packet between them, and the verdict.
-use Rattle.std.proofs.Common.{◌≡◌, ℕ, Bool, true, false, Option, List, [], ◌∷◌, ◌++◌, refl, sym, ap, ◌∙◌, append-nil}
+use Rattle.std.proofs.Common.{◌≡◌, ℕ, Bool, true, false, List, [], ◌∷◌, ◌++◌, refl, sym, ap, ◌∙◌, append-nil}
 use Rattle.std.specs.Prelude.{if◌then◌else◌, ◌||◌}
 use Rattle.std.proofs.lemmas.Bool.{false≢true}
 use Rattle.two_machine.proofs.Machine.{Scan, No_low, Low_only, Low_came, High_laid, Is_done, Is_none, Wrong, Frame}
-use Rattle.two_machine.proofs.Stages.{Stage, Before, Storing, Passing, Turned, Ends, Turn, Low_goes, Low_comes, Waits, High_goes, No_packet_came, Last, Is_over}
+use Rattle.two_machine.proofs.Stages.{Stage, Passing, Ends, Low_comes, Waits, Is_over}
 use Rattle.two_machine.proofs.Tables.{System, Note, Arrived, Processed, Low, High, Done, No_packet}
 use Rattle.two_machine.proofs.View.{scan_note, scans, scans-append}
 use Rattle.two_machine.proofs.Promises.{after_low, has_come, verdicts}
@@ -152,21 +152,9 @@ since_right [] = refl
 since_right (p ∷ c) = refl
 
 module _ {R : Type 0} (f : Frame R) where
-  turn_right : (n : Turn) (d : List ℕ) (s : Option ℕ) (z x g e l : List ℕ) (t : Option ℕ) (c : List ℕ) (b : Bool)
-      → is_wrong (shape f (Passing n d s z x g e l t c b)).scan ≡ false
-  turn_right Low_goes d s z x g e l t c b = refl
-  turn_right Low_comes d s z x g e l t c b = since_right c
-  turn_right Waits d s z x g e l t c b = since_right c
-  turn_right High_goes d s z x g e l t c b = refl
-  turn_right No_packet_came d s z x g e l t c b = refl
-
-  last_right : (n : Last) (d : List ℕ) (s t : Option ℕ) (h y : List ℕ) (b : Bool) → is_wrong (shape f (Ends n d s t h y b)).scan ≡ false
-  last_right Is_over d s t h y b = refl
-  last_right n d s t h y b = refl
-
   pub scan_right : (s : Stage) → is_wrong (shape f s).scan ≡ false
-  scan_right (Before n d l b) = refl
-  scan_right (Storing n d g e l b) = refl
-  scan_right (Passing n d s z x g e l t c b) = turn_right n d s z x g e l t c b
-  scan_right (Turned n d s z x g e l t c h y b) = refl
-  scan_right (Ends n d s t h y b) = last_right n d s t h y b
+  scan_right (Passing Low_comes d s z x g e l t c b) = since_right c
+  scan_right (Passing Waits d s z x g e l t c b) = since_right c
+  scan_right (Passing n d s z x g e l t c b) = refl
+  scan_right (Ends Is_over d s t h y b) = refl
+  scan_right s = refl

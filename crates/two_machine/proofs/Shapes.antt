@@ -1,9 +1,9 @@
 -- The state of the machine at each stage (`shape`), and where a move from there leads.
 use Rattle.std.proofs.Common.{◌≡◌, ℕ, true, false, Option, None, List, [], ◌∷◌, ◌++◌}
-use Rattle.two_machine.proofs.Machine.{Rule, Free, Drops, Buffers, Target, To_a, To_both, To_b, Phase, Idle, Freezing, Getting, Deleting}
-use Rattle.two_machine.proofs.Machine.{Putting, Holding, Laying, Waiting, Turning, Settling, Ending, Over, Scan, No_low, Low_only}
-use Rattle.two_machine.proofs.Machine.{Low_came, High_laid, Is_done, Is_none, Item, Enable, Get, Delete, Restore, Fence, Enabled, Chunks}
-use Rattle.two_machine.proofs.Machine.{Deleted, Restored, Fenced, Lay, Laid, Copied, Frame, after, State, Move, Arrive, End_comes, moved}
+use Rattle.two_machine.proofs.Machine.{Rule, Free, Drops, Buffers, Target, To_a, To_both, To_b, Phase, Idle, Freezing, Getting, Deleting, Putting, Holding}
+use Rattle.two_machine.proofs.Machine.{Laying, Waiting, Turning, Settling, Ending, Over, Scan, No_low, Low_only, Low_came, High_laid, Is_done, Is_none, Item}
+use Rattle.two_machine.proofs.Machine.{Enable, Get, Delete, Restore, Fence, Enabled, Chunks, Deleted, Restored, Fenced, Lay, Laid, Copied, Frame, after}
+use Rattle.two_machine.proofs.Machine.{State, Move, Arrive, End_comes, moved}
 use Rattle.two_machine.proofs.Stages.{Early, Not_begun, Enable_goes, Part, Enabled_comes, Get_goes, Chunks_come, Delete_goes, Deleted_comes, Restore_goes}
 use Rattle.two_machine.proofs.Stages.{Restored_comes, Hold_goes, Held_comes, Turn, Low_goes, Low_comes, Waits, High_goes, No_packet_came, Late, High_comes}
 use Rattle.two_machine.proofs.Stages.{Settles, Last, Fence_goes, Fenced_comes, Is_over, Stage, Before, Storing, Passing, Turned, Ends, done, path, Fits}
@@ -274,6 +274,10 @@ pub record Leads {R : Type 0} (f : Frame R) (s : Stage) (x : State R) (ps : List
   pub fits : Fits next
   pub alike : x ≡ shape f next
   pub order : done next ++ path next ≡ (done s ++ path s) ++ ps
+
+pub to : {R : Type 0} {f : Frame R} {s : Stage} {x : State R} {ps : List ℕ} (next : Stage) → Fits next → x ≡ shape f next
+    → done next ++ path next ≡ (done s ++ path s) ++ ps → Leads f s x ps
+to next fits alike order = record { next = next; fits = fits; alike = alike; order = order }
 
 abbrev pub GoesOn : {R : Type 0} → Frame R → Stage → Move → Type 0
 GoesOn f s m = Leads f s (moved f (shape f s) m) (brings m)

@@ -3,8 +3,8 @@
 use Rattle.std.proofs.Common.{◌≡◌, ◌≢◌, ℕ, Bool, true, false, Option, None, List, [], ◌∷◌, ◌++◌, refl}
 use Rattle.std.specs.Prelude.{if◌then◌else◌}
 use Rattle.two_machine.proofs.Machine.{Drops, Item, Restore, Frame, State}
-use Rattle.two_machine.proofs.Stages.{Early, Not_begun, Enable_goes, Part, Restored_comes, Hold_goes, Held_comes}
-use Rattle.two_machine.proofs.Stages.{Last, Fence_goes, Stage, Before, Storing, Passing, Turned, Ends, path}
+use Rattle.two_machine.proofs.Stages.{Early, Not_begun, Restored_comes, Hold_goes, Held_comes, Fence_goes, Stage, Before, Storing, Passing, Turned, Ends}
+use Rattle.two_machine.proofs.Stages.{path}
 use Rattle.two_machine.proofs.View.{those}
 use Rattle.two_machine.proofs.Shapes.{shape}
 use Rattle.actor_net.proofs.WeightLaws.{Each}
@@ -35,53 +35,39 @@ pub record Knows {R : Type 0} (P : ℕ → Type 0) (x : State R) : Type 0 where
   pub empty : (r : Option R) (l : List (Item R)) → x.cb ≡ Restore r ∷ l → x.b.live ≡ None
 
 module _ {R : Type 0} (f : Frame R) (P : ℕ → Type 0) where
-  early_starts : (n : Early) (d l : List ℕ) (b : Bool) (i : ℕ) (k : List ℕ) → (shape f (Before n d l b)).starts ≡ i ∷ k → k ≡ []
-  early_starts Not_begun d l b i k e = cc
-  early_starts Enable_goes d l b i k e = cc
+  before_starts : (n : Early) (d l : List ℕ) (b : Bool) (i : ℕ) (k : List ℕ) → (shape f (Before n d l b)).starts ≡ i ∷ k → k ≡ []
+  before_starts Not_begun d l b i k e = cc
+  before_starts n d l b i k e = cc
 
-  part_drop : (n : Part) (d g e l : List ℕ) (b : Bool) → (shape f (Storing n d g e l b)).b.rule ≢ Drops
-  part_drop Held_comes d g e l b is = cc
-  part_drop n d g e l b is = cc
+  no_drop_there : (s : Stage) → (shape f s).b.rule ≢ Drops
+  no_drop_there (Storing Held_comes d g e l b) is = cc
+  no_drop_there (Ends Fence_goes d s t h y b) is = cc
+  no_drop_there s is = cc
 
-  part_empty : (n : Part) (d g e l : List ℕ) (b : Bool) (r : Option R) (k : List (Item R)) → (shape f (Storing n d g e l b)).cb ≡ Restore r ∷ k
-      → (shape f (Storing n d g e l b)).b.live ≡ None
-  part_empty Restored_comes d g e l b r k is = cc
-  part_empty Hold_goes d g e l b r k is = cc
-  part_empty Held_comes d g e l b r k is = cc
-  part_empty n d g e l b r k is = refl
+  empty_there : (s : Stage) (r : Option R) (k : List (Item R)) → (shape f s).cb ≡ Restore r ∷ k → (shape f s).b.live ≡ None
+  empty_there (Storing Restored_comes d g e l b) r k is = cc
+  empty_there (Storing Hold_goes d g e l b) r k is = cc
+  empty_there (Storing Held_comes d g e l b) r k is = cc
+  empty_there (Storing n d g e l b) r k is = refl
+  empty_there (Ends Fence_goes d s t h y b) r k is = cc
+  empty_there s r k is = cc
 
-  last_drop : (n : Last) (d : List ℕ) (s t : Option ℕ) (h y : List ℕ) (b : Bool) → (shape f (Ends n d s t h y b)).b.rule ≢ Drops
-  last_drop Fence_goes d s t h y b is = cc
-  last_drop n d s t h y b is = cc
-
-  last_empty : (n : Last) (d : List ℕ) (s t : Option ℕ) (h y : List ℕ) (b : Bool) (r : Option R) (k : List (Item R))
-      → (shape f (Ends n d s t h y b)).cb ≡ Restore r ∷ k → (shape f (Ends n d s t h y b)).b.live ≡ None
-  last_empty Fence_goes d s t h y b r k is = cc
-  last_empty n d s t h y b r k is = cc
-
-  pub knows : (s : Stage) → Each P (path s) → Knows P (shape f s)
-  knows (Before n d l b) h = record { no_drop = λ is. cc; plains = tt; passes = tt; held = tt; starts = early_starts n d l b; empty = λ r k is. cc }
-  knows (Storing n d g e l b) h =
-      record { no_drop = part_drop n d g e l b; plains = tt; passes = tt; held = tt; starts = λ i k is. cc; empty = part_empty n d g e l b }
-  knows (Passing n d s z x g e l t c b) h =
-      record { no_drop = λ is. cc; plains = tt; passes = each_front P x (g ++ (e ++ l)) h; held = tt; starts = λ i k is. cc; empty = λ r k is. cc }
-  knows (Turned n d s z x g e l t c h' y b) h =
+  -- the packets of a stage on the links and in B's hold
+  kept_there : (s : Stage) → Each P (path s) → Each P (shape f s).plains × Each P (shape f s).passes × Each P (shape f s).b.held
+  kept_there (Before n d l b) h = (tt, tt, tt)
+  kept_there (Storing n d g e l b) h = (tt, tt, tt)
+  kept_there (Passing n d s z x g e l t c b) h = (tt, each_front P x (g ++ (e ++ l)) h, tt)
+  kept_there (Turned n d s z x g e l t c h' y b) h =
       let first = each_front P (x ++ (g ++ (e ++ l))) (h' ++ y) h in
       let second = each_after P (x ++ (g ++ (e ++ l))) (h' ++ y) h in
-      record {
-        no_drop = λ is. cc;
-        plains = each_after P h' y second;
-        passes = each_front P x (g ++ (e ++ l)) first;
-        held = each_front P h' y second;
-        starts = λ i k is. cc;
-        empty = λ r k is. cc;
-      }
-  knows (Ends n d s t h' y b) h =
-      record {
-        no_drop = last_drop n d s t h' y b;
-        plains = each_after P h' y h;
-        passes = tt;
-        held = each_front P h' y h;
-        starts = λ i k is. cc;
-        empty = last_empty n d s t h' y b;
-      }
+      (each_after P h' y second, each_front P x (g ++ (e ++ l)) first, each_front P h' y second)
+  kept_there (Ends n d s t h' y b) h = (each_after P h' y h, tt, each_front P h' y h)
+
+  starts_there : (s : Stage) (i : ℕ) (k : List ℕ) → (shape f s).starts ≡ i ∷ k → k ≡ []
+  starts_there (Before n d l b) i k e = before_starts n d l b i k e
+  starts_there s i k e = cc
+
+  pub knows : (s : Stage) → Each P (path s) → Knows P (shape f s)
+  knows s h =
+      let kept = kept_there s h in
+      record { no_drop = no_drop_there s; plains = kept.0; passes = kept.1; held = kept.2; starts = starts_there s; empty = empty_there s }

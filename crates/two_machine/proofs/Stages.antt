@@ -54,6 +54,9 @@ pub record Copies : Type 0 where
   pub last : Option ℕ
   pub coming : List ℕ
 
+abbrev pub copying : Option ℕ → List ℕ → Copies
+copying t c = record { last = t; coming = c }
+
 -- d: processed; b: whether End came
 pub data Stage : Type 0 where
   Before : (n : Early) (d l : List ℕ) (b : Bool) → Stage
@@ -125,19 +128,18 @@ LastFits Fence_goes h = Unit {0}
 LastFits Fenced_comes h = h ≡ []
 LastFits Is_over h = h ≡ []
 
-pub record PassingFits (n : Turn) (d : List ℕ) (o : Old) (c : Copies) (b : Bool) : Type 0 where
+-- the old path with its copies, of which none comes after the end, and what the stage has of its own
+pub record PathFits (d : List ℕ) (o : Old) (c : Copies) (b : Bool) (Own : Type 0) : Type 0 where
   pub follows : Follows d o c
   pub none_after : b ≡ true → c.coming ≡ []
-  pub own : TurnFits n c b
+  pub own : Own
 
-pub record TurnedFits (n : Late) (d : List ℕ) (o : Old) (c : Copies) (b : Bool) : Type 0 where
-  pub follows : Follows d o c
-  pub none_after : b ≡ true → c.coming ≡ []
-  pub own : LateFits n o.seen c
+pub fit : {d : List ℕ} {o : Old} {c : Copies} {b : Bool} {Own : Type 0} → Follows d o c → (b ≡ true → c.coming ≡ []) → Own → PathFits d o c b Own
+fit follows none_after own = record { follows = follows; none_after = none_after; own = own }
 
 abbrev pub Fits : Stage → Type 0
 Fits (Before n d l b) = Unit {0}
 Fits (Storing n d f e l b) = Unit {0}
-Fits (Passing n d s z x g e l t c b) = PassingFits n d (old s z x g e l) (record { last = t; coming = c }) b
-Fits (Turned n d s z x g e l t c h y b) = TurnedFits n d (old s z x g e l) (record { last = t; coming = c }) b
+Fits (Passing n d s z x g e l t c b) = PathFits d (old s z x g e l) (copying t c) b (TurnFits n (copying t c) b)
+Fits (Turned n d s z x g e l t c h y b) = PathFits d (old s z x g e l) (copying t c) b (LateFits n s (copying t c))
 Fits (Ends n d s t h y b) = LastFits n h

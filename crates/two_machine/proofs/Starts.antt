@@ -1,18 +1,18 @@
 -- The world at the start, and every run from there.
-use Rattle.std.proofs.Common.{◌≡◌, ℕ, false, None, List, [], ◌∷◌, ◌++◌, refl, ap}
+use Rattle.std.proofs.Common.{◌≡◌, ℕ, ◌+◌, length, false, None, List, [], ◌∷◌, ◌++◌, refl, ap}
 use Rattle.actor_net.specs.declared.choice.Choice.{Choice}
 use Rattle.actor_net.specs.Network.{run, IsRun}
 use Rattle.actor_net.specs.Opening.{opening}
 use Rattle.two_machine.proofs.Machine as m
-use Rattle.two_machine.proofs.Machine.{Drops, Move, Arrive, End_comes, State, moved}
 use Rattle.two_machine.proofs.Stages.{Before, Not_begun, Rises}
 use Rattle.two_machine.proofs.Tables.{System, Laws, In_end, none, node_step, node_ready, in_packets, fresh, first_nodes, items}
 use Rattle.two_machine.proofs.View.{World, net, read, starts, Observer, Nobody, Of_unit, IsTaken, own}
 use Rattle.two_machine.proofs.Places.{Place, In, waits}
-use Rattle.two_machine.proofs.Labels.{InInput, Label}
+use Rattle.two_machine.proofs.Labels.{Label}
 use Rattle.two_machine.proofs.ControllerSees.{inside_none}
 use Rattle.two_machine.proofs.Arrivals.{coming, EndsLast, In_input_still}
-use Rattle.two_machine.proofs.Runs.{Holds, Reached, reach}
+use Rattle.two_machine.proofs.Runs.{Holds, Reached, Keeps, reach}
+use Rattle.two_machine.proofs.Closing.{Unsent}
 use Rattle.actor_net.proofs.WeightLaws.{Each}
 
 -- the world at the start
@@ -48,11 +48,11 @@ module _ {U T C R O : Type 0} (S : System U T C R O) where
   all_last [] late = late_last late
   all_last (p ∷ early) late = all_last early late
 
-  late_label : (ps : List ℕ) → Each (InInput S) (in_packets S ps ++ In_end ∷ [])
+  late_label : (ps : List ℕ) → Each (Label S In) (in_packets S ps ++ In_end ∷ [])
   late_label [] = (tt, tt)
   late_label (p ∷ ps) = (tt, late_label ps)
 
-  all_label : (early late : List ℕ) → Each (InInput S) (items S early late)
+  all_label : (early late : List ℕ) → Each (Label S In) (items S early late)
   all_label [] late = (tt, late_label late)
   all_label (p ∷ early) late = (tt, all_label early late)
 
@@ -85,6 +85,7 @@ module _ {U T C R O : Type 0} (S : System U T C R O) where
         record {
           labels = record { standing = first_label; kept = (S.empty, refl) };
           end_at = In_input_still (all_last early late) tt refl;
+          closing = record { at = Unsent; is = refl };
           arrivals_are = all_coming early late;
           stage = Before Not_begun [] [] false;
           fits = tt;
@@ -97,8 +98,9 @@ module _ {U T C R O : Type 0} (S : System U T C R O) where
         first_label pl = tt
 
     -- every run
-    pub every_run : (cs : List Choice) → IsRun (node_ready S) (node_step S) cs (opening (first_nodes S window) (items S early late))
-        → Reached S laws o its (early ++ late) rises (run (node_step S) cs (opening (first_nodes S window) (items S early late)))
-    every_run cs is =
-        reach S laws o its (early ++ late) rises cs (opening (first_nodes S window) (items S early late))
-        (record { world = first_world window early late; is = opens window early late; holds = first_holds }) is
+    pub every_run : (Q : ℕ → World T C O → Type 0) → Keeps S laws o its (early ++ late) rises Q → Q 0 (first_world window early late) → (cs : List Choice)
+        → IsRun (node_ready S) (node_step S) cs (opening (first_nodes S window) (items S early late))
+        → Reached S laws o its (early ++ late) rises Q (length cs + 0) (run (node_step S) cs (opening (first_nodes S window) (items S early late)))
+    every_run Q goes first cs is =
+        reach S laws o its (early ++ late) rises Q goes cs 0 (opening (first_nodes S window) (items S early late))
+        (record { world = first_world window early late; is = opens window early late; holds = first_holds; more = first }) is

@@ -1,16 +1,16 @@
 -- Each node sends what its links have, whatever message of its own it takes.
 use Rattle.std.proofs.Common.{◌≡◌, ◌≢◌, ℕ, Bool, true, false, List, [], ◌∷◌, refl, ◌∙◌}
-use Rattle.std.specs.Prelude.{if◌then◌else◌, ◌==◌, ◌&&◌, not}
-use Rattle.two_machine.proofs.Machine.{Rule, Free, Drops, Buffers, Target, To_a, To_both, To_b, Phase, Idle, Freezing, Getting}
-use Rattle.two_machine.proofs.Machine.{Deleting, Putting, Holding, Laying, Waiting, Turning, Settling, Ending, Over, same}
-use Rattle.two_machine.proofs.Tables
-use Rattle.two_machine.proofs.Tables.{System, Msg, Note, Switch, Ctrl, Inst, Step, In_packet, In_start, In_end, Start, End, Copied, Laid}
-use Rattle.two_machine.proofs.Tables.{Forward, Lay, Finish, Carry, Pass, Stop, Enable, Get, Delete, Restore, Fence, Enabled, Chunks, Deleted}
-use Rattle.two_machine.proofs.Tables.{Restored, Event, Seen, Fenced, Final, Credit, none, has_room, goes, switch_step, processed, all_processed}
-use Rattle.two_machine.proofs.Tables.{ruled, inst_step, on_start, on_enabled, on_chunks, on_deleted, on_restored, on_event, on_laid, on_copied}
-use Rattle.two_machine.proofs.Tables.{on_fenced, on_final, forwards, ctrl_row, and_then, soon_at, is_over, finishes, soon, ctrl_step, node_step}
+use Rattle.std.specs.Prelude.{if◌then◌else◌, ◌==◌}
+use Rattle.two_machine.proofs.Machine.{Free, Drops, Target, To_a, To_both, To_b}
+use Rattle.two_machine.proofs.Tables.{System, Msg, Switch, Ctrl, Inst, Step, In_packet, In_start, In_end, Forward, Lay, Finish, Carry, Pass, Stop, Enable}
+use Rattle.two_machine.proofs.Tables.{Get, Delete, Restore, Fence, Chunks, Fenced, has_room, goes, switch_step, processed, all_processed, inst_step, forwards}
+use Rattle.two_machine.proofs.Tables.{ctrl_row, and_then, soon_at, finishes, soon, ctrl_step}
 use Rattle.two_machine.proofs.View.{read, read-append, arrived, ran}
-use Rattle.two_machine.proofs.Labels.{IsSelected, OnSa, OnSb, OnSc, OnCa, OnCb, OnAc, OnBc}
+use Rattle.two_machine.proofs.Places.{Place, Ca, Cb, Sa, Sb, Ac, choice}
+use Rattle.two_machine.proofs.Labels.{IsSelected, Label}
+use Rattle.two_machine.proofs.Rows.{Kind, Ended, Has, kind, Row, Stays, Passes_over, Freezes, Gets, Deletes, Restores, Holds, Lays_low, Waits, Lays_high}
+use Rattle.two_machine.proofs.Rows.{Copies, Settles, Fences, Is_over, None_came, Stores, Forwards, Sees, Hears_end, Hears_a, Hears_b, Finishes, Not_yet, Asks}
+use Rattle.two_machine.proofs.Rows.{row, soon_row, finish_row, Carried, Runs, Hands_out, Held, carried}
 use Rattle.two_machine.proofs.Puts.{From_switch, FromCtrl, From_a, From_b}
 use Rattle.actor_net.proofs.WeightLaws.{Each, each-append}
 
@@ -45,42 +45,34 @@ module _ {U T C R O : Type 0} (S : System U T C R O) where
   all_back n i [] = tt
   all_back n i (p ∷ ps) = (tt, all_back n (processed S n i p).node ps)
 
-  ruled_a : (r : Rule) (i : Inst T) (p : ℕ) → Each (λ x. From_a S x.0 x.1) (ruled S r 0 i p).sends
-  ruled_a Free i p = (tt, tt)
-  ruled_a Drops i p = (tt, tt)
-  ruled_a Buffers i p = tt
+  carry_a : {i : Inst T} {p : ℕ} {did : Step S (Inst T)} → Carried S 0 i p did → Each (λ x. From_a S x.0 x.1) did.sends
+  carry_a (Held covers) = tt
+  carry_a (Runs free) = (tt, tt)
+  carry_a (Hands_out drops covers) = (tt, tt)
 
-  ruled_b : (r : Rule) (i : Inst T) (p : ℕ) → r ≢ Drops → Each (λ x. From_b S x.0 x.1) (ruled S r 1 i p).sends
-  ruled_b Free i p h = (tt, tt)
-  ruled_b Drops i p h = absurd (h refl)
-  ruled_b Buffers i p h = tt
+  carry_b : {i : Inst T} {p : ℕ} {did : Step S (Inst T)} → i.rule ≢ Drops → Carried S 1 i p did → Each (λ x. From_b S x.0 x.1) did.sends
+  carry_b no_drop (Runs free) = (tt, tt)
+  carry_b no_drop (Hands_out drops covers) = absurd (no_drop drops)
+  carry_b no_drop (Held covers) = tt
 
-  pub sa_ok : (i : Inst T) (m : Msg C) → OnSa S m → Each (λ x. From_a S x.0 x.1) (inst_step S 0 i m).sends
-  sa_ok i (Carry p) h =
-      elim (S.covers p) as (λ b. Each (λ x. From_a S x.0 x.1) (if b then ruled S i.rule 0 i p else processed S 0 i p).sends) [
-        | true ↦ ruled_a i.rule i p
-        | false ↦ (tt, tt)
-      ]
+  pub sa_ok : (i : Inst T) (m : Msg C) → Label S Sa m → Each (λ x. From_a S x.0 x.1) (inst_step S 0 i m).sends
+  sa_ok i (Carry p) h = carry_a (carried S 0 i p)
   sa_ok i Stop h = (tt, tt)
   sa_ok i m h = absurd h
 
-  pub ca_ok : (i : Inst T) (m : Msg C) → OnCa S m → Each (λ x. From_a S x.0 x.1) (inst_step S 0 i m).sends
+  pub ca_ok : (i : Inst T) (m : Msg C) → Label S Ca m → Each (λ x. From_a S x.0 x.1) (inst_step S 0 i m).sends
   ca_ok i (Enable r) h = (tt, tt)
   ca_ok i Get h = ((i.table, refl), tt)
   ca_ok i (Delete c) h = (tt, tt)
   ca_ok i m h = absurd h
 
-  pub sb_ok : (i : Inst T) (m : Msg C) → i.rule ≢ Drops → OnSb S m → Each (λ x. From_b S x.0 x.1) (inst_step S 1 i m).sends
-  sb_ok i (Carry p) no_drop h =
-      elim (S.covers p) as (λ b. Each (λ x. From_b S x.0 x.1) (if b then ruled S i.rule 1 i p else processed S 1 i p).sends) [
-        | true ↦ ruled_b i.rule i p no_drop
-        | false ↦ (tt, tt)
-      ]
+  pub sb_ok : (i : Inst T) (m : Msg C) → i.rule ≢ Drops → Label S Sb m → Each (λ x. From_b S x.0 x.1) (inst_step S 1 i m).sends
+  sb_ok i (Carry p) no_drop h = carry_b no_drop (carried S 1 i p)
   sb_ok i (Pass p) no_drop h = (tt, (tt, tt))
   sb_ok i Stop no_drop h = (tt, tt)
   sb_ok i m no_drop h = absurd h
 
-  pub cb_ok : (i : Inst T) (m : Msg C) → OnCb S m → Each (λ x. From_b S x.0 x.1) (inst_step S 1 i m).sends
+  pub cb_ok : (i : Inst T) (m : Msg C) → Label S Cb m → Each (λ x. From_b S x.0 x.1) (inst_step S 1 i m).sends
   cb_ok i (Enable r) h = (tt, tt)
   cb_ok i (Restore c) h = (tt, tt)
   cb_ok i Fence h =
@@ -106,152 +98,61 @@ module _ {U T C R O : Type 0} (S : System U T C R O) where
     unrun = let first = h.unrun in let second = k.unrun in read-append ran one.notes (next one.node).notes ∙ rw (first, second) refl;
   }
 
-  soon_at_ok : (ph : Phase) (c : Ctrl C) → IsSelected S c.kept → CtrlOk c.ended (soon_at S ph c)
-  soon_at_ok Settling c k =
-      elim (same c.seen c.last) as (λ b.
-      CtrlOk c.ended
-      (if b then record { node = record c { phase = Ending }; sends = (3, Fence) ∷ []; notes = [] }
-      else record { node = c; sends = []; notes = [] })) [
-        | true ↦ record { sends = (tt, tt); kept = k; ended = refl; quiet = refl; unrun = refl }
-        | false ↦ record { sends = tt; kept = k; ended = refl; quiet = refl; unrun = refl }
-      ]
-  soon_at_ok Waiting c k =
-      elim c.ended as (λ b.
-      CtrlOk c.ended
-      (if b then record { node = record c { phase = Over }; sends = []; notes = Tables.No_packet ∷ [] }
-      else record { node = c; sends = []; notes = [] })) [
-        | true ↦ record { sends = tt; kept = k; ended = refl; quiet = refl; unrun = refl }
-        | false ↦ record { sends = tt; kept = k; ended = refl; quiet = refl; unrun = refl }
-      ]
-  soon_at_ok ph c k = record { sends = tt; kept = k; ended = refl; quiet = refl; unrun = refl }
-
-  finishes_ok : (c : Ctrl C) → IsSelected S c.kept → CtrlOk c.ended (finishes S c)
-  finishes_ok c k =
-      elim (is_over S c.phase && (c.ended && not c.finished)) as (λ b.
-      CtrlOk c.ended
-      (if b then record { node = record c { finished = true }; sends = (0, Finish 0) ∷ []; notes = [] }
-      else record { node = c; sends = []; notes = [] })) [
-        | true ↦ record { sends = (tt, tt); kept = k; ended = refl; quiet = refl; unrun = refl }
-        | false ↦ record { sends = tt; kept = k; ended = refl; quiet = refl; unrun = refl }
-      ]
-
-  soon_ok : (c : Ctrl C) → IsSelected S c.kept → CtrlOk c.ended (soon S c)
-  soon_ok c k =
-      let first = soon_at_ok c.phase c k in
-      then_ok c.ended (soon_at S c.phase c) (finishes S) first (finishes_ok (soon_at S c.phase c).node first.kept)
-
-  still_ok : (c : Ctrl C) → IsSelected S c.kept → CtrlOk c.ended (record { node = c; sends = []; notes = [] })
-  still_ok c k = record { sends = tt; kept = k; ended = refl; quiet = refl; unrun = refl }
-
   forwards_ok : (ps : List ℕ) → Each (λ x. FromCtrl S x.0 x.1) (forwards S ps)
   forwards_ok [] = tt
   forwards_ok (p ∷ ps) = (tt, forwards_ok ps)
 
-  start_ok : (ph : Phase) (c : Ctrl C) → IsSelected S c.kept → CtrlOk c.ended (on_start S ph c)
-  start_ok Idle c k = record { sends = (tt, tt); kept = k; ended = refl; quiet = refl; unrun = refl }
-  start_ok ph c k = still_ok c k
+  abbrev pub GivesChunks : Kind C → Type 0
+  GivesChunks (Has c) = IsSelected S c
+  GivesChunks k = Unit {0}
 
-  enabled_ok : (ph : Phase) (c : Ctrl C) → IsSelected S c.kept → CtrlOk c.ended (on_enabled S ph c)
-  enabled_ok Freezing c k = record { sends = (tt, tt); kept = k; ended = refl; quiet = refl; unrun = refl }
-  enabled_ok Holding c k =
-      record {
-        sends = each-append (λ x. FromCtrl S x.0 x.1) (forwards S c.store) ((0, Lay false) ∷ []) (forwards_ok c.store) (tt, tt);
-        kept = k;
-        ended = refl;
-        quiet = refl;
-        unrun = refl;
-      }
-  enabled_ok ph c k = still_ok c k
+  abbrev pub ended_by : Kind C → Ctrl C → Bool
+  ended_by Ended c = true
+  ended_by k c = c.ended
 
-  chunks_ok : (ph : Phase) (c : Ctrl C) (cs : C) → IsSelected S c.kept → IsSelected S cs → CtrlOk c.ended (on_chunks S ph c cs)
-  chunks_ok Getting c cs k h = record { sends = (h, tt); kept = h; ended = refl; quiet = refl; unrun = refl }
-  chunks_ok ph c cs k h = still_ok c k
+  ok : {e : Bool} {did : Step S (Ctrl C)} → Each (λ x. FromCtrl S x.0 x.1) did.sends → IsSelected S did.node.kept → did.node.ended ≡ e
+      → read arrived did.notes ≡ [] → read ran did.notes ≡ [] → CtrlOk e did
+  ok sends kept ended quiet unrun = record { sends = sends; kept = kept; ended = ended; quiet = quiet; unrun = unrun }
 
-  deleted_ok : (ph : Phase) (c : Ctrl C) → IsSelected S c.kept → CtrlOk c.ended (on_deleted S ph c)
-  deleted_ok Deleting c k = record { sends = (k, tt); kept = (S.empty, refl); ended = refl; quiet = refl; unrun = refl }
-  deleted_ok ph c k = still_ok c k
+  row_ok : {c : Ctrl C} {k : Kind C} {did : Step S (Ctrl C)} → IsSelected S c.kept → GivesChunks k → Row S c k did → CtrlOk (ended_by k c) did
+  row_ok kept h Stays = ok tt kept refl refl refl
+  row_ok kept h (Passes_over cs) = ok tt kept refl refl refl
+  row_ok kept h (Freezes e) = ok (tt, tt) kept refl refl refl
+  row_ok kept h (Gets e) = ok (tt, tt) kept refl refl refl
+  row_ok kept h (Deletes cs e) = ok (h, tt) h refl refl refl
+  row_ok kept h (Restores e) = ok (kept, tt) (S.empty, refl) refl refl refl
+  row_ok kept h (Holds e) = ok (tt, tt) kept refl refl refl
+  row_ok {c} kept h (Lays_low e) =
+      ok (each-append (λ x. FromCtrl S x.0 x.1) (forwards S c.store) ((0, Lay false) ∷ []) (forwards_ok c.store) (tt, tt)) kept refl refl refl
+  row_ok kept h (Waits e) = ok tt kept refl refl refl
+  row_ok kept h (Lays_high p e) = ok (tt, tt) kept refl refl refl
+  row_ok kept h (Copies p) = ok tt kept refl refl refl
+  row_ok kept h (Settles e) = ok tt kept refl refl refl
+  row_ok kept h (Fences e) = ok (tt, tt) kept refl refl refl
+  row_ok kept h (Is_over e) = ok tt kept refl refl refl
+  row_ok kept h (None_came e) = ok tt kept refl refl refl
+  row_ok kept h (Stores p) = ok tt kept refl refl refl
+  row_ok kept h (Forwards p) = ok (tt, tt) kept refl refl refl
+  row_ok kept h (Sees p) = ok tt kept refl refl refl
+  row_ok kept h Hears_end = ok tt kept refl refl refl
+  row_ok kept h Hears_a = ok (tt, tt) kept refl refl refl
+  row_ok kept h Hears_b = ok tt kept refl refl refl
 
-  restored_ok : (ph : Phase) (c : Ctrl C) → IsSelected S c.kept → CtrlOk c.ended (on_restored S ph c)
-  restored_ok Putting c k = record { sends = (tt, tt); kept = k; ended = refl; quiet = refl; unrun = refl }
-  restored_ok ph c k = still_ok c k
+  finish_ok : {c : Ctrl C} {did : Step S (Ctrl C)} → IsSelected S c.kept → Finishes S c did → CtrlOk c.ended did
+  finish_ok kept (Not_yet e) = ok tt kept refl refl refl
+  finish_ok kept (Asks e over) = ok (tt, tt) kept refl refl refl
 
-  event_ok : (ph : Phase) (c : Ctrl C) (p : ℕ) → IsSelected S c.kept → CtrlOk c.ended (on_event S ph c p)
-  event_ok Laying c p k = record { sends = (tt, tt); kept = k; ended = refl; quiet = refl; unrun = refl }
-  event_ok Waiting c p k = record { sends = (tt, tt); kept = k; ended = refl; quiet = refl; unrun = refl }
-  event_ok Turning c p k = record { sends = (tt, tt); kept = k; ended = refl; quiet = refl; unrun = refl }
-  event_ok Settling c p k = record { sends = (tt, tt); kept = k; ended = refl; quiet = refl; unrun = refl }
-  event_ok Ending c p k = record { sends = (tt, tt); kept = k; ended = refl; quiet = refl; unrun = refl }
-  event_ok Over c p k = record { sends = (tt, tt); kept = k; ended = refl; quiet = refl; unrun = refl }
-  event_ok ph c p k = record { sends = tt; kept = k; ended = refl; quiet = refl; unrun = refl }
-
-  laid_ok : (ph : Phase) (high : Bool) (c : Ctrl C) → IsSelected S c.kept → CtrlOk c.ended (on_laid S ph high c)
-  laid_ok Laying false c k = record { sends = tt; kept = k; ended = refl; quiet = refl; unrun = refl }
-  laid_ok Turning true c k = record { sends = tt; kept = k; ended = refl; quiet = refl; unrun = refl }
-  laid_ok ph high c k = still_ok c k
-
-  copied_ok : (ph : Phase) (c : Ctrl C) (p : ℕ) → IsSelected S c.kept → CtrlOk c.ended (on_copied S ph c p)
-  copied_ok Waiting c p k = record { sends = (tt, tt); kept = k; ended = refl; quiet = refl; unrun = refl }
-  copied_ok Turning c p k = record { sends = tt; kept = k; ended = refl; quiet = refl; unrun = refl }
-  copied_ok ph c p k = still_ok c k
-
-  fenced_ok : (ph : Phase) (c : Ctrl C) → IsSelected S c.kept → CtrlOk c.ended (on_fenced S ph c)
-  fenced_ok Ending c k = record { sends = tt; kept = k; ended = refl; quiet = refl; unrun = refl }
-  fenced_ok ph c k = still_ok c k
-
-  abbrev pub GivesChunks : Msg C → Type 0
-  GivesChunks (Chunks c) = IsSelected S c
-  GivesChunks m = Unit {0}
-
-  abbrev pub ended_by : Msg C → Ctrl C → Bool
-  ended_by End c = true
-  ended_by m c = c.ended
-
-  row_ok : (c : Ctrl C) (port : ℕ) (m : Msg C) → IsSelected S c.kept → GivesChunks m → CtrlOk (ended_by m c) (ctrl_row S c port m)
-  row_ok c port Start k h = start_ok c.phase c k
-  row_ok c port End k h = record { sends = tt; kept = k; ended = refl; quiet = refl; unrun = refl }
-  row_ok c port (Copied p) k h = copied_ok c.phase c p k
-  row_ok c port (Laid high) k h = laid_ok c.phase high c k
-  row_ok c port Enabled k h = enabled_ok c.phase c k
-  row_ok c port (Chunks cs) k h = chunks_ok c.phase c cs k h
-  row_ok c port Deleted k h = deleted_ok c.phase c k
-  row_ok c port Restored k h = restored_ok c.phase c k
-  row_ok c port (Event p) k h = event_ok c.phase c p k
-  row_ok c port (Seen p) k h = record { sends = tt; kept = k; ended = refl; quiet = refl; unrun = refl }
-  row_ok c port Fenced k h = fenced_ok c.phase c k
-  row_ok c port Final k h = by (port == 2)
-    where
-      by : (b : Bool)
-          → CtrlOk c.ended
-          (if b then record { node = c; sends = (0, Finish 1) ∷ []; notes = [] }
-          else record { node = record c { stopped = true }; sends = []; notes = [] })
-      by true = record { sends = (tt, tt); kept = k; ended = refl; quiet = refl; unrun = refl }
-      by false = record { sends = tt; kept = k; ended = refl; quiet = refl; unrun = refl }
-  row_ok c port m k h = still_ok c k
-
-  pub ctrl_ok : (c : Ctrl C) (port : ℕ) (m : Msg C) → IsSelected S c.kept → GivesChunks m → CtrlOk (ended_by m c) (ctrl_step S c port m)
+  pub ctrl_ok : (c : Ctrl C) (port : ℕ) (m : Msg C) → IsSelected S c.kept → GivesChunks (kind port m) → CtrlOk (ended_by (kind port m) c) (ctrl_step S c port m)
   ctrl_ok c port m k h =
-      let row = row_ok c port m k h in
-      then_ok (ended_by m c) (ctrl_row S c port m) (soon S) row (soon_ok (ctrl_row S c port m).node row.kept)
+      let first = ctrl_row S c port m in
+      let next = soon_at S first.node.phase first.node in
+      let one = row_ok k h (row S c port m) in
+      let two = row_ok one.kept tt (soon_row S first.node first.node.phase refl) in
+      then_ok (ended_by (kind port m) c) first (soon S) one
+      (then_ok first.node.ended next (finishes S) two (finish_ok two.kept (finish_row S next.node)))
 
-  pub gives_ac : (m : Msg C) → OnAc S m → GivesChunks m
-  gives_ac (Chunks c) h = h
-  gives_ac Enabled h = tt
-  gives_ac Deleted h = tt
-  gives_ac (Event p) h = tt
-  gives_ac Final h = tt
-  gives_ac m h = absurd h
-
-  pub gives_bc : (m : Msg C) → OnBc S m → GivesChunks m
-  gives_bc Restored h = tt
-  gives_bc Enabled h = tt
-  gives_bc Fenced h = tt
-  gives_bc (Seen p) h = tt
-  gives_bc Final h = tt
-  gives_bc m h = absurd h
-
-  pub gives_sc : (m : Msg C) → OnSc S m → GivesChunks m
-  gives_sc Start h = tt
-  gives_sc End h = tt
-  gives_sc (Copied p) h = tt
-  gives_sc (Laid high) h = tt
-  gives_sc m h = absurd h
+  -- chunks come from A alone
+  pub gives : (pl : Place) (m : Msg C) → Label S pl m → GivesChunks (kind (choice pl).port m)
+  gives Ac (Chunks c) h = h
+  gives pl (Chunks c) h = absurd h
+  gives pl m h = tt

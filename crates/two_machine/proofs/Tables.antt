@@ -3,8 +3,8 @@
 use Rattle.std.proofs.Common.{◌≡◌, ℕ, ◌+◌, ◌-◌, Bool, true, false, Option, Some, None, List, [], ◌∷◌, ◌++◌}
 use Rattle.std.specs.Prelude.{if◌then◌else◌, ◌==◌, ◌&&◌, not, nat_lt, is_some}
 use Rattle.actor_net.specs.Network.{Stepped}
-use Rattle.two_machine.proofs.Machine.{Rule, Free, Drops, Buffers, Target, To_a, To_both, To_b, Phase, Idle, Freezing, Getting}
-use Rattle.two_machine.proofs.Machine.{Deleting, Putting, Holding, Laying, Waiting, Turning, Settling, Ending, Over, same, laid}
+use Rattle.two_machine.proofs.Machine.{Rule, Free, Drops, Buffers, Target, To_a, To_both, To_b, Phase, Idle, Freezing, Getting, Deleting, Putting, Holding}
+use Rattle.two_machine.proofs.Machine.{Laying, Waiting, Turning, Settling, Ending, Over, same, laid}
 
 -- what an instance is made of: units U, tables T, chunks C, records R, outputs O
 pub record System (U T C R O : Type 0) : Type 0 where

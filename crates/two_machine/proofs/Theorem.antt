@@ -17,7 +17,7 @@ module _ {U T C R O : Type 0} (S : System U T C R O) (laws : Laws S) (window : â
     every = every S laws window early late rises cs w leads;
     ends =
         record {
-          short = let less = bound S laws window early late rises cs w leads in omega (arith, less);
+          short = let less = bound S laws window early late rises cs leads.is_run in omega (arith, less);
           goes_on = never_stuck S laws window early late some rises cs w leads;
           window_is = window_stays S laws window early late some rises cs w leads;
         };

@@ -1,17 +1,16 @@
 -- What is seen of the message that is taken, at each place: a move of the machine, or nothing.
 use Rattle.std.proofs.Common.{◌≡◌, ℕ, Bool, true, false, Option, Some, None, List, [], ◌∷◌, ◌++◌, refl, ◌∙◌}
-use Rattle.two_machine.proofs.Machine as m
-use Rattle.two_machine.proofs.Machine.{Rule, Free, Drops, Buffers, Target, To_a, Item, State, Frame, Move, Begin, End_comes, Arrive, Take_sa, Take_pass}
-use Rattle.two_machine.proofs.Machine.{Take_plain, Take_sc, Take_forward, Take_cs, Take_ca, Take_cb, Take_event, Take_ac, Take_seen, Take_bc, Idles, moved}
+use Rattle.two_machine.proofs.Machine.{State, Frame, Move, Begin, End_comes, Arrive, Take_sa, Take_pass, Take_plain, Take_sc, Take_forward, Take_cs, Take_ca}
+use Rattle.two_machine.proofs.Machine.{Take_cb, Take_event, Take_ac, Take_seen, Take_bc, Idles, moved}
 use Rattle.two_machine.proofs.Laws.{append_nil_left, append_nil_right}
 use Rattle.two_machine.proofs.Tables.{System, Laws, Msg, In_packet, In_start, In_end, Start, End, Copied, Laid, Forward, Lay, Finish, Carry, Pass, Stop}
 use Rattle.two_machine.proofs.Tables.{Enable, Get, Delete, Restore, Fence, Enabled, Chunks, Deleted, Restored, Event, Seen, Fenced, Final, Credit, has_room}
 use Rattle.two_machine.proofs.View.{World, Observer, read, those, starts, frame, own, inside, IsTaken, item, view}
-use Rattle.two_machine.proofs.Labels.{InInput, OnSa, OnSb, OnSc, OnCs, OnCa, OnCb, OnAc, OnBc, OnBack, Label}
-use Rattle.two_machine.proofs.ControllerSees.{reads, step_seen, start_seen, enabled_seen, chunks_seen, deleted_seen, restored_seen}
-use Rattle.two_machine.proofs.ControllerSees.{event_seen, laid_seen, copied_seen, fenced_seen, end_seen, told_seen, final_seen}
-use Rattle.two_machine.proofs.InstanceSees.{carry_a, other_a, carry_b, pass_b, fence_b, enable_a, get_a, delete_a, enable_b, restore_b}
-use Rattle.two_machine.proofs.InstanceSees.{stop_a, stop_b, arrive, arrive_other, forward_s, lay_s, finish_s, credit_s, end_s}
+use Rattle.two_machine.proofs.Labels.{Label}
+use Rattle.two_machine.proofs.ControllerSees.{reads, step_seen, start_seen, enabled_seen, chunks_seen, deleted_seen, restored_seen, event_seen, laid_seen}
+use Rattle.two_machine.proofs.ControllerSees.{copied_seen, fenced_seen, end_seen, told_seen, final_seen}
+use Rattle.two_machine.proofs.InstanceSees.{carry_a, other_a, carry_b, pass_b, fence_b, enable_a, get_a, delete_a, enable_b, restore_b, stop_a, stop_b}
+use Rattle.two_machine.proofs.InstanceSees.{arrive, arrive_other, forward_s, lay_s, finish_s, credit_s, end_s}
 use Rattle.two_machine.proofs.Places.{Place, In, Cs, Aw, Bw, Sc, Ac, Bc, Sa, Ca, Sb, Cb, with_waits, comes}
 use Rattle.two_machine.proofs.Puts.{result}
 use Rattle.two_machine.proofs.StageFacts.{Knows}
@@ -45,211 +44,87 @@ module _ {U T C R O : Type 0} (S : System U T C R O) (laws : Laws S) (o : Observ
   abbrev Covers : ℕ → Type 0
   Covers p = S.covers p ≡ true
 
-  turn_in : (v : World T C O) (m : Msg C) (rest : List (Msg C)) → InInput S m → Knows Covers (view S o (with_waits S In (m ∷ rest) v))
-      → Permits In v m rest → Turns In v m rest
-  turn_in v (In_packet p) rest h k a = by (S.covers p) refl
-    where
-      room : has_room S v.sw ≡ true
-      room = a.0
+  turns : {pl : Place} {v : World T C O} {m : Msg C} {rest : List (Msg C)} (move : Option Move)
+      → view S o (result S pl (with_waits S pl rest v) m) ≡ moved_by (frame S o) move (view S o (with_waits S pl (m ∷ rest) v))
+      → AllowedBy (view S o (with_waits S pl (m ∷ rest) v)) move → brought move ≡ those S.covers (comes pl m) → Turns pl v m rest
+  turns move sees allowed brings_is = record { move = move; sees = sees; allowed = allowed; brings_is = brings_is }
 
-      less : World T C O
-      less = record v { input = rest }
+  -- a packet that arrives, and one that A takes: the machine sees those that the filter matches
+  packet_turn : (v : World T C O) (p : ℕ) (rest : List (Msg C)) → Permits In v (In_packet p) rest → (b : Bool) → S.covers p ≡ b → Turns In v (In_packet p) rest
+  packet_turn v p rest a true e =
+      let room : has_room S v.sw ≡ true = a.0 in
+      turns (Some (Arrive p)) (rw (room, e) (arrive S laws o taken (record v { input = rest }) p v.sw.target e)) a.1 (rw e refl)
+  packet_turn v p rest a false e =
+      let room : has_room S v.sw ≡ true = a.0 in
+      turns None (rw (room, e) (arrive_other S laws o taken (record v { input = rest }) p e)) tt (rw e refl)
 
-      by : (b : Bool) → S.covers p ≡ b → Turns In v (In_packet p) rest
-      by true e = record { move = Some (Arrive p); sees = rw (room, e) (arrive S laws o taken less p v.sw.target e); allowed = a.1; brings_is = rw e refl }
-      by false e = record { move = None; sees = rw (room, e) (arrive_other S laws o taken less p e); allowed = tt; brings_is = rw e refl }
-  turn_in v In_start rest h k a =
-      let none = k.starts 0 (read starts rest ++ read starts v.sc) refl in
-      let one = append_nil_left (read starts rest) (read starts v.sc) none in
-      let two = append_nil_right (read starts rest) (read starts v.sc) none in
-      record { move = None; sees = simp (reads, one, two); allowed = tt; brings_is = refl }
-  turn_in v In_end rest h k a = record { move = None; sees = end_s S laws o taken (record v { input = rest }); allowed = tt; brings_is = refl }
-  turn_in v m rest h k a = absurd h
+  carry_turn : (v : World T C O) (p : ℕ) (rest : List (Msg C)) (b : Bool) → S.covers p ≡ b → Turns Sa v (Carry p) rest
+  carry_turn v p rest true e = turns (Some Take_sa) (rw e (carry_a S laws o taken (record v { sa = rest }) p v.a.rule e)) tt refl
+  carry_turn v p rest false e = turns None (rw e (other_a S laws o taken (record v { sa = rest }) p e)) tt refl
 
-  turn_cs : (v : World T C O) (m : Msg C) (rest : List (Msg C)) → OnCs S m → Turns Cs v m rest
-  turn_cs v (Forward p) rest h = record { move = Some Take_forward; sees = forward_s S laws o taken (record v { cs = rest }) p; allowed = tt; brings_is = refl }
-  turn_cs v (Lay high) rest h = record { move = Some Take_cs; sees = lay_s S laws o taken (record v { cs = rest }) high; allowed = tt; brings_is = refl }
-  turn_cs v (Finish to) rest h = record { move = None; sees = finish_s S laws o taken (record v { cs = rest }) to; allowed = tt; brings_is = refl }
-  turn_cs v m rest h = absurd h
-
-  turn_aw : (v : World T C O) (m : Msg C) (rest : List (Msg C)) → OnBack S m → Turns Aw v m rest
-  turn_aw v (Credit p) rest h = record { move = None; sees = credit_s S laws o taken (record v { aw = rest }) p; allowed = tt; brings_is = refl }
-  turn_aw v m rest h = absurd h
-
-  turn_bw : (v : World T C O) (m : Msg C) (rest : List (Msg C)) → OnBack S m → Turns Bw v m rest
-  turn_bw v (Credit p) rest h = record { move = None; sees = credit_s S laws o taken (record v { bw = rest }) p; allowed = tt; brings_is = refl }
-  turn_bw v m rest h = absurd h
-
-  turn_sc : (v : World T C O) (m : Msg C) (rest : List (Msg C)) → OnSc S m → Knows Covers (view S o (with_waits S Sc (m ∷ rest) v)) → Permits Sc v m rest
-      → Turns Sc v m rest
-  turn_sc v Start rest h k a =
-      let less = record v { sc = rest } in
-      let one : read starts v.input ≡ [] = first (read starts v.input) (read starts rest) k.starts in
-      record {
-        move = Some Begin;
-        sees = step_seen S laws o less 0 Start (m.begun_at (frame S o) v.ct.phase (view S o less)) (start_seen S laws o less v.ct.phase) ∙ rw one refl;
-        allowed = tt;
-        brings_is = refl;
-      }
-    where
-      first : (xs ys : List ℕ) → ((n : ℕ) (l : List ℕ) → xs ++ 0 ∷ ys ≡ n ∷ l → l ≡ []) → xs ≡ []
-      first [] ys h = refl
-      first (x ∷ xs) ys h = let never = append_nil_right xs (0 ∷ ys) (h x (xs ++ 0 ∷ ys) refl) in cc
-  turn_sc v End rest h k a =
-      let less = record v { sc = rest } in
-      record {
-        move = Some End_comes;
-        sees = step_seen S laws o less 0 End (record (view S o less) { c = record ((view S o less).c) { ended = true } }) (end_seen S laws o less);
-        allowed = a;
-        brings_is = refl;
-      }
-  turn_sc v (Copied p) rest h k a =
-      let less = record v { sc = rest } in
-      record {
-        move = Some Take_sc;
-        sees = step_seen S laws o less 0 (Copied p) (m.copied_at (frame S o) v.ct.phase (view S o less) p) (copied_seen S laws o less v.ct.phase p);
-        allowed = tt;
-        brings_is = refl;
-      }
-  turn_sc v (Laid high) rest h k a =
-      let less = record v { sc = rest } in
-      record {
-        move = Some Take_sc;
-        sees = step_seen S laws o less 0 (Laid high) (m.laid_at (frame S o) v.ct.phase high (view S o less)) (laid_seen S laws o less v.ct.phase high);
-        allowed = tt;
-        brings_is = refl;
-      }
-  turn_sc v m rest h k a = absurd h
-
-  turn_ac : (v : World T C O) (m : Msg C) (rest : List (Msg C)) → OnAc S m → Turns Ac v m rest
-  turn_ac v Enabled rest h =
-      let less = record v { ac = rest } in
-      record {
-        move = Some Take_ac;
-        sees = step_seen S laws o less 2 Enabled (m.enabled_at (frame S o) v.ct.phase (view S o less)) (enabled_seen S laws o less v.ct.phase);
-        allowed = tt;
-        brings_is = refl;
-      }
-  turn_ac v (Chunks c) rest h =
-      let less = record v { ac = rest } in
-      record {
-        move = Some Take_ac;
-        sees =
-            step_seen S laws o less 2 (Chunks c) (m.chunks_at (frame S o) v.ct.phase (view S o less) (inside S o c))
-            (chunks_seen S laws o less v.ct.phase c);
-        allowed = tt;
-        brings_is = refl;
-      }
-  turn_ac v Deleted rest h =
-      let less = record v { ac = rest } in
-      record {
-        move = Some Take_ac;
-        sees = step_seen S laws o less 2 Deleted (m.deleted_at (frame S o) v.ct.phase (view S o less)) (deleted_seen S laws o less v.ct.phase);
-        allowed = tt;
-        brings_is = refl;
-      }
-  turn_ac v (Event p) rest h =
-      let less = record v { ac = rest } in
-      record {
-        move = Some Take_event;
-        sees = step_seen S laws o less 2 (Event p) (m.event_at (frame S o) v.ct.phase (view S o less) p) (event_seen S laws o less v.ct.phase p);
-        allowed = tt;
-        brings_is = refl;
-      }
-  turn_ac v Final rest h =
-      let less = record v { ac = rest } in
-      record { move = Some Idles; sees = step_seen S laws o less 2 Final (view S o less) (final_seen S laws o less true); allowed = tt; brings_is = refl }
-  turn_ac v m rest h = absurd h
-
-  turn_bc : (v : World T C O) (m : Msg C) (rest : List (Msg C)) → OnBc S m → Turns Bc v m rest
-  turn_bc v Restored rest h =
-      let less = record v { bc = rest } in
-      record {
-        move = Some Take_bc;
-        sees = step_seen S laws o less 3 Restored (m.restored_at (frame S o) v.ct.phase (view S o less)) (restored_seen S laws o less v.ct.phase);
-        allowed = tt;
-        brings_is = refl;
-      }
-  turn_bc v Enabled rest h =
-      let less = record v { bc = rest } in
-      record {
-        move = Some Take_bc;
-        sees = step_seen S laws o less 3 Enabled (m.enabled_at (frame S o) v.ct.phase (view S o less)) (enabled_seen S laws o less v.ct.phase);
-        allowed = tt;
-        brings_is = refl;
-      }
-  turn_bc v Fenced rest h =
-      let less = record v { bc = rest } in
-      record {
-        move = Some Take_bc;
-        sees = step_seen S laws o less 3 Fenced (m.fenced_at (frame S o) v.ct.phase (view S o less)) (fenced_seen S laws o less v.ct.phase);
-        allowed = tt;
-        brings_is = refl;
-      }
-  turn_bc v (Seen p) rest h =
-      let less = record v { bc = rest } in
-      record {
-        move = Some Take_seen;
-        sees = step_seen S laws o less 3 (Seen p) (record (view S o less) { c = record ((view S o less).c) { seen = Some p } }) (told_seen S laws o less p);
-        allowed = tt;
-        brings_is = refl;
-      }
-  turn_bc v Final rest h =
-      let less = record v { bc = rest } in
-      record { move = Some Idles; sees = step_seen S laws o less 3 Final (view S o less) (final_seen S laws o less false); allowed = tt; brings_is = refl }
-  turn_bc v m rest h = absurd h
-
-  turn_sa : (v : World T C O) (m : Msg C) (rest : List (Msg C)) → OnSa S m → Turns Sa v m rest
-  turn_sa v (Carry p) rest h = by (S.covers p) refl
-    where
-      less : World T C O
-      less = record v { sa = rest }
-
-      by : (b : Bool) → S.covers p ≡ b → Turns Sa v (Carry p) rest
-      by true e = record { move = Some Take_sa; sees = rw e (carry_a S laws o taken less p v.a.rule e); allowed = tt; brings_is = refl }
-      by false e = record { move = None; sees = rw e (other_a S laws o taken less p e); allowed = tt; brings_is = refl }
-  turn_sa v Stop rest h = record { move = None; sees = stop_a S laws o taken (record v { sa = rest }); allowed = tt; brings_is = refl }
-  turn_sa v m rest h = absurd h
-
-  turn_ca : (v : World T C O) (m : Msg C) (rest : List (Msg C)) → OnCa S m → Turns Ca v m rest
-  turn_ca v (Enable r) rest h = record { move = Some Take_ca; sees = enable_a S laws o taken (record v { ca = rest }) r; allowed = tt; brings_is = refl }
-  turn_ca v Get rest h = record { move = Some Take_ca; sees = get_a S laws o taken (record v { ca = rest }); allowed = tt; brings_is = refl }
-  turn_ca v (Delete c) rest h = record { move = Some Take_ca; sees = delete_a S laws o taken (record v { ca = rest }) c h; allowed = tt; brings_is = refl }
-  turn_ca v m rest h = absurd h
-
-  turn_sb : (v : World T C O) (m : Msg C) (rest : List (Msg C)) → OnSb S m → Knows Covers (view S o (with_waits S Sb (m ∷ rest) v)) → Turns Sb v m rest
-  turn_sb v (Carry p) rest h k =
-      let e : S.covers p ≡ true = k.plains.0 in
-      record {
-        move = Some Take_plain;
-        sees = rw e (carry_b S laws o taken (record v { sb = rest }) p v.b.rule k.no_drop e);
-        allowed = tt;
-        brings_is = refl;
-      }
-  turn_sb v (Pass p) rest h k =
-      let e : S.covers p ≡ true = k.passes.0 in
-      record { move = Some Take_pass; sees = pass_b S laws o taken (record v { sb = rest }) p e; allowed = tt; brings_is = refl }
-  turn_sb v Stop rest h k = record { move = None; sees = stop_b S laws o taken (record v { sb = rest }); allowed = tt; brings_is = refl }
-  turn_sb v m rest h k = absurd h
-
-  turn_cb : (v : World T C O) (m : Msg C) (rest : List (Msg C)) → OnCb S m → Knows Covers (view S o (with_waits S Cb (m ∷ rest) v)) → Turns Cb v m rest
-  turn_cb v (Enable r) rest h k = record { move = Some Take_cb; sees = enable_b S laws o taken (record v { cb = rest }) r; allowed = tt; brings_is = refl }
-  turn_cb v (Restore c) rest h k =
-      let none : own S o v.b.table ≡ None = k.empty (inside S o c) (read (item S o) rest) refl in
-      record { move = Some Take_cb; sees = restore_b S laws o taken (record v { cb = rest }) c h none; allowed = tt; brings_is = refl }
-  turn_cb v Fence rest h k = record { move = Some Take_cb; sees = fence_b S laws o taken (record v { cb = rest }) k.held; allowed = tt; brings_is = refl }
-  turn_cb v m rest h k = absurd h
+  first_start : (xs ys : List ℕ) → ((n : ℕ) (l : List ℕ) → xs ++ 0 ∷ ys ≡ n ∷ l → l ≡ []) → xs ≡ []
+  first_start [] ys h = refl
+  first_start (x ∷ xs) ys h = let never = append_nil_right xs (0 ∷ ys) (h x (xs ++ 0 ∷ ys) refl) in cc
 
   pub turn : (pl : Place) (v : World T C O) (m : Msg C) (rest : List (Msg C)) → Label S pl m → Knows Covers (view S o (with_waits S pl (m ∷ rest) v))
       → Permits pl v m rest → Turns pl v m rest
-  turn In v m rest h k a = turn_in v m rest h k a
-  turn Cs v m rest h k a = turn_cs v m rest h
-  turn Aw v m rest h k a = turn_aw v m rest h
-  turn Bw v m rest h k a = turn_bw v m rest h
-  turn Sc v m rest h k a = turn_sc v m rest h k a
-  turn Ac v m rest h k a = turn_ac v m rest h
-  turn Bc v m rest h k a = turn_bc v m rest h
-  turn Sa v m rest h k a = turn_sa v m rest h
-  turn Ca v m rest h k a = turn_ca v m rest h
-  turn Sb v m rest h k a = turn_sb v m rest h k
-  turn Cb v m rest h k a = turn_cb v m rest h k
+  turn In v (In_packet p) rest h k a = packet_turn v p rest a (S.covers p) refl
+  turn In v In_start rest h k a =
+      let none = k.starts 0 (read starts rest ++ read starts v.sc) refl in
+      let one = append_nil_left (read starts rest) (read starts v.sc) none in
+      let two = append_nil_right (read starts rest) (read starts v.sc) none in
+      turns None (simp (reads, one, two)) tt refl
+  turn In v In_end rest h k a = turns None (end_s S laws o taken (record v { input = rest })) tt refl
+  turn Cs v (Forward p) rest h k a = turns (Some Take_forward) (forward_s S laws o taken (record v { cs = rest }) p) tt refl
+  turn Cs v (Lay high) rest h k a = turns (Some Take_cs) (lay_s S laws o taken (record v { cs = rest }) high) tt refl
+  turn Cs v (Finish to) rest h k a = turns None (finish_s S laws o taken (record v { cs = rest }) to) tt refl
+  turn Aw v (Credit p) rest h k a = turns None (credit_s S laws o taken (record v { aw = rest }) p) tt refl
+  turn Bw v (Credit p) rest h k a = turns None (credit_s S laws o taken (record v { bw = rest }) p) tt refl
+  turn Sc v Start rest h k a =
+      let one : read starts v.input ≡ [] = first_start (read starts v.input) (read starts rest) k.starts in
+      let less = record v { sc = rest } in
+      turns (Some Begin) (step_seen S laws o less 0 Start (start_seen S laws o less v.ct.phase) ∙ rw one refl) tt refl
+  turn Sc v End rest h k a =
+      let less = record v { sc = rest } in turns (Some End_comes) (step_seen S laws o less 0 End (end_seen S laws o less)) a refl
+  turn Sc v (Copied p) rest h k a =
+      let less = record v { sc = rest } in
+      turns (Some Take_sc) (step_seen S laws o less 0 (Copied p) (copied_seen S laws o less v.ct.phase p)) tt refl
+  turn Sc v (Laid high) rest h k a =
+      let less = record v { sc = rest } in
+      turns (Some Take_sc) (step_seen S laws o less 0 (Laid high) (laid_seen S laws o less v.ct.phase high)) tt refl
+  turn Ac v Enabled rest h k a =
+      let less = record v { ac = rest } in turns (Some Take_ac) (step_seen S laws o less 2 Enabled (enabled_seen S laws o less v.ct.phase)) tt refl
+  turn Ac v (Chunks c) rest h k a =
+      let less = record v { ac = rest } in turns (Some Take_ac) (step_seen S laws o less 2 (Chunks c) (chunks_seen S laws o less v.ct.phase c)) tt refl
+  turn Ac v Deleted rest h k a =
+      let less = record v { ac = rest } in turns (Some Take_ac) (step_seen S laws o less 2 Deleted (deleted_seen S laws o less v.ct.phase)) tt refl
+  turn Ac v (Event p) rest h k a =
+      let less = record v { ac = rest } in turns (Some Take_event) (step_seen S laws o less 2 (Event p) (event_seen S laws o less v.ct.phase p)) tt refl
+  turn Ac v Final rest h k a =
+      let less = record v { ac = rest } in turns (Some Idles) (step_seen S laws o less 2 Final (final_seen S laws o less true)) tt refl
+  turn Bc v Restored rest h k a =
+      let less = record v { bc = rest } in turns (Some Take_bc) (step_seen S laws o less 3 Restored (restored_seen S laws o less v.ct.phase)) tt refl
+  turn Bc v Enabled rest h k a =
+      let less = record v { bc = rest } in turns (Some Take_bc) (step_seen S laws o less 3 Enabled (enabled_seen S laws o less v.ct.phase)) tt refl
+  turn Bc v Fenced rest h k a =
+      let less = record v { bc = rest } in turns (Some Take_bc) (step_seen S laws o less 3 Fenced (fenced_seen S laws o less v.ct.phase)) tt refl
+  turn Bc v (Seen p) rest h k a =
+      let less = record v { bc = rest } in turns (Some Take_seen) (step_seen S laws o less 3 (Seen p) (told_seen S laws o less p)) tt refl
+  turn Bc v Final rest h k a =
+      let less = record v { bc = rest } in turns (Some Idles) (step_seen S laws o less 3 Final (final_seen S laws o less false)) tt refl
+  turn Sa v (Carry p) rest h k a = carry_turn v p rest (S.covers p) refl
+  turn Sa v Stop rest h k a = turns None (stop_a S laws o taken (record v { sa = rest })) tt refl
+  turn Ca v (Enable r) rest h k a = turns (Some Take_ca) (enable_a S laws o taken (record v { ca = rest }) r) tt refl
+  turn Ca v Get rest h k a = turns (Some Take_ca) (get_a S laws o taken (record v { ca = rest })) tt refl
+  turn Ca v (Delete c) rest h k a = turns (Some Take_ca) (delete_a S laws o taken (record v { ca = rest }) c h) tt refl
+  turn Sb v (Carry p) rest h k a =
+      let e : S.covers p ≡ true = k.plains.0 in
+      turns (Some Take_plain) (rw e (carry_b S laws o taken (record v { sb = rest }) p v.b.rule k.no_drop e)) tt refl
+  turn Sb v (Pass p) rest h k a = turns (Some Take_pass) (pass_b S laws o taken (record v { sb = rest }) p k.passes.0) tt refl
+  turn Sb v Stop rest h k a = turns None (stop_b S laws o taken (record v { sb = rest })) tt refl
+  turn Cb v (Enable r) rest h k a = turns (Some Take_cb) (enable_b S laws o taken (record v { cb = rest }) r) tt refl
+  turn Cb v (Restore c) rest h k a =
+      let none : own S o v.b.table ≡ None = k.empty (inside S o c) (read (item S o) rest) refl in
+      turns (Some Take_cb) (restore_b S laws o taken (record v { cb = rest }) c h none) tt refl
+  turn Cb v Fence rest h k a = turns (Some Take_cb) (fence_b S laws o taken (record v { cb = rest }) k.held) tt refl
+  turn pl v m rest h k a = absurd h

@@ -1,22 +1,23 @@
 -- Along every run a unit that the filter doesn't take stays at A: its packets go there in order, and its record is live there alone.
 use Rattle.std.proofs.Common.{◌≡◌, ℕ, Bool, true, false, None, List, [], ◌∷◌, ◌++◌, refl, sym, ap, ◌∙◌, append_assoc, append-nil}
 use Rattle.std.specs.Prelude.{if◌then◌else◌, ◌==◌}
-use Rattle.two_machine.proofs.Machine.{Rule, Free, Drops, Buffers, Target, To_a, To_both, To_b, stepped, folded}
+use Rattle.two_machine.proofs.Machine.{Free, Target, To_a, To_both, To_b, stepped, folded}
 use Rattle.two_machine.proofs.Laws.{folded-append}
 use Rattle.two_machine.proofs.Tables
-use Rattle.two_machine.proofs.Tables.{System, Laws, Msg, Note, Switch, Ctrl, Inst, Node, Step, In_packet, In_start, In_end, Forward}
-use Rattle.two_machine.proofs.Tables.{Lay, Finish, Carry, Pass, Stop, Enable, Get, Delete, Restore, Fence, Credit, Arrived, Processed}
-use Rattle.two_machine.proofs.Tables.{has_room, goes, switch_step, processed, all_processed, ruled, inst_step, ctrl_step, takes_in}
+use Rattle.two_machine.proofs.Tables.{System, Laws, Msg, Note, Ctrl, Inst, Step, In_packet, In_start, In_end, Forward, Lay, Finish, Carry, Pass, Stop, Enable}
+use Rattle.two_machine.proofs.Tables.{Get, Delete, Restore, Fence, Credit, Arrived, goes, switch_step, processed, all_processed, inst_step, ctrl_step}
+use Rattle.two_machine.proofs.Tables.{takes_in}
 use Rattle.two_machine.proofs.View.{World, read, read-append, those, those-append, carries, arrived, ran, Nobody, view}
-use Rattle.two_machine.proofs.Labels.{IsSelected, InInput, OnSa, OnCa, OnSb, OnCb, OnCs, OnBack, Label}
+use Rattle.two_machine.proofs.Places.{Place, Ca, Cb, Cs, In, Sa, Sb, Aw, Bw, Sc, Ac, Bc, with_waits}
+use Rattle.two_machine.proofs.Labels.{IsSelected, OnBack, Label}
+use Rattle.two_machine.proofs.Rows.{Carried, Runs, Hands_out, Held, carried}
 use Rattle.two_machine.proofs.Puts.{sent, put_switch, put_a, put_b, result}
-use Rattle.two_machine.proofs.Places.{Place, In, Cs, Aw, Bw, Sc, Ac, Bc, Sa, Ca, Sb, Cb, with_waits}
 use Rattle.two_machine.proofs.StageFacts.{Knows}
 use Rattle.two_machine.proofs.Arrivals.{Ready, inst_notes}
-use Rattle.two_machine.proofs.Outputs.{mine, its_frame, told, due, record_by, IsRight, right_more, right_none, right_one}
-use Rattle.two_machine.proofs.Outputs.{told_other, due_other, folded_other, other_cover, each_other, ran_fence}
+use Rattle.two_machine.proofs.Outputs.{mine, its_frame, told, due, record_by, IsRight, right_more, right_none, right_one, told_other, due_other, folded_other}
+use Rattle.two_machine.proofs.Outputs.{other_cover, each_other, ran_fence}
 use Rattle.actor_net.proofs.WeightLaws.{Each}
-use Rattle.two_machine.proofs.StepLabels.{CtrlOk, ctrl_ok, gives_sc, gives_ac, gives_bc}
+use Rattle.two_machine.proofs.StepLabels.{CtrlOk, ctrl_ok, gives}
 
 module _ {U T C R O : Type 0} (S : System U T C R O) (laws : Laws S) (u : U) (not_its : S.takes u ≡ false) where
   abbrev own : List ℕ → List ℕ
@@ -68,24 +69,19 @@ module _ {U T C R O : Type 0} (S : System U T C R O) (laws : Laws S) (u : U) (no
   less_a : (p : ℕ) (rest : List (Msg C)) → mine S laws u p ≡ false → own (read carries rest) ≡ own (read carries (Carry p ∷ rest))
   less_a p rest other = rw other refl
 
-  stays_sa : (v : World T C O) (x : Msg C) (rest : List (Msg C)) → OnSa S x → Stays (record v { sa = x ∷ rest })
+  stays_sa : (v : World T C O) (x : Msg C) (rest : List (Msg C)) → Label S Sa x → Stays (record v { sa = x ∷ rest })
       → Stays (put_a S (record v { sa = rest }) (inst_step S 0 v.a x))
-  stays_sa v (Carry p) rest l h = by (S.covers p) refl
+  stays_sa v (Carry p) rest l h = by (carried S 0 v.a p)
     where
-      less : World T C O
-      less = record v { sa = rest }
+      others : (did : Step S (Inst T)) → did.notes ≡ [] → did.node.table ≡ v.a.table → S.covers p ≡ true → Stays (put_a S (record v { sa = rest }) did)
+      others did quiet same covers =
+          quietly (record v { sa = Carry p ∷ rest }) (put_a S (record v { sa = rest }) did) [] (ap (λ ns. v.log ++ ns) quiet) refl refl
+          (ap (λ t. S.at t u) same) refl (less_a p rest (other_cover S laws u not_its p covers)) h
 
-      first : World T C O
-      first = record v { sa = Carry p ∷ rest }
-
-      by_rule : (r : Rule) → mine S laws u p ≡ false → Stays (put_a S less (ruled S r 0 v.a p))
-      by_rule Free other = runs_a v p rest h
-      by_rule Drops other = quietly first (put_a S less (ruled S Drops 0 v.a p)) [] refl refl refl refl refl (less_a p rest other) h
-      by_rule Buffers other = quietly first (put_a S less (ruled S Buffers 0 v.a p)) [] refl refl refl refl refl (less_a p rest other) h
-
-      by : (b : Bool) → S.covers p ≡ b → Stays (put_a S less (if b then ruled S v.a.rule 0 v.a p else processed S 0 v.a p))
-      by true e = by_rule v.a.rule (other_cover S laws u not_its p e)
-      by false e = runs_a v p rest h
+      by : {did : Step S (Inst T)} → Carried S 0 v.a p did → Stays (put_a S (record v { sa = rest }) did)
+      by (Runs free) = runs_a v p rest h
+      by {did} (Hands_out drops covers) = others did refl refl covers
+      by {did} (Held covers) = others did refl refl covers
   stays_sa v Stop rest l h =
       quietly (record v { sa = Stop ∷ rest }) (put_a S (record v { sa = rest }) (inst_step S 0 v.a Stop)) [] refl refl refl refl refl refl h
   stays_sa v x rest l h = absurd l
@@ -93,7 +89,7 @@ module _ {U T C R O : Type 0} (S : System U T C R O) (laws : Laws S) (u : U) (no
   no_chunk : (s : T) → S.has (S.select s) u ≡ None
   no_chunk s = laws.selected s u ∙ rw not_its refl
 
-  stays_ca : (v : World T C O) (x : Msg C) (rest : List (Msg C)) → OnCa S x → Stays (record v { ca = x ∷ rest })
+  stays_ca : (v : World T C O) (x : Msg C) (rest : List (Msg C)) → Label S Ca x → Stays (record v { ca = x ∷ rest })
       → Stays (put_a S (record v { ca = rest }) (inst_step S 0 v.a x))
   stays_ca v (Enable r) rest l h =
       quietly (record v { ca = Enable r ∷ rest }) (put_a S (record v { ca = rest }) (inst_step S 0 v.a (Enable r))) [] refl refl refl refl refl refl h
@@ -143,9 +139,9 @@ module _ {U T C R O : Type 0} (S : System U T C R O) (laws : Laws S) (u : U) (no
   tells_nothing : (n : ℕ) (i : Inst T) (p : ℕ) → mine S laws u p ≡ false → told S laws u (processed S n i p).notes ≡ []
   tells_nothing n i p other = rw other refl
 
-  stays_sb : (v : World T C O) (x : Msg C) (rest : List (Msg C)) → OnSb S x → Knows (λ p. S.covers p ≡ true) (view S Nobody (record v { sb = x ∷ rest }))
+  stays_sb : (v : World T C O) (x : Msg C) (rest : List (Msg C)) → Label S Sb x → Knows (λ p. S.covers p ≡ true) (view S Nobody (record v { sb = x ∷ rest }))
       → Stays (record v { sb = x ∷ rest }) → Stays (put_b S (record v { sb = rest }) (inst_step S 1 v.b x))
-  stays_sb v (Carry p) rest l k h = by (S.covers p)
+  stays_sb v (Carry p) rest l k h = by (carried S 1 v.b p)
     where
       less : World T C O
       less = record v { sb = rest }
@@ -153,22 +149,13 @@ module _ {U T C R O : Type 0} (S : System U T C R O) (laws : Laws S) (u : U) (no
       first : World T C O
       first = record v { sb = Carry p ∷ rest }
 
-      other : mine S laws u p ≡ false
-      other = other_cover S laws u not_its p k.plains.0
-
-      one : Stays (put_b S less (processed S 1 v.b p))
-      one =
+      by : {did : Step S (Inst T)} → Carried S 1 v.b p did → Stays (put_b S less did)
+      by (Runs free) =
+          let other = other_cover S laws u not_its p k.plains.0 in
           runs_b first (put_b S less (processed S 1 v.b p)) (processed S 1 v.b p).notes (p ∷ []) refl refl refl (tells_nothing 1 v.b p other) (other, tt)
           refl (other_at v.b.table p other) refl h
-
-      by_rule : (r : Rule) → Stays (put_b S less (ruled S r 1 v.b p))
-      by_rule Free = one
-      by_rule Drops = quietly first (put_b S less (ruled S Drops 1 v.b p)) [] refl refl refl refl refl refl h
-      by_rule Buffers = quietly first (put_b S less (ruled S Buffers 1 v.b p)) [] refl refl refl refl refl refl h
-
-      by : (b : Bool) → Stays (put_b S less (if b then ruled S v.b.rule 1 v.b p else processed S 1 v.b p))
-      by true = by_rule v.b.rule
-      by false = one
+      by {did} (Hands_out drops covers) = quietly first (put_b S less did) [] refl refl refl refl refl refl h
+      by {did} (Held covers) = quietly first (put_b S less did) [] refl refl refl refl refl refl h
   stays_sb v (Pass p) rest l k h =
       let other = other_cover S laws u not_its p k.passes.0 in
       runs_b (record v { sb = Pass p ∷ rest }) (put_b S (record v { sb = rest }) (inst_step S 1 v.b (Pass p))) (processed S 1 v.b p).notes (p ∷ []) refl
@@ -177,7 +164,7 @@ module _ {U T C R O : Type 0} (S : System U T C R O) (laws : Laws S) (u : U) (no
       quietly (record v { sb = Stop ∷ rest }) (put_b S (record v { sb = rest }) (inst_step S 1 v.b Stop)) [] refl refl refl refl refl refl h
   stays_sb v x rest l k h = absurd l
 
-  stays_cb : (v : World T C O) (x : Msg C) (rest : List (Msg C)) → OnCb S x → Knows (λ p. S.covers p ≡ true) (view S Nobody (record v { cb = x ∷ rest }))
+  stays_cb : (v : World T C O) (x : Msg C) (rest : List (Msg C)) → Label S Cb x → Knows (λ p. S.covers p ≡ true) (view S Nobody (record v { cb = x ∷ rest }))
       → Stays (record v { cb = x ∷ rest }) → Stays (put_b S (record v { cb = rest }) (inst_step S 1 v.b x))
   stays_cb v (Enable r) rest l k h =
       quietly (record v { cb = Enable r ∷ rest }) (put_b S (record v { cb = rest }) (inst_step S 1 v.b (Enable r))) [] refl refl refl refl refl refl h
@@ -228,7 +215,7 @@ module _ {U T C R O : Type 0} (S : System U T C R O) (laws : Laws S) (u : U) (no
             right = right;
           }
 
-  stays_in : (v : World T C O) (x : Msg C) (rest : List (Msg C)) → InInput S x → takes_in S v.sw x ≡ true → Stays (record v { input = x ∷ rest })
+  stays_in : (v : World T C O) (x : Msg C) (rest : List (Msg C)) → Label S In x → takes_in S v.sw x ≡ true → Stays (record v { input = x ∷ rest })
       → Stays (put_switch S (record v { input = rest }) (switch_step S v.sw x))
   stays_in v (In_packet p) rest l ready h = rw ready (by (S.covers p) refl)
     where
@@ -249,7 +236,7 @@ module _ {U T C R O : Type 0} (S : System U T C R O) (laws : Laws S) (u : U) (no
       (own_put v.sa [] refl) h
   stays_in v x rest l ready h = absurd l
 
-  stays_cs : (v : World T C O) (x : Msg C) (rest : List (Msg C)) → OnCs S x → Stays (record v { cs = x ∷ rest })
+  stays_cs : (v : World T C O) (x : Msg C) (rest : List (Msg C)) → Label S Cs x → Stays (record v { cs = x ∷ rest })
       → Stays (put_switch S (record v { cs = rest }) (switch_step S v.sw x))
   stays_cs v (Forward p) rest l h =
       quietly (record v { cs = Forward p ∷ rest }) (put_switch S (record v { cs = rest }) (switch_step S v.sw (Forward p))) [] refl refl refl refl refl
@@ -286,13 +273,13 @@ module _ {U T C R O : Type 0} (S : System U T C R O) (laws : Laws S) (u : U) (no
   stays_keeps Aw v x rest l ready k n h = stays_back (record v { aw = rest }) x l (record { a_is = h.a_is; b_is = h.b_is; order = h.order; right = h.right })
   stays_keeps Bw v x rest l ready k n h = stays_back (record v { bw = rest }) x l (record { a_is = h.a_is; b_is = h.b_is; order = h.order; right = h.right })
   stays_keeps Sc v x rest l ready k n h =
-      stays_ctrl (with_waits S Sc (x ∷ rest) v) (result S Sc (with_waits S Sc rest v) x) _ (ctrl_step S v.ct 0 x) (ctrl_ok S v.ct 0 x k (gives_sc S x l)) h
+      stays_ctrl (with_waits S Sc (x ∷ rest) v) (result S Sc (with_waits S Sc rest v) x) _ (ctrl_step S v.ct 0 x) (ctrl_ok S v.ct 0 x k (gives S Sc x l)) h
       refl refl refl refl
   stays_keeps Ac v x rest l ready k n h =
-      stays_ctrl (with_waits S Ac (x ∷ rest) v) (result S Ac (with_waits S Ac rest v) x) _ (ctrl_step S v.ct 2 x) (ctrl_ok S v.ct 2 x k (gives_ac S x l)) h
+      stays_ctrl (with_waits S Ac (x ∷ rest) v) (result S Ac (with_waits S Ac rest v) x) _ (ctrl_step S v.ct 2 x) (ctrl_ok S v.ct 2 x k (gives S Ac x l)) h
       refl refl refl refl
   stays_keeps Bc v x rest l ready k n h =
-      stays_ctrl (with_waits S Bc (x ∷ rest) v) (result S Bc (with_waits S Bc rest v) x) _ (ctrl_step S v.ct 3 x) (ctrl_ok S v.ct 3 x k (gives_bc S x l)) h
+      stays_ctrl (with_waits S Bc (x ∷ rest) v) (result S Bc (with_waits S Bc rest v) x) _ (ctrl_step S v.ct 3 x) (ctrl_ok S v.ct 3 x k (gives S Bc x l)) h
       refl refl refl refl
   stays_keeps Sa v x rest l ready k n h = stays_sa v x rest l h
   stays_keeps Ca v x rest l ready k n h = stays_ca v x rest l h

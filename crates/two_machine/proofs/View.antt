@@ -3,11 +3,11 @@
 use Rattle.std.proofs.Common.{◌≡◌, ℕ, Bool, true, false, Option, None, List, [], ◌∷◌, ◌++◌, refl, sym, ap, ◌∙◌, append_assoc}
 use Rattle.std.specs.Prelude.{if◌then◌else◌}
 use Rattle.actor_net.specs.Network.{Network}
-use Rattle.two_machine.proofs.Machine.{Item, Mark, Came, Scan, No_low, scanned, Frame, State}
+use Rattle.two_machine.proofs.Machine.{Item, Came, Scan, No_low, scanned, Frame, State}
 use Rattle.two_machine.proofs.Machine as m
-use Rattle.two_machine.proofs.Tables.{System, Msg, Note, Switch, Ctrl, Inst, Node, Is_switch, Is_ctrl, Is_inst, In_start, Start}
-use Rattle.two_machine.proofs.Tables.{Copied, Laid, Forward, Lay, Carry, Pass, Enable, Get, Delete, Restore, Fence, Enabled, Chunks}
-use Rattle.two_machine.proofs.Tables.{Deleted, Restored, Event, Seen, Fenced, Arrived, Processed, Low, High, Done, No_packet}
+use Rattle.two_machine.proofs.Tables.{System, Msg, Note, Switch, Ctrl, Inst, Node, Is_switch, Is_ctrl, Is_inst, In_start, Start, Copied, Laid, Forward, Lay}
+use Rattle.two_machine.proofs.Tables.{Carry, Pass, Enable, Get, Delete, Restore, Fence, Enabled, Chunks, Deleted, Restored, Event, Seen, Fenced, Arrived}
+use Rattle.two_machine.proofs.Tables.{Processed, Low, High, Done, No_packet}
 
 -- a world: nodes, links by sender and receiver (`aw` and `bw` from A and B to the switch), the input and the log
 pub record World (T C O : Type 0) : Type 0 where

@@ -2,14 +2,15 @@
 use Rattle.std.proofs.Common.{◌≡◌, ◌≤◌, ℕ, ◌+◌, true, false, List, [], ◌∷◌, ◌++◌, length, refl, arith}
 use Rattle.std.specs.Prelude.{if◌then◌else◌, ◌==◌}
 use Rattle.std.proofs.lemmas.List.{length_push}
-use Rattle.two_machine.proofs.Machine.{Rule, Free, Drops, Buffers, Target, To_a, To_both, To_b}
-use Rattle.two_machine.proofs.Tables.{System, Msg, Switch, Ctrl, Inst, Step, In_packet, In_start, In_end, Start, End, Copied, Laid, Forward, Lay}
-use Rattle.two_machine.proofs.Tables.{Finish, Carry, Pass, Stop, Enable, Get, Delete, Restore, Fence, Enabled, Chunks, Deleted, Restored, Event, Seen}
-use Rattle.two_machine.proofs.Tables.{Fenced, Final, Credit, has_room, goes, switch_step, processed, all_processed, ruled, inst_step, ctrl_step}
+use Rattle.two_machine.proofs.Machine.{Free, Target, To_a, To_both, To_b}
+use Rattle.two_machine.proofs.Tables.{System, Msg, Switch, Ctrl, Inst, Step, In_packet, In_start, In_end, Forward, Lay, Finish, Carry, Pass, Stop, Enable}
+use Rattle.two_machine.proofs.Tables.{Get, Delete, Restore, Fence, Event, Fenced, Final, Credit, has_room, goes, switch_step, processed, all_processed}
+use Rattle.two_machine.proofs.Tables.{inst_step, ctrl_step}
 use Rattle.two_machine.proofs.View.{World}
-use Rattle.two_machine.proofs.Labels.{InInput, OnSa, OnSb, OnSc, OnCs, OnCa, OnCb, OnAc, OnBc, OnBack, Label}
+use Rattle.two_machine.proofs.Places.{Place, Bc, Ca, Cb, Cs, In, Sa, Sb, Sc, Aw, Bw, Ac, with_waits}
+use Rattle.two_machine.proofs.Labels.{OnBack, Label}
+use Rattle.two_machine.proofs.Rows.{kind, Carried, Runs, Hands_out, Held, carried}
 use Rattle.two_machine.proofs.Puts.{sent, put_switch, put_ctrl, put_a, put_b, result}
-use Rattle.two_machine.proofs.Places.{Place, In, Cs, Aw, Bw, Sc, Ac, Bc, Sa, Ca, Sb, Cb, with_waits}
 use Rattle.actor_net.proofs.WeightLaws.{weigh, weigh-append}
 use Rattle.two_machine.proofs.Weights.{w_in, w_sa, w_sb, w_cs, w_two, w_one, w_ac, w_ctrl, weight, Costs, allowed, step_costs}
 
@@ -54,7 +55,7 @@ module _ {U T C R O : Type 0} (S : System U T C R O) where
   goes_costs To_both s p = omega arith
   goes_costs To_b s p = omega arith
 
-  in_costs : (s : Switch) (m : Msg C) → InInput S m → switch_costs (switch_step S s m) + 1 ≤ w_in m
+  in_costs : (s : Switch) (m : Msg C) → Label S In m → switch_costs (switch_step S s m) + 1 ≤ w_in m
   in_costs s (In_packet p) l =
       elim (has_room S s) as (λ b.
       switch_costs (if b then goes S (if S.covers p then s.target else To_a) s p else record { node = s; sends = []; notes = [] }) + 1 ≤ 8) [
@@ -65,7 +66,7 @@ module _ {U T C R O : Type 0} (S : System U T C R O) where
   in_costs s In_end l = omega arith
   in_costs s m l = absurd l
 
-  cs_costs : (s : Switch) (m : Msg C) → OnCs S m → switch_costs (switch_step S s m) + 1 ≤ w_cs m
+  cs_costs : (s : Switch) (m : Msg C) → Label S Cs m → switch_costs (switch_step S s m) + 1 ≤ w_cs m
   cs_costs s (Forward p) l = omega arith
   cs_costs s (Lay high) l = omega arith
   cs_costs s (Finish to) l =
@@ -82,28 +83,20 @@ module _ {U T C R O : Type 0} (S : System U T C R O) where
   back_costs s (Credit p) l = omega arith
   back_costs s m l = absurd l
 
-  ruled_a : (r : Rule) (i : Inst T) (p : ℕ)
-      → length (ruled S r 0 i p).node.held + weigh w_one (sent 0 (ruled S r 0 i p).sends) + weigh w_ac (sent 1 (ruled S r 0 i p).sends) ≤ length i.held + 5
-  ruled_a Free i p = omega arith
-  ruled_a Drops i p = omega arith
-  ruled_a Buffers i p = omega (arith, length_push i.held p)
+  carry_a : {i : Inst T} {p : ℕ} {did : Step S (Inst T)} → Carried S 0 i p did
+      → length did.node.held + weigh w_one (sent 0 did.sends) + weigh w_ac (sent 1 did.sends) + 1 ≤ length i.held + 6
+  carry_a (Runs free) = omega arith
+  carry_a (Hands_out drops covers) = omega arith
+  carry_a {i} {p} (Held covers) = omega (arith, length_push i.held p)
 
-  sa_costs : (i : Inst T) (m : Msg C) → OnSa S m
+  sa_costs : (i : Inst T) (m : Msg C) → Label S Sa m
       → length (inst_step S 0 i m).node.held + weigh w_one (sent 0 (inst_step S 0 i m).sends) + weigh w_ac (sent 1 (inst_step S 0 i m).sends) + 1
       ≤ length i.held + w_sa m
-  sa_costs i (Carry p) l =
-      elim (S.covers p) as (λ b.
-      length (if b then ruled S i.rule 0 i p else processed S 0 i p).node.held
-      + weigh w_one (sent 0 (if b then ruled S i.rule 0 i p else processed S 0 i p).sends)
-      + weigh w_ac (sent 1 (if b then ruled S i.rule 0 i p else processed S 0 i p).sends) + 1
-      ≤ length i.held + 6) [
-        | true ↦ omega (arith, ruled_a i.rule i p)
-        | false ↦ omega arith
-      ]
+  sa_costs i (Carry p) l = carry_a (carried S 0 i p)
   sa_costs i Stop l = omega arith
   sa_costs i m l = absurd l
 
-  ca_costs : (i : Inst T) (m : Msg C) → OnCa S m
+  ca_costs : (i : Inst T) (m : Msg C) → Label S Ca m
       → length (inst_step S 0 i m).node.held + weigh w_one (sent 0 (inst_step S 0 i m).sends) + weigh w_ac (sent 1 (inst_step S 0 i m).sends) + 1
       ≤ length i.held + 2
   ca_costs i (Enable r) l = omega arith
@@ -111,24 +104,15 @@ module _ {U T C R O : Type 0} (S : System U T C R O) where
   ca_costs i (Delete c) l = omega arith
   ca_costs i m l = absurd l
 
-  ruled_b : (r : Rule) (i : Inst T) (p : ℕ)
-      → length (ruled S r 1 i p).node.held + weigh w_one (sent 0 (ruled S r 1 i p).sends) + weigh w_one (sent 1 (ruled S r 1 i p).sends) ≤ length i.held + 5
-  ruled_b Free i p = omega arith
-  ruled_b Drops i p = omega arith
-  ruled_b Buffers i p = omega (arith, length_push i.held p)
+  carry_b : {i : Inst T} {p : ℕ} {did : Step S (Inst T)} → Carried S 1 i p did
+      → length did.node.held + weigh w_one (sent 0 did.sends) + weigh w_one (sent 1 did.sends) + 1 ≤ length i.held + 6
+  carry_b {i} {p} (Held covers) = omega (arith, length_push i.held p)
+  carry_b run = omega arith
 
-  sb_costs : (i : Inst T) (m : Msg C) → OnSb S m
+  sb_costs : (i : Inst T) (m : Msg C) → Label S Sb m
       → length (inst_step S 1 i m).node.held + weigh w_one (sent 0 (inst_step S 1 i m).sends) + weigh w_one (sent 1 (inst_step S 1 i m).sends) + 1
       ≤ length i.held + w_sb m
-  sb_costs i (Carry p) l =
-      elim (S.covers p) as (λ b.
-      length (if b then ruled S i.rule 1 i p else processed S 1 i p).node.held
-      + weigh w_one (sent 0 (if b then ruled S i.rule 1 i p else processed S 1 i p).sends)
-      + weigh w_one (sent 1 (if b then ruled S i.rule 1 i p else processed S 1 i p).sends) + 1
-      ≤ length i.held + 6) [
-        | true ↦ omega (arith, ruled_b i.rule i p)
-        | false ↦ omega arith
-      ]
+  sb_costs i (Carry p) l = carry_b (carried S 1 i p)
   sb_costs i (Pass p) l = omega arith
   sb_costs i Stop l = omega arith
   sb_costs i m l = absurd l
@@ -140,7 +124,7 @@ module _ {U T C R O : Type 0} (S : System U T C R O) where
   all_costs i [] = (refl, refl, refl)
   all_costs i (p ∷ ps) = let rest = all_costs (processed S 1 i p).node ps in (rest.0, omega (arith, rest.1), rest.2)
 
-  cb_costs : (i : Inst T) (m : Msg C) → OnCb S m
+  cb_costs : (i : Inst T) (m : Msg C) → Label S Cb m
       → length (inst_step S 1 i m).node.held + weigh w_one (sent 0 (inst_step S 1 i m).sends) + weigh w_one (sent 1 (inst_step S 1 i m).sends) + 1
       ≤ length i.held + 2
   cb_costs i (Enable r) l = omega arith
@@ -153,28 +137,20 @@ module _ {U T C R O : Type 0} (S : System U T C R O) where
       omega (arith, one, two, three)
   cb_costs i m l = absurd l
 
-  sc_allowed : (m : Msg C) → OnSc S m → allowed S m 0 ≡ 0
-  sc_allowed Start l = refl
-  sc_allowed End l = refl
-  sc_allowed (Copied p) l = refl
-  sc_allowed (Laid high) l = refl
-  sc_allowed m l = absurd l
+  ac_allowed : (m : Msg C) → allowed S (kind 2 m) + 1 ≡ w_ac m
+  ac_allowed (Event p) = refl
+  ac_allowed Final = refl
+  ac_allowed m = refl
 
-  ac_allowed : (m : Msg C) → OnAc S m → allowed S m 2 + 1 ≡ w_ac m
-  ac_allowed Enabled l = refl
-  ac_allowed (Chunks c) l = refl
-  ac_allowed Deleted l = refl
-  ac_allowed (Event p) l = refl
-  ac_allowed Final l = refl
-  ac_allowed m l = absurd l
-
-  bc_allowed : (m : Msg C) → OnBc S m → allowed S m 3 ≡ 0
-  bc_allowed Restored l = refl
-  bc_allowed Enabled l = refl
-  bc_allowed Fenced l = refl
-  bc_allowed (Seen p) l = refl
+  bc_allowed : (m : Msg C) → Label S Bc m → allowed S (kind 3 m) ≡ 0
+  bc_allowed (Event p) l = absurd l
   bc_allowed Final l = refl
-  bc_allowed m l = absurd l
+  bc_allowed m l = refl
+
+  sc_allowed : (m : Msg C) → Label S Sc m → allowed S (kind 0 m) ≡ 0
+  sc_allowed (Event p) l = absurd l
+  sc_allowed Final l = refl
+  sc_allowed m l = refl
 
   -- each message taken makes the world lighter
   pub lighter : (pl : Place) (v : World T C O) (m : Msg C) (rest : List (Msg C)) → Label S pl m
@@ -184,15 +160,15 @@ module _ {U T C R O : Type 0} (S : System U T C R O) where
   lighter Aw v m rest l = let one = switch_less (with_waits S Aw rest v) (switch_step S v.sw m) 1 (back_costs v.sw m l) in omega (arith, one)
   lighter Bw v m rest l = let one = switch_less (with_waits S Bw rest v) (switch_step S v.sw m) 1 (back_costs v.sw m l) in omega (arith, one)
   lighter Sc v m rest l =
-      let one = ctrl_less (with_waits S Sc rest v) (ctrl_step S v.ct 0 m) (w_ctrl S v.ct + allowed S m 0) (step_costs S v.ct 0 m) in
+      let one = ctrl_less (with_waits S Sc rest v) (ctrl_step S v.ct 0 m) (w_ctrl S v.ct + allowed S (kind 0 m)) (step_costs S v.ct 0 m) in
       let two = sc_allowed m l in
       omega (arith, one, two)
   lighter Ac v m rest l =
-      let one = ctrl_less (with_waits S Ac rest v) (ctrl_step S v.ct 2 m) (w_ctrl S v.ct + allowed S m 2) (step_costs S v.ct 2 m) in
-      let two = ac_allowed m l in
+      let one = ctrl_less (with_waits S Ac rest v) (ctrl_step S v.ct 2 m) (w_ctrl S v.ct + allowed S (kind 2 m)) (step_costs S v.ct 2 m) in
+      let two = ac_allowed m in
       omega (arith, one, two)
   lighter Bc v m rest l =
-      let one = ctrl_less (with_waits S Bc rest v) (ctrl_step S v.ct 3 m) (w_ctrl S v.ct + allowed S m 3) (step_costs S v.ct 3 m) in
+      let one = ctrl_less (with_waits S Bc rest v) (ctrl_step S v.ct 3 m) (w_ctrl S v.ct + allowed S (kind 3 m)) (step_costs S v.ct 3 m) in
       let two = bc_allowed m l in
       omega (arith, one, two)
   lighter Sa v m rest l = let one = a_less (with_waits S Sa rest v) (inst_step S 0 v.a m) (w_sa m) (sa_costs v.a m l) in omega (arith, one)

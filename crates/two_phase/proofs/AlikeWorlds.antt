@@ -10,6 +10,8 @@ use Rattle.two_phase.specs.declared.msg.TwoMsg.{TwoMsg}
 use Rattle.two_phase.specs.declared.note.TwoNote.{TwoNote}
 use Rattle.two_phase.specs.declared.node.TwoNode.{TwoNode}
 use Rattle.two_phase.specs.declared.node.TwoNode.TheVariants.{Switch, Ctrl as Controller, Instance}
+use Rattle.instance_worker.specs.declared.instance.Instance.{Instance as InstanceState}
+use Rattle.two_phase.specs.Parts.{SwitchState, ControllerState}
 use Rattle.two_phase.specs.Tables.{Step, node_step, node_ready, node_ended}
 use Rattle.two_machine.proofs.Tables as core
 use Rattle.two_machine.proofs.View.{read, read-append}
@@ -68,11 +70,11 @@ module _ {R : Type 0} (setting : Setting R) where
 module _ {F R : Type 0} (setting : Setting R) where
   open setting use {f}
 
-  abbrev pub NodeShows : TwoNode F R → core.Node (Sound f) (Sound f) → Type 0
-  NodeShows (Switch s) (core.Is_switch t) = SwitchShows setting s t
-  NodeShows (Controller c) (core.Is_ctrl d) = ControllerShows setting c d
-  NodeShows (Instance i) (core.Is_inst n j) = InstanceShows setting n i j
-  NodeShows x y = ⊥
+  pub data NodeShows : TwoNode F R → core.Node (Sound f) (Sound f) → Type 0 where
+    Switches : {s : SwitchState} {t : core.Switch} → SwitchShows setting s t → NodeShows (Switch s) (core.Is_switch t)
+    Controllers : {c : ControllerState} {d : core.Ctrl (Sound f)} → ControllerShows setting c d → NodeShows (Controller c) (core.Is_ctrl d)
+    Instances : {i : InstanceState F R} {index : ℕ} {j : core.Inst (Sound f)} → InstanceShows setting index i j
+        → NodeShows (Instance i) (core.Is_inst index j)
 
   -- a step of a node
   pub record StepShows (did : Step (TwoNode F R)) (dj : core.Step (sys setting) (core.Node (Sound f) (Sound f))) : Type 0 where
@@ -82,18 +84,12 @@ module _ {F R : Type 0} (setting : Setting R) where
 
   step_shows : (x : TwoNode F R) (y : core.Node (Sound f) (Sound f)) (port : ℕ) (m : TwoMsg) (n : core.Msg (Sound f)) → NodeShows x y → Shown setting m n
       → is_proper port n ≡ true → StepShows (node_step f x port m) (core.node_step (sys setting) y port n)
-  step_shows (Switch s) (core.Is_switch t) port m n h k e =
-      let all = switch_follows setting s t m n h k in record { node = all.node; sends = all.sends; notes = all.notes }
-  step_shows (Controller c) (core.Is_ctrl d) port m n h k e =
-      let all = controller_follows setting c d port m n h k e in record { node = all.node; sends = all.sends; notes = all.notes }
-  step_shows (Instance i) (core.Is_inst index j) port m n h k e =
-      let all = instance_follows setting index i j h m n k in record { node = all.node; sends = all.sends; notes = all.notes }
-  step_shows (Switch s) (core.Is_ctrl d) port m n h k e = absurd h
-  step_shows (Switch s) (core.Is_inst index j) port m n h k e = absurd h
-  step_shows (Controller c) (core.Is_switch t) port m n h k e = absurd h
-  step_shows (Controller c) (core.Is_inst index j) port m n h k e = absurd h
-  step_shows (Instance i) (core.Is_switch t) port m n h k e = absurd h
-  step_shows (Instance i) (core.Is_ctrl d) port m n h k e = absurd h
+  step_shows x y port m n (Switches {s} {t} h) k e =
+      let all = switch_follows setting s t m n h k in record { node = Switches all.node; sends = all.sends; notes = all.notes }
+  step_shows x y port m n (Controllers {c} {d} h) k e =
+      let all = controller_follows setting c d port m n h k e in record { node = Controllers all.node; sends = all.sends; notes = all.notes }
+  step_shows x y port m n (Instances {i} {index} {j} h) k e =
+      let all = instance_follows setting index i j h m n k in record { node = Instances all.node; sends = all.sends; notes = all.notes }
 
   -- worlds
   pub record Outlined (w : Network (TwoNode F R) TwoMsg TwoNote)
@@ -168,15 +164,9 @@ module _ {F R : Type 0} (setting : Setting R) where
     -- whether a choice is enabled
     ready_same : (x : TwoNode F R) (y : core.Node (Sound f) (Sound f)) (m : TwoMsg) (n : core.Msg (Sound f)) → NodeShows x y → Shown setting m n
         → node_ready x m ≡ core.node_ready (sys setting) y n
-    ready_same (Switch s) (core.Is_switch t) m n k p = takes_same setting s t m n k p
-    ready_same (Controller c) (core.Is_ctrl d) m n k p = refl
-    ready_same (Instance i) (core.Is_inst index j) m n k p = refl
-    ready_same (Switch s) (core.Is_ctrl d) m n k p = absurd k
-    ready_same (Switch s) (core.Is_inst index j) m n k p = absurd k
-    ready_same (Controller c) (core.Is_switch t) m n k p = absurd k
-    ready_same (Controller c) (core.Is_inst index j) m n k p = absurd k
-    ready_same (Instance i) (core.Is_switch t) m n k p = absurd k
-    ready_same (Instance i) (core.Is_ctrl d) m n k p = absurd k
+    ready_same x y m n (Switches {s} {t} k) p = takes_same setting s t m n k p
+    ready_same x y m n (Controllers k) p = refl
+    ready_same x y m n (Instances k) p = refl
 
     first_same : (c : Choice) (o : Option (TwoNode F R)) (q : Option (core.Node (Sound f) (Sound f))) (xs : List TwoMsg) (ys : List (core.Msg (Sound f)))
         → BothOrNone NodeShows o q → AreShown setting xs ys → takes_first node_ready c o xs ≡ takes_first (core.node_ready (sys setting)) c q ys
@@ -210,15 +200,9 @@ module _ {F R : Type 0} (setting : Setting R) where
 
     -- whether nothing is left to do
     ended_same : (x : TwoNode F R) (y : core.Node (Sound f) (Sound f)) → NodeShows x y → node_ended x ≡ core.node_ended (sys setting) y
-    ended_same (Switch s) (core.Is_switch t) k = let one = k.window.closed in let two = k.window.flying in rw (one, two) refl
-    ended_same (Controller c) (core.Is_ctrl d) k = k.stopped
-    ended_same (Instance i) (core.Is_inst index j) k = k.ended
-    ended_same (Switch s) (core.Is_ctrl d) k = absurd k
-    ended_same (Switch s) (core.Is_inst index j) k = absurd k
-    ended_same (Controller c) (core.Is_switch t) k = absurd k
-    ended_same (Controller c) (core.Is_inst index j) k = absurd k
-    ended_same (Instance i) (core.Is_switch t) k = absurd k
-    ended_same (Instance i) (core.Is_ctrl d) k = absurd k
+    ended_same x y (Switches k) = let one = k.window.closed in let two = k.window.flying in rw (one, two) refl
+    ended_same x y (Controllers k) = ap (λ c. c.stopped) k.is
+    ended_same x y (Instances k) = k.ended
 
     pub done_same : is_done node_ended w ≡ is_done (core.node_ended (sys setting)) v
     done_same =

@@ -69,29 +69,17 @@ module _ {F R : Type 0} (setting : Setting R) where
               (ap (λ k. core.Processed k index (output_for f site (finite.get j.table.live (unit_at f.kind site (packet n))) (packet n)) ∷ []) number);
         }
 
-    passed_follows : (cell : FullCell) (n : ℕ) → IsGenuine setting cell n
-        → Follows index (wrapped_step (process_step f i (Pass the_update) cell)) (core.processed (sys setting) index j n)
+    passed_same : (cell : FullCell) → process_step f i Plain cell ≡ process_step f i (Pass the_update) cell
     unfolding process_step
-    passed_follows cell n g =
-        let live = h.live in
-        let at = h.site_is in
-        let place = h.index_is in
-        let same = g.packet_is in
-        let number : (packet n).number ≡ n = sym (ap (λ p. p.number) same) ∙ g.number in
-        record {
-          node = record { live = rw (at, live, same) refl; site_is = at; index_is = place; ended = h.ended; rules = h.rules };
-          sends = ((refl, Outlines.Credit cell n g), tt);
-          notes = rw (at, live, place, same)
-              (ap (λ k. core.Processed k index (output_for f site (finite.get j.table.live (unit_at f.kind site (packet n))) (packet n)) ∷ []) number);
-        }
+    passed_same cell = refl
 
     pub pass_follows : (cell : FullCell) (n : ℕ) → IsGenuine setting cell n
         → Follows index (inner_step f i (two.Inner (msg.Carry (Pass the_update) cell))) (core.inst_step (sys setting) index j (core.Pass n))
     unfolding on_carry
     pass_follows cell n g =
-        let one = passed_follows cell n g in
         let did = wrapped_step (process_step f i (Pass the_update) cell) in
         let dj = core.processed (sys setting) index j n in
+        let one : Follows index did dj = subst (λ x. Follows index (wrapped_step x) dj) (passed_same cell) (plain_follows cell n g) in
         record {
           node = one.node;
           sends =

@@ -139,16 +139,24 @@ module _ {R : Type 0} (setting : Setting R) where
       pub ended : i.ended ≡ j.stopped
       pub rules : RulesShow i.rules j.rule j.held
 
+  -- the real controller with these cells in its store
+  abbrev pub real_ctrl : List FullCell → core.Ctrl (Sound f) → ControllerState
+  real_ctrl cells d = record {
+    phase = phase_shown d.phase;
+    filter = filter;
+    store = cells;
+    kept = chunks setting d.kept;
+    last = d.last;
+    seen = d.seen;
+    ended = d.ended;
+    finished = d.finished;
+    stopped = d.stopped;
+  }
+
   pub record ControllerShows (c : ControllerState) (d : core.Ctrl (Sound f)) : Type 0 where
-    pub phase : c.phase ≡ phase_shown d.phase
-    pub filter_is : c.filter ≡ filter
-    pub store : Alike IsGenuine c.store d.store
-    pub kept : c.kept ≡ chunks setting d.kept
-    pub last : c.last ≡ d.last
-    pub seen : c.seen ≡ d.seen
-    pub ended : c.ended ≡ d.ended
-    pub finished : c.finished ≡ d.finished
-    pub stopped : c.stopped ≡ d.stopped
+    pub cells : List FullCell
+    pub store : Alike IsGenuine cells d.store
+    pub is : c ≡ real_ctrl cells d
 
   pub record SwitchShows (s : SwitchState) (t : core.Switch) : Type 0 where
     pub site_is : s.site ≡ site

@@ -1,5 +1,5 @@
 -- Each run of the network of an update is shown by one of the reduced network, from the start on.
-use Rattle.std.proofs.Common.{◌≡◌, ℕ, Bool, true, false, Some, List, [], ◌∷◌, ◌++◌, map, take, drop, refl, sym, ap, subst, ◌∙◌, arith}
+use Rattle.std.proofs.Common.{◌≡◌, ℕ, suc, Bool, true, false, Some, List, [], ◌∷◌, ◌++◌, map, take, drop, refl, sym, ap, subst, ◌∙◌, arith}
 use Rattle.std.specs.Prelude.{if◌then◌else◌, is_some}
 use Rattle.std.specs.declared.alloc.Global.{Global}
 use Rattle.std.proofs.lemmas.Bool.{false≢true}
@@ -18,13 +18,13 @@ use Rattle.actor_net.proofs.WeightLaws.{Each}
 use Rattle.net_world.specs.Input.{packet_numbered}
 use Rattle.two_phase.specs.declared.msg.TwoMsg.TheVariants.{InPacket, InStart, InEnd}
 use Rattle.two_phase.specs.Tables.{node_step, node_ready}
-use Rattle.two_phase.specs.Start.{UpdateJob, IsUpdateJob, items_of, two_start}
+use Rattle.two_phase.specs.Start.{UpdateJob, IsUpdateJob, items_of, first_controller, two_start}
 use Rattle.two_machine.proofs.Stages.{Rises}
 use Rattle.two_machine.proofs.Tables as core
 use Rattle.two_machine.proofs.Tables.{Fenced, Final}
 use Rattle.two_machine.proofs.View.{World, net, Nobody}
 use Rattle.two_machine.proofs.Labels.{Labels, Label}
-use Rattle.two_machine.proofs.Places.{Place, In, Cs, Aw, Bw, Sc, Ac, Bc, Sa, Ca, Sb, Cb, choice, waits}
+use Rattle.two_machine.proofs.Places.{Place, In, Cs, Aw, Bw, Sc, Ac, Bc, Sa, Ca, Sb, Cb, choice, waits, waiting_at}
 use Rattle.two_machine.proofs.TakenMessages.{finds, labels_less, written}
 use Rattle.two_machine.proofs.Runs.{Reached, step_reaches}
 use Rattle.two_machine.proofs.Starts.{first_world, opens, first_holds}
@@ -35,7 +35,7 @@ use Rattle.two_phase.proofs.RecordLaws.{Sound, Setting, sys, its_laws, no_chunks
 use Rattle.two_phase.proofs.Outlines
 use Rattle.two_phase.proofs.Outlines.{Shown}
 use Rattle.two_phase.proofs.ControllerFollows.{is_proper}
-use Rattle.two_phase.proofs.AlikeWorlds.{IsProper, Real, Core, AreShown, Outlined, enabled_same, taken_alike}
+use Rattle.two_phase.proofs.AlikeWorlds.{IsProper, Switches, Controllers, Instances, Real, Core, AreShown, Outlined, enabled_same, taken_alike}
 use Rattle.net_world.proofs.WholeFilters.{whole_takes}
 use Rattle.two_phase.proofs.NumberedPackets.{numbers, numbered_fits, rises_from, all_numbered, each_take, each_drop, numbers_split}
 
@@ -49,10 +49,6 @@ module _ {U T C R O : Type 0} (S : core.System U T C R O) where
   proper_at pl Fenced h = absurd h
   proper_at pl m h = refl
 
-  waiting_at : (pl : Place) (v : World T C O) → queue_at (net v) (choice pl) ≡ waits S pl v
-  waiting_at In v = refl
-  waiting_at pl v = refl
-
   proper_here : (v : World T C O) (c : Choice) → Labels S v → is_enabled (core.node_ready S) (net v) c ≡ true → IsProper c (queue_at (net v) c)
   proper_here v c l on =
       let took = finds S v c.node c.port on in
@@ -60,7 +56,7 @@ module _ {U T C R O : Type 0} (S : core.System U T C R O) where
       let label = (labels_less S took.place v took.message took.rest (subst (Labels S) wrote l)).0 in
       let here = proper_at took.place took.message label in
       subst (λ c. IsProper c (queue_at (net v) c)) (sym took.is)
-      (subst (IsProper (choice took.place)) (sym (waiting_at took.place v ∙ took.waits_is)) here)
+      (subst (IsProper (choice took.place)) (sym (waiting_at S took.place v ∙ took.waits_is)) here)
 
 any_is : IsFilter any
 any_is = record {
@@ -116,28 +112,18 @@ module _ (F : Type 0) {R : Type 0} (f : Semantics R) (laws : FunctionLaws f) (al
   unfolding start core_start
   start_alike = record {
     nodes = (
-      record {
+      Switches (record {
         site_is = refl;
         filter_is = refl;
         filters = All-cons (λ r. IsFilter r.0) (any, ToInstance 0) [] any_is (All-nil (λ r. IsFilter r.0));
         routed = λ flow fits. routes (matches job.filter flow);
         window = record { name = refl; cells = refl; balanced = omega arith; flying = refl; closed = refl };
-      },
+      }),
       (
-        record {
-          phase = refl;
-          filter_is = refl;
-          store = tt;
-          kept = no_chunks setting;
-          last = refl;
-          seen = refl;
-          ended = refl;
-          finished = refl;
-          stopped = refl;
-        },
+        Controllers (record { cells = []; store = tt; is = ap (λ ks. record (first_controller job) { kept = ks }) (no_chunks setting) }),
         (
-          record { live = refl; site_is = refl; index_is = refl; ended = refl; rules = (refl, refl) },
-          (record { live = refl; site_is = refl; index_is = refl; ended = refl; rules = (refl, refl) }, tt),
+          Instances (record { live = refl; site_is = refl; index_is = refl; ended = refl; rules = (refl, refl) }),
+          (Instances (record { live = refl; site_is = refl; index_is = refl; ended = refl; rules = (refl, refl) }), tt),
         ),
       ),
     );
@@ -159,26 +145,26 @@ module _ (F : Type 0) {R : Type 0} (f : Semantics R) (laws : FunctionLaws f) (al
       routes true = refl
       routes false = refl
 
-  abbrev At : Core setting → Type 0
-  At v = Reached S (its_laws setting) Nobody tt (early ++ late) rising v
+  abbrev At : ℕ → Core setting → Type 0
+  At n v = Reached S (its_laws setting) Nobody tt (early ++ late) rising (λ n v. Unit {0}) n v
 
   record Simulates (cs : List Choice) (w : Real F R) (v : Core setting) : Type 0 where
     pub is_run : IsRun (core.node_ready S) (core.node_step S) cs v
     pub outlined : Outlined setting (run (node_step f) cs w) (run (core.node_step S) cs v)
 
-  simulates : (cs : List Choice) (w : Real F R) (v : Core setting) → Outlined setting w v → At v → IsRun node_ready (node_step f) cs w
+  simulates : (cs : List Choice) (n : ℕ) (w : Real F R) (v : Core setting) → Outlined setting w v → At n v → IsRun node_ready (node_step f) cs w
       → Simulates cs w v
-  simulates [] w v h r is = record { is_run = tt; outlined = h }
-  simulates (c ∷ cs) w v h r is =
+  simulates [] n w v h r is = record { is_run = tt; outlined = h }
+  simulates (c ∷ cs) n w v h r is =
       let here = r.is in
       let on : is_enabled (core.node_ready S) v c ≡ true = sym (enabled_same setting w v h c) ∙ is.0 in
       let on_net : is_enabled (core.node_ready S) (net r.world) c ≡ true = subst (λ y. is_enabled (core.node_ready S) y c ≡ true) here on in
       let fine : IsProper c (queue_at v c) = subst (λ y. IsProper c (queue_at y c)) (sym here) (proper_here S r.world c r.holds.labels on_net) in
-      let next : At (world_next (core.node_step S) v c) =
-      subst (λ y. At (world_next (core.node_step S) y c)) (sym here)
-      (step_reaches S (its_laws setting) Nobody tt (early ++ late) rising r.world c r.holds on_net)
+      let next : At (suc n) (world_next (core.node_step S) v c) =
+      subst (λ y. At (suc n) (world_next (core.node_step S) y c)) (sym here)
+      (step_reaches S (its_laws setting) Nobody tt (early ++ late) rising (λ n v. Unit {0}) (λ n pl v x rest ready h q. tt) n r.world c r.holds tt on_net)
       in
-      let rest = simulates cs (world_next (node_step f) w c) (world_next (core.node_step S) v c) (taken_alike setting w v h c fine) next is.1 in
+      let rest = simulates cs (suc n) (world_next (node_step f) w c) (world_next (core.node_step S) v c) (taken_alike setting w v h c fine) next is.1 in
       record { is_run = (on, rest.is_run); outlined = rest.outlined }
 
   -- what is proved of the run that shows this one
@@ -191,12 +177,13 @@ module _ (F : Type 0) {R : Type 0} (f : Semantics R) (laws : FunctionLaws f) (al
       → IsShownBy cs (run (node_step f) cs (two_start alloc job))
   unfolding start core_start
   run_shown cs is_run =
-      let first : At core_start = record {
+      let first : At 0 core_start = record {
         world = first_world S job.window early late;
         is = opens S job.window early late;
         holds = first_holds S (its_laws setting) Nobody tt job.window early late rising;
+        more = tt;
       } in
-      let all = simulates cs start core_start start_alike first is_run in
+      let all = simulates cs 0 start core_start start_alike first is_run in
       let v = run (core.node_step S) cs core_start in
       let some = is.window in
       record {

@@ -36,7 +36,7 @@ use Rattle.two_machine.proofs.Promises as promises
 use Rattle.two_phase.proofs.AlikeLists.{Alike}
 use Rattle.two_phase.proofs.RecordLaws.{Sound}
 use Rattle.two_phase.proofs.Outlines.{outline_note}
-use Rattle.two_phase.proofs.AlikeWorlds.{NodeShows, enabled_same, done_same}
+use Rattle.two_phase.proofs.AlikeWorlds.{NodeShows, Switches, Controllers, Instances, enabled_same, done_same}
 use Rattle.two_phase.proofs.NumberedPackets.{numbers_split}
 use Rattle.two_phase.proofs.RealRuns.{setting, S, early, late, IsShownBy}
 
@@ -161,20 +161,14 @@ module _ (F : Type 0) {R : Type 0} (f : Semantics R) (laws : FunctionLaws f) (al
   live_is : (u : units.Unit) (ws : List (TwoNode F R)) (vs : List (core.Node (Sound f) (Sound f)))
       → Alike (NodeShows (setting F f laws alloc job is)) ws vs → filter_map (live_in u) ws ≡ promises.live_in its u vs
   live_is u [] [] h = refl
-  live_is u (Switch s ∷ ws) (core.Is_switch t ∷ vs) h = live_is u ws vs h.1
-  live_is u (Controller c ∷ ws) (core.Is_ctrl d ∷ vs) h = live_is u ws vs h.1
-  live_is u (Instance i ∷ ws) (core.Is_inst n j ∷ vs) h =
-      let one = h.0.live in let rest = live_is u ws vs h.1 in rw (one, rest) (cons_listed (finite.get j.table.live u) (promises.live_in its u vs))
+  live_is u (x ∷ ws) (y ∷ vs) (Switches h, more) = live_is u ws vs more
+  live_is u (x ∷ ws) (y ∷ vs) (Controllers h, more) = live_is u ws vs more
+  live_is u (x ∷ ws) (y ∷ vs) (Instances {i} {index} {j} h, more) =
+      let one = h.live in let rest = live_is u ws vs more in rw (one, rest) (cons_listed (finite.get j.table.live u) (promises.live_in its u vs))
     where
       cons_listed : (o : Option R) (rs : List R) → cons_option o rs ≡ promises.listed o rs
       cons_listed None rs = refl
       cons_listed (Some r) rs = refl
-  live_is u (Switch s ∷ ws) (core.Is_ctrl d ∷ vs) h = absurd h.0
-  live_is u (Switch s ∷ ws) (core.Is_inst n j ∷ vs) h = absurd h.0
-  live_is u (Controller c ∷ ws) (core.Is_switch t ∷ vs) h = absurd h.0
-  live_is u (Controller c ∷ ws) (core.Is_inst n j ∷ vs) h = absurd h.0
-  live_is u (Instance i ∷ ws) (core.Is_switch t ∷ vs) h = absurd h.0
-  live_is u (Instance i ∷ ws) (core.Is_ctrl d ∷ vs) h = absurd h.0
   live_is u [] (y ∷ vs) h = absurd h
   live_is u (x ∷ ws) [] h = absurd h
 
@@ -182,16 +176,11 @@ module _ (F : Type 0) {R : Type 0} (f : Semantics R) (laws : FunctionLaws f) (al
   cells_of : (ws : List (TwoNode F R)) (vs : List (core.Node (Sound f) (Sound f))) → Alike (NodeShows (setting F f laws alloc job is)) ws vs
       → promises.switch_window vs ≡ Some job.window
       → (s : SwitchState) × (switch_in (slice_get ws 0) ≡ Some s) × (s.window.flying + s.window.pool.home ≡ job.window)
-  cells_of (Switch s ∷ ws) (core.Is_switch t ∷ vs) h e =
-      let window : t.window ≡ job.window = cc in
-      (s, refl, h.0.window.balanced ∙ h.0.window.cells ∙ window)
-  cells_of (Switch s ∷ ws) (core.Is_ctrl d ∷ vs) h e = absurd h.0
-  cells_of (Switch s ∷ ws) (core.Is_inst n j ∷ vs) h e = absurd h.0
-  cells_of ws (core.Is_ctrl d ∷ vs) h e = cc
-  cells_of ws (core.Is_inst n j ∷ vs) h e = cc
-  cells_of (Controller c ∷ ws) (core.Is_switch t ∷ vs) h e = absurd h.0
-  cells_of (Instance i ∷ ws) (core.Is_switch t ∷ vs) h e = absurd h.0
-  cells_of [] (core.Is_switch t ∷ vs) h e = absurd h
+  cells_of (x ∷ ws) (y ∷ vs) (Switches {s} {t} h, more) e =
+      let window : t.window ≡ job.window = cc in (s, refl, h.window.balanced ∙ h.window.cells ∙ window)
+  cells_of (x ∷ ws) (y ∷ vs) (Controllers h, more) e = cc
+  cells_of (x ∷ ws) (y ∷ vs) (Instances h, more) e = cc
+  cells_of [] (y ∷ vs) h e = absurd h
   cells_of ws [] h e = cc
 
   closed_first : (ws : List (TwoNode F R)) (s : SwitchState) → switch_in (slice_get ws 0) ≡ Some s → list_all node_ended ws ≡ true → has_closed s ≡ true
