@@ -12,6 +12,7 @@
 # Then the program runs by itself: with one instance and three, by threads, with a journal and its audit, with a tenth of the packets and
 # all, with and without a move of a tenth as many units as there are packets to another instance and back, and with and without 12 moves of
 # half of the flows of 10,000 packets. What the moves take stands beside what they take by plain Rust (moves.rs).
+# All of them run with the allocator set as the launcher sets it, unless GLIBC_TUNABLES is set.
 # This is no part of the gate. What it makes stands in bench/out.
 set -eu
 bench=$(cd "$(dirname "${BASH_SOURCE[0]}")" && pwd)
@@ -20,6 +21,8 @@ packets=${2:-1000000}
 out=$bench/out
 [ "$packets" = 1000000 ] || out=$out/$packets
 mkdir -p "$out"
+eval "$(grep '^allocator=' "$bench/../opennf")"
+export GLIBC_TUNABLES="${GLIBC_TUNABLES-$allocator}"
 
 if [ ! -x "$program" ]; then
     echo "bench/run.sh: $program isn't there: build it first, by ./opennf at the top" >&2
