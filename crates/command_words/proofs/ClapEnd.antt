@@ -13,7 +13,7 @@ use Rattle.clap.specs.Walk.{Row, Rule, has_row, more_values, with_default}
 use Rattle.clap.specs.declared.builder.value_parser.Reading.TheVariants.{AsWritten}
 use Rattle.clap.specs.declared.parser.matches.ValueSource.TheVariants.{DefaultValue}
 use Rattle.command_words.specs.declared.forms.ArgumentKind.{ArgumentKind}
-use Rattle.command_words.specs.declared.forms.ArgumentKind.TheVariants.{Positional, OptionalPositional, Required, Optional, Flag}
+use Rattle.command_words.specs.declared.forms.ArgumentKind.TheVariants.{Positional, Required, Flag}
 use Rattle.command_words.specs.Arguments.{Argument, Text, is_required}
 use Rattle.command_words.specs.Grammar.{Pairs, texts_of, is_given}
 use Rattle.command_words.specs.ClapArguments.{given_by_words, given_in}
@@ -37,11 +37,8 @@ no_default_fault (a ∷ rest) i rows = go a.0 a.1 (no_default_fault rest)
 
     go : (kind : ArgumentKind) (name : Text) → ((k : ℕ) (others : List Row) → defaults_fault others (built_rules k rest) ≡ [])
         → defaults_fault rows (built_by i kind name ∷ built_rules (index_past i kind) rest) ≡ []
-    go Positional name more = valued_one (has_row name rows) _ _ refl (more _ _)
-    go OptionalPositional name more = valued_one (has_row name rows) _ _ refl (more _ _)
-    go Required name more = valued_one (has_row name rows) _ _ refl (more _ _)
-    go Optional name more = valued_one (has_row name rows) _ _ refl (more _ _)
     go Flag name more = flag_one (has_row name rows) _ (more _ _)
+    go kind name more = valued_one (has_row name rows) _ _ refl (more _ _)
 
 abbrev pub is_default : Row → Bool
 is_default r = not (explicit_source r.source)
@@ -86,11 +83,8 @@ end_rows (a ∷ rest) i rows = go a.0 a.1 (end_rows rest)
 
     go : (kind : ArgumentKind) (name : Text) → ((k : ℕ) (others : List Row) → Ends (built_rules k rest) others)
         → Ends (built_by i kind name ∷ built_rules (index_past i kind) rest) rows
-    go Positional name more = valued_one Positional name (more _ rows) (alike (has_row name rows) rows)
-    go OptionalPositional name more = valued_one OptionalPositional name (more _ rows) (alike (has_row name rows) rows)
-    go Required name more = valued_one Required name (more _ rows) (alike (has_row name rows) rows)
-    go Optional name more = valued_one Optional name (more _ rows) (alike (has_row name rows) rows)
     go Flag name more = flag_one name (has_row name rows) refl (more i)
+    go kind name more = valued_one kind name (more _ rows) (alike (has_row name rows) rows)
 
 -- ---- what was given, beside defaults
 
@@ -159,7 +153,5 @@ all_wanted (a ∷ rest) i rows pairs same = go a.0 a.1 (λ k. all_wanted rest k 
         → list_any (is_wanted_by rows) (built_by i kind name ∷ built_rules (index_past i kind) rest)
         ≡ not (list_all (is_satisfied pairs) ((kind, name) ∷ rest))
     go Positional name more = one _ _ _ _ (same name) (more _)
-    go OptionalPositional name more = more _
     go Required name more = one _ _ _ _ (same name) (more i)
-    go Optional name more = more i
-    go Flag name more = more i
+    go kind name more = more (index_past i kind)

@@ -46,9 +46,7 @@ built_by i Flag name = flagged name
 abbrev pub index_past : ℕ → ArgumentKind → ℕ
 index_past i Positional = min (i + 1) usize_max
 index_past i OptionalPositional = min (i + 1) usize_max
-index_past i Required = i
-index_past i Optional = i
-index_past i Flag = i
+index_past i kind = i
 
 abbrev pub built_rules : ℕ → List Argument → List Rule
 built_rules i [] = []
@@ -60,11 +58,8 @@ all_built i (a ∷ rest) = go a.0 a.1 (λ k. all_built k rest)
   where
     go : (kind : ArgumentKind) (name : Text) → ((k : ℕ) → filled_from k (map rule_for rest) ≡ built_rules k rest)
         → filled_from i (rule_by kind name ∷ map rule_for rest) ≡ built_by i kind name ∷ built_rules (index_past i kind) rest
-    go Positional name more = ap (λ rules. built_by i Positional name ∷ rules) (more (min (i + 1) usize_max))
-    go OptionalPositional name more = ap (λ rules. built_by i OptionalPositional name ∷ rules) (more (min (i + 1) usize_max))
-    go Required name more = ap (λ rules. built_by i Required name ∷ rules) (more i)
-    go Optional name more = ap (λ rules. built_by i Optional name ∷ rules) (more i)
     go Flag name more = ap (λ rules. built_by i Flag name ∷ rules) (more i)
+    go kind name more = ap (λ rules. built_by i kind name ∷ rules) (more (index_past i kind))
 
 -- clap finds the option or the flag that the grammar finds
 abbrev pub built_option : Argument → Rule
@@ -89,9 +84,7 @@ by_long i (a ∷ rest) name = go a.0 a.1 (λ k. by_long k rest name)
         ≡ option_map built_option (find (is_option_named name) ((kind, own) ∷ rest))
     go Positional own more = more (min (i + 1) usize_max)
     go OptionalPositional own more = more (min (i + 1) usize_max)
-    go Required own more = found_or_next (bytes_eq own name) (Required, own) _ _ _ refl (more i)
-    go Optional own more = found_or_next (bytes_eq own name) (Optional, own) _ _ _ refl (more i)
-    go Flag own more = found_or_next (bytes_eq own name) (Flag, own) _ _ _ refl (more i)
+    go kind own more = found_or_next (bytes_eq own name) (kind, own) _ _ _ refl (more i)
 
 pub by_short : (i : ℕ) (table : List Argument) (x : ℕ) → arg_by_short (built_rules i table) x ≡ None
 by_short i [] x = refl
@@ -99,11 +92,8 @@ by_short i (a ∷ rest) x = go a.0 a.1 (λ k. by_short k rest x)
   where
     go : (kind : ArgumentKind) (own : Text) → ((k : ℕ) → arg_by_short (built_rules k rest) x ≡ None)
         → arg_by_short (built_by i kind own ∷ built_rules (index_past i kind) rest) x ≡ None
-    go Positional own more = more (min (i + 1) usize_max)
-    go OptionalPositional own more = more (min (i + 1) usize_max)
-    go Required own more = more i
-    go Optional own more = more i
     go Flag own more = more i
+    go kind own more = more (index_past i kind)
 
 -- the options with a value are found by their names
 abbrev pub IsFoundById : List Rule → ArgumentKind → Text → Type 0
@@ -114,12 +104,15 @@ IsFoundById rules kind name = ⊤
 abbrev pub AreFoundById : List Rule → List Argument → Type 0
 AreFoundById rules table = AllByRecursion (λ (a : Argument). IsFoundById rules a.0 a.1) table
 
-pub the_found : (P : Argument → Type 0) (p : Argument → Bool) (table : List Argument) (a : Argument) → AllByRecursion P table → find p table ≡ Some a → P a
+-- what is found has passed
+pub the_found : (P : Argument → Type 0) (p : Argument → Bool) (table : List Argument) (a : Argument) → AllByRecursion P table → find p table ≡ Some a
+    → P a × (p a ≡ true)
 the_found P p [] a all found = cc
 the_found P p (x ∷ rest) a all found = go (p x) refl (the_found P p rest a all.1)
   where
-    go : (t : Bool) → p x ≡ t → (find p rest ≡ Some a → P a) → P a
-    go true e more = let same : Some x ≡ Some a = rw e at found in subst P (ap (λ (o : Option Argument). unwrap_or o x) same) all.0
+    go : (t : Bool) → p x ≡ t → (find p rest ≡ Some a → P a × (p a ≡ true)) → P a × (p a ≡ true)
+    go true e more = let same : Some x ≡ Some a = rw e at found in
+        subst (λ y. P y × (p y ≡ true)) (ap (λ (o : Option Argument). unwrap_or o x) same) (all.0, e)
     go false e more = more (rw e at found)
 
 -- the places with these names come next, and are found by their names too
@@ -136,28 +129,23 @@ pub record IsTable (table : List Argument) : Type 0 where
 pub is_table : (form : Form) → IsTable (arguments_of form)
 is_table Run = record {
   options = (tt, (refl, (refl, (refl, (refl, (refl, (tt, (tt, (tt, tt)))))))));
-  places =
-      (true, refl, refl, (true, refl, refl, (false, refl, refl, refl)));
+  places = (true, refl, refl, (true, refl, refl, (false, refl, refl, refl)));
 }
 is_table Sim = record {
   options = (tt, (refl, (refl, (refl, (refl, (refl, (refl, (tt, (tt, (tt, tt))))))))));
-  places =
-      (true, refl, refl, (true, refl, refl, (false, refl, refl, refl)));
+  places = (true, refl, refl, (true, refl, refl, (false, refl, refl, refl)));
 }
 is_table Fail = record {
   options = (tt, (refl, (refl, (refl, (refl, (refl, (refl, (refl, (refl, (tt, (tt, tt)))))))))));
-  places =
-      (true, refl, refl, (true, refl, refl, (false, refl, refl, refl)));
+  places = (true, refl, refl, (true, refl, refl, (false, refl, refl, refl)));
 }
 is_table Check = record { options = (tt, (refl, (tt, tt))); places = (true, refl, refl, (true, refl, refl, refl)) }
 is_table Gen = record { options = (tt, (refl, (refl, (tt, tt)))); places = (true, refl, refl, (true, refl, refl, refl)) }
 is_table Published = record {
   options = (tt, (refl, (refl, (refl, (refl, (tt, (tt, (tt, tt))))))));
-  places =
-      (true, refl, refl, (true, refl, refl, (true, refl, refl, (true, refl, refl, refl))));
+  places = (true, refl, refl, (true, refl, refl, (true, refl, refl, (true, refl, refl, refl))));
 }
 is_table Strong = record {
   options = (tt, (refl, (refl, (refl, (refl, (refl, (tt, (tt, tt))))))));
-  places =
-      (true, refl, refl, (true, refl, refl, (false, refl, refl, refl)));
+  places = (true, refl, refl, (true, refl, refl, (false, refl, refl, refl)));
 }

@@ -1,6 +1,6 @@
 -- Where clap's walk has read words so far: what it gives of texts, at the end, and where a name is given twice.
 use Rattle.std.proofs.Common.{◌≡◌, ◌∙◌, ℕ, Bool, cond, true, false, ◌&&◌, not, ◌+◌, refl, sym, ap}
-use Rattle.std.proofs.Common.{List, [], ◌∷◌, ◌++◌, Option, Some, None, append-nil, true≢false}
+use Rattle.std.proofs.Common.{List, [], ◌∷◌, ◌++◌, Option, Some, None, append-nil}
 use Prim.Native.Nat.compare
 use Rattle.std.specs.Prelude.{codes, length, min, nat_le, option_map}
 use Rattle.std.specs.List.{fold, list_all, zip}
@@ -14,8 +14,8 @@ use Rattle.command_words.specs.ClapArguments.{given_in, taken}
 use Rattle.flow_filter.specs.Name.{has_twice}
 use Rattle.command_words.specs.Values.{only}
 use Rattle.command_words.specs.Arguments.{Argument, Text}
-use Rattle.command_words.specs.Grammar.{Pairs, texts_of, also, is_given, is_text}
-use Rattle.command_words.proofs.WordShapes.{Looks, as_dashes, as_text, as_long, as_short, looks}
+use Rattle.command_words.specs.Grammar.{Pairs, texts_of, also, is_given}
+use Rattle.command_words.proofs.WordShapes.{NoText, as_dashes, as_long, as_short, Looks, as_text, as_other, looks}
 use Rattle.command_words.proofs.ClapLookups.{ArePlacesAt, built_rules, flagged, valued}
 use Rattle.command_words.proofs.PairLemmas.{carried, names_of, once_more, outcome, refused_twice}
 use Rattle.command_words.proofs.ClapRows.{has_row_is, rows_for, valued_used}
@@ -84,18 +84,16 @@ trailing_stuck rules (word ∷ words) names rows pending waiting position places
 -- a word that is no text
 pub not_text_stuck : (rules : List Rule) (word : Text) (words : List Text) (names : List Text) (rows : List Row) (pending : Option (Text × List Text))
     (waiting : Waiting) (position : ℕ)
-    → ArePlacesAt rules position names → ((c : ℕ) → arg_by_short rules c ≡ None) → Fails (settle_fault rules false (held rows pending)) → Looks word
-    → is_text word ≡ false
+    → ArePlacesAt rules position names → ((c : ℕ) → arg_by_short rules c ≡ None) → Fails (settle_fault rules false (held rows pending)) → NoText word
     → ended rules (walk_at (held rows pending) waiting position false) (word ∷ words) ≡ None
-not_text_stuck rules word words names rows pending waiting position places no_short f (as_dashes e t) is =
+not_text_stuck rules word words names rows pending waiting position places no_short f (as_dashes e) =
     goes_on rules _ _ word words (dashes_fault rules (held rows pending) waiting position word e)
     (dashes_walked rules (held rows pending) waiting position word e)
     ∙ trailing_stuck rules words names rows pending waiting position places f
-not_text_stuck rules word words names rows pending waiting position places no_short f (as_text e t l s) is = absurd (true≢false (sym t ∙ is))
-not_text_stuck rules word words names rows pending waiting position places no_short f (as_long written e t a l) is =
+not_text_stuck rules word words names rows pending waiting position places no_short f (as_long written e a l) =
     stops rules _ word words (long_turn rules (held rows pending) waiting position word written (e, l)
     (long_fails rules (held rows pending) (arg_by_long rules (name_and_value written).0) (name_and_value written).1 f))
-not_text_stuck rules word words names rows pending waiting position places no_short f (as_short first more x e t a l s at) is =
+not_text_stuck rules word words names rows pending waiting position places no_short f (as_short first more x e a l s at) =
     stops rules _ word words (short_fails rules rows pending waiting position word first more x no_short e l s at)
 
 pub for_place : (rules : List Rule) (rows : List Row) (pending : Option (Text × List Text)) (position : ℕ) (word : Text)
@@ -110,11 +108,8 @@ idle_stuck rules [] names rows pending position places no_short f = end_stuck ru
 idle_stuck rules (word ∷ words) names rows pending position places no_short f = go (looks word)
   where
     go : Looks word → ended rules (walk_at (held rows pending) idle position false) (word ∷ words) ≡ None
-    go (as_dashes e t) = not_text_stuck rules word words names rows pending idle position places no_short f (as_dashes e t) t
     go (as_text e t l s) = place_stuck rules rows pending idle position false names word words places (for_place rules rows pending position word e l s) f
-    go (as_long written e t a l) = not_text_stuck rules word words names rows pending idle position places no_short f (as_long written e t a l) t
-    go (as_short first more x e t a l s at) = not_text_stuck rules word words names rows pending idle position places no_short f
-        (as_short first more x e t a l s at) t
+    go (as_other t look) = not_text_stuck rules word words names rows pending idle position places no_short f look
 
 -- ---- one more text
 

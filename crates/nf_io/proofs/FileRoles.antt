@@ -1,13 +1,13 @@
 -- What an outside over files tells of a role: it stays where the role's file does, begins as the file shows, and goes on with the bytes at hand.
 use Rattle.std.proofs.Common.{◌≡◌, ℕ, List, [], Option, Some, None, Result, Ok, Err, OnOk, IsTrue, slice_index, refl, ap, ◌∙◌, subst}
-use Rattle.std.specs.Prelude.{option_and_then, unwrap_or}
+use Rattle.std.specs.Prelude.{if◌then◌else◌, option_and_then, unwrap_or}
 use Rattle.std.specs.Io.{StartsWith}
 use Rattle.std.specs.Io.KnownBytes.{prepend_known}
 use Rattle.std.proofs.Math.Seq.{take-append_seam}
 use Rattle.nf_io.specs.declared.stream.Stream.{Stream}
 use Rattle.nf_io.specs.declared.named.NamedFiles.{NamedFiles}
 use Rattle.nf_io.specs.declared.outside.Role.{Role}
-use Rattle.nf_io.specs.declared.outside.Role.TheVariants.{Trace, Script, JournalIn, Report, JournalOut, TraceOut, Errors}
+use Rattle.nf_io.specs.declared.outside.Role.TheVariants.{Trace, Script, JournalIn, Report, Errors}
 use Rattle.nf_io.specs.Roles.{is_read, role_place}
 use Rattle.nf_io.specs.Meaning.{Meaning, with_bytes}
 use Rattle.nf_io.specs.System.{SystemBytes}
@@ -16,13 +16,10 @@ use Rattle.nf_io.specs.Files.{ahead_in, begun, name_in, of_role, seen_of, shown_
 
 pub same_told : {F : Type 0} (view : FileBytes F) (told : SystemBytes) (new old : NamedFiles F) (role : Role)
     → stream_in new role ≡ stream_in old role → told_in view told new role ≡ told_in view told old role
-same_told view told new old Trace same = ap (option_and_then (stream_left view.left told)) same
-same_told view told new old Script same = ap (option_and_then (stream_left view.left told)) same
-same_told view told new old JournalIn same = ap (option_and_then (stream_left view.left told)) same
 same_told view told new old Report same = refl
-same_told view told new old JournalOut same = ap (option_and_then (stream_written view.written told)) same
-same_told view told new old TraceOut same = ap (option_and_then (stream_written view.written told)) same
 same_told view told new old Errors same = refl
+same_told view told new old role same =
+    ap (option_and_then (if is_read role then stream_left view.left told else stream_written view.written told)) same
 
 -- what is told of a role, by its bytes and its name
 abbrev by_file : Role → ℕ → Option (List ℕ) → Option (List ℕ) → Meaning
@@ -53,7 +50,4 @@ pub next_in : {F : Type 0} (view : FileBytes F) (told : SystemBytes) (files : Na
 next_in view told files Trace read left is = named_starts view.left told files.trace left is
 next_in view told files Script read left is = named_starts view.left told files.script left is
 next_in view told files JournalIn read left is = named_starts view.left told files.journal_in left is
-next_in view told files Report read left is = absurd (cc)
-next_in view told files JournalOut read left is = absurd (cc)
-next_in view told files TraceOut read left is = absurd (cc)
-next_in view told files Errors read left is = absurd (cc)
+next_in view told files role read left is = absurd (cc)

@@ -34,23 +34,16 @@ ahead_in files role = file_ahead (stream_in files role)
 
 -- what a role's file shows before its first use, by the name that the role has got
 abbrev pub begun : SystemBytes → Role → List ℕ → Option (List ℕ)
-begun told Trace name = told.opened name
-begun told Script name = told.opened name
-begun told JournalIn name = told.opened name
 begun told Report name = told.output
-begun told JournalOut name = told.created name
-begun told TraceOut name = told.created name
 begun told Errors name = told.errors
+begun told role name = if is_read role then told.opened name else told.created name
 
 -- the bytes that a role has left where it is read, and those that were written to it where it is written: each role those of its own file or stream
 abbrev pub told_in : {F : Type 0} → FileBytes F → SystemBytes → NamedFiles F → Role → Option (List ℕ)
-told_in view told files Trace = option_and_then (stream_left view.left told) files.trace
-told_in view told files Script = option_and_then (stream_left view.left told) files.script
-told_in view told files JournalIn = option_and_then (stream_left view.left told) files.journal_in
 told_in view told files Report = told.output
-told_in view told files JournalOut = option_and_then (stream_written view.written told) files.journal_out
-told_in view told files TraceOut = option_and_then (stream_written view.written told) files.trace_out
 told_in view told files Errors = told.errors
+told_in view told files role =
+    option_and_then (if is_read role then stream_left view.left told else stream_written view.written told) (stream_in files role)
 
 -- the bytes of a role are those left where it is read, and those written where it is written
 abbrev pub of_role : Role → Option (List ℕ) → Shown

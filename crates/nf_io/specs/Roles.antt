@@ -8,20 +8,13 @@ abbrev pub is_read : Role → Bool
 is_read Trace = true
 is_read Script = true
 is_read JournalIn = true
-is_read Report = false
-is_read JournalOut = false
-is_read TraceOut = false
-is_read Errors = false
+is_read role = false
 
 -- the roles that stand for a named file; the others are the standard output and the standard error
 abbrev pub needs_name : Role → Bool
-needs_name Trace = true
-needs_name Script = true
-needs_name JournalIn = true
 needs_name Report = false
-needs_name JournalOut = true
-needs_name TraceOut = true
 needs_name Errors = false
+needs_name role = true
 
 -- `role as usize`
 abbrev pub role_place : Role → ℕ
