@@ -12,10 +12,13 @@ use Rattle.flow_filter.specs.Filter.{IsFilter}
 use Rattle.flow_filter.specs.FilterText.{piece, pieces, joined, print, protocol_text, prefix_text}
 use Rattle.op_script.specs.Statements.{Word}
 use Rattle.op_script.proofs.ScriptLineLemmas.{All-append}
-use Rattle.op_script.proofs.PrintableWords.{Within, Within-append, Within-literal, IsWord, decimal_word}
+use Rattle.op_script.proofs.PrintableWords.{Within, Within-append, Within-literal, IsWord, literal_word, decimal_word}
 
 decimal_seen : (n : ℕ) → n < 2 ^ 64 → Within 33 127 (decimal n)
 decimal_seen n small = (decimal_word n small).seen
+
+port_seen : (n : ℕ) → n < 2 ^ 16 → Within 33 127 (decimal n)
+port_seen n small = decimal_seen n (omega arith)
 
 address_seen : (a : ℕ) → Within 33 127 (address_text a)
 unfolding address_text
@@ -48,16 +51,11 @@ pieces_words : (f : Filter) → IsFilter f → AllByRecursion IsWord (pieces f)
 unfolding pieces
 pieces_words f fits =
     All-append IsWord _ _ (All-append IsWord _ _ (All-append IsWord _ _ (All-append IsWord _ _
-    (piece_words protocol_text (codes "proto=") f.proto (record { some = omega arith; seen = Within-literal 33 127 (codes "proto=") refl })
-    (λ n is. protocol_seen (eqb n 6)))
-    (piece_words prefix_text (codes "local=") f.local (record { some = omega arith; seen = Within-literal 33 127 (codes "local=") refl })
-    (λ p is. prefix_seen p)))
-    (piece_words decimal (codes "lport=") f.lport (record { some = omega arith; seen = Within-literal 33 127 (codes "lport=") refl }) (λ n is.
-    let small : n < 2 ^ 16 = fits.lport n is in decimal_seen n (omega arith))))
-    (piece_words prefix_text (codes "remote=") f.remote (record { some = omega arith; seen = Within-literal 33 127 (codes "remote=") refl })
-    (λ p is. prefix_seen p)))
-    (piece_words decimal (codes "rport=") f.rport (record { some = omega arith; seen = Within-literal 33 127 (codes "rport=") refl }) (λ n is.
-    let small : n < 2 ^ 16 = fits.rport n is in decimal_seen n (omega arith)))
+    (piece_words protocol_text (codes "proto=") f.proto (literal_word (codes "proto=") refl) (λ n is. protocol_seen (eqb n 6)))
+    (piece_words prefix_text (codes "local=") f.local (literal_word (codes "local=") refl) (λ p is. prefix_seen p)))
+    (piece_words decimal (codes "lport=") f.lport (literal_word (codes "lport=") refl) (λ n is. port_seen n (fits.lport n is))))
+    (piece_words prefix_text (codes "remote=") f.remote (literal_word (codes "remote=") refl) (λ p is. prefix_seen p)))
+    (piece_words decimal (codes "rport=") f.rport (literal_word (codes "rport=") refl) (λ n is. port_seen n (fits.rport n is)))
 
 -- words with commas between them are one word
 pub join_word : (first : Word) (more : List Word) → AllByRecursion IsWord (first ∷ more) → IsWord (join_with_byte 44 (first ∷ more))
@@ -68,7 +66,7 @@ join_word first (next ∷ more) are = record {
 }
 
 joined_word : (ps : List Word) → AllByRecursion IsWord ps → IsWord (joined ps)
-joined_word [] are = record { some = omega arith; seen = Within-literal 33 127 (codes "any") refl }
+joined_word [] are = literal_word (codes "any") refl
 joined_word (first ∷ more) are = join_word first more are
 
 pub filter_word : (f : Filter) → IsFilter f → IsWord (print f)

@@ -13,4 +13,3 @@ pub mod PrintedLines
 pub mod PrintedOrders
 pub mod PrintedScripts
 pub mod LinesByPoint
-pub mod WholeScripts

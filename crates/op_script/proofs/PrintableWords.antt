@@ -62,6 +62,12 @@ pub record IsWord (word : List ℕ) : Type 0 where
   pub some : 0 < length word
   pub seen : Within 33 127 word
 
+-- a word that is written out
+pub literal_word : (word : List ℕ) → (ltb 0 (length word) && within 33 127 word) ≡ true → IsWord word
+literal_word word test =
+    let p = and_parts (ltb 0 (length word)) (within 33 127 word) test in
+    record { some = ltb-true 0 (length word) p.0; seen = Within-literal 33 127 word p.1 }
+
 not_blank : (b : ℕ) → 33 ≤ b → is_blank b ≡ false
 not_blank b seen = rw (ne_eqb b 32 (omega arith), ne_eqb b 9 (omega arith)) refl
 

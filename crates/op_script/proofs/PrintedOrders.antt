@@ -1,6 +1,6 @@
 -- The words of an order are read as the order.
 use Rattle.std.proofs.Common.{◌≡◌, ℕ, ◌<◌, ◌≤◌, ◌^◌, Bool, true, false, not, cond, eqb, leb, ◌&&◌, ◌||◌, List, []}
-use Rattle.std.proofs.Common.{◌∷◌, ◌++◌, length, None, Some, is_some, option_map, Ok, refl, ap, sym, ◌∙◌, arith}
+use Rattle.std.proofs.Common.{◌∷◌, ◌++◌, length, Option, None, Some, is_some, option_map, Ok, refl, ap, sym, ◌∙◌, arith}
 use Rattle.std.specs.Prelude.{codes}
 use Rattle.std.specs.List.{AllByRecursion, slice_split, join_with_byte, list_all}
 use Rattle.std.specs.Option.{ForSome}
@@ -24,9 +24,9 @@ use Rattle.op_script.specs.Statements.{Word, Event, Moving, Copying, Sharing, Ha
 use Rattle.op_script.specs.Reading.{distinct_names, filter_of, order_said, order_view}
 use Rattle.op_script.specs.ReadingSteps.{unless}
 use Rattle.nf_msgs.specs.Orders.{order_filter}
-use Rattle.op_script.specs.Printing.{order_words, IsOrder, order_splits}
+use Rattle.op_script.specs.Printing.{copied_word, order_words, IsOrder, order_splits}
 use Rattle.op_script.proofs.JudgedLemmas.{unless_Ok}
-use Rattle.op_script.proofs.PrintableWords.{IsWord, Within-literal, name_word}
+use Rattle.op_script.proofs.PrintableWords.{IsWord, literal_word, name_word}
 use Rattle.op_script.proofs.FilterWordLemmas.{filter_word, join_word}
 use Rattle.op_script.proofs.PrintedLines.{at_statement, move_event, copy_event, share_event}
 
@@ -132,36 +132,27 @@ order_again kind (Share members filter) is fits whole =
 pub order_words_are : (o : Order) → IsOrder (order_view o) → ForSome (order_filter o) IsFilter → AllByRecursion IsWord (order_words o)
 order_words_are (Move source destination filter keep) is fits =
     let names = ends_known source destination is.0 in (
-      record { some = omega arith; seen = Within-literal 33 127 (codes "move") refl },
-      (name_word source names.source, (name_word destination names.destination, (filter_word filter (fits filter refl), (how_word keep, tt)))),
-    )
-  where
-    how_word : (keep : Bool) → IsWord (cond keep (codes "order") (codes "lossfree"))
-    how_word true = record { some = omega arith; seen = Within-literal 33 127 (codes "order") refl }
-    how_word false = record { some = omega arith; seen = Within-literal 33 127 (codes "lossfree") refl }
-order_words_are (Copy source destination None) is fits =
-    let names = ends_known source destination is.0 in (
-      record { some = omega arith; seen = Within-literal 33 127 (codes "copy") refl },
+      literal_word (codes "move") refl,
       (
         name_word source names.source,
         (
           name_word destination names.destination,
-          (record { some = omega arith; seen = Within-literal 33 127 (codes "all") refl }, tt),
+          (filter_word filter (fits filter refl), (how_word keep, tt)),
         ),
       ),
     )
-order_words_are (Copy source destination (Some filter)) is fits =
-    let names = ends_known source destination is.0 in (
-      record { some = omega arith; seen = Within-literal 33 127 (codes "copy") refl },
-      (name_word source names.source, (name_word destination names.destination, (filter_word filter (fits filter refl), tt))),
-    )
+  where
+    how_word : (keep : Bool) → IsWord (cond keep (codes "order") (codes "lossfree"))
+    how_word true = literal_word (codes "order") refl
+    how_word false = literal_word (codes "lossfree") refl
+order_words_are (Copy source destination filter) is fits =
+    let names = ends_known source destination is.0 in
+    (literal_word (codes "copy") refl, (name_word source names.source, (name_word destination names.destination, (word_of filter fits, tt))))
+  where
+    word_of : (filter : Option Filter) → ForSome filter IsFilter → IsWord (copied_word filter)
+    word_of None fits = literal_word (codes "all") refl
+    word_of (Some filter) fits = filter_word filter (fits filter refl)
 order_words_are (Share members filter) is fits = (
-  record { some = omega arith; seen = Within-literal 33 127 (codes "share") refl },
-  (
-    (members_again members is.0 is.1 is.2).2,
-    (
-      filter_word filter (fits filter refl),
-      (record { some = omega arith; seen = Within-literal 33 127 (codes "strict") refl }, tt),
-    ),
-  ),
+  literal_word (codes "share") refl,
+  ((members_again members is.0 is.1 is.2).2, (filter_word filter (fits filter refl), (literal_word (codes "strict") refl, tt))),
 )

@@ -1,6 +1,6 @@
 -- The text of a script is read as the script: all lines.
 use Rattle.std.proofs.Common.{◌≡◌, ℕ, ◌+◌, ◌<◌, ◌≤◌, ◌^◌, Bool, true, false, not, cond, eqb, leb, List, [], ◌∷◌, ◌++◌, zero, suc, length}
-use Rattle.std.proofs.Common.{map, get_or, Option, None, Some, unwrap_or, Ok, refl, ap, sym, ◌∙◌, subst, arith, append_assoc, length-append}
+use Rattle.std.proofs.Common.{map, get_or, Option, None, Some, unwrap_or, Ok, refl, ap, sym, ◌∙◌, subst, arith, append_assoc, append-nil, length-append}
 use Rattle.std.specs.Prelude.{codes}
 use Rattle.std.specs.List.{AllByRecursion, join_with_byte, concat, list_any, prefix_len, slice_index_or}
 use Rattle.std.specs.Option.{ForSome}
@@ -27,7 +27,7 @@ use Rattle.op_script.specs.ReadingSteps.{goes_back, ScriptAnswer, start, noted, 
 use Rattle.op_script.specs.LineFilters.{what_filter}
 use Rattle.op_script.specs.Printing.{route_words, line_words, what_words, IsWhat, line_text, script_words, script_text}
 use Rattle.op_script.specs.Printing.{IsRoute, IsLine, IsScript, SplitsNone, what_splits, is_in_order, next_after, and_then}
-use Rattle.op_script.proofs.PrintableWords.{Within, IsWord, Within-literal, line_seen, line_utf8, name_word, decimal_word}
+use Rattle.op_script.proofs.PrintableWords.{Within, IsWord, literal_word, line_seen, line_utf8, name_word, decimal_word}
 use Rattle.op_script.proofs.FilterWordLemmas.{filter_word}
 use Rattle.op_script.proofs.PrintedLines.{line_says, lines-joined, route_statement, at_statement, settle_event}
 use Rattle.op_script.proofs.PrintedOrders.{differs, event_in, filter_again, order_statement, order_again, order_words_are}
@@ -63,16 +63,9 @@ route_says kind names s route once front few is fits whole =
     rw (front, place_at names route.1 is.0 once, filter_again kind route.0 fits is.1 whole, lt-leb 1000 (length s.routes) few) refl
 
 route_are : (names : List Word) (route : Filter × ℕ) → IsNamed names route → IsFilter route.0 → AllByRecursion IsWord (route_words names route)
-route_are names route named fits = (
-  record { some = omega arith; seen = Within-literal 33 127 (codes "route") refl },
-  (filter_word route.0 fits, (name_word (slice_index_or names route.1 []) named, tt)),
-)
+route_are names route named fits = (literal_word (codes "route") refl, (filter_word route.0 fits, (name_word (slice_index_or names route.1 []) named, tt)))
 
 -- the routes' lines
-no_more : {X : Type 0} (xs : List X) → xs ++ [] ≡ xs
-no_more [] = refl
-no_more (x ∷ xs) = ap (λ t. x ∷ t) (no_more xs)
-
 pub routes_again : (kind : Kind) (names : List Word) (n : ℕ) (s t : State) (routes : List (Filter × ℕ)) (rest : List (List ℕ))
     → AllByRecursion (IsNamed names) routes → has_twice names ≡ false
     → s.last ≡ None → length s.routes + length routes ≤ 1000 → AllByRecursion (IsRoute names) (map route_view routes)
@@ -82,7 +75,7 @@ pub routes_again : (kind : Kind) (names : List Word) (n : ℕ) (s t : State) (ro
     → with_lines kind names n s (map (join_with_byte 32) (map (route_words names) routes) ++ rest) ≡ Ok t
 routes_again kind names n s t [] rest named once front few is fits whole then =
     let same : n + 0 ≡ n = omega arith in
-    subst (λ (rs : List (Fields × ℕ)). with_lines kind names n (record s { routes = rs }) rest ≡ Ok t) (no_more s.routes)
+    subst (λ (rs : List (Fields × ℕ)). with_lines kind names n (record s { routes = rs }) rest ≡ Ok t) (append-nil s.routes)
     (subst (λ m. with_lines kind names m (record s { routes = s.routes ++ [] }) rest ≡ Ok t) same then)
 routes_again kind names n s t (route ∷ more) rest named once front few is fits whole then =
     let next : State = record s { routes = s.routes ++ route_view route ∷ [] } in
@@ -128,13 +121,11 @@ what_again kind Settle is fits whole = refl
 
 what_are : (what : What) → IsWhat (what_view what) → ForSome (what_filter what) IsFilter → AllByRecursion IsWord (what_words what)
 what_are (Command command) is fits = order_words_are command.what is fits
-what_are Settle is fits = (record { some = omega arith; seen = Within-literal 33 127 (codes "settle") refl }, tt)
+what_are Settle is fits = (literal_word (codes "settle") refl, tt)
 
 line_are : (line : Line) → IsLine (line_view line) → AllByRecursion IsWord (line_words line)
-line_are line is = let small = line.at_in_range in (
-  record { some = omega arith; seen = Within-literal 33 127 (codes "at") refl },
-  (decimal_word line.at (omega arith), what_are line.what is line.filter_in_range),
-)
+line_are line is = let small = line.at_in_range in
+    (literal_word (codes "at") refl, (decimal_word line.at (omega arith), what_are line.what is line.filter_in_range))
 
 some_next : (test : Bool) (n m : ℕ) → cond test (Some m) None ≡ Some n → (test ≡ true) × (m ≡ n)
 some_next true n m is = (refl, cc)
@@ -173,7 +164,7 @@ lines_again : (kind : Kind) (names : List Word) (n : ℕ) (s : State) (lines : L
     → AllByRecursion IsLine (map line_view lines) → AllByRecursion (λ (line : LineView). what_splits kind line.what ≡ false) (map line_view lines)
     → is_in_order (unwrap_or s.last 0) (1 + command_count s.lines) (map line_view lines) ≡ true
     → LinesRead (with_lines kind names n s (map (join_with_byte 32) (map line_words lines) ++ [] ∷ [])) s (map line_view lines)
-lines_again kind names n s [] few is whole follow = record { state = s; is_read = empty_line kind names n s; routes = refl; lines_are = sym (no_more s.lines) }
+lines_again kind names n s [] few is whole follow = record { state = s; is_read = empty_line kind names n s; routes = refl; lines_are = sym (append-nil s.lines) }
 lines_again kind names n s (line ∷ more) few is whole follow =
     let parts = and_parts (leb (unwrap_or s.last 0) line.at)
     (and_then (next_after (1 + command_count s.lines) (what_view line.what)) (λ k. is_in_order line.at k (map line_view more))) follow in
@@ -195,12 +186,6 @@ lines_again kind names n s (line ∷ more) few is whole follow =
       routes = rest.routes;
       lines_are = rest.lines_are ∙ append_assoc s.lines (line_view line ∷ []) (map line_view more);
     }
-
--- what holds of each item, of a list seen through a function
-all_map : {X Y : Type 0} (P : X → Type 0) (Q : Y → Type 0) (f : X → Y) (xs : List X) → ((x : X) → P x → Q (f x)) → AllByRecursion P xs
-    → AllByRecursion Q (map f xs)
-all_map P Q f [] each are = tt
-all_map P Q f (x ∷ xs) each are = (each x are.0, all_map P Q f xs each are.1)
 
 -- each route and line can be read again
 routes_seen : (names : List Word) (routes : List (Filter × ℕ)) → AllByRecursion (IsNamed names) routes → AllByRecursion (λ route. IsFilter route.0) routes

@@ -1,6 +1,6 @@
 -- The canonical text of a script: its routes and then its lines, one space between words, and a newline at each end.
 -- This project's own form.
-use Rattle.std.specs.Prelude.{◌≡◌, ℕ, ◌+◌, ◌<◌, ◌≤◌, ◌^◌, Bool, true, false, ◌&&◌, ◌==◌, nat_le}
+use Rattle.std.specs.Prelude.{◌≡◌, ℕ, ◌+◌, ◌<◌, ◌≤◌, Bool, true, false, ◌&&◌, ◌==◌, nat_le}
 use Rattle.std.specs.Prelude.{if◌then◌else◌, List, [], ◌∷◌, ◌++◌, length, map, Option, None, Some, Ok, codes}
 use Rattle.std.specs.List.{AllByRecursion, concat, join_with_byte, list_all, slice_index_or}
 use Rattle.std.specs.Fmt.{decimal}

@@ -10,11 +10,8 @@ use Rattle.flow_filter.specs.declared.filter_text.FilterFault.{FilterFault}
 use Rattle.flow_filter.specs.FilterText.{Fields, fields_of}
 use Rattle.nf_function.specs.declared.kind.Kind.{Kind}
 use Rattle.nf_function.specs.Units.{splits}
-use Rattle.nf_msgs.specs.declared.command.Order.{Order}
 use Rattle.op_script.specs.declared.fault.ScriptKind.{ScriptKind}
 use Rattle.op_script.specs.declared.fault.ScriptKind.TheVariants as bad
-use Rattle.op_script.specs.declared.fault.ScriptFault.TheVariants as fault
-use Rattle.op_script.specs.declared.fault.LineFault.TheVariants as one
 use Rattle.op_script.specs.Statements.{Word, Event}
 use Rattle.op_script.specs.Reading.{OrderView, LineView, State, Judged, ScriptView, filter_of, with_line, order_said}
 

@@ -3,8 +3,7 @@ use Rattle.std.proofs.Common.{sym, subst}
 use Rattle.std.specs.Prelude.{◌==◌}
 use Rattle.std.specs.List.{slice_split}
 use Rattle.op_script.specs.Printing.{IsScript, SplitsNone}
-use Rattle.op_script.proofs.ParsedScripts.{lines_right}
-use Rattle.op_script.proofs.WholeScripts.{lines_whole}
+use Rattle.op_script.proofs.ParsedScripts.{lines_right, lines_whole}
 use Rattle.op_script.proofs.reading.read_script.Goals as goal
 
 pub returns-clause-right : goal.returns-clause-right
