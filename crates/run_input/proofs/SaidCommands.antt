@@ -1,6 +1,6 @@
 -- What stands in the input of a run: the packets of the trace, and the commands of the script in file order.
-use Rattle.std.proofs.Common.{◌≡◌, ℕ, ◌+◌, ◌<◌, ◌≤◌, Bool, true, false, List, [], ◌∷◌, ◌++◌, map, filter, append-nil, eqb, leb, refl, sym, ap, ◌∙◌, arith}
-use Rattle.std.specs.Prelude.{All, if◌then◌else◌}
+use Rattle.std.proofs.Common.{◌≡◌, ℕ, ◌+◌, ◌<◌, ◌≤◌, true, false, List, [], ◌∷◌, ◌++◌, map, filter, eqb, leb, refl, sym, ap, ◌∙◌, arith}
+use Rattle.std.specs.Prelude.{All}
 use Rattle.std.proofs.lemmas.Bool.Decides.{nat_tests}
 use Rattle.std.proofs.lemmas.List.{append_assoc}
 use Rattle.std.proofs.lemmas.List.Elements.{All-cons, All-nil, All-append}
@@ -14,108 +14,31 @@ use Rattle.op_script.specs.declared.script.What.TheVariants as what
 use Rattle.op_script.specs.Items.{msg_of, said_where, items_from, items, IsFrom}
 use Rattle.net_world.specs.Input.{is_item, packets, commands, ends_last}
 
+-- what holds of a command and of a settle holds of what any line says
+pub by_what : (P : What → Type 0) → ((command : Command) → P (what.Command command)) → P what.Settle → (w : What) → P w
+by_what P command settle (what.Command c) = command c
+by_what P command settle what.Settle = settle
+
+-- what is read of lines, given what is read of all that stands after them
+abbrev pub read_lines : {X : Type 0} → (What → X → X) → List Line → X → X
+read_lines step [] x = x
+read_lines step (line ∷ more) x = step line.what (read_lines step more x)
+
+read_lines-append : {X : Type 0} (step : What → X → X) (a b : List Line) (x : X) → read_lines step (a ++ b) x ≡ read_lines step a (read_lines step b x)
+read_lines-append step [] b x = refl
+read_lines-append step (line ∷ a) b x = ap (step line.what) (read_lines-append step a b x)
+
+read_lines-same : {X : Type 0} (lines : List Line) (x : X) → read_lines (λ w y. y) lines x ≡ x
+read_lines-same [] x = refl
+read_lines-same (line ∷ more) x = read_lines-same more x
+
 -- the commands of lines, in file order
 abbrev pub with_command : What → List Command → List Command
 with_command (what.Command command) cs = command ∷ cs
 with_command what.Settle cs = cs
 
 abbrev pub line_commands : List Line → List Command
-line_commands [] = []
-line_commands (line ∷ more) = with_command line.what (line_commands more)
-
--- lines give no packets
-packet_free : (w : What) (rest : List Msg) → packets (msg_of w ∷ rest) ≡ packets rest
-packet_free (what.Command command) rest = refl
-packet_free what.Settle rest = refl
-
-packets_said : (test : ℕ → Bool) (lines : List Line) (rest : List Msg) → packets (said_where test lines ++ rest) ≡ packets rest
-packets_said test [] rest = refl
-packets_said test (line ∷ more) rest = elim (test line.at) as (λ b.
-    packets (map (λ (l : Line). msg_of l.what) (if b then line ∷ filter (λ (l : Line). test l.at) more else filter (λ (l : Line). test l.at) more) ++ rest)
-    ≡ packets rest) [
-      | true ↦ packet_free line.what (said_where test more ++ rest) ∙ packets_said test more rest
-      | false ↦ packets_said test more rest
-    ]
-
--- and each gives its command
-command_said : (w : What) (rest : List Msg) (cs : List Command) → commands rest ≡ cs → commands (msg_of w ∷ rest) ≡ with_command w cs
-command_said (what.Command command) rest cs h = ap (λ cs. command ∷ cs) h
-command_said what.Settle rest cs h = h
-
-with_more : (w : What) (cs ds : List Command) → with_command w cs ++ ds ≡ with_command w (cs ++ ds)
-with_more (what.Command command) cs ds = refl
-with_more what.Settle cs ds = refl
-
-commands_said : (test : ℕ → Bool) (lines : List Line) (rest : List Msg)
-    → commands (said_where test lines ++ rest) ≡ line_commands (filter (λ (l : Line). test l.at) lines) ++ commands rest
-commands_said test [] rest = refl
-commands_said test (line ∷ more) rest = elim (test line.at) as (λ b.
-    commands (map (λ (l : Line). msg_of l.what) (if b then line ∷ filter (λ (l : Line). test l.at) more else filter (λ (l : Line). test l.at) more) ++ rest)
-    ≡ line_commands (if b then line ∷ filter (λ (l : Line). test l.at) more else filter (λ (l : Line). test l.at) more) ++ commands rest) [
-      | true ↦
-          command_said line.what (said_where test more ++ rest) _ (commands_said test more rest)
-          ∙ sym (with_more line.what (line_commands (filter (λ (l : Line). test l.at) more)) (commands rest))
-      | false ↦ commands_said test more rest
-    ]
-
--- what lines say may stand in an input
-item_of : (w : What) → is_item (msg_of w) ≡ true
-item_of (what.Command command) = refl
-item_of what.Settle = refl
-
-items_said : (test : ℕ → Bool) (lines : List Line) → All (λ item. is_item item ≡ true) (said_where test lines)
-items_said test [] = All-nil (λ item. is_item item ≡ true)
-items_said test (line ∷ more) = elim (test line.at) as (λ b. All (λ item. is_item item ≡ true)
-    (map (λ (l : Line). msg_of l.what) (if b then line ∷ filter (λ (l : Line). test l.at) more else filter (λ (l : Line). test l.at) more))) [
-      | true ↦ All-cons (λ item. is_item item ≡ true) (msg_of line.what) (said_where test more) (item_of line.what) (items_said test more)
-      | false ↦ items_said test more
-    ]
-
-items_after : (k : ℕ) (ps : List Packet) (lines : List Line) → All (λ item. is_item item ≡ true) (items_from k ps lines)
-items_after k [] lines = items_said (λ at. leb k at) lines
-items_after k (p ∷ ps) lines =
-    All-append (λ item. is_item item ≡ true) (said_where (λ at. eqb at k) lines) (InPacket p ∷ items_from (k + 1) ps lines) (items_said (λ at. eqb at k) lines)
-    (All-cons (λ item. is_item item ≡ true) (InPacket p) (items_from (k + 1) ps lines) refl (items_after (k + 1) ps lines))
-
--- only items stand in the input
-pub only_items : (ps : List Packet) (lines : List Line) → All (λ item. is_item item ≡ true) (items ps lines)
-only_items ps lines = All-append (λ item. is_item item ≡ true) (items_from 0 ps lines) (InEnd ∷ []) (items_after 0 ps lines)
-    (All-cons (λ item. is_item item ≡ true) InEnd [] refl (All-nil (λ item. is_item item ≡ true)))
-
-packets_from : (k : ℕ) (ps : List Packet) (lines : List Line) → packets (items_from k ps lines ++ InEnd ∷ []) ≡ ps
-packets_from k [] lines = packets_said (λ at. leb k at) lines (InEnd ∷ [])
-packets_from k (p ∷ ps) lines =
-    ap packets (append_assoc (said_where (λ at. eqb at k) lines) (InPacket p ∷ items_from (k + 1) ps lines) (InEnd ∷ []))
-    ∙ packets_said (λ at. eqb at k) lines (InPacket p ∷ (items_from (k + 1) ps lines ++ InEnd ∷ []))
-    ∙ ap (λ ps. p ∷ ps) (packets_from (k + 1) ps lines)
-
--- its packets are those of the trace
-pub packets_in : (ps : List Packet) (lines : List Line) → packets (items ps lines) ≡ ps
-packets_in ps lines = packets_from 0 ps lines
-
--- lines don't end the input, and nothing stands behind its end
-end_free : (w : What) (rest : List Msg) → ends_last (msg_of w ∷ rest) ≡ ends_last rest
-end_free (what.Command command) rest = refl
-end_free what.Settle rest = refl
-
-ends_said : (test : ℕ → Bool) (lines : List Line) (rest : List Msg) → ends_last (said_where test lines ++ rest) ≡ ends_last rest
-ends_said test [] rest = refl
-ends_said test (line ∷ more) rest = elim (test line.at) as (λ b. ends_last
-    (map (λ (l : Line). msg_of l.what) (if b then line ∷ filter (λ (l : Line). test l.at) more else filter (λ (l : Line). test l.at) more) ++ rest)
-    ≡ ends_last rest) [
-      | true ↦ end_free line.what (said_where test more ++ rest) ∙ ends_said test more rest
-      | false ↦ ends_said test more rest
-    ]
-
-ends_from : (k : ℕ) (ps : List Packet) (lines : List Line) → ends_last (items_from k ps lines ++ InEnd ∷ []) ≡ true
-ends_from k [] lines = ends_said (λ at. leb k at) lines (InEnd ∷ [])
-ends_from k (p ∷ ps) lines =
-    ap ends_last (append_assoc (said_where (λ at. eqb at k) lines) (InPacket p ∷ items_from (k + 1) ps lines) (InEnd ∷ []))
-    ∙ ends_said (λ at. eqb at k) lines (InPacket p ∷ (items_from (k + 1) ps lines ++ InEnd ∷ []))
-    ∙ ends_from (k + 1) ps lines
-
-pub end_is_last : (ps : List Packet) (lines : List Line) → ends_last (items ps lines) ≡ true
-end_is_last ps lines = ends_from 0 ps lines
+line_commands lines = read_lines with_command lines []
 
 -- The lines at a point and those behind it.
 abbrev pub here : ℕ → List Line → List Line
@@ -151,24 +74,71 @@ here_and_behind j k (line ∷ more) order =
       ] refl
     ] refl
 
-line_commands-append : (a b : List Line) → line_commands (a ++ b) ≡ line_commands a ++ line_commands b
-line_commands-append [] b = refl
-line_commands-append (line ∷ a) b = ap (with_command line.what) (line_commands-append a b) ∙ sym (with_more line.what (line_commands a) (line_commands b))
-
-commands_from : (j k : ℕ) (ps : List Packet) (lines : List Line) → IsFrom j lines
-    → commands (items_from k ps lines ++ InEnd ∷ []) ≡ line_commands (from k lines)
-commands_from j k [] lines order = commands_said (λ at. leb k at) lines (InEnd ∷ []) ∙ append-nil (line_commands (from k lines))
-commands_from j k (p ∷ ps) lines order =
-    ap commands (append_assoc (said_where (λ at. eqb at k) lines) (InPacket p ∷ items_from (k + 1) ps lines) (InEnd ∷ []))
-    ∙ commands_said (λ at. eqb at k) lines (InPacket p ∷ (items_from (k + 1) ps lines ++ InEnd ∷ []))
-    ∙ ap (λ cs. line_commands (here k lines) ++ cs) (commands_from j (k + 1) ps lines order)
-    ∙ sym (line_commands-append (here k lines) (from (k + 1) lines))
-    ∙ ap line_commands (here_and_behind j k lines order)
-
 pub from_start : (lines : List Line) → from 0 lines ≡ lines
 from_start [] = refl
 from_start (line ∷ more) = let all : leb 0 line.at ≡ true = grind (arith, nat_tests) in rw all (ap (λ ls. line ∷ ls) (from_start more))
 
+-- what is read of an input, where a line adds what it says to what is read of the rest
+module _ {X : Type 0} (read : List Msg → X) (step : What → X → X) (says : (w : What) (rest : List Msg) → read (msg_of w ∷ rest) ≡ step w (read rest)) where
+  said : (lines : List Line) (rest : List Msg) → read (map (λ (l : Line). msg_of l.what) lines ++ rest) ≡ read_lines step lines (read rest)
+  said [] rest = refl
+  said (line ∷ more) rest = says line.what (map (λ (l : Line). msg_of l.what) more ++ rest) ∙ ap (step line.what) (said more rest)
+
+  -- where packets add nothing, it is what is read of the lines, which stand in the order of their points
+  pub read_from : ((p : Packet) (rest : List Msg) → read (InPacket p ∷ rest) ≡ read rest) → (j k : ℕ) (ps : List Packet) (lines : List Line) → IsFrom j lines
+      → read (items_from k ps lines ++ InEnd ∷ []) ≡ read_lines step (from k lines) (read (InEnd ∷ []))
+  read_from passes j k [] lines order = said (from k lines) (InEnd ∷ [])
+  read_from passes j k (p ∷ ps) lines order =
+      ap read (append_assoc (said_where (λ at. eqb at k) lines) (InPacket p ∷ items_from (k + 1) ps lines) (InEnd ∷ []))
+      ∙ said (here k lines) (InPacket p ∷ (items_from (k + 1) ps lines ++ InEnd ∷ []))
+      ∙ ap (read_lines step (here k lines)) (passes p _ ∙ read_from passes j (k + 1) ps lines order)
+      ∙ sym (read_lines-append step (here k lines) (from (k + 1) lines) (read (InEnd ∷ [])))
+      ∙ ap (λ ls. read_lines step ls (read (InEnd ∷ []))) (here_and_behind j k lines order)
+
+-- what is read of an input, where a line adds nothing
+module _ {X : Type 0} (read : List Msg → X) (of : List Packet → X) (free : (w : What) (rest : List Msg) → read (msg_of w ∷ rest) ≡ read rest)
+    (last : read (InEnd ∷ []) ≡ of []) (more : (p : Packet) (ps : List Packet) (rest : List Msg) → read rest ≡ of ps → read (InPacket p ∷ rest) ≡ of (p ∷ ps)) where
+  passed : (lines : List Line) (rest : List Msg) → read (map (λ (l : Line). msg_of l.what) lines ++ rest) ≡ read rest
+  passed lines rest = said read (λ w x. x) free lines rest ∙ read_lines-same lines (read rest)
+
+  pub read_all : (k : ℕ) (ps : List Packet) (lines : List Line) → read (items_from k ps lines ++ InEnd ∷ []) ≡ of ps
+  read_all k [] lines = passed (from k lines) (InEnd ∷ []) ∙ last
+  read_all k (p ∷ ps) lines =
+      ap read (append_assoc (said_where (λ at. eqb at k) lines) (InPacket p ∷ items_from (k + 1) ps lines) (InEnd ∷ []))
+      ∙ passed (here k lines) (InPacket p ∷ (items_from (k + 1) ps lines ++ InEnd ∷ []))
+      ∙ more p ps (items_from (k + 1) ps lines ++ InEnd ∷ []) (read_all (k + 1) ps lines)
+
+-- its packets are those of the trace
+pub packets_in : (ps : List Packet) (lines : List Line) → packets (items ps lines) ≡ ps
+packets_in = read_all packets (λ ps. ps)
+    (by_what (λ w. (rest : List Msg) → packets (msg_of w ∷ rest) ≡ packets rest) (λ command rest. refl) (λ rest. refl))
+    refl (λ p ps rest h. ap (λ ps. p ∷ ps) h) 0
+
+-- lines don't end the input, and nothing stands behind its end
+pub end_is_last : (ps : List Packet) (lines : List Line) → ends_last (items ps lines) ≡ true
+end_is_last = read_all ends_last (λ ps. true)
+    (by_what (λ w. (rest : List Msg) → ends_last (msg_of w ∷ rest) ≡ ends_last rest) (λ command rest. refl) (λ rest. refl))
+    refl (λ p ps rest h. h) 0
+
 -- its commands are those of the lines, where these stand in the order of their points
 pub commands_in : (ps : List Packet) (lines : List Line) → IsFrom 0 lines → commands (items ps lines) ≡ line_commands lines
-commands_in ps lines order = commands_from 0 0 ps lines order ∙ ap line_commands (from_start lines)
+commands_in ps lines order = read_from commands with_command
+    (by_what (λ w. (rest : List Msg) → commands (msg_of w ∷ rest) ≡ with_command w (commands rest)) (λ command rest. refl) (λ rest. refl))
+    (λ p rest. refl) 0 0 ps lines order ∙ ap line_commands (from_start lines)
+
+-- what lines say may stand in an input
+items_said : (lines : List Line) → All (λ item. is_item item ≡ true) (map (λ (l : Line). msg_of l.what) lines)
+items_said [] = All-nil (λ item. is_item item ≡ true)
+items_said (line ∷ more) = All-cons (λ item. is_item item ≡ true) (msg_of line.what) (map (λ (l : Line). msg_of l.what) more)
+    (by_what (λ w. is_item (msg_of w) ≡ true) (λ command. refl) refl line.what) (items_said more)
+
+items_after : (k : ℕ) (ps : List Packet) (lines : List Line) → All (λ item. is_item item ≡ true) (items_from k ps lines)
+items_after k [] lines = items_said (from k lines)
+items_after k (p ∷ ps) lines =
+    All-append (λ item. is_item item ≡ true) (said_where (λ at. eqb at k) lines) (InPacket p ∷ items_from (k + 1) ps lines) (items_said (here k lines))
+    (All-cons (λ item. is_item item ≡ true) (InPacket p) (items_from (k + 1) ps lines) refl (items_after (k + 1) ps lines))
+
+-- only items stand in the input
+pub only_items : (ps : List Packet) (lines : List Line) → All (λ item. is_item item ≡ true) (items ps lines)
+only_items ps lines = All-append (λ item. is_item item ≡ true) (items_from 0 ps lines) (InEnd ∷ []) (items_after 0 ps lines)
+    (All-cons (λ item. is_item item ≡ true) InEnd [] refl (All-nil (λ item. is_item item ≡ true)))

@@ -1,5 +1,5 @@
 -- What was made is an input of the network.
-use Rattle.std.proofs.Common.{◌≡◌, ◌∙◌, arith, ap}
+use Rattle.std.proofs.Common.{◌∙◌, arith, ap}
 use Rattle.net_world.specs.Input.{ends_last}
 use Rattle.command_words.specs.Values.{names_of}
 use Rattle.run_input.specs.Settings.{config_of}
