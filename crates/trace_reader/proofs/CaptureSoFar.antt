@@ -1,15 +1,15 @@
 -- Reading a capture to its end: what was read so far, before what the rest gives, is what the whole gives.
-use Rattle.std.proofs.Common.{◌≡◌, ℕ, zero, suc, ◌+◌, ◌-◌, true, false, List, [], ◌∷◌, ◌++◌, Option, Some, Result}
+use Rattle.std.proofs.Common.{◌≡◌, ℕ, zero, suc, ◌+◌, ◌-◌, Bool, true, false, List, [], ◌∷◌, ◌++◌, Option, Some, Result}
 use Rattle.std.proofs.Common.{Ok, Err, drop, refl, ap, sym, ◌∙◌, arith, append-nil, append_assoc, add-zero, zero-add}
 use Rattle.flow_filter.specs.declared.packet.Packet.{Packet}
 use Rattle.trace_reader.specs.declared.form.Form.{Form}
 use Rattle.trace_reader.specs.declared.fault.TraceFault.{TraceFault}
-use Rattle.trace_reader.specs.declared.fault.TraceFault.TheVariants as fault
+use Rattle.trace_reader.specs.declared.record.Next.{Next}
 use Rattle.trace_reader.specs.declared.record.Next.TheVariants as next
 use Rattle.trace_reader.specs.declared.trace.Trace.{Trace}
 use Rattle.trace_reader.specs.Records.{record_size, next_of, records_of, from_next, capture_of}
 use Rattle.trace_reader.specs.Opened.{with_packet, with_skipped, opened, trace_of}
-use Rattle.trace_reader.specs.Answers.{Reading, AnswersNext, AnswersOpen, AnswersTrace}
+use Rattle.trace_reader.specs.Answers.{Reading, AnswersNext, left_after}
 use Rattle.trace_reader.proofs.NextRecord.{next_of-end}
 
 -- these packets and skipped records stand in front
@@ -37,25 +37,6 @@ with_front-skipped packets skipped (Ok trace) =
     ap (λ n. Ok (record { packets = packets ++ trace.packets; skipped = n; cut = trace.cut })) e
 with_front-skipped packets skipped (Err e) = refl
 
--- what was read so far, before what the rest gives, is what the whole gives
-pub record Progress (whole : Result Trace TraceFault) (now : Reading) (packets : List Packet) (skipped : ℕ) : Type 0 where
-  pub rest : List ℕ
-  pub is : now.left ≡ Some rest
-  pub same : with_front packets skipped (records_of now.form now.place now.count 0 rest) ≡ whole
-
--- behind the header nothing was read
-pub progress_start : (bytes : List ℕ) (now : Reading) (packets : List Packet) → opened bytes ≡ Ok now.form
-    → now.left ≡ Some (drop 24 bytes) → now.place ≡ 24 → now.count ≡ 0 → packets ≡ [] → Progress (capture_of bytes) now packets 0
-unfolding capture_of
-progress_start bytes now packets due is at none empty = record {
-  rest = drop 24 bytes;
-  is = is;
-  same = (ap (λ n. with_front packets 0 (records_of now.form n now.count 0 (drop 24 bytes))) at
-      ∙ ap (λ n. with_front packets 0 (records_of now.form 24 n 0 (drop 24 bytes))) none
-      ∙ ap (λ l. with_front l 0 (records_of now.form 24 0 0 (drop 24 bytes))) empty
-      ∙ with_front-nothing _ ∙ ap (trace_of bytes) (sym due));
-}
-
 -- what is left of a record is passed over
 passed : (form : Form) (place count left : ℕ) (bytes : List ℕ)
     → records_of form place count left bytes ≡ records_of form (place + left) count 0 (drop left bytes)
@@ -78,144 +59,97 @@ after_record form place count byte bytes =
     ∙ ap (λ n. records_of form n count 0 (drop (size - 1) bytes)) at
     ∙ ap (λ n. records_of form (place + size) count 0 (drop n (byte ∷ bytes))) whole
 
--- a packet is one more in front
-pub packet_step : (form : Form) (place count : ℕ) (rest : List ℕ) (packet : Packet) → next_of form place count rest ≡ Ok (next.Packet packet)
-    → records_of form place count 0 rest
-    ≡ with_packet packet (records_of form (place + record_size form rest) (count + 1) 0 (drop (record_size form rest) rest))
+-- how a capture ends: whole, or within a record
+abbrev pub ends : Bool → Next
+ends false = next.End
+ends true = next.Cut
+
+ends_gives : (F : ℕ → Result Trace TraceFault) (count : ℕ) (cut : Bool)
+    → from_next F count (Ok (ends cut)) ≡ Ok (record { packets = []; skipped = 0; cut = cut })
+ends_gives F count false = refl
+ends_gives F count true = refl
+
+ends_leave : (before : Reading) (bytes : List ℕ) (cut : Bool) → left_after before bytes (ends cut) ≡ []
+ends_leave before bytes false = refl
+ends_leave before bytes true = refl
+
+-- the records after the first of these
+abbrev pub records_after : Form → ℕ → List ℕ → ℕ → Result Trace TraceFault
+records_after form place rest count = records_of form (place + record_size form rest) count 0 (drop (record_size form rest) rest)
+
+next_same : (F G : ℕ → Result Trace TraceFault) (count : ℕ) (answer : Result Next TraceFault) → ((n : ℕ) → F n ≡ G n)
+    → from_next F count answer ≡ from_next G count answer
+next_same F G count (Ok (next.Packet packet)) same = ap (with_packet packet) (same (count + 1))
+next_same F G count (Ok next.Skipped) same = ap with_skipped (same count)
+next_same F G count answer same = refl
+
+-- what records give is what the first of them gives, and those after it
+pub record_step : (form : Form) (place count : ℕ) (rest : List ℕ) (answer : Result Next TraceFault) → next_of form place count rest ≡ answer
+    → records_of form place count 0 rest ≡ from_next (records_after form place rest) count answer
 unfolding records_of
-packet_step form place count [] packet due = absurd (let end = next_of-end form place count [] refl in cc)
-packet_step form place count (byte ∷ bytes) packet due =
-    ap (from_next (λ count'. records_of form (place + 1) count' (record_size form (byte ∷ bytes) - 1) bytes) count) due
-    ∙ ap (with_packet packet) (after_record form place (count + 1) byte bytes)
+record_step form place count [] answer due = ap (from_next (records_after form place []) count) (sym (next_of-end form place count [] refl) ∙ due)
+record_step form place count (byte ∷ bytes) answer due =
+    next_same (λ n. records_of form (place + 1) n (record_size form (byte ∷ bytes) - 1) bytes) (records_after form place (byte ∷ bytes)) count
+    (next_of form place count (byte ∷ bytes)) (λ n. after_record form place n byte bytes)
+    ∙ ap (from_next (records_after form place (byte ∷ bytes)) count) due
 
-skipped_step : (form : Form) (place count : ℕ) (rest : List ℕ) → next_of form place count rest ≡ Ok next.Skipped
-    → records_of form place count 0 rest ≡ with_skipped (records_of form (place + record_size form rest) count 0 (drop (record_size form rest) rest))
-unfolding records_of
-skipped_step form place count [] due = absurd (let end = next_of-end form place count [] refl in cc)
-skipped_step form place count (byte ∷ bytes) due =
-    ap (from_next (λ count'. records_of form (place + 1) count' (record_size form (byte ∷ bytes) - 1) bytes) count) due
-    ∙ ap with_skipped (after_record form place count byte bytes)
+-- what was read so far, before what the rest gives, is what the whole gives
+pub record Progress (whole : Result Trace TraceFault) (now : Reading) (packets : List Packet) (skipped : ℕ) : Type 0 where
+  pub rest : List ℕ
+  pub is : now.left ≡ Some rest
+  pub same : with_front packets skipped (records_of now.form now.place now.count 0 rest) ≡ whole
 
-end_step : (form : Form) (place count : ℕ) (rest : List ℕ) → next_of form place count rest ≡ Ok next.End
-    → records_of form place count 0 rest ≡ Ok (record { packets = []; skipped = 0; cut = false })
-unfolding records_of
-end_step form place count [] due = refl
-end_step form place count (byte ∷ bytes) due =
-    ap (from_next (λ count'. records_of form (place + 1) count' (record_size form (byte ∷ bytes) - 1) bytes) count) due
-
-cut_step : (form : Form) (place count : ℕ) (rest : List ℕ) → next_of form place count rest ≡ Ok next.Cut
-    → records_of form place count 0 rest ≡ Ok (record { packets = []; skipped = 0; cut = true })
-unfolding records_of
-cut_step form place count [] due = absurd (let end = next_of-end form place count [] refl in cc)
-cut_step form place count (byte ∷ bytes) due =
-    ap (from_next (λ count'. records_of form (place + 1) count' (record_size form (byte ∷ bytes) - 1) bytes) count) due
-
-fault_step : (form : Form) (place count : ℕ) (rest : List ℕ) (e : TraceFault) → next_of form place count rest ≡ Err e
-    → records_of form place count 0 rest ≡ Err e
-unfolding records_of
-fault_step form place count [] e due = absurd (let end = next_of-end form place count [] refl in cc)
-fault_step form place count (byte ∷ bytes) e due =
-    ap (from_next (λ count'. records_of form (place + 1) count' (record_size form (byte ∷ bytes) - 1) bytes) count) due
-
-pub progress_packet : (whole : Result Trace TraceFault) (before after : Reading) (packets packets' : List Packet) (skipped : ℕ) (packet : Packet)
-    → Progress whole before packets skipped → AnswersNext before after (Ok (next.Packet packet))
-    → after.form ≡ before.form → after.count ≡ before.count + 1 → packets' ≡ packets ++ packet ∷ [] → Progress whole after packets' skipped
-progress_packet whole before after packets packets' skipped packet p answers same_form one_more longer =
-    let due = answers p.rest p.is in
-    let size = record_size before.form p.rest in
-    record {
-      rest = drop size p.rest;
-      is = due.2;
-      same = (ap (λ f. with_front packets' skipped (records_of f after.place after.count 0 (drop size p.rest))) same_form
-          ∙ ap (λ n. with_front packets' skipped (records_of before.form n after.count 0 (drop size p.rest))) due.1
-          ∙ ap (λ n. with_front packets' skipped (records_of before.form (before.place + size) n 0 (drop size p.rest))) one_more
-          ∙ ap (λ l. with_front l skipped (records_of before.form (before.place + size) (before.count + 1) 0 (drop size p.rest))) longer
-          ∙ sym (with_front-packet packets skipped packet _)
-          ∙ ap (with_front packets skipped) (sym (packet_step before.form before.place before.count p.rest packet due.0))
-          ∙ p.same);
-    }
-
-pub progress_skipped : (whole : Result Trace TraceFault) (before after : Reading) (packets : List Packet) (skipped : ℕ)
-    → Progress whole before packets skipped → AnswersNext before after (Ok next.Skipped)
-    → after.form ≡ before.form → after.count ≡ before.count → Progress whole after packets (skipped + 1)
-progress_skipped whole before after packets skipped p answers same_form as_many =
-    let due = answers p.rest p.is in
-    let size = record_size before.form p.rest in
-    record {
-      rest = drop size p.rest;
-      is = due.2;
-      same = (ap (λ f. with_front packets (skipped + 1) (records_of f after.place after.count 0 (drop size p.rest))) same_form
-          ∙ ap (λ n. with_front packets (skipped + 1) (records_of before.form n after.count 0 (drop size p.rest))) due.1
-          ∙ ap (λ n. with_front packets (skipped + 1) (records_of before.form (before.place + size) n 0 (drop size p.rest))) as_many
-          ∙ sym (with_front-skipped packets skipped _)
-          ∙ ap (with_front packets skipped) (sym (skipped_step before.form before.place before.count p.rest due.0))
-          ∙ p.same);
-    }
-
-pub progress_end : (whole : Result Trace TraceFault) (before after : Reading) (packets : List Packet) (skipped : ℕ)
-    → Progress whole before packets skipped → AnswersNext before after (Ok next.End)
-    → (whole ≡ Ok (record { packets = packets; skipped = skipped; cut = false })) × (after.left ≡ Some [])
-unfolding with_front
-progress_end whole before after packets skipped p answers =
-    let due = answers p.rest p.is in (
-      sym p.same ∙ ap (with_front packets skipped) (end_step before.form before.place before.count p.rest due.0)
-          ∙ ap (λ l. Ok (record { packets = l; skipped = skipped + 0; cut = false })) (append-nil packets)
-          ∙ ap (λ n. Ok (record { packets = packets; skipped = n; cut = false })) (add-zero skipped),
-      due.2,
-    )
-
-pub progress_cut : (whole : Result Trace TraceFault) (before after : Reading) (packets : List Packet) (skipped : ℕ)
-    → Progress whole before packets skipped → AnswersNext before after (Ok next.Cut)
-    → (whole ≡ Ok (record { packets = packets; skipped = skipped; cut = true })) × (after.left ≡ Some [])
-unfolding with_front
-progress_cut whole before after packets skipped p answers =
-    let due = answers p.rest p.is in (
-      sym p.same ∙ ap (with_front packets skipped) (cut_step before.form before.place before.count p.rest due.0)
-          ∙ ap (λ l. Ok (record { packets = l; skipped = skipped + 0; cut = true })) (append-nil packets)
-          ∙ ap (λ n. Ok (record { packets = packets; skipped = n; cut = true })) (add-zero skipped),
-      due.2,
-    )
-
--- a fault that is due is answered
-trace_fault : (whole : Result Trace TraceFault) (left : Option (List ℕ)) (e : TraceFault) → whole ≡ Err e → AnswersTrace whole left (Err e)
-trace_fault whole left fault.Magic due = due
-trace_fault whole left fault.PcapNg due = due
-trace_fault whole left fault.Version due = due
-trace_fault whole left (fault.LinkType n) due = due
-trace_fault whole left (fault.RecordLength offset n) due = due
-trace_fault whole left (fault.TooLong offset) due = due
-trace_fault whole left (fault.Header n) due = due
-trace_fault whole left fault.Read due = tt
-trace_fault whole left fault.NoMemory due = tt
-
-progress_due : (whole : Result Trace TraceFault) (before : Reading) (packets : List Packet) (skipped : ℕ) (left : Option (List ℕ)) (e : TraceFault)
-    → (p : Progress whole before packets skipped) → next_of before.form before.place before.count p.rest ≡ Err e → AnswersTrace whole left (Err e)
-unfolding with_front
-progress_due whole before packets skipped left e p due =
-    trace_fault whole left e (sym p.same ∙ ap (with_front packets skipped) (fault_step before.form before.place before.count p.rest e due))
-
-pub progress_fault : (whole : Result Trace TraceFault) (before after : Reading) (packets : List Packet) (skipped : ℕ) (left : Option (List ℕ)) (e : TraceFault)
-    → Progress whole before packets skipped → AnswersNext before after (Err e) → AnswersTrace whole left (Err e)
-progress_fault whole before after packets skipped left fault.Magic p answers = progress_due _ _ _ _ left _ p (answers p.rest p.is)
-progress_fault whole before after packets skipped left fault.PcapNg p answers = progress_due _ _ _ _ left _ p (answers p.rest p.is)
-progress_fault whole before after packets skipped left fault.Version p answers = progress_due _ _ _ _ left _ p (answers p.rest p.is)
-progress_fault whole before after packets skipped left (fault.LinkType n) p answers = progress_due _ _ _ _ left _ p (answers p.rest p.is)
-progress_fault whole before after packets skipped left (fault.RecordLength offset n) p answers = progress_due _ _ _ _ left _ p (answers p.rest p.is)
-progress_fault whole before after packets skipped left (fault.TooLong offset) p answers = progress_due _ _ _ _ left _ p (answers p.rest p.is)
-progress_fault whole before after packets skipped left (fault.Header n) p answers = progress_due _ _ _ _ left _ p (answers p.rest p.is)
-progress_fault whole before after packets skipped left fault.Read p answers = tt
-progress_fault whole before after packets skipped left fault.NoMemory p answers = tt
-
--- a fault of the header is that of the whole
-pub open_fault : (bytes rest : List ℕ) (left left' : Option (List ℕ)) (e : TraceFault) → AnswersOpen (opened bytes) rest left (Err e)
-    → AnswersTrace (capture_of bytes) left' (Err e)
+-- behind the header nothing was read
+pub progress_start : (bytes : List ℕ) (now : Reading) → opened bytes ≡ Ok now.form → now.left ≡ Some (drop 24 bytes) → now.place ≡ 24 → now.count ≡ 0
+    → Progress (capture_of bytes) now [] 0
 unfolding capture_of
-open_fault bytes rest left left' fault.Magic due = ap (trace_of bytes) due
-open_fault bytes rest left left' fault.PcapNg due = ap (trace_of bytes) due
-open_fault bytes rest left left' fault.Version due = ap (trace_of bytes) due
-open_fault bytes rest left left' (fault.LinkType n) due = ap (trace_of bytes) due
-open_fault bytes rest left left' (fault.RecordLength offset n) due = ap (trace_of bytes) due
-open_fault bytes rest left left' (fault.TooLong offset) due = ap (trace_of bytes) due
-open_fault bytes rest left left' (fault.Header n) due = ap (trace_of bytes) due
-open_fault bytes rest left left' fault.Read due = tt
-open_fault bytes rest left left' fault.NoMemory due = tt
+progress_start bytes now due is at none = record {
+  rest = drop 24 bytes;
+  is = is;
+  same = rw (at, none) (with_front-nothing (records_of now.form 24 0 0 (drop 24 bytes)) ∙ ap (trace_of bytes) (sym due));
+}
+
+module _ (whole : Result Trace TraceFault) (before : Reading) (packets : List Packet) (skipped : ℕ) (p : Progress whole before packets skipped) where
+  -- what was read so far, before what comes next
+  progress_next : (answer : Result Next TraceFault) → next_of before.form before.place before.count p.rest ≡ answer
+      → with_front packets skipped (from_next (records_after before.form before.place p.rest) before.count answer) ≡ whole
+  progress_next answer due =
+      ap (with_front packets skipped) (sym (record_step before.form before.place before.count p.rest answer due)) ∙ p.same
+
+  pub progress_packet : (after : Reading) (packet : Packet) → AnswersNext before after (Ok (next.Packet packet))
+      → after.form ≡ before.form → after.count ≡ before.count + 1 → Progress whole after (packets ++ packet ∷ []) skipped
+  progress_packet after packet answers same_form one_more =
+      let due = answers p.rest p.is in
+      record {
+        rest = drop (record_size before.form p.rest) p.rest;
+        is = due.2;
+        same = rw (same_form, due.1, one_more)
+            (sym (with_front-packet packets skipped packet (records_after before.form before.place p.rest (before.count + 1)))
+            ∙ progress_next (Ok (next.Packet packet)) due.0);
+      }
+
+  pub progress_skipped : (after : Reading) → AnswersNext before after (Ok next.Skipped) → after.form ≡ before.form → after.count ≡ before.count
+      → Progress whole after packets (skipped + 1)
+  progress_skipped after answers same_form as_many =
+      let due = answers p.rest p.is in
+      record {
+        rest = drop (record_size before.form p.rest) p.rest;
+        is = due.2;
+        same = rw (same_form, due.1, as_many)
+            (sym (with_front-skipped packets skipped (records_after before.form before.place p.rest before.count)) ∙ progress_next (Ok next.Skipped) due.0);
+      }
+
+  pub progress_end : (after : Reading) (cut : Bool) → AnswersNext before after (Ok (ends cut))
+      → (whole ≡ Ok (record { packets = packets; skipped = skipped; cut = cut })) × (after.left ≡ Some [])
+  unfolding with_front
+  progress_end after cut answers =
+      let due = answers p.rest p.is in (
+        sym (progress_next (Ok (ends cut)) due.0) ∙ ap (with_front packets skipped) (ends_gives (records_after before.form before.place p.rest) before.count cut)
+            ∙ ap (λ l. Ok (record { packets = l; skipped = skipped + 0; cut = cut })) (append-nil packets)
+            ∙ ap (λ n. Ok (record { packets = packets; skipped = n; cut = cut })) (add-zero skipped),
+        due.2 ∙ ap Some (ends_leave before p.rest cut),
+      )
+
+  pub progress_fault : (e : TraceFault) → next_of before.form before.place before.count p.rest ≡ Err e → whole ≡ Err e
+  unfolding with_front
+  progress_fault e due = sym (progress_next (Err e) due)

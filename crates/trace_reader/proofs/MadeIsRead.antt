@@ -31,7 +31,7 @@ use Rattle.trace_reader.specs.Making.{IsReadWhole}
 use Rattle.trace_reader.proofs.GeneratedSizes.{record_head-size}
 use Rattle.trace_reader.proofs.MadeHeaders.{headers_of, parts_there}
 use Rattle.trace_reader.proofs.NextRecord.{next_of-whole}
-use Rattle.trace_reader.proofs.CaptureSoFar.{packet_step}
+use Rattle.trace_reader.proofs.CaptureSoFar.{record_step}
 
 -- the form that the header states
 abbrev the_form : Form
@@ -129,7 +129,7 @@ records_whole (suc n) hosts j s place count few fits =
     let reads = reads_record place count j d rest (drawn-small hosts (mix_u64 s).0) (omega arith) (omega arith) in
     let bytes = record_bytes j d ++ rest in
     let size = record_size the_form bytes in
-    let step = packet_step the_form place count bytes reads.packet reads.gives in
+    let step = record_step the_form place count bytes (Ok (next.Packet reads.packet)) reads.gives in
     let again = records_whole n hosts (j + 1) (mix_u64 s).1 (place + size) (count + 1) (omega arith) (omega (arith, reads.size)) in
     subst (IsReadWhole (suc n)) (sym (step ∙ ap (λ l. with_packet reads.packet (records_of the_form (place + size) (count + 1) 0 l)) reads.gone))
     (with_packet-whole n reads.packet _ again)

@@ -159,15 +159,8 @@ skipped_ahead a b bytes ahead k told within consumes =
 -- a fault that is due is answered
 pub gives_fault : (before : Reading) (bytes : List ℕ) (after : Reading) (e : TraceFault)
     → next_of before.form before.place before.count bytes ≡ Err e → AnswersAt before bytes after (Err e)
-gives_fault before bytes after fault.Magic due = due
-gives_fault before bytes after fault.PcapNg due = due
-gives_fault before bytes after fault.Version due = due
-gives_fault before bytes after (fault.LinkType n) due = due
-gives_fault before bytes after (fault.RecordLength offset n) due = due
-gives_fault before bytes after (fault.TooLong offset) due = due
-gives_fault before bytes after (fault.Header n) due = due
 gives_fault before bytes after fault.Read due = tt
-gives_fault before bytes after fault.NoMemory due = due
+gives_fault before bytes after e due = due
 
 -- a record that is due is answered, and takes its bytes
 pub gives_record : (before : Reading) (count n : ℕ) (bytes : List ℕ) (left : Option (List ℕ)) (answer : Next)
@@ -175,7 +168,6 @@ pub gives_record : (before : Reading) (count n : ℕ) (bytes : List ℕ) (left :
     → Advances (reading before.form before.place before.count None) (reading before.form (before.place + (16 + n)) count None) (Ok answer)
     → 16 + n ≡ record_size before.form bytes → left ≡ Some (drop (record_size before.form bytes) bytes)
     → AnswersAt before bytes (reading before.form (before.place + (16 + n)) count left) (Ok answer)
-gives_record before count n bytes left (next.Packet packet) due moves size rest = (due, ap (λ m. before.place + m) size, rest)
-gives_record before count n bytes left next.Skipped due moves size rest = (due, ap (λ m. before.place + m) size, rest)
 gives_record before count n bytes left next.End due moves size rest = absurd (omega (arith, moves.0))
 gives_record before count n bytes left next.Cut due moves size rest = absurd (omega (arith, moves.0))
+gives_record before count n bytes left answer due moves size rest = (due, ap (λ m. before.place + m) size, rest)

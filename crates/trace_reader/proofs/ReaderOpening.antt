@@ -18,15 +18,8 @@ opened_is a b header bytes n fills told long =
 
 -- a fault that is due is answered
 pub opened_fault : (bytes rest : List ℕ) (left : Option (List ℕ)) (e : TraceFault) → opened bytes ≡ Err e → AnswersOpen (opened bytes) rest left (Err e)
-opened_fault bytes rest left fault.Magic due = due
-opened_fault bytes rest left fault.PcapNg due = due
-opened_fault bytes rest left fault.Version due = due
-opened_fault bytes rest left (fault.LinkType n) due = due
-opened_fault bytes rest left (fault.RecordLength offset n) due = due
-opened_fault bytes rest left (fault.TooLong offset) due = due
-opened_fault bytes rest left (fault.Header n) due = due
 opened_fault bytes rest left fault.Read due = tt
-opened_fault bytes rest left fault.NoMemory due = due
+opened_fault bytes rest left e due = due
 
 -- exactly the first 24 bytes are gone
 pub opened_rest : (a b : Option (List ℕ)) (header bytes : List ℕ) (n : ℕ) → Fills a b header n → a ≡ Some bytes → length header ≡ 24 → b ≡ Some (drop 24 bytes)

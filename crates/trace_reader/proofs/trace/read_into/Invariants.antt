@@ -1,18 +1,15 @@
 -- What was read so far, and that the keeper has it. Each record makes the place grow.
-use Rattle.std.proofs.Common.{◌≡◌, ℕ, ◌-◌, ◌*◌, ◌^◌, ◌≤◌, List, None, Some}
+use Rattle.std.proofs.Common.{◌≡◌, ◌-◌, ◌*◌, ◌^◌, ◌≤◌, None}
 use Rattle.nf_io.specs.Meaning.{StaysOpen, untouched}
-use Rattle.trace_reader.specs.Records.{capture_of}
-use Rattle.trace_reader.specs.Answers.{reading_of, HandsOn, HandsSteered}
-use Rattle.trace_reader.proofs.KeeperSoFar.{PacketsSoFar}
+use Rattle.trace_reader.specs.Answers.{reading_of}
+use Rattle.trace_reader.proofs.KeeperSoFar.{ReadSoFar}
 use Rattle.trace_reader.proofs.trace.read_into.Given as goal
 
 abbrev pub invariant-records : goal.invariant-records
 invariant-records g l = record {
   running : l.reader.stop ≡ None;
   few : 16 * l.skipped ≤ l.reader.place;
-  told : (bytes : List ℕ) → g.S.Source.left l.fn.source ≡ Some bytes
-      → PacketsSoFar (capture_of bytes) (reading_of l.reader (g.S.Source.left l.source)) l.skipped (HandsOn g.K.Keeper.HasKept l.fn.keeper l.keeper);
-  steered : HandsSteered g.K.Keeper.HasKept l.fn.keeper l.keeper l.reader.count;
+  read : ReadSoFar g.K.Keeper.HasKept (g.S.Source.left l.fn.source) l.fn.keeper l.keeper (reading_of l.reader (g.S.Source.left l.source)) l.skipped;
   later : g.S.Source.faults l.fn.source ≤ g.S.Source.faults l.source;
   stays : StaysOpen g.S.Source.IsOpen (untouched g.S.Source.loan g.S.Source.rest) l.fn.source l.source;
 }
