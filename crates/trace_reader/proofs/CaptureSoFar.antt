@@ -1,5 +1,5 @@
 -- Reading a capture to its end: what was read so far, before what the rest gives, is what the whole gives.
-use Rattle.std.proofs.Common.{◌≡◌, ℕ, zero, suc, ◌+◌, ◌-◌, Bool, true, false, List, [], ◌∷◌, ◌++◌, Option, Some, Result}
+use Rattle.std.proofs.Common.{◌≡◌, ℕ, zero, suc, ◌+◌, ◌-◌, Bool, true, false, List, [], ◌∷◌, ◌++◌, Some, Result}
 use Rattle.std.proofs.Common.{Ok, Err, drop, refl, ap, sym, ◌∙◌, arith, append-nil, append_assoc, add-zero, zero-add}
 use Rattle.flow_filter.specs.declared.packet.Packet.{Packet}
 use Rattle.trace_reader.specs.declared.form.Form.{Form}

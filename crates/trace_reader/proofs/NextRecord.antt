@@ -116,13 +116,6 @@ gives_whole form place count n b c head front bytes h is fits long small there t
       t.1.1 ∙ ap Some (drop-drop n 16 bytes ∙ ap (λ m. drop m bytes) size),
     )
 
--- the bytes at hand begin with a whole record of n bytes, which isn't too long
-pub record AtHand (form : Form) (bytes ahead : List ℕ) (n : ℕ) : Type 0 where
-  pub begins : StartsWith bytes ahead
-  pub captured : n ≡ captured_of form (take 16 ahead)
-  pub few : n ≤ 262144
-  pub whole : 16 + n ≤ length ahead
-
 -- bytes that are at hand are those that are left
 ahead_is : (bytes ahead : List ℕ) (i k : ℕ) → StartsWith bytes ahead → i + k ≤ length ahead → take k (drop i ahead) ≡ take k (drop i bytes)
 ahead_is bytes ahead i k begins within =
@@ -130,21 +123,24 @@ ahead_is bytes ahead i k begins within =
     ap (λ l. take k (drop i l)) (sym begins) ∙ ap (λ m. take k (drop i (take m bytes))) (sym all)
     ∙ ap (take k) (drop-take i (length ahead - i) bytes) ∙ take-take k (length ahead - i) (drop i bytes) (omega arith)
 
-pub gives_at_hand : (form : Form) (place count n : ℕ) (bytes ahead front : List ℕ) → AtHand form bytes ahead n → front ≡ take (min n 202) (drop 16 ahead)
-    → ((i : ℕ) → byte_at front i < 256)
+-- the bytes at hand begin with a whole record of n bytes, which isn't too long
+pub gives_at_hand : (form : Form) (place count n : ℕ) (bytes ahead front : List ℕ) → StartsWith bytes ahead
+    → (n ≡ captured_of form (take 16 ahead)) × (n ≤ 262144) × (16 + n ≤ length ahead)
+    → front ≡ take (min n 202) (drop 16 ahead) → ((i : ℕ) → byte_at front i < 256)
     → (next_of form place count bytes ≡ record_answer form place count (take 16 ahead) n front) × (16 + n ≡ record_size form bytes)
-gives_at_hand form place count n bytes ahead front h is small =
-    let long : length ahead ≤ length bytes = omega (arith, length-take (length ahead) bytes, ap length h.begins) in
-    let head : take 16 ahead ≡ take 16 bytes = ahead_is bytes ahead 0 16 h.begins (omega (arith, h.whole)) in
-    let same : front ≡ take (min n 202) (drop 16 bytes) = is ∙ ahead_is bytes ahead 16 (min n 202) h.begins (omega (arith, h.whole)) in
-    let count_is : length front ≡ min n 202 = ap length is ∙ length-take-le (min n 202) (drop 16 ahead) (omega (arith, length-drop 16 ahead, h.whole)) in
-    let taken : HeadTaken bytes (Some (drop 16 bytes)) (take 16 ahead) = record { enough = omega (arith, h.whole); same = head; left = refl } in
+gives_at_hand form place count n bytes ahead front begins found is small =
+    let all : 16 + n ≤ length ahead = found.2 in
+    let long : length ahead ≤ length bytes = omega (arith, length-take (length ahead) bytes, ap length begins) in
+    let head : take 16 ahead ≡ take 16 bytes = ahead_is bytes ahead 0 16 begins (omega (arith, all)) in
+    let same : front ≡ take (min n 202) (drop 16 bytes) = is ∙ ahead_is bytes ahead 16 (min n 202) begins (omega (arith, all)) in
+    let count_is : length front ≡ min n 202 = ap length is ∙ length-take-le (min n 202) (drop 16 ahead) (omega (arith, length-drop 16 ahead, all)) in
+    let taken : HeadTaken bytes (Some (drop 16 bytes)) (take 16 ahead) = record { enough = omega (arith, all); same = head; left = refl } in
     let whole : TakesBody (Some (drop 16 bytes)) (Some (drop n (drop 16 bytes))) (body front n) true = λ rest told.
     let is_rest : rest ≡ drop 16 bytes = cc in (
-      sym (le-leb n (length rest) (omega (arith, ap length is_rest, length-drop 16 bytes, h.whole))),
+      sym (le-leb n (length rest) (omega (arith, ap length is_rest, length-drop 16 bytes, all))),
       (same ∙ ap (λ k. take k (drop 16 bytes)) (sym count_is) ∙ ap (take (length front)) (sym is_rest), ap (λ l. Some (drop n l)) (sym is_rest)),
     ) in
-    let gives = gives_whole form place count n (Some (drop 16 bytes)) (Some (drop n (drop 16 bytes))) (take 16 ahead) front bytes taken h.captured h.few
+    let gives = gives_whole form place count n (Some (drop 16 bytes)) (Some (drop n (drop 16 bytes))) (take 16 ahead) front bytes taken found.0 found.1
     count_is small true whole refl in
     (gives.0, gives.1)
 

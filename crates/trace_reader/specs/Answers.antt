@@ -47,17 +47,15 @@ reading_of reader left = reading reader.form reader.place reader.count left
 
 -- the place that a reader is at once it has answered: that after the record, or the same at an end
 abbrev pub place_after : Reading → List ℕ → Next → ℕ
-place_after before bytes (next.Packet packet) = before.place + record_size before.form bytes
-place_after before bytes next.Skipped = before.place + record_size before.form bytes
 place_after before bytes next.End = before.place
 place_after before bytes next.Cut = before.place
+place_after before bytes answer = before.place + record_size before.form bytes
 
 -- the bytes that are left then: those after the record, or none at an end
 abbrev pub left_after : Reading → List ℕ → Next → List ℕ
-left_after before bytes (next.Packet packet) = drop (record_size before.form bytes) bytes
-left_after before bytes next.Skipped = drop (record_size before.form bytes) bytes
 left_after before bytes next.End = []
 left_after before bytes next.Cut = []
+left_after before bytes answer = drop (record_size before.form bytes) bytes
 
 -- where these bytes are left the answer is the one that is due, and takes exactly its own bytes. A fault of reading is free
 abbrev pub AnswersAt : Reading → List ℕ → Reading → Result Next TraceFault → Type 0
