@@ -3,21 +3,18 @@ use Rattle.std.proofs.Common.{◌≡◌, ℕ, Bool, true, false, ◌&&◌, cond,
 use Rattle.std.specs.Prelude.{codes, option_and_then}
 use Rattle.std.specs.Str.{bytes_eq}
 use Rattle.basics.specs.Parsing.{parse_number, split_once}
-use Rattle.op_script.specs.Statements.{Word, Event, Moving, Copying, Sharing, Settling, Statement, Silent, Routing, Happening}
+use Rattle.op_script.specs.Statements.{Word, Event, Sharing, Statement, Happening}
 use Rattle.op_script.specs.Statements.{statement_of, routing, happening, event_of}
 use Rattle.op_script.specs.WordSteps.{is_comment}
 
 -- a share's list has a comma
 abbrev pub IsEvent : Event → Type 0
-IsEvent (Moving source destination filter keep) = Unit {0}
-IsEvent (Copying source destination filter) = Unit {0}
 IsEvent (Sharing list filter) = is_some (split_once 44 list) ≡ true
-IsEvent Settling = Unit {0}
+IsEvent event = Unit {0}
 
 abbrev pub IsStatement : Statement → Type 0
-IsStatement Silent = Unit {0}
-IsStatement (Routing filter instance) = Unit {0}
 IsStatement (Happening at event) = IsEvent event
+IsStatement statement = Unit {0}
 
 -- what is there has a property
 abbrev pub OfSome : {A : Type 0} → (A → Type 0) → Option A → Type 0
@@ -31,26 +28,20 @@ either P false a b in_a in_b = in_b
 listed : (list filter : Word) (verb how comma : Bool) → is_some (split_once 44 list) ≡ comma
     → OfSome IsEvent (cond (verb && how && comma) (Some (Sharing list filter)) None)
 listed list filter true true true is = is
-listed list filter true true false is = tt
-listed list filter true false comma is = tt
-listed list filter false how comma is = tt
+listed list filter verb how comma is = tt
 
 event_right : (verb : Word) (ws : List Word) → OfSome IsEvent (event_of verb ws)
 unfolding event_of
 event_right verb [] = either IsEvent (bytes_eq verb (codes "settle")) _ _ tt tt
-event_right verb (a ∷ []) = tt
-event_right verb (a ∷ b ∷ []) = tt
 event_right verb (a ∷ b ∷ c ∷ []) = either IsEvent (bytes_eq verb (codes "copy")) _ _ tt
     (listed a b (bytes_eq verb (codes "share")) (bytes_eq c (codes "strict")) (is_some (split_once 44 a)) refl)
 event_right verb (a ∷ b ∷ c ∷ d ∷ []) = either IsEvent (bytes_eq verb (codes "move") && bytes_eq d (codes "order")) _ _ tt
     (either IsEvent (bytes_eq verb (codes "move") && bytes_eq d (codes "lossfree")) _ _ tt tt)
-event_right verb (a ∷ b ∷ c ∷ d ∷ e ∷ more) = tt
+event_right verb ws = tt
 
 routing_right : (ws : List Word) → OfSome IsStatement (routing ws)
-routing_right [] = tt
-routing_right (a ∷ []) = tt
 routing_right (a ∷ b ∷ []) = tt
-routing_right (a ∷ b ∷ c ∷ more) = tt
+routing_right ws = tt
 
 at_right : (at : Option ℕ) (event : Option Event) → OfSome IsEvent event → OfSome IsStatement (option_and_then (λ k. option_map (Happening k) event) at)
 at_right None event right = tt
@@ -58,9 +49,8 @@ at_right (Some k) None right = tt
 at_right (Some k) (Some event) right = right
 
 happening_right : (ws : List Word) → OfSome IsStatement (happening ws)
-happening_right [] = tt
-happening_right (at ∷ []) = tt
 happening_right (at ∷ verb ∷ more) = at_right (parse_number 4294967295 at) (event_of verb more) (event_right verb more)
+happening_right ws = tt
 
 statement_of_right : (ws : List Word) → OfSome IsStatement (statement_of ws)
 unfolding statement_of
