@@ -2,7 +2,7 @@
 use Rattle.std.proofs.Common.{◌≡◌, ◌∙◌, Bool, true, false, ◌||◌, refl, sym, ap, List, [], ◌∷◌, ◌++◌, map, Option, Some, None, append_assoc, true≢false}
 use Rattle.std.specs.List.{list_any}
 use Rattle.std.specs.Str.{bytes_eq}
-use Rattle.std.proofs.lemmas.Bool.{or_parts}
+use Rattle.std.proofs.lemmas.Bool.{false_from_ne_true, or_parts}
 use Rattle.std.proofs.lemmas.Slice.Eq.{bytes_eq-Decides}
 use Rattle.basics.specs.Options.{◌>>=◌}
 use Rattle.flow_filter.specs.Name.{has_twice}
@@ -13,13 +13,12 @@ use Rattle.command_words.specs.Grammar.{Texts, Pairs, texts_of, also, is_given, 
 abbrev pub names_of : Pairs → List Text
 names_of pairs = map (λ (p : Text × Text). p.0) pairs
 
-pub same_both_ways : (a b : Text) (t : Bool) → bytes_eq a b ≡ t → bytes_eq b a ≡ t
-same_both_ways a b true e = let same : a ≡ b = (bytes_eq-Decides a b).0 e in (bytes_eq-Decides b a).1 (sym same)
-same_both_ways a b false e = go (bytes_eq b a) refl
-  where
-    go : (u : Bool) → bytes_eq b a ≡ u → bytes_eq b a ≡ false
-    go false f = f
-    go true f = let same : b ≡ a = (bytes_eq-Decides b a).0 f in absurd (true≢false (sym ((bytes_eq-Decides a b).1 (sym same)) ∙ e))
+same_back : (a b : Text) → bytes_eq a b ≡ true → bytes_eq b a ≡ true
+same_back a b e = (bytes_eq-Decides b a).1 (sym ((bytes_eq-Decides a b).0 e))
+
+same_both_ways : (a b : Text) (t : Bool) → bytes_eq a b ≡ t → bytes_eq b a ≡ t
+same_both_ways a b true e = same_back a b e
+same_both_ways a b false e = false_from_ne_true (bytes_eq b a) (λ f. true≢false (sym (same_back b a f) ∙ e))
 
 or_yes : (a b : Bool) → b ≡ true → (a || b) ≡ true
 or_yes true b e = refl
