@@ -46,7 +46,8 @@ copied_right kind source destination None f is = let none : None ≡ f = cc in
 copied_right kind source destination (Some text) f is =
     let s = steps (filter_of kind text) (λ g. Ok (Some g)) f (sym (judged_some (filter_of kind text)) ∙ is) in
     let some : Some s.value ≡ f = let rest = s.rest in cc in
-    subst (λ (f : Option Fields). (is_writable f ≡ true) × (order_splits kind (Copies source destination f) ≡ false)) some (filter_right kind text s.value s.first)
+    subst (λ (f : Option Fields). (is_writable f ≡ true) × (order_splits kind (Copies source destination f) ≡ false)) some
+    (filter_right kind text s.value s.first)
 
 two_pieces : (list : Word) (r : Option (Word × Word)) → split_once 44 list ≡ r → is_some r ≡ true → 2 ≤ length (slice_split (λ b. b == 44) list)
 two_pieces list None at is = absurd cc

@@ -164,7 +164,8 @@ lines_again : (kind : Kind) (names : List Word) (n : ℕ) (s : State) (lines : L
     → AllByRecursion IsLine (map line_view lines) → AllByRecursion (λ (line : LineView). what_splits kind line.what ≡ false) (map line_view lines)
     → is_in_order (unwrap_or s.last 0) (1 + command_count s.lines) (map line_view lines) ≡ true
     → LinesRead (with_lines kind names n s (map (join_with_byte 32) (map line_words lines) ++ [] ∷ [])) s (map line_view lines)
-lines_again kind names n s [] few is whole follow = record { state = s; is_read = empty_line kind names n s; routes = refl; lines_are = sym (append-nil s.lines) }
+lines_again kind names n s [] few is whole follow =
+    record { state = s; is_read = empty_line kind names n s; routes = refl; lines_are = sym (append-nil s.lines) }
 lines_again kind names n s (line ∷ more) few is whole follow =
     let parts = and_parts (leb (unwrap_or s.last 0) line.at)
     (and_then (next_after (1 + command_count s.lines) (what_view line.what)) (λ k. is_in_order line.at k (map line_view more))) follow in

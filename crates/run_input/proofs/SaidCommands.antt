@@ -97,7 +97,8 @@ module _ {X : Type 0} (read : List Msg → X) (step : What → X → X) (says : 
 
 -- what is read of an input, where a line adds nothing
 module _ {X : Type 0} (read : List Msg → X) (of : List Packet → X) (free : (w : What) (rest : List Msg) → read (msg_of w ∷ rest) ≡ read rest)
-    (last : read (InEnd ∷ []) ≡ of []) (more : (p : Packet) (ps : List Packet) (rest : List Msg) → read rest ≡ of ps → read (InPacket p ∷ rest) ≡ of (p ∷ ps)) where
+    (last : read (InEnd ∷ []) ≡ of [])
+    (more : (p : Packet) (ps : List Packet) (rest : List Msg) → read rest ≡ of ps → read (InPacket p ∷ rest) ≡ of (p ∷ ps)) where
   passed : (lines : List Line) (rest : List Msg) → read (map (λ (l : Line). msg_of l.what) lines ++ rest) ≡ read rest
   passed lines rest = said read (λ w x. x) free lines rest ∙ read_lines-same lines (read rest)
 

@@ -144,7 +144,8 @@ module _ (whole : Result Trace TraceFault) (before : Reading) (packets : List Pa
   unfolding with_front
   progress_end after cut answers =
       let due = answers p.rest p.is in (
-        sym (progress_next (Ok (ends cut)) due.0) ∙ ap (with_front packets skipped) (ends_gives (records_after before.form before.place p.rest) before.count cut)
+        sym (progress_next (Ok (ends cut)) due.0)
+            ∙ ap (with_front packets skipped) (ends_gives (records_after before.form before.place p.rest) before.count cut)
             ∙ ap (λ l. Ok (record { packets = l; skipped = skipped + 0; cut = cut })) (append-nil packets)
             ∙ ap (λ n. Ok (record { packets = packets; skipped = n; cut = cut })) (add-zero skipped),
         due.2 ∙ ap Some (ends_leave before p.rest cut),
