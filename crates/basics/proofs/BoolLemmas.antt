@@ -13,10 +13,6 @@ absorbed_left true q given = refl
 absorbed_left false true given = sym (given refl)
 absorbed_left false false given = refl
 
-pub absorbed_right : (p q : Bool) → (p ≡ true → q ≡ true) → p ≡ (p && q)
-absorbed_right true q given = sym (given refl)
-absorbed_right false q given = refl
-
 -- two pairs, joined crosswise
 pub and_cross : (a b c d : Bool) → ((a && b) && (c && d)) ≡ ((a && c) && (b && d))
 and_cross false b c d = refl

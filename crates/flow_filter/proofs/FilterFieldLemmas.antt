@@ -4,11 +4,11 @@ use Rattle.std.proofs.Common.{◌&&◌, Option, None, Some, refl, ap, sym, ◌�
 use Rattle.std.specs.Prelude.{nat_eq}
 use Rattle.std.specs.Option.{ForSome}
 use Rattle.std.proofs.lemmas.Bool.{eqb-true, eq-eqb, eqb-false, ne_eqb, leb-true, leb-false, and_cases, and_parts, both_ways}
-use Rattle.std.proofs.Math.Bool.{and-true}
+use Rattle.std.proofs.Math.Bool.{and-true, and_comm}
 use Rattle.flow_filter.specs.declared.prefix.Prefix.{Prefix}
 use Rattle.flow_filter.specs.Prefixes.{in_prefix}
 use Rattle.flow_filter.specs.Filter.{holds, agrees, meet_value, meet_prefix, longer, covers_value, covers_prefix}
-use Rattle.basics.proofs.BoolLemmas.{not_both, absorbed_left, absorbed_right}
+use Rattle.basics.proofs.BoolLemmas.{not_both, absorbed_left}
 use Rattle.flow_filter.proofs.PrefixLemmas.{block_inside, block_own, block_whole, far_same, far_other, far_small}
 
 -- a field of flows: how a filter's value for it is tested, and below which number a flow's own is
@@ -23,11 +23,15 @@ number_below top = record { test = nat_eq; top = top }
 abbrev pub address : Field Prefix
 address = record { test = holds; top = 2 ^ 32 }
 
+-- a number of a flow that agrees with a field
+abbrev pub Agreeing : {X : Type 0} → Field X → Option X → Type 0
+Agreeing field x = (a : ℕ) × (a < field.top) × (agrees field.test x a ≡ true)
+
 -- what the meet of one field says: nothing agrees with both, or a field that agrees exactly with what both agree with, and a value
 abbrev pub MeetsField : {X : Type 0} → Field X → Option X → Option X → Option (Option X) → Type 0
 MeetsField field x y None = (a : ℕ) → (agrees field.test x a && agrees field.test y a) ≡ false
 MeetsField field x y (Some z) =
-    ((a : ℕ) → agrees field.test z a ≡ (agrees field.test x a && agrees field.test y a)) × ((a : ℕ) × (a < field.top) × (agrees field.test z a ≡ true))
+    ((a : ℕ) → agrees field.test z a ≡ (agrees field.test x a && agrees field.test y a)) × Agreeing field z
 
 -- two given numbers
 numbers_meet : (top x y : ℕ) (same : Bool) → eqb x y ≡ same → x < top
@@ -53,15 +57,10 @@ prefixes_meet p q true le is small = (
 prefixes_meet p q false le is small =
     λ a. not_both (holds p a) (holds q a) (λ at_p at_q. both_ways (holds p a) (block_inside p.bits p.len q.bits q.len a le at_q ∙ is) at_p)
 
--- the same two, the other way round
-prefixes_meet_back : (p q : Prefix) (inside : Bool) → q.len ≤ p.len → holds q p.bits ≡ inside → p.bits < 2 ^ 32
-    → MeetsField address (Some p) (Some q) (cond inside (Some (Some p)) None)
-prefixes_meet_back p q true le is small = (
-  (λ a. absorbed_right (holds p a) (holds q a) (λ e. block_inside q.bits q.len p.bits p.len a le e ∙ is)),
-  (p.bits, small, block_own p.bits p.len),
-)
-prefixes_meet_back p q false le is small =
-    λ a. not_both (holds p a) (holds q a) (λ at_p at_q. both_ways (holds q a) (block_inside q.bits q.len p.bits p.len a le at_p ∙ is) at_q)
+-- the same two fields, the other way round
+meets_back : {X : Type 0} (field : Field X) (x y : Option X) (met : Option (Option X)) → MeetsField field y x met → MeetsField field x y met
+meets_back field x y None far = λ a. and_comm (agrees field.test x a) (agrees field.test y a) ∙ far a
+meets_back field x y (Some z) h = ((λ a. h.0 a ∙ and_comm (agrees field.test y a) (agrees field.test x a)), h.1)
 
 -- by which is longer
 longer_meets : (p q : Prefix) (first : Bool) → leb p.len q.len ≡ first → p.bits < 2 ^ 32 → q.bits < 2 ^ 32
@@ -70,7 +69,7 @@ longer_meets : (p q : Prefix) (first : Bool) → leb p.len q.len ≡ first → p
 longer_meets p q true is fp fq = prefixes_meet p q (holds p q.bits) (leb-true p.len q.len is) refl fq
 longer_meets p q false is fp fq =
     let less : q.len < p.len = leb-false p.len q.len is in
-    prefixes_meet_back p q (holds q p.bits) (omega arith) refl fp
+    meets_back address (Some p) (Some q) (cond (holds q p.bits) (Some (Some p)) None) (prefixes_meet q p (holds q p.bits) (omega arith) refl fp)
 
 pub prefix_meets : (x y : Option Prefix) → ForSome x (λ p. p.bits < 2 ^ 32) → ForSome y (λ p. p.bits < 2 ^ 32)
     → MeetsField address x y (meet_prefix x y)
@@ -81,7 +80,7 @@ prefix_meets (Some p) (Some q) fx fy = longer_meets p q (leb p.len q.len) refl (
 
 -- what the cover of one field says: each value that agrees with the second agrees with the first, or one doesn't
 pub record CoversField {X : Type 0} (field : Field X) (x y : Option X) (covered : Bool) : Type 0 where
-  pub some : (a : ℕ) × (a < field.top) × (agrees field.test y a ≡ true)
+  pub some : Agreeing field y
   pub yes : covered ≡ true → (a : ℕ) → a < field.top → agrees field.test y a ≡ true → agrees field.test x a ≡ true
   pub never : covered ≡ false → (a : ℕ) × (a < field.top) × (agrees field.test y a ≡ true) × (agrees field.test x a ≡ false)
 

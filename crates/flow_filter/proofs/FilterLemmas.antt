@@ -8,7 +8,8 @@ use Rattle.flow_filter.specs.declared.filter.Filter.{Filter}
 use Rattle.basics.specs.Options.{◌>>=◌}
 use Rattle.flow_filter.specs.Filter.{holds, agrees, matches, meet, covers, covers_value, covers_prefix, IsFlow, IsFilter, Meet, IsMeet, Covers}
 use Rattle.flow_filter.proofs.FieldTests.{FieldTests, both_tests, Pass, each_passes, all_from, all_both, all_of_both}
-use Rattle.flow_filter.proofs.FilterFieldLemmas.{number_below, address, MeetsField, number_meets, prefix_meets, CoversField, number_covers, prefix_covers}
+use Rattle.flow_filter.proofs.FilterFieldLemmas.{number_below, address, Agreeing, MeetsField, number_meets, prefix_meets}
+use Rattle.flow_filter.proofs.FilterFieldLemmas.{CoversField, number_covers, prefix_covers}
 
 -- what the meet of two filters says
 abbrev pub IsMeetOf : Filter → Filter → Option Filter → Type 0
@@ -108,30 +109,26 @@ module _ (f g : Filter) (covered : FieldTests) (laws : CoversFields f g covered)
       let p = laws.of_proto.some in let l = laws.of_local.some in let lp = laws.of_lport.some in let r = laws.of_remote.some in let rp = laws.of_rport.some in
       record {
         proto = true_from_ne_false covered.proto (λ is. let far = laws.of_proto.never is in
-            both_ways _ far.3 (agreed (record { proto = far.0; local = l.0; lport = lp.0; remote = r.0; rport = rp.0 })
-            (record { proto = far.1; local = l.1; lport = lp.1; remote = r.1; rport = rp.1 })
-            (record { proto = far.2; local = l.2; lport = lp.2; remote = r.2; rport = rp.2 })).proto);
+            both_ways _ far.3 (agreed (far.0, far.1, far.2) l lp r rp).proto);
         local = true_from_ne_false covered.local (λ is. let far = laws.of_local.never is in
-            both_ways _ far.3 (agreed (record { proto = p.0; local = far.0; lport = lp.0; remote = r.0; rport = rp.0 })
-            (record { proto = p.1; local = far.1; lport = lp.1; remote = r.1; rport = rp.1 })
-            (record { proto = p.2; local = far.2; lport = lp.2; remote = r.2; rport = rp.2 })).local);
+            both_ways _ far.3 (agreed p (far.0, far.1, far.2) lp r rp).local);
         lport = true_from_ne_false covered.lport (λ is. let far = laws.of_lport.never is in
-            both_ways _ far.3 (agreed (record { proto = p.0; local = l.0; lport = far.0; remote = r.0; rport = rp.0 })
-            (record { proto = p.1; local = l.1; lport = far.1; remote = r.1; rport = rp.1 })
-            (record { proto = p.2; local = l.2; lport = far.2; remote = r.2; rport = rp.2 })).lport);
+            both_ways _ far.3 (agreed p l (far.0, far.1, far.2) r rp).lport);
         remote = true_from_ne_false covered.remote (λ is. let far = laws.of_remote.never is in
-            both_ways _ far.3 (agreed (record { proto = p.0; local = l.0; lport = lp.0; remote = far.0; rport = rp.0 })
-            (record { proto = p.1; local = l.1; lport = lp.1; remote = far.1; rport = rp.1 })
-            (record { proto = p.2; local = l.2; lport = lp.2; remote = far.2; rport = rp.2 })).remote);
+            both_ways _ far.3 (agreed p l lp (far.0, far.1, far.2) rp).remote);
         rport = true_from_ne_false covered.rport (λ is. let far = laws.of_rport.never is in
-            both_ways _ far.3 (agreed (record { proto = p.0; local = l.0; lport = lp.0; remote = r.0; rport = far.0 })
-            (record { proto = p.1; local = l.1; lport = lp.1; remote = r.1; rport = far.1 })
-            (record { proto = p.2; local = l.2; lport = lp.2; remote = r.2; rport = far.2 })).rport);
+            both_ways _ far.3 (agreed p l lp r (far.0, far.1, far.2)).rport);
       }
     where
-      -- a flow that agrees with g agrees with f
-      agreed : (flow : Flow) → IsFlow flow → Pass (tests_of g flow) → Pass (tests_of f flow)
-      agreed flow fits at_g = each_passes (tests_of f flow) (given flow fits (all_from (tests_of g flow) at_g))
+      -- a flow each of whose fields agrees with g agrees with f
+      agreed : (p : Agreeing (number_below (2 ^ 8)) g.proto) (l : Agreeing address g.local) (lp : Agreeing (number_below (2 ^ 16)) g.lport)
+          (r : Agreeing address g.remote) (rp : Agreeing (number_below (2 ^ 16)) g.rport)
+          → Pass (tests_of f (record { proto = p.0; local = l.0; lport = lp.0; remote = r.0; rport = rp.0 }))
+      agreed p l lp r rp =
+          let flow : Flow = record { proto = p.0; local = l.0; lport = lp.0; remote = r.0; rport = rp.0 } in
+          let fits : IsFlow flow = record { proto = p.1; local = l.1; lport = lp.1; remote = r.1; rport = rp.1 } in
+          let at_g = all_from (tests_of g flow) (record { proto = p.2; local = l.2; lport = lp.2; remote = r.2; rport = rp.2 }) in
+          each_passes (tests_of f flow) (given flow fits at_g)
 
 -- the test of all fields is true exactly where f covers g
 pub covers_law : (f g : Filter) → IsFilter f → IsFilter g → (covers f g ≡ true) ↔ Covers f g
