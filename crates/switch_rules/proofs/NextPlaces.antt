@@ -1,20 +1,21 @@
--- The next place at which a redirect may take a flow: none that takes it stands before.
-use Rattle.std.proofs.Common.{◌≡◌, ℕ, ◌≤◌, max, min, true, false, cond, leb, ◌&&◌, ◌||◌, List, Option, None, Some, inl, inr, ap, sym, ◌∙◌, arith}
+-- The next place at which a filter may match a flow: none that matches it stands before.
+use Rattle.std.proofs.Common.{◌≡◌, ℕ, ◌≤◌, max, min, true, false, cond, leb, ◌||◌, List, Option, None, Some, inl, inr, ap, sym, ◌∙◌, arith}
 use Rattle.std.specs.Prelude.{All, slice_get, IfSome}
 use Rattle.std.specs.List.{list_any}
 use Rattle.std.proofs.lemmas.Bool.{and_parts, and_from, both_ways, false_from_ne_true, or_cases, le-leb, leb-true}
 use Rattle.std.proofs.lemmas.List.Elements.{All-weaker}
 use Rattle.flow_filter.specs.declared.flow.Flow.{Flow}
+use Rattle.flow_filter.specs.declared.filter.Filter.{Filter}
 use Rattle.flow_filter.specs.Filter.{IsFlow, matches}
 use Rattle.switch_rules.specs.declared.target.Target.{Target}
 use Rattle.switch_rules.specs.declared.span_group.SpanGroup.{SpanGroup}
 use Rattle.switch_rules.specs.declared.span_group.Span.{Span}
 use Rattle.switch_rules.specs.Masks.{mask_of, values_of, masked, mask_eq}
 use Rattle.switch_rules.specs.Rules.{Redirect, takes, target_eq}
-use Rattle.switch_rules.specs.Spans.{AreNoted, earlier, holds, is_noted, is_up_to, may_take, next_in, next_of, notes, span}
+use Rattle.switch_rules.specs.Spans.{AreNoted, earlier, holds, is_noted, is_of, is_up_to, may_take, next_in, next_of, notes, span}
 use Rattle.switch_rules.proofs.MaskLemmas.{mask_eq_same, matches-masked, flow_eq_same}
 use Rattle.switch_rules.proofs.PassingItems.{any_weaker}
-use Rattle.switch_rules.proofs.SpanLemmas.{target_eq_same, target_eq_refl}
+use Rattle.switch_rules.proofs.SpanLemmas.{target_eq_same}
 
 next_of_up_to : (o : Option Span) (place i : ℕ) → place ≤ i → holds o i ≡ true → is_up_to (next_of o place) i ≡ true
 next_of_up_to None place i order is = is
@@ -24,7 +25,7 @@ next_of_up_to (Some s) place i order is =
     ap (λ b. is_up_to (cond b (Some (max s.first place)) None) i) (le-leb place s.last (omega (arith, order, before)))
     ∙ le-leb (max s.first place) i (omega (arith, order, after))
 
--- what a group answers is no later than a place at which a redirect of it may take the flow
+-- what a group answers is no later than a place at which a filter of it may match the flow
 pub next_in_up_to : (g : SpanGroup) (flow : Flow) (target : Target) (place i : ℕ) → place ≤ i → may_take flow target i g ≡ true
     → is_up_to (next_in g flow target place) i ≡ true
 next_in_up_to g flow target place i order is =
@@ -64,29 +65,29 @@ earlier_up_to (Some x) (Some y) i is = elim (or_cases (leb x i) (leb y i) is) [
   | inr of_y ↦ let before : y ≤ i = leb-true y i of_y in le-leb (min x y) i (omega (arith, before))
 ]
 
--- a redirect that takes the flow and is noted in a group is one that the group tells
-taken_in : (flow : Flow) → IsFlow flow → (target : Target) (i : ℕ) (r : Redirect) → takes r flow target ≡ true → (g : SpanGroup) → notes i r g ≡ true
+-- a filter that matches the flow and is noted in a group is one that the group tells
+taken_in : (flow : Flow) → IsFlow flow → (target : Target) (i : ℕ) (f : Filter) → matches f flow ≡ true → (g : SpanGroup) → notes i f target g ≡ true
     → may_take flow target i g ≡ true
-taken_in flow flows target i r takes_it g is =
-    let taken = and_parts (matches r.filter flow) (target_eq target r.from) takes_it in
-    let noted = and_parts (mask_eq g.mask (mask_of r.filter) && target_eq g.from r.from) _ is in
-    let heads = and_parts (mask_eq g.mask (mask_of r.filter)) (target_eq g.from r.from) noted.0 in
-    let mask : g.mask ≡ mask_of r.filter = mask_eq_same g.mask (mask_of r.filter) heads.0 in
-    let values : values_of r.filter ≡ masked (mask_of r.filter) flow = flow_eq_same _ _ (sym (matches-masked r.filter flow flows) ∙ taken.0) in
-    let from : g.from ≡ target = target_eq_same g.from r.from heads.1 ∙ sym (target_eq_same target r.from taken.1) in
-    and_from _ _ (ap (λ t. target_eq t target) from ∙ target_eq_refl target)
-    (ap (λ m. holds (span g (masked m flow)) i) mask ∙ ap (λ k. holds (span g k) i) (sym values) ∙ noted.1)
+taken_in flow flows target i f matched g is =
+    let noted = and_parts (is_of f target g) _ is in
+    let heads = and_parts (mask_eq g.mask (mask_of f)) (target_eq g.from target) noted.0 in
+    let mask : g.mask ≡ mask_of f = mask_eq_same g.mask (mask_of f) heads.0 in
+    let values : values_of f ≡ masked (mask_of f) flow = flow_eq_same _ _ (sym (matches-masked f flow flows) ∙ matched) in
+    and_from _ _ heads.1 (ap (λ m. holds (span g (masked m flow)) i) mask ∙ ap (λ k. holds (span g k) i) (sym values) ∙ noted.1)
 
 -- the same of all groups
-pub taken_in_some : (flow : Flow) → IsFlow flow → (target : Target) (i : ℕ) (r : Redirect) (gs : List SpanGroup) → takes r flow target ≡ true
-    → is_noted gs i r ≡ true → list_any (may_take flow target i) gs ≡ true
-taken_in_some flow flows target i r gs takes_it = any_weaker (notes i r) (may_take flow target i) (taken_in flow flows target i r takes_it) gs
+pub taken_in_some : (flow : Flow) → IsFlow flow → (target : Target) (i : ℕ) (f : Filter) (gs : List SpanGroup) → matches f flow ≡ true
+    → is_noted gs i f target ≡ true → list_any (may_take flow target i) gs ≡ true
+taken_in_some flow flows target i f gs matched = any_weaker (notes i f target) (may_take flow target i) (taken_in flow flows target i f matched) gs
 
 -- before the next place no section has a redirect that takes the flow
 pub none_before : (gs : List SpanGroup) (sections : List (List Redirect)) (flow : Flow) (target : Target) (place : ℕ) (next : Option ℕ) → AreNoted gs sections
-    → ((i : ℕ) (r : Redirect) → place ≤ i → is_noted gs i r ≡ true → takes r flow target ≡ true → is_up_to next i ≡ true)
+    → ((i : ℕ) (f : Filter) → place ≤ i → is_noted gs i f target ≡ true → matches f flow ≡ true → is_up_to next i ≡ true)
     → (i : ℕ) (section : List Redirect) → place ≤ i → is_up_to next i ≡ false → slice_get sections i ≡ Some section
     → All (λ r. takes r flow target ≡ false) section
 none_before gs sections flow target place next noted before i section later early at =
-    All-weaker (λ r. is_noted gs i r ≡ true) (λ r. takes r flow target ≡ false)
-    (λ r here. false_from_ne_true (takes r flow target) (λ is. both_ways (is_up_to next i) early (before i r later here is))) section (noted i section at)
+    All-weaker (λ r. is_noted gs i r.filter r.from ≡ true) (λ r. takes r flow target ≡ false)
+    (λ r here. false_from_ne_true (takes r flow target) (λ is.
+    let both = and_parts (matches r.filter flow) (target_eq target r.from) is in
+    let own : is_noted gs i r.filter target ≡ true = ap (is_noted gs i r.filter) (target_eq_same target r.from both.1) ∙ here in
+    both_ways (is_up_to next i) early (before i r.filter later own both.0))) section (noted i section at)

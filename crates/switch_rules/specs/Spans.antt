@@ -1,7 +1,8 @@
--- Steps between code and definition, which nobody has to believe: between which places redirects stand that may take a flow, by their sections.
+-- Steps between code and definition, which nobody has to believe: between which places filters stand that may match a flow.
 use Rattle.std.specs.Prelude.{◌≡◌, ◌&&◌, ℕ, Bool, true, false, nat_le, min, max, if◌then◌else◌, List, All, slice_get, Option, None, Some}
 use Rattle.std.specs.List.{list_any}
 use Rattle.flow_filter.specs.declared.flow.Flow.{Flow}
+use Rattle.flow_filter.specs.declared.filter.Filter.{Filter}
 use Rattle.flow_filter.specs.Flow.{flow_eq}
 use Rattle.unit_map.specs.Entries.{record_of}
 use Rattle.switch_rules.specs.declared.target.Target.{Target}
@@ -24,19 +25,24 @@ abbrev pub holds : Option Span → ℕ → Bool
 holds None place = false
 holds (Some s) place = nat_le s.first place && nat_le place s.last
 
--- the group notes redirects of this one's mask, from its target, and the place stands in the span of its filter
-abbrev pub notes : ℕ → Redirect → SpanGroup → Bool
-notes place r g = (mask_eq g.mask (mask_of r.filter) && target_eq g.from r.from) && holds (span g (values_of r.filter)) place
+-- the group is that of the filter's mask and of the target
+abbrev pub is_of : Filter → Target → SpanGroup → Bool
+is_of f from g = mask_eq g.mask (mask_of f) && target_eq g.from from
 
--- a group notes the redirect at the place
-abbrev pub is_noted : List SpanGroup → ℕ → Redirect → Bool
-is_noted groups place r = list_any (notes place r) groups
+-- the group is that of the filter and the target, and the place stands in the span of what the filter says
+abbrev pub notes : ℕ → Filter → Target → SpanGroup → Bool
+notes place f from g = is_of f from g && holds (span g (values_of f)) place
+
+-- a group notes the filter, which takes flows from the target, at the place
+abbrev pub is_noted : List SpanGroup → ℕ → Filter → Target → Bool
+is_noted groups place f from = list_any (notes place f from) groups
 
 -- each redirect of the sections is noted at its section's place
 abbrev pub AreNoted : List SpanGroup → List (List Redirect) → Type 0
-AreNoted groups sections = (place : ℕ) (section : List Redirect) → slice_get sections place ≡ Some section → All (λ r. is_noted groups place r ≡ true) section
+AreNoted groups sections = (place : ℕ) (section : List Redirect) → slice_get sections place ≡ Some section
+    → All (λ r. is_noted groups place r.filter r.from ≡ true) section
 
--- at the place a redirect of the group may take the flow from its target
+-- at the place a filter of the group may match the flow, whose target is this one
 abbrev pub may_take : Flow → Target → ℕ → SpanGroup → Bool
 may_take flow target place g = target_eq g.from target && holds (span g (masked g.mask flow)) place
 
@@ -45,7 +51,7 @@ abbrev pub next_of : Option Span → ℕ → Option ℕ
 next_of None place = None
 next_of (Some s) place = if nat_le place s.last then Some (max s.first place) else None
 
--- the first place from one on at which a redirect of the group may take the flow from its target
+-- the first place from one on at which a filter of the group may match the flow, whose target is this one
 abbrev pub next_in : SpanGroup → Flow → Target → ℕ → Option ℕ
 next_in g flow target place = if target_eq g.from target then next_of (span g (masked g.mask flow)) place else None
 

@@ -62,11 +62,12 @@ impl RedirectList {
     {
         match last_alike(&self.sections, &redirect) {
             Some(last) => {
-                self.spans.note(last, &redirect)?;
+                self.spans.note(last, &redirect.filter, redirect.from)?;
                 self.sections[last].push(redirect)
             }
             None => {
-                self.spans.note(self.sections.len(), &redirect)?;
+                let next = self.sections.len();
+                self.spans.note(next, &redirect.filter, redirect.from)?;
                 let section = Section::open(*self.sections.allocator(), redirect);
                 self.sections.push(section)?;
                 Ok(())

@@ -10,8 +10,8 @@ use flow_filter::Flow;
 use std::alloc::Global;
 use unit_map::UnitMap;
 
-/// Where the redirects stand whose filters have one mask and which take flows from one target: for what a filter says of the
-/// mask's fields, the places from the first such redirect's section to the last's.
+/// Where the filters stand that have one mask and take flows from one target: for what a filter says of the mask's fields, the
+/// places from the first such filter's to the last's.
 #[derive(Drop)]
 pub struct SpanGroup {
     pub mask: Mask,

@@ -1,21 +1,22 @@
-//! Between which places of a list redirects stand that may take a flow.
+//! Between which places of a list filters stand that may match a flow.
 ghost use Rattle.std.specs.Prelude.{◌≡◌, ◌≤◌, ◌&&◌, ℕ, true, [], position, length, IfSome, OnOk};
 ghost use Rattle.std.specs.List.{list_any};
-ghost use Rattle.flow_filter.specs.Filter.{IsFlow};
-ghost use Rattle.switch_rules.specs.Rules.{Redirect as EachRedirect, takes, target_eq};
+ghost use Rattle.flow_filter.specs.Filter.{IsFlow, matches};
+ghost use Rattle.flow_filter.specs.declared.filter.Filter.{Filter as EachFilter};
+ghost use Rattle.switch_rules.specs.declared.target.Target.{Target as EachTarget};
+ghost use Rattle.switch_rules.specs.Rules.{target_eq};
 ghost use Rattle.switch_rules.specs.Masks.{mask_eq};
 ghost use Rattle.switch_rules.specs.Spans.{is_noted, may_take, is_up_to, earlier};
 
 use crate::mask::{Mask, values_of};
-use crate::redirect::Redirect;
 use crate::span_group::SpanGroup;
 use crate::target::Target;
 use basics::NoMemory;
-use flow_filter::Flow;
+use flow_filter::{Filter, Flow};
 use std::alloc::Global;
 use std::marker::Model;
 
-/// Where redirects stand in a list, in groups by their masks and by the targets from which they take flows.
+/// Where filters stand in a list, as those of redirects, in groups by their masks and by the targets from which they take flows.
 ///
 /// It tells which of them can be passed over for a flow. What it says of the others is looked at before it is believed.
 #[derive(Drop)]
@@ -34,7 +35,7 @@ impl Model for Spans {
 
 impl Spans {
     /// No groups yet. This takes no memory.
-    pub(crate) fn open(alloc: Global) -> Self
+    pub fn open(alloc: Global) -> Self
         ensures { result ≡ [] }
     {
         Spans {
@@ -49,25 +50,25 @@ impl Spans {
         self.groups.len()
     }
 
-    /// The first place from one on at which a redirect may stand that takes a flow from its target. None stands before it.
-    pub(crate) fn next(&self, flow: &Flow, target: Target, place: usize) -> Option<usize>
+    /// The first place from one on at which a filter may stand that matches a flow and takes it from its target. None stands before it.
+    pub fn next(&self, flow: &Flow, target: Target, place: usize) -> Option<usize>
         ensures later { IfSome result (λ next. place ≤ next) }
-        ensures before { (i : ℕ) (r : EachRedirect) → place ≤ i → is_noted self.now i r ≡ true → takes r flow.now target ≡ true → is_up_to result i ≡ true }
+        ensures before { (i : ℕ) (f : EachFilter) → place ≤ i → is_noted self.now i f target ≡ true → matches f flow.now ≡ true → is_up_to result i ≡ true }
     {
         next_place(&self.groups, *flow, target, place)
     }
 
-    /// Notes the place of a redirect. Each redirect that was noted is still noted, also where there is no memory.
-    pub(crate) fn note(&mut self, place: usize, redirect: &Redirect) -> Result<(), NoMemory>
-        ensures kept { (i : ℕ) (r : EachRedirect) → is_noted self.old i r ≡ true → is_noted self.new i r ≡ true }
-        ensures noted { OnOk result (is_noted self.new place redirect.now ≡ true) }
+    /// Notes the place of a filter that takes flows from a target. What was noted is still noted, also where there is no memory.
+    pub fn note(&mut self, place: usize, filter: &Filter, from: Target) -> Result<(), NoMemory>
+        ensures kept { (i : ℕ) (f : EachFilter) (t : EachTarget) → is_noted self.old i f t ≡ true → is_noted self.new i f t ≡ true }
+        ensures noted { OnOk result (is_noted self.new place filter.now from ≡ true) }
     {
-        let mask = Mask::of(&redirect.filter);
-        let key = values_of(&redirect.filter);
-        match place_of(&self.groups, mask, redirect.from) {
+        let mask = Mask::of(filter);
+        let key = values_of(filter);
+        match place_of(&self.groups, mask, from) {
             Some(at) => self.groups[at].note(key, place),
             None => {
-                let mut group = SpanGroup::open(*self.groups.allocator(), mask, redirect.from);
+                let mut group = SpanGroup::open(*self.groups.allocator(), mask, from);
                 group.note(key, place)?;
                 self.groups.push(group)?;
                 Ok(())
