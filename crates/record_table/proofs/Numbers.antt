@@ -3,6 +3,7 @@ use Rattle.std.proofs.Common.{◌≡◌, ℕ, ◌+◌, ◌*◌, ◌^◌, ◌<◌
 use Rattle.std.specs.List.{All}
 use Rattle.std.specs.List.Sorted.{IsSortedByKey}
 use Rattle.std.proofs.lemmas.List.{length-map, get_or-map}
+use Rattle.std.proofs.lemmas.Grind.{common_steps, rows}
 use Rattle.std.specs.Cmp.{nat_cmp_is, ranked}
 use Rattle.std.specs.Ordering.{nat_cmp, ordering_then, is_lt, MatchOrdering}
 use Rattle.std.specs.declared.cmp.Ordering.{Ordering}
@@ -16,30 +17,18 @@ use Rattle.nf_function.proofs.StoredNumbers.{ordering_then-assoc}
 use Rattle.record_table.specs.declared.ordered.Found.{Found}
 use Rattle.record_table.specs.Keeping.{AreWithin, IsWithin, flow_number, unit_number, IsNumbered, pairs_of}
 
+-- a greater first digit makes a number greater
+greater : (base a b c : ℕ) → b < base → a < c → a * base + b < c * base
+greater base a b c small less = grind (arith, common_steps, rows)
+
 -- numbers of two digits are compared by the first, and then by the second
-two_16 : (a b c d : ℕ) → b < 2 ^ 16 → d < 2 ^ 16 → (o p : Ordering) → MatchOrdering o (a < c) (a ≡ c) (c < a) → MatchOrdering p (b < d) (b ≡ d) (d < b)
-    → MatchOrdering (ordering_then o p) (a * 2 ^ 16 + b < c * 2 ^ 16 + d) (a * 2 ^ 16 + b ≡ c * 2 ^ 16 + d) (c * 2 ^ 16 + d < a * 2 ^ 16 + b)
-two_16 a b c d small other Less p first second = omega (arith, first, small, other)
-two_16 a b c d small other Equal Less first second = omega (arith, first, second)
-two_16 a b c d small other Equal Equal first second = omega (arith, first, second)
-two_16 a b c d small other Equal Greater first second = omega (arith, first, second)
-two_16 a b c d small other Greater p first second = omega (arith, first, small, other)
-
-two_32 : (a b c d : ℕ) → b < 2 ^ 32 → d < 2 ^ 32 → (o p : Ordering) → MatchOrdering o (a < c) (a ≡ c) (c < a) → MatchOrdering p (b < d) (b ≡ d) (d < b)
-    → MatchOrdering (ordering_then o p) (a * 2 ^ 32 + b < c * 2 ^ 32 + d) (a * 2 ^ 32 + b ≡ c * 2 ^ 32 + d) (c * 2 ^ 32 + d < a * 2 ^ 32 + b)
-two_32 a b c d small other Less p first second = omega (arith, first, small, other)
-two_32 a b c d small other Equal Less first second = omega (arith, first, second)
-two_32 a b c d small other Equal Equal first second = omega (arith, first, second)
-two_32 a b c d small other Equal Greater first second = omega (arith, first, second)
-two_32 a b c d small other Greater p first second = omega (arith, first, small, other)
-
-two_64 : (a b c d : ℕ) → b < 2 ^ 64 → d < 2 ^ 64 → (o p : Ordering) → MatchOrdering o (a < c) (a ≡ c) (c < a) → MatchOrdering p (b < d) (b ≡ d) (d < b)
-    → MatchOrdering (ordering_then o p) (a * 2 ^ 64 + b < c * 2 ^ 64 + d) (a * 2 ^ 64 + b ≡ c * 2 ^ 64 + d) (c * 2 ^ 64 + d < a * 2 ^ 64 + b)
-two_64 a b c d small other Less p first second = omega (arith, first, small, other)
-two_64 a b c d small other Equal Less first second = omega (arith, first, second)
-two_64 a b c d small other Equal Equal first second = omega (arith, first, second)
-two_64 a b c d small other Equal Greater first second = omega (arith, first, second)
-two_64 a b c d small other Greater p first second = omega (arith, first, small, other)
+two_digits : (base a b c d : ℕ) → b < base → d < base → (o p : Ordering) → MatchOrdering o (a < c) (a ≡ c) (c < a) → MatchOrdering p (b < d) (b ≡ d) (d < b)
+    → MatchOrdering (ordering_then o p) (a * base + b < c * base + d) (a * base + b ≡ c * base + d) (c * base + d < a * base + b)
+two_digits base a b c d small other Less p first second = omega (arith, greater base a b c small first)
+two_digits base a b c d small other Equal Less first second = omega (arith, ap (λ x. x * base) first, second)
+two_digits base a b c d small other Equal Equal first second = omega (arith, ap (λ x. x * base) first, second)
+two_digits base a b c d small other Equal Greater first second = omega (arith, ap (λ x. x * base) first, second)
+two_digits base a b c d small other Greater p first second = omega (arith, greater base c d a other first)
 
 rank : (x y : ℕ) → MatchOrdering (nat_cmp x y) (x < y) (x ≡ y) (y < x)
 rank x y = ranked x y (nat_cmp x y) refl
@@ -51,11 +40,11 @@ flows a b v w =
     let lport = nat_cmp a.lport b.lport in
     let remote = nat_cmp a.remote b.remote in
     let rport = nat_cmp a.rport b.rport in
-    let front = two_32 a.proto a.local b.proto b.local v.local w.local proto local (rank a.proto b.proto) (rank a.local b.local) in
-    let near = two_16 (a.proto * 2 ^ 32 + a.local) a.lport (b.proto * 2 ^ 32 + b.local) b.lport v.lport w.lport (ordering_then proto local) lport front
+    let front = two_digits (2 ^ 32) a.proto a.local b.proto b.local v.local w.local proto local (rank a.proto b.proto) (rank a.local b.local) in
+    let near = two_digits (2 ^ 16) (a.proto * 2 ^ 32 + a.local) a.lport (b.proto * 2 ^ 32 + b.local) b.lport v.lport w.lport (ordering_then proto local) lport front
     (rank a.lport b.lport) in
-    let far = two_16 a.remote a.rport b.remote b.rport v.rport w.rport remote rport (rank a.remote b.remote) (rank a.rport b.rport) in
-    let whole = two_64 ((a.proto * 2 ^ 32 + a.local) * 2 ^ 16 + a.lport) (a.remote * 2 ^ 16 + a.rport) ((b.proto * 2 ^ 32 + b.local) * 2 ^ 16 + b.lport)
+    let far = two_digits (2 ^ 16) a.remote a.rport b.remote b.rport v.rport w.rport remote rport (rank a.remote b.remote) (rank a.rport b.rport) in
+    let whole = two_digits (2 ^ 64) ((a.proto * 2 ^ 32 + a.local) * 2 ^ 16 + a.lport) (a.remote * 2 ^ 16 + a.rport) ((b.proto * 2 ^ 32 + b.local) * 2 ^ 16 + b.lport)
     (b.remote * 2 ^ 16 + b.rport)
     (omega (arith, v.remote, v.rport)) (omega (arith, w.remote, w.rport)) (ordering_then (ordering_then proto local) lport) (ordering_then remote rport)
     near far in
