@@ -3,7 +3,6 @@ use Rattle.std.proofs.Common.{◌≡◌, ℕ, zero, suc, ◌+◌, ◌-◌, ◌<�
 use Rattle.std.proofs.Common.{refl, sym, ap, subst, ◌∙◌, append_assoc, append-nil, length-append, add-one, arith, inl, inr}
 use Rattle.std.specs.Prelude.{if◌then◌else◌, slice_get}
 use Rattle.std.specs.Bool.{then_some}
-use Rattle.std.proofs.lemmas.Grind.{common_steps}
 use Rattle.std.proofs.lemmas.Bool.{cases_lt}
 use Rattle.std.proofs.lemmas.Option.{slice_get_past}
 use Rattle.actor_net.specs.declared.choice.Choice.{Choice}
@@ -12,17 +11,6 @@ use Rattle.actor_net.specs.Schedules.{ports_below, nodes_below, enabled_choices}
 
 abbrev pub at : ℕ → ℕ → Choice
 at k p = record { node = k; port = p }
-
--- one more element, or none, lengthens a list by at most one
-one_more : {X : Type 0} (b : Bool) (x : X) (xs : List X) (k : ℕ) → length xs ≤ k → length (xs ++ (if b then x ∷ [] else [])) ≤ k + 1
-one_more true x xs k few = grind (arith, common_steps)
-one_more false x xs k few = rw (append-nil xs) (omega arith)
-
-ports_few : {A M N : Type 0} (ready : A → M → Bool) (w : Network A M N) (k p : ℕ) → length (ports_below ready w k p) ≤ p
-ports_few ready w k zero = omega arith
-ports_few ready w k (suc p) =
-    let more : length (ports_below ready w k (suc p)) ≤ p + 1 = one_more (is_enabled ready w (at k p)) _ (ports_below ready w k p) p (ports_few ready w k p) in
-    omega arith
 
 -- one more port of a node
 pub ports_below-enabled : {A M N : Type 0} (ready : A → M → Bool) (w : Network A M N) (k p : ℕ) → is_enabled ready w (at k p) ≡ true

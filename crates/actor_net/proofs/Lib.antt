@@ -7,6 +7,7 @@ pub mod EnabledChoices
 pub mod LinkCounts
 pub mod LinkLemmas
 pub mod MergeRun
+pub mod NumberCounts
 pub mod OpeningWorlds
 pub mod PartialMergeLemmas
 pub mod RemainderLemmas

@@ -3,9 +3,7 @@
 use Rattle.std.proofs.Common.{◌≡◌, ℕ, zero, suc, ◌+◌, ◌*◌, ◌<◌, ◌≤◌, Bool, true, false, List, []}
 use Rattle.std.proofs.Common.{◌∷◌, ◌++◌, length, get_or, set, drop, refl, sym, ap, subst, ◌∙◌, arith}
 use Rattle.std.specs.Prelude.{if◌then◌else◌, ◌==◌, ◌&&◌}
-use Rattle.std.specs.List.{sum_by}
 use Rattle.std.proofs.lemmas.Bool.Decides.{Decides-eqb}
-use Rattle.std.proofs.lemmas.List.Recursion.{is_sum_by}
 use Rattle.actor_net.specs.Network.{Network, Stepped, on_link, queue_at, without_first, put_on, links_after, world_next, reaches}
 use Rattle.actor_net.specs.Histories.{sent_for}
 use Rattle.actor_net.proofs.EnabledChoices.{at}
@@ -180,29 +178,7 @@ module _ {A M N : Type 0} (step : A → ℕ → M → Stepped A M N) (n : ℕ) (
   log_after h =
       ap (weigh h) (taken_outcome step n w k p node m rest takes).log ∙ weigh-append h w.log (step node p m).notes
 
--- a greater weight of each message makes a greater weight of all
-pub weigh_le : {X : Type 0} (f g : X → ℕ) (xs : List X) → ((x : X) → f x ≤ g x) → weigh f xs ≤ weigh g xs
-weigh_le f g [] less = omega arith
-weigh_le f g (x ∷ xs) less = omega (arith, less x, weigh_le f g xs less)
-
-pub total_le : {A M N : Type 0} (f g : M → ℕ) (w : Network A M N) → ((m : M) → f m ≤ g m) → total f w ≤ total g w
-total_le f g w less =
-    omega (arith, weigh_le f g w.input less, weigh_le (weigh f) (weigh g) w.links (λ ms. weigh_le f g ms less))
-
--- two weights together
-pub weigh-sum : {X : Type 0} (f g : X → ℕ) (xs : List X) → weigh (λ x. f x + g x) xs ≡ weigh f xs + weigh g xs
-weigh-sum f g [] = omega arith
-weigh-sum f g (x ∷ xs) = omega (arith, weigh-sum f g xs)
-
+-- the same weight of each message makes the same weight of all
 pub weigh_same : {X : Type 0} (f g : X → ℕ) (xs : List X) → ((x : X) → f x ≡ g x) → weigh f xs ≡ weigh g xs
 weigh_same f g [] same = refl
 weigh_same f g (x ∷ xs) same = omega (arith, same x, weigh_same f g xs same)
-
-pub total-sum : {A M N : Type 0} (f g : M → ℕ) (w : Network A M N) → total (λ m. f m + g m) w ≡ total f w + total g w
-total-sum f g w =
-    let links = weigh_same (weigh (λ m. f m + g m)) (λ ms. weigh f ms + weigh g ms) w.links (weigh-sum f g) in
-    omega (arith, weigh-sum f g w.input, links, weigh-sum (weigh f) (weigh g) w.links)
-
--- a weight is std's sum over a list
-pub weigh-sum_by : {X : Type 0} (f : X → ℕ) (xs : List X) → weigh f xs ≡ sum_by f xs
-weigh-sum_by f xs = is_sum_by (weigh f) f refl (λ x xs. refl) xs

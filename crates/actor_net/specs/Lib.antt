@@ -6,3 +6,4 @@ pub mod Replays
 pub mod Histories
 pub mod Merging
 pub mod PartialMerge
+pub mod Numbers
