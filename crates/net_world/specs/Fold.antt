@@ -1,6 +1,6 @@
 -- One instance that nothing moves: what is kept of a unit and answered after packets; and which packets of a unit a log and a world name.
 -- Packets go by their numbers. This project's own.
-use Rattle.std.specs.Prelude.{◌≡◌, ℕ, ◌+◌, ◌==◌, Bool, if◌then◌else◌, List, [], ◌∷◌, ◌++◌, filter, map, scan, length, Option}
+use Rattle.std.specs.Prelude.{ℕ, Bool, List, filter, map, scan, length, Option}
 use Rattle.std.specs.List.{fold as fold_over}
 use Rattle.nf_function.specs.declared.output.Output.{Output}
 use Rattle.nf_function.specs.declared.unit.Unit as units
@@ -9,22 +9,13 @@ use Rattle.record_table.specs.Table.{same_unit}
 use Rattle.nf_msgs.specs.declared.msg.Msg.{Msg}
 use Rattle.nf_msgs.specs.declared.note.Note.{Note}
 use Rattle.actor_net.specs.Network.{Network}
+pub use Rattle.actor_net.specs.Numbers.{IsFront, times}
 use Rattle.net_world.specs.declared.config.Config.{Config}
 use Rattle.net_world.specs.declared.node.Node.{Node}
 use Rattle.net_world.specs.Input.{packet_numbered}
 use Rattle.net_world.specs.Log.{arrivals_in, dones_in, done_where}
 use Rattle.net_world.specs.Path.{in_flight}
 use Rattle.net_world.specs.Places.{owner}
-
--- a list and more after it
-pub record IsFront (front all : List ℕ) : Type 0 where
-  pub rest : List ℕ
-  pub whole : front ++ rest ≡ all
-
--- how often a number stands in a list
-abbrev pub times : ℕ → List ℕ → ℕ
-times p [] = 0
-times p (q ∷ qs) = (if p == q then 1 else 0) + times p qs
 
 module _ {R : Type 0} (f : Semantics R) (config : Config) (items : List Msg) where
   -- the packets of a unit among some

@@ -1,9 +1,9 @@
--- Functions that are changed at one place, some packets among others and how often they stand there, and tests of the numbers of nodes.
-use Rattle.std.proofs.Common.{◌≡◌, ℕ, ◌+◌, ◌≤◌, Bool, true, false, List, [], ◌∷◌, ◌++◌, refl, sym, ap, ◌∙◌, append-nil, arith}
+-- Functions that are changed at one place, some packets among others, and tests of the numbers of nodes.
+use Rattle.std.proofs.Common.{◌≡◌, ℕ, ◌+◌, Bool, true, false, List, [], ◌∷◌, ◌++◌, refl, sym, ap, ◌∙◌, append-nil, arith}
 use Rattle.std.specs.Prelude.{if◌then◌else◌, ◌==◌, filter}
 use Rattle.std.proofs.lemmas.List.Elements.{filter-append}
 use Rattle.std.proofs.lemmas.Bool.Decides.{nat_tests, Decides-eqb}
-use Rattle.net_world.specs.Fold.{times}
+pub use Rattle.actor_net.proofs.NumberCounts.{times_filter, filter_few}
 
 -- changed at one place
 abbrev pub put : {X : Type 0} → (ℕ → X) → ℕ → X → ℕ → X
@@ -28,25 +28,6 @@ filter_one_more mine xs p on = filter-append mine xs (p ∷ []) ∙ ap (λ b. fi
 
 pub filter_no_more : (mine : ℕ → Bool) (xs : List ℕ) (p : ℕ) → mine p ≡ false → filter mine (xs ++ p ∷ []) ≡ filter mine xs
 filter_no_more mine xs p off = filter-append mine xs (p ∷ []) ∙ ap (λ b. filter mine xs ++ (if b then p ∷ [] else [])) off ∙ append-nil (filter mine xs)
-
--- how often one of a kind stands among those of the kind
-pub times_filter : (mine : ℕ → Bool) (p : ℕ) → mine p ≡ true → (xs : List ℕ) → times p (filter mine xs) ≡ times p xs
-times_filter mine p on [] = refl
-times_filter mine p on (x ∷ xs) =
-    elim (mine x) as (λ b. mine x ≡ b → times p (if b then x ∷ filter mine xs else filter mine xs) ≡ (if p == x then 1 else 0) + times p xs) [
-      | true ↦ λ _. ap (λ n. (if p == x then 1 else 0) + n) (times_filter mine p on xs)
-      | false ↦ λ off. (elim (p == x) as (λ b. (p == x) ≡ b → times p (filter mine xs) ≡ (if b then 1 else 0) + times p xs) [
-        | true ↦ λ is. (let same : p ≡ x = (Decides-eqb p x).0 is in let both : true ≡ false = sym on ∙ ap mine same ∙ off in cc)
-        | false ↦ λ _. (let rest = times_filter mine p on xs in omega (arith, rest))
-      ] refl)
-    ] refl
-
-pub filter_few : (mine : ℕ → Bool) (p : ℕ) (xs : List ℕ) → times p (filter mine xs) ≤ times p xs
-filter_few mine p [] = omega arith
-filter_few mine p (x ∷ xs) = elim (mine x) as (λ b. times p (if b then x ∷ filter mine xs else filter mine xs) ≤ (if p == x then 1 else 0) + times p xs) [
-  | true ↦ (let rest = filter_few mine p xs in omega (arith, rest))
-  | false ↦ (let rest = filter_few mine p xs in omega (arith, rest))
-]
 
 -- tests of nodes: the switch is 0, the controller 1, members are from 2
 pub two_two : (k j : ℕ) → (k + 2 == j + 2) ≡ (k == j)

@@ -1,22 +1,13 @@
 -- The theorem's words: what is read off a run of a two-phase update, and what holds of every run. Packets go by their numbers.
 use Rattle.std.proofs.Common.{◌≡◌, ◌≤◌, ◌⊎◌, ℕ, ◌+◌, ◌*◌, Bool, true, false, Option, Some, None, List, [], ◌∷◌, ◌++◌, length}
-use Rattle.std.specs.Prelude.{if◌then◌else◌, ◌==◌, ◌||◌}
+use Rattle.std.specs.Prelude.{if◌then◌else◌, ◌||◌}
 use Rattle.actor_net.specs.declared.choice.Choice.{Choice}
 use Rattle.actor_net.specs.Network.{Network, IsRun, is_enabled, is_done, run}
 use Rattle.actor_net.specs.Opening.{opening}
+pub use Rattle.actor_net.specs.Numbers.{IsFront, times}
 use Rattle.two_machine.proofs.Tables.{System, Msg, Note, Node, Arrived, Processed, Low, High, Done, No_packet, Is_switch, Is_inst, node_step, node_ready}
 use Rattle.two_machine.proofs.Tables.{node_ended, first_nodes, items}
 use Rattle.two_machine.proofs.View.{read, arrived}
-
--- how often a number stands in a list
-abbrev pub times : ℕ → List ℕ → ℕ
-times p [] = 0
-times p (q ∷ qs) = (if p == q then 1 else 0) + times p qs
-
--- a list and more after it
-pub record IsFront (front all : List ℕ) : Type 0 where
-  pub rest : List ℕ
-  pub whole : front ++ rest ≡ all
 
 -- a list with one item in front, if there is one
 abbrev pub listed : {X : Type 0} → Option X → List X → List X

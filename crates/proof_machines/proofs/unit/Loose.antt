@@ -1,25 +1,11 @@
 -- Each step of a move without a buffer at B, after its Install, leads to a stage, with the same packets in whatever order.
-use Rattle.std.proofs.Common.{◌≡◌, ℕ, ◌+◌, Bool, true, false, List, [], ◌∷◌, ◌++◌, refl, append_assoc, append-nil, arith}
-use Rattle.std.proofs.lemmas.Cmp.{nat_eq_equiv}
-use Rattle.std.specs.Prelude.{if◌then◌else◌, ◌==◌}
+use Rattle.std.proofs.Common.{◌≡◌, ℕ, Bool, true, false, List, [], ◌∷◌, ◌++◌, refl, append_assoc, append-nil, arith}
+pub use Rattle.actor_net.proofs.NumberCounts.{none_in, times-append}
 use Rattle.proof_machines.proofs.unit.Machine.{At_b, Ran, Steps, MachineStep, Arrive, Take_sa, Take_sb, Take_ac, Take_cs}
 use Rattle.proof_machines.proofs.unit.Lists.{firsts-append, passing, plain, plains, passes-append, plains-append}
-use Rattle.proof_machines.proofs.unit.Stages.{Turned_loose, Fenced_loose, Ending_loose, Fence_loose, Fenced_b, GoesOn, times}
+use Rattle.proof_machines.proofs.unit.Stages.{Turned_loose, Fenced_loose, Ending_loose, Fence_loose, Fenced_b, GoesOn}
 use Rattle.proof_machines.proofs.unit.Early.{shapes, paths, still, one_more}
 use Rattle.proof_machines.proofs.unit.Late.{same_lists}
-
-pub times-append : (n : ℕ) (xs ys : List ℕ) → times n (xs ++ ys) ≡ times n xs + times n ys
-times-append n [] ys = omega arith
-times-append n (x ∷ xs) ys = let e = times-append n xs ys in omega arith
-
--- a list in which nothing is
-pub none_in : (xs : List ℕ) → ((n : ℕ) → times n xs ≡ 0) → xs ≡ []
-none_in [] h = refl
-none_in (x ∷ xs) h =
-    let here : (if x == x then 1 else 0) + times x xs ≡ 0 = h x in
-    let self : (x == x) ≡ true = nat_eq_equiv.refl x in
-    let one : 1 + times x xs ≡ 0 = rw self at here in
-    absurd (omega (arith, one))
 
 ruleset counts = (times-append, firsts-append, passes-append, plains-append, append_assoc, append-nil)
 

@@ -1,7 +1,8 @@
 -- The stages of a move for a unit that it covers: a constructor for each place of the move's message, the state of the machine at
 -- each (`shape`), and the packets that wait there (`path`).
-use Rattle.std.proofs.Common.{◌≡◌, ℕ, ◌+◌, Bool, true, false, Option, Some, None, List, [], ◌∷◌, ◌++◌, map, subst}
-use Rattle.std.specs.Prelude.{if◌then◌else◌, ◌==◌}
+use Rattle.std.proofs.Common.{◌≡◌, ℕ, Bool, true, false, Option, Some, None, List, [], ◌∷◌, ◌++◌, map, subst}
+use Rattle.std.specs.Prelude.{if◌then◌else◌}
+pub use Rattle.actor_net.specs.Numbers.{times}
 use Rattle.nf_msgs.specs.declared.answer.Answer.{Answer}
 use Rattle.proof_machines.proofs.unit.Machine.{Where, At_a, At_b, Ran, on, Steps, after, Part, pick, is_nil, Item, Carry, Pass, Fence, Enable, Stream, Put}
 use Rattle.proof_machines.proofs.unit.Machine.{Restore, Enabled, Event, Put_ok, Put_no, Restored, Fenced, Forward, Fence_to, Install, Free, Drops, Buffers}
@@ -293,11 +294,7 @@ side_of (Fenced_b d l k) = At_b
 side_of (Moved d l k) = At_b
 side_of s = At_a
 
--- how often a packet is in a list; lists with the same packets, each as often
-abbrev pub times : ℕ → List ℕ → ℕ
-times p [] = 0
-times p (x ∷ xs) = (if p == x then 1 else 0) + times p xs
-
+-- lists with the same packets, each as often
 abbrev pub Same : List ℕ → List ℕ → Type 0
 Same xs ys = (p : ℕ) → times p xs ≡ times p ys
 
