@@ -15,12 +15,13 @@ use Rattle.std.proofs.lemmas.Option.{same_Some}
 use Rattle.flow_filter.specs.declared.flow.Flow.{Flow}
 use Rattle.flow_filter.specs.declared.filter.Filter.{Filter}
 use Rattle.flow_filter.specs.Filter.{matches}
-use Rattle.switch_rules.specs.Spans.{is_up_to}
+use Rattle.switch_rules.specs.declared.span_group.SpanGroup.{SpanGroup}
+use Rattle.switch_rules.specs.declared.target.Target.TheVariants.{Controller}
+use Rattle.switch_rules.specs.Spans.{is_noted, is_up_to}
 use Rattle.ctrl_node.specs.declared.operation.Operation.{Operation}
 use Rattle.ctrl_node.specs.declared.operation.Operation.TheVariants.{Move, Copy, Share}
-use Rattle.ctrl_node.specs.declared.share_index.ShareGroup.{ShareGroup}
 use Rattle.ctrl_node.specs.Operations.{OpenOperations, is_shared_by, share_filter, share_of}
-use Rattle.ctrl_node.specs.ShareIndex.{AreNoted, is_noted}
+use Rattle.ctrl_node.specs.ShareIndex.{AreNoted}
 use Rattle.ctrl_node.proofs.OperationLookUps.{Rise, entries-view, get-view, order_test, view}
 
 module _ {X : Type 0} where
@@ -88,10 +89,10 @@ sharing flow (Copy c) shared = cc
 sharing flow (Share s) shared = record { filter = s.plan.filter; is = refl; matched = shared }
 
 -- what is told of a flow is up to each noted share that matches it
-abbrev pub IsLowest : List ShareGroup → Flow → Option ℕ → Type 0
-IsLowest groups flow told = (op : ℕ) (f : Filter) → is_noted groups op f ≡ true → matches f flow ≡ true → is_up_to told op ≡ true
+abbrev pub IsLowest : List SpanGroup → Flow → Option ℕ → Type 0
+IsLowest groups flow told = (op : ℕ) (f : Filter) → is_noted groups op f Controller ≡ true → matches f flow ≡ true → is_up_to told op ≡ true
 
-module _ (groups : List ShareGroup) (es : List (ℕ × Operation)) (flow : Flow) (rise : Rise (keys_of es)) (noted : AreNoted groups (view es)) where
+module _ (groups : List SpanGroup) (es : List (ℕ × Operation)) (flow : Flow) (rise : Rise (keys_of es)) (noted : AreNoted groups (view es)) where
   none_below : (told : Option ℕ) → IsLowest groups flow told → AllByRecursion (λ e. is_shared_by flow e.1 ≡ true → is_up_to told e.0 ≡ true) es
   none_below told lowest = each_entry (λ op operation. is_shared_by flow operation ≡ true → is_up_to told op ≡ true) es rise (λ op operation at shared.
       let has = sharing flow operation shared in
@@ -114,31 +115,32 @@ none_is_some : (operation : Operation) → None ≡ Some operation → ⊥
 none_is_some operation is = cc
 
 -- where no operation is open, each is noted
-pub none_open : (gs : List ShareGroup) → AreNoted gs (view [])
+pub none_open : (gs : List SpanGroup) → AreNoted gs (view [])
 none_open gs q operation f at is = absurd (none_is_some operation (sym (get-view {X = Operation} [] q) ∙ at))
 
 -- with an operation more, or another, each open share is noted, where that one is if it is a share
-pub noted_with : (gs gs' : List ShareGroup) (operations : OpenOperations) (op : ℕ) (now : Operation) → AreNoted gs operations
-    → ((n : ℕ) (f : Filter) → is_noted gs n f ≡ true → is_noted gs' n f ≡ true) → ((f : Filter) → share_filter now ≡ Some f → is_noted gs' op f ≡ true)
+pub noted_with : (gs gs' : List SpanGroup) (operations : OpenOperations) (op : ℕ) (now : Operation) → AreNoted gs operations
+    → ((n : ℕ) (f : Filter) → is_noted gs n f Controller ≡ true → is_noted gs' n f Controller ≡ true)
+    → ((f : Filter) → share_filter now ≡ Some f → is_noted gs' op f Controller ≡ true)
     → AreNoted gs' (finite.insert operations op now)
 noted_with gs gs' operations op now noted kept one q operation f at is =
     elim (eq_by_cmp nat_cmp q op)
-    as (λ b. eq_by_cmp nat_cmp q op ≡ b → cond b (Some now) (finite.get operations q) ≡ Some operation → is_noted gs' q f ≡ true) [
-      | true ↦ λ here same. ap (λ n. is_noted gs' n f) (eqb-true q op (sym (order_test q op) ∙ here))
+    as (λ b. eq_by_cmp nat_cmp q op ≡ b → cond b (Some now) (finite.get operations q) ≡ Some operation → is_noted gs' q f Controller ≡ true) [
+      | true ↦ λ here same. ap (λ n. is_noted gs' n f Controller) (eqb-true q op (sym (order_test q op) ∙ here))
           ∙ one f (ap share_filter (same_Some now operation same) ∙ is)
       | false ↦ λ other same. kept q f (noted q operation f same is)
     ] refl (sym (get-insert nat_cmp_total operations op now q) ∙ at)
 
 -- an operation that keeps its filter is as much noted as before
-pub noted_again : (gs : List ShareGroup) (operations : OpenOperations) (op : ℕ) (was now : Operation) → AreNoted gs operations
+pub noted_again : (gs : List SpanGroup) (operations : OpenOperations) (op : ℕ) (was now : Operation) → AreNoted gs operations
     → finite.get operations op ≡ Some was → share_filter now ≡ share_filter was → AreNoted gs (finite.insert operations op now)
 noted_again gs operations op was now noted found same =
     noted_with gs gs operations op now noted (λ n f is. is) (λ f is. noted op was f found (sym same ∙ is))
 
 -- without one the others are noted
-pub noted_without : (gs : List ShareGroup) (operations : OpenOperations) (op : ℕ) → AreNoted gs operations → AreNoted gs (finite.remove operations op)
+pub noted_without : (gs : List SpanGroup) (operations : OpenOperations) (op : ℕ) → AreNoted gs operations → AreNoted gs (finite.remove operations op)
 noted_without gs operations op noted q operation f at is =
-    elim (eq_by_cmp nat_cmp q op) as (λ b. cond b None (finite.get operations q) ≡ Some operation → is_noted gs q f ≡ true) [
+    elim (eq_by_cmp nat_cmp q op) as (λ b. cond b None (finite.get operations q) ≡ Some operation → is_noted gs q f Controller ≡ true) [
       | true ↦ λ never. cc
       | false ↦ λ same. noted q operation f same is
     ] (sym (get-remove nat_cmp_total operations op q) ∙ at)

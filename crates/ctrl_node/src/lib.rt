@@ -9,7 +9,6 @@
 mod controller;
 pub mod operation;
 pub mod operations;
-mod share_index;
 
 pub use controller::Ctrl;
 pub use operation::Operation;

@@ -1,10 +1,11 @@
 //! The open operations: opened, closed, and looked up by their numbers, in the order of which they stand.
-ghost use Rattle.std.specs.Prelude.{◌≡◌, ◌++◌, OnOk, OnErr, IfOk};
+ghost use Rattle.std.specs.Prelude.{◌≡◌, ◌++◌, ℕ, true, Some, OnOk, OnErr, IfOk};
 ghost use Rattle.std.specs.FinMap as finite;
-ghost use Rattle.ctrl_node.specs.Operations.{are_quiet, lasts, lowest_meeting, serving_of, share_of, turn_of, with_operation};
+ghost use Rattle.flow_filter.specs.declared.filter.Filter.{Filter as EachFilter};
+ghost use Rattle.switch_rules.specs.Spans.{is_noted};
+ghost use Rattle.ctrl_node.specs.Operations.{are_quiet, lasts, lowest_meeting, serving_of, share_filter, share_of, turn_of, with_operation};
 
 use crate::operation::Operation;
-use crate::share_index::ShareIndex;
 use actor_net::Outbox;
 use basics::NoMemory;
 use event_store::EventStore;
@@ -14,12 +15,16 @@ use nf_msgs::{Answer, Msg, Note};
 use packet_pool::Cell;
 use std::alloc::Global;
 use std::marker::Model;
+use switch_rules::Target;
+use switch_rules::spans::Spans;
 
 /// The open operations in the order of their numbers, which contracts see as a finite map.
+///
+/// The spans tell which shares can be passed over for a flow. What they say of the others is looked at before it is believed.
 #[derive(Drop)]
 pub struct Operations {
     by_number: IndexMap<u32, Operation>,
-    shares: ShareIndex,
+    shares: Spans,
 }
 
 impl Model for Operations {
@@ -48,7 +53,7 @@ impl Operations {
     {
         Operations {
             by_number: IndexMap::new(alloc),
-            shares: ShareIndex::open(alloc),
+            shares: Spans::open(alloc),
         }
     }
 
@@ -64,7 +69,7 @@ impl Operations {
         ensures opened { OnOk result (self.new ≡ finite.insert self.old op operation) }
         ensures err { OnErr result (self.new ≡ self.old) }
     {
-        self.shares.note(op, &operation)?;
+        note_share(&mut self.shares, op, &operation)?;
         self.by_number.insert_sorted(op, operation)?;
         Ok(())
     }
@@ -130,7 +135,10 @@ impl Operations {
     pub fn share_of(&self, flow: &Flow) -> Option<u32>
         ensures { result ≡ share_of self.now flow.now }
     {
-        let op = self.shares.lowest(flow)?;
+        let place = self.shares.next(flow, Target::Controller, 0)?;
+        let Ok(op) = u32::try_from(place) else {
+            return self.first_share(flow);
+        };
         match self.by_number.get(&op) {
             Some(operation) if operation.shares(flow) => Some(op),
             _ => self.first_share(flow),
@@ -164,5 +172,16 @@ impl Operations {
         self.by_number
             .values()
             .all(|operation| operation.is_quiet(store))
+    }
+}
+
+/// Notes an operation, where it is a share, at its number. Each share that was noted is still noted, also where there is no memory.
+fn note_share(shares: &mut Spans, op: u32, operation: &Operation) -> Result<(), NoMemory>
+    ensures kept { (n : ℕ) (f : EachFilter) → is_noted shares.old n f Target.Controller ≡ true → is_noted shares.new n f Target.Controller ≡ true }
+    ensures noted { OnOk result ((f : EachFilter) → share_filter operation.now ≡ Some f → is_noted shares.new op f Target.Controller ≡ true) }
+{
+    match operation.share_filter() {
+        Some(filter) => shares.note(op as usize, filter, Target::Controller),
+        None => Ok(()),
     }
 }
