@@ -61,11 +61,3 @@ spelled body = do
   bytes ← first_number 8 packets.1
   seen ← seen_in bytes.1
   Some (record { packets = packets.0; bytes = bytes.0; seen = seen; state = named; opener = direction })
-
--- the record, where it is valid for the unit
-abbrev pub valid_only : units.Unit → TrackRecord → Option TrackRecord
-valid_only unit r = if is_valid unit r then Some r else None
-
--- the record of the unit that bytes spell
-unfoldable pub record_in : units.Unit → List ℕ → Option TrackRecord
-record_in unit body = spelled body >>= valid_only unit

@@ -1,26 +1,30 @@
 -- Steps between code and definition, which nobody has to believe: what a tracker's record is stored as is read again, and only that. It
 -- stands in specs/ since the laws of a trait may cite nothing else.
 use Rattle.std.proofs.Common.{◌≡◌, ◌∙◌, ◌<◌, ◌≤◌, ◌^◌, ◌&&◌, eqb, ℕ, Bool, true, false, cond, List, [], ◌∷◌, ◌++◌, length, Option}
-use Rattle.std.proofs.Common.{None, Some, option_and_then, refl, sym, ap, arith, zero, suc, nat_lt, nat_le, append-nil, length-append}
+use Rattle.std.proofs.Common.{None, Some, option_and_then, refl, sym, ap, arith, nat_lt, nat_le, append-nil, length-append}
 use Rattle.std.proofs.lemmas.Bool.Decides.{nat_tests}
 use Rattle.std.proofs.lemmas.List.{append_assoc}
-use Rattle.std.proofs.lemmas.Option.{option_and_then_some, cond_some}
+use Rattle.std.proofs.lemmas.Option.{option_and_then_some, same_Some}
 use Rattle.std.proofs.lemmas.Bool.{and_parts, and_from, ltb-true, lt-ltb, leb-true, le-leb}
 use Rattle.flow_filter.specs.declared.flow.Flow.{Flow}
 use Rattle.flow_filter.specs.declared.flow.Direction.{Direction}
 use Rattle.flow_filter.specs.declared.flow.Direction.TheVariants.{Out, In}
 use Rattle.nf_function.specs.declared.unit.Unit as units
 use Rattle.nf_function.specs.declared.unit.Unit.TheVariants.{Flow as OfFlow, Host as OfHost}
-use Rattle.nf_function.specs.Stored.{IsBytes, number_bytes, first_number}
-use Rattle.nf_function.specs.Units.{is_transport_flow}
-use Rattle.nf_function.proofs.StoredNumbers.{IsFirst, first_number-number_bytes, first_number-some, length-number_bytes, IsBytes-tail}
+use Rattle.nf_function.specs.Stored.{IsBytes, number_bytes, first_byte, first_number}
+use Rattle.nf_function.specs.declared.kind.Kind.TheVariants.{Conntrack}
+use Rattle.nf_function.specs.Units.{is_unit, is_transport_flow}
+use Rattle.nf_function.proofs.StoredFronts.{IsFront, first_byte-some, then_front, whole_front}
+use Rattle.nf_function.proofs.StoredNumbers.{first_number-number_bytes, first_number-some, length-number_bytes}
+use Rattle.nf_function.proofs.StoredRecords.{IsStored, number_at}
 use Rattle.conn_tracker.specs.declared.record.TrackRecord.{TrackRecord}
 use Rattle.conn_tracker.specs.declared.state.State.{State}
-use Rattle.conn_tracker.specs.declared.state.State.TheVariants.{Opening, Answered, Established, FinFwd, FinRev, Closed, Reset, Loose, Single, Both}
+use Rattle.conn_tracker.specs.declared.state.State.TheVariants.{Opening}
 use Rattle.conn_tracker.specs.Table.{state_number}
-use Rattle.conn_tracker.specs.States.{state_of}
+use Rattle.conn_tracker.specs.States.{all_states, state_of}
 use Rattle.conn_tracker.specs.Body.{direction_number, direction_of, suits, is_within, is_valid, seen_bytes}
-use Rattle.conn_tracker.specs.Body.{seen_in, last_time, body_of, spelled, valid_only, record_in}
+use Rattle.conn_tracker.specs.Body.{seen_in, last_time, body_of, spelled}
+use Rattle.conn_tracker.specs.Conntrack.{conntrack}
 
 -- what is true of a record that is valid for a flow
 pub record IsValid (f : Flow) (r : TrackRecord) : Type 0 where
@@ -63,18 +67,14 @@ within : (u : units.Unit) (r : TrackRecord) → is_valid u r ≡ true → Within
 within (OfFlow flow) r h = let v = valid_facts flow r h in record { packets = v.packets; bytes = v.bytes; seen = v.seen }
 within (OfHost host) r h = cc
 
+valid_unit : (u : units.Unit) (r : TrackRecord) → is_valid u r ≡ true → is_unit Conntrack u ≡ true
+valid_unit (OfFlow flow) r h = (valid_facts flow r h).flow
+valid_unit (OfHost host) r h = cc
+
 -- states and directions are known by their numbers
 state_of-state_number : (s : State) → state_of (state_number s) ≡ Some s
 state_of-state_number Opening = refl
-state_of-state_number Answered = refl
-state_of-state_number Established = refl
-state_of-state_number FinFwd = refl
-state_of-state_number FinRev = refl
-state_of-state_number Closed = refl
-state_of-state_number Reset = refl
-state_of-state_number Loose = refl
-state_of-state_number Single = refl
-state_of-state_number Both = refl
+state_of-state_number s = refl
 
 direction_of-direction_number : (direction : Direction) → direction_of (direction_number direction) ≡ Some direction
 direction_of-direction_number Out = refl
@@ -111,98 +111,50 @@ spelled-body_of r w =
       seen_in-seen_bytes r.seen w.seen,
     ) refl
 
--- a valid record is read again
-pub record_in-body_of : (u : units.Unit) (r : TrackRecord) → is_valid u r ≡ true → record_in u (body_of r) ≡ Some r
-unfolding record_in
-record_in-body_of u r h = rw (spelled-body_of r (within u r h), h) refl
-
--- a body belongs to one record
-pub known_by_body : (u v : units.Unit) (a b : TrackRecord) → is_valid u a ≡ true → is_valid v b ≡ true → body_of a ≡ body_of b → a ≡ b
-known_by_body u v a b p q same =
-    let both : Some a ≡ Some b = sym (spelled-body_of a (within u a p)) ∙ ap spelled same ∙ spelled-body_of b (within v b q) in cc
-
--- what state and direction bytes name
-state_number-state : (n : ℕ) (s : State) → state_of n ≡ Some s → state_number s ≡ n
-state_number-state zero s h = let is : Opening ≡ s = cc in rw (← is) refl
-state_number-state (suc zero) s h = let is : Answered ≡ s = cc in rw (← is) refl
-state_number-state (suc (suc zero)) s h = let is : Established ≡ s = cc in rw (← is) refl
-state_number-state (suc (suc (suc zero))) s h = let is : FinFwd ≡ s = cc in rw (← is) refl
-state_number-state (suc (suc (suc (suc zero)))) s h = let is : FinRev ≡ s = cc in rw (← is) refl
-state_number-state (suc (suc (suc (suc (suc zero))))) s h = let is : Closed ≡ s = cc in rw (← is) refl
-state_number-state (suc (suc (suc (suc (suc (suc zero)))))) s h = let is : Reset ≡ s = cc in rw (← is) refl
-state_number-state (suc (suc (suc (suc (suc (suc (suc zero))))))) s h = let is : Loose ≡ s = cc in rw (← is) refl
-state_number-state (suc (suc (suc (suc (suc (suc (suc (suc zero)))))))) s h = let is : Single ≡ s = cc in rw (← is) refl
-state_number-state (suc (suc (suc (suc (suc (suc (suc (suc (suc zero))))))))) s h = let is : Both ≡ s = cc in rw (← is) refl
-state_number-state (suc (suc (suc (suc (suc (suc (suc (suc (suc (suc n)))))))))) s h = cc
-
-direction_number-direction : (n : ℕ) (direction : Direction) → direction_of n ≡ Some direction → direction_number direction ≡ n
-direction_number-direction zero direction h = let is : Out ≡ direction = cc in rw (← is) refl
-direction_number-direction (suc zero) direction h = let is : In ≡ direction = cc in rw (← is) refl
-direction_number-direction (suc (suc n)) direction h = cc
-
 -- the bytes that a time was read from
-seen_bytes-time : (rest : List ℕ) (n : ℕ) → IsBytes rest → seen_in rest ≡ Some n → seen_bytes n ≡ rest
+seen_bytes-time : (rest : List ℕ) (n : ℕ) → IsBytes rest → seen_in rest ≡ Some n → IsFront (seen_bytes n) rest []
 unfolding seen_in
-seen_bytes-time [] n are h = let zero : 0 ≡ n = cc in rw (← zero) refl
+seen_bytes-time [] n are h = rw (← same_Some 0 n h) (record { spelled = refl; rest_bytes = are })
 seen_bytes-time (byte ∷ more) n are h =
-    option_and_then_some last_time (first_number 8 (byte ∷ more)) n h (λ x read last. stored x.0 x.1 last (first_number-some 8 (byte ∷ more) x.0 x.1 are read))
+    option_and_then_some last_time (first_number 8 (byte ∷ more)) n h (λ x read last. stored x.0 x.1 last (first_number-some 8 (byte ∷ more) x are read))
   where
-    not_zero : (m : ℕ) (none : Bool) → eqb m 0 ≡ none → cond {A = Option ℕ} none None (Some m) ≡ Some n → (m ≡ n) × (eqb n 0 ≡ false)
-    not_zero m true is e = cc
-    not_zero m false is e = let same : m ≡ n = cc in (same, rw (← same) is)
-
-    stored : (m : ℕ) (tail : List ℕ) → last_time (m, tail) ≡ Some n → IsFirst 8 (byte ∷ more) m tail → seen_bytes n ≡ byte ∷ more
-    stored m [] last first =
-        let parts = not_zero m (eqb m 0) refl last in
-        rw parts.1 (ap (number_bytes 8) (sym parts.0) ∙ sym (append-nil (number_bytes 8 m)) ∙ sym first.spelled)
+    stored : (m : ℕ) (tail : List ℕ) → last_time (m, tail) ≡ Some n → IsFront (number_bytes 8 m) (byte ∷ more) tail
+        → IsFront (seen_bytes n) (byte ∷ more) []
+    stored m [] last first = by_none (eqb m 0) refl last
+      where
+        by_none : (none : Bool) → eqb m 0 ≡ none → cond {A = Option ℕ} none None (Some m) ≡ Some n → IsFront (seen_bytes n) (byte ∷ more) []
+        by_none true is e = cc
+        by_none false is e = rw (← same_Some m n e, is) first
     stored m (b ∷ tail) last first = cc
-
--- the parts of a body, joined
-joined : (s w : ℕ) (named : State) (direction : Direction) (packets bytes seen : ℕ) (rest more last : List ℕ) (r : TrackRecord)
-    → state_number named ≡ s → direction_number direction ≡ w → rest ≡ number_bytes 8 packets ++ more → more ≡ number_bytes 8 bytes ++ last
-    → seen_bytes seen ≡ last
-    → Some (record { packets = packets; bytes = bytes; seen = seen; state = named; opener = direction }) ≡ Some r
-    → body_of r ≡ s ∷ w ∷ rest
-unfolding body_of
-joined s w named direction packets bytes seen rest more last r is_s is_w is_rest is_more is_last is =
-    let same : record { packets = packets; bytes = bytes; seen = seen; state = named; opener = direction } ≡ r = cc in
-    rw (← same, is_s, is_w, is_last, is_rest, is_more) (ap (λ (t : List ℕ). s ∷ w ∷ t) (append_assoc (number_bytes 8 packets) (number_bytes 8 bytes) last))
 
 -- the bytes that a record was read from are those that it is stored as
 body_of-spelled : (bytes : List ℕ) (r : TrackRecord) → IsBytes bytes → spelled bytes ≡ Some r → body_of r ≡ bytes
-unfolding spelled
-body_of-spelled [] r are h = cc
-body_of-spelled (s ∷ []) r are h = option_and_then_some _ (state_of s) r h (λ state named none. cc)
-body_of-spelled (s ∷ w ∷ rest) r are h =
-    option_and_then_some _ (state_of s) r h (λ named is_named h1.
-    option_and_then_some _ (direction_of w) r h1 (λ direction is_way h2.
-    option_and_then_some _ (first_number 8 rest) r h2 (λ packets read_packets h3.
-    option_and_then_some _ (first_number 8 packets.1) r h3 (λ bytes read_bytes h4.
-    option_and_then_some _ (seen_in bytes.1) r h4 (λ seen read_seen last.
-    let first = first_number-some 8 rest packets.0 packets.1 (IsBytes-tail w rest (IsBytes-tail s (w ∷ rest) are)) read_packets in
-    let second = first_number-some 8 packets.1 bytes.0 bytes.1 first.rest_bytes read_bytes in
-    let third = seen_bytes-time bytes.1 seen second.rest_bytes read_seen in
-    joined s w named direction packets.0 bytes.0 seen rest packets.1 bytes.1 r (state_number-state s named is_named)
-    (direction_number-direction w direction is_way)
-    first.spelled second.spelled third last)))))
-
--- what is read is valid, and stored as the same bytes
-chosen_valid : (u : units.Unit) (r s : TrackRecord) → valid_only u r ≡ Some s → (is_valid u s ≡ true) × (r ≡ s)
-chosen_valid u r s h = let parts = cond_some (is_valid u r) r s h in (rw (← parts.1) parts.0, parts.1)
-
-pub record_in-some : (u : units.Unit) (bytes : List ℕ) (r : TrackRecord) → IsBytes bytes → record_in u bytes ≡ Some r
-    → (is_valid u r ≡ true) × (body_of r ≡ bytes)
-unfolding record_in
-record_in-some u bytes r are h =
-    option_and_then_some (valid_only u) (spelled bytes) r h (λ s read chosen.
-    let parts = chosen_valid u s r chosen in (parts.0, body_of-spelled bytes r are (read ∙ ap (λ x. Some x) parts.1)))
+unfolding spelled body_of
+body_of-spelled body r are h =
+    option_and_then_some _ (first_byte body) r h (λ state p h1.
+    option_and_then_some _ (state_of state.0) r h1 (λ named is_state h2.
+    option_and_then_some _ (first_byte state.1) r h2 (λ opener q h3.
+    option_and_then_some _ (direction_of opener.0) r h3 (λ direction is_way h4.
+    option_and_then_some _ (first_number 8 opener.1) r h4 (λ packets s h5.
+    option_and_then_some _ (first_number 8 packets.1) r h5 (λ bytes t h6.
+    option_and_then_some _ (seen_in bytes.1) r h6 (λ seen u last.
+    let first = first_byte-some body state are p in
+    let second = first_byte-some state.1 opener first.rest_bytes q in
+    let third = first_number-some 8 opener.1 packets second.rest_bytes s in
+    let fourth = first_number-some 8 packets.1 bytes third.rest_bytes t in
+    let fifth = seen_bytes-time bytes.1 seen fourth.rest_bytes u in
+    rw (
+      ← same_Some (record { packets = packets.0; bytes = bytes.0; seen = seen; state = named; opener = direction }) r last,
+      number_at state_number all_states state.0 named refl is_state,
+      number_at direction_number (Out ∷ In ∷ []) opener.0 direction refl is_way,
+    ) (whole_front (then_front (then_front (then_front (then_front first second) third) fourth) fifth) refl))))))))
 
 -- a body is short
 length-seen_bytes : (n : ℕ) (none : Bool) → eqb n 0 ≡ none → length (cond none [] (number_bytes 8 n)) ≤ 8
 length-seen_bytes n true h = omega arith
 length-seen_bytes n false h = let is = length-number_bytes 8 n in omega arith
 
-pub length-body_of : (u : units.Unit) (r : TrackRecord) → is_valid u r ≡ true → length (body_of r) < 2 ^ 16
+length-body_of : (u : units.Unit) (r : TrackRecord) → is_valid u r ≡ true → length (body_of r) < 2 ^ 16
 unfolding body_of
 length-body_of u r h =
     let last : length (seen_bytes r.seen) ≤ 8 = length-seen_bytes r.seen (eqb r.seen 0) refl in
@@ -212,3 +164,11 @@ length-body_of u r h =
       length-number_bytes 8 r.packets,
       length-number_bytes 8 r.bytes,
     ) (omega arith)
+
+pub conntrack_stored : IsStored conntrack
+conntrack_stored = record {
+  unit = valid_unit;
+  again = λ u r h. spelled-body_of r (within u r h);
+  own = body_of-spelled;
+  short = length-body_of;
+}

@@ -4,7 +4,7 @@ use Rattle.nf_function.specs.declared.kind.Kind.TheVariants.{Conntrack}
 use Rattle.nf_function.specs.Semantics.{Semantics}
 use Rattle.conn_tracker.specs.declared.record.TrackRecord.{TrackRecord}
 use Rattle.conn_tracker.specs.Text.{answered, output_text, record_text}
-use Rattle.conn_tracker.specs.Body.{is_valid, body_of, record_in}
+use Rattle.conn_tracker.specs.Body.{is_valid, body_of, spelled}
 
 abbrev pub conntrack : Semantics TrackRecord
 conntrack = record {
@@ -13,7 +13,7 @@ conntrack = record {
   packets_of = λ r. r.packets;
   is_valid = is_valid;
   body_of = body_of;
-  record_in = record_in;
+  spelled = spelled;
   takes_memory = false;
   is_timed = λ r. nat_le 1 r.seen;
   output_text = output_text;

@@ -11,22 +11,22 @@ use Rattle.flow_filter.specs.declared.flow.Direction.{Direction}
 use Rattle.flow_filter.specs.Flow.{flow_of}
 use Rattle.flow_filter.proofs.FlowLemmas.{proto-flow_of}
 use Rattle.nf_function.specs.declared.kind.Kind.TheVariants.{Conntrack}
-use Rattle.nf_function.specs.declared.unit.Unit as units
-use Rattle.nf_function.specs.declared.unit.Unit.TheVariants.{Flow as OfFlow, Host as OfHost}
-use Rattle.nf_function.specs.Units.{is_tcp, is_unit, is_transport_flow}
+use Rattle.nf_function.specs.declared.unit.Unit.TheVariants.{Flow as OfFlow}
+use Rattle.nf_function.specs.Units.{is_tcp, is_transport_flow}
 use Rattle.nf_function.specs.Semantics.{count, is_sound, packets_in, unit_at}
 use Rattle.nf_function.specs.Records.{Fits, Laws, is_timed_kept}
 use Rattle.nf_function.proofs.FlowFits.{transport_flow}
+use Rattle.nf_function.proofs.StoredRecords.{laws_of}
 use Rattle.conn_tracker.specs.declared.record.TrackRecord.{TrackRecord}
 use Rattle.conn_tracker.specs.declared.class.Class.{Class}
 use Rattle.conn_tracker.specs.declared.class.Class.TheVariants.{Rst, SynAck, Syn, Fin, Other}
 use Rattle.conn_tracker.specs.declared.state.State.{State}
-use Rattle.conn_tracker.specs.declared.state.State.TheVariants.{Opening, Answered, Established, FinFwd, FinRev, Closed, Reset, Loose, Single, Both}
+use Rattle.conn_tracker.specs.declared.state.State.TheVariants.{Opening, Answered, FinFwd, FinRev, Closed, Reset, Loose, Single, Both}
 use Rattle.conn_tracker.specs.Table.{next_tcp, class_of, first_tcp, first_record, next_udp, next_record, is_same_direction, is_udp_state, step_of}
 use Rattle.conn_tracker.specs.States.{state_of_first, first_opener, first_state, opener_of_first, is_idle, next_state, next_opener}
 use Rattle.conn_tracker.specs.Body.{is_valid, suits}
 use Rattle.conn_tracker.specs.Conntrack.{conntrack}
-use Rattle.conn_tracker.specs.BodyLemmas.{valid_facts, valid_from, record_in-body_of, record_in-some, known_by_body, length-body_of}
+use Rattle.conn_tracker.specs.BodyLemmas.{valid_facts, valid_from, conntrack_stored}
 
 -- the state and the opener of a first packet, apart
 first_parts : (tcp : Bool) (c : Class) (direction : Direction)
@@ -34,10 +34,7 @@ first_parts : (tcp : Bool) (c : Class) (direction : Direction)
     ≡ (cond tcp (state_of_first c) Single, cond tcp (first_opener c direction) direction)
 first_parts false c direction = refl
 first_parts true Rst direction = refl
-first_parts true SynAck direction = refl
-first_parts true Syn direction = refl
-first_parts true Fin direction = refl
-first_parts true Other direction = refl
+first_parts true c direction = refl
 
 -- a first record and a further one, field by field
 abbrev pub first_apart : Packet → Direction → TrackRecord
@@ -69,65 +66,35 @@ next_is r p direction =
     })
     (first_parts (is_tcp p.proto) (class_of p.flags) direction)
 
--- what holds of each class and direction
-by_packet : (P : Class → Bool → Type 0) → ((c : Class) → P c true) → ((c : Class) → P c false) → (c : Class) (forward : Bool) → P c forward
-by_packet P forward reverse c true = forward c
-by_packet P forward reverse c false = reverse c
-
-by_class : (P : Class → Type 0) → P Rst → P SynAck → P Syn → P Fin → P Other → (c : Class) → P c
-by_class P rst syn_ack syn fin other Rst = rst
-by_class P rst syn_ack syn fin other SynAck = syn_ack
-by_class P rst syn_ack syn fin other Syn = syn
-by_class P rst syn_ack syn fin other Fin = fin
-by_class P rst syn_ack syn fin other Other = other
-
--- a packet of TCP leaves a state of TCP
-tcp_next : (s : State) → is_udp_state s ≡ false → (c : Class) (forward : Bool) → is_udp_state (next_tcp s c forward) ≡ false
-tcp_next s is = by_packet (λ c forward. is_udp_state (next_tcp s c forward) ≡ false) (tcp_forward s is) (tcp_reverse s is)
-  where
-    tcp_forward : (s : State) → is_udp_state s ≡ false → (c : Class) → is_udp_state (next_tcp s c true) ≡ false
-    tcp_forward Opening is = by_class (λ c. is_udp_state (next_tcp Opening c true) ≡ false) refl refl refl refl refl
-    tcp_forward Answered is = by_class (λ c. is_udp_state (next_tcp Answered c true) ≡ false) refl refl refl refl refl
-    tcp_forward Established is = by_class (λ c. is_udp_state (next_tcp Established c true) ≡ false) refl refl refl refl refl
-    tcp_forward FinFwd is = by_class (λ c. is_udp_state (next_tcp FinFwd c true) ≡ false) refl refl refl refl refl
-    tcp_forward FinRev is = by_class (λ c. is_udp_state (next_tcp FinRev c true) ≡ false) refl refl refl refl refl
-    tcp_forward Closed is = by_class (λ c. is_udp_state (next_tcp Closed c true) ≡ false) refl refl refl refl refl
-    tcp_forward Reset is = by_class (λ c. is_udp_state (next_tcp Reset c true) ≡ false) refl refl refl refl refl
-    tcp_forward Loose is = by_class (λ c. is_udp_state (next_tcp Loose c true) ≡ false) refl refl refl refl refl
-    tcp_forward Single is = cc
-    tcp_forward Both is = cc
-
-    tcp_reverse : (s : State) → is_udp_state s ≡ false → (c : Class) → is_udp_state (next_tcp s c false) ≡ false
-    tcp_reverse Opening is = by_class (λ c. is_udp_state (next_tcp Opening c false) ≡ false) refl refl refl refl refl
-    tcp_reverse Answered is = by_class (λ c. is_udp_state (next_tcp Answered c false) ≡ false) refl refl refl refl refl
-    tcp_reverse Established is = by_class (λ c. is_udp_state (next_tcp Established c false) ≡ false) refl refl refl refl refl
-    tcp_reverse FinFwd is = by_class (λ c. is_udp_state (next_tcp FinFwd c false) ≡ false) refl refl refl refl refl
-    tcp_reverse FinRev is = by_class (λ c. is_udp_state (next_tcp FinRev c false) ≡ false) refl refl refl refl refl
-    tcp_reverse Closed is = by_class (λ c. is_udp_state (next_tcp Closed c false) ≡ false) refl refl refl refl refl
-    tcp_reverse Reset is = by_class (λ c. is_udp_state (next_tcp Reset c false) ≡ false) refl refl refl refl refl
-    tcp_reverse Loose is = by_class (λ c. is_udp_state (next_tcp Loose c false) ≡ false) refl refl refl refl refl
-    tcp_reverse Single is = cc
-    tcp_reverse Both is = cc
+-- a packet of TCP leaves a state of TCP, by each row
+tcp_next : (s : State) (c : Class) (forward : Bool) → is_udp_state s ≡ false → is_udp_state (next_tcp s c forward) ≡ false
+tcp_next Single c forward h = cc
+tcp_next Both c forward h = cc
+tcp_next Closed Syn forward h = refl
+tcp_next Reset Syn forward h = refl
+tcp_next Closed c forward h = refl
+tcp_next Reset c forward h = refl
+tcp_next s Rst forward h = refl
+tcp_next Opening SynAck false h = refl
+tcp_next Answered Other true h = refl
+tcp_next Loose Other false h = refl
+tcp_next FinFwd Fin false h = refl
+tcp_next FinRev Fin true h = refl
+tcp_next FinFwd c forward h = refl
+tcp_next FinRev c forward h = refl
+tcp_next s Fin true h = refl
+tcp_next s Fin false h = refl
+tcp_next s c forward h = refl
 
 tcp_first : (c : Class) → is_udp_state (state_of_first c) ≡ false
 tcp_first Rst = refl
-tcp_first SynAck = refl
-tcp_first Syn = refl
-tcp_first Fin = refl
-tcp_first Other = refl
+tcp_first c = refl
 
-udp_next : (s : State) → is_udp_state s ≡ true → (forward : Bool) → is_udp_state (next_udp s forward) ≡ true
-udp_next Single h true = refl
-udp_next Single h false = refl
-udp_next Both h forward = refl
-udp_next Opening h forward = cc
-udp_next Answered h forward = cc
-udp_next Established h forward = cc
-udp_next FinFwd h forward = cc
-udp_next FinRev h forward = cc
-udp_next Closed h forward = cc
-udp_next Reset h forward = cc
-udp_next Loose h forward = cc
+udp_next : (s : State) (forward : Bool) → is_udp_state s ≡ true → is_udp_state (next_udp s forward) ≡ true
+udp_next Single true h = refl
+udp_next Single false h = refl
+udp_next Both forward h = refl
+udp_next s forward h = cc
 
 -- a state that the flow's own table leaves suits the flow's protocol
 suits_first : (tcp : Bool) (c : Class)
@@ -138,8 +105,8 @@ suits_first false c = refl
 suits_next : (tcp : Bool) (c : Class) (forward : Bool) (s : State) → cond tcp (not (is_udp_state s)) (is_udp_state s) ≡ true
     → cond tcp (not (is_udp_state (cond tcp (next_tcp s c forward) (next_udp s forward))))
     (is_udp_state (cond tcp (next_tcp s c forward) (next_udp s forward))) ≡ true
-suits_next true c forward s h = ap not (tcp_next s (not-true (is_udp_state s) h) c forward)
-suits_next false c forward s h = udp_next s h forward
+suits_next true c forward s h = ap not (tcp_next s c forward (not-true (is_udp_state s) h))
+suits_next false c forward s h = udp_next s forward h
 
 suits_cond : (proto : ℕ) (test : Bool) (s t : State) → suits proto s ≡ true → suits proto t ≡ true → suits proto (cond test s t) ≡ true
 suits_cond proto true s t first second = first
@@ -211,19 +178,5 @@ unfolding step_of
 times_known site None p = sym (or-false (nat_le 1 p.nanos))
 times_known site (Some r) p = max_known r.seen p.nanos
 
-valid_unit : (u : units.Unit) (r : TrackRecord) → is_valid u r ≡ true → is_unit Conntrack u ≡ true
-valid_unit (OfFlow flow) r h = (valid_facts flow r h).flow
-valid_unit (OfHost host) r h = cc
-
 pub conntrack_laws : Laws conntrack
-conntrack_laws = record {
-  unit = valid_unit;
-  again = record_in-body_of;
-  read = record_in-some;
-  known = known_by_body;
-  short = length-body_of;
-  stays = stays_valid;
-  counts = counts_one;
-  tells = λ r h. refl;
-  times = times_known;
-}
+conntrack_laws = laws_of conntrack conntrack_stored (record { stays = stays_valid; counts = counts_one; tells = λ r h. refl; times = times_known })

@@ -2,10 +2,11 @@
 ghost use Rattle.std.specs.Prelude.{◌≡◌, ◌++◌, ◌∷◌, [], length, OnOk};
 ghost use Rattle.nf_function.specs.declared.unit.Unit.TheVariants.{Flow as OfFlow};
 ghost use Rattle.nf_function.specs.Records.{age_cmp};
+ghost use Rattle.nf_function.specs.Semantics.{record_in};
 ghost use Rattle.nf_function.specs.Stored.{number_bytes};
 ghost use Rattle.conn_tracker.specs.Table.{state_number};
 ghost use Rattle.conn_tracker.specs.Conntrack.{conntrack};
-ghost use Rattle.conn_tracker.specs.Body.{is_valid, suits, body_of, seen_bytes, record_in, spelled, seen_in, direction_number, direction_of};
+ghost use Rattle.conn_tracker.specs.Body.{is_valid, suits, body_of, seen_bytes, spelled, seen_in, direction_number, direction_of};
 
 use crate::record::TrackRecord;
 use crate::state::State;
@@ -89,9 +90,8 @@ fn direction_number(direction: Direction) -> u8
 }
 
 /// The record of the unit that the bytes spell.
-#[tactic(auto, unfolding(crate::specs::Body::record_in))]
 pub fn record_in(unit: &Unit, body: &[u8]) -> Option<TrackRecord>
-    ensures { result ≡ record_in unit.now body.now }
+    ensures { result ≡ record_in conntrack unit.now body.now }
 {
     let record = spelled(body)?;
     is_valid(*unit, record).then_some(record)

@@ -11,8 +11,6 @@ use std::cmp::Ordering;
 pub struct Conntrack;
 
 impl Function for Conntrack {
-    ghost use Rattle.std.specs.Prelude.{refl};
-    ghost use Rattle.nf_function.specs.declared.kind.Kind.TheVariants.{Conntrack as TheKind};
     ghost use Rattle.conn_tracker.specs.Conntrack.{conntrack};
     ghost use Rattle.conn_tracker.specs.StepLemmas.{conntrack_laws};
 
@@ -20,9 +18,11 @@ impl Function for Conntrack {
 
     ghost semantics = { conntrack };
 
-    ghost KIND = { TheKind };
+    ghost laws = { conntrack_laws };
 
-    const KIND: Kind = Kind::Conntrack;
+    fn which() -> Kind {
+        Kind::Conntrack
+    }
 
     #[tactic(auto, unfolding(crate::specs::Table::step_of))]
     fn step_along(
@@ -74,8 +74,4 @@ impl Function for Conntrack {
     fn push_record(text: &mut Text, kept: &TrackRecord) -> Result<(), NoMemory> {
         text::push_record(text, kept)
     }
-
-    ghost same_kind = { refl };
-
-    ghost laws = { conntrack_laws };
 }

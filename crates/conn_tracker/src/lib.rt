@@ -17,5 +17,5 @@ pub mod tracker;
 pub use conntrack::Conntrack;
 pub use record::TrackRecord;
 pub use state::State;
-pub use text::{print_output, print_record, push_output, push_record};
+pub use text::{push_output, push_record};
 pub use tracker::{first_record, next_record, step};

@@ -1,4 +1,4 @@
-ghost use Rattle.std.specs.Prelude.{◌≡◌, ◌≤◌, ◌+◌, ◌++◌, length, OnOk, OnErr, IfOk};
+ghost use Rattle.std.specs.Prelude.{◌≡◌, ◌≤◌, ◌+◌, ◌++◌, length, OnOk, OnErr};
 ghost use Rattle.conn_tracker.specs.Text.{output_text, record_text};
 ghost use Rattle.conn_tracker.specs.RecordRoom.{direction_text, seen_text};
 ghost use Rattle.conn_tracker.specs.RecordRoom.{record_room, seen_room, direction_room};
@@ -10,7 +10,6 @@ use basics::NoMemory;
 use flow_filter::{Direction, Text};
 use itoa::Buffer;
 use nf_function::Output;
-use std::alloc::Global;
 
 /// Room for the text of a record, and to spare.
 type RecordText = ArrayString<192>;
@@ -74,22 +73,4 @@ fn direction_name(direction: Direction) -> &'static str
         Direction::Out => "out",
         Direction::In => "in",
     }
-}
-
-/// The text of an output.
-pub fn print_output(alloc: Global, output: &Output) -> Result<Text, NoMemory>
-    ensures { IfOk result (λ text. text ≡ output_text output.now) }
-{
-    let mut text = Text::open(alloc);
-    push_output(&mut text, output)?;
-    Ok(text)
-}
-
-/// The text of a record.
-pub fn print_record(alloc: Global, kept: &TrackRecord) -> Result<Text, NoMemory>
-    ensures { IfOk result (λ text. text ≡ record_text kept.now) }
-{
-    let mut text = Text::open(alloc);
-    push_record(&mut text, kept)?;
-    Ok(text)
 }

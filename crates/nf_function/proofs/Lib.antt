@@ -1,4 +1,7 @@
+pub mod StoredFronts
 pub mod StoredNumbers
+pub mod StoredItems
+pub mod StoredRecords
 pub mod FlowFits
 pub mod RecordOrder
 pub mod MergeLemmas

@@ -1,7 +1,7 @@
 -- Numbers in stored bytes: each number has one spelling, and spellings compare as their numbers do.
 use Rattle.std.proofs.Common.{◌≡◌, ◌∙◌, ◌<◌, ◌≤◌, ◌+◌, ◌*◌, ◌^◌, ℕ, zero, suc, Bool, true, false, cond, List, [], ◌∷◌, ◌++◌}
 use Rattle.std.proofs.Common.{length, take, drop, Option, None, Some, refl, sym, ap, arith, nat_lt, length-append, append-nil, eqb}
-use Rattle.std.proofs.lemmas.Option.{some_pair_parts}
+use Rattle.std.proofs.lemmas.Option.{same_Some}
 use Rattle.std.proofs.Math.Nat.{mul-le-mul_right}
 use Rattle.std.proofs.lemmas.Bool.Decides.{nat_tests}
 use Rattle.std.proofs.lemmas.List.{length-take-le, take-append-drop, drop_at}
@@ -14,21 +14,7 @@ use Rattle.std.specs.Cmp.Lexicographic.{slice_cmp}
 use Rattle.byteorder.specs.Endian.{big_bytes, big_number}
 use Rattle.byteorder.specs.Numbers.{big_from-cons, big_from-lt, big_number-reads_back, big_from-take, length-bytes_high_first}
 use Rattle.nf_function.specs.Stored.{IsBytes, number_bytes, first_number}
-
--- bytes after the first are bytes
-pub IsBytes-tail : (b : ℕ) (bs : List ℕ) → IsBytes (b ∷ bs) → IsBytes bs
-IsBytes-tail b bs h i = h (suc i)
-
-pub IsBytes-drop : (n : ℕ) (bs : List ℕ) → IsBytes bs → IsBytes (drop n bs)
-IsBytes-drop zero bs h = h
-IsBytes-drop (suc n) [] h = h
-IsBytes-drop (suc n) (b ∷ bs) h = IsBytes-drop n bs (IsBytes-tail b bs h)
-
-pub IsBytes-take : (n : ℕ) (bs : List ℕ) → IsBytes bs → IsBytes (take n bs)
-IsBytes-take zero bs h i = omega arith
-IsBytes-take (suc n) [] h i = omega arith
-IsBytes-take (suc n) (b ∷ bs) h zero = h zero
-IsBytes-take (suc n) (b ∷ bs) h (suc i) = IsBytes-take n bs (IsBytes-tail b bs h) i
+use Rattle.nf_function.proofs.StoredFronts.{IsFront, IsBytes-tail, IsBytes-drop, IsBytes-take}
 
 byte_at-below : (k x : ℕ) → byte_at k x < 256
 byte_at-below zero x = omega arith
@@ -77,31 +63,24 @@ first_number-number_bytes n x rest below =
     let long : nat_lt (length (big_bytes n x ++ rest)) n ≡ false = grind (arith, nat_tests, length-append (big_bytes n x) rest, length-bytes_high_first n x) in
     rw (long, big_number-reads_back n x rest below, drop_at (big_bytes n x) rest n (length-bytes_high_first n x)) refl
 
--- what a number was read from: its spelling, and the rest
-pub record IsFirst (n : ℕ) (bytes : List ℕ) (x : ℕ) (rest : List ℕ) : Type 0 where
-  pub spelled : bytes ≡ number_bytes n x ++ rest
-  pub below : x < 256 ^ n
-  pub rest_bytes : IsBytes rest
-
-pub first_number-some : (n : ℕ) (bytes : List ℕ) (x : ℕ) (rest : List ℕ) → IsBytes bytes → first_number n bytes ≡ Some (x, rest) → IsFirst n bytes x rest
+-- the number that was read is the one whose spelling stands first
+pub first_number-some : (n : ℕ) (bytes : List ℕ) (read : ℕ × List ℕ) → IsBytes bytes → first_number n bytes ≡ Some read
+    → IsFront (number_bytes n read.0) bytes read.1
 unfolding first_number number_bytes
-first_number-some n bytes x rest are h = chosen (nat_lt (length bytes) n) refl h
+first_number-some n bytes read are h = chosen (nat_lt (length bytes) n) refl h
   where
     chosen : (short : Bool) → nat_lt (length bytes) n ≡ short
-        → cond {A = Option (ℕ × List ℕ)} short None (Some (big_number n bytes, drop n bytes)) ≡ Some (x, rest) → IsFirst n bytes x rest
+        → cond {A = Option (ℕ × List ℕ)} short None (Some (big_number n bytes, drop n bytes)) ≡ Some read → IsFront (big_bytes n read.0) bytes read.1
     chosen true s e = cc
     chosen false s e =
         let long : n ≤ length bytes = grind (arith, nat_tests) in
-        let parts = some_pair_parts (big_number n bytes) x (drop n bytes) rest e in
         let front : big_number n (take n bytes) ≡ big_number n bytes = big_from-take 0 n n bytes (omega arith) in
         let whole : big_bytes n (big_number n bytes) ≡ take n bytes =
         ap (big_bytes n) (sym front) ∙ big_bytes-big_number n (take n bytes) (length-take-le n bytes long) (IsBytes-take n bytes are) in
-        record {
-          spelled = sym (take-append-drop n bytes) ∙ ap (λ (front : List ℕ). front ++ drop n bytes) (sym whole ∙ ap (big_bytes n) parts.0)
-              ∙ ap (λ (more : List ℕ). big_bytes n x ++ more) parts.1;
-          below = let at : big_number n bytes < 256 ^ n = big_from-lt 0 n bytes are in rw (← parts.0) at;
-          rest_bytes = rw (← parts.1) (IsBytes-drop n bytes are);
-        }
+        rw (← same_Some (big_number n bytes, drop n bytes) read e) (record {
+          spelled = sym (take-append-drop n bytes) ∙ ap (λ (front : List ℕ). front ++ drop n bytes) (sym whole);
+          rest_bytes = IsBytes-drop n bytes are;
+        })
 
 -- numbers whose high parts differ compare by these
 nat_cmp-place : (x y r s c : ℕ) → r < c → s < c → nat_cmp (x * c + r) (y * c + s) ≡ ordering_then (nat_cmp x y) (nat_cmp r s)

@@ -12,7 +12,7 @@ use Rattle.nf_function.specs.declared.function.BodyFault.TheVariants.{Body, NoMe
 use Rattle.nf_function.specs.declared.unit.Unit as units
 use Rattle.nf_function.specs.Stored.{IsBytes}
 use Rattle.nf_function.specs.Units.{has_times, is_unit, is_transport}
-use Rattle.nf_function.specs.Semantics.{Semantics, count, is_sound, packets_in, unit_at}
+use Rattle.nf_function.specs.Semantics.{Semantics, count, is_sound, packets_in, record_in, unit_at}
 
 -- what was read is what the bytes spell; `Body` exactly where they spell nothing; out of memory is free
 abbrev pub Reads : {R : Type 0} → Result R BodyFault → Option R → Type 0
@@ -65,9 +65,9 @@ pub record Laws {R : Type 0} (f : Semantics R) : Type 0 where
   -- only units of the function have valid records
   pub unit : (u : units.Unit) (r : R) → f.is_valid u r ≡ true → is_unit f.kind u ≡ true
   -- what is stored is read again
-  pub again : (u : units.Unit) (r : R) → f.is_valid u r ≡ true → f.record_in u (f.body_of r) ≡ Some r
+  pub again : (u : units.Unit) (r : R) → f.is_valid u r ≡ true → record_in f u (f.body_of r) ≡ Some r
   -- what is read is valid, and is stored as the same bytes: each record has one spelling
-  pub read : (u : units.Unit) (bytes : List ℕ) (r : R) → IsBytes bytes → f.record_in u bytes ≡ Some r
+  pub read : (u : units.Unit) (bytes : List ℕ) (r : R) → IsBytes bytes → record_in f u bytes ≡ Some r
       → (f.is_valid u r ≡ true) × (f.body_of r ≡ bytes)
   -- a body belongs to one record, whatever the unit
   pub known : (u v : units.Unit) (a b : R) → f.is_valid u a ≡ true → f.is_valid v b ≡ true → f.body_of a ≡ f.body_of b → a ≡ b

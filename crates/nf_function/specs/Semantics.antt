@@ -1,5 +1,6 @@
 -- What a network function is: its table, its texts, and the bodies that its records are stored as. This project's own.
 use Rattle.std.specs.Prelude.{ℕ, ◌+◌, ◌-◌, ◌^◌, min, Bool, true, if◌then◌else◌, List, Option, None, Some}
+use Rattle.basics.specs.Options.{◌>>=◌}
 use Rattle.flow_filter.specs.declared.packet.Packet.{Packet}
 use Rattle.flow_filter.specs.declared.site.Site.{Site}
 use Rattle.flow_filter.specs.Flow.{flow_of}
@@ -24,8 +25,8 @@ pub record Semantics (R : Type 0) : Type 0 where
   pub is_valid : units.Unit → R → Bool
   -- the bytes that a record is stored as
   pub body_of : R → List ℕ
-  -- the record of the unit that such bytes spell, if any
-  pub record_in : units.Unit → List ℕ → Option R
+  -- the record that such bytes spell, if any
+  pub spelled : List ℕ → Option R
   -- a step may take memory: where it takes none, it never answers that there is none
   pub takes_memory : Bool
   -- the record holds a time
@@ -49,6 +50,10 @@ kept_after f site kept p = if is_transport p.proto then Some (f.stepped site kep
 -- the function's answer to a packet
 abbrev pub output_for : {R : Type 0} → Semantics R → Site → Option R → Packet → Output
 output_for f site kept p = (f.stepped site kept p).output
+
+-- the record of the unit that bytes spell: one that is valid for it
+abbrev pub record_in : {R : Type 0} → Semantics R → units.Unit → List ℕ → Option R
+record_in f unit bytes = f.spelled bytes >>= λ r. if f.is_valid unit r then Some r else None
 
 -- nothing is kept of the unit, or a record that is valid for it
 abbrev pub is_sound : {R : Type 0} → Semantics R → units.Unit → Option R → Bool

@@ -1,10 +1,9 @@
 //! The trait of network functions, with what contracts ask of each of them.
 ghost use Rattle.std.specs.Prelude.{◌≡◌, ◌++◌, true, false, length, IsOk, IfOk, OnOk, OnErr};
 ghost use Rattle.flow_filter.specs.Flow.{flow_of};
-ghost use Rattle.nf_function.specs.declared.kind.Kind.{Kind as TheKind};
 ghost use Rattle.nf_function.specs.declared.function.BodyFault.TheVariants.{NoMemory as OutOfMemory};
 ghost use Rattle.nf_function.specs.Units.{unit_of};
-ghost use Rattle.nf_function.specs.Semantics.{Semantics, kept_after, output_for, is_sound};
+ghost use Rattle.nf_function.specs.Semantics.{Semantics, kept_after, output_for, is_sound, record_in};
 ghost use Rattle.nf_function.specs.Records.{Reads, is_newer, IsRecordOrder, StepsMakeNewer, Laws};
 
 use crate::kind::Kind;
@@ -23,23 +22,15 @@ pub trait Function {
     /// What the function does.
     ghost semantics: { Semantics Self.Record };
 
-    ghost KIND: { TheKind };
-
     /// Which function it is.
-    const KIND: Kind;
-
-    /// Which function it is.
-    final fn which() -> Kind
-        ensures { result ≡ semantics.kind }
-    {
-        Self::KIND
-    }
+    fn which() -> Kind
+        ensures { result ≡ semantics.kind };
 
     /// The unit of a flow: the flow itself, or its local host.
     final fn unit(flow: &Flow) -> Unit
         ensures { result ≡ unit_of semantics.kind flow.now }
     {
-        Self::KIND.unit_of(flow)
+        Self::which().unit_of(flow)
     }
 
     /// Takes a packet into what is kept of its unit, and gives the output.
@@ -99,7 +90,7 @@ pub trait Function {
 
     /// The record of the unit that the bytes spell.
     fn read_record(alloc: Global, unit: &Unit, body: &[u8]) -> Result<Self::Record, BodyFault>
-        ensures { Reads result (semantics.record_in unit.now body.now) };
+        ensures { Reads result (record_in semantics unit.now body.now) };
 
     /// Whether the first record has more packets than the second, or as many and a greater body.
     fn newer(a: &Self::Record, b: &Self::Record) -> bool
@@ -141,8 +132,6 @@ pub trait Function {
         ensures ok { OnOk result (text.new ≡ text.old ++ semantics.record_text kept.now) }
         ensures err { OnErr result (text.new ≡ text.old) };
 
-    ghost same_kind: { KIND ≡ semantics.kind };
-
     ghost laws: { Laws semantics };
 }
 
@@ -155,17 +144,6 @@ pub enum BodyFault {
     /// Memory ran out.
     #[error("no memory")]
     NoMemory,
-}
-
-impl From<NoMemory> for BodyFault {
-    ghost use Rattle.std.specs.Prelude.{◌≡◌};
-    ghost use Rattle.nf_function.specs.declared.function.BodyFault.TheVariants.{NoMemory as OutOfMemory};
-
-    ghost from_gives = { λ _ e. e ≡ OutOfMemory };
-
-    fn from(_e: NoMemory) -> BodyFault {
-        BodyFault::NoMemory
-    }
 }
 
 impl<T: Drop> From<AllocFailed<T>> for BodyFault {

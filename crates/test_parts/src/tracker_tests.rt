@@ -1,6 +1,6 @@
 //! Tests of the tracker by the states that its outputs name.
 use crate::common::{PACKET, SITE, reverse};
-use conn_tracker::{Conntrack, State, TrackRecord, print_output, print_record, step};
+use conn_tracker::{Conntrack, State, TrackRecord, step};
 use flow_filter::{Direction, Packet, TCP, flow_of};
 use nf_function::{Function, Output};
 use std::test::Fail;
@@ -30,7 +30,7 @@ fn a_handshake_is_established(rt: HostRuntime) -> Result<(), Fail> {
     let mut kept = None;
     let asked = step(&SITE, &mut kept, &outward(2));
     assert_eq!(rt;
-        print_output(rt.alloc(), &asked)?.items(),
+        Conntrack::print_output(rt.alloc(), &asked)?.items(),
         b"opening".as_slice()
     );
     let mut kept = Some(TrackRecord {
@@ -51,7 +51,7 @@ fn a_handshake_is_established(rt: HostRuntime) -> Result<(), Fail> {
     );
     let record = kept.ok_or("no record")?;
     assert_eq!(rt;
-        print_record(rt.alloc(), &record)?.items(),
+        Conntrack::print_record(rt.alloc(), &record)?.items(),
         b"established out packets 3 bytes 60".as_slice()
     );
     Ok(())
@@ -62,7 +62,7 @@ fn an_answer_shows_the_opener(rt: HostRuntime) -> Result<(), Fail> {
     let mut kept = None;
     let answered = step(&SITE, &mut kept, &reverse(outward(18)));
     assert_eq!(rt;
-        print_output(rt.alloc(), &answered)?.items(),
+        Conntrack::print_output(rt.alloc(), &answered)?.items(),
         b"answered".as_slice()
     );
     let record = kept.ok_or("no record")?;
