@@ -1,3 +1,2 @@
 pub mod BodyOrder
-pub mod MappingsRead
 pub mod SeenEnds

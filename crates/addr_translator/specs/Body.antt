@@ -1,12 +1,12 @@
 -- The bytes that a translator's record is stored as. This project's own format: how many mappings (2 bytes), each mapping
 -- as its protocol (1) and port (2), packets (8), drops (8).
-use Rattle.std.specs.Prelude.{ℕ, zero, suc, ◌^◌, ◌&&◌, nat_le, nat_lt, Bool, true, false, not, if◌then◌else◌, List, [], ◌∷◌, ◌++◌, length, Option, None, Some}
+use Rattle.std.specs.Prelude.{ℕ, ◌^◌, ◌&&◌, nat_le, nat_lt, Bool, true, not, List, [], ◌∷◌, ◌++◌, length, Option, Some}
 use Rattle.std.specs.List.{flat_map, list_all, list_any}
 use Rattle.basics.specs.Options.{◌>>=◌}
 use Rattle.nf_function.specs.declared.unit.Unit as units
-use Rattle.nf_function.specs.declared.unit.Unit.TheVariants.{Flow as OfFlow, Host as OfHost}
-use Rattle.nf_function.specs.Stored.{number_bytes, first_byte, first_number}
-use Rattle.nf_function.specs.Units.{is_transport}
+use Rattle.nf_function.specs.declared.kind.Kind.TheVariants.{Nat}
+use Rattle.nf_function.specs.Stored.{number_bytes, first_byte, first_number, first_items, at_most, at_end}
+use Rattle.nf_function.specs.Units.{is_transport, is_unit}
 use Rattle.addr_translator.specs.declared.mapping.Mapping.{Mapping}
 use Rattle.addr_translator.specs.Mappings.{Translation, mapping_eq}
 use Rattle.flow_filter.specs.Flow.{ports_per_host}
@@ -24,11 +24,13 @@ is_distinct (m ∷ more) = not (list_any (λ other. mapping_eq other m) more) &&
 abbrev pub are_mappings : List Mapping → Bool
 are_mappings mappings = nat_le (length mappings) ports_per_host && list_all is_mapping mappings && is_distinct mappings
 
--- a record of the host: it has counted a packet, and at most all of them as drops
+-- it has counted a packet, and at most all of them as drops
+abbrev pub is_kept : Translation → Bool
+is_kept r = are_mappings r.mappings && nat_le 1 r.packets && nat_le r.drops r.packets && nat_lt r.packets (2 ^ 64)
+
+-- a record of the host
 abbrev pub is_valid : units.Unit → Translation → Bool
-is_valid (OfFlow flow) r = false
-is_valid (OfHost host) r =
-    nat_lt host (2 ^ 32) && are_mappings r.mappings && nat_le 1 r.packets && nat_le r.drops r.packets && nat_lt r.packets (2 ^ 64)
+is_valid unit r = is_unit Nat unit && is_kept r
 
 abbrev pub mapping_bytes : Mapping → List ℕ
 mapping_bytes m = m.proto ∷ number_bytes 2 m.port
@@ -45,39 +47,18 @@ first_mapping bytes = do
   Some (record { proto = proto.0; port = port.0 }, port.1)
 
 -- as many mappings, and the bytes after them
-unfoldable pub mappings_in : ℕ → List ℕ → Option (List Mapping × List ℕ)
-mappings_in zero bytes = Some ([], bytes)
-mappings_in (suc n) bytes = do
-  first ← first_mapping bytes
-  more ← mappings_in n first.1
-  Some (first.0 ∷ more.0, more.1)
+abbrev pub mappings_in : ℕ → List ℕ → Option (List Mapping × List ℕ)
+mappings_in = first_items first_mapping
 
 -- a record with these mappings alone
 abbrev pub with_mappings : List Mapping × List ℕ → Translation × List ℕ
 with_mappings read = (record { mappings = read.0; packets = 0; drops = 0 }, read.1)
 
--- no more mappings than a host has ports
-abbrev pub few : ℕ × List ℕ → Option (ℕ × List ℕ)
-few used = if nat_le used.0 ports_per_host then Some used else None
-
--- nothing comes after
-abbrev pub at_end : List ℕ → Translation → Option Translation
-at_end [] r = Some r
-at_end (byte ∷ more) r = None
-
 -- the record that bytes spell
 unfoldable pub spelled : List ℕ → Option Translation
 spelled body = do
-  used ← first_number 2 body >>= few
+  used ← first_number 2 body >>= at_most ports_per_host
   mappings ← mappings_in used.0 used.1
   packets ← first_number 8 mappings.1
   drops ← first_number 8 packets.1
-  at_end drops.1 (record { mappings = mappings.0; packets = packets.0; drops = drops.0 })
-
--- the record, where it is valid for the unit
-abbrev pub valid_only : units.Unit → Translation → Option Translation
-valid_only unit r = if is_valid unit r then Some r else None
-
--- the record of the unit that bytes spell
-unfoldable pub record_in : units.Unit → List ℕ → Option Translation
-record_in unit body = spelled body >>= valid_only unit
+  at_end (record { mappings = mappings.0; packets = packets.0; drops = drops.0 }, drops.1)

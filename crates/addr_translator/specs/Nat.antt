@@ -5,7 +5,7 @@ use Rattle.nf_function.specs.Semantics.{Semantics}
 use Rattle.addr_translator.specs.Mappings.{Translation}
 use Rattle.addr_translator.specs.Table.{step_of}
 use Rattle.addr_translator.specs.Text.{output_text, record_text}
-use Rattle.addr_translator.specs.Body.{is_valid, body_of, record_in}
+use Rattle.addr_translator.specs.Body.{is_valid, body_of, spelled}
 
 abbrev pub nat : Semantics Translation
 nat = record {
@@ -14,7 +14,7 @@ nat = record {
   packets_of = λ r. r.packets;
   is_valid = is_valid;
   body_of = body_of;
-  record_in = record_in;
+  spelled = spelled;
   takes_memory = false;
   is_timed = λ r. false;
   output_text = output_text;

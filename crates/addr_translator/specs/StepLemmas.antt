@@ -14,11 +14,11 @@ use Rattle.flow_filter.specs.declared.site.Site.{Site}
 use Rattle.flow_filter.specs.Flow.{flow_of, is_inside, is_mapped, first_port, ports_per_host}
 use Rattle.nf_function.specs.declared.kind.Kind.TheVariants.{Nat}
 use Rattle.nf_function.specs.declared.unit.Unit as units
-use Rattle.nf_function.specs.declared.unit.Unit.TheVariants.{Flow as OfFlow, Host as OfHost}
 use Rattle.nf_function.specs.Units.{is_unit, is_transport}
 use Rattle.nf_function.specs.Semantics.{Step, count, kept_after, is_sound, packets_in, unit_at}
 use Rattle.nf_function.specs.Records.{Fits, Laws}
 use Rattle.nf_function.proofs.FlowFits.{flow_fits}
+use Rattle.nf_function.proofs.StoredRecords.{laws_of, either_way}
 use Rattle.addr_translator.specs.declared.mapping.Mapping.{Mapping}
 use Rattle.addr_translator.specs.declared.passage.Passage.{Passage}
 use Rattle.addr_translator.specs.declared.passage.Passage.TheVariants.{Leaves, Returns, Direct, Other}
@@ -28,7 +28,7 @@ use Rattle.addr_translator.specs.Table.{drop_step, left, mapped, return_step, st
 use Rattle.addr_translator.specs.Passages.{passage_of, source, translated}
 use Rattle.addr_translator.specs.Body.{is_mapping, is_distinct, is_valid}
 use Rattle.addr_translator.specs.Nat.{nat}
-use Rattle.addr_translator.specs.BodyLemmas.{IsValid, valid_facts, valid_from, record_in-body_of, record_in-some, known_by_body, length-body_of}
+use Rattle.addr_translator.specs.BodyLemmas.{IsKept, kept_from, valid_kept, nat_stored}
 
 mapping_eq-sym : (a b : Mapping) → mapping_eq a b ≡ mapping_eq b a
 mapping_eq-sym a b = rw (nat_eq_equiv.symm a.proto b.proto, nat_eq_equiv.symm a.port b.port) refl
@@ -45,33 +45,21 @@ is_distinct-append (m ∷ more) end h new =
     rw (list_any-append (λ other. mapping_eq other m) more (end ∷ []), unseen, differs) (is_distinct-append more end parts.1 others.1)
 
 -- one more packet leaves room for one more drop
-pub record HasRoom (host : ℕ) (r : Translation) : Type 0 where
-  pub valid : IsValid host r
+pub record HasRoom (r : Translation) : Type 0 where
+  pub kept : IsKept r
   pub room : count r.drops 1 ≤ r.packets
 
-module _ (host : ℕ) (r : Translation) (has : HasRoom host r) where
-  kept_valid : is_valid (OfHost host) r ≡ true
-  kept_valid = valid_from host r has.valid
+module _ (r : Translation) (has : HasRoom r) where
+  dropped_kept : (reason : ℕ) → IsKept (drop_step r reason).kept
+  dropped_kept reason =
+      let v = has.kept in
+      record { short = v.short; each = v.each; distinct = v.distinct; counted = v.counted; drops = has.room; packets = v.packets }
 
-  dropped_valid : (reason : ℕ) → is_valid (OfHost host) (drop_step r reason).kept ≡ true
-  dropped_valid reason =
-      let v = has.valid in
-      valid_from host (drop_step r reason).kept (record {
-        address = v.address;
-        short = v.short;
-        each = v.each;
-        distinct = v.distinct;
-        counted = v.counted;
-        drops = has.room;
-        packets = v.packets;
-      })
-
-  added_valid : (end : Mapping) → length r.mappings < ports_per_host → is_mapping end ≡ true → list_any (λ m. mapping_eq m end) r.mappings ≡ false
-      → is_valid (OfHost host) (record r { mappings = r.mappings ++ end ∷ [] }) ≡ true
-  added_valid end free is new =
-      let v = has.valid in
-      valid_from host (record r { mappings = r.mappings ++ end ∷ [] }) (record {
-        address = v.address;
+  added_kept : (end : Mapping) → length r.mappings < ports_per_host → is_mapping end ≡ true → list_any (λ m. mapping_eq m end) r.mappings ≡ false
+      → IsKept (record r { mappings = r.mappings ++ end ∷ [] })
+  added_kept end free is new =
+      let v = has.kept in
+      record {
         short = rw (length-append r.mappings (end ∷ [])) (omega arith);
         each = rw (list_all-append is_mapping r.mappings (end ∷ []))
             (and_from (list_all is_mapping r.mappings) (is_mapping end && true) v.each (and_from (is_mapping end) true is refl));
@@ -79,70 +67,47 @@ module _ (host : ℕ) (r : Translation) (has : HasRoom host r) where
         counted = v.counted;
         drops = v.drops;
         packets = v.packets;
-      })
+      }
 
-  opened_valid : (outside : ℕ) (end : Mapping) → is_mapping end ≡ true → list_any (λ m. mapping_eq m end) r.mappings ≡ false
-      → is_valid (OfHost host) (left outside host r end None).kept ≡ true
-  opened_valid outside end is new = by_room (nat_lt (length r.mappings) ports_per_host) refl
+  opened_kept : (outside host : ℕ) (end : Mapping) → is_mapping end ≡ true → list_any (λ m. mapping_eq m end) r.mappings ≡ false
+      → IsKept (left outside host r end None).kept
+  opened_kept outside host end is new = by_room (nat_lt (length r.mappings) ports_per_host) refl
     where
       by_room : (free : Bool) → nat_lt (length r.mappings) ports_per_host ≡ free
-          → is_valid (OfHost host) (cond free
-          (record { kept = record r { mappings = r.mappings ++ end ∷ [] }; output = mapped outside host (length r.mappings) }) (drop_step r 3)).kept ≡ true
-      by_room true e = added_valid end (let h = e in grind (arith, nat_tests)) is new
-      by_room false e = dropped_valid 3
+          → IsKept (cond free (record { kept = record r { mappings = r.mappings ++ end ∷ [] }; output = mapped outside host (length r.mappings) })
+          (drop_step r 3)).kept
+      by_room true e = added_kept end (let h = e in grind (arith, nat_tests)) is new
+      by_room false e = dropped_kept 3
 
-  left_valid : (outside : ℕ) (end : Mapping) (place : Option ℕ) → is_mapping end ≡ true → position (λ m. mapping_eq m end) r.mappings ≡ place
-      → is_valid (OfHost host) (left outside host r end place).kept ≡ true
-  left_valid outside end (Some number) is at = kept_valid
-  left_valid outside end None is at = opened_valid outside end is (none_passes (λ m. mapping_eq m end) r.mappings at)
+  left_kept : (outside host : ℕ) (end : Mapping) (place : Option ℕ) → is_mapping end ≡ true → position (λ m. mapping_eq m end) r.mappings ≡ place
+      → IsKept (left outside host r end place).kept
+  left_kept outside host end (Some number) is at = has.kept
+  left_kept outside host end None is at = opened_kept outside host end is (none_passes (λ m. mapping_eq m end) r.mappings at)
 
-  returned_valid : (p : Packet) (found : Option Mapping) → is_valid (OfHost host) (return_step host r p found).kept ≡ true
-  returned_valid p None = dropped_valid 4
-  returned_valid p (Some m) = by_proto (m.proto == p.proto)
-    where
-      by_proto : (same : Bool)
-          → is_valid (OfHost host) (cond same (record { kept = r; output = record { code = 2; a = host; b = m.port } }) (drop_step r 4)).kept ≡ true
-      by_proto true = kept_valid
-      by_proto false = dropped_valid 4
+  returned_kept : (host : ℕ) (p : Packet) (found : Option Mapping) → IsKept (return_step host r p found).kept
+  returned_kept host p None = dropped_kept 4
+  returned_kept host p (Some m) = either_way (m.proto == p.proto) IsKept _ _ has.kept (dropped_kept 4)
 
-  -- however a packet passes, what it leaves is valid
-  pub translated_valid : (passage : Passage) (p : Packet) → is_mapping (source p) ≡ true → is_valid (OfHost host) (translated passage host r p).kept ≡ true
-  translated_valid (Leaves outside) p is = left_valid outside (source p) (position (λ m. mapping_eq m (source p)) r.mappings) is refl
-  translated_valid Returns p is = returned_valid p (slice_get r.mappings ((p.dport - first_port) % ports_per_host))
-  translated_valid Direct p is = dropped_valid 5
-  translated_valid Other p is = kept_valid
+  -- however a packet passes, what it leaves is kept
+  pub translated_kept : (passage : Passage) (host : ℕ) (p : Packet) → is_mapping (source p) ≡ true → IsKept (translated passage host r p).kept
+  translated_kept (Leaves outside) host p is = left_kept outside host (source p) (position (λ m. mapping_eq m (source p)) r.mappings) is refl
+  translated_kept Returns host p is = returned_kept host p (slice_get r.mappings ((p.dport - first_port) % ports_per_host))
+  translated_kept Direct host p is = dropped_kept 5
+  translated_kept Other host p is = has.kept
 
 -- a record that was valid, or none, has room after one packet more
-pub counted_has_room : (host : ℕ) (kept : Option Translation) → nat_lt host (2 ^ 32) ≡ true → is_sound nat (OfHost host) kept ≡ true
-    → HasRoom host (counted (unwrap_or kept no_mappings))
-counted_has_room host None address h =
-    record {
-      valid = record {
-        address = address;
-        short = omega arith;
-        each = refl;
-        distinct = refl;
-        counted = omega arith;
-        drops = omega arith;
-        packets = omega arith;
-      };
-      room = omega arith;
-    }
-counted_has_room host (Some r) address h =
-    let v = valid_facts host r h in
+pub counted_has_room : (u : units.Unit) (kept : Option Translation) → is_sound nat u kept ≡ true → HasRoom (counted (unwrap_or kept no_mappings))
+counted_has_room u None h = record {
+  kept = record { short = omega arith; each = refl; distinct = refl; counted = omega arith; drops = omega arith; packets = omega arith };
+  room = omega arith;
+}
+counted_has_room u (Some r) h =
+    let v = valid_kept u r h in
     let drops : r.drops ≤ r.packets = v.drops in
     let counted : 1 ≤ r.packets = v.counted in
     let packets : r.packets < 2 ^ 64 = v.packets in
     record {
-      valid = record {
-        address = address;
-        short = v.short;
-        each = v.each;
-        distinct = v.distinct;
-        counted = omega arith;
-        drops = omega arith;
-        packets = omega arith;
-      };
+      kept = record { short = v.short; each = v.each; distinct = v.distinct; counted = omega arith; drops = omega arith; packets = omega arith };
       room = omega arith;
     }
 
@@ -178,18 +143,18 @@ step_of_passage site kept p =
     (is_mapped site p) site.outside
 
 -- a step keeps what is valid for the packet's host
-step_valid : (site : Site) (host : ℕ) (kept : Option Translation) (p : Packet) → (flow_of site p).0.local ≡ host → nat_lt host (2 ^ 32) ≡ true
-    → is_mapping (source p) ≡ true → is_sound nat (OfHost host) kept ≡ true → is_valid (OfHost host) (step_of site kept p).kept ≡ true
-step_valid site host kept p of address is h =
-    rw (step_of_passage site kept p, of) (translated_valid host (counted (unwrap_or kept no_mappings)) (counted_has_room host kept address h) _ p is)
+step_valid : (site : Site) (u : units.Unit) (kept : Option Translation) (p : Packet) → is_unit Nat u ≡ true → is_mapping (source p) ≡ true
+    → is_sound nat u kept ≡ true → is_valid u (step_of site kept p).kept ≡ true
+step_valid site u kept p unit is h =
+    rw (step_of_passage site kept p) (and_from _ _ unit (kept_from _ (translated_kept (counted (unwrap_or kept no_mappings)) (counted_has_room u kept h) _ _ p is)))
 
 -- and so does a packet that may be none of TCP or UDP
-pub kept_sound : (site : Site) (host : ℕ) (kept : Option Translation) (p : Packet) → (flow_of site p).0.local ≡ host → nat_lt host (2 ^ 32) ≡ true
-    → p.sport < 2 ^ 16 → is_sound nat (OfHost host) kept ≡ true → is_sound nat (OfHost host) (kept_after nat site kept p) ≡ true
-kept_sound site host kept p of address port h = by_proto (is_transport p.proto) refl
+pub kept_sound : (site : Site) (u : units.Unit) (kept : Option Translation) (p : Packet) → is_unit Nat u ≡ true → p.sport < 2 ^ 16
+    → is_sound nat u kept ≡ true → is_sound nat u (kept_after nat site kept p) ≡ true
+kept_sound site u kept p unit port h = by_proto (is_transport p.proto) refl
   where
-    by_proto : (transport : Bool) → is_transport p.proto ≡ transport → is_sound nat (OfHost host) (cond transport (Some (step_of site kept p).kept) kept) ≡ true
-    by_proto true e = step_valid site host kept p of address (and_from _ _ e (let low = port in grind (arith, nat_tests))) h
+    by_proto : (transport : Bool) → is_transport p.proto ≡ transport → is_sound nat u (cond transport (Some (step_of site kept p).kept) kept) ≡ true
+    by_proto true e = step_valid site u kept p unit (and_from _ _ e (let low = port in grind (arith, nat_tests))) h
     by_proto false e = h
 
 stays_valid : (site : Site) (kept : Option Translation) (p : Packet) → Fits site p → is_sound nat (unit_at Nat site p) kept ≡ true
@@ -197,29 +162,18 @@ stays_valid : (site : Site) (kept : Option Translation) (p : Packet) → Fits si
 stays_valid site kept p fits h =
     let flow = flow_fits site p fits in
     let address : nat_lt (flow_of site p).0.local (2 ^ 32) ≡ true = let low = flow.local in grind (arith, nat_tests) in
-    step_valid site (flow_of site p).0.local kept p refl address (and_from _ _ fits.transport (let low = fits.sport in grind (arith, nat_tests))) h
+    step_valid site (unit_at Nat site p) kept p address (and_from _ _ fits.transport (let low = fits.sport in grind (arith, nat_tests))) h
 
 -- each step counts one packet, however the packet passes
-packets-opened : (outside host : ℕ) (r : Translation) (end : Mapping) → (left outside host r end None).kept.packets ≡ r.packets
-packets-opened outside host r end = by_room (nat_lt (length r.mappings) ports_per_host)
-  where
-    by_room : (free : Bool)
-        → (cond free (record { kept = record r { mappings = r.mappings ++ end ∷ [] }; output = mapped outside host (length r.mappings) })
-        (drop_step r 3)).kept.packets ≡ r.packets
-    by_room true = refl
-    by_room false = refl
-
 packets-left : (outside host : ℕ) (r : Translation) (end : Mapping) (place : Option ℕ) → (left outside host r end place).kept.packets ≡ r.packets
 packets-left outside host r end (Some number) = refl
-packets-left outside host r end None = packets-opened outside host r end
+packets-left outside host r end None =
+    either_way (nat_lt (length r.mappings) ports_per_host) (λ kept. kept.packets ≡ r.packets) (record { kept = record r { mappings = r.mappings ++ end ∷ [] }; output = mapped outside host (length r.mappings) }) (drop_step r 3) refl refl
 
 packets-returned : (host : ℕ) (r : Translation) (p : Packet) (found : Option Mapping) → (return_step host r p found).kept.packets ≡ r.packets
 packets-returned host r p None = refl
-packets-returned host r p (Some m) = by_proto (m.proto == p.proto)
-  where
-    by_proto : (same : Bool) → (cond same (record { kept = r; output = record { code = 2; a = host; b = m.port } }) (drop_step r 4)).kept.packets ≡ r.packets
-    by_proto true = refl
-    by_proto false = refl
+packets-returned host r p (Some m) =
+    either_way (m.proto == p.proto) (λ kept. kept.packets ≡ r.packets) (record { kept = r; output = record { code = 2; a = host; b = m.port } }) (drop_step r 4) refl refl
 
 packets-translated : (passage : Passage) (host : ℕ) (r : Translation) (p : Packet) → (translated passage host r p).kept.packets ≡ r.packets
 packets-translated (Leaves outside) host r p = packets-left outside host r (source p) _
@@ -234,19 +188,5 @@ counts_one site kept p = rw (step_of_passage site kept p, packets-translated _ _
     by_kept None = refl
     by_kept (Some r) = refl
 
-valid_unit : (u : units.Unit) (r : Translation) → is_valid u r ≡ true → is_unit Nat u ≡ true
-valid_unit (OfFlow flow) r h = cc
-valid_unit (OfHost host) r h = (valid_facts host r h).address
-
 pub nat_laws : Laws nat
-nat_laws = record {
-  unit = valid_unit;
-  again = record_in-body_of;
-  read = record_in-some;
-  known = known_by_body;
-  short = length-body_of;
-  stays = stays_valid;
-  counts = counts_one;
-  tells = λ r h. cc;
-  times = λ site kept p. refl;
-}
+nat_laws = laws_of nat nat_stored (record { stays = stays_valid; counts = counts_one; tells = λ r h. cc; times = λ site kept p. refl })

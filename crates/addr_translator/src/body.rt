@@ -2,8 +2,9 @@
 ghost use Rattle.std.specs.Prelude.{◌≡◌, ◌≤◌, ◌++◌, true, length, option_map, OnOk};
 ghost use Rattle.std.specs.List.{flat_map, list_all};
 ghost use Rattle.nf_function.specs.Records.{age_cmp};
+ghost use Rattle.nf_function.specs.Semantics.{record_in};
 ghost use Rattle.addr_translator.specs.Body.{is_mapping, is_distinct, are_mappings, is_valid, mapping_bytes};
-ghost use Rattle.addr_translator.specs.Body.{body_of, first_mapping, mappings_in, with_mappings, spelled, record_in};
+ghost use Rattle.addr_translator.specs.Body.{body_of, first_mapping, mappings_in, with_mappings, spelled};
 ghost use Rattle.addr_translator.specs.Nat.{nat};
 ghost use Rattle.flow_filter.specs.Flow.{ports_per_host};
 
@@ -55,9 +56,8 @@ fn push_mappings(bytes: &mut Bytes, mappings: &[Mapping]) -> Result<(), NoMemory
 }
 
 /// The record of the unit that the bytes spell.
-#[tactic(auto, unfolding(crate::specs::Body::record_in))]
 pub fn record_in(unit: &Unit, body: &[u8]) -> Option<NatRecord>
-    ensures { result ≡ record_in unit.now body.now }
+    ensures { result ≡ record_in nat unit.now body.now }
 {
     let record = spelled(body)?;
     if is_valid(*unit, &record) {

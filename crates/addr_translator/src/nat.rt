@@ -11,8 +11,6 @@ use std::cmp::Ordering;
 pub struct Nat;
 
 impl Function for Nat {
-    ghost use Rattle.std.specs.Prelude.{refl};
-    ghost use Rattle.nf_function.specs.declared.kind.Kind.TheVariants.{Nat as TheKind};
     ghost use Rattle.addr_translator.specs.Nat.{nat};
     ghost use Rattle.addr_translator.specs.StepLemmas.{nat_laws};
 
@@ -20,9 +18,11 @@ impl Function for Nat {
 
     ghost semantics = { nat };
 
-    ghost KIND = { TheKind };
+    ghost laws = { nat_laws };
 
-    const KIND: Kind = Kind::Nat;
+    fn which() -> Kind {
+        Kind::Nat
+    }
 
     fn step_along(
         _alloc: Global,
@@ -66,8 +66,4 @@ impl Function for Nat {
     fn push_record(text: &mut Text, kept: &NatRecord) -> Result<(), NoMemory> {
         text::push_record(text, kept)
     }
-
-    ghost same_kind = { refl };
-
-    ghost laws = { nat_laws };
 }

@@ -1,5 +1,6 @@
 -- What stands first in stored bytes, and what comes after it: fronts join, and so a record is read from its own bytes alone.
-use Rattle.std.proofs.Common.{◌≡◌, ◌∙◌, ℕ, zero, suc, List, [], ◌∷◌, ◌++◌, take, drop, Option, Some, option_and_then, sym, refl, ap, arith, append-nil, nat_le}
+use Rattle.std.proofs.Common.{◌≡◌, ◌∙◌, ◌<◌, ℕ, zero, suc, List, [], ◌∷◌, ◌++◌, length, take, drop, Option, None, Some}
+use Rattle.std.proofs.Common.{option_and_then, sym, refl, ap, arith, append-nil, nat_le}
 use Rattle.std.proofs.lemmas.List.{append_assoc}
 use Rattle.std.proofs.lemmas.Option.{same_Some, option_and_then_some, cond_some}
 use Rattle.nf_function.specs.Stored.{IsBytes, first_byte, at_most, at_end}
@@ -48,3 +49,12 @@ at_most-some most o read h =
 pub at_end-some : {X : Type 0} (x y : X) (rest : List ℕ) → at_end (x, rest) ≡ Some y → (rest ≡ []) × (x ≡ y)
 at_end-some x y [] h = (refl, same_Some x y h)
 at_end-some x y (byte ∷ rest) h = cc
+
+-- nothing comes after what was read, or bytes do
+pub ended : {X : Type 0} (x : X) (rest : List ℕ) → length rest ≡ 0 → at_end (x, rest) ≡ Some x
+ended x [] none = refl
+ended x (byte ∷ rest) none = absurd (omega (arith, none))
+
+pub not_ended : {X : Type 0} (x : X) (rest : List ℕ) → 0 < length rest → at_end (x, rest) ≡ None
+not_ended x [] some = absurd (omega (arith, some))
+not_ended x (byte ∷ rest) some = refl
