@@ -1,3 +1,2 @@
 pub mod AdjacentServices
 pub mod BodyOrder
-pub mod ServicesRead

@@ -4,18 +4,22 @@ use Rattle.std.specs.Prelude.{ℕ, zero, suc, ◌^◌, ◌&&◌, nat_le, nat_lt,
 use Rattle.std.specs.List.{flat_map}
 use Rattle.basics.specs.Options.{◌>>=◌}
 use Rattle.nf_function.specs.declared.unit.Unit as units
-use Rattle.nf_function.specs.declared.unit.Unit.TheVariants.{Flow as OfFlow, Host as OfHost}
-use Rattle.nf_function.specs.Stored.{number_bytes, first_byte, first_number}
+use Rattle.nf_function.specs.declared.kind.Kind.TheVariants as kinds
+use Rattle.nf_function.specs.Stored.{number_bytes, first_byte, first_number, first_items, at_most, at_end}
+use Rattle.nf_function.specs.Units.{is_unit}
 use Rattle.asset_monitor.specs.declared.record.AssetRecord.{AssetRecord}
 use Rattle.asset_monitor.specs.declared.service.Service.{Service}
 use Rattle.asset_monitor.specs.Banners.{banner_number}
 use Rattle.asset_monitor.specs.BannerNumbers.{banner_of}
 use Rattle.asset_monitor.specs.Services.{are_services, services_per_host}
 
--- a record of the host: it has counted a packet, and its services are ones that a host can have
+-- it has counted a packet, and its services are ones that a host can have
+abbrev pub is_kept : AssetRecord → Bool
+is_kept r = are_services r.services && nat_le 1 r.packets && nat_lt r.packets (2 ^ 64)
+
+-- a record of the host
 abbrev pub is_valid : units.Unit → AssetRecord → Bool
-is_valid (OfFlow flow) r = false
-is_valid (OfHost host) r = nat_lt host (2 ^ 32) && are_services r.services && nat_le 1 r.packets && nat_lt r.packets (2 ^ 64)
+is_valid unit r = is_unit kinds.Monitor unit && is_kept r
 
 abbrev pub service_bytes : Service → List ℕ
 service_bytes s = s.proto ∷ (number_bytes 2 s.port ++ banner_number s.banner ∷ [])
@@ -33,30 +37,13 @@ first_service bytes = do
   Some (record { proto = proto.0; port = port.0; banner = banner }, number.1)
 
 -- as many services, and nothing after them
-unfoldable pub services_in : ℕ → List ℕ → Option (List Service)
-services_in zero [] = Some []
-services_in zero (byte ∷ more) = None
-services_in (suc n) bytes = do
-  first ← first_service bytes
-  more ← services_in n first.1
-  Some (first.0 ∷ more)
-
--- no more services than are kept of a host
-abbrev pub few : ℕ × List ℕ → Option (ℕ × List ℕ)
-few counted = if nat_le counted.0 services_per_host then Some counted else None
+abbrev pub services_in : ℕ → List ℕ → Option (List Service)
+services_in n bytes = first_items first_service n bytes >>= at_end
 
 -- the record that bytes spell
 unfoldable pub spelled : List ℕ → Option AssetRecord
 spelled body = do
   packets ← first_number 8 body
-  counted ← first_byte packets.1 >>= few
+  counted ← first_byte packets.1 >>= at_most services_per_host
   services ← services_in counted.0 counted.1
   Some (record { packets = packets.0; services = services })
-
--- the record, where it is valid for the unit
-abbrev pub valid_only : units.Unit → AssetRecord → Option AssetRecord
-valid_only unit r = if is_valid unit r then Some r else None
-
--- the record of the unit that bytes spell
-unfoldable pub record_in : units.Unit → List ℕ → Option AssetRecord
-record_in unit body = spelled body >>= valid_only unit

@@ -5,7 +5,7 @@ use Rattle.nf_function.specs.Semantics.{Semantics}
 use Rattle.asset_monitor.specs.declared.record.AssetRecord.{AssetRecord}
 use Rattle.asset_monitor.specs.Table.{step_of}
 use Rattle.asset_monitor.specs.Text.{output_text, record_text}
-use Rattle.asset_monitor.specs.Body.{is_valid, body_of, record_in}
+use Rattle.asset_monitor.specs.Body.{is_valid, body_of, spelled}
 
 abbrev pub monitor : Semantics AssetRecord
 monitor = record {
@@ -14,7 +14,7 @@ monitor = record {
   packets_of = λ r. r.packets;
   is_valid = is_valid;
   body_of = body_of;
-  record_in = record_in;
+  spelled = spelled;
   takes_memory = true;
   is_timed = λ r. false;
   output_text = output_text;

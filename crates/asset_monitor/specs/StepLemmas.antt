@@ -9,11 +9,11 @@ use Rattle.flow_filter.specs.declared.flow.Direction.TheVariants.{Out, In}
 use Rattle.flow_filter.specs.Flow.{flow_of}
 use Rattle.nf_function.specs.declared.kind.Kind.TheVariants as kinds
 use Rattle.nf_function.specs.declared.unit.Unit as units
-use Rattle.nf_function.specs.declared.unit.Unit.TheVariants.{Flow as OfFlow, Host as OfHost}
 use Rattle.nf_function.specs.Units.{is_unit, is_transport}
 use Rattle.nf_function.specs.Semantics.{Step, count, is_sound, packets_in, unit_at}
 use Rattle.nf_function.specs.Records.{Fits, Laws}
 use Rattle.nf_function.proofs.FlowFits.{flow_fits}
+use Rattle.nf_function.proofs.StoredRecords.{laws_of, either_way}
 use Rattle.asset_monitor.specs.declared.record.AssetRecord.{AssetRecord}
 use Rattle.asset_monitor.specs.declared.service.Service.{Service}
 use Rattle.asset_monitor.specs.Banners.{is_unseen}
@@ -25,87 +25,72 @@ use Rattle.asset_monitor.specs.Rows.{new_row, sent_row, greeting_row, quiet_row}
 use Rattle.asset_monitor.specs.RowLemmas.{greeting_of, watched_in, watched_sent}
 use Rattle.asset_monitor.specs.Body.{is_valid}
 use Rattle.asset_monitor.specs.Monitor.{monitor}
-use Rattle.asset_monitor.specs.BodyLemmas.{IsValid, valid_facts, valid_from, record_in-body_of, record_in-some, known_by_body, length-body_of}
+use Rattle.asset_monitor.specs.BodyLemmas.{IsKept, valid_kept, valid_from, monitor_stored}
 
 -- a record with one more service, where there is room for it
-module _ (host : ℕ) (r : AssetRecord) (valid : IsValid host r) where
-  keeping_valid : (s : Service) → is_service s ≡ true → length (with_service r.services s) ≤ services_per_host → IsValid host (keeping r s)
-  keeping_valid s is few = record {
-    address = valid.address;
-    services = are_services-with r.services s valid.services is few;
-    counted = valid.counted;
-    packets = valid.packets;
-  }
+module _ (r : AssetRecord) (kept : IsKept r) where
+  keeping_kept : (s : Service) → is_service s ≡ true → length (with_service r.services s) ≤ services_per_host → IsKept (keeping r s)
+  keeping_kept s is few =
+      record { services = are_services-with r.services s kept.services is few; counted = kept.counted; packets = kept.packets }
 
-  new_row_valid : (s : Service) → is_service s ≡ true → IsValid host (new_row r s).kept
+  new_row_kept : (s : Service) → is_service s ≡ true → IsKept (new_row r s).kept
   unfolding new_row
-  new_row_valid s is = by_room (nat_lt (length r.services) services_per_host) refl
+  new_row_kept s is = by_room (nat_lt (length r.services) services_per_host) refl
     where
       by_room : (room : Bool) → nat_lt (length r.services) services_per_host ≡ room
-          → IsValid host (cond {A = Step AssetRecord} room (record { kept = keeping r s; output = found s }) (record { kept = r; output = full })).kept
+          → IsKept (cond {A = Step AssetRecord} room (record { kept = keeping r s; output = found s }) (record { kept = r; output = full })).kept
       by_room true h =
           let free : length r.services < services_per_host = ltb-true (length r.services) services_per_host h in
-          keeping_valid s is (omega (arith, length-with r.services s))
-      by_room false h = valid
+          keeping_kept s is (omega (arith, length-with r.services s))
+      by_room false h = kept
 
-  greeting_row_valid : (s : Service) → is_service s ≡ true → is_some (service_like r.services s) ≡ true → IsValid host (greeting_row r s).kept
+  greeting_row_kept : (s : Service) → is_service s ≡ true → is_some (service_like r.services s) ≡ true → IsKept (greeting_row r s).kept
   unfolding greeting_row
-  greeting_row_valid s is known = by_banner (is_unseen s.banner)
-    where
-      by_banner : (unseen : Bool) → IsValid host (cond {A = Step AssetRecord} unseen (quiet_row r) (record { kept = keeping r s; output = greeted s })).kept
-      by_banner true = valid
-      by_banner false =
-          let few = few_services r.services valid.services in let one = rw known at (length-with r.services s) in keeping_valid s is (omega arith)
+  greeting_row_kept s is known =
+      let few = few_services r.services kept.services in
+      let one = rw known at (length-with r.services s) in
+      either_way (is_unseen s.banner) IsKept (quiet_row r) (record { kept = keeping r s; output = greeted s }) kept (keeping_kept s is (omega arith))
 
-  sent_row_valid : (p : Packet) (known : Option Service) → is_service (source p) ≡ true → service_like r.services (source p) ≡ known
-      → IsValid host (sent_row r p known).kept
+  sent_row_kept : (p : Packet) (known : Option Service) → is_service (source p) ≡ true → service_like r.services (source p) ≡ known
+      → IsKept (sent_row r p known).kept
   unfolding sent_row
-  sent_row_valid p None is h = by_row (announces p)
-    where
-      by_row : (announced : Bool) → IsValid host (cond {A = Step AssetRecord} announced (new_row r (source p)) (quiet_row r)).kept
-      by_row true = new_row_valid (source p) is
-      by_row false = valid
-  sent_row_valid p (Some s) is h = by_row (is_unseen s.banner)
-    where
-      by_row : (bare : Bool) → IsValid host (cond {A = Step AssetRecord} bare (greeting_row r (greeting_of p)) (quiet_row r)).kept
-      by_row true = greeting_row_valid (greeting_of p) is (ap is_some h)
-      by_row false = valid
+  sent_row_kept p None is h = either_way (announces p) IsKept (new_row r (source p)) (quiet_row r) (new_row_kept (source p) is) kept
+  sent_row_kept p (Some s) is h =
+      either_way (is_unseen s.banner) IsKept (greeting_row r (greeting_of p)) (quiet_row r) (greeting_row_kept (greeting_of p) is (ap is_some h)) kept
 
-  -- whichever row applies, what it leaves is valid
-  watched_valid : (direction : Direction) (p : Packet) → is_transport p.proto ≡ true → p.sport < 2 ^ 16 → IsValid host (watched direction r p).kept
-  watched_valid In p transport port = rw (watched_in r p) valid
-  watched_valid Out p transport port =
+  -- whichever row applies, what it leaves is kept
+  watched_kept : (direction : Direction) (p : Packet) → is_transport p.proto ≡ true → p.sport < 2 ^ 16 → IsKept (watched direction r p).kept
+  watched_kept In p transport port = rw (watched_in r p) kept
+  watched_kept Out p transport port =
       let is : is_service (source p) ≡ true = and_from _ _ transport (lt-ltb p.sport (2 ^ 16) port) in
-      rw (watched_sent r p transport) (sent_row_valid p (service_like r.services (source p)) is refl)
+      rw (watched_sent r p transport) (sent_row_kept p (service_like r.services (source p)) is refl)
 
--- a record that was valid, or none, is valid with one packet more
-counted_valid : (host : ℕ) (kept : Option AssetRecord) → nat_lt host (2 ^ 32) ≡ true → is_sound monitor (OfHost host) kept ≡ true
-    → IsValid host (counted (unwrap_or kept nothing))
-counted_valid host None address h = record { address = address; services = refl; counted = omega arith; packets = omega arith }
-counted_valid host (Some r) address h =
-    let v = valid_facts host r h in
+-- a record that was valid, or none, is kept with one packet more
+counted_kept : (u : units.Unit) (kept : Option AssetRecord) → is_sound monitor u kept ≡ true → IsKept (counted (unwrap_or kept nothing))
+counted_kept u None h = record { services = refl; counted = omega arith; packets = omega arith }
+counted_kept u (Some r) h =
+    let v = valid_kept u r h in
     let counted : 1 ≤ r.packets = v.counted in
-    record { address = address; services = v.services; counted = omega arith; packets = omega arith }
+    record { services = v.services; counted = omega arith; packets = omega arith }
 
 -- a step keeps what is valid for the packet's host, and so does a packet that may be none of TCP or UDP
-pub kept_sound : (direction : Direction) (host : ℕ) (kept : Option AssetRecord) (p : Packet) → nat_lt host (2 ^ 32) ≡ true → p.sport < 2 ^ 16
-    → is_sound monitor (OfHost host) kept ≡ true
-    → is_sound monitor (OfHost host) (cond (is_transport p.proto) (Some (watched direction (counted (unwrap_or kept nothing)) p).kept) kept) ≡ true
-kept_sound direction host kept p address port h = by_proto (is_transport p.proto) refl
+pub kept_sound : (direction : Direction) (u : units.Unit) (kept : Option AssetRecord) (p : Packet) → is_unit kinds.Monitor u ≡ true → p.sport < 2 ^ 16
+    → is_sound monitor u kept ≡ true
+    → is_sound monitor u (cond (is_transport p.proto) (Some (watched direction (counted (unwrap_or kept nothing)) p).kept) kept) ≡ true
+kept_sound direction u kept p unit port h = by_proto (is_transport p.proto) refl
   where
     by_proto : (transport : Bool) → is_transport p.proto ≡ transport
-        → is_sound monitor (OfHost host) (cond transport (Some (watched direction (counted (unwrap_or kept nothing)) p).kept) kept) ≡ true
-    by_proto true e = valid_from host _ (watched_valid host _ (counted_valid host kept address h) direction p e port)
+        → is_sound monitor u (cond transport (Some (watched direction (counted (unwrap_or kept nothing)) p).kept) kept) ≡ true
+    by_proto true e = valid_from u _ unit (watched_kept _ (counted_kept u kept h) direction p e port)
     by_proto false e = h
 
 stays_valid : (site : Site) (kept : Option AssetRecord) (p : Packet) → Fits site p → is_sound monitor (unit_at kinds.Monitor site p) kept ≡ true
     → is_valid (unit_at kinds.Monitor site p) (step_of site kept p).kept ≡ true
 unfolding step_of
 stays_valid site kept p fits h =
-    let flow = flow_fits site p fits in
-    let address = lt-ltb (flow_of site p).0.local (2 ^ 32) flow.local in
-    valid_from (flow_of site p).0.local _
-    (watched_valid (flow_of site p).0.local _ (counted_valid (flow_of site p).0.local kept address h) (flow_of site p).1 p fits.transport fits.sport)
+    let unit : is_unit kinds.Monitor (unit_at kinds.Monitor site p) ≡ true = lt-ltb (flow_of site p).0.local (2 ^ 32) (flow_fits site p fits).local in
+    valid_from (unit_at kinds.Monitor site p) _ unit
+    (watched_kept _ (counted_kept (unit_at kinds.Monitor site p) kept h) (flow_of site p).1 p fits.transport fits.sport)
 
 -- each step counts one packet, whichever row applies
 packets-cond : (test : Bool) (x y : Step AssetRecord) (n : ℕ) → x.kept.packets ≡ n → y.kept.packets ≡ n → (cond test x y).kept.packets ≡ n
@@ -124,19 +109,5 @@ counts_one site kept p = rw (packets-watched _ (counted (unwrap_or kept nothing)
     by_kept None = refl
     by_kept (Some r) = refl
 
-valid_unit : (u : units.Unit) (r : AssetRecord) → is_valid u r ≡ true → is_unit kinds.Monitor u ≡ true
-valid_unit (OfFlow flow) r h = cc
-valid_unit (OfHost host) r h = (valid_facts host r h).address
-
 pub monitor_laws : Laws monitor
-monitor_laws = record {
-  unit = valid_unit;
-  again = record_in-body_of;
-  read = record_in-some;
-  known = known_by_body;
-  short = length-body_of;
-  stays = stays_valid;
-  counts = counts_one;
-  tells = λ r h. cc;
-  times = λ site kept p. refl;
-}
+monitor_laws = laws_of monitor monitor_stored (record { stays = stays_valid; counts = counts_one; tells = λ r h. cc; times = λ site kept p. refl })

@@ -2,8 +2,9 @@
 ghost use Rattle.std.specs.Prelude.{◌≡◌, ◌++◌, length, option_map, OnOk};
 ghost use Rattle.std.specs.List.{flat_map, list_all};
 ghost use Rattle.nf_function.specs.Records.{Reads, age_cmp};
+ghost use Rattle.nf_function.specs.Semantics.{record_in};
 ghost use Rattle.asset_monitor.specs.Services.{are_services, is_rising, is_service};
-ghost use Rattle.asset_monitor.specs.Body.{body_of, first_service, is_valid, record_in, service_bytes, services_in, spelled};
+ghost use Rattle.asset_monitor.specs.Body.{body_of, first_service, is_valid, service_bytes, services_in, spelled};
 ghost use Rattle.asset_monitor.specs.Monitor.{monitor};
 
 use crate::banner::Banner;
@@ -53,9 +54,8 @@ fn push_services(bytes: &mut Bytes, services: &[Service]) -> Result<(), NoMemory
 }
 
 /// The record of the unit that the bytes spell.
-#[tactic(auto, unfolding(crate::specs::Body::record_in))]
 pub fn record_in(alloc: Global, unit: &Unit, body: &[u8]) -> Result<AssetRecord, BodyFault>
-    ensures { Reads result (record_in unit.now body.now) }
+    ensures { Reads result (record_in monitor unit.now body.now) }
 {
     let (packets, services) = spelled(alloc, body)?;
     if !is_valid(*unit, packets, services.items()) {
@@ -83,7 +83,7 @@ fn spelled(alloc: Global, body: &[u8]) -> Result<(u64, Sequence<Service>), BodyF
 fn services_in(alloc: Global, count: u8, bytes: &[u8]) -> Result<Sequence<Service>, BodyFault>
     ensures { Reads result (services_in count bytes.now) }
 {
-    let mut services = Vec::with_capacity(alloc, usize::from(count))?;
+    let mut services = Sequence::from_vec(Vec::with_capacity(alloc, usize::from(count))?);
     let mut rest = bytes;
     'services: for _ in 0..count {
         let Some((service, more)) = first_service(rest) else {
@@ -95,7 +95,7 @@ fn services_in(alloc: Global, count: u8, bytes: &[u8]) -> Result<Sequence<Servic
     if !rest.is_empty() {
         return Err(BodyFault::Body);
     }
-    Ok(Sequence::from_vec(services))
+    Ok(services)
 }
 
 /// A service, and the bytes after it.

@@ -11,8 +11,6 @@ use std::cmp::Ordering;
 pub struct Monitor;
 
 impl Function for Monitor {
-    ghost use Rattle.std.specs.Prelude.{refl};
-    ghost use Rattle.nf_function.specs.declared.kind.Kind.TheVariants.{Monitor as TheKind};
     ghost use Rattle.asset_monitor.specs.Monitor.{monitor};
     ghost use Rattle.asset_monitor.specs.StepLemmas.{monitor_laws};
 
@@ -20,9 +18,11 @@ impl Function for Monitor {
 
     ghost semantics = { monitor };
 
-    ghost KIND = { TheKind };
+    ghost laws = { monitor_laws };
 
-    const KIND: Kind = Kind::Monitor;
+    fn which() -> Kind {
+        Kind::Monitor
+    }
 
     #[tactic(auto, unfolding(crate::specs::Table::step_of))]
     fn step_along(
@@ -70,8 +70,4 @@ impl Function for Monitor {
     fn push_record(text: &mut Text, kept: &AssetRecord) -> Result<(), NoMemory> {
         text::push_record(text, kept)
     }
-
-    ghost same_kind = { refl };
-
-    ghost laws = { monitor_laws };
 }

@@ -11,7 +11,7 @@ use crate::output::Output;
 use crate::unit::Unit;
 use basics::{Bytes, NoMemory, Text};
 use flow_filter::{Direction, Flow, Packet, Site, flow_of};
-use std::alloc::{AllocFailed, Global};
+use std::alloc::Global;
 use thiserror::Error;
 
 /// A network function: what it keeps of each unit, how each packet changes that, and how it is stored and printed.
@@ -146,13 +146,13 @@ pub enum BodyFault {
     NoMemory,
 }
 
-impl<T: Drop> From<AllocFailed<T>> for BodyFault {
+impl From<NoMemory> for BodyFault {
     ghost use Rattle.std.specs.Prelude.{◌≡◌};
     ghost use Rattle.nf_function.specs.declared.function.BodyFault.TheVariants.{NoMemory as OutOfMemory};
 
     ghost from_gives = { λ _ e. e ≡ OutOfMemory };
 
-    fn from(_e: AllocFailed<T>) -> BodyFault {
+    fn from(_e: NoMemory) -> BodyFault {
         BodyFault::NoMemory
     }
 }

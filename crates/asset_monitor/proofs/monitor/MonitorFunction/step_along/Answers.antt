@@ -17,4 +17,4 @@ pub returns-clause-sound : goal.returns-clause-sound
 returns-clause-sound c = λ sound.
     let host = c.args._flow.local in
     either_sound c.step_of_host.result host c.args.kept.now _ c.step_of_host.new.kept c.step_of_host.ensures.kept c.step_of_host.ensures.err sound
-    (kept_sound c.args.direction host c.args.kept.now c.args.packet.now (lt-ltb host (2 ^ 32) (search rules)) c.step_of_host.ensures.port sound)
+    (kept_sound c.args.direction (OfHost host) c.args.kept.now c.args.packet.now (lt-ltb host (2 ^ 32) (search rules)) c.step_of_host.ensures.port sound)
