@@ -7,9 +7,10 @@ use Rattle.std.proofs.lemmas.Bool.{and_parts, eqb-true, eq-eqb}
 use Rattle.std.proofs.lemmas.Option.{same_Some}
 use Rattle.nf_function.specs.declared.kind.Kind.{Kind}
 use Rattle.nf_function.specs.declared.kind.Scope.{Scope}
-use Rattle.nf_function.specs.Stored.{IsBytes, number_bytes, first_number}
+use Rattle.nf_function.specs.Stored.{IsBytes, number_bytes, first_byte, first_number}
 use Rattle.nf_function.specs.Units.{has_times}
-use Rattle.nf_function.proofs.StoredNumbers.{IsFirst, first_number-number_bytes, first_number-some, IsBytes-tail, IsBytes-drop, IsBytes-take}
+use Rattle.nf_function.proofs.StoredFronts.{IsFront, then_front, first_byte-some, IsBytes-drop, IsBytes-take}
+use Rattle.nf_function.proofs.StoredNumbers.{first_number-number_bytes, first_number-some}
 use Rattle.state_chunk.specs.declared.fault.ChunkFault.TheVariants as fault
 use Rattle.state_chunk.specs.Format.{kind_number, scope_number}
 use Rattle.state_chunk.specs.Reading.{Read, part, checked, first_bytes, header_of, may_have, body_in}
@@ -30,54 +31,32 @@ pub header_2 : (kind : Kind) (scope : Scope) (timed : Bool) (rest : List ℕ) �
 unfolding header_of
 header_2 kind scope timed rest h k = rw (eq-eqb (kind_number kind) (kind_number kind) refl, eq-eqb (scope_number scope) (scope_number scope) refl, h, k) refl
 
--- a header that was read, and the rest
-pub record IsHeader (kind : Kind) (scope : Scope) (bytes : List ℕ) (read : ℕ × List ℕ) : Type 0 where
-  pub spelled : bytes ≡ (read.0 ∷ kind_number kind ∷ scope_number scope ∷ []) ++ read.1
-  pub rest_bytes : IsBytes read.1
-
+-- a header that was read stands first, and the state may have its version
 pub header_of-ok : (kind : Kind) (scope : Scope) (timed : Bool) (bytes : List ℕ) (read : ℕ × List ℕ) → IsBytes bytes
-    → header_of kind scope timed bytes ≡ Ok read → IsHeader kind scope bytes read
+    → header_of kind scope timed bytes ≡ Ok read
+    → IsFront (read.0 ∷ kind_number kind ∷ scope_number scope ∷ []) bytes read.1 × (may_have read.0 timed ≡ true)
 unfolding header_of
-header_of-ok kind scope timed [] read are h = cc
-header_of-ok kind scope timed (v ∷ []) read are h =
-    let first = checked_ok (eqb v 1 || eqb v 2) (fault.Version v) (Err fault.Short) read h in
-    let none : ◌≡◌ {A = Read (ℕ × List ℕ)} (Err fault.Short) (Ok read) = first.1 in cc
-header_of-ok kind scope timed (v ∷ k ∷ []) read are h =
-    let first = checked_ok (eqb v 1 || eqb v 2) (fault.Version v)
-    (checked (eqb k (kind_number kind) && may_have v (has_times kind)) fault.Kind (Err fault.Short)) read h in
-    let second = checked_ok (eqb k (kind_number kind) && may_have v (has_times kind)) fault.Kind (Err fault.Short) read first.1 in
-    let none : ◌≡◌ {A = Read (ℕ × List ℕ)} (Err fault.Short) (Ok read) = second.1 in cc
-header_of-ok kind scope timed (v ∷ k ∷ s ∷ rest) read are h =
-    let first = checked_ok _ (fault.Version v) _ read h in
-    let second = checked_ok (eqb k (kind_number kind) && may_have v (has_times kind)) fault.Kind _ read first.1 in
-    let third = checked_ok (eqb s (scope_number scope) && may_have v timed) fault.Kind _ read second.1 in
-    let is_kind = eqb-true k (kind_number kind) (and_parts (eqb k (kind_number kind)) (may_have v (has_times kind)) second.0).0 in
-    let is_scope = eqb-true s (scope_number scope) (and_parts (eqb s (scope_number scope)) (may_have v timed) third.0).0 in
-    let whole : (v, rest) ≡ read = same_ok (v, rest) read third.1 in
-    record {
-      spelled = rw (is_kind, is_scope, ← whole) refl;
-      rest_bytes = rw (← whole) (IsBytes-tail s rest (IsBytes-tail k (s ∷ rest) (IsBytes-tail v (k ∷ s ∷ rest) are)));
-    }
+header_of-ok kind scope timed bytes read are h =
+    then_ok (part (first_byte bytes)) _ read h (λ version p h1.
+    let one = checked_ok (eqb version.0 1 || eqb version.0 2) (fault.Version version.0) _ read h1 in
+    then_ok (part (first_byte version.1)) _ read one.1 (λ kind_byte q h2.
+    let two = checked_ok (eqb kind_byte.0 (kind_number kind) && may_have version.0 (has_times kind)) fault.Kind _ read h2 in
+    then_ok (part (first_byte kind_byte.1)) _ read two.1 (λ scope_byte r h3.
+    let three = checked_ok (eqb scope_byte.0 (scope_number scope) && may_have version.0 timed) fault.Kind _ read h3 in
+    let first = first_byte-some bytes version are (part_ok (first_byte bytes) version p) in
+    let second = first_byte-some version.1 kind_byte first.rest_bytes (part_ok (first_byte version.1) kind_byte q) in
+    let third = first_byte-some kind_byte.1 scope_byte second.rest_bytes (part_ok (first_byte kind_byte.1) scope_byte r) in
+    let kinds = and_parts (eqb kind_byte.0 (kind_number kind)) (may_have version.0 (has_times kind)) two.0 in
+    let scopes = and_parts (eqb scope_byte.0 (scope_number scope)) (may_have version.0 timed) three.0 in
+    rw (
+      ← same_ok (version.0, scope_byte.1) read three.1,
+      ← eqb-true kind_byte.0 (kind_number kind) kinds.0,
+      ← eqb-true scope_byte.0 (scope_number scope) scopes.0,
+    ) (then_front (then_front first second) third, scopes.1))))
 
 -- a state without times has version 1
-pub plain_version : (kind : Kind) (scope : Scope) (bytes : List ℕ) (read : ℕ × List ℕ) → header_of kind scope false bytes ≡ Ok read → read.0 ≡ 1
-unfolding header_of
-plain_version kind scope [] read h = cc
-plain_version kind scope (v ∷ []) read h =
-    let first = checked_ok (eqb v 1 || eqb v 2) (fault.Version v) (Err fault.Short) read h in
-    let none : ◌≡◌ {A = Read (ℕ × List ℕ)} (Err fault.Short) (Ok read) = first.1 in cc
-plain_version kind scope (v ∷ k ∷ []) read h =
-    let first = checked_ok (eqb v 1 || eqb v 2) (fault.Version v)
-    (checked (eqb k (kind_number kind) && may_have v (has_times kind)) fault.Kind (Err fault.Short)) read h in
-    let second = checked_ok (eqb k (kind_number kind) && may_have v (has_times kind)) fault.Kind (Err fault.Short) read first.1 in
-    let none : ◌≡◌ {A = Read (ℕ × List ℕ)} (Err fault.Short) (Ok read) = second.1 in cc
-plain_version kind scope (v ∷ k ∷ s ∷ rest) read h =
-    let first = checked_ok _ (fault.Version v) _ read h in
-    let second = checked_ok (eqb k (kind_number kind) && may_have v (has_times kind)) fault.Kind _ read first.1 in
-    let third = checked_ok (eqb s (scope_number scope) && may_have v false) fault.Kind _ read second.1 in
-    let whole : (v, rest) ≡ read = same_ok (v, rest) read third.1 in
-    let plain = and_parts (eqb s (scope_number scope)) (may_have v false) third.0 in
-    rw (← whole) (eqb-true v 1 (or_false (eqb v 1) plain.1))
+pub plain_version : (version : ℕ) → may_have version false ≡ true → version ≡ 1
+plain_version version h = eqb-true version 1 (or_false (eqb version 1) h)
   where
     or_false : (test : Bool) → (test || false) ≡ true → test ≡ true
     or_false true e = refl
@@ -96,7 +75,8 @@ pub record IsBody (bytes : List ℕ) (read : List ℕ × List ℕ) : Type 0 wher
   pub body_bytes : IsBytes read.0
   pub rest_bytes : IsBytes read.1
 
-cut_body : (size : ℕ) (bytes more : List ℕ) (read : List ℕ × List ℕ) → IsFirst 2 bytes size more → first_bytes size more ≡ Some read → IsBody bytes read
+cut_body : (size : ℕ) (bytes more : List ℕ) (read : List ℕ × List ℕ) → IsFront (number_bytes 2 size) bytes more → first_bytes size more ≡ Some read
+    → IsBody bytes read
 cut_body size bytes more read first h = chosen (nat_lt (length more) size) refl h
   where
     chosen : (short : Bool) → nat_lt (length more) size ≡ short
@@ -116,5 +96,5 @@ pub body_in-ok : (bytes : List ℕ) (read : List ℕ × List ℕ) → IsBytes by
 unfolding body_in
 body_in-ok bytes read are h =
     then_ok (part (first_number 2 bytes)) (λ size. part (first_bytes size.0 size.1)) read h (λ size p last.
-    cut_body size.0 bytes size.1 read (first_number-some 2 bytes size.0 size.1 are (part_ok (first_number 2 bytes) size p))
+    cut_body size.0 bytes size.1 read (first_number-some 2 bytes size are (part_ok (first_number 2 bytes) size p))
     (part_ok (first_bytes size.0 size.1) read last))

@@ -5,7 +5,7 @@ use Rattle.std.proofs.lemmas.List.{append_assoc}
 use Rattle.nf_function.specs.declared.unit.Unit as units
 use Rattle.nf_function.specs.Stored.{IsBytes, number_bytes}
 use Rattle.nf_function.specs.Units.{has_times}
-use Rattle.nf_function.specs.Semantics.{Semantics}
+use Rattle.nf_function.specs.Semantics.{Semantics, record_in}
 use Rattle.nf_function.specs.Records.{Laws}
 use Rattle.state_chunk.specs.declared.fault.ChunkFault.TheVariants as fault
 use Rattle.state_chunk.specs.Format.{kind_number, scope_number, version_number, record_scope, key_bytes, record_bytes, IsRecordOf}
@@ -73,11 +73,11 @@ module _ {R : Type 0} (f : Semantics R) (laws : Laws f) where
       then_ok (header_of f.kind (record_scope f.kind) (has_times f.kind) bytes) _ (u, r) h (λ header p h1.
       then_ok (part (first_key f.kind header.1)) _ (u, r) h1 (λ key q h2.
       then_ok (body_in key.1) _ (u, r) (checked_ok (is_known key.0) fault.Key _ (u, r) h2).1 (λ body s h3.
-      then_ok (record_of_version f header.0 (f.record_in key.0 body.0)) _ (u, r) h3 (λ kept t last.
+      then_ok (record_of_version f header.0 (record_in f key.0 body.0)) _ (u, r) h3 (λ kept t last.
       let head = header_of-ok f.kind (record_scope f.kind) (has_times f.kind) bytes header are p in
-      let unit = first_key-some f.kind header.1 key.0 key.1 head.rest_bytes (part_ok (first_key f.kind header.1) key q) in
+      let unit = first_key-some f.kind header.1 key head.0.rest_bytes (part_ok (first_key f.kind header.1) key q) in
       let stored = body_in-ok key.1 body unit.rest_bytes s in
-      let is = record_of_version-ok header.0 (f.record_in key.0 body.0) kept t in
+      let is = record_of_version-ok header.0 (record_in f key.0 body.0) kept t in
       let all = ended_ok body.1 (key.0, kept) (u, r) last in
       let known = laws.read key.0 body.0 kept stored.body_bytes is.0 in
       let is_unit : key.0 ≡ u = ap (λ (x : units.Unit × R). x.0) all.1 in
@@ -86,6 +86,6 @@ module _ {R : Type 0} (f : Semantics R) (laws : Laws f) where
       ∙ ap (λ (more : List ℕ). number_bytes 2 (length body.0) ++ (body.0 ++ more)) all.0 in
       record {
         valid = rw (← is_unit, ← is_record) known.0;
-        spelled = joined u r header.0 bytes header.1 key.1 body.0 (rw (← is_record) is.1) head.spelled (rw (← is_unit) unit.spelled) body_is
+        spelled = joined u r header.0 bytes header.1 key.1 body.0 (rw (← is_record) is.1) head.0.spelled (rw (← is_unit) unit.spelled) body_is
             (rw (← is_record) known.1);
       }))))

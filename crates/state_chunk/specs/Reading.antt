@@ -1,5 +1,5 @@
 -- How a chunk is read: from the front, and the first part that is missing or wrong decides. This project's own format.
-use Rattle.std.specs.Prelude.{◌≡◌, ℕ, zero, suc, ◌==◌, ◌&&◌, ◌||◌, nat_lt, Bool, true, false, if◌then◌else◌}
+use Rattle.std.specs.Prelude.{◌≡◌, ℕ, ◌==◌, ◌&&◌, ◌||◌, nat_lt, Bool, true, false, if◌then◌else◌}
 use Rattle.std.specs.Prelude.{List, [], ◌∷◌, length, take, drop, Option, None, Some, Result, Ok, Err}
 use Rattle.basics.specs.Options.{◌>>=◌}
 use Rattle.nf_function.specs.declared.kind.Kind.{Kind}
@@ -7,9 +7,10 @@ use Rattle.nf_function.specs.declared.kind.Scope.{Scope}
 use Rattle.nf_function.specs.declared.kind.Scope.TheVariants.{AllFlows}
 use Rattle.nf_function.specs.declared.unit.Unit as units
 use Rattle.nf_function.specs.declared.unit.Unit.TheVariants.{Flow as OfFlow, Host as OfHost}
-use Rattle.nf_function.specs.Stored.{first_byte, first_number, plain_version, timed_version}
+use Rattle.nf_function.specs.Stored.{first_byte, first_number, first_items, plain_version, timed_version}
+use Rattle.nf_function.specs.Stored as stored
 use Rattle.nf_function.specs.Units.{has_hosts, has_times, is_transport}
-use Rattle.nf_function.specs.Semantics.{Semantics}
+use Rattle.nf_function.specs.Semantics.{Semantics, record_in}
 use Rattle.nf_function.specs.declared.function.BodyFault.{BodyFault}
 use Rattle.nf_function.specs.declared.function.BodyFault.TheVariants.{Body, NoMemory}
 use Rattle.state_chunk.specs.declared.fault.ChunkFault.{ChunkFault}
@@ -102,17 +103,12 @@ record_read f bytes =
     then_read (part (first_key f.kind header.1)) λ key.
     checked (is_known key.0) fault.Key (
     then_read (body_in key.1) λ body.
-    then_read (record_of_version f header.0 (f.record_in key.0 body.0)) λ r.
+    then_read (record_of_version f header.0 (record_in f key.0 body.0)) λ r.
     at_end body.1 (key.0, r))
 
 -- numbers of 8 bytes, as many as are wanted and no more
-unfoldable pub numbers_in : ℕ → List ℕ → Option (List ℕ)
-numbers_in zero [] = Some []
-numbers_in zero (byte ∷ more) = None
-numbers_in (suc n) bytes = do
-  number ← first_number 8 bytes
-  more ← numbers_in n number.1
-  Some (number.0 ∷ more)
+abbrev pub numbers_in : ℕ → List ℕ → Option (List ℕ)
+numbers_in n bytes = first_items (first_number 8) n bytes >>= stored.at_end
 
 abbrev pub slots_of : Option (List ℕ) → Read (List ℕ)
 slots_of None = Err fault.Body

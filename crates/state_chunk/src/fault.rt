@@ -1,6 +1,4 @@
-use basics::NoMemory;
 use nf_function::BodyFault;
-use std::alloc::AllocFailed;
 use thiserror::Error;
 
 /// Why bytes aren't the chunk that is asked for: the first part from the front that is missing or wrong.
@@ -40,27 +38,5 @@ impl From<BodyFault> for ChunkFault {
             BodyFault::Body => ChunkFault::Body,
             BodyFault::NoMemory => ChunkFault::NoMemory,
         }
-    }
-}
-
-impl From<NoMemory> for ChunkFault {
-    ghost use Rattle.std.specs.Prelude.{◌≡◌};
-    ghost use Rattle.state_chunk.specs.declared.fault.ChunkFault.TheVariants.{NoMemory as OutOfMemory};
-
-    ghost from_gives = { λ _ e. e ≡ OutOfMemory };
-
-    fn from(_e: NoMemory) -> ChunkFault {
-        ChunkFault::NoMemory
-    }
-}
-
-impl<T: Drop> From<AllocFailed<T>> for ChunkFault {
-    ghost use Rattle.std.specs.Prelude.{◌≡◌};
-    ghost use Rattle.state_chunk.specs.declared.fault.ChunkFault.TheVariants.{NoMemory as OutOfMemory};
-
-    ghost from_gives = { λ _ e. e ≡ OutOfMemory };
-
-    fn from(_e: AllocFailed<T>) -> ChunkFault {
-        ChunkFault::NoMemory
     }
 }

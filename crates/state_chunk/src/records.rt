@@ -1,5 +1,6 @@
 //! The stored bytes of one unit's record: how they are written, and how they are read with the first fault.
 ghost use Rattle.std.specs.Prelude.{◌≡◌, ◌<◌, true, Some, Ok, length, slice_get, IfOk};
+ghost use Rattle.nf_function.specs.Semantics.{record_in};
 ghost use Rattle.state_chunk.specs.Format.{record_chunk, record_bytes, version_number, IsRecordOf};
 ghost use Rattle.state_chunk.specs.Reading.{record_read, record_of_version, DecodesTo};
 
@@ -89,7 +90,7 @@ fn record_of_version<F: Function>(
     unit: &Unit,
     body: &[u8],
 ) -> Result<F::Record, ChunkFault>
-    ensures { DecodesTo (λ x. x) result (record_of_version F.semantics version (F.semantics.record_in unit.now body.now)) }
+    ensures { DecodesTo (λ x. x) result (record_of_version F.semantics version (record_in F.semantics unit.now body.now)) }
 {
     let record = F::read_record(alloc, unit, body)?;
     if version_number(F::is_timed(&record)) != version {
