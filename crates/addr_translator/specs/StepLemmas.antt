@@ -146,7 +146,8 @@ step_of_passage site kept p =
 step_valid : (site : Site) (u : units.Unit) (kept : Option Translation) (p : Packet) → is_unit Nat u ≡ true → is_mapping (source p) ≡ true
     → is_sound nat u kept ≡ true → is_valid u (step_of site kept p).kept ≡ true
 step_valid site u kept p unit is h =
-    rw (step_of_passage site kept p) (and_from _ _ unit (kept_from _ (translated_kept (counted (unwrap_or kept no_mappings)) (counted_has_room u kept h) _ _ p is)))
+    rw (step_of_passage site kept p)
+    (and_from _ _ unit (kept_from _ (translated_kept (counted (unwrap_or kept no_mappings)) (counted_has_room u kept h) _ _ p is)))
 
 -- and so does a packet that may be none of TCP or UDP
 pub kept_sound : (site : Site) (u : units.Unit) (kept : Option Translation) (p : Packet) → is_unit Nat u ≡ true → p.sport < 2 ^ 16
@@ -168,12 +169,14 @@ stays_valid site kept p fits h =
 packets-left : (outside host : ℕ) (r : Translation) (end : Mapping) (place : Option ℕ) → (left outside host r end place).kept.packets ≡ r.packets
 packets-left outside host r end (Some number) = refl
 packets-left outside host r end None =
-    either_way (nat_lt (length r.mappings) ports_per_host) (λ kept. kept.packets ≡ r.packets) (record { kept = record r { mappings = r.mappings ++ end ∷ [] }; output = mapped outside host (length r.mappings) }) (drop_step r 3) refl refl
+    either_way (nat_lt (length r.mappings) ports_per_host) (λ kept. kept.packets ≡ r.packets)
+    (record { kept = record r { mappings = r.mappings ++ end ∷ [] }; output = mapped outside host (length r.mappings) }) (drop_step r 3) refl refl
 
 packets-returned : (host : ℕ) (r : Translation) (p : Packet) (found : Option Mapping) → (return_step host r p found).kept.packets ≡ r.packets
 packets-returned host r p None = refl
 packets-returned host r p (Some m) =
-    either_way (m.proto == p.proto) (λ kept. kept.packets ≡ r.packets) (record { kept = r; output = record { code = 2; a = host; b = m.port } }) (drop_step r 4) refl refl
+    either_way (m.proto == p.proto) (λ kept. kept.packets ≡ r.packets) (record { kept = r; output = record { code = 2; a = host; b = m.port } })
+    (drop_step r 4) refl refl
 
 packets-translated : (passage : Passage) (host : ℕ) (r : Translation) (p : Packet) → (translated passage host r p).kept.packets ≡ r.packets
 packets-translated (Leaves outside) host r p = packets-left outside host r (source p) _

@@ -12,7 +12,8 @@ use Rattle.byteorder.specs.Endian.{big_number}
 use Rattle.actor_net.specs.declared.choice.Choice.{Choice}
 use Rattle.nf_function.specs.declared.kind.Kind.{Kind}
 use Rattle.nf_function.specs.Stored.{IsBytes, number_bytes, first_number}
-use Rattle.nf_function.proofs.StoredNumbers.{first_number-some, IsBytes-drop, IsBytes-take}
+use Rattle.nf_function.proofs.StoredFronts.{IsBytes-drop, IsBytes-take}
+use Rattle.nf_function.proofs.StoredNumbers.{first_number-some}
 use Rattle.state_chunk.specs.Format.{kind_number}
 use Rattle.journal_file.specs.declared.fault.JournalFault.{JournalFault}
 use Rattle.journal_file.specs.declared.fault.JournalFault.TheVariants as fault
@@ -38,7 +39,7 @@ number_first : (n x : ℕ) (bytes : List ℕ) → IsBytes bytes → n ≤ length
 unfolding first_number
 number_first n x bytes are long is =
     let enough : nat_lt (length bytes) n ≡ false = grind (arith, nat_tests) in
-    (first_number-some n bytes x (drop n bytes) are (rw (enough, is) refl)).spelled
+    (first_number-some n bytes (x, drop n bytes) are (rw (enough, is) refl)).spelled
 
 -- a header of 16 bytes that tells a number of choices is the header of that number
 header_spelled : (kind : Kind) (instances count : ℕ) (header : List ℕ) → IsBytes header → length header ≡ header_size

@@ -1,6 +1,5 @@
 use basics::NoMemory;
 use nf_io::UptoFault;
-use std::alloc::AllocFailed;
 use thiserror::Error;
 
 /// Why bytes aren't the journal that is asked for: the first check that fails.
@@ -53,17 +52,6 @@ impl From<NoMemory> for JournalFault {
     ghost from_gives = { λ _ e. e ≡ OutOfMemory };
 
     fn from(_e: NoMemory) -> JournalFault {
-        JournalFault::NoMemory
-    }
-}
-
-impl<T: Drop> From<AllocFailed<T>> for JournalFault {
-    ghost use Rattle.std.specs.Prelude.{◌≡◌};
-    ghost use Rattle.journal_file.specs.declared.fault.JournalFault.TheVariants.{NoMemory as OutOfMemory};
-
-    ghost from_gives = { λ _ e. e ≡ OutOfMemory };
-
-    fn from(_e: AllocFailed<T>) -> JournalFault {
         JournalFault::NoMemory
     }
 }
