@@ -1,6 +1,6 @@
 -- The bytes that a monitor's record is stored as. This project's own format: packets (8 bytes), how many services (1), each service
 -- as its protocol (1), port (2) and banner (1).
-use Rattle.std.specs.Prelude.{ℕ, zero, suc, ◌^◌, ◌&&◌, nat_le, nat_lt, Bool, false, if◌then◌else◌, List, [], ◌∷◌, ◌++◌, length, Option, None, Some}
+use Rattle.std.specs.Prelude.{ℕ, ◌^◌, ◌&&◌, nat_le, nat_lt, Bool, List, [], ◌∷◌, ◌++◌, length, Option, Some}
 use Rattle.std.specs.List.{flat_map}
 use Rattle.basics.specs.Options.{◌>>=◌}
 use Rattle.nf_function.specs.declared.unit.Unit as units

@@ -1,8 +1,8 @@
 -- Steps between code and definition, which nobody has to believe: what a monitor's record is stored as is read again, and only that. It
 -- stands in specs/ since the laws of a trait may cite nothing else.
-use Rattle.std.proofs.Common.{◌≡◌, ◌∙◌, ◌<◌, ◌≤◌, ◌+◌, ◌*◌, ◌^◌, ◌&&◌, ℕ, zero, suc, true, List, [], ◌∷◌, ◌++◌}
+use Rattle.std.proofs.Common.{◌≡◌, ◌∙◌, ◌<◌, ◌≤◌, ◌+◌, ◌*◌, ◌^◌, ◌&&◌, ℕ, true, List, [], ◌∷◌, ◌++◌}
 use Rattle.std.proofs.Common.{length, Some, option_and_then, refl, sym, ap, arith, nat_lt, nat_le, append-nil, length-append}
-use Rattle.std.specs.List.{flat_map, list_all}
+use Rattle.std.specs.List.{flat_map}
 use Rattle.std.proofs.lemmas.Bool.{ltb-true, lt-ltb, leb-true, le-leb, and_parts, and_from}
 use Rattle.std.proofs.lemmas.List.{append_assoc}
 use Rattle.std.proofs.lemmas.Option.{option_and_then_some, same_Some}

@@ -1,5 +1,5 @@
 -- The key of a chunk is read again, and has one spelling.
-use Rattle.std.proofs.Common.{◌≡◌, ◌∙◌, ◌^◌, ℕ, true, List, [], ◌∷◌, ◌++◌, Some, refl, sym, ap, nat_lt}
+use Rattle.std.proofs.Common.{◌≡◌, ◌∙◌, ◌^◌, ℕ, true, List, ◌∷◌, ◌++◌, Some, refl, ap, nat_lt}
 use Rattle.std.proofs.lemmas.List.{append_assoc}
 use Rattle.std.proofs.lemmas.Option.{option_and_then_some, same_Some}
 use Rattle.std.proofs.lemmas.Bool.{ltb-true}

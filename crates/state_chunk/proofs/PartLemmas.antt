@@ -1,6 +1,6 @@
 -- The header and the body of a chunk are read again, and have one spelling.
 use Rattle.std.proofs.Common.{◌≡◌, ◌<◌, ◌≤◌, ◌^◌, ◌&&◌, ◌||◌, eqb, ℕ, Bool, true, false, cond, List, [], ◌∷◌, ◌++◌}
-use Rattle.std.proofs.Common.{length, take, drop, Option, None, Some, Ok, Err, refl, arith, nat_lt, length-append}
+use Rattle.std.proofs.Common.{length, take, drop, Option, None, Some, Ok, refl, arith, nat_lt, length-append}
 use Rattle.std.proofs.lemmas.Bool.Decides.{nat_tests}
 use Rattle.std.proofs.lemmas.List.{take_at, drop_at, take-append-drop, length-take-le}
 use Rattle.std.proofs.lemmas.Bool.{and_parts, eqb-true, eq-eqb}
@@ -13,7 +13,7 @@ use Rattle.nf_function.proofs.StoredFronts.{IsFront, then_front, first_byte-some
 use Rattle.nf_function.proofs.StoredNumbers.{first_number-number_bytes, first_number-some}
 use Rattle.state_chunk.specs.declared.fault.ChunkFault.TheVariants as fault
 use Rattle.state_chunk.specs.Format.{kind_number, scope_number}
-use Rattle.state_chunk.specs.Reading.{Read, part, checked, first_bytes, header_of, may_have, body_in}
+use Rattle.state_chunk.specs.Reading.{Read, part, first_bytes, header_of, may_have, body_in}
 use Rattle.state_chunk.proofs.ReadLemmas.{then_ok, part_ok, checked_ok}
 
 same_ok : {X : Type 0} (x y : X) → ◌≡◌ {A = Read X} (Ok x) (Ok y) → x ≡ y
