@@ -46,14 +46,12 @@ use Rattle.proof_outlines.proofs.outline.Outline.{number, entries, ran_in, is_sy
 use Rattle.proof_outlines.proofs.whole.WholeOutline.{is_sharing}
 use Rattle.proof_outlines.proofs.whole.InstanceWorlds.{ShowsAt, new_steps}
 use Rattle.proof_outlines.proofs.whole.MemberOutline.{MemberFollows, shared_follows, sync_follows}
-use Rattle.proof_outlines.proofs.whole.MemberTables.{AreBothSound, sync_sound}
 use Rattle.proof_outlines.proofs.whole.StandbyKept.{leaves_standby, step_unshared, standby_keeps}
 use Rattle.proof_outlines.proofs.joined.BesideRuns.{HasBeside, its_takes, its_taken}
-use Rattle.proof_outlines.proofs.joined.CopyRows.{sync_leaves}
 use Rattle.proof_outlines.proofs.joined.Given.{Given, place}
-use Rattle.proof_outlines.proofs.joined.InstanceKeeps.{valid_chunks, chunks_good}
+use Rattle.proof_outlines.proofs.joined.InstanceKeeps.{chunks_good}
 use Rattle.proof_outlines.proofs.joined.InstanceNotes.{AreOwn, done_own}
-use Rattle.proof_outlines.proofs.joined.InstanceRows.{IsRight, sound_part, shared_leaves}
+use Rattle.proof_outlines.proofs.joined.InstanceRows.{IsRight, sound_part, instance_leaves}
 use Rattle.proof_outlines.proofs.joined.InstanceMessages.{Rows, by_message}
 use Rattle.proof_outlines.proofs.joined.Joined.{S, A, shown, by_node, came_by, node_of, Genuine, AreGoodChunks, Scene, IsInstanceAt, AreShown, IsTaken, Joined}
 use Rattle.proof_outlines.proofs.joined.LogLemmas.{by_node-append}
@@ -171,16 +169,13 @@ module _ {F R : Type 0} (f : Semantics R) (laws : FunctionLaws f) (c : Config) (
   shared_sees u op home cell e t fronts room =
       new_sees u (msg.Carry (mark.Shared op home) cell) (Shared_on op home (number cell)) refl t
       (shared_follows f laws g.site g.packet (place g) i op home cell right.rules e (sound_part f laws g fitting k two i home cell right at.stands.sound e))
-      (shared_leaves f laws g fitting k two i op home cell right at.stands.sound e).notes
+      (instance_leaves f laws g fitting k two i (msg.Carry (mark.Shared op home) cell) p t.label right at.stands.sound).notes
 
   sync_sees : (u : units.Unit) (home : Bool) (op : ℕ) (chunks : List Chunk) → AreGoodChunks f g chunks → Now u (msg.Sync home op chunks)
   sync_sees u home op chunks good t fronts room =
-      let all = chunks_good f laws g chunks good in
-      let both : AreBothSound f i.table = record { live = at.records.sound; standby = at.stands.sound } in
-      let sound = sync_sound f laws i home op chunks all (valid_chunks f laws g chunks good.each) both in
       new_sees u (msg.Sync home op chunks) (S_sync op home (entries f chunks)) refl t
-      (sync_follows f laws g.site g.packet (place g) i home op chunks all)
-      (sync_leaves f laws g k two i home op chunks right sound.live good).notes
+      (sync_follows f laws g.site g.packet (place g) i home op chunks (chunks_good f laws g chunks good))
+      (instance_leaves f laws g fitting k two i (msg.Sync home op chunks) p t.label right at.stands.sound).notes
 
   -- a copy's chunks: the newer of what stands by and what comes is that of the longer front
   newest_sees : (u : units.Unit) (all : List ℕ) (held coming : Option R) → length all ≤ most_counted → IsOfFront f c items all held

@@ -1,3 +1,4 @@
+pub mod Tests
 pub mod unit
 pub mod share
 pub mod net

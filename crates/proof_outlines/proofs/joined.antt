@@ -14,7 +14,6 @@ pub mod CopyAnswers
 pub mod CopyCounts
 pub mod CopyFalls
 pub mod CopyFilters
-pub mod CopyRows
 pub mod CopySends
 pub mod CopyTokens
 pub mod Given

@@ -1,19 +1,20 @@
 -- The whole world's steps as moves see them: a step on a message of a move is, to every unit, that of the moves' world; a step on a
 -- message of a share leaves the controller's moves as they are.
-use Rattle.std.proofs.Common.{◌≡◌, ℕ, Bool, true, false, Option, Some, None, List, [], ◌∷◌, ◌++◌, drop, length, refl, sym, ap, ◌∙◌, append-nil, arith}
+use Rattle.std.proofs.Common.{◌≡◌, ℕ, Bool, true, false, Option, Some, None, List, [], ◌∷◌, ◌++◌, drop, refl, sym, ap, ◌∙◌, append-nil, arith}
 use Rattle.std.specs.Prelude.{if◌then◌else◌, ◌&&◌, ◌==◌}
 use Rattle.std.specs.Option.{option_map_or}
 use Rattle.std.proofs.lemmas.Bool.Decides.{nat_tests}
 use Rattle.proof_machines.proofs.unit.Real.{Chunks, sent_for}
-use Rattle.proof_machines.proofs.share.Share.{Phase, Phase.Fencing, Phase.Getting, Phase.Setting, Phase.Idle, Phase.Out, Phase.Syncing, without_number}
+use Rattle.proof_machines.proofs.share.Share.{Phase, Phase.Fencing, Phase.Getting, Phase.Setting, Phase.Idle, Phase.Out, Phase.Syncing}
 use Rattle.proof_machines.proofs.net.Net.{Msg, MoveAsked, Sys, process, inst_step, ctrl_step, sw_sends, begin_sends}
 use Rattle.proof_machines.proofs.net.Net.{behind, links_after, inst_next, ctrl_next, sw_next, begin_next}
 use Rattle.proof_machines.proofs.net.Elsewhere.{Elsewhere}
-use Rattle.proof_machines.proofs.net.Shares.{Any, Any.Old, Any.New, ShareMsg, ShareMsg.Shared_on, ShareMsg.S_forward, ShareMsg.S_get, ShareMsg.S_sync}
+use Rattle.proof_machines.proofs.net.Shares.{Any, Any.Old, Any.New, ShareMsg, ShareMsg.Shared_on, ShareMsg.S_forward, ShareMsg.S_sync, ShareTurn}
 use Rattle.proof_machines.proofs.net.Shares.{ShareMsg.S_shared, olds, as_old, Sharing, OpenShare, Told, Told.Is_fenced, Told.Has_chunks, Told.Has_chunk}
-use Rattle.proof_machines.proofs.net.Shares.{Told.Is_synced, Told.Has_packet, syncs, s_row, s_served, told_by, by_share, s_goes, s_left, shared_chunk}
+use Rattle.proof_machines.proofs.net.Shares.{Told.Is_synced, Told.Has_packet, syncs, s_row, s_served, told_by, by_share, shared_chunk}
 use Rattle.proof_machines.proofs.net.Shares.{member_step, WholeWorld, moves_of, whole_inst, whole_ctrl, whole_switch, begin_move}
 use Rattle.nf_function.specs.declared.unit.Unit as units
+use Rattle.proof_machines.proofs.Tests.{by_if}
 
 abbrev pub put_old : {R : Type 0} → ℕ → Any R → List (ℕ × Msg R) → List (ℕ × Msg R)
 put_old j (Old m) xs = (j, m) ∷ xs
@@ -106,15 +107,9 @@ module _ {R : Type 0} (S : Sys R) (A : Sharing S) where
       [ true ↦ syncs_new n home j cs ms | false ↦ syncs_new n home j cs ms ]
 
   row_new : (e : OpenShare) (sender : ℕ) (told : Told R) (ph : Phase) (q : List ℕ) → old_sends (s_row S A e sender told ph q).sends ≡ []
-  row_new e sender Is_fenced Fencing q = elim (sender == e.home)
-      as (λ b. old_sends (if b then s_goes S A Getting q ((e.home, New (S_get e.num e.filter)) ∷ []) else s_goes S A Fencing q []).sends ≡ [])
-      [ true ↦ refl | false ↦ refl ]
-  row_new e sender (Has_chunks cs) Getting q = elim (sender == e.home) as (λ b. old_sends (if b
-      then s_left S A Setting (length (without_number e.members e.home)) q (syncs e.num e.home e.home cs e.members) else s_goes S A Getting q []).sends
-      ≡ []) [ true ↦ syncs_new e.num e.home e.home cs e.members | false ↦ refl ]
-  row_new e sender (Has_chunk c) (Out m) q = elim (sender == m) as (λ b. old_sends (if b
-      then s_left S A Syncing (length (without_number e.members m)) q (syncs e.num e.home m (c ∷ []) e.members) else s_goes S A (Out m) q []).sends ≡ [])
-      [ true ↦ syncs_new e.num e.home m (c ∷ []) e.members | false ↦ refl ]
+  row_new e sender Is_fenced Fencing q = by_if (λ (r : ShareTurn R). old_sends r.sends ≡ []) (sender == e.home) refl refl
+  row_new e sender (Has_chunks cs) Getting q = by_if (λ (r : ShareTurn R). old_sends r.sends ≡ []) (sender == e.home) (syncs_new e.num e.home e.home cs e.members) refl
+  row_new e sender (Has_chunk c) (Out m) q = by_if (λ (r : ShareTurn R). old_sends r.sends ≡ []) (sender == m) (syncs_new e.num e.home m (c ∷ []) e.members) refl
   row_new e sender Is_synced (Setting left) q = refl
   row_new e sender Is_synced (Syncing left) q = refl
   row_new e sender (Has_packet p) ph q = refl

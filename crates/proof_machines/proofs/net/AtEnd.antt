@@ -18,6 +18,7 @@ use Rattle.proof_machines.proofs.net.Rest.{Rest, carries_of, done_u}
 use Rattle.proof_machines.proofs.net.RestingSeats.{same_done}
 use Rattle.proof_machines.proofs.net.Units.{Where, Where.At_rest, Where.In_move, see}
 use Rattle.nf_function.specs.declared.unit.Unit as units
+use Rattle.proof_machines.proofs.Tests.{split}
 
 -- the links of the machine that its nodes tell
 module _ {R : Type 0} (a b c : ℕ) (nodes : Nodes a b c) (x : State R) where
@@ -77,10 +78,8 @@ module _ {R : Type 0} (S : Sys R) (laws : IsSys S) (u : units.Unit) (n : ℕ) (w
     module _ (z : Seeing) (x : State R) (h : Holds S z w x) (src : z.op.src < n) (dst : z.op.dst < n) where
       no_items : (i j : ℕ) → i < n → j < n → expect z.op.src z.op.dst z.third x i j ≡ []
       no_items i j hi hj = sym (h.views i j)
-          ∙ elim ((i == 0) && (j == 0)) as (λ b. (i == 0) && (j == 0) ≡ b → (if b then [] else items (seen (frame S z)) (w.link i j)) ≡ []) [
-            | true ↦ λ _. refl
-            | false ↦ λ off. ap (items (seen (frame S z))) (quiet i j hi hj off)
-          ] refl
+          ∙ split ((i == 0) && (j == 0)) (λ b. (if b then [] else items (seen (frame S z)) (w.link i j)) ≡ []) (λ _. refl)
+          (λ off. ap (items (seen (frame S z))) (quiet i j hi hj off))
 
       pub is_silent : Silent x
       is_silent =
@@ -117,13 +116,11 @@ module _ {R : Type 0} (S : Sys R) (laws : IsSys S) (u : units.Unit) (n : ℕ) (w
 
       done_at : (side : Side) → (rest_at S.F side d l phase k).done ≡ d
       done_at At_a = refl
-      done_at At_b = refl
-      done_at At_c = refl
+      done_at side = refl
 
       target_at : (side : Side) → (rest_at S.F side d l phase k).target ≡ side
       target_at At_a = refl
-      target_at At_b = refl
-      target_at At_c = refl
+      target_at side = refl
 
       place_two : (side : Side) → 2 ≤ place S z side
       place_two At_a = nodes.a_is

@@ -23,6 +23,7 @@ use Rattle.record_table.specs.Table.{same_unit}
 use Rattle.record_table.proofs.UnitOrder.{same_unit_equiv}
 use Rattle.flow_filter.specs.declared.filter.Filter.{Filter}
 use Rattle.nf_msgs.specs.declared.answer.Answer.{Answer}
+use Rattle.proof_machines.proofs.Tests.{either_way}
 
 module _ {R : Type 0} where
   -- 1 where the chunks have a record of the unit
@@ -92,10 +93,8 @@ module _ {R : Type 0} (S : Sys R) (laws : IsSys S) where
       let k = shown S laws u w ps b g here in
       let z = seeing S laws u k.op k.third in
       let x = seat_shape S.F k.seat in
-      elim (n == k.op.num) as (λ b. (n == k.op.num) ≡ b → copies u e.phase ≤ 1) [
-        | true ↦ λ on. (let a = (own_move z w x k.holds n e there on).1 in let few = few_records S.F k.seat in omega (arith, a, few))
-        | false ↦ λ off. (let a = one_or_other z w x k.holds n e there off in omega (arith, a))
-      ] refl
+      either_way (n == k.op.num) (λ on. (let a = (own_move z w x k.holds n e there on).1 in let few = few_records S.F k.seat in omega (arith, a, few)))
+      (λ off. (let a = one_or_other z w x k.holds n e there off in omega (arith, a)))
 
   -- the link from B
   from_target : (z : Seeing) (w : World S) (x : State R) → Holds S z w x → (i : ℕ) → i ≡ z.op.dst → (m : Msg R) (rest : List (Msg R)) → w.link i 1 ≡ m ∷ rest
@@ -119,25 +118,24 @@ module _ {R : Type 0} (S : Sys R) (laws : IsSys S) where
       let k = shown S laws u w ps b global here in
       let z = seeing S laws u k.op k.third in
       let x = seat_shape S.F k.seat in
-      elim (n == k.op.num) as (λ b. (n == k.op.num) ≡ b → has u cs + copies u e.phase ≤ 1) [
-        | true ↦ λ on.
-            let own = own_move z w x k.holds n e there on in
-            let a = own.1 in
-            let is : seen (frame S z) (Mv g (M_put_no n why cs)) ≡ Some (Put_no why (record_at u cs)) = rw on refl in
-            let link = from_target z w x k.holds e.op.dst (ap (λ o. o.dst) own.0) (Mv g (M_put_no n why cs)) rest waits (Put_no why (record_at u cs)) is in
-            let back = records_head (Put_no why (record_at u cs)) (items (seen (frame S z)) rest) x.bc link in
-            let one = has_own u cs in
-            let few = few_records S.F k.seat in
-            omega (arith, a, back, one, few)
-        | false ↦ λ off.
-            let a = one_or_other z w x k.holds n e there off in
-            let l = (each_found (OpLabel S z) n w.ops e k.holds.ops there).0.2 in
-            let b0 = l.dst_0 in
-            let no_input : (e.op.dst == 0) && (1 == 0) ≡ false = rw b0 refl in
-            let lab = (subst (λ ms. Each (Label S z e.op.dst) ms) waits (k.holds.labels e.op.dst 1 no_input)).0 in
-            let none = has_none u cs (lab.1 off) in
-            omega (arith, a, none)
-      ] refl
+      either_way (n == k.op.num)
+      (λ on.
+      let own = own_move z w x k.holds n e there on in
+      let a = own.1 in
+      let is : seen (frame S z) (Mv g (M_put_no n why cs)) ≡ Some (Put_no why (record_at u cs)) = rw on refl in
+      let link = from_target z w x k.holds e.op.dst (ap (λ o. o.dst) own.0) (Mv g (M_put_no n why cs)) rest waits (Put_no why (record_at u cs)) is in
+      let back = records_head (Put_no why (record_at u cs)) (items (seen (frame S z)) rest) x.bc link in
+      let one = has_own u cs in
+      let few = few_records S.F k.seat in
+      omega (arith, a, back, one, few))
+      (λ off.
+      let a = one_or_other z w x k.holds n e there off in
+      let l = (each_found (OpLabel S z) n w.ops e k.holds.ops there).0.2 in
+      let b0 = l.dst_0 in
+      let no_input : (e.op.dst == 0) && (1 == 0) ≡ false = rw b0 refl in
+      let lab = (subst (λ ms. Each (Label S z e.op.dst) ms) waits (k.holds.labels e.op.dst 1 no_input)).0 in
+      let none = has_none u cs (lab.1 off) in
+      omega (arith, a, none))
 
   -- an event that comes is one of an open move
   pub event_open : (w : World S) (i n p : ℕ) (ps : List ℕ) (b : Bool) → Where S laws (S.packet_unit p) w ps b → (g : Filter) (rest : List (Msg R))

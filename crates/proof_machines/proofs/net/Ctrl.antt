@@ -15,6 +15,7 @@ use Rattle.proof_machines.proofs.unit.Labels.{Each}
 use Rattle.proof_machines.proofs.net.Net.{Open, find_op, set_op, close_op, write_op, num_of}
 use Rattle.nf_function.specs.declared.unit.Unit as units
 use Rattle.record_table.specs.Table.{is_among}
+use Rattle.proof_machines.proofs.Tests.{split, by_if}
 
 pub none_some : {X : Type 0} {P : Type 0} {a : X} → None ≡ Some a → P
 none_some e = cc
@@ -22,33 +23,30 @@ none_some e = cc
 -- finding after writing
 pub find_close : {R : Type 0} (n : ℕ) (es : List (Open R)) → find_op (close_op n es) n ≡ None
 find_close n [] = refl
-find_close n (e ∷ es) = elim (e.op.num == n) as (λ b. (e.op.num == n) ≡ b → find_op (if b then close_op n es else e ∷ close_op n es) n ≡ None)
-    [ true ↦ λ _. find_close n es | false ↦ λ off. rw off (find_close n es) ] refl
+find_close n (e ∷ es) = split (e.op.num == n) (λ b. find_op (if b then close_op n es else e ∷ close_op n es) n ≡ None) (λ _. find_close n es)
+    (λ off. rw off (find_close n es))
 
 pub find_set : {R : Type 0} (n : ℕ) (ph : RPhase R) (f : List ℕ) (es : List (Open R)) (e : Open R) → find_op es n ≡ Some e
     → find_op (set_op n ph f es) n ≡ Some (record e { phase = ph; store = f })
 find_set n ph f [] e there = cc
-find_set {R = R} n ph f (x ∷ es) e there = elim (x.op.num == n) as (λ b. (x.op.num == n) ≡ b → (if b then Some x else find_op es n) ≡ Some e
-    → find_op (if b then record x { phase = ph; store = f } ∷ es else x ∷ set_op n ph f es) n ≡ Some (record e { phase = ph; store = f })) [
-      | true ↦ λ on is. let same : x ≡ e = cc in let g : Open R → Option (Open R) = λ y. Some (record y { phase = ph; store = f }) in rw on (ap g same)
-      | false ↦ λ off is. rw off (find_set n ph f es e is)
-    ] refl there
+find_set {R = R} n ph f (x ∷ es) e there = split (x.op.num == n) (λ b. (if b then Some x else find_op es n) ≡ Some e
+    → find_op (if b then record x { phase = ph; store = f } ∷ es else x ∷ set_op n ph f es) n ≡ Some (record e { phase = ph; store = f }))
+    (λ on is. let same : x ≡ e = cc in let g : Open R → Option (Open R) = λ y. Some (record y { phase = ph; store = f }) in rw on (ap g same))
+    (λ off is. rw off (find_set n ph f es e is)) there
 
 find_close_other : {R : Type 0} (k n : ℕ) (es : List (Open R)) → (k == n) ≡ false → find_op (close_op k es) n ≡ find_op es n
 find_close_other k n [] off = refl
-find_close_other k n (e ∷ es) off = elim (e.op.num == k)
-    as (λ b. (e.op.num == k) ≡ b → find_op (if b then close_op k es else e ∷ close_op k es) n ≡ (if e.op.num == n then Some e else find_op es n)) [
-      | true ↦ λ on. let same : e.op.num ≡ k = eqb-true e.op.num k on in let out : (e.op.num == n) ≡ false = rw same off in rw out (find_close_other k n es off)
-      | false ↦ λ _. ap (λ o. if e.op.num == n then Some e else o) (find_close_other k n es off)
-    ] refl
+find_close_other k n (e ∷ es) off = split (e.op.num == k) (λ b. find_op (if b then close_op k es else e ∷ close_op k es) n
+    ≡ (if e.op.num == n then Some e else find_op es n))
+    (λ on. let same : e.op.num ≡ k = eqb-true e.op.num k on in let out : (e.op.num == n) ≡ false = rw same off in rw out (find_close_other k n es off))
+    (λ _. ap (λ o. if e.op.num == n then Some e else o) (find_close_other k n es off))
 
 find_set_other : {R : Type 0} (k n : ℕ) (ph : RPhase R) (f : List ℕ) (es : List (Open R)) → (k == n) ≡ false → find_op (set_op k ph f es) n ≡ find_op es n
 find_set_other k n ph f [] off = refl
-find_set_other k n ph f (e ∷ es) off = elim (e.op.num == k) as (λ b. (e.op.num == k) ≡ b
-    → find_op (if b then record e { phase = ph; store = f } ∷ es else e ∷ set_op k ph f es) n ≡ (if e.op.num == n then Some e else find_op es n)) [
-      | true ↦ λ on. let same : e.op.num ≡ k = eqb-true e.op.num k on in let out : (e.op.num == n) ≡ false = rw same off in rw out refl
-      | false ↦ λ _. ap (λ o. if e.op.num == n then Some e else o) (find_set_other k n ph f es off)
-    ] refl
+find_set_other k n ph f (e ∷ es) off = split (e.op.num == k) (λ b. find_op (if b then record e { phase = ph; store = f } ∷ es else e ∷ set_op k ph f es) n
+    ≡ (if e.op.num == n then Some e else find_op es n))
+    (λ on. let same : e.op.num ≡ k = eqb-true e.op.num k on in let out : (e.op.num == n) ≡ false = rw same off in rw out refl)
+    (λ _. ap (λ o. if e.op.num == n then Some e else o) (find_set_other k n ph f es off))
 
 pub find_write_other : {R : Type 0} (k n : ℕ) (ph : RPhase R) (f : List ℕ) (es : List (Open R)) → (k == n) ≡ false
     → find_op (write_op k ph f es) n ≡ find_op es n
@@ -57,15 +55,14 @@ find_write_other k n ph f es off = find_set_other k n ph f es off
 
 pub each_close : {R : Type 0} (P : Open R → Type 0) (k : ℕ) (es : List (Open R)) → Each P es → Each P (close_op k es)
 each_close P k [] h = tt
-each_close P k (e ∷ es) h = elim (e.op.num == k) as (λ b. Each P (if b then close_op k es else e ∷ close_op k es))
-    [ true ↦ each_close P k es h.1 | false ↦ (h.0, each_close P k es h.1) ]
+each_close P k (e ∷ es) h = by_if (Each P) (e.op.num == k) (each_close P k es h.1) (h.0, each_close P k es h.1)
 
 pub each_set : {R : Type 0} (P : Open R → Type 0) (k : ℕ) (ph : RPhase R) (f : List ℕ) (es : List (Open R))
     → ((e : Open R) → (e.op.num == k) ≡ true → P e → P (record e { phase = ph; store = f })) → Each P es → Each P (set_op k ph f es)
 each_set P k ph f [] g h = tt
 each_set P k ph f (e ∷ es) g h =
-    elim (e.op.num == k) as (λ b. (e.op.num == k) ≡ b → Each P (if b then record e { phase = ph; store = f } ∷ es else e ∷ set_op k ph f es))
-    [ true ↦ λ on. (g e on h.0, h.1) | false ↦ λ _. (h.0, each_set P k ph f es g h.1) ] refl
+    split (e.op.num == k) (λ b. Each P (if b then record e { phase = ph; store = f } ∷ es else e ∷ set_op k ph f es)) (λ on. (g e on h.0, h.1))
+    (λ _. (h.0, each_set P k ph f es g h.1))
 
 pub each_write : {R : Type 0} (P : Open R → Type 0) (k : ℕ) (ph : RPhase R) (f : List ℕ) (es : List (Open R))
     → ((e : Open R) → (e.op.num == k) ≡ true → P e → P (record e { phase = ph; store = f })) → Each P es → Each P (write_op k ph f es)
@@ -76,10 +73,9 @@ pub each_found : {R : Type 0} (P : Open R → Type 0) (k : ℕ) (es : List (Open
     → P e × ((e.op.num == k) ≡ true)
 each_found P k [] e h there = cc
 each_found P k (x ∷ es) e h there =
-    elim (x.op.num == k) as (λ b. (x.op.num == k) ≡ b → (if b then Some x else find_op es k) ≡ Some e → P e × ((e.op.num == k) ≡ true)) [
-      | true ↦ λ on is. let same : x ≡ e = cc in (subst P same h.0, subst (λ y. (y.op.num == k) ≡ true) same on)
-      | false ↦ λ _ is. each_found P k es e h.1 is
-    ] refl there
+    split (x.op.num == k) (λ b. (if b then Some x else find_op es k) ≡ Some e → P e × ((e.op.num == k) ≡ true))
+    (λ on is. let same : x ≡ e = cc in (subst P same h.0, subst (λ y. (y.op.num == k) ≡ true) same on))
+    (λ _ is. each_found P k es e h.1 is) there
 
 -- a row of a move on each message that bears its number, also on those that it doesn't know
 module _ {R : Type 0} (o : Op) (mine : ℕ → Bool) (u : units.Unit) (t : NodesDiffer o) where

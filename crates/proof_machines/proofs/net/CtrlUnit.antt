@@ -8,19 +8,20 @@ use Rattle.proof_machines.proofs.unit.Machine.{Item, Carry, Pass, Fence, Forward
 use Rattle.proof_machines.proofs.unit.Real as Real
 use Rattle.proof_machines.proofs.unit.Real.{M_enable, M_stream, M_delete, M_put, M_restore, M_enabled, M_event, M_piece, M_deleted, M_put_ok, M_put_no}
 use Rattle.proof_machines.proofs.unit.Real.{M_restored, M_fenced, M_forward, M_install, M_fence_to, RPhase, Op, OperationTurn, r_goes, r_from_source}
-use Rattle.proof_machines.proofs.unit.Real.{r_from_destination, Frame, where_true, add, view, only_mine, see_phase, sent_for, sends_to, Sees}
+use Rattle.proof_machines.proofs.unit.Real.{r_from_destination, Frame, where_true, none_if, add, view, only_mine, see_phase, sent_for, sends_to, Sees}
 use Rattle.move_op.specs.Phases.{Over}
 use Rattle.proof_machines.proofs.unit.Seen.{NodesDiffer, quiet, did_a, did_b}
 use Rattle.proof_machines.proofs.unit.Labels.{Each, Foreign, SentForeign, Clean, StaysClean, from_source_clean, from_destination_clean}
 use Rattle.proof_machines.proofs.unit.Quiet.{Is_quiet, IsNotMine, view_nothing, from_source_quiet, from_destination_quiet}
 use Rattle.proof_machines.proofs.unit.NetViews.{items}
 use Rattle.flow_filter.specs.declared.filter.Filter.{Filter}
-use Rattle.proof_machines.proofs.net.Net.{Msg, In_packet, Asked, Carry_on, Pass_on, Fence_on, Mv, Sys, Open, find_op, write_op}
+use Rattle.proof_machines.proofs.net.Net.{Msg, Carry_on, Pass_on, Fence_on, Mv, Sys, Open, find_op, write_op}
 use Rattle.proof_machines.proofs.net.Net.{num_of, row_of, row, filter_for, wrap, ControllerMove, found, numbered, ctrl_step, seen}
 use Rattle.proof_machines.proofs.net.Holding.{Seeing, EachSent, frame, MoveLabel, Label, OpLabel, IsController}
 use Rattle.proof_machines.proofs.net.RowNumbers.{OfRow, SentOf, row_numbers}
 use Rattle.proof_machines.proofs.net.Ctrl.{none_some, find_close, find_set, find_write_other, each_write, each_found, idle_side, ext_a, ext_b}
 use Rattle.record_table.specs.Table.{same_unit}
+use Rattle.proof_machines.proofs.Tests.{either_way, by_if}
 
 module _ {R : Type 0} (S : Sys R) (z : Seeing) where
   abbrev fr : Frame
@@ -57,10 +58,6 @@ module _ {R : Type 0} (S : Sys R) (z : Seeing) where
   wrap_labels o g [] a h f = tt
   wrap_labels o g (x ∷ xs) a h f = ((refl, one_label o g x.1 a.0 h (λ off. (f off).0)), wrap_labels o g xs a.1 h (λ off. (f off).1))
 
-  -- what is seen of a message with another number
-  unseen_if : (b : Bool) (it : Item R) → b ≡ false → where_true b it ≡ None
-  unseen_if b it e = rw e refl
-
   not_mine : (g : Filter) (k p : ℕ) → (k == n) ≡ false → MoveLabel S z g (M_event k p) → (same_unit (S.packet_unit p) z.unit) ≡ false
   not_mine g k p off l = elim (same_unit (S.packet_unit p) z.unit) as (λ b. (b ≡ true → (k == n) ≡ true) → b ≡ false)
       [ true ↦ λ f. let both : false ≡ true = sym off ∙ f refl in cc | false ↦ λ _. refl ] l
@@ -69,22 +66,9 @@ module _ {R : Type 0} (S : Sys R) (z : Seeing) where
   k_off j k e off = let same : j ≡ k = same_Some _ _ e in rw same off
 
   unseen_other : (g : Filter) (k : ℕ) (m : Real.Msg R) → num_of m ≡ Some k → (k == n) ≡ false → MoveLabel S z g m → Real.seen fr m ≡ None
-  unseen_other g k (M_event j p) e off l = unseen_if (same_unit (S.packet_unit p) z.unit) _ (not_mine g j p (k_off j k e off) l)
+  unseen_other g k (M_event j p) e off l = none_if (same_unit (S.packet_unit p) z.unit) _ (not_mine g j p (k_off j k e off) l)
   unseen_other g k (M_forward p to) e off l = none_some e
-  unseen_other g k (M_enable j r) e off l = unseen_if (j == n) _ (k_off j k e off)
-  unseen_other g k (M_stream j) e off l = unseen_if (j == n) _ (k_off j k e off)
-  unseen_other g k (M_delete j us) e off l = unseen_if (j == n) _ (k_off j k e off)
-  unseen_other g k (M_put j p first) e off l = unseen_if (j == n) _ (k_off j k e off)
-  unseen_other g k (M_restore j cs) e off l = unseen_if (j == n) _ (k_off j k e off)
-  unseen_other g k (M_enabled j) e off l = unseen_if (j == n) _ (k_off j k e off)
-  unseen_other g k (M_piece j p) e off l = unseen_if (j == n) _ (k_off j k e off)
-  unseen_other g k (M_deleted j) e off l = unseen_if (j == n) _ (k_off j k e off)
-  unseen_other g k (M_put_ok j) e off l = unseen_if (j == n) _ (k_off j k e off)
-  unseen_other g k (M_put_no j why cs) e off l = unseen_if (j == n) _ (k_off j k e off)
-  unseen_other g k (M_restored j) e off l = unseen_if (j == n) _ (k_off j k e off)
-  unseen_other g k (M_fenced j) e off l = unseen_if (j == n) _ (k_off j k e off)
-  unseen_other g k (M_install j from to) e off l = unseen_if (j == n) _ (k_off j k e off)
-  unseen_other g k (M_fence_to j to) e off l = unseen_if (j == n) _ (k_off j k e off)
+  unseen_other g k m e off l = none_if _ _ (k_off _ k e off)
 
   foreign_of : (g : Filter) (k : ℕ) (m : Real.Msg R) → num_of m ≡ Some k → (k == n) ≡ false → MoveLabel S z g m → Foreign z.unit m
   foreign_of g k (M_delete j us) e off l = l (k_off j k e off)
@@ -103,21 +87,14 @@ module _ {R : Type 0} (S : Sys R) (z : Seeing) where
   pub row_quiet : (o : Op) (ph : RPhase R) (f : List ℕ) (port : ℕ) (g : Filter) (k : ℕ) (m : Real.Msg R) → (o.num == n) ≡ false → only_mine fr f ≡ []
       → num_of m ≡ Some k → (k == n) ≡ false → MoveLabel S z g m → Is_quiet fr (row_of o ph f port m)
   row_quiet o ph f port g k m other e num off l =
-      elim (port == o.src) as (λ b. Is_quiet fr (if b then r_from_source o ph f m else if port == o.dst then r_from_destination o ph f m else r_goes ph f [])) [
-        | true ↦ from_source_quiet fr o other ph f m (not_of o other g k m num off l) e
-        | false ↦ elim (port == o.dst) as (λ b. Is_quiet fr (if b then r_from_destination o ph f m else r_goes ph f []))
-            [ true ↦ from_destination_quiet fr o other ph f m e | false ↦ (tt, e) ]
-      ]
+      by_if (Is_quiet fr) (port == o.src) (from_source_quiet fr o other ph f m (not_of o other g k m num off l) e)
+      (by_if (Is_quiet fr) (port == o.dst) (from_destination_quiet fr o other ph f m e) (tt, e))
 
   pub row_clean : (o : Op) (ph : RPhase R) (f : List ℕ) (port : ℕ) (m : Real.Msg R) → Clean z.unit ph → Foreign z.unit m
       → StaysClean z.unit (row_of o ph f port m)
   row_clean o ph f port m c w =
-      elim (port == o.src)
-      as (λ b. StaysClean z.unit (if b then r_from_source o ph f m else if port == o.dst then r_from_destination o ph f m else r_goes ph f [])) [
-        | true ↦ from_source_clean z.unit o ph f m c w
-        | false ↦ elim (port == o.dst) as (λ b. StaysClean z.unit (if b then r_from_destination o ph f m else r_goes ph f []))
-            [ true ↦ from_destination_clean z.unit o ph f m c w | false ↦ (c, tt) ]
-      ]
+      by_if (StaysClean z.unit) (port == o.src) (from_source_clean z.unit o ph f m c w)
+      (by_if (StaysClean z.unit) (port == o.dst) (from_destination_clean z.unit o ph f m c w) (c, tt))
 
   module _ (es : List (Open R)) (x : State R) (apart : NodesDiffer z.op) (labs : Each (OpLabel S z) es) (is : IsController S z (find_op es n) x) where
     pub record SeesController (c : ControllerMove R) (d : ControllerTurn R) : Type 0 where
@@ -267,15 +244,13 @@ module _ {R : Type 0} (S : Sys R) (z : Seeing) where
         elim (num_of m)
         as (λ o. num_of m ≡ o → SeesController (numbered es port m o) (mdid (port == z.op.src) (port == z.op.dst) x.phase x.store (Real.seen fr m))) [
           | None ↦ λ none. as_stay (no_num (port == z.op.src) (port == z.op.dst) m none) stays
-          | Some k ↦ λ num. elim (k == n) as (λ b. (k == n) ≡ b
-              → SeesController (found es k port m (find_op es k)) (mdid (port == z.op.src) (port == z.op.dst) x.phase x.store (Real.seen fr m))) [
-                | true ↦ λ on. let same : k ≡ n = eqb-true k n on in
-                    subst (λ j. SeesController (found es j port m (find_op es j)) (mdid (port == z.op.src) (port == z.op.dst) x.phase x.store (Real.seen fr m)))
-                    (sym same) (by_op (find_op es n) refl (num ∙ ap Some same))
-                | false ↦ λ off. let none = unseen_other g k m num off l in
-                    subst (λ o. SeesController (found es k port m (find_op es k)) (mdid (port == z.op.src) (port == z.op.dst) x.phase x.store o)) (sym none)
-                    (by_other k (find_op es k) refl num off)
-              ] refl
+          | Some k ↦ λ num. either_way (k == n)
+              (λ on. let same : k ≡ n = eqb-true k n on in
+              subst (λ j. SeesController (found es j port m (find_op es j)) (mdid (port == z.op.src) (port == z.op.dst) x.phase x.store (Real.seen fr m)))
+              (sym same) (by_op (find_op es n) refl (num ∙ ap Some same)))
+              (λ off. let none = unseen_other g k m num off l in
+              subst (λ o. SeesController (found es k port m (find_op es k)) (mdid (port == z.op.src) (port == z.op.dst) x.phase x.store o)) (sym none)
+              (by_other k (find_op es k) refl num off))
         ] refl
       where
         by_op : (f : Option (Open R)) → find_op es n ≡ f → num_of m ≡ Some n
@@ -294,5 +269,4 @@ module _ {R : Type 0} (S : Sys R) (z : Seeing) where
     ctrl_unit port i (Carry_on p) l closed = as_stay (idle_if (port == z.op.src) (port == z.op.dst) (fr.mine p) (Carry p) refl refl) stays
     ctrl_unit port i (Pass_on p) l closed = as_stay (idle_if (port == z.op.src) (port == z.op.dst) (fr.mine p) (Pass p) refl refl) stays
     ctrl_unit port i (Fence_on k) l closed = as_stay (idle_if (port == z.op.src) (port == z.op.dst) (k == n) Fence refl refl) stays
-    ctrl_unit port i (In_packet p) l closed = stays
-    ctrl_unit port i (Asked a) l closed = stays
+    ctrl_unit port i m l closed = stays

@@ -19,6 +19,8 @@ use Rattle.proof_machines.proofs.net.RestingSeats.{same_done}
 use Rattle.proof_machines.proofs.net.Units.{Where, Where.At_rest, Where.In_move, see}
 use Rattle.nf_function.specs.declared.unit.Unit as units
 use Rattle.record_table.specs.Table.{same_unit}
+use Rattle.proof_machines.proofs.Tests.{split}
+use Rattle.std.proofs.lemmas.Bool.{false_from_ne_true}
 
 -- all that where a unit is looks at
 pub record Elsewhere {R : Type 0} (S : Sys R) (u : units.Unit) (w v : World S) : Type 0 where
@@ -69,11 +71,10 @@ module _ {R : Type 0} (S : Sys R) where
   }
     where
       again : (i j : ℕ) → shows S z v.link i j ≡ shows S z w.link i j
-      again i j = elim ((i == 0) && (j == 0)) as (λ b. (i == 0) && (j == 0) ≡ b
-          → (if b then [] else items (seen (frame S z)) (v.link i j)) ≡ (if b then [] else items (seen (frame S z)) (w.link i j))) [
-            | true ↦ λ _. refl
-            | false ↦ λ off. ap (items (seen (frame S z))) (e.link i j off)
-          ] refl
+      again i j = split ((i == 0) && (j == 0)) (λ b. (if b then [] else items (seen (frame S z)) (v.link i j))
+          ≡ (if b then [] else items (seen (frame S z)) (w.link i j)))
+          (λ _. refl)
+          (λ off. ap (items (seen (frame S z))) (e.link i j off))
 
   module _ (laws : IsSys S) (u : units.Unit) where
     pub elsewhere_where : (w v : World S) (ps : List ℕ) (c : Bool) → Elsewhere S u w v → Where S laws u w ps c → Where S laws u v ps c
@@ -119,11 +120,9 @@ module _ {R : Type 0} (S : Sys R) where
         fence i j = if i == 0 then sent_for j ((to, Fence_on n) ∷ []) else []
     fence_where w ps c n to none (In_move op third x s b there h o f k) =
         let z = see S laws u op third in
-        let other : (n == op.num) ≡ false = elim (n == op.num) as (λ t. (n == op.num) ≡ t → t ≡ false) [
-          | true ↦ λ on. let same : n ≡ op.num = (Decides-eqb n op.num).0 on in
-              let never : None ≡ Some x = sym none ∙ subst (λ q. find_op w.ops q ≡ Some x) (sym same) there in cc
-          | false ↦ λ _. refl
-        ] refl in
+        let other : (n == op.num) ≡ false = false_from_ne_true (n == op.num)
+        (λ on. let same : n ≡ op.num = (Decides-eqb n op.num).0 on in
+        let never : None ≡ Some x = sym none ∙ subst (λ q. find_op w.ops q ≡ Some x) (sym same) there in cc) in
         In_move op third x s b there
         (put_unseen S laws z w (seat_shape S.F s) h 0 ((to, Fence_on n) ∷ []) (one_unseen S laws z 0 to (Fence_on n) (rw other refl)) (tt, tt)) o f k
 

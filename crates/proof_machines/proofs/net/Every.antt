@@ -20,6 +20,7 @@ use Rattle.proof_machines.proofs.net.Rest.{Below, IsBelow, Global}
 use Rattle.proof_machines.proofs.net.Units.{Where}
 use Rattle.nf_function.specs.declared.unit.Unit as units
 use Rattle.nf_msgs.specs.declared.answer.Answer.{Answer}
+use Rattle.proof_machines.proofs.Tests.{by_if}
 
 module _ {R : Type 0} (S : Sys R) (laws : IsSys S) where
   -- numbers of what an instance sends and of its rules
@@ -35,8 +36,7 @@ module _ {R : Type 0} (S : Sys R) (laws : IsSys S) where
 
     rules_drop : (n : ℕ) (rs : List Ruling) → RulesBelow rs → RulesBelow (drop_rule n rs)
     rules_drop n [] h = tt
-    rules_drop n (r ∷ rs) h = elim (r.num == n) as (λ t. RulesBelow (if t then drop_rule n rs else r ∷ drop_rule n rs))
-        [ true ↦ rules_drop n rs h.1 | false ↦ (h.0, rules_drop n rs h.1) ]
+    rules_drop n (r ∷ rs) h = by_if RulesBelow (r.num == n) (rules_drop n rs h.1) (h.0, rules_drop n rs h.1)
 
     rules_set : (n : ℕ) (g : Filter) (k : Rule) (rs : List Ruling) → n < b → RulesBelow rs → RulesBelow (set_rule n g k rs)
     rules_set n g k rs e h = each_set (λ r. r.num < b) n g k rs (λ r _ x. x) e h

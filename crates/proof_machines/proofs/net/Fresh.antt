@@ -14,7 +14,6 @@ use Rattle.proof_machines.proofs.net.InstMoves.{MovesInstance, Any, Streams_out,
 use Rattle.proof_machines.proofs.net.InstWorld.{num, label, step_at, here, is_src, is_dst, shown}
 use Rattle.proof_machines.proofs.net.Rest.{none_mine}
 use Rattle.proof_machines.proofs.net.RestingSeats.{same_mine}
-use Rattle.nf_function.specs.declared.unit.Unit as units
 use Rattle.nf_msgs.specs.declared.answer.Answer.{Answer}
 
 falsely : false ≡ true → ⊥

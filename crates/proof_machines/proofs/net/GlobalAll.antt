@@ -1,6 +1,6 @@
 -- What holds of the whole world for all units at once: numbers, filters that don't meet, and that each message of a share is of an open one
 -- and says nothing beyond its filter. A Get and Chunks of a number that no share has are a copy's.
-use Rattle.std.proofs.Common.{◌≡◌, ℕ, ◌<◌, true, false, Some, None, List, length, ◌⊎◌, refl, sym, ◌∙◌}
+use Rattle.std.proofs.Common.{◌≡◌, ℕ, ◌<◌, true, false, Some, None, List, length, ◌⊎◌, sym, ◌∙◌}
 use Rattle.std.specs.Prelude.{◌&&◌, ◌==◌}
 use Rattle.proof_machines.proofs.unit.Real.{Chunks, record_at}
 use Rattle.proof_machines.proofs.unit.Labels.{Each}
@@ -13,6 +13,7 @@ use Rattle.proof_machines.proofs.net.Shares.{Any, ShareMsg, ShareMsg.Shared_on, 
 use Rattle.proof_machines.proofs.net.Shares.{ShareMsg.S_forward, ShareMsg.S_get, ShareMsg.S_sync, ShareMsg.S_chunks, ShareMsg.S_shared}
 use Rattle.proof_machines.proofs.net.Shares.{ShareMsg.S_synced, EachNew, same, Sharing, OpenShare, find_share, share_taking, WholeWorld, moves_of}
 use Rattle.nf_function.specs.declared.unit.Unit as units
+use Rattle.std.proofs.lemmas.Bool.{false_from_ne_true}
 
 -- an open share with the number, of which something holds
 pub record Opened (es : List OpenShare) (n : ℕ) (P : OpenShare → Type 0) : Type 0 where
@@ -33,7 +34,7 @@ module _ {R : Type 0} (S : Sys R) where
 
   pub disjoint_sym : (g h : Filter) → Disjoint g h → Disjoint h g
   disjoint_sym g h d v t =
-      elim (S.takes g v) as (λ b. S.takes g v ≡ b → b ≡ false) [ true ↦ λ on. let never : true ≡ false = sym t ∙ d v on in cc | false ↦ λ _. refl ] refl
+      false_from_ne_true (S.takes g v) (λ on. let never : true ≡ false = sym t ∙ d v on in cc)
 
   -- chunks have nothing of a unit that the filter doesn't take
   abbrev pub Within : Filter → Chunks R → Type 0

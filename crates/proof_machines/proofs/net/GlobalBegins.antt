@@ -20,20 +20,21 @@ use Rattle.proof_machines.proofs.net.GlobalSteps.{global_as}
 use Rattle.proof_machines.proofs.net.Shares.{Any, Any.Old, Any.New, ShareMsg, ShareMsg.S_asked, ShareMsg.S_install, ShareMsg.S_get, ShareMsg.S_chunks}
 use Rattle.proof_machines.proofs.net.Shares.{WantShare, olds, as_old, Sharing, OpenShare, new_share, find_share, WholeWorld, moves_of, asks, begin_move}
 use Rattle.proof_machines.proofs.net.Shares.{begin_share, puts_get, keeps, meets_shares, MayShare}
+use Rattle.proof_machines.proofs.Tests.{split}
 
 module _ {R : Type 0} (S : Sys R) (A : Sharing S) (laws : IsSys S) where
   -- filters that don't meet take no unit together
   pub meets_none : (g : Filter) (es : List OpenShare) → meets_shares S A g es ≡ false → Each (λ e. Disjoint S g e.filter) es
   meets_none g [] h = tt
-  meets_none g (e ∷ es) h = elim (S.meets g e.filter)
-      as (λ b. S.meets g e.filter ≡ b → (if b then true else meets_shares S A g es) ≡ false → Each (λ e. Disjoint S g e.filter) (e ∷ es))
-      [ true ↦ λ _ bad. cc | false ↦ λ off more. ((λ v on. laws.apart g e.filter v off on), meets_none g es more) ] refl h
+  meets_none g (e ∷ es) h = split (S.meets g e.filter) (λ b. (if b then true else meets_shares S A g es) ≡ false → Each (λ e. Disjoint S g e.filter) (e ∷ es))
+      (λ _ bad. cc)
+      (λ off more. ((λ v on. laws.apart g e.filter v off on), meets_none g es more)) h
 
   pub meets_no_move : (g : Filter) (es : List (Open R)) → meets_any S g es ≡ false → Each (λ o. Disjoint S g o.filter) es
   meets_no_move g [] h = tt
-  meets_no_move g (o ∷ es) h = elim (S.meets g o.filter)
-      as (λ b. S.meets g o.filter ≡ b → (if b then true else meets_any S g es) ≡ false → Each (λ o. Disjoint S g o.filter) (o ∷ es))
-      [ true ↦ λ _ bad. cc | false ↦ λ off more. ((λ v on. laws.apart g o.filter v off on), meets_no_move g es more) ] refl h
+  meets_no_move g (o ∷ es) h = split (S.meets g o.filter) (λ b. (if b then true else meets_any S g es) ≡ false → Each (λ o. Disjoint S g o.filter) (o ∷ es))
+      (λ _ bad. cc)
+      (λ off more. ((λ v on. laws.apart g o.filter v off on), meets_no_move g es more)) h
 
   -- the next number grows
   numbered_more : (a b : ℕ) → a ≤ b → (m : ShareMsg R) → Numbered a m → Numbered b m

@@ -19,18 +19,18 @@ use Rattle.proof_machines.proofs.net.Shares.{ShareMsg.S_synced, same, Sharing, I
 use Rattle.nf_function.specs.declared.unit.Unit as units
 use Rattle.record_table.specs.Table.{same_unit}
 use Rattle.record_table.proofs.UnitOrder.{same_unit-true}
+use Rattle.proof_machines.proofs.Tests.{split, by_if}
 
 -- Lists of shares
 pub each_set_any : (P : OpenShare → Type 0) (n : ℕ) (ph : Phase) (q : List ℕ) → ((e : OpenShare) → P e → P (record e { phase = ph; queue = q }))
     → (es : List OpenShare) → Each P es → Each P (set_share n ph q es)
 each_set_any P n ph q step [] h = tt
-each_set_any P n ph q step (x ∷ es) h = elim (x.num == n) as (λ b. Each P (if b then record x { phase = ph; queue = q } ∷ es else x ∷ set_share n ph q es))
-    [ true ↦ (step x h.0, h.1) | false ↦ (h.0, each_set_any P n ph q step es h.1) ]
+each_set_any P n ph q step (x ∷ es) h = by_if (Each P) (x.num == n) (step x h.0, h.1) (h.0, each_set_any P n ph q step es h.1)
 
 pub nums_set : (n : ℕ) (ph : Phase) (q : List ℕ) (es : List OpenShare) → AreNumbersApart es → AreNumbersApart (set_share n ph q es)
 nums_set n ph q [] h = tt
-nums_set n ph q (x ∷ es) h = elim (x.num == n) as (λ b. AreNumbersApart (if b then record x { phase = ph; queue = q } ∷ es else x ∷ set_share n ph q es))
-    [ true ↦ (h.0, h.1) | false ↦ (each_set_any (λ d. (x.num == d.num) ≡ false) n ph q (λ d k. k) es h.0, nums_set n ph q es h.1) ]
+nums_set n ph q (x ∷ es) h = by_if AreNumbersApart (x.num == n) (h.0, h.1)
+    (each_set_any (λ d. (x.num == d.num) ≡ false) n ph q (λ d k. k) es h.0, nums_set n ph q es h.1)
 
 pub nums_more : (es : List OpenShare) (x : OpenShare) (b : ℕ) → b ≤ x.num → Each (λ e. e.num < b) es → AreNumbersApart es → AreNumbersApart (es ++ x ∷ [])
 nums_more [] x b fresh few h = (tt, tt)
@@ -72,8 +72,8 @@ ctrl_each P step es p (net.Fence_on n) h = h
 
 none_each : {R : Type 0} (es : List (Open R)) (n : ℕ) → find_op es n ≡ None → Each (λ e. (e.op.num == n) ≡ false) es
 none_each [] n is = tt
-none_each (e ∷ es) n is = elim (e.op.num == n) as (λ b. (e.op.num == n) ≡ b → (if b then Some e else find_op es n) ≡ None
-    → Each (λ e. (e.op.num == n) ≡ false) (e ∷ es)) [ true ↦ λ _ bad. cc | false ↦ λ off rest. (off, none_each es n rest) ] refl is
+none_each (e ∷ es) n is = split (e.op.num == n) (λ b. (if b then Some e else find_op es n) ≡ None → Each (λ e. (e.op.num == n) ≡ false) (e ∷ es)) (λ _ bad. cc)
+    (λ off rest. (off, none_each es n rest)) is
 
 each_none : {R : Type 0} (es : List (Open R)) (n : ℕ) → Each (λ e. (e.op.num == n) ≡ false) es → find_op es n ≡ None
 each_none [] n h = refl
@@ -113,10 +113,8 @@ module _ {R : Type 0} (S : Sys R) where
 
   pub taking_set : (n : ℕ) (ph : Phase) (q : List ℕ) (es : List OpenShare) (v : units.Unit) → TakesSome S es v → TakesSome S (set_share n ph q es) v
   taking_set n ph q [] v h = let never : None ≡ Some h.0 = h.1 in cc
-  taking_set n ph q (x ∷ es) v h = elim (x.num == n) as (λ a. TakesSome S (if a then record x { phase = ph; queue = q } ∷ es else x ∷ set_share n ph q es) v) [
-    | true ↦ first (S.takes x.filter v) refl h.1
-    | false ↦ later (S.takes x.filter v) refl h.1 (λ is. taking_set n ph q es v (h.0, is))
-  ]
+  taking_set n ph q (x ∷ es) v h = by_if (λ r. TakesSome S r v) (x.num == n) (first (S.takes x.filter v) refl h.1)
+      (later (S.takes x.filter v) refl h.1 (λ is. taking_set n ph q es v (h.0, is)))
     where
       first : (b : Bool) → S.takes x.filter v ≡ b → (if b then Some x else share_taking S es v) ≡ Some h.0
           → TakesSome S (record x { phase = ph; queue = q } ∷ es) v
@@ -175,10 +173,9 @@ module _ {R : Type 0} (S : Sys R) where
   -- What a share is told, and what it sends
   module _ (A : Sharing S) where
     one_within : (g : Filter) (c : units.Unit × R) → S.takes g c.0 ≡ true → Within S g (c ∷ [])
-    one_within g c on v out = elim (same_unit v c.0) as (λ b. same_unit v c.0 ≡ b → (if b then Some c.1 else None) ≡ None) [
-      | true ↦ λ is. let same : v ≡ c.0 = same_unit-true v c.0 is in let never : true ≡ false = sym on ∙ ap (S.takes g) (sym same) ∙ out in cc
-      | false ↦ λ _. refl
-    ] refl
+    one_within g c on v out = split (same_unit v c.0) (λ b. (if b then Some c.1 else None) ≡ None)
+        (λ is. let same : v ≡ c.0 = same_unit-true v c.0 is in let never : true ≡ false = sym on ∙ ap (S.takes g) (sym same) ∙ out in cc)
+        (λ _. refl)
 
     abbrev pub TakenBy : OpenShare → ℕ → Type 0
     TakenBy e p = S.takes e.filter (S.packet_unit p) ≡ true

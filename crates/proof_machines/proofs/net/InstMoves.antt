@@ -2,8 +2,8 @@
 use Rattle.std.proofs.Common.{◌≡◌, ℕ, Bool, true, false, Option, Some, None, List, [], ◌∷◌, map, length, refl, sym, ap, ◌∙◌, subst}
 use Rattle.std.specs.Prelude.{if◌then◌else◌, ◌&&◌, ◌==◌}
 use Rattle.std.proofs.lemmas.Bool.{eqb-true, both_ways}
-use Rattle.proof_machines.proofs.unit.Machine.{Where, At_a, At_b, joined, Rule, Part, Inst, Did, sends as did_sends, Item, Enable, Enabled, Stream, Delete}
-use Rattle.proof_machines.proofs.unit.Machine.{Deleted, Put, Restore, Restored, Event, Piece, Put_ok, Put_no, Fenced, Forward, Fence_to, Install, Stray}
+use Rattle.proof_machines.proofs.unit.Machine.{Where, At_a, At_b, joined, Rule, Part, Inst, Did, sends as did_sends, Item, Enable, Stream, Delete}
+use Rattle.proof_machines.proofs.unit.Machine.{Put, Restore, Forward, Fence_to, Install, Stray}
 use Rattle.proof_machines.proofs.unit.UnitPieces.{ArePiecesOf}
 use Rattle.proof_machines.proofs.unit.Real as Real
 use Rattle.proof_machines.proofs.unit.Real.{Chunks, record_at, RPiece, M_enable, M_stream, M_delete, M_put, M_restore}
@@ -21,6 +21,7 @@ use Rattle.proof_machines.proofs.net.Insts.{InstanceGoes, does, ctrl_sends, ctrl
 use Rattle.nf_function.specs.declared.unit.Unit as units
 use Rattle.record_table.specs.Table.{is_among}
 use Rattle.nf_msgs.specs.declared.answer.Answer.{Answer}
+use Rattle.proof_machines.proofs.Tests.{split}
 
 module _ {R : Type 0} (S : Sys R) (laws : IsSys S) (z : Seeing) (num : (z.op.num == z.op.num) ≡ true) (w : Where) (i : NumberedInstance S) (x : Inst R)
     (s : SeesNode S z i x) where
@@ -79,35 +80,34 @@ module _ {R : Type 0} (S : Sys R) (laws : IsSys S) (z : Seeing) (num : (z.op.num
   enable_goes : (g : Filter) (m : ℕ) (k : Rule) → (S.takes g z.unit ≡ (m == n)) × (is_free k ≡ false)
       → MovesInstance (on_move S i g (M_enable m k)) (Real.seen fr (M_enable m k))
   enable_goes g m k l =
-      Any (λ parts refuse. elim (m == n) as (λ b. (m == n) ≡ b → Goes (on_move S i g (M_enable m k)) (do_it parts refuse (where_true b (Enable k)))) [
-        | true ↦ λ e.
-            let same : m ≡ n = eqb-true m n e in subst (λ q. Goes (on_move S i g (M_enable q k)) (do_it parts refuse (Some (Enable k)))) (sym same) (record {
-              node = record {
-                live = s.live;
-                rule = set_own_rule n g k i.rules num;
-                held = ap (only_mine fr) (set_own_held n g k i.rules num) ∙ s.held;
-                rules = label_set S laws z num n g k i.rules (subst (λ q. S.takes g z.unit ≡ (q == n)) same l.0, l.1) s.rules;
-              };
-              to_c = rw num refl;
-              others = λ j off. one_else S laws z num (M_enabled n) j off;
-              labels = ((refl, tt), tt);
-              ran = refl;
-            })
-        | false ↦ λ e.
-            let same = find_set_other n m g k i.rules e in
-            record {
-              node = record {
-                live = s.live;
-                rule = ap Rattle.proof_machines.proofs.net.Net.rule_of same ∙ s.rule;
-                held = ap (λ o. only_mine fr (held_of o)) same ∙ s.held;
-                rules = label_set S laws z num m g k i.rules l s.rules;
-              };
-              to_c = rw e refl;
-              others = λ j off. one_else S laws z num (M_enabled m) j off;
-              labels = ((refl, tt), tt);
-              ran = refl;
-            }
-      ] refl)
+      Any (λ parts refuse. split (m == n) (λ b. Goes (on_move S i g (M_enable m k)) (do_it parts refuse (where_true b (Enable k))))
+      (λ e.
+      let same : m ≡ n = eqb-true m n e in subst (λ q. Goes (on_move S i g (M_enable q k)) (do_it parts refuse (Some (Enable k)))) (sym same) (record {
+        node = record {
+          live = s.live;
+          rule = set_own_rule n g k i.rules num;
+          held = ap (only_mine fr) (set_own_held n g k i.rules num) ∙ s.held;
+          rules = label_set S laws z num n g k i.rules (subst (λ q. S.takes g z.unit ≡ (q == n)) same l.0, l.1) s.rules;
+        };
+        to_c = rw num refl;
+        others = λ j off. one_else S laws z num (M_enabled n) j off;
+        labels = ((refl, tt), tt);
+        ran = refl;
+      }))
+      (λ e.
+      let same = find_set_other n m g k i.rules e in
+      record {
+        node = record {
+          live = s.live;
+          rule = ap Rattle.proof_machines.proofs.net.Net.rule_of same ∙ s.rule;
+          held = ap (λ o. only_mine fr (held_of o)) same ∙ s.held;
+          rules = label_set S laws z num m g k i.rules l s.rules;
+        };
+        to_c = rw e refl;
+        others = λ j off. one_else S laws z num (M_enabled m) j off;
+        labels = ((refl, tt), tt);
+        ran = refl;
+      }))
 
   pieces_unseen : (m : ℕ) (ps : List (RPiece R)) → (m == n) ≡ false → view fr (map (λ p. M_piece m p) ps) ≡ []
   pieces_unseen m [] e = refl
@@ -121,48 +121,45 @@ module _ {R : Type 0} (S : Sys R) (laws : IsSys S) (z : Seeing) (num : (z.op.num
   stream_goes : (g : Filter) (m : ℕ) → S.takes g z.unit ≡ (m == n) → MovesInstance (on_move S i g (M_stream m)) (Real.seen fr (M_stream m))
   stream_goes g m l =
       let xs : Chunks R = S.B.select (S.takes g) i.live in
-      elim (m == n) as (λ b. (m == n) ≡ b → MovesInstance (on_move S i g (M_stream m)) (where_true b Stream)) [
-        | true ↦ λ e.
-            let same : m ≡ n = eqb-true m n e in
-            let takes : S.takes g z.unit ≡ true = l ∙ e in
-            let parts = parts_of S.F S.B laws.laws w fr x i.live s.live num (length xs) (S.newest xs) (S.takes g) in
-            subst (λ q. MovesInstance (on_move S i g (M_stream q)) (Some Stream)) (sym same)
-            (Streams_out parts (stream_seen S.F S.B laws.laws w fr x i.live s.live num (length xs) (S.newest xs) (S.takes g) None takes).1 refl
-            (λ refuse. of_table (r_stream S.F S.B n (length xs) (S.newest xs) (S.takes g) i.live) (do_it parts refuse (Some Stream))
-            (stream_seen S.F S.B laws.laws w fr x i.live s.live num (length xs) (S.newest xs) (S.takes g) refuse takes).0
-            (pieces_label n (marks (length xs) (S.newest xs) (chop (length xs) xs)) (λ off. absurd (both_ways (n == n) off num)))))
-        | false ↦ λ e.
-            let out : S.takes g z.unit ≡ false = l ∙ e in
-            let none : all_at z.unit xs ≡ [] = laws.laws.selected z.unit (S.takes g) i.live ∙ rw out refl in
-            Any (λ parts refuse. of_other (r_stream S.F S.B m (length xs) (S.newest xs) (S.takes g) i.live)
-            refl (pieces_unseen m (marks (length xs) (S.newest xs) (chop (length xs) xs)) e)
-            (pieces_label m (marks (length xs) (S.newest xs) (chop (length xs) xs))
-            (λ _. cut_foreign z.unit (length xs) (S.newest xs) (chop (length xs) xs) (ap (all_at z.unit) (joined-chop (length xs) xs) ∙ none))))
-      ] refl
+      split (m == n) (λ b. MovesInstance (on_move S i g (M_stream m)) (where_true b Stream))
+      (λ e.
+      let same : m ≡ n = eqb-true m n e in
+      let takes : S.takes g z.unit ≡ true = l ∙ e in
+      let parts = parts_of S.F S.B laws.laws w fr x i.live s.live num (length xs) (S.newest xs) (S.takes g) in
+      subst (λ q. MovesInstance (on_move S i g (M_stream q)) (Some Stream)) (sym same)
+      (Streams_out parts (stream_seen S.F S.B laws.laws w fr x i.live s.live num (length xs) (S.newest xs) (S.takes g) None takes).1 refl
+      (λ refuse. of_table (r_stream S.F S.B n (length xs) (S.newest xs) (S.takes g) i.live) (do_it parts refuse (Some Stream))
+      (stream_seen S.F S.B laws.laws w fr x i.live s.live num (length xs) (S.newest xs) (S.takes g) refuse takes).0
+      (pieces_label n (marks (length xs) (S.newest xs) (chop (length xs) xs)) (λ off. absurd (both_ways (n == n) off num))))))
+      (λ e.
+      let out : S.takes g z.unit ≡ false = l ∙ e in
+      let none : all_at z.unit xs ≡ [] = laws.laws.selected z.unit (S.takes g) i.live ∙ rw out refl in
+      Any (λ parts refuse. of_other (r_stream S.F S.B m (length xs) (S.newest xs) (S.takes g) i.live)
+      refl (pieces_unseen m (marks (length xs) (S.newest xs) (chop (length xs) xs)) e)
+      (pieces_label m (marks (length xs) (S.newest xs) (chop (length xs) xs))
+      (λ _. cut_foreign z.unit (length xs) (S.newest xs) (chop (length xs) xs) (ap (all_at z.unit) (joined-chop (length xs) xs) ∙ none)))))
 
   delete_goes : (g : Filter) (m : ℕ) (us : List units.Unit) → ((m == n) ≡ false → is_among us z.unit ≡ false)
       → MovesInstance (on_move S i g (M_delete m us)) (Real.seen fr (M_delete m us))
   delete_goes g m us l = Any (λ parts refuse.
-      elim (m == n) as (λ b. (m == n) ≡ b → Goes (on_move S i g (M_delete m us)) (do_it parts refuse (where_true b (Delete (is_among us z.unit))))) [
-        | true ↦ λ e. let same : m ≡ n = eqb-true m n e in
-            subst (λ q. Goes (on_move S i g (M_delete q us)) (do_it parts refuse (Some (Delete (is_among us z.unit))))) (sym same)
-            (of_table (r_delete S.F S.B n us i.live) (do_it parts refuse (Some (Delete (is_among us z.unit))))
-            (delete_seen S.F S.B laws.laws w fr x i.live s.live num us parts refuse) ((refl, tt), tt))
-        | false ↦ λ e. of_other (r_delete S.F S.B m us i.live) (laws.laws.removed z.unit us i.live ∙ (let out = l e in rw out refl)) (rw e refl)
-            ((refl, tt), tt)
-      ] refl)
+      split (m == n) (λ b. Goes (on_move S i g (M_delete m us)) (do_it parts refuse (where_true b (Delete (is_among us z.unit)))))
+      (λ e. let same : m ≡ n = eqb-true m n e in
+      subst (λ q. Goes (on_move S i g (M_delete q us)) (do_it parts refuse (Some (Delete (is_among us z.unit))))) (sym same)
+      (of_table (r_delete S.F S.B n us i.live) (do_it parts refuse (Some (Delete (is_among us z.unit))))
+      (delete_seen S.F S.B laws.laws w fr x i.live s.live num us parts refuse) ((refl, tt), tt)))
+      (λ e. of_other (r_delete S.F S.B m us i.live) (laws.laws.removed z.unit us i.live ∙ (let out = l e in rw out refl)) (rw e refl)
+      ((refl, tt), tt)))
 
   restore_goes : (g : Filter) (m : ℕ) (cs : Chunks R) → ((m == n) ≡ false → record_at z.unit cs ≡ None)
       → MovesInstance (on_move S i g (M_restore m cs)) (Real.seen fr (M_restore m cs))
   restore_goes g m cs l = Any (λ parts refuse.
-      elim (m == n) as (λ b. (m == n) ≡ b → Goes (on_move S i g (M_restore m cs)) (do_it parts refuse (where_true b (Restore (record_at z.unit cs))))) [
-        | true ↦ λ e. let same : m ≡ n = eqb-true m n e in
-            subst (λ q. Goes (on_move S i g (M_restore q cs)) (do_it parts refuse (Some (Restore (record_at z.unit cs))))) (sym same)
-            (of_table (r_restore S.F S.B n cs i.live) (do_it parts refuse (Some (Restore (record_at z.unit cs))))
-            (restore_seen S.F S.B laws.laws w fr x i.live s.live num cs parts refuse) ((refl, tt), tt))
-        | false ↦ λ e. of_other (r_restore S.F S.B m cs i.live) (laws.laws.restored z.unit cs i.live ∙ ap (λ o. joined S.F o (S.B.at z.unit i.live)) (l e))
-            (rw e refl) ((refl, tt), tt)
-      ] refl)
+      split (m == n) (λ b. Goes (on_move S i g (M_restore m cs)) (do_it parts refuse (where_true b (Restore (record_at z.unit cs)))))
+      (λ e. let same : m ≡ n = eqb-true m n e in
+      subst (λ q. Goes (on_move S i g (M_restore q cs)) (do_it parts refuse (Some (Restore (record_at z.unit cs))))) (sym same)
+      (of_table (r_restore S.F S.B n cs i.live) (do_it parts refuse (Some (Restore (record_at z.unit cs))))
+      (restore_seen S.F S.B laws.laws w fr x i.live s.live num cs parts refuse) ((refl, tt), tt)))
+      (λ e. of_other (r_restore S.F S.B m cs i.live) (laws.laws.restored z.unit cs i.live ∙ ap (λ o. joined S.F o (S.B.at z.unit i.live)) (l e))
+      (rw e refl) ((refl, tt), tt)))
 
   -- a put, by whether it is the first, refused, the last
   put_label : (m : ℕ) (p : RPiece R) (first : Bool) (refuse : Option Answer) (last : Bool) → p.last ≡ last → ((m == n) ≡ false → Without z.unit p)
@@ -181,18 +178,17 @@ module _ {R : Type 0} (S : Sys R) (laws : IsSys S) (z : Seeing) (num : (z.op.num
 
   put_goes : (g : Filter) (m : ℕ) (p : RPiece R) (first : Bool) → ((m == n) ≡ false → Without z.unit p)
       → MovesInstance (on_move S i g (M_put m p first)) (Real.seen fr (M_put m p first))
-  put_goes g m p first l = elim (m == n) as (λ b. (m == n) ≡ b → MovesInstance (on_move S i g (M_put m p first)) (where_true b (Put (see fr p) first))) [
-    | true ↦ λ e.
-        let same : m ≡ n = eqb-true m n e in
-        subst (λ q. MovesInstance (on_move S i g (M_put q p first)) (Some (Put (see fr p) first))) (sym same)
-        (Puts_in (S.refuse i.room i.live p) (see fr p) first refl (λ parts. of_table (r_put S.F S.B n first (S.refuse i.room i.live p) p i.live)
-        (do_it parts (S.refuse i.room i.live p) (Some (Put (see fr p) first))) (put_seen S.F S.B laws.laws w fr x i.live s.live num p first p.last parts
-        (S.refuse i.room i.live p) refl) (put_label n p first (S.refuse i.room i.live p) p.last refl (λ off. absurd (both_ways (n == n) off num)))))
-    | false ↦ λ e.
-        let q = put_other m p first (S.refuse i.room i.live p) p.last refl e (l e) in
-        Any (λ parts refuse. of_other (r_put S.F S.B m first (S.refuse i.room i.live p) p i.live) q.0 q.1
-        (put_label m p first (S.refuse i.room i.live p) p.last refl l))
-  ] refl
+  put_goes g m p first l = split (m == n) (λ b. MovesInstance (on_move S i g (M_put m p first)) (where_true b (Put (see fr p) first)))
+      (λ e.
+      let same : m ≡ n = eqb-true m n e in
+      subst (λ q. MovesInstance (on_move S i g (M_put q p first)) (Some (Put (see fr p) first))) (sym same)
+      (Puts_in (S.refuse i.room i.live p) (see fr p) first refl (λ parts. of_table (r_put S.F S.B n first (S.refuse i.room i.live p) p i.live)
+      (do_it parts (S.refuse i.room i.live p) (Some (Put (see fr p) first))) (put_seen S.F S.B laws.laws w fr x i.live s.live num p first p.last parts
+      (S.refuse i.room i.live p) refl) (put_label n p first (S.refuse i.room i.live p) p.last refl (λ off. absurd (both_ways (n == n) off num))))))
+      (λ e.
+      let q = put_other m p first (S.refuse i.room i.live p) p.last refl e (l e) in
+      Any (λ parts refuse. of_other (r_put S.F S.B m first (S.refuse i.room i.live p) p i.live) q.0 q.1
+      (put_label m p first (S.refuse i.room i.live p) p.last refl l)))
 
   side_idle : (b c : Bool) (it : Where → Item R)
       → ((v : Where) (parts : List (Part R)) (refuse : Option Answer) → do_it parts refuse (Some (it v)) ≡ did_sends x [])
@@ -206,6 +202,10 @@ module _ {R : Type 0} (S : Sys R) (laws : IsSys S) (z : Seeing) (num : (z.op.num
   when_seen true it e parts refuse = e parts refuse
   when_seen false it e parts refuse = refl
 
+  seen_idle : (o : Option (Item R)) (b : Bool) (it : Item R) → o ≡ where_true b it
+      → ((parts : List (Part R)) (refuse : Option Answer) → do_it parts refuse (Some it) ≡ did_sends x []) → MovesInstance (says S i []) o
+  seen_idle o b it e idle = idle_on o (λ parts refuse. ap (do_it parts refuse) e ∙ when_seen b it idle parts refuse)
+
   install_idle : (b : Bool) (parts : List (Part R)) (refuse : Option Answer) → do_it parts refuse (Some (if b then Install else Stray)) ≡ did_sends x []
   install_idle true parts refuse = refl
   install_idle false parts refuse = refl
@@ -216,17 +216,10 @@ module _ {R : Type 0} (S : Sys R) (laws : IsSys S) (z : Seeing) (num : (z.op.num
   move_goes g (M_delete m us) l = delete_goes g m us l
   move_goes g (M_put m p first) l = put_goes g m p first l
   move_goes g (M_restore m cs) l = restore_goes g m cs l
-  move_goes g (M_enabled m) l = idle_on (Real.seen fr (M_enabled m)) (when_seen (m == n) Enabled (λ _ _. refl))
-  move_goes g (M_event m p) l = idle_on (Real.seen fr (M_event m p)) (when_seen (fr.mine p) (Event p) (λ _ _. refl))
-  move_goes g (M_piece m p) l = idle_on (Real.seen fr (M_piece m p)) (when_seen (m == n) (Piece (see fr p)) (λ _ _. refl))
-  move_goes g (M_deleted m) l = idle_on (Real.seen fr (M_deleted m)) (when_seen (m == n) Deleted (λ _ _. refl))
-  move_goes g (M_put_ok m) l = idle_on (Real.seen fr (M_put_ok m)) (when_seen (m == n) Put_ok (λ _ _. refl))
-  move_goes g (M_put_no m why cs) l = idle_on (Real.seen fr (M_put_no m why cs)) (when_seen (m == n) (Put_no why (record_at z.unit cs)) (λ _ _. refl))
-  move_goes g (M_restored m) l = idle_on (Real.seen fr (M_restored m)) (when_seen (m == n) Restored (λ _ _. refl))
-  move_goes g (M_fenced m) l = idle_on (Real.seen fr (M_fenced m)) (when_seen (m == n) Fenced (λ _ _. refl))
   move_goes g (M_forward p to) l = idle_on (Real.seen fr (M_forward p to))
       (when_seen (fr.mine p) (sends_to fr to (λ v. Forward v p)) (side_idle (to == fr.from) (to == fr.to) (λ v. Forward v p) (λ _ _ _. refl)))
   move_goes g (M_install m from to) l = idle_on (Real.seen fr (M_install m from to))
       (when_seen (m == n) (if (from == fr.from) && (to == fr.to) then Install else Stray) (install_idle ((from == fr.from) && (to == fr.to))))
   move_goes g (M_fence_to m to) l = idle_on (Real.seen fr (M_fence_to m to))
       (when_seen (m == n) (sends_to fr to (λ v. Fence_to v)) (side_idle (to == fr.from) (to == fr.to) (λ v. Fence_to v) (λ _ _ _. refl)))
+  move_goes g m l = seen_idle (Real.seen fr m) _ _ refl (λ _ _. refl)

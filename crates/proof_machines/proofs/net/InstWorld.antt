@@ -23,6 +23,7 @@ use Rattle.proof_machines.proofs.net.InstMoves.{MovesInstance, Any, Streams_out,
 use Rattle.proof_machines.proofs.net.Links.{sent, head, view_some, view_none, done_of-append, done_at, each_after}
 use Rattle.proof_machines.proofs.net.OnLinks.{no_put, no_stream, ok_head, ca_kind, cb_kind}
 use Rattle.nf_msgs.specs.declared.answer.Answer.{Answer}
+use Rattle.proof_machines.proofs.Tests.{either_way, split}
 
 falsely : false ≡ true → ⊥
 falsely e = cc
@@ -86,8 +87,7 @@ module _ {R : Type 0} (S : Sys R) (laws : IsSys S) (z : Seeing) where
     step_at wh k n (Pass_on q) l = Any (λ parts refuse. pass_goes S laws z num wh i k n q parts refuse)
     step_at wh k n (Fence_on q) l = Any (λ parts refuse. fence_goes S laws z num wh i k n q parts refuse)
     step_at wh k n (Mv g q) l = move_goes S laws z num wh i k n g q l.1
-    step_at wh k n (In_packet q) l = Any (λ parts refuse. record { node = n; to_c = refl; others = λ j e. refl; labels = tt; ran = refl })
-    step_at wh k n (Asked q) l = Any (λ parts refuse. record { node = n; to_c = refl; others = λ j e. refl; labels = tt; ran = refl })
+    step_at wh k n m l = Any (λ parts refuse. record { node = n; to_c = refl; others = λ j e. refl; labels = tt; ran = refl })
 
     -- from the switch none is of a move
     plain_at : (wh : Where) (k : Inst R) (n : SeesNode S z i k) → (m : Msg R) → Label S z 0 m
@@ -96,8 +96,7 @@ module _ {R : Type 0} (S : Sys R) (laws : IsSys S) (z : Seeing) where
     plain_at wh k n (Pass_on q) l = pass_goes S laws z num wh i k n q [] None
     plain_at wh k n (Fence_on q) l = fence_goes S laws z num wh i k n q [] None
     plain_at wh k n (Mv g q) l = let never = l.0 in cc
-    plain_at wh k n (In_packet q) l = record { node = n; to_c = refl; others = λ j e. refl; labels = tt; ran = refl }
-    plain_at wh k n (Asked q) l = record { node = n; to_c = refl; others = λ j e. refl; labels = tt; ran = refl }
+    plain_at wh k n m l = record { node = n; to_c = refl; others = λ j e. refl; labels = tt; ran = refl }
 
     -- a state of the machine whose instance y did that, and whose links are these
     next_holds : (x' : State R) (d : Did R) → InstanceGoes S laws z num did d
@@ -109,11 +108,10 @@ module _ {R : Type 0} (S : Sys R) (laws : IsSys S) (z : Seeing) where
       nodes = h.nodes;
       views = views;
       labels = each_after (λ i j q. Label S z i q) w.link p y did.sends h.labels (relabel y did.sends y0 g.labels);
-      insts = λ k. elim (k == y) as (λ b. (k == y) ≡ b → SeesNode S z (if b then did.node else w.inst k) (node_at S z x' k)) [
-        | true ↦ λ e. let same : k ≡ y = (Decides-eqb k y).0 e in
-            subst (λ q. SeesNode S z did.node (node_at S z x' q)) (sym same) (subst (λ v. SeesNode S z did.node v) (sym own) g.node)
-        | false ↦ λ e. subst (λ v. SeesNode S z (w.inst k) v) (sym (rest_of k e)) (h.insts k)
-      ] refl;
+      insts = λ k. split (k == y) (λ b. SeesNode S z (if b then did.node else w.inst k) (node_at S z x' k))
+          (λ e. let same : k ≡ y = (Decides-eqb k y).0 e in
+          subst (λ q. SeesNode S z did.node (node_at S z x' q)) (sym same) (subst (λ v. SeesNode S z did.node v) (sym own) g.node))
+          (λ e. subst (λ v. SeesNode S z (w.inst k) v) (sym (rest_of k e)) (h.insts k));
       target = rw target h.target;
       ctrl = by_op (find_op w.ops z.op.num) h.ctrl;
       ops = h.ops;
@@ -150,10 +148,9 @@ module _ {R : Type 0} (S : Sys R) (laws : IsSys S) (z : Seeing) where
         quiet_of o (Puts_in refuse k first is f) e = let never : None ≡ Some (Put k first) = sym e ∙ is in cc
 
         sent_none : InstanceGoes S laws z num did (did_sends (node_at S z x y) []) → (j : ℕ) → sent S z y did.sends j ≡ []
-        sent_none g j = rw y0 (elim (1 == j) as (λ b. (1 == j) ≡ b → items (seen (frame S z)) (sent_for j did.sends) ≡ []) [
-          | true ↦ λ e. let same : 1 ≡ j = (Decides-eqb 1 j).0 e in subst (λ q. items (seen (frame S z)) (sent_for q did.sends) ≡ []) same g.to_c
-          | false ↦ λ e. g.others j e
-        ] refl)
+        sent_none g j = rw y0 (either_way (1 == j)
+            (λ e. let same : 1 ≡ j = (Decides-eqb 1 j).0 e in subst (λ q. items (seen (frame S z)) (sent_for q did.sends) ≡ []) same g.to_c)
+            (λ e. g.others j e))
 
     -- an item is seen
     module _ (it : Item R) (is : seen (frame S z) m ≡ Some it) where

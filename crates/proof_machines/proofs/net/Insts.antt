@@ -19,6 +19,7 @@ use Rattle.proof_machines.proofs.net.Holding.{Seeing, EachSent, frame, Label, Ru
 use Rattle.record_table.specs.Table.{same_unit}
 use Rattle.record_table.proofs.UnitOrder.{same_unit-true}
 use Rattle.nf_msgs.specs.declared.answer.Answer.{Answer}
+use Rattle.proof_machines.proofs.Tests.{either_way, split, by_if}
 
 module _ {R : Type 0} (S : Sys R) (laws : IsSys S) (z : Seeing) (num : (z.op.num == z.op.num) ≡ true) where
   abbrev fr : Frame
@@ -38,30 +39,26 @@ module _ {R : Type 0} (S : Sys R) (laws : IsSys S) (z : Seeing) (num : (z.op.num
   found_label : (m : ℕ) (rs : List Ruling) → Each (RuleLabel S z) rs → (m == n) ≡ false → only_mine fr (held_of (find_rule m rs)) ≡ []
   found_label m [] l off = refl
   found_label m (r ∷ rs) l off =
-      elim (r.num == m) as (λ b. (r.num == m) ≡ b → only_mine fr (held_of (if b then Some r else find_rule m rs)) ≡ []) [
-        | true ↦ λ e. l.0.1 (let same : r.num ≡ m = eqb-true r.num m e in rw same off)
-        | false ↦ λ _. found_label m rs l.1 off
-      ] refl
+      split (r.num == m) (λ b. only_mine fr (held_of (if b then Some r else find_rule m rs)) ≡ [])
+      (λ e. l.0.1 (let same : r.num ≡ m = eqb-true r.num m e in rw same off))
+      (λ _. found_label m rs l.1 off)
 
   -- another rule is taken away
   find_drop_other : (m : ℕ) (rs : List Ruling) → (m == n) ≡ false → find_rule n (drop_rule m rs) ≡ find_rule n rs
   find_drop_other m [] off = refl
   find_drop_other m (r ∷ rs) off =
-      elim (r.num == m)
-      as (λ b. (r.num == m) ≡ b → find_rule n (if b then drop_rule m rs else r ∷ drop_rule m rs) ≡ (if r.num == n then Some r else find_rule n rs)) [
-        | true ↦ λ e. let same : r.num ≡ m = eqb-true r.num m e in let out : (r.num == n) ≡ false = rw same off in rw out (find_drop_other m rs off)
-        | false ↦ λ _. ap (λ o. if r.num == n then Some r else o) (find_drop_other m rs off)
-      ] refl
+      split (r.num == m) (λ b. find_rule n (if b then drop_rule m rs else r ∷ drop_rule m rs) ≡ (if r.num == n then Some r else find_rule n rs))
+      (λ e. let same : r.num ≡ m = eqb-true r.num m e in let out : (r.num == n) ≡ false = rw same off in rw out (find_drop_other m rs off))
+      (λ _. ap (λ o. if r.num == n then Some r else o) (find_drop_other m rs off))
 
   -- a packet of another unit is held, and one of its own
   hold_else : (m p : ℕ) (rs : List Ruling) → mine p ≡ false → only_mine fr (held_of (find_rule n (hold m p rs))) ≡ only_mine fr (held_of (find_rule n rs))
   hold_else m p rs off =
-      elim (m == n) as (λ b. (m == n) ≡ b → only_mine fr (held_of (find_rule n (hold m p rs))) ≡ only_mine fr (held_of (find_rule n rs))) [
-        | true ↦ λ e. let same : m ≡ n = eqb-true m n e in
-            ap (λ k. only_mine fr (held_of (find_rule n (hold k p rs)))) same ∙ ap (λ o. only_mine fr (held_of o)) (find_hold_own n p rs)
-            ∙ still (find_rule n rs)
-        | false ↦ λ out. ap (λ o. only_mine fr (held_of o)) (find_hold_other n m p rs out)
-      ] refl
+      either_way (m == n)
+      (λ e. let same : m ≡ n = eqb-true m n e in
+      ap (λ k. only_mine fr (held_of (find_rule n (hold k p rs)))) same ∙ ap (λ o. only_mine fr (held_of o)) (find_hold_own n p rs)
+      ∙ still (find_rule n rs))
+      (λ out. ap (λ o. only_mine fr (held_of o)) (find_hold_other n m p rs out))
     where
       still : (o : Option Ruling) → only_mine fr (held_of (option_map (holding p) o)) ≡ only_mine fr (held_of o)
       still None = refl
@@ -72,8 +69,8 @@ module _ {R : Type 0} (S : Sys R) (laws : IsSys S) (z : Seeing) (num : (z.op.num
 
   drop_own : (rs : List Ruling) → find_rule n (drop_rule n rs) ≡ None
   drop_own [] = refl
-  drop_own (r ∷ rs) = elim (r.num == n) as (λ b. (r.num == n) ≡ b → find_rule n (if b then drop_rule n rs else r ∷ drop_rule n rs) ≡ None)
-      [ true ↦ λ e. drop_own rs | false ↦ λ e. rw e (drop_own rs) ] refl
+  drop_own (r ∷ rs) = split (r.num == n) (λ b. find_rule n (if b then drop_rule n rs else r ∷ drop_rule n rs) ≡ None) (λ e. drop_own rs)
+      (λ e. rw e (drop_own rs))
 
   -- labels of rules
   pub label_set : (m : ℕ) (g : Filter) (k : Rule) (rs : List Ruling) → (S.takes g z.unit ≡ (m == n)) × (is_free k ≡ false) → Each (RuleLabel S z) rs
@@ -83,8 +80,7 @@ module _ {R : Type 0} (S : Sys R) (laws : IsSys S) (z : Seeing) (num : (z.op.num
 
   label_drop : (m : ℕ) (rs : List Ruling) → Each (RuleLabel S z) rs → Each (RuleLabel S z) (drop_rule m rs)
   label_drop m [] l = tt
-  label_drop m (r ∷ rs) l = elim (r.num == m) as (λ b. Each (RuleLabel S z) (if b then drop_rule m rs else r ∷ drop_rule m rs))
-      [ true ↦ label_drop m rs l.1 | false ↦ (l.0, label_drop m rs l.1) ]
+  label_drop m (r ∷ rs) l = by_if (Each (RuleLabel S z)) (r.num == m) (label_drop m rs l.1) (l.0, label_drop m rs l.1)
 
   more_else : (h : List ℕ) (p : ℕ) → only_mine fr h ≡ [] → mine p ≡ false → only_mine fr (h ++ p ∷ []) ≡ []
   more_else h p e off = only_mine-append fr h (p ∷ []) ∙ rw (e, off) refl
@@ -106,11 +102,9 @@ module _ {R : Type 0} (S : Sys R) (laws : IsSys S) (z : Seeing) (num : (z.op.num
       → S.B.at z.unit (process_all S t ps) ≡ runs S.F o (map (on w) (only_mine fr ps))
   process_seen w t [] o e = e
   process_seen w t (p ∷ ps) o e =
-      elim (mine p) as (λ b. mine p ≡ b
-      → S.B.at z.unit (process_all S (process S t p) ps) ≡ runs S.F o (map (on w) (if b then p ∷ only_mine fr ps else only_mine fr ps))) [
-        | true ↦ λ is. process_seen w (process S t p) ps (Some (S.F.step o p)) (process_mine t p is ∙ ap (λ x. Some (S.F.step x p)) e)
-        | false ↦ λ off. process_seen w (process S t p) ps o (process_other t p off ∙ e)
-      ] refl
+      split (mine p) (λ b. S.B.at z.unit (process_all S (process S t p) ps) ≡ runs S.F o (map (on w) (if b then p ∷ only_mine fr ps else only_mine fr ps)))
+      (λ is. process_seen w (process S t p) ps (Some (S.F.step o p)) (process_mine t p is ∙ ap (λ x. Some (S.F.step x p)) e))
+      (λ off. process_seen w (process S t p) ps o (process_other t p off ∙ e))
 
   -- what an instance's step is to the unit
   pub record InstanceGoes (did : InstanceTurn S) (d : Did R) : Type 0 where
@@ -134,10 +128,9 @@ module _ {R : Type 0} (S : Sys R) (laws : IsSys S) (z : Seeing) (num : (z.op.num
 
   pub found_num : (rs : List Ruling) (r : Ruling) → find_rule n rs ≡ Some r → (r.num == n) ≡ true
   found_num [] r e = cc
-  found_num (x ∷ rs) r e = elim (x.num == n) as (λ b. (x.num == n) ≡ b → (if b then Some x else find_rule n rs) ≡ Some r → (r.num == n) ≡ true) [
-    | true ↦ λ t is. let same : x ≡ r = cc in rw (← same) t
-    | false ↦ λ t is. found_num rs r is
-  ] refl e
+  found_num (x ∷ rs) r e = split (x.num == n) (λ b. (if b then Some x else find_rule n rs) ≡ Some r → (r.num == n) ≡ true)
+      (λ t is. let same : x ≡ r = cc in rw (← same) t)
+      (λ t is. found_num rs r is) e
 
   -- what the machine's instance does on what is seen
   abbrev pub does : Where → List (Part R) → Option Answer → Inst R → Option (Item R) → Did R
@@ -219,53 +212,49 @@ module _ {R : Type 0} (S : Sys R) (laws : IsSys S) (z : Seeing) (num : (z.op.num
 
     pub carry_goes : (p : ℕ) (parts : List (Part R)) (refuse : Option Answer)
         → InstanceGoes (inst_step S i (Carry_on p)) (does w parts refuse x (seen fr (Carry_on p)))
-    carry_goes p parts refuse = elim (mine p)
-        as (λ b. mine p ≡ b → InstanceGoes (by_rule S i p (first_rule S (S.packet_unit p) i.rules)) (does w parts refuse x (where_true b (Carry p)))) [
-          | true ↦ λ is.
-              let same : S.packet_unit p ≡ z.unit = same_unit-true (S.packet_unit p) z.unit is in
-              let found : first_rule S (S.packet_unit p) i.rules ≡ find_rule n i.rules = ap (λ u. first_rule S u i.rules) same
-              ∙ first_is_found i.rules s.rules in
-              subst (λ o. InstanceGoes (by_rule S i p o) (carried S.F w x.rule x p)) (sym found) (rule_mine p (find_rule n i.rules) is refl)
-          | false ↦ λ off. rule_other p (first_rule S (S.packet_unit p) i.rules) off
-        ] refl
+    carry_goes p parts refuse = split (mine p)
+        (λ b. InstanceGoes (by_rule S i p (first_rule S (S.packet_unit p) i.rules)) (does w parts refuse x (where_true b (Carry p))))
+        (λ is.
+        let same : S.packet_unit p ≡ z.unit = same_unit-true (S.packet_unit p) z.unit is in
+        let found : first_rule S (S.packet_unit p) i.rules ≡ find_rule n i.rules = ap (λ u. first_rule S u i.rules) same
+        ∙ first_is_found i.rules s.rules in
+        subst (λ o. InstanceGoes (by_rule S i p o) (carried S.F w x.rule x p)) (sym found) (rule_mine p (find_rule n i.rules) is refl))
+        (λ off. rule_other p (first_rule S (S.packet_unit p) i.rules) off)
 
     pub pass_goes : (p : ℕ) (parts : List (Part R)) (refuse : Option Answer)
         → InstanceGoes (inst_step S i (Pass_on p)) (does w parts refuse x (seen fr (Pass_on p)))
-    pass_goes p parts refuse = elim (mine p) as (λ b. mine p ≡ b → InstanceGoes (runs_it S i p) (does w parts refuse x (where_true b (Pass p)))) [
-      | true ↦ λ is. runs_mine p is
-      | false ↦ λ off. runs_other p off
-    ] refl
+    pass_goes p parts refuse = split (mine p) (λ b. InstanceGoes (runs_it S i p) (does w parts refuse x (where_true b (Pass p)))) (λ is. runs_mine p is)
+        (λ off. runs_other p off)
 
     pub fence_goes : (m : ℕ) (parts : List (Part R)) (refuse : Option Answer)
         → InstanceGoes (inst_step S i (Fence_on m)) (does w parts refuse x (seen fr (Fence_on m)))
     fence_goes m parts refuse =
-        elim (m == n) as (λ b. (m == n) ≡ b → InstanceGoes (fenced S i m (held_of (find_rule m i.rules))) (does w parts refuse x (where_true b Fence))) [
-          | true ↦ λ e. let same : m ≡ n = eqb-true m n e in
-              subst (λ k. InstanceGoes (fenced S i k (held_of (find_rule k i.rules))) (inst_does S.F w parts refuse x Fence)) (sym same) (record {
-                node = record {
-                  live = process_seen w i.live (held_of (find_rule n i.rules)) x.live s.live ∙ ap (λ h. runs S.F x.live (map (on w) h)) s.held;
-                  rule = ap rule_of (drop_own i.rules);
-                  held = ap (λ o. only_mine fr (held_of o)) (drop_own i.rules);
-                  rules = label_drop n i.rules s.rules;
-                };
-                to_c = rw num refl;
-                others = λ j off. one_else (M_fenced n) j off;
-                labels = ((refl, tt), tt);
-                ran = s.held ∙ sym (firsts-on w x.held);
-              })
-          | false ↦ λ e.
-              let none = found_label m i.rules s.rules e in
-              let same = find_drop_other m i.rules e in
-              record {
-                node = record {
-                  live = process_seen w i.live (held_of (find_rule m i.rules)) x.live s.live ∙ ap (λ h. runs S.F x.live (map (on w) h)) none;
-                  rule = ap rule_of same ∙ s.rule;
-                  held = ap (λ o. only_mine fr (held_of o)) same ∙ s.held;
-                  rules = label_drop m i.rules s.rules;
-                };
-                to_c = rw e refl;
-                others = λ j off. one_else (M_fenced m) j off;
-                labels = ((refl, tt), tt);
-                ran = none;
-              }
-        ] refl
+        split (m == n) (λ b. InstanceGoes (fenced S i m (held_of (find_rule m i.rules))) (does w parts refuse x (where_true b Fence)))
+        (λ e. let same : m ≡ n = eqb-true m n e in
+        subst (λ k. InstanceGoes (fenced S i k (held_of (find_rule k i.rules))) (inst_does S.F w parts refuse x Fence)) (sym same) (record {
+          node = record {
+            live = process_seen w i.live (held_of (find_rule n i.rules)) x.live s.live ∙ ap (λ h. runs S.F x.live (map (on w) h)) s.held;
+            rule = ap rule_of (drop_own i.rules);
+            held = ap (λ o. only_mine fr (held_of o)) (drop_own i.rules);
+            rules = label_drop n i.rules s.rules;
+          };
+          to_c = rw num refl;
+          others = λ j off. one_else (M_fenced n) j off;
+          labels = ((refl, tt), tt);
+          ran = s.held ∙ sym (firsts-on w x.held);
+        }))
+        (λ e.
+        let none = found_label m i.rules s.rules e in
+        let same = find_drop_other m i.rules e in
+        record {
+          node = record {
+            live = process_seen w i.live (held_of (find_rule m i.rules)) x.live s.live ∙ ap (λ h. runs S.F x.live (map (on w) h)) none;
+            rule = ap rule_of same ∙ s.rule;
+            held = ap (λ o. only_mine fr (held_of o)) same ∙ s.held;
+            rules = label_drop m i.rules s.rules;
+          };
+          to_c = rw e refl;
+          others = λ j off. one_else (M_fenced m) j off;
+          labels = ((refl, tt), tt);
+          ran = none;
+        })

@@ -11,6 +11,7 @@ use Rattle.proof_machines.proofs.unit.NetViews.{items, items-append}
 use Rattle.proof_machines.proofs.net.Net.{Msg, Sys, seen, links_after, behind, at_node}
 use Rattle.proof_machines.proofs.net.Holding.{Seeing, EachSent, frame, shows, done_of}
 use Rattle.record_table.specs.Table.{same_unit}
+use Rattle.proof_machines.proofs.Tests.{split}
 
 pub each_behind : {X : Type 0} (P : X → Type 0) (b : Bool) (xs : List X) → Each P xs → Each P (behind b xs)
 each_behind P true [] h = tt
@@ -19,10 +20,9 @@ each_behind P false xs h = h
 
 pub each_sent : {M : Type 0} (P : ℕ → M → Type 0) (j : ℕ) (xs : List (ℕ × M)) → EachSent P xs → Each (P j) (sent_for j xs)
 each_sent P j [] h = tt
-each_sent P j (x ∷ xs) h = elim (x.0 == j) as (λ b. (x.0 == j) ≡ b → Each (P j) (if b then x.1 ∷ sent_for j xs else sent_for j xs)) [
-  | true ↦ λ e. (subst (λ r. P r x.1) ((Decides-eqb x.0 j).0 e) h.0, each_sent P j xs h.1)
-  | false ↦ λ _. each_sent P j xs h.1
-] refl
+each_sent P j (x ∷ xs) h = split (x.0 == j) (λ b. Each (P j) (if b then x.1 ∷ sent_for j xs else sent_for j xs))
+    (λ e. (subst (λ r. P r x.1) ((Decides-eqb x.0 j).0 e) h.0, each_sent P j xs h.1))
+    (λ _. each_sent P j xs h.1)
 
 -- each message anywhere, after a step
 pub each_after : {M : Type 0} (P : ℕ → ℕ → M → Type 0) (l : ℕ → ℕ → List M) (p y : ℕ) (sends : List (ℕ × M))
@@ -30,10 +30,9 @@ pub each_after : {M : Type 0} (P : ℕ → ℕ → M → Type 0) (l : ℕ → �
     → Each (P i j) (links_after l p y sends i j)
 each_after P l p y sends h s i j off =
     each-append (P i j) (behind ((i == p) && (j == y)) (l i j)) (if i == y then sent_for j sends else []) (each_behind (P i j) ((i == p) && (j == y))
-    (l i j) (h i j off)) (elim (i == y) as (λ b. (i == y) ≡ b → Each (P i j) (if b then sent_for j sends else [])) [
-      | true ↦ λ e. let same : i ≡ y = (Decides-eqb i y).0 e in rw same (each_sent (P y) j sends s)
-      | false ↦ λ _. tt
-    ] refl)
+    (l i j) (h i j off)) (split (i == y) (λ b. Each (P i j) (if b then sent_for j sends else []))
+    (λ e. let same : i ≡ y = (Decides-eqb i y).0 e in rw same (each_sent (P y) j sends s))
+    (λ _. tt))
 
 -- and where something is put on node y's links alone
 pub each_put : {M : Type 0} (P : ℕ → ℕ → M → Type 0) (l : ℕ → ℕ → List M) (y : ℕ) (sends : List (ℕ × M))
@@ -41,10 +40,9 @@ pub each_put : {M : Type 0} (P : ℕ → ℕ → M → Type 0) (l : ℕ → ℕ 
     → Each (P i j) (l i j ++ (if i == y then sent_for j sends else []))
 each_put P l y sends h s i j off =
     each-append (P i j) (l i j) (if i == y then sent_for j sends else []) (h i j off)
-    (elim (i == y) as (λ b. (i == y) ≡ b → Each (P i j) (if b then sent_for j sends else [])) [
-      | true ↦ λ e. let same : i ≡ y = (Decides-eqb i y).0 e in rw same (each_sent (P y) j sends s)
-      | false ↦ λ _. tt
-    ] refl)
+    (split (i == y) (λ b. Each (P i j) (if b then sent_for j sends else []))
+    (λ e. let same : i ≡ y = (Decides-eqb i y).0 e in rw same (each_sent (P y) j sends s))
+    (λ _. tt))
 
 module _ {R : Type 0} (S : Sys R) (z : Seeing) where
   abbrev its : List (Msg R) → List (Item R)
@@ -56,29 +54,26 @@ module _ {R : Type 0} (S : Sys R) (z : Seeing) where
 
   nothing_in : (y i j : ℕ) (sends : List (ℕ × Msg R)) → (i == 0) && (j == 0) ≡ true → (if i == y then sent y sends j else []) ≡ []
   nothing_in y i j sends on =
-      elim (i == y) as (λ b. (i == y) ≡ b → (if b then sent y sends j else []) ≡ []) [
-        | true ↦ λ e. let same : i ≡ y = (Decides-eqb i y).0 e in let here : (y == 0) && (j == 0) ≡ true = rw (← same) on in rw here refl
-        | false ↦ λ _. refl
-      ] refl
+      split (i == y) (λ b. (if b then sent y sends j else []) ≡ [])
+      (λ e. let same : i ≡ y = (Decides-eqb i y).0 e in let here : (y == 0) && (j == 0) ≡ true = rw (← same) on in rw here refl)
+      (λ _. refl)
 
   sent_out : (y i j : ℕ) (sends : List (ℕ × Msg R)) → (i == 0) && (j == 0) ≡ false
       → its (if i == y then sent_for j sends else []) ≡ (if i == y then sent y sends j else [])
   sent_out y i j sends off =
-      elim (i == y) as (λ b. (i == y) ≡ b → its (if b then sent_for j sends else []) ≡ (if b then sent y sends j else [])) [
-        | true ↦ λ e. let same : i ≡ y = (Decides-eqb i y).0 e in let here : (y == 0) && (j == 0) ≡ false = rw (← same) off in rw here refl
-        | false ↦ λ _. refl
-      ] refl
+      split (i == y) (λ b. its (if b then sent_for j sends else []) ≡ (if b then sent y sends j else []))
+      (λ e. let same : i ≡ y = (Decides-eqb i y).0 e in let here : (y == 0) && (j == 0) ≡ false = rw (← same) off in rw here refl)
+      (λ _. refl)
 
   -- put on a node's links alone
   pub view_put : (l : ℕ → ℕ → List (Msg R)) (y : ℕ) (sends : List (ℕ × Msg R)) (i j : ℕ)
       → shows S z (λ i j. l i j ++ (if i == y then sent_for j sends else [])) i j ≡ shows S z l i j ++ (if i == y then sent y sends j else [])
   view_put l y sends i j =
-      elim ((i == 0) && (j == 0)) as (λ t. (i == 0) && (j == 0) ≡ t → (if t then [] else its (l i j ++ (if i == y then sent_for j sends else [])))
-      ≡ (if t then [] else its (l i j)) ++ (if i == y then sent y sends j else [])) [
-        | true ↦ λ on. sym (nothing_in y i j sends on)
-        | false ↦ λ off. items-append (seen (frame S z)) (l i j) (if i == y then sent_for j sends else [])
-            ∙ ap (λ v. its (l i j) ++ v) (sent_out y i j sends off)
-      ] refl
+      split ((i == 0) && (j == 0)) (λ t. (if t then [] else its (l i j ++ (if i == y then sent_for j sends else []))) ≡ (if t then [] else its (l i j))
+      ++ (if i == y then sent y sends j else []))
+      (λ on. sym (nothing_in y i j sends on))
+      (λ off. items-append (seen (frame S z)) (l i j) (if i == y then sent_for j sends else [])
+      ∙ ap (λ v. its (l i j) ++ v) (sent_out y i j sends off))
 
   module _ (l : ℕ → ℕ → List (Msg R)) (p y : ℕ) (m : Msg R) (rest : List (Msg R)) (waits : l p y ≡ m ∷ rest) (no_input : (p == 0) && (y == 0) ≡ false)
       (sends : List (ℕ × Msg R)) where
@@ -98,14 +93,14 @@ module _ {R : Type 0} (S : Sys R) (z : Seeing) where
     pub view_some : (it : Item R) → seen (frame S z) m ≡ Some it → (i j : ℕ)
         → shows S z (links_after l p y sends) i j ≡ after_take p y (shows S z l) (sent y sends) i j
     view_some it is i j =
-        elim ((i == 0) && (j == 0)) as (λ t. (i == 0) && (j == 0) ≡ t → (if t then [] else its (links_after l p y sends i j)) ≡ (if (i == p) && (j == y)
-        then drop 1 (if t then [] else its (l i j)) else (if t then [] else its (l i j))) ++ (if i == y then sent y sends j else [])) [
-          | true ↦ λ on. sym (ap (λ v. (if (i == p) && (j == y) then [] else []) ++ v) (nothing_in y i j sends on)
-              ∙ append-nil (if (i == p) && (j == y) then [] else []) ∙ neither ((i == p) && (j == y)))
-          | false ↦ λ off. subst (λ t. (if t then [] else its (links_after l p y sends i j))
-              ≡ (if (i == p) && (j == y) then drop 1 (its (l i j)) else its (l i j)) ++ (if i == y then sent y sends j else []))
-              off (after_raw i j (if (i == p) && (j == y) then drop 1 (its (l i j)) else its (l i j)) off (left i j ((i == p) && (j == y)) refl))
-        ] refl
+        split ((i == 0) && (j == 0)) (λ t. (if t then [] else its (links_after l p y sends i j)) ≡
+        (if (i == p) && (j == y) then drop 1 (if t then [] else its (l i j)) else (if t then [] else its (l i j)))
+        ++ (if i == y then sent y sends j else []))
+        (λ on. sym (ap (λ v. (if (i == p) && (j == y) then [] else []) ++ v) (nothing_in y i j sends on)
+        ∙ append-nil (if (i == p) && (j == y) then [] else []) ∙ neither ((i == p) && (j == y))))
+        (λ off. subst (λ t. (if t then [] else its (links_after l p y sends i j))
+        ≡ (if (i == p) && (j == y) then drop 1 (its (l i j)) else its (l i j)) ++ (if i == y then sent y sends j else []))
+        off (after_raw i j (if (i == p) && (j == y) then drop 1 (its (l i j)) else its (l i j)) off (left i j ((i == p) && (j == y)) refl)))
       where
         left : (i j : ℕ) (b : Bool) → (i == p) && (j == y) ≡ b → its (behind b (l i j)) ≡ (if b then drop 1 (its (l i j)) else its (l i j))
         left i j true e = let at = both_same i j e in rw (at, is) refl
@@ -114,12 +109,11 @@ module _ {R : Type 0} (S : Sys R) (z : Seeing) where
     -- nothing is seen of what is taken
     pub view_none : seen (frame S z) m ≡ None → (i j : ℕ) → shows S z (links_after l p y sends) i j ≡ shows S z l i j ++ (if i == y then sent y sends j else [])
     view_none is i j =
-        elim ((i == 0) && (j == 0)) as (λ t. (i == 0) && (j == 0) ≡ t
-        → (if t then [] else its (links_after l p y sends i j)) ≡ (if t then [] else its (l i j)) ++ (if i == y then sent y sends j else [])) [
-          | true ↦ λ on. sym (nothing_in y i j sends on)
-          | false ↦ λ off. subst (λ t. (if t then [] else its (links_after l p y sends i j)) ≡ its (l i j) ++ (if i == y then sent y sends j else [])) off
-              (after_raw i j (its (l i j)) off (left i j ((i == p) && (j == y)) refl))
-        ] refl
+        split ((i == 0) && (j == 0)) (λ t. (if t then [] else its (links_after l p y sends i j)) ≡ (if t then [] else its (l i j))
+        ++ (if i == y then sent y sends j else []))
+        (λ on. sym (nothing_in y i j sends on))
+        (λ off. subst (λ t. (if t then [] else its (links_after l p y sends i j)) ≡ its (l i j) ++ (if i == y then sent y sends j else [])) off
+        (after_raw i j (its (l i j)) off (left i j ((i == p) && (j == y)) refl)))
       where
         left : (i j : ℕ) (b : Bool) → (i == p) && (j == y) ≡ b → its (behind b (l i j)) ≡ its (l i j)
         left i j true e = let at = both_same i j e in rw (at, is) refl

@@ -11,7 +11,7 @@ use Rattle.proof_machines.proofs.unit.SeenInst.{r_put}
 use Rattle.proof_machines.proofs.share.Share as share
 use Rattle.proof_machines.proofs.share.Share.{Item, Item.Carry, Item.Fence, Item.Fenced, Item.Stray, Did, member_does}
 use Rattle.flow_filter.specs.declared.filter.Filter.{Filter}
-use Rattle.proof_machines.proofs.net.Net.{Msg, Msg.In_packet, Msg.Asked, Msg.Carry_on, Msg.Pass_on, Msg.Fence_on, Msg.Mv, Sys, IsSys}
+use Rattle.proof_machines.proofs.net.Net.{Msg, Msg.Carry_on, Msg.Pass_on, Msg.Fence_on, Msg.Mv, Sys, IsSys}
 use Rattle.proof_machines.proofs.net.Net.{Ruling, first_rule, to_ctrl, NumberedInstance, by_kind, by_rule, on_move, inst_step}
 use Rattle.proof_machines.proofs.net.Holding.{EachSent}
 use Rattle.proof_machines.proofs.net.Rest.{NothingOf}
@@ -20,6 +20,7 @@ use Rattle.proof_machines.proofs.net.ShareViews.{mine, unit_share, move_seen, ol
 use Rattle.proof_machines.proofs.net.MemberSteps.{any_step, as_was, does, SeesMember, ran_at}
 use Rattle.proof_machines.proofs.net.Shares.{Any.Old, as_old, Sharing, SeeingShare}
 use Rattle.nf_msgs.specs.declared.answer.Answer.{Answer}
+use Rattle.proof_machines.proofs.Tests.{split}
 
 module _ {R : Type 0} (S : Sys R) (A : Sharing S) (z : SeeingShare) where
   -- sends of which the unit sees nothing
@@ -129,13 +130,11 @@ module _ {R : Type 0} (S : Sys R) (A : Sharing S) (z : SeeingShare) where
     pub moves_sees : (k : ℕ) (m : Msg R) → LeavesInstance S laws z.unit i (inst_step S i m) (packet_in S laws z.unit m) → NothingOf S z.unit k m → AtHome m
         → Sees m (does S A laws z y own (old_seen S A z m))
     moves_sees k (Carry_on p) h l home =
-        elim (mine S A z p) as (λ b. mine S A z p ≡ b → LeavesInstance S laws z.unit i (inst_step S i (Carry_on p)) (if b then p ∷ [] else [])
-        → Sees (Carry_on p) (does S A laws z y own (where_true b (Carry p)))) [
-          | true ↦ λ on g. packet p (home on) g
-          | false ↦ λ _ g. quiet (Carry_on p) (as_was S A laws z own) g refl refl refl
-        ] refl h
+        split (mine S A z p) (λ b. LeavesInstance S laws z.unit i (inst_step S i (Carry_on p)) (if b then p ∷ [] else [])
+        → Sees (Carry_on p) (does S A laws z y own (where_true b (Carry p))))
+        (λ on g. packet p (home on) g)
+        (λ _ g. quiet (Carry_on p) (as_was S A laws z own) g refl refl refl) h
     moves_sees k (Pass_on p) h off home = rw off (quiet (Pass_on p) (as_was S A laws z own) h refl refl refl)
     moves_sees k (Fence_on n) h l home = fence n (n == z.num) refl h
     moves_sees k (Mv g m) h l home = let e = move_idle m in subst (λ d. Sees (Mv g m) d) (sym e) (quiet (Mv g m) (as_was S A laws z own) h refl refl refl)
-    moves_sees k (In_packet p) h l home = quiet (In_packet p) (as_was S A laws z own) h refl refl refl
-    moves_sees k (Asked x) h l home = quiet (Asked x) (as_was S A laws z own) h refl refl refl
+    moves_sees k m h l home = quiet m (as_was S A laws z own) h refl refl refl

@@ -20,6 +20,7 @@ use Rattle.proof_machines.proofs.net.Shares.{Any, Any.Old, Any.New, ShareMsg, Sh
 use Rattle.proof_machines.proofs.net.Shares.{ShareMsg.S_forward, ShareMsg.S_get, ShareMsg.S_sync, ShareMsg.S_chunks, ShareMsg.S_shared, ShareMsg.S_synced, same}
 use Rattle.proof_machines.proofs.net.Shares.{as_old, Sharing, IsSharing, shared_chunk, MemberTurn, member_step, ran_of, SeeingShare}
 use Rattle.record_table.proofs.UnitOrder.{same_unit_equiv, same_unit-true}
+use Rattle.proof_machines.proofs.Tests.{split}
 
 pub same_true : (b : Bool) → same true b ≡ true → b ≡ true
 same_true true e = refl
@@ -60,11 +61,11 @@ module _ {R : Type 0} (S : Sys R) (A : Sharing S) (laws : IsSys S) (z : SeeingSh
 
   -- A packet in a table
   process_at : (t : S.B.T) (p : ℕ) → S.B.at z.unit (process S t p) ≡ (if mine S A z p then Some (S.F.step (S.B.at z.unit t) p) else S.B.at z.unit t)
-  process_at t p = laws.written z.unit (S.packet_unit p) (S.F.step (S.B.at (S.packet_unit p) t) p) t ∙ elim (mine S A z p) as (λ b. mine S A z p ≡ b → (if b
-      then Some (S.F.step (S.B.at (S.packet_unit p) t) p) else S.B.at z.unit t) ≡ (if b then Some (S.F.step (S.B.at z.unit t) p) else S.B.at z.unit t)) [
-        | true ↦ λ on. ap (λ u. Some (S.F.step (S.B.at u t) p)) (same_unit-true (S.packet_unit p) z.unit on)
-        | false ↦ λ _. refl
-      ] refl
+  process_at t p = laws.written z.unit (S.packet_unit p) (S.F.step (S.B.at (S.packet_unit p) t) p) t ∙ split (mine S A z p)
+      (λ b. (if b then Some (S.F.step (S.B.at (S.packet_unit p) t) p) else S.B.at z.unit t)
+      ≡ (if b then Some (S.F.step (S.B.at z.unit t) p) else S.B.at z.unit t))
+      (λ on. ap (λ u. Some (S.F.step (S.B.at u t) p)) (same_unit-true (S.packet_unit p) z.unit on))
+      (λ _. refl)
 
   process_seen : (y p : ℕ) (t : S.B.T) → S.B.at z.unit (process S t p) ≡ stepped f y (S.B.at z.unit t) p
   process_seen y p t = process_at t p ∙ elim (mine S A z p) as (λ b. (if b then Some (S.F.step (S.B.at z.unit t) p) else S.B.at z.unit t)
@@ -96,11 +97,10 @@ module _ {R : Type 0} (S : Sys R) (A : Sharing S) (laws : IsSys S) (z : SeeingSh
   chunk_seen y p t =
       record_first z.unit ((S.packet_unit p, S.F.step (S.B.at (S.packet_unit p) t) p) ∷ [])
       ∙ ap (λ b. first (if b then S.F.step (S.B.at (S.packet_unit p) t) p ∷ [] else [])) (same_unit_equiv.symm z.unit (S.packet_unit p))
-      ∙ elim (mine S A z p) as (λ b. mine S A z p ≡ b → first (if b then S.F.step (S.B.at (S.packet_unit p) t) p ∷ [] else [])
-      ≡ (if b then share.runs S.F (S.B.at z.unit t) (share.at_node y (if b then p ∷ [] else [])) else None)) [
-        | true ↦ λ on. ap (λ u. Some (S.F.step (S.B.at u t) p)) (same_unit-true (S.packet_unit p) z.unit on)
-        | false ↦ λ _. refl
-      ] refl
+      ∙ split (mine S A z p) (λ b. first (if b then S.F.step (S.B.at (S.packet_unit p) t) p ∷ [] else [])
+      ≡ (if b then share.runs S.F (S.B.at z.unit t) (share.at_node y (if b then p ∷ [] else [])) else None))
+      (λ on. ap (λ u. Some (S.F.step (S.B.at u t) p)) (same_unit-true (S.packet_unit p) z.unit on))
+      (λ _. refl)
 
   -- Messages of shares
   module _ (ok : IsSharing S A) (y : ℕ) (live standby : S.B.T) where
@@ -172,11 +172,10 @@ module _ {R : Type 0} (S : Sys R) (A : Sharing S) (laws : IsSys S) (z : SeeingSh
     shared_own n p false on flag = shared_other n p on (same_false (y == z.home) flag)
 
     shared_sees : (n p : ℕ) (home : Bool) → ShareLabel S A z y (Shared_on n home p) → Sees (Shared_on n home p) (new_seen S A z y (Shared_on n home p))
-    shared_sees n p home l = elim (n == z.num) as (λ b. (n == z.num) ≡ b
-        → Sees (Shared_on n home p) (if b then Some (fit S A z (same home (y == z.home)) (Shared p)) else where_true (mine S A z p) Stray)) [
-          | true ↦ λ on. let flag = l.0 on in rw flag (shared_own n p home on flag)
-          | false ↦ λ away. let off = l.1 away in rw off (shared_else n p home away off)
-        ] refl
+    shared_sees n p home l = split (n == z.num)
+        (λ b. Sees (Shared_on n home p) (if b then Some (fit S A z (same home (y == z.home)) (Shared p)) else where_true (mine S A z p) Stray))
+        (λ on. let flag = l.0 on in rw flag (shared_own n p home on flag))
+        (λ away. let off = l.1 away in rw off (shared_else n p home away off))
 
     sync_own : (n : ℕ) (home : Bool) (cs : Real.Chunks R) → (n == z.num) ≡ true → same home (y == z.home) ≡ true
         → Sees (S_sync n home cs) (Some (Sync (record_at z.unit cs)))
@@ -220,11 +219,9 @@ module _ {R : Type 0} (S : Sys R) (A : Sharing S) (laws : IsSys S) (z : SeeingSh
 
     sync_sees : (n : ℕ) (home : Bool) (cs : Real.Chunks R) → ShareLabel S A z y (S_sync n home cs)
         → Sees (S_sync n home cs) (new_seen S A z y (S_sync n home cs))
-    sync_sees n home cs l = elim (n == z.num)
-        as (λ b. (n == z.num) ≡ b → Sees (S_sync n home cs) (where_true b (fit S A z (same home (y == z.home)) (Sync (record_at z.unit cs))))) [
-          | true ↦ λ on. let flag = l.0 on in rw flag (sync_own n home cs on flag)
-          | false ↦ λ away. sync_else n home cs away (l.1 away)
-        ] refl
+    sync_sees n home cs l = split (n == z.num) (λ b. Sees (S_sync n home cs) (where_true b (fit S A z (same home (y == z.home)) (Sync (record_at z.unit cs)))))
+        (λ on. let flag = l.0 on in rw flag (sync_own n home cs on flag))
+        (λ away. sync_else n home cs away (l.1 away))
 
     -- what is selected of the unit
     selected : (g : Filter) → S.takes g z.unit ≡ true → record_at z.unit (S.B.select (S.takes g) live) ≡ S.B.at z.unit live
@@ -233,27 +230,26 @@ module _ {R : Type 0} (S : Sys R) (A : Sharing S) (laws : IsSys S) (z : SeeingSh
         ∙ first_of_one (S.B.at z.unit live)
 
     get_sees : (n : ℕ) (g : Filter) → S.takes z.filter z.unit ≡ true → ShareLabel S A z y (S_get n g) → Sees (S_get n g) (new_seen S A z y (S_get n g))
-    get_sees n g covered l = elim (n == z.num) as (λ b. (n == z.num) ≡ b → Sees (S_get n g) (where_true b Get)) [
-      | true ↦ λ on.
-          let k = l on in
-          let here : (y == z.home) ≡ true = (Decides-eqb y z.home).1 k.0 in
-          let takes : S.takes g z.unit ≡ true = ap (λ h. S.takes h z.unit) k.1 ∙ covered in
-          record {
-            own = refl;
-            away = λ _. refl;
-            to_c = ap (λ b. add (where_true b (Chunks (record_at z.unit (S.B.select (S.takes g) live)))) []) on ∙ ap (λ o. Chunks o ∷ []) (selected g takes)
-                ∙ rw here refl;
-            others = λ r off. not_others (New (S_chunks n (S.B.select (S.takes g) live))) r off;
-            ran = refl;
-          }
-      | false ↦ λ away. record {
-        own = refl;
-        away = λ _. refl;
-        to_c = rw away refl;
-        others = λ r off. not_others (New (S_chunks n (S.B.select (S.takes g) live))) r off;
-        ran = refl;
-      }
-    ] refl
+    get_sees n g covered l = split (n == z.num) (λ b. Sees (S_get n g) (where_true b Get))
+        (λ on.
+        let k = l on in
+        let here : (y == z.home) ≡ true = (Decides-eqb y z.home).1 k.0 in
+        let takes : S.takes g z.unit ≡ true = ap (λ h. S.takes h z.unit) k.1 ∙ covered in
+        record {
+          own = refl;
+          away = λ _. refl;
+          to_c = ap (λ b. add (where_true b (Chunks (record_at z.unit (S.B.select (S.takes g) live)))) []) on ∙ ap (λ o. Chunks o ∷ []) (selected g takes)
+              ∙ rw here refl;
+          others = λ r off. not_others (New (S_chunks n (S.B.select (S.takes g) live))) r off;
+          ran = refl;
+        })
+        (λ away. record {
+          own = refl;
+          away = λ _. refl;
+          to_c = rw away refl;
+          others = λ r off. not_others (New (S_chunks n (S.B.select (S.takes g) live))) r off;
+          ran = refl;
+        })
 
     -- a message that isn't for an instance
     idles : (o : Option (Item R)) → does y own o ≡ as_was own

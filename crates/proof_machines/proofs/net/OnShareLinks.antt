@@ -6,9 +6,10 @@ use Rattle.std.proofs.lemmas.Bool.Decides.{Decides-eqb}
 use Rattle.proof_machines.proofs.share.Share.{Item, Item.Diverted, Item.Install, Item.Forward, Item.Fenced, Item.Chunks}
 use Rattle.proof_machines.proofs.share.Share.{Item.Chunk, Item.Synced, UnitShare, Phase, Phase.Fencing, Phase.Getting}
 use Rattle.proof_machines.proofs.share.Share.{Phase.Setting, Phase.Idle, Phase.Out, Phase.Syncing, only, chunk_of, if_mine, after}
-use Rattle.proof_machines.proofs.share.Stages.{Turn, Turn.Going, Turn.Coming, Turn.Quiet, comes_from, served, Stage, Stage.Diverting}
+use Rattle.proof_machines.proofs.share.Stages.{Turn, Turn.Coming, comes_from, served, Stage, Stage.Diverting}
 use Rattle.proof_machines.proofs.share.Stages.{Stage.Fence_goes, Stage.Fenced_comes, Stage.Get_goes, Stage.Chunks_come}
 use Rattle.proof_machines.proofs.share.Stages.{Stage.Spreads, Stage.Resting, Stage.Forwards, Stage.Carries, Stage.Chunk_comes, shape}
+use Rattle.proof_machines.proofs.Tests.{split}
 
 -- the sender of an item to the controller, in a phase
 abbrev pub Sender : {R : Type 0} → UnitShare R → Phase → ℕ → Item R → Type 0
@@ -24,17 +25,15 @@ To_switch item = ⊥
 
 -- a link that only one node has, at its head
 head_at : {X : Type 0} (h j : ℕ) (y x : X) (rest : List X) → only h (y ∷ []) j ≡ x ∷ rest → (j ≡ h) × (y ≡ x)
-head_at h j y x rest e = elim (j == h) as (λ b. (j == h) ≡ b → (if b then y ∷ [] else []) ≡ x ∷ rest → (j ≡ h) × (y ≡ x))
-    [ true ↦ λ t g. ((Decides-eqb j h).0 t, cc) | false ↦ λ _ g. cc ] refl e
+head_at h j y x rest e = split (j == h) (λ b. (if b then y ∷ [] else []) ≡ x ∷ rest → (j ≡ h) × (y ≡ x)) (λ t g. ((Decides-eqb j h).0 t, cc)) (λ _ g. cc) e
 
 module _ {R : Type 0} (f : UnitShare R) where
   no_item : {P : Type 0} (it : Item R) (rest : List (Item R)) → ◌≡◌ {A = List (Item R)} [] (it ∷ rest) → P
   no_item it rest e = cc
 
   answer_from : (ph : Phase) (p : ℕ) (t : Turn) (it : Item R) (rest : List (Item R)) → comes_from t ≡ it ∷ rest → Sender f ph p it
-  answer_from ph p Going it rest e = no_item it rest e
   answer_from ph p Coming it rest e = let same : Synced ≡ it = cc in subst (Sender f ph p) same tt
-  answer_from ph p Quiet it rest e = no_item it rest e
+  answer_from ph p turn it rest e = no_item it rest e
 
   pub back_sender : (s : Stage R) (p : ℕ) (it : Item R) (rest : List (Item R)) → (shape f s).back p ≡ it ∷ rest → Sender f (shape f s).phase p it
   back_sender (Fenced_comes d b q v) p it rest e = let a = head_at f.home p Fenced it rest e in subst (Sender f Fencing p) a.1 a.0

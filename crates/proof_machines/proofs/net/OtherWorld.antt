@@ -17,6 +17,7 @@ use Rattle.proof_machines.proofs.net.Links.{sent, head, view_some, view_none, vi
 use Rattle.proof_machines.proofs.net.OnLinks.{over_quiet}
 use Rattle.proof_machines.proofs.net.InstWorld.{Goes_to, moves_on, same_order}
 use Rattle.proof_machines.proofs.net.CtrlUnit.{SeesController, ctrl_unit, mdid}
+use Rattle.proof_machines.proofs.Tests.{either_way}
 
 cons_nil : {X P : Type 0} {x : X} {xs ys : List X} → ys ≡ x ∷ xs → ys ≡ [] → P
 cons_nil e f = let never = sym f ∙ e in cc
@@ -124,16 +125,11 @@ module _ {R : Type 0} (S : Sys R) (laws : IsSys S) (z : Seeing) where
       where
         all_none : SeesController S z w.ops x h.apart h.ops h.ctrl c (goes x.phase x.store) → (j : ℕ) → its (sent_for j c.sends) ≡ []
         all_none g j =
-            elim (z.op.src == j) as (λ b. (z.op.src == j) ≡ b → its (sent_for j c.sends) ≡ []) [
-              | true ↦ λ e. let same : z.op.src ≡ j = (Decides-eqb z.op.src j).0 e in subst (λ q. its (sent_for q c.sends) ≡ []) same g.to_a
-              | false ↦ λ na. elim (z.op.dst == j) as (λ b. (z.op.dst == j) ≡ b → its (sent_for j c.sends) ≡ []) [
-                | true ↦ λ e. let same : z.op.dst ≡ j = (Decides-eqb z.op.dst j).0 e in subst (λ q. its (sent_for q c.sends) ≡ []) same g.to_b
-                | false ↦ λ nb. elim (0 == j) as (λ b. (0 == j) ≡ b → its (sent_for j c.sends) ≡ []) [
-                  | true ↦ λ e. let same : 0 ≡ j = (Decides-eqb 0 j).0 e in subst (λ q. its (sent_for q c.sends) ≡ []) same g.to_s
-                  | false ↦ λ n0. g.others j na nb n0
-                ] refl
-              ] refl
-            ] refl
+            either_way (z.op.src == j) (λ e. let same : z.op.src ≡ j = (Decides-eqb z.op.src j).0 e in subst (λ q. its (sent_for q c.sends) ≡ []) same g.to_a)
+            (λ na. either_way (z.op.dst == j)
+            (λ e. let same : z.op.dst ≡ j = (Decides-eqb z.op.dst j).0 e in subst (λ q. its (sent_for q c.sends) ≡ []) same g.to_b)
+            (λ nb. either_way (0 == j) (λ e. let same : 0 ≡ j = (Decides-eqb 0 j).0 e in subst (λ q. its (sent_for q c.sends) ≡ []) same g.to_s)
+            (λ n0. g.others j na nb n0)))
 
     module _ (it : Item R) (is : seen (frame S z) m ≡ Some it) where
       abbrev v : List (Item R)

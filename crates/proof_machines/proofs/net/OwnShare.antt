@@ -20,6 +20,8 @@ use Rattle.proof_machines.proofs.net.Shares.{Any, Any.New, ShareMsg.S_forward, S
 use Rattle.proof_machines.proofs.net.Shares.{OpenShare, Told, Told.Is_fenced, Told.Has_chunks, Told.Has_chunk, Told.Is_synced}
 use Rattle.proof_machines.proofs.net.Shares.{Told.Has_packet, syncs, ShareTurn, s_goes, s_served, share_row, SeeingShare}
 use Rattle.nf_function.specs.declared.unit.Unit as units
+use Rattle.proof_machines.proofs.Tests.{split}
+use Rattle.std.proofs.lemmas.Bool.{false_from_ne_true}
 
 -- the loop over the members: one message for each but one
 syncs_sent : {R : Type 0} (n home j k : ℕ) (cs : Real.Chunks R) (ms : List ℕ) → distinct ms ≡ true
@@ -30,17 +32,15 @@ syncs_sent n home j k cs (m ∷ ms) d =
     elim (m == j) as (λ b. sent_for k (if b then syncs n home j cs ms else (m, New (S_sync n (m == home) cs)) ∷ syncs n home j cs ms)
     ≡ (if has (if b then without_number ms j else m ∷ without_number ms j) k then New (S_sync n (k == home) cs) ∷ [] else [])) [
       | true ↦ syncs_sent n home j k cs ms a.1
-      | false ↦ elim (m == k) as (λ b. (m == k) ≡ b
-          → (if b then New (S_sync n (m == home) cs) ∷ sent_for k (syncs n home j cs ms) else sent_for k (syncs n home j cs ms))
-          ≡ (if (if k == m then true else has (without_number ms j) k) then New (S_sync n (k == home) cs) ∷ [] else [])) [
-            | true ↦ λ e.
-                let eq : m ≡ k = (Decides-eqb m k).0 e in
-                let out : has (without_number ms j) k ≡ false = has-without ms j k ∙ rw (subst (λ y. has ms y ≡ false) eq a.0) refl in
-                let on : (k == m) ≡ true = grind (arith, nat_tests) in
-                let rest = syncs_sent n home j k cs ms a.1 in
-                rw (rest, out, on) (ap (λ y. New (S_sync n (y == home) cs) ∷ []) eq)
-            | false ↦ λ e. let off : (k == m) ≡ false = grind (arith, nat_tests) in rw off (syncs_sent n home j k cs ms a.1)
-          ] refl
+      | false ↦ split (m == k) (λ b. (if b then New (S_sync n (m == home) cs) ∷ sent_for k (syncs n home j cs ms) else sent_for k (syncs n home j cs ms))
+          ≡ (if (if k == m then true else has (without_number ms j) k) then New (S_sync n (k == home) cs) ∷ [] else []))
+          (λ e.
+          let eq : m ≡ k = (Decides-eqb m k).0 e in
+          let out : has (without_number ms j) k ≡ false = has-without ms j k ∙ rw (subst (λ y. has ms y ≡ false) eq a.0) refl in
+          let on : (k == m) ≡ true = grind (arith, nat_tests) in
+          let rest = syncs_sent n home j k cs ms a.1 in
+          rw (rest, out, on) (ap (λ y. New (S_sync n (y == home) cs) ∷ []) eq))
+          (λ e. let off : (k == m) ≡ false = grind (arith, nat_tests) in rw off (syncs_sent n home j k cs ms a.1))
     ]
 
 module _ {R : Type 0} (S : Sys R) (A : Sharing S) (z : SeeingShare) (is : IsShare (unit_share S A z)) (insts : (k : ℕ) → has z.members k ≡ true → 2 ≤ k) where
@@ -58,8 +58,7 @@ module _ {R : Type 0} (S : Sys R) (A : Sharing S) (z : SeeingShare) (is : IsShar
   home_0 = let two = insts z.home is.home_in in grind (arith, nat_tests, two)
 
   none_at_0 : has z.members 0 ≡ false
-  none_at_0 = elim (has z.members 0) as (λ b. has z.members 0 ≡ b → b ≡ false)
-      [ true ↦ λ on. let two : 2 ≤ 0 = insts 0 on in let never : ⊥ = omega (arith, two) in absurd never | false ↦ λ _. refl ] refl
+  none_at_0 = false_from_ne_true (has z.members 0) (λ on. let two : 2 ≤ 0 = insts 0 on in let never : ⊥ = omega (arith, two) in absurd never)
 
   agrees : (b : Bool) (it : Item R) → fit S A z (same b b) it ≡ it
   agrees true it = refl
@@ -181,21 +180,14 @@ module _ {R : Type 0} (S : Sys R) (A : Sharing S) (z : SeeingShare) (is : IsShar
       let on : (sender == m) ≡ true = (Decides-eqb sender m).1 (sym same_is) in
       rw on (syncing_sees (Out m) q (syncs z.num z.home m (c ∷ []) z.members) (sync_to (without_number z.members m) (record_at z.unit (c ∷ [])))
       (none_to_s m (c ∷ [])) (λ k _. syncs_seen m (c ∷ []) k) (length (without_number z.members m)) q)
-  chunk_sees Fencing q sender c empty from = still Fencing q empty
-  chunk_sees Getting q sender c empty from = still Getting q empty
-  chunk_sees (Setting left) q sender c empty from = still (Setting left) q empty
-  chunk_sees Idle q sender c empty from = still Idle q empty
-  chunk_sees (Syncing left) q sender c empty from = still (Syncing left) q empty
+  chunk_sees ph q sender c empty from = still ph q empty
 
   pub synced_sees : (ph : Phase) (q : List ℕ) (sender : ℕ) → IdleEmpty f ph q → SeesRow (Row ph q sender Is_synced) (share_does f Synced ph q)
   synced_sees (Setting left) q sender empty = subst (λ d. SeesRow (Row (Setting left) q sender Is_synced) d) (answers_nowhere Setting (left - 1) q)
       (setting_sees (Setting left) q [] nowhere refl (λ k _. refl) (left - 1) q)
   synced_sees (Syncing left) q sender empty = subst (λ d. SeesRow (Row (Syncing left) q sender Is_synced) d) (answers_nowhere Syncing (left - 1) q)
       (syncing_sees (Syncing left) q [] nowhere refl (λ k _. refl) (left - 1) q)
-  synced_sees Fencing q sender empty = still Fencing q empty
-  synced_sees Getting q sender empty = still Getting q empty
-  synced_sees Idle q sender empty = still Idle q empty
-  synced_sees (Out m) q sender empty = still (Out m) q empty
+  synced_sees ph q sender empty = still ph q empty
 
   pub packet_sees : (ph : Phase) (q : List ℕ) (sender p : ℕ) → SeesRow (Row ph q sender (Has_packet p)) (share_does f (Diverted p) ph q)
   packet_sees Idle q sender p = subst (λ d. SeesRow (Row Idle q sender (Has_packet p)) d) (serve_nowhere (q ++ p ∷ []))

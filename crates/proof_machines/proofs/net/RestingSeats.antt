@@ -1,12 +1,12 @@
 -- A world with a unit at rest shows a seat at rest, and a seat at rest whose move isn't open is a unit at rest.
-use Rattle.std.proofs.Common.{◌≡◌, ℕ, ◌≤◌, ◌<◌, Bool, true, false, Option, Some, None, List, [], ◌∷◌, map, refl, sym, ap, ◌∙◌, subst, arith}
+use Rattle.std.proofs.Common.{◌≡◌, ℕ, ◌≤◌, ◌<◌, Bool, true, false, Option, Some, None, List, [], ◌∷◌, map, refl, sym, ap, ◌∙◌, subst, unwrap_or, arith}
 use Rattle.std.specs.Prelude.{if◌then◌else◌, ◌&&◌, ◌==◌}
 use Rattle.std.proofs.lemmas.Bool.Decides.{nat_tests}
 use Rattle.proof_machines.proofs.unit.Machine.{Where, At_a, At_b, At_c, Ran, after, Free, idle, Item, Carry, Stray, Phase, Idle, Over}
 use Rattle.proof_machines.proofs.unit.Lists.{firsts}
 use Rattle.proof_machines.proofs.unit.Real as Real
 use Rattle.proof_machines.proofs.unit.Real.{M_enable, M_stream, M_delete, M_put, M_restore, M_enabled, M_event, M_piece, M_deleted, M_put_ok}
-use Rattle.proof_machines.proofs.unit.Real.{M_put_no, M_restored, M_fenced, M_forward, M_install, M_fence_to, where_true, add, only_mine, off_if}
+use Rattle.proof_machines.proofs.unit.Real.{M_put_no, M_restored, M_fenced, M_forward, M_install, M_fence_to, where_true, add, only_mine, off_if, none_if}
 use Rattle.proof_machines.proofs.unit.Seen.{NodesDiffer}
 use Rattle.proof_machines.proofs.unit.Labels.{Each, each_both}
 use Rattle.proof_machines.proofs.unit.Pairs.{Nodes, expect}
@@ -20,6 +20,7 @@ use Rattle.proof_machines.proofs.net.Holding.{shows, node_at, place, IsControlle
 use Rattle.nf_function.specs.declared.unit.Unit as units
 use Rattle.record_table.specs.Table.{same_unit}
 use Rattle.proof_machines.proofs.net.Rest.{IsBelow, Below, below_off, Global, HasNothing, NothingOf, none_mine, RestRule, RestOp, carries_of, done_u, Rest}
+use Rattle.proof_machines.proofs.Tests.{split}
 
 module _ {R : Type 0} (S : Sys R) (z : Seeing) where
   abbrev u : units.Unit
@@ -65,20 +66,7 @@ module _ {R : Type 0} (S : Sys R) (z : Seeing) where
     pub mv_unseen : (g : Filter) (m : Real.Msg R) → IsBelow b (num_of m) → HasNothing S u g m → Real.seen (frame S z) m ≡ None
     mv_unseen g (M_event k p) e h = rw h refl
     mv_unseen g (M_forward p to) e h = rw h refl
-    mv_unseen g (M_enable k r) e h = let o = off k e in rw o refl
-    mv_unseen g (M_stream k) e h = let o = off k e in rw o refl
-    mv_unseen g (M_delete k us) e h = let o = off k e in rw o refl
-    mv_unseen g (M_put k p first) e h = let o = off k e in rw o refl
-    mv_unseen g (M_restore k cs) e h = let o = off k e in rw o refl
-    mv_unseen g (M_enabled k) e h = let o = off k e in rw o refl
-    mv_unseen g (M_piece k p) e h = let o = off k e in rw o refl
-    mv_unseen g (M_deleted k) e h = let o = off k e in rw o refl
-    mv_unseen g (M_put_ok k) e h = let o = off k e in rw o refl
-    mv_unseen g (M_put_no k why cs) e h = let o = off k e in rw o refl
-    mv_unseen g (M_restored k) e h = let o = off k e in rw o refl
-    mv_unseen g (M_fenced k) e h = let o = off k e in rw o refl
-    mv_unseen g (M_install k from to) e h = let o = off k e in rw o refl
-    mv_unseen g (M_fence_to k to) e h = let o = off k e in rw o refl
+    mv_unseen g m e h = none_if _ _ (off (unwrap_or (num_of m) 0) e)
 
     view_rest : (i : ℕ) (ms : List (Msg R)) → Each (Below b) ms → Each (NothingOf S u i) ms → its ms ≡ map Carry (carries_of S u ms)
     view_rest i [] e h = refl
@@ -111,8 +99,7 @@ module _ {R : Type 0} (S : Sys R) (z : Seeing) where
         → (if (i == 0) && (j == 0) then [] else (if (i == 0) && (j == place S z side) then m else []))
         ≡ expect z.op.src z.op.dst z.third (rest_at S.F side d l (Over Idle) keep) i j
     rest_links At_a d l keep i j m nodes e = grind (arith, nat_tests, e, nodes.a_is, nodes.b_is, nodes.c_is, nodes.ab, nodes.ac, nodes.bc)
-    rest_links At_b d l keep i j m nodes e = grind (arith, nat_tests, e, nodes.a_is, nodes.b_is, nodes.c_is, nodes.ab, nodes.ac, nodes.bc)
-    rest_links At_c d l keep i j m nodes e = grind (arith, nat_tests, e, nodes.a_is, nodes.b_is, nodes.c_is, nodes.ab, nodes.ac, nodes.bc)
+    rest_links side d l keep i j m nodes e = grind (arith, nat_tests, e, nodes.a_is, nodes.b_is, nodes.c_is, nodes.ab, nodes.ac, nodes.bc)
 
     map_if : (t : Bool) (l : List ℕ) → map {A = ℕ} {B = Item R} Carry (if t then l else []) ≡ (if t then map Carry l else [])
     map_if true l = refl
@@ -126,38 +113,34 @@ module _ {R : Type 0} (S : Sys R) (z : Seeing) where
         | false ↦ elim (k == z.op.dst) as (λ t. (if t then idle None else if k == z.third then idle None else idle None) ≡ idle {R = R} None)
             [ true ↦ refl | false ↦ elim (k == z.third) as (λ t. (if t then idle None else idle None) ≡ idle {R = R} None) [ true ↦ refl | false ↦ refl ] ]
       ]
-  node_rest At_b d l ph keep k nodes = elim (k == z.op.src) as (λ t. (k == z.op.src) ≡ t → (if t then idle None else if k == z.op.dst then idle (after S.F d)
-      else if k == z.third then idle None else idle None) ≡ idle (if k == z.op.dst then after S.F d else None)) [
-        | true ↦ λ e. let ab = nodes.ab in let no : (k == z.op.dst) ≡ false = grind (arith, nat_tests, ab) in rw no refl
-        | false ↦ λ _. elim (k == z.op.dst) as (λ t. (if t then idle (after S.F d) else if k == z.third then idle None else idle None)
-            ≡ idle (if t then after S.F d else None))
-            [ true ↦ refl | false ↦ elim (k == z.third) as (λ t. (if t then idle None else idle None) ≡ idle {R = R} None) [ true ↦ refl | false ↦ refl ] ]
-      ] refl
-  node_rest At_c d l ph keep k nodes = elim (k == z.op.src) as (λ t. (k == z.op.src) ≡ t → (if t then idle None else if k == z.op.dst then idle None
-      else if k == z.third then idle (after S.F d) else idle None) ≡ idle (if k == z.third then after S.F d else None)) [
-        | true ↦ λ e. let ac = nodes.ac in let no : (k == z.third) ≡ false = grind (arith, nat_tests, ac) in rw no refl
-        | false ↦ λ _. elim (k == z.op.dst) as (λ t. (k == z.op.dst) ≡ t
-            → (if t then idle None else if k == z.third then idle (after S.F d) else idle None) ≡ idle (if k == z.third then after S.F d else None)) [
-              | true ↦ λ e. let bc = nodes.bc in let no : (k == z.third) ≡ false = grind (arith, nat_tests, bc) in rw no refl
-              | false ↦ λ _. elim (k == z.third) as (λ t. (if t then idle (after S.F d) else idle None) ≡ idle (if t then after S.F d else None))
-                  [ true ↦ refl | false ↦ refl ]
-            ] refl
-      ] refl
+  node_rest At_b d l ph keep k nodes = split (k == z.op.src)
+      (λ t. (if t then idle None else if k == z.op.dst then idle (after S.F d) else if k == z.third then idle None else idle None)
+      ≡ idle (if k == z.op.dst then after S.F d else None))
+      (λ e. let ab = nodes.ab in let no : (k == z.op.dst) ≡ false = grind (arith, nat_tests, ab) in rw no refl)
+      (λ _. elim (k == z.op.dst) as (λ t. (if t then idle (after S.F d) else if k == z.third then idle None else idle None)
+      ≡ idle (if t then after S.F d else None))
+      [ true ↦ refl | false ↦ elim (k == z.third) as (λ t. (if t then idle None else idle None) ≡ idle {R = R} None) [ true ↦ refl | false ↦ refl ] ])
+  node_rest At_c d l ph keep k nodes = split (k == z.op.src)
+      (λ t. (if t then idle None else if k == z.op.dst then idle None else if k == z.third then idle (after S.F d) else idle None)
+      ≡ idle (if k == z.third then after S.F d else None))
+      (λ e. let ac = nodes.ac in let no : (k == z.third) ≡ false = grind (arith, nat_tests, ac) in rw no refl)
+      (λ _. split (k == z.op.dst) (λ t. (if t then idle None else if k == z.third then idle (after S.F d) else idle None)
+      ≡ idle (if k == z.third then after S.F d else None))
+      (λ e. let bc = nodes.bc in let no : (k == z.third) ≡ false = grind (arith, nat_tests, bc) in rw no refl)
+      (λ _. elim (k == z.third) as (λ t. (if t then idle (after S.F d) else idle None) ≡ idle (if t then after S.F d else None))
+      [ true ↦ refl | false ↦ refl ]))
 
   done_rest : (side : Where) (d : List Ran) (l : List ℕ) (ph : Phase R) (keep : Bool) → (rest_at S.F side d l ph keep).done ≡ d
   done_rest At_a d l ph keep = refl
-  done_rest At_b d l ph keep = refl
-  done_rest At_c d l ph keep = refl
+  done_rest side d l ph keep = refl
 
   target_rest : (side : Where) (d : List Ran) (l : List ℕ) (ph : Phase R) (keep : Bool) → (rest_at S.F side d l ph keep).target ≡ side
   target_rest At_a d l ph keep = refl
-  target_rest At_b d l ph keep = refl
-  target_rest At_c d l ph keep = refl
+  target_rest side d l ph keep = refl
 
   idle_phase : (side : Where) (d : List Ran) (l : List ℕ) (keep : Bool) → (rest_at S.F side d l (Over Idle) keep).phase ≡ (Over Idle)
   idle_phase At_a d l keep = refl
-  idle_phase At_b d l keep = refl
-  idle_phase At_c d l keep = refl
+  idle_phase side d l keep = refl
 
   pub rest_holds : (w : World S) → Global S w → w.next ≤ n → NodesDiffer z.op → Nodes z.op.src z.op.dst z.third
       → (side : Where) (d : List Ran) (l : List ℕ) (keep : Bool) → Rest S u w (place S z side) d l → Holds S z w (rest_at S.F side d l (Over Idle) keep)
@@ -182,17 +165,15 @@ module _ {R : Type 0} (S : Sys R) (z : Seeing) where
   }
     where
       by_input : (i j : ℕ) → shows S z w.link i j ≡ (if (i == 0) && (j == 0) then [] else (if (i == 0) && (j == place S z side) then map Carry l else []))
-      by_input i j = elim ((i == 0) && (j == 0)) as (λ t. (i == 0) && (j == 0) ≡ t
-          → (if t then [] else its (w.link i j)) ≡ (if t then [] else (if (i == 0) && (j == place S z side) then map Carry l else []))) [
-            | true ↦ λ _. refl
-            | false ↦ λ e. view_rest w.next new i (w.link i j) (g.messages i j e) (h.labels i j e) ∙ ap (λ v. map Carry v) (h.links i j e)
-                ∙ map_if w.next new ((i == 0) && (j == place S z side)) l
-          ] refl
+      by_input i j = split ((i == 0) && (j == 0)) (λ t. (if t then [] else its (w.link i j))
+          ≡ (if t then [] else (if (i == 0) && (j == place S z side) then map Carry l else [])))
+          (λ _. refl)
+          (λ e. view_rest w.next new i (w.link i j) (g.messages i j e) (h.labels i j e) ∙ ap (λ v. map Carry v) (h.links i j e)
+          ∙ map_if w.next new ((i == 0) && (j == place S z side)) l)
 
   abbrev no_carry : Option (Item R) → Bool
-  no_carry None = true
   no_carry (Some (Carry p)) = false
-  no_carry (Some it) = true
+  no_carry o = true
 
   carry_head : (o : Option (Item R)) (v : List (Item R)) (l : List ℕ) → no_carry o ≡ true → add o v ≡ map Carry l → (o ≡ None) × (v ≡ map Carry l)
   carry_head None v l a e = (refl, e)
@@ -216,19 +197,7 @@ module _ {R : Type 0} (S : Sys R) (z : Seeing) where
       no_if (k == n) _ (no_side (to == z.op.src) (to == z.op.dst) (λ v. Rattle.proof_machines.proofs.unit.Machine.Fence_to v) (λ v. refl))
   mv_no_carry (M_install k from to) = no_if (k == n) _ (elim ((from == z.op.src) && (to == z.op.dst))
       as (λ t. no_carry (Some (if t then Rattle.proof_machines.proofs.unit.Machine.Install else Stray)) ≡ true) [ true ↦ refl | false ↦ refl ])
-  mv_no_carry (M_event k p) = no_if (same_unit (S.packet_unit p) u) _ refl
-  mv_no_carry (M_enable k r) = no_if (k == n) _ refl
-  mv_no_carry (M_stream k) = no_if (k == n) _ refl
-  mv_no_carry (M_delete k us) = no_if (k == n) _ refl
-  mv_no_carry (M_put k p first) = no_if (k == n) _ refl
-  mv_no_carry (M_restore k cs) = no_if (k == n) _ refl
-  mv_no_carry (M_enabled k) = no_if (k == n) _ refl
-  mv_no_carry (M_piece k p) = no_if (k == n) _ refl
-  mv_no_carry (M_deleted k) = no_if (k == n) _ refl
-  mv_no_carry (M_put_ok k) = no_if (k == n) _ refl
-  mv_no_carry (M_put_no k why cs) = no_if (k == n) _ refl
-  mv_no_carry (M_restored k) = no_if (k == n) _ refl
-  mv_no_carry (M_fenced k) = no_if (k == n) _ refl
+  mv_no_carry m = no_if _ _ refl
 
   pub mv_nothing : (g : Filter) (m : Real.Msg R) → Real.seen (frame S z) m ≡ None → MoveLabel S z g m → HasNothing S u g m
   mv_nothing g (M_enable k r) e l = (l.0 ∙ off_if (k == n) _ e, l.1)
@@ -274,23 +243,19 @@ module _ {R : Type 0} (S : Sys R) (z : Seeing) where
   pub rules_rest : (rs : List Ruling) → rule_of (find_rule n rs) ≡ Free → Each (RuleLabel S z) rs → Each (RestRule S u) rs
   rules_rest [] e h = tt
   rules_rest (r ∷ rs) e h =
-      elim (r.num == n) as (λ t. (r.num == n) ≡ t → rule_of (if t then Some r else find_rule n rs) ≡ Free → Each (RestRule S u) (r ∷ rs)) [
-        | true ↦ λ _ free. let never : true ≡ false = ap is_free (sym free) ∙ h.0.2 in cc
-        | false ↦ λ o free. ((h.0.0 ∙ o, same_mine r.held ∙ h.0.1 o, h.0.2), rules_rest rs free h.1)
-      ] refl e
+      split (r.num == n) (λ t. rule_of (if t then Some r else find_rule n rs) ≡ Free → Each (RestRule S u) (r ∷ rs))
+      (λ _ free. let never : true ≡ false = ap is_free (sym free) ∙ h.0.2 in cc)
+      (λ o free. ((h.0.0 ∙ o, same_mine r.held ∙ h.0.1 o, h.0.2), rules_rest rs free h.1)) e
 
   pub ops_rest : (es : List (Open R)) → find_op es n ≡ None → Each (OpLabel S z) es → Each (RestOp S u) es
   ops_rest [] e h = tt
-  ops_rest (x ∷ es) e h = elim (x.op.num == n) as (λ t. (x.op.num == n) ≡ t → (if t then Some x else find_op es n) ≡ None → Each (RestOp S u) (x ∷ es)) [
-    | true ↦ λ _ bad. cc
-    | false ↦ λ o none. ((h.0.0 ∙ o, ((h.0.1 o).0, same_mine x.store ∙ (h.0.1 o).1), h.0.2), ops_rest es none h.1)
-  ] refl e
+  ops_rest (x ∷ es) e h = split (x.op.num == n) (λ t. (if t then Some x else find_op es n) ≡ None → Each (RestOp S u) (x ∷ es)) (λ _ bad. cc)
+      (λ o none. ((h.0.0 ∙ o, ((h.0.1 o).0, same_mine x.store ∙ (h.0.1 o).1), h.0.2), ops_rest es none h.1)) e
 
   end_links : (side : Where) (d : List Ran) (l : List ℕ) (ph : Phase R) (keep : Bool) (i j : ℕ) → Nodes z.op.src z.op.dst z.third
       → expect z.op.src z.op.dst z.third (rest_at S.F side d l ph keep) i j ≡ (if (i == 0) && (j == place S z side) then map Carry l else [])
   end_links At_a d l ph keep i j nodes = grind (arith, nat_tests, nodes.a_is, nodes.b_is, nodes.c_is, nodes.ab, nodes.ac, nodes.bc)
-  end_links At_b d l ph keep i j nodes = grind (arith, nat_tests, nodes.a_is, nodes.b_is, nodes.c_is, nodes.ab, nodes.ac, nodes.bc)
-  end_links At_c d l ph keep i j nodes = grind (arith, nat_tests, nodes.a_is, nodes.b_is, nodes.c_is, nodes.ab, nodes.ac, nodes.bc)
+  end_links side d l ph keep i j nodes = grind (arith, nat_tests, nodes.a_is, nodes.b_is, nodes.c_is, nodes.ab, nodes.ac, nodes.bc)
 
   place_two : (side : Where) → Nodes z.op.src z.op.dst z.third → 2 ≤ place S z side
   place_two At_a nodes = nodes.a_is

@@ -7,6 +7,7 @@ use Rattle.proof_machines.proofs.unit.Machine.{Rule}
 use Rattle.proof_machines.proofs.unit.Labels.{Each, each-append}
 use Rattle.proof_machines.proofs.net.Net.{Ruling, find_rule, change_rules, has_rule, ruled_by, new_rule, holding, set_rule, hold, held_of, rule_of}
 use Rattle.proof_machines.proofs.unit.Lists.{none_is}
+use Rattle.proof_machines.proofs.Tests.{either_way, split, by_if}
 
 abbrev pub KeepsNumber : (Ruling → Ruling) → Type 0
 KeepsNumber change = (r : Ruling) → (change r).num ≡ r.num
@@ -15,30 +16,28 @@ module _ (n : ℕ) (change : Ruling → Ruling) (keeps : KeepsNumber change) whe
   pub find-change_other : (m : ℕ) (rs : List Ruling) → (m == n) ≡ false → find_rule n (change_rules m change rs) ≡ find_rule n rs
   find-change_other m [] off = refl
   find-change_other m (r ∷ rs) off =
-      elim (r.num == m) as (λ b. (r.num == m) ≡ b → (if (if b then change r else r).num == n then Some (if b then change r else r)
-      else find_rule n (change_rules m change rs)) ≡ (if r.num == n then Some r else find_rule n rs)) [
-        | true ↦ λ e.
-            let same : r.num ≡ m = eqb-true r.num m e in
-            let old : (r.num == n) ≡ false = rw same off in
-            let new : ((change r).num == n) ≡ false = ap (λ k. k == n) (keeps r) ∙ old in
-            rw (new, old) (find-change_other m rs off)
-        | false ↦ λ _. ap (λ o. if r.num == n then Some r else o) (find-change_other m rs off)
-      ] refl
+      split (r.num == m) (λ b. (if (if b then change r else r).num == n then Some (if b then change r else r) else find_rule n (change_rules m change rs))
+      ≡ (if r.num == n then Some r else find_rule n rs))
+      (λ e.
+      let same : r.num ≡ m = eqb-true r.num m e in
+      let old : (r.num == n) ≡ false = rw same off in
+      let new : ((change r).num == n) ≡ false = ap (λ k. k == n) (keeps r) ∙ old in
+      rw (new, old) (find-change_other m rs off))
+      (λ _. ap (λ o. if r.num == n then Some r else o) (find-change_other m rs off))
 
   pub find-change_own : (rs : List Ruling) → find_rule n (change_rules n change rs) ≡ option_map change (find_rule n rs)
   find-change_own [] = refl
   find-change_own (r ∷ rs) =
-      elim (r.num == n) as (λ b. (r.num == n) ≡ b → (if (if b then change r else r).num == n then Some (if b then change r else r)
-      else find_rule n (change_rules n change rs)) ≡ option_map change (if b then Some r else find_rule n rs)) [
-        | true ↦ λ e. let new : ((change r).num == n) ≡ true = ap (λ k. k == n) (keeps r) ∙ e in rw new refl
-        | false ↦ λ e. rw e (find-change_own rs)
-      ] refl
+      split (r.num == n) (λ b. (if (if b then change r else r).num == n then Some (if b then change r else r) else find_rule n (change_rules n change rs))
+      ≡ option_map change (if b then Some r else find_rule n rs))
+      (λ e. let new : ((change r).num == n) ≡ true = ap (λ k. k == n) (keeps r) ∙ e in rw new refl)
+      (λ e. rw e (find-change_own rs))
 
 pub each-change : (P : Ruling → Type 0) (m : ℕ) (change : Ruling → Ruling) → ((r : Ruling) → (r.num == m) ≡ true → P r → P (change r)) → (rs : List Ruling)
     → Each P rs → Each P (change_rules m change rs)
 each-change P m change step [] h = tt
 each-change P m change step (r ∷ rs) h = (
-  elim (r.num == m) as (λ b. (r.num == m) ≡ b → P (if b then change r else r)) [ true ↦ λ e. step r e h.0 | false ↦ λ _. h.0 ] refl,
+  split (r.num == m) (λ b. P (if b then change r else r)) (λ e. step r e h.0) (λ _. h.0),
   each-change P m change step rs h.1,
 )
 
@@ -57,17 +56,14 @@ find-append_own n x (r ∷ rs) on none =
 -- a rule is set
 pub find_set_other : (n m : ℕ) (g : Filter) (k : Rule) (rs : List Ruling) → (m == n) ≡ false → find_rule n (set_rule m g k rs) ≡ find_rule n rs
 find_set_other n m g k rs off =
-    elim (has_rule m rs) as (λ b. find_rule n (if b then change_rules m (ruled_by g k) rs else rs ++ new_rule m g k ∷ []) ≡ find_rule n rs) [
-      | true ↦ find-change_other n (ruled_by g k) (λ r. refl) m rs off
-      | false ↦ find-append_other n (new_rule m g k) rs off
-    ]
+    by_if (λ r. find_rule n r ≡ find_rule n rs) (has_rule m rs) (find-change_other n (ruled_by g k) (λ r. refl) m rs off)
+    (find-append_other n (new_rule m g k) rs off)
 
 pub set_own_rule : (n : ℕ) (g : Filter) (k : Rule) (rs : List Ruling) → (n == n) ≡ true → rule_of (find_rule n (set_rule n g k rs)) ≡ k
 set_own_rule n g k rs self =
-    elim (has_rule n rs) as (λ b. has_rule n rs ≡ b → rule_of (find_rule n (if b then change_rules n (ruled_by g k) rs else rs ++ new_rule n g k ∷ [])) ≡ k) [
-      | true ↦ λ e. ap rule_of (find-change_own n (ruled_by g k) (λ r. refl) rs) ∙ by_found (find_rule n rs) e
-      | false ↦ λ e. ap rule_of (find-append_own n (new_rule n g k) rs self (none_is (find_rule n rs) e))
-    ] refl
+    split (has_rule n rs) (λ b. rule_of (find_rule n (if b then change_rules n (ruled_by g k) rs else rs ++ new_rule n g k ∷ [])) ≡ k)
+    (λ e. ap rule_of (find-change_own n (ruled_by g k) (λ r. refl) rs) ∙ by_found (find_rule n rs) e)
+    (λ e. ap rule_of (find-append_own n (new_rule n g k) rs self (none_is (find_rule n rs) e)))
   where
     by_found : (o : Option Ruling) → is_some o ≡ true → rule_of (option_map (ruled_by g k) o) ≡ k
     by_found None e = cc
@@ -75,11 +71,9 @@ set_own_rule n g k rs self =
 
 pub set_own_held : (n : ℕ) (g : Filter) (k : Rule) (rs : List Ruling) → (n == n) ≡ true → held_of (find_rule n (set_rule n g k rs)) ≡ held_of (find_rule n rs)
 set_own_held n g k rs self =
-    elim (has_rule n rs) as (λ b. has_rule n rs ≡ b
-    → held_of (find_rule n (if b then change_rules n (ruled_by g k) rs else rs ++ new_rule n g k ∷ [])) ≡ held_of (find_rule n rs)) [
-      | true ↦ λ e. ap held_of (find-change_own n (ruled_by g k) (λ r. refl) rs) ∙ same_held (find_rule n rs)
-      | false ↦ λ e. ap held_of (find-append_own n (new_rule n g k) rs self (none_is (find_rule n rs) e)) ∙ sym (ap held_of (none_is (find_rule n rs) e))
-    ] refl
+    split (has_rule n rs) (λ b. held_of (find_rule n (if b then change_rules n (ruled_by g k) rs else rs ++ new_rule n g k ∷ [])) ≡ held_of (find_rule n rs))
+    (λ e. ap held_of (find-change_own n (ruled_by g k) (λ r. refl) rs) ∙ same_held (find_rule n rs))
+    (λ e. ap held_of (find-append_own n (new_rule n g k) rs self (none_is (find_rule n rs) e)) ∙ sym (ap held_of (none_is (find_rule n rs) e)))
   where
     same_held : (o : Option Ruling) → held_of (option_map (ruled_by g k) o) ≡ held_of o
     same_held None = refl
@@ -88,10 +82,7 @@ set_own_held n g k rs self =
 pub each_set : (P : Ruling → Type 0) (m : ℕ) (g : Filter) (k : Rule) (rs : List Ruling) → ((r : Ruling) → (r.num == m) ≡ true → P r → P (ruled_by g k r))
     → P (new_rule m g k) → Each P rs → Each P (set_rule m g k rs)
 each_set P m g k rs step new h =
-    elim (has_rule m rs) as (λ b. Each P (if b then change_rules m (ruled_by g k) rs else rs ++ new_rule m g k ∷ [])) [
-      | true ↦ each-change P m (ruled_by g k) step rs h
-      | false ↦ each-append P rs (new_rule m g k ∷ []) h (new, tt)
-    ]
+    by_if (Each P) (has_rule m rs) (each-change P m (ruled_by g k) step rs h) (each-append P rs (new_rule m g k ∷ []) h (new, tt))
 
 -- a packet is held
 pub find_hold_other : (n m p : ℕ) (rs : List Ruling) → (m == n) ≡ false → find_rule n (hold m p rs) ≡ find_rule n rs
@@ -106,8 +97,7 @@ same_rule p (Some r) = refl
 
 pub hold_rule : (n m p : ℕ) (rs : List Ruling) → rule_of (find_rule n (hold m p rs)) ≡ rule_of (find_rule n rs)
 hold_rule n m p rs =
-    elim (m == n) as (λ b. (m == n) ≡ b → rule_of (find_rule n (hold m p rs)) ≡ rule_of (find_rule n rs)) [
-      | true ↦ λ e. let same : m ≡ n = eqb-true m n e in
-          ap (λ k. rule_of (find_rule n (hold k p rs))) same ∙ ap rule_of (find_hold_own n p rs) ∙ same_rule p (find_rule n rs)
-      | false ↦ λ off. ap rule_of (find_hold_other n m p rs off)
-    ] refl
+    either_way (m == n)
+    (λ e. let same : m ≡ n = eqb-true m n e in
+    ap (λ k. rule_of (find_rule n (hold k p rs))) same ∙ ap rule_of (find_hold_own n p rs) ∙ same_rule p (find_rule n rs))
+    (λ off. ap rule_of (find_hold_other n m p rs off))

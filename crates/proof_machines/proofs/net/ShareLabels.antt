@@ -16,6 +16,8 @@ use Rattle.proof_machines.proofs.net.Shares.{ShareMsg.S_forward, ShareMsg.S_get,
 use Rattle.proof_machines.proofs.net.Shares.{ShareMsg.S_synced, same, Sharing, OpenShare, find_share, share_taking, WholeWorld, SeeingShare}
 use Rattle.nf_function.specs.declared.unit.Unit as units
 use Rattle.record_table.proofs.UnitOrder.{same_unit-true}
+use Rattle.proof_machines.proofs.Tests.{either_way, split}
+use Rattle.std.proofs.lemmas.Bool.{false_from_ne_true}
 
 module _ {R : Type 0} (S : Sys R) (A : Sharing S) (z : SeeingShare) where
   -- on a link to node r
@@ -32,13 +34,11 @@ module _ {R : Type 0} (S : Sys R) (A : Sharing S) (z : SeeingShare) where
       → (d : OpenShare) × (share_taking S es v ≡ Some d)
   takes_some [] n e v is on = cc
   takes_some (x ∷ es) n e v is on =
-      elim (S.takes x.filter v) as (λ b. S.takes x.filter v ≡ b → (d : OpenShare) × ((if b then Some x else share_taking S es v) ≡ Some d)) [
-        | true ↦ λ _. (x, refl)
-        | false ↦ λ off. elim (x.num == n) as (λ b. (if b then Some x else find_share es n) ≡ Some e → (d : OpenShare) × (share_taking S es v ≡ Some d)) [
-          | true ↦ λ here. let same_is : x ≡ e = cc in let never : false ≡ true = sym off ∙ subst (λ y. S.takes y.filter v ≡ true) (sym same_is) on in cc
-          | false ↦ λ there. takes_some es n e v there on
-        ] is
-      ] refl
+      split (S.takes x.filter v) (λ b. (d : OpenShare) × ((if b then Some x else share_taking S es v) ≡ Some d)) (λ _. (x, refl))
+      (λ off. elim (x.num == n) as (λ b. (if b then Some x else find_share es n) ≡ Some e → (d : OpenShare) × (share_taking S es v ≡ Some d)) [
+        | true ↦ λ here. let same_is : x ≡ e = cc in let never : false ≡ true = sym off ∙ subst (λ y. S.takes y.filter v ≡ true) (sym same_is) on in cc
+        | false ↦ λ there. takes_some es n e v there on
+      ] is)
 
   module _ (w : WholeWorld S A) (g : GlobalAll S A w) (covered : S.takes z.filter z.unit ≡ true) (ph : Phase) (q : List ℕ)
       (there : find_share w.shares z.num ≡ Some (as_share S A z ph q)) where
@@ -53,14 +53,12 @@ module _ {R : Type 0} (S : Sys R) (A : Sharing S) (z : SeeingShare) where
     -- what another share takes isn't the unit's
     pub not_mine : (n p : ℕ) (e : OpenShare) → find_share w.shares n ≡ Some e → (n == z.num) ≡ false → S.takes e.filter (S.packet_unit p) ≡ true
         → mine S A z p ≡ false
-    not_mine n p e is off takes = elim (mine S A z p) as (λ b. mine S A z p ≡ b → b ≡ false) [
-      | true ↦ λ on.
-          let same_is : S.packet_unit p ≡ z.unit = same_unit-true (S.packet_unit p) z.unit on in
-          let its : S.takes e.filter z.unit ≡ true = ap (S.takes e.filter) (sym same_is) ∙ takes in
-          let never : true ≡ false = sym its ∙ other_is n e is off z.unit covered in
-          cc
-      | false ↦ λ _. refl
-    ] refl
+    not_mine n p e is off takes = false_from_ne_true (mine S A z p)
+        (λ on.
+        let same_is : S.packet_unit p ≡ z.unit = same_unit-true (S.packet_unit p) z.unit on in
+        let its : S.takes e.filter z.unit ≡ true = ap (S.takes e.filter) (sym same_is) ∙ takes in
+        let never : true ≡ false = sym its ∙ other_is n e is off z.unit covered in
+        cc)
 
     pub label_of : (r : ℕ) (m : ShareMsg R) → OfShare S w.shares r m → ShareLabel r m
     label_of r (Shared_on n home p) of = (
@@ -94,20 +92,16 @@ module _ {R : Type 0} (S : Sys R) (A : Sharing S) (z : SeeingShare) where
         let k = takes_some w.shares z.num (as_share S A z ph q) v there takes in
         let found = taking_found S A w.shares v k.0 g.nums_apart k.1 in
         let its = (taking_each S A (λ _. Unit {0}) w.shares v k.0 (each_any w.shares) k.1).1 in
-        elim (k.0.num == z.num) as (λ b. (k.0.num == z.num) ≡ b → share_taking S w.shares v ≡ Some (as_share S A z ph q)) [
-          | true ↦ λ on. k.1 ∙ ap Some (own_is k.0.num k.0 found on)
-          | false ↦ λ off. let never : true ≡ false = sym its ∙ other_is k.0.num k.0 found off v takes in cc
-        ] refl
+        either_way (k.0.num == z.num) (λ on. k.1 ∙ ap Some (own_is k.0.num k.0 found on))
+        (λ off. let never : true ≡ false = sym its ∙ other_is k.0.num k.0 found off v takes in cc)
 
     pub taking_other : (v : units.Unit) (e : OpenShare) → S.takes z.filter v ≡ false → share_taking S w.shares v ≡ Some e → (e.num == z.num) ≡ false
-    taking_other v e out is = elim (e.num == z.num) as (λ b. (e.num == z.num) ≡ b → b ≡ false) [
-      | true ↦ λ on.
-          let same_is = own_is e.num e (taking_found S A w.shares v e g.nums_apart is) on in
-          let its = (taking_each S A (λ _. Unit {0}) w.shares v e (each_any w.shares) is).1 in
-          let never : true ≡ false = sym its ∙ ap (λ y. S.takes y.filter v) same_is ∙ out in
-          cc
-      | false ↦ λ _. refl
-    ] refl
+    taking_other v e out is = false_from_ne_true (e.num == z.num)
+        (λ on.
+        let same_is = own_is e.num e (taking_found S A w.shares v e g.nums_apart is) on in
+        let its = (taking_each S A (λ _. Unit {0}) w.shares v e (each_any w.shares) is).1 in
+        let never : true ≡ false = sym its ∙ ap (λ y. S.takes y.filter v) same_is ∙ out in
+        cc)
 
     -- no packet of the unit waits at another share
     pub queue_other : (n : ℕ) (e : OpenShare) → find_share w.shares n ≡ Some e → (n == z.num) ≡ false → Each (λ p. mine S A z p ≡ false) e.queue

@@ -12,6 +12,7 @@ use Rattle.proof_machines.proofs.net.Net.{Sys, behind, links_after}
 use Rattle.proof_machines.proofs.net.ShareViews.{share_expect, unit_share, share_seen, share_items, as_share, ShareHolds}
 use Rattle.proof_machines.proofs.net.Shares.{Any, Sharing, WholeWorld, ran_of, SeeingShare}
 use Rattle.record_table.specs.Table.{same_unit}
+use Rattle.proof_machines.proofs.Tests.{split}
 
 module _ {R : Type 0} (x : View R) where
   -- Of each link that may be taken
@@ -55,15 +56,13 @@ module _ {R : Type 0} (x : View R) where
   pub quiet_links : (p k i j : ℕ) (rest : List (Item R)) (sent : ℕ → List (Item R)) → rest ≡ share_expect x p k → ((r : ℕ) → sent r ≡ [])
       → (if (i == p) && (j == k) then rest else share_expect x i j) ++ (if i == k then sent j else []) ≡ share_expect x i j
   quiet_links p k i j rest sent same none =
-      elim ((i == p) && (j == k))
-      as (λ b. (i == p) && (j == k) ≡ b → (if b then rest else share_expect x i j) ++ (if i == k then sent j else []) ≡ share_expect x i j) [
-        | true ↦ λ e.
-            let ip : i ≡ p = grind (arith, nat_tests) in
-            let jk : j ≡ k = grind (arith, nat_tests) in
-            let here : rest ≡ share_expect x i j = rw (ip, jk) same in
-            ap (λ v. v ++ (if i == k then sent j else [])) here ∙ none_links k i j sent none
-        | false ↦ λ _. none_links k i j sent none
-      ] refl
+      split ((i == p) && (j == k)) (λ b. (if b then rest else share_expect x i j) ++ (if i == k then sent j else []) ≡ share_expect x i j)
+      (λ e.
+      let ip : i ≡ p = grind (arith, nat_tests) in
+      let jk : j ≡ k = grind (arith, nat_tests) in
+      let here : rest ≡ share_expect x i j = rw (ip, jk) same in
+      ap (λ v. v ++ (if i == k then sent j else [])) here ∙ none_links k i j sent none)
+      (λ _. none_links k i j sent none)
 
 module _ {R : Type 0} (S : Sys R) (A : Sharing S) (z : SeeingShare) where
   seen_if : (b : Bool) (j : ℕ) (ms : List (Any R)) → share_items S A z j (if b then ms else []) ≡ (if b then share_items S A z j ms else [])
@@ -81,14 +80,12 @@ module _ {R : Type 0} (S : Sys R) (A : Sharing S) (z : SeeingShare) where
     where
       left : share_items S A z j (behind ((i == p) && (j == k)) (l i j))
           ≡ (if (i == p) && (j == k) then share_items S A z k rest else share_items S A z j (l i j))
-      left = elim ((i == p) && (j == k)) as (λ b. (i == p) && (j == k) ≡ b
-          → share_items S A z j (behind b (l i j)) ≡ (if b then share_items S A z k rest else share_items S A z j (l i j))) [
-            | true ↦ λ e.
-                let ip : i ≡ p = grind (arith, nat_tests) in
-                let jk : j ≡ k = grind (arith, nat_tests) in
-                rw (ip, jk, waits) refl
-            | false ↦ λ _. refl
-          ] refl
+      left = split ((i == p) && (j == k)) (λ b. share_items S A z j (behind b (l i j)) ≡ (if b then share_items S A z k rest else share_items S A z j (l i j)))
+          (λ e.
+          let ip : i ≡ p = grind (arith, nat_tests) in
+          let jk : j ≡ k = grind (arith, nat_tests) in
+          rw (ip, jk, waits) refl)
+          (λ _. refl)
 
   -- and after something was put on a node's links
   pub view_put : (l : ℕ → ℕ → List (Any R)) (k : ℕ) (sends : List (ℕ × Any R)) (i j : ℕ) → share_items S A z j

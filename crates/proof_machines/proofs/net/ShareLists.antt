@@ -5,6 +5,7 @@ use Rattle.std.proofs.lemmas.Bool.Decides.{Decides-eqb}
 use Rattle.proof_machines.proofs.unit.Labels.{Each}
 use Rattle.proof_machines.proofs.share.Share.{Phase}
 use Rattle.proof_machines.proofs.net.Shares.{OpenShare, find_share, set_share}
+use Rattle.proof_machines.proofs.Tests.{split, by_if}
 
 -- what of a share never changes
 pub record SameShare (d e : OpenShare) : Type 0 where
@@ -20,10 +21,9 @@ AreNumbersApart (e ∷ es) = Each (λ d. (e.num == d.num) ≡ false) es × AreNu
 
 pub found_num : (es : List OpenShare) (n : ℕ) (e : OpenShare) → find_share es n ≡ Some e → (e.num == n) ≡ true
 found_num [] n e is = cc
-found_num (x ∷ es) n e is = elim (x.num == n) as (λ b. (x.num == n) ≡ b → (if b then Some x else find_share es n) ≡ Some e → (e.num == n) ≡ true) [
-  | true ↦ λ on there. let same : x ≡ e = cc in subst (λ y. (y.num == n) ≡ true) same on
-  | false ↦ λ _ there. found_num es n e there
-] refl is
+found_num (x ∷ es) n e is = split (x.num == n) (λ b. (if b then Some x else find_share es n) ≡ Some e → (e.num == n) ≡ true)
+    (λ on there. let same : x ≡ e = cc in subst (λ y. (y.num == n) ≡ true) same on)
+    (λ _ there. found_num es n e there) is
 
 pub found_each : (P : OpenShare → Type 0) (es : List OpenShare) (n : ℕ) (e : OpenShare) → Each P es → find_share es n ≡ Some e → P e
 found_each P [] n e h is = cc
@@ -60,10 +60,8 @@ pub record Found (es : List OpenShare) (k : ℕ) (e : OpenShare) : Type 0 where
 -- after a change the same shares are found
 pub find_set : (n : ℕ) (ph : Phase) (q : List ℕ) (es : List OpenShare) (k : ℕ) (e : OpenShare) → find_share es k ≡ Some e → Found (set_share n ph q es) k e
 find_set n ph q [] k e is = cc
-find_set n ph q (x ∷ es) k e is = elim (x.num == n) as (λ a. Found (if a then record x { phase = ph; queue = q } ∷ es else x ∷ set_share n ph q es) k e) [
-  | true ↦ first (x.num == k) refl is
-  | false ↦ later (x.num == k) (λ there. find_set n ph q es k e there) refl is
-]
+find_set n ph q (x ∷ es) k e is = by_if (λ r. Found r k e) (x.num == n) (first (x.num == k) refl is)
+    (later (x.num == k) (λ there. find_set n ph q es k e there) refl is)
   where
     first : (b : Bool) → (x.num == k) ≡ b → (if b then Some x else find_share es k) ≡ Some e → Found (record x { phase = ph; queue = q } ∷ es) k e
     first true on there =

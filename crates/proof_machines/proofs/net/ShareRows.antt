@@ -1,31 +1,30 @@
 -- What an open share is told by a message, and that its row keeps and sends nothing but what it was told.
-use Rattle.std.proofs.Common.{◌≡◌, ℕ, true, false, Option, Some, None, List, [], ◌∷◌, length, refl, subst}
+use Rattle.std.proofs.Common.{◌≡◌, ℕ, true, false, Option, Some, None, List, [], ◌∷◌, refl, subst}
 use Rattle.std.specs.Prelude.{if◌then◌else◌, ◌==◌, option_map}
 use Rattle.proof_machines.proofs.unit.Real.{Chunks, M_fenced}
 use Rattle.proof_machines.proofs.unit.Labels.{Each, each-append}
-use Rattle.proof_machines.proofs.share.Share.{Phase, Phase.Fencing, Phase.Getting, Phase.Setting, Phase.Idle, Phase.Out, Phase.Syncing, without_number}
+use Rattle.proof_machines.proofs.share.Share.{Phase, Phase.Fencing, Phase.Getting, Phase.Setting, Phase.Idle, Phase.Out, Phase.Syncing}
 use Rattle.proof_machines.proofs.share.Lists.{self}
-use Rattle.proof_machines.proofs.net.Net.{Msg.In_packet, Msg.Asked, Msg.Carry_on, Msg.Pass_on, Msg.Fence_on, Msg.Mv, Sys}
+use Rattle.proof_machines.proofs.net.Net.{Msg.Mv, Sys}
 use Rattle.proof_machines.proofs.net.Holding.{EachSent}
 use Rattle.proof_machines.proofs.net.NewMessages.{each_sent_append}
 use Rattle.proof_machines.proofs.net.ShareLists.{AreNumbersApart, found_own}
-use Rattle.proof_machines.proofs.net.Shares.{Any, Any.Old, Any.New, ShareMsg.Shared_on, ShareMsg.Diverted_on, ShareMsg.S_asked}
-use Rattle.proof_machines.proofs.net.Shares.{ShareMsg.S_install, ShareMsg.S_forward, ShareMsg.S_get, ShareMsg.S_sync, ShareMsg.S_chunks}
+use Rattle.proof_machines.proofs.net.Shares.{Any, Any.Old, Any.New, ShareMsg.Diverted_on}
+use Rattle.proof_machines.proofs.net.Shares.{ShareMsg.S_forward, ShareMsg.S_get, ShareMsg.S_sync, ShareMsg.S_chunks}
 use Rattle.proof_machines.proofs.net.Shares.{ShareMsg.S_shared, ShareMsg.S_synced, Sharing, OpenShare, find_share, share_taking, Told}
 use Rattle.proof_machines.proofs.net.Shares.{Told.Is_fenced, Told.Has_chunks, Told.Has_chunk, Told.Is_synced, Told.Has_packet, syncs}
-use Rattle.proof_machines.proofs.net.Shares.{ShareTurn, s_goes, s_left, s_row, s_served, share_row, told_by, SharesStep, by_share}
+use Rattle.proof_machines.proofs.net.Shares.{ShareTurn, s_row, s_served, share_row, told_by, SharesStep, by_share}
 use Rattle.nf_function.specs.declared.unit.Unit as units
+use Rattle.proof_machines.proofs.Tests.{split, by_if}
 
 module _ {R : Type 0} (S : Sys R) (A : Sharing S) where
   -- the share that takes a unit is found by its number
   pub taking_each : (P : OpenShare → Type 0) (es : List OpenShare) (v : units.Unit) (e : OpenShare) → Each P es → share_taking S es v ≡ Some e
       → P e × (S.takes e.filter v ≡ true)
   taking_each P [] v e h is = cc
-  taking_each P (x ∷ es) v e h is = elim (S.takes x.filter v)
-      as (λ b. S.takes x.filter v ≡ b → (if b then Some x else share_taking S es v) ≡ Some e → P e × (S.takes e.filter v ≡ true)) [
-        | true ↦ λ on there. let same : x ≡ e = cc in (subst P same h.0, subst (λ y. S.takes y.filter v ≡ true) same on)
-        | false ↦ λ _ there. taking_each P es v e h.1 there
-      ] refl is
+  taking_each P (x ∷ es) v e h is = split (S.takes x.filter v) (λ b. (if b then Some x else share_taking S es v) ≡ Some e → P e × (S.takes e.filter v ≡ true))
+      (λ on there. let same : x ≡ e = cc in (subst P same h.0, subst (λ y. S.takes y.filter v ≡ true) same on))
+      (λ _ there. taking_each P es v e h.1 there) is
 
   pub taking_found : (es : List OpenShare) (v : units.Unit) (e : OpenShare) → AreNumbersApart es → share_taking S es v ≡ Some e → find_share es e.num ≡ Some e
   taking_found [] v e h is = cc
@@ -59,12 +58,6 @@ module _ {R : Type 0} (S : Sys R) (A : Sharing S) where
       → G (by_share S A es p (told_by S A es m))
   told_cases G es p (Old (Mv g (M_fenced n))) nums none some =
       by_option G es p Is_fenced (find_share es n) none (λ e is. some e Is_fenced (found_own es n e is) refl)
-  told_cases G es p (Old (Mv g m)) nums none some = none
-  told_cases G es p (Old (In_packet q)) nums none some = none
-  told_cases G es p (Old (Asked x)) nums none some = none
-  told_cases G es p (Old (Carry_on q)) nums none some = none
-  told_cases G es p (Old (Pass_on q)) nums none some = none
-  told_cases G es p (Old (Fence_on n)) nums none some = none
   told_cases G es p (New (S_chunks n cs)) nums none some =
       by_option G es p (Has_chunks cs) (find_share es n) none (λ e is. some e (Has_chunks cs) (found_own es n e is) (is, refl))
   told_cases G es p (New (S_shared n c)) nums none some =
@@ -72,12 +65,7 @@ module _ {R : Type 0} (S : Sys R) (A : Sharing S) where
   told_cases G es p (New (S_synced n)) nums none some = by_option G es p Is_synced (find_share es n) none (λ e is. some e Is_synced (found_own es n e is) refl)
   told_cases G es p (New (Diverted_on q)) nums none some = by_option G es p (Has_packet q) (share_taking S es (S.packet_unit q)) none
       (λ e is. some e (Has_packet q) (taking_found es (S.packet_unit q) e nums is) (is, refl))
-  told_cases G es p (New (Shared_on n home q)) nums none some = none
-  told_cases G es p (New (S_asked x)) nums none some = none
-  told_cases G es p (New (S_install n g from)) nums none some = none
-  told_cases G es p (New (S_forward n home q to)) nums none some = none
-  told_cases G es p (New (S_get n g)) nums none some = none
-  told_cases G es p (New (S_sync n home cs)) nums none some = none
+  told_cases G es p m nums none some = none
 
   -- Of one share: packets that are Q and chunks that are C
   module _ (e : OpenShare) (Q : ℕ → Type 0) (C : Chunks R → Type 0) where
@@ -99,20 +87,13 @@ module _ {R : Type 0} (S : Sys R) (A : Sharing S) where
 
     syncs_by : (j : ℕ) (cs : Chunks R) (ms : List ℕ) → C cs → EachSent SentBy (syncs e.num e.home j cs ms)
     syncs_by j cs [] c = tt
-    syncs_by j cs (m ∷ ms) c = elim (m == j) as (λ b. EachSent SentBy
-        (if b then syncs e.num e.home j cs ms else (m, New (S_sync e.num (m == e.home) cs)) ∷ syncs e.num e.home j cs ms))
-        [ true ↦ syncs_by j cs ms c | false ↦ ((refl, c, refl), syncs_by j cs ms c) ]
+    syncs_by j cs (m ∷ ms) c = by_if (EachSent SentBy) (m == j) (syncs_by j cs ms c) ((refl, c, refl), syncs_by j cs ms c)
 
     row_by : (sender : ℕ) (told : Told R) (ph : Phase) (q : List ℕ) → ToldOf told → Each Q q → Keeps (s_row S A e sender told ph q)
     row_by sender Is_fenced Fencing q t h =
-        elim (sender == e.home) as (λ b. Keeps (if b then s_goes S A Getting q ((e.home, New (S_get e.num e.filter)) ∷ []) else s_goes S A Fencing q []))
-        [ true ↦ (h, ((refl, refl, refl), tt)) | false ↦ (h, tt) ]
-    row_by sender (Has_chunks cs) Getting q t h = elim (sender == e.home) as (λ b. Keeps (if b
-        then s_left S A Setting (length (without_number e.members e.home)) q (syncs e.num e.home e.home cs e.members) else s_goes S A Getting q []))
-        [ true ↦ (h, syncs_by e.home cs e.members t) | false ↦ (h, tt) ]
-    row_by sender (Has_chunk c) (Out m) q t h = elim (sender == m) as (λ b.
-        Keeps (if b then s_left S A Syncing (length (without_number e.members m)) q (syncs e.num e.home m (c ∷ []) e.members) else s_goes S A (Out m) q []))
-        [ true ↦ (h, syncs_by m (c ∷ []) e.members t) | false ↦ (h, tt) ]
+        by_if Keeps (sender == e.home) (h, ((refl, refl, refl), tt)) (h, tt)
+    row_by sender (Has_chunks cs) Getting q t h = by_if Keeps (sender == e.home) (h, syncs_by e.home cs e.members t) (h, tt)
+    row_by sender (Has_chunk c) (Out m) q t h = by_if Keeps (sender == m) (h, syncs_by m (c ∷ []) e.members t) (h, tt)
     row_by sender Is_synced (Setting left) q t h = (h, tt)
     row_by sender Is_synced (Syncing left) q t h = (h, tt)
     row_by sender (Has_packet p) ph q t h = (each-append Q q (p ∷ []) h (t, tt), tt)

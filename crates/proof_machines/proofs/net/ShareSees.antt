@@ -29,24 +29,24 @@ use Rattle.proof_machines.proofs.net.Shares.{ShareMsg.S_get, ShareMsg.S_sync, Sh
 use Rattle.proof_machines.proofs.net.Shares.{find_share, set_share, share_taking, Told, Told.Is_fenced, Told.Has_chunks, Told.Has_chunk, Told.Is_synced}
 use Rattle.proof_machines.proofs.net.Shares.{Told.Has_packet, share_row, told_by, SharesStep, by_share, WholeWorld, old_step, SeeingShare}
 use Rattle.record_table.proofs.UnitOrder.{same_unit-true}
+use Rattle.proof_machines.proofs.Tests.{split}
+use Rattle.std.proofs.lemmas.Bool.{false_from_ne_true}
 
 pub found_set : (n : ℕ) (ph : Phase) (q : List ℕ) (es : List OpenShare) (e : OpenShare) → find_share es n ≡ Some e
     → find_share (set_share n ph q es) n ≡ Some (record e { phase = ph; queue = q })
 found_set n ph q [] e is = cc
-found_set n ph q (x ∷ es) e is = elim (x.num == n) as (λ b. (x.num == n) ≡ b → (if b then Some x else find_share es n) ≡ Some e
-    → find_share (if b then record x { phase = ph; queue = q } ∷ es else x ∷ set_share n ph q es) n ≡ Some (record e { phase = ph; queue = q })) [
-      | true ↦ λ on there.
-          let same_is : x ≡ e = cc in let change : OpenShare → Option OpenShare = λ y. Some (record y { phase = ph; queue = q }) in rw on (ap change same_is)
-      | false ↦ λ off there. rw off (found_set n ph q es e there)
-    ] refl is
+found_set n ph q (x ∷ es) e is = split (x.num == n) (λ b. (if b then Some x else find_share es n) ≡ Some e
+    → find_share (if b then record x { phase = ph; queue = q } ∷ es else x ∷ set_share n ph q es) n ≡ Some (record e { phase = ph; queue = q }))
+    (λ on there.
+    let same_is : x ≡ e = cc in let change : OpenShare → Option OpenShare = λ y. Some (record y { phase = ph; queue = q }) in rw on (ap change same_is))
+    (λ off there. rw off (found_set n ph q es e there)) is
 
 pub found_set_other : (n : ℕ) (ph : Phase) (q : List ℕ) (es : List OpenShare) (k : ℕ) → (n == k) ≡ false → find_share (set_share n ph q es) k ≡ find_share es k
 found_set_other n ph q [] k off = refl
-found_set_other n ph q (x ∷ es) k off = elim (x.num == n) as (λ b. (x.num == n) ≡ b
-    → find_share (if b then record x { phase = ph; queue = q } ∷ es else x ∷ set_share n ph q es) k ≡ (if x.num == k then Some x else find_share es k)) [
-      | true ↦ λ on. let same_is : x.num ≡ n = (Decides-eqb x.num n).0 on in let out : (x.num == k) ≡ false = ap (λ j. j == k) same_is ∙ off in rw out refl
-      | false ↦ λ _. ap (λ o. if x.num == k then Some x else o) (found_set_other n ph q es k off)
-    ] refl
+found_set_other n ph q (x ∷ es) k off = split (x.num == n) (λ b. find_share (if b then record x { phase = ph; queue = q } ∷ es else x ∷ set_share n ph q es) k
+    ≡ (if x.num == k then Some x else find_share es k))
+    (λ on. let same_is : x.num ≡ n = (Decides-eqb x.num n).0 on in let out : (x.num == k) ≡ false = ap (λ j. j == k) same_is ∙ off in rw out refl)
+    (λ _. ap (λ o. if x.num == k then Some x else o) (found_set_other n ph q es k off))
 
 module _ {R : Type 0} (S : Sys R) (A : Sharing S) (z : SeeingShare) where
   abbrev f : UnitShare R
@@ -119,13 +119,12 @@ module _ {R : Type 0} (S : Sys R) (A : Sharing S) (z : SeeingShare) where
         → ((n == z.num) ≡ true → SeesRow S A z is insts (share_row S A (as_share S A z ph q) p t) (share_does f it ph q))
         → ((e : OpenShare) → ToldOf S A e (λ p. mine S A z p ≡ false) (λ _. Unit {0}) t)
         → Sees_share (by_share S A es p (option_map (λ e. (e, t)) (find_share es n))) (share_item ph q (where_true (n == z.num) it))
-    by_number n t it own told = elim (n == z.num)
-        as (λ b. (n == z.num) ≡ b → Sees_share (by_share S A es p (option_map (λ e. (e, t)) (find_share es n))) (share_item ph q (where_true b it))) [
-          | true ↦ λ on. let num : n ≡ z.num = (Decides-eqb n z.num).0 on in
-              subst (λ o. Sees_share (by_share S A es p (option_map (λ e. (e, t)) o)) (share_does f it ph q)) (sym (ap (find_share es) num ∙ there))
-              (of_own t (share_does f it ph q) (own on))
-          | false ↦ λ off. if_found (find_share es n) refl off
-        ] refl
+    by_number n t it own told = split (n == z.num)
+        (λ b. Sees_share (by_share S A es p (option_map (λ e. (e, t)) (find_share es n))) (share_item ph q (where_true b it)))
+        (λ on. let num : n ≡ z.num = (Decides-eqb n z.num).0 on in
+        subst (λ o. Sees_share (by_share S A es p (option_map (λ e. (e, t)) o)) (share_does f it ph q)) (sym (ap (find_share es) num ∙ there))
+        (of_own t (share_does f it ph q) (own on)))
+        (λ off. if_found (find_share es n) refl off)
       where
         if_found : (o : Option OpenShare) → find_share es n ≡ o → (n == z.num) ≡ false
             → Sees_share (by_share S A es p (option_map (λ e. (e, t)) o)) (waits ph q)
@@ -137,20 +136,17 @@ module _ {R : Type 0} (S : Sys R) (A : Sharing S) (z : SeeingShare) where
     -- a packet that is diverted
     diverted : (k : ℕ) → Sees_share (by_share S A es p (option_map (λ e. (e, Has_packet k)) (share_taking S es (S.packet_unit k))))
         (share_item ph q (new_seen S A z 1 (Diverted_on k)))
-    diverted k = elim (S.takes z.filter (S.packet_unit k)) as (λ b. S.takes z.filter (S.packet_unit k) ≡ b
-        → Sees_share (by_share S A es p (option_map (λ e. (e, Has_packet k)) (share_taking S es (S.packet_unit k))))
-        (share_item ph q (if b then Some (Diverted k) else where_true (mine S A z k) Stray))) [
-          | true ↦ λ on. subst (λ o. Sees_share (by_share S A es p (option_map (λ e. (e, Has_packet k)) o)) (share_does f (Diverted k) ph q))
-              (sym (taking_own S A z w g covered ph q there (S.packet_unit k) on))
-              (of_own (Has_packet k) (share_does f (Diverted k) ph q) (packet_sees S A z is insts ph q p k))
-          | false ↦ λ off. let other = not_its off in rw other (if_taken (share_taking S es (S.packet_unit k)) refl off other)
-        ] refl
+    diverted k = split (S.takes z.filter (S.packet_unit k))
+        (λ b. Sees_share (by_share S A es p (option_map (λ e. (e, Has_packet k)) (share_taking S es (S.packet_unit k))))
+        (share_item ph q (if b then Some (Diverted k) else where_true (mine S A z k) Stray)))
+        (λ on. subst (λ o. Sees_share (by_share S A es p (option_map (λ e. (e, Has_packet k)) o)) (share_does f (Diverted k) ph q))
+        (sym (taking_own S A z w g covered ph q there (S.packet_unit k) on))
+        (of_own (Has_packet k) (share_does f (Diverted k) ph q) (packet_sees S A z is insts ph q p k)))
+        (λ off. let other = not_its off in rw other (if_taken (share_taking S es (S.packet_unit k)) refl off other))
       where
         not_its : S.takes z.filter (S.packet_unit k) ≡ false → mine S A z k ≡ false
-        not_its off = elim (mine S A z k) as (λ b. mine S A z k ≡ b → b ≡ false) [
-          | true ↦ λ on. let never : true ≡ false = sym covered ∙ ap (S.takes z.filter) (sym (same_unit-true (S.packet_unit k) z.unit on)) ∙ off in cc
-          | false ↦ λ _. refl
-        ] refl
+        not_its off = false_from_ne_true (mine S A z k)
+            (λ on. let never : true ≡ false = sym covered ∙ ap (S.takes z.filter) (sym (same_unit-true (S.packet_unit k) z.unit on)) ∙ off in cc)
 
         if_taken : (o : Option OpenShare) → share_taking S es (S.packet_unit k) ≡ o → S.takes z.filter (S.packet_unit k) ≡ false → mine S A z k ≡ false
             → Sees_share (by_share S A es p (option_map (λ e. (e, Has_packet k)) o)) (waits ph q)
@@ -219,19 +215,17 @@ module _ {R : Type 0} (S : Sys R) (A : Sharing S) (z : SeeingShare) where
     wrap_unseen o h (x ∷ xs) off of = (row_unseen o (filter_for h x.1) x.1 off of.0, wrap_unseen o h xs off of.1)
 
     not_move : (n : ℕ) (e : Open R) → find_op w.ops n ≡ Some e → (e.op.num == z.num) ≡ false
-    not_move n e found_e = elim (e.op.num == z.num) as (λ b. (e.op.num == z.num) ≡ b → b ≡ false) [
-      | true ↦ λ on.
-          let own : (e.op.num == n) ≡ true = (each_found (λ _. Unit {0}) n w.ops e (all w.ops) found_e).1 in
-          let num : n ≡ z.num = grind (arith, nat_tests, own, on) in
-          by_kind (g.one_kind n) num
-      | false ↦ λ _. refl
-    ] refl
+    not_move n e found_e = false_from_ne_true (e.op.num == z.num)
+        (λ on.
+        let own : (e.op.num == n) ≡ true = (each_found (λ _. Unit {0}) n w.ops e (all w.ops) found_e).1 in
+        let num : n ≡ z.num = grind (arith, nat_tests, own, on) in
+        by_kind (g.one_kind n) num)
       where
         all : (os : List (Open R)) → Each (λ _. Unit {0}) os
         all [] = tt
         all (o ∷ os) = (tt, all os)
 
-        by_kind : (find_op w.ops n ≡ None) ⊎ (find_share w.shares n ≡ None) → n ≡ z.num → true ≡ false
+        by_kind : (find_op w.ops n ≡ None) ⊎ (find_share w.shares n ≡ None) → n ≡ z.num → ⊥
         by_kind (inl none) num = let never : None ≡ Some e = sym none ∙ found_e in cc
         by_kind (inr none) num = let never : None ≡ Some (as_share S A z ph q) = sym none ∙ ap (find_share w.shares) num ∙ there in cc
 

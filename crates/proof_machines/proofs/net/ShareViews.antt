@@ -7,7 +7,7 @@ use Rattle.proof_machines.proofs.unit.Real.{record_at, M_fenced, M_install, M_fe
 use Rattle.proof_machines.proofs.unit.NetViews.{items}
 use Rattle.proof_machines.proofs.share.Share.{Item, Item.Carry, Item.Fence, Item.Shared, Item.Diverted, Item.Install, Item.Forward, Item.Get}
 use Rattle.proof_machines.proofs.share.Share.{Item.Sync, Item.Fenced, Item.Chunks, Item.Chunk, Item.Synced, Item.Stray, UnitShare, Phase, View, has}
-use Rattle.proof_machines.proofs.net.Net.{Msg, Msg.In_packet, Msg.Asked, Msg.Carry_on, Msg.Pass_on, Msg.Fence_on, Msg.Mv, Sys}
+use Rattle.proof_machines.proofs.net.Net.{Msg, Msg.Carry_on, Msg.Pass_on, Msg.Fence_on, Msg.Mv, Sys}
 use Rattle.proof_machines.proofs.net.Shares.{Any, Any.Old, Any.New, ShareMsg, ShareMsg.Shared_on, ShareMsg.Diverted_on, ShareMsg.S_asked}
 use Rattle.proof_machines.proofs.net.Shares.{ShareMsg.S_install, ShareMsg.S_forward, ShareMsg.S_get, ShareMsg.S_sync, ShareMsg.S_chunks}
 use Rattle.proof_machines.proofs.net.Shares.{ShareMsg.S_shared, ShareMsg.S_synced, same, Sharing, OpenShare, find_share, WholeWorld, ran_of, SeeingShare}
@@ -44,8 +44,7 @@ module _ {R : Type 0} (S : Sys R) (A : Sharing S) (z : SeeingShare) where
   old_seen (Pass_on p) = where_true (mine p) Stray
   old_seen (Fence_on n) = where_true (n == z.num) Fence
   old_seen (Mv g m) = move_seen m
-  old_seen (In_packet p) = None
-  old_seen (Asked x) = None
+  old_seen m = None
 
   -- at the receiver r
   abbrev pub new_seen : ℕ → ShareMsg R → Option (Item R)

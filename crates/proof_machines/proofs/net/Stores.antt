@@ -16,6 +16,7 @@ use Rattle.proof_machines.proofs.net.Units.{Where, shown, see as seeing}
 use Rattle.nf_function.specs.declared.unit.Unit as units
 use Rattle.record_table.specs.Table.{same_unit}
 use Rattle.record_table.proofs.UnitOrder.{same_unit_equiv}
+use Rattle.proof_machines.proofs.Tests.{either_way}
 
 -- the last fence is awaited
 abbrev pub ends : {R : Type 0} → RPhase R → Bool
@@ -44,14 +45,13 @@ module _ {R : Type 0} (S : Sys R) (laws : IsSys S) where
   none_left w g n e there late u ps b here =
       let k = shown S laws u w ps b g here in
       let z = seeing S laws u k.op k.third in
-      same_mine S z e.store ∙ elim (n == k.op.num) as (λ b. (n == k.op.num) ≡ b → Rattle.proof_machines.proofs.unit.Real.only_mine (frame S z) e.store ≡ []) [
-        | true ↦ λ on.
-            let same : n ≡ k.op.num = (Decides-eqb n k.op.num).0 on in
-            let c : IsController S z (Some e) (seat_shape S.F k.seat) = subst (λ o. IsController S z o (seat_shape S.F k.seat))
-            (ap (λ m. find_op w.ops m) (sym same) ∙ there) k.holds.ctrl in
-            c.2 ∙ (seat_stands S.F k.seat).released (ap is_released (sym c.1) ∙ ends_released (frame S z) e.phase late)
-        | false ↦ λ off.
-            let l = each_found (OpLabel S z) n w.ops e k.holds.ops there in
-            let same : e.op.num ≡ n = (Decides-eqb e.op.num n).0 l.1 in
-            (l.0.1 (rw same off)).1
-      ] refl
+      same_mine S z e.store ∙ either_way (n == k.op.num)
+      (λ on.
+      let same : n ≡ k.op.num = (Decides-eqb n k.op.num).0 on in
+      let c : IsController S z (Some e) (seat_shape S.F k.seat) = subst (λ o. IsController S z o (seat_shape S.F k.seat))
+      (ap (λ m. find_op w.ops m) (sym same) ∙ there) k.holds.ctrl in
+      c.2 ∙ (seat_stands S.F k.seat).released (ap is_released (sym c.1) ∙ ends_released (frame S z) e.phase late))
+      (λ off.
+      let l = each_found (OpLabel S z) n w.ops e k.holds.ops there in
+      let same : e.op.num ≡ n = (Decides-eqb e.op.num n).0 l.1 in
+      (l.0.1 (rw same off)).1)

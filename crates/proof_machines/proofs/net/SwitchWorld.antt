@@ -5,8 +5,7 @@ use Rattle.std.proofs.lemmas.Bool.Decides.{nat_tests, Decides-eqb}
 use Rattle.std.proofs.lemmas.Bool.{and_parts}
 use Rattle.proof_machines.proofs.unit.Machine.{Where, At_a, At_b, At_c, Item, Carry, Pass, Fence, Forward, Fence_to, Install}
 use Rattle.proof_machines.proofs.unit.Machine.{Stray, State, Arrive, Take_cs, moved, switch_does, redirected, send_to}
-use Rattle.proof_machines.proofs.unit.Real.{M_enable, M_stream, M_delete, M_put, M_restore, M_enabled, M_event, M_piece, M_deleted}
-use Rattle.proof_machines.proofs.unit.Real.{M_put_ok, M_put_no, M_restored, M_fenced, M_forward, M_install, M_fence_to, where_true, add}
+use Rattle.proof_machines.proofs.unit.Real.{M_forward, M_install, M_fence_to, where_true, add}
 use Rattle.proof_machines.proofs.unit.Pairs.{Nodes, expect, after_take, switch_from_c, nothing_seen, arrives_at}
 use Rattle.proof_machines.proofs.unit.Pairs.{By_sa, By_sb, By_sc, By_ca, By_cb, By_ac, By_bc, By_cc, By_cs, shown_by}
 use Rattle.proof_machines.proofs.unit.Labels.{Each}
@@ -23,6 +22,7 @@ use Rattle.proof_machines.proofs.net.InstWorld.{Goes_to, moves_on, same_order}
 use Rattle.proof_machines.proofs.net.OtherWorld.{one_unseen, put_unseen, two_not}
 use Rattle.record_table.specs.Table.{same_unit}
 use Rattle.record_table.proofs.UnitOrder.{same_unit-true}
+use Rattle.proof_machines.proofs.Tests.{either_way, split}
 
 module _ {R : Type 0} (S : Sys R) (laws : IsSys S) (z : Seeing) where
   abbrev its : List (Msg R) → List (Item R)
@@ -34,8 +34,28 @@ module _ {R : Type 0} (S : Sys R) (laws : IsSys S) (z : Seeing) where
   sends_label (Mv g (M_fence_to n to)) = (tt, tt)
   sends_label m = tt
 
-  module _ (w : World S) (s : UnitSeat S.F) (h : Holds S z w (seat_shape S.F s)) (p : ℕ) (m : Msg R) (rest : List (Msg R)) (p0 : (p == 0) ≡ false)
-      (waits : w.link p 0 ≡ m ∷ rest) where
+  -- the controller of a state that has its move as it was
+  same_controller : (x x' : State R) → x'.phase ≡ x.phase → x'.store ≡ x.store → x'.keep ≡ x.keep → (o : Option (Open R)) → IsController S z o x
+      → IsController S z o x'
+  same_controller x x' phase store keep None e = rw phase e
+  same_controller x x' phase store keep (Some e) (a, b, c, f) = (a, b ∙ sym phase, c ∙ sym store, f ∙ sym keep)
+
+  -- a message that waits at the switch, in a world that shows the unit's seat
+  record Waits (m : Msg R) : Type 0 where
+    w : World S
+    s : UnitSeat S.F
+    h : Holds S z w (seat_shape S.F s)
+    p : ℕ
+    rest : List (Msg R)
+    p0 : (p == 0) ≡ false
+    waits : w.link p 0 ≡ m ∷ rest
+
+  module _ {m : Msg R} (at : Waits m) where
+    open at use {w, s, h, p, rest, p0, waits}
+
+    abbrev Leads : Type 0
+    Leads = Goes_to S laws z (sw_next S w p m) s []
+
     abbrev x : State R
     x = seat_shape S.F s
 
@@ -55,18 +75,14 @@ module _ {R : Type 0} (S : Sys R) (laws : IsSys S) (z : Seeing) where
       labels = each_after (λ i j q. Label S z i q) w.link p 0 (sw_sends m) h.labels (sends_label m);
       insts = λ k. rw (nodes k) (h.insts k);
       target = target;
-      ctrl = by_op (find_op w.ops z.op.num) h.ctrl;
+      ctrl = same_controller x x' phase store keep (find_op w.ops z.op.num) h.ctrl;
       ops = h.ops;
       done = rw done h.done;
     }
-      where
-        by_op : (o : Option (Open R)) → IsController S z o x → IsController S z o x'
-        by_op None e = rw phase e
-        by_op (Some e) (a, b, c, f) = (a, b ∙ sym phase, c ∙ sym store, f ∙ sym keep)
 
     -- a message that isn't seen, and that shows nothing
     quiet_sw : seen (frame S z) m ≡ None → ((j : ℕ) → sent S z 0 (sw_sends m) j ≡ []) → sw_target S w.target m z.unit ≡ w.target z.unit
-        → Goes_to S laws z (sw_next S w p m) s []
+        → Leads
     quiet_sw none un target = record {
       seat = s;
       holds = next_holds x (λ i j. view_none S z w.link p 0 m rest waits no_input (sw_sends m) none i j
@@ -108,7 +124,7 @@ module _ {R : Type 0} (S : Sys R) (laws : IsSys S) (z : Seeing) where
       sw_move : (t : Where) (ta tb tc : List (Item R)) → switch_does (record x { cs = v }) it ≡ grown t ta tb tc
           → sent S z 0 (sw_sends m) z.op.src ≡ ta → sent S z 0 (sw_sends m) z.op.dst ≡ tb → sent S z 0 (sw_sends m) z.third ≡ tc
           → ((j : ℕ) → j ≢ z.op.src → j ≢ z.op.dst → j ≢ z.third → sent S z 0 (sw_sends m) j ≡ []) → sw_target S w.target m z.unit ≡ place S z t
-          → Goes_to S laws z (sw_next S w p m) s []
+          → Leads
       sw_move t ta tb tc does sa sb sc none target =
           let x' = grown t ta tb tc in
           let links = switch_from_c z.op.src z.op.dst z.third h.nodes x it v (sent S z 0 (sw_sends m)) ta tb tc from_ctrl.1 sa sb sc none in
@@ -122,7 +138,7 @@ module _ {R : Type 0} (S : Sys R) (laws : IsSys S) (z : Seeing) where
 
       -- an item on which the switch does nothing
       sw_idle : switch_does (record x { cs = v }) it ≡ record x { cs = v } → sw_sends m ≡ [] → sw_target S w.target m z.unit ≡ w.target z.unit
-          → Goes_to S laws z (sw_next S w p m) s []
+          → Leads
       sw_idle does empty target =
           let none : (j : ℕ) → sent S z 0 (sw_sends m) j ≡ [] =
           λ j. rw empty (elim (j == 0) as (λ b. ◌≡◌ {A = List (Item R)} (if b then [] else []) []) [ true ↦ refl | false ↦ refl ]) in
@@ -139,7 +155,7 @@ module _ {R : Type 0} (S : Sys R) (laws : IsSys S) (z : Seeing) where
 
       to_src : (t : Where) (r : ℕ) (q : Msg R) (i2 : Item R) → (r == z.op.src) ≡ true → sw_sends m ≡ (r, q) ∷ [] → seen (frame S z) q ≡ Some i2
           → switch_does (record x { cs = v }) it ≡ record x { cs = v; sa = x.sa ++ i2 ∷ []; target = t } → sw_target S w.target m z.unit ≡ place S z t
-          → Goes_to S laws z (sw_next S w p m) s []
+          → Leads
       to_src t r q i2 on e sees does target =
           let same : r ≡ z.op.src = (Decides-eqb r z.op.src).0 on in
           let a = sent_one r q i2 e sees (rw same h.nodes.a_is) in
@@ -149,7 +165,7 @@ module _ {R : Type 0} (S : Sys R) (laws : IsSys S) (z : Seeing) where
 
       to_dst : (t : Where) (r : ℕ) (q : Msg R) (i2 : Item R) → (r == z.op.dst) ≡ true → sw_sends m ≡ (r, q) ∷ [] → seen (frame S z) q ≡ Some i2
           → switch_does (record x { cs = v }) it ≡ record x { cs = v; sb = x.sb ++ i2 ∷ []; target = t } → sw_target S w.target m z.unit ≡ place S z t
-          → Goes_to S laws z (sw_next S w p m) s []
+          → Leads
       to_dst t r q i2 on e sees does target =
           let same : r ≡ z.op.dst = (Decides-eqb r z.op.dst).0 on in
           let a = sent_one r q i2 e sees (rw same h.nodes.b_is) in
@@ -161,48 +177,30 @@ module _ {R : Type 0} (S : Sys R) (laws : IsSys S) (z : Seeing) where
   nil_sent : (j : ℕ) → sent S z 0 [] j ≡ []
   nil_sent j = elim (j == 0) as (λ b. ◌≡◌ {A = List (Item R)} (if b then [] else []) []) [ true ↦ refl | false ↦ refl ]
 
-  idle_case : (w : World S) (s : UnitSeat S.F) (h : Holds S z w (seat_shape S.F s)) (p : ℕ) (m : Msg R) (rest : List (Msg R)) (p0 : (p == 0) ≡ false)
-      (waits : w.link p 0 ≡ m ∷ rest) (b : Bool) (it : Item R)
-      → seen (frame S z) m ≡ where_true b it → sw_sends m ≡ [] → sw_target S w.target m z.unit ≡ w.target z.unit → ((u : State R) → switch_does u it ≡ u)
-      → Goes_to S laws z (sw_next S w p m) s []
-  idle_case w s h p m rest p0 waits true it is none target does = sw_idle w s h p m rest p0 waits it is (does _) none target
-  idle_case w s h p m rest p0 waits false it is none target does =
-      quiet_sw w s h p m rest p0 waits is (λ j. ap (λ xs. sent S z 0 xs j) none ∙ nil_sent j) target
+  idle_case : {m : Msg R} (at : Waits m) (b : Bool) (it : Item R) → seen (frame S z) m ≡ where_true b it → sw_sends m ≡ []
+      → sw_target S at.w.target m z.unit ≡ at.w.target z.unit → ((u : State R) → switch_does u it ≡ u) → Leads at
+  idle_case at true it is none target does = sw_idle at it is (does _) none target
+  idle_case at false it is none target does = quiet_sw at is (λ j. ap (λ xs. sent S z 0 xs j) none ∙ nil_sent j) target
 
-  forward_case : (w : World S) (s : UnitSeat S.F) (h : Holds S z w (seat_shape S.F s)) (p : ℕ) (g : Filter) (q to : ℕ) (rest : List (Msg R))
-      (p0 : (p == 0) ≡ false) (waits : w.link p 0 ≡ Mv g (M_forward q to) ∷ rest)
-      → Goes_to S laws z (sw_next S w p (Mv g (M_forward q to))) s []
-  forward_case w s h p g q to rest p0 waits =
-      elim (same_unit (S.packet_unit q) z.unit)
-      as (λ b. (same_unit (S.packet_unit q) z.unit) ≡ b → Goes_to S laws z (sw_next S w p (Mv g (M_forward q to))) s []) [
-        | true ↦ λ ours. elim (to == z.op.src) as (λ b. (to == z.op.src) ≡ b → Goes_to S laws z (sw_next S w p (Mv g (M_forward q to))) s []) [
-          | true ↦ λ a. to_src w s h p (Mv g (M_forward q to)) rest p0 waits (Forward At_a q) (rw (ours, a) refl) (seat_shape S.F s).target to (Pass_on q)
-              (Pass q) a refl (rw ours refl) refl h.target
-          | false ↦ λ na. elim (to == z.op.dst) as (λ b. (to == z.op.dst) ≡ b → Goes_to S laws z (sw_next S w p (Mv g (M_forward q to))) s []) [
-            | true ↦ λ b. to_dst w s h p (Mv g (M_forward q to)) rest p0 waits (Forward At_b q) (rw (ours, na, b) refl) (seat_shape S.F s).target to
-                (Pass_on q) (Pass q) b refl (rw ours refl) refl h.target
-            | false ↦ λ nb. never_true (is_for w s h p (Mv g (M_forward q to)) rest p0 waits Stray (rw (ours, na, nb) refl))
-          ] refl
-        ] refl
-        | false ↦ λ off. quiet_sw w s h p (Mv g (M_forward q to)) rest p0 waits (rw off refl) (one_unseen S laws z 0 to (Pass_on q) (rw off refl)) refl
-      ] refl
+  forward_case : (g : Filter) (q to : ℕ) (at : Waits (Mv g (M_forward q to))) → Leads at
+  forward_case g q to at =
+      either_way (same_unit (S.packet_unit q) z.unit)
+      (λ ours. either_way (to == z.op.src)
+      (λ a. to_src at (Forward At_a q) (rw (ours, a) refl) (x at).target to (Pass_on q) (Pass q) a refl (rw ours refl) refl at.h.target)
+      (λ na. either_way (to == z.op.dst)
+      (λ b. to_dst at (Forward At_b q) (rw (ours, na, b) refl) (x at).target to (Pass_on q) (Pass q) b refl (rw ours refl) refl at.h.target)
+      (λ nb. never_true (is_for at Stray (rw (ours, na, nb) refl)))))
+      (λ off. quiet_sw at (rw off refl) (one_unseen S laws z 0 to (Pass_on q) (rw off refl)) refl)
 
-  fence_case : (w : World S) (s : UnitSeat S.F) (h : Holds S z w (seat_shape S.F s)) (p : ℕ) (g : Filter) (k to : ℕ) (rest : List (Msg R))
-      (p0 : (p == 0) ≡ false) (waits : w.link p 0 ≡ Mv g (M_fence_to k to) ∷ rest)
-      → Goes_to S laws z (sw_next S w p (Mv g (M_fence_to k to))) s []
-  fence_case w s h p g k to rest p0 waits =
-      elim (k == z.op.num) as (λ b. (k == z.op.num) ≡ b → Goes_to S laws z (sw_next S w p (Mv g (M_fence_to k to))) s []) [
-        | true ↦ λ ours. elim (to == z.op.src) as (λ b. (to == z.op.src) ≡ b → Goes_to S laws z (sw_next S w p (Mv g (M_fence_to k to))) s []) [
-          | true ↦ λ a. to_src w s h p (Mv g (M_fence_to k to)) rest p0 waits (Fence_to At_a) (rw (ours, a) refl) (seat_shape S.F s).target to (Fence_on k)
-              Fence a refl (rw ours refl) refl h.target
-          | false ↦ λ na. elim (to == z.op.dst) as (λ b. (to == z.op.dst) ≡ b → Goes_to S laws z (sw_next S w p (Mv g (M_fence_to k to))) s []) [
-            | true ↦ λ b. to_dst w s h p (Mv g (M_fence_to k to)) rest p0 waits (Fence_to At_b) (rw (ours, na, b) refl) (seat_shape S.F s).target to
-                (Fence_on k) Fence b refl (rw ours refl) refl h.target
-            | false ↦ λ nb. never_true (is_for w s h p (Mv g (M_fence_to k to)) rest p0 waits Stray (rw (ours, na, nb) refl))
-          ] refl
-        ] refl
-        | false ↦ λ off. quiet_sw w s h p (Mv g (M_fence_to k to)) rest p0 waits (rw off refl) (one_unseen S laws z 0 to (Fence_on k) (rw off refl)) refl
-      ] refl
+  fence_case : (g : Filter) (k to : ℕ) (at : Waits (Mv g (M_fence_to k to))) → Leads at
+  fence_case g k to at =
+      either_way (k == z.op.num)
+      (λ ours. either_way (to == z.op.src)
+      (λ a. to_src at (Fence_to At_a) (rw (ours, a) refl) (x at).target to (Fence_on k) Fence a refl (rw ours refl) refl at.h.target)
+      (λ na. either_way (to == z.op.dst)
+      (λ b. to_dst at (Fence_to At_b) (rw (ours, na, b) refl) (x at).target to (Fence_on k) Fence b refl (rw ours refl) refl at.h.target)
+      (λ nb. never_true (is_for at Stray (rw (ours, na, nb) refl)))))
+      (λ off. quiet_sw at (rw off refl) (one_unseen S laws z 0 to (Fence_on k) (rw off refl)) refl)
 
   -- the route of the unit after an Install
   routed : (t : Where) (r from to : ℕ) (b : Bool) → Nodes z.op.src z.op.dst z.third → (from == z.op.src) ≡ true → (to == z.op.dst) ≡ true → b ≡ true
@@ -217,138 +215,108 @@ module _ {R : Type 0} (S : Sys R) (laws : IsSys S) (z : Seeing) where
       let ac = n.ac in
       let g : from ≡ z.op.src = (Decides-eqb from z.op.src).0 f in let off : (r == from) ≡ false = grind (arith, nat_tests, is, g, ac) in rw (e, off) is
 
-  install_case : (w : World S) (s : UnitSeat S.F) (h : Holds S z w (seat_shape S.F s)) (p : ℕ) (g : Filter) (k from to : ℕ) (rest : List (Msg R))
-      (p0 : (p == 0) ≡ false) (waits : w.link p 0 ≡ Mv g (M_install k from to) ∷ rest)
-      → Goes_to S laws z (sw_next S w p (Mv g (M_install k from to))) s []
-  install_case w s h p g k from to rest p0 waits =
-      let lab = (label w s h p (Mv g (M_install k from to)) rest p0 waits).1 in
-      elim (k == z.op.num) as (λ b. (k == z.op.num) ≡ b → Goes_to S laws z (sw_next S w p (Mv g (M_install k from to))) s []) [
-        | true ↦ λ ours. elim ((from == z.op.src) && (to == z.op.dst))
-            as (λ b. (from == z.op.src) && (to == z.op.dst) ≡ b → Goes_to S laws z (sw_next S w p (Mv g (M_install k from to))) s []) [
-              | true ↦ λ both.
-                  let a = (and_parts (from == z.op.src) (to == z.op.dst) both).0 in
-                  let b = (and_parts (from == z.op.src) (to == z.op.dst) both).1 in
-                  to_src w s h p (Mv g (M_install k from to)) rest p0 waits Install (rw (ours, both) refl)
-                  (redirected (seat_shape S.F s).target) from (Fence_on k) Fence a refl (rw ours refl) refl
-                  (routed (seat_shape S.F s).target (w.target z.unit) from to (S.takes g z.unit) h.nodes a b (lab ∙ ours) h.target)
-              | false ↦ λ off. never_true (is_for w s h p (Mv g (M_install k from to)) rest p0 waits Stray (rw (ours, off) refl))
-            ] refl
-        | false ↦ λ off. quiet_sw w s h p (Mv g (M_install k from to)) rest p0 waits (rw off refl) (one_unseen S laws z 0 from (Fence_on k) (rw off refl))
-            (let out : S.takes g z.unit ≡ false = lab ∙ off in rw out refl)
-      ] refl
+  install_case : (g : Filter) (k from to : ℕ) (at : Waits (Mv g (M_install k from to))) → Leads at
+  install_case g k from to at =
+      let lab = (label at).1 in
+      either_way (k == z.op.num)
+      (λ ours. either_way ((from == z.op.src) && (to == z.op.dst))
+      (λ both.
+      let ab = and_parts (from == z.op.src) (to == z.op.dst) both in
+      to_src at Install (rw (ours, both) refl) (redirected (x at).target) from (Fence_on k) Fence ab.0 refl (rw ours refl) refl
+      (routed (x at).target (at.w.target z.unit) from to (S.takes g z.unit) at.h.nodes ab.0 ab.1 (lab ∙ ours) at.h.target))
+      (λ off. never_true (is_for at Stray (rw (ours, off) refl))))
+      (λ off. quiet_sw at (rw off refl) (one_unseen S laws z 0 from (Fence_on k) (rw off refl))
+      (let out : S.takes g z.unit ≡ false = lab ∙ off in rw out refl))
 
-  pub switch_holds : (w : World S) (s : UnitSeat S.F) (h : Holds S z w (seat_shape S.F s)) (p : ℕ) (m : Msg R) (rest : List (Msg R)) (p0 : (p == 0) ≡ false)
-      (waits : w.link p 0 ≡ m ∷ rest)
-      → Goes_to S laws z (sw_next S w p m) s []
-  switch_holds w s h p (Mv g (M_forward q to)) rest p0 waits = forward_case w s h p g q to rest p0 waits
-  switch_holds w s h p (Mv g (M_install k from to)) rest p0 waits = install_case w s h p g k from to rest p0 waits
-  switch_holds w s h p (Mv g (M_fence_to k to)) rest p0 waits = fence_case w s h p g k to rest p0 waits
-  switch_holds w s h p (Mv g (M_enable k r)) rest p0 waits = idle_case w s h p (Mv g (M_enable k r)) rest p0 waits (k == z.op.num) _ refl refl refl (λ u. refl)
-  switch_holds w s h p (Mv g (M_stream k)) rest p0 waits = idle_case w s h p (Mv g (M_stream k)) rest p0 waits (k == z.op.num) _ refl refl refl (λ u. refl)
-  switch_holds w s h p (Mv g (M_delete k us)) rest p0 waits =
-      idle_case w s h p (Mv g (M_delete k us)) rest p0 waits (k == z.op.num) _ refl refl refl (λ u. refl)
-  switch_holds w s h p (Mv g (M_put k c first)) rest p0 waits =
-      idle_case w s h p (Mv g (M_put k c first)) rest p0 waits (k == z.op.num) _ refl refl refl (λ u. refl)
-  switch_holds w s h p (Mv g (M_restore k cs)) rest p0 waits =
-      idle_case w s h p (Mv g (M_restore k cs)) rest p0 waits (k == z.op.num) _ refl refl refl (λ u. refl)
-  switch_holds w s h p (Mv g (M_enabled k)) rest p0 waits = idle_case w s h p (Mv g (M_enabled k)) rest p0 waits (k == z.op.num) _ refl refl refl (λ u. refl)
-  switch_holds w s h p (Mv g (M_event k q)) rest p0 waits =
-      idle_case w s h p (Mv g (M_event k q)) rest p0 waits (same_unit (S.packet_unit q) z.unit) _ refl refl refl (λ u. refl)
-  switch_holds w s h p (Mv g (M_piece k c)) rest p0 waits = idle_case w s h p (Mv g (M_piece k c)) rest p0 waits (k == z.op.num) _ refl refl refl (λ u. refl)
-  switch_holds w s h p (Mv g (M_deleted k)) rest p0 waits = idle_case w s h p (Mv g (M_deleted k)) rest p0 waits (k == z.op.num) _ refl refl refl (λ u. refl)
-  switch_holds w s h p (Mv g (M_put_ok k)) rest p0 waits = idle_case w s h p (Mv g (M_put_ok k)) rest p0 waits (k == z.op.num) _ refl refl refl (λ u. refl)
-  switch_holds w s h p (Mv g (M_put_no k why cs)) rest p0 waits =
-      idle_case w s h p (Mv g (M_put_no k why cs)) rest p0 waits (k == z.op.num) _ refl refl refl (λ u. refl)
-  switch_holds w s h p (Mv g (M_restored k)) rest p0 waits = idle_case w s h p (Mv g (M_restored k)) rest p0 waits (k == z.op.num) _ refl refl refl (λ u. refl)
-  switch_holds w s h p (Mv g (M_fenced k)) rest p0 waits = idle_case w s h p (Mv g (M_fenced k)) rest p0 waits (k == z.op.num) _ refl refl refl (λ u. refl)
-  switch_holds w s h p (Carry_on q) rest p0 waits =
-      idle_case w s h p (Carry_on q) rest p0 waits (same_unit (S.packet_unit q) z.unit) (Carry q) refl refl refl (λ u. refl)
-  switch_holds w s h p (Pass_on q) rest p0 waits =
-      idle_case w s h p (Pass_on q) rest p0 waits (same_unit (S.packet_unit q) z.unit) (Pass q) refl refl refl (λ u. refl)
-  switch_holds w s h p (Fence_on k) rest p0 waits = idle_case w s h p (Fence_on k) rest p0 waits (k == z.op.num) Fence refl refl refl (λ u. refl)
-  switch_holds w s h p (In_packet q) rest p0 waits = quiet_sw w s h p (In_packet q) rest p0 waits refl nil_sent refl
-  switch_holds w s h p (Asked a) rest p0 waits = quiet_sw w s h p (Asked a) rest p0 waits refl nil_sent refl
+  by_message : (m : Msg R) (at : Waits m) → Leads at
+  by_message (Mv g (M_forward q to)) at = forward_case g q to at
+  by_message (Mv g (M_install k from to)) at = install_case g k from to at
+  by_message (Mv g (M_fence_to k to)) at = fence_case g k to at
+  by_message (In_packet q) at = quiet_sw at refl nil_sent refl
+  by_message (Asked a) at = quiet_sw at refl nil_sent refl
+  by_message m at = idle_case at _ _ refl refl refl (λ u. refl)
+
+  pub switch_holds : (w : World S) (s : UnitSeat S.F) → Holds S z w (seat_shape S.F s) → (p : ℕ) (m : Msg R) (rest : List (Msg R)) → (p == 0) ≡ false
+      → w.link p 0 ≡ m ∷ rest → Goes_to S laws z (sw_next S w p m) s []
+  switch_holds w s h p m rest p0 waits = by_message m (record { w = w; s = s; h = h; p = p; rest = rest; p0 = p0; waits = waits })
 
   -- A packet comes from the input.
   abbrev pub came : ℕ → List ℕ
   came q = if same_unit (S.packet_unit q) z.unit then q ∷ [] else []
 
   -- its own packet, at one side
-  arrive_at : (w : World S) (s : UnitSeat S.F) → Holds S z w (seat_shape S.F s) → (q : ℕ) → (same_unit (S.packet_unit q) z.unit) ≡ true
-      → Goes_to S laws z (in_next S w q) s (q ∷ [])
-  arrive_at w s h q ours =
-      let x = seat_shape S.F s in
-      let same : S.packet_unit q ≡ z.unit = same_unit-true (S.packet_unit q) z.unit ours in
-      let to : w.target (S.packet_unit q) ≡ place S z x.target = ap w.target same ∙ h.target in
-      moves_on S laws z (in_next S w q) s (Arrive q) (send_to x.target x (Carry q)) (by_side x.target refl to) refl tt
-    where
-      puts : (x' : State R) (r : ℕ) → w.target (S.packet_unit q) ≡ r → (2 ≤ r)
-          → ((send : ℕ → List (Item R)) → send r ≡ Carry q ∷ [] → ((j : ℕ) → j ≢ r → send j ≡ []) → (i j : ℕ)
-          → expect z.op.src z.op.dst z.third (seat_shape S.F s) i j ++ (if i == 0 then send j else []) ≡ expect z.op.src z.op.dst z.third x' i j)
-          → ((k : ℕ) → node_at S z x' k ≡ node_at S z (seat_shape S.F s) k) → x'.target ≡ (seat_shape S.F s).target → x'.phase ≡ (seat_shape S.F s).phase
-          → x'.store ≡ (seat_shape S.F s).store → x'.keep ≡ (seat_shape S.F s).keep → x'.done ≡ (seat_shape S.F s).done → Holds S z (in_next S w q) x'
-      puts x' r is two links nodes target phase store keep done =
-          let sends : List (ℕ × Msg R) = (w.target (S.packet_unit q), Carry_on q) ∷ [] in
-          let at_r : sent S z 0 sends r ≡ Carry q ∷ [] = (let r0 : (r == 0) ≡ false = grind (arith, nat_tests, two) in
-          let rr : (r == r) ≡ true = grind (arith, nat_tests) in rw (is, r0, rr, ours) refl) in
-          let at_j = (λ (j : ℕ) (off : j ≢ r). (let rj : (r == j) ≡ false = grind (arith, nat_tests) in
-          let e : sent S z 0 sends j ≡ [] = rw (is, rj) (nil_sent j) in e)) in
-          record {
-            apart = h.apart;
-            nodes = h.nodes;
-            views = λ i j. view_put S z w.link 0 sends i j ∙ ap (λ v. v ++ (if i == 0 then sent S z 0 sends j else [])) (h.views i j)
-                ∙ links (sent S z 0 sends) at_r at_j i j;
-            labels = each_put (λ i j m. Label S z i m) w.link 0 sends h.labels (tt, tt);
-            insts = λ k. rw (nodes k) (h.insts k);
-            target = rw target h.target;
-            ctrl = by_op (find_op w.ops z.op.num) h.ctrl;
-            ops = h.ops;
-            done = rw done h.done;
-          }
-        where
-          by_op : (o : Option (Open R)) → IsController S z o (seat_shape S.F s) → IsController S z o x'
-          by_op None e = rw phase e
-          by_op (Some e) (a, b, c, f) = (a, b ∙ sym phase, c ∙ sym store, f ∙ sym keep)
+  module _ (w : World S) (s : UnitSeat S.F) (h : Holds S z w (seat_shape S.F s)) (q : ℕ) (ours : (same_unit (S.packet_unit q) z.unit) ≡ true) where
+    abbrev now : State R
+    now = seat_shape S.F s
 
-      by_side : (t : Where) → (seat_shape S.F s).target ≡ t → w.target (S.packet_unit q) ≡ place S z t
-          → Holds S z (in_next S w q) (send_to t (seat_shape S.F s) (Carry q))
-      by_side At_a e to =
-          let n = h.nodes in let ab = n.ab in let ac = n.ac in
-          let grow : record (seat_shape S.F
-          s) { sa = (seat_shape S.F s).sa ++ Carry q ∷ []; sb = (seat_shape S.F s).sb ++ []; sc = (seat_shape S.F s).sc ++ [] }
-          ≡ send_to At_a (seat_shape S.F s) (Carry q) =
-          rw (append-nil (seat_shape S.F s).sb, append-nil (seat_shape S.F s).sc) refl in
-          puts (send_to At_a (seat_shape S.F s) (Carry q)) z.op.src to n.a_is (λ send at el i j. arrives_at z.op.src z.op.dst z.third n (seat_shape S.F s)
-          send (Carry q ∷ []) [] [] at (el z.op.dst (grind (arith, nat_tests))) (el z.third (grind (arith, nat_tests))) (λ j na _ _. el j na) i j
-          ∙ ap (λ u. expect z.op.src z.op.dst z.third u i j) grow) (λ k. refl) refl refl refl refl refl
-      by_side At_b e to =
-          let n = h.nodes in let ab = n.ab in let bc = n.bc in
-          let grow : record (seat_shape S.F
-          s) { sa = (seat_shape S.F s).sa ++ []; sb = (seat_shape S.F s).sb ++ Carry q ∷ []; sc = (seat_shape S.F s).sc ++ [] }
-          ≡ send_to At_b (seat_shape S.F s) (Carry q) =
-          rw (append-nil (seat_shape S.F s).sa, append-nil (seat_shape S.F s).sc) refl in
-          puts (send_to At_b (seat_shape S.F s) (Carry q)) z.op.dst to n.b_is (λ send at el i j. arrives_at z.op.src z.op.dst z.third n (seat_shape S.F s)
-          send [] (Carry q ∷ []) [] (el z.op.src ab) at (el z.third (grind (arith, nat_tests))) (λ j _ nb _. el j nb) i j
-          ∙ ap (λ u. expect z.op.src z.op.dst z.third u i j) grow) (λ k. refl) refl refl refl refl refl
-      by_side At_c e to =
-          let n = h.nodes in let ac = n.ac in let bc = n.bc in
-          let grow : record (seat_shape S.F
-          s) { sa = (seat_shape S.F s).sa ++ []; sb = (seat_shape S.F s).sb ++ []; sc = (seat_shape S.F s).sc ++ Carry q ∷ [] }
-          ≡ send_to At_c (seat_shape S.F s) (Carry q) =
-          rw (append-nil (seat_shape S.F s).sa, append-nil (seat_shape S.F s).sb) refl in
-          puts (send_to At_c (seat_shape S.F s) (Carry q)) z.third to n.c_is (λ send at el i j. arrives_at z.op.src z.op.dst z.third n (seat_shape S.F s)
-          send [] [] (Carry q ∷ []) (el z.op.src ac) (el z.op.dst bc) at (λ j _ _ nc. el j nc) i j ∙ ap (λ u. expect z.op.src z.op.dst z.third u i j) grow)
-          (λ k. refl) refl refl refl refl refl
+    abbrev carried : List (Item R)
+    carried = Carry q ∷ []
+
+    -- what is shown where a node is sent the packet, and no other is sent anything
+    abbrev Shows : State R → ℕ → Type 0
+    Shows x' r = (send : ℕ → List (Item R)) → send r ≡ carried → ((j : ℕ) → j ≢ r → send j ≡ []) → (i j : ℕ)
+        → expect z.op.src z.op.dst z.third now i j ++ (if i == 0 then send j else []) ≡ expect z.op.src z.op.dst z.third x' i j
+
+    puts : (x' : State R) (r : ℕ) → w.target (S.packet_unit q) ≡ r → 2 ≤ r → Shows x' r → ((k : ℕ) → node_at S z x' k ≡ node_at S z now k)
+        → x'.target ≡ now.target → x'.phase ≡ now.phase → x'.store ≡ now.store → x'.keep ≡ now.keep → x'.done ≡ now.done → Holds S z (in_next S w q) x'
+    puts x' r is two links nodes target phase store keep done =
+        let sends : List (ℕ × Msg R) = (w.target (S.packet_unit q), Carry_on q) ∷ [] in
+        let at_r : sent S z 0 sends r ≡ carried = (let r0 : (r == 0) ≡ false = grind (arith, nat_tests, two) in
+        let rr : (r == r) ≡ true = grind (arith, nat_tests) in rw (is, r0, rr, ours) refl) in
+        let at_j = (λ (j : ℕ) (off : j ≢ r). (let rj : (r == j) ≡ false = grind (arith, nat_tests) in
+        let e : sent S z 0 sends j ≡ [] = rw (is, rj) (nil_sent j) in e)) in
+        record {
+          apart = h.apart;
+          nodes = h.nodes;
+          views = λ i j. view_put S z w.link 0 sends i j ∙ ap (λ v. v ++ (if i == 0 then sent S z 0 sends j else [])) (h.views i j)
+              ∙ links (sent S z 0 sends) at_r at_j i j;
+          labels = each_put (λ i j m. Label S z i m) w.link 0 sends h.labels (tt, tt);
+          insts = λ k. rw (nodes k) (h.insts k);
+          target = rw target h.target;
+          ctrl = same_controller now x' phase store keep (find_op w.ops z.op.num) h.ctrl;
+          ops = h.ops;
+          done = rw done h.done;
+        }
+
+    grown_at : (t : Where) (ta tb tc : List (Item R)) (x' : State R) → record now { sa = now.sa ++ ta; sb = now.sb ++ tb; sc = now.sc ++ tc } ≡ x' → (r : ℕ)
+        → ((send : ℕ → List (Item R)) → send r ≡ carried → ((j : ℕ) → j ≢ r → send j ≡ [])
+        → (send z.op.src ≡ ta) × (send z.op.dst ≡ tb) × (send z.third ≡ tc) × ((j : ℕ) → j ≢ z.op.src → j ≢ z.op.dst → j ≢ z.third → send j ≡ []))
+        → Shows x' r
+    grown_at t ta tb tc x' grow r all send at el i j =
+        let a = all send at el in
+        arrives_at z.op.src z.op.dst z.third h.nodes now send ta tb tc a.0 a.1 a.2 a.3 i j ∙ ap (λ u. expect z.op.src z.op.dst z.third u i j) grow
+
+    by_side : (t : Where) → w.target (S.packet_unit q) ≡ place S z t → Holds S z (in_next S w q) (send_to t now (Carry q))
+    by_side At_a to =
+        let ab = h.nodes.ab in let ac = h.nodes.ac in
+        puts (send_to At_a now (Carry q)) z.op.src to h.nodes.a_is
+        (grown_at At_a carried [] [] (send_to At_a now (Carry q)) (rw (append-nil now.sb, append-nil now.sc) refl) z.op.src
+        (λ send at el. (at, el z.op.dst (grind (arith, nat_tests)), el z.third (grind (arith, nat_tests)), λ j na _ _. el j na)))
+        (λ k. refl) refl refl refl refl refl
+    by_side At_b to =
+        let bc = h.nodes.bc in
+        puts (send_to At_b now (Carry q)) z.op.dst to h.nodes.b_is
+        (grown_at At_b [] carried [] (send_to At_b now (Carry q)) (rw (append-nil now.sa, append-nil now.sc) refl) z.op.dst
+        (λ send at el. (el z.op.src h.nodes.ab, at, el z.third (grind (arith, nat_tests)), λ j _ nb _. el j nb)))
+        (λ k. refl) refl refl refl refl refl
+    by_side At_c to =
+        puts (send_to At_c now (Carry q)) z.third to h.nodes.c_is
+        (grown_at At_c [] [] carried (send_to At_c now (Carry q)) (rw (append-nil now.sa, append-nil now.sb) refl) z.third
+        (λ send at el. (el z.op.src h.nodes.ac, el z.op.dst h.nodes.bc, at, λ j _ _ nc. el j nc)))
+        (λ k. refl) refl refl refl refl refl
+
+    arrive_at : Goes_to S laws z (in_next S w q) s (q ∷ [])
+    arrive_at =
+        let same : S.packet_unit q ≡ z.unit = same_unit-true (S.packet_unit q) z.unit ours in
+        moves_on S laws z (in_next S w q) s (Arrive q) (send_to now.target now (Carry q)) (by_side now.target (ap w.target same ∙ h.target)) refl tt
 
   pub input_holds : (w : World S) (s : UnitSeat S.F) → Holds S z w (seat_shape S.F s) → (q : ℕ) → Goes_to S laws z (in_next S w q) s (came q)
-  input_holds w s h q = elim (same_unit (S.packet_unit q) z.unit)
-      as (λ b. (same_unit (S.packet_unit q) z.unit) ≡ b → Goes_to S laws z (in_next S w q) s (if b then q ∷ [] else [])) [
-        | true ↦ λ ours. arrive_at w s h q ours
-        | false ↦ λ off. record {
-          seat = s;
-          holds = put_unseen S laws z w (seat_shape S.F s) h 0 ((w.target (S.packet_unit q), Carry_on q) ∷ [])
-              (one_unseen S laws z 0 (w.target (S.packet_unit q)) (Carry_on q) (rw off refl)) (tt, tt);
-          order = same_order S laws z (seat_loose s) (seat_all s);
-          covered = refl;
-        }
-      ] refl
+  input_holds w s h q = split (same_unit (S.packet_unit q) z.unit) (λ b. Goes_to S laws z (in_next S w q) s (if b then q ∷ [] else []))
+      (λ ours. arrive_at w s h q ours)
+      (λ off. record {
+        seat = s;
+        holds = put_unseen S laws z w (seat_shape S.F s) h 0 ((w.target (S.packet_unit q), Carry_on q) ∷ [])
+            (one_unseen S laws z 0 (w.target (S.packet_unit q)) (Carry_on q) (rw off refl)) (tt, tt);
+        order = same_order S laws z (seat_loose s) (seat_all s);
+        covered = refl;
+      })

@@ -19,19 +19,19 @@ use Rattle.proof_machines.proofs.net.RestingSeats.{rest_holds}
 use Rattle.nf_function.specs.declared.unit.Unit as units
 use Rattle.proof_machines.proofs.net.Units.{order_join, order_same, May, see, Flagged, Where, Where.At_rest, Where.In_move}
 use Rattle.proof_machines.proofs.net.Units.{settle, apart_of, shown_rest, either, loose_flag, stays, other_begins, covered_begins}
+use Rattle.proof_machines.proofs.Tests.{either_way, split}
+use Rattle.std.proofs.lemmas.Bool.{false_from_ne_true}
 
 module _ {R : Type 0} (S : Sys R) (laws : IsSys S) (u : units.Unit) where
   any_tells : (g : Filter) (es : List (Open R)) (n : ℕ) (e : Open R) → meets_any S g es ≡ false → find_op es n ≡ Some e → S.takes g u ≡ true
       → S.takes e.filter u ≡ false
   any_tells g [] n e apart there t = cc
   any_tells g (x ∷ es) n e apart there t =
-      elim (S.meets g x.filter) as (λ b. S.meets g x.filter ≡ b → (if b then true else meets_any S g es) ≡ false → S.takes e.filter u ≡ false) [
-        | true ↦ λ _ bad. cc
-        | false ↦ λ out more. elim (x.op.num == n) as (λ b. (if b then Some x else find_op es n) ≡ Some e → S.takes e.filter u ≡ false) [
-          | true ↦ λ is. let same : x ≡ e = cc in subst (λ y. S.takes y.filter u ≡ false) same (laws.apart g x.filter u out t)
-          | false ↦ λ is. any_tells g es n e more is t
-        ] there
-      ] refl apart
+      split (S.meets g x.filter) (λ b. (if b then true else meets_any S g es) ≡ false → S.takes e.filter u ≡ false) (λ _ bad. cc)
+      (λ out more. elim (x.op.num == n) as (λ b. (if b then Some x else find_op es n) ≡ Some e → S.takes e.filter u ≡ false) [
+        | true ↦ λ is. let same : x ≡ e = cc in subst (λ y. S.takes y.filter u ≡ false) same (laws.apart g x.filter u out t)
+        | false ↦ λ is. any_tells g es n e more is t
+      ] there) apart
 
   carries_map : (l : List ℕ)
       → Rattle.proof_machines.proofs.unit.Path.carries (map (λ p. let x : Item R = Rattle.proof_machines.proofs.unit.Machine.Carry p in x) l) ≡ l
@@ -39,21 +39,18 @@ module _ {R : Type 0} (S : Sys R) (laws : IsSys S) (u : units.Unit) where
   carries_map (p ∷ l) = ap (λ v. p ∷ v) (carries_map l)
 
   all_at_rest : (side : Side) (d : List Ran) (l : List ℕ) (k : Bool) → seat_all (seat_at S.F side d l k) ≡ firsts d ++ l
-  all_at_rest At_a d l k = refl
   all_at_rest At_b d l k = ap (λ v. firsts d ++ v) (carries_map l)
-  all_at_rest At_c d l k = refl
+  all_at_rest side d l k = refl
 
   rest_store : (side : Side) (d : List Ran) (l : List ℕ) (k : Bool)
       → ((rest_at S.F side d l (Over Idle) k).store ≡ []) × ((rest_at S.F side d l (Over Idle) k).keep ≡ k)
   rest_store At_a d l k = (refl, refl)
-  rest_store At_b d l k = (refl, refl)
-  rest_store At_c d l k = (refl, refl)
+  rest_store side d l k = (refl, refl)
 
   begun_rest : (side : Side) (d : List Ran) (l : List ℕ) (k : Bool) → moved S.F (rest_at S.F side d l (Over Idle) k) (Begin k)
       ≡ record (rest_at S.F side d l (Over Idle) k) { phase = Freezing; keep = k; ca = (rest_at S.F side d l (Over Idle) k).ca ++ Enable Drops ∷ [] }
   begun_rest At_a d l k = refl
-  begun_rest At_b d l k = refl
-  begun_rest At_c d l k = refl
+  begun_rest side d l k = refl
 
   -- a unit at rest that the filter takes: covered, beside or away
   takes_seat : (w : World S) (ps : List ℕ) (c : Bool) (x : MoveAsked) (side : Side) (third : ℕ) (d : List Ran) (l : List ℕ) (b : Bool) → Global S w
@@ -104,34 +101,31 @@ module _ {R : Type 0} (S : Sys R) (laws : IsSys S) (u : units.Unit) where
   pub begin_where : (w : World S) (ps : List ℕ) (c : Bool) (x : MoveAsked) → Global S w → May S w x → Where S laws u w ps c
       → Where S laws u (begin_next S w x) ps c
   begin_where w ps c x g may (At_rest owner d l b h o f) =
-      elim (S.takes x.filter u) as (λ t. S.takes x.filter u ≡ t → Where S laws u (begin_next S w x) ps c) [
-        | true ↦ λ takes. elim (owner == x.src) as (λ t. (owner == x.src) ≡ t → Where S laws u (begin_next S w x) ps c) [
-          | true ↦ λ e. takes_seat w ps c x At_a (x.src + x.dst) d l b g may takes (third_of x.src x.dst may.src may.dst may.other)
-              (subst (λ k. Rest S u w k d l) ((Decides-eqb owner x.src).0 e) h) o f
-          | false ↦ λ na. elim (owner == x.dst) as (λ t. (owner == x.dst) ≡ t → Where S laws u (begin_next S w x) ps c) [
-            | true ↦ λ e. takes_seat w ps c x At_b (x.src + x.dst) d l b g may takes (third_of x.src x.dst may.src may.dst may.other)
-                (subst (λ k. Rest S u w k d l) ((Decides-eqb owner x.dst).0 e) h) o f
-            | false ↦ λ nb. takes_seat w ps c x At_c owner d l b g may takes
-                (record { a_is = may.src; b_is = may.dst; c_is = h.two; ab = may.other; ac = grind (arith, nat_tests); bc = grind (arith, nat_tests) }) h o f
-          ] refl
-        ] refl
-        | false ↦ λ out.
-            let fresh = may.fresh in
-            let n = suc x.num in
-            let op : Op = record { num = n; src = owner; dst = suc owner; keep = true } in
-            let off : (x.num == n) ≡ false = grind (arith, nat_tests) in
-            settle S laws u (begin_next S w x) ps c (record {
-              op = op;
-              third = suc (suc owner);
-              seat = seat_at S.F At_a d l true;
-              flag = b;
-              holds = other_begins S laws u op (suc (suc owner)) w x (seat_shape S.F (seat_at S.F At_a d l true)) off out
-                  (apart_of S laws u x.num x.src x.dst x.keep may.src may.dst may.other) (shown_rest S laws u w n owner d l g (omega (arith, fresh)) h);
-              order = o;
-              flag_is = f;
-              handed = λ _ e. let never : true ≡ false = e in cc;
-            })
-      ] refl
+      either_way (S.takes x.filter u)
+      (λ takes. either_way (owner == x.src)
+      (λ e. takes_seat w ps c x At_a (x.src + x.dst) d l b g may takes (third_of x.src x.dst may.src may.dst may.other)
+      (subst (λ k. Rest S u w k d l) ((Decides-eqb owner x.src).0 e) h) o f)
+      (λ na. either_way (owner == x.dst)
+      (λ e. takes_seat w ps c x At_b (x.src + x.dst) d l b g may takes (third_of x.src x.dst may.src may.dst may.other)
+      (subst (λ k. Rest S u w k d l) ((Decides-eqb owner x.dst).0 e) h) o f)
+      (λ nb. takes_seat w ps c x At_c owner d l b g may takes
+      (record { a_is = may.src; b_is = may.dst; c_is = h.two; ab = may.other; ac = grind (arith, nat_tests); bc = grind (arith, nat_tests) }) h o f)))
+      (λ out.
+      let fresh = may.fresh in
+      let n = suc x.num in
+      let op : Op = record { num = n; src = owner; dst = suc owner; keep = true } in
+      let off : (x.num == n) ≡ false = grind (arith, nat_tests) in
+      settle S laws u (begin_next S w x) ps c (record {
+        op = op;
+        third = suc (suc owner);
+        seat = seat_at S.F At_a d l true;
+        flag = b;
+        holds = other_begins S laws u op (suc (suc owner)) w x (seat_shape S.F (seat_at S.F At_a d l true)) off out
+            (apart_of S laws u x.num x.src x.dst x.keep may.src may.dst may.other) (shown_rest S laws u w n owner d l g (omega (arith, fresh)) h);
+        order = o;
+        flag_is = f;
+        handed = λ _ e. let never : true ≡ false = e in cc;
+      }))
   begin_where w ps c x g may (In_move op third e s b there h o f fk) =
       let few = (each_found (λ y. y.op.num < w.next) op.num w.ops e g.ops there) in
       let same : e.op.num ≡ op.num = (Decides-eqb e.op.num op.num).0 few.1 in
@@ -139,8 +133,8 @@ module _ {R : Type 0} (S : Sys R) (laws : IsSys S) (u : units.Unit) where
       let fresh = may.fresh in
       let off : (x.num == op.num) ≡ false = grind (arith, nat_tests, same, less, fresh) in
       let lab : S.takes e.filter u ≡ (e.op.num == op.num) = (each_found (OpLabel S (see S laws u op third)) op.num w.ops e h.ops there).0.0 in
-      let out : S.takes x.filter u ≡ false = elim (S.takes x.filter u) as (λ t. S.takes x.filter u ≡ t → t ≡ false)
-      [ true ↦ λ on. let never : false ≡ true = sym (any_tells x.filter w.ops op.num e may.apart there on) ∙ lab ∙ few.1 in cc | false ↦ λ _. refl ] refl in
+      let out : S.takes x.filter u ≡ false = false_from_ne_true (S.takes x.filter u)
+      (λ on. let never : false ≡ true = sym (any_tells x.filter w.ops op.num e may.apart there on) ∙ lab ∙ few.1 in cc) in
       settle S laws u (begin_next S w x) ps c (record {
         op = op;
         third = third;

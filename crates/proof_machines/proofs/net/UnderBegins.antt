@@ -22,6 +22,7 @@ use Rattle.proof_machines.proofs.net.Under.{Under, Goes_on, goes_to, put_labels}
 use Rattle.proof_machines.proofs.net.Shares.{Any, Any.Old, Any.New, ShareMsg.S_asked, ShareMsg.S_install, ShareMsg.S_get}
 use Rattle.proof_machines.proofs.net.Shares.{WantShare, as_old, Sharing, OpenShare, new_share, find_share, WholeWorld, moves_of}
 use Rattle.proof_machines.proofs.net.Shares.{asks, begin_move, begin_share, puts_get, keeps, meets_shares, SeeingShare}
+use Rattle.proof_machines.proofs.Tests.{split}
 
 module _ {R : Type 0} (S : Sys R) (A : Sharing S) (z : SeeingShare) (w : WholeWorld S A) (before since : List ℕ) (u : Under S A z w before since) where
   -- something is put on node k's links that the unit doesn't see
@@ -100,7 +101,6 @@ module _ {R : Type 0} (S : Sys R) (A : Sharing S) (z : SeeingShare) (w : WholeWo
       own_if false k v e = e
 
       own_same : (k : ℕ) → own_at S A z (keeps S A w y t) k ≡ own_at S A z w k
-      own_same k = elim (k == y) as (λ b. (k == y) ≡ b → own_of S A z (k == z.home) (w.inst k).live (if b then t else w.standby k) ≡ own_at S A z w k) [
-        | true ↦ λ on. own_if (k == z.home) k t (same_record ∙ ap (λ n. S.B.at z.unit (w.standby n)) (sym ((Decides-eqb k y).0 on)))
-        | false ↦ λ _. refl
-      ] refl
+      own_same k = split (k == y) (λ b. own_of S A z (k == z.home) (w.inst k).live (if b then t else w.standby k) ≡ own_at S A z w k)
+          (λ on. own_if (k == z.home) k t (same_record ∙ ap (λ n. S.B.at z.unit (w.standby n)) (sym ((Decides-eqb k y).0 on))))
+          (λ _. refl)

@@ -17,6 +17,8 @@ use Rattle.proof_machines.proofs.net.ShareLinks.{sc_links, back_links, quiet_lin
 use Rattle.proof_machines.proofs.net.MemberMoves.{unseen_view}
 use Rattle.proof_machines.proofs.net.ShareSees.{Sees_share, share_item, SenderIf, share_sees, moves_unseen}
 use Rattle.proof_machines.proofs.net.Shares.{Any, as_old, Sharing, told_by, SharesStep, by_share, WholeWorld, old_step, whole_ctrl, SeeingShare}
+use Rattle.proof_machines.proofs.Tests.{split}
+use Rattle.std.proofs.lemmas.Bool.{false_from_ne_true}
 
 module _ {R : Type 0} (S : Sys R) (A : Sharing S) (z : SeeingShare) where
   abbrev f : UnitShare R
@@ -109,18 +111,14 @@ module _ {R : Type 0} (S : Sys R) (A : Sharing S) (z : SeeingShare) where
       Of_back : x.back p ≡ it ∷ left → (p == 0) ≡ false → (p == 1) ≡ false → From it
 
     outside : has z.members 1 ≡ false
-    outside = elim (has z.members 1) as (λ b. has z.members 1 ≡ b → b ≡ false)
-        [ true ↦ λ on. let two : 2 ≤ 1 = insts 1 on in let never : ⊥ = omega (arith, two) in absurd never | false ↦ λ _. refl ] refl
+    outside = false_from_ne_true (has z.members 1) (λ on. let two : 2 ≤ 1 = insts 1 on in let never : ⊥ = omega (arith, two) in absurd never)
 
     from : (it : Item R) → it ∷ left ≡ share_expect x p 1 → From it
     from it e =
-        elim (p == 0) as (λ b. (p == 0) ≡ b → it ∷ left ≡ (if b then x.sc else if p == 1 then x.to 1 else x.back p) → From it) [
-          | true ↦ λ t r. Of_sc (sym r) ((Decides-eqb p 0).0 t)
-          | false ↦ λ p0 r. elim (p == 1) as (λ b. (p == 1) ≡ b → it ∷ left ≡ (if b then x.to 1 else x.back p) → From it) [
-            | true ↦ λ _ bad. let never : it ∷ left ≡ [] = bad ∙ (to_members f is s fits).to 1 outside in cc
-            | false ↦ λ p1 good. Of_back (sym good) p0 p1
-          ] refl r
-        ] refl e
+        split (p == 0) (λ b. it ∷ left ≡ (if b then x.sc else if p == 1 then x.to 1 else x.back p) → From it) (λ t r. Of_sc (sym r) ((Decides-eqb p 0).0 t))
+        (λ p0 r. split (p == 1) (λ b. it ∷ left ≡ (if b then x.to 1 else x.back p) → From it)
+        (λ _ bad. let never : it ∷ left ≡ [] = bad ∙ (to_members f is s fits).to 1 outside in cc)
+        (λ p1 good. Of_back (sym good) p0 p1) r) e
 
     sender : (it : Item R) → From it → Sender f x.phase p it
     sender it (Of_sc head p0) = sc_sender f s p it left head

@@ -13,6 +13,8 @@ use Rattle.proof_machines.proofs.net.ShareViews.{mine, share_expect, unit_share,
 use Rattle.proof_machines.proofs.net.ShareLinks.{in_links, none_links, view_put, lone_view, lone_unseen, holds_alike}
 use Rattle.proof_machines.proofs.net.Shares.{Any.Old, Any.New, ShareMsg.Diverted_on, Sharing, arrive_sends, WholeWorld, whole_input, SeeingShare}
 use Rattle.record_table.proofs.UnitOrder.{same_unit-true}
+use Rattle.proof_machines.proofs.Tests.{either_way}
+use Rattle.std.proofs.lemmas.Bool.{false_from_ne_true}
 
 module _ {R : Type 0} (S : Sys R) (A : Sharing S) (z : SeeingShare) where
   abbrev f : UnitShare R
@@ -82,10 +84,8 @@ module _ {R : Type 0} (S : Sys R) (A : Sharing S) (z : SeeingShare) where
         (same_but_sw f _ _ (λ k. append-nil (x.sw k))))
 
     outside : S.takes z.filter (S.packet_unit q) ≡ false → mine S A z q ≡ false
-    outside off = elim (mine S A z q) as (λ b. mine S A z q ≡ b → b ≡ false) [
-      | true ↦ λ on. let never : true ≡ false = sym covered ∙ ap (S.takes z.filter) (sym (same_unit-true (S.packet_unit q) z.unit on)) ∙ off in cc
-      | false ↦ λ _. refl
-    ] refl
+    outside off = false_from_ne_true (mine S A z q)
+        (λ on. let never : true ≡ false = sym covered ∙ ap (S.takes z.filter) (sym (same_unit-true (S.packet_unit q) z.unit on)) ∙ off in cc)
 
     passed : (target == 1) ≡ true → S.takes z.filter (S.packet_unit q) ≡ false → Comes w' x q
     passed on off =
@@ -122,9 +122,5 @@ module _ {R : Type 0} (S : Sys R) (A : Sharing S) (z : SeeingShare) where
         (λ j. ap (λ xs. share_items S A z j (sent_for j xs)) (to_inst off) ∙ lone_unseen S A z target j (Old (Carry_on q)) (λ r. rw other refl))
 
     pub comes : Comes w' x q
-    comes = elim (target == 1) as (λ b. (target == 1) ≡ b → Comes w' x q) [
-      | true ↦ λ on. elim (S.takes z.filter (S.packet_unit q)) as (λ b. S.takes z.filter (S.packet_unit q) ≡ b → Comes w' x q)
-          [ true ↦ λ takes. diverted on takes | false ↦ λ off. passed on off ] refl
-      | false ↦ λ off. elim (mine S A z q) as (λ b. mine S A z q ≡ b → Comes w' x q)
-          [ true ↦ λ on. carried off on x.diverts refl | false ↦ λ other. another off other ] refl
-    ] refl
+    comes = either_way (target == 1) (λ on. either_way (S.takes z.filter (S.packet_unit q)) (λ takes. diverted on takes) (λ off. passed on off))
+        (λ off. either_way (mine S A z q) (λ on. carried off on x.diverts refl) (λ other. another off other))

@@ -12,6 +12,8 @@ use Rattle.proof_machines.proofs.net.ShareLinks.{sw_links, to_links, quiet_links
 use Rattle.proof_machines.proofs.net.MemberSteps.{any_step, as_was, does, SeesMember}
 use Rattle.proof_machines.proofs.net.Shares.{Any, Any.Old, Any.New, Sharing, find_share, MemberTurn, WholeWorld, whole_inst, ran_of, SeeingShare}
 use Rattle.nf_function.specs.declared.unit.Unit as units
+use Rattle.proof_machines.proofs.Tests.{split}
+use Rattle.std.proofs.lemmas.Bool.{true_from_ne_false}
 
 module _ {R : Type 0} (S : Sys R) (A : Sharing S) (laws : IsSys S) (z : SeeingShare) where
   abbrev f : UnitShare R
@@ -39,17 +41,16 @@ module _ {R : Type 0} (S : Sys R) (A : Sharing S) (laws : IsSys S) (z : SeeingSh
 
   inst_own : (w : WholeWorld S A) (p y : ℕ) (m : Any R) (k : ℕ) → own_at S A z (whole_inst S A w p y m) k
       ≡ (if k == y then own_of S A z (y == z.home) (did_at w y m).live (did_at w y m).standby else own_at S A z w k)
-  inst_own w p y (Old m) k = elim (k == y) as (λ b. (k == y) ≡ b → own_of S A z (k == z.home) (if b then (inst_step S (w.inst y) m).node else w.inst k).live
-      (w.standby k) ≡ (if b then own_of S A z (y == z.home) (did_at w y (Old m)).live (did_at w y (Old m)).standby else own_at S A z w k)) [
-        | true ↦ λ on. ap (λ n. own_of S A z (n == z.home) (inst_step S (w.inst y) m).node.live (w.standby n)) ((Decides-eqb k y).0 on)
-        | false ↦ λ _. refl
-      ] refl
-  inst_own w p y (New m) k = elim (k == y) as (λ b. (k == y) ≡ b → own_of S A z (k == z.home)
-      (if b then record (w.inst y) { live = (did_at w y (New m)).live } else w.inst k).live (if b then (did_at w y (New m)).standby else w.standby k)
-      ≡ (if b then own_of S A z (y == z.home) (did_at w y (New m)).live (did_at w y (New m)).standby else own_at S A z w k)) [
-        | true ↦ λ on. ap (λ n. own_of S A z (n == z.home) (did_at w y (New m)).live (did_at w y (New m)).standby) ((Decides-eqb k y).0 on)
-        | false ↦ λ _. refl
-      ] refl
+  inst_own w p y (Old m) k = split (k == y) (λ b. own_of S A z (k == z.home) (if b then (inst_step S (w.inst y) m).node else w.inst k).live (w.standby k)
+      ≡ (if b then own_of S A z (y == z.home) (did_at w y (Old m)).live (did_at w y (Old m)).standby else own_at S A z w k))
+      (λ on. ap (λ n. own_of S A z (n == z.home) (inst_step S (w.inst y) m).node.live (w.standby n)) ((Decides-eqb k y).0 on))
+      (λ _. refl)
+  inst_own w p y (New m) k = split (k == y)
+      (λ b. own_of S A z (k == z.home) (if b then record (w.inst y) { live = (did_at w y (New m)).live } else w.inst k).live
+      (if b then (did_at w y (New m)).standby else w.standby k)
+      ≡ (if b then own_of S A z (y == z.home) (did_at w y (New m)).live (did_at w y (New m)).standby else own_at S A z w k))
+      (λ on. ap (λ n. own_of S A z (n == z.home) (did_at w y (New m)).live (did_at w y (New m)).standby) ((Decides-eqb k y).0 on))
+      (λ _. refl)
 
   module _ (w : WholeWorld S A) (x : View R) (h : ShareHolds S A z w x) (only_members : ToMembers f x) (y p : ℕ) (m : Any R) (rest : List (Any R))
       (y0 : (y == 0) ≡ false) (y1 : (y == 1) ≡ false) (waits : w.link p y ≡ m ∷ rest) where
@@ -94,18 +95,16 @@ module _ {R : Type 0} (S : Sys R) (A : Sharing S) (laws : IsSys S) (z : SeeingSh
 
     quiet : share_seen S A z y m ≡ None → SeesMember S A laws z y (w.inst y).live d (as_was S A laws z (own_at S A z w y)) → Goes S A z w' x
     quiet none s = Nothing (holds_at x (λ i j e. quiet_links x p y i j left sent (ap (λ o. add o left) (sym none) ∙ heads) (λ r. none_sent r (r == 1) refl))
-        (λ k inside. elim (k == y) as (λ b. (k == y) ≡ b → (if b then own_of S A z (y == z.home) d.live d.standby else own_at S A z w k) ≡ x.own k) [
-          | true ↦ λ on. s.own ∙ subst (λ n. own_at S A z w n ≡ x.own k) ((Decides-eqb k y).0 on) (h.own k inside)
-          | false ↦ λ _. h.own k inside
-        ] refl) refl refl refl (ap (λ v. ran_of S A z.unit w.done ++ v) s.ran ∙ append-nil (ran_of S A z.unit w.done) ∙ h.done))
+        (λ k inside. split (k == y) (λ b. (if b then own_of S A z (y == z.home) d.live d.standby else own_at S A z w k) ≡ x.own k)
+        (λ on. s.own ∙ subst (λ n. own_at S A z w n ≡ x.own k) ((Decides-eqb k y).0 on) (h.own k inside))
+        (λ _. h.own k inside)) refl refl refl (ap (λ v. ran_of S A z.unit w.done ++ v) s.ran ∙ append-nil (ran_of S A z.unit w.done) ∙ h.done))
       where
         none_sent : (r : ℕ) (b : Bool) → (r == 1) ≡ b → sent r ≡ []
         none_sent r true on = let one : r ≡ 1 = (Decides-eqb r 1).0 on in rw one s.to_c
         none_sent r false off = s.others r off
 
     member : (it : Item R) (its : List (Item R)) → its ≡ it ∷ left → (has z.members y ≡ false → its ≡ []) → has z.members y ≡ true
-    member it its head out = elim (has z.members y) as (λ b. has z.members y ≡ b → b ≡ true)
-        [ true ↦ λ _. refl | false ↦ λ e. let never : it ∷ left ≡ [] = sym head ∙ out e in cc ] refl
+    member it its head out = true_from_ne_false (has z.members y) (λ e. let never : it ∷ left ≡ [] = sym head ∙ out e in cc)
 
     at_own : (it : Item R) → has z.members y ≡ true → SeesMember S A laws z y (w.inst y).live d (member_does f y (own_at S A z w y) it)
         → SeesMember S A laws z y (w.inst y).live d (member_does f y (x.own y) it)

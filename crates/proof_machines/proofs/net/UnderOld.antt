@@ -12,7 +12,7 @@ use Rattle.proof_machines.proofs.unit.Labels.{Each}
 use Rattle.proof_machines.proofs.unit.NetViews.{items}
 use Rattle.proof_machines.proofs.unit.Between.{rest_at}
 use Rattle.flow_filter.specs.declared.filter.Filter.{Filter}
-use Rattle.proof_machines.proofs.net.Net.{Msg, Msg.In_packet, Msg.Asked, Msg.Carry_on, Msg.Pass_on, Msg.Fence_on, Msg.Mv, Sys, IsSys, rule_of, held_of}
+use Rattle.proof_machines.proofs.net.Net.{Msg, Msg.Carry_on, Msg.Pass_on, Msg.Fence_on, Msg.Mv, Sys, IsSys, rule_of, held_of}
 use Rattle.proof_machines.proofs.net.Net.{NumberedInstance, InstanceTurn, says, on_move, inst_step, Open, find_op, ControllerMove, ctrl_step, seen}
 use Rattle.proof_machines.proofs.net.Holding.{Seeing, EachSent, frame, Label, OpLabel, SeesNode, IsController}
 use Rattle.proof_machines.proofs.net.Insts.{InstanceGoes, does, carry_goes, pass_goes, fence_goes}
@@ -23,6 +23,7 @@ use Rattle.proof_machines.proofs.net.RestingSeats.{same_mine, mv_label, mv_unsee
 use Rattle.proof_machines.proofs.net.GlobalShares.{ctrl_none}
 use Rattle.nf_function.specs.declared.unit.Unit as units
 use Rattle.record_table.specs.Table.{same_unit}
+use Rattle.proof_machines.proofs.Tests.{either_way}
 
 module _ {R : Type 0} (S : Sys R) (laws : IsSys S) (u : units.Unit) where
   abbrev mine : ℕ → Bool
@@ -101,10 +102,9 @@ module _ {R : Type 0} (S : Sys R) (laws : IsSys S) (u : units.Unit) where
       Goes did o = InstanceGoes S laws z (self b) did (does S laws z (self b) moves.At_a [] None x o)
 
       all_none : (did : InstanceTurn S) (d : moves.Did R) → InstanceGoes S laws z (self b) did d → d.to_c ≡ [] → (j : ℕ) → its (sent_for j did.sends) ≡ []
-      all_none did d g none j = elim (1 == j) as (λ t. (1 == j) ≡ t → its (sent_for j did.sends) ≡ []) [
-        | true ↦ λ e. let one : j ≡ 1 = grind (arith, nat_tests) in subst (λ k. its (sent_for k did.sends) ≡ []) (sym one) (g.to_c ∙ none)
-        | false ↦ λ e. g.others j e
-      ] refl
+      all_none did d g none j = either_way (1 == j)
+          (λ e. let one : j ≡ 1 = grind (arith, nat_tests) in subst (λ k. its (sent_for k did.sends) ≡ []) (sym one) (g.to_c ∙ none))
+          (λ e. g.others j e)
 
       -- nothing is seen, or a packet
       unseen : (did : InstanceTurn S) → Goes did None → LeavesInstance i did []
@@ -145,8 +145,7 @@ module _ {R : Type 0} (S : Sys R) (laws : IsSys S) (u : units.Unit) where
           (subst (λ t. Goes (inst_step S i (Fence_on n)) (where_true t moves.Fence)) off (fence_goes S laws z (self b) moves.At_a i x sees n [] None))
       inst_leaves k (Mv g m) few_m h = unseen (on_move S i g m)
           (of_move g m (move_goes S laws z (self b) moves.At_a i x sees g m (mv_label S z b le_self g m few_m h.1)) (mv_unseen S z b le_self g m few_m h.1))
-      inst_leaves k (In_packet p) few_m h = quiet
-      inst_leaves k (Asked a) few_m h = quiet
+      inst_leaves k m few_m h = quiet
 
     -- The controller
     pub record LeavesController (c : ControllerMove R) : Type 0 where
@@ -168,16 +167,10 @@ module _ {R : Type 0} (S : Sys R) (laws : IsSys S) (u : units.Unit) where
 
       of_none : (c : ControllerMove R) → SeesController S z es at_rest apart labs is c (moves.goes (moves.Over moves.Idle) []) → (j : ℕ)
           → its (sent_for j c.sends) ≡ []
-      of_none c g j = elim (2 == j) as (λ t. (2 == j) ≡ t → its (sent_for j c.sends) ≡ []) [
-        | true ↦ λ e. let at : j ≡ 2 = grind (arith, nat_tests) in subst (λ k. its (sent_for k c.sends) ≡ []) (sym at) g.to_a
-        | false ↦ λ a. elim (3 == j) as (λ t. (3 == j) ≡ t → its (sent_for j c.sends) ≡ []) [
-          | true ↦ λ e. let at : j ≡ 3 = grind (arith, nat_tests) in subst (λ k. its (sent_for k c.sends) ≡ []) (sym at) g.to_b
-          | false ↦ λ d. elim (0 == j) as (λ t. (0 == j) ≡ t → its (sent_for j c.sends) ≡ []) [
-            | true ↦ λ e. let at : j ≡ 0 = grind (arith, nat_tests) in subst (λ k. its (sent_for k c.sends) ≡ []) (sym at) g.to_s
-            | false ↦ λ e. g.others j a d e
-          ] refl
-        ] refl
-      ] refl
+      of_none c g j = either_way (2 == j) (λ e. let at : j ≡ 2 = grind (arith, nat_tests) in subst (λ k. its (sent_for k c.sends) ≡ []) (sym at) g.to_a)
+          (λ a. either_way (3 == j) (λ e. let at : j ≡ 3 = grind (arith, nat_tests) in subst (λ k. its (sent_for k c.sends) ≡ []) (sym at) g.to_b)
+          (λ d. either_way (0 == j) (λ e. let at : j ≡ 0 = grind (arith, nat_tests) in subst (λ k. its (sent_for k c.sends) ≡ []) (sym at) g.to_s)
+          (λ e. g.others j a d e)))
 
       as_before : LeavesController (record { ops = es; sends = [] })
       as_before = record { ops = rests; sends = tt }

@@ -20,6 +20,7 @@ use Rattle.proof_machines.proofs.net.Under.{Under}
 use Rattle.proof_machines.proofs.net.UnderSteps.{inst_keeps}
 use Rattle.proof_machines.proofs.net.UnderStarts.{packets_done}
 use Rattle.proof_machines.proofs.net.Shares.{Any, Sharing, IsSharing, WholeWorld, ran_of, SeeingShare}
+use Rattle.std.proofs.lemmas.Bool.{true_from_ne_false}
 
 module _ {R : Type 0} (S : Sys R) (A : Sharing S) (z : SeeingShare) (w : WholeWorld S A) (before since : List ℕ) (u : Under S A z w before since) where
   abbrev f : UnitShare R
@@ -84,8 +85,7 @@ module _ {R : Type 0} (S : Sys R) (A : Sharing S) (z : SeeingShare) (w : WholeWo
         record { inside = inside; own = u.holds.own y inside ∙ own_is f u.stage y ∙ meets_all it r h ∙ ap (λ ds. runs S.F None ds) (sym all_done) }
 
     member : (it : Item R) (its : List (Item R)) → its ≡ it ∷ left → (has z.members y ≡ false → its ≡ []) → has z.members y ≡ true
-    member it its head out = elim (has z.members y) as (λ b. has z.members y ≡ b → b ≡ true)
-        [ true ↦ λ _. refl | false ↦ λ e. let never : it ∷ left ≡ [] = sym head ∙ out e in cc ] refl
+    member it its head out = true_from_ne_false (has z.members y) (λ e. let never : it ∷ left ≡ [] = sym head ∙ out e in cc)
 
     by_link : (it : Item R) → Has_run (Some it) → ((shape f u.stage).sw y ≡ it ∷ left) × (p ≡ 0) ⊎ ((shape f u.stage).to y ≡ it ∷ left) × (p ≡ 1) → FreshAt
     by_link it r (inl a) = fresh_by it (member it ((shape f u.stage).sw y) a.0 ((to_members f u.is u.stage u.fits).sw y)) r (meets_sw f u.stage y it left a.0)

@@ -27,6 +27,7 @@ use Rattle.proof_machines.proofs.net.Shares.{new_share, find_share, WholeWorld, 
 use Rattle.nf_function.specs.declared.unit.Unit as units
 use Rattle.record_table.specs.Table.{same_unit}
 use Rattle.record_table.proofs.UnitOrder.{same_unit-true}
+use Rattle.std.proofs.lemmas.Bool.{false_from_ne_true}
 
 -- the fold depends on the packets alone
 fold_packets : {R : Type 0} (F : Steps R) (r : Option R) (d : List moves.Ran) (ds : List Ran) → firsts d ≡ packets ds → moves.runs F r d ≡ runs F r ds
@@ -64,23 +65,18 @@ module _ {R : Type 0} (S : Sys R) (A : Sharing S) (u : units.Unit) where
 
     -- No message has the new number, and none of a share has anything of the unit
     share_off : (n : ℕ) (e : OpenShare) → find_share w.shares n ≡ Some e → (n == x.num) ≡ false
-    share_off n e there = elim (n == x.num) as (λ b. (n == x.num) ≡ b → b ≡ false) [
-      | true ↦ λ on.
-          let num : n ≡ x.num = (Decides-eqb n x.num).0 on in
-          let never : None ≡ Some e = sym (not_yet w.shares x.num w.next fresh g.shares_below) ∙ ap (find_share w.shares) (sym num) ∙ there in
-          cc
-      | false ↦ λ _. refl
-    ] refl
+    share_off n e there = false_from_ne_true (n == x.num)
+        (λ on.
+        let num : n ≡ x.num = (Decides-eqb n x.num).0 on in
+        let never : None ≡ Some e = sym (not_yet w.shares x.num w.next fresh g.shares_below) ∙ ap (find_share w.shares) (sym num) ∙ there in
+        cc)
 
     not_mine : (p : ℕ) → S.takes x.filter (S.packet_unit p) ≡ false → mine S A z p ≡ false
-    not_mine p out = elim (mine S A z p) as (λ b. mine S A z p ≡ b → b ≡ false) [
-      | true ↦ λ on. let never : true ≡ false = sym covered ∙ ap (S.takes x.filter) (sym (same_unit-true (S.packet_unit p) u on)) ∙ out in cc
-      | false ↦ λ _. refl
-    ] refl
+    not_mine p out = false_from_ne_true (mine S A z p)
+        (λ on. let never : true ≡ false = sym covered ∙ ap (S.takes x.filter) (sym (same_unit-true (S.packet_unit p) u on)) ∙ out in cc)
 
     not_taken : (e : OpenShare) (v : units.Unit) → Disjoint S x.filter e.filter → S.takes e.filter v ≡ true → S.takes x.filter v ≡ false
-    not_taken e v d on = elim (S.takes x.filter v) as (λ b. S.takes x.filter v ≡ b → b ≡ false)
-        [ true ↦ λ t. let never : true ≡ false = sym on ∙ d v t in cc | false ↦ λ _. refl ] refl
+    not_taken e v d on = false_from_ne_true (S.takes x.filter v) (λ t. let never : true ≡ false = sym on ∙ d v t in cc)
 
     others_packet : (n p : ℕ) (e : OpenShare) → find_share w.shares n ≡ Some e → S.takes e.filter (S.packet_unit p) ≡ true → mine S A z p ≡ false
     others_packet n p e there on = not_mine p (not_taken e (S.packet_unit p) (found_each (λ e. Disjoint S x.filter e.filter) w.shares n e apart there) on)

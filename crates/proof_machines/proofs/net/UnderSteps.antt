@@ -28,7 +28,8 @@ use Rattle.proof_machines.proofs.net.UnderSwitch.{NoDiverts, LabelAt, switch_goe
 use Rattle.proof_machines.proofs.net.UnderInput.{Comes, Comes.Not_its, Comes.Arrives, comes}
 use Rattle.proof_machines.proofs.net.Shares.{Any, Any.Old, Any.New, ShareMsg, ShareMsg.Diverted_on, ShareMsg.S_install, as_old, Sharing, IsSharing, told_by}
 use Rattle.proof_machines.proofs.net.Shares.{by_share, share_sends, arrive_sends, WholeWorld, whole_inst, whole_ctrl, whole_switch, whole_input, SeeingShare}
-use Rattle.proof_machines.proofs.net.Under.{f, Under, Goes_on, NextStage, stays, next, KeepsRest, leads_to, goes_to, head_old, after_old, after_new, put_labels}
+use Rattle.proof_machines.proofs.net.Under.{f, Under, Goes_on, NextStage, stays, KeepsRest, leads_to, goes_to, head_old, after_old, after_new, put_labels}
+use Rattle.proof_machines.proofs.Tests.{either_way, split}
 
 module _ {R : Type 0} (S : Sys R) (A : Sharing S) (z : SeeingShare) where
   -- which instance sends is nothing to a message
@@ -60,10 +61,8 @@ module _ {R : Type 0} (S : Sys R) (A : Sharing S) (z : SeeingShare) where
           by_link : ((shape (f S A z) u.stage).sw y ≡ Carry q ∷ share_items S A z y rest) × (p ≡ 0)
               ⊎ ((shape (f S A z) u.stage).to y ≡ Carry q ∷ share_items S A z y rest) × (p ≡ 1) → y ≡ z.home
           by_link (inl a) = (meets_sw (f S A z) u.stage y (Carry q) (share_items S A z y rest) a.0).0
-          by_link (inr a) = elim (has z.members y) as (λ b. has z.members y ≡ b → y ≡ z.home) [
-            | true ↦ λ inside. (meets_to (f S A z) u.stage u.fits y inside (Carry q) (share_items S A z y rest) a.0).0
-            | false ↦ λ out. let never : Carry q ∷ share_items S A z y rest ≡ [] = sym a.0 ∙ (to_members (f S A z) u.is u.stage u.fits).to y out in cc
-          ] refl
+          by_link (inr a) = either_way (has z.members y) (λ inside. (meets_to (f S A z) u.stage u.fits y inside (Carry q) (share_items S A z y rest) a.0).0)
+              (λ out. let never : Carry q ∷ share_items S A z y rest ≡ [] = sym a.0 ∙ (to_members (f S A z) u.is u.stage u.fits).to y out in cc)
 
       at_home : (m : Msg R) (rest : List (Any R)) → w.link p y ≡ Old m ∷ rest → AtHome S A z laws y (w.inst y) (w.standby y) m
       at_home (Carry_on q) rest waits = λ on. carried_home q rest waits on
@@ -71,10 +70,9 @@ module _ {R : Type 0} (S : Sys R) (A : Sharing S) (z : SeeingShare) where
 
       away_after : (m : Any R) → SeesMember S A laws z y (w.inst y).live (did_at S A laws z w y m) (does S A laws z y (own_at S A z w y) (share_seen S A z y m))
           → (k : ℕ) → (k == z.home) ≡ false → S.B.at z.unit (if k == y then (did_at S A laws z w y m).live else (w.inst k).live) ≡ None
-      away_after m sees k off = elim (k == y) as (λ b. (k == y) ≡ b → S.B.at z.unit (if b then (did_at S A laws z w y m).live else (w.inst k).live) ≡ None) [
-        | true ↦ λ on. let here : (y == z.home) ≡ false = ap (λ n. n == z.home) (sym ((Decides-eqb k y).0 on)) ∙ off in sees.away here ∙ u.away y here
-        | false ↦ λ _. u.away k off
-      ] refl
+      away_after m sees k off = split (k == y) (λ b. S.B.at z.unit (if b then (did_at S A laws z w y m).live else (w.inst k).live) ≡ None)
+          (λ on. let here : (y == z.home) ≡ false = ap (λ n. n == z.home) (sym ((Decides-eqb k y).0 on)) ∙ off in sees.away here ∙ u.away y here)
+          (λ _. u.away k off)
 
       of_old : (m : Msg R) (rest : List (Any R)) → w.link p y ≡ Old m ∷ rest → KeepsInstance (Old m)
       of_old m rest waits =
@@ -260,9 +258,8 @@ module _ {R : Type 0} (S : Sys R) (A : Sharing S) (z : SeeingShare) where
   pub comes_last : (w : WholeWorld S A) (before since : List ℕ) (u : Under S A z w before since) (ps : List ℕ)
       → (before ++ (if (shape (f S A z) u.stage).diverts then [] else ps)) ++ (since ++ (if (shape (f S A z) u.stage).diverts then ps else []))
       ≡ (before ++ since) ++ ps
-  comes_last w before since u ps = elim (shape (f S A z) u.stage).diverts
-      as (λ b. (shape (f S A z) u.stage).diverts ≡ b → (before ++ (if b then [] else ps)) ++ (since ++ (if b then ps else [])) ≡ (before ++ since) ++ ps) [
-        | true ↦ λ _. ap (λ v. v ++ (since ++ ps)) (append-nil before) ∙ sym (append_assoc before since ps)
-        | false ↦ λ off.
-            let none : since ≡ [] = u.since_is ∙ none_since u.stage off in rw none (append-nil (before ++ ps) ∙ ap (λ v. v ++ ps) (sym (append-nil before)))
-      ] refl
+  comes_last w before since u ps = split ((shape (f S A z) u.stage).diverts) (λ b. (before ++ (if b then [] else ps)) ++ (since ++ (if b then ps else []))
+      ≡ (before ++ since) ++ ps)
+      (λ _. ap (λ v. v ++ (since ++ ps)) (append-nil before) ∙ sym (append_assoc before since ps))
+      (λ off.
+      let none : since ≡ [] = u.since_is ∙ none_since u.stage off in rw none (append-nil (before ++ ps) ∙ ap (λ v. v ++ ps) (sym (append-nil before))))

@@ -12,7 +12,7 @@ use Rattle.proof_machines.proofs.share.Share.{UnitShare, View, ShareMachineStep.
 use Rattle.proof_machines.proofs.share.Stages.{Stage, IsShare, shape}
 use Rattle.proof_machines.proofs.share.Lists.{self}
 use Rattle.flow_filter.specs.declared.filter.Filter.{Filter}
-use Rattle.proof_machines.proofs.net.Net.{Msg, Msg.In_packet, Msg.Asked, Msg.Carry_on, Msg.Pass_on}
+use Rattle.proof_machines.proofs.net.Net.{Msg, Msg.Carry_on, Msg.Pass_on}
 use Rattle.proof_machines.proofs.net.Net.{Msg.Fence_on, Msg.Mv, Sys, IsSys, sw_target, sw_sends, links_after}
 use Rattle.proof_machines.proofs.net.Rest.{NothingOf}
 use Rattle.proof_machines.proofs.net.UntakenSwitch.{sw_same}
@@ -25,6 +25,7 @@ use Rattle.proof_machines.proofs.net.Shares.{Any, Any.Old, Any.New, ShareMsg, Sh
 use Rattle.proof_machines.proofs.net.Shares.{ShareMsg.S_install, ShareMsg.S_forward, ShareMsg.S_get, ShareMsg.S_sync, ShareMsg.S_chunks, ShareMsg.S_shared}
 use Rattle.proof_machines.proofs.net.Shares.{ShareMsg.S_synced, same, as_old, Sharing, share_target, share_sends, WholeWorld, whole_switch, SeeingShare}
 use Rattle.nf_function.specs.declared.unit.Unit as units
+use Rattle.proof_machines.proofs.Tests.{either_way, split}
 
 module _ {R : Type 0} (S : Sys R) (A : Sharing S) (laws : IsSys S) (z : SeeingShare) where
   abbrev f : UnitShare R
@@ -74,8 +75,7 @@ module _ {R : Type 0} (S : Sys R) (A : Sharing S) (laws : IsSys S) (z : SeeingSh
   not_old (Pass_on q) = not_if (mine S A z q) Stray (λ e. e)
   not_old (Fence_on n) = not_if (n == z.num) Fence (λ e. e)
   not_old (Mv g m) = not_move m
-  not_old (In_packet q) = tt
-  not_old (Asked a) = tt
+  not_old m = tt
 
   -- what the switch sends on a move's message that isn't seen
   sends_unseen : (k : ℕ) (m : Msg R) → NothingOf S z.unit k m → old_seen S A z m ≡ None → Unseen S A z (sw_sends m)
@@ -93,11 +93,10 @@ module _ {R : Type 0} (S : Sys R) (A : Sharing S) (laws : IsSys S) (z : SeeingSh
   packet_at : (n q to k : ℕ) (home : Bool) → (n == z.num) ≡ true → same home (to == z.home) ≡ true
       → share_items S A z k (sent_for k ((to, New (Shared_on n home q)) ∷ [])) ≡ only to (Shared q ∷ []) k
   packet_at n q to k home on flag =
-      lone_view S A z to k (New (Shared_on n home q)) ∙ elim (k == to)
-      as (λ b. (k == to) ≡ b → (if to == k then share_items S A z k (New (Shared_on n home q) ∷ []) else []) ≡ (if b then Shared q ∷ [] else [])) [
-        | true ↦ λ t. let eq : k ≡ to = (Decides-eqb k to).0 t in let own = self to in rw (eq, own, on, flag) refl
-        | false ↦ λ off. let other : (to == k) ≡ false = nat_eq_equiv.symm to k ∙ off in rw other refl
-      ] refl
+      lone_view S A z to k (New (Shared_on n home q))
+      ∙ split (k == to) (λ b. (if to == k then share_items S A z k (New (Shared_on n home q) ∷ []) else []) ≡ (if b then Shared q ∷ [] else []))
+      (λ t. let eq : k ≡ to = (Decides-eqb k to).0 t in let own = self to in rw (eq, own, on, flag) refl)
+      (λ off. let other : (to == k) ≡ false = nat_eq_equiv.symm to k ∙ off in rw other refl)
 
   module _ (is : IsShare f) (insts : (k : ℕ) → has z.members k ≡ true → 2 ≤ k) (covered : S.takes z.filter z.unit ≡ true) (w : WholeWorld S A) (s : Stage R)
       (h : ShareHolds S A z w (shape f s)) (p : ℕ) (p0 : (p == 0) ≡ false) where
@@ -127,10 +126,9 @@ module _ {R : Type 0} (S : Sys R) (A : Sharing S) (laws : IsSys S) (z : SeeingSh
 
       from_ctrl : (it : Item R) → it ∷ left ≡ share_expect x p 0 → (x.cs ≡ it ∷ left) × (p ≡ 1)
       from_ctrl it e =
-          elim (p == 1) as (λ b. (p == 1) ≡ b → it ∷ left ≡ (if false then x.sw 0 else if b then x.cs else []) → (x.cs ≡ it ∷ left) × (p ≡ 1)) [
-            | true ↦ λ t r. (sym r, (Decides-eqb p 1).0 t)
-            | false ↦ λ _ r. cc
-          ] refl (rw p0 at e)
+          split (p == 1) (λ b. it ∷ left ≡ (if false then x.sw 0 else if b then x.cs else []) → (x.cs ≡ it ∷ left) × (p ≡ 1))
+          (λ t r. (sym r, (Decides-eqb p 1).0 t))
+          (λ _ r. cc) (rw p0 at e)
 
       -- nothing is seen of what the switch isn't sent
       pub unseen : (o : Option (Item R)) → share_seen S A z 0 m ≡ o → IsNotFor o → share_seen S A z 0 m ≡ None
@@ -184,35 +182,33 @@ module _ {R : Type 0} (S : Sys R) (A : Sharing S) (laws : IsSys S) (z : SeeingSh
 
     install_goes : (n : ℕ) (g : Filter) (from : ℕ) (rest : List (Any R)) → w.link p 0 ≡ New (S_install n g from) ∷ rest
         → ShareLabel S A z 0 (S_install n g from) → Goes S A z (Next_to w p (New (S_install n g from))) x
-    install_goes n g from rest waits l = elim (n == z.num) as (λ b. (n == z.num) ≡ b → Goes S A z (Next_to w p (New (S_install n g from))) x) [
-      | true ↦ λ on.
-          let own = l.0 on in
-          let home : (from == z.home) ≡ true = (Decides-eqb from z.home).1 own.1 in
-          let takes : S.takes g z.unit ≡ true = ap (λ k. S.takes k z.unit) own.0 ∙ covered in
-          let apart : (1 == z.home) ≡ false = one_not z.home is.home_in in
-          moves_on (New (S_install n g from)) rest waits Install (only z.home (Fence ∷ [])) true (rw (on, home) refl) refl (fence_at n from 1 on own.1
-          ∙ rw apart refl) (λ k. fence_at n from k on own.1) (installs g from (w.target z.unit) x.diverts h.target own.1 takes) (λ v _ _. refl)
-      | false ↦ λ off.
-          let other = l.1 off in
-          let none : old_seen S A z (Fence_on n) ≡ None = rw off refl in
-          quiet (New (S_install n g from)) rest waits (rw off refl) (λ r. unseen_view S A z ((from, Fence_on n) ∷ []) (none, tt) r)
-          (let out = other z.unit covered in rw out refl) (λ v t c. let out = other v t in rw out at c)
-    ] refl
+    install_goes n g from rest waits l = either_way (n == z.num)
+        (λ on.
+        let own = l.0 on in
+        let home : (from == z.home) ≡ true = (Decides-eqb from z.home).1 own.1 in
+        let takes : S.takes g z.unit ≡ true = ap (λ k. S.takes k z.unit) own.0 ∙ covered in
+        let apart : (1 == z.home) ≡ false = one_not z.home is.home_in in
+        moves_on (New (S_install n g from)) rest waits Install (only z.home (Fence ∷ [])) true (rw (on, home) refl) refl (fence_at n from 1 on own.1
+        ∙ rw apart refl) (λ k. fence_at n from k on own.1) (installs g from (w.target z.unit) x.diverts h.target own.1 takes) (λ v _ _. refl))
+        (λ off.
+        let other = l.1 off in
+        let none : old_seen S A z (Fence_on n) ≡ None = rw off refl in
+        quiet (New (S_install n g from)) rest waits (rw off refl) (λ r. unseen_view S A z ((from, Fence_on n) ∷ []) (none, tt) r)
+        (let out = other z.unit covered in rw out refl) (λ v t c. let out = other v t in rw out at c))
 
     forward_goes : (n q to : ℕ) (home : Bool) (rest : List (Any R)) → w.link p 0 ≡ New (S_forward n home q to) ∷ rest
         → ShareLabel S A z 0 (S_forward n home q to) → Goes S A z (Next_to w p (New (S_forward n home q to))) x
-    forward_goes n q to home rest waits l = elim (n == z.num) as (λ b. (n == z.num) ≡ b → Goes S A z (Next_to w p (New (S_forward n home q to))) x) [
-      | true ↦ λ on.
-          let own = l.0 on in
-          let flag = own.0 in
-          let apart : (1 == to) ≡ false = one_not to own.1 in
-          moves_on (New (S_forward n home q to)) rest waits (Forward q to) (only to (Shared q ∷ [])) x.diverts (rw (on, flag) refl) refl
-          (packet_at n q to 1 home on flag ∙ rw apart refl) (λ k. packet_at n q to k home on flag) h.target h.diverts
-      | false ↦ λ off.
-          let other = l.1 off in
-          quiet (New (S_forward n home q to)) rest waits (rw (off, other) refl)
-          (λ r. lone_view S A z to r (New (Shared_on n home q)) ∙ rw (off, other) (neither (to == r))) refl (λ v _ c. c)
-    ] refl
+    forward_goes n q to home rest waits l = either_way (n == z.num)
+        (λ on.
+        let own = l.0 on in
+        let flag = own.0 in
+        let apart : (1 == to) ≡ false = one_not to own.1 in
+        moves_on (New (S_forward n home q to)) rest waits (Forward q to) (only to (Shared q ∷ [])) x.diverts (rw (on, flag) refl) refl
+        (packet_at n q to 1 home on flag ∙ rw apart refl) (λ k. packet_at n q to k home on flag) h.target h.diverts)
+        (λ off.
+        let other = l.1 off in
+        quiet (New (S_forward n home q to)) rest waits (rw (off, other) refl)
+        (λ r. lone_view S A z to r (New (Shared_on n home q)) ∙ rw (off, other) (neither (to == r))) refl (λ v _ c. c))
 
     new_goes : (m : ShareMsg R) (rest : List (Any R)) → w.link p 0 ≡ New m ∷ rest → ShareLabel S A z 0 m → Goes S A z (Next_to w p (New m)) x
     new_goes (S_install n g from) rest waits l = install_goes n g from rest waits l

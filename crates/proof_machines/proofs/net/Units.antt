@@ -4,7 +4,7 @@ use Rattle.std.proofs.Common.{List, [], ◌∷◌, ◌++◌, refl, sym, ap, ◌�
 use Rattle.std.specs.Prelude.{if◌then◌else◌, ◌&&◌, ◌||◌, ◌==◌}
 use Rattle.std.proofs.lemmas.Bool.Decides.{nat_tests, Decides-eqb}
 use Rattle.proof_machines.proofs.share.Lists.{self}
-use Rattle.proof_machines.proofs.unit.Machine.{At_a, At_b, Ran, after, Drops, Item, Enable, State, Freezing}
+use Rattle.proof_machines.proofs.unit.Machine.{At_a, At_b, Ran, Drops, Item, Enable, State, Freezing}
 use Rattle.proof_machines.proofs.unit.Lists.{firsts}
 use Rattle.proof_machines.proofs.unit.Stages.{Stage, Turned_loose, Fenced_loose, Ending_loose, Fence_loose, shape, loose, times, IsOrderedAs}
 use Rattle.proof_machines.proofs.unit.Loose.{times-append}
@@ -15,7 +15,7 @@ use Rattle.proof_machines.proofs.unit.Labels.{Each, each-append}
 use Rattle.proof_machines.proofs.unit.Pairs.{Nodes, expect}
 use Rattle.proof_machines.proofs.unit.Rests.{is_over}
 use Rattle.proof_machines.proofs.unit.Between.{AtRestNow, Rests_at, seat_ends, seat_at}
-use Rattle.proof_machines.proofs.unit.Seats.{UnitSeat, Covered, Is_beside, Is_away, is_covered, seat_shape, seat_all, seat_loose}
+use Rattle.proof_machines.proofs.unit.Seats.{UnitSeat, Covered, is_covered, seat_shape, seat_all, seat_loose}
 use Rattle.flow_filter.specs.declared.filter.Filter.{Filter}
 use Rattle.proof_machines.proofs.net.Net.{inst_next, ctrl_next, sw_next, in_next, begin_next, sw_target, Msg}
 use Rattle.proof_machines.proofs.net.Net.{Mv, MoveAsked, Sys, IsSys, Open, find_op, meets_any, new_op, begin_sends, World, seen}
@@ -138,8 +138,7 @@ module _ {R : Type 0} (S : Sys R) (laws : IsSys S) (u : units.Unit) where
   loose_seat : (s : UnitSeat S.F) → seat_loose s ≡ true
       → (is_covered s ≡ true) × ((seat_shape S.F s).keep ≡ false) × (is_over (seat_shape S.F s).phase ≡ false) × ((seat_shape S.F s).target ≡ At_b)
   loose_seat (Covered s) h = let k = loose_stage s h in (refl, k.0, k.1, k.2)
-  loose_seat (Is_beside s) h = let never : false ≡ true = h in cc
-  loose_seat (Is_away s) h = let never : false ≡ true = h in cc
+  loose_seat s h = let never : false ≡ true = h in cc
 
   loose_keep : (o : Op) (third : ℕ) (x : State R) (f : Option (Open R)) → IsController S (see o third) f x → x.keep ≡ false → is_over x.phase ≡ false
       → o.keep ≡ false

@@ -16,6 +16,7 @@ use Rattle.proof_machines.proofs.net.Shares.{set_share, Told, share_row, told_by
 use Rattle.nf_function.specs.declared.unit.Unit as units
 use Rattle.record_table.specs.Table.{same_unit}
 use Rattle.record_table.proofs.UnitOrder.{same_unit_equiv}
+use Rattle.proof_machines.proofs.Tests.{split}
 
 module _ {R : Type 0} (S : Sys R) (u : units.Unit) where
   -- a message of a share has nothing of the unit; a copy's chunks may
@@ -37,11 +38,9 @@ module _ {R : Type 0} (S : Sys R) (u : units.Unit) where
 
   pub others_of : (ps : List ℕ) → none_mine S u ps ≡ [] → Others ps
   others_of [] e = tt
-  others_of (p ∷ ps) e = elim (same_unit (S.packet_unit p) u)
-      as (λ b. same_unit (S.packet_unit p) u ≡ b → (if b then p ∷ none_mine S u ps else none_mine S u ps) ≡ [] → Others (p ∷ ps)) [
-        | true ↦ λ _ bad. cc
-        | false ↦ λ off rest. (off, others_of ps rest)
-      ] refl e
+  others_of (p ∷ ps) e = split (same_unit (S.packet_unit p) u) (λ b. (if b then p ∷ none_mine S u ps else none_mine S u ps) ≡ [] → Others (p ∷ ps))
+      (λ _ bad. cc)
+      (λ off rest. (off, others_of ps rest)) e
 
   pub none_of : (ps : List ℕ) → Others ps → none_mine S u ps ≡ []
   none_of [] h = refl

@@ -21,6 +21,7 @@ use Rattle.proof_machines.proofs.net.Shares.{as_old, Sharing, IsSharing, OpenSha
 use Rattle.proof_machines.proofs.net.Shares.{whole_ctrl}
 use Rattle.nf_function.specs.declared.unit.Unit as units
 use Rattle.record_table.specs.Table.{same_unit}
+use Rattle.proof_machines.proofs.Tests.{split}
 
 module _ {R : Type 0} (S : Sys R) (u : units.Unit) where
   -- what was done of other units
@@ -29,10 +30,9 @@ module _ {R : Type 0} (S : Sys R) (u : units.Unit) where
   done_other (d ∷ ds) p y off = ap (λ v. if same_unit (S.packet_unit d.0) u then d.0 ∷ v else v) (done_other ds p y off)
 
   field_put : {X Y : Type 0} (f : X → Y) (g : ℕ → X) (y : ℕ) (x : X) → f x ≡ f (g y) → (k : ℕ) → f (put g y x k) ≡ f (g k)
-  field_put f g y x e k = elim (k == y) as (λ b. (k == y) ≡ b → f (if b then x else g k) ≡ f (g k)) [
-    | true ↦ λ on. let same : k ≡ y = (Decides-eqb k y).0 on in e ∙ ap (λ j. f (g j)) (sym same)
-    | false ↦ λ _. refl
-  ] refl
+  field_put f g y x e k = split (k == y) (λ b. f (if b then x else g k) ≡ f (g k))
+      (λ on. let same : k ≡ y = (Decides-eqb k y).0 on in e ∙ ap (λ j. f (g j)) (sym same))
+      (λ _. refl)
 
 module _ {R : Type 0} (S : Sys R) (A : Sharing S) (laws : IsSys S) (u : units.Unit) where
   -- where a unit is that no share has
@@ -53,18 +53,17 @@ module _ {R : Type 0} (S : Sys R) (A : Sharing S) (laws : IsSys S) (u : units.Un
 
   gets_none : (w : WholeWorld S A) (ps : List ℕ) (c : Bool) (y : ℕ) → GlobalAll S A w → Unshared w ps c → (m : ShareMsg R) → OfShare S w.shares y m
       → GetsNone w y m
-  gets_none w ps c y g h (S_get n f) of = λ e there. elim (S.takes f u) as (λ b. S.takes f u ≡ b → (if b then S.B.at u (w.inst y).live else None) ≡ None) [
-    | true ↦ λ on.
-        let k = of e there in
-        let takes : S.takes e.filter u ≡ true = ap (λ x. S.takes x u) (sym k.0) ∙ on in
-        let r = where_rests S laws u (moves_of S A w) ps c (free_moves w g n e there takes) h.is in
-        let away : (e.home == w.target u) ≡ false = found_each (ElsewhereHome S u w.target) w.shares n e h.untaken.homes there takes in
-        let owns : w.target u ≡ r.owner = r.rest.target in
-        let here : y ≡ e.home = k.1 in
-        let off : (y == r.owner) ≡ false = rw (here, ← owns) away in
-        r.rest.live y ∙ rw off refl
-    | false ↦ λ _. refl
-  ] refl
+  gets_none w ps c y g h (S_get n f) of = λ e there. split (S.takes f u) (λ b. (if b then S.B.at u (w.inst y).live else None) ≡ None)
+      (λ on.
+      let k = of e there in
+      let takes : S.takes e.filter u ≡ true = ap (λ x. S.takes x u) (sym k.0) ∙ on in
+      let r = where_rests S laws u (moves_of S A w) ps c (free_moves w g n e there takes) h.is in
+      let away : (e.home == w.target u) ≡ false = found_each (ElsewhereHome S u w.target) w.shares n e h.untaken.homes there takes in
+      let owns : w.target u ≡ r.owner = r.rest.target in
+      let here : y ≡ e.home = k.1 in
+      let off : (y == r.owner) ≡ false = rw (here, ← owns) away in
+      r.rest.live y ∙ rw off refl)
+      (λ _. refl)
   gets_none w ps c y g h (Shared_on n home p) of = tt
   gets_none w ps c y g h m of = tt
 

@@ -19,6 +19,8 @@ use Rattle.proof_machines.proofs.net.Shares.{OpenShare, find_share, share_target
 use Rattle.nf_function.specs.declared.unit.Unit as units
 use Rattle.record_table.specs.Table.{same_unit}
 use Rattle.record_table.proofs.UnitOrder.{same_unit-true}
+use Rattle.proof_machines.proofs.Tests.{split}
+use Rattle.std.proofs.lemmas.Bool.{false_from_ne_true}
 
 module _ {R : Type 0} (S : Sys R) (A : Sharing S) (laws : IsSys S) (u : units.Unit) where
   -- the flag may grow
@@ -46,15 +48,14 @@ module _ {R : Type 0} (S : Sys R) (A : Sharing S) (laws : IsSys S) (u : units.Un
 
   -- A message of a share
   share_same : (w : WholeWorld S A) → Untaken S u A w → (m : ShareMsg R) → OfShare S w.shares 0 m → share_target S A w.target m u ≡ w.target u
-  share_same w h (S_install n g from) of = elim (S.takes g u) as (λ b. S.takes g u ≡ b → (if b && (w.target u == from) then 1 else w.target u) ≡ w.target u) [
-    | true ↦ λ on.
-        let takes : S.takes of.share.filter u ≡ true = ap (λ x. S.takes x u) (sym of.says.0) ∙ on in
-        let away : (of.share.home == w.target u) ≡ false = found_each (ElsewhereHome S u w.target) w.shares n of.share h.homes of.found takes in
-        let home : from ≡ of.share.home = of.says.1 in
-        let off : (w.target u == from) ≡ false = grind (arith, nat_tests, away, home) in
-        rw off refl
-    | false ↦ λ _. refl
-  ] refl
+  share_same w h (S_install n g from) of = split (S.takes g u) (λ b. (if b && (w.target u == from) then 1 else w.target u) ≡ w.target u)
+      (λ on.
+      let takes : S.takes of.share.filter u ≡ true = ap (λ x. S.takes x u) (sym of.says.0) ∙ on in
+      let away : (of.share.home == w.target u) ≡ false = found_each (ElsewhereHome S u w.target) w.shares n of.share h.homes of.found takes in
+      let home : from ≡ of.share.home = of.says.1 in
+      let off : (w.target u == from) ≡ false = grind (arith, nat_tests, away, home) in
+      rw off refl)
+      (λ _. refl)
   share_same w h (Shared_on n home p) of = refl
   share_same w h m of = refl
 
@@ -144,11 +145,9 @@ module _ {R : Type 0} (S : Sys R) (A : Sharing S) (laws : IsSys S) (u : units.Un
       by_target true on =
           let two = where_two S laws u (moves_of S A w) ps c h.is in
           let one : w.target (S.packet_unit q) ≡ 1 = (Decides-eqb (w.target (S.packet_unit q)) 1).0 on in
-          let other : same_unit (S.packet_unit q) u ≡ false = elim (same_unit (S.packet_unit q) u) as (λ b. same_unit (S.packet_unit q) u ≡ b → b ≡ false) [
-            | true ↦ λ its. let there : w.target u ≡ 1 = ap w.target (sym (same_unit-true (S.packet_unit q) u its)) ∙ one in
-                let never : ⊥ = omega (arith, two, there) in absurd never
-            | false ↦ λ _. refl
-          ] refl in
+          let other : same_unit (S.packet_unit q) u ≡ false = false_from_ne_true (same_unit (S.packet_unit q) u)
+          (λ its. let there : w.target u ≡ 1 = ap w.target (sym (same_unit-true (S.packet_unit q) u its)) ∙ one in
+          let never : ⊥ = omega (arith, two, there) in absurd never) in
           let all : ps ++ (if same_unit (S.packet_unit q) u then q ∷ [] else []) ≡ ps = rw other (append-nil ps) in
           let none : old_sends sends ≡ [] = rw on refl in
           record {

@@ -3,28 +3,25 @@
 use Rattle.std.proofs.Common.{◌≡◌, ℕ, true, false, cond, ◌==◌, Option, List, [], ◌∷◌, ◌++◌, map, refl, sym, subst, ◌∙◌}
 use Rattle.std.proofs.lemmas.Bool.Decides.{Decides-eqb}
 use Rattle.proof_machines.proofs.share.Share.{Ran, Item, Item.Carry, Item.Fence, Item.Shared, Item.Get, Item.Sync, UnitShare, View, has, only, over, after}
-use Rattle.proof_machines.proofs.share.Stages.{Turn, Turn.Going, Turn.Coming, Turn.Quiet, is_going, is_pending, goes_to, Stage, Stage.Diverting}
+use Rattle.proof_machines.proofs.share.Stages.{Turn, Turn.Going, is_going, is_pending, goes_to, Stage, Stage.Diverting}
 use Rattle.proof_machines.proofs.share.Stages.{Stage.Fence_goes, Stage.Fenced_comes, Stage.Get_goes, Stage.Chunks_come, Stage.Spreads}
 use Rattle.proof_machines.proofs.share.Stages.{Stage.Carries, front, processed, shape, IsFront, IsShare, FitsStage}
 use Rattle.proof_machines.proofs.share.Lists.{self}
+use Rattle.proof_machines.proofs.Tests.{either_way, split}
 
 -- a link that only one node has leads to that node
 at_head : {X : Type 0} (h j : ℕ) (xs : List X) (x : X) (rest : List X) → only h xs j ≡ x ∷ rest → (j ≡ h) × (xs ≡ x ∷ rest)
-at_head h j xs x rest e = elim (j == h) as (λ b. (j == h) ≡ b → cond b xs [] ≡ x ∷ rest → (j ≡ h) × (xs ≡ x ∷ rest))
-    [ true ↦ λ t g. ((Decides-eqb j h).0 t, g) | false ↦ λ _ g. cc ] refl e
+at_head h j xs x rest e = split (j == h) (λ b. cond b xs [] ≡ x ∷ rest → (j ≡ h) × (xs ≡ x ∷ rest)) (λ t g. ((Decides-eqb j h).0 t, g)) (λ _ g. cc) e
 
 -- and to none that isn't a member, if that one is
 none_outside : {X : Type 0} (h k : ℕ) (xs : List X) (ms : List ℕ) → has ms h ≡ true → has ms k ≡ false → only h xs k ≡ []
 none_outside h k xs ms inside out =
-    elim (k == h) as (λ b. (k == h) ≡ b → cond b xs [] ≡ []) [
-      | true ↦ λ e. let same : k ≡ h = (Decides-eqb k h).0 e in let both : false ≡ true = sym out ∙ rw same inside in cc
-      | false ↦ λ _. refl
-    ] refl
+    split (k == h) (λ b. cond b xs [] ≡ []) (λ e. let same : k ≡ h = (Decides-eqb k h).0 e in let both : false ≡ true = sym out ∙ rw same inside in cc)
+    (λ _. refl)
 
 quiet_to : {R : Type 0} (c : Option R) (t : Turn) → is_pending t ≡ false → goes_to c t ≡ []
 quiet_to c Going e = cc
-quiet_to c Coming e = refl
-quiet_to c Quiet e = refl
+quiet_to c turn e = refl
 
 module _ {R : Type 0} (f : UnitShare R) where
   -- members alone are sent anything
@@ -40,10 +37,7 @@ module _ {R : Type 0} (f : UnitShare R) where
   to_members is (Chunks_come d b q v) h = record { sw = λ k _. refl; to = λ k _. refl }
   to_members is (Spreads first d e b c at o left q v) h = record {
     sw = λ k _. refl;
-    to = λ k out. elim (is_pending (at k)) as (λ t. is_pending (at k) ≡ t → goes_to c (at k) ≡ []) [
-      | true ↦ λ p. let both : false ≡ true = sym out ∙ h.inside k (h.sent k p) in cc
-      | false ↦ λ p. quiet_to c (at k) p
-    ] refl;
+    to = λ k out. either_way (is_pending (at k)) (λ p. let both : false ≡ true = sym out ∙ h.inside k (h.sent k p) in cc) (λ p. quiet_to c (at k) p);
   }
   to_members is (Carries d e p q v) h = record { sw = λ k out. none_outside (f.member_of p) k (Shared p ∷ []) f.members (is.member_in p) out; to = λ k _. refl }
   to_members is s h = record { sw = λ k _. refl; to = λ k _. refl }
@@ -88,8 +82,7 @@ module _ {R : Type 0} (f : UnitShare R) where
   sync_meets : (s : Stage R) (j : ℕ) (c : Option R) (t : Turn) (it : Item R) (rest : List (Item R)) → goes_to c t ≡ it ∷ rest
       → (is_going t ≡ true → Meets s j (Sync c)) → Meets s j it
   sync_meets s j c Going it rest e g = let same : Sync c ≡ it = cc in subst (Meets s j) same (g refl)
-  sync_meets s j c Coming it rest e g = no_head s j it rest e
-  sync_meets s j c Quiet it rest e g = no_head s j it rest e
+  sync_meets s j c turn it rest e g = no_head s j it rest e
 
   pub meets_to : (s : Stage R) → FitsStage f s → (j : ℕ) → has f.members j ≡ true → (it : Item R) (rest : List (Item R)) → (shape f s).to j ≡ it ∷ rest
       → Meets s j it

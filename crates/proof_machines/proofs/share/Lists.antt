@@ -5,6 +5,7 @@ use Rattle.std.proofs.lemmas.Bool.Decides.{nat_tests, Decides-eqb}
 use Rattle.proof_machines.proofs.unit.Machine.{Steps}
 use Rattle.proof_machines.proofs.share.Share.{Ran, UnitShare, has, without_number, if_mine, mine_in, at_node, runs, over, put}
 use Rattle.proof_machines.proofs.share.Stages.{Turn, Turn.Going, Turn.Quiet, is_pending, count, served, packets, IsFront, distinct}
+use Rattle.proof_machines.proofs.Tests.{split}
 
 pub cond-same : {X : Type 0} (b : Bool) (x : X) → cond b x x ≡ x
 cond-same true x = refl
@@ -72,25 +73,20 @@ over_front {R} F xs ds h =
 pub has-without : (xs : List ℕ) (j k : ℕ) → has (without_number xs j) k ≡ (has xs k && not (k == j))
 has-without [] j k = refl
 has-without (x ∷ xs) j k =
-    elim (x == j) as (λ b. (x == j) ≡ b → has (cond b (without_number xs j) (x ∷ without_number xs j)) k ≡ (cond (k == x) true (has xs k) && not (k == j))) [
-      | true ↦ λ e. has-without xs j k ∙ (elim (k == x) as (λ b. (k == x) ≡ b → (has xs k && not (k == j)) ≡ (cond b true (has xs k) && not (k == j))) [
-        | true ↦ λ t.
-            let same : (k == j) ≡ true = grind (arith, nat_tests) in rw same (elim (has xs k) as (λ b. (b && false) ≡ false) [ true ↦ refl | false ↦ refl ])
-        | false ↦ λ _. refl
-      ] refl)
-      | false ↦ λ e. elim (k == x) as (λ b. (k == x) ≡ b → cond b true (has (without_number xs j) k) ≡ (cond b true (has xs k) && not (k == j))) [
-        | true ↦ λ t. let other : (k == j) ≡ false = grind (arith, nat_tests) in rw other refl
-        | false ↦ λ _. has-without xs j k
-      ] refl
-    ] refl
+    split (x == j) (λ b. has (cond b (without_number xs j) (x ∷ without_number xs j)) k ≡ (cond (k == x) true (has xs k) && not (k == j)))
+    (λ e. has-without xs j k ∙ (split (k == x) (λ b. (has xs k && not (k == j)) ≡ (cond b true (has xs k) && not (k == j)))
+    (λ t.
+    let same : (k == j) ≡ true = grind (arith, nat_tests) in rw same (elim (has xs k) as (λ b. (b && false) ≡ false) [ true ↦ refl | false ↦ refl ]))
+    (λ _. refl)))
+    (λ e. split (k == x) (λ b. cond b true (has (without_number xs j) k) ≡ (cond b true (has xs k) && not (k == j)))
+    (λ t. let other : (k == j) ≡ false = grind (arith, nat_tests) in rw other refl)
+    (λ _. has-without xs j k))
 
 without_other : (xs : List ℕ) (j : ℕ) → has xs j ≡ false → without_number xs j ≡ xs
 without_other [] j h = refl
 without_other (x ∷ xs) j h =
-    elim (j == x) as (λ b. (j == x) ≡ b → cond b true (has xs j) ≡ false → cond (x == j) (without_number xs j) (x ∷ without_number xs j) ≡ x ∷ xs) [
-      | true ↦ λ _ n. cc
-      | false ↦ λ off n. let other : (x == j) ≡ false = grind (arith, nat_tests) in rw other (ap (λ zs. x ∷ zs) (without_other xs j n))
-    ] refl h
+    split (j == x) (λ b. cond b true (has xs j) ≡ false → cond (x == j) (without_number xs j) (x ∷ without_number xs j) ≡ x ∷ xs) (λ _ n. cc)
+    (λ off n. let other : (x == j) ≡ false = grind (arith, nat_tests) in rw other (ap (λ zs. x ∷ zs) (without_other xs j n))) h
 
 pub apart_of : (b c : Bool) → not b && c ≡ true → (b ≡ false) × (c ≡ true)
 apart_of true c e = cc
@@ -100,20 +96,17 @@ pub distinct-without : (xs : List ℕ) (j : ℕ) → distinct xs ≡ true → di
 distinct-without [] j h = refl
 distinct-without (x ∷ xs) j h =
     let a = apart_of (has xs x) (distinct xs) h in
-    elim (x == j) as (λ b. (x == j) ≡ b → distinct (cond b (without_number xs j) (x ∷ without_number xs j)) ≡ true) [
-      | true ↦ λ e. distinct-without xs j a.1
-      | false ↦ λ e. rw (has-without xs j x, distinct-without xs j a.1) (rw a.0 refl)
-    ] refl
+    split (x == j) (λ b. distinct (cond b (without_number xs j) (x ∷ without_number xs j)) ≡ true) (λ e. distinct-without xs j a.1)
+    (λ e. rw (has-without xs j x, distinct-without xs j a.1) (rw a.0 refl))
 
 -- all but one are at most one fewer
 pub length-without : (xs : List ℕ) (j : ℕ) → distinct xs ≡ true → length xs ≤ length (without_number xs j) + 1
 length-without [] j h = omega arith
 length-without (x ∷ xs) j h =
     let a = apart_of (has xs x) (distinct xs) h in
-    elim (x == j) as (λ b. (x == j) ≡ b → length (x ∷ xs) ≤ length (cond b (without_number xs j) (x ∷ without_number xs j)) + 1) [
-      | true ↦ λ e. let same : x ≡ j = (Decides-eqb x j).0 e in rw (without_other xs j (subst (λ y. has xs y ≡ false) same a.0)) (omega arith)
-      | false ↦ λ _. let shorter = length-without xs j a.1 in omega (arith, shorter)
-    ] refl
+    split (x == j) (λ b. length (x ∷ xs) ≤ length (cond b (without_number xs j) (x ∷ without_number xs j)) + 1)
+    (λ e. let same : x ≡ j = (Decides-eqb x j).0 e in rw (without_other xs j (subst (λ y. has xs y ≡ false) same a.0)) (omega arith))
+    (λ _. let shorter = length-without xs j a.1 in omega (arith, shorter))
 
 -- those that have yet to answer: all, none, and where one turn changes
 pub count-all : (at : ℕ → Turn) (xs : List ℕ) → ((k : ℕ) → has xs k ≡ true → is_pending (at k) ≡ true) → count at xs ≡ length xs
@@ -133,41 +126,35 @@ count-none at (x ∷ xs) h =
 pub count-zero : (at : ℕ → Turn) (xs : List ℕ) → count at xs ≡ 0 → (k : ℕ) → has xs k ≡ true → is_pending (at k) ≡ false
 count-zero at [] e k h = cc
 count-zero at (x ∷ xs) e k h =
-    elim (is_pending (at x)) as (λ b. is_pending (at x) ≡ b → cond b 1 0 + count at xs ≡ 0 → is_pending (at k) ≡ false) [
-      | true ↦ λ _ n. let never : ⊥ = omega arith in absurd never
-      | false ↦ λ off n. elim (k == x) as (λ b. (k == x) ≡ b → cond b true (has xs k) ≡ true → is_pending (at k) ≡ false) [
-        | true ↦ λ t _. let same : k ≡ x = (Decides-eqb k x).0 t in rw same off
-        | false ↦ λ _ there. count-zero at xs (omega arith) k there
-      ] refl h
-    ] refl e
+    split (is_pending (at x)) (λ b. cond b 1 0 + count at xs ≡ 0 → is_pending (at k) ≡ false) (λ _ n. let never : ⊥ = omega arith in absurd never)
+    (λ off n. split (k == x) (λ b. cond b true (has xs k) ≡ true → is_pending (at k) ≡ false)
+    (λ t _. let same : k ≡ x = (Decides-eqb k x).0 t in rw same off)
+    (λ _ there. count-zero at xs (omega arith) k there) h) e
 
 -- a change elsewhere isn't counted
 pub count-other : (at : ℕ → Turn) (j : ℕ) (t : Turn) (xs : List ℕ) → has xs j ≡ false → count (put at j t) xs ≡ count at xs
 count-other at j t [] h = refl
 count-other at j t (x ∷ xs) h =
-    elim (j == x) as (λ b. (j == x) ≡ b → cond b true (has xs j) ≡ false
-    → cond (is_pending (cond (x == j) t (at x))) 1 0 + count (put at j t) xs ≡ cond (is_pending (at x)) 1 0 + count at xs) [
-      | true ↦ λ _ n. cc
-      | false ↦ λ off n. let other : (x == j) ≡ false = grind (arith, nat_tests) in rw (other, count-other at j t xs n) refl
-    ] refl h
+    split (j == x) (λ b. cond b true (has xs j) ≡ false → cond (is_pending (cond (x == j) t (at x))) 1 0 + count (put at j t) xs ≡ cond (is_pending (at x)) 1 0
+    + count at xs)
+    (λ _ n. cc)
+    (λ off n. let other : (x == j) ≡ false = grind (arith, nat_tests) in rw (other, count-other at j t xs n) refl) h
 
 pub count-put : (at : ℕ → Turn) (j : ℕ) (t : Turn) (xs : List ℕ) → distinct xs ≡ true → has xs j ≡ true
     → count (put at j t) xs + cond (is_pending (at j)) 1 0 ≡ count at xs + cond (is_pending t) 1 0
 count-put at j t [] d h = cc
 count-put at j t (x ∷ xs) d h =
-    elim (has xs x) as (λ b. has xs x ≡ b → not b && distinct xs ≡ true → cond (is_pending (cond (x == j) t (at x))) 1 0 + count (put at j t) xs
-    + cond (is_pending (at j)) 1 0 ≡ cond (is_pending (at x)) 1 0 + count at xs + cond (is_pending t) 1 0) [
-      | true ↦ λ _ n. cc
-      | false ↦ λ off n. elim (x == j) as (λ b. (x == j) ≡ b → cond (is_pending (cond b t (at x))) 1 0 + count (put at j t) xs
-          + cond (is_pending (at j)) 1 0 ≡ cond (is_pending (at x)) 1 0 + count at xs + cond (is_pending t) 1 0) [
-            | true ↦ λ e. let same : x ≡ j = (Decides-eqb x j).0 e in
-                let others : count (put at j t) xs ≡ count at xs = count-other at j t xs (subst (λ y. has xs y ≡ false) same off) in
-                rw (others, same) (omega arith)
-            | false ↦ λ e. let other : (j == x) ≡ false = grind (arith, nat_tests) in
-                let there : has xs j ≡ true = rw other at h in
-                let rest = count-put at j t xs n there in omega (arith, rest)
-          ] refl
-    ] refl d
+    split (has xs x) (λ b. not b && distinct xs ≡ true → cond (is_pending (cond (x == j) t (at x))) 1 0 + count (put at j t) xs + cond (is_pending (at j)) 1 0
+    ≡ cond (is_pending (at x)) 1 0 + count at xs + cond (is_pending t) 1 0)
+    (λ _ n. cc)
+    (λ off n. split (x == j) (λ b. cond (is_pending (cond b t (at x))) 1 0 + count (put at j t) xs + cond (is_pending (at j)) 1 0
+    ≡ cond (is_pending (at x)) 1 0 + count at xs + cond (is_pending t) 1 0)
+    (λ e. let same : x ≡ j = (Decides-eqb x j).0 e in
+    let others : count (put at j t) xs ≡ count at xs = count-other at j t xs (subst (λ y. has xs y ≡ false) same off) in
+    rw (others, same) (omega arith))
+    (λ e. let other : (j == x) ≡ false = grind (arith, nat_tests) in
+    let there : has xs j ≡ true = rw other at h in
+    let rest = count-put at j t xs n there in omega (arith, rest))) d
 
 abbrev pub turn_of : List ℕ → ℕ → Turn
 turn_of o k = cond (has o k) Going Quiet
@@ -193,7 +180,6 @@ turn_self xs j =
 -- a turn that was put at a place that was pending isn't at one that wasn't
 pub pending-put : (at : ℕ → Turn) (j m : ℕ) (t : Turn) → is_pending (at j) ≡ true → is_pending (at m) ≡ false → is_pending (put at j t m) ≡ false
 pending-put at j m t on off =
-    elim (m == j) as (λ b. (m == j) ≡ b → is_pending (cond b t (at m)) ≡ false) [
-      | true ↦ λ e. let same_is : m ≡ j = (Decides-eqb m j).0 e in let both : false ≡ true = sym off ∙ rw same_is on in cc
-      | false ↦ λ _. off
-    ] refl
+    split (m == j) (λ b. is_pending (cond b t (at m)) ≡ false)
+    (λ e. let same_is : m ≡ j = (Decides-eqb m j).0 e in let both : false ≡ true = sym off ∙ rw same_is on in cc)
+    (λ _. off)

@@ -6,6 +6,7 @@ use Rattle.proof_machines.proofs.share.Share.{Item, Item.Carry, Item.Fence, Item
 use Rattle.proof_machines.proofs.share.Share.{Item.Forward, UnitShare, View, has, if_mine, mine_in, only, nowhere}
 use Rattle.proof_machines.proofs.share.Stages.{Stage, Stage.Diverting, Stage.Fence_goes, Stage.Carries, shape, path, distinct, IsShare}
 use Rattle.proof_machines.proofs.share.Lists.{self, apart_of}
+use Rattle.proof_machines.proofs.Tests.{split}
 
 -- what stands at these nodes, one node after the other
 abbrev pub gather : {X : Type 0} → List ℕ → (ℕ → List X) → List X
@@ -42,24 +43,21 @@ gather_none (m ∷ ms) = gather_none ms
 gather_outside : {X : Type 0} (ms : List ℕ) (h : ℕ) (xs : List X) → has ms h ≡ false → gather ms (only h xs) ≡ []
 gather_outside [] h xs out = refl
 gather_outside (m ∷ ms) h xs out =
-    elim (h == m) as (λ b. (h == m) ≡ b → cond b true (has ms h) ≡ false → cond (m == h) xs [] ++ gather ms (only h xs) ≡ []) [
-      | true ↦ λ _ n. cc
-      | false ↦ λ off n. let other : (m == h) ≡ false = grind (arith, nat_tests) in rw other (gather_outside ms h xs n)
-    ] refl out
+    split (h == m) (λ b. cond b true (has ms h) ≡ false → cond (m == h) xs [] ++ gather ms (only h xs) ≡ []) (λ _ n. cc)
+    (λ off n. let other : (m == h) ≡ false = grind (arith, nat_tests) in rw other (gather_outside ms h xs n)) out
 
 -- what stands at one of the nodes alone
 pub gather_only : {X : Type 0} (ms : List ℕ) (h : ℕ) (xs : List X) → distinct ms ≡ true → has ms h ≡ true → gather ms (only h xs) ≡ xs
 gather_only [] h xs apart inside = cc
 gather_only (m ∷ ms) h xs apart inside =
     let a = apart_of (has ms m) (distinct ms) apart in
-    elim (h == m) as (λ b. (h == m) ≡ b → cond b true (has ms h) ≡ true → cond (m == h) xs [] ++ gather ms (only h xs) ≡ xs) [
-      | true ↦ λ t _.
-          let same : h ≡ m = (Decides-eqb h m).0 t in
-          let none = gather_outside ms h xs (subst (λ k. has ms k ≡ false) (sym same) a.0) in
-          let back : (m == h) ≡ true = rw same (self m) in
-          rw (back, none) (append-nil xs)
-      | false ↦ λ off n. let other : (m == h) ≡ false = grind (arith, nat_tests) in rw other (gather_only ms h xs a.1 n)
-    ] refl inside
+    split (h == m) (λ b. cond b true (has ms h) ≡ true → cond (m == h) xs [] ++ gather ms (only h xs) ≡ xs)
+    (λ t _.
+    let same : h ≡ m = (Decides-eqb h m).0 t in
+    let none = gather_outside ms h xs (subst (λ k. has ms k ≡ false) (sym same) a.0) in
+    let back : (m == h) ≡ true = rw same (self m) in
+    rw (back, none) (append-nil xs))
+    (λ off n. let other : (m == h) ≡ false = grind (arith, nat_tests) in rw other (gather_only ms h xs a.1 n)) inside
 
 abbrev carry : {R : Type 0} → ℕ → Item R
 carry p = Carry p

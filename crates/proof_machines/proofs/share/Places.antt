@@ -8,6 +8,7 @@ use Rattle.proof_machines.proofs.share.Stages.{Stage, processed, shape, IsShare,
 use Rattle.proof_machines.proofs.share.Steps.{goes_on}
 use Rattle.proof_machines.proofs.share.Records.{done_is}
 use Rattle.proof_machines.proofs.share.Heads.{Meets, meets_sw, meets_to, to_members}
+use Rattle.proof_machines.proofs.Tests.{either_way}
 
 module _ {R : Type 0} (f : UnitShare R) where
   abbrev pub At_places : List Ran → Type 0
@@ -58,10 +59,7 @@ module _ {R : Type 0} (f : UnitShare R) where
 
   to_meets : IsShare f → (s : Stage R) → FitsStage f s → (j : ℕ) (it : Item R) (rest : List (Item R)) → (shape f s).to j ≡ it ∷ rest → Meets f s j it
   to_meets is s h j it rest e =
-      elim (has f.members j) as (λ b. has f.members j ≡ b → Meets f s j it) [
-        | true ↦ λ m. meets_to f s h j m it rest e
-        | false ↦ λ out. let never : it ∷ rest ≡ [] = sym e ∙ (to_members f is s h).to j out in cc
-      ] refl
+      either_way (has f.members j) (λ m. meets_to f s h j m it rest e) (λ out. let never : it ∷ rest ≡ [] = sym e ∙ (to_members f is s h).to j out in cc)
 
   to_grows : IsShare f → (s : Stage R) → FitsStage f s → (j : ℕ) (its : List (Item R)) → (shape f s).to j ≡ its
       → Grows (shape f s).done (from_to f (shape f s) j its).done

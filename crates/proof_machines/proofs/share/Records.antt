@@ -2,17 +2,17 @@
 -- member has just processed (`is_live`). Each has seen a front of it (`seen_front`).
 use Rattle.std.proofs.Common.{◌≡◌, ℕ, Bool, true, false, cond, ◌==◌, List, [], ◌∷◌, ◌++◌, inl, inr, refl, sym, append_assoc, append-nil}
 use Rattle.proof_machines.proofs.share.Share.{Ran, UnitShare, if_mine, after}
-use Rattle.proof_machines.proofs.share.Stages.{Turn, Turn.Going, Turn.Coming, Turn.Quiet, is_going, is_pending, Stage, Stage.Diverting, Stage.Fence_goes}
+use Rattle.proof_machines.proofs.share.Stages.{Turn, Turn.Going, is_going, is_pending, Stage, Stage.Diverting, Stage.Fence_goes}
 use Rattle.proof_machines.proofs.share.Stages.{Stage.Fenced_comes, Stage.Get_goes, Stage.Chunks_come, Stage.Spreads, Stage.Resting, Stage.Forwards}
 use Rattle.proof_machines.proofs.share.Stages.{Stage.Carries, Stage.Chunk_comes, front, processed, shape, served, IsFront, FitsStage, Behind, Lacks, Live}
 use Rattle.proof_machines.proofs.share.Lists.{cond-same, self, served-append}
 use Rattle.proof_machines.proofs.share.Setting.{front_same}
 use Rattle.proof_machines.proofs.share.Serving.{took_more}
+use Rattle.proof_machines.proofs.Tests.{split}
 
 pub not_pending : (t : Turn) → is_pending t ≡ false → is_going t ≡ false
 not_pending Going e = cc
-not_pending Coming e = refl
-not_pending Quiet e = refl
+not_pending turn e = refl
 
 either : (t : Bool) (old new : List Ran) → IsFront old new → IsFront (cond t new old) new
 either true old new h = front_same new
@@ -50,11 +50,9 @@ module _ {R : Type 0} (f : UnitShare R) where
 
   pub is_live : (s : Stage R) → FitsStage f s → Live f s
   is_live (Spreads first d e b c at o left q v) h =
-      elim (is_going (at f.home)) as (λ t. is_going (at f.home) ≡ t
-      → Lacks f (cond t (b f.home) (d ++ served f e)) (d ++ served f e) (λ k. cond (is_going (at k)) (b k) (d ++ served f e))) [
-        | true ↦ λ g. still_behind (d ++ served f e) b at (h.lately g)
-        | false ↦ λ _. inl refl
-      ] refl
+      split (is_going (at f.home)) (λ t. Lacks f (cond t (b f.home) (d ++ served f e)) (d ++ served f e) (λ k. cond (is_going (at k)) (b k) (d ++ served f e)))
+      (λ g. still_behind (d ++ served f e) b at (h.lately g))
+      (λ _. inl refl)
   is_live (Resting d e v) h = inl refl
   is_live (Forwards d e p q v) h = inl refl
   is_live (Carries d e p q v) h = inl refl

@@ -4,9 +4,9 @@ use Rattle.std.proofs.Common.{◌≡◌, ℕ, true, false, ◌==◌, Option, Lis
 use Rattle.proof_machines.proofs.unit.Rests.{behind_nil}
 use Rattle.proof_machines.proofs.unit.Lists.{cons_nil}
 use Rattle.proof_machines.proofs.share.Share.{Ran, Item, Item.Carry, Item.Fence, Item.Diverted, UnitShare, Phase.Idle, View, has, only}
-use Rattle.proof_machines.proofs.share.Stages.{Turn, Turn.Going, Turn.Coming, Turn.Quiet, is_pending, goes_to, comes_from, count, Stage, Stage.Diverting}
+use Rattle.proof_machines.proofs.share.Stages.{Turn, Turn.Going, Turn.Coming, Turn.Quiet, is_pending, goes_to, comes_from, count, Stage}
 use Rattle.proof_machines.proofs.share.Stages.{Stage.Fence_goes, Stage.Fenced_comes, Stage.Get_goes, Stage.Chunks_come, Stage.Spreads, Stage.Resting}
-use Rattle.proof_machines.proofs.share.Stages.{Stage.Forwards, Stage.Carries, Stage.Chunk_comes, front, processed, path, shape, IsShare, FitsStage}
+use Rattle.proof_machines.proofs.share.Stages.{Stage.Carries, Stage.Chunk_comes, front, processed, path, shape, IsShare, FitsStage}
 use Rattle.proof_machines.proofs.share.Lists.{self, count-none}
 
 -- a stage that waits for nothing
@@ -40,7 +40,6 @@ module _ {R : Type 0} (f : UnitShare R) (is : IsShare f) where
   resting d e (p ∷ v) none = cons_nil none
 
   pub rests : (s : Stage R) → FitsStage f s → Silent f (shape f s) → Rests f s
-  rests (Diverting d b l) h x = cons_nil x.cs
   rests (Fence_goes d b l q v) h x = behind_nil (map Carry l) Fence [] (here f.home (map Carry l ++ Fence ∷ []) (x.sw f.home is.home_in))
   rests (Fenced_comes d b q v) h x = cons_nil (here f.home _ (x.back f.home is.home_in))
   rests (Get_goes d b q v) h x = cons_nil (here f.home _ (x.to f.home is.home_in))
@@ -51,6 +50,6 @@ module _ {R : Type 0} (f : UnitShare R) (is : IsShare f) where
       let never : true ≡ false = ap (λ n. n == 0) (sym zero) ∙ h.some in
       cc
   rests (Resting d e v) h x = resting d e v x.sc
-  rests (Forwards d e p q v) h x = cons_nil x.cs
   rests (Carries d e p q v) h x = cons_nil (here (f.member_of p) _ (x.sw (f.member_of p) (is.member_in p)))
   rests (Chunk_comes d e p q v) h x = cons_nil (here (f.member_of p) _ (x.back (f.member_of p) (is.member_in p)))
+  rests s h x = cons_nil x.cs

@@ -10,6 +10,7 @@ use Rattle.proof_machines.proofs.share.Stages.{Stage, Stage.Diverting, Stage.Fen
 use Rattle.proof_machines.proofs.share.Stages.{Alike, brings, Leads}
 use Rattle.proof_machines.proofs.share.Lists.{cond-same, cond-append, cond-cond, self, runs-append, mine_in-append, served-append}
 use Rattle.proof_machines.proofs.share.Lists.{packets-append, packets-served}
+use Rattle.proof_machines.proofs.Tests.{split}
 
 pub ruleset links = (cond-append, cond-cond, cond-same, append-nil, map-append)
 
@@ -18,10 +19,7 @@ pub ruleset orders = (packets-append, packets-served, mine_in-append, served-app
 -- a link that only one instance has
 pub at_only : {X : Type 0} (P : ℕ → List X → Type 0) (h j : ℕ) (xs : List X) → P h xs → P j [] → P j (only h xs j)
 at_only P h j xs here other =
-    elim (j == h) as (λ t. (j == h) ≡ t → P j (cond t xs [])) [
-      | true ↦ λ e. subst (λ n. P n xs) (sym ((Decides-eqb j h).0 e)) here
-      | false ↦ λ _. other
-    ] refl
+    split (j == h) (λ t. P j (cond t xs [])) (λ e. subst (λ n. P n xs) (sym ((Decides-eqb j h).0 e)) here) (λ _. other)
 
 pub front_same : {X : Type 0} (xs : List X) → IsFront xs xs
 front_same xs = ([], sym (append-nil xs))

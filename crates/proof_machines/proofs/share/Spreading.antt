@@ -1,6 +1,6 @@
 -- Each move while a Sync goes round among the members.
 use Rattle.std.proofs.Common.{◌≡◌, ℕ, ◌+◌, ◌-◌, Bool, true, false, cond, ◌==◌, Option, List, []}
-use Rattle.std.proofs.Common.{◌∷◌, ◌++◌, map, inl, inr, refl, sym, ap, subst, ◌∙◌, append-nil, arith}
+use Rattle.std.proofs.Common.{◌∷◌, ◌++◌, map, inl, inr, refl, sym, ap, subst, ◌∙◌, append-nil, true≢false, arith}
 use Rattle.std.proofs.lemmas.Bool.Decides.{nat_tests, Decides-eqb}
 use Rattle.proof_machines.proofs.share.Share.{Ran, Item, Item.Diverted, Item.Sync, Item.Synced, UnitShare, View, ShareMachineStep, ShareMachineStep.Arrive}
 use Rattle.proof_machines.proofs.share.Share.{ShareMachineStep.Take_sc, ShareMachineStep.Take_to, ShareMachineStep.Take_back, has, if_mine, after}
@@ -10,6 +10,8 @@ use Rattle.proof_machines.proofs.share.Stages.{Stage.Spreads, Stage.Resting, Sta
 use Rattle.proof_machines.proofs.share.Lists.{count-put, count-zero, pending-put}
 use Rattle.proof_machines.proofs.share.Setting.{links, orders, front_same, alike_in, same_but_sc, same_but_to, leads, leads_same, stays}
 use Rattle.proof_machines.proofs.share.Records.{not_pending}
+use Rattle.proof_machines.proofs.Tests.{split}
+use Rattle.std.proofs.lemmas.Bool.{false_from_ne_true}
 
 module _ {R : Type 0} (f : UnitShare R) where
   module _ (d : List Ran) (e : List ℕ) (b : ℕ → List Ran) (c : Option R) (at : ℕ → Turn) (o : List ℕ) (left : ℕ) (q v : List ℕ)
@@ -45,23 +47,21 @@ module _ {R : Type 0} (f : UnitShare R) where
         counts = let more = count-put at j Coming o h.apart there in
             let one : is_pending (at j) ≡ true = rw is refl in let same = rw one at more in omega (arith, same, h.counts);
         some = h.some;
-        sent = λ k. elim (k == j) as (λ t. (k == j) ≡ t → is_pending (cond t Coming (at k)) ≡ true → has o k ≡ true)
-            [ true ↦ λ s _. rw ((Decides-eqb k j).0 s) there | false ↦ λ _ p. h.sent k p ] refl;
+        sent = λ k. split (k == j) (λ t. is_pending (cond t Coming (at k)) ≡ true → has o k ≡ true) (λ s _. rw ((Decides-eqb k j).0 s) there)
+            (λ _ p. h.sent k p);
         lately = still_behind Coming refl j (rw is refl);
         inside = h.inside;
         apart = h.apart;
       };
       alike = alike_in f (λ k. refl)
           (λ k. elim (k == j) as (λ t. cond t [] (goes_to c (at k)) ≡ goes_to c (cond t Coming (at k))) [ true ↦ refl | false ↦ refl ])
-          (λ k. elim (k == j) as (λ t. (k == j) ≡ t → comes_from {R = R} (at k) ++ cond t (Synced ∷ []) [] ≡ comes_from (cond t Coming (at k))) [
-            | true ↦ λ s. let goes : at k ≡ Going = rw ((Decides-eqb k j).0 s) is in rw goes refl
-            | false ↦ λ _. append-nil (comes_from (at k))
-          ] refl)
-          (λ k m. elim (k == j) as (λ t. (k == j) ≡ t → cond t (over c (after f (cond (is_going (at j)) (b j) n)))
-          (after f (cond (is_going (at k)) (b k) n)) ≡ after f (cond (is_going (cond t Coming (at k))) (b k) n)) [
-            | true ↦ λ s. rw is (h.gives j (subst (λ y. has f.members y ≡ true) ((Decides-eqb k j).0 s) m))
-            | false ↦ λ _. refl
-          ] refl)
+          (λ k. split (k == j) (λ t. comes_from {R = R} (at k) ++ cond t (Synced ∷ []) [] ≡ comes_from (cond t Coming (at k)))
+          (λ s. let goes : at k ≡ Going = rw ((Decides-eqb k j).0 s) is in rw goes refl)
+          (λ _. append-nil (comes_from (at k))))
+          (λ k m. split (k == j) (λ t. cond t (over c (after f (cond (is_going (at j)) (b j) n))) (after f (cond (is_going (at k)) (b k) n))
+          ≡ after f (cond (is_going (cond t Coming (at k))) (b k) n))
+          (λ s. rw is (h.gives j (subst (λ y. has f.members y ≡ true) ((Decides-eqb k j).0 s) m)))
+          (λ _. refl))
           (append-nil n);
       early_is = simp orders;
       late_is = simp orders;
@@ -97,20 +97,15 @@ module _ {R : Type 0} (f : UnitShare R) where
     all_quiet : (j : ℕ) → at j ≡ Coming → has o j ≡ true → left ≡ 1 → (k : ℕ) → is_pending (put at j Quiet k) ≡ false
     all_quiet j is there last k =
         let zero : count (put at j Quiet) o ≡ 0 = let less = fewer j is there in omega arith in
-        elim (is_pending (put at j Quiet k)) as (λ t. is_pending (put at j Quiet k) ≡ t → t ≡ false) [
-          | true ↦ λ p. sym p ∙ count-zero (put at j Quiet) o zero k (still_sent j k p)
-          | false ↦ λ _. refl
-        ] refl
+        false_from_ne_true (is_pending (put at j Quiet k)) (λ p. true≢false (sym p ∙ count-zero (put at j Quiet) o zero k (still_sent j k p)))
 
     quiet_to : (t : Turn) → is_pending t ≡ false → goes_to c t ≡ []
     quiet_to Going e = cc
-    quiet_to Coming e = refl
-    quiet_to Quiet e = refl
+    quiet_to turn e = refl
 
     quiet_back : (t : Turn) → is_pending t ≡ false → ◌≡◌ {A = List (Item R)} (comes_from t) []
-    quiet_back Going e = cc
-    quiet_back Coming e = cc
     quiet_back Quiet e = refl
+    quiet_back turn e = cc
 
     gone_back : (j : ℕ) → ((k : ℕ) → is_pending (put at j Quiet k) ≡ false) → (k : ℕ) → cond (k == j) [] (comes_from {R = R} (at k)) ≡ []
     gone_back j off k = elim (k == j) as (λ t. is_pending (cond t Quiet (at k)) ≡ false → cond t [] (comes_from {R = R} (at k)) ≡ []) [
@@ -120,10 +115,9 @@ module _ {R : Type 0} (f : UnitShare R) where
 
     -- what sees no difference between an answer on its way and none
     quiet_as : {X : Type 0} (j : ℕ) → at j ≡ Coming → (g : Turn → X) → g Coming ≡ g Quiet → (k : ℕ) → g (at k) ≡ g (put at j Quiet k)
-    quiet_as j is g same k = elim (k == j) as (λ t. (k == j) ≡ t → g (at k) ≡ g (cond t Quiet (at k))) [
-      | true ↦ λ s. let comes : at k ≡ Coming = rw ((Decides-eqb k j).0 s) is in ap g comes ∙ same
-      | false ↦ λ _. refl
-    ] refl
+    quiet_as j is g same k = split (k == j) (λ t. g (at k) ≡ g (cond t Quiet (at k)))
+        (λ s. let comes : at k ≡ Coming = rw ((Decides-eqb k j).0 s) is in ap g comes ∙ same)
+        (λ _. refl)
 
     gone_to : (j : ℕ) → at j ≡ Coming → ((k : ℕ) → is_pending (put at j Quiet k) ≡ false) → (k : ℕ) → goes_to c (at k) ≡ []
     gone_to j is off k = quiet_as j is (goes_to c) refl k ∙ quiet_to (put at j Quiet k) (off k)

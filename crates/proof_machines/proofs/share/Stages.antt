@@ -15,23 +15,19 @@ pub data Turn : Type 0 where
 
 abbrev pub is_going : Turn → Bool
 is_going Going = true
-is_going Coming = false
-is_going Quiet = false
+is_going turn = false
 
 abbrev pub is_pending : Turn → Bool
-is_pending Going = true
-is_pending Coming = true
 is_pending Quiet = false
+is_pending turn = true
 
 abbrev pub goes_to : {R : Type 0} → Option R → Turn → List (Item R)
 goes_to c Going = Sync c ∷ []
-goes_to c Coming = []
-goes_to c Quiet = []
+goes_to c turn = []
 
 abbrev pub comes_from : {R : Type 0} → Turn → List (Item R)
-comes_from Going = []
 comes_from Coming = Synced ∷ []
-comes_from Quiet = []
+comes_from turn = []
 
 -- how many of these have yet to answer
 abbrev pub count : (ℕ → Turn) → List ℕ → ℕ

@@ -35,25 +35,22 @@ switch_away F u d l (Fence_to At_b) = refl
 switch_away F u d l (Fence_to At_c) = refl
 switch_away F u d l x = refl
 
-message_away : {R : Type 0} (F : Steps R) (u : State R) (d : List Ran) (l : List ℕ) (m : MachineStep R) → of_message m ≡ true
-    → moved F (away F u d l) m ≡ away F (moved F u m) d l
+abbrev Stays : {R : Type 0} → Steps R → List Ran → List ℕ → MachineStep R → State R → Type 0
+Stays F d l m u = moved F (away F u d l) m ≡ away F (moved F u m) d l
+
+message_away : {R : Type 0} (F : Steps R) (u : State R) (d : List Ran) (l : List ℕ) (m : MachineStep R) → of_message m ≡ true → Stays F d l m u
 message_away F u d l (Begin keep) e = begun_away F u d l keep u.phase
-message_away F u d l (Arrive p) e = cc
-message_away F u d l Take_sc e = cc
-message_away F u d l Take_sa e = elim u.sa as (λ xs. moved F (away F (record u { sa = xs }) d l) Take_sa
-    ≡ away F (moved F (record u { sa = xs }) Take_sa) d l) [ [] ↦ refl | x ∷ xs ↦ simp append_assoc ]
-message_away F u d l Take_sb e = elim u.sb as (λ xs. moved F (away F (record u { sb = xs }) d l) Take_sb
-    ≡ away F (moved F (record u { sb = xs }) Take_sb) d l) [ [] ↦ refl | x ∷ xs ↦ simp append_assoc ]
-message_away F u d l (Take_ca parts) e = elim u.ca as (λ xs. moved F (away F (record u { ca = xs }) d l) (Take_ca parts)
-    ≡ away F (moved F (record u { ca = xs }) (Take_ca parts)) d l) [ [] ↦ refl | x ∷ xs ↦ simp append_assoc ]
-message_away F u d l (Take_cb refuse) e = elim u.cb as (λ xs. moved F (away F (record u { cb = xs }) d l) (Take_cb refuse)
-    ≡ away F (moved F (record u { cb = xs }) (Take_cb refuse)) d l) [ [] ↦ refl | x ∷ xs ↦ simp append_assoc ]
-message_away F u d l Take_ac e = elim u.ac
-    as (λ xs. moved F (away F (record u { ac = xs }) d l) Take_ac ≡ away F (moved F (record u { ac = xs }) Take_ac) d l) [ [] ↦ refl | x ∷ xs ↦ refl ]
-message_away F u d l Take_bc e = elim u.bc
-    as (λ xs. moved F (away F (record u { bc = xs }) d l) Take_bc ≡ away F (moved F (record u { bc = xs }) Take_bc) d l) [ [] ↦ refl | x ∷ xs ↦ refl ]
-message_away F u d l Take_cs e = elim u.cs as (λ xs. moved F (away F (record u { cs = xs }) d l) Take_cs
-    ≡ away F (moved F (record u { cs = xs }) Take_cs) d l) [ [] ↦ refl | x ∷ xs ↦ switch_away F (record u { cs = xs }) d l x ]
+message_away F u d l Take_sa e = elim u.sa as (λ xs. Stays F d l Take_sa (record u { sa = xs })) [ [] ↦ refl | x ∷ xs ↦ simp append_assoc ]
+message_away F u d l Take_sb e = elim u.sb as (λ xs. Stays F d l Take_sb (record u { sb = xs })) [ [] ↦ refl | x ∷ xs ↦ simp append_assoc ]
+message_away F u d l (Take_ca parts) e = elim u.ca as (λ xs. Stays F d l (Take_ca parts) (record u { ca = xs }))
+    [ [] ↦ refl | x ∷ xs ↦ simp append_assoc ]
+message_away F u d l (Take_cb refuse) e = elim u.cb as (λ xs. Stays F d l (Take_cb refuse) (record u { cb = xs }))
+    [ [] ↦ refl | x ∷ xs ↦ simp append_assoc ]
+message_away F u d l Take_ac e = elim u.ac as (λ xs. Stays F d l Take_ac (record u { ac = xs })) [ [] ↦ refl | x ∷ xs ↦ refl ]
+message_away F u d l Take_bc e = elim u.bc as (λ xs. Stays F d l Take_bc (record u { bc = xs })) [ [] ↦ refl | x ∷ xs ↦ refl ]
+message_away F u d l Take_cs e = elim u.cs as (λ xs. Stays F d l Take_cs (record u { cs = xs }))
+    [ [] ↦ refl | x ∷ xs ↦ switch_away F (record u { cs = xs }) d l x ]
+message_away F u d l m e = cc
 
 -- a stage of the message, and the unit's own packets
 pub record Away {R : Type 0} (F : Steps R) : Type 0 where
@@ -99,14 +96,7 @@ away_goes_on F s Take_sc a =
         one_more At_c s.d p,
       )
     ] refl
-away_goes_on F s (Begin keep) a = by_message F s (Begin keep) a refl
-away_goes_on F s Take_sa a = by_message F s Take_sa a refl
-away_goes_on F s Take_sb a = by_message F s Take_sb a refl
-away_goes_on F s Take_ac a = by_message F s Take_ac a refl
-away_goes_on F s Take_bc a = by_message F s Take_bc a refl
-away_goes_on F s (Take_ca parts) a = by_message F s (Take_ca parts) a refl
-away_goes_on F s (Take_cb refuse) a = by_message F s (Take_cb refuse) a refl
-away_goes_on F s Take_cs a = by_message F s Take_cs a refl
+away_goes_on F s m a = by_message F s m a refl
 
 -- the record is that of the fold, at one side alone
 pub away_kept : {R : Type 0} (F : Steps R) (s : Away F)

@@ -36,8 +36,7 @@ seat_at F At_c d l k = Is_away (record { base = At_rest [] [] k; bare = refl; d 
 pub seat_begins : {R : Type 0} (F : Steps R) (w : Where) (d : List Ran) (l : List ℕ) (k : Bool)
     → seat_shape F (seat_at F w d l k) ≡ rest_at F w d l (Over Idle) k
 seat_begins F At_a d l k = refl
-seat_begins F At_b d l k = rw (append-nil d) refl
-seat_begins F At_c d l k = rw (append-nil d) refl
+seat_begins F side d l k = rw (append-nil d) refl
 
 pub data AtRestNow {R : Type 0} (F : Steps R) (u : State R) (all : List ℕ) : Type 0 where
   Rests_at : (w : Where) (d : List Ran) (l : List ℕ) (phase : Phase R) (k : Bool) → u ≡ rest_at F w d l phase k → all ≡ firsts d ++ l → AtRestNow F u all

@@ -7,6 +7,7 @@ use Rattle.record_table.specs.Table.{same_unit}
 use Rattle.proof_machines.proofs.unit.Machine.{is_nil, Piece}
 use Rattle.proof_machines.proofs.unit.UnitPieces.{ArePiecesOf, records, closes, first, nil_left, nil_right, first_of_one}
 use Rattle.proof_machines.proofs.unit.Real.{Chunks, record_at, RPiece, Msg, M_piece, Frame, see, view}
+use Rattle.proof_machines.proofs.Tests.{by_if}
 
 -- all records of a unit in chunks
 abbrev pub all_at : {R : Type 0} → units.Unit → Chunks R → List R
@@ -31,10 +32,7 @@ chop (suc n) xs = if nat_le (length xs) 64 then xs ∷ [] else take 64 xs ∷ ch
 pub joined-chop : {X : Type 0} (n : ℕ) (xs : List X) → joined_up (chop n xs) ≡ xs
 joined-chop zero xs = append-nil xs
 joined-chop (suc n) xs =
-    elim (nat_le (length xs) 64) as (λ b. joined_up (if b then xs ∷ [] else take 64 xs ∷ chop n (drop 64 xs)) ≡ xs) [
-      | true ↦ append-nil xs
-      | false ↦ ap (λ z. take 64 xs ++ z) (joined-chop n (drop 64 xs)) ∙ take-append-drop 64 xs
-    ]
+    by_if (λ r. joined_up r ≡ xs) (nat_le (length xs) 64) (append-nil xs) (ap (λ z. take 64 xs ++ z) (joined-chop n (drop 64 xs)) ∙ take-append-drop 64 xs)
 
 pub is_nil-chop : {X : Type 0} (n : ℕ) (xs : List X) → is_nil (chop n xs) ≡ false
 is_nil-chop zero xs = refl

@@ -33,6 +33,10 @@ begun_beside : {R : Type 0} (F : Steps R) (u : State R) (z : List (Item R)) (h :
 begun_beside F u z h d keep (Over Idle) = refl
 begun_beside F u z h d keep p = refl
 
+begun_sb : {R : Type 0} (u : State R) (keep : Bool) (p : Phase R) → ((begun keep p u).sb ≡ u.sb) × ((begun keep p u).b ≡ u.b)
+begun_sb u keep (Over Idle) = (refl, refl)
+begun_sb u keep p = (refl, refl)
+
 -- moves that touch neither B nor its link
 abbrev pub apart : {R : Type 0} → MachineStep R → Bool
 apart (Begin keep) = true
@@ -43,20 +47,24 @@ apart Take_bc = true
 apart (Take_ca parts) = true
 apart m = false
 
-message_beside : {R : Type 0} (F : Steps R) (u : State R) (z : List (Item R)) (h : List ℕ) (d : List Ran) (m : MachineStep R) → apart m ≡ true
-    → moved F (beside F u z h d) m ≡ beside F (moved F u m) z h d
-message_beside F u z h d (Begin keep) e = begun_beside F u z h d keep u.phase
-message_beside F u z h d Take_sa e = elim u.sa as (λ xs. moved F (beside F (record u { sa = xs }) z h d) Take_sa
-    ≡ beside F (moved F (record u { sa = xs }) Take_sa) z h d) [ [] ↦ refl | x ∷ xs ↦ simp append_assoc ]
-message_beside F u z h d Take_sc e = elim u.sc as (λ xs. moved F (beside F (record u { sc = xs }) z h d) Take_sc
-    ≡ beside F (moved F (record u { sc = xs }) Take_sc) z h d) [ [] ↦ refl | x ∷ xs ↦ simp append_assoc ]
-message_beside F u z h d (Take_ca parts) e = elim u.ca as (λ xs. moved F (beside F (record u { ca = xs }) z h d) (Take_ca parts)
-    ≡ beside F (moved F (record u { ca = xs }) (Take_ca parts)) z h d) [ [] ↦ refl | x ∷ xs ↦ simp append_assoc ]
-message_beside F u z h d Take_ac e = elim u.ac as (λ xs. moved F (beside F (record u { ac = xs }) z h d) Take_ac
-    ≡ beside F (moved F (record u { ac = xs }) Take_ac) z h d) [ [] ↦ refl | x ∷ xs ↦ refl ]
-message_beside F u z h d Take_bc e = elim u.bc as (λ xs. moved F (beside F (record u { bc = xs }) z h d) Take_bc
-    ≡ beside F (moved F (record u { bc = xs }) Take_bc) z h d) [ [] ↦ refl | x ∷ xs ↦ refl ]
-message_beside F u z h d m e = cc
+-- such a move leaves B and its link, and does beside the unit's own packets what it does without them
+abbrev Untouched : {R : Type 0} → Steps R → List (Item R) → List ℕ → List Ran → MachineStep R → State R → Type 0
+Untouched F z h d m u = (moved F (beside F u z h d) m ≡ beside F (moved F u m) z h d) × ((moved F u m).sb ≡ u.sb) × ((moved F u m).b ≡ u.b)
+
+untouched : {R : Type 0} (F : Steps R) (u : State R) (z : List (Item R)) (h : List ℕ) (d : List Ran) (m : MachineStep R) → apart m ≡ true
+    → Untouched F z h d m u
+untouched F u z h d (Begin keep) e = let same = begun_sb u keep u.phase in (begun_beside F u z h d keep u.phase, same.0, same.1)
+untouched F u z h d Take_sa e = elim u.sa as (λ xs. Untouched F z h d Take_sa (record u { sa = xs }))
+    [ [] ↦ (refl, refl, refl) | x ∷ xs ↦ (simp append_assoc, refl, refl) ]
+untouched F u z h d Take_sc e = elim u.sc as (λ xs. Untouched F z h d Take_sc (record u { sc = xs }))
+    [ [] ↦ (refl, refl, refl) | x ∷ xs ↦ (simp append_assoc, refl, refl) ]
+untouched F u z h d (Take_ca parts) e = elim u.ca as (λ xs. Untouched F z h d (Take_ca parts) (record u { ca = xs }))
+    [ [] ↦ (refl, refl, refl) | x ∷ xs ↦ (simp append_assoc, refl, refl) ]
+untouched F u z h d Take_ac e = elim u.ac as (λ xs. Untouched F z h d Take_ac (record u { ac = xs }))
+    [ [] ↦ (refl, refl, refl) | x ∷ xs ↦ (refl, refl, refl) ]
+untouched F u z h d Take_bc e = elim u.bc as (λ xs. Untouched F z h d Take_bc (record u { bc = xs }))
+    [ [] ↦ (refl, refl, refl) | x ∷ xs ↦ (refl, refl, refl) ]
+untouched F u z h d m e = cc
 
 -- the unit's own packets beside a stage: the link to B with them, those that are held there, and what was processed
 pub record OwnPackets (R : Type 0) : Type 0 where
@@ -150,35 +158,17 @@ abbrev pub GoesOnBeside : {R : Type 0} → (F : Steps R) → DestinationUnit F �
 GoesOnBeside F s m =
     (t : DestinationUnit F) × (moved F (shape_beside F s) m ≡ shape_beside F t) × (all_beside t ≡ all_beside s ++ arrived_by m) × Placed At_b s.d t.d
 
-begun_sb : {R : Type 0} (u : State R) (keep : Bool) (p : Phase R) → ((begun keep p u).sb ≡ u.sb) × ((begun keep p u).b ≡ u.b)
-begun_sb u keep (Over Idle) = (refl, refl)
-begun_sb u keep p = (refl, refl)
-
 apart_none : {R : Type 0} (m : MachineStep R) → apart m ≡ true → arrived_by m ≡ []
 apart_none (Arrive p) e = cc
 apart_none m e = refl
-
-apart_sb : {R : Type 0} (F : Steps R) (u : State R) (m : MachineStep R) → apart m ≡ true → ((moved F u m).sb ≡ u.sb) × ((moved F u m).b ≡ u.b)
-apart_sb F u (Begin keep) e = begun_sb u keep u.phase
-apart_sb F u Take_sa e = elim u.sa as (λ xs. ((moved F (record u { sa = xs }) Take_sa).sb ≡ u.sb) × ((moved F (record u { sa = xs }) Take_sa).b ≡ u.b))
-    [ [] ↦ (refl, refl) | x ∷ xs ↦ (refl, refl) ]
-apart_sb F u Take_sc e = elim u.sc as (λ xs. ((moved F (record u { sc = xs }) Take_sc).sb ≡ u.sb) × ((moved F (record u { sc = xs }) Take_sc).b ≡ u.b))
-    [ [] ↦ (refl, refl) | x ∷ xs ↦ (refl, refl) ]
-apart_sb F u Take_ac e = elim u.ac as (λ xs. ((moved F (record u { ac = xs }) Take_ac).sb ≡ u.sb) × ((moved F (record u { ac = xs }) Take_ac).b ≡ u.b))
-    [ [] ↦ (refl, refl) | x ∷ xs ↦ (refl, refl) ]
-apart_sb F u Take_bc e = elim u.bc as (λ xs. ((moved F (record u { bc = xs }) Take_bc).sb ≡ u.sb) × ((moved F (record u { bc = xs }) Take_bc).b ≡ u.b))
-    [ [] ↦ (refl, refl) | x ∷ xs ↦ (refl, refl) ]
-apart_sb F u (Take_ca parts) e = elim u.ca as (λ xs. ((moved F (record u { ca = xs }) (Take_ca parts)).sb ≡ u.sb)
-    × ((moved F (record u { ca = xs }) (Take_ca parts)).b ≡ u.b)) [ [] ↦ (refl, refl) | x ∷ xs ↦ (refl, refl) ]
-apart_sb F u m e = cc
 
 by_message : {R : Type 0} (F : Steps R) (s : DestinationUnit F) (m : MachineStep R) → Allowed (shape F s.base) m → apart m ≡ true → GoesOnBeside F s m
 by_message F s m a is =
     let u = shape F s.base in
     let g = goes_on F s.base m a in
-    let kept = apart_sb F u m is in
-    let link : (shape F g.0).sb ≡ u.sb = ap (λ v. v.sb) (sym g.1) ∙ kept.0 in
-    let rule : (shape F g.0).b ≡ u.b = ap (λ v. v.b) (sym g.1) ∙ kept.1 in
+    let kept = untouched F u s.z s.h s.d m is in
+    let link : (shape F g.0).sb ≡ u.sb = ap (λ v. v.sb) (sym g.1) ∙ kept.1 in
+    let rule : (shape F g.0).b ≡ u.b = ap (λ v. v.b) (sym g.1) ∙ kept.2 in
     let none = apart_none m is in (
       record {
         base = g.0;
@@ -189,7 +179,7 @@ by_message F s m a is =
         strips = s.strips ∙ sym link;
         free = λ e. s.free (ap (λ b. b.rule) (sym rule) ∙ e);
       },
-      message_beside F u s.z s.h s.d m is ∙ ap (λ v. beside F v s.z s.h s.d) g.1,
+      kept.0 ∙ ap (λ v. beside F v s.z s.h s.d) g.1,
       rw none (sym (append-nil (all_beside s))),
       still At_b s.d,
     )

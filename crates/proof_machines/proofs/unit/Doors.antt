@@ -2,7 +2,7 @@
 -- Each leads to a stage, in order.
 use Rattle.std.proofs.Common.{◌≡◌, ℕ, Bool, true, false, Option, Some, None, List, [], ◌∷◌, ◌++◌, refl, sym, ap, ◌∙◌, append_assoc, append-nil}
 use Rattle.std.specs.Prelude.{◌&&◌}
-use Rattle.std.proofs.lemmas.Bool.{and_parts}
+use Rattle.std.proofs.lemmas.Bool.{and_parts, false_from_ne_true}
 use Rattle.nf_msgs.specs.declared.answer.Answer.{Answer}
 use Rattle.proof_machines.proofs.unit.Machine.{At_a, Ran, Steps, after, joined, Part, pick, or_own, is_nil}
 use Rattle.proof_machines.proofs.unit.Machine.{MachineStep, Arrive, Take_sa, Take_ac, Take_bc, Take_ca, Take_cb}
@@ -12,6 +12,7 @@ use Rattle.proof_machines.proofs.unit.Stages.{Streams, All_put, Hold_goes, Layin
 use Rattle.proof_machines.proofs.unit.Stages.{Is_asked, Is_agreed, Is_denied, Is_wide, Is_refused, Flows, body, GoesOn}
 use Rattle.proof_machines.proofs.unit.Early.{shapes, paths, still}
 use Rattle.proof_machines.proofs.unit.Flow.{arrives, drops_on, deletes, stores, piece_comes}
+use Rattle.proof_machines.proofs.Tests.{either_way}
 
 shifted : {X : Type 0} (x : List X) (h : X) (b : List X) → x ++ h ∷ b ≡ (x ++ h ∷ []) ++ b
 shifted x h b = simp append_assoc
@@ -58,12 +59,10 @@ calm_body y q c = let n = c.no_named in let m = c.no_delete in let p = c.no_piec
 
 going_body : {R : Type 0} (y : List (Mix R)) (q : List (Part R)) → is_nil (parts_in y) && is_nil (named y ++ q) ≡ false → is_nil (body y q) ≡ false
 going_body y q off =
-    elim (is_nil (body y q)) as (λ b. is_nil (body y q) ≡ b → b ≡ false) [
-      | true ↦ λ on. let c = calm y q (nil_is (body y q) on) in
-          let n = c.no_named in let m = c.no_delete in let p = c.no_piece in
-          let never : true ≡ false = rw (n, m, p) at off in cc
-      | false ↦ λ _. refl
-    ] refl
+    false_from_ne_true (is_nil (body y q))
+    (λ on. let c = calm y q (nil_is (body y q) on) in
+    let n = c.no_named in let m = c.no_delete in let p = c.no_piece in
+    let never : true ≡ false = rw (n, m, p) at off in cc)
 
 module _ {R : Type 0} (F : Steps R) (d : List Ran) (f : List ℕ) (y : List (Mix R)) (q : List (Part R)) (l : List ℕ) (k : Bool) where
   -- all pieces came back to the source: they are restored
@@ -74,20 +73,18 @@ module _ {R : Type 0} (F : Steps R) (d : List Ran) (f : List ℕ) (y : List (Mix
       → GoesOn F (Streams d f (Dd h ∷ y) q l k (Is_refused v why) w) Take_ac
   refused_deleted h v why w =
       let fits = refit (shifted v h (body y q)) w.fits in
-      elim (is_nil (parts_in y) && is_nil (named y ++ q))
-      as (λ b. is_nil (parts_in y) && is_nil (named y ++ q) ≡ b → GoesOn F (Streams d f (Dd h ∷ y) q l k (Is_refused v why) w) Take_ac) [
-        | true ↦ λ on.
-            let c = calm_tests y q on in
-            let n = c.no_named in let m = c.no_delete in let p = c.no_piece in
-            let all = restores (v ++ h ∷ []) why c fits in
-            (Restore_goes d f (events y) l k why, rw (on, all, shown-events y n p, m, p) (first_of (simp shapes, cc)), first_of (simp paths, cc), still At_a d)
-        | false ↦ λ off. (
-          Streams d f y q l k (Is_refused (v ++ h ∷ []) why) (record { fits = fits; going = going_body y q off }),
-          rw off (first_of (simp shapes, cc)),
-          first_of (simp paths, cc),
-          still At_a d,
-        )
-      ] refl
+      either_way (is_nil (parts_in y) && is_nil (named y ++ q))
+      (λ on.
+      let c = calm_tests y q on in
+      let n = c.no_named in let m = c.no_delete in let p = c.no_piece in
+      let all = restores (v ++ h ∷ []) why c fits in
+      (Restore_goes d f (events y) l k why, rw (on, all, shown-events y n p, m, p) (first_of (simp shapes, cc)), first_of (simp paths, cc), still At_a d))
+      (λ off. (
+        Streams d f y q l k (Is_refused (v ++ h ∷ []) why) (record { fits = fits; going = going_body y q off }),
+        rw off (first_of (simp shapes, cc)),
+        first_of (simp paths, cc),
+        still At_a d,
+      ))
 
   pub deleted : (h : Part R) (s : Doorway R) (w : Flows F d s (body (Dd h ∷ y) q)) → GoesOn F (Streams d f (Dd h ∷ y) q l k s w) Take_ac
   deleted h Is_shut w =
@@ -121,52 +118,48 @@ module _ {R : Type 0} (F : Steps R) (d : List Ran) (f : List ℕ) (y : List (Mix
   pub denied : (h : Part R) (v : List (Part R)) (why : Answer) (w : Flows F d (Is_denied h v why) (body y q))
       → GoesOn F (Streams d f y q l k (Is_denied h v why) w) Take_bc
   denied h v why w =
-      elim (is_nil (parts_in y) && is_nil (named y ++ q))
-      as (λ b. is_nil (parts_in y) && is_nil (named y ++ q) ≡ b → GoesOn F (Streams d f y q l k (Is_denied h v why) w) Take_bc) [
-        | true ↦ λ on.
-            let c = calm_tests y q on in
-            let n = c.no_named in let m = c.no_delete in let p = c.no_piece in
-            let all = restores (h ∷ v) why c w.fits in
-            (Restore_goes d f (events y) l k why, rw (on, all, shown-events y n p, m, p) (first_of (simp shapes, cc)), first_of (simp paths, cc), still At_a d)
-        | false ↦ λ off. (
-          Streams d f y q l k (Is_refused (h ∷ v) why) (record { fits = w.fits; going = going_body y q off }),
-          rw off (first_of (simp shapes, cc)),
-          first_of (simp paths, cc),
-          still At_a d,
-        )
-      ] refl
+      either_way (is_nil (parts_in y) && is_nil (named y ++ q))
+      (λ on.
+      let c = calm_tests y q on in
+      let n = c.no_named in let m = c.no_delete in let p = c.no_piece in
+      let all = restores (h ∷ v) why c w.fits in
+      (Restore_goes d f (events y) l k why, rw (on, all, shown-events y n p, m, p) (first_of (simp shapes, cc)), first_of (simp paths, cc), still At_a d))
+      (λ off. (
+        Streams d f y q l k (Is_refused (h ∷ v) why) (record { fits = w.fits; going = going_body y q off }),
+        rw off (first_of (simp shapes, cc)),
+        first_of (simp paths, cc),
+        still At_a d,
+      ))
 
   -- the answer to a put: the last one ends the streaming
   pub agreed : (h : Part R) (v : List (Part R)) (w : Flows F d (Is_agreed h v) (body y q)) → GoesOn F (Streams d f y q l k (Is_agreed h v) w) Take_bc
   agreed h v w =
       let is = last_is [] h (v ++ body y q) (after F d) w.fits in
-      elim h.last as (λ b. h.last ≡ b → GoesOn F (Streams d f y q l k (Is_agreed h v) w) Take_bc) [
-        | true ↦ λ on.
-            let none = none_behind [] h (v ++ body y q) (after F d) on w.fits in
-            let c = calm y q (nil_right v (body y q) none) in
-            let n = c.no_named in let m = c.no_delete in let p = c.no_piece in
-            let all : pick (h ∷ []) ≡ after F d = pick_all (h ∷ []) (after F d) (refit (ap (λ z. h ∷ z) none) w.fits) in
-            elim k as (λ b. k ≡ b → GoesOn F (Streams d f y q l k (Is_agreed h v) w) Take_bc) [
-              | true ↦ λ keeps. (
-                Hold_goes d f (events y) l,
-                rw (on, keeps, all, shown-events y n p, m, p) (first_of (simp shapes, cc)),
-                first_of (simp paths, cc),
-                still At_a d,
-              )
-              | false ↦ λ keeps. (
-                Laying d [] f [] (events y) l false,
-                rw (on, keeps, all, shown-events y n p, m, p) (first_of (simp shapes, cc)),
-                first_of (simp paths, cc),
-                still At_a d,
-              )
-            ] refl
-        | false ↦ λ off. (
-          Streams d f y q l k (Is_wide (h ∷ []) v) (record { fits = w.fits; going = sym is ∙ off }),
-          rw off (first_of (simp shapes, cc)),
-          first_of (simp paths, cc),
-          still At_a d,
-        )
-      ] refl
+      either_way h.last
+      (λ on.
+      let none = none_behind [] h (v ++ body y q) (after F d) on w.fits in
+      let c = calm y q (nil_right v (body y q) none) in
+      let n = c.no_named in let m = c.no_delete in let p = c.no_piece in
+      let all : pick (h ∷ []) ≡ after F d = pick_all (h ∷ []) (after F d) (refit (ap (λ z. h ∷ z) none) w.fits) in
+      either_way k
+      (λ keeps. (
+        Hold_goes d f (events y) l,
+        rw (on, keeps, all, shown-events y n p, m, p) (first_of (simp shapes, cc)),
+        first_of (simp paths, cc),
+        still At_a d,
+      ))
+      (λ keeps. (
+        Laying d [] f [] (events y) l false,
+        rw (on, keeps, all, shown-events y n p, m, p) (first_of (simp shapes, cc)),
+        first_of (simp paths, cc),
+        still At_a d,
+      )))
+      (λ off. (
+        Streams d f y q l k (Is_wide (h ∷ []) v) (record { fits = w.fits; going = sym is ∙ off }),
+        rw off (first_of (simp shapes, cc)),
+        first_of (simp paths, cc),
+        still At_a d,
+      ))
 
   pub put_next : (g : List (Part R)) (h : Part R) (v : List (Part R)) (refuse : Option Answer) (w : Flows F d (Is_wide g (h ∷ v)) (body y q))
       → GoesOn F (Streams d f y q l k (Is_wide g (h ∷ v)) w) (Take_cb refuse)
@@ -174,24 +167,23 @@ module _ {R : Type 0} (F : Steps R) (d : List Ran) (f : List ℕ) (y : List (Mix
       let fits : ArePiecesOf (g ++ h ∷ (v ++ body y q)) (after F d) = refit (append_assoc g (h ∷ v) (body y q)) w.fits in
       let is = last_is g h (v ++ body y q) (after F d) fits in
       let joins = joined_pick F g h (v ++ body y q) (after F d) fits in
-      elim h.last as (λ b. h.last ≡ b → GoesOn F (Streams d f y q l k (Is_wide g (h ∷ v)) w) (Take_cb refuse)) [
-        | true ↦ λ on.
-            let none = none_behind g h (v ++ body y q) (after F d) on fits in
-            let c = calm y q (nil_right v (body y q) none) in
-            let n = c.no_named in let m = c.no_delete in let p = c.no_piece in let v_none = nil_left v (body y q) none in
-            let all : pick (g ++ h ∷ []) ≡ after F d = pick_all (g ++ h ∷ []) (after F d) (refit (ap (λ z. g ++ h ∷ z) none) fits) in (
-              All_put d f (events y) l k,
-              rw (on, joins, all, v_none, shown-events y n p, m, p) (rw n (first_of (simp shapes, cc))),
-              first_of (simp paths, cc),
-              still At_a d,
-            )
-        | false ↦ λ off. (
-          Streams d f y q l k (Is_wide (g ++ h ∷ []) v) (record { fits = refit (simp append_assoc) w.fits; going = sym is ∙ off }),
-          rw (joins, off) (first_of (simp shapes, cc)),
-          first_of (simp paths, cc),
-          still At_a d,
-        )
-      ] refl
+      either_way h.last
+      (λ on.
+      let none = none_behind g h (v ++ body y q) (after F d) on fits in
+      let c = calm y q (nil_right v (body y q) none) in
+      let n = c.no_named in let m = c.no_delete in let p = c.no_piece in let v_none = nil_left v (body y q) none in
+      let all : pick (g ++ h ∷ []) ≡ after F d = pick_all (g ++ h ∷ []) (after F d) (refit (ap (λ z. g ++ h ∷ z) none) fits) in (
+        All_put d f (events y) l k,
+        rw (on, joins, all, v_none, shown-events y n p, m, p) (rw n (first_of (simp shapes, cc))),
+        first_of (simp paths, cc),
+        still At_a d,
+      ))
+      (λ off. (
+        Streams d f y q l k (Is_wide (g ++ h ∷ []) v) (record { fits = refit (simp append_assoc) w.fits; going = sym is ∙ off }),
+        rw (joins, off) (first_of (simp shapes, cc)),
+        first_of (simp paths, cc),
+        still At_a d,
+      ))
 
   pub put_taken : (s : Doorway R) (w : Flows F d s (body y q)) (refuse : Option Answer) → GoesOn F (Streams d f y q l k s w) (Take_cb refuse)
   put_taken (Is_asked h v) w None = (

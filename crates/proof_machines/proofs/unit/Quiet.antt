@@ -9,6 +9,7 @@ use Rattle.proof_machines.proofs.unit.Labels.{Each, each-append}
 use Rattle.proof_machines.proofs.unit.Lists.{cons_nil}
 use Rattle.proof_machines.proofs.unit.TableRows.{Hold, SaidHas, Any, any_phase}
 use Rattle.proof_machines.proofs.unit.RealRows.{Brings, BringsBack, from_source_holds, from_destination_holds}
+use Rattle.proof_machines.proofs.Tests.{split, by_if}
 
 abbrev pub Unseen : {R : Type 0} → Frame → ℕ × Msg R → Type 0
 Unseen v x = seen v x.1 ≡ None
@@ -20,10 +21,7 @@ Is_quiet v did = Each (Unseen v) did.sends × (only_mine v did.store ≡ [])
 pub view_nothing : {R : Type 0} (v : Frame) (y : ℕ) (xs : List (ℕ × Msg R)) → Each (Unseen v) xs → view v (sent_for y xs) ≡ []
 view_nothing v y [] e = refl
 view_nothing v y (x ∷ xs) e =
-    elim (x.0 == y) as (λ b. view v (if b then x.1 ∷ sent_for y xs else sent_for y xs) ≡ []) [
-      | true ↦ (let none = e.0 in rw none (view_nothing v y xs e.1))
-      | false ↦ view_nothing v y xs e.1
-    ]
+    by_if (λ r. view v r ≡ []) (x.0 == y) (let none = e.0 in rw none (view_nothing v y xs e.1)) (view_nothing v y xs e.1)
 
 unseen_if : {X : Type 0} (b : Bool) (x : X) → b ≡ false → where_true b x ≡ None
 unseen_if true x e = let never : true ≡ false = e in cc
@@ -36,11 +34,9 @@ Other v p = v.mine p ≡ false
 -- a list that keeps no packet of the unit
 none_mine : (v : Frame) (f : List ℕ) → only_mine v f ≡ [] → Each (Other v) f
 none_mine v [] e = tt
-none_mine v (p ∷ f) e = elim (v.mine p)
-    as (λ b. v.mine p ≡ b → (if b then p ∷ only_mine v f else only_mine v f) ≡ [] → (v.mine p ≡ false) × Each (Other v) f) [
-      | true ↦ λ is some. cons_nil some
-      | false ↦ λ off rest. (off, none_mine v f rest)
-    ] refl e
+none_mine v (p ∷ f) e = split (v.mine p) (λ b. (if b then p ∷ only_mine v f else only_mine v f) ≡ [] → (v.mine p ≡ false) × Each (Other v) f)
+    (λ is some. cons_nil some)
+    (λ off rest. (off, none_mine v f rest)) e
 
 only_none : (v : Frame) (f : List ℕ) → Each (Other v) f → only_mine v f ≡ []
 only_none v [] h = refl

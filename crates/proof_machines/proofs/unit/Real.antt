@@ -143,6 +143,9 @@ pub off_if : {X : Type 0} (t : Bool) (x : X) → where_true t x ≡ None → t �
 off_if true x e = cc
 off_if false x e = refl
 
+pub none_if : {X : Type 0} (t : Bool) (x : X) → t ≡ false → where_true t x ≡ None
+none_if t x e = rw e refl
+
 abbrev pub see : {R : Type 0} → Frame → RPiece R → Part R
 see v p = record { own = record_at v.unit p.chunks; last = p.last }
 

@@ -1,5 +1,5 @@
 -- The live records of an instance keep the four laws of look-ups of `SeenInst`.
-use Rattle.std.proofs.Common.{◌≡◌, true, false, [], ◌∷◌, Option, Some, None, refl, sym, ap, ◌∙◌}
+use Rattle.std.proofs.Common.{◌≡◌, [], ◌∷◌, Option, Some, None, refl, sym, ap, ◌∙◌}
 use Rattle.std.specs.Prelude.{T, if◌then◌else◌, ◌&&◌, option_to_list}
 use Rattle.std.specs.Ordering.{is_eq, is_lt}
 use Rattle.std.specs.declared.cmp.Ordering.TheVariants.{Less, Equal, Greater}
@@ -19,6 +19,7 @@ use Rattle.proof_machines.proofs.unit.Machine.{Steps, joined}
 use Rattle.proof_machines.proofs.unit.Real.{Chunks, record_at}
 use Rattle.proof_machines.proofs.unit.Cuts.{all_at}
 use Rattle.proof_machines.proofs.unit.SeenInst.{Tables, Laws}
+use Rattle.proof_machines.proofs.Tests.{split}
 
 -- an instance's live records as a table: chunks that come are their records, and those that are selected stand in the order of units
 abbrev pub live_table : {R : Type 0} → Semantics R → Tables R
@@ -46,11 +47,9 @@ module _ {R : Type 0} where
   all_at-sorted u [] h = refl
   all_at-sorted u (e ∷ es) h =
       let parts = and_yes (below_all unit_cmp e.0 es) (is_sorted unit_cmp es) h in
-      elim (same_unit u e.0)
-      as (λ b. same_unit u e.0 ≡ b → (if b then e.1 ∷ all_at u es else all_at u es) ≡ option_to_list (if b then Some e.1 else record_at u es)) [
-        | true ↦ λ t. let same = same_unit-true u e.0 t in ap (λ z. e.1 ∷ z) (none_above u es (rw same parts.0))
-        | false ↦ λ _. all_at-sorted u es parts.1
-      ] refl
+      split (same_unit u e.0) (λ b. (if b then e.1 ∷ all_at u es else all_at u es) ≡ option_to_list (if b then Some e.1 else record_at u es))
+      (λ t. let same = same_unit-true u e.0 t in ap (λ z. e.1 ∷ z) (none_above u es (rw same parts.0)))
+      (λ _. all_at-sorted u es parts.1)
 
   joined_is : (F : Steps R) (f : Semantics R) → ((coming held : R) → F.newer coming held ≡ newest f held coming) → (o p : Option R)
       → either (newest f) p o ≡ joined F o p

@@ -1,6 +1,6 @@
 -- Seats: a unit that the move covers, one that its destination owns already, one of a third instance. Each step leads from a seat to
 -- a seat, and without a message the move is over.
-use Rattle.std.proofs.Common.{◌≡◌, ℕ, ◌+◌, Bool, true, false, List, [], ◌++◌, refl, sym, ◌∙◌}
+use Rattle.std.proofs.Common.{◌≡◌, ℕ, Bool, true, false, List, [], ◌++◌, refl, sym, ◌∙◌}
 use Rattle.proof_machines.proofs.unit.Machine.{Where, At_b, At_c, Ran, Steps, Free, Item, State, MachineStep, moved}
 use Rattle.proof_machines.proofs.unit.Stages.{Stage, At_rest, shape, path, processed, all_of, loose, side_of, IsOrderedAs, Placed, Allowed, arrived_by}
 use Rattle.proof_machines.proofs.unit.Steps.{goes_on}
@@ -18,8 +18,7 @@ pub data UnitSeat {R : Type 0} (F : Steps R) : Type 0 where
 -- whether the move covers the unit
 abbrev pub is_covered : {R : Type 0} {F : Steps R} → UnitSeat F → Bool
 is_covered (Covered s) = true
-is_covered (Is_beside s) = false
-is_covered (Is_away s) = false
+is_covered s = false
 
 abbrev pub seat_shape : {R : Type 0} → (F : Steps R) → UnitSeat F → State R
 seat_shape F (Covered s) = shape F s
@@ -43,8 +42,7 @@ seat_side (Is_away s) = At_c
 
 abbrev pub seat_loose : {R : Type 0} {F : Steps R} → UnitSeat F → Bool
 seat_loose (Covered s) = loose s
-seat_loose (Is_beside s) = false
-seat_loose (Is_away s) = false
+seat_loose s = false
 
 -- where the move's own message stands
 abbrev pub base_of : {R : Type 0} {F : Steps R} → UnitSeat F → Stage F
@@ -59,8 +57,7 @@ SeatGoesOn F s m = (t : UnitSeat F) × (moved F (seat_shape F s) m ≡ seat_shap
 -- what the source is asked for is the same in all three
 pub seat_allowed : {R : Type 0} (F : Steps R) (s : UnitSeat F) → (seat_shape F s).a.live ≡ (shape F (base_of s)).a.live
 seat_allowed F (Covered s) = refl
-seat_allowed F (Is_beside s) = refl
-seat_allowed F (Is_away s) = refl
+seat_allowed F s = refl
 
 pub seat_goes_on : {R : Type 0} (F : Steps R) (s : UnitSeat F) (m : MachineStep R) → Allowed (shape F (base_of s)) m → SeatGoesOn F s m
 seat_goes_on F (Covered s) m a = let g = goes_on F s m a in (Covered g.0, g.1, g.2, g.3)
@@ -72,8 +69,7 @@ pub covered_stays : {R : Type 0} (F : Steps R) (s : UnitSeat F) (m : MachineStep
     → is_covered (seat_goes_on F s m a).0 ≡ is_covered s
 unfolding seat_goes_on
 covered_stays F (Covered s) m a = refl
-covered_stays F (Is_beside s) m a = refl
-covered_stays F (Is_away s) m a = refl
+covered_stays F s m a = refl
 
 -- no message anywhere: the move has ended, whichever unit looks
 strip_nil : {R : Type 0} (z : List (Item R)) → z ≡ [] → strip z ≡ []

@@ -15,6 +15,7 @@ use Rattle.proof_machines.proofs.unit.Real.{Chunks, record_at, chunk_unit, RPiec
 use Rattle.proof_machines.proofs.unit.Real.{M_enabled, M_event, M_piece, M_deleted, M_put_ok, M_put_no, M_restored, M_fenced, M_forward, M_install}
 use Rattle.proof_machines.proofs.unit.Real.{M_fence_to, RPhase, Op, r_goes, r_words, forward_to, r_from_source, r_from_destination, put_back}
 use Rattle.proof_machines.proofs.unit.Real.{Frame, where_true, see, sends_to, seen, add, view, only_mine, see_phase, sent_for, Sees}
+use Rattle.proof_machines.proofs.Tests.{split}
 
 -- chunks at a unit
 pub record_at-append : {R : Type 0} (u : units.Unit) (x y : Chunks R) → record_at u (x ++ y) ≡ or_own (record_at u x) (record_at u y)
@@ -264,10 +265,8 @@ module _ {R : Type 0} (o : Op) (mine : ℕ → Bool) (u : units.Unit) (t : Nodes
   pub from_source_seen : (phase : RPhase R) (f : List ℕ) (m : Msg R) → Numbered m
       → Sees (frame_of o mine u) (r_from_source o phase f m) (did_a phase f (seen (frame_of o mine u) m))
   from_source_seen phase f (M_event n p) h =
-      elim (mine p) as (λ b. mine p ≡ b → Sees (frame_of o mine u) (on_event (r_words o f) phase f p) (did_a phase f (where_true b (Event p)))) [
-        | true ↦ λ is. event_mine phase f p is
-        | false ↦ λ off. event_other phase f p off
-      ] refl
+      split (mine p) (λ b. Sees (frame_of o mine u) (on_event (r_words o f) phase f p) (did_a phase f (where_true b (Event p)))) (λ is. event_mine phase f p is)
+      (λ off. event_other phase f p off)
   from_source_seen phase f (M_enabled n) h = let e = by_num Enabled in rw (h, e) (source_enabled_follows (follows true f) phase)
   from_source_seen phase f (M_piece n p) h = let e = by_num (Piece (see (frame_of o mine u) p)) in rw (h, e) (piece_seen phase f p)
   from_source_seen phase f (M_deleted n) h = let e = by_num Deleted in rw (h, e) (deleted_follows (follows true f) phase)

@@ -33,12 +33,11 @@ front (Is_wide g w) = g ++ w
 front (Is_refused v why) = v
 
 abbrev pub free_of : {R : Type 0} → Doorway R → List (Part R)
-free_of Is_shut = []
 free_of (Is_asked h v) = v
 free_of (Is_agreed h v) = v
 free_of (Is_denied h v why) = v
-free_of (Is_wide g w) = []
 free_of (Is_refused v why) = v
+free_of s = []
 
 abbrev pub door_of : {R : Type 0} → Doorway R → Door
 door_of Is_shut = Shut

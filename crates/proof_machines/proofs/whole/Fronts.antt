@@ -28,6 +28,7 @@ use Rattle.proof_machines.proofs.whole.Readings.{fold_done, RecordsAll, By_moves
 use Rattle.nf_function.specs.declared.unit.Unit as units
 use Rattle.record_table.specs.Table.{same_unit}
 use Rattle.record_table.proofs.UnitOrder.{same_unit_equiv, same_unit-true}
+use Rattle.proof_machines.proofs.Tests.{either_way, by_if}
 
 -- nothing, or the whole fold
 abbrev pub LiveSo : {R : Type 0} → Option R → Option R → Type 0
@@ -133,17 +134,16 @@ module _ {R : Type 0} (S : Sys R) (A : Sharing S) (laws : IsSys S) (u : units.Un
     where
       by_records : RecordsAll S A laws u w → FrontOf (ran_of S A u w.done) (S.B.at u (w.inst j).live)
       by_records (By_moves r) = by_record w r j
-      by_records (By_share e s) = elim (j == e.home) as (λ b. (j == e.home) ≡ b → FrontOf (ran_of S A u w.done) (S.B.at u (w.inst j).live)) [
-        | true ↦ λ on. subst (λ n. FrontOf (ran_of S A u w.done) (S.B.at u (w.inst n).live)) (sym ((Decides-eqb j e.home).0 on))
-            (record { seen = s.seen e.home; fold = s.live; front = s.fronts e.home })
-        | false ↦ λ off. front_none (ran_of S A u w.done) (S.B.at u (w.inst j).live) (s.away j off)
-      ] refl
+      by_records (By_share e s) = either_way (j == e.home)
+          (λ on. subst (λ n. FrontOf (ran_of S A u w.done) (S.B.at u (w.inst n).live)) (sym ((Decides-eqb j e.home).0 on))
+          (record { seen = s.seen e.home; fold = s.live; front = s.fronts e.home }))
+          (λ off. front_none (ran_of S A u w.done) (S.B.at u (w.inst j).live) (s.away j off))
 
   -- what a table gives
   pub selected_front : (ds : List Ran) (g : units.Unit → Bool) (t : S.B.T) → FrontOf ds (S.B.at u t) → FrontOf ds (record_at u (S.B.select g t))
   selected_front ds g t h = subst (λ o. FrontOf ds o)
       (sym (record_first u (S.B.select g t) ∙ ap first (laws.laws.selected u g t) ∙ first_of_one (if g u then S.B.at u t else None)))
-      (elim (g u) as (λ b. FrontOf ds (if b then S.B.at u t else None)) [ true ↦ h | false ↦ front_none ds None refl ])
+      (by_if (FrontOf ds) (g u) h (front_none ds None refl))
 
   -- a packet of another unit
   pub same_after : (p : ℕ) (t : S.B.T) → same_unit (S.packet_unit p) u ≡ false → S.B.at u (process S t p) ≡ S.B.at u t
@@ -163,26 +163,21 @@ module _ {R : Type 0} (S : Sys R) (A : Sharing S) (laws : IsSys S) (u : units.Un
         ∙ ap (λ b. runs S.F None (ds ++ (if b then (p, y) ∷ [] else []))) (sym on)
 
     pub processed_front : FrontOf ds (S.B.at u t) → FrontOf (ds ++ ran_of S A u ((p, y) ∷ [])) (S.B.at u (process S t p))
-    processed_front h = elim (same_unit (S.packet_unit p) u)
-        as (λ b. same_unit (S.packet_unit p) u ≡ b → FrontOf (ds ++ ran_of S A u ((p, y) ∷ [])) (S.B.at u (process S t p))) [
-          | true ↦ λ on. front_all (ds ++ ran_of S A u ((p, y) ∷ [])) (S.B.at u (process S t p)) (its_then on)
-          | false ↦ λ off. front_more ds (ran_of S A u ((p, y) ∷ [])) (S.B.at u (process S t p)) (subst (λ o. FrontOf ds o) (sym (same_after p t off)) h)
-        ] refl
+    processed_front h = either_way (same_unit (S.packet_unit p) u) (λ on. front_all (ds ++ ran_of S A u ((p, y) ∷ [])) (S.B.at u (process S t p)) (its_then on))
+        (λ off. front_more ds (ran_of S A u ((p, y) ∷ [])) (S.B.at u (process S t p)) (subst (λ o. FrontOf ds o) (sym (same_after p t off)) h))
 
     chunk_of : (r : R) → S.B.at (S.packet_unit p) (process S t p) ≡ Some r
         → FrontOf (ds ++ ran_of S A u ((p, y) ∷ [])) (record_at u ((S.packet_unit p, r) ∷ []))
-    chunk_of r is = elim (same_unit (S.packet_unit p) u)
-        as (λ b. same_unit (S.packet_unit p) u ≡ b → FrontOf (ds ++ ran_of S A u ((p, y) ∷ [])) (record_at u ((S.packet_unit p, r) ∷ []))) [
-          | true ↦ λ on.
-              let same : S.packet_unit p ≡ u = same_unit-true (S.packet_unit p) u on in
-              let mine : same_unit u (S.packet_unit p) ≡ true = same_unit_equiv.symm u (S.packet_unit p) ∙ on in
-              let there : record_at u ((S.packet_unit p, r) ∷ []) ≡ Some r = rw mine refl in
-              front_all (ds ++ ran_of S A u ((p, y) ∷ [])) (record_at u ((S.packet_unit p, r) ∷ []))
-              (there ∙ sym is ∙ ap (λ v. S.B.at v (process S t p)) same ∙ its_then on)
-          | false ↦ λ off.
-              let other : same_unit u (S.packet_unit p) ≡ false = same_unit_equiv.symm u (S.packet_unit p) ∙ off in
-              front_none (ds ++ ran_of S A u ((p, y) ∷ [])) (record_at u ((S.packet_unit p, r) ∷ [])) (rw other refl)
-        ] refl
+    chunk_of r is = either_way (same_unit (S.packet_unit p) u)
+        (λ on.
+        let same : S.packet_unit p ≡ u = same_unit-true (S.packet_unit p) u on in
+        let mine : same_unit u (S.packet_unit p) ≡ true = same_unit_equiv.symm u (S.packet_unit p) ∙ on in
+        let there : record_at u ((S.packet_unit p, r) ∷ []) ≡ Some r = rw mine refl in
+        front_all (ds ++ ran_of S A u ((p, y) ∷ [])) (record_at u ((S.packet_unit p, r) ∷ []))
+        (there ∙ sym is ∙ ap (λ v. S.B.at v (process S t p)) same ∙ its_then on))
+        (λ off.
+        let other : same_unit u (S.packet_unit p) ≡ false = same_unit_equiv.symm u (S.packet_unit p) ∙ off in
+        front_none (ds ++ ran_of S A u ((p, y) ∷ [])) (record_at u ((S.packet_unit p, r) ∷ [])) (rw other refl))
 
     pub chunk_front : (n : ℕ) → EachSentNew (λ _ m. MsgFront (ds ++ ran_of S A u ((p, y) ∷ [])) m) (shared_chunk S A n p (process S t p))
     chunk_front n = elim (S.B.at (S.packet_unit p) (process S t p)) as (λ o. S.B.at (S.packet_unit p) (process S t p) ≡ o

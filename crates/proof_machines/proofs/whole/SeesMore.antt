@@ -28,6 +28,8 @@ use Rattle.proof_machines.proofs.whole.Fronts.{Fronts, ran_more, same_after, its
 use Rattle.proof_machines.proofs.whole.FrontSteps.{no_input, table_seen, inst_fronts}
 use Rattle.nf_function.specs.declared.unit.Unit as units
 use Rattle.record_table.specs.Table.{same_unit}
+use Rattle.proof_machines.proofs.Tests.{either_way}
+use Rattle.std.proofs.lemmas.Bool.{true_from_ne_false}
 
 -- a flag that isn't home's
 not_home : (b : Bool) → (if b then false else true) ≡ true → b ≡ false
@@ -60,21 +62,20 @@ module _ {R : Type 0} (S : Sys R) (A : Sharing S) (laws : IsSys S) (u : units.Un
 
     -- a packet of the share
     packet_sees : (n q : ℕ) → w.link p y ≡ New (Shared_on n false q) ∷ rest → Sees (New (Shared_on n false q)) y
-    packet_sees n q waits = elim (same_unit (S.packet_unit q) u) as (λ b. same_unit (S.packet_unit q) u ≡ b → Sees (New (Shared_on n false q)) y) [
-      | true ↦ λ on.
-          let ds = ran_of S A u w.done in
-          let all = table_seen S A laws u ok w k g p y rest y0 y1 wh n false q waits in
-          let more = ran_of S A u ((q, y) ∷ []) in
-          record {
-            before = ds;
-            since = ds ++ more;
-            old_is = all on;
-            new_is = left_there (Shared_on n false q) ∙ its_then S A laws u ds q y (w.standby y) all on;
-            behind = (more, refl);
-            within = subst (λ es. IsFront (ds ++ more) es) (sym (ran_more S A laws u w.done ((q, y) ∷ []))) (front_same (ds ++ more));
-          }
-      | false ↦ λ off. as_it_was (New (Shared_on n false q)) waits y (left_there (Shared_on n false q) ∙ same_after S A laws u q (w.standby y) off)
-    ] refl
+    packet_sees n q waits = either_way (same_unit (S.packet_unit q) u)
+        (λ on.
+        let ds = ran_of S A u w.done in
+        let all = table_seen S A laws u ok w k g p y rest y0 y1 wh n false q waits in
+        let more = ran_of S A u ((q, y) ∷ []) in
+        record {
+          before = ds;
+          since = ds ++ more;
+          old_is = all on;
+          new_is = left_there (Shared_on n false q) ∙ its_then S A laws u ds q y (w.standby y) all on;
+          behind = (more, refl);
+          within = subst (λ es. IsFront (ds ++ more) es) (sym (ran_more S A laws u w.done ((q, y) ∷ []))) (front_same (ds ++ more));
+        })
+        (λ off. as_it_was (New (Shared_on n false q)) waits y (left_there (Shared_on n false q) ∙ same_after S A laws u q (w.standby y) off))
 
     -- a Sync
     module _ (n : ℕ) (cs : Chunks R) (waits : w.link p y ≡ New (S_sync n false cs) ∷ rest) where
@@ -107,8 +108,7 @@ module _ {R : Type 0} (S : Sys R) (A : Sharing S) (laws : IsSys S) (u : units.Un
             by_link (inst_from S A laws z w (shape f h.stage) h.holds members y p (New (S_sync n false cs)) rest y0 y1 waits (Sync (record_at u cs)) head)
           where
             not_out : (its : List (Item R)) → its ≡ Sync (record_at u cs) ∷ left → (has x.members y ≡ false → its ≡ []) → has x.members y ≡ true
-            not_out its is out = elim (has x.members y) as (λ b. has x.members y ≡ b → b ≡ true)
-                [ true ↦ λ _. refl | false ↦ λ e. let never : Sync (record_at u cs) ∷ left ≡ [] = sym is ∙ out e in cc ] refl
+            not_out its is out = true_from_ne_false (has x.members y) (λ e. let never : Sync (record_at u cs) ∷ left ≡ [] = sym is ∙ out e in cc)
 
             by_link : ((shape f h.stage).sw y ≡ Sync (record_at u cs) ∷ left) × (p ≡ 0) ⊎ ((shape f h.stage).to y ≡ Sync (record_at u cs) ∷ left) × (p ≡ 1)
                 → has x.members y ≡ true
@@ -149,7 +149,5 @@ module _ {R : Type 0} (S : Sys R) (A : Sharing S) (laws : IsSys S) (u : units.Un
     pub inst_sees : (m : Any R) → w.link p y ≡ m ∷ rest → (j : ℕ)
         → Sees_more (ran_of S A u (whole_inst S A w p y m).done) (S.B.at u (w.standby j)) (S.B.at u ((whole_inst S A w p y m).standby j))
     inst_sees (Old m) waits j = as_it_was (Old m) waits j refl
-    inst_sees (New m) waits j = elim (j == y) as (λ b. (j == y) ≡ b → Sees (New m) j) [
-      | true ↦ λ on. subst (λ i. Sees (New m) i) (sym ((Decides-eqb j y).0 on)) (new_sees m waits)
-      | false ↦ λ off. as_it_was (New m) waits j (ap (λ b. S.B.at u (if b then (member_step S A (w.inst y).live (w.standby y) m).standby else w.standby j)) off)
-    ] refl
+    inst_sees (New m) waits j = either_way (j == y) (λ on. subst (λ i. Sees (New m) i) (sym ((Decides-eqb j y).0 on)) (new_sees m waits))
+        (λ off. as_it_was (New m) waits j (ap (λ b. S.B.at u (if b then (member_step S A (w.inst y).live (w.standby y) m).standby else w.standby j)) off))

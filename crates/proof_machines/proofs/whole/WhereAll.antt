@@ -31,6 +31,7 @@ use Rattle.proof_machines.proofs.net.Shares.{find_share, WholeWorld, moves_of, w
 use Rattle.proof_machines.proofs.net.Shares.{asks, begin_move, begin_share, puts_get, keeps, meets_shares, MayShare, SeeingShare}
 use Rattle.nf_function.specs.declared.unit.Unit as units
 use Rattle.record_table.specs.Table.{same_unit}
+use Rattle.proof_machines.proofs.Tests.{either_way}
 
 -- what has come of a unit: its packets, those of them that came while its packets were diverted, and whether a move without a buffer ever handed
 -- it on
@@ -51,10 +52,8 @@ order_same b xs zs ys e o = subst (λ v. IsOrderedAs b v ys) e o
 pub found_takes : {R : Type 0} (S : Sys R) (es : List OpenShare) (n : ℕ) (e : OpenShare) (v : units.Unit) → find_share es n ≡ Some e
     → S.takes e.filter v ≡ true → TakesSome S es v
 found_takes S [] n e v is on = cc
-found_takes S (x ∷ es) n e v is on = elim (S.takes x.filter v) as (λ b. S.takes x.filter v ≡ b → TakesSome S (x ∷ es) v) [
-  | true ↦ λ t. (x, rw t refl)
-  | false ↦ λ off. let more = later off (λ there. found_takes S es n e v there on) in (more.0, rw off more.1)
-] refl
+found_takes S (x ∷ es) n e v is on = either_way (S.takes x.filter v) (λ t. (x, rw t refl))
+    (λ off. let more = later off (λ there. found_takes S es n e v there on) in (more.0, rw off more.1))
   where
     later : S.takes x.filter v ≡ false → (find_share es n ≡ Some e → TakesSome S es v) → TakesSome S es v
     later off others = elim (x.num == n) as (λ a. (if a then Some x else find_share es n) ≡ Some e → TakesSome S es v) [
@@ -188,17 +187,16 @@ module _ {R : Type 0} (S : Sys R) (A : Sharing S) (laws : IsSys S) (u : units.Un
 
     taken : ((v : units.Unit) → w.target v ≡ 1 → TakesSome S w.shares v) → HasFronts w x → S.takes x.filter u ≡ true → k.diverted ≡ []
         → Unshared S A laws u w k.all k.bared → Where S laws u (moves_of S A w) k.all k.bared → WhereAll (begin_share S A w x) k
-    taken diverts fronts takes none h (At_rest owner d l b r o f) = elim (owner == x.home) as (λ t. (owner == x.home) ≡ t → WhereAll (begin_share S A w x) k) [
-      | true ↦ λ on.
-          let rest : Rest S u (moves_of S A w) x.home d l = subst (λ n. Rest S u (moves_of S A w) n d l) ((Decides-eqb owner x.home).0 on) r in
-          let starts = under_starts S A u w g x may.fresh takes (meets_none S A laws x.filter w.shares may.shares_apart) ok may d l rest (fronts takes)
-          diverts in
-          let order : IsOrderedAs b ((firsts d ++ l) ++ []) k.all = order_same b (firsts d ++ l) ((firsts d ++ l) ++ []) k.all
-          (sym (append-nil (firsts d ++ l))) o in
-          Under_share x (firsts d ++ l) b (subst (λ v. Under S A (seeing S A u x) (begin_share S A w x) (firsts d ++ l) v) (sym none) starts)
-          (subst (λ v. IsOrderedAs b ((firsts d ++ l) ++ v) k.all) (sym none) order) f
-      | false ↦ λ off. let at : w.target u ≡ owner = r.target in elsewhere (λ _. grind (arith, nat_tests, off, at)) h none
-    ] refl
+    taken diverts fronts takes none h (At_rest owner d l b r o f) = either_way (owner == x.home)
+        (λ on.
+        let rest : Rest S u (moves_of S A w) x.home d l = subst (λ n. Rest S u (moves_of S A w) n d l) ((Decides-eqb owner x.home).0 on) r in
+        let starts = under_starts S A u w g x may.fresh takes (meets_none S A laws x.filter w.shares may.shares_apart) ok may d l rest (fronts takes)
+        diverts in
+        let order : IsOrderedAs b ((firsts d ++ l) ++ []) k.all = order_same b (firsts d ++ l) ((firsts d ++ l) ++ []) k.all
+        (sym (append-nil (firsts d ++ l))) o in
+        Under_share x (firsts d ++ l) b (subst (λ v. Under S A (seeing S A u x) (begin_share S A w x) (firsts d ++ l) v) (sym none) starts)
+        (subst (λ v. IsOrderedAs b ((firsts d ++ l) ++ v) k.all) (sym none) order) f)
+        (λ off. let at : w.target u ≡ owner = r.target in elsewhere (λ _. grind (arith, nat_tests, off, at)) h none)
     taken diverts fronts takes none h (In_move op third e s b there i o f c) =
         let a = each_found (OpLabel S (see S laws u op third)) op.num w.ops e i.ops there in
         let out = each_found (λ y. Disjoint S x.filter y.filter) op.num w.ops e (meets_no_move S A laws x.filter w.ops may.moves_apart) there in
@@ -208,7 +206,5 @@ module _ {R : Type 0} (S : Sys R) (A : Sharing S) (laws : IsSys S) (u : units.Un
     pub share_all : ((v : units.Unit) → w.target v ≡ 1 → TakesSome S w.shares v) → HasFronts w x → WhereAll w k → WhereAll (begin_share S A w x) k
     share_all diverts fronts (Under_share y before b h o f) =
         Under_share y before b (under_begin_share S A (seeing S A u y) w before k.diverted h g x may.fresh).under o f
-    share_all diverts fronts (Apart_from_shares h none) = elim (S.takes x.filter u) as (λ t. S.takes x.filter u ≡ t → WhereAll (begin_share S A w x) k) [
-      | true ↦ λ takes. taken diverts fronts takes none h h.is
-      | false ↦ λ out. elsewhere (λ takes. let never : true ≡ false = sym takes ∙ out in cc) h none
-    ] refl
+    share_all diverts fronts (Apart_from_shares h none) = either_way (S.takes x.filter u) (λ takes. taken diverts fronts takes none h h.is)
+        (λ out. elsewhere (λ takes. let never : true ≡ false = sym takes ∙ out in cc) h none)

@@ -1,6 +1,6 @@
 -- A move is over by its last fence alone, and then nothing is stored for it.
 use Rattle.std.proofs.Common.{◌≡◌, ℕ, Bool, true, false, Some, None, List, [], ◌∷◌, ◌++◌, refl, sym, ap, ◌∙◌}
-use Rattle.std.specs.Prelude.{if◌then◌else◌, ◌&&◌, ◌||◌, ◌==◌, unwrap_or}
+use Rattle.std.specs.Prelude.{if◌then◌else◌, ◌&&◌, ◌==◌, unwrap_or}
 use Rattle.nf_function.specs.declared.unit.Unit as units
 use Rattle.nf_function.specs.declared.chunk.Chunk.{Chunk}
 use Rattle.nf_function.specs.Semantics.{Semantics}
@@ -9,12 +9,11 @@ use Rattle.nf_msgs.specs.declared.answer.Answer.{Answer}
 use Rattle.nf_msgs.specs.declared.msg.Msg.{Msg}
 use Rattle.nf_msgs.specs.declared.msg.Msg.TheVariants as msg
 use Rattle.nf_msgs.specs.declared.msg.Piece.{Piece}
-use Rattle.nf_msgs.specs.Exports.{units_in}
 use Rattle.move_op.specs.declared.door.Door.{Door}
 use Rattle.move_op.specs.declared.door.Door.TheVariants as door
 use Rattle.move_op.specs.Phases.{Phase}
 use Rattle.move_op.specs.Phases as phase
-use Rattle.move_op.specs.Move.{MovePlan, MoveState, MoveRow, row, answer_of, keeps, next_phase, chunks_of, have_units, source, destination}
+use Rattle.move_op.specs.Move.{MovePlan, MoveState, MoveRow, row, answer_of, keeps, next_phase, have_units, source, destination, MoveNext}
 use Rattle.move_op.specs.Move.{from_source, from_destination, put_back, words}
 use Rattle.move_op.specs.Table.{is_nil, push_on, all_put, on_event, on_source_enabled, on_piece, on_deleted, on_restored, on_source_fenced, on_put_ok}
 use Rattle.move_op.specs.Table.{on_put_no, on_destination_enabled, on_destination_fenced}
@@ -30,6 +29,7 @@ use Rattle.proof_outlines.proofs.joined.Given.{Given, place}
 use Rattle.proof_outlines.proofs.joined.Joined.{S, A}
 use Rattle.proof_outlines.proofs.joined.MoveReadings.{none_left_all}
 use Rattle.proof_machines.proofs.unit.Lists.{map_nil}
+use Rattle.proof_machines.proofs.Tests.{by_if}
 
 -- the last fence is awaited
 abbrev closing : Phase → Bool
@@ -45,11 +45,8 @@ module _ (plan : MovePlan) (events : List FullCell) where
   push_goes : (frozen free : List Piece) (came : Bool) (d : Door) → answer_of (push_on (words plan) frozen free came d).phase ≡ None
   push_goes frozen [] came door.Shut = refl
   push_goes frozen (p ∷ free) came door.Shut = refl
-  push_goes frozen free came (door.Asked last) = refl
-  push_goes frozen free came door.Open = refl
-  push_goes frozen free came (door.Refused why) = elim (came && is_nil frozen)
-      as (λ b. answer_of (if b then next_phase (phase.Restoring why) ((source plan, msg.Restore plan.op (chunks_of free)) ∷ [])
-      else next_phase (phase.Streaming frozen free came (door.Refused why)) []).phase ≡ None) [ true ↦ refl | false ↦ refl ]
+  push_goes frozen free came (door.Refused why) = by_if (λ (r : MoveNext). answer_of r.phase ≡ None) (came && is_nil frozen) refl refl
+  push_goes frozen free came d = refl
 
   put_goes : (keep : Bool) → answer_of (all_put (words plan) events keep).next.phase ≡ None
   put_goes true = refl
@@ -65,9 +62,7 @@ module _ (plan : MovePlan) (events : List FullCell) where
   enabled_goes ph h = h
 
   piece_goes : (ph : Phase) (p : Piece) → answer_of ph ≡ None → answer_of (on_piece (words plan) ph p).phase ≡ None
-  piece_goes (phase.Streaming frozen free came d) p h = elim (have_units p.chunks) as (λ b. answer_of (if b
-      then next_phase (phase.Streaming (frozen ++ p ∷ []) free (came || p.last) d) ((source plan, msg.Delete plan.op (units_in p.chunks)) ∷ [])
-      else next_phase (phase.Streaming frozen free came d) []).phase ≡ None) [ true ↦ refl | false ↦ refl ]
+  piece_goes (phase.Streaming frozen free came d) p h = by_if (λ (r : MoveNext). answer_of r.phase ≡ None) (have_units p.chunks) refl refl
   piece_goes ph p h = h
 
   deleted_goes : (ph : Phase) → answer_of ph ≡ None → answer_of (on_deleted (words plan) ph).phase ≡ None
@@ -81,9 +76,7 @@ module _ (plan : MovePlan) (events : List FullCell) where
 
   put_ok_goes : (ph : Phase) → answer_of ph ≡ None → answer_of (on_put_ok (words plan) ph events).next.phase ≡ None
   put_ok_goes (phase.Streaming frozen free came (door.Asked last)) h =
-      elim last
-      as (λ b. answer_of (if b then all_put (words plan) events plan.keep else keeps (push_on (words plan) frozen free came door.Open)).next.phase ≡ None)
-      [ true ↦ put_goes plan.keep | false ↦ refl ]
+      by_if (λ (r : MoveRow). answer_of r.next.phase ≡ None) last (put_goes plan.keep) refl
   put_ok_goes (phase.Streaming frozen free came door.Open) h = put_goes plan.keep
   put_ok_goes (phase.Streaming frozen free came door.Shut) h = refl
   put_ok_goes ph h = h

@@ -38,6 +38,7 @@ use Rattle.proof_outlines.proofs.joined.ControllerBegins.{no_overlap, none_unkno
 use Rattle.proof_outlines.proofs.joined.ControllerBegins.{answered, shares_apart, moves_apart, rises, link_left, link_same, move_begins, copy_begins}
 use Rattle.proof_outlines.proofs.joined.Given.{Given, place}
 use Rattle.proof_outlines.proofs.joined.Joined.{Scene, AreShown, IsTaken, IsController, IsShare, S, A, count, shown, is_built, commands, came_by, asked_nums}
+use Rattle.proof_machines.proofs.Tests.{by_if}
 
 module _ {F R : Type 0} (f : Semantics R) (g : Given) (n : ℕ) (x : Scene F f g) (p : ℕ) (cmd : Command) (are : AreShown f g n x)
     (is : IsTaken f g n x (record { node = 1; port = p; message = msg.Asked cmd })) where
@@ -205,10 +206,7 @@ module _ {F R : Type 0} (f : Semantics R) (g : Given) (n : ℕ) (x : Scene F f g
       by_places None b from_is to_is = stays_still f g n x p cmd are is
 
   pub asked_leads : OrderNext f g x cmd cmd.what → Leads (if p == switch_node then on_asked c cmd else still c)
-  asked_leads next = elim (p == switch_node) as (λ b. Leads (if b then on_asked c cmd else still c)) [
-    | true ↦ by_open (finite.get c.operations cmd.op) refl
-    | false ↦ stays_still f g n x p cmd are is
-  ]
+  asked_leads next = by_if Leads (p == switch_node) (by_open (finite.get c.operations cmd.op) refl) (stays_still f g n x p cmd are is)
     where
       by_refusal : (o : Option Answer) → refusal c cmd.what ≡ o → finite.get c.operations cmd.op ≡ None → Leads (decision_step c cmd.op cmd.what o)
       by_refusal (Some why) e none = answered f g n x p cmd are is why

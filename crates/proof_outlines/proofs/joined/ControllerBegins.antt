@@ -51,17 +51,16 @@ use Rattle.proof_outlines.proofs.joined.ControllerChanges.{NotMove, AreAlike, Is
 use Rattle.proof_outlines.proofs.joined.Given.{Given, place}
 use Rattle.proof_outlines.proofs.joined.Joined.{Scene, AreShown, IsTaken, IsController, IsListed, IsMove, IsCopy, Label}
 use Rattle.proof_outlines.proofs.joined.Joined.{S, A, shown, is_whole_if, is_built, commands, came_by, asked_nums}
+use Rattle.proof_machines.proofs.Tests.{split}
 
 -- what no entry passes, no value does
 find_none : {X : Type 0} (p : X → Bool) (es : List (ℕ × X)) (k : ℕ) (v : X) → find (λ e. p e.1) es ≡ None → finite.find nat_cmp k es ≡ Some v → p v ≡ false
 find_none p [] k v none there = cc
-find_none {X = X} p (e ∷ es) k v none there = elim (p e.1) as (λ b. p e.1 ≡ b → (if b then Some e else find (λ d. p d.1) es) ≡ None → p v ≡ false) [
-  | true ↦ λ _ bad. cc
-  | false ↦ λ out more. elim (eq_by_cmp nat_cmp k e.0) as (λ b. cond b (Some e.1) (finite.find nat_cmp k es) ≡ Some v → p v ≡ false) [
-    | true ↦ λ is. let same : e.1 ≡ v = cc in subst (λ y. p y ≡ false) same out
-    | false ↦ λ is. find_none p es k v more is
-  ] there
-] refl none
+find_none {X = X} p (e ∷ es) k v none there = split (p e.1) (λ b. (if b then Some e else find (λ d. p d.1) es) ≡ None → p v ≡ false) (λ _ bad. cc)
+    (λ out more. elim (eq_by_cmp nat_cmp k e.0) as (λ b. cond b (Some e.1) (finite.find nat_cmp k es) ≡ Some v → p v ≡ false) [
+      | true ↦ λ is. let same : e.1 ≡ v = cc in subst (λ y. p y ≡ false) same out
+      | false ↦ λ is. find_none p es k v more is
+    ] there) none
 
 map_none : {X Y : Type 0} (h : X → Y) (o : Option X) → option_map h o ≡ None → o ≡ None
 map_none h None e = refl
@@ -182,9 +181,8 @@ module _ {F R : Type 0} (f : Semantics R) (g : Given) (n : ℕ) (x : Scene F f g
   new_idle (Some w) a e = let same : New (S_asked w) ≡ a = cc in subst Stays same refl
 
   asked_idle : (what : Order) (a : Any R) → asked_of f (place g) cmd.op what ≡ Some a → Stays a
-  asked_idle (order.Move src dst filter keep) a e = old_idle (want_of (place g) cmd.op (order.Move src dst filter keep)) a e
-  asked_idle (order.Copy src dst filter) a e = old_idle (want_of (place g) cmd.op (order.Copy src dst filter)) a e
   asked_idle (order.Share members filter) a e = new_idle (want_share_of (place g) cmd.op (order.Share members filter)) a e
+  asked_idle what a e = old_idle (want_of (place g) cmd.op what) a e
 
   pub stays_still : Leads_to (still c)
   stays_still = stays f g n x p (msg.Asked cmd) are is (still c) refl refl refl refl refl tt

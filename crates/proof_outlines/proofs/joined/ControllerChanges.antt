@@ -1,5 +1,5 @@
 -- A controller of a run is one after a change at one number, where the operation under it is one of a run, with what is stored for it.
-use Rattle.std.proofs.Common.{◌≡◌, ℕ, ◌≤◌, true, false, Option, Some, None, List, [], ◌∷◌, refl, sym, ap, ◌∙◌, subst, arith}
+use Rattle.std.proofs.Common.{◌≡◌, ℕ, ◌≤◌, false, Option, Some, None, List, [], ◌∷◌, refl, sym, ap, ◌∙◌, subst, arith}
 use Rattle.std.specs.Prelude.{◌==◌}
 use Rattle.std.specs.FinMap as finite
 use Rattle.std.proofs.lemmas.Bool.Decides.{Decides-eqb}
@@ -16,6 +16,8 @@ use Rattle.proof_machines.proofs.net.Shares.{OpenShare}
 use Rattle.proof_outlines.proofs.whole.OpenShares.{OpensAll}
 use Rattle.proof_outlines.proofs.joined.Given.{Given, place}
 use Rattle.proof_outlines.proofs.joined.Joined.{Genuine, IsController, IsListed, IsMove, IsCopy, IsShare}
+use Rattle.proof_machines.proofs.Tests.{either_way}
+use Rattle.std.proofs.lemmas.Bool.{false_from_ne_true}
 
 -- no move
 abbrev pub NotMove : Option Operation → Type 0
@@ -54,12 +56,10 @@ module _ {R : Type 0} (f : Semantics R) (g : Given) where
   -- where no move stood, the list of moves is one of the controller's after the change
   module _ (c d : ControllerState) (n : ℕ) (alike : AreAlike c d n) (was : NotMove (finite.get c.operations n)) where
     not_there : (e : Open R) → IsListed f g c e → (e.op.num == n) ≡ false
-    not_there e l = elim (e.op.num == n) as (λ b. (e.op.num == n) ≡ b → b ≡ false) [
-      | true ↦ λ on.
-          let there : finite.get c.operations n ≡ Some (Move l.move) = ap (finite.get c.operations) (sym ((Decides-eqb e.op.num n).0 on)) ∙ l.there in
-          absurd (subst NotMove there was)
-      | false ↦ λ off. refl
-    ] refl
+    not_there e l = false_from_ne_true (e.op.num == n)
+        (λ on.
+        let there : finite.get c.operations n ≡ Some (Move l.move) = ap (finite.get c.operations) (sym ((Decides-eqb e.op.num n).0 on)) ∙ l.there in
+        absurd (subst NotMove there was))
 
     pub listed_alike : (ops : List (Open R)) → Each (IsListed f g c) ops → Each (IsListed f g d) ops
     listed_alike [] h = tt
@@ -70,20 +70,18 @@ module _ {R : Type 0} (f : Semantics R) (g : Given) where
       (alike : AreAlike c d n) (grows : next ≤ after) (own : IsOperation n (finite.get d.operations n) (stored_of d.store n))
       (later : after ≤ n → stored_of d.store n ≡ []) where
     operation_after : (k : ℕ) → IsOperation k (finite.get d.operations k) (stored_of d.store k)
-    operation_after k = elim (k == n) as (λ b. (k == n) ≡ b → IsOperation k (finite.get d.operations k) (stored_of d.store k)) [
-      | true ↦ λ on. subst (λ j. IsOperation j (finite.get d.operations j) (stored_of d.store j)) (sym ((Decides-eqb k n).0 on)) own
-      | false ↦ λ off. subst (λ o. IsOperation k o (stored_of d.store k)) (sym (alike.operations k off))
-          (subst (IsOperation k (finite.get c.operations k)) (sym (alike.store k off)) (operation_is c ops shares next is k))
-    ] refl
+    operation_after k = either_way (k == n)
+        (λ on. subst (λ j. IsOperation j (finite.get d.operations j) (stored_of d.store j)) (sym ((Decides-eqb k n).0 on)) own)
+        (λ off. subst (λ o. IsOperation k o (stored_of d.store k)) (sym (alike.operations k off))
+        (subst (IsOperation k (finite.get c.operations k)) (sym (alike.store k off)) (operation_is c ops shares next is k)))
 
     kind_at : (k : ℕ) (o : Option Operation) → finite.get d.operations k ≡ o → IsKind k o (stored_of d.store k)
     kind_at k o e = subst (λ p. IsKind k p (stored_of d.store k)) e (operation_after k).kind
 
     nothing_after : (k : ℕ) → after ≤ k → stored_of d.store k ≡ []
-    nothing_after k least = elim (k == n) as (λ b. (k == n) ≡ b → stored_of d.store k ≡ []) [
-      | true ↦ λ on. (let same : k ≡ n = (Decides-eqb k n).0 on in ap (λ j. stored_of d.store j) same ∙ later (subst (λ j. after ≤ j) same least))
-      | false ↦ λ off. alike.store k off ∙ is.nothing k (omega (arith, grows, least))
-    ] refl
+    nothing_after k least = either_way (k == n)
+        (λ on. (let same : k ≡ n = (Decides-eqb k n).0 on in ap (λ j. stored_of d.store j) same ∙ later (subst (λ j. after ≤ j) same least)))
+        (λ off. alike.store k off ∙ is.nothing k (omega (arith, grows, least)))
 
     -- Only the moves and shares that are open afterwards are asked for.
     pub changed : (new : List (Open R)) (others : List OpenShare) → OpensAll f (place g) g.site new others d → Each (IsListed f g d) new

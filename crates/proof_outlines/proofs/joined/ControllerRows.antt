@@ -39,13 +39,14 @@ use Rattle.proof_outlines.proofs.joined.ControllerChanges.{AreAlike, IsKind, IsO
 use Rattle.proof_outlines.proofs.joined.Given.{Given, place}
 use Rattle.proof_outlines.proofs.joined.Joined.{Genuine, Label, IsController, IsListed, HasPieces, AreFree, AreGoodChunks, IsGoodPiece}
 use Rattle.net_world.proofs.SentMessages.{sent-append}
+use Rattle.proof_machines.proofs.Tests.{either_way, split}
 
 -- moves that are left when one is closed
 each_left : {R : Type 0} (P Q : Open R → Type 0) (k : ℕ) (es : List (Open R)) → ((e : Open R) → (e.op.num == k) ≡ false → P e → Q e) → Each P es
     → Each Q (close_op k es)
 each_left P Q k [] keep h = tt
-each_left P Q k (e ∷ es) keep h = elim (e.op.num == k) as (λ b. (e.op.num == k) ≡ b → Each Q (if b then close_op k es else e ∷ close_op k es))
-    [ true ↦ λ _. each_left P Q k es keep h.1 | false ↦ λ off. (keep e off h.0, each_left P Q k es keep h.1) ] refl
+each_left P Q k (e ∷ es) keep h = split (e.op.num == k) (λ b. Each Q (if b then close_op k es else e ∷ close_op k es)) (λ _. each_left P Q k es keep h.1)
+    (λ off. (keep e off h.0, each_left P Q k es keep h.1))
 
 move_same : {a b : MoveState} → Some (Move a) ≡ Some (Move b) → a ≡ b
 move_same e = cc
@@ -108,17 +109,16 @@ module _ {R : Type 0} (f : Semantics R) (g : Given) where
 
     -- the list after it
     listed_at : (e : Open R) → IsListed f g c e → IsListed f g (did None).node e
-    listed_at e l = elim (e.op.num == n) as (λ b. (e.op.num == n) ≡ b → IsListed f g (did None).node e) [
-      | true ↦ λ on.
-          let same : e.op.num ≡ n = (Decides-eqb e.op.num n).0 on in
-          let its : l.move ≡ mv = move_same (sym l.there ∙ ap (finite.get c.operations) same ∙ has) in
-          record {
-            move = after;
-            there = get_open e.op.num ∙ ap (λ b. cond b (Some (Move after)) (finite.get c.operations e.op.num)) on;
-            filter = l.filter ∙ ap (λ y. y.plan.filter) its;
-          }
-      | false ↦ λ off. record { move = l.move; there = open_alike.operations e.op.num off ∙ l.there; filter = l.filter }
-    ] refl
+    listed_at e l = either_way (e.op.num == n)
+        (λ on.
+        let same : e.op.num ≡ n = (Decides-eqb e.op.num n).0 on in
+        let its : l.move ≡ mv = move_same (sym l.there ∙ ap (finite.get c.operations) same ∙ has) in
+        record {
+          move = after;
+          there = get_open e.op.num ∙ ap (λ b. cond b (Some (Move after)) (finite.get c.operations e.op.num)) on;
+          filter = l.filter ∙ ap (λ y. y.plan.filter) its;
+        })
+        (λ off. record { move = l.move; there = open_alike.operations e.op.num off ∙ l.there; filter = l.filter })
 
     listed_open : (rp : RPhase R) (fs : List ℕ) → Each (IsListed f g (did None).node) (set_op n rp fs ops)
     listed_open rp fs = each_set (IsListed f g (did None).node) n rp fs ops (λ e _ l. record { move = l.move; there = l.there; filter = l.filter })
@@ -150,39 +150,24 @@ module _ {R : Type 0} (f : Semantics R) (g : Given) where
     pub controller_after : (ph : Phase) (rp : RPhase R) (fs : List ℕ) → ph ≡ real_row.next.phase
         → rp ≡ outline_phase f (place g) ph → OpensAll f (place g) g.site (write_op n rp fs ops) shares (did (answer_of ph)).node
         → IsController f g (did (answer_of ph)).node (write_op n rp fs ops) shares next
-    controller_after phase.Freezing rp fs own e = rw e (open_is phase.Freezing fs (ap answer_of (sym own)))
     controller_after (phase.Streaming fz fr last d) rp fs own e =
         rw e (open_is (outline_phase f (place g) (phase.Streaming fz fr last d)) fs (ap answer_of (sym own)))
-    controller_after phase.Holding rp fs own e = rw e (open_is phase.Holding fs (ap answer_of (sym own)))
-    controller_after phase.Passing rp fs own e = rw e (open_is phase.Passing fs (ap answer_of (sym own)))
-    controller_after phase.Ending rp fs own e = rw e (open_is phase.Ending fs (ap answer_of (sym own)))
-    controller_after (phase.Restoring why) rp fs own e = rw e (open_is (phase.Restoring why) fs (ap answer_of (sym own)))
-    controller_after (phase.Returning why) rp fs own e = rw e (open_is (phase.Returning why) fs (ap answer_of (sym own)))
-    controller_after (phase.Undoing why) rp fs own e = rw e (open_is (phase.Undoing why) fs (ap answer_of (sym own)))
     controller_after (phase.Over why) rp fs own e = rw e (closed_is why (ends why (ap answer_of (sym own))))
+    controller_after ph rp fs own e = rw e (open_is (outline_phase f (place g) ph) fs (ap answer_of (sym own)))
 
   good_chunks : (ps : List Piece) → Each (IsGoodPiece f g) ps → Each (λ p. AreGoodChunks f g p.chunks) ps
   good_chunks ps h = each_map {P = (IsGoodPiece f g)} {Q = (λ p. AreGoodChunks f g p.chunks)} (λ p k. k.good) ps h
 
   free_chunks : (d : Door) (ps : List Piece) → AreFree f g d ps → Each (λ p. AreGoodChunks f g p.chunks) ps
-  free_chunks door.Shut ps h = good_chunks ps h
-  free_chunks (door.Asked last) ps h = good_chunks ps h
-  free_chunks door.Open ps h = good_chunks ps h
   free_chunks (door.Refused why) ps h = h
+  free_chunks d ps h = good_chunks ps h
 
   -- how often a unit stands among the chunks that a move keeps
   pub kept_count : (ph : Phase) → HasPieces f g ph → (u : units.Unit) → times u (entries f (kept_in ph)) ≡ copies u (outline_phase f (place g) ph)
   kept_count (phase.Streaming fz fr came d) h u = ap (times u) (filter_map-put (spelled f) (chunks_of fz) (chunks_of fr)) ∙ times-append u
       (entries f (chunks_of fz)) (entries f (chunks_of fr)) ∙ ap (λ k. k + times u (entries f (chunks_of fr))) (times_chunks f g fz (good_chunks fz h.0) u)
       ∙ ap (λ k. have u (map (outline_piece f) fz) + k) (times_chunks f g fr (free_chunks d fr h.1) u)
-  kept_count phase.Freezing h u = refl
-  kept_count phase.Holding h u = refl
-  kept_count phase.Passing h u = refl
-  kept_count phase.Ending h u = refl
-  kept_count (phase.Restoring why) h u = refl
-  kept_count (phase.Returning why) h u = refl
-  kept_count (phase.Undoing why) h u = refl
-  kept_count (phase.Over why) h u = refl
+  kept_count ph h u = refl
 
   pub turn_labels : (c : ControllerState) (n : ℕ) (t : Turn) (a : Option Answer) → EachSent (Label f g) 1 t.sends
       → EachSent (Label f g) 1 (after_turn c n t a).sends

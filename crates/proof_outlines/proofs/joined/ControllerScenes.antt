@@ -15,8 +15,8 @@ use Rattle.actor_net.proofs.WeightLaws.{EachSent}
 use Rattle.proof_machines.proofs.unit.Real.{sent_for}
 use Rattle.proof_machines.proofs.net.Net as net
 use Rattle.proof_machines.proofs.net.Net.{Open, find_op, behind, links_after}
-use Rattle.proof_machines.proofs.net.Shares.{Any, Old, New, S_asked, Shared_on, Diverted_on, S_install, S_forward, S_get}
-use Rattle.proof_machines.proofs.net.Shares.{S_sync, S_chunks, S_shared, S_synced, OpenShare, find_share, WholeWorld}
+use Rattle.proof_machines.proofs.net.Shares.{Any, Old, New, S_asked}
+use Rattle.proof_machines.proofs.net.Shares.{OpenShare, find_share, WholeWorld}
 use Rattle.proof_machines.proofs.net.Waits.{Rising, rising_less}
 use Rattle.proof_machines.proofs.whole.EveryAll.{EveryAll, ctrl_every_all}
 use Rattle.net_world.specs.Nodes.{as_node}
@@ -37,21 +37,8 @@ use Rattle.proof_outlines.proofs.joined.NextNumbers.{same_grows}
 -- a message is taken from the switch's link, or from another: the numbers of waiting commands rise as before
 rising_drop : {R : Type 0} (b : ℕ) (a : Any R) (rest : List (Any R)) (ks : List ℕ) → Rising b (asked_nums (a ∷ rest) ++ ks) → Rising b (asked_nums rest ++ ks)
 rising_drop b (Old (net.Asked x)) rest ks h = let least = h.0 in rising_less b (suc x.num) (asked_nums rest ++ ks) (omega (arith, least)) h.1
-rising_drop b (Old (net.In_packet p)) rest ks h = h
-rising_drop b (Old (net.Carry_on p)) rest ks h = h
-rising_drop b (Old (net.Pass_on p)) rest ks h = h
-rising_drop b (Old (net.Fence_on p)) rest ks h = h
-rising_drop b (Old (net.Mv g m)) rest ks h = h
 rising_drop b (New (S_asked x)) rest ks h = let least = h.0 in rising_less b (suc x.num) (asked_nums rest ++ ks) (omega (arith, least)) h.1
-rising_drop b (New (Shared_on n home p)) rest ks h = h
-rising_drop b (New (Diverted_on p)) rest ks h = h
-rising_drop b (New (S_install n g from)) rest ks h = h
-rising_drop b (New (S_forward n home p to)) rest ks h = h
-rising_drop b (New (S_get n g)) rest ks h = h
-rising_drop b (New (S_sync n home cs)) rest ks h = h
-rising_drop b (New (S_chunks n cs)) rest ks h = h
-rising_drop b (New (S_shared n c)) rest ks h = h
-rising_drop b (New (S_synced n)) rest ks h = h
+rising_drop b a rest ks h = h
 
 pub rising_behind : {R : Type 0} (b : ℕ) (t : Bool) (l rest : List (Any R)) (a : Any R) (ks : List ℕ) → (t ≡ true → l ≡ a ∷ rest)
     → Rising b (asked_nums l ++ ks) → Rising b (asked_nums (behind t l ++ []) ++ ks)

@@ -1,6 +1,6 @@
 -- The controller's step on a message of a run leads from a world of a run to one.
-use Rattle.std.proofs.Common.{◌≡◌, ℕ, ◌≤◌, true, false, Option, Some, None, refl, arith}
-use Rattle.std.specs.Prelude.{if◌then◌else◌, ◌==◌}
+use Rattle.std.proofs.Common.{ℕ, true, Option, Some, None, refl, arith}
+use Rattle.std.specs.Prelude.{◌==◌}
 use Rattle.nf_function.specs.Records.{Laws as FunctionLaws}
 use Rattle.nf_function.specs.Semantics.{Semantics}
 use Rattle.event_store.specs.Store.{stored_of}
@@ -21,12 +21,7 @@ use Rattle.proof_outlines.proofs.joined.ControllerCopies.{chunks_leads, all_chun
 use Rattle.proof_outlines.proofs.joined.ShareSteps.{fenced_leads, shared_leads, synced_leads, diverted_leads}
 use Rattle.proof_outlines.proofs.joined.Given.{Given, place}
 use Rattle.proof_outlines.proofs.joined.Joined.{Scene, AreShown, IsTaken, Leads, IsGoodChunk, node_of}
-
-not_two : {X : Type 0} → 2 ≤ 1 → X
-not_two e = let never : ⊥ = omega (arith, e) in absurd never
-
-not_zero : {X : Type 0} → ◌≡◌ {A = ℕ} 1 0 → X
-not_zero e = let never : ⊥ = omega (arith, e) in absurd never
+use Rattle.proof_machines.proofs.Tests.{by_if}
 
 module _ {F R : Type 0} (f : Semantics R) (g : Given) (n : ℕ) (x : Scene F f g) (p : ℕ) (are : AreShown f g n x) where
   abbrev c : ControllerState
@@ -36,12 +31,11 @@ module _ {F R : Type 0} (f : Semantics R) (g : Given) (n : ℕ) (x : Scene F f g
   IsTakenHere m = IsTaken f g n x (record { node = 1; port = p; message = m })
 
   end_leads : IsTakenHere msg.End → RowLeads f g x p msg.End (row c p msg.End)
-  end_leads is = elim (p == switch_node) as (λ b. RowLeads f g x p msg.End (if b then still (record c { end_came = true }) else still c)) [
-    | true ↦ stays f g n x p msg.End are is (still (record c { end_came = true })) refl refl refl refl refl tt
-        (record { arrived_is = refl; done_is = refl; installed_is = refl }) (λ a e. cc)
-    | false ↦ stays f g n x p msg.End are is (still c) refl refl refl refl refl tt (record { arrived_is = refl; done_is = refl; installed_is = refl })
-        (λ a e. cc)
-  ]
+  end_leads is = by_if (RowLeads f g x p msg.End) (p == switch_node)
+      (stays f g n x p msg.End are is (still (record c { end_came = true })) refl refl refl refl refl tt
+      (record { arrived_is = refl; done_is = refl; installed_is = refl }) (λ a e. cc))
+      (stays f g n x p msg.End are is (still c) refl refl refl refl refl tt (record { arrived_is = refl; done_is = refl; installed_is = refl })
+      (λ a e. cc))
 
   final_leads : IsTakenHere msg.Final → (o : Option ℕ) → RowLeads f g x p msg.Final (on_final c o)
   final_leads is None = stays f g n x p msg.Final are is (on_final c None) refl refl refl refl refl tt
@@ -67,36 +61,13 @@ module _ {F R : Type 0} (f : Semantics R) (g : Given) (n : ℕ) (x : Scene F f g
   row_leads (msg.Restored op) is next = numbered_leads f g n x p (msg.Restored op) are is op (real.M_restored op) refl refl refl refl refl (λ s. refl)
       (λ mv h. restored_row f (place g) mv.plan mv.phase (stored_of c.store op) p op)
   row_leads (msg.Fenced op) is next = fenced_leads f g n x p are op is
-  row_leads (msg.InPacket packet) is next = not_zero is.label.0.1
-  row_leads (msg.InCommand command) is next = not_zero is.label.0.1
-  row_leads msg.InSettle is next = not_zero is.label.1
-  row_leads msg.InEnd is next = not_zero is.label.1
-  row_leads (msg.Forward to mark cell) is next = not_zero is.label.0.1
-  row_leads (msg.Install op filter from to) is next = not_zero is.label.0.1
-  row_leads (msg.FenceTo op to) is next = not_zero is.label.0.1
-  row_leads (msg.Answered op) is next = not_zero is.label.1
-  row_leads msg.Finish is next = not_zero is.label.1
-  row_leads (msg.Carry mark cell) is next = not_two is.label.0.1
-  row_leads (msg.Fence op) is next = not_two is.label.1
-  row_leads msg.Stop is next = not_two is.label.1
-  row_leads (msg.Enable op filter action) is next = not_two is.label.0.1
-  row_leads (msg.Stream op filter) is next = not_two is.label.0.1
-  row_leads (msg.Delete op gone) is next = not_two is.label.1
-  row_leads (msg.Put op piece first) is next = not_two is.label.0.1
-  row_leads (msg.Restore op chunks) is next = not_two is.label.0.1
-  row_leads (msg.Credit cell) is next = not_zero is.label.1
   row_leads (msg.Diverted cell) is next = diverted_leads f g n x p are cell is
-  row_leads (msg.Get op filter) is next = not_two is.label.0.1
-  row_leads (msg.GetAll op) is next = not_two is.label.1
-  row_leads (msg.Standby op chunks) is next = not_two is.label.0.1
-  row_leads (msg.PutAll op chunk) is next = not_two is.label.1
-  row_leads (msg.Sync home op chunks) is next = not_two is.label.0.1
   row_leads (msg.Chunks op chunks) is next = chunks_leads f g n x p op are chunks is
   row_leads (msg.AllChunk op chunk) is next = all_chunk_leads f g n x p op are chunk is
   row_leads (msg.Kept op) is next = kept_leads f g n x p op are is
-  row_leads (msg.Seen op packet) is next = absurd is.label
   row_leads (msg.Shared op chunk) is next = shared_leads f g n x p are op chunk is
   row_leads (msg.Synced op) is next = synced_leads f g n x p are op is
+  row_leads m is next = let label = is.label in absurd (first_of (assumption, omega arith))
 
 module _ {F R : Type 0} (f : Semantics R) (laws : FunctionLaws f) (g : Given) where
   pub controller_leads : (n : ℕ) (x : Scene F f g) (p : ℕ) (m : Msg) → AreShown f g n x → IsTaken f g n x (record { node = 1; port = p; message = m })

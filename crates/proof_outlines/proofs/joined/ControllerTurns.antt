@@ -48,6 +48,7 @@ use Rattle.proof_outlines.proofs.joined.ControllerRows.{controller_after, kept_c
 use Rattle.proof_outlines.proofs.joined.ControllerScenes.{RowLeads, waits, step_on, taken, Idles, idles, stays}
 use Rattle.proof_outlines.proofs.joined.Given.{Given, place}
 use Rattle.proof_outlines.proofs.joined.Joined.{Label, Scene, AreShown, IsTaken, IsController, IsListed, IsMove, S, A, count, shown, came_by}
+use Rattle.proof_machines.proofs.Tests.{either_way}
 
 module _ {F R : Type 0} (f : Semantics R) (g : Given) (n : ℕ) (x : Scene F f g) (p : ℕ) (m : Msg) (are : AreShown f g n x)
     (is : IsTaken f g n x (record { node = 1; port = p; message = m })) where
@@ -292,11 +293,10 @@ module _ {F R : Type 0} (f : Semantics R) (g : Given) (n : ℕ) (x : Scene F f g
   back_keeps : (mv : MoveState) → finite.get x.nodes.controller.operations op ≡ Some (Move mv)
       → RowKeeps f g op mv its_store (row mv its_store p (msg.PutNo op refused))
   back_keeps mv got =
-      elim (p == destination mv.plan) as (λ b. (p == destination mv.plan) ≡ b → RowKeeps f g op mv its_store (row mv its_store p (msg.PutNo op refused))) [
-        | true ↦ λ at. keeps_row f g n x p (msg.PutNo op refused) are is op mv (msg.PutNo op refused) got is.label (back_once mv got at)
-        | false ↦ λ off. subst (RowKeeps f g op mv its_store) (as_put_ok mv off) (keeps_row f g n x p (msg.PutNo op refused) are is op mv (msg.PutOk op) got
-            is.label.0 (nothing_brought f g n x p (msg.PutNo op refused) are is op mv (msg.PutOk op) got refl))
-      ] refl
+      either_way (p == destination mv.plan)
+      (λ at. keeps_row f g n x p (msg.PutNo op refused) are is op mv (msg.PutNo op refused) got is.label (back_once mv got at))
+      (λ off. subst (RowKeeps f g op mv its_store) (as_put_ok mv off) (keeps_row f g n x p (msg.PutNo op refused) are is op mv (msg.PutOk op) got
+      is.label.0 (nothing_brought f g n x p (msg.PutNo op refused) are is op mv (msg.PutOk op) got refl)))
 
   pub put_no_leads : RowLeads f g x p (msg.PutNo op refused) (hand_step x.nodes.controller op p (msg.PutNo op refused))
   put_no_leads =

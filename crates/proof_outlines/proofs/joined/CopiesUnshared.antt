@@ -1,5 +1,5 @@
 -- No share takes a unit that an open copy's filter takes; so of chunks of such units none is a share's.
-use Rattle.std.proofs.Common.{◌≡◌, ℕ, true, false, inl, inr, Some, None, List, refl, sym, ap, ◌∙◌, subst}
+use Rattle.std.proofs.Common.{◌≡◌, ℕ, true, false, inl, inr, Some, None, List, sym, ap, ◌∙◌, subst}
 use Rattle.std.specs.Prelude.{◌==◌}
 use Rattle.std.specs.FinMap as finite
 use Rattle.std.proofs.lemmas.Bool.Decides.{Decides-eqb}
@@ -21,6 +21,7 @@ use Rattle.proof_outlines.proofs.joined.OperationsApart.{AreApart, AllApart}
 use Rattle.proof_outlines.proofs.joined.StandbyChunks.{AreUnshared}
 use Rattle.proof_outlines.proofs.joined.Given.{Given, place}
 use Rattle.proof_outlines.proofs.joined.Joined.{S, A, Scene, AreShown}
+use Rattle.std.proofs.lemmas.Bool.{false_from_ne_true}
 
 module _ {R : Type 0} (f : Semantics R) (g : Given) where
   -- chunks of no unit but of those that a filter takes
@@ -29,10 +30,8 @@ module _ {R : Type 0} (f : Semantics R) (g : Given) where
 
   -- what one of two filters that don't meet takes, the other doesn't
   other_out : (a b : Filter) (u : units.Unit) → AreApart (Some a) (Some b) → (S f g).takes b u ≡ true → (S f g).takes a u ≡ false
-  other_out a b u (inl off) on = elim ((S f g).takes a u) as (λ t. (S f g).takes a u ≡ t → t ≡ false) [
-    | true ↦ λ both. let never : true ≡ false = sym on ∙ (is_sys f g.site g.packet).apart a b u off both in cc
-    | false ↦ λ _. refl
-  ] refl
+  other_out a b u (inl off) on = false_from_ne_true ((S f g).takes a u)
+      (λ both. let never : true ≡ false = sym on ∙ (is_sys f g.site g.packet).apart a b u off both in cc)
   other_out a b u (inr off) on = (is_sys f g.site g.packet).apart b a u off on
 
 module _ {F R : Type 0} (f : Semantics R) (g : Given) (n : ℕ) (x : Scene F f g) (are : AreShown f g n x) (apart : AllApart x.nodes.controller.operations) where
@@ -55,10 +54,8 @@ module _ {F R : Type 0} (f : Semantics R) (g : Given) (n : ℕ) (x : Scene F f g
     where
       numbers_differ : (k l : ℕ) (y : CopyState) (s : ShareState) → finite.get c.operations k ≡ Some (Copy y) → finite.get c.operations l ≡ Some (Share s)
           → (k == l) ≡ false
-      numbers_differ k l y s a b = elim (k == l) as (λ t. (k == l) ≡ t → t ≡ false) [
-        | true ↦ λ same. let both : Some (Copy y) ≡ Some (Share s) = sym a ∙ ap (finite.get c.operations) ((Decides-eqb k l).0 same) ∙ b in cc
-        | false ↦ λ _. refl
-      ] refl
+      numbers_differ k l y s a b = false_from_ne_true (k == l)
+          (λ same. let both : Some (Copy y) ≡ Some (Share s) = sym a ∙ ap (finite.get c.operations) ((Decides-eqb k l).0 same) ∙ b in cc)
 
   -- and so its chunks are of no unit of a share
   pub copy_unshared : (op : ℕ) (y : CopyState) (filter : Filter) (chunks : List Chunk) → finite.get c.operations op ≡ Some (Copy y)

@@ -55,22 +55,12 @@ AreUncopied sends = Each (λ x. is_uncopied x.1 ≡ true) sends
 
 pub no_copy : (m : Msg) → is_of_copy m ≡ false → is_uncopied m ≡ true
 no_copy (msg.Get op filter) h = cc
-no_copy (msg.Chunks op chunks) h = cc
-no_copy (msg.Standby op chunks) h = cc
-no_copy (msg.PutAll op chunk) h = cc
-no_copy (msg.Kept op) h = cc
-no_copy m h = refl
+no_copy m h = cc
 
 -- a move sends none
 pub move_none : (m : Msg) → is_of_move m ≡ true → is_of_copy m ≡ false
 move_none (msg.Get op filter) h = cc
-move_none (msg.GetAll op) h = cc
-move_none (msg.Chunks op chunks) h = cc
-move_none (msg.AllChunk op chunk) h = cc
-move_none (msg.Standby op chunks) h = cc
-move_none (msg.PutAll op chunk) h = cc
-move_none (msg.Kept op) h = cc
-move_none m h = refl
+move_none m h = cc
 
 -- an instance answers once, or sends nothing
 abbrev pub IsAnswer : ℕ → List (ℕ × Msg) → Type 0
@@ -87,12 +77,11 @@ told_none op cell (Some chunk) = (refl, (refl, tt))
 module _ {F R : Type 0} (f : Semantics R) where
   processed_none : (i : Instance F R) (m : Mark) (cell : FullCell) → AreNoCopies (process_step f i m cell).sends
   unfolding process_step
-  processed_none i mark.Plain cell = (refl, tt)
-  processed_none i (mark.Pass op) cell = (refl, tt)
   processed_none i (mark.Shared op home) cell =
       let after : Instance F R = with_count (record i { table = table_after f i (mark.Shared op home) cell.packet }) in
       let unit = unit_at f.kind i.site cell.packet in
       told_none op cell (option_map (record_chunk f unit) (finite.get (part after.table home) unit))
+  processed_none i s cell = (refl, tt)
 
   -- what an instance sends for any other message
   pub other_none : (i : Instance F R) (m : Msg) → is_of_copy m ≡ false → AreNoCopies (instance_step f i m).sends

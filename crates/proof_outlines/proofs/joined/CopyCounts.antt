@@ -26,6 +26,7 @@ use Rattle.ctrl_node.specs.Controller.{ControllerState}
 use Rattle.proof_machines.proofs.unit.Labels.{Each}
 use Rattle.proof_outlines.proofs.outline.OperationTables.{got_insert, got_remove}
 use Rattle.proof_outlines.proofs.joined.CopyAnswers.{is_uncopied}
+use Rattle.proof_machines.proofs.Tests.{by_if}
 
 -- whether a message is to be kept for the copy of a number, or says that it was
 abbrev pub keeps_of : ℕ → Msg → ℕ
@@ -80,11 +81,8 @@ module _ (n op : ℕ) (off : (n == op) ≡ false) where
 
   after_at : (c : ControllerState) (t : Turn) (o : Option Answer) → finite.get (ctrl.after_turn c op t o).node.operations n ≡ finite.get c.operations n
   after_at c t None = with_at c.operations t.operation
-  after_at c t (Some why) = elim (lasts t.operation) as (λ b.
-      finite.get (if b then ctrl.with_turn c op t else ctrl.without_operation (ctrl.with_turn c op t) op).operations n ≡ finite.get c.operations n) [
-        | true ↦ with_at c.operations t.operation
-        | false ↦ remove_at (ctrl.with_turn c op t).operations ∙ with_at c.operations t.operation
-      ]
+  after_at c t (Some why) = by_if (λ (r : ControllerState). finite.get r.operations n ≡ finite.get c.operations n) (lasts t.operation) (with_at c.operations t.operation)
+      (remove_at (ctrl.with_turn c op t).operations ∙ with_at c.operations t.operation)
 
   pub serves_at : (c : ControllerState) → finite.get (ctrl.serve_step c op).node.operations n ≡ finite.get c.operations n
   serves_at c = with_at c.operations (serving_of (finite.get c.operations op) c.store).operation
@@ -137,9 +135,5 @@ module _ (n : ℕ) (plan : CopyPlan) (own : plan.op ≡ n) where
   destination_falls ph m e = omega arith
 
   pub row_falls : (ph : CopyPhase) (port : ℕ) (m : Msg) → op_of m ≡ Some n → RowFalls ph m (copy.row (record { plan = plan; phase = ph }) port m)
-  row_falls ph port m e = elim (port == instance_node plan.from) as (λ a. RowFalls ph m
-      (if a then copy.from_source plan ph m else if port == instance_node plan.to then copy.from_destination plan ph m else copy.next_phase ph [])) [
-        | true ↦ source_falls ph m
-        | false ↦ elim (port == instance_node plan.to) as (λ b. RowFalls ph m (if b then copy.from_destination plan ph m else copy.next_phase ph []))
-            [ true ↦ destination_falls ph m e | false ↦ omega arith ]
-      ]
+  row_falls ph port m e = by_if (RowFalls ph m) (port == instance_node plan.from) (source_falls ph m)
+      (by_if (RowFalls ph m) (port == instance_node plan.to) (destination_falls ph m e) (omega arith))

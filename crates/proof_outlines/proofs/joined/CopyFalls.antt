@@ -75,8 +75,6 @@ module _ (n : ℕ) (c : ControllerState) (port : ℕ) (numbered : AreNumbered c)
             subst (λ o. Falls m (ctrl.after_turn c n (turn_of_copy y c.store r) o)) (sym (ap copy.answer_of is ∙ going)) (omega (arith, left, before))
 
         by_phase : (ph : CopyPhase) → r.phase ≡ ph → Falls m (ctrl.takes_turn c n (turn_of_copy y c.store r))
-        by_phase copies.Getting is = goes_on copies.Getting is refl
-        by_phase copies.Keeping is = goes_on copies.Keeping is refl
         by_phase copies.Over is =
             let gone : keeping (finite.get (finite.remove (finite.insert c.operations n (Copy (record y { phase = r.phase }))) n) n) ≡ 0 = ap keeping
             (got_remove (finite.insert c.operations n (Copy (record y { phase = r.phase }))) n n
@@ -84,6 +82,7 @@ module _ (n : ℕ) (c : ControllerState) (port : ℕ) (numbered : AreNumbered c)
             let none : in_phase r.phase ≡ 0 = ap in_phase is in
             let sent = keeps_sent-append n r.sends ((switch_node, msg.Answered n) ∷ []) in
             subst (λ o. Falls m (ctrl.after_turn c n (turn_of_copy y c.store r) o)) (sym (ap copy.answer_of is)) (omega (arith, gone, none, sent, low, before))
+        by_phase ph is = goes_on ph is refl
 
     own_turn : Falls m (ctrl.hand_step c n port m)
     own_turn =

@@ -9,7 +9,6 @@ use Rattle.nf_function.specs.declared.chunk.Chunk.{Chunk}
 use Rattle.event_filter.specs.declared.mark.Mark.TheVariants.{Pass}
 use Rattle.packet_pool.specs.Pool.{FullCell}
 use Rattle.nf_msgs.specs.declared.answer.Answer.{Answer}
-use Rattle.nf_msgs.specs.declared.answer.Answer.TheVariants.{Done}
 use Rattle.nf_msgs.specs.declared.command.Command.{Command}
 use Rattle.nf_msgs.specs.declared.command.Order.{Order}
 use Rattle.nf_msgs.specs.declared.command.Order.TheVariants as order
@@ -18,8 +17,7 @@ use Rattle.nf_msgs.specs.declared.msg.Msg.TheVariants as msg
 use Rattle.nf_msgs.specs.Nodes.{switch_node, instance_node}
 use Rattle.nf_msgs.specs.MessageParts.{op_of}
 use Rattle.event_store.specs.Store.{stored_of, with_parcels}
-use Rattle.move_op.specs.Move.{next_phase, source, destination, from_source}
-use Rattle.move_op.specs.Move.{from_destination, row}
+use Rattle.move_op.specs.Move.{source, destination}
 use Rattle.ctrl_node.specs.declared.operation.Operation.{Operation}
 use Rattle.copy_share.specs.declared.copy_phase.CopyPhase.{CopyPhase}
 use Rattle.copy_share.specs.declared.copy_phase.CopyPhase.TheVariants as copies
@@ -38,6 +36,7 @@ use Rattle.proof_machines.proofs.unit.Labels.{Each, each-append}
 use Rattle.proof_outlines.proofs.outline.ControllerWays.{row_by}
 use Rattle.proof_outlines.proofs.outline.MoveRows.{all_sent}
 use Rattle.proof_outlines.proofs.joined.CopyAnswers.{is_uncopied, AreUncopied, no_copy, move_none}
+use Rattle.proof_machines.proofs.Tests.{by_if}
 
 -- What holds of each message that isn't a copy's, of what a copy or a share asks for, and of what a copy hands on, holds of all that is sent.
 module _ (P : Msg → Type 0) (others : (m : Msg) → is_uncopied m ≡ true → P m) where
@@ -69,15 +68,8 @@ module _ (P : Msg → Type 0) (others : (m : Msg) → is_uncopied m ≡ true →
 
   copy_hands : (y : CopyState) (port : ℕ) (m : Msg) → HandsSo y.plan.op m → HandsAllSo y.plan.op m → EachIs (copy.row y port m).sends
   copy_hands y port m a b =
-      elim (port == instance_node y.plan.from) as (λ t. EachIs (if t then copy.from_source y.plan y.phase m else if port == instance_node y.plan.to
-      then copy.from_destination y.plan y.phase m else copy.next_phase y.phase []).sends) [
-        | true ↦ source_hands y.plan y.phase m a b
-        | false ↦ elim (port == instance_node y.plan.to)
-            as (λ t. EachIs (if t then copy.from_destination y.plan y.phase m else copy.next_phase y.phase []).sends) [
-              | true ↦ destination_hands y.plan y.phase m
-              | false ↦ tt
-            ]
-      ]
+      by_if (λ (r : copy.CopyRow). EachIs r.sends) (port == instance_node y.plan.from) (source_hands y.plan y.phase m a b)
+      (by_if (λ (r : copy.CopyRow). EachIs r.sends) (port == instance_node y.plan.to) (destination_hands y.plan y.phase m) tt)
 
   -- What a share sends.
   syncs_sent : (plan : SharePlan) (members : List ℕ) (chunks : List Chunk)
@@ -86,9 +78,7 @@ module _ (P : Msg → Type 0) (others : (m : Msg) → is_uncopied m ≡ true →
   syncs_sent plan (member ∷ members) chunks = (others (msg.Sync (member == home plan) plan.op chunks) refl, syncs_sent plan members chunks)
 
   setting_sent : (left : ℕ) (sends : List (ℕ × Msg)) → EachIs sends → EachIs (share.setting left sends).sends
-  setting_sent left sends h = elim (left == 0)
-      as (λ b. EachIs (if b then record { phase = shares.Idle; sends = sends; answer = Some Done } else share.next_phase (shares.Setting left) sends).sends)
-      [ true ↦ h | false ↦ h ]
+  setting_sent left sends h = by_if (λ (r : share.ShareRow). EachIs r.sends) (left == 0) h h
 
   fenced_sent : (plan : SharePlan) (ph : SharePhase) → P (msg.Get plan.op plan.filter) → EachIs (share.on_fenced plan ph).sends
   fenced_sent plan shares.Fencing its = (its, tt)
@@ -100,11 +90,9 @@ module _ (P : Msg → Type 0) (others : (m : Msg) → is_uncopied m ≡ true →
   first_sent plan ph chunks = tt
 
   shared_sent : (plan : SharePlan) (ph : SharePhase) (port : ℕ) (chunk : Chunk) → EachIs (share.on_shared plan ph port chunk).sends
-  shared_sent plan (shares.Out member) port chunk = elim (port == instance_node member) as (λ b. EachIs (if b
-      then share.syncing (length (members_but plan member)) (share.syncs plan member (chunk ∷ [])) else share.next_phase (shares.Out member) []).sends) [
-        | true ↦ syncs_sent plan (members_but plan member) (chunk ∷ [])
-        | false ↦ tt
-      ]
+  shared_sent plan (shares.Out member) port chunk = by_if (λ (r : share.ShareRow). EachIs r.sends) (port == instance_node member)
+      (syncs_sent plan (members_but plan member) (chunk ∷ []))
+      tt
   shared_sent plan ph port chunk = tt
 
   synced_sent : (ph : SharePhase) → EachIs (share.on_synced ph).sends
@@ -200,9 +188,7 @@ module _ (P : Msg → Type 0) (others : (m : Msg) → is_uncopied m ≡ true →
     decided_sent k None its = begins_sent k k.what refl its
 
     pub asked_sent : (k : Command) → BeginSo (msg.Asked k) → EachIs (ctrl.on_asked s k).sends
-    asked_sent k its = elim (finite.contains_key s.operations k.op)
-        as (λ b. EachIs (if b then ctrl.still s else ctrl.decision_step s k.op k.what (ctrl.refusal s k.what)).sends)
-        [ true ↦ tt | false ↦ decided_sent k (ctrl.refusal s k.what) its ]
+    asked_sent k its = by_if (λ (r : ctrl.Step). EachIs r.sends) (finite.contains_key s.operations k.op) tt (decided_sent k (ctrl.refusal s k.what) its)
 
     row_sent : (m : Msg) → TurnsSo m → BeginSo m → EachIs (ctrl.row s port m).sends
     row_sent = row_by s port (λ m did. TurnsSo m → BeginSo m → EachIs did.sends) (record {
@@ -218,5 +204,4 @@ module _ (P : Msg → Type 0) (others : (m : Msg) → is_uncopied m ≡ true →
     pub controller_sent : (m : Msg) → TurnsSo m → BeginSo m → EachIs (ctrl.controller_step s port m).sends
     controller_sent m its begins =
         let did = ctrl.row s port m in
-        each-both did.sends (ctrl.finish_of did.node) (row_sent m its begins) (elim (ctrl.may_finish did.node)
-        as (λ b. EachIs (if b then (switch_node, msg.Finish) ∷ [] else [])) [ true ↦ (others msg.Finish refl, tt) | false ↦ tt ])
+        each-both did.sends (ctrl.finish_of did.node) (row_sent m its begins) (by_if EachIs (ctrl.may_finish did.node) (others msg.Finish refl, tt) tt)

@@ -1,5 +1,5 @@
 -- In every run what is to be kept for a copy is one message at most, and the copy is open as long as it is on its way.
-use Rattle.std.proofs.Common.{◌≡◌, ℕ, zero, suc, ◌+◌, ◌<◌, ◌≤◌, true, false, inl, inr, Option}
+use Rattle.std.proofs.Common.{◌≡◌, ℕ, zero, suc, ◌+◌, ◌<◌, ◌≤◌, true, inl, inr, Option}
 use Rattle.std.proofs.Common.{Some, None, List, [], ◌∷◌, get_or, refl, sym, ap, ◌∙◌, subst, arith}
 use Rattle.std.specs.Prelude.{if◌then◌else◌, ◌==◌}
 use Rattle.std.specs.FinMap as finite
@@ -28,16 +28,14 @@ use Rattle.proof_outlines.proofs.joined.Joined.{Label, Joined, node_of}
 use Rattle.proof_outlines.proofs.joined.CopyAnswers.{is_uncopied, AreUncopied, IsAnswer, get_sent, standby_sent, put_all_sent, other_sent}
 use Rattle.proof_outlines.proofs.joined.CopyCounts.{keeps_of, keeping, keeps_sent, light_others}
 use Rattle.proof_outlines.proofs.joined.CopyFalls.{AreNumbered, controller_falls}
+use Rattle.proof_machines.proofs.Tests.{by_if}
 
 -- what arrives is at most what is sent
 sent_most : (n count k : ℕ) (sends : List (ℕ × Msg)) → sent_weight (keeps_of n) count k sends ≤ keeps_sent n sends
 sent_most n count k [] = omega arith
 sent_most n count k (x ∷ xs) =
     let rest = sent_most n count k xs in
-    elim (reaches count k x.0) as (λ b. (if b then keeps_of n x.1 else 0) + sent_weight (keeps_of n) count k xs ≤ keeps_of n x.1 + keeps_sent n xs) [
-      | true ↦ omega (arith, rest)
-      | false ↦ omega (arith, rest)
-    ]
+    by_if (λ r. r + sent_weight (keeps_of n) count k xs ≤ keeps_of n x.1 + keeps_sent n xs) (reaches count k x.0) (omega (arith, rest)) (omega (arith, rest))
 
 uncopied_sent : (n : ℕ) (sends : List (ℕ × Msg)) → AreUncopied sends → keeps_sent n sends ≡ 0
 uncopied_sent n [] h = refl

@@ -14,13 +14,12 @@ use Rattle.nf_function.specs.declared.unit.Unit as units
 use Rattle.nf_function.specs.declared.unit.Unit.TheVariants.{Flow as OfFlow, Host as OfHost}
 use Rattle.nf_function.specs.Units.{unit_cmp, has_hosts, is_transport, is_unit}
 use Rattle.nf_function.specs.UnitOrder.{units_total}
-use Rattle.nf_function.specs.Records.{Fits, is_newer, newest, Laws as FunctionLaws}
+use Rattle.nf_function.specs.Records.{Fits, Laws as FunctionLaws}
 use Rattle.nf_function.specs.Semantics.{Semantics, is_sound, kept_after, unit_at}
-use Rattle.record_table.specs.Table.{Records, same_unit, without, is_among, after_packet, newest_of, either, AreSound}
+use Rattle.record_table.specs.Table.{Records, same_unit, without, is_among, after_packet, AreSound}
 use Rattle.record_table.specs.Chunks.{records_of, are_good}
 use Rattle.record_table.proofs.ChunkFronts.{equal_to}
-use Rattle.record_table.proofs.UnitOrder.{same_unit-true}
-use Rattle.record_table.proofs.RecordLookUps.{at, sound_with_kept, sound_retain_keys, get-joined}
+use Rattle.record_table.proofs.RecordLookUps.{at, sound_with_kept, sound_retain_keys}
 use Rattle.proof_machines.proofs.unit.Labels.{Each}
 use Rattle.proof_outlines.proofs.outline.FiltersApart.{unit_fits}
 use Rattle.proof_outlines.proofs.outline.Outline.{entries}
@@ -68,31 +67,6 @@ module _ {R : Type 0} (f : Semantics R) (laws : FunctionLaws f) where
 
   pub sound_without : (us : List units.Unit) (live : Records R) → AreSound f live → AreSound f (without us live)
   sound_without us live sound = sound_retain_keys f live (λ unit. not (is_among us unit)) sound
-
-  found_sound : (es : List (units.Unit × R)) → AreValid f laws es → (q : units.Unit) → is_sound f q (at es q) ≡ true
-  found_sound [] h q = refl
-  found_sound (e ∷ es) h q = elim (same_unit q e.0) as (λ b. same_unit q e.0 ≡ b → is_sound f q (cond b (Some e.1) (at es q)) ≡ true) [
-    | true ↦ λ same. rw (same_unit-true q e.0 same) h.0
-    | false ↦ λ _. found_sound es h.1 q
-  ] refl
-
-  newer_sound : (q : units.Unit) (b : Bool) (r s : R) → f.is_valid q r ≡ true → f.is_valid q s ≡ true → f.is_valid q (cond b r s) ≡ true
-  newer_sound q true r s first second = first
-  newer_sound q false r s first second = second
-
-  either_sound : (q : units.Unit) (o p : Option R) → is_sound f q o ≡ true → is_sound f q p ≡ true → is_sound f q (either (newest f) o p) ≡ true
-  either_sound q None None first second = refl
-  either_sound q (Some r) None first second = first
-  either_sound q None (Some s) first second = second
-  either_sound q (Some r) (Some s) first second = newer_sound q (is_newer f r s) r s first second
-
-  -- newer records that were read are valid as well
-  pub sound_newest : (live : Records R) (cs : List Chunk) → AreValid f laws (entries f cs) → AreSound f live → AreSound f (newest_of f live (records_of f cs))
-  unfolding records_of
-  sound_newest live cs valid sound q =
-      let coming : is_sound f q (finite.get (records_of f cs) q) ≡ true = rw (finite.get-from_entries units_total (entries f cs) q)
-      (found_sound (entries f cs) valid q) in
-      rw (get-joined (newest f) live (records_of f cs) q) (either_sound q (finite.get live q) (finite.get (records_of f cs) q) (sound q) coming)
 
 module _ {R : Type 0} where
   absent : (u : units.Unit) (es : List (units.Unit × R)) → AllByRecursion (λ v. same_unit u v ≡ false) (keys_of es) → at es u ≡ None

@@ -1,11 +1,11 @@
 -- An instance's step on each message of a run leads from a world of a run to one, by the rows of InstanceSteps.
-use Rattle.std.proofs.Common.{◌≡◌, ℕ, zero, suc, ◌≤◌, Bool, true, false, Some, None, List, [], refl, arith}
+use Rattle.std.proofs.Common.{◌≡◌, ℕ, zero, suc, ◌≤◌, Bool, true, false, Some, None, List, refl, arith}
 use Rattle.flow_filter.specs.declared.filter.Filter.{Filter}
 use Rattle.nf_function.specs.declared.chunk.Chunk.{Chunk}
 use Rattle.nf_function.specs.declared.unit.Unit as units
 use Rattle.nf_function.specs.Records.{Fits, Laws as FunctionLaws}
 use Rattle.nf_function.specs.Semantics.{Semantics}
-use Rattle.record_table.specs.Table.{newest_of}
+use Rattle.record_table.specs.Table.{Records, newest_of}
 use Rattle.record_table.specs.Chunks.{records_of}
 use Rattle.nf_msgs.specs.declared.msg.Piece.{Piece}
 use Rattle.nf_msgs.specs.declared.msg.Msg.{Msg}
@@ -14,24 +14,22 @@ use Rattle.packet_pool.specs.Pool.{FullCell}
 use Rattle.event_filter.specs.declared.action.Action.{Action}
 use Rattle.event_filter.specs.declared.mark.Mark.TheVariants as mark
 use Rattle.instance_worker.specs.declared.instance.Instance.{Instance as InstanceState}
-use Rattle.instance_worker.specs.Instance.{instance_step, on_standby}
+use Rattle.instance_worker.specs.Instance.{instance_step}
 use Rattle.proof_machines.proofs.unit.Real as real
 use Rattle.proof_machines.proofs.net.Net as net
 use Rattle.proof_machines.proofs.net.Net.{inst_step, put, everything, is_free}
 use Rattle.proof_machines.proofs.net.Shares.{Old, New, ShareMsg, Shared_on, S_get, S_sync, member_step}
+use Rattle.proof_machines.proofs.whole.EveryAll.{MayKeep}
 use Rattle.net_world.specs.Nodes.{node_step}
 use Rattle.proof_outlines.proofs.outline.FiltersApart.{is_whole}
-use Rattle.proof_outlines.proofs.outline.Outline.{number, rule_of, entries, outline_piece, outline_instance}
+use Rattle.proof_outlines.proofs.outline.Outline.{number, rule_of, entries, outline_piece, outline_instance, is_sys}
 use Rattle.proof_outlines.proofs.outline.InstanceOutline.{Follows, carry_follows, pass_follows, fence_follows, enable_follows}
 use Rattle.proof_outlines.proofs.outline.StateOutline.{stream_follows, delete_follows, put_follows, restore_follows}
 use Rattle.proof_outlines.proofs.whole.MemberOutline.{MemberFollows, shared_follows, get_follows, sync_follows}
-use Rattle.proof_outlines.proofs.whole.MemberTables.{AreBothSound, shared_sound, get_sound, sync_sound, standby_sound, step_sound}
 use Rattle.proof_outlines.proofs.whole.StandbyKept.{leaves_standby, whole_follows, Keeps, standby_keeps, stop_keeps, get_all_keeps, put_all_keeps}
 use Rattle.proof_outlines.proofs.whole.InstanceWorlds.{ShowsAt, old_steps, new_steps, keeps_steps}
-use Rattle.proof_outlines.proofs.joined.InstanceKeeps.{valid_chunks, chunks_good}
-use Rattle.proof_outlines.proofs.joined.InstanceRows.{IsRight, Leaves, sound_part, carry_leaves, pass_leaves, shared_leaves, fence_leaves}
-use Rattle.proof_outlines.proofs.joined.InstanceRows.{stop_leaves, enable_leaves, stream_leaves, delete_leaves, put_leaves, restore_leaves}
-use Rattle.proof_outlines.proofs.joined.CopyRows.{get_leaves, get_all_leaves, standby_leaves, put_all_leaves, sync_leaves}
+use Rattle.proof_outlines.proofs.joined.InstanceKeeps.{chunks_good}
+use Rattle.proof_outlines.proofs.joined.InstanceRows.{IsRight, Leaves, sound_part, instance_leaves}
 use Rattle.proof_outlines.proofs.joined.StandbyChunks.{MayStandBy, same_may_keep, chunks_may_keep}
 use Rattle.proof_outlines.proofs.joined.Given.{Given, place}
 use Rattle.proof_outlines.proofs.joined.Joined.{Scene, S, A, shown, came_by, Genuine, AreGoodChunks, IsGoodPiece}
@@ -68,39 +66,12 @@ module _ {R : Type 0} (f : Semantics R) (g : Given) (Goal : Msg → Type 0) wher
   by_message p j r (msg.Delete op gone) label = r.delete op gone
   by_message p j r (msg.Put op piece first) label = r.put op piece first label.1
   by_message p j r (msg.Restore op chunks) label = r.restore op chunks label.1
-  by_message p j r (msg.InPacket packet) label = let never = label.0.1 in cc
-  by_message p j r (msg.InCommand c) label = let never = label.0.1 in cc
-  by_message p j r msg.InSettle label = let never = label.1 in cc
-  by_message p j r msg.InEnd label = let never = label.1 in cc
-  by_message p j r (msg.Asked c) label = let never = label.1 in cc
-  by_message p j r msg.End label = let never = label.1 in cc
-  by_message p j r (msg.Forward to mark cell) label = let never = label.0.1 in cc
-  by_message p j r (msg.Install op filter from to) label = let never = label.0.1 in cc
-  by_message p j r (msg.FenceTo op to) label = let never = label.0.1 in cc
-  by_message p j r (msg.Answered op) label = let never = label.1 in cc
-  by_message p j r msg.Finish label = let never = label.1 in cc
-  by_message p j r (msg.Enabled op) label = let never = label.1 in cc
-  by_message p j r (msg.Piece op piece) label = let never = label.0.1 in cc
-  by_message p j r (msg.Deleted op) label = let never = label.1 in cc
-  by_message p j r (msg.PutOk op) label = let never = label.1 in cc
-  by_message p j r (msg.PutNo op refused) label = let never = label.0.1 in cc
-  by_message p j r (msg.Restored op) label = let never = label.1 in cc
-  by_message p j r (msg.Event op cell) label = let never = label.0.1 in cc
-  by_message p j r (msg.Fenced op) label = let never = label.1 in cc
-  by_message p j r msg.Final label = let never = label.1 in cc
-  by_message p j r (msg.Credit cell) label = let never = label.1 in cc
-  by_message p j r (msg.Diverted cell) label = let never = label.1 in cc
   by_message p j r (msg.Get op filter) label = r.get op filter label.1
   by_message p j r (msg.GetAll op) label = r.get_all op
   by_message p j r (msg.Standby op chunks) label = r.standby op chunks label.1
   by_message p j r (msg.PutAll op chunk) label = r.put_all op chunk
   by_message p j r (msg.Sync home op chunks) label = r.sync home op chunks label.1
-  by_message p j r (msg.Chunks op chunks) label = let never = label.0.1 in cc
-  by_message p j r (msg.AllChunk op chunk) label = let never = label.1 in cc
-  by_message p j r (msg.Kept op) label = let never = label.1 in cc
-  by_message p j r (msg.Seen op packet) label = absurd label
-  by_message p j r (msg.Shared op chunk) label = let never = label.0.1 in cc
-  by_message p j r (msg.Synced op) label = let never = label.1 in cc
+  by_message p j r m label = absurd (first_of (assumption, omega arith))
 
 -- Each message by these.
 module _ {F R : Type 0} (f : Semantics R) (laws : FunctionLaws f) (g : Given) (fitting : (number : ℕ) → Fits g.site (g.packet number)) (n : ℕ) (x : Scene F f g)
@@ -122,103 +93,73 @@ module _ {F R : Type 0} (f : Semantics R) (laws : FunctionLaws f) (g : Given) (f
     right : IsRight f g (suc (suc j)) own_at
     right = record { rules = at.rules; held = at.held; sound = at.records.sound; number = at.number }
 
-    both : AreBothSound f own_at.table
-    both = record { live = at.records.sound; standby = at.stands.sound }
-
     shows : ShowsAt f g.site g.packet (suc (suc j)) x.world own_at
     shows = record { inst = at.outline_is; standby = at.standby_is }
+
+    -- what each message leaves
+    leaves : (m : Msg) → IsTakenHere m → Leaves f g (suc (suc j)) (instance_step f own_at m)
+    leaves m is = instance_leaves f laws g fitting (suc (suc j)) two own_at m p is.label right at.stands.sound
 
     -- a message of a move
     old_leads : (m : Msg) (seen : net.Msg R) → shown f g m ≡ Some (Old seen) → leaves_standby m ≡ true
         → Follows f g.site g.packet (place g) (instance_step f own_at m) (inst_step (S f g) (outline_instance f g.site g.packet own_at) seen)
-        → Leaves f g (suc (suc j)) (instance_step f own_at m) → IsTakenHere m → Now m
-    old_leads m seen shown_as e follows leaves is =
+        → IsTakenHere m → MayStand m → Now m
+    old_leads m seen shown_as e follows is may =
         let did = inst_step (S f g) (outline_instance f g.site g.packet own_at) seen in
         shown_leads f laws g n x p j m (Old seen) are is shown_as
         (old_steps f g.site g.packet (place g) x.world p (suc (suc j)) own_at (instance_step f own_at m) seen shows
         (whole_follows f g.site g.packet (place g) own_at m did e follows))
-        leaves (step_sound f laws (place g) own_at m e both leaves.node.sound).standby
+        (leaves m is)
 
     -- one of a share
     new_leads : (m : Msg) (seen : ShareMsg R) → shown f g m ≡ Some (New seen)
         → MemberFollows f g.site g.packet (place g) own_at (instance_step f own_at m) (member_step (S f g) (A f g) own_at.table.live own_at.table.standby seen)
-        → Leaves f g (suc (suc j)) (instance_step f own_at m) → AreBothSound f (instance_step f own_at m).node.table → IsTakenHere m → Now m
-    new_leads m seen shown_as follows leaves sound is =
+        → IsTakenHere m → MayStand m → Now m
+    new_leads m seen shown_as follows is may =
         shown_leads f laws g n x p j m (New seen) are is shown_as
-        (new_steps f g.site g.packet (place g) x.world p (suc (suc j)) own_at (instance_step f own_at m) seen shows follows)
-        leaves sound.standby
+        (new_steps f g.site g.packet (place g) x.world p (suc (suc j)) own_at (instance_step f own_at m) seen shows follows) (leaves m is)
 
-    -- one that isn't seen and leaves what stands by
-    unseen_leads : (m : Msg) → shown f g m ≡ None → leaves_standby m ≡ true
-        → Keeps f g.site g.packet (place g) own_at (instance_step f own_at m) own_at.table.standby → Leaves f g (suc (suc j)) (instance_step f own_at m) → Now m
-    unseen_leads m hidden e kept leaves =
-        keeps_leads f laws g n x p j m own_at.table.standby are hidden
-        (keeps_steps f g.site g.packet (place g) x.world p (suc (suc j)) own_at (instance_step f own_at m) own_at.table.standby shows kept)
-        (same_may_keep f g x.world (came_by f g x.log) are.every (suc (suc j)) own_at.table.standby at.standby_is)
-        leaves (step_sound f laws (place g) own_at m e both leaves.node.sound).standby
+    -- one that isn't seen, after which these records stand by
+    unseen_leads : (m : Msg) (records : Records R) → shown f g m ≡ None
+        → Keeps f g.site g.packet (place g) own_at (instance_step f own_at m) records
+        → MayKeep (S f g) (A f g) (is_sys f g.site g.packet) x.world (suc (suc j)) records → IsTakenHere m → Now m
+    unseen_leads m records hidden kept may is =
+        keeps_leads f laws g n x p j m records are hidden
+        (keeps_steps f g.site g.packet (place g) x.world p (suc (suc j)) own_at (instance_step f own_at m) records shows kept) may (leaves m is)
 
-    shared_leads : (op : ℕ) (home : Bool) (cell : FullCell) → Genuine f g cell → IsTakenHere (msg.Carry (mark.Shared op home) cell)
-        → Now (msg.Carry (mark.Shared op home) cell)
-    shared_leads op home cell e =
-        let sound = sound_part f laws g fitting (suc (suc j)) two own_at home cell right at.stands.sound e in
-        new_leads (msg.Carry (mark.Shared op home) cell) (Shared_on op home (number cell)) refl
-        (shared_follows f laws g.site g.packet (place g) own_at op home cell right.rules e sound)
-        (shared_leaves f laws g fitting (suc (suc j)) two own_at op home cell right at.stands.sound e)
-        (shared_sound f laws own_at op home cell both sound)
-
-    get_leads : (op : ℕ) (filter : Filter) → is_whole f.kind filter ≡ true → IsTakenHere (msg.Get op filter) → Now (msg.Get op filter)
-    get_leads op filter whole =
-        new_leads (msg.Get op filter) (S_get op filter) refl (get_follows f laws g.site g.packet (place g) own_at op filter whole at.records)
-        (get_leaves f laws g (suc (suc j)) two own_at op filter right) (get_sound f laws own_at op filter both)
-
-    sync_leads : (home : Bool) (op : ℕ) (chunks : List Chunk) → AreGoodChunks f g chunks → IsTakenHere (msg.Sync home op chunks) → Now (msg.Sync home op chunks)
-    sync_leads home op chunks good =
-        let all = chunks_good f laws g chunks good in
-        let sound = sync_sound f laws own_at home op chunks all (valid_chunks f laws g chunks good.each) both in
-        new_leads (msg.Sync home op chunks) (S_sync op home (entries f chunks)) refl (sync_follows f laws g.site g.packet (place g) own_at home op chunks all)
-        (sync_leaves f laws g (suc (suc j)) two own_at home op chunks right sound.live good) sound
-
-    standby_leads : (op : ℕ) (chunks : List Chunk) → AreGoodChunks f g chunks → MayStand (msg.Standby op chunks) → Now (msg.Standby op chunks)
-    standby_leads op chunks good may =
-        let all = chunks_good f laws g chunks good in
-        let records = newest_of f own_at.table.standby (records_of f chunks) in
-        keeps_leads f laws g n x p j (msg.Standby op chunks) records are refl
-        (keeps_steps f g.site g.packet (place g) x.world p (suc (suc j)) own_at (on_standby f own_at op chunks) records shows
-        (standby_keeps f g.site g.packet (place g) own_at op chunks all))
-        (chunks_may_keep f g x.world (came_by f g x.log) are.every (suc (suc j)) own_at.table.standby at.standby_is chunks (may op chunks refl))
-        (standby_leaves f laws g (suc (suc j)) two own_at op chunks right good)
-        (standby_sound f laws own_at op chunks all (valid_chunks f laws g chunks good.each) both).standby
+    same_keep : MayKeep (S f g) (A f g) (is_sys f g.site g.packet) x.world (suc (suc j)) own_at.table.standby
+    same_keep = same_may_keep f g x.world (came_by f g x.log) are.every (suc (suc j)) own_at.table.standby at.standby_is
 
     all_rows : Rows f g (λ m. IsTakenHere m → MayStand m → Now m)
     all_rows = record {
-      carry = λ cell e is may. old_leads (msg.Carry mark.Plain cell) (net.Carry_on (number cell)) refl refl
-          (carry_follows f g.site g.packet (place g) own_at cell right.rules e) (carry_leaves f laws g fitting (suc (suc j)) two own_at cell right e) is;
-      pass = λ op cell e is may. old_leads (msg.Carry (mark.Pass op) cell) (net.Pass_on (number cell)) refl refl
-          (pass_follows f g.site g.packet (place g) own_at op cell right.rules e) (pass_leaves f laws g fitting (suc (suc j)) two own_at op cell right e) is;
-      shared = λ op home cell e is may. shared_leads op home cell e is;
-      fence = λ op is may. old_leads (msg.Fence op) (net.Fence_on op) refl refl (fence_follows f g.site g.packet (place g) own_at op right.rules)
-          (fence_leaves f laws g fitting (suc (suc j)) two own_at op right) is;
-      stop = λ is may. unseen_leads msg.Stop refl refl (stop_keeps f g.site g.packet (place g) own_at)
-          (stop_leaves f laws g fitting (suc (suc j)) two own_at right);
-      enable = λ op filter act w e is may. old_leads (msg.Enable op filter act) (net.Mv filter (real.M_enable op (rule_of act))) refl refl (enable_follows f
-          g.site g.packet (place g) own_at op filter act) (enable_leaves f laws g fitting (suc (suc j)) two own_at op filter act right w e) is;
-      stream = λ op filter w is may. old_leads (msg.Stream op filter) (net.Mv filter (real.M_stream op)) refl refl (stream_follows f laws g.site g.packet
-          (place g) own_at op filter w at.records) (stream_leaves f laws g fitting (suc (suc j)) two own_at op filter right) is;
-      delete = λ op gone is may. old_leads (msg.Delete op gone) (net.Mv everything (real.M_delete op gone)) refl refl
-          (delete_follows f laws g.site g.packet (place g) own_at op gone) (delete_leaves f laws g fitting (suc (suc j)) two own_at op gone right) is;
-      put = λ op piece first e is may. old_leads (msg.Put op piece first) (net.Mv everything (real.M_put op (outline_piece f piece) first))
-          refl refl (put_follows f laws g.site g.packet (place g) own_at op piece first (chunks_good f laws g piece.chunks e.good) e.few)
-          (put_leaves f laws g fitting (suc (suc j)) two own_at op piece first right e) is;
-      restore = λ op chunks e is may. old_leads (msg.Restore op chunks) (net.Mv everything (real.M_restore op (entries f chunks)))
-          refl refl (restore_follows f laws g.site g.packet (place g) own_at op chunks (chunks_good f laws g chunks e))
-          (restore_leaves f laws g fitting (suc (suc j)) two own_at op chunks right e) is;
-      get = λ op filter w is may. get_leads op filter w is;
-      get_all = λ op is may. unseen_leads (msg.GetAll op) refl refl (get_all_keeps f g.site g.packet (place g) own_at op)
-          (get_all_leaves f laws g (suc (suc j)) two own_at op right);
-      standby = λ op chunks e is may. standby_leads op chunks e may;
-      put_all = λ op chunk is may. unseen_leads (msg.PutAll op chunk) refl refl (put_all_keeps f g.site g.packet (place g) own_at op chunk)
-          (put_all_leaves f laws g (suc (suc j)) two own_at op chunk right);
-      sync = λ home op chunks e is may. sync_leads home op chunks e is;
+      carry = λ cell e. old_leads (msg.Carry mark.Plain cell) (net.Carry_on (number cell)) refl refl
+          (carry_follows f g.site g.packet (place g) own_at cell right.rules e);
+      pass = λ op cell e. old_leads (msg.Carry (mark.Pass op) cell) (net.Pass_on (number cell)) refl refl
+          (pass_follows f g.site g.packet (place g) own_at op cell right.rules e);
+      shared = λ op home cell e. new_leads (msg.Carry (mark.Shared op home) cell) (Shared_on op home (number cell)) refl (shared_follows f laws
+          g.site g.packet (place g) own_at op home cell right.rules e (sound_part f laws g fitting (suc (suc j)) two own_at home cell right at.stands.sound e));
+      fence = λ op. old_leads (msg.Fence op) (net.Fence_on op) refl refl (fence_follows f g.site g.packet (place g) own_at op right.rules);
+      stop = λ is may. unseen_leads msg.Stop own_at.table.standby refl (stop_keeps f g.site g.packet (place g) own_at) same_keep is;
+      enable = λ op filter act w e. old_leads (msg.Enable op filter act) (net.Mv filter (real.M_enable op (rule_of act))) refl refl
+          (enable_follows f g.site g.packet (place g) own_at op filter act);
+      stream = λ op filter w. old_leads (msg.Stream op filter) (net.Mv filter (real.M_stream op)) refl refl
+          (stream_follows f laws g.site g.packet (place g) own_at op filter w at.records);
+      delete = λ op gone. old_leads (msg.Delete op gone) (net.Mv everything (real.M_delete op gone)) refl refl
+          (delete_follows f laws g.site g.packet (place g) own_at op gone);
+      put = λ op piece first e. old_leads (msg.Put op piece first) (net.Mv everything (real.M_put op (outline_piece f piece) first)) refl refl
+          (put_follows f laws g.site g.packet (place g) own_at op piece first (chunks_good f laws g piece.chunks e.good) e.few);
+      restore = λ op chunks e. old_leads (msg.Restore op chunks) (net.Mv everything (real.M_restore op (entries f chunks))) refl refl
+          (restore_follows f laws g.site g.packet (place g) own_at op chunks (chunks_good f laws g chunks e));
+      get = λ op filter w. new_leads (msg.Get op filter) (S_get op filter) refl
+          (get_follows f laws g.site g.packet (place g) own_at op filter w at.records);
+      get_all = λ op is may. unseen_leads (msg.GetAll op) own_at.table.standby refl (get_all_keeps f g.site g.packet (place g) own_at op) same_keep is;
+      standby = λ op chunks e is may. unseen_leads (msg.Standby op chunks) (newest_of f own_at.table.standby (records_of f chunks)) refl
+          (standby_keeps f g.site g.packet (place g) own_at op chunks (chunks_good f laws g chunks e))
+          (chunks_may_keep f g x.world (came_by f g x.log) are.every (suc (suc j)) own_at.table.standby at.standby_is chunks (may op chunks refl)) is;
+      put_all = λ op chunk is may.
+          unseen_leads (msg.PutAll op chunk) own_at.table.standby refl (put_all_keeps f g.site g.packet (place g) own_at op chunk) same_keep is;
+      sync = λ home op chunks e. new_leads (msg.Sync home op chunks) (S_sync op home (entries f chunks)) refl
+          (sync_follows f laws g.site g.packet (place g) own_at home op chunks (chunks_good f laws g chunks e));
     }
 
     pub each_leads : (m : Msg) → IsTakenHere m → MayStand m → Now m

@@ -1,6 +1,6 @@
 -- Each message of a run leaves an instance such a one, and what it sends and notes is such as comes in a run.
-use Rattle.std.proofs.Common.{◌≡◌, ℕ, ◌+◌, ◌≤◌, Bool, true, false, Option, Some, None, List, [], ◌∷◌, ◌++◌, refl, sym, subst}
-use Rattle.std.specs.Prelude.{if◌then◌else◌, ◌&&◌, ◌||◌, ◌==◌, not, find, nat_lt, is_some}
+use Rattle.std.proofs.Common.{◌≡◌, ℕ, ◌+◌, ◌≤◌, Bool, true, false, Option, Some, None, List, [], ◌∷◌, ◌++◌, refl, sym, ap, ◌∙◌, subst}
+use Rattle.std.specs.Prelude.{if◌then◌else◌, ◌&&◌, ◌||◌, ◌==◌, not, find, nat_lt, is_some, Ok}
 use Rattle.std.specs.FinMap as finite
 use Rattle.flow_filter.specs.declared.filter.Filter.{Filter}
 use Rattle.flow_filter.specs.Filter.{matches}
@@ -9,10 +9,10 @@ use Rattle.nf_function.specs.declared.chunk.Chunk.{Chunk}
 use Rattle.nf_function.specs.declared.unit.Unit as units
 use Rattle.nf_function.specs.Records.{Fits, Laws as FunctionLaws}
 use Rattle.nf_function.specs.Semantics.{Semantics, unit_at}
-use Rattle.record_table.specs.Table.{Records, TableView, part, after_packet, without, newest_of, AreSound}
-use Rattle.record_table.specs.Chunks.{records_of}
+use Rattle.record_table.specs.Table.{part, after_packet, AreSound}
 use Rattle.event_filter.specs.declared.action.Action.{Action}
 use Rattle.event_filter.specs.declared.action.Action.TheVariants as action
+use Rattle.event_filter.specs.declared.mark.Mark.{Mark}
 use Rattle.event_filter.specs.declared.mark.Mark.TheVariants as mark
 use Rattle.event_filter.specs.declared.rule.Rule.{Rule as EventRule}
 use Rattle.event_filter.specs.Rules as rules
@@ -21,12 +21,13 @@ use Rattle.packet_pool.specs.Pool.{FullCell}
 use Rattle.nf_msgs.specs.declared.answer.Answer.{Answer}
 use Rattle.nf_msgs.specs.declared.answer.Answer.TheVariants as answer
 use Rattle.nf_msgs.specs.declared.msg.Piece.{Piece}
+use Rattle.nf_msgs.specs.declared.msg.Msg.{Msg}
 use Rattle.nf_msgs.specs.declared.msg.Msg.TheVariants as msg
-use Rattle.nf_msgs.specs.Nodes.{instance_node}
+use Rattle.nf_msgs.specs.Nodes.{switch_node, instance_node}
 use Rattle.instance_worker.specs.declared.instance.Instance.{Instance}
-use Rattle.instance_worker.specs.Instance as instances
-use Rattle.instance_worker.specs.Instance.{Step, to_controller, with_count, table_after, process_step, all_processed, carry_step, on_carry}
-use Rattle.instance_worker.specs.Instance.{on_fence, on_stop, on_enable, on_stream, on_delete, on_put, on_restore, piece_put, piece_refusal}
+use Rattle.instance_worker.specs.Instance.{Step, to_controller, is_live, with_count, table_after, share_message, process_step, all_processed}
+use Rattle.instance_worker.specs.Instance.{carry_step, on_carry, on_fence, on_delete, with_live, with_standby, with_records}
+use Rattle.instance_worker.specs.Instance.{tally_put, instance_step}
 use Rattle.actor_net.proofs.WeightLaws.{EachSent}
 use Rattle.proof_machines.proofs.unit.Labels.{Each, each-append}
 use Rattle.proof_machines.proofs.net.Net.{is_free}
@@ -34,12 +35,15 @@ use Rattle.proof_outlines.proofs.outline.FiltersApart.{is_whole}
 use Rattle.proof_outlines.proofs.outline.Outline.{number, rule_of}
 use Rattle.proof_outlines.proofs.outline.MoveOutline.{is_done}
 use Rattle.proof_outlines.proofs.outline.InstanceOutline.{IsInstance, held_genuine}
+use Rattle.proof_outlines.proofs.outline.InstanceWays.{may_process, refusal_of, WaysOfInstance, instance_fits}
+use Rattle.proof_outlines.proofs.whole.MemberTables.{AreBothSound, with_part_sound, part_sound, records_sound, newest_sound}
 use Rattle.proof_outlines.proofs.joined.InstanceNotes.{AreOwn, IsOwn}
-use Rattle.proof_outlines.proofs.joined.InstanceKeeps.{sound_after, sound_without, sound_newest, valid_chunks, chunks_good}
-use Rattle.proof_outlines.proofs.joined.InstanceSends.{stream_sends, shared_sends}
+use Rattle.proof_outlines.proofs.joined.InstanceKeeps.{sound_after, sound_without, valid_chunks}
+use Rattle.proof_outlines.proofs.joined.InstanceSends.{stream_sends, get_sends, shared_sends}
 use Rattle.proof_outlines.proofs.joined.Given.{Given, place}
-use Rattle.proof_outlines.proofs.joined.Joined.{Genuine, AreGoodChunks, IsGoodPiece, Label}
+use Rattle.proof_outlines.proofs.joined.Joined.{Genuine, AreGoodChunks, Label}
 use Rattle.net_world.proofs.SentMessages.{sent-append}
+use Rattle.proof_machines.proofs.Tests.{split, by_if}
 
 -- what holds of each rule
 module _ (P : EventRule FullCell → Type 0) where
@@ -47,7 +51,7 @@ module _ (P : EventRule FullCell → Type 0) where
       → (rs : List (EventRule FullCell)) → Each P rs → Each P (rules.with_change rs op change)
   rules_changed op change keeps [] h = tt
   rules_changed op change keeps (r ∷ rs) h =
-      (elim (r.op == op) as (λ b. P (if b then change r else r)) [ true ↦ keeps r h.0 | false ↦ h.0 ], rules_changed op change keeps rs h.1)
+      (by_if P (r.op == op) (keeps r h.0) h.0, rules_changed op change keeps rs h.1)
 
   rules_without : (op : ℕ) (rs : List (EventRule FullCell)) → Each P rs → Each P (rules.without_rule rs op)
   rules_without op [] h = tt
@@ -58,11 +62,7 @@ module _ (P : EventRule FullCell → Type 0) where
       → ((r : EventRule FullCell) → P r → P (rules.with_rule_of filter act r)) → P (record { op = op; filter = filter; action = act; held = [] })
       → Each P rs → Each P (rules.with_rule rs op filter act)
   rules_set op filter act rs keeps new h =
-      elim (is_some (rules.rule_at rs op)) as (λ b. Each P
-      (if b then rules.with_change rs op (rules.with_rule_of filter act) else rs ++ (record { op = op; filter = filter; action = act; held = [] }) ∷ [])) [
-        | true ↦ rules_changed op (rules.with_rule_of filter act) keeps rs h
-        | false ↦ each-append P rs _ h (new, tt)
-      ]
+      by_if (Each P) (is_some (rules.rule_at rs op)) (rules_changed op (rules.with_rule_of filter act) keeps rs h) (each-append P rs _ h (new, tt))
 
   found_has : (p : EventRule FullCell → Bool) (rs : List (EventRule FullCell)) (r : EventRule FullCell) → Each P rs → find p rs ≡ Some r → P r
   found_has p [] r h e = cc
@@ -73,10 +73,8 @@ module _ (P : EventRule FullCell → Type 0) where
 none_of : (op : ℕ) (rs : List (EventRule FullCell)) → rules.rule_at rs op ≡ None → HasNone op rs
 none_of op [] e = tt
 none_of op (r ∷ rs) e =
-    elim (r.op == op) as (λ b. (r.op == op) ≡ b → (if b then Some r else rules.rule_at rs op) ≡ None → ((r.op == op) ≡ false) × HasNone op rs) [
-      | true ↦ λ here is. cc
-      | false ↦ λ off is. (off, none_of op rs is)
-    ] refl e
+    split (r.op == op) (λ b. (if b then Some r else rules.rule_at rs op) ≡ None → ((r.op == op) ≡ false) × HasNone op rs) (λ here is. cc)
+    (λ off is. (off, none_of op rs is)) e
 
 one_each-with_rule : (rs : List (EventRule FullCell)) (op : ℕ) (filter : Filter) (act : Action) → rules.HaveOneEach rs
     → rules.HaveOneEach (rules.with_rule rs op filter act)
@@ -98,6 +96,7 @@ module _ {F R : Type 0} (f : Semantics R) (g : Given) where
   -- what a step leaves
   pub record Leaves (k : ℕ) (step : Step F R) : Type 0 where
     pub node : IsRight k step.node
+    pub stands : AreSound f step.node.table.standby
     pub notes : AreOwn k step.notes
     pub sends : EachSent (Label f g) k step.sends
 
@@ -109,66 +108,56 @@ module _ {F R : Type 0} (f : Semantics R) (laws : FunctionLaws f) (g : Given) (f
   fits_at : (i : Instance F R) (cell : FullCell) → Right i → Genuine f g cell → Fits i.site cell.packet
   fits_at i cell h genuine = subst (λ s. Fits s cell.packet) (sym h.rules.at) (subst (λ q. Fits g.site q) (sym genuine.same) (fitting (number cell)))
 
-  -- an instance that has processed a packet, with these records live
-  after_is : (i : Instance F R) (t : TableView R) → Right i → AreSound f t.live → Right (with_count (record i { table = t }))
-  after_is i t h sound = record {
-    rules = record { at = h.rules.at; whole = h.rules.whole; held = h.rules.held; one_each = h.rules.one_each };
-    held = h.held;
+  -- one that differs in its table, its tally and its end alone
+  same_right : (i j : Instance F R) → Right i → j.rules ≡ i.rules → j.site ≡ i.site → j.index ≡ i.index → AreSound f j.table.live → Right j
+  same_right i j h same site index sound = record {
+    rules = record {
+      at = site ∙ h.rules.at;
+      whole = subst (Each (λ r. is_whole f.kind r.filter ≡ true)) (sym same) h.rules.whole;
+      held = subst (Each (λ r. Each (Genuine f g) r.held)) (sym same) h.rules.held;
+      one_each = subst rules.HaveOneEach (sym same) h.rules.one_each;
+    };
+    held = subst (Each (λ r. is_free (rule_of r.action) ≡ false)) (sym same) h.held;
     sound = sound;
-    number = h.number;
+    number = ap instance_node index ∙ h.number;
   }
 
-  plain_after : (i : Instance F R) (cell : FullCell) → Right i → Genuine f g cell → Leaves f g k (process_step f i mark.Plain cell)
-  unfolding process_step
-  plain_after i cell h genuine = record {
-    node = after_is i (table_after f i mark.Plain cell.packet) h (sound_after f laws i.site i.table.live cell.packet (fits_at i cell h genuine) h.sound);
-    notes = (h.number, tt);
-    sends = ((two, refl, genuine.pool), tt);
-  }
-
-  passed_after : (i : Instance F R) (op : ℕ) (cell : FullCell) → Right i → Genuine f g cell → Leaves f g k (process_step f i (mark.Pass op) cell)
-  unfolding process_step
-  passed_after i op cell h genuine = record {
-    node = after_is i (table_after f i (mark.Pass op) cell.packet) h (sound_after f laws i.site i.table.live cell.packet (fits_at i cell h genuine) h.sound);
-    notes = (h.number, tt);
-    sends = ((two, refl, genuine.pool), tt);
-  }
-
-  -- a packet of a share, in the live records at its home, and elsewhere in those that stand by
+  -- a packet of a share steps the live records at its home, and elsewhere those that stand by
   pub sound_part : (i : Instance F R) (home : Bool) (cell : FullCell) → Right i → AreSound f i.table.standby → Genuine f g cell
       → AreSound f (after_packet f i.site (part i.table home) cell.packet)
-  sound_part i true cell h stands genuine = sound_after f laws i.site i.table.live cell.packet (fits_at i cell h genuine) h.sound
-  sound_part i false cell h stands genuine = sound_after f laws i.site i.table.standby cell.packet (fits_at i cell h genuine) stands
+  sound_part i home cell h stands genuine = sound_after f laws i.site (part i.table home) cell.packet (fits_at i cell h genuine)
+      (part_sound f i.table home (record { live = h.sound; standby = stands }))
 
-  shared_after : (i : Instance F R) (op : ℕ) (home : Bool) (cell : FullCell) → Right i → AreSound f i.table.standby → Genuine f g cell
-      → Leaves f g k (process_step f i (mark.Shared op home) cell)
+  told_sends : (j : Instance F R) (mk : Mark) (u : units.Unit) (cell : FullCell) → AreBothSound f j.table → cell.pool ≡ 0
+      → EachSent (Label f g) k (to_controller (share_message f j mk u) ++ (switch_node, msg.Credit cell) ∷ [])
+  told_sends j (mark.Shared op home) u cell both pool =
+      shared_sends f laws g k op u (finite.get (part j.table home) u) cell two pool (part_sound f j.table home both u)
+  told_sends j mk u cell both pool = ((two, refl, pool), tt)
+
+  processed_leaves : (i : Instance F R) (mk : Mark) (cell : FullCell) → Right i → AreSound f i.table.standby → Genuine f g cell
+      → Leaves f g k (process_step f i mk cell)
   unfolding process_step
-  shared_after i op true cell h stands genuine =
-      let u = unit_at f.kind i.site cell.packet in
-      let records = after_packet f i.site i.table.live cell.packet in
-      let sound = sound_part i true cell h stands genuine in
+  processed_leaves i mk cell h stands genuine =
+      let after = with_count (record i { table = table_after f i mk cell.packet }) in
+      let both = with_part_sound f i.table (is_live mk) (after_packet f i.site (part i.table (is_live mk)) cell.packet)
+      (record { live = h.sound; standby = stands }) (sound_part i (is_live mk) cell h stands genuine) in
       record {
-        node = after_is i (table_after f i (mark.Shared op true) cell.packet) h sound;
+        node = same_right i after h refl refl refl both.live;
+        stands = both.standby;
         notes = (h.number, tt);
-        sends = shared_sends f laws g k op u (finite.get records u) cell two genuine.pool (sound u);
-      }
-  shared_after i op false cell h stands genuine =
-      let u = unit_at f.kind i.site cell.packet in
-      let records = after_packet f i.site i.table.standby cell.packet in
-      record {
-        node = after_is i (table_after f i (mark.Shared op false) cell.packet) h h.sound;
-        notes = (h.number, tt);
-        sends = shared_sends f laws g k op u (finite.get records u) cell two genuine.pool (sound_part i false cell h stands genuine u);
+        sends = told_sends after mk (unit_at f.kind i.site cell.packet) cell both genuine.pool;
       }
 
-  all_right : (i : Instance F R) (cells : List FullCell) → Right i → Each (Genuine f g) cells → Leaves f g k (all_processed f i cells)
+  all_leave : (i : Instance F R) (cells : List FullCell) → Right i → AreSound f i.table.standby → Each (Genuine f g) cells
+      → Leaves f g k (all_processed f i cells)
   unfolding all_processed
-  all_right i [] h all = record { node = h; notes = tt; sends = tt }
-  all_right i (cell ∷ cells) h all =
-      let one = plain_after i cell h all.0 in
-      let rest = all_right (process_step f i mark.Plain cell).node cells one.node all.1 in
+  all_leave i [] h stands all = record { node = h; stands = stands; notes = tt; sends = tt }
+  all_leave i (cell ∷ cells) h stands all =
+      let one = processed_leaves i mark.Plain cell h stands all.0 in
+      let rest = all_leave (process_step f i mark.Plain cell).node cells one.node one.stands all.1 in
       record {
         node = rest.node;
+        stands = rest.stands;
         notes = each-append (IsOwn k) (process_step f i mark.Plain cell).notes _ one.notes rest.notes;
         sends = sent-append (Label f g) k (process_step f i mark.Plain cell).sends _ one.sends rest.sends;
       }
@@ -180,24 +169,15 @@ module _ {F R : Type 0} (f : Semantics R) (laws : FunctionLaws f) (g : Given) (f
   with_rules i rs h whole held ruled one =
       record { rules = record { at = h.rules.at; whole = whole; held = held; one_each = one }; held = ruled; sound = h.sound; number = h.number }
 
-  -- an instance with other records
-  with_live : (i : Instance F R) (live : Records R) → Right i → AreSound f live → Right (record i { table = record i.table { live = live } })
-  with_live i live h sound = record {
-    rules = record { at = h.rules.at; whole = h.rules.whole; held = h.rules.held; one_each = h.rules.one_each };
-    held = h.held;
-    sound = sound;
-    number = h.number;
-  }
-
   carried_leaves : (i : Instance F R) (cell : FullCell) (o : Option (EventRule FullCell))
-      → ((r : EventRule FullCell) → o ≡ Some r → is_free (rule_of r.action) ≡ false) → Right i → Genuine f g cell
+      → ((r : EventRule FullCell) → o ≡ Some r → is_free (rule_of r.action) ≡ false) → Right i → AreSound f i.table.standby → Genuine f g cell
       → Leaves f g k (carry_step f i mark.Plain cell (rules.decided_by o))
-  carried_leaves i cell None ruled h genuine = plain_after i cell h genuine
-  carried_leaves i cell (Some r) ruled h genuine = by_action r.action refl
+  carried_leaves i cell None ruled h stands genuine = processed_leaves i mark.Plain cell h stands genuine
+  carried_leaves i cell (Some r) ruled h stands genuine = by_action r.action refl
     where
       by_action : (a : Action) → r.action ≡ a → Leaves f g k (carry_step f i mark.Plain cell (rules.decided r.op r.action))
       by_action action.Process e = let off : true ≡ false = rw e at (ruled r refl) in cc
-      by_action action.Drop e = rw e (record { node = h; notes = tt; sends = (((two, refl), genuine), tt) })
+      by_action action.Drop e = rw e (record { node = h; stands = stands; notes = tt; sends = (((two, refl), genuine), tt) })
       by_action action.Buffer e = rw e (record {
         node = with_rules i (rules.with_held i.rules r.op cell) h
             (rules_changed (λ x. is_whole f.kind x.filter ≡ true) r.op (rules.holding cell) (λ x t. t) i.rules h.rules.whole)
@@ -205,84 +185,38 @@ module _ {F R : Type 0} (f : Semantics R) (laws : FunctionLaws f) (g : Given) (f
             i.rules h.rules.held)
             (rules_changed (λ x. is_free (rule_of x.action) ≡ false) r.op (rules.holding cell) (λ x t. t) i.rules h.held)
             (one_each-changed i.rules r.op (rules.holding cell) (λ x. refl) h.rules.one_each);
+        stands = stands;
         notes = tt;
         sends = tt;
       })
 
-  pub carry_leaves : (i : Instance F R) (cell : FullCell) → Right i → Genuine f g cell → Leaves f g k (on_carry f i mark.Plain cell)
+  carry_leaves : (i : Instance F R) (cell : FullCell) → Right i → AreSound f i.table.standby → Genuine f g cell → Leaves f g k (on_carry f i mark.Plain cell)
   unfolding on_carry
-  carry_leaves i cell h genuine = carried_leaves i cell (rules.first_rule i.rules (flow_of i.site cell.packet).0)
-      (λ r e. found_has (λ x. is_free (rule_of x.action) ≡ false) (λ x. matches x.filter (flow_of i.site cell.packet).0) i.rules r h.held e) h genuine
+  carry_leaves i cell h stands genuine = carried_leaves i cell (rules.first_rule i.rules (flow_of i.site cell.packet).0)
+      (λ r e. found_has (λ x. is_free (rule_of x.action) ≡ false) (λ x. matches x.filter (flow_of i.site cell.packet).0) i.rules r h.held e) h stands genuine
 
-  pub pass_leaves : (i : Instance F R) (op : ℕ) (cell : FullCell) → Right i → Genuine f g cell → Leaves f g k (on_carry f i (mark.Pass op) cell)
-  unfolding on_carry
-  pass_leaves i op cell h genuine = passed_after i op cell h genuine
-
-  pub shared_leaves : (i : Instance F R) (op : ℕ) (home : Bool) (cell : FullCell) → Right i → AreSound f i.table.standby → Genuine f g cell
-      → Leaves f g k (on_carry f i (mark.Shared op home) cell)
-  unfolding on_carry
-  shared_leaves i op home cell h stands genuine = shared_after i op home cell h stands genuine
-
-  pub fence_leaves : (i : Instance F R) (op : ℕ) → Right i → Leaves f g k (on_fence f i op)
+  fence_leaves : (i : Instance F R) (op : ℕ) → Right i → AreSound f i.table.standby → Leaves f g k (on_fence f i op)
   unfolding on_fence
-  fence_leaves i op h =
+  fence_leaves i op h stands =
+      let j : Instance F R = record i { rules = rules.without_rule i.rules op } in
+      let cells = rules.held_at i.rules op in
       let without = with_rules i (rules.without_rule i.rules op) h
       (rules_without (λ x. is_whole f.kind x.filter ≡ true) op i.rules h.rules.whole)
       (rules_without (λ x. Each (Genuine f g) x.held) op i.rules h.rules.held)
       (rules_without (λ x. is_free (rule_of x.action) ≡ false) op i.rules h.held)
       (one_each-without i.rules op h.rules.one_each) in
-      let cells = rules.held_at i.rules op in
-      let all = all_right (record i { rules = rules.without_rule i.rules op }) cells without (held_genuine g.site g.packet op i.rules h.rules.held) in
+      let all = all_leave j cells without stands (held_genuine g.site g.packet op i.rules h.rules.held) in
       record {
         node = all.node;
-        notes = each-append (IsOwn k) (all_processed f (record i { rules = rules.without_rule i.rules op }) cells).notes [] all.notes tt;
-        sends = sent-append (Label f g) k (all_processed f (record i { rules = rules.without_rule i.rules op }) cells).sends _ all.sends ((two, refl), tt);
+        stands = all.stands;
+        notes = each-append (IsOwn k) (all_processed f j cells).notes [] all.notes tt;
+        sends = sent-append (Label f g) k (all_processed f j cells).sends _ all.sends ((two, refl), tt);
       }
 
-  pub stop_leaves : (i : Instance F R) → Right i → Leaves f g k (on_stop i)
-  stop_leaves i h = record {
-    node = record {
-      rules = record { at = h.rules.at; whole = h.rules.whole; held = h.rules.held; one_each = h.rules.one_each };
-      held = h.held;
-      sound = h.sound;
-      number = h.number;
-    };
-    notes = tt;
-    sends = ((two, refl), tt);
-  }
-
-  pub enable_leaves : (i : Instance F R) (op : ℕ) (filter : Filter) (act : Action) → Right i → is_whole f.kind filter ≡ true → is_free (rule_of act) ≡ false
-      → Leaves f g k (on_enable i op filter act)
-  enable_leaves i op filter act h whole ruled = record {
-    node = with_rules i (rules.with_rule i.rules op filter act) h
-        (rules_set (λ x. is_whole f.kind x.filter ≡ true) op filter act i.rules (λ x t. whole) whole h.rules.whole)
-        (rules_set (λ x. Each (Genuine f g) x.held) op filter act i.rules (λ x t. t) tt h.rules.held)
-        (rules_set (λ x. is_free (rule_of x.action) ≡ false) op filter act i.rules (λ x t. ruled) ruled h.held)
-        (one_each-with_rule i.rules op filter act h.rules.one_each);
-    notes = tt;
-    sends = ((two, refl), tt);
-  }
-
-  pub stream_leaves : (i : Instance F R) (op : ℕ) (filter : Filter) → Right i → Leaves f g k (on_stream f i op filter)
-  unfolding on_stream
-  stream_leaves i op filter h = record { node = h; notes = (tt, tt); sends = stream_sends f laws g k op filter i.table.live two h.sound }
-
-  pub delete_leaves : (i : Instance F R) (op : ℕ) (gone : List units.Unit) → Right i → Leaves f g k (on_delete i op gone)
-  delete_leaves i op gone h =
-      record { node = with_live i (without gone i.table.live) h (sound_without f laws gone i.table.live h.sound); notes = tt; sends = ((two, refl), tt) }
-
-  with_chunks : (i : Instance F R) (chunks : List Chunk) → Right i → AreGoodChunks f g chunks → Right (instances.with_live f i chunks)
-  with_chunks i chunks h good = with_live i (newest_of f i.table.live (records_of f chunks)) h
-      (sound_newest f laws i.table.live chunks (valid_chunks f laws g chunks good.each) h.sound)
-
-  pub restore_leaves : (i : Instance F R) (op : ℕ) (chunks : List Chunk) → Right i → AreGoodChunks f g chunks → Leaves f g k (on_restore f i op chunks)
-  unfolding on_restore
-  restore_leaves i op chunks h good =
-      rw (chunks_good f laws g chunks good) (record { node = with_chunks i chunks h good; notes = (tt, tt); sends = ((two, refl), tt) })
-
   -- a refusal isn't Done
-  refused_is : (i : Instance F R) (piece : Piece) (why : Answer) → piece_refusal i piece ≡ Some why → is_done why ≡ false
-  refused_is i piece why e =
+  refused_is : (i : Instance F R) (piece : Piece) (first : Bool) (why : Answer) → refusal_of i piece first ≡ Some why → is_done why ≡ false
+  refused_is i piece false why e = cc
+  refused_is i piece true why e =
       by_tests (nat_lt i.limit (finite.len i.table.live + piece.total)) (i.marked && nat_lt 1 piece.newest) e
     where
       by_tests : (a b : Bool) → (if a then Some (answer.Import (finite.len i.table.live) piece.total i.limit) else if b
@@ -292,19 +226,77 @@ module _ {F R : Type 0} (f : Semantics R) (laws : FunctionLaws f) (g : Given) (f
       by_tests false true is = subst (λ w. is_done w ≡ false) (let same : answer.Old piece.newest 1 ≡ why = cc in same) refl
       by_tests false false is = cc
 
-  put_piece : (i : Instance F R) (op : ℕ) (piece : Piece) (answered : Bool) (o : Option Answer) → ((why : Answer) → o ≡ Some why → is_done why ≡ false)
-      → Right i → IsGoodPiece f g piece → Leaves f g k (piece_put f i op piece answered o)
-  put_piece i op piece answered (Some why) refused h good = record { node = h; notes = tt; sends = (((two, refl), good.good, refused why refl), tt) }
-  put_piece i op piece answered None refused h good = rw (chunks_good f laws g piece.chunks good.good) (record {
-    node = with_chunks i piece.chunks h good.good;
-    notes = (tt, tt);
-    sends = elim answered as (λ b. EachSent (Label f g) k (to_controller (if b then msg.PutOk op ∷ [] else []))) [ true ↦ ((two, refl), tt) | false ↦ tt ];
-  })
+  with_chunks : (i : Instance F R) (chunks : List Chunk) → Right i → AreGoodChunks f g chunks → Right (with_live f i chunks)
+  with_chunks i chunks h good =
+      same_right i (with_live f i chunks) h refl refl refl (newest_sound f laws i.table.live chunks (valid_chunks f laws g chunks good.each) h.sound)
 
-  pub put_leaves : (i : Instance F R) (op : ℕ) (piece : Piece) (first : Bool) → Right i → IsGoodPiece f g piece → Leaves f g k (on_put f i op piece first)
-  unfolding on_put
-  put_leaves i op piece first h good = let few = good.few in rw few (by_first first)
-    where
-      by_first : (b : Bool) → Leaves f g k (piece_put f i op piece (b || piece.last) (if b then piece_refusal i piece else None))
-      by_first true = put_piece i op piece true (piece_refusal i piece) (refused_is i piece) h good
-      by_first false = put_piece i op piece piece.last None (λ why e. cc) h good
+  -- what the step on a message of a run leaves where it processes no packet
+  abbrev Allows : Instance F R → Msg → Step F R → Type 0
+  Allows i m did = may_process m ≡ false → (p : ℕ) → Label f g p k m → Right i → AreSound f i.table.standby → Leaves f g k did
+
+  ways : WaysOfInstance f Allows
+  ways = record {
+    still = λ i m e p l h s. record { node = h; stands = s; notes = tt; sends = tt };
+    held = λ i mk cell op e. cc;
+    processed = λ i mk cell e. cc;
+    released = λ i op cell e. cc;
+    both = λ i m did next may one more e. (let never : true ≡ false = sym may ∙ e in cc);
+    unruled = λ i op did one e. cc;
+    seen = λ i mk cell op e. cc;
+    event = λ i mk cell op e. cc;
+    fenced = λ i op e. cc;
+    stopped = λ i e p l h s.
+        record { node = same_right i (record i { ended = true }) h refl refl refl h.sound; stands = s; notes = tt; sends = ((two, refl), tt) };
+    enabled = λ i op filter act e p l h s. record {
+      node = with_rules i (rules.with_rule i.rules op filter act) h
+          (rules_set (λ x. is_whole f.kind x.filter ≡ true) op filter act i.rules (λ x t. l.1) l.1 h.rules.whole)
+          (rules_set (λ x. Each (Genuine f g) x.held) op filter act i.rules (λ x t. t) tt h.rules.held)
+          (rules_set (λ x. is_free (rule_of x.action) ≡ false) op filter act i.rules (λ x t. l.2) l.2 h.held)
+          (one_each-with_rule i.rules op filter act h.rules.one_each);
+      stands = s;
+      notes = tt;
+      sends = ((two, refl), tt);
+    };
+    given = λ i op filter e p l h s. record { node = h; stands = s; notes = (tt, tt); sends = get_sends f laws g k op filter i.table.live two h.sound };
+    streamed = λ i op filter e p l h s. record { node = h; stands = s; notes = (tt, tt); sends = stream_sends f laws g k op filter i.table.live two h.sound };
+    all_given = λ i op e p l h s. record { node = h; stands = s; notes = tt; sends = ((two, refl), tt) };
+    deleted = λ i op gone e p l h s. record {
+      node = same_right i (on_delete i op gone).node h refl refl refl (sound_without f laws gone i.table.live h.sound);
+      stands = s;
+      notes = tt;
+      sends = ((two, refl), tt);
+    };
+    refused = λ i op piece first why is e p l h s.
+        record { node = h; stands = s; notes = tt; sends = (((two, refl), l.1.good, refused_is i piece first why is), tt) };
+    taken = λ i op piece first is e p l h s. record {
+      node = with_chunks i piece.chunks h l.1.good;
+      stands = s;
+      notes = (tt, tt);
+      sends = by_if (λ ms. EachSent (Label f g) k (to_controller ms)) (first || piece.last) ((two, refl), tt) tt;
+    };
+    restored = λ i op chunks e p l h s. record { node = with_chunks i chunks h l.1; stands = s; notes = (tt, tt); sends = ((two, refl), tt) };
+    stood_by = λ i op chunks e p l h s. record {
+      node = same_right i (with_standby f i chunks) h refl refl refl h.sound;
+      stands = newest_sound f laws i.table.standby chunks (valid_chunks f laws g chunks l.1.each) s;
+      notes = (tt, tt);
+      sends = ((two, refl), tt);
+    };
+    synced = λ i home op chunks e p l h s. (
+        let both = records_sound f laws i.table home chunks (valid_chunks f laws g chunks l.1.each) (record { live = h.sound; standby = s }) in record {
+          node = same_right i (with_records f i home chunks) h refl refl refl both.live;
+          stands = both.standby;
+          notes = (tt, tt);
+          sends = ((two, refl), tt);
+        });
+    merged = λ i op chunk slots is e p l h s.
+        record { node = same_right i (tally_put i op (Ok slots)).node h refl refl refl h.sound; stands = s; notes = tt; sends = ((two, refl), tt) };
+  }
+
+  -- what the step on any message of a run leaves
+  pub instance_leaves : (i : Instance F R) (m : Msg) (p : ℕ) → Label f g p k m → Right i → AreSound f i.table.standby → Leaves f g k (instance_step f i m)
+  unfolding on_carry
+  instance_leaves i (msg.Carry mark.Plain cell) p l h s = carry_leaves i cell h s l.1
+  instance_leaves i (msg.Carry (mark.Pass op) cell) p l h s = processed_leaves i (mark.Pass op) cell h s l.1
+  instance_leaves i (msg.Carry (mark.Shared op home) cell) p l h s = processed_leaves i (mark.Shared op home) cell h s l.1
+  instance_leaves i (msg.Fence op) p l h s = fence_leaves i op h s
+  instance_leaves i m p l h s = instance_fits f Allows ways i m refl p l h s

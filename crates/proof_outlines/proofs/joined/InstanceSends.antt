@@ -1,6 +1,6 @@
 -- What an instance sends is such as comes in a run.
 use Rattle.std.proofs.Common.{◌≡◌, ℕ, zero, suc, ◌≤◌, Bool, true, false, Option, Some, None, List, [], ◌∷◌, ◌++◌, map, length, take, drop, refl, arith}
-use Rattle.std.specs.Prelude.{if◌then◌else◌, nat_lt, nat_le, option_map}
+use Rattle.std.specs.Prelude.{nat_lt, nat_le, option_map}
 use Rattle.std.specs.List.{IsDistinct, AllByRecursion}
 use Rattle.std.specs.Map.{keys_of}
 use Rattle.std.specs.FinMap as finite
@@ -30,6 +30,7 @@ use Rattle.proof_outlines.proofs.outline.StateOutline.{chunk_of, AreValid, entri
 use Rattle.proof_outlines.proofs.joined.InstanceKeeps.{unit_is_fit}
 use Rattle.proof_outlines.proofs.joined.Given.{Given}
 use Rattle.proof_outlines.proofs.joined.Joined.{IsGoodChunk, AreGoodChunks, IsGoodPiece, Label}
+use Rattle.proof_machines.proofs.Tests.{by_if}
 
 -- a front and a rest of distinct units
 module _ {R : Type 0} where
@@ -86,16 +87,13 @@ module _ {R : Type 0} (f : Semantics R) (laws : FunctionLaws f) (g : Given) wher
   unfolding pieces_from
   cut_good whole zero es few valid distinct = (one_good whole true es few valid distinct, tt)
   cut_good whole (suc n) es few valid distinct =
-      elim (nat_le (length (map (chunk_of f laws) es)) 64) as (λ b. Each (IsGoodPiece f g) (if b then piece_of whole true (map (chunk_of f laws) es) ∷ []
-      else piece_of whole false (take 64 (map (chunk_of f laws) es)) ∷ pieces_from whole n (drop 64 (map (chunk_of f laws) es)))) [
-        | true ↦ (one_good whole true es few valid distinct, tt)
-        | false ↦ rw (map-take f laws 64 es, map-drop f laws 64 es) (
-          one_good whole false (take 64 es) (let front = front_few 64 es in omega (arith, front, few)) (valid_take f laws 64 es valid)
-              (distinct_take 64 es distinct),
-          cut_good whole n (drop 64 es) (let rest = length-drop 64 es in omega (arith, rest, few)) (valid_drop f laws 64 es valid)
-              (distinct_drop 64 es distinct),
-        )
-      ]
+      by_if (Each (IsGoodPiece f g)) (nat_le (length (map (chunk_of f laws) es)) 64) (one_good whole true es few valid distinct, tt)
+      (rw (map-take f laws 64 es, map-drop f laws 64 es) (
+        one_good whole false (take 64 es) (let front = front_few 64 es in omega (arith, front, few)) (valid_take f laws 64 es valid)
+            (distinct_take 64 es distinct),
+        cut_good whole n (drop 64 es) (let rest = length-drop 64 es in omega (arith, rest, few)) (valid_drop f laws 64 es valid)
+            (distinct_drop 64 es distinct),
+      ))
 
   taken_good : (g' : Filter) (live : Records R) → AreSound f live → Each (IsGoodPiece f g) (pieces (chunks_of f (taken_by g' live)))
   taken_good g' live sound =

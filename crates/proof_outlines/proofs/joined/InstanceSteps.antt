@@ -7,7 +7,7 @@ use Rattle.std.proofs.Math.Bool.{and-false}
 use Rattle.nf_function.specs.declared.unit.Unit as units
 use Rattle.nf_function.specs.Records.{Laws as FunctionLaws}
 use Rattle.nf_function.specs.Semantics.{Semantics}
-use Rattle.record_table.specs.Table.{Records, AreSound}
+use Rattle.record_table.specs.Table.{Records}
 use Rattle.nf_msgs.specs.declared.msg.Msg.{Msg}
 use Rattle.nf_msgs.specs.declared.note.Note.{Note}
 use Rattle.instance_worker.specs.declared.instance.Instance.{Instance as InstanceState}
@@ -23,7 +23,7 @@ use Rattle.net_world.specs.Nodes.{as_node}
 use Rattle.net_world.specs.Log.{dones_in, installs_in}
 use Rattle.net_world.proofs.LogLemmas.{done-append}
 use Rattle.proof_outlines.proofs.outline.FiltersApart.{unit_fits}
-use Rattle.proof_outlines.proofs.outline.Outline.{number, ran_in, is_sys}
+use Rattle.proof_outlines.proofs.outline.Outline.{ran_in, is_sys}
 use Rattle.proof_outlines.proofs.whole.WholeOutline.{is_sharing}
 use Rattle.proof_outlines.proofs.whole.InstanceWorlds.{ShowsAt, StepsTo, KeepsTo}
 use Rattle.proof_outlines.proofs.joined.LogLemmas.{by_node-append, every_same, owners_on, came_on}
@@ -34,6 +34,7 @@ use Rattle.proof_outlines.proofs.joined.Given.{Given, place, target_by}
 use Rattle.proof_outlines.proofs.joined.Joined.{Nodes, Took, Scene, S, A, shown, commands, asked_nums, came_by, by_node, links_next}
 use Rattle.proof_outlines.proofs.joined.Joined.{IsSwitch, IsController, IsInstanceAt, AreShown, IsTaken, Leads, node_of, Grows}
 use Rattle.proof_outlines.proofs.joined.NextNumbers.{same_grows}
+use Rattle.proof_machines.proofs.Tests.{split}
 
 module _ {F R : Type 0} (f : Semantics R) (laws : FunctionLaws f) (g : Given) (n : ℕ) (x : Scene F f g) (p : ℕ) (j : ℕ) where
   -- the instance's node, and the instance there
@@ -150,7 +151,6 @@ module _ {F R : Type 0} (f : Semantics R) (laws : FunctionLaws f) (g : Given) (n
     next : WholeWorld (S f g) (A f g)
     differs_so : Differs next
     leaves : Leaves f g own_node step
-    stands : AreSound f step.node.table.standby
     shows : ShowsAt f g.site g.packet own_node next step.node
     done : next.done ≡ x.world.done ++ at_node own_node (filter_map ran_in step.notes)
     every : EveryAll (S f g) (A f g) (is_sys f g.site g.packet) next (came_by f g x.log)
@@ -160,7 +160,7 @@ module _ {F R : Type 0} (f : Semantics R) (laws : FunctionLaws f) (g : Given) (n
     own_right = record {
       outline_is = goes.shows.inst;
       standby_is = goes.shows.standby;
-      stands = has_records f laws step.node.table.standby goes.stands;
+      stands = has_records f laws step.node.table.standby goes.leaves.stands;
       rules = goes.leaves.node.rules;
       held = goes.leaves.node.held;
       records = has_records f laws step.node.table.live goes.leaves.node.sound;
@@ -180,10 +180,9 @@ module _ {F R : Type 0} (f : Semantics R) (laws : FunctionLaws f) (g : Given) (n
 
     instances_after : (k : ℕ) → 2 ≤ k → k < n → IsInstanceAt f g k (put x.nodes.instance own_node step.node k) goes.next
     instances_after k two within =
-        elim (k == own_node) as (λ b. (k == own_node) ≡ b → IsInstanceAt f g k (if b then step.node else x.nodes.instance k) goes.next) [
-          | true ↦ λ e. let same : k ≡ own_node = (Decides-eqb k own_node).0 e in subst (λ y. IsInstanceAt f g y step.node goes.next) (sym same) own_right
-          | false ↦ λ off. other_right k off (are.instances k two within)
-        ] refl
+        split (k == own_node) (λ b. IsInstanceAt f g k (if b then step.node else x.nodes.instance k) goes.next)
+        (λ e. let same : k ≡ own_node = (Decides-eqb k own_node).0 e in subst (λ y. IsInstanceAt f g y step.node goes.next) (sym same) own_right)
+        (λ off. other_right k off (are.instances k two within))
 
     controller_after : IsController f g x.nodes.controller goes.next.ops goes.next.shares goes.next.next
     controller_after =
@@ -223,14 +222,13 @@ module _ {F R : Type 0} (f : Semantics R) (laws : FunctionLaws f) (g : Given) (n
   -- a step on a message that is shown
   pub shown_leads : (m : Msg) (seen : Any R) → AreShown f g n x → IsTaken f g n x (took m) → shown f g m ≡ Some seen → StepsTo f g.site g.packet (place g)
       x.world p own_node (whole_inst (S f g) (A f g) x.world p own_node seen) (instance_step f own m) → Leaves f g own_node (instance_step f own m)
-      → AreSound f (instance_step f own m).node.table.standby → Leads f g n x (took m) (as_node Instance (instance_step f own m))
-  shown_leads m seen are is shown_as steps leaves stands =
+      → Leads f g n x (took m) (as_node Instance (instance_step f own m))
+  shown_leads m seen are is shown_as steps leaves =
       let heads = is.head (rw not_first (and-false (p == 0))) seen shown_as in
       step_leads are (instance_step f own m) (record {
         next = whole_inst (S f g) (A f g) x.world p own_node seen;
         differs_so = differs seen;
         leaves = leaves;
-        stands = stands;
         shows = steps.shows;
         done = steps.done;
         every = inst_every_all (S f g) (A f g) (is_sys f g.site g.packet) (is_sharing f g.site g.packet) x.world (came_by f g x.log) are.every p own_node seen
@@ -241,13 +239,12 @@ module _ {F R : Type 0} (f : Semantics R) (laws : FunctionLaws f) (g : Given) (n
   pub keeps_leads : (m : Msg) (t : Records R) → AreShown f g n x → shown f g m ≡ None
       → KeepsTo f g.site g.packet (place g) x.world p own_node (keeps (S f g) (A f g) x.world own_node t) (instance_step f own m)
       → MayKeep (S f g) (A f g) (is_sys f g.site g.packet) x.world own_node t → Leaves f g own_node (instance_step f own m)
-      → AreSound f (instance_step f own m).node.table.standby → Leads f g n x (took m) (as_node Instance (instance_step f own m))
-  keeps_leads m t are hidden steps may leaves stands =
+      → Leads f g n x (took m) (as_node Instance (instance_step f own m))
+  keeps_leads m t are hidden steps may leaves =
       step_leads are (instance_step f own m) (record {
         next = keeps (S f g) (A f g) x.world own_node t;
         differs_so = kept_differs t;
         leaves = leaves;
-        stands = stands;
         shows = steps.shows;
         done = steps.done;
         every = keeps_every_all (S f g) (A f g) (is_sys f g.site g.packet) x.world (came_by f g x.log) are.every own_node t may;

@@ -23,6 +23,7 @@ use Rattle.net_world.specs.Nodes.{node_step, node_ready}
 use Rattle.proof_outlines.proofs.outline.LinkOutline.{shows_taken, shows_unseen}
 use Rattle.proof_outlines.proofs.joined.Given.{Given}
 use Rattle.proof_outlines.proofs.joined.Joined.{count, Label, shown, Took, node_of, links_next, Scene, Shows, AreShown, Joined, Leads, IsTaken}
+use Rattle.proof_machines.proofs.Tests.{either_way}
 
 -- what the nodes' steps give: each leads from a world of a run to one, where what the step wants beside is so
 abbrev pub NodeLeads : {F R : Type 0} (f : Semantics R) (g : Given) → ℕ → (Scene F f g → Msg → Type 0) → Type 0
@@ -94,11 +95,10 @@ module _ {F R : Type 0} (f : Semantics R) (g : Given) (n : ℕ) (count_is : n �
         let left = taken_outcome step n w k p (node_of j.nodes k) m rest takes in
         record {
           nodes = l.nodes;
-          nodes_are = λ i hi d. elim (i == k) as (λ b. (i == k) ≡ b → get_or (world_next step w (at k p)).nodes i d ≡ node_of l.nodes i) [
-            | true ↦ λ e. let same : i ≡ k = (Decides-eqb i k).0 e in
-                subst (λ y. get_or (world_next step w (at k p)).nodes y d ≡ node_of l.nodes y) (sym same) (left.own d ∙ l.own)
-            | false ↦ λ e. let other : i ≢ k = grind (arith, nat_tests) in left.others i d other ∙ j.nodes_are i hi d ∙ sym (l.others i other)
-          ] refl;
+          nodes_are = λ i hi d. either_way (i == k)
+              (λ e. let same : i ≡ k = (Decides-eqb i k).0 e in
+              subst (λ y. get_or (world_next step w (at k p)).nodes y d ≡ node_of l.nodes y) (sym same) (left.own d ∙ l.own))
+              (λ e. let other : i ≢ k = grind (arith, nat_tests) in left.others i d other ∙ j.nodes_are i hi d ∙ sym (l.others i other));
           world = l.world;
           links = λ i y hi hy off. l.links i y ∙ links_after_step (shown f g m) refl i y hi hy off;
           labels = on_links_after (Label f g) step n w k p (node_of j.nodes k) m rest takes j.labels l.labels;

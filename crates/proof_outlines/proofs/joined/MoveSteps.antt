@@ -1,6 +1,6 @@
 -- Each row of a move's table leaves a move that is open in a run such a one, and what it sends and stores is such as comes in a run.
 use Rattle.std.proofs.Common.{◌≡◌, ℕ, ◌+◌, ◌≤◌, Bool, true, false, List, [], ◌∷◌, ◌++◌, map, refl, ap, ◌∙◌, arith}
-use Rattle.std.specs.Prelude.{if◌then◌else◌, ◌&&◌, ◌||◌, ◌==◌, nat_lt, unwrap_or}
+use Rattle.std.specs.Prelude.{◌&&◌, ◌||◌, ◌==◌, nat_lt, unwrap_or}
 use Rattle.nf_function.specs.declared.chunk.Chunk.{Chunk}
 use Rattle.nf_function.specs.declared.unit.Unit as units
 use Rattle.nf_function.specs.Semantics.{Semantics}
@@ -11,7 +11,6 @@ use Rattle.nf_msgs.specs.declared.answer.Answer.{Answer}
 use Rattle.nf_msgs.specs.declared.msg.Piece.{Piece}
 use Rattle.nf_msgs.specs.declared.msg.Msg.{Msg}
 use Rattle.nf_msgs.specs.declared.msg.Msg.TheVariants as msg
-use Rattle.nf_msgs.specs.Exports.{units_in}
 use Rattle.move_op.specs.declared.door.Door.{Door}
 use Rattle.move_op.specs.declared.door.Door.TheVariants as door
 use Rattle.move_op.specs.Phases.{Phase}
@@ -30,6 +29,7 @@ use Rattle.proof_outlines.proofs.joined.Given.{Given, IsPlan}
 use Rattle.proof_outlines.proofs.joined.Joined.{Genuine, IsMove, IsGoodChunk, AreGoodChunks, IsGoodPiece, AreFree, HasPieces, Label, count}
 use Rattle.proof_outlines.proofs.joined.UnitCounts.{times, times-append, distinct_from_times}
 use Rattle.net_world.proofs.SentMessages.{sent-append}
+use Rattle.proof_machines.proofs.Tests.{by_if}
 
 -- the chunks that a message brings back
 abbrev pub brought : Msg → List Chunk
@@ -54,9 +54,7 @@ module _ {R : Type 0} (f : Semantics R) (g : Given) where
 
   free_more : (d : Door) (ps : List Piece) (p : Piece) → AreFree f g d ps → IsGoodPiece f g p → AreFree f g d (ps ++ p ∷ [])
   free_more (door.Refused why) ps p h one = each-append IsGood ps (p ∷ []) h (one.good, tt)
-  free_more door.Shut ps p h one = each-append (IsGoodPiece f g) ps (p ∷ []) h (one, tt)
-  free_more (door.Asked last) ps p h one = each-append (IsGoodPiece f g) ps (p ∷ []) h (one, tt)
-  free_more door.Open ps p h one = each-append (IsGoodPiece f g) ps (p ∷ []) h (one, tt)
+  free_more d ps p h one = each-append (IsGoodPiece f g) ps (p ∷ []) h (one, tt)
 
   each_chunk : (ps : List Piece) → Each IsGood ps → Each (IsGoodChunk f g) (chunks_of ps)
   each_chunk [] h = tt
@@ -111,11 +109,8 @@ module _ {R : Type 0} (f : Semantics R) (g : Given) where
     push_is frozen free came (door.Asked last) refusing a b once = record { refusing = tt; pieces = (a, b); labels = tt }
     push_is frozen free came door.Open refusing a b once = record { refusing = tt; pieces = (a, tt); labels = puts free b }
     push_is frozen free came (door.Refused why) refusing a b once =
-        elim (came && is_nil frozen) as (λ c. NextIs (if c then next_phase (phase.Restoring why)
-        ((source plan, msg.Restore plan.op (chunks_of free)) ∷ []) else next_phase (phase.Streaming frozen free came (door.Refused why)) [])) [
-          | true ↦ record { refusing = refusing; pieces = tt; labels = (((refl, omega arith), good_chunks free b once), tt) }
-          | false ↦ record { refusing = refusing; pieces = (a, b); labels = tt }
-        ]
+        by_if NextIs (came && is_nil frozen) (record { refusing = refusing; pieces = tt; labels = (((refl, omega arith), good_chunks free b once), tt) })
+        (record { refusing = refusing; pieces = (a, b); labels = tt })
 
     -- a row's phase and sends, and what it stores
     record RowIs (events : List FullCell) (r : MoveRow) : Type 0 where
@@ -170,15 +165,13 @@ module _ {R : Type 0} (f : Semantics R) (g : Given) where
 
       piece_is : (ph : Phase) (p : Piece) → IsRefusing ph → HasPieces f g ph → IsGoodPiece f g p → NextIs (on_piece (words plan) ph p)
       piece_is (phase.Streaming frozen free came d) p refusing pieces one =
-          elim (have_units p.chunks) as (λ b. NextIs (if b then next_phase (phase.Streaming (frozen ++ p ∷ []) free (came || p.last) d)
-          ((source plan, msg.Delete plan.op (units_in p.chunks)) ∷ []) else next_phase (phase.Streaming frozen free came d) [])) [
-            | true ↦ record {
-              refusing = same_door frozen (frozen ++ p ∷ []) free free came (came || p.last) d refusing;
-              pieces = (each-append (IsGoodPiece f g) frozen (p ∷ []) pieces.0 (one, tt), pieces.1);
-              labels = ((refl, omega arith), tt);
-            }
-            | false ↦ stays (phase.Streaming frozen free came d) refusing pieces
-          ]
+          by_if NextIs (have_units p.chunks)
+          (record {
+            refusing = same_door frozen (frozen ++ p ∷ []) free free came (came || p.last) d refusing;
+            pieces = (each-append (IsGoodPiece f g) frozen (p ∷ []) pieces.0 (one, tt), pieces.1);
+            labels = ((refl, omega arith), tt);
+          })
+          (stays (phase.Streaming frozen free came d) refusing pieces)
       piece_is ph p refusing pieces one = stays ph refusing pieces
 
       deleted_is : (ph : Phase) → IsRefusing ph → HasPieces f g ph → Once (kept_in ph) → NextIs (on_deleted (words plan) ph)
@@ -213,13 +206,11 @@ module _ {R : Type 0} (f : Semantics R) (g : Given) where
 
       put_ok_is : (ph : Phase) → IsRefusing ph → HasPieces f g ph → Once (kept_in ph) → RowIs events (on_put_ok (words plan) ph events)
       put_ok_is (phase.Streaming frozen free came (door.Asked last)) refusing pieces once =
-          elim last as (λ b. RowIs events (if b then all_put (words plan) events plan.keep else keeps (push_on (words plan) frozen free came door.Open))) [
-            | true ↦ all_put_is plan.keep
-            | false ↦ kept (push_on (words plan) frozen free came door.Open) (push_is frozen free came door.Open tt pieces.0 pieces.1 (λ u.
-                let all = once u in
-                let both = times_both u (chunks_of frozen) (chunks_of free) in
-                omega (arith, all, both)))
-          ]
+          by_if (RowIs events) last (all_put_is plan.keep)
+          (kept (push_on (words plan) frozen free came door.Open) (push_is frozen free came door.Open tt pieces.0 pieces.1 (λ u.
+          let all = once u in
+          let both = times_both u (chunks_of frozen) (chunks_of free) in
+          omega (arith, all, both))))
       put_ok_is (phase.Streaming frozen free came door.Open) refusing pieces once = all_put_is plan.keep
       put_ok_is ph refusing pieces once = rests ph refusing pieces
 
@@ -259,14 +250,8 @@ module _ {R : Type 0} (f : Semantics R) (g : Given) where
           → ((u : units.Unit) → times u (entries f (brought message)) + times u (entries f (kept_in ph)) ≤ 1)
           → RowIs events (row (record { plan = plan; phase = ph }) events port message)
       row_is ph port message refusing pieces label once =
-          elim (port == source plan) as (λ b. RowIs events (if b then from_source plan ph events message else if port == destination plan
-          then from_destination plan ph events message else keeps (next_phase ph []))) [
-            | true ↦ source_is ph port message refusing pieces label (λ u. let all = once u in omega (arith, all))
-            | false ↦ elim (port == destination plan) as (λ b. RowIs events (if b then from_destination plan ph events message else keeps (next_phase ph []))) [
-              | true ↦ destination_is ph port message refusing pieces label once
-              | false ↦ rests ph refusing pieces
-            ]
-          ]
+          by_if (RowIs events) (port == source plan) (source_is ph port message refusing pieces label (λ u. let all = once u in omega (arith, all)))
+          (by_if (RowIs events) (port == destination plan) (destination_is ph port message refusing pieces label once) (rests ph refusing pieces))
 
   -- what a row leaves
   pub record RowKeeps (op : ℕ) (m : MoveState) (events : List FullCell) (r : MoveRow) : Type 0 where

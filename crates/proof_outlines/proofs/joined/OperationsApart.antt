@@ -1,6 +1,6 @@
 -- No two open operations of the controller have filters that meet: each message keeps that, since an order whose filter meets one is refused.
 use Rattle.std.proofs.Common.{◌≡◌, ℕ, Bool, true, false, cond, ◌⊎◌, inl, inr, Option, Some, None, List, [], ◌∷◌, ◌++◌, refl, sym, ◌∙◌, subst, arith}
-use Rattle.std.specs.Prelude.{if◌then◌else◌, ◌==◌}
+use Rattle.std.specs.Prelude.{◌==◌}
 use Rattle.std.specs.List.{filter_map}
 use Rattle.std.specs.Option.{option_and_then}
 use Rattle.std.specs.FinMap as finite
@@ -25,6 +25,7 @@ use Rattle.ctrl_node.specs.Controller.{ControllerState, controller_step}
 use Rattle.proof_outlines.proofs.outline.ControllerWays.{row_by}
 use Rattle.proof_outlines.proofs.outline.OperationTables.{got_insert, got_remove}
 use Rattle.proof_outlines.proofs.joined.ControllerBegins.{no_overlap, none_meets}
+use Rattle.proof_machines.proofs.Tests.{split, by_if}
 
 -- two filters don't meet, if both are there
 abbrev pub AreApart : Option Filter → Option Filter → Type 0
@@ -32,11 +33,10 @@ AreApart (Some a) (Some b) = (meets a b ≡ false) ⊎ (meets b a ≡ false)
 AreApart a b = Unit {0}
 
 apart_swap : (a b : Option Filter) → AreApart a b → AreApart b a
-apart_swap None None h = tt
 apart_swap None (Some b) h = tt
-apart_swap (Some a) None h = tt
 apart_swap (Some a) (Some b) (inl h) = inr h
 apart_swap (Some a) (Some b) (inr h) = inl h
+apart_swap o None h = tt
 
 -- the filters of what stands under different numbers
 abbrev pub AllApart : OpenOperations → Type 0
@@ -90,10 +90,9 @@ stay_apart xs ys stay apart k l a b off here there =
 with_stays : (xs : OpenOperations) (op : ℕ) (o : Option Operation) → Same (finite.get xs op) o → Stay xs (with_operation xs op o)
 with_stays xs op None h k = same_refl (finite.get xs k)
 with_stays xs op (Some b) h k = subst (λ o. Same (finite.get xs k) o) (sym (got_insert xs op k b))
-    (elim (k == op) as (λ t. (k == op) ≡ t → Same (finite.get xs k) (cond t (Some b) (finite.get xs k))) [
-      | true ↦ λ on. subst (λ y. Same (finite.get xs y) (Some b)) (sym ((Decides-eqb k op).0 on)) h
-      | false ↦ λ off. same_refl (finite.get xs k)
-    ] refl)
+    (split (k == op) (λ t. Same (finite.get xs k) (cond t (Some b) (finite.get xs k)))
+    (λ on. subst (λ y. Same (finite.get xs y) (Some b)) (sym ((Decides-eqb k op).0 on)) h)
+    (λ off. same_refl (finite.get xs k)))
 
 remove_stays : (xs : OpenOperations) (op : ℕ) → Stay xs (finite.remove xs op)
 remove_stays xs op k = subst (λ o. Same (finite.get xs k) o) (sym (got_remove xs op k))
@@ -119,11 +118,9 @@ module _ (c : ControllerState) where
   after_stays : (op : ℕ) (t : Turn) (o : Option Answer) → Same (finite.get c.operations op) t.operation → LeavesSo (ctrl.after_turn c op t o).node
   after_stays op t None h = with_stays c.operations op t.operation h
   after_stays op t (Some why) h =
-      elim (lasts t.operation) as (λ b. LeavesSo (if b then ctrl.with_turn c op t else ctrl.without_operation (ctrl.with_turn c op t) op)) [
-        | true ↦ with_stays c.operations op t.operation h
-        | false ↦ stay_trans c.operations (ctrl.with_turn c op t).operations _ (with_stays c.operations op t.operation h)
-            (remove_stays (ctrl.with_turn c op t).operations op)
-      ]
+      by_if LeavesSo (lasts t.operation) (with_stays c.operations op t.operation h)
+      (stay_trans c.operations (ctrl.with_turn c op t).operations _ (with_stays c.operations op t.operation h)
+      (remove_stays (ctrl.with_turn c op t).operations op))
 
   serves_stays : (op : ℕ) → LeavesSo (ctrl.serve_step c op).node
   serves_stays op = with_stays c.operations op (serving_of (finite.get c.operations op) c.store).operation (serving_same (finite.get c.operations op) c.store)
@@ -224,6 +221,4 @@ module _ (c : ControllerState) (port : ℕ) where
 
   -- what is apart stays apart with a message
   pub controller_apart : (m : Msg) → AllApart c.operations → AllApart (controller_step c port m).node.operations
-  controller_apart m apart = elim (ctrl.may_finish (ctrl.row c port m).node)
-      as (λ b. AllApart (if b then record (ctrl.row c port m).node { finish_sent = true } else (ctrl.row c port m).node).operations)
-      [ true ↦ row_apart m apart | false ↦ row_apart m apart ]
+  controller_apart m apart = by_if (λ (r : ControllerState). AllApart r.operations) (ctrl.may_finish (ctrl.row c port m).node) (row_apart m apart) (row_apart m apart)

@@ -7,7 +7,7 @@ use Rattle.std.proofs.Math.Bool.{or-false, or_assoc}
 use Rattle.std.proofs.lemmas.Bool.{and_parts}
 use Rattle.flow_filter.specs.declared.flow.Flow.{Flow}
 use Rattle.nf_function.specs.declared.kind.Kind.{Kind}
-use Rattle.nf_function.specs.declared.kind.Kind.TheVariants.{Conntrack, Nat, Monitor}
+use Rattle.nf_function.specs.declared.kind.Kind.TheVariants.{Conntrack}
 use Rattle.nf_function.specs.declared.unit.Unit as units
 use Rattle.nf_function.specs.Units.{unit_of}
 use Rattle.flow_filter.specs.Name.{place_of}
@@ -31,8 +31,7 @@ use Rattle.proof_outlines.proofs.joined.PlaceNotes.{IsQuiet, is_uninstalled}
 -- the unit of a flow is one that packets may have
 pub unit_is_fit : (kind : Kind) (flow : Flow) → flow_fits flow ≡ true → unit_fits kind (unit_of kind flow) ≡ true
 unit_is_fit Conntrack flow e = e
-unit_is_fit Nat flow e = (and_parts _ _ (and_parts _ _ e).1).0
-unit_is_fit Monitor flow e = (and_parts _ _ (and_parts _ _ e).1).0
+unit_is_fit kind flow e = (and_parts _ _ (and_parts _ _ e).1).0
 
 module _ (names : List (List ℕ)) (orders : ℕ → Option Order) where
   pub owner_after-append : (u : units.Unit) (i : ℕ) (xs ys : List ℕ)

@@ -1,5 +1,5 @@
 -- What the steps of the nodes note: an instance what it processed, gave and took, and the others nothing that was processed.
-use Rattle.std.proofs.Common.{◌≡◌, ℕ, ◌-◌, Bool, true, false, Option, Some, None, List, [], ◌∷◌, refl, ◌∙◌, subst}
+use Rattle.std.proofs.Common.{◌≡◌, ℕ, Bool, true, false, Option, Some, None, List, [], ◌∷◌, refl, ◌∙◌, subst}
 use Rattle.std.specs.FinMap as finite
 use Rattle.proof_outlines.proofs.outline.ControllerWays.{row_fits}
 use Rattle.proof_outlines.proofs.outline.SwitchWays.{step_fits}
@@ -17,7 +17,7 @@ use Rattle.ctrl_node.specs.Controller as controllers
 use Rattle.ctrl_node.specs.Controller.{ControllerState, controller_step}
 use Rattle.ctrl_node.specs.Operations.{Turn, turn_of}
 use Rattle.instance_worker.specs.declared.instance.Instance.{Instance}
-use Rattle.instance_worker.specs.Instance.{Step, and_then, instance_step, process_step, still}
+use Rattle.instance_worker.specs.Instance.{Step, and_then, instance_step, process_step}
 use Rattle.proof_machines.proofs.unit.Labels.{Each, each-append}
 use Rattle.net_world.specs.Log.{dones_in, done_in}
 use Rattle.net_world.proofs.PickedLists.{none_picked}

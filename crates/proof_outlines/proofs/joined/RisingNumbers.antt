@@ -24,8 +24,8 @@ use Rattle.actor_net.proofs.EnabledChoices.{at}
 use Rattle.proof_machines.proofs.net.Net as net
 use Rattle.proof_machines.proofs.net.Net.{MoveAsked}
 use Rattle.proof_machines.proofs.net.Waits.{Rising, rising_less}
-use Rattle.proof_machines.proofs.net.Shares.{Any, Old, New, WantShare, S_asked, Shared_on, Diverted_on}
-use Rattle.proof_machines.proofs.net.Shares.{S_install, S_forward, S_get, S_sync, S_chunks, S_shared, S_synced}
+use Rattle.proof_machines.proofs.net.Shares.{Any, Old, New, WantShare, S_asked}
+use Rattle.proof_machines.proofs.net.Shares.{S_shared}
 use Rattle.proof_outlines.proofs.outline.Outline.{want_of}
 use Rattle.proof_outlines.proofs.whole.WholeOutline.{want_share_of, asked_of}
 use Rattle.proof_outlines.proofs.whole.AskedShare.{is_wanted}
@@ -127,21 +127,8 @@ module _ {R : Type 0} (f : Semantics R) (g : Given) where
 
   asked_behind : (a : Any R) (rest : List (Any R)) → is_asked a ≡ false → asked_nums (a ∷ rest) ≡ asked_nums rest
   asked_behind (Old (net.Asked x)) rest e = cc
-  asked_behind (Old (net.In_packet p)) rest e = refl
-  asked_behind (Old (net.Carry_on p)) rest e = refl
-  asked_behind (Old (net.Pass_on p)) rest e = refl
-  asked_behind (Old (net.Fence_on p)) rest e = refl
-  asked_behind (Old (net.Mv h m)) rest e = refl
   asked_behind (New (S_asked x)) rest e = cc
-  asked_behind (New (Shared_on n home p)) rest e = refl
-  asked_behind (New (Diverted_on p)) rest e = refl
-  asked_behind (New (S_install n h from)) rest e = refl
-  asked_behind (New (S_forward n home p to)) rest e = refl
-  asked_behind (New (S_get n h)) rest e = refl
-  asked_behind (New (S_sync n home cs)) rest e = refl
-  asked_behind (New (S_chunks n cs)) rest e = refl
-  asked_behind (New (S_shared n c)) rest e = refl
-  asked_behind (New (S_synced n)) rest e = refl
+  asked_behind a rest e = refl
 
   unasked_shown : (m : Msg) → IsUnasked m → is_asked_in (shown f g m) ≡ false
   unasked_shown (msg.Asked c) e = cc

@@ -29,6 +29,7 @@ use Rattle.proof_outlines.proofs.joined.Given.{Given, place}
 use Rattle.proof_outlines.proofs.joined.Joined.{Label, count, shown, commands, asked_nums, node_of, Grows, Scene, Joined}
 use Rattle.proof_outlines.proofs.joined.JoinedSteps.{NodeLeads, scene, label, input_after, step_leads, joined_after}
 use Rattle.proof_outlines.proofs.joined.JoinedSteps.{after_world, takes_at, ready_at, joined_next, next_is}
+use Rattle.proof_machines.proofs.Tests.{either_way}
 
 module _ {F R : Type 0} (f : Semantics R) (g : Given) where
   -- all numbers that wait
@@ -68,21 +69,19 @@ module _ {F R : Type 0} (f : Semantics R) (g : Given) where
 
       -- the input without what the switch takes of it
       input_parts : k ≡ 0 → commands f g (m ∷ []) ++ commands f g (less_first ((0 == k) && (0 == p)) (queue_at w (at 0 0))) ≡ commands f g (queue_at w (at 0 0))
-      input_parts zero_is = elim (p == 0) as (λ b. (p == 0) ≡ b
-          → commands f g (m ∷ []) ++ commands f g (less_first ((0 == k) && (0 == p)) (queue_at w (at 0 0))) ≡ commands f g (queue_at w (at 0 0))) [
-            | true ↦ λ on.
-                let p0 : p ≡ 0 = (Decides-eqb p 0).0 on in
-                let both : (0 == k) && (0 == p) ≡ true = rw (zero_is, p0) refl in
-                let here : queue_at w (at 0 0) ≡ m ∷ rest = ap (λ x. queue_at w (at x 0)) (sym zero_is) ∙ ap (λ x. queue_at w (at k x)) (sym p0)
-                ∙ takes.waits in
-                ap (λ b. commands f g (m ∷ []) ++ commands f g (less_first b (queue_at w (at 0 0)))) both
-                ∙ ap (λ v. commands f g (m ∷ []) ++ commands f g (drop 1 v)) here ∙ sym (commands_behind f g m rest) ∙ ap (commands f g) (sym here)
-            | false ↦ λ off.
-                let turned : (0 == p) ≡ false = grind (arith, nat_tests, off) in
-                let neither : (0 == k) && (0 == p) ≡ false = ap (λ b. (0 == k) && b) turned ∙ and-false (0 == k) in
-                ap (λ v. v ++ commands f g (less_first ((0 == k) && (0 == p)) (queue_at w (at 0 0)))) (no_command f g p k m its_label off)
-                ∙ ap (λ b. commands f g (less_first b (queue_at w (at 0 0)))) neither
-          ] refl
+      input_parts zero_is = either_way (p == 0)
+          (λ on.
+          let p0 : p ≡ 0 = (Decides-eqb p 0).0 on in
+          let both : (0 == k) && (0 == p) ≡ true = rw (zero_is, p0) refl in
+          let here : queue_at w (at 0 0) ≡ m ∷ rest = ap (λ x. queue_at w (at x 0)) (sym zero_is) ∙ ap (λ x. queue_at w (at k x)) (sym p0)
+          ∙ takes.waits in
+          ap (λ b. commands f g (m ∷ []) ++ commands f g (less_first b (queue_at w (at 0 0)))) both
+          ∙ ap (λ v. commands f g (m ∷ []) ++ commands f g (drop 1 v)) here ∙ sym (commands_behind f g m rest) ∙ ap (commands f g) (sym here))
+          (λ off.
+          let turned : (0 == p) ≡ false = grind (arith, nat_tests, off) in
+          let neither : (0 == k) && (0 == p) ≡ false = ap (λ b. (0 == k) && b) turned ∙ and-false (0 == k) in
+          ap (λ v. v ++ commands f g (less_first ((0 == k) && (0 == p)) (queue_at w (at 0 0)))) (no_command f g p k m its_label off)
+          ∙ ap (λ b. commands f g (less_first b (queue_at w (at 0 0)))) neither)
 
       -- The switch's step.
       of_switch : k ≡ 0 → numbers (put_on_link n k 0 1 sends) ≡ commands f g (m ∷ []) → waits_of after ≡ waits_of w
@@ -118,13 +117,8 @@ module _ {F R : Type 0} (f : Semantics R) (g : Given) where
           by_message y low r = rising_less next j.world.next (numbers rest ++ commands f g (queue_at w (at 0 0))) low r
 
       rising_next : (next : ℕ) → Grows m j.world.next next → Rising j.world.next (waits_of w) → Rising next (waits_of after)
-      rising_next next grows h = elim (k == 0) as (λ b. (k == 0) ≡ b → Rising next (waits_of after)) [
-        | true ↦ λ zero_on. at_switch ((Decides-eqb k 0).0 zero_on)
-        | false ↦ λ other. elim ((p == 0) && (k == 1)) as (λ b. (p == 0) && (k == 1) ≡ b → Rising next (waits_of after)) [
-          | true ↦ λ on. at_controller other on
-          | false ↦ λ off. elsewhere other off
-        ] refl
-      ] refl
+      rising_next next grows h = either_way (k == 0) (λ zero_on. at_switch ((Decides-eqb k 0).0 zero_on))
+          (λ other. either_way ((p == 0) && (k == 1)) (λ on. at_controller other on) (λ off. elsewhere other off))
         where
           at_switch : k ≡ 0 → Rising next (waits_of after)
           at_switch zero_is =

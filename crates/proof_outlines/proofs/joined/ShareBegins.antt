@@ -6,7 +6,7 @@ use Rattle.std.specs.Str.{bytes_eq}
 use Rattle.std.proofs.lemmas.Bool.Decides.{nat_tests, Decides-ltb}
 use Rattle.std.proofs.lemmas.List.Quantifiers.{position-Some}
 use Rattle.std.proofs.lemmas.Slice.Eq.{bytes_eq-Decides}
-use Rattle.std.proofs.lemmas.Bool.{or_parts}
+use Rattle.std.proofs.lemmas.Bool.{or_parts, false_from_ne_true}
 use Rattle.nf_msgs.specs.Nodes.{instance_node}
 use Rattle.flow_filter.specs.Name.{has_twice, place_of}
 use Rattle.proof_machines.proofs.unit.Labels.{Each}
@@ -34,10 +34,8 @@ abbrev stands_in : List ℕ → List (List ℕ) → Bool
 stands_in name names = list_any (λ other. bytes_eq other name) names
 
 turned : (a b : List ℕ) → bytes_eq b a ≡ false → bytes_eq a b ≡ false
-turned a b differ = elim (bytes_eq a b) as (λ c. bytes_eq a b ≡ c → c ≡ false) [
-  | true ↦ λ same. absurd (true≢false (sym ((bytes_eq-Decides b a).1 (sym ((bytes_eq-Decides a b).0 same))) ∙ differ))
-  | false ↦ λ other. refl
-] refl
+turned a b differ = false_from_ne_true (bytes_eq a b)
+    (λ same. absurd (true≢false (sym ((bytes_eq-Decides b a).1 (sym ((bytes_eq-Decides a b).0 same))) ∙ differ)))
 
 all_others : (name : List ℕ) (names : List (List ℕ)) → stands_in name names ≡ false → AllByRecursion (λ other. bytes_eq name other ≡ false) names
 all_others name [] e = tt
@@ -55,51 +53,47 @@ module _ (names : List (List ℕ)) where
   with_place None others = others
   with_place (Some i) others = i ∷ others
 
-  placed : (name : List ℕ) (others : List (List ℕ))
-      → filter_map (place_of names) (name ∷ others) ≡ with_place (place_of names name) (filter_map (place_of names) others)
+  abbrev places : List (List ℕ) → List ℕ
+  places these = filter_map (place_of names) these
+
+  placed : (name : List ℕ) (others : List (List ℕ)) → places (name ∷ others) ≡ with_place (place_of names name) (places others)
   placed name others = by_place (place_of names name) refl
     where
-      by_place : (o : Option ℕ) → place_of names name ≡ o → filter_map (place_of names) (name ∷ others) ≡ with_place o (filter_map (place_of names) others)
+      by_place : (o : Option ℕ) → place_of names name ≡ o → places (name ∷ others) ≡ with_place o (places others)
       by_place None e = rw e refl
       by_place (Some i) e = rw e refl
 
+  -- what holds of the places of names holds with one more
+  with_name : (P : List ℕ → Type 0) (name : List ℕ) (others : List (List ℕ)) → P (places others)
+      → ((i : ℕ) → place_of names name ≡ Some i → P (i ∷ places others)) → P (places (name ∷ others))
+  with_name P name others rest more = subst P (sym (placed name others)) (by_place (place_of names name) refl)
+    where
+      by_place : (o : Option ℕ) → place_of names name ≡ o → P (with_place o (places others))
+      by_place None e = rest
+      by_place (Some i) e = more i e
+
   pub few_placed : (these : List (List ℕ)) → Each (λ member. nat_lt member (length names) ≡ true) (filter_map (place_of names) these)
   few_placed [] = tt
-  few_placed (name ∷ others) =
-      subst (Each (λ member. nat_lt member (length names) ≡ true)) (sym (placed name others)) (by_place (place_of names name) refl (few_placed others))
-    where
-      by_place : (o : Option ℕ) → place_of names name ≡ o → Each (λ member. nat_lt member (length names) ≡ true) (filter_map (place_of names) others)
-          → Each (λ member. nat_lt member (length names) ≡ true) (with_place o (filter_map (place_of names) others))
-      by_place None e rest = rest
-      by_place (Some i) e rest = (place_below names name i e, rest)
+  few_placed (name ∷ others) = with_name (Each (λ member. nat_lt member (length names) ≡ true)) name others (few_placed others)
+      (λ i e. (place_below names name i e, few_placed others))
 
   one_apart : (name : List ℕ) (i : ℕ) → place_of names name ≡ Some i → (these : List (List ℕ)) → stands_in name these ≡ false
-      → AllByRecursion (λ j. (i == j) ≡ false) (filter_map (place_of names) these)
+      → AllByRecursion (λ j. (i == j) ≡ false) (places these)
   one_apart name i at [] e = tt
   one_apart name i at (other ∷ others) e =
       let two = or_parts (bytes_eq other name) (stands_in name others) e in
       let rest = one_apart name i at others two.1 in
-      subst (AllByRecursion (λ j. (i == j) ≡ false)) (sym (placed other others)) (by_place (place_of names other) refl rest)
-    where
-      by_place : (o : Option ℕ) → place_of names other ≡ o → AllByRecursion (λ j. (i == j) ≡ false) (filter_map (place_of names) others)
-          → AllByRecursion (λ j. (i == j) ≡ false) (with_place o (filter_map (place_of names) others))
-      by_place None at_other rest = rest
-      by_place (Some j) at_other rest =
-          let two = or_parts (bytes_eq other name) (stands_in name others) e in
-          let differ : i ≢ j = places_apart names name other i j at at_other (ap not (turned name other two.0)) in
-          (grind (arith, nat_tests, differ), rest)
+      with_name (AllByRecursion (λ j. (i == j) ≡ false)) other others rest (λ j at_other.
+      let differ : i ≢ j = places_apart names name other i j at at_other (ap not (turned name other two.0)) in
+      (grind (arith, nat_tests, differ), rest))
 
   pub all_apart : (these : List (List ℕ)) → has_twice these ≡ false → IsDistinct ◌==◌ (filter_map (place_of names) these)
   unfolding IsDistinct
   all_apart [] e = tt
   all_apart (name ∷ others) e =
-      let rest = all_apart others (or_parts (stands_in name others) (has_twice others) e).1 in
-      subst (IsDistinct ◌==◌) (sym (placed name others)) (by_place (place_of names name) refl rest)
-    where
-      by_place : (o : Option ℕ) → place_of names name ≡ o → IsDistinct ◌==◌ (filter_map (place_of names) others)
-          → IsDistinct ◌==◌ (with_place o (filter_map (place_of names) others))
-      by_place None at rest = rest
-      by_place (Some i) at rest = (one_apart name i at others (or_parts (stands_in name others) (has_twice others) e).0, rest)
+      let two = or_parts (stands_in name others) (has_twice others) e in
+      let rest = all_apart others two.1 in
+      with_name (IsDistinct ◌==◌) name others rest (λ i at. (one_apart name i at others two.0, rest))
 
   -- the nodes of names of which none is unknown
   pub record HaveNodes (these : List (List ℕ)) : Type 0 where

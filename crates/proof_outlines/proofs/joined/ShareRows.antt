@@ -1,6 +1,6 @@
 -- Each row of a share's table leaves a share that is open in a run such a one, and so does what is then served; what both send is such as comes
 -- in a run.
-use Rattle.std.proofs.Common.{◌≡◌, ℕ, ◌<◌, Bool, true, false, Some, None, List, [], ◌∷◌, map, length, refl, sym, subst, arith}
+use Rattle.std.proofs.Common.{◌≡◌, ℕ, ◌<◌, Bool, true, false, None, List, [], ◌∷◌, map, length, refl, sym, subst, arith}
 use Rattle.std.specs.Prelude.{if◌then◌else◌, ◌==◌, ◌-◌, nat_lt, unwrap_or}
 use Rattle.std.specs.List.{IsDistinct}
 use Rattle.std.specs.Map.{keys_of}
@@ -10,7 +10,6 @@ use Rattle.nf_function.specs.declared.unit.Unit as units
 use Rattle.nf_function.specs.Semantics.{Semantics}
 use Rattle.record_table.specs.Table.{same_unit}
 use Rattle.packet_pool.specs.Pool.{FullCell}
-use Rattle.nf_msgs.specs.declared.answer.Answer.TheVariants as answer
 use Rattle.nf_msgs.specs.declared.msg.Msg.{Msg}
 use Rattle.nf_msgs.specs.declared.msg.Msg.TheVariants as msg
 use Rattle.nf_msgs.specs.Nodes.{instance_node}
@@ -26,14 +25,13 @@ use Rattle.proof_outlines.proofs.outline.Outline.{entries}
 use Rattle.proof_outlines.proofs.whole.WholeOutline.{is_sharing}
 use Rattle.proof_outlines.proofs.joined.Given.{Given}
 use Rattle.proof_outlines.proofs.joined.Joined.{Genuine, IsShare, IsOutAt, IsGoodChunk, AreGoodChunks, Label, count}
+use Rattle.proof_machines.proofs.Tests.{split, by_if}
 
 -- what holds of each member holds of one
 each_has : (P : ℕ → Type 0) (ms : List ℕ) (k : ℕ) → Each P ms → has ms k ≡ true → P k
 each_has P [] k h is = cc
-each_has P (m ∷ ms) k h is = elim (k == m) as (λ b. (k == m) ≡ b → (if b then true else has ms k) ≡ true → P k) [
-  | true ↦ λ on _. subst P (sym ((Decides-eqb k m).0 on)) h.0
-  | false ↦ λ _ rest. each_has P ms k h.1 rest
-] refl is
+each_has P (m ∷ ms) k h is = split (k == m) (λ b. (if b then true else has ms k) ≡ true → P k) (λ on _. subst P (sym ((Decides-eqb k m).0 on)) h.0)
+    (λ _ rest. each_has P ms k h.1 rest) is
 
 module _ {R : Type 0} (f : Semantics R) (g : Given) where
   -- the record of one unit
@@ -65,17 +63,11 @@ module _ {R : Type 0} (f : Semantics R) (g : Given) where
     rests ph out = record { out = out; labels = tt }
 
     setting_is : (left : ℕ) (sends : List (ℕ × Msg)) → EachSent (Label f g) 1 sends → Rows (setting left sends)
-    setting_is left sends labels = elim (left == 0)
-        as (λ b. Rows (if b then record { phase = phase.Idle; sends = sends; answer = Some answer.Done } else next_phase (phase.Setting left) sends)) [
-          | true ↦ record { out = tt; labels = labels }
-          | false ↦ record { out = tt; labels = labels }
-        ]
+    setting_is left sends labels = by_if Rows (left == 0) (record { out = tt; labels = labels }) (record { out = tt; labels = labels })
 
     syncing_is : (left : ℕ) (sends : List (ℕ × Msg)) → EachSent (Label f g) 1 sends → Rows (syncing left sends)
-    syncing_is left sends labels = elim (left == 0) as (λ b. Rows (next_phase (if b then phase.Idle else phase.Syncing left) sends)) [
-      | true ↦ record { out = tt; labels = labels }
-      | false ↦ record { out = tt; labels = labels }
-    ]
+    syncing_is left sends labels = by_if (λ r. Rows (next_phase r sends)) (left == 0) (record { out = tt; labels = labels })
+        (record { out = tt; labels = labels })
 
     fenced_is : (ph : SharePhase) → IsOutAt f g plan.members ph → Rows (on_fenced plan ph)
     fenced_is phase.Fencing out = record { out = tt; labels = (((refl, omega arith), whole), tt) }
@@ -87,12 +79,10 @@ module _ {R : Type 0} (f : Semantics R) (g : Given) where
     chunks_is ph chunks out good = rests ph out
 
     shared_is : (ph : SharePhase) (sender : ℕ) (chunk : Chunk) → IsOutAt f g plan.members ph → IsGoodChunk f g chunk → Rows (on_shared plan ph sender chunk)
-    shared_is (phase.Out member) sender chunk out good = elim (sender == instance_node member)
-        as (λ b. Rows (if b then syncing (length (others plan member)) (syncs plan member (chunk ∷ [])) else next_phase (phase.Out member) [])) [
-          | true ↦ syncing_is (length (others plan member)) (syncs plan member (chunk ∷ []))
-              (syncs_each (chunk ∷ []) (one_chunk chunk good) (others plan member))
-          | false ↦ rests (phase.Out member) out
-        ]
+    shared_is (phase.Out member) sender chunk out good = by_if Rows (sender == instance_node member)
+        (syncing_is (length (others plan member)) (syncs plan member (chunk ∷ []))
+        (syncs_each (chunk ∷ []) (one_chunk chunk good) (others plan member)))
+        (rests (phase.Out member) out)
     shared_is ph sender chunk out good = rests ph out
 
     synced_is : (ph : SharePhase) → IsOutAt f g plan.members ph → Rows (on_synced ph)

@@ -1,6 +1,6 @@
 -- The controller's step on a message that a share looks at: a fence's answer, a record of one unit, an answer to records, and a packet whose
 -- target is the controller.
-use Rattle.std.proofs.Common.{◌≡◌, ℕ, true, false, Option, Some, None, List, [], refl, sym, ap, ◌∙◌, subst, arith}
+use Rattle.std.proofs.Common.{◌≡◌, ℕ, true, false, Option, Some, None, [], refl, sym, ap, ◌∙◌, subst, arith}
 use Rattle.std.specs.Prelude.{if◌then◌else◌, ◌==◌, option_map}
 use Rattle.std.specs.FinMap as finite
 use Rattle.std.proofs.lemmas.Bool.Decides.{Decides-eqb}
@@ -13,13 +13,11 @@ use Rattle.packet_pool.specs.Pool.{FullCell}
 use Rattle.nf_msgs.specs.declared.msg.Msg.{Msg}
 use Rattle.nf_msgs.specs.declared.msg.Msg.TheVariants as msg
 use Rattle.nf_msgs.specs.Nodes.{switch_node}
-use Rattle.move_op.specs.Move as move
 use Rattle.move_op.specs.Move.{MoveState}
 use Rattle.copy_share.specs.Share.{ShareState}
 use Rattle.ctrl_node.specs.declared.operation.Operation.{Operation}
 use Rattle.ctrl_node.specs.declared.operation.Operation.TheVariants.{Move, Copy, Share}
-use Rattle.ctrl_node.specs.Operations.{turn_of, turn_of_move}
-use Rattle.ctrl_node.specs.Controller.{ControllerState, still, after_turn, takes_turn, hand_step, queue_step, on_diverted}
+use Rattle.ctrl_node.specs.Controller.{ControllerState, still, hand_step, queue_step, on_diverted}
 use Rattle.proof_machines.proofs.unit.Real as real
 use Rattle.proof_machines.proofs.net.Shares.{Any, New, S_shared, S_synced, Diverted_on, OpenShare, find_share}
 use Rattle.proof_machines.proofs.net.Shares.{share_taking, Told, Is_fenced, Has_chunk, Is_synced, Has_packet, by_share}
@@ -27,9 +25,9 @@ use Rattle.proof_machines.proofs.net.ShareRows.{taking_found}
 use Rattle.proof_outlines.proofs.outline.Outline.{number}
 use Rattle.proof_outlines.proofs.outline.MoveOutline.{fenced_row}
 use Rattle.proof_outlines.proofs.outline.CopyTurns.{is_copied}
-use Rattle.proof_outlines.proofs.outline.OperationTables.{insert_same, NotShared, handed_is}
 use Rattle.proof_outlines.proofs.whole.OpenShares.{joins, real_share, StepFollows}
-use Rattle.proof_outlines.proofs.whole.ControlAll.{fenced_follows, shared_follows, synced_follows}
+use Rattle.proof_outlines.proofs.whole.ControlAll.{unlooked, fenced_follows, shared_follows, synced_follows}
+use Rattle.proof_outlines.proofs.whole.OtherTurns.{move_still}
 use Rattle.proof_outlines.proofs.whole.DivertedAll.{AreApart, taken_is, none_is, diverted_follows}
 use Rattle.proof_outlines.proofs.joined.Given.{Given, place}
 use Rattle.proof_outlines.proofs.joined.Joined.{Scene, AreShown, IsTaken, S, A, shown}
@@ -37,36 +35,7 @@ use Rattle.proof_outlines.proofs.joined.ControllerScenes.{RowLeads, Idles, step_
 use Rattle.proof_outlines.proofs.joined.ControllerChanges.{NotMove}
 use Rattle.proof_outlines.proofs.joined.ControllerTurns.{no_share_open, none_leads, copy_leads, still_leads, well_leads, share_below, share_leads, told_leads}
 use Rattle.proof_outlines.proofs.joined.ShareTurns.{DidWell, share_queued_well}
-
--- a message that an open move doesn't look at
-move_stays : (c : ControllerState) (op : ℕ) (mv : MoveState) (p : ℕ) (m : Msg) → move.answer_of mv.phase ≡ None
-    → finite.get c.operations op ≡ Some (Move mv) → move.row mv (stored_of c.store mv.plan.op) p m ≡ move.keeps (move.next_phase mv.phase [])
-    → hand_step c op p m ≡ still c
-move_stays c op mv p m going there quiet =
-    handed_is c op p m (subst NotShared (sym there) tt)
-    ∙ ap (λ o. takes_turn c op (turn_of o c.store p m)) there
-    ∙ ap (λ r. takes_turn c op (turn_of_move mv c.store r)) quiet
-    ∙ ap (λ a. after_turn c op (turn_of_move mv c.store (move.keeps (move.next_phase mv.phase []))) a) going
-    ∙ ap (λ ops. still (record c { operations = ops })) (insert_same c.operations op (Move mv) there)
-
-shared_unlooked : (mv : MoveState) (events : List FullCell) (p op : ℕ) (chunk : Chunk)
-    → move.row mv events p (msg.Shared op chunk) ≡ move.keeps (move.next_phase mv.phase [])
-shared_unlooked mv events p op chunk = elim (p == move.source mv.plan) as (λ a. (if a then move.keeps (move.next_phase mv.phase [])
-    else if p == move.destination mv.plan then move.keeps (move.next_phase mv.phase []) else move.keeps (move.next_phase mv.phase []))
-    ≡ move.keeps (move.next_phase mv.phase [])) [
-      | true ↦ refl
-      | false ↦ elim (p == move.destination mv.plan) as (λ b. (if b then move.keeps (move.next_phase mv.phase []) else move.keeps (move.next_phase mv.phase []))
-          ≡ move.keeps (move.next_phase mv.phase [])) [ true ↦ refl | false ↦ refl ]
-    ]
-
-synced_unlooked : (mv : MoveState) (events : List FullCell) (p op : ℕ) → move.row mv events p (msg.Synced op) ≡ move.keeps (move.next_phase mv.phase [])
-synced_unlooked mv events p op = elim (p == move.source mv.plan) as (λ a. (if a then move.keeps (move.next_phase mv.phase [])
-    else if p == move.destination mv.plan then move.keeps (move.next_phase mv.phase []) else move.keeps (move.next_phase mv.phase []))
-    ≡ move.keeps (move.next_phase mv.phase [])) [
-      | true ↦ refl
-      | false ↦ elim (p == move.destination mv.plan) as (λ b. (if b then move.keeps (move.next_phase mv.phase []) else move.keeps (move.next_phase mv.phase []))
-          ≡ move.keeps (move.next_phase mv.phase [])) [ true ↦ refl | false ↦ refl ]
-    ]
+use Rattle.proof_machines.proofs.Tests.{either_way}
 
 module _ {F R : Type 0} (f : Semantics R) (g : Given) (n : ℕ) (x : Scene F f g) (p : ℕ) (are : AreShown f g n x) where
   abbrev c : ControllerState
@@ -115,7 +84,7 @@ module _ {F R : Type 0} (f : Semantics R) (g : Given) (n : ℕ) (x : Scene F f g
       let a : Any R = New (S_shared op good.entry) in
       let seen : shown f g m ≡ Some a = ap (option_map (λ e. New (S_shared op e))) good.spells in
       by_share_alone m is op a seen refl (untold op (Has_chunk good.entry))
-      (λ mv there. move_stays c op mv p m (are.controller.going op mv there) there (shared_unlooked mv (stored_of c.store mv.plan.op) p op chunk))
+      (λ mv there. move_still c op mv p m (are.controller.going op mv there) there (unlooked mv (stored_of c.store mv.plan.op) p m refl refl))
       (λ s there. share_leads f g n x p m are is op s there a seen (shared_follows f g.site g.packet (place g) c x.world.ops x.world.shares
       are.controller.opens op p chunk good.entry good.spells (are.controller.genuine op) (λ mv has. are.controller.going op mv has)) refl)
 
@@ -123,7 +92,7 @@ module _ {F R : Type 0} (f : Semantics R) (g : Given) (n : ℕ) (x : Scene F f g
   synced_leads op is =
       let m = msg.Synced op in
       by_share_alone m is op (New (S_synced op)) refl refl (untold op Is_synced)
-      (λ mv there. move_stays c op mv p m (are.controller.going op mv there) there (synced_unlooked mv (stored_of c.store mv.plan.op) p op))
+      (λ mv there. move_still c op mv p m (are.controller.going op mv there) there (unlooked mv (stored_of c.store mv.plan.op) p m refl refl))
       (λ s there. share_leads f g n x p m are is op s there (New (S_synced op)) refl (synced_follows f g.site g.packet (place g) c x.world.ops
       x.world.shares are.controller.opens op p (are.controller.genuine op) (λ mv has. are.controller.going op mv has)) refl)
 
@@ -134,10 +103,8 @@ module _ {F R : Type 0} (f : Semantics R) (g : Given) (n : ℕ) (x : Scene F f g
 
     one_share : (j k : ℕ) (d e : OpenShare) → find_share x.world.shares j ≡ Some d → find_share x.world.shares k ≡ Some e
         → (S f g).takes d.filter its_unit ≡ true → (S f g).takes e.filter its_unit ≡ true → j ≡ k
-    one_share j k d e at_j at_k takes_d takes_e = elim (j == k) as (λ b. (j == k) ≡ b → j ≡ k) [
-      | true ↦ λ on. (Decides-eqb j k).0 on
-      | false ↦ λ off. let never : true ≡ false = sym takes_e ∙ are.every.global.apart j k d e at_j at_k off its_unit takes_d in cc
-    ] refl
+    one_share j k d e at_j at_k takes_d takes_e = either_way (j == k) (λ on. (Decides-eqb j k).0 on)
+        (λ off. let never : true ≡ false = sym takes_e ∙ are.every.global.apart j k d e at_j at_k off its_unit takes_d in cc)
 
     apart : AreApart f g.site g.packet (place g) c x.world.ops x.world.shares are.controller.opens its_unit
     apart = record { nums = are.every.global.nums_apart; whole = λ k s there. (are.controller.shared k s there).whole; one = one_share }

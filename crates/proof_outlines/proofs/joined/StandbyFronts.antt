@@ -37,6 +37,7 @@ use Rattle.proof_outlines.proofs.joined.Given.{Given}
 use Rattle.proof_outlines.proofs.joined.Joined.{S, A, by_node, count, shown, node_of, Label, Scene, AreShown, IsTaken, Leads, Joined}
 use Rattle.proof_outlines.proofs.joined.JoinedSteps.{NodeLeads, scene, is_taken, step_leads, joined_after}
 use Rattle.proof_outlines.proofs.joined.JoinedSteps.{after_world, takes_at, ready_at, joined_next, next_is}
+use Rattle.proof_machines.proofs.Tests.{either_way}
 
 -- the chunks that a message brings to stand by
 abbrev pub kept_of : Msg → List Chunk
@@ -135,10 +136,8 @@ module _ {F R : Type 0} (f : Semantics R) (g : Given) (n : ℕ) where
   pub no_kept_fronts : (w : Network (Node F R) Msg Note) (j : Joined f g n w)
       → ((s r : ℕ) → s < length w.nodes → r < length w.nodes → (s == 1) ≡ true → queue_at w (at r s) ≡ []) → AreKeptFronts w j
   no_kept_fronts w j empty = record {
-    each = λ s r hs hr. elim (s == 1) as (λ b. (s == 1) ≡ b → Each (λ m. AreFronted f g j.world (kept_of m)) (queue_at w (at r s))) [
-      | true ↦ λ one. subst (λ ms. Each (λ m. AreFronted f g j.world (kept_of m)) ms) (sym (empty s r hs hr one)) tt
-      | false ↦ λ off. all_none s r off (queue_at w (at r s)) (j.labels s r hs hr)
-    ] refl;
+    each = λ s r hs hr. either_way (s == 1) (λ one. subst (λ ms. Each (λ m. AreFronted f g j.world (kept_of m)) ms) (sym (empty s r hs hr one)) tt)
+        (λ off. all_none s r off (queue_at w (at r s)) (j.labels s r hs hr));
   }
     where
       all_none : (s r : ℕ) → (s == 1) ≡ false → (ms : List Msg) → Each (Label f g s r) ms → Each (λ m. AreFronted f g j.world (kept_of m)) ms

@@ -60,6 +60,7 @@ use Rattle.proof_outlines.proofs.whole.OpenShares.{SeesAny}
 use Rattle.proof_outlines.proofs.joined.Given.{Given, place}
 use Rattle.proof_outlines.proofs.joined.Joined.{GenuinePacket, is_built, IsCommand, Label, S, A, IsSwitch, IsController}
 use Rattle.proof_outlines.proofs.joined.Joined.{Nodes, node_of, Scene, Joined, IsInstanceAt, AreShown, commands as numbers_of}
+use Rattle.proof_machines.proofs.Tests.{either_way, by_if}
 
 -- Routes.
 module _ (kind : Kind) where
@@ -82,10 +83,8 @@ module _ (kind : Kind) where
 
   route_there : (count : ℕ) → 0 < count → (rs : List (Filter × ℕ)) (u : units.Unit) → Each (λ r. r.1 < count) rs → nat_lt (route rs u) count ≡ true
   route_there count some [] u few = (Decides-ltb 0 count).1 some
-  route_there count some (r ∷ rs) u few = elim (takes_whole kind r.0 u) as (λ b. nat_lt (if b then r.1 else route rs u) count ≡ true) [
-    | true ↦ (Decides-ltb r.1 count).1 few.0
-    | false ↦ route_there count some rs u few.1
-  ]
+  route_there count some (r ∷ rs) u few = by_if (λ r. nat_lt r count ≡ true) (takes_whole kind r.0 u) ((Decides-ltb r.1 count).1 few.0)
+      (route_there count some rs u few.1)
 
   -- for a unit that packets may have it is the first route whose filter takes it
   route_is : (u : units.Unit) → unit_fits kind u ≡ true → (rs : List (Filter × ℕ)) → Each (λ r. is_whole kind r.0 ≡ true) rs → route rs u ≡ first_owner u rs
@@ -113,10 +112,7 @@ module _ {R : Type 0} (f : Semantics R) (c : Config) (items : List Msg) (is : Is
   fits_found number [] h =
       record { transport = refl; nanos = lit< tt; length = lit< tt; src = lit< tt; sport = lit< tt; dst = lit< tt; dport = lit< tt; inside = is.site }
   fits_found number (p ∷ ps) h =
-      elim (p.number == number) as (λ b. Fits c.site (unwrap_or (if b then Some p else find (λ q. q.number == number) ps) no_packet)) [
-        | true ↦ h.0.fits
-        | false ↦ fits_found number ps h.1
-      ]
+      by_if (λ r. Fits c.site (unwrap_or r no_packet)) (p.number == number) h.0.fits (fits_found number ps h.1)
 
   -- the packet of any number fits its types
   pub all_fit : (number : ℕ) → Fits c.site (packet_numbered items number)
@@ -324,15 +320,14 @@ module _ (F : Type 0) {R : Type 0} (f : Semantics R) (alloc : Global) (c : Confi
   instance_found zero j d few = absurd (omega (arith, few))
   instance_found (suc i) j d few =
       let l = length-first_instances F R alloc c i in
-      elim (nat_lt j i) as (λ b. nat_lt j i ≡ b → get_or (first_instances alloc c (suc i)) j d ≡ Instance (first_instance alloc c j)) [
-        | true ↦ λ e. get_or_append_left (first_instances alloc c i) (Instance (first_instance alloc c i) ∷ []) d j
-            (let k = (Decides-ltb j i).0 e in rw l k) ∙ instance_found i j d ((Decides-ltb j i).0 e)
-        | false ↦ λ e.
-            let last : j ≡ i = grind (arith, nat_tests, few, e) in
-            subst (λ x. get_or (first_instances alloc c (suc i)) x d ≡ Instance (first_instance alloc c x)) (sym last)
-            (subst (λ x. get_or (first_instances {F = F} {R = R} alloc c (suc i)) x d ≡ Instance (first_instance alloc c i)) l
-            (get_or-append_seam (first_instances alloc c i) (Instance (first_instance alloc c i)) [] d))
-      ] refl
+      either_way (nat_lt j i)
+      (λ e. get_or_append_left (first_instances alloc c i) (Instance (first_instance alloc c i) ∷ []) d j
+      (let k = (Decides-ltb j i).0 e in rw l k) ∙ instance_found i j d ((Decides-ltb j i).0 e))
+      (λ e.
+      let last : j ≡ i = grind (arith, nat_tests, few, e) in
+      subst (λ x. get_or (first_instances alloc c (suc i)) x d ≡ Instance (first_instance alloc c x)) (sym last)
+      (subst (λ x. get_or (first_instances {F = F} {R = R} alloc c (suc i)) x d ≡ Instance (first_instance alloc c i)) l
+      (get_or-append_seam (first_instances alloc c i) (Instance (first_instance alloc c i)) [] d)))
 
   nodes_found : (k : ℕ) → k < length c.names + 2 → (d : Node F R) → get_or (first_nodes alloc c) k d ≡ node_of nodes k
   nodes_found zero few d = refl

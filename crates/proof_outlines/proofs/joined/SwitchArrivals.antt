@@ -29,7 +29,7 @@ use Rattle.proof_machines.proofs.unit.Real.{sent_for}
 use Rattle.proof_machines.proofs.net.Net as net
 use Rattle.proof_machines.proofs.net.Net.{MoveAsked}
 use Rattle.proof_machines.proofs.net.Waits.{Rising}
-use Rattle.proof_machines.proofs.net.Shares.{Any, Old, New, Diverted_on, S_asked, WantShare, WholeWorld, arrive_sends, asks, whole_input}
+use Rattle.proof_machines.proofs.net.Shares.{Any, Old, New, S_asked, WantShare, WholeWorld, arrive_sends, asks, whole_input}
 use Rattle.proof_machines.proofs.whole.WhereAll.{comes}
 use Rattle.proof_machines.proofs.whole.EveryAll.{EveryAll, input_every_all, asks_move_every_all, asks_share_every_all}
 use Rattle.net_world.specs.Nodes.{as_node}
@@ -49,6 +49,7 @@ use Rattle.proof_outlines.proofs.joined.Given.{Given, place, is_diverted, owner_
 use Rattle.proof_outlines.proofs.joined.Joined.{Genuine, GenuinePacket, IsCommand, IsSwitch, Label, S, A}
 use Rattle.proof_outlines.proofs.joined.Joined.{asked_nums, came_by, commands, is_of, shown, Scene, AreShown, Leads}
 use Rattle.proof_outlines.proofs.joined.NextNumbers.{same_grows}
+use Rattle.proof_machines.proofs.Tests.{by_if}
 
 -- the message that a packet goes on in, by its target
 abbrev message_for : Target → FullCell → Msg
@@ -62,10 +63,8 @@ goes_is s q target.Controller there = refl
 -- no command is among what a packet is sent on in
 none_arrives : {R : Type 0} (f : Semantics R) (g : Given) (t p : ℕ) → asked_nums (sent_for 1 (arrive_sends (S f g) (A f g) t p)) ≡ []
 none_arrives {R = R} f g t p =
-    elim (t == 1) as (λ b. asked_nums {R = R} (sent_for 1 (if b then (1, New (Diverted_on p)) ∷ [] else (t, Old (net.Carry_on p)) ∷ [])) ≡ []) [
-      | true ↦ refl
-      | false ↦ elim (t == 1) as (λ b. asked_nums {R = R} (if b then Old (net.Carry_on p) ∷ [] else []) ≡ []) [ true ↦ refl | false ↦ refl ]
-    ]
+    by_if (λ r. asked_nums {R = R} (sent_for 1 r) ≡ []) (t == 1) refl
+    (elim (t == 1) as (λ b. asked_nums {R = R} (if b then Old (net.Carry_on p) ∷ [] else []) ≡ []) [ true ↦ refl | false ↦ refl ])
 
 -- packets that go to the controller are of a unit that a share has
 sent_to_one : (g : Given) (u : units.Unit) (ops : List ℕ) → (target_by g u ops == 1) ≡ is_diverted g u ops

@@ -36,21 +36,8 @@ use Rattle.proof_outlines.proofs.joined.NextNumbers.{same_grows}
 pub asked_nums-append : {R : Type 0} (xs ys : List (Any R)) → asked_nums (xs ++ ys) ≡ asked_nums xs ++ asked_nums ys
 asked_nums-append [] ys = refl
 asked_nums-append (Old (net.Asked x) ∷ xs) ys = ap (λ v. x.num ∷ v) (asked_nums-append xs ys)
-asked_nums-append (Old (net.In_packet p) ∷ xs) ys = asked_nums-append xs ys
-asked_nums-append (Old (net.Carry_on p) ∷ xs) ys = asked_nums-append xs ys
-asked_nums-append (Old (net.Pass_on p) ∷ xs) ys = asked_nums-append xs ys
-asked_nums-append (Old (net.Fence_on p) ∷ xs) ys = asked_nums-append xs ys
-asked_nums-append (Old (net.Mv h m) ∷ xs) ys = asked_nums-append xs ys
 asked_nums-append (New (shares.S_asked x) ∷ xs) ys = ap (λ v. x.num ∷ v) (asked_nums-append xs ys)
-asked_nums-append (New (shares.Shared_on n home p) ∷ xs) ys = asked_nums-append xs ys
-asked_nums-append (New (shares.Diverted_on p) ∷ xs) ys = asked_nums-append xs ys
-asked_nums-append (New (shares.S_install n h from) ∷ xs) ys = asked_nums-append xs ys
-asked_nums-append (New (shares.S_forward n home p to) ∷ xs) ys = asked_nums-append xs ys
-asked_nums-append (New (shares.S_get n h) ∷ xs) ys = asked_nums-append xs ys
-asked_nums-append (New (shares.S_sync n home cs) ∷ xs) ys = asked_nums-append xs ys
-asked_nums-append (New (shares.S_chunks n cs) ∷ xs) ys = asked_nums-append xs ys
-asked_nums-append (New (shares.S_shared n c) ∷ xs) ys = asked_nums-append xs ys
-asked_nums-append (New (shares.S_synced n) ∷ xs) ys = asked_nums-append xs ys
+asked_nums-append (m ∷ xs) ys = asked_nums-append xs ys
 
 -- no command among what is sent
 abbrev pub NoneAsked : {R : Type 0} → List (ℕ × Any R) → Type 0

@@ -233,37 +233,7 @@ module _ {R : Type 0} (f : Semantics R) (g : Given) where
   comes p (msg.Answered op) e = Answers op refl
   comes p msg.Finish e = Finishes refl
   comes p (msg.Credit cell) e = Credits cell refl
-  comes p (msg.Asked c) e = let r = e.1 in cc
-  comes p msg.End e = let r = e.1 in cc
-  comes p (msg.Diverted cell) e = let r = e.1 in cc
-  comes p (msg.Carry mark cell) e = let r = e.0.1 in absurd (omega (arith, r))
-  comes p (msg.Fence op) e = let r = e.1 in absurd (omega (arith, r))
-  comes p msg.Stop e = let r = e.1 in absurd (omega (arith, r))
-  comes p (msg.Enable op filter action) e = let r = e.0.1 in absurd (omega (arith, r))
-  comes p (msg.Stream op filter) e = let r = e.0.1 in absurd (omega (arith, r))
-  comes p (msg.Delete op gone) e = let r = e.1 in absurd (omega (arith, r))
-  comes p (msg.Put op piece first) e = let r = e.0.1 in absurd (omega (arith, r))
-  comes p (msg.Restore op chunks) e = let r = e.0.1 in absurd (omega (arith, r))
-  comes p (msg.Enabled op) e = let r = e.1 in cc
-  comes p (msg.Piece op piece) e = let r = e.0.1 in cc
-  comes p (msg.Deleted op) e = let r = e.1 in cc
-  comes p (msg.PutOk op) e = let r = e.1 in cc
-  comes p (msg.PutNo op refused) e = let r = e.0.1 in cc
-  comes p (msg.Restored op) e = let r = e.1 in cc
-  comes p (msg.Event op cell) e = let r = e.0.1 in cc
-  comes p (msg.Fenced op) e = let r = e.1 in cc
-  comes p (msg.Get op filter) e = let r = e.0.1 in absurd (omega (arith, r))
-  comes p (msg.GetAll op) e = let r = e.1 in absurd (omega (arith, r))
-  comes p (msg.Standby op chunks) e = let r = e.0.1 in absurd (omega (arith, r))
-  comes p (msg.PutAll op chunk) e = let r = e.1 in absurd (omega (arith, r))
-  comes p (msg.Sync home op chunks) e = let r = e.0.1 in absurd (omega (arith, r))
-  comes p (msg.Chunks op chunks) e = let r = e.0.1 in cc
-  comes p (msg.Shared op chunk) e = let r = e.0.1 in cc
-  comes p (msg.Synced op) e = let r = e.1 in cc
-  comes p (msg.AllChunk op chunk) e = let r = e.1 in cc
-  comes p (msg.Kept op) e = let r = e.1 in cc
-  comes p msg.Final e = let r = e.1 in cc
-  comes p m e = absurd e
+  comes p m e = absurd (first_of (assumption, omega arith))
 
 module _ {F R : Type 0} (f : Semantics R) (g : Given) (n : ℕ) (x : Scene F f g) where
   -- a step on a message from a port leads to a world of a run
@@ -271,71 +241,40 @@ module _ {F R : Type 0} (f : Semantics R) (g : Given) (n : ℕ) (x : Scene F f g
   Does p m = IsTaken f g n x (record { node = 0; port = p; message = m })
       → Leads f g n x (record { node = 0; port = p; message = m }) (node_step f (node_of x.nodes 0) p m)
 
-  at_port : (m : Msg) (k p : ℕ) → p ≡ k → Does k m → Does p m
-  at_port m k p same d = subst (λ i. Does i m) (sym same) d
-
-  at_message : (p : ℕ) (m k : Msg) → m ≡ k → Does p k → Does p m
-  at_message p m k same d = subst (λ i. Does p i) (sym same) d
+  at_port : (m k : Msg) (p port : ℕ) → m ≡ k → (Label f g p 0 k → p ≡ port) → Does port k → Does p m
+  at_port m k p port same from d = subst (Does p) (sym same) (λ is. subst (λ i. Does i k) (sym (from is.label)) d is)
 
   module _ (are : AreShown f g n x) where
-    does_packet : (p : ℕ) (q : Packet) → Does p (msg.InPacket q)
-    does_packet p q is = at_port (msg.InPacket q) 0 p is.label.0.0 (λ t. packet_leads f g n x are q t.items t.label.1 (t.ready refl refl) (t.item refl refl)) is
+    abbrev waiting_less : SwitchState
+    waiting_less = record x.nodes.switch { waiting = x.nodes.switch.waiting - 1 }
 
-    does_command : (p : ℕ) (c : Command) → Does p (msg.InCommand c)
-    does_command p c is = at_port (msg.InCommand c) 0 p is.label.0.0 (λ t. command_leads f g n x are c t.items t.label.1 (t.item refl refl)) is
-
-    does_settle : (p : ℕ) → Does p msg.InSettle
-    does_settle p is = at_port msg.InSettle 0 p is.label.0 (λ t. item_leads f g n x are msg.InSettle t.items [] (t.item refl refl) refl refl refl tt) is
-
-    does_end : (p : ℕ) → Does p msg.InEnd
-    does_end p is = at_port msg.InEnd 0 p is.label.0
-        (λ t. item_leads f g n x are msg.InEnd t.items ((1, msg.End) ∷ []) (t.item refl refl) refl refl refl ((refl, refl), tt)) is
-
-    does_pass : (p to op : ℕ) (cell : FullCell) → Does p (msg.Forward to (mark.Pass op) cell)
-    does_pass p to op cell is = at_port (msg.Forward to (mark.Pass op) cell) 1 p is.label.0.0
-        (λ t. passed_leads f g n x are to op cell t.rest t.label.1 t.label.3 (t.head refl _ refl)) is
-
-    does_share : (p to op : ℕ) (home : Bool) (cell : FullCell) → Does p (msg.Forward to (mark.Shared op home) cell)
-    does_share p to op home cell is = at_port (msg.Forward to (mark.Shared op home) cell) 1 p is.label.0.0
-        (λ t. shared_leads f g n x are to op home cell t.rest t.label.1 t.label.3 (t.head refl _ refl)) is
-
-    does_install : (p op : ℕ) (filter : Filter) (from to : ℕ) → Does p (msg.Install op filter from (target.Instance to))
-    does_install p op filter from to is = at_port (msg.Install op filter from (target.Instance to)) 1 p is.label.0.0
-        (λ t. install_leads f g n x are op filter from to t.rest t.label.1 t.label.2 t.label.3 t.label.4 (t.head refl _ refl)) is
-
-    does_divert : (p op : ℕ) (filter : Filter) (from : ℕ) → Does p (msg.Install op filter from target.Controller)
-    does_divert p op filter from is = at_port (msg.Install op filter from target.Controller) 1 p is.label.0.0
-        (λ t. divert_leads f g n x are op filter from t.rest t.label.1 t.label.3 t.label.4 (t.head refl _ refl)) is
-
-    does_fence : (p op to : ℕ) → Does p (msg.FenceTo op to)
-    does_fence p op to is = at_port (msg.FenceTo op to) 1 p is.label.0.0 (λ t. fence_leads f g n x are op to t.rest t.label.1 (t.head refl _ refl)) is
-
-    does_answer : (p op : ℕ) → Does p (msg.Answered op)
-    does_answer p op is =
-        let t : SwitchState = record x.nodes.switch { waiting = x.nodes.switch.waiting - 1 } in
-        at_port (msg.Answered op) 1 p is.label.0 (λ _. quiet f g n x are 1 (msg.Answered op) t [] refl refl tt
-        (same_switch f g x.nodes.switch t x.world.target refl refl refl refl are.switch) are.rising) is
-
-    does_finish : (p : ℕ) → Does p msg.Finish
-    does_finish p is =
-        let t : SwitchState = record x.nodes.switch { closed = true } in
-        at_port msg.Finish 1 p is.label.0 (λ _. quiet f g n x are 1 msg.Finish t (stop_messages x.nodes.switch.instances)
-        refl (stops_all f g.site g.packet (place g) x.nodes.switch.instances) (stops_labels f g x.nodes.switch.instances)
-        (same_switch f g x.nodes.switch t x.world.target refl refl refl refl are.switch) are.rising) is
+    abbrev closed : SwitchState
+    closed = record x.nodes.switch { closed = true }
 
     does : (p : ℕ) (m : Msg) → Comes m → Does p m
-    does p m (Packet_in q e) = at_message p m (msg.InPacket q) e (does_packet p q)
-    does p m (Command_in c e) = at_message p m (msg.InCommand c) e (does_command p c)
-    does p m (Settle_in e) = at_message p m msg.InSettle e (does_settle p)
-    does p m (End_in e) = at_message p m msg.InEnd e (does_end p)
-    does p m (Passes to op cell e) = at_message p m (msg.Forward to (mark.Pass op) cell) e (does_pass p to op cell)
-    does p m (Shares_out to op home cell e) = at_message p m (msg.Forward to (mark.Shared op home) cell) e (does_share p to op home cell)
-    does p m (Installs op filter from to e) = at_message p m (msg.Install op filter from (target.Instance to)) e (does_install p op filter from to)
-    does p m (Diverts op filter from e) = at_message p m (msg.Install op filter from target.Controller) e (does_divert p op filter from)
-    does p m (Fences op to e) = at_message p m (msg.FenceTo op to) e (does_fence p op to)
-    does p m (Answers op e) = at_message p m (msg.Answered op) e (does_answer p op)
-    does p m (Finishes e) = at_message p m msg.Finish e (does_finish p)
-    does p m (Credits cell e) = at_message p m (msg.Credit cell) e (λ is. credit_leads f g n x are p cell is.label.0)
+    does p m (Packet_in q e) = at_port m (msg.InPacket q) p 0 e (λ l. l.0.0)
+        (λ t. packet_leads f g n x are q t.items t.label.1 (t.ready refl refl) (t.item refl refl))
+    does p m (Command_in c e) = at_port m (msg.InCommand c) p 0 e (λ l. l.0.0) (λ t. command_leads f g n x are c t.items t.label.1 (t.item refl refl))
+    does p m (Settle_in e) = at_port m msg.InSettle p 0 e (λ l. l.0)
+        (λ t. item_leads f g n x are msg.InSettle t.items [] (t.item refl refl) refl refl refl tt)
+    does p m (End_in e) = at_port m msg.InEnd p 0 e (λ l. l.0)
+        (λ t. item_leads f g n x are msg.InEnd t.items ((1, msg.End) ∷ []) (t.item refl refl) refl refl refl ((refl, refl), tt))
+    does p m (Passes to op cell e) = at_port m (msg.Forward to (mark.Pass op) cell) p 1 e (λ l. l.0.0)
+        (λ t. passed_leads f g n x are to op cell t.rest t.label.1 t.label.3 (t.head refl _ refl))
+    does p m (Shares_out to op home cell e) = at_port m (msg.Forward to (mark.Shared op home) cell) p 1 e (λ l. l.0.0)
+        (λ t. shared_leads f g n x are to op home cell t.rest t.label.1 t.label.3 (t.head refl _ refl))
+    does p m (Installs op filter from to e) = at_port m (msg.Install op filter from (target.Instance to)) p 1 e (λ l. l.0.0)
+        (λ t. install_leads f g n x are op filter from to t.rest t.label.1 t.label.2 t.label.3 t.label.4 (t.head refl _ refl))
+    does p m (Diverts op filter from e) = at_port m (msg.Install op filter from target.Controller) p 1 e (λ l. l.0.0)
+        (λ t. divert_leads f g n x are op filter from t.rest t.label.1 t.label.3 t.label.4 (t.head refl _ refl))
+    does p m (Fences op to e) = at_port m (msg.FenceTo op to) p 1 e (λ l. l.0.0)
+        (λ t. fence_leads f g n x are op to t.rest t.label.1 (t.head refl _ refl))
+    does p m (Answers op e) = at_port m (msg.Answered op) p 1 e (λ l. l.0) (λ _. quiet f g n x are 1 (msg.Answered op) waiting_less [] refl refl tt
+        (same_switch f g x.nodes.switch waiting_less x.world.target refl refl refl refl are.switch) are.rising)
+    does p m (Finishes e) = at_port m msg.Finish p 1 e (λ l. l.0) (λ _. quiet f g n x are 1 msg.Finish closed (stop_messages x.nodes.switch.instances)
+        refl (stops_all f g.site g.packet (place g) x.nodes.switch.instances) (stops_labels f g x.nodes.switch.instances)
+        (same_switch f g x.nodes.switch closed x.world.target refl refl refl refl are.switch) are.rising)
+    does p m (Credits cell e) = at_port m (msg.Credit cell) p p e (λ _. refl) (λ t. credit_leads f g n x are p cell t.label.0)
 
 module _ {F R : Type 0} (f : Semantics R) (laws : FunctionLaws f) (g : Given) where
   pub switch_leads : (n : ℕ) (x : Scene F f g) (p : ℕ) (m : Msg) → AreShown f g n x → IsTaken f g n x (record { node = 0; port = p; message = m })

@@ -1,5 +1,5 @@
 -- How often a unit stands among chunks; chunks in which none stands twice are of distinct units.
-use Rattle.std.proofs.Common.{◌≡◌, ℕ, ◌+◌, ◌≤◌, true, false, Some, List, [], ◌∷◌, ◌++◌, map, refl, sym, ap, ◌∙◌, subst, arith}
+use Rattle.std.proofs.Common.{◌≡◌, ℕ, ◌+◌, ◌≤◌, false, Some, List, [], ◌∷◌, ◌++◌, map, refl, sym, ap, ◌∙◌, subst, arith}
 use Rattle.std.specs.Prelude.{if◌then◌else◌, is_some}
 use Rattle.std.specs.List.{AllByRecursion, IsDistinct}
 use Rattle.std.specs.Map.{keys_of}
@@ -17,6 +17,7 @@ use Rattle.proof_outlines.proofs.outline.InstanceOutline.{filter_map-put}
 use Rattle.proof_machines.proofs.net.Copies.{has, have}
 use Rattle.proof_outlines.proofs.joined.Given.{Given}
 use Rattle.proof_outlines.proofs.joined.Joined.{AreGoodChunks}
+use Rattle.proof_machines.proofs.Tests.{split}
 
 module _ {R : Type 0} where
   -- how many entries are the unit's
@@ -32,11 +33,9 @@ module _ {R : Type 0} where
   none_same : (u : units.Unit) (es : Chunks R) → times u es ≡ 0 → AllByRecursion (λ y. same_unit u y ≡ false) (keys_of es)
   none_same u [] h = tt
   none_same u (e ∷ es) h =
-      elim (same_unit u e.0)
-      as (λ b. same_unit u e.0 ≡ b → (if b then 1 else 0) + times u es ≡ 0 → AllByRecursion (λ y. same_unit u y ≡ false) (keys_of (e ∷ es))) [
-        | true ↦ λ is more. absurd (omega (arith, more))
-        | false ↦ λ is more. (is, none_same u es (omega (arith, more)))
-      ] refl h
+      split (same_unit u e.0) (λ b. (if b then 1 else 0) + times u es ≡ 0 → AllByRecursion (λ y. same_unit u y ≡ false) (keys_of (e ∷ es)))
+      (λ is more. absurd (omega (arith, more)))
+      (λ is more. (is, none_same u es (omega (arith, more)))) h
 
   same_none : (u : units.Unit) (es : Chunks R) → AllByRecursion (λ y. same_unit u y ≡ false) (keys_of es) → times u es ≡ 0
   same_none u [] h = refl
@@ -54,21 +53,18 @@ module _ {R : Type 0} where
   unfolding IsDistinct
   times_from_distinct [] h u = omega arith
   times_from_distinct (e ∷ es) h u =
-      elim (same_unit u e.0) as (λ b. same_unit u e.0 ≡ b → (if b then 1 else 0) + times u es ≤ 1) [
-        | true ↦ λ is. let none = subst (λ x. times x es ≡ 0) (sym (same_unit-true u e.0 is)) (same_none e.0 es h.0) in omega (arith, none)
-        | false ↦ λ is. let rest = times_from_distinct es h.1 u in omega (arith, rest)
-      ] refl
+      split (same_unit u e.0) (λ b. (if b then 1 else 0) + times u es ≤ 1)
+      (λ is. let none = subst (λ x. times x es ≡ 0) (sym (same_unit-true u e.0 is)) (same_none e.0 es h.0) in omega (arith, none))
+      (λ is. let rest = times_from_distinct es h.1 u in omega (arith, rest))
 
   -- where no unit stands twice, one stands once where it has a record
   pub times_is_has : (es : Chunks R) → IsDistinct same_unit (keys_of es) → (u : units.Unit) → times u es ≡ has u es
   unfolding IsDistinct
   times_is_has [] h u = refl
   times_is_has (e ∷ es) h u =
-      elim (same_unit u e.0)
-      as (λ b. same_unit u e.0 ≡ b → (if b then 1 else 0) + times u es ≡ (if is_some (if b then Some e.1 else record_at u es) then 1 else 0)) [
-        | true ↦ λ is. let none = subst (λ x. times x es ≡ 0) (sym (same_unit-true u e.0 is)) (same_none e.0 es h.0) in omega (arith, none)
-        | false ↦ λ is. let rest = times_is_has es h.1 u in omega (arith, rest)
-      ] refl
+      split (same_unit u e.0) (λ b. (if b then 1 else 0) + times u es ≡ (if is_some (if b then Some e.1 else record_at u es) then 1 else 0))
+      (λ is. let none = subst (λ x. times x es ≡ 0) (sym (same_unit-true u e.0 is)) (same_none e.0 es h.0) in omega (arith, none))
+      (λ is. let rest = times_is_has es h.1 u in omega (arith, rest))
 
 module _ {R : Type 0} (f : Semantics R) (g : Given) where
   -- of pieces of such chunks, as many have the unit as it stands in them

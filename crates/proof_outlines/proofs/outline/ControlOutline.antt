@@ -28,6 +28,7 @@ use Rattle.proof_machines.proofs.net.Ctrl.{find_close, find_set, find_write_othe
 use Rattle.proof_outlines.proofs.outline.Outline.{number, outline_sent, outline_sends}
 use Rattle.proof_outlines.proofs.outline.InstanceOutline.{filter_map-put}
 use Rattle.proof_outlines.proofs.outline.MoveOutline.{outline_plan, outline_phase, refused_by, RowFollows}
+use Rattle.proof_machines.proofs.Tests.{either_way}
 
 module _ {R : Type 0} (f : Semantics R) (place : List ℕ → Option ℕ) where
   -- an open move, as the proof of moves sees it
@@ -98,16 +99,14 @@ module _ {R : Type 0} (f : Semantics R) (place : List ℕ → Option ℕ) where
         → Opens (write_op n rp (map number (unwrap_or o events)) ops)
         (record s { operations = finite.insert s.operations n (Move (record m { phase = ph })); store = after_store })
     open_after ph rp is sets k =
-        elim (eqb k n) as (λ b. eqb k n ≡ b → Sees (find_op (write_op n rp (map number (unwrap_or o events)) ops) k)
-        (finite.get (finite.insert s.operations n (Move (record m { phase = ph }))) k) (stored_of after_store k)) [
-          | true ↦ λ on. let at : k ≡ n = (Decides-eqb k n).0 on in
-              subst (λ j. Sees (find_op (write_op n rp (map number (unwrap_or o events)) ops) j)
-              (finite.get (finite.insert s.operations n (Move (record m { phase = ph }))) j) (stored_of after_store j)) (sym at) own
-          | false ↦ λ off. at_other k _ _ off
-              (find_write_other n k rp (map number (unwrap_or o events)) ops (let turned_off : (n == k) ≡ false = grind (arith, nat_tests) in turned_off))
-              (got_insert s.operations n k (Move (record m { phase = ph }))
-              ∙ ap (λ b. cond b (Some (Move (record m { phase = ph }))) (finite.get s.operations k)) off)
-        ] refl
+        either_way (eqb k n)
+        (λ on. let at : k ≡ n = (Decides-eqb k n).0 on in
+        subst (λ j. Sees (find_op (write_op n rp (map number (unwrap_or o events)) ops) j)
+        (finite.get (finite.insert s.operations n (Move (record m { phase = ph }))) j) (stored_of after_store j)) (sym at) own)
+        (λ off. at_other k _ _ off
+        (find_write_other n k rp (map number (unwrap_or o events)) ops (let turned_off : (n == k) ≡ false = grind (arith, nat_tests) in turned_off))
+        (got_insert s.operations n k (Move (record m { phase = ph }))
+        ∙ ap (λ b. cond b (Some (Move (record m { phase = ph }))) (finite.get s.operations k)) off))
       where
         self : eqb n n ≡ true
         self = grind (arith, nat_tests)
@@ -128,17 +127,15 @@ module _ {R : Type 0} (f : Semantics R) (place : List ℕ → Option ℕ) where
     closed_after : (ph : Phase) (why : Option Answer) → Opens (write_op n (phase.Over why) (map number (unwrap_or o events)) ops)
         (record s { operations = finite.remove (finite.insert s.operations n (Move (record m { phase = ph }))) n; store = after_store })
     closed_after ph why k =
-        elim (eqb k n) as (λ b. eqb k n ≡ b → Sees (find_op (write_op n (phase.Over why) (map number (unwrap_or o events)) ops) k)
-        (finite.get (finite.remove (finite.insert s.operations n (Move (record m { phase = ph }))) n) k) (stored_of after_store k)) [
-          | true ↦ λ on. let at : k ≡ n = (Decides-eqb k n).0 on in
-              subst (λ j. Sees (find_op (write_op n (phase.Over why) (map number (unwrap_or o events)) ops) j)
-              (finite.get (finite.remove (finite.insert s.operations n (Move (record m { phase = ph }))) n) j) (stored_of after_store j)) (sym at) own
-          | false ↦ λ off. at_other k _ _ off (find_write_other n k (phase.Over why) (map number (unwrap_or o events)) ops
-              (let turned_off : (n == k) ≡ false = grind (arith, nat_tests) in turned_off))
-              (got_remove (finite.insert s.operations n (Move (record m { phase = ph }))) n k
-              ∙ ap (λ b. cond b None (finite.get (finite.insert s.operations n (Move (record m { phase = ph }))) k)) off ∙ got_insert s.operations n k
-              (Move (record m { phase = ph })) ∙ ap (λ b. cond b (Some (Move (record m { phase = ph }))) (finite.get s.operations k)) off)
-        ] refl
+        either_way (eqb k n)
+        (λ on. let at : k ≡ n = (Decides-eqb k n).0 on in
+        subst (λ j. Sees (find_op (write_op n (phase.Over why) (map number (unwrap_or o events)) ops) j)
+        (finite.get (finite.remove (finite.insert s.operations n (Move (record m { phase = ph }))) n) j) (stored_of after_store j)) (sym at) own)
+        (λ off. at_other k _ _ off (find_write_other n k (phase.Over why) (map number (unwrap_or o events)) ops
+        (let turned_off : (n == k) ≡ false = grind (arith, nat_tests) in turned_off))
+        (got_remove (finite.insert s.operations n (Move (record m { phase = ph }))) n k
+        ∙ ap (λ b. cond b None (finite.get (finite.insert s.operations n (Move (record m { phase = ph }))) k)) off ∙ got_insert s.operations n k
+        (Move (record m { phase = ph })) ∙ ap (λ b. cond b (Some (Move (record m { phase = ph }))) (finite.get s.operations k)) off))
       where
         self : eqb n n ≡ true
         self = grind (arith, nat_tests)
@@ -156,16 +153,10 @@ module _ {R : Type 0} (f : Semantics R) (place : List ℕ → Option ℕ) where
     written_after : (ph : Phase) (rp : RPhase R) (sends : List (ℕ × Msg)) → rp ≡ outline_phase f place ph
         → Opens (write_op n rp (map number (unwrap_or o events)) ops) (after_turn s n
         (record { operation = Some (Move (record m { phase = ph })); store = after_store; sends = sends; answer = answer_of ph }) (answer_of ph)).node
-    written_after phase.Freezing rp sends is = rw is (open_after phase.Freezing phase.Freezing refl (λ _. refl))
     written_after (phase.Streaming fz fr c d) rp sends is =
         rw is (open_after (phase.Streaming fz fr c d) (outline_phase f place (phase.Streaming fz fr c d)) refl (λ _. refl))
-    written_after phase.Holding rp sends is = rw is (open_after phase.Holding phase.Holding refl (λ _. refl))
-    written_after phase.Passing rp sends is = rw is (open_after phase.Passing phase.Passing refl (λ _. refl))
-    written_after phase.Ending rp sends is = rw is (open_after phase.Ending phase.Ending refl (λ _. refl))
-    written_after (phase.Restoring why) rp sends is = rw is (open_after (phase.Restoring why) (phase.Restoring why) refl (λ _. refl))
-    written_after (phase.Returning why) rp sends is = rw is (open_after (phase.Returning why) (phase.Returning why) refl (λ _. refl))
-    written_after (phase.Undoing why) rp sends is = rw is (open_after (phase.Undoing why) (phase.Undoing why) refl (λ _. refl))
     written_after (phase.Over why) rp sends is = rw is (closed_after (phase.Over why) (refused_by why))
+    written_after ph rp sends is = rw is (open_after ph (outline_phase f place ph) refl (λ _. refl))
 
   -- what is sent after a turn: an answer isn't looked at
   turn_sends : (s : ControllerState) (n : ℕ) (t : Turn) (a : Option Answer) → outline_sends f place (after_turn s n t a).sends ≡ outline_sends f place t.sends

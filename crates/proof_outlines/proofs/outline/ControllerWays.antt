@@ -1,6 +1,6 @@
 -- The ways in which the controller goes on with a message: what holds of each of them holds of its row.
-use Rattle.std.proofs.Common.{◌≡◌, ℕ, Bool, true, false, Option, Some, None, List, [], ◌∷◌, refl}
-use Rattle.std.specs.Prelude.{if◌then◌else◌, ◌==◌, slice_set}
+use Rattle.std.proofs.Common.{◌≡◌, ℕ, Bool, true, Option, Some, None, List, [], ◌∷◌, refl}
+use Rattle.std.specs.Prelude.{◌==◌, slice_set}
 use Rattle.std.specs.List.{filter_map}
 use Rattle.std.specs.FinMap as finite
 use Rattle.flow_filter.specs.declared.filter.Filter.{Filter}
@@ -22,6 +22,7 @@ use Rattle.ctrl_node.specs.Operations.{share_of}
 use Rattle.flow_filter.specs.Name.{place_of}
 use Rattle.ctrl_node.specs.Controller as ctrl
 use Rattle.ctrl_node.specs.Controller.{ControllerState, Step}
+use Rattle.proof_machines.proofs.Tests.{by_if}
 
 -- The ways of a row, a command taken as a whole: nothing, the end, a final message, an event that goes back, a message of some number, a packet of a
 -- share, and a command.
@@ -43,23 +44,17 @@ module _ (c : ControllerState) (port : ℕ) (Allows : Msg → Step → Type 0) w
 
     by_event : (op : ℕ) (cell : FullCell) (o : Option ℕ) → Allows (msg.Event op cell) (ctrl.on_event c port op cell o)
     by_event op cell None = ways.still (msg.Event op cell)
-    by_event op cell (Some i) = elim (finite.contains_key c.operations op) as (λ b. Allows (msg.Event op cell) (if b
-        then ctrl.hand_step c op port (msg.Event op cell) else record { node = c; sends = (switch_node, msg.Forward i (Pass op) cell) ∷ []; notes = [] })) [
-          | true ↦ ways.handed op (msg.Event op cell) refl
-          | false ↦ ways.returned op i cell
-        ]
+    by_event op cell (Some i) = by_if (Allows (msg.Event op cell)) (finite.contains_key c.operations op) (ways.handed op (msg.Event op cell) refl)
+        (ways.returned op i cell)
 
     by_final : (o : Option ℕ) → Allows msg.Final (ctrl.on_final c o)
     by_final None = ways.still msg.Final
     by_final (Some i) = ways.stopped i
 
     pub row_by : (m : Msg) → Allows m (ctrl.row c port m)
-    row_by (msg.Asked k) = elim (port == switch_node) as (λ b. Allows (msg.Asked k) (if b then ctrl.on_asked c k else ctrl.still c))
-        [ true ↦ ways.asked k | false ↦ ways.still (msg.Asked k) ]
-    row_by (msg.Diverted cell) = elim (port == switch_node) as (λ b. Allows (msg.Diverted cell) (if b then ctrl.on_diverted c cell else ctrl.still c))
-        [ true ↦ ways.diverted cell | false ↦ ways.still (msg.Diverted cell) ]
-    row_by msg.End = elim (port == switch_node) as (λ b. Allows msg.End (if b then ctrl.still (record c { end_came = true }) else ctrl.still c))
-        [ true ↦ ways.ended | false ↦ ways.still msg.End ]
+    row_by (msg.Asked k) = by_if (Allows (msg.Asked k)) (port == switch_node) (ways.asked k) (ways.still (msg.Asked k))
+    row_by (msg.Diverted cell) = by_if (Allows (msg.Diverted cell)) (port == switch_node) (ways.diverted cell) (ways.still (msg.Diverted cell))
+    row_by msg.End = by_if (Allows msg.End) (port == switch_node) ways.ended (ways.still msg.End)
     row_by (msg.Event op cell) = by_event op cell (ctrl.instance_at c port)
     row_by msg.Final = by_final (ctrl.instance_at c port)
     row_by m = by_number m (op_of m) refl
@@ -114,11 +109,8 @@ module _ (c : ControllerState) (Allows : Msg → Step → Type 0) where
     by_refusal k op what None = by_order k op what
 
     by_command : (k : Command) → Allows (msg.Asked k) (ctrl.on_asked c k)
-    by_command k = elim (finite.contains_key c.operations k.op)
-        as (λ b. Allows (msg.Asked k) (if b then ctrl.still c else ctrl.decision_step c k.op k.what (ctrl.refusal c k.what))) [
-          | true ↦ ways.still (msg.Asked k)
-          | false ↦ by_refusal k k.op k.what (ctrl.refusal c k.what)
-        ]
+    by_command k = by_if (Allows (msg.Asked k)) (finite.contains_key c.operations k.op) (ways.still (msg.Asked k))
+        (by_refusal k k.op k.what (ctrl.refusal c k.what))
 
     pub row_fits : (port : ℕ) (m : Msg) → Allows m (ctrl.row c port m)
     row_fits port = row_by c port Allows (record {

@@ -20,6 +20,7 @@ use Rattle.ctrl_node.specs.declared.operation.Operation.TheVariants.{Move, Copy}
 use Rattle.ctrl_node.specs.Operations.{turn_of, turn_of_move, turn_of_copy}
 use Rattle.ctrl_node.specs.Controller.{ControllerState, Step, still, without_operation, after_turn, takes_turn}
 use Rattle.proof_outlines.proofs.outline.OperationTables.{insert_same, remove_insert}
+use Rattle.proof_machines.proofs.Tests.{by_if}
 
 -- a message that a copy looks at
 abbrev pub is_copied : Msg → Bool
@@ -56,25 +57,15 @@ pub data CopyTurn (x : OpenCopy) (m : Msg) (did : Step) : Type 0 where
 source_quiet : (plan : CopyPlan) (ph : CopyPhase) (m : Msg) → is_copied m ≡ false → from_source plan ph m ≡ next_phase ph []
 source_quiet plan Getting (msg.Chunks op chunks) e = cc
 source_quiet plan Getting (msg.AllChunk op chunk) e = cc
-source_quiet plan Getting m e = refl
-source_quiet plan Keeping m e = refl
-source_quiet plan Over m e = refl
+source_quiet plan ph m e = refl
 
 destination_quiet : (plan : CopyPlan) (ph : CopyPhase) (m : Msg) → is_copied m ≡ false → from_destination plan ph m ≡ next_phase ph []
 destination_quiet plan Keeping (msg.Kept op) e = cc
-destination_quiet plan Keeping m e = refl
-destination_quiet plan Getting m e = refl
-destination_quiet plan Over m e = refl
+destination_quiet plan ph m e = refl
 
 row_quiet : (y : CopyState) (p : ℕ) (m : Msg) → is_copied m ≡ false → row y p m ≡ next_phase y.phase []
-row_quiet y p m e = elim (p == instance_node y.plan.from) as (λ b. (if b then from_source y.plan y.phase m else if p == instance_node y.plan.to
-    then from_destination y.plan y.phase m else next_phase y.phase []) ≡ next_phase y.phase []) [
-      | true ↦ source_quiet y.plan y.phase m e
-      | false ↦ elim (p == instance_node y.plan.to) as (λ b. (if b then from_destination y.plan y.phase m else next_phase y.phase []) ≡ next_phase y.phase []) [
-        | true ↦ destination_quiet y.plan y.phase m e
-        | false ↦ refl
-      ]
-    ]
+row_quiet y p m e = by_if (λ r. r ≡ next_phase y.phase []) (p == instance_node y.plan.from) (source_quiet y.plan y.phase m e)
+    (by_if (λ r. r ≡ next_phase y.phase []) (p == instance_node y.plan.to) (destination_quiet y.plan y.phase m e) refl)
 
 module _ (c : ControllerState) (op : ℕ) (y : CopyState) (going : answer_of y.phase ≡ None) (there : finite.get c.operations op ≡ Some (Copy y)) where
   abbrev here : OpenCopy
@@ -99,15 +90,11 @@ module _ (c : ControllerState) (op : ℕ) (y : CopyState) (going : answer_of y.p
   at_source : (ph : CopyPhase) (m : Msg) → y.phase ≡ ph → CopyTurn here m (taken (from_source y.plan ph m))
   at_source Getting (msg.Chunks k chunks) is = Hands k chunks refl refl
   at_source Getting (msg.AllChunk k chunk) is = Hands_all k chunk refl refl
-  at_source Getting m is = Idle (ap (λ q. taken (next_phase q [])) (sym is) ∙ same)
-  at_source Keeping m is = Idle (ap (λ q. taken (next_phase q [])) (sym is) ∙ same)
-  at_source Over m is = Idle (ap (λ q. taken (next_phase q [])) (sym is) ∙ same)
+  at_source ph m is = Idle (ap (λ q. taken (next_phase q [])) (sym is) ∙ same)
 
   at_destination : (ph : CopyPhase) (m : Msg) → y.phase ≡ ph → CopyTurn here m (taken (from_destination y.plan ph m))
   at_destination Keeping (msg.Kept k) is = Ends over
-  at_destination Keeping m is = Idle (ap (λ q. taken (next_phase q [])) (sym is) ∙ same)
-  at_destination Getting m is = Idle (ap (λ q. taken (next_phase q [])) (sym is) ∙ same)
-  at_destination Over m is = Idle (ap (λ q. taken (next_phase q [])) (sym is) ∙ same)
+  at_destination ph m is = Idle (ap (λ q. taken (next_phase q [])) (sym is) ∙ same)
 
   by_sender : (p : ℕ) (m : Msg) (a b : Bool)
       → CopyTurn here m (taken (if a then from_source y.plan y.phase m else if b then from_destination y.plan y.phase m else next_phase y.phase []))
@@ -120,17 +107,8 @@ module _ (c : ControllerState) (op : ℕ) (y : CopyState) (going : answer_of y.p
 
 move_quiet : (mv : MoveState) (events : List FullCell) (p : ℕ) (m : Msg) → is_copied m ≡ true
     → move.row mv events p m ≡ move.keeps (move.next_phase mv.phase [])
-move_quiet mv events p m e = elim (p == move.source mv.plan) as (λ b. (if b then move.from_source mv.plan mv.phase events m
-    else if p == move.destination mv.plan then move.from_destination mv.plan mv.phase events m else move.keeps (move.next_phase mv.phase []))
-    ≡ move.keeps (move.next_phase mv.phase [])) [
-      | true ↦ from_source_quiet m e
-      | false ↦ elim (p == move.destination mv.plan) as (λ b.
-          (if b then move.from_destination mv.plan mv.phase events m else move.keeps (move.next_phase mv.phase []))
-          ≡ move.keeps (move.next_phase mv.phase [])) [
-            | true ↦ from_destination_quiet m e
-            | false ↦ refl
-          ]
-    ]
+move_quiet mv events p m e = by_if (λ r. r ≡ move.keeps (move.next_phase mv.phase [])) (p == move.source mv.plan) (from_source_quiet m e)
+    (by_if (λ r. r ≡ move.keeps (move.next_phase mv.phase [])) (p == move.destination mv.plan) (from_destination_quiet m e) refl)
   where
     from_source_quiet : (a : Msg) → is_copied a ≡ true → move.from_source mv.plan mv.phase events a ≡ move.keeps (move.next_phase mv.phase [])
     from_source_quiet (msg.Chunks op chunks) h = refl

@@ -3,7 +3,7 @@ use Rattle.std.proofs.Common.{◌≡◌, ℕ, ◌<◌, ◌^◌, Bool, true, fals
 use Rattle.std.specs.Prelude.{◌&&◌, ◌||◌, not, nat_lt, is_some}
 use Rattle.std.specs.Option.{ForSome}
 use Rattle.std.proofs.lemmas.Bool.Decides.{Decides-ltb}
-use Rattle.std.proofs.lemmas.Bool.{not-true, and_parts}
+use Rattle.std.proofs.lemmas.Bool.{not-true, and_parts, false_from_ne_true}
 use Rattle.flow_filter.specs.declared.filter.Filter.{Filter}
 use Rattle.flow_filter.specs.declared.flow.Flow.{Flow}
 use Rattle.flow_filter.specs.declared.prefix.Prefix.{Prefix}
@@ -13,7 +13,7 @@ use Rattle.flow_filter.proofs.FilterMeets.{some-meet}
 use Rattle.nf_function.specs.declared.kind.Kind.{Kind}
 use Rattle.nf_function.specs.declared.unit.Unit as units
 use Rattle.nf_function.specs.declared.unit.Unit.TheVariants.{Flow as OfFlow, Host as OfHost}
-use Rattle.nf_function.specs.declared.kind.Kind.TheVariants.{Conntrack, Nat, Monitor}
+use Rattle.nf_function.specs.declared.kind.Kind.TheVariants.{Conntrack}
 use Rattle.nf_function.specs.Units.{has_hosts, takes, unit_of}
 use Rattle.proof_machines.proofs.unit.Lists.{none_is}
 
@@ -133,10 +133,7 @@ takes_same kind g u whole fits = rw (whole, fits) refl
 -- two filters that don't meet
 pub filters_apart : (kind : Kind) (g h : Filter) (u : units.Unit) → meets g h ≡ false → takes_whole kind g u ≡ true → takes_whole kind h u ≡ false
 filters_apart kind g h u off on =
-    elim (takes_whole kind h u) as (λ b. takes_whole kind h u ≡ b → b ≡ false) [
-      | true ↦ λ both. absurd (never both)
-      | false ↦ λ _. refl
-    ] refl
+    false_from_ne_true (takes_whole kind h u) (λ both. absurd (never both))
   where
     never : takes_whole kind h u ≡ true → ⊥
     never both =
@@ -158,5 +155,4 @@ local_fits flow e = (and_parts (nat_lt flow.local (2 ^ 32)) _ (and_parts (nat_lt
 pub whole_takes : (kind : Kind) (g : Filter) (flow : Flow) → is_whole kind g ≡ true → flow_fits flow ≡ true
     → takes_whole kind g (unit_of kind flow) ≡ matches g flow
 whole_takes Conntrack g flow w e = rw (w, e) refl
-whole_takes Nat g flow w e = let fits = local_fits flow e in rw (w, fits) (local_takes g flow (and_parts (filter_fits g) _ w).1)
-whole_takes Monitor g flow w e = let fits = local_fits flow e in rw (w, fits) (local_takes g flow (and_parts (filter_fits g) _ w).1)
+whole_takes kind g flow w e = let fits = local_fits flow e in rw (w, fits) (local_takes g flow (and_parts (filter_fits g) _ w).1)

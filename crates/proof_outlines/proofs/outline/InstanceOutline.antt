@@ -31,6 +31,7 @@ use Rattle.proof_machines.proofs.net.Net.{Ruling, InstanceTurn, find_rule, drop_
 use Rattle.proof_machines.proofs.net.Net.{holding, held_of, process, process_all, runs_it, by_rule, inst_step, everything}
 use Rattle.proof_outlines.proofs.outline.FiltersApart.{is_whole, flow_fits, takes_whole, whole_takes}
 use Rattle.proof_outlines.proofs.outline.Outline.{number, rule_of, outline_rule, outline_sent, outline_sends, ran_in, sys, outline_instance}
+use Rattle.proof_machines.proofs.Tests.{split}
 
 -- lists of rules
 without_same : (op : ℕ) (rs : List (EventRule FullCell)) → map outline_rule (rules.without_rule rs op) ≡ drop_rule op (map outline_rule rs)
@@ -77,14 +78,12 @@ changed_same op change outlined same (r ∷ rs) =
 set_same : (op : ℕ) (filter : Filter) (act : Action) (rs : List (EventRule FullCell))
     → map outline_rule (rules.with_rule rs op filter act) ≡ set_rule op filter (rule_of act) (map outline_rule rs)
 set_same op filter act rs =
-    elim (is_some (rules.rule_at rs op)) as (λ b. is_some (rules.rule_at rs op) ≡ b → map outline_rule
-    (if b then rules.with_change rs op (rules.with_rule_of filter act) else rs ++ (record { op = op; filter = filter; action = act; held = [] }) ∷ [])
-    ≡ set_rule op filter (rule_of act) (map outline_rule rs)) [
-      | true ↦ λ e. let has : has_rule op (map outline_rule rs) ≡ true = there ∙ e in
-          rw has (changed_same op (rules.with_rule_of filter act) (ruled_by filter (rule_of act)) (λ r. refl) rs)
-      | false ↦ λ e. let has : has_rule op (map outline_rule rs) ≡ false = there ∙ e in
-          rw has (map-append outline_rule rs ((record { op = op; filter = filter; action = act; held = [] }) ∷ []))
-    ] refl
+    split (is_some (rules.rule_at rs op)) (λ b. map outline_rule (if b then rules.with_change rs op (rules.with_rule_of filter act) else rs
+    ++ (record { op = op; filter = filter; action = act; held = [] }) ∷ []) ≡ set_rule op filter (rule_of act) (map outline_rule rs))
+    (λ e. let has : has_rule op (map outline_rule rs) ≡ true = there ∙ e in
+    rw has (changed_same op (rules.with_rule_of filter act) (ruled_by filter (rule_of act)) (λ r. refl) rs))
+    (λ e. let has : has_rule op (map outline_rule rs) ≡ false = there ∙ e in
+    rw has (map-append outline_rule rs ((record { op = op; filter = filter; action = act; held = [] }) ∷ [])))
   where
     there : has_rule op (map outline_rule rs) ≡ is_some (rules.rule_at rs op)
     there = ap is_some (sym (rule_same op rs)) ∙ some_same outline_rule (rules.rule_at rs op)

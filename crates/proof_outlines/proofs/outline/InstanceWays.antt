@@ -27,6 +27,7 @@ use Rattle.instance_worker.specs.Instance.{Step, to_controller, tell_step, tells
 use Rattle.instance_worker.specs.Instance.{on_fence, on_get, on_stream, on_put, on_restore, on_standby, on_sync, on_put_all, where_good, with_live}
 use Rattle.instance_worker.specs.Instance.{with_standby, with_records, imported, keep_note, export_note, selected_chunks, piece_put, piece_refusal}
 use Rattle.instance_worker.specs.Instance.{tally_put, instance_step}
+use Rattle.proof_machines.proofs.Tests.{by_if}
 
 -- what an instance takes packets by
 abbrev pub may_process : Msg → Bool
@@ -104,7 +105,7 @@ module _ {F R : Type 0} (f : Semantics R) (Allows : Instance F R → Msg → Ste
     by_decision i mk cell (decide.Buffer op) = ways.held i mk cell op
 
     where_fit : (i : Instance F R) (m : Msg) (chunks : List Chunk) (did : Step F R) → Allows i m did → Allows i m (where_good f i chunks did)
-    where_fit i m chunks did h = elim (are_good f chunks) as (λ b. Allows i m (if b then did else worker.still i)) [ true ↦ h | false ↦ ways.still i m ]
+    where_fit i m chunks did h = by_if (Allows i m) (are_good f chunks) h (ways.still i m)
 
     by_refusal : (i : Instance F R) (op : ℕ) (piece : Piece) (first : Bool) (o : Option Answer) → refusal_of i piece first ≡ o
         → Allows i (msg.Put op piece first) (piece_put f i op piece (first || piece.last) o)
@@ -131,9 +132,9 @@ module _ {F R : Type 0} (f : Semantics R) (Allows : Instance F R → Msg → Ste
     instance_fits i (msg.Stream op filter) = ways.streamed i op filter
     instance_fits i (msg.GetAll op) = ways.all_given i op
     instance_fits i (msg.Delete op gone) = ways.deleted i op gone
-    instance_fits i (msg.Put op piece first) = elim (nat_lt piece.total (length piece.chunks)) as (λ b. Allows i (msg.Put op piece first)
-        (if b then worker.still i else piece_put f i op piece (first || piece.last) (refusal_of i piece first)))
-        [ true ↦ ways.still i (msg.Put op piece first) | false ↦ by_refusal i op piece first (refusal_of i piece first) refl ]
+    instance_fits i (msg.Put op piece first) = by_if (Allows i (msg.Put op piece first)) (nat_lt piece.total (length piece.chunks))
+        (ways.still i (msg.Put op piece first))
+        (by_refusal i op piece first (refusal_of i piece first) refl)
     instance_fits i (msg.Restore op chunks) = where_fit i (msg.Restore op chunks) chunks _ (ways.restored i op chunks)
     instance_fits i (msg.Standby op chunks) = where_fit i (msg.Standby op chunks) chunks _ (ways.stood_by i op chunks)
     instance_fits i (msg.PutAll op chunk) = by_reading i op chunk (tally_read f.kind chunk.bytes) refl

@@ -13,6 +13,7 @@ use Rattle.actor_net.proofs.StepOutcome.{Takes, taken_outcome}
 use Rattle.proof_machines.proofs.unit.Real.{sent_for}
 use Rattle.proof_machines.proofs.net.Net.{behind, links_after}
 use Rattle.proof_outlines.proofs.outline.InstanceOutline.{filter_map-put}
+use Rattle.proof_machines.proofs.Tests.{split}
 
 module _ {M X : Type 0} (g : M → Option X) where
   abbrev pub of_sent : ℕ × M → Option (ℕ × X)
@@ -34,14 +35,12 @@ module _ {M X : Type 0} (g : M → Option X) where
   put_outline : (n k i j : ℕ) (sends : List (ℕ × M)) → nat_lt j n ≡ true → (i == 0) && (j == 0) ≡ false
       → filter_map g (put_on_link n k i j sends) ≡ (if i == k then sent_for j (filter_map of_sent sends) else [])
   put_outline n k i j sends there off =
-      elim (i == k) as (λ b. (i == k) ≡ b
-      → filter_map g (if b && reaches n k j then core_sent j sends else []) ≡ (if b then sent_for j (filter_map of_sent sends) else [])) [
-        | true ↦ λ e.
-            let same_is : i ≡ k = (Decides-eqb i k).0 e in
-            let not_input : (k == 0) && (j == 0) ≡ false = rw (← same_is) off in
-            rw (there, not_input) (sent_outline j sends)
-        | false ↦ λ _. refl
-      ] refl
+      split (i == k) (λ b. filter_map g (if b && reaches n k j then core_sent j sends else []) ≡ (if b then sent_for j (filter_map of_sent sends) else []))
+      (λ e.
+      let same_is : i ≡ k = (Decides-eqb i k).0 e in
+      let not_input : (k == 0) && (j == 0) ≡ false = rw (← same_is) off in
+      rw (there, not_input) (sent_outline j sends))
+      (λ _. refl)
 
   behind_outline : (b : Bool) (ms rest : List M) (m : M) (x : X) → (b ≡ true → ms ≡ m ∷ rest) → g m ≡ Some x
       → filter_map g (less_first b ms) ≡ behind b (filter_map g ms)

@@ -169,10 +169,7 @@ module _ {R : Type 0} (f : Semantics R) (place : List ℕ → Option ℕ) where
 
   refused_is : (why : Answer) → is_done why ≡ false → refused_by why ≡ Some why
   refused_is answer.Done e = cc
-  refused_is (answer.Unknown n) e = refl
-  refused_is (answer.Overlap n) e = refl
-  refused_is (answer.Import a b c) e = refl
-  refused_is (answer.Old a b) e = refl
+  refused_is why e = refl
 
   source_fenced_same : (plan : MovePlan) (ph : Phase) (events : List FullCell) → IsRefusing ph → NextFollows plan events
       (on_source_fenced (words plan) ph) (on_source_fenced (r_words (outline_plan plan) (map number events)) (outline_phase ph))

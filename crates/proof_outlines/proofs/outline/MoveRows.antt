@@ -1,7 +1,7 @@
 -- What holds of all that the words of a move come to holds of its row on any message. So what holds of each message that a move may send holds of
 -- all that it sends.
 use Rattle.std.proofs.Common.{◌≡◌, ℕ, Bool, true, false, List, [], ◌∷◌, ◌++◌, map, refl}
-use Rattle.std.specs.Prelude.{if◌then◌else◌, ◌==◌}
+use Rattle.std.specs.Prelude.{◌==◌}
 use Rattle.actor_net.proofs.WeightLaws.{Each}
 use Rattle.packet_pool.specs.Pool.{FullCell}
 use Rattle.switch_rules.specs.declared.target.Target.TheVariants as target
@@ -11,11 +11,12 @@ use Rattle.nf_msgs.specs.declared.msg.Msg.{Msg}
 use Rattle.nf_msgs.specs.declared.msg.Msg.TheVariants as msg
 use Rattle.move_op.specs.Phases.{Phase}
 use Rattle.move_op.specs.Table.{Said, Nothing, Put, Release, Give_back}
-use Rattle.move_op.specs.Move.{MovePlan, MoveNext, MoveRow, keeps, next_phase, put_back, source, destination, put_to, forward_to}
+use Rattle.move_op.specs.Move.{MovePlan, MoveNext, MoveRow, put_back, source, destination, put_to, forward_to}
 use Rattle.move_op.specs.Move.{messages_of, words, from_source, from_destination, row}
 use Rattle.proof_machines.proofs.unit.TableRows.{PhaseHas, Hold, stays, event_holds, source_enabled_holds, piece_holds, deleted_holds, restored_holds}
 use Rattle.proof_machines.proofs.unit.TableRows.{source_fenced_holds, put_ok_holds, put_no_holds, destination_enabled_holds, destination_fenced_holds}
 use Rattle.proof_machines.proofs.unit.TableRows.{Any, any_each, any_phase}
+use Rattle.proof_machines.proofs.Tests.{by_if}
 
 -- what a message of the source brings, and one of the destination
 abbrev pub Brings : (FullCell → Type 0) → (Piece → Type 0) → Msg → Type 0
@@ -48,12 +49,8 @@ module _ {plan : MovePlan} {Is : FullCell → Type 0} {Fits : Piece → Type 0} 
 
   pub row_holds : (port : ℕ) (m : Msg) → Brings Is Fits m → BringsBack Fits Why m → Gives (row (record { plan = plan; phase = ph }) events port m)
   row_holds port m is back =
-      elim (port == source plan) as (λ b. Gives (if b then from_source plan ph events m else if port == destination plan
-      then from_destination plan ph events m else keeps (next_phase ph []))) [
-        | true ↦ from_source_holds m is
-        | false ↦ elim (port == destination plan) as (λ b. Gives (if b then from_destination plan ph events m else keeps (next_phase ph [])))
-            [ true ↦ from_destination_holds m back | false ↦ h.keeps (stays h ph has) ]
-      ]
+      by_if Gives (port == source plan) (from_source_holds m is)
+      (by_if Gives (port == destination plan) (from_destination_holds m back) (h.keeps (stays h ph has)))
 
 brings_any : (m : Msg) → Brings (Any FullCell) (Any Piece) m
 brings_any (msg.Event op cell) = tt

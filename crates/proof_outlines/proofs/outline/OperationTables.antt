@@ -18,6 +18,7 @@ use Rattle.ctrl_node.specs.declared.operation.Operation.{Operation}
 use Rattle.ctrl_node.specs.declared.operation.Operation.TheVariants.{Move, Copy, Share}
 use Rattle.ctrl_node.specs.Operations.{OpenOperations, turn_of, serving_of, turn_of_move, turn_of_copy}
 use Rattle.ctrl_node.specs.Controller.{ControllerState, Step, still, with_turn, after_turn, takes_turn, serve_step, and_serves, hand_step}
+use Rattle.proof_machines.proofs.Tests.{split}
 
 order_test : (a b : ℕ) → eq_by_cmp nat_cmp a b ≡ (a == b)
 order_test a b = grind (arith, nat_tests)
@@ -36,10 +37,9 @@ gone_twice false o p = refl
 -- what is written in place of the same changes nothing
 pub insert_same : (ops : OpenOperations) (op : ℕ) (o : Operation) → finite.get ops op ≡ Some o → finite.insert ops op o ≡ ops
 insert_same ops op o there = same_map nat_cmp_total nat_cmp-IsAntisymmetric (finite.insert ops op o) ops (λ k.
-    got_insert ops op k o ∙ elim (k == op) as (λ b. (k == op) ≡ b → cond b (Some o) (finite.get ops k) ≡ finite.get ops k) [
-      | true ↦ λ on. sym (ap (finite.get ops) ((Decides-eqb k op).0 on) ∙ there)
-      | false ↦ λ off. refl
-    ] refl)
+    got_insert ops op k o ∙ split (k == op) (λ b. cond b (Some o) (finite.get ops k) ≡ finite.get ops k)
+    (λ on. sym (ap (finite.get ops) ((Decides-eqb k op).0 on) ∙ there))
+    (λ off. refl))
 
 -- what is written and then closed is closed
 pub remove_insert : (ops : OpenOperations) (op : ℕ) (o : Operation) → finite.remove (finite.insert ops op o) op ≡ finite.remove ops op

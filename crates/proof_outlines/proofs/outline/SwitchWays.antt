@@ -1,6 +1,6 @@
 -- The ways in which the switch goes on with a message: what holds of each of them holds of its step.
-use Rattle.std.proofs.Common.{ℕ, true, false, [], ◌∷◌}
-use Rattle.std.specs.Prelude.{if◌then◌else◌, ◌-◌, ◌==◌, ◌&&◌, ◌||◌, not, nat_lt}
+use Rattle.std.proofs.Common.{ℕ, [], ◌∷◌}
+use Rattle.std.specs.Prelude.{◌-◌, ◌==◌, ◌&&◌, ◌||◌, not, nat_lt}
 use Rattle.flow_filter.specs.declared.filter.Filter.{Filter}
 use Rattle.flow_filter.specs.declared.packet.Packet.{Packet}
 use Rattle.event_filter.specs.declared.mark.Mark.{Mark}
@@ -16,6 +16,7 @@ use Rattle.nf_msgs.specs.declared.note.Note.TheVariants.{Installed}
 use Rattle.nf_msgs.specs.Nodes.{instance_node, controller_node}
 use Rattle.switch_node.specs.Switch as switch
 use Rattle.switch_node.specs.Switch.{SwitchState, Step, switch_step}
+use Rattle.proof_machines.proofs.Tests.{by_if}
 
 module _ (s : SwitchState) (Allows : Msg → Step → Type 0) where
   abbrev installs : ℕ → Filter → ℕ → Target → Step
@@ -44,27 +45,21 @@ module _ (s : SwitchState) (Allows : Msg → Step → Type 0) where
   module _ (ways : WaysOfSwitch) where
     by_target : (p : Packet) (t : Target) → Allows (msg.InPacket p) (switch.goes_to s p t)
     by_target p target.Controller = ways.to_controller p
-    by_target p (target.Instance i) = elim (nat_lt i s.instances)
-        as (λ b. Allows (msg.InPacket p) (if b then switch.arrival_step s p (instance_node i) (msg.Carry Plain) else switch.still s))
-        [ true ↦ ways.to_instance p i | false ↦ ways.still (msg.InPacket p) ]
+    by_target p (target.Instance i) = by_if (Allows (msg.InPacket p)) (nat_lt i s.instances) (ways.to_instance p i) (ways.still (msg.InPacket p))
 
     pub step_fits : (m : Msg) → Allows m (switch_step s m)
     step_fits (msg.InPacket p) =
-        elim (switch.has_room s) as (λ b. Allows (msg.InPacket p) (if b then switch.goes_to s p (switch.target_of s p) else switch.still s))
-        [ true ↦ by_target p (switch.target_of s p) | false ↦ ways.still (msg.InPacket p) ]
+        by_if (Allows (msg.InPacket p)) (switch.has_room s) (by_target p (switch.target_of s p)) (ways.still (msg.InPacket p))
     step_fits (msg.InCommand c) = ways.command c
     step_fits msg.InEnd = ways.ended
-    step_fits (msg.Forward to m cell) = elim (nat_lt to s.instances)
-        as (λ b. Allows (msg.Forward to m cell) (if b then switch.sends_on s (instance_node to) (msg.Carry m cell) else switch.still s))
-        [ true ↦ ways.forward to m cell | false ↦ ways.still (msg.Forward to m cell) ]
-    step_fits (msg.Install op filter from to) = elim (nat_lt from s.instances && switch.is_there s to)
-        as (λ b. Allows (msg.Install op filter from to) (if b then installs op filter from to else switch.still s))
-        [ true ↦ ways.install op filter from to | false ↦ ways.still (msg.Install op filter from to) ]
-    step_fits (msg.FenceTo op to) = elim (nat_lt to s.instances)
-        as (λ b. Allows (msg.FenceTo op to) (if b then switch.sends_on s (instance_node to) (msg.Fence op) else switch.still s))
-        [ true ↦ ways.fence op to | false ↦ ways.still (msg.FenceTo op to) ]
+    step_fits (msg.Forward to m cell) = by_if (Allows (msg.Forward to m cell)) (nat_lt to s.instances) (ways.forward to m cell)
+        (ways.still (msg.Forward to m cell))
+    step_fits (msg.Install op filter from to) = by_if (Allows (msg.Install op filter from to)) (nat_lt from s.instances && switch.is_there s to)
+        (ways.install op filter from to)
+        (ways.still (msg.Install op filter from to))
+    step_fits (msg.FenceTo op to) = by_if (Allows (msg.FenceTo op to)) (nat_lt to s.instances) (ways.fence op to) (ways.still (msg.FenceTo op to))
     step_fits (msg.Answered op) = ways.answered op
     step_fits msg.Finish = ways.finish
-    step_fits (msg.Credit cell) = elim ((s.flying == 0) || not (cell.pool == s.pool.name))
-        as (λ b. Allows (msg.Credit cell) (if b then switch.still s else comes_home)) [ true ↦ ways.still (msg.Credit cell) | false ↦ ways.credit cell ]
+    step_fits (msg.Credit cell) = by_if (Allows (msg.Credit cell)) ((s.flying == 0) || not (cell.pool == s.pool.name)) (ways.still (msg.Credit cell))
+        (ways.credit cell)
     step_fits m = ways.still m

@@ -23,13 +23,11 @@ module _ {R : Type 0} (f : Semantics R) (place : List ℕ → Option ℕ) where
   -- what a command asks for is a move, or a share, or else it isn't seen
   pub asked_move : (op : ℕ) (what : Order) (want : MoveAsked) → want_of place op what ≡ Some want → asked_of f place op what ≡ Some (Old (net.Asked want))
   asked_move op (order.Move src dst filter keep) want e = ap (option_map (λ w. Old (net.Asked w))) e
-  asked_move op (order.Copy src dst filter) want e = cc
-  asked_move op (order.Share members filter) want e = cc
+  asked_move op what want e = cc
 
   pub asked_share : (op : ℕ) (what : Order) (want : WantShare) → want_share_of place op what ≡ Some want → asked_of f place op what ≡ Some (New (S_asked want))
-  asked_share op (order.Move src dst filter keep) want e = cc
-  asked_share op (order.Copy src dst filter) want e = cc
   asked_share op (order.Share members filter) want e = ap (option_map (λ w. New (S_asked w))) e
+  asked_share op what want e = cc
 
   pub asked_none : (op : ℕ) (what : Order) → want_of place op what ≡ None → want_share_of place op what ≡ None → asked_of f place op what ≡ None
   asked_none op (order.Move src dst filter keep) a b = ap (option_map (λ w. Old (net.Asked w))) a
@@ -115,8 +113,6 @@ pub record IsWanted (place : List ℕ → Option ℕ) (op : ℕ) (what : Order) 
   pub home : has want.members want.home ≡ true
 
 pub is_wanted : (place : List ℕ → Option ℕ) (op : ℕ) (what : Order) (want : WantShare) → want_share_of place op what ≡ Some want → IsWanted place op what want
-is_wanted place op (order.Move src dst filter keep) want e = cc
-is_wanted place op (order.Copy src dst filter) want e = cc
 is_wanted place op (order.Share names filter) want e = by_nodes (members_of place names) refl e
   where
     by_nodes : (o : Option (List ℕ)) → members_of place names ≡ o → share_between op filter o ≡ Some want → IsWanted place op (order.Share names filter) want
@@ -131,3 +127,4 @@ is_wanted place op (order.Share names filter) want e = by_nodes (members_of plac
           members = at;
           home = let self : (home == home) ≡ true = grind (arith, nat_tests) in rw self refl;
         })
+is_wanted place op what want e = cc

@@ -1,7 +1,7 @@
 -- The controller's step on each message of an operation's number is that of the network with shares: what the operation under the number is
 -- told, and nothing where there is none or a copy.
-use Rattle.std.proofs.Common.{◌≡◌, ℕ, ◌<◌, true, false, Option, Some, None, List, [], map, length, refl, sym, ap, ◌∙◌, subst, append-nil}
-use Rattle.std.specs.Prelude.{if◌then◌else◌, ◌==◌, option_map}
+use Rattle.std.proofs.Common.{◌≡◌, ℕ, ◌<◌, Option, Some, None, List, [], map, length, refl, sym, ap, ◌∙◌, subst, append-nil}
+use Rattle.std.specs.Prelude.{◌==◌, option_map}
 use Rattle.std.specs.FinMap as finite
 use Rattle.flow_filter.specs.declared.packet.Packet.{Packet}
 use Rattle.flow_filter.specs.declared.site.Site.{Site}
@@ -23,7 +23,7 @@ use Rattle.ctrl_node.specs.Controller.{ControllerState, hand_step}
 use Rattle.proof_machines.proofs.unit.Real as real
 use Rattle.proof_machines.proofs.net.Net as net
 use Rattle.proof_machines.proofs.net.Net.{Sys, Open, ControllerMove, everything, find_op, found, num_of, numbered}
-use Rattle.proof_machines.proofs.net.Shares.{Any, Old, New, S_chunks, S_shared, S_synced, Sharing, OpenShare, find_share, Told}
+use Rattle.proof_machines.proofs.net.Shares.{Any, ShareMsg, Old, New, S_chunks, S_shared, S_synced, Sharing, OpenShare, find_share, Told}
 use Rattle.proof_machines.proofs.net.Shares.{Is_fenced, Has_chunks, Has_chunk, Is_synced, share_row, as_old, told_by, by_share, old_step}
 use Rattle.proof_outlines.proofs.outline.Outline.{number, entries, sys}
 use Rattle.proof_outlines.proofs.outline.InstanceOutline.{IsGenuine}
@@ -35,20 +35,15 @@ use Rattle.proof_outlines.proofs.whole.OpenShares.{but_shares, share_in, IsUnsee
 use Rattle.proof_outlines.proofs.whole.OpenShares.{no_open_share, both, joins, all_step, StepFollows}
 use Rattle.proof_outlines.proofs.whole.ShareTurns.{share_handed, share_quiet}
 use Rattle.proof_outlines.proofs.whole.OtherTurns.{Same, none_handed, copy_handed, move_quiet, move_handed}
+use Rattle.proof_machines.proofs.Tests.{by_if}
 
 -- a message that a move doesn't look at
-unlooked : (mv : MoveState) (events : List FullCell) (port : ℕ) (m : Msg)
+pub unlooked : (mv : MoveState) (events : List FullCell) (port : ℕ) (m : Msg)
     → move.from_source mv.plan mv.phase events m ≡ move.keeps (move.next_phase mv.phase [])
     → move.from_destination mv.plan mv.phase events m ≡ move.keeps (move.next_phase mv.phase [])
     → move.row mv events port m ≡ move.keeps (move.next_phase mv.phase [])
-unlooked mv events port m a b = elim (port == move.source mv.plan) as (λ x. (if x then move.from_source mv.plan mv.phase events m
-    else if port == move.destination mv.plan then move.from_destination mv.plan mv.phase events m else move.keeps (move.next_phase mv.phase []))
-    ≡ move.keeps (move.next_phase mv.phase [])) [
-      | true ↦ a
-      | false ↦ elim (port == move.destination mv.plan) as (λ x.
-          (if x then move.from_destination mv.plan mv.phase events m else move.keeps (move.next_phase mv.phase [])) ≡ move.keeps (move.next_phase mv.phase []))
-          [ true ↦ b | false ↦ refl ]
-    ]
+unlooked mv events port m a b = by_if (λ r. r ≡ move.keeps (move.next_phase mv.phase [])) (port == move.source mv.plan) a
+    (by_if (λ r. r ≡ move.keeps (move.next_phase mv.phase [])) (port == move.destination mv.plan) b refl)
 
 module _ {R : Type 0} (f : Semantics R) (at : Site) (packet : ℕ → Packet) (place : List ℕ → Option ℕ) (c : ControllerState) (ops : List (Open R))
     (shares : List OpenShare) (h : OpensAll f place at ops shares c) (n : ℕ) where
@@ -194,45 +189,41 @@ module _ {R : Type 0} (f : Semantics R) (at : Site) (packet : ℕ → Packet) (p
   unmoved port m mv going there quiet = move_quiet f at packet place c ops shares h n mv there port m (going mv there) (quiet (stored_of c.store mv.plan.op))
 
   -- A message that a share looks at, and no move.
-  pub chunks_follows : (port : ℕ) (chunks : List Chunk) → Each (IsGenuine at packet) cells → Going
-      → Follows port (msg.Chunks n chunks) (New (S_chunks n (entries f chunks)))
-  chunks_follows port chunks genuine going = handled port (msg.Chunks n chunks) (New (S_chunks n (entries f chunks))) (record {
+  told_follows : (port : ℕ) (m : Msg) (x : ShareMsg R) (told : Told R)
+      → told_by S A shares (New x) ≡ option_map (λ e. (e, told)) (find_share shares n) → Going
+      → ((mv : MoveState) (events : List FullCell) → move.row mv events port m ≡ move.keeps (move.next_phase mv.phase []))
+      → ((s : ShareState) → s.plan.site ≡ at → 0 < length s.plan.members
+      → ShareFollows f at packet place s.plan cells (share.row s port m) (share_row S A (outline_share s cells) port told))
+      → Follows port m (New x)
+  told_follows port m x told same going quiet rows = handled port m (New x) (record {
     moved = λ o. record { ops = ops; sends = [] };
-    told = λ o. option_map (λ e. (e, Has_chunks (entries f chunks))) o;
+    told = λ o. option_map (λ e. (e, told)) o;
     moved_none = refl;
     told_none = refl;
     old_is = refl;
-    told_is = refl;
-    of_move = λ mv there. unmoved port (msg.Chunks n chunks) mv going there (λ events. unlooked mv events port (msg.Chunks n chunks) refl refl);
-    of_share = λ s there. told_share port (msg.Chunks n chunks) (Has_chunks (entries f chunks)) s there
-        (λ is some. chunks_rows f at packet place s cells port is some genuine n chunks);
+    told_is = same;
+    of_move = λ mv there. unmoved port m mv going there (quiet mv);
+    of_share = λ s there. told_share port m told s there (rows s);
   })
+
+  pub chunks_follows : (port : ℕ) (chunks : List Chunk) → Each (IsGenuine at packet) cells → Going
+      → Follows port (msg.Chunks n chunks) (New (S_chunks n (entries f chunks)))
+  chunks_follows port chunks genuine going =
+      told_follows port (msg.Chunks n chunks) (S_chunks n (entries f chunks)) (Has_chunks (entries f chunks)) refl going
+      (λ mv events. unlooked mv events port (msg.Chunks n chunks) refl refl)
+      (λ s is some. chunks_rows f at packet place s cells port is some genuine n chunks)
 
   pub shared_follows : (port : ℕ) (chunk : Chunk) (entry : units.Unit × R) → spelled f chunk ≡ Some entry → Each (IsGenuine at packet) cells → Going
       → Follows port (msg.Shared n chunk) (New (S_shared n entry))
-  shared_follows port chunk entry spells genuine going = handled port (msg.Shared n chunk) (New (S_shared n entry)) (record {
-    moved = λ o. record { ops = ops; sends = [] };
-    told = λ o. option_map (λ e. (e, Has_chunk entry)) o;
-    moved_none = refl;
-    told_none = refl;
-    old_is = refl;
-    told_is = refl;
-    of_move = λ mv there. unmoved port (msg.Shared n chunk) mv going there (λ events. unlooked mv events port (msg.Shared n chunk) refl refl);
-    of_share = λ s there. told_share port (msg.Shared n chunk) (Has_chunk entry) s there
-        (λ is some. shared_rows f at packet place s cells port is some genuine n chunk entry spells);
-  })
+  shared_follows port chunk entry spells genuine going =
+      told_follows port (msg.Shared n chunk) (S_shared n entry) (Has_chunk entry) refl going
+      (λ mv events. unlooked mv events port (msg.Shared n chunk) refl refl)
+      (λ s is some. shared_rows f at packet place s cells port is some genuine n chunk entry spells)
 
   pub synced_follows : (port : ℕ) → Each (IsGenuine at packet) cells → Going → Follows port (msg.Synced n) (New (S_synced n))
-  synced_follows port genuine going = handled port (msg.Synced n) (New (S_synced n)) (record {
-    moved = λ o. record { ops = ops; sends = [] };
-    told = λ o. option_map (λ e. (e, Is_synced)) o;
-    moved_none = refl;
-    told_none = refl;
-    old_is = refl;
-    told_is = refl;
-    of_move = λ mv there. unmoved port (msg.Synced n) mv going there (λ events. unlooked mv events port (msg.Synced n) refl refl);
-    of_share = λ s there. told_share port (msg.Synced n) Is_synced s there (λ is some. synced_rows f at packet place s cells port is some genuine n);
-  })
+  synced_follows port genuine going = told_follows port (msg.Synced n) (S_synced n) Is_synced refl going
+      (λ mv events. unlooked mv events port (msg.Synced n) refl refl)
+      (λ s is some. synced_rows f at packet place s cells port is some genuine n)
 
   -- A message that neither looks at: of a copy, which neither sees.
   pub hidden_follows : (port : ℕ) (m : Msg) → Going

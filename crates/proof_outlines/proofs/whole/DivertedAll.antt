@@ -19,7 +19,7 @@ use Rattle.event_store.specs.Store.{stored_of}
 use Rattle.copy_share.specs.Share.{ShareState}
 use Rattle.copy_share.specs.Share as real
 use Rattle.ctrl_node.specs.declared.operation.Operation.{Operation}
-use Rattle.ctrl_node.specs.declared.operation.Operation.TheVariants.{Move, Copy, Share}
+use Rattle.ctrl_node.specs.declared.operation.Operation.TheVariants.{Share}
 use Rattle.ctrl_node.specs.Operations.{is_shared_by, share_of}
 use Rattle.ctrl_node.specs.Controller.{ControllerState, queue_step, on_diverted}
 use Rattle.proof_machines.proofs.unit.Labels.{Each, each_any}
@@ -34,6 +34,7 @@ use Rattle.proof_outlines.proofs.whole.WholeOutline.{sharing}
 use Rattle.proof_outlines.proofs.whole.ShareOutline.{ShareFollows, outline_share, packet_rows}
 use Rattle.proof_outlines.proofs.whole.OpenShares.{OpensAll, both, real_share, all_step, StepFollows}
 use Rattle.proof_outlines.proofs.whole.ShareTurns.{share_queued}
+use Rattle.proof_machines.proofs.Tests.{split}
 
 pub is_less : (a b : ℕ) → T (is_lt (nat_cmp a b)) → a < b
 is_less a b h = grind (arith, nat_tests)
@@ -53,41 +54,36 @@ module _ (test : Operation → Bool) where
   first_found : (es : List (ℕ × Operation)) (x : ℕ × Operation) → T (finite.is_sorted nat_cmp es) → first es ≡ Some x
       → (test x.1 ≡ true) × (finite.find nat_cmp x.0 es ≡ Some x.1)
   first_found [] x sorted is = cc
-  first_found (e ∷ es) x sorted is = elim (test e.1)
-      as (λ b. test e.1 ≡ b → (if b then Some e else first es) ≡ Some x → (test x.1 ≡ true) × (finite.find nat_cmp x.0 (e ∷ es) ≡ Some x.1)) [
-        | true ↦ λ on here.
-            let same : e ≡ x = ap (λ o. unwrap_or o e) here in
-            let self : eq_by_cmp nat_cmp e.0 e.0 ≡ true = grind (arith, nat_tests) in
-            let found : finite.find nat_cmp e.0 (e ∷ es) ≡ Some e.1 = ap (λ b. cond b (Some e.1) (finite.find nat_cmp e.0 es)) self in
-            subst (λ y. (test y.1 ≡ true) × (finite.find nat_cmp y.0 (e ∷ es) ≡ Some y.1)) same (on, found)
-        | false ↦ λ off rest.
-            let more = first_found es x (and_yes (below_all nat_cmp e.0 es) (finite.is_sorted nat_cmp es) sorted).1 rest in
-            let higher : e.0 < x.0 = above e.0 es x (and_yes (below_all nat_cmp e.0 es) (finite.is_sorted nat_cmp es) sorted).0 rest in
-            let other : eq_by_cmp nat_cmp x.0 e.0 ≡ false = grind (arith, nat_tests, higher) in
-            (more.0, ap (λ b. cond b (Some e.1) (finite.find nat_cmp x.0 es)) other ∙ more.1)
-      ] refl is
+  first_found (e ∷ es) x sorted is = split (test e.1) (λ b. (if b then Some e else first es) ≡ Some x → (test x.1 ≡ true)
+      × (finite.find nat_cmp x.0 (e ∷ es) ≡ Some x.1))
+      (λ on here.
+      let same : e ≡ x = ap (λ o. unwrap_or o e) here in
+      let self : eq_by_cmp nat_cmp e.0 e.0 ≡ true = grind (arith, nat_tests) in
+      let found : finite.find nat_cmp e.0 (e ∷ es) ≡ Some e.1 = ap (λ b. cond b (Some e.1) (finite.find nat_cmp e.0 es)) self in
+      subst (λ y. (test y.1 ≡ true) × (finite.find nat_cmp y.0 (e ∷ es) ≡ Some y.1)) same (on, found))
+      (λ off rest.
+      let more = first_found es x (and_yes (below_all nat_cmp e.0 es) (finite.is_sorted nat_cmp es) sorted).1 rest in
+      let higher : e.0 < x.0 = above e.0 es x (and_yes (below_all nat_cmp e.0 es) (finite.is_sorted nat_cmp es) sorted).0 rest in
+      let other : eq_by_cmp nat_cmp x.0 e.0 ≡ false = grind (arith, nat_tests, higher) in
+      (more.0, ap (λ b. cond b (Some e.1) (finite.find nat_cmp x.0 es)) other ∙ more.1)) is
 
   none_passes : (es : List (ℕ × Operation)) (k : ℕ) (v : Operation) → first es ≡ None → finite.find nat_cmp k es ≡ Some v → test v ≡ false
   none_passes [] k v none there = cc
-  none_passes (e ∷ es) k v none there = elim (test e.1) as (λ b. test e.1 ≡ b → (if b then Some e else first es) ≡ None → test v ≡ false) [
-    | true ↦ λ _ bad. cc
-    | false ↦ λ out more. elim (eq_by_cmp nat_cmp k e.0) as (λ b. cond b (Some e.1) (finite.find nat_cmp k es) ≡ Some v → test v ≡ false) [
-      | true ↦ λ is. let same : e.1 ≡ v = cc in subst (λ y. test y ≡ false) same out
-      | false ↦ λ is. none_passes es k v more is
-    ] there
-  ] refl none
+  none_passes (e ∷ es) k v none there = split (test e.1) (λ b. (if b then Some e else first es) ≡ None → test v ≡ false) (λ _ bad. cc)
+      (λ out more. elim (eq_by_cmp nat_cmp k e.0) as (λ b. cond b (Some e.1) (finite.find nat_cmp k es) ≡ Some v → test v ≡ false) [
+        | true ↦ λ is. let same : e.1 ≡ v = cc in subst (λ y. test y ≡ false) same out
+        | false ↦ λ is. none_passes es k v more is
+      ] there) none
 
 -- a share whose filter takes a unit is among those that do
 takes_some : {R : Type 0} (S : Sys R) (es : List OpenShare) (n : ℕ) (e : OpenShare) (v : units.Unit) → find_share es n ≡ Some e → S.takes e.filter v ≡ true
     → share_taking S es v ≡ None → ⊥
 takes_some S [] n e v is on none = cc
-takes_some S (x ∷ es) n e v is on none = elim (S.takes x.filter v) as (λ b. S.takes x.filter v ≡ b → (if b then Some x else share_taking S es v) ≡ None → ⊥) [
-  | true ↦ λ _ bad. cc
-  | false ↦ λ off rest. elim (x.num == n) as (λ b. (if b then Some x else find_share es n) ≡ Some e → ⊥) [
-    | true ↦ λ here. let same : x ≡ e = cc in let never : false ≡ true = sym off ∙ ap (λ y. S.takes y.filter v) same ∙ on in cc
-    | false ↦ λ there. takes_some S es n e v there on rest
-  ] is
-] refl none
+takes_some S (x ∷ es) n e v is on none = split (S.takes x.filter v) (λ b. (if b then Some x else share_taking S es v) ≡ None → ⊥) (λ _ bad. cc)
+    (λ off rest. elim (x.num == n) as (λ b. (if b then Some x else find_share es n) ≡ Some e → ⊥) [
+      | true ↦ λ here. let same : x ≡ e = cc in let never : false ≡ true = sym off ∙ ap (λ y. S.takes y.filter v) same ∙ on in cc
+      | false ↦ λ there. takes_some S es n e v there on rest
+    ] is) none
 
 module _ {R : Type 0} (f : Semantics R) (at : Site) (packet : ℕ → Packet) (place : List ℕ → Option ℕ) (c : ControllerState) (ops : List (Open R))
     (shares : List OpenShare) (h : OpensAll f place at ops shares c) where
@@ -136,10 +132,9 @@ module _ {R : Type 0} (f : Semantics R) (at : Site) (packet : ℕ → Packet) (p
         both_is = first_found (is_shared_by flow) (finite.entries c.operations) x (finite.entries_sorted c.operations) is
 
         by_operation : (p : Operation) → is_shared_by flow p ≡ true → finite.get c.operations x.0 ≡ Some p → FoundReal x.0
-        by_operation (Move m) on there = cc
-        by_operation (Copy y) on there = cc
         by_operation (Share s) on there =
             let b = both f place at ops shares c x.0 s h there in record { e = b.e; found = b.there; on = share_takes x.0 s b.e there b.sees.is ∙ on }
+        by_operation s on there = cc
 
     abbrev real_first : Option (ℕ × Operation)
     real_first = find (λ e. is_shared_by flow e.1) (finite.entries c.operations)

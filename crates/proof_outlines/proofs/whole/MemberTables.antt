@@ -1,26 +1,20 @@
 -- What messages of shares and copies leave in an instance's tables: valid records in both, and by look-ups what a copy's records leave of
 -- those that stand by.
-use Rattle.std.proofs.Common.{◌≡◌, ℕ, Bool, true, false, cond, Option, Some, None, List, [], ◌∷◌, refl, sym, ap, ◌∙◌, subst}
+use Rattle.std.proofs.Common.{◌≡◌, Bool, true, false, cond, Option, Some, None, List, [], ◌∷◌, refl, sym, ap, ◌∙◌, subst}
 use Rattle.std.specs.FinMap as finite
-use Rattle.flow_filter.specs.declared.filter.Filter.{Filter}
 use Rattle.nf_function.specs.declared.chunk.Chunk.{Chunk}
 use Rattle.nf_function.specs.declared.unit.Unit as units
 use Rattle.nf_function.specs.UnitOrder.{units_total}
 use Rattle.nf_function.specs.Records.{is_newer, newest, Laws as FunctionLaws}
 use Rattle.nf_function.specs.Semantics.{Semantics, is_sound}
-use Rattle.record_table.specs.Table.{Records, TableView, same_unit, AreSound, part, with_part, after_packet, either, union_of, newest_of, replaced_by}
-use Rattle.record_table.specs.Chunks.{records_of, are_good}
+use Rattle.record_table.specs.Table.{Records, TableView, same_unit, AreSound, part, with_part, either, union_of, newest_of, replaced_by}
+use Rattle.record_table.specs.Chunks.{records_of}
 use Rattle.record_table.proofs.UnitOrder.{same_unit-true}
 use Rattle.record_table.proofs.RecordLookUps.{get-joined}
-use Rattle.event_filter.specs.declared.mark.Mark.TheVariants as mark
-use Rattle.packet_pool.specs.Pool.{FullCell}
-use Rattle.nf_msgs.specs.declared.msg.Msg.{Msg}
-use Rattle.instance_worker.specs.declared.instance.Instance.{Instance}
-use Rattle.instance_worker.specs.Instance.{process_step, on_carry, on_get, on_standby, on_sync, instance_step}
 use Rattle.proof_machines.proofs.unit.Real.{Chunks, record_at}
 use Rattle.proof_outlines.proofs.outline.Outline.{entries}
 use Rattle.proof_outlines.proofs.outline.StateOutline.{AreValid}
-use Rattle.proof_outlines.proofs.whole.StandbyKept.{leaves_standby, step_unshared}
+use Rattle.proof_machines.proofs.Tests.{split}
 
 -- what holds of both records holds of the one that is chosen
 abbrev Chooses : {R : Type 0} → (R → R → R) → Type 1
@@ -75,21 +69,19 @@ module _ {R : Type 0} (f : Semantics R) where
     pub live : AreSound f t.live
     pub standby : AreSound f t.standby
 
-  with_part_sound : (t : TableView R) (home : Bool) (records : Records R) → AreBothSound t → AreSound f records → AreBothSound (with_part t home records)
+  pub with_part_sound : (t : TableView R) (home : Bool) (records : Records R) → AreBothSound t → AreSound f records → AreBothSound (with_part t home records)
   with_part_sound t true records h sound = record { live = sound; standby = h.standby }
   with_part_sound t false records h sound = record { live = h.live; standby = sound }
 
-  part_sound : (t : TableView R) (home : Bool) → AreBothSound t → AreSound f (part t home)
+  pub part_sound : (t : TableView R) (home : Bool) → AreBothSound t → AreSound f (part t home)
   part_sound t true h = h.live
   part_sound t false h = h.standby
 
 module _ {R : Type 0} (f : Semantics R) (laws : FunctionLaws f) where
   valid_at : (es : Chunks R) → AreValid f laws es → (u : units.Unit) → is_sound f u (record_at u es) ≡ true
   valid_at [] h u = refl
-  valid_at (e ∷ es) h u = elim (same_unit u e.0) as (λ b. same_unit u e.0 ≡ b → is_sound f u (cond b (Some e.1) (record_at u es)) ≡ true) [
-    | true ↦ λ same. rw (same_unit-true u e.0 same) h.0
-    | false ↦ λ _. valid_at es h.1 u
-  ] refl
+  valid_at (e ∷ es) h u = split (same_unit u e.0) (λ b. is_sound f u (cond b (Some e.1) (record_at u es)) ≡ true) (λ same. rw (same_unit-true u e.0 same) h.0)
+      (λ _. valid_at es h.1 u)
 
   -- what valid chunks bring
   sound_records : (chunks : List Chunk) → AreValid f laws (entries f chunks) → AreSound f (records_of f chunks)
@@ -97,32 +89,13 @@ module _ {R : Type 0} (f : Semantics R) (laws : FunctionLaws f) where
   sound_records chunks valid u =
       subst (λ o. is_sound f u o ≡ true) (sym (finite.get-from_entries units_total (entries f chunks) u)) (valid_at (entries f chunks) valid u)
 
-module _ {F R : Type 0} (f : Semantics R) (laws : FunctionLaws f) where
-  -- Each step of a member leaves valid records.
-  pub shared_sound : (i : Instance F R) (op : ℕ) (home : Bool) (cell : FullCell) → AreBothSound f i.table
-      → AreSound f (after_packet f i.site (part i.table home) cell.packet) → AreBothSound f (on_carry f i (mark.Shared op home) cell).node.table
-  unfolding on_carry process_step
-  shared_sound i op home cell h sound = with_part_sound f i.table home (after_packet f i.site (part i.table home) cell.packet) h sound
+  -- valid records that are set in one of the two leave both valid
+  pub records_sound : (t : TableView R) (home : Bool) (chunks : List Chunk) → AreValid f laws (entries f chunks) → AreBothSound f t
+      → AreBothSound f (with_part t home (replaced_by (part t home) (records_of f chunks)))
+  records_sound t home chunks valid h = with_part_sound f t home (replaced_by (part t home) (records_of f chunks)) h (joined_sound f (λ held coming. coming)
+      chooses_coming (part t home) (records_of f chunks) (part_sound f t home h) (sound_records chunks valid))
 
-  pub get_sound : (i : Instance F R) (op : ℕ) (g : Filter) → AreBothSound f i.table → AreBothSound f (on_get f i op g).node.table
-  unfolding on_get
-  get_sound i op g h = h
-
-  pub sync_sound : (i : Instance F R) (home : Bool) (op : ℕ) (chunks : List Chunk) → are_good f chunks ≡ true → AreValid f laws (entries f chunks)
-      → AreBothSound f i.table → AreBothSound f (on_sync f i home op chunks).node.table
-  unfolding on_sync
-  sync_sound i home op chunks good valid h = rw good (with_part_sound f i.table home (replaced_by (part i.table home) (records_of f chunks)) h (joined_sound
-      f (λ held coming. coming) chooses_coming (part i.table home) (records_of f chunks) (part_sound f i.table home h) (sound_records f laws chunks valid)))
-
-  pub standby_sound : (i : Instance F R) (op : ℕ) (chunks : List Chunk) → are_good f chunks ≡ true → AreValid f laws (entries f chunks)
-      → AreBothSound f i.table → AreBothSound f (on_standby f i op chunks).node.table
-  unfolding on_standby
-  standby_sound i op chunks good valid h = rw good (record {
-    live = h.live;
-    standby = joined_sound f (newest f) (chooses_newest f) i.table.standby (records_of f chunks) h.standby (sound_records f laws chunks valid);
-  })
-
-  -- and so does each other, where its live records are valid
-  pub step_sound : (place : List ℕ → Option ℕ) (i : Instance F R) (m : Msg) → leaves_standby m ≡ true → AreBothSound f i.table
-      → AreSound f (instance_step f i m).node.table.live → AreBothSound f (instance_step f i m).node.table
-  step_sound place i m e h sound = record { live = sound; standby = subst (AreSound f) (sym (step_unshared f place i m e).standby) h.standby }
+  -- and so do those that are the newer of what is there and what comes
+  pub newest_sound : (t : Records R) (chunks : List Chunk) → AreValid f laws (entries f chunks) → AreSound f t
+      → AreSound f (newest_of f t (records_of f chunks))
+  newest_sound t chunks valid h = joined_sound f (newest f) (chooses_newest f) t (records_of f chunks) h (sound_records chunks valid)

@@ -20,6 +20,7 @@ use Rattle.proof_outlines.proofs.outline.Outline.{sys}
 use Rattle.proof_outlines.proofs.outline.ControlOutline.{Sees, Opens}
 use Rattle.proof_outlines.proofs.whole.WholeOutline.{outline_all, sharing}
 use Rattle.proof_outlines.proofs.whole.ShareOutline.{SeesShare}
+use Rattle.proof_machines.proofs.Tests.{either_way}
 
 pub turned_test : (k n : ℕ) → (k == n) ≡ false → (n == k) ≡ false
 turned_test k n off = grind (arith, nat_tests, off)
@@ -76,14 +77,12 @@ module _ {R : Type 0} (f : Semantics R) (place : List ℕ → Option ℕ) (at : 
 
   -- a change at one number
   pub opens_at : (n : ℕ) (a b : Table R) → Elsewhere n a b → SeesAt b n → OpensAll a.ops a.shares a.node → OpensAll b.ops b.shares b.node
-  opens_at n a b other own h k = elim (k == n) as (λ on. (k == n) ≡ on → SeesAt b k) [
-    | true ↦ λ on. subst (SeesAt b) (sym ((Decides-eqb k n).0 on)) own
-    | false ↦ λ off.
-        subst (λ o. SeesAny o (find_share b.shares k) (finite.get b.node.operations k) (stored_of b.node.store k)) (sym (other.ops k off))
-        (subst (λ o. SeesAny (find_op a.ops k) o (finite.get b.node.operations k) (stored_of b.node.store k)) (sym (other.shares k off))
-        (subst (λ o. SeesAny (find_op a.ops k) (find_share a.shares k) o (stored_of b.node.store k)) (sym (other.operations k off))
-        (subst (SeesAny (find_op a.ops k) (find_share a.shares k) (finite.get a.node.operations k)) (sym (other.store k off)) (h k))))
-  ] refl
+  opens_at n a b other own h k = either_way (k == n) (λ on. subst (SeesAt b) (sym ((Decides-eqb k n).0 on)) own)
+      (λ off.
+      subst (λ o. SeesAny o (find_share b.shares k) (finite.get b.node.operations k) (stored_of b.node.store k)) (sym (other.ops k off))
+      (subst (λ o. SeesAny (find_op a.ops k) o (finite.get b.node.operations k) (stored_of b.node.store k)) (sym (other.shares k off))
+      (subst (λ o. SeesAny (find_op a.ops k) (find_share a.shares k) o (stored_of b.node.store k)) (sym (other.operations k off))
+      (subst (SeesAny (find_op a.ops k) (find_share a.shares k) (finite.get a.node.operations k)) (sym (other.store k off)) (h k)))))
 
   -- what is seen where no move or no share is, whatever is stored
   pub sees_none : (o : Option (Open R)) (p q : Option Operation) (cells other : List FullCell) → IsUnseen p → IsUnseen q → Sees f place o p cells

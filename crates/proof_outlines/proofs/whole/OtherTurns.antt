@@ -17,7 +17,7 @@ use Rattle.nf_msgs.specs.Nodes.{switch_node, instance_node}
 use Rattle.move_op.specs.Move as move
 use Rattle.move_op.specs.Move.{MoveState, Store, row_in}
 use Rattle.copy_share.specs.declared.copy_phase.CopyPhase.{CopyPhase}
-use Rattle.copy_share.specs.declared.copy_phase.CopyPhase.TheVariants.{Getting, Keeping, Over}
+use Rattle.copy_share.specs.declared.copy_phase.CopyPhase.TheVariants.{Getting, Keeping}
 use Rattle.copy_share.specs.Copy.{CopyPlan, CopyState, CopyRow}
 use Rattle.copy_share.specs.Copy as copy
 use Rattle.ctrl_node.specs.declared.operation.Operation.{Operation}
@@ -38,40 +38,39 @@ use Rattle.proof_outlines.proofs.whole.MoveSends.{AreOld, old-put, row_old}
 use Rattle.proof_outlines.proofs.whole.OpenShares.{turned_test, but_shares, share_in, IsUnseen, Table, SeesOne, SeesAny, OpensAll}
 use Rattle.proof_outlines.proofs.whole.OpenShares.{opens_at, unseen_at, no_open_share, without_shares, got_moves, opens_moves, StepFollows}
 use Rattle.proof_outlines.proofs.whole.ShareTurns.{answer_unseen}
+use Rattle.proof_machines.proofs.Tests.{split, by_if}
 
 -- found by its own number
 found_op : {R : Type 0} (es : List (Open R)) (n : ℕ) (e : Open R) → find_op es n ≡ Some e → (e.op.num == n) ≡ true
 found_op [] n e is = cc
-found_op (x ∷ es) n e is = elim (x.op.num == n) as (λ b. (x.op.num == n) ≡ b → (if b then Some x else find_op es n) ≡ Some e → (e.op.num == n) ≡ true) [
-  | true ↦ λ on there. let same : x ≡ e = cc in subst (λ y. (y.op.num == n) ≡ true) same on
-  | false ↦ λ _ there. found_op es n e there
-] refl is
+found_op (x ∷ es) n e is = split (x.op.num == n) (λ b. (if b then Some x else find_op es n) ≡ Some e → (e.op.num == n) ≡ true)
+    (λ on there. let same : x ≡ e = cc in subst (λ y. (y.op.num == n) ≡ true) same on)
+    (λ _ there. found_op es n e there) is
+
+-- a message that an open move doesn't look at leaves the controller as it is
+pub move_still : (c : ControllerState) (op : ℕ) (mv : MoveState) (p : ℕ) (m : Msg) → move.answer_of mv.phase ≡ None
+    → finite.get c.operations op ≡ Some (Move mv) → row_in mv c.store p m ≡ move.keeps (move.next_phase mv.phase []) → hand_step c op p m ≡ still c
+move_still c op mv p m going there quiet =
+    handed_is c op p m (subst NotShared (sym there) tt)
+    ∙ ap (λ o. takes_turn c op (turn_of o c.store p m)) there
+    ∙ ap (λ r. takes_turn c op (turn_of_move mv c.store r)) quiet
+    ∙ ap (λ a. after_turn c op (turn_of_move mv c.store (move.keeps (move.next_phase mv.phase []))) a) going
+    ∙ ap (λ os. still (record c { operations = os })) (insert_same c.operations op (Move mv) there)
 
 module _ {R : Type 0} (f : Semantics R) (at : Site) (packet : ℕ → Packet) (place : List ℕ → Option ℕ) where
   -- what a copy sends isn't seen
   source_unseen : (plan : CopyPlan) (ph : CopyPhase) (m : Msg) → outline_all f place (copy.from_source plan ph m).sends ≡ []
   source_unseen plan Getting (msg.Chunks op chunks) = refl
   source_unseen plan Getting (msg.AllChunk op chunk) = refl
-  source_unseen plan Getting m = refl
-  source_unseen plan Keeping m = refl
-  source_unseen plan Over m = refl
+  source_unseen plan ph m = refl
 
   destination_unseen : (plan : CopyPlan) (ph : CopyPhase) (m : Msg) → outline_all f place (copy.from_destination plan ph m).sends ≡ []
   destination_unseen plan Keeping (msg.Kept op) = refl
-  destination_unseen plan Keeping m = refl
-  destination_unseen plan Getting m = refl
-  destination_unseen plan Over m = refl
+  destination_unseen plan ph m = refl
 
   copy_unseen : (y : CopyState) (p : ℕ) (m : Msg) → outline_all f place (copy.row y p m).sends ≡ []
-  copy_unseen y p m = elim (p == instance_node y.plan.from) as (λ a. outline_all f place (if a then copy.from_source y.plan y.phase m
-      else if p == instance_node y.plan.to then copy.from_destination y.plan y.phase m else copy.next_phase y.phase []).sends ≡ []) [
-        | true ↦ source_unseen y.plan y.phase m
-        | false ↦ elim (p == instance_node y.plan.to)
-            as (λ b. outline_all f place (if b then copy.from_destination y.plan y.phase m else copy.next_phase y.phase []).sends ≡ []) [
-              | true ↦ destination_unseen y.plan y.phase m
-              | false ↦ refl
-            ]
-      ]
+  copy_unseen y p m = by_if (λ (r : CopyRow). outline_all f place r.sends ≡ []) (p == instance_node y.plan.from) (source_unseen y.plan y.phase m)
+      (by_if (λ (r : CopyRow). outline_all f place r.sends ≡ []) (p == instance_node y.plan.to) (destination_unseen y.plan y.phase m) refl)
 
   module _ (c : ControllerState) (ops : List (Open R)) (shares : List OpenShare) (h : OpensAll f place at ops shares c) (n : ℕ) where
     abbrev table : Table R
@@ -135,11 +134,7 @@ module _ {R : Type 0} (f : Semantics R) (at : Site) (packet : ℕ → Packet) (p
       -- a message that no move looks at
       pub move_quiet : (port : ℕ) (m : Msg) → move.answer_of mv.phase ≡ None → row_in mv c.store port m ≡ move.keeps (move.next_phase mv.phase [])
           → Same (hand_step c n port m)
-      move_quiet port m going quiet = subst Same (sym (handed_is c n port m (subst NotShared (sym there) tt)
-          ∙ ap (λ p. takes_turn c n (turn_of p c.store port m)) there
-          ∙ ap (λ r. takes_turn c n (turn_of_move mv c.store r)) quiet
-          ∙ ap (λ a. after_turn c n (turn_of_move mv c.store (move.keeps (move.next_phase mv.phase []))) a) going
-          ∙ ap (λ os. still (record c { operations = os })) (insert_same c.operations n (Move mv) there))) still_follows
+      move_quiet port m going quiet = subst Same (sym (move_still c n mv port m going there quiet)) still_follows
 
       -- the abstract network's move
       record ItsMove : Type 0 where

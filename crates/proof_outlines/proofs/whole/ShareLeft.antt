@@ -1,6 +1,6 @@
 -- What a message of an open share, or a packet at the end of its queue, leaves at the controller: the share in its next phase with what still waits,
 -- and all else as it was.
-use Rattle.std.proofs.Common.{◌≡◌, ℕ, true, false, cond, Option, Some, None, List, [], ◌∷◌, ◌++◌, refl, sym, ap, ◌∙◌, subst}
+use Rattle.std.proofs.Common.{◌≡◌, ℕ, false, cond, Option, Some, None, List, [], ◌∷◌, ◌++◌, refl, sym, ap, ◌∙◌, subst}
 use Rattle.std.specs.Prelude.{◌==◌, unwrap_or}
 use Rattle.std.specs.FinMap as finite
 use Rattle.std.proofs.lemmas.Bool.Decides.{Decides-eqb}
@@ -23,6 +23,7 @@ use Rattle.ctrl_node.specs.Operations.{turn_of, turn_of_share, serving_of}
 use Rattle.ctrl_node.specs.Controller.{ControllerState, Step, with_turn, after_turn, takes_turn, serve_step, and_serves, hand_step, queue_step}
 use Rattle.proof_machines.proofs.unit.Labels.{Each}
 use Rattle.proof_outlines.proofs.outline.OperationTables.{got_insert}
+use Rattle.proof_machines.proofs.Tests.{split}
 
 -- an open share of a controller, with what waits for it
 pub record OpenAt : Type 0 where
@@ -62,11 +63,7 @@ pub waits_each : (P : FullCell → Type 0) (plan : SharePlan) (ph : SharePhase) 
     → Each P (unwrap_or (service_if_idle plan ph cells).stored cells)
 waits_each P plan phase.Idle (cell ∷ cells) h = h.1
 waits_each P plan phase.Idle [] h = tt
-waits_each P plan phase.Fencing cells h = h
-waits_each P plan phase.Getting cells h = h
-waits_each P plan (phase.Setting left) cells h = h
-waits_each P plan (phase.Out member) cells h = h
-waits_each P plan (phase.Syncing left) cells h = h
+waits_each P plan ph cells h = h
 
 -- a share serves what it may of these cells
 abbrev serving_step : ControllerState → ℕ → ShareState → ℕ → List FullCell → Step
@@ -90,10 +87,9 @@ serves_is c n s cells there op has =
 stored_after : (c : ControllerState) (n k : ℕ) (cells : List FullCell) (o : Option (List FullCell)) → stored_of c.store n ≡ cells
     → stored_of (store_after c.store n o) k ≡ cond (k == n) (unwrap_or o cells) (stored_of c.store k)
 stored_after c n k cells (Some xs) has = stored-with_parcels c.store n k xs
-stored_after c n k cells None has = elim (k == n) as (λ b. (k == n) ≡ b → stored_of c.store k ≡ cond b cells (stored_of c.store k)) [
-  | true ↦ λ on. ap (stored_of c.store) ((Decides-eqb k n).0 on) ∙ has
-  | false ↦ λ off. refl
-] refl
+stored_after c n k cells None has = split (k == n) (λ b. stored_of c.store k ≡ cond b cells (stored_of c.store k))
+    (λ on. ap (stored_of c.store) ((Decides-eqb k n).0 on) ∙ has)
+    (λ off. refl)
 
 -- a controller that has changed at the share's number alone, to the share in this phase with what now waits for it
 record Readies (x : OpenAt) (r : ShareRow) (d : ControllerState) : Type 0 where
@@ -110,8 +106,8 @@ module _ (x : OpenAt) (r : ShareRow) (op : x.share.plan.op ≡ x.num) where
   stores_same : (d : ControllerState) → Readies x r d → (k : ℕ)
       → cond (k == x.num) (still_waits x r) (stored_of d.store k) ≡ cond (k == x.num) (still_waits x r) (stored_of x.node.store k)
   stores_same d ready k =
-      elim (k == x.num) as (λ b. (k == x.num) ≡ b → cond b (still_waits x r) (stored_of d.store k) ≡ cond b (still_waits x r) (stored_of x.node.store k))
-      [ true ↦ λ _. refl | false ↦ λ off. ready.store k off ] refl
+      split (k == x.num) (λ b. cond b (still_waits x r) (stored_of d.store k) ≡ cond b (still_waits x r) (stored_of x.node.store k)) (λ _. refl)
+      (λ off. ready.store k off)
 
   -- the share serves behind what was sent
   serves_leaves : (d : ControllerState) → Readies x r d → ShareLeaves x r
@@ -164,10 +160,9 @@ queued_leaves c n s cell there op =
     (record {
       names = refl;
       site = refl;
-      operations = λ k. elim (k == n) as (λ b. (k == n) ≡ b → finite.get c.operations k ≡ cond b (Some (Share s)) (finite.get c.operations k)) [
-        | true ↦ λ on. ap (finite.get c.operations) ((Decides-eqb k n).0 on) ∙ there
-        | false ↦ λ off. refl
-      ] refl;
+      operations = λ k. split (k == n) (λ b. finite.get c.operations k ≡ cond b (Some (Share s)) (finite.get c.operations k))
+          (λ on. ap (finite.get c.operations) ((Decides-eqb k n).0 on) ∙ there)
+          (λ off. refl);
       here = stored-with_parcels c.store n n cells ∙ ap (λ b. cond b cells (stored_of c.store n)) (self n);
       store = λ k off. stored-with_parcels c.store n k cells ∙ ap (λ b. cond b cells (stored_of c.store k)) off;
     })

@@ -178,11 +178,7 @@ module _ {R : Type 0} (f : Semantics R) (at : Site) (packet : ℕ → Packet) (p
           | true ↦ record { phase = refl; queue = refl; sends = refl }
           | false ↦ same_row cells phase.Fencing
         ]
-    fenced_same op phase.Getting = either_same (sender == instance_node (home plan)) phase.Getting
-    fenced_same op (phase.Setting left) = either_same (sender == instance_node (home plan)) (phase.Setting left)
-    fenced_same op phase.Idle = either_same (sender == instance_node (home plan)) phase.Idle
-    fenced_same op (phase.Out member) = either_same (sender == instance_node (home plan)) (phase.Out member)
-    fenced_same op (phase.Syncing left) = either_same (sender == instance_node (home plan)) (phase.Syncing left)
+    fenced_same op ph = either_same (sender == instance_node (home plan)) ph
 
     chunks_same : (op : ℕ) (chunks : List Chunk) (ph : SharePhase) → RowAgrees ph (row (of ph) sender (msg.Chunks op chunks)) (Has_chunks (entries f chunks))
     chunks_same op chunks phase.Getting =
@@ -195,11 +191,7 @@ module _ {R : Type 0} (f : Semantics R) (at : Site) (packet : ℕ → Packet) (p
               (syncs_same plan (home plan) chunks plan.members))
           | false ↦ same_row cells phase.Getting
         ]
-    chunks_same op chunks phase.Fencing = either_same (sender == instance_node (home plan)) phase.Fencing
-    chunks_same op chunks (phase.Setting left) = either_same (sender == instance_node (home plan)) (phase.Setting left)
-    chunks_same op chunks phase.Idle = either_same (sender == instance_node (home plan)) phase.Idle
-    chunks_same op chunks (phase.Out member) = either_same (sender == instance_node (home plan)) (phase.Out member)
-    chunks_same op chunks (phase.Syncing left) = either_same (sender == instance_node (home plan)) (phase.Syncing left)
+    chunks_same op chunks ph = either_same (sender == instance_node (home plan)) ph
 
     chunk_same : (op : ℕ) (chunk : Chunk) (entry : units.Unit × R) (ph : SharePhase) → spelled f chunk ≡ Some entry
         → RowAgrees ph (row (of ph) sender (msg.Shared op chunk)) (Has_chunk entry)
@@ -217,19 +209,12 @@ module _ {R : Type 0} (f : Semantics R) (at : Site) (packet : ℕ → Packet) (p
               (sym (count_same plan member)) (syncing_same (length (others plan member)) cells (shares.syncs plan member (chunk ∷ [])) xs sent)
           | false ↦ same_row cells (phase.Out member)
         ]
-    chunk_same op chunk entry phase.Fencing spells = same_row cells phase.Fencing
-    chunk_same op chunk entry phase.Getting spells = same_row cells phase.Getting
-    chunk_same op chunk entry (phase.Setting left) spells = same_row cells (phase.Setting left)
-    chunk_same op chunk entry phase.Idle spells = same_row cells phase.Idle
-    chunk_same op chunk entry (phase.Syncing left) spells = same_row cells (phase.Syncing left)
+    chunk_same op chunk entry ph spells = same_row cells ph
 
     synced_same : (op : ℕ) (ph : SharePhase) → RowAgrees ph (row (of ph) sender (msg.Synced op)) Is_synced
     synced_same op (phase.Setting left) = setting_same (left - 1) cells [] [] refl
     synced_same op (phase.Syncing left) = syncing_same (left - 1) cells [] [] refl
-    synced_same op phase.Fencing = same_row cells phase.Fencing
-    synced_same op phase.Getting = same_row cells phase.Getting
-    synced_same op phase.Idle = same_row cells phase.Idle
-    synced_same op (phase.Out member) = same_row cells (phase.Out member)
+    synced_same op ph = same_row cells ph
 
   -- A share's row and what it then serves.
   pub record ShareFollows (plan : SharePlan) (cells : List FullCell) (r : ShareRow) (did : ShareTurn R) : Type 0 where
@@ -281,11 +266,7 @@ module _ {R : Type 0} (f : Semantics R) (at : Site) (packet : ℕ → Packet) (p
       → ShareFollows s.plan cells r (s_served S A (outline_share s k) (share_phase ph) (map number cells) (outline_all f place r.sends))
   served_same s k (cell ∷ cells) r phase.Idle is some genuine e = one_served s k cells cell r is some genuine.0 e
   served_same s k [] r phase.Idle is some genuine e = quietly s [] r phase.Idle e refl
-  served_same s k cells r phase.Fencing is some genuine e = quietly s cells r phase.Fencing e refl
-  served_same s k cells r phase.Getting is some genuine e = quietly s cells r phase.Getting e refl
-  served_same s k cells r (phase.Setting left) is some genuine e = quietly s cells r (phase.Setting left) e refl
-  served_same s k cells r (phase.Out member) is some genuine e = quietly s cells r (phase.Out member) e refl
-  served_same s k cells r (phase.Syncing left) is some genuine e = quietly s cells r (phase.Syncing left) e refl
+  served_same s k cells r ph is some genuine e = quietly s cells r ph e refl
 
   -- A share that is told something, and serves.
   pub share_follows : (s : ShareState) (k cells : List FullCell) (r : ShareRow) (sender : ℕ) (told : Told R) → s.plan.site ≡ at → 0 < length s.plan.members
@@ -330,22 +311,14 @@ pub rests_after : (plan : SharePlan) (ph : SharePhase) (cells : List FullCell)
     → Rests (service_if_idle plan ph cells).phase (unwrap_or (service_if_idle plan ph cells).stored cells)
 rests_after plan phase.Idle (cell ∷ cells) = tt
 rests_after plan phase.Idle [] = tt
-rests_after plan phase.Fencing cells = tt
-rests_after plan phase.Getting cells = tt
-rests_after plan (phase.Setting left) cells = tt
-rests_after plan (phase.Out member) cells = tt
-rests_after plan (phase.Syncing left) cells = tt
+rests_after plan ph cells = tt
 
 -- where nothing waits nothing is served
 pub rests_served : (plan : SharePlan) (ph : SharePhase) (cells : List FullCell) → Rests ph cells
     → service_if_idle plan ph cells ≡ record { phase = ph; sends = []; stored = None }
 rests_served plan phase.Idle (cell ∷ cells) h = absurd h
 rests_served plan phase.Idle [] h = refl
-rests_served plan phase.Fencing cells h = refl
-rests_served plan phase.Getting cells h = refl
-rests_served plan (phase.Setting left) cells h = refl
-rests_served plan (phase.Out member) cells h = refl
-rests_served plan (phase.Syncing left) cells h = refl
+rests_served plan ph cells h = refl
 
 abbrev with_both : machine.Phase → List ℕ → OpenShare → OpenShare
 with_both ph q e = record e { phase = ph; queue = q }

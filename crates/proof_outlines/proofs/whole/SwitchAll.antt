@@ -31,6 +31,7 @@ use Rattle.proof_outlines.proofs.outline.FiltersApart.{filter_fits, filter_is, f
 use Rattle.proof_outlines.proofs.outline.InstanceOutline.{filter_map-put}
 use Rattle.proof_outlines.proofs.outline.Outline.{number, sys}
 use Rattle.proof_outlines.proofs.whole.WholeOutline.{outline_each, outline_all, sharing}
+use Rattle.proof_machines.proofs.Tests.{split}
 
 -- the node that a target is
 abbrev pub target_node : Target → ℕ
@@ -58,10 +59,7 @@ routes_same kind s t to rules instances routes flow fits =
     there target.Controller e = refl
 
 pub same_node : (i j : ℕ) → (i == j) ≡ (instance_node i == instance_node j)
-same_node i j = elim (i == j) as (λ b. (i == j) ≡ b → b ≡ (instance_node i == instance_node j)) [
-  | true ↦ λ e. grind (arith, nat_tests)
-  | false ↦ λ e. grind (arith, nat_tests)
-] refl
+same_node i j = split (i == j) (λ b. b ≡ (instance_node i == instance_node j)) (λ e. grind (arith, nat_tests)) (λ e. grind (arith, nat_tests))
 
 -- targets are equal where their nodes are
 same_target : (t : Target) (from : ℕ) → target_eq t (target.Instance from) ≡ (target_node t == instance_node from)

@@ -1,7 +1,7 @@
 -- The outlines of messages with those of shares beside those of moves; and that the real choice of a member and the real records that
 -- are set have the laws of the abstract network.
-use Rattle.std.proofs.Common.{◌≡◌, ℕ, zero, suc, ◌+◌, ◌<◌, true, false, Option, Some, None, List, [], ◌∷◌, length, refl, sym, ap, ◌∙◌, arith}
-use Rattle.std.specs.Prelude.{if◌then◌else◌, ◌==◌, option_map, slice_index}
+use Rattle.std.proofs.Common.{◌≡◌, ℕ, zero, suc, ◌<◌, true, Option, Some, None, List, [], ◌∷◌, length, refl, sym, ap, ◌∙◌, arith}
+use Rattle.std.specs.Prelude.{◌==◌, option_map, slice_index}
 use Rattle.std.specs.List.{filter_map}
 use Rattle.std.specs.FinMap as finite
 use Rattle.std.proofs.lemmas.Nat.{mod_below}
@@ -30,6 +30,7 @@ use Rattle.proof_machines.proofs.net.Net as net
 use Rattle.proof_machines.proofs.net.Shares.{Any, Old, New, WantShare, Sharing, IsSharing, olds, as_old, Shared_on, Diverted_on}
 use Rattle.proof_machines.proofs.net.Shares.{S_asked, S_install, S_forward, S_get, S_sync, S_chunks, S_shared, S_synced}
 use Rattle.proof_outlines.proofs.outline.Outline.{number, want_of, entries, outline, outline_sends, sys}
+use Rattle.proof_machines.proofs.Tests.{by_if}
 
 -- one member more, if it and the others are known
 abbrev pub with_member : Option ℕ → Option (List ℕ) → Option (List ℕ)
@@ -161,10 +162,7 @@ member_for members flow = slice_index members (place_among flow (length members)
 has_index : (xs : List ℕ) (i : ℕ) → i < length xs → has xs (slice_index xs i) ≡ true
 has_index [] i low = absurd (omega (arith, low))
 has_index (x ∷ xs) zero low = grind (arith, nat_tests)
-has_index (x ∷ xs) (suc i) low = elim (slice_index xs i == x) as (λ b. (if b then true else has xs (slice_index xs i)) ≡ true) [
-  | true ↦ refl
-  | false ↦ has_index xs i (omega (arith, low))
-]
+has_index (x ∷ xs) (suc i) low = by_if (λ r. r ≡ true) (slice_index xs i == x) refl (has_index xs i (omega (arith, low)))
 
 module _ {R : Type 0} (f : Semantics R) (site : Site) (packet : ℕ → Packet) where
   -- the member of a packet, and records that are set
