@@ -1,5 +1,6 @@
 -- The network as the proof of its moves sees it, the same with shares, and where each unit is.
 pub mod AtEnd
+pub mod Words
 pub mod Net
 pub mod Shares
 pub mod RuleLists

@@ -1,4 +1,5 @@
 -- What one unit sees of a move, and that each step keeps its order and its record.
+pub mod Words
 pub mod Machine
 pub mod Lists
 pub mod UnitPieces

@@ -1,20 +1,14 @@
 -- The whole world's steps as moves see them: a step on a message of a move is, to every unit, that of the moves' world; a step on a
 -- message of a share leaves the controller's moves as they are.
-use Rattle.std.proofs.Common.{◌≡◌, ℕ, Bool, true, false, Option, Some, None, List, [], ◌∷◌, ◌++◌, drop, refl, sym, ap, ◌∙◌, append-nil, arith}
-use Rattle.std.specs.Prelude.{if◌then◌else◌, ◌&&◌, ◌==◌}
-use Rattle.std.specs.Option.{option_map_or}
-use Rattle.std.proofs.lemmas.Bool.Decides.{nat_tests}
-use Rattle.proof_machines.proofs.unit.Real.{Chunks, sent_for}
-use Rattle.proof_machines.proofs.share.Share.{Phase, Phase.Fencing, Phase.Getting, Phase.Setting, Phase.Idle, Phase.Out, Phase.Syncing}
-use Rattle.proof_machines.proofs.net.Net.{Msg, MoveAsked, Sys, process, inst_step, ctrl_step, sw_sends, begin_sends}
-use Rattle.proof_machines.proofs.net.Net.{behind, links_after, inst_next, ctrl_next, sw_next, begin_next}
+use Rattle.proof_machines.proofs.net.Words.{◌≡◌, ℕ, Bool, true, false, Option, Some, None, List, [], ◌∷◌, ◌++◌, drop, refl, sym, ap, ◌∙◌, append-nil, arith}
+use Rattle.proof_machines.proofs.net.Words.{if◌then◌else◌, ◌&&◌, ◌==◌, option_map_or, nat_tests, Chunks, sent_for, Phase, Fencing, Getting, Setting, Idle, Out}
+use Rattle.proof_machines.proofs.net.Words.{Syncing, Msg, MoveAsked, Sys, process, inst_step, ctrl_step, sw_sends, begin_sends, behind, links_after, inst_next}
+use Rattle.proof_machines.proofs.net.Words.{ctrl_next, sw_next, begin_next, Any, Old, New, ShareMsg, Shared_on, S_forward, S_sync, ShareTurn, S_shared, olds}
+use Rattle.proof_machines.proofs.net.Words.{as_old, Sharing, OpenShare, Told, Is_fenced, Has_chunks, Has_chunk, Is_synced, Has_packet, syncs, s_row, s_served}
+use Rattle.proof_machines.proofs.net.Words.{told_by, by_share, shared_chunk, member_step, WholeWorld, moves_of, whole_inst, whole_ctrl, whole_switch}
+use Rattle.proof_machines.proofs.net.Words.{begin_move, by_if}
 use Rattle.proof_machines.proofs.net.Elsewhere.{Elsewhere}
-use Rattle.proof_machines.proofs.net.Shares.{Any, Any.Old, Any.New, ShareMsg, ShareMsg.Shared_on, ShareMsg.S_forward, ShareMsg.S_sync, ShareTurn}
-use Rattle.proof_machines.proofs.net.Shares.{ShareMsg.S_shared, olds, as_old, Sharing, OpenShare, Told, Told.Is_fenced, Told.Has_chunks, Told.Has_chunk}
-use Rattle.proof_machines.proofs.net.Shares.{Told.Is_synced, Told.Has_packet, syncs, s_row, s_served, told_by, by_share, shared_chunk}
-use Rattle.proof_machines.proofs.net.Shares.{member_step, WholeWorld, moves_of, whole_inst, whole_ctrl, whole_switch, begin_move}
 use Rattle.nf_function.specs.declared.unit.Unit as units
-use Rattle.proof_machines.proofs.Tests.{by_if}
 
 abbrev pub put_old : {R : Type 0} → ℕ → Any R → List (ℕ × Msg R) → List (ℕ × Msg R)
 put_old j (Old m) xs = (j, m) ∷ xs
@@ -108,8 +102,10 @@ module _ {R : Type 0} (S : Sys R) (A : Sharing S) where
 
   row_new : (e : OpenShare) (sender : ℕ) (told : Told R) (ph : Phase) (q : List ℕ) → old_sends (s_row S A e sender told ph q).sends ≡ []
   row_new e sender Is_fenced Fencing q = by_if (λ (r : ShareTurn R). old_sends r.sends ≡ []) (sender == e.home) refl refl
-  row_new e sender (Has_chunks cs) Getting q = by_if (λ (r : ShareTurn R). old_sends r.sends ≡ []) (sender == e.home) (syncs_new e.num e.home e.home cs e.members) refl
-  row_new e sender (Has_chunk c) (Out m) q = by_if (λ (r : ShareTurn R). old_sends r.sends ≡ []) (sender == m) (syncs_new e.num e.home m (c ∷ []) e.members) refl
+  row_new e sender (Has_chunks cs) Getting q = by_if (λ (r : ShareTurn R). old_sends r.sends ≡ []) (sender == e.home)
+      (syncs_new e.num e.home e.home cs e.members) refl
+  row_new e sender (Has_chunk c) (Out m) q = by_if (λ (r : ShareTurn R). old_sends r.sends ≡ []) (sender == m)
+      (syncs_new e.num e.home m (c ∷ []) e.members) refl
   row_new e sender Is_synced (Setting left) q = refl
   row_new e sender Is_synced (Syncing left) q = refl
   row_new e sender (Has_packet p) ph q = refl

@@ -1,24 +1,13 @@
 -- Where no message stands on the links between the first nodes, among them the switch, the controller and the sides of each open move:
 -- a unit whose target is among them has no packet left, and its record is live at its target.
-use Rattle.std.proofs.Common.{◌≡◌, ℕ, ◌<◌, ◌≤◌, Bool, true, false, Some, List, [], ◌++◌, map, refl, sym, ap, ◌∙◌, subst, arith}
-use Rattle.std.specs.Prelude.{if◌then◌else◌, ◌&&◌, ◌==◌}
-use Rattle.std.proofs.lemmas.Bool.Decides.{nat_tests}
-use Rattle.proof_machines.proofs.unit.Machine.{Where as Side, At_a, At_b, At_c, Ran, after, Carry, Phase, State}
-use Rattle.proof_machines.proofs.unit.Lists.{firsts}
-use Rattle.proof_machines.proofs.unit.Stages.{IsOrderedAs}
-use Rattle.proof_machines.proofs.unit.Pairs.{Nodes, expect}
-use Rattle.proof_machines.proofs.unit.NetViews.{items}
-use Rattle.proof_machines.proofs.unit.Rests.{Silent, none_carried}
-use Rattle.proof_machines.proofs.unit.Between.{AtRestNow, Rests_at, rest_at, seat_ends}
-use Rattle.proof_machines.proofs.unit.Seats.{UnitSeat, seat_shape, seat_all, seat_rests}
-use Rattle.proof_machines.proofs.unit.Real.{Op}
-use Rattle.proof_machines.proofs.net.Net.{Sys, IsSys, Open, find_op, World, seen}
-use Rattle.proof_machines.proofs.net.Holding.{Seeing, frame, node_at, place, IsController, Holds}
-use Rattle.proof_machines.proofs.net.Rest.{Rest, carries_of, done_u}
+use Rattle.proof_machines.proofs.net.Words.{◌≡◌, ℕ, ◌<◌, ◌≤◌, Bool, true, false, Some, List, [], ◌++◌, map, refl, sym, ap, ◌∙◌, subst, arith, if◌then◌else◌}
+use Rattle.proof_machines.proofs.net.Words.{◌&&◌, ◌==◌, nat_tests, At_a, At_b, At_c, Ran, after, State, firsts, IsOrderedAs, Nodes, expect, items, Silent}
+use Rattle.proof_machines.proofs.net.Words.{none_carried, AtRestNow, Rests_at, rest_at, seat_ends, UnitSeat, seat_shape, seat_all, seat_rests, Op, Sys, IsSys}
+use Rattle.proof_machines.proofs.net.Words.{Open, find_op, World, seen, Seeing, frame, node_at, place, IsController, Holds, Rest, carries_of, done_u, split}
+use Rattle.proof_machines.proofs.unit.Machine.{Where as Side, Carry, Phase}
 use Rattle.proof_machines.proofs.net.RestingSeats.{same_done}
 use Rattle.proof_machines.proofs.net.Units.{Where, Where.At_rest, Where.In_move, see}
 use Rattle.nf_function.specs.declared.unit.Unit as units
-use Rattle.proof_machines.proofs.Tests.{split}
 
 -- the links of the machine that its nodes tell
 module _ {R : Type 0} (a b c : ℕ) (nodes : Nodes a b c) (x : State R) where

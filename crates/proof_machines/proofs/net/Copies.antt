@@ -1,29 +1,13 @@
 -- Of each unit at most one record is on its way with a move's pieces; what that says of the pieces that the controller keeps.
-use Rattle.std.proofs.Common.{◌≡◌, ℕ, ◌+◌, ◌≤◌, Bool, true, false, Some, None, List, [], ◌∷◌, map, length, refl, sym, ap, ◌∙◌, subst, arith}
-use Rattle.std.specs.Prelude.{if◌then◌else◌, ◌&&◌, ◌==◌, is_some, option_to_list}
-use Rattle.std.proofs.lemmas.Bool.Decides.{nat_tests, Decides-eqb}
-use Rattle.proof_machines.proofs.unit.Machine.{Item, Put_no, State}
-use Rattle.proof_machines.proofs.unit.Real.{Chunks, record_at, RPiece, RPhase, M_event, M_put_no, Frame, see, see_phase}
-use Rattle.move_op.specs.Phases.{Streaming}
-use Rattle.proof_machines.proofs.unit.UnitPieces.{records}
-use Rattle.proof_machines.proofs.unit.Labels.{Each, Without, Clean}
-use Rattle.proof_machines.proofs.unit.Kept.{frozen_in, free_in}
-use Rattle.proof_machines.proofs.unit.Pairs.{expect}
-use Rattle.proof_machines.proofs.unit.Seats.{seat_shape}
+use Rattle.proof_machines.proofs.net.Words.{◌≡◌, ℕ, ◌+◌, ◌≤◌, Bool, true, false, Some, None, List, [], ◌∷◌, map, length, refl, sym, ap, ◌∙◌, subst, arith}
+use Rattle.proof_machines.proofs.net.Words.{if◌then◌else◌, ◌&&◌, ◌==◌, is_some, option_to_list, nat_tests, Decides-eqb, Item, Put_no, State, Chunks, record_at}
+use Rattle.proof_machines.proofs.net.Words.{RPiece, RPhase, M_event, M_put_no, Frame, see, see_phase, Streaming, records, Each, Without, Clean, frozen_in}
+use Rattle.proof_machines.proofs.net.Words.{free_in, expect, seat_shape, items, Msg, Mv, Sys, IsSys, Open, find_op, World, seen, Seeing, frame, Label, OpLabel}
+use Rattle.proof_machines.proofs.net.Words.{IsController, Holds, head, NothingOf, Global, same_unit, same_unit_equiv, Filter, Answer, either_way}
 use Rattle.proof_machines.proofs.unit.OneCopy.{few_records, records_head}
-use Rattle.proof_machines.proofs.unit.NetViews.{items}
-use Rattle.proof_machines.proofs.net.Net.{Msg, Mv, Sys, IsSys, Open, find_op, World, seen}
-use Rattle.proof_machines.proofs.net.Holding.{Seeing, frame, Label, OpLabel, IsController, Holds}
-use Rattle.proof_machines.proofs.net.Links.{head}
 use Rattle.proof_machines.proofs.net.Ctrl.{none_some, each_found}
-use Rattle.proof_machines.proofs.net.Rest.{NothingOf, Global}
 use Rattle.proof_machines.proofs.net.Units.{Where, Where.At_rest, Where.In_move, shown, see as seeing}
 use Rattle.nf_function.specs.declared.unit.Unit as units
-use Rattle.record_table.specs.Table.{same_unit}
-use Rattle.record_table.proofs.UnitOrder.{same_unit_equiv}
-use Rattle.flow_filter.specs.declared.filter.Filter.{Filter}
-use Rattle.nf_msgs.specs.declared.answer.Answer.{Answer}
-use Rattle.proof_machines.proofs.Tests.{either_way}
 
 module _ {R : Type 0} where
   -- 1 where the chunks have a record of the unit

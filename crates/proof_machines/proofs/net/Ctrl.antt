@@ -1,21 +1,15 @@
 -- Lists of open moves: what a number finds after a move was written or closed. And of its own move's row a unit sees the machine's,
 -- on any message.
-use Rattle.std.proofs.Common.{◌≡◌, ℕ, Bool, true, false, Option, Some, None, List, [], ◌∷◌, refl, ap, subst}
-use Rattle.std.specs.Prelude.{if◌then◌else◌, ◌&&◌, ◌==◌}
-use Rattle.std.proofs.lemmas.Bool.{eqb-true}
-use Rattle.std.proofs.lemmas.Option.{same_Some}
-use Rattle.proof_machines.proofs.unit.Machine.{Where, At_a, At_b, Item, Enable, Stream, Delete, Put, Restore}
-use Rattle.proof_machines.proofs.unit.Machine.{Fence_to, Install, Stray, ControllerTurn, goes, from_source, from_destination}
+use Rattle.proof_machines.proofs.net.Words.{◌≡◌, ℕ, Bool, true, false, Option, Some, None, List, [], ◌∷◌, refl, ap, subst, if◌then◌else◌, ◌&&◌, ◌==◌, eqb-true}
+use Rattle.proof_machines.proofs.net.Words.{same_Some, Where, At_a, At_b, Item, Enable, Stream, Delete, Put, Restore, Fence_to, ControllerTurn, goes}
+use Rattle.proof_machines.proofs.net.Words.{from_source, from_destination, record_at, M_enable, M_stream, M_delete, M_put, M_restore, M_event, M_forward}
+use Rattle.proof_machines.proofs.net.Words.{M_install, M_fence_to, RPhase, Op, r_goes, r_from_source, r_from_destination, where_true, see, sends_to, only_mine}
+use Rattle.proof_machines.proofs.net.Words.{see_phase, Sees, NodesDiffer, frame_of, quiet, did_a, did_b, from_source_seen, from_destination_seen, Each, Open}
+use Rattle.proof_machines.proofs.net.Words.{find_op, set_op, close_op, write_op, num_of, is_among, split, by_if}
+use Rattle.proof_machines.proofs.unit.Machine.{Install, Stray}
 use Rattle.proof_machines.proofs.unit.Real as Real
-use Rattle.proof_machines.proofs.unit.Real.{record_at, M_enable, M_stream, M_delete, M_put, M_restore, M_event, M_forward, M_install, M_fence_to, RPhase, Op}
-use Rattle.proof_machines.proofs.unit.Real.{r_goes, r_from_source, r_from_destination, where_true, see, sends_to, only_mine, see_phase, Sees}
 use Rattle.move_op.specs.Phases.{Over}
-use Rattle.proof_machines.proofs.unit.Seen.{NodesDiffer, frame_of, quiet, did_a, did_b, from_source_seen, from_destination_seen}
-use Rattle.proof_machines.proofs.unit.Labels.{Each}
-use Rattle.proof_machines.proofs.net.Net.{Open, find_op, set_op, close_op, write_op, num_of}
 use Rattle.nf_function.specs.declared.unit.Unit as units
-use Rattle.record_table.specs.Table.{is_among}
-use Rattle.proof_machines.proofs.Tests.{split, by_if}
 
 pub none_some : {X : Type 0} {P : Type 0} {a : X} → None ≡ Some a → P
 none_some e = cc

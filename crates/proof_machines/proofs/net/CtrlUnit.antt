@@ -1,27 +1,20 @@
 -- The controller's step at one unit: of its own move it sees the machine's row, of another move nothing, and all that is open or
 -- sent has its labels.
-use Rattle.std.proofs.Common.{◌≡◌, ℕ, Bool, true, false, Option, Some, None, List, [], ◌∷◌, refl, sym, ap, ◌∙◌, subst}
-use Rattle.std.specs.Prelude.{if◌then◌else◌, ◌==◌}
-use Rattle.std.proofs.lemmas.Bool.{eqb-true, both_ways}
-use Rattle.std.proofs.lemmas.Option.{same_Some}
-use Rattle.proof_machines.proofs.unit.Machine.{Item, Carry, Pass, Fence, Forward, State, Phase, ControllerTurn, goes, from_source, from_destination}
+use Rattle.proof_machines.proofs.net.Words.{◌≡◌, ℕ, Bool, true, false, Option, Some, None, List, [], ◌∷◌, refl, sym, ap, ◌∙◌, subst, if◌then◌else◌, ◌==◌}
+use Rattle.proof_machines.proofs.net.Words.{eqb-true, both_ways, same_Some, Item, Pass, State, ControllerTurn, goes, from_source, from_destination, M_enable}
+use Rattle.proof_machines.proofs.net.Words.{M_stream, M_delete, M_put, M_restore, M_event, M_piece, M_put_no}
+use Rattle.proof_machines.proofs.net.Words.{M_forward, M_install, M_fence_to, RPhase, Op, OperationTurn, r_goes, r_from_source, r_from_destination}
+use Rattle.proof_machines.proofs.net.Words.{Frame, where_true, none_if, add, view, only_mine, see_phase, sent_for, sends_to, Sees, NodesDiffer, quiet, did_a}
+use Rattle.proof_machines.proofs.net.Words.{did_b, Each, Foreign, SentForeign, Clean, StaysClean, from_source_clean, from_destination_clean, items, Filter, Msg}
+use Rattle.proof_machines.proofs.net.Words.{Carry_on, Pass_on, Fence_on, Mv, Sys, Open, find_op, write_op, num_of, row_of, row, filter_for, wrap}
+use Rattle.proof_machines.proofs.net.Words.{ControllerMove, found, numbered, ctrl_step, seen, Seeing, EachSent, frame, MoveLabel, Label, OpLabel, IsController}
+use Rattle.proof_machines.proofs.net.Words.{same_unit, either_way, by_if}
+use Rattle.proof_machines.proofs.unit.Machine.{Carry, Fence, Forward, Phase}
 use Rattle.proof_machines.proofs.unit.Real as Real
-use Rattle.proof_machines.proofs.unit.Real.{M_enable, M_stream, M_delete, M_put, M_restore, M_enabled, M_event, M_piece, M_deleted, M_put_ok, M_put_no}
-use Rattle.proof_machines.proofs.unit.Real.{M_restored, M_fenced, M_forward, M_install, M_fence_to, RPhase, Op, OperationTurn, r_goes, r_from_source}
-use Rattle.proof_machines.proofs.unit.Real.{r_from_destination, Frame, where_true, none_if, add, view, only_mine, see_phase, sent_for, sends_to, Sees}
 use Rattle.move_op.specs.Phases.{Over}
-use Rattle.proof_machines.proofs.unit.Seen.{NodesDiffer, quiet, did_a, did_b}
-use Rattle.proof_machines.proofs.unit.Labels.{Each, Foreign, SentForeign, Clean, StaysClean, from_source_clean, from_destination_clean}
 use Rattle.proof_machines.proofs.unit.Quiet.{Is_quiet, IsNotMine, view_nothing, from_source_quiet, from_destination_quiet}
-use Rattle.proof_machines.proofs.unit.NetViews.{items}
-use Rattle.flow_filter.specs.declared.filter.Filter.{Filter}
-use Rattle.proof_machines.proofs.net.Net.{Msg, Carry_on, Pass_on, Fence_on, Mv, Sys, Open, find_op, write_op}
-use Rattle.proof_machines.proofs.net.Net.{num_of, row_of, row, filter_for, wrap, ControllerMove, found, numbered, ctrl_step, seen}
-use Rattle.proof_machines.proofs.net.Holding.{Seeing, EachSent, frame, MoveLabel, Label, OpLabel, IsController}
 use Rattle.proof_machines.proofs.net.RowNumbers.{OfRow, SentOf, row_numbers}
 use Rattle.proof_machines.proofs.net.Ctrl.{none_some, find_close, find_set, find_write_other, each_write, each_found, idle_side, ext_a, ext_b}
-use Rattle.record_table.specs.Table.{same_unit}
-use Rattle.proof_machines.proofs.Tests.{either_way, by_if}
 
 module _ {R : Type 0} (S : Sys R) (z : Seeing) where
   abbrev fr : Frame

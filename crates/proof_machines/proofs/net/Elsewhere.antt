@@ -1,26 +1,16 @@
 -- Moves' worlds that are the same to a unit: where the unit is goes from one to the other. And it stays where it is when an instance is
 -- sent a fence of a number that no open move has. What of its target and its rest is read off where it is.
-use Rattle.std.proofs.Common.{◌≡◌, ℕ, ◌≤◌, Bool, true, false, Some, None, List, [], ◌∷◌, ◌++◌, refl, sym, ap, ◌∙◌, subst, append-nil}
-use Rattle.std.specs.Prelude.{if◌then◌else◌, ◌&&◌, ◌==◌}
-use Rattle.std.proofs.lemmas.Bool.Decides.{Decides-eqb}
-use Rattle.proof_machines.proofs.unit.Machine.{Where as Side, At_a, At_b, At_c, Ran, State}
-use Rattle.proof_machines.proofs.unit.Real.{sent_for, only_mine}
-use Rattle.proof_machines.proofs.unit.Labels.{Each}
-use Rattle.proof_machines.proofs.unit.Pairs.{Nodes}
-use Rattle.proof_machines.proofs.unit.NetViews.{items}
-use Rattle.proof_machines.proofs.unit.Seats.{seat_shape}
-use Rattle.proof_machines.proofs.net.Net.{Msg, In_packet, Asked, Carry_on, Pass_on, Fence_on, Mv, Sys, IsSys, find_rule, rule_of, held_of, find_op, World, seen}
-use Rattle.proof_machines.proofs.net.Holding.{Seeing, frame, Label, shows, RuleLabel, OpLabel, place, IsController, Holds}
-use Rattle.proof_machines.proofs.net.Links.{each_put}
+use Rattle.proof_machines.proofs.net.Words.{◌≡◌, ℕ, ◌≤◌, Bool, true, false, Some, None, List, [], ◌∷◌, ◌++◌, refl, sym, ap, ◌∙◌, subst, append-nil}
+use Rattle.proof_machines.proofs.net.Words.{if◌then◌else◌, ◌&&◌, ◌==◌, Decides-eqb, At_a, At_b, At_c, Ran, State, sent_for, only_mine, Each, Nodes, items}
+use Rattle.proof_machines.proofs.net.Words.{seat_shape, Msg, In_packet, Asked, Carry_on, Pass_on, Fence_on, Mv, Sys, IsSys, find_rule, rule_of, held_of}
+use Rattle.proof_machines.proofs.net.Words.{find_op, World, seen, Seeing, frame, Label, shows, RuleLabel, OpLabel, place, IsController, Holds, each_put, Rest}
+use Rattle.proof_machines.proofs.net.Words.{RestRule, RestOp, NothingOf, carries_of, done_u, same_unit, split, false_from_ne_true}
+use Rattle.proof_machines.proofs.unit.Machine.{Where as Side}
 use Rattle.proof_machines.proofs.net.Ctrl.{each_found}
 use Rattle.proof_machines.proofs.net.OtherWorld.{put_unseen, one_unseen}
-use Rattle.proof_machines.proofs.net.Rest.{Rest, RestRule, RestOp, NothingOf, carries_of, done_u}
 use Rattle.proof_machines.proofs.net.RestingSeats.{same_done}
 use Rattle.proof_machines.proofs.net.Units.{Where, Where.At_rest, Where.In_move, see}
 use Rattle.nf_function.specs.declared.unit.Unit as units
-use Rattle.record_table.specs.Table.{same_unit}
-use Rattle.proof_machines.proofs.Tests.{split}
-use Rattle.std.proofs.lemmas.Bool.{false_from_ne_true}
 
 -- all that where a unit is looks at
 pub record Elsewhere {R : Type 0} (S : Sys R) (u : units.Unit) (w v : World S) : Type 0 where

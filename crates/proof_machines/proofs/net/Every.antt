@@ -1,26 +1,17 @@
 -- The invariant of a world: numbers below the next one, and for every unit where it is. Each step keeps it, and so do begins and ends.
-use Rattle.std.proofs.Common.{◌≡◌, ℕ, suc, ◌<◌, ◌≤◌, Bool, true, false, Option, Some, None, List, [], ◌∷◌, map, length, refl, subst, arith}
-use Rattle.std.specs.Prelude.{if◌then◌else◌, ◌&&◌, ◌==◌}
-use Rattle.proof_machines.proofs.unit.Machine.{Rule, Free, Drops, Buffers}
+use Rattle.proof_machines.proofs.net.Words.{◌≡◌, ℕ, suc, ◌<◌, ◌≤◌, Bool, true, false, Option, Some, None, List, [], ◌∷◌, map, length, refl, subst, arith}
+use Rattle.proof_machines.proofs.net.Words.{if◌then◌else◌, ◌&&◌, ◌==◌, Rule, Free, Drops, Buffers, RPiece, M_enable, M_stream, M_delete, M_put, M_restore}
+use Rattle.proof_machines.proofs.net.Words.{M_piece, M_forward, M_install, M_fence_to, Op, marks, chop, Each, each-append, each_map, r_put, Filter, inst_next}
+use Rattle.proof_machines.proofs.net.Words.{ctrl_next, sw_next, in_next, begin_next, Msg, Carry_on, Pass_on, Fence_on, Mv, MoveAsked, Sys, IsSys, Ruling}
+use Rattle.proof_machines.proofs.net.Words.{first_rule, set_rule, hold, holding, drop_rule, to_ctrl, NumberedInstance, by_kind, by_rule, inst_step, Open}
+use Rattle.proof_machines.proofs.net.Words.{find_op, num_of, row, wrap, found, numbered, ctrl_step, sw_sends, new_op, begin_sends, World, EachSent, each_after}
+use Rattle.proof_machines.proofs.net.Words.{each_put, Below, IsBelow, Global, Answer, by_if}
 use Rattle.proof_machines.proofs.unit.Real as Real
-use Rattle.proof_machines.proofs.unit.Real.{RPiece, M_enable, M_stream, M_delete, M_put, M_restore, M_piece, M_forward, M_install, M_fence_to, Op}
-use Rattle.proof_machines.proofs.unit.Cuts.{marks, chop}
-use Rattle.proof_machines.proofs.unit.Labels.{Each, each-append, each_map}
-use Rattle.proof_machines.proofs.unit.SeenInst.{r_put}
-use Rattle.flow_filter.specs.declared.filter.Filter.{Filter}
-use Rattle.proof_machines.proofs.net.Net.{inst_next, ctrl_next, sw_next, in_next, begin_next, Msg, Carry_on, Pass_on, Fence_on, Mv, MoveAsked, Sys, IsSys}
-use Rattle.proof_machines.proofs.net.Net.{Ruling, first_rule, set_rule, hold, holding, drop_rule, to_ctrl, NumberedInstance, by_kind, by_rule, inst_step, Open}
-use Rattle.proof_machines.proofs.net.Net.{find_op, num_of, row, wrap, found, numbered, ctrl_step, sw_sends, new_op, begin_sends, World}
 use Rattle.proof_machines.proofs.net.RuleLists.{each-change, each_set}
-use Rattle.proof_machines.proofs.net.Holding.{EachSent}
-use Rattle.proof_machines.proofs.net.Links.{each_after, each_put}
 use Rattle.proof_machines.proofs.net.RowNumbers.{OfRow, SentOf, row_numbers}
 use Rattle.proof_machines.proofs.net.Ctrl.{each_write, each_found}
-use Rattle.proof_machines.proofs.net.Rest.{Below, IsBelow, Global}
 use Rattle.proof_machines.proofs.net.Units.{Where}
 use Rattle.nf_function.specs.declared.unit.Unit as units
-use Rattle.nf_msgs.specs.declared.answer.Answer.{Answer}
-use Rattle.proof_machines.proofs.Tests.{by_if}
 
 module _ {R : Type 0} (S : Sys R) (laws : IsSys S) where
   -- numbers of what an instance sends and of its rules

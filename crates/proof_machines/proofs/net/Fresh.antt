@@ -1,20 +1,14 @@
 -- Where an instance processes packets of a unit, its record of the unit is the fold of all that was done of it before.
-use Rattle.std.proofs.Common.{◌≡◌, ◌≢◌, ℕ, true, false, Option, Some, None, List, [], ◌∷◌, refl, sym, ap, ◌∙◌, subst}
-use Rattle.std.specs.Prelude.{◌==◌}
-use Rattle.proof_machines.proofs.unit.Machine.{At_a, At_b, Where as Side, Part, Inst, Did, sends as did_sends, inst_does, Item, State}
-use Rattle.proof_machines.proofs.unit.Lists.{firsts}
-use Rattle.proof_machines.proofs.unit.Pairs.{ShownBy, By_sa, By_sb, By_sc, By_ca, By_cb, By_ac, By_bc, By_cc, By_cs, shown_by}
-use Rattle.proof_machines.proofs.unit.Seats.{UnitSeat, seat_shape}
+use Rattle.proof_machines.proofs.net.Words.{◌≡◌, ◌≢◌, ℕ, true, false, Option, Some, None, List, [], ◌∷◌, refl, sym, ap, ◌∙◌, subst, ◌==◌, At_a, At_b, Part}
+use Rattle.proof_machines.proofs.net.Words.{Inst, Did, inst_does, Item, State, firsts, ShownBy, By_sa, By_sb, By_sc, By_ca, By_cb, By_ac, By_bc, By_cc, By_cs}
+use Rattle.proof_machines.proofs.net.Words.{shown_by, UnitSeat, seat_shape, items, Msg, Sys, IsSys, InstanceTurn, World, inst_step, seen, Seeing, sides_of}
+use Rattle.proof_machines.proofs.net.Words.{frame, SeesNode, node_at, Holds, none_mine, Answer}
+use Rattle.proof_machines.proofs.unit.Machine.{Where as Side, sends as did_sends}
 use Rattle.proof_machines.proofs.unit.Fresh.{still_ca, still_cb, still_ran}
-use Rattle.proof_machines.proofs.unit.NetViews.{items}
-use Rattle.proof_machines.proofs.net.Net.{Msg, Sys, IsSys, InstanceTurn, World, inst_step, seen}
-use Rattle.proof_machines.proofs.net.Holding.{Seeing, sides_of, frame, SeesNode, node_at, Holds}
 use Rattle.proof_machines.proofs.net.Insts.{InstanceGoes, does}
 use Rattle.proof_machines.proofs.net.InstMoves.{MovesInstance, Any, Streams_out, Puts_in}
 use Rattle.proof_machines.proofs.net.InstWorld.{num, label, step_at, here, is_src, is_dst, shown}
-use Rattle.proof_machines.proofs.net.Rest.{none_mine}
 use Rattle.proof_machines.proofs.net.RestingSeats.{same_mine}
-use Rattle.nf_msgs.specs.declared.answer.Answer.{Answer}
 
 falsely : false ≡ true → ⊥
 falsely e = cc

@@ -1,26 +1,16 @@
 -- What holds of the whole world for all units at once stays so when a move, a share or a copy begins, when a command goes out, and when an
 -- instance keeps records that stand by.
-use Rattle.std.proofs.Common.{◌≡◌, ℕ, suc, ◌<◌, ◌≤◌, Bool, true, false, Some, None, List, []}
-use Rattle.std.proofs.Common.{◌∷◌, ◌++◌, ◌⊎◌, inl, inr, length, refl, sym, ap, ◌∙◌, subst, arith}
-use Rattle.std.specs.Prelude.{if◌then◌else◌, ◌&&◌, ◌==◌}
-use Rattle.std.proofs.lemmas.Bool.Decides.{nat_tests, Decides-eqb}
-use Rattle.proof_machines.proofs.share.Lists.{self}
-use Rattle.proof_machines.proofs.unit.Labels.{Each, each-append, each_map}
-use Rattle.flow_filter.specs.declared.filter.Filter.{Filter}
-use Rattle.proof_machines.proofs.net.Net.{Asked, MoveAsked, Sys, IsSys, Open, find_op, new_op, meets_any, begin_sends, begin_next}
-use Rattle.proof_machines.proofs.net.Links.{each_put}
-use Rattle.proof_machines.proofs.net.Rest.{Below}
+use Rattle.proof_machines.proofs.net.Words.{◌≡◌, ℕ, suc, ◌<◌, ◌≤◌, Bool, true, false, Some, None, List, [], ◌∷◌, ◌++◌, ◌⊎◌, inl, inr, length, refl, sym, ap}
+use Rattle.proof_machines.proofs.net.Words.{◌∙◌, subst, arith, if◌then◌else◌, ◌&&◌, ◌==◌, nat_tests, Decides-eqb, self, Each, each-append, each_map, Filter}
+use Rattle.proof_machines.proofs.net.Words.{Asked, MoveAsked, Sys, IsSys, Open, find_op, new_op, meets_any, begin_sends, begin_next, each_put, Below, find_old}
+use Rattle.proof_machines.proofs.net.Words.{find_new, Numbered, Disjoint, disjoint_sym, OfShare, GlobalAll, same_shares, Any, Old, New, ShareMsg, S_asked}
+use Rattle.proof_machines.proofs.net.Words.{S_install, S_get, S_chunks, WantShare, olds, as_old, Sharing, OpenShare, new_share, find_share, WholeWorld}
+use Rattle.proof_machines.proofs.net.Words.{moves_of, asks, begin_move, begin_share, puts_get, keeps, meets_shares, MayShare, split}
 use Rattle.proof_machines.proofs.net.Every.{begin_global, global_more}
 use Rattle.proof_machines.proofs.net.AsMoves.{old_sends-old, olds-put, no_olds-put}
 use Rattle.proof_machines.proofs.net.NewMessages.{each_new_map, each_new_both, sent_old, new_put}
-use Rattle.proof_machines.proofs.net.ShareLists.{find_old, find_new}
-use Rattle.proof_machines.proofs.net.GlobalAll.{Numbered, Disjoint, disjoint_sym, OfShare, GlobalAll, same_shares}
 use Rattle.proof_machines.proofs.net.GlobalShares.{nums_more, not_yet, ops_not_yet, ops_old, of_share_more}
 use Rattle.proof_machines.proofs.net.GlobalSteps.{global_as}
-use Rattle.proof_machines.proofs.net.Shares.{Any, Any.Old, Any.New, ShareMsg, ShareMsg.S_asked, ShareMsg.S_install, ShareMsg.S_get, ShareMsg.S_chunks}
-use Rattle.proof_machines.proofs.net.Shares.{WantShare, olds, as_old, Sharing, OpenShare, new_share, find_share, WholeWorld, moves_of, asks, begin_move}
-use Rattle.proof_machines.proofs.net.Shares.{begin_share, puts_get, keeps, meets_shares, MayShare}
-use Rattle.proof_machines.proofs.Tests.{split}
 
 module _ {R : Type 0} (S : Sys R) (A : Sharing S) (laws : IsSys S) where
   -- filters that don't meet take no unit together

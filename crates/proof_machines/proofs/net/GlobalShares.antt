@@ -1,25 +1,15 @@
 -- What holds of all shares and of their messages stays when one of them changes, or another begins; and what a share's row sends is its own.
-use Rattle.std.proofs.Common.{◌≡◌, ℕ, ◌<◌, ◌≤◌, Bool, true, false, Option, Some, None, List, [], ◌∷◌, ◌++◌, length, refl, sym, ap, ◌∙◌, subst, arith}
-use Rattle.std.specs.Prelude.{if◌then◌else◌, ◌==◌}
-use Rattle.std.proofs.lemmas.Bool.Decides.{nat_tests}
-use Rattle.proof_machines.proofs.unit.Real.{Chunks}
-use Rattle.proof_machines.proofs.unit.Labels.{Each, each-append, each_any}
-use Rattle.proof_machines.proofs.share.Share.{Phase, has}
-use Rattle.flow_filter.specs.declared.filter.Filter.{Filter}
-use Rattle.proof_machines.proofs.net.Net.{Msg, Sys, Open, find_op, ctrl_step, num_of, numbered, found, row}
+use Rattle.proof_machines.proofs.net.Words.{◌≡◌, ℕ, ◌<◌, ◌≤◌, Bool, true, false, Option, Some, None, List, [], ◌∷◌, ◌++◌, length, refl, sym, ap, ◌∙◌, subst}
+use Rattle.proof_machines.proofs.net.Words.{arith, if◌then◌else◌, ◌==◌, nat_tests, Chunks, Each, each-append, each_any, Phase, has, Filter, Msg, Sys, Open}
+use Rattle.proof_machines.proofs.net.Words.{find_op, ctrl_step, num_of, numbered, found, row, SameShare, AreNumbersApart, find_set, set_find, find_more}
+use Rattle.proof_machines.proofs.net.Words.{find_old, Opened, Numbered, Within, TakesSome, OfShare, Any, Old, New, ShareMsg, Shared_on, Diverted_on, S_asked}
+use Rattle.proof_machines.proofs.net.Words.{S_install, S_forward, S_get, S_sync, S_chunks, S_shared, S_synced, same, Sharing, IsSharing, OpenShare, find_share}
+use Rattle.proof_machines.proofs.net.Words.{set_share, share_taking, Told, same_unit, same_unit-true, split, by_if}
 use Rattle.proof_machines.proofs.net.Net as net
 use Rattle.proof_machines.proofs.net.Ctrl.{each_write}
 use Rattle.proof_machines.proofs.net.NewMessages.{OnNew}
-use Rattle.proof_machines.proofs.net.ShareLists.{SameShare, AreNumbersApart, find_set, set_find, find_more, find_old}
 use Rattle.proof_machines.proofs.net.ShareRows.{Tells, ToldOf, SentBy, taking_each}
-use Rattle.proof_machines.proofs.net.GlobalAll.{Opened, Numbered, Within, TakesSome, OfShare}
-use Rattle.proof_machines.proofs.net.Shares.{Any, Any.Old, Any.New, ShareMsg, ShareMsg.Shared_on, ShareMsg.Diverted_on, ShareMsg.S_asked}
-use Rattle.proof_machines.proofs.net.Shares.{ShareMsg.S_install, ShareMsg.S_forward, ShareMsg.S_get, ShareMsg.S_sync, ShareMsg.S_chunks, ShareMsg.S_shared}
-use Rattle.proof_machines.proofs.net.Shares.{ShareMsg.S_synced, same, Sharing, IsSharing, OpenShare, find_share, set_share, share_taking, Told}
 use Rattle.nf_function.specs.declared.unit.Unit as units
-use Rattle.record_table.specs.Table.{same_unit}
-use Rattle.record_table.proofs.UnitOrder.{same_unit-true}
-use Rattle.proof_machines.proofs.Tests.{split, by_if}
 
 -- Lists of shares
 pub each_set_any : (P : OpenShare → Type 0) (n : ℕ) (ph : Phase) (q : List ℕ) → ((e : OpenShare) → P e → P (record e { phase = ph; queue = q }))

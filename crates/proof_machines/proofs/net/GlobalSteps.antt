@@ -1,29 +1,19 @@
 -- What holds of the whole world for all units at once stays so with each step of an instance, the controller and the switch, and with each
 -- packet of the input.
-use Rattle.std.proofs.Common.{◌≡◌, ℕ, ◌<◌, Bool, true, false, Option, Some, None, List, [], ◌∷◌, ◌++◌, ◌⊎◌, inl, inr, length, refl, sym, ap, ◌∙◌, subst}
-use Rattle.std.specs.Prelude.{if◌then◌else◌, ◌&&◌, ◌==◌, option_to_list}
-use Rattle.std.specs.Option.{option_map_or}
-use Rattle.std.proofs.lemmas.Bool.Decides.{Decides-eqb}
-use Rattle.proof_machines.proofs.unit.UnitPieces.{first}
-use Rattle.proof_machines.proofs.unit.Cuts.{record_first}
-use Rattle.proof_machines.proofs.unit.Labels.{Each, each_map}
-use Rattle.flow_filter.specs.declared.filter.Filter.{Filter}
-use Rattle.proof_machines.proofs.net.Net.{Msg, Carry_on, Sys, IsSys, process, inst_step, Open, find_op, sw_sends, World, inst_next, ctrl_next, sw_next, in_next}
-use Rattle.proof_machines.proofs.net.Holding.{EachSent}
-use Rattle.proof_machines.proofs.net.Links.{each_put}
-use Rattle.proof_machines.proofs.net.Rest.{Below, Global}
+use Rattle.proof_machines.proofs.net.Words.{◌≡◌, ℕ, ◌<◌, Bool, true, false, Option, Some, None, List, [], ◌∷◌, ◌++◌, ◌⊎◌, inl, inr, length, refl, sym, ap, ◌∙◌}
+use Rattle.proof_machines.proofs.net.Words.{subst, if◌then◌else◌, ◌&&◌, ◌==◌, option_to_list, option_map_or, Decides-eqb, first, record_first, Each, each_map}
+use Rattle.proof_machines.proofs.net.Words.{Filter, Msg, Carry_on, Sys, IsSys, process, inst_step, Open, find_op, sw_sends, World, inst_next, ctrl_next}
+use Rattle.proof_machines.proofs.net.Words.{sw_next, in_next, EachSent, each_put, Below, Global, AreNumbersApart, found_each, found_num, each_set_share}
+use Rattle.proof_machines.proofs.net.Words.{find_set, set_find, Opened, Numbered, Disjoint, Within, TakesSome, OfShare, GlobalAll, same_shares, Any, Old, New}
+use Rattle.proof_machines.proofs.net.Words.{ShareMsg, Shared_on, S_install, S_forward, S_get, S_sync, S_chunks, S_shared, olds, as_old, Sharing, IsSharing}
+use Rattle.proof_machines.proofs.net.Words.{OpenShare, find_share, set_share, Told, share_row, told_by, SharesStep, by_share, member_step, share_sends}
+use Rattle.proof_machines.proofs.net.Words.{arrive_sends, old_step, WholeWorld, moves_of, whole_inst, whole_ctrl, whole_switch, whole_input}
 use Rattle.proof_machines.proofs.net.Every.{inst_global, ctrl_global, switch_global, input_global}
 use Rattle.proof_machines.proofs.net.AsMoves.{old_sends, old_sends-old, olds-put, no_olds-put, olds-after}
 use Rattle.proof_machines.proofs.net.AsMoves.{news-after, no_olds-after, by_share_new, member_new, ctrl_links}
 use Rattle.proof_machines.proofs.net.NewMessages.{OnNew, EachSentNew, each_new_map, each_sent_map, sent_old, sent_old_and, new_after, new_put, new_head}
-use Rattle.proof_machines.proofs.net.ShareLists.{AreNumbersApart, found_each, found_num, each_set_share, find_set, set_find}
 use Rattle.proof_machines.proofs.net.ShareRows.{Tells, told_cases, SentBy, share_row_by}
-use Rattle.proof_machines.proofs.net.GlobalAll.{Opened, Numbered, Disjoint, Within, TakesSome, OfShare, GlobalAll, same_shares}
 use Rattle.proof_machines.proofs.net.GlobalShares.{each_set_any, nums_set, none_set, ctrl_each, ctrl_none, of_share_set, TakenBy, told_of, sent_of}
-use Rattle.proof_machines.proofs.net.Shares.{Any, Any.Old, Any.New, ShareMsg, ShareMsg.Shared_on, ShareMsg.S_install, ShareMsg.S_forward, ShareMsg.S_get}
-use Rattle.proof_machines.proofs.net.Shares.{ShareMsg.S_sync, ShareMsg.S_chunks, ShareMsg.S_shared, olds, as_old, Sharing, IsSharing, OpenShare, find_share}
-use Rattle.proof_machines.proofs.net.Shares.{set_share, Told, share_row, told_by, SharesStep, by_share, member_step, share_sends, arrive_sends, old_step}
-use Rattle.proof_machines.proofs.net.Shares.{WholeWorld, moves_of, whole_inst, whole_ctrl, whole_switch, whole_input}
 
 module _ {R : Type 0} (S : Sys R) (A : Sharing S) (laws : IsSys S) where
   -- over links that are the same

@@ -1,27 +1,17 @@
 -- An instance takes a message of a move: to a unit of that move it is the machine's row, to another unit nothing.
-use Rattle.std.proofs.Common.{◌≡◌, ℕ, Bool, true, false, Option, Some, None, List, [], ◌∷◌, map, length, refl, sym, ap, ◌∙◌, subst}
-use Rattle.std.specs.Prelude.{if◌then◌else◌, ◌&&◌, ◌==◌}
-use Rattle.std.proofs.lemmas.Bool.{eqb-true, both_ways}
-use Rattle.proof_machines.proofs.unit.Machine.{Where, At_a, At_b, joined, Rule, Part, Inst, Did, sends as did_sends, Item, Enable, Stream, Delete}
-use Rattle.proof_machines.proofs.unit.Machine.{Put, Restore, Forward, Fence_to, Install, Stray}
-use Rattle.proof_machines.proofs.unit.UnitPieces.{ArePiecesOf}
+use Rattle.proof_machines.proofs.net.Words.{◌≡◌, ℕ, Bool, true, false, Option, Some, None, List, [], ◌∷◌, map, length, refl, sym, ap, ◌∙◌, subst, if◌then◌else◌}
+use Rattle.proof_machines.proofs.net.Words.{◌&&◌, ◌==◌, eqb-true, both_ways, Where, At_a, At_b, Rule, Part, Inst, Did, Item, Enable, Stream, Delete, Put}
+use Rattle.proof_machines.proofs.net.Words.{Restore, Fence_to, ArePiecesOf, Chunks, record_at, RPiece, M_enable, M_stream, M_delete, M_put, M_restore}
+use Rattle.proof_machines.proofs.net.Words.{M_enabled, M_piece, M_forward, M_install, M_fence_to}
+use Rattle.proof_machines.proofs.net.Words.{Frame, where_true, see, sends_to, view, only_mine, Each, Without, cut_foreign, all_at, marks, chop, joined-chop}
+use Rattle.proof_machines.proofs.net.Words.{SeesInstance, r_stream, r_delete, r_restore, r_put, parts_of, stream_seen, delete_seen, restore_seen, put_seen}
+use Rattle.proof_machines.proofs.net.Words.{Filter, everything, Msg, Sys, IsSys, to_ctrl, NumberedInstance, InstanceTurn, says, with_table, on_move, is_free}
+use Rattle.proof_machines.proofs.net.Words.{held_of, Seeing, EachSent, frame, MoveLabel, Label, SeesNode, is_among, Answer, split}
+use Rattle.proof_machines.proofs.unit.Machine.{joined, sends as did_sends, Forward, Install, Stray}
 use Rattle.proof_machines.proofs.unit.Real as Real
-use Rattle.proof_machines.proofs.unit.Real.{Chunks, record_at, RPiece, M_enable, M_stream, M_delete, M_put, M_restore}
-use Rattle.proof_machines.proofs.unit.Real.{M_enabled, M_event, M_piece, M_deleted, M_put_ok, M_put_no, M_restored, M_fenced}
-use Rattle.proof_machines.proofs.unit.Real.{M_forward, M_install, M_fence_to, Frame, where_true, see, sends_to, view, only_mine}
-use Rattle.proof_machines.proofs.unit.Labels.{Each, Without, cut_foreign}
-use Rattle.proof_machines.proofs.unit.Cuts.{all_at, marks, chop, joined-chop}
-use Rattle.proof_machines.proofs.unit.SeenInst.{SeesInstance, r_stream, r_delete, r_restore, r_put, parts_of, stream_seen, delete_seen, restore_seen, put_seen}
-use Rattle.flow_filter.specs.declared.filter.Filter.{Filter}
-use Rattle.proof_machines.proofs.net.Net.{everything, Msg, Sys, IsSys, to_ctrl, NumberedInstance}
-use Rattle.proof_machines.proofs.net.Net.{InstanceTurn, says, with_table, on_move, is_free, held_of, seen}
-use Rattle.proof_machines.proofs.net.Holding.{Seeing, EachSent, frame, MoveLabel, Label, SeesNode}
 use Rattle.proof_machines.proofs.net.RuleLists.{find_set_other, set_own_rule, set_own_held}
 use Rattle.proof_machines.proofs.net.Insts.{InstanceGoes, does, ctrl_sends, ctrl_else, one_else, label_set}
 use Rattle.nf_function.specs.declared.unit.Unit as units
-use Rattle.record_table.specs.Table.{is_among}
-use Rattle.nf_msgs.specs.declared.answer.Answer.{Answer}
-use Rattle.proof_machines.proofs.Tests.{split}
 
 module _ {R : Type 0} (S : Sys R) (laws : IsSys S) (z : Seeing) (num : (z.op.num == z.op.num) ≡ true) (w : Where) (i : NumberedInstance S) (x : Inst R)
     (s : SeesNode S z i x) where

@@ -1,29 +1,19 @@
 -- An instance's step leads from a world that shows a seat to one that shows a seat, whatever it takes.
-use Rattle.std.proofs.Common.{◌≡◌, ◌≢◌, ℕ, Bool, true, false, Option, Some, None, List, [], ◌∷◌, ◌++◌, refl, sym, ap, ◌∙◌, subst, append-nil, arith}
-use Rattle.std.specs.Prelude.{if◌then◌else◌, ◌&&◌, ◌==◌}
-use Rattle.std.proofs.lemmas.Bool.Decides.{nat_tests, Decides-eqb}
-use Rattle.std.proofs.lemmas.Option.{same_Some}
-use Rattle.proof_machines.proofs.unit.Machine.{Where, At_a, At_b, At_c, Part, Inst, Did, sends as did_sends, inst_does, Item, Stream, Put}
-use Rattle.proof_machines.proofs.unit.Machine.{State, MachineStep, Take_sa, Take_sb, Take_sc, Take_ca, Take_cb, moved, put_a, put_b, put_c}
-use Rattle.proof_machines.proofs.unit.Lists.{firsts, firsts-append}
-use Rattle.proof_machines.proofs.unit.UnitPieces.{ArePiecesOf}
-use Rattle.proof_machines.proofs.unit.Stages.{shape, IsOrderedAs, Allowed, arrived_by}
-use Rattle.proof_machines.proofs.unit.Real.{add, sent_for}
-use Rattle.proof_machines.proofs.unit.Cuts.{some_parts}
-use Rattle.proof_machines.proofs.unit.Pairs.{expect, after_take, a_from_s, a_from_c, b_from_s, b_from_c, c_from_s, nothing_seen}
-use Rattle.proof_machines.proofs.unit.Pairs.{ShownBy, By_sa, By_sb, By_sc, By_ca, By_cb, By_ac, By_bc, By_cc, By_cs, shown_by}
-use Rattle.proof_machines.proofs.unit.Labels.{Each}
-use Rattle.proof_machines.proofs.unit.Seats.{UnitSeat, is_covered, seat_shape, seat_all, seat_loose, seat_goes_on, covered_stays, seat_allowed, base_of}
-use Rattle.proof_machines.proofs.unit.NetViews.{items}
-use Rattle.proof_machines.proofs.net.Net.{inst_next, Msg, In_packet, Asked, Carry_on, Pass_on, Fence_on, Mv, Sys, IsSys}
-use Rattle.proof_machines.proofs.net.Net.{NumberedInstance, InstanceTurn, inst_step, World, links_after, at_node, seen, find_op}
-use Rattle.proof_machines.proofs.net.Holding.{Seeing, sides_of, EachSent, frame, Label, SeesNode, shows, node_at, done_of, Holds, IsController}
+use Rattle.proof_machines.proofs.net.Words.{◌≡◌, ◌≢◌, ℕ, Bool, true, false, Option, Some, None, List, [], ◌∷◌, ◌++◌, refl, sym, ap, ◌∙◌, subst, append-nil}
+use Rattle.proof_machines.proofs.net.Words.{arith, if◌then◌else◌, ◌&&◌, ◌==◌, nat_tests, Decides-eqb, same_Some, Where, At_a, At_b, At_c, Part, Inst, Did}
+use Rattle.proof_machines.proofs.net.Words.{inst_does, Item, Stream, Put, State, MachineStep, Take_sa, Take_sb, Take_ca, Take_cb, moved, put_a, put_b, put_c}
+use Rattle.proof_machines.proofs.net.Words.{firsts, firsts-append, ArePiecesOf, IsOrderedAs, Allowed, arrived_by, add, sent_for, some_parts, expect, after_take}
+use Rattle.proof_machines.proofs.net.Words.{a_from_s, a_from_c, b_from_s, b_from_c, c_from_s, nothing_seen, ShownBy, By_sa, By_sb, By_sc, By_ca, By_cb, By_ac}
+use Rattle.proof_machines.proofs.net.Words.{By_bc, By_cc, By_cs, shown_by, Each, UnitSeat, is_covered, seat_shape, seat_all, seat_loose, seat_goes_on}
+use Rattle.proof_machines.proofs.net.Words.{covered_stays, seat_allowed, base_of, items, inst_next, Msg, In_packet, Asked, Carry_on, Pass_on, Fence_on, Mv, Sys}
+use Rattle.proof_machines.proofs.net.Words.{IsSys, NumberedInstance, InstanceTurn, inst_step, World, links_after, at_node, seen, find_op, Seeing, sides_of}
+use Rattle.proof_machines.proofs.net.Words.{EachSent, frame, Label, SeesNode, shows, node_at, done_of, Holds, IsController, sent, head, view_some, view_none}
+use Rattle.proof_machines.proofs.net.Words.{done_of-append, done_at, each_after, Answer, either_way, split}
+use Rattle.proof_machines.proofs.unit.Machine.{sends as did_sends, Take_sc}
+use Rattle.proof_machines.proofs.unit.Stages.{shape}
 use Rattle.proof_machines.proofs.net.Insts.{InstanceGoes, does, carry_goes, pass_goes, fence_goes}
 use Rattle.proof_machines.proofs.net.InstMoves.{MovesInstance, Any, Streams_out, Puts_in, move_goes}
-use Rattle.proof_machines.proofs.net.Links.{sent, head, view_some, view_none, done_of-append, done_at, each_after}
 use Rattle.proof_machines.proofs.net.OnLinks.{no_put, no_stream, ok_head, ca_kind, cb_kind}
-use Rattle.nf_msgs.specs.declared.answer.Answer.{Answer}
-use Rattle.proof_machines.proofs.Tests.{either_way, split}
 
 falsely : false ≡ true → ⊥
 falsely e = cc

@@ -1,25 +1,14 @@
 -- An instance takes a packet or a fence: one unit sees the machine's step of that side, or nothing.
-use Rattle.std.proofs.Common.{◌≡◌, ℕ, Bool, true, false, Option, Some, None, List, [], ◌∷◌, ◌++◌, map, refl, sym, ap, ◌∙◌, subst, append-nil}
-use Rattle.std.specs.Prelude.{if◌then◌else◌, ◌==◌, option_map}
-use Rattle.std.proofs.lemmas.Bool.{eqb-true}
-use Rattle.proof_machines.proofs.unit.Machine.{Where, on, runs, Rule, Free, Drops, Buffers, Part, Inst, Did}
-use Rattle.proof_machines.proofs.unit.Machine.{sends as did_sends, inst_does, carried, ran_one, Item, Carry, Pass, Fence}
-use Rattle.proof_machines.proofs.unit.Lists.{firsts, firsts-on}
+use Rattle.proof_machines.proofs.net.Words.{◌≡◌, ℕ, Bool, true, false, Option, Some, None, List, [], ◌∷◌, ◌++◌, map, refl, sym, ap, ◌∙◌, subst, append-nil}
+use Rattle.proof_machines.proofs.net.Words.{if◌then◌else◌, ◌==◌, option_map, eqb-true, Where, on, Rule, Free, Drops, Buffers, Part, Inst, Did, inst_does}
+use Rattle.proof_machines.proofs.net.Words.{carried, ran_one, Item, Pass, firsts, firsts-on, M_event, M_fenced, Frame, where_true, add, view, only_mine}
+use Rattle.proof_machines.proofs.net.Words.{sent_for, only_mine-append, Each, items, Filter, Carry_on, Pass_on, Fence_on, Sys, IsSys, Ruling, first_rule}
+use Rattle.proof_machines.proofs.net.Words.{find_rule, set_rule, hold, holding, drop_rule, rule_of, is_free, held_of, to_ctrl, NumberedInstance, InstanceTurn}
+use Rattle.proof_machines.proofs.net.Words.{process, process_all, runs_it, by_kind, by_rule, fenced, inst_step, seen, Seeing, EachSent, frame, Label, RuleLabel}
+use Rattle.proof_machines.proofs.net.Words.{SeesNode, same_unit, same_unit-true, Answer, either_way, split, by_if}
+use Rattle.proof_machines.proofs.unit.Machine.{runs, sends as did_sends, Carry, Fence}
 use Rattle.proof_machines.proofs.unit.Real as Real
-use Rattle.proof_machines.proofs.unit.Real.{M_event, M_fenced, Frame, where_true, add, view, only_mine, sent_for}
-use Rattle.proof_machines.proofs.unit.Seen.{only_mine-append}
-use Rattle.proof_machines.proofs.unit.Labels.{Each}
-use Rattle.proof_machines.proofs.unit.NetViews.{items}
-use Rattle.flow_filter.specs.declared.filter.Filter.{Filter}
-use Rattle.proof_machines.proofs.net.Net.{Carry_on, Pass_on, Fence_on, Sys, IsSys, Ruling, first_rule, find_rule, set_rule, hold}
-use Rattle.proof_machines.proofs.net.Net.{holding, drop_rule, rule_of, is_free, held_of, to_ctrl, NumberedInstance, InstanceTurn}
-use Rattle.proof_machines.proofs.net.Net.{process, process_all, runs_it, by_kind, by_rule, fenced, inst_step, seen}
 use Rattle.proof_machines.proofs.net.RuleLists.{each-change, each_set, find_hold_other, find_hold_own, hold_rule}
-use Rattle.proof_machines.proofs.net.Holding.{Seeing, EachSent, frame, Label, RuleLabel, SeesNode}
-use Rattle.record_table.specs.Table.{same_unit}
-use Rattle.record_table.proofs.UnitOrder.{same_unit-true}
-use Rattle.nf_msgs.specs.declared.answer.Answer.{Answer}
-use Rattle.proof_machines.proofs.Tests.{either_way, split, by_if}
 
 module _ {R : Type 0} (S : Sys R) (laws : IsSys S) (z : Seeing) (num : (z.op.num == z.op.num) ≡ true) where
   abbrev fr : Frame

@@ -1,26 +1,15 @@
 -- An instance takes a message of a move: a unit under a share sees at most a plain packet of it, or the share's fence (`moves_sees`).
-use Rattle.std.proofs.Common.{◌≡◌, ℕ, Bool, true, false, Option, Some, None, List, [], ◌∷◌, map, length, refl, sym, ap, ◌∙◌, subst, arith}
-use Rattle.std.specs.Prelude.{if◌then◌else◌, ◌==◌}
-use Rattle.std.proofs.lemmas.Bool.Decides.{nat_tests}
-use Rattle.proof_machines.proofs.unit.Machine.{Free, Drops, Buffers}
+use Rattle.proof_machines.proofs.net.Words.{◌≡◌, ℕ, Bool, true, false, Option, Some, None, List, [], ◌∷◌, map, length, refl, sym, ap, ◌∙◌, subst, arith}
+use Rattle.proof_machines.proofs.net.Words.{if◌then◌else◌, ◌==◌, nat_tests, Free, Drops, Buffers, RPiece, M_enable, M_stream, M_delete, M_put, M_restore}
+use Rattle.proof_machines.proofs.net.Words.{M_piece, M_fenced, M_install, M_fence_to, where_true, add, sent_for, marks, chop, r_put, Carry, Fence, Fenced}
+use Rattle.proof_machines.proofs.net.Words.{Stray, member_does, Filter, Msg, Carry_on, Pass_on, Fence_on, Mv, Sys, IsSys, Ruling, first_rule, to_ctrl}
+use Rattle.proof_machines.proofs.net.Words.{NumberedInstance, by_kind, by_rule, on_move, inst_step, EachSent, NothingOf, mine, unit_share, move_seen, old_seen}
+use Rattle.proof_machines.proofs.net.Words.{share_items, own_of, Old, as_old, Sharing, SeeingShare, Answer, split}
 use Rattle.proof_machines.proofs.unit.Real as Real
-use Rattle.proof_machines.proofs.unit.Real.{RPiece, M_enable, M_stream, M_delete, M_put, M_restore, M_piece}
-use Rattle.proof_machines.proofs.unit.Real.{M_fenced, M_install, M_fence_to, where_true, add, sent_for}
-use Rattle.proof_machines.proofs.unit.Cuts.{marks, chop}
-use Rattle.proof_machines.proofs.unit.SeenInst.{r_put}
 use Rattle.proof_machines.proofs.share.Share as share
-use Rattle.proof_machines.proofs.share.Share.{Item, Item.Carry, Item.Fence, Item.Fenced, Item.Stray, Did, member_does}
-use Rattle.flow_filter.specs.declared.filter.Filter.{Filter}
-use Rattle.proof_machines.proofs.net.Net.{Msg, Msg.Carry_on, Msg.Pass_on, Msg.Fence_on, Msg.Mv, Sys, IsSys}
-use Rattle.proof_machines.proofs.net.Net.{Ruling, first_rule, to_ctrl, NumberedInstance, by_kind, by_rule, on_move, inst_step}
-use Rattle.proof_machines.proofs.net.Holding.{EachSent}
-use Rattle.proof_machines.proofs.net.Rest.{NothingOf}
+use Rattle.proof_machines.proofs.share.Share.{Item, Did}
 use Rattle.proof_machines.proofs.net.UnderOld.{LeavesInstance, packet_in}
-use Rattle.proof_machines.proofs.net.ShareViews.{mine, unit_share, move_seen, old_seen, share_items, own_of}
 use Rattle.proof_machines.proofs.net.MemberSteps.{any_step, as_was, does, SeesMember, ran_at}
-use Rattle.proof_machines.proofs.net.Shares.{Any.Old, as_old, Sharing, SeeingShare}
-use Rattle.nf_msgs.specs.declared.answer.Answer.{Answer}
-use Rattle.proof_machines.proofs.Tests.{split}
 
 module _ {R : Type 0} (S : Sys R) (A : Sharing S) (z : SeeingShare) where
   -- sends of which the unit sees nothing

@@ -1,26 +1,15 @@
 -- A member takes any message: a unit under a share sees the step of the share's machine, or nothing (`member_sees`).
-use Rattle.std.proofs.Common.{◌≡◌, ℕ, Bool, true, false, Option, Some, None, List, [], ◌∷◌, refl, sym, ap, ◌∙◌, subst, arith}
-use Rattle.std.specs.Prelude.{if◌then◌else◌, ◌==◌, option_to_list}
-use Rattle.std.specs.Option.{option_map_or}
-use Rattle.std.proofs.lemmas.Bool.Decides.{nat_tests, Decides-eqb}
-use Rattle.std.proofs.lemmas.Bool.{both_ways}
+use Rattle.proof_machines.proofs.net.Words.{◌≡◌, ℕ, Bool, true, false, Option, Some, None, List, [], ◌∷◌, refl, sym, ap, ◌∙◌, subst, arith, if◌then◌else◌, ◌==◌}
+use Rattle.proof_machines.proofs.net.Words.{option_to_list, option_map_or, nat_tests, Decides-eqb, both_ways, record_at, where_true, add, sent_for, first}
+use Rattle.proof_machines.proofs.net.Words.{first_of_one, record_first, Shared, Diverted, Install, Forward, Get, Sync, Chunk, Synced, Stray, UnitShare}
+use Rattle.proof_machines.proofs.net.Words.{member_does, stepped, chunk_of, if_mine, over, Filter, Sys, IsSys, NumberedInstance, process, inst_step, at_node}
+use Rattle.proof_machines.proofs.net.Words.{none_mine, mine, unit_share, fit, new_seen, share_items, own_of, Any, Old, New, ShareMsg, Shared_on, Diverted_on}
+use Rattle.proof_machines.proofs.net.Words.{S_asked, S_install, S_forward, S_get, S_sync, S_chunks, S_shared, S_synced, same, as_old, Sharing, IsSharing}
+use Rattle.proof_machines.proofs.net.Words.{shared_chunk, MemberTurn, member_step, ran_of, SeeingShare, same_unit_equiv, same_unit-true, split}
 use Rattle.proof_machines.proofs.unit.Real as Real
-use Rattle.proof_machines.proofs.unit.Real.{record_at, where_true, add, sent_for}
-use Rattle.proof_machines.proofs.unit.UnitPieces.{first, first_of_one}
-use Rattle.proof_machines.proofs.unit.Cuts.{record_first}
-use Rattle.proof_machines.proofs.share.Share.{Item, Item.Shared, Item.Diverted, Item.Install, Item.Forward, Item.Get, Item.Sync, Item.Chunks}
-use Rattle.proof_machines.proofs.share.Share.{Item.Chunk, Item.Synced, Item.Stray, UnitShare, Did, member_does, stepped, chunk_of, if_mine, over}
+use Rattle.proof_machines.proofs.share.Share.{Item, Item.Chunks, Did}
 use Rattle.proof_machines.proofs.share.Share as share
-use Rattle.flow_filter.specs.declared.filter.Filter.{Filter}
-use Rattle.proof_machines.proofs.net.Net.{Sys, IsSys, NumberedInstance, process, inst_step, at_node}
-use Rattle.proof_machines.proofs.net.Rest.{none_mine}
-use Rattle.proof_machines.proofs.net.ShareViews.{mine, unit_share, fit, new_seen, share_items, own_of}
 use Rattle.proof_machines.proofs.net.ShareLabels.{ShareLabel}
-use Rattle.proof_machines.proofs.net.Shares.{Any, Any.Old, Any.New, ShareMsg, ShareMsg.Shared_on, ShareMsg.Diverted_on, ShareMsg.S_asked, ShareMsg.S_install}
-use Rattle.proof_machines.proofs.net.Shares.{ShareMsg.S_forward, ShareMsg.S_get, ShareMsg.S_sync, ShareMsg.S_chunks, ShareMsg.S_shared, ShareMsg.S_synced, same}
-use Rattle.proof_machines.proofs.net.Shares.{as_old, Sharing, IsSharing, shared_chunk, MemberTurn, member_step, ran_of, SeeingShare}
-use Rattle.record_table.proofs.UnitOrder.{same_unit_equiv, same_unit-true}
-use Rattle.proof_machines.proofs.Tests.{split}
 
 pub same_true : (b : Bool) → same true b ≡ true → b ≡ true
 same_true true e = refl

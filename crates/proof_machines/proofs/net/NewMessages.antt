@@ -1,12 +1,6 @@
 -- What holds of each message of a share on the links, after a step and where something is put on them.
-use Rattle.std.proofs.Common.{◌≡◌, ℕ, false, List, [], ◌∷◌, ◌++◌, subst}
-use Rattle.std.specs.Prelude.{if◌then◌else◌, ◌&&◌, ◌==◌}
-use Rattle.proof_machines.proofs.unit.Real.{sent_for}
-use Rattle.proof_machines.proofs.unit.Labels.{Each}
-use Rattle.proof_machines.proofs.net.Net.{Msg, links_after}
-use Rattle.proof_machines.proofs.net.Holding.{EachSent}
-use Rattle.proof_machines.proofs.net.Links.{each_after, each_put}
-use Rattle.proof_machines.proofs.net.Shares.{Any, Any.Old, Any.New, ShareMsg, EachNew, as_old}
+use Rattle.proof_machines.proofs.net.Words.{◌≡◌, ℕ, false, List, [], ◌∷◌, ◌++◌, subst, if◌then◌else◌, ◌&&◌, ◌==◌, sent_for, Each, Msg, links_after, EachSent}
+use Rattle.proof_machines.proofs.net.Words.{each_after, each_put, Any, Old, New, ShareMsg, EachNew, as_old}
 
 abbrev pub OnNew : {R : Type 0} → (ShareMsg R → Type 0) → Any R → Type 0
 OnNew P (Old m) = Unit {0}

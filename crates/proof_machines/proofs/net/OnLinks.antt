@@ -1,12 +1,10 @@
 -- What no link of a seat has: a Put to the source, a Stream to the destination, a Stray to the switch; and what an ended move has nowhere.
-use Rattle.std.proofs.Common.{◌≡◌, ℕ, Bool, true, false, List, [], ◌∷◌, ◌++◌, map, refl, sym, ap, ◌∙◌}
-use Rattle.std.specs.Prelude.{if◌then◌else◌}
-use Rattle.proof_machines.proofs.unit.Machine.{At_a, At_b, At_c, Steps, Part, Item, Stream, Put, Forward, Fence_to, Install, Stray, delete, next, State}
-use Rattle.proof_machines.proofs.unit.Stages.{Stage, Streams, Laying, Turned, Fenced_a, Ending_b, Turned_loose, Fenced_loose}
-use Rattle.proof_machines.proofs.unit.Stages.{Ending_loose, Returned, Doorway, Is_wide, puts_of, shape, to_a, to_b}
-use Rattle.proof_machines.proofs.unit.Seats.{UnitSeat, Covered, Is_beside, Is_away, seat_shape, seat_all}
-use Rattle.proof_machines.proofs.unit.Rests.{is_over}
-use Rattle.proof_machines.proofs.unit.Between.{AtRestNow, Rests_at, seat_ends}
+use Rattle.proof_machines.proofs.net.Words.{◌≡◌, ℕ, Bool, true, false, List, [], ◌∷◌, ◌++◌, map, refl, sym, ap, ◌∙◌, if◌then◌else◌, At_a, At_b, At_c, Steps}
+use Rattle.proof_machines.proofs.net.Words.{Part, Item, Stream, Put, Fence_to, delete, next, State, Streams, Laying, Turned, Fenced_a, Ending_b, Turned_loose}
+use Rattle.proof_machines.proofs.net.Words.{Fenced_loose, Ending_loose, Returned, Doorway, Is_wide, puts_of, to_a, to_b, UnitSeat, Covered, Is_beside, Is_away}
+use Rattle.proof_machines.proofs.net.Words.{seat_shape, seat_all, is_over, AtRestNow, Rests_at, seat_ends}
+use Rattle.proof_machines.proofs.unit.Machine.{Forward, Install, Stray}
+use Rattle.proof_machines.proofs.unit.Stages.{Stage, shape}
 
 abbrev pub all_ok : {X : Type 0} → (X → Bool) → List X → Bool
 all_ok f [] = true

@@ -1,15 +1,10 @@
 -- What the links of a share's stage have at their heads: who sends what to the controller, what the switch is sent, and that no packet waits
 -- where the share is idle.
-use Rattle.std.proofs.Common.{◌≡◌, ℕ, Bool, true, false, List, [], ◌∷◌, ◌++◌, map, sym, ap, subst, ◌∙◌, refl}
-use Rattle.std.specs.Prelude.{if◌then◌else◌, ◌==◌}
-use Rattle.std.proofs.lemmas.Bool.Decides.{Decides-eqb}
-use Rattle.proof_machines.proofs.share.Share.{Item, Item.Diverted, Item.Install, Item.Forward, Item.Fenced, Item.Chunks}
-use Rattle.proof_machines.proofs.share.Share.{Item.Chunk, Item.Synced, UnitShare, Phase, Phase.Fencing, Phase.Getting}
-use Rattle.proof_machines.proofs.share.Share.{Phase.Setting, Phase.Idle, Phase.Out, Phase.Syncing, only, chunk_of, if_mine, after}
-use Rattle.proof_machines.proofs.share.Stages.{Turn, Turn.Coming, comes_from, served, Stage, Stage.Diverting}
-use Rattle.proof_machines.proofs.share.Stages.{Stage.Fence_goes, Stage.Fenced_comes, Stage.Get_goes, Stage.Chunks_come}
-use Rattle.proof_machines.proofs.share.Stages.{Stage.Spreads, Stage.Resting, Stage.Forwards, Stage.Carries, Stage.Chunk_comes, shape}
-use Rattle.proof_machines.proofs.Tests.{split}
+use Rattle.proof_machines.proofs.net.Words.{◌≡◌, ℕ, Bool, true, false, List, [], ◌∷◌, ◌++◌, map, sym, ap, subst, ◌∙◌, refl, if◌then◌else◌, ◌==◌, Decides-eqb}
+use Rattle.proof_machines.proofs.net.Words.{Diverted, Install, Forward, Fenced, Chunk, Synced, UnitShare, Phase, Fencing, Getting, Setting, Idle, Out, Syncing}
+use Rattle.proof_machines.proofs.net.Words.{only, chunk_of, if_mine, Turn, Coming, comes_from, served, Stage, Diverting, Fence_goes, Fenced_comes, Get_goes}
+use Rattle.proof_machines.proofs.net.Words.{Chunks_come, Spreads, Resting, Forwards, Carries, Chunk_comes, shape, split}
+use Rattle.proof_machines.proofs.share.Share.{Item, Item.Chunks, after}
 
 -- the sender of an item to the controller, in a phase
 abbrev pub Sender : {R : Type 0} → UnitShare R → Phase → ℕ → Item R → Type 0

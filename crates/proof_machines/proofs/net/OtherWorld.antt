@@ -1,23 +1,16 @@
 -- The controller's step leads from a world that shows a seat to one that shows a seat; and what a node sends unseen leaves a world's
 -- views.
-use Rattle.std.proofs.Common.{◌≡◌, ◌≢◌, ℕ, ◌≤◌, Bool, true, false, Option, Some, None, List, [], ◌∷◌, ◌++◌, drop, refl, sym, ap, ◌∙◌, subst, arith}
-use Rattle.std.specs.Prelude.{if◌then◌else◌, ◌&&◌, ◌==◌}
-use Rattle.std.proofs.lemmas.Bool.Decides.{nat_tests, Decides-eqb}
-use Rattle.proof_machines.proofs.unit.Machine.{Item, State, ControllerTurn, goes, from_source, from_destination, Take_ac, Take_bc, moved, put_ctrl}
-use Rattle.proof_machines.proofs.unit.Real.{add, sent_for}
-use Rattle.proof_machines.proofs.unit.Pairs.{expect, after_take, ctrl_from_a, ctrl_from_b, nothing_seen, ShownBy}
-use Rattle.proof_machines.proofs.unit.Pairs.{By_sa, By_sb, By_sc, By_ca, By_cb, By_ac, By_bc, By_cc, By_cs, shown_by}
-use Rattle.proof_machines.proofs.unit.Labels.{Each}
-use Rattle.proof_machines.proofs.unit.Seats.{UnitSeat, seat_shape, seat_all, seat_loose}
-use Rattle.proof_machines.proofs.unit.NetViews.{items}
+use Rattle.proof_machines.proofs.net.Words.{◌≡◌, ◌≢◌, ℕ, ◌≤◌, Bool, true, false, Option, Some, None, List, [], ◌∷◌, ◌++◌, drop, refl, sym, ap, ◌∙◌, subst}
+use Rattle.proof_machines.proofs.net.Words.{arith, if◌then◌else◌, ◌&&◌, ◌==◌, nat_tests, Decides-eqb, Item, State, ControllerTurn, goes, from_source}
+use Rattle.proof_machines.proofs.net.Words.{from_destination, Take_ac, Take_bc, moved, put_ctrl, add, sent_for, expect, after_take, ctrl_from_a, ctrl_from_b}
+use Rattle.proof_machines.proofs.net.Words.{nothing_seen, ShownBy, By_sa, By_sb, By_sc, By_ca, By_cb, By_ac, By_bc, By_cc, By_cs, shown_by, Each, UnitSeat}
+use Rattle.proof_machines.proofs.net.Words.{seat_shape, seat_all, seat_loose, items, ctrl_next, Msg, Sys, IsSys, Open, find_op, ControllerMove, ctrl_step}
+use Rattle.proof_machines.proofs.net.Words.{World, links_after, seen, Seeing, sides_of, EachSent, frame, Label, shows, node_at, Holds, IsController, sent, head}
+use Rattle.proof_machines.proofs.net.Words.{view_some, view_none, view_put, each_after, each_put, either_way}
 use Rattle.proof_machines.proofs.unit.ToRemove.{third_silent}
-use Rattle.proof_machines.proofs.net.Net.{ctrl_next, Msg, Sys, IsSys, Open, find_op, ControllerMove, ctrl_step, World, links_after, seen}
-use Rattle.proof_machines.proofs.net.Holding.{Seeing, sides_of, EachSent, frame, Label, shows, node_at, Holds, IsController}
-use Rattle.proof_machines.proofs.net.Links.{sent, head, view_some, view_none, view_put, each_after, each_put}
 use Rattle.proof_machines.proofs.net.OnLinks.{over_quiet}
 use Rattle.proof_machines.proofs.net.InstWorld.{Goes_to, moves_on, same_order}
 use Rattle.proof_machines.proofs.net.CtrlUnit.{SeesController, ctrl_unit, mdid}
-use Rattle.proof_machines.proofs.Tests.{either_way}
 
 cons_nil : {X P : Type 0} {x : X} {xs ys : List X} → ys ≡ x ∷ xs → ys ≡ [] → P
 cons_nil e f = let never = sym f ∙ e in cc

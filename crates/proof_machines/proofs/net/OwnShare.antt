@@ -1,27 +1,16 @@
 -- A unit's own share takes what it is told: the unit sees what the share's machine does (`fenced_sees` to `packet_sees`).
-use Rattle.std.proofs.Common.{◌≡◌, ℕ, ◌-◌, ◌≤◌, Bool, true, false, Some, List, [], ◌∷◌, ◌++◌, length, refl, sym, ap, ◌∙◌, subst, append-nil, arith}
-use Rattle.std.specs.Prelude.{if◌then◌else◌, ◌==◌}
-use Rattle.std.proofs.lemmas.Bool.Decides.{nat_tests, Decides-eqb}
-use Rattle.std.proofs.lemmas.Cmp.{nat_eq_equiv}
-use Rattle.proof_machines.proofs.unit.Real.{record_at, where_true, add, sent_for}
+use Rattle.proof_machines.proofs.net.Words.{◌≡◌, ℕ, ◌-◌, ◌≤◌, Bool, true, false, Some, List, [], ◌∷◌, ◌++◌, length, refl, sym, ap, ◌∙◌, subst, append-nil}
+use Rattle.proof_machines.proofs.net.Words.{arith, if◌then◌else◌, ◌==◌, nat_tests, Decides-eqb, nat_eq_equiv, record_at, where_true, add, sent_for}
+use Rattle.proof_machines.proofs.net.Words.{items-append, sent_for-append, Forward, Get, Sync, Diverted, Fenced, Chunk, Synced, Stray, UnitShare, Phase}
+use Rattle.proof_machines.proofs.net.Words.{Fencing, Getting, Setting, Idle, Out, Syncing, has, without_number, only, nowhere, waits, serve, answers, sync_to}
+use Rattle.proof_machines.proofs.net.Words.{share_does, distinct, IsShare, self, has-without, apart_of, Sys, mine, unit_share, fit, share_seen, share_items}
+use Rattle.proof_machines.proofs.net.Words.{as_share, Any, New, S_forward, S_get, S_sync, same, Sharing, OpenShare, Told, Is_fenced, Has_chunks, Has_chunk}
+use Rattle.proof_machines.proofs.net.Words.{Is_synced, Has_packet, syncs, ShareTurn, s_goes, s_served, share_row, SeeingShare, split, false_from_ne_true}
 use Rattle.proof_machines.proofs.unit.Real as Real
-use Rattle.proof_machines.proofs.unit.NetViews.{items-append}
-use Rattle.proof_machines.proofs.unit.Seen.{sent_for-append}
-use Rattle.proof_machines.proofs.share.Share.{Item, Item.Forward, Item.Get, Item.Sync, Item.Diverted, Item.Fenced, Item.Chunks, Item.Chunk, Item.Synced}
-use Rattle.proof_machines.proofs.share.Share.{Item.Stray, UnitShare, Phase, Phase.Fencing, Phase.Getting, Phase.Setting, Phase.Idle, Phase.Out}
-use Rattle.proof_machines.proofs.share.Share.{Phase.Syncing, ControllerTurn, has, without_number, only, nowhere, waits, serve, answers, sync_to, share_does}
-use Rattle.proof_machines.proofs.share.Stages.{distinct, IsShare}
-use Rattle.proof_machines.proofs.share.Lists.{self, has-without, apart_of}
-use Rattle.proof_machines.proofs.net.Net.{Sys}
+use Rattle.proof_machines.proofs.share.Share.{Item, Item.Chunks, ControllerTurn}
 use Rattle.proof_machines.proofs.net.OnShareLinks.{Sender, IdleEmpty}
-use Rattle.proof_machines.proofs.net.ShareViews.{mine, unit_share, fit, share_seen, share_items, as_share}
 use Rattle.proof_machines.proofs.net.ShareLinks.{lone_view}
-use Rattle.proof_machines.proofs.net.Shares.{Any, Any.New, ShareMsg.S_forward, ShareMsg.S_get, ShareMsg.S_sync, same, Sharing}
-use Rattle.proof_machines.proofs.net.Shares.{OpenShare, Told, Told.Is_fenced, Told.Has_chunks, Told.Has_chunk, Told.Is_synced}
-use Rattle.proof_machines.proofs.net.Shares.{Told.Has_packet, syncs, ShareTurn, s_goes, s_served, share_row, SeeingShare}
 use Rattle.nf_function.specs.declared.unit.Unit as units
-use Rattle.proof_machines.proofs.Tests.{split}
-use Rattle.std.proofs.lemmas.Bool.{false_from_ne_true}
 
 -- the loop over the members: one message for each but one
 syncs_sent : {R : Type 0} (n home j k : ℕ) (cs : Real.Chunks R) (ms : List ℕ) → distinct ms ≡ true

@@ -1,18 +1,13 @@
 -- What is read off where a unit is: its done packets and those that wait are all that arrived, in order unless a move without a buffer
 -- took the unit; and its record is the fold of what was done, at one place.
-use Rattle.std.proofs.Common.{◌≡◌, ℕ, Bool, true, false, Option, Some, None, List, [], ◌∷◌, ◌++◌, refl, sym, ap, ◌∙◌, subst, append-nil}
-use Rattle.proof_machines.proofs.unit.Machine.{Ran, Steps, runs, after, State}
-use Rattle.proof_machines.proofs.unit.Lists.{firsts, firsts-append}
-use Rattle.proof_machines.proofs.unit.UnitPieces.{nil_left}
-use Rattle.proof_machines.proofs.unit.Stages.{times, Same, shape, path}
+use Rattle.proof_machines.proofs.net.Words.{◌≡◌, ℕ, Bool, true, false, Option, Some, None, List, [], ◌∷◌, ◌++◌, refl, sym, ap, ◌∙◌, subst, append-nil, Ran}
+use Rattle.proof_machines.proofs.net.Words.{Steps, after, State, firsts, firsts-append, nil_left, times, Same, Kept, lives, on_way, UnitSeat, Covered}
+use Rattle.proof_machines.proofs.net.Words.{Is_beside, Is_away, seat_shape, seat_all, seat_path, exactly, Sys, IsSys, World, Seeing, node_at, Holds, Global}
+use Rattle.proof_machines.proofs.net.Words.{done_u}
+use Rattle.proof_machines.proofs.unit.Machine.{runs}
+use Rattle.proof_machines.proofs.unit.Stages.{shape, path}
 use Rattle.proof_machines.proofs.unit.Ends.{same_of}
-use Rattle.proof_machines.proofs.unit.Kept.{Kept, lives, on_way}
-use Rattle.proof_machines.proofs.unit.Seats.{UnitSeat, Covered, Is_beside, Is_away, seat_shape, seat_all, seat_path}
 use Rattle.proof_machines.proofs.unit.SeatLaws.{seat_kept}
-use Rattle.proof_machines.proofs.unit.Rests.{exactly}
-use Rattle.proof_machines.proofs.net.Net.{Sys, IsSys, World}
-use Rattle.proof_machines.proofs.net.Holding.{Seeing, node_at, Holds}
-use Rattle.proof_machines.proofs.net.Rest.{Global, done_u}
 use Rattle.proof_machines.proofs.net.RestingSeats.{same_done}
 use Rattle.proof_machines.proofs.net.Units.{Where, Where.At_rest, Where.In_move, shown, see}
 use Rattle.nf_function.specs.declared.unit.Unit as units

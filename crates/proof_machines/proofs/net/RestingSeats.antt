@@ -1,26 +1,15 @@
 -- A world with a unit at rest shows a seat at rest, and a seat at rest whose move isn't open is a unit at rest.
-use Rattle.std.proofs.Common.{◌≡◌, ℕ, ◌≤◌, ◌<◌, Bool, true, false, Option, Some, None, List, [], ◌∷◌, map, refl, sym, ap, ◌∙◌, subst, unwrap_or, arith}
-use Rattle.std.specs.Prelude.{if◌then◌else◌, ◌&&◌, ◌==◌}
-use Rattle.std.proofs.lemmas.Bool.Decides.{nat_tests}
-use Rattle.proof_machines.proofs.unit.Machine.{Where, At_a, At_b, At_c, Ran, after, Free, idle, Item, Carry, Stray, Phase, Idle, Over}
-use Rattle.proof_machines.proofs.unit.Lists.{firsts}
+use Rattle.proof_machines.proofs.net.Words.{◌≡◌, ℕ, ◌≤◌, ◌<◌, Bool, true, false, Option, Some, None, List, [], ◌∷◌, map, refl, sym, ap, ◌∙◌, subst, unwrap_or}
+use Rattle.proof_machines.proofs.net.Words.{arith, if◌then◌else◌, ◌&&◌, ◌==◌, nat_tests, Where, At_a, At_b, At_c, Ran, after, Free, idle, Item, Over, firsts}
+use Rattle.proof_machines.proofs.net.Words.{M_enable, M_stream, M_delete, M_put, M_restore, M_event, M_piece, M_put_no}
+use Rattle.proof_machines.proofs.net.Words.{M_forward, M_install, M_fence_to, where_true, add, only_mine, off_if, none_if, NodesDiffer}
+use Rattle.proof_machines.proofs.net.Words.{Each, each_both, Nodes, expect, rest_at, items, Filter, Msg, In_packet, Asked, Carry_on, Pass_on, Fence_on, Mv, Sys}
+use Rattle.proof_machines.proofs.net.Words.{Ruling, find_rule, rule_of, is_free, held_of, Open, find_op, num_of, World, seen, Seeing, frame, MoveLabel, Label}
+use Rattle.proof_machines.proofs.net.Words.{RuleLabel, OpLabel, SeesNode, shows, node_at, place, IsController, done_of, Holds, same_unit, IsBelow, Below}
+use Rattle.proof_machines.proofs.net.Words.{below_off, Global, HasNothing, NothingOf, none_mine, RestRule, RestOp, carries_of, done_u, Rest, split}
+use Rattle.proof_machines.proofs.unit.Machine.{Carry, Stray, Phase, Idle}
 use Rattle.proof_machines.proofs.unit.Real as Real
-use Rattle.proof_machines.proofs.unit.Real.{M_enable, M_stream, M_delete, M_put, M_restore, M_enabled, M_event, M_piece, M_deleted, M_put_ok}
-use Rattle.proof_machines.proofs.unit.Real.{M_put_no, M_restored, M_fenced, M_forward, M_install, M_fence_to, where_true, add, only_mine, off_if, none_if}
-use Rattle.proof_machines.proofs.unit.Seen.{NodesDiffer}
-use Rattle.proof_machines.proofs.unit.Labels.{Each, each_both}
-use Rattle.proof_machines.proofs.unit.Pairs.{Nodes, expect}
-use Rattle.proof_machines.proofs.unit.Between.{rest_at}
-use Rattle.proof_machines.proofs.unit.NetViews.{items}
-use Rattle.flow_filter.specs.declared.filter.Filter.{Filter}
-use Rattle.proof_machines.proofs.net.Net.{Msg, In_packet, Asked, Carry_on, Pass_on, Fence_on, Mv, Sys, Ruling}
-use Rattle.proof_machines.proofs.net.Net.{find_rule, rule_of, is_free, held_of, Open, find_op, num_of, World, seen}
-use Rattle.proof_machines.proofs.net.Holding.{Seeing, frame, MoveLabel, Label, RuleLabel, OpLabel, SeesNode}
-use Rattle.proof_machines.proofs.net.Holding.{shows, node_at, place, IsController, done_of, Holds}
 use Rattle.nf_function.specs.declared.unit.Unit as units
-use Rattle.record_table.specs.Table.{same_unit}
-use Rattle.proof_machines.proofs.net.Rest.{IsBelow, Below, below_off, Global, HasNothing, NothingOf, none_mine, RestRule, RestOp, carries_of, done_u, Rest}
-use Rattle.proof_machines.proofs.Tests.{split}
 
 module _ {R : Type 0} (S : Sys R) (z : Seeing) where
   abbrev u : units.Unit

@@ -1,15 +1,11 @@
 -- What a move's row sends has that move's number, and is for an instance or the switch.
-use Rattle.std.proofs.Common.{◌≡◌, ℕ, true, false, Option, List, [], ◌∷◌, map, refl}
-use Rattle.std.specs.Prelude.{if◌then◌else◌, ◌==◌}
-use Rattle.nf_msgs.specs.declared.answer.Answer.{Answer}
+use Rattle.proof_machines.proofs.net.Words.{◌≡◌, ℕ, true, false, Option, List, [], ◌∷◌, map, refl, if◌then◌else◌, ◌==◌, Answer, RPiece, M_enable, M_stream}
+use Rattle.proof_machines.proofs.net.Words.{M_delete, M_put, M_restore, M_forward, M_install, M_fence_to, M_event, M_put_no, RPhase, Op, OperationTurn, r_goes}
+use Rattle.proof_machines.proofs.net.Words.{r_words, put_to, forward_to, sends_of, r_from_destination, Each, each-append, row_of, is_free, by_if}
 use Rattle.move_op.specs.Table.{Said, Nothing, Hold_at_source, Put, Hold_at_destination, Forward, Release, Give_back}
-use Rattle.proof_machines.proofs.unit.Real.{RPiece, Msg, M_enable, M_stream, M_delete, M_put, M_restore, M_forward, M_install, M_fence_to, M_event, M_put_no}
-use Rattle.proof_machines.proofs.unit.Real.{RPhase, Op, OperationTurn, r_goes, r_words, put_to, forward_to, sends_of, r_from_destination}
-use Rattle.proof_machines.proofs.unit.Labels.{Each, each-append}
+use Rattle.proof_machines.proofs.unit.Real.{Msg}
 use Rattle.proof_machines.proofs.unit.TableRows.{Hold, Any, any_each, any_phase}
 use Rattle.proof_machines.proofs.unit.RealRows.{Brings, BringsBack, from_source_holds, from_destination_holds}
-use Rattle.proof_machines.proofs.net.Net.{row_of, is_free}
-use Rattle.proof_machines.proofs.Tests.{by_if}
 
 abbrev pub OfRow : {R : Type 0} → Op → Msg R → Type 0
 OfRow o (M_enable n k) = (n ≡ o.num) × (is_free k ≡ false)
@@ -62,6 +58,7 @@ module _ {R : Type 0} (o : Op) where
 
   pub row_numbers : (phase : RPhase R) (f : List ℕ) (port : ℕ) (m : Msg R) → Each (SentOf o) (row_of o phase f port m).sends
   row_numbers phase f port m =
-      by_if (λ (r : OperationTurn R). Each (SentOf o) r.sends) (port == o.src) (from_source_holds (all_numbered f) (any_each f) phase (any_phase phase) m (brings m))
+      by_if (λ (r : OperationTurn R). Each (SentOf o) r.sends) (port == o.src)
+      (from_source_holds (all_numbered f) (any_each f) phase (any_phase phase) m (brings m))
       (elim (port == o.dst) as (λ b. Each (SentOf o) (if b then r_from_destination o phase f m else r_goes phase f []).sends)
       [ true ↦ from_destination_holds (all_numbered f) (any_each f) phase (any_phase phase) m (brings_back m) | false ↦ tt ])

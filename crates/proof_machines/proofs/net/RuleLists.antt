@@ -1,13 +1,7 @@
 -- Lists of rules: what a number finds after rules were changed, or one was put after them.
-use Rattle.std.proofs.Common.{◌≡◌, ℕ, true, false, Option, Some, None, List, [], ◌∷◌, ◌++◌, refl, sym, ap, ◌∙◌}
-use Rattle.std.specs.Prelude.{if◌then◌else◌, ◌==◌, option_map, is_some}
-use Rattle.std.proofs.lemmas.Bool.{eqb-true}
-use Rattle.flow_filter.specs.declared.filter.Filter.{Filter}
-use Rattle.proof_machines.proofs.unit.Machine.{Rule}
-use Rattle.proof_machines.proofs.unit.Labels.{Each, each-append}
-use Rattle.proof_machines.proofs.net.Net.{Ruling, find_rule, change_rules, has_rule, ruled_by, new_rule, holding, set_rule, hold, held_of, rule_of}
-use Rattle.proof_machines.proofs.unit.Lists.{none_is}
-use Rattle.proof_machines.proofs.Tests.{either_way, split, by_if}
+use Rattle.proof_machines.proofs.net.Words.{◌≡◌, ℕ, true, false, Option, Some, None, List, [], ◌∷◌, ◌++◌, refl, sym, ap, ◌∙◌, if◌then◌else◌, ◌==◌, option_map}
+use Rattle.proof_machines.proofs.net.Words.{is_some, eqb-true, Filter, Rule, Each, each-append, Ruling, find_rule, change_rules, has_rule, ruled_by, new_rule}
+use Rattle.proof_machines.proofs.net.Words.{holding, set_rule, hold, held_of, rule_of, none_is, either_way, split, by_if}
 
 abbrev pub KeepsNumber : (Ruling → Ruling) → Type 0
 KeepsNumber change = (r : Ruling) → (change r).num ≡ r.num

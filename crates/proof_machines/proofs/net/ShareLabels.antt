@@ -1,23 +1,12 @@
 -- What a unit under a share knows of a share's message: of its own share what the share is, of another's that it has nothing of the unit. It
 -- follows from what holds of all shares (`GlobalAll`).
-use Rattle.std.proofs.Common.{◌≡◌, ℕ, true, false, Some, None, List, [], ◌∷◌, refl, sym, ap, ◌∙◌, subst, arith}
-use Rattle.std.specs.Prelude.{if◌then◌else◌, ◌==◌}
-use Rattle.std.proofs.lemmas.Bool.Decides.{nat_tests, Decides-eqb}
-use Rattle.proof_machines.proofs.unit.Real.{record_at}
-use Rattle.proof_machines.proofs.unit.Labels.{Each, each_any}
-use Rattle.proof_machines.proofs.share.Share.{Phase, has}
-use Rattle.proof_machines.proofs.net.Net.{Sys}
-use Rattle.proof_machines.proofs.net.ShareLists.{found_each}
+use Rattle.proof_machines.proofs.net.Words.{◌≡◌, ℕ, true, false, Some, None, List, [], ◌∷◌, refl, sym, ap, ◌∙◌, subst, arith, if◌then◌else◌, ◌==◌, nat_tests}
+use Rattle.proof_machines.proofs.net.Words.{Decides-eqb, record_at, Each, each_any, Phase, has, Sys, found_each, Disjoint, OfShare, GlobalAll, mine, as_share}
+use Rattle.proof_machines.proofs.net.Words.{ShareMsg, Shared_on, Diverted_on, S_asked, S_install, S_forward, S_get, S_sync, S_chunks, S_shared, S_synced, same}
+use Rattle.proof_machines.proofs.net.Words.{Sharing, OpenShare, find_share, share_taking, WholeWorld, SeeingShare, same_unit-true, either_way, split}
+use Rattle.proof_machines.proofs.net.Words.{false_from_ne_true}
 use Rattle.proof_machines.proofs.net.ShareRows.{taking_each, taking_found}
-use Rattle.proof_machines.proofs.net.GlobalAll.{Disjoint, OfShare, GlobalAll}
-use Rattle.proof_machines.proofs.net.ShareViews.{mine, as_share}
-use Rattle.proof_machines.proofs.net.Shares.{ShareMsg, ShareMsg.Shared_on, ShareMsg.Diverted_on, ShareMsg.S_asked, ShareMsg.S_install}
-use Rattle.proof_machines.proofs.net.Shares.{ShareMsg.S_forward, ShareMsg.S_get, ShareMsg.S_sync, ShareMsg.S_chunks, ShareMsg.S_shared}
-use Rattle.proof_machines.proofs.net.Shares.{ShareMsg.S_synced, same, Sharing, OpenShare, find_share, share_taking, WholeWorld, SeeingShare}
 use Rattle.nf_function.specs.declared.unit.Unit as units
-use Rattle.record_table.proofs.UnitOrder.{same_unit-true}
-use Rattle.proof_machines.proofs.Tests.{either_way, split}
-use Rattle.std.proofs.lemmas.Bool.{false_from_ne_true}
 
 module _ {R : Type 0} (S : Sys R) (A : Sharing S) (z : SeeingShare) where
   -- on a link to node r

@@ -1,18 +1,10 @@
 -- What a unit under a share sees of all links after a step, against the links of its view after a move of the share's machine. And a view that
 -- agrees with one that is shown is shown.
-use Rattle.std.proofs.Common.{◌≡◌, ℕ, Bool, true, false, Some, None, List, [], ◌∷◌, ◌++◌, refl, sym, ap, ◌∙◌, append-nil, arith}
-use Rattle.std.specs.Prelude.{if◌then◌else◌, ◌&&◌, ◌==◌}
-use Rattle.std.proofs.lemmas.Bool.Decides.{nat_tests}
-use Rattle.proof_machines.proofs.unit.Real.{add, sent_for}
-use Rattle.proof_machines.proofs.unit.NetViews.{items-append}
-use Rattle.proof_machines.proofs.share.Share.{Item, View, ShareMachineStep, moved, put, joined, only}
-use Rattle.proof_machines.proofs.share.Stages.{brings, Alike}
-use Rattle.proof_machines.proofs.share.Lists.{cond-same}
-use Rattle.proof_machines.proofs.net.Net.{Sys, behind, links_after}
-use Rattle.proof_machines.proofs.net.ShareViews.{share_expect, unit_share, share_seen, share_items, as_share, ShareHolds}
-use Rattle.proof_machines.proofs.net.Shares.{Any, Sharing, WholeWorld, ran_of, SeeingShare}
-use Rattle.record_table.specs.Table.{same_unit}
-use Rattle.proof_machines.proofs.Tests.{split}
+use Rattle.proof_machines.proofs.net.Words.{◌≡◌, ℕ, Bool, true, false, Some, None, List, [], ◌∷◌, ◌++◌, refl, sym, ap, ◌∙◌, append-nil, arith, if◌then◌else◌}
+use Rattle.proof_machines.proofs.net.Words.{◌&&◌, ◌==◌, nat_tests, add, sent_for, items-append, View, ShareMachineStep, put, joined, only, brings, Alike}
+use Rattle.proof_machines.proofs.net.Words.{cond-same, Sys, behind, links_after, share_expect, unit_share, share_seen, share_items, as_share, ShareHolds, Any}
+use Rattle.proof_machines.proofs.net.Words.{Sharing, WholeWorld, ran_of, SeeingShare, same_unit, split}
+use Rattle.proof_machines.proofs.share.Share.{Item, moved}
 
 module _ {R : Type 0} (x : View R) where
   -- Of each link that may be taken

@@ -1,21 +1,11 @@
 -- What an open share is told by a message, and that its row keeps and sends nothing but what it was told.
-use Rattle.std.proofs.Common.{◌≡◌, ℕ, true, false, Option, Some, None, List, [], ◌∷◌, refl, subst}
-use Rattle.std.specs.Prelude.{if◌then◌else◌, ◌==◌, option_map}
-use Rattle.proof_machines.proofs.unit.Real.{Chunks, M_fenced}
-use Rattle.proof_machines.proofs.unit.Labels.{Each, each-append}
-use Rattle.proof_machines.proofs.share.Share.{Phase, Phase.Fencing, Phase.Getting, Phase.Setting, Phase.Idle, Phase.Out, Phase.Syncing}
-use Rattle.proof_machines.proofs.share.Lists.{self}
-use Rattle.proof_machines.proofs.net.Net.{Msg.Mv, Sys}
-use Rattle.proof_machines.proofs.net.Holding.{EachSent}
+use Rattle.proof_machines.proofs.net.Words.{◌≡◌, ℕ, true, false, Option, Some, None, List, [], ◌∷◌, refl, subst, if◌then◌else◌, ◌==◌, option_map, Chunks}
+use Rattle.proof_machines.proofs.net.Words.{M_fenced, Each, each-append, Phase, Fencing, Getting, Setting, Idle, Out, Syncing, self, Mv, Sys, EachSent}
+use Rattle.proof_machines.proofs.net.Words.{AreNumbersApart, found_own, Any, Old, New, Diverted_on, S_forward, S_get, S_sync, S_chunks, S_shared, S_synced}
+use Rattle.proof_machines.proofs.net.Words.{Sharing, OpenShare, find_share, share_taking, Told, Is_fenced, Has_chunks, Has_chunk, Is_synced, Has_packet, syncs}
+use Rattle.proof_machines.proofs.net.Words.{ShareTurn, s_row, s_served, share_row, told_by, SharesStep, by_share, split, by_if}
 use Rattle.proof_machines.proofs.net.NewMessages.{each_sent_append}
-use Rattle.proof_machines.proofs.net.ShareLists.{AreNumbersApart, found_own}
-use Rattle.proof_machines.proofs.net.Shares.{Any, Any.Old, Any.New, ShareMsg.Diverted_on}
-use Rattle.proof_machines.proofs.net.Shares.{ShareMsg.S_forward, ShareMsg.S_get, ShareMsg.S_sync, ShareMsg.S_chunks}
-use Rattle.proof_machines.proofs.net.Shares.{ShareMsg.S_shared, ShareMsg.S_synced, Sharing, OpenShare, find_share, share_taking, Told}
-use Rattle.proof_machines.proofs.net.Shares.{Told.Is_fenced, Told.Has_chunks, Told.Has_chunk, Told.Is_synced, Told.Has_packet, syncs}
-use Rattle.proof_machines.proofs.net.Shares.{ShareTurn, s_row, s_served, share_row, told_by, SharesStep, by_share}
 use Rattle.nf_function.specs.declared.unit.Unit as units
-use Rattle.proof_machines.proofs.Tests.{split, by_if}
 
 module _ {R : Type 0} (S : Sys R) (A : Sharing S) where
   -- the share that takes a unit is found by its number

@@ -1,36 +1,23 @@
 -- The controller takes any message: a unit under a share sees of its own share what the share's machine does, of another share nothing
 -- (`share_sees`), and of a move nothing.
-use Rattle.std.proofs.Common.{◌≡◌, ℕ, ◌≤◌, Bool, true, false, Option, Some, None, List, [], ◌∷◌, ◌⊎◌, inl, inr, refl, sym, ap, ◌∙◌, subst, arith}
-use Rattle.std.specs.Prelude.{if◌then◌else◌, ◌==◌, option_map}
-use Rattle.std.proofs.lemmas.Bool.Decides.{nat_tests, Decides-eqb}
+use Rattle.proof_machines.proofs.net.Words.{◌≡◌, ℕ, ◌≤◌, Bool, true, false, Option, Some, None, List, [], ◌∷◌, ◌⊎◌, inl, inr, refl, sym, ap, ◌∙◌, subst, arith}
+use Rattle.proof_machines.proofs.net.Words.{if◌then◌else◌, ◌==◌, option_map, nat_tests, Decides-eqb, record_at, M_fenced, M_install, M_fence_to, Op, where_true}
+use Rattle.proof_machines.proofs.net.Words.{add, sent_for, Each, Carry, Fence, Shared, Diverted, Install, Forward, Get, Sync, Fenced, Chunk, Synced, Stray}
+use Rattle.proof_machines.proofs.net.Words.{UnitShare, Phase, has, waits, share_does, IsShare, Filter, In_packet, Carry_on, Pass_on, Fence_on, Mv, Sys, Open}
+use Rattle.proof_machines.proofs.net.Words.{find_op, row, filter_for, wrap, found, numbered, num_of, EachSent, found_num, GlobalAll, mine, unit_share, fit}
+use Rattle.proof_machines.proofs.net.Words.{move_seen, old_seen, new_seen, share_seen, share_items, as_share, Any, Old, New, Shared_on, Diverted_on, S_install}
+use Rattle.proof_machines.proofs.net.Words.{S_forward, S_get, S_sync, S_chunks, S_shared, S_synced, same, Sharing, OpenShare, find_share, set_share}
+use Rattle.proof_machines.proofs.net.Words.{share_taking, Told, Is_fenced, Has_chunks, Has_chunk, Is_synced, Has_packet, share_row, told_by, SharesStep}
+use Rattle.proof_machines.proofs.net.Words.{by_share, WholeWorld, old_step, SeeingShare, same_unit-true, split, false_from_ne_true}
 use Rattle.proof_machines.proofs.unit.Real as Real
-use Rattle.proof_machines.proofs.unit.Real.{record_at, M_fenced, M_install, M_fence_to, Op, where_true, add, sent_for}
-use Rattle.proof_machines.proofs.unit.Labels.{Each}
-use Rattle.proof_machines.proofs.share.Share.{Item, Item.Carry, Item.Fence, Item.Shared, Item.Diverted, Item.Install}
-use Rattle.proof_machines.proofs.share.Share.{Item.Forward, Item.Get, Item.Sync, Item.Fenced, Item.Chunks, Item.Chunk}
-use Rattle.proof_machines.proofs.share.Share.{Item.Synced, Item.Stray, UnitShare, Phase, ControllerTurn, has, waits, share_does}
-use Rattle.proof_machines.proofs.share.Stages.{IsShare}
-use Rattle.flow_filter.specs.declared.filter.Filter.{Filter}
-use Rattle.proof_machines.proofs.net.Net.{Msg.In_packet, Msg.Carry_on, Msg.Pass_on, Msg.Fence_on, Msg.Mv}
-use Rattle.proof_machines.proofs.net.Net.{Sys, Open, find_op, row, filter_for, wrap, found, numbered, num_of}
-use Rattle.proof_machines.proofs.net.Holding.{EachSent}
+use Rattle.proof_machines.proofs.share.Share.{Item, Item.Chunks, ControllerTurn}
 use Rattle.proof_machines.proofs.net.Ctrl.{each_found}
 use Rattle.proof_machines.proofs.net.RowNumbers.{OfRow, SentOf, row_numbers}
-use Rattle.proof_machines.proofs.net.ShareLists.{found_num}
 use Rattle.proof_machines.proofs.net.ShareRows.{ToldOf, SentBy, share_row_by, taking_found}
-use Rattle.proof_machines.proofs.net.GlobalAll.{GlobalAll}
 use Rattle.proof_machines.proofs.net.OnShareLinks.{Sender, IdleEmpty}
-use Rattle.proof_machines.proofs.net.ShareViews.{mine, unit_share, fit, move_seen, old_seen, new_seen, share_seen, share_items, as_share}
 use Rattle.proof_machines.proofs.net.ShareLabels.{taking_own, taking_other, queue_other}
 use Rattle.proof_machines.proofs.net.MemberMoves.{Unseen}
 use Rattle.proof_machines.proofs.net.OwnShare.{SeesRow, fenced_sees, chunks_sees, chunk_sees, synced_sees, packet_sees}
-use Rattle.proof_machines.proofs.net.Shares.{Any, Any.Old, Any.New, ShareMsg.Shared_on, ShareMsg.Diverted_on, ShareMsg.S_install, ShareMsg.S_forward}
-use Rattle.proof_machines.proofs.net.Shares.{ShareMsg.S_get, ShareMsg.S_sync, ShareMsg.S_chunks, ShareMsg.S_shared, ShareMsg.S_synced, same, Sharing, OpenShare}
-use Rattle.proof_machines.proofs.net.Shares.{find_share, set_share, share_taking, Told, Told.Is_fenced, Told.Has_chunks, Told.Has_chunk, Told.Is_synced}
-use Rattle.proof_machines.proofs.net.Shares.{Told.Has_packet, share_row, told_by, SharesStep, by_share, WholeWorld, old_step, SeeingShare}
-use Rattle.record_table.proofs.UnitOrder.{same_unit-true}
-use Rattle.proof_machines.proofs.Tests.{split}
-use Rattle.std.proofs.lemmas.Bool.{false_from_ne_true}
 
 pub found_set : (n : ℕ) (ph : Phase) (q : List ℕ) (es : List OpenShare) (e : OpenShare) → find_share es n ≡ Some e
     → find_share (set_share n ph q es) n ≡ Some (record e { phase = ph; queue = q })

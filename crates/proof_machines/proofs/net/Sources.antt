@@ -1,23 +1,16 @@
 -- A unit whose move hasn't changed the rules yet: its packets are processed at the move's source, if that owns it, and no change of the
 -- rules that waits takes it.
-use Rattle.std.proofs.Common.{◌≡◌, ◌≢◌, ℕ, Bool, true, false, Some, None, List, [], ◌∷◌, ◌++◌, map, refl, sym, ap, ◌∙◌, subst}
-use Rattle.std.specs.Prelude.{if◌then◌else◌, ◌==◌, ◌&&◌}
-use Rattle.std.proofs.lemmas.Bool.Decides.{Decides-eqb}
-use Rattle.proof_machines.proofs.unit.Machine.{At_a, Steps, Item, Fence_to, Install, Stray, Phase, Passing, Ending, Over, State, Ended}
-use Rattle.proof_machines.proofs.unit.Real.{M_install, RPhase, Op, Frame, see_phase, where_true, add}
+use Rattle.proof_machines.proofs.net.Words.{◌≡◌, ◌≢◌, ℕ, Bool, true, false, Some, None, List, [], ◌∷◌, ◌++◌, map, refl, sym, ap, ◌∙◌, subst, if◌then◌else◌}
+use Rattle.proof_machines.proofs.net.Words.{◌==◌, ◌&&◌, Decides-eqb, At_a, Steps, Item, Fence_to, Passing, Ending, Over, State, Ended, M_install, RPhase, Op}
+use Rattle.proof_machines.proofs.net.Words.{Frame, see_phase, where_true, add, Laying, Turned, Fenced_a, Ending_b, Fence_b, Turned_loose, Fenced_loose}
+use Rattle.proof_machines.proofs.net.Words.{Ending_loose, Fence_loose, Fenced_b, Moved, Returned, to_a, Each, UnitSeat, Covered, Is_beside, Is_away, seat_shape}
+use Rattle.proof_machines.proofs.net.Words.{items, never_true, cons_nil, Filter, Msg, Mv, Sys, IsSys, Open, World, find_op, inst_step, seen, frame, Label}
+use Rattle.proof_machines.proofs.net.Words.{IsController, OpLabel, Holds, RestOp, none_mine}
+use Rattle.proof_machines.proofs.unit.Machine.{Install, Stray, Phase}
 use Rattle.move_op.specs.Phases.{Freezing}
-use Rattle.proof_machines.proofs.unit.Stages.{Stage, Laying, Turned, Fenced_a, Ending_b, Fence_b, Turned_loose, Fenced_loose}
-use Rattle.proof_machines.proofs.unit.Stages.{Ending_loose, Fence_loose, Fenced_b, Moved, Returned, shape, to_a}
-use Rattle.proof_machines.proofs.unit.Labels.{Each}
-use Rattle.proof_machines.proofs.unit.Seats.{UnitSeat, Covered, Is_beside, Is_away, seat_shape}
-use Rattle.proof_machines.proofs.unit.NetViews.{items}
-use Rattle.proof_machines.proofs.unit.Lists.{never_true, cons_nil}
-use Rattle.flow_filter.specs.declared.filter.Filter.{Filter}
-use Rattle.proof_machines.proofs.net.Net.{Msg, Mv, Sys, IsSys, Open, World, find_op, inst_step, seen}
-use Rattle.proof_machines.proofs.net.Holding.{frame, Label, IsController, OpLabel, Holds}
+use Rattle.proof_machines.proofs.unit.Stages.{Stage, shape}
 use Rattle.proof_machines.proofs.net.Ctrl.{each_found}
 use Rattle.proof_machines.proofs.net.Fresh.{From_switch, From_switch.From_sa, From_switch.From_sb, From_switch.From_sc, comes_from_switch}
-use Rattle.proof_machines.proofs.net.Rest.{RestOp, none_mine}
 use Rattle.proof_machines.proofs.net.Units.{Where, Where.At_rest, Where.In_move, see}
 use Rattle.nf_function.specs.declared.unit.Unit as units
 

@@ -1,22 +1,13 @@
 -- What a move stored has gone on before its last fence: then nothing is stored for it.
-use Rattle.std.proofs.Common.{◌≡◌, ℕ, Bool, true, false, Some, List, [], ◌∷◌, refl, sym, ap, ◌∙◌, subst}
-use Rattle.std.specs.Prelude.{if◌then◌else◌, ◌==◌}
-use Rattle.std.proofs.lemmas.Bool.Decides.{Decides-eqb}
-use Rattle.proof_machines.proofs.unit.Real.{RPhase, Frame, see_phase}
-use Rattle.move_op.specs.Phases.{Ending, Undoing}
-use Rattle.proof_machines.proofs.unit.Seats.{seat_shape}
+use Rattle.proof_machines.proofs.net.Words.{◌≡◌, ℕ, Bool, true, false, Some, List, [], ◌∷◌, refl, sym, ap, ◌∙◌, subst, if◌then◌else◌, ◌==◌, Decides-eqb, RPhase}
+use Rattle.proof_machines.proofs.net.Words.{Frame, see_phase, Undoing, seat_shape, cons_nil, Sys, IsSys, Open, find_op, World, frame, OpLabel, IsController}
+use Rattle.proof_machines.proofs.net.Words.{none_mine, Global, same_unit, same_unit_equiv, either_way}
+use Rattle.move_op.specs.Phases.{Ending}
 use Rattle.proof_machines.proofs.unit.Sides.{is_released, seat_stands}
-use Rattle.proof_machines.proofs.unit.Lists.{cons_nil}
-use Rattle.proof_machines.proofs.net.Net.{Sys, IsSys, Open, find_op, World}
-use Rattle.proof_machines.proofs.net.Holding.{frame, OpLabel, IsController}
 use Rattle.proof_machines.proofs.net.Ctrl.{each_found}
-use Rattle.proof_machines.proofs.net.Rest.{none_mine, Global}
 use Rattle.proof_machines.proofs.net.RestingSeats.{same_mine}
 use Rattle.proof_machines.proofs.net.Units.{Where, shown, see as seeing}
 use Rattle.nf_function.specs.declared.unit.Unit as units
-use Rattle.record_table.specs.Table.{same_unit}
-use Rattle.record_table.proofs.UnitOrder.{same_unit_equiv}
-use Rattle.proof_machines.proofs.Tests.{either_way}
 
 -- the last fence is awaited
 abbrev pub ends : {R : Type 0} → RPhase R → Bool

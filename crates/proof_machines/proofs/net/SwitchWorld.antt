@@ -1,28 +1,16 @@
 -- The switch's step, and a packet of the input, lead from a world that shows a seat to one that shows a seat.
-use Rattle.std.proofs.Common.{◌≡◌, ◌≢◌, ℕ, ◌≤◌, Bool, true, false, Option, Some, None, List, [], ◌∷◌, ◌++◌, drop, refl, sym, ap, ◌∙◌, subst, append-nil, arith}
-use Rattle.std.specs.Prelude.{if◌then◌else◌, ◌&&◌, ◌==◌}
-use Rattle.std.proofs.lemmas.Bool.Decides.{nat_tests, Decides-eqb}
-use Rattle.std.proofs.lemmas.Bool.{and_parts}
-use Rattle.proof_machines.proofs.unit.Machine.{Where, At_a, At_b, At_c, Item, Carry, Pass, Fence, Forward, Fence_to, Install}
-use Rattle.proof_machines.proofs.unit.Machine.{Stray, State, Arrive, Take_cs, moved, switch_does, redirected, send_to}
-use Rattle.proof_machines.proofs.unit.Real.{M_forward, M_install, M_fence_to, where_true, add}
-use Rattle.proof_machines.proofs.unit.Pairs.{Nodes, expect, after_take, switch_from_c, nothing_seen, arrives_at}
-use Rattle.proof_machines.proofs.unit.Pairs.{By_sa, By_sb, By_sc, By_ca, By_cb, By_ac, By_bc, By_cc, By_cs, shown_by}
-use Rattle.proof_machines.proofs.unit.Labels.{Each}
-use Rattle.proof_machines.proofs.unit.Seats.{UnitSeat, seat_shape, seat_all, seat_loose}
-use Rattle.proof_machines.proofs.unit.NetViews.{items}
-use Rattle.proof_machines.proofs.unit.Lists.{never_true}
-use Rattle.flow_filter.specs.declared.filter.Filter.{Filter}
-use Rattle.proof_machines.proofs.net.Net.{sw_next, in_next, Msg, In_packet, Asked, Carry_on, Pass_on, Fence_on, Mv}
-use Rattle.proof_machines.proofs.net.Net.{Sys, IsSys, Open, find_op, sw_target, sw_sends, World, links_after, seen}
-use Rattle.proof_machines.proofs.net.Holding.{Seeing, EachSent, frame, Label, shows, node_at, place, Holds, IsController}
-use Rattle.proof_machines.proofs.net.Links.{sent, head, view_some, view_none, view_put, each_after, each_put}
+use Rattle.proof_machines.proofs.net.Words.{◌≡◌, ◌≢◌, ℕ, ◌≤◌, Bool, true, false, Option, Some, None, List, [], ◌∷◌, ◌++◌, drop, refl, sym, ap, ◌∙◌, subst}
+use Rattle.proof_machines.proofs.net.Words.{append-nil, arith, if◌then◌else◌, ◌&&◌, ◌==◌, nat_tests, Decides-eqb, and_parts, Where, At_a, At_b, At_c, Item}
+use Rattle.proof_machines.proofs.net.Words.{Pass, Fence_to, State, moved, switch_does, redirected, send_to, M_forward, M_install, M_fence_to, where_true, add}
+use Rattle.proof_machines.proofs.net.Words.{Nodes, expect, after_take, switch_from_c, nothing_seen, arrives_at, By_sa, By_sb, By_sc, By_ca, By_cb, By_ac, By_bc}
+use Rattle.proof_machines.proofs.net.Words.{By_cc, By_cs, shown_by, Each, UnitSeat, seat_shape, seat_all, seat_loose, items, never_true, Filter, sw_next}
+use Rattle.proof_machines.proofs.net.Words.{in_next, Msg, In_packet, Asked, Carry_on, Pass_on, Fence_on, Mv, Sys, IsSys, Open, find_op, sw_target, sw_sends}
+use Rattle.proof_machines.proofs.net.Words.{World, links_after, seen, Seeing, EachSent, frame, Label, shows, node_at, place, Holds, IsController, sent, head}
+use Rattle.proof_machines.proofs.net.Words.{view_some, view_none, view_put, each_after, each_put, same_unit, same_unit-true, either_way, split}
+use Rattle.proof_machines.proofs.unit.Machine.{Carry, Fence, Forward, Install, Stray, Arrive, Take_cs}
 use Rattle.proof_machines.proofs.net.OnLinks.{for_switch, ok_head, cs_kind}
 use Rattle.proof_machines.proofs.net.InstWorld.{Goes_to, moves_on, same_order}
 use Rattle.proof_machines.proofs.net.OtherWorld.{one_unseen, put_unseen, two_not}
-use Rattle.record_table.specs.Table.{same_unit}
-use Rattle.record_table.proofs.UnitOrder.{same_unit-true}
-use Rattle.proof_machines.proofs.Tests.{either_way, split}
 
 module _ {R : Type 0} (S : Sys R) (laws : IsSys S) (z : Seeing) where
   abbrev its : List (Msg R) → List (Item R)

@@ -1,26 +1,16 @@
 -- A begun move leaves its units in a move, with all their packets that arrived.
-use Rattle.std.proofs.Common.{◌≡◌, ◌≢◌, ℕ, suc, ◌+◌, ◌≤◌, ◌<◌, Bool, true, false, Some, List, [], ◌∷◌, ◌++◌, map, refl, sym, ap, ◌∙◌, subst, arith}
-use Rattle.std.specs.Prelude.{if◌then◌else◌, ◌||◌, ◌==◌}
-use Rattle.std.proofs.lemmas.Bool.Decides.{nat_tests, Decides-eqb}
-use Rattle.proof_machines.proofs.unit.Machine.{Where as Side, At_a, At_b, At_c, Ran, Drops, Item, Enable, Idle, Freezing, Begin, moved, Over}
-use Rattle.proof_machines.proofs.unit.Lists.{firsts}
-use Rattle.proof_machines.proofs.unit.Stages.{IsOrderedAs}
-use Rattle.proof_machines.proofs.unit.Real.{Op}
-use Rattle.proof_machines.proofs.unit.Pairs.{Nodes}
-use Rattle.proof_machines.proofs.unit.Between.{rest_at, seat_at, seat_begins}
-use Rattle.proof_machines.proofs.unit.Seats.{UnitSeat, is_covered, seat_shape, seat_all, seat_loose}
-use Rattle.flow_filter.specs.declared.filter.Filter.{Filter}
-use Rattle.proof_machines.proofs.net.Net.{begin_next, MoveAsked, Sys, IsSys, Open, find_op, meets_any, new_op, World}
-use Rattle.proof_machines.proofs.net.Holding.{OpLabel, place}
+use Rattle.proof_machines.proofs.net.Words.{◌≡◌, ◌≢◌, ℕ, suc, ◌+◌, ◌≤◌, ◌<◌, Bool, true, false, Some, List, [], ◌∷◌, ◌++◌, map, refl, sym, ap, ◌∙◌, subst}
+use Rattle.proof_machines.proofs.net.Words.{arith, if◌then◌else◌, ◌||◌, ◌==◌, nat_tests, Decides-eqb, At_a, At_b, At_c, Ran, Drops, Item, Enable, Freezing}
+use Rattle.proof_machines.proofs.net.Words.{Begin, moved, Over, firsts, IsOrderedAs, Op, Nodes, rest_at, seat_at, seat_begins, UnitSeat, is_covered, seat_shape}
+use Rattle.proof_machines.proofs.net.Words.{seat_all, seat_loose, Filter, begin_next, MoveAsked, Sys, IsSys, Open, find_op, meets_any, new_op, World, OpLabel}
+use Rattle.proof_machines.proofs.net.Words.{place, Rest, Global, either_way, split, false_from_ne_true}
+use Rattle.proof_machines.proofs.unit.Machine.{Where as Side, Idle}
 use Rattle.proof_machines.proofs.net.Ctrl.{each_found}
 use Rattle.proof_machines.proofs.net.InstWorld.{moves_on}
-use Rattle.proof_machines.proofs.net.Rest.{Rest, Global}
 use Rattle.proof_machines.proofs.net.RestingSeats.{rest_holds}
 use Rattle.nf_function.specs.declared.unit.Unit as units
 use Rattle.proof_machines.proofs.net.Units.{order_join, order_same, May, see, Flagged, Where, Where.At_rest, Where.In_move}
 use Rattle.proof_machines.proofs.net.Units.{settle, apart_of, shown_rest, either, loose_flag, stays, other_begins, covered_begins}
-use Rattle.proof_machines.proofs.Tests.{either_way, split}
-use Rattle.std.proofs.lemmas.Bool.{false_from_ne_true}
 
 module _ {R : Type 0} (S : Sys R) (laws : IsSys S) (u : units.Unit) where
   any_tells : (g : Filter) (es : List (Open R)) (n : ℕ) (e : Open R) → meets_any S g es ≡ false → find_op es n ≡ Some e → S.takes g u ≡ true

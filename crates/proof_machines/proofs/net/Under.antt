@@ -1,22 +1,13 @@
 -- A unit under a share (`Under`): the world shows it a stage of its share, and no move has anything of it. Each node's step keeps it: the
 -- stage goes on, no member's record has seen less, and what is processed is at its place.
-use Rattle.std.proofs.Common.{◌≡◌, ℕ, ◌≤◌, true, false, None, List, [], ◌∷◌, ◌++◌, refl, sym, ap, ◌∙◌, subst, append-nil}
-use Rattle.std.specs.Prelude.{if◌then◌else◌, ◌&&◌, ◌==◌}
-use Rattle.actor_net.proofs.LinkLemmas.{neither}
-use Rattle.proof_machines.proofs.unit.Real.{sent_for}
-use Rattle.proof_machines.proofs.unit.Labels.{Each}
-use Rattle.proof_machines.proofs.share.Share.{UnitShare, has, moved}
-use Rattle.proof_machines.proofs.share.Stages.{Stage, front, processed, early, late, shape, IsFront, IsShare, FitsStage}
-use Rattle.proof_machines.proofs.share.Steps.{goes_on}
+use Rattle.proof_machines.proofs.net.Words.{◌≡◌, ℕ, ◌≤◌, true, false, None, List, [], ◌∷◌, ◌++◌, refl, sym, ap, ◌∙◌, subst, append-nil, if◌then◌else◌, ◌&&◌}
+use Rattle.proof_machines.proofs.net.Words.{◌==◌, neither, sent_for, Each, UnitShare, has, Stage, front, processed, early, late, shape, IsFront, IsShare}
+use Rattle.proof_machines.proofs.net.Words.{FitsStage, goes_on, Msg, Sys, links_after, EachSent, each_after, each_put, RestRule, RestOp, NothingOf, unit_share}
+use Rattle.proof_machines.proofs.net.Words.{ShareHolds, Any, Old, New, ShareMsg, olds, Sharing, WholeWorld, SeeingShare}
+use Rattle.proof_machines.proofs.share.Share.{moved}
 use Rattle.proof_machines.proofs.share.Places.{Grows, placed}
-use Rattle.proof_machines.proofs.net.Net.{Msg, Sys, links_after}
-use Rattle.proof_machines.proofs.net.Holding.{EachSent}
-use Rattle.proof_machines.proofs.net.Links.{each_after, each_put}
-use Rattle.proof_machines.proofs.net.Rest.{RestRule, RestOp, NothingOf}
 use Rattle.proof_machines.proofs.net.AsMoves.{old_sends, olds-put, olds-after, news-after}
-use Rattle.proof_machines.proofs.net.ShareViews.{unit_share, ShareHolds}
 use Rattle.proof_machines.proofs.net.ShareLinks.{Goes, Goes.Nothing, Goes.Moves_so, holds_alike}
-use Rattle.proof_machines.proofs.net.Shares.{Any, Any.Old, Any.New, ShareMsg, olds, Sharing, WholeWorld, SeeingShare}
 
 module _ {R : Type 0} (S : Sys R) (A : Sharing S) (z : SeeingShare) where
   abbrev pub f : UnitShare R

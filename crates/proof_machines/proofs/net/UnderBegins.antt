@@ -1,28 +1,17 @@
 -- A unit under a share stays there when a move or another share begins, when a command or a copy's Get goes out, and when an instance keeps
 -- records that stand by.
-use Rattle.std.proofs.Common.{◌≡◌, ℕ, suc, ◌≤◌, ◌<◌, Bool, true, false, List, [], ◌∷◌, ◌++◌, refl, sym, ap, ◌∙◌, arith}
-use Rattle.std.specs.Prelude.{if◌then◌else◌, ◌==◌}
-use Rattle.std.proofs.lemmas.Bool.Decides.{nat_tests, Decides-eqb}
-use Rattle.proof_machines.proofs.unit.Real.{sent_for}
-use Rattle.proof_machines.proofs.unit.Labels.{Each, each-append}
-use Rattle.proof_machines.proofs.share.Stages.{shape}
-use Rattle.flow_filter.specs.declared.filter.Filter.{Filter}
-use Rattle.proof_machines.proofs.net.Net.{Msg, Msg.Asked, MoveAsked, Sys, IsSys, Open, new_op, begin_sends}
-use Rattle.proof_machines.proofs.net.Holding.{EachSent}
-use Rattle.proof_machines.proofs.net.Rest.{RestOp, NothingOf}
+use Rattle.proof_machines.proofs.net.Words.{◌≡◌, ℕ, suc, ◌≤◌, ◌<◌, Bool, true, false, List, [], ◌∷◌, ◌++◌, refl, sym, ap, ◌∙◌, arith, if◌then◌else◌, ◌==◌}
+use Rattle.proof_machines.proofs.net.Words.{nat_tests, Decides-eqb, sent_for, Each, each-append, shape, Filter, Msg, Asked, MoveAsked, Sys, IsSys, Open, new_op}
+use Rattle.proof_machines.proofs.net.Words.{begin_sends, EachSent, RestOp, NothingOf, found_each, find_more, Disjoint, disjoint_sym, GlobalAll, unit_share}
+use Rattle.proof_machines.proofs.net.Words.{share_items, own_of, own_at, as_share, Any, Old, New, S_asked, S_install, S_get, WantShare, as_old, Sharing}
+use Rattle.proof_machines.proofs.net.Words.{OpenShare, new_share, find_share, WholeWorld, moves_of, asks, begin_move, begin_share, puts_get, keeps}
+use Rattle.proof_machines.proofs.net.Words.{meets_shares, SeeingShare, split}
 use Rattle.proof_machines.proofs.net.Units.{May, apart_of}
 use Rattle.proof_machines.proofs.net.AsMoves.{old_sends, old_sends-old}
-use Rattle.proof_machines.proofs.net.ShareLists.{found_each, find_more}
-use Rattle.proof_machines.proofs.net.GlobalAll.{Disjoint, disjoint_sym, GlobalAll}
 use Rattle.proof_machines.proofs.net.GlobalBegins.{meets_none}
-use Rattle.proof_machines.proofs.net.ShareViews.{unit_share, share_items, own_of, own_at, as_share}
 use Rattle.proof_machines.proofs.net.ShareLinks.{none_links, view_put, lone_unseen, Goes.Nothing}
 use Rattle.proof_machines.proofs.net.MemberMoves.{unseen_view}
 use Rattle.proof_machines.proofs.net.Under.{Under, Goes_on, goes_to, put_labels}
-use Rattle.proof_machines.proofs.net.Shares.{Any, Any.Old, Any.New, ShareMsg.S_asked, ShareMsg.S_install, ShareMsg.S_get}
-use Rattle.proof_machines.proofs.net.Shares.{WantShare, as_old, Sharing, OpenShare, new_share, find_share, WholeWorld, moves_of}
-use Rattle.proof_machines.proofs.net.Shares.{asks, begin_move, begin_share, puts_get, keeps, meets_shares, SeeingShare}
-use Rattle.proof_machines.proofs.Tests.{split}
 
 module _ {R : Type 0} (S : Sys R) (A : Sharing S) (z : SeeingShare) (w : WholeWorld S A) (before since : List ℕ) (u : Under S A z w before since) where
   -- something is put on node k's links that the unit doesn't see

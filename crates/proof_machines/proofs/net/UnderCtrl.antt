@@ -1,24 +1,14 @@
 -- The controller's step is, to a unit under a share, nothing or a move of the share's machine (`ctrl_goes`).
-use Rattle.std.proofs.Common.{◌≡◌, ℕ, ◌≤◌, Bool, true, false, Option, Some, None, List, [], ◌∷◌, ◌++◌, refl, sym, ap, ◌∙◌, subst, arith}
-use Rattle.std.specs.Prelude.{if◌then◌else◌, ◌&&◌, ◌==◌}
-use Rattle.std.proofs.lemmas.Bool.Decides.{Decides-eqb}
-use Rattle.proof_machines.proofs.unit.Real.{add, sent_for}
-use Rattle.proof_machines.proofs.unit.NetViews.{items-append}
-use Rattle.proof_machines.proofs.unit.Seen.{sent_for-append}
-use Rattle.proof_machines.proofs.share.Share.{Item, UnitShare, View, ShareMachineStep.Take_sc, ShareMachineStep.Take_back}
-use Rattle.proof_machines.proofs.share.Share.{has, joined, waits, share_does, from_sc, from_back}
-use Rattle.proof_machines.proofs.share.Stages.{Stage, IsShare, FitsStage, shape}
-use Rattle.proof_machines.proofs.share.Heads.{to_members}
-use Rattle.proof_machines.proofs.net.Net.{Sys}
-use Rattle.proof_machines.proofs.net.GlobalAll.{GlobalAll}
+use Rattle.proof_machines.proofs.net.Words.{◌≡◌, ℕ, ◌≤◌, Bool, true, false, Option, Some, None, List, [], ◌∷◌, ◌++◌, refl, sym, ap, ◌∙◌, subst, arith}
+use Rattle.proof_machines.proofs.net.Words.{if◌then◌else◌, ◌&&◌, ◌==◌, Decides-eqb, add, sent_for, items-append, sent_for-append, UnitShare, View, Take_sc}
+use Rattle.proof_machines.proofs.net.Words.{Take_back, has, joined, waits, share_does, from_sc, from_back, Stage, IsShare, FitsStage, shape, to_members, Sys}
+use Rattle.proof_machines.proofs.net.Words.{GlobalAll, share_expect, unit_share, share_seen, share_items, ShareHolds, Any, as_old, Sharing, told_by, SharesStep}
+use Rattle.proof_machines.proofs.net.Words.{by_share, WholeWorld, old_step, whole_ctrl, SeeingShare, split, false_from_ne_true}
+use Rattle.proof_machines.proofs.share.Share.{Item}
 use Rattle.proof_machines.proofs.net.OnShareLinks.{Sender, back_sender, sc_sender, idle_empty}
-use Rattle.proof_machines.proofs.net.ShareViews.{share_expect, unit_share, share_seen, share_items, ShareHolds}
 use Rattle.proof_machines.proofs.net.ShareLinks.{sc_links, back_links, quiet_links, view_after, Goes, Goes.Nothing, Goes.Moves_so}
 use Rattle.proof_machines.proofs.net.MemberMoves.{unseen_view}
 use Rattle.proof_machines.proofs.net.ShareSees.{Sees_share, share_item, SenderIf, share_sees, moves_unseen}
-use Rattle.proof_machines.proofs.net.Shares.{Any, as_old, Sharing, told_by, SharesStep, by_share, WholeWorld, old_step, whole_ctrl, SeeingShare}
-use Rattle.proof_machines.proofs.Tests.{split}
-use Rattle.std.proofs.lemmas.Bool.{false_from_ne_true}
 
 module _ {R : Type 0} (S : Sys R) (A : Sharing S) (z : SeeingShare) where
   abbrev f : UnitShare R

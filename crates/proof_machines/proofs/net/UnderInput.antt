@@ -1,20 +1,13 @@
 -- A packet of the input: to a unit under a share it arrives, by the old rules or at the controller, or it isn't the unit's nor its share's
 -- (`comes`).
-use Rattle.std.proofs.Common.{◌≡◌, ℕ, Bool, true, false, Some, List, [], ◌∷◌, ◌++◌, map, refl, sym, ap, ◌∙◌, subst, append-nil, arith}
-use Rattle.std.specs.Prelude.{if◌then◌else◌, ◌&&◌, ◌==◌}
-use Rattle.std.proofs.lemmas.Bool.Decides.{nat_tests, Decides-eqb}
-use Rattle.std.proofs.lemmas.Cmp.{nat_eq_equiv}
-use Rattle.proof_machines.proofs.unit.Real.{where_true, add, sent_for}
-use Rattle.proof_machines.proofs.share.Share.{Item, Item.Carry, Item.Diverted, Item.Stray, UnitShare, View}
-use Rattle.proof_machines.proofs.share.Share.{ShareMachineStep.Arrive, if_mine, joined, only, nowhere, moved}
+use Rattle.proof_machines.proofs.net.Words.{◌≡◌, ℕ, Bool, true, false, Some, List, [], ◌∷◌, ◌++◌, map, refl, sym, ap, ◌∙◌, subst, append-nil, arith}
+use Rattle.proof_machines.proofs.net.Words.{if◌then◌else◌, ◌&&◌, ◌==◌, nat_tests, Decides-eqb, nat_eq_equiv, where_true, add, sent_for, Carry, Diverted, Stray}
+use Rattle.proof_machines.proofs.net.Words.{UnitShare, View, Arrive, if_mine, joined, only, nowhere, Carry_on, Sys, mine, share_expect, unit_share, share_items}
+use Rattle.proof_machines.proofs.net.Words.{ShareHolds, Old, New, Diverted_on, Sharing, arrive_sends, WholeWorld, whole_input, SeeingShare, same_unit-true}
+use Rattle.proof_machines.proofs.net.Words.{either_way, false_from_ne_true}
+use Rattle.proof_machines.proofs.share.Share.{Item, moved}
 use Rattle.proof_machines.proofs.share.Setting.{same_but_sc, same_but_sw}
-use Rattle.proof_machines.proofs.net.Net.{Msg.Carry_on, Sys}
-use Rattle.proof_machines.proofs.net.ShareViews.{mine, share_expect, unit_share, share_items, ShareHolds}
 use Rattle.proof_machines.proofs.net.ShareLinks.{in_links, none_links, view_put, lone_view, lone_unseen, holds_alike}
-use Rattle.proof_machines.proofs.net.Shares.{Any.Old, Any.New, ShareMsg.Diverted_on, Sharing, arrive_sends, WholeWorld, whole_input, SeeingShare}
-use Rattle.record_table.proofs.UnitOrder.{same_unit-true}
-use Rattle.proof_machines.proofs.Tests.{either_way}
-use Rattle.std.proofs.lemmas.Bool.{false_from_ne_true}
 
 module _ {R : Type 0} (S : Sys R) (A : Sharing S) (z : SeeingShare) where
   abbrev f : UnitShare R

@@ -1,19 +1,13 @@
 -- An instance's step is, to a unit under a share, nothing or a move of the share's machine (`inst_goes`).
-use Rattle.std.proofs.Common.{◌≡◌, ℕ, Bool, true, false, Some, None, List, [], ◌∷◌, ◌++◌, ◌⊎◌, inl, inr, refl, sym, ap, ◌∙◌, subst, append-nil, arith}
-use Rattle.std.specs.Prelude.{if◌then◌else◌, ◌&&◌, ◌==◌}
-use Rattle.std.proofs.lemmas.Bool.Decides.{nat_tests, Decides-eqb}
-use Rattle.proof_machines.proofs.unit.Real.{add, sent_for}
-use Rattle.proof_machines.proofs.share.Share.{Item, UnitShare, View, ShareMachineStep.Take_sw, ShareMachineStep.Take_to}
-use Rattle.proof_machines.proofs.share.Share.{has, put, joined, only, member_does, from_sw, from_to}
-use Rattle.proof_machines.proofs.share.Heads.{ToMembers}
-use Rattle.proof_machines.proofs.net.Net.{Sys, IsSys, inst_step, links_after, at_node}
-use Rattle.proof_machines.proofs.net.ShareViews.{share_expect, unit_share, share_seen, share_items, own_of, own_at, ShareHolds}
+use Rattle.proof_machines.proofs.net.Words.{◌≡◌, ℕ, Bool, true, false, Some, None, List, [], ◌∷◌, ◌++◌, ◌⊎◌, inl, inr, refl, sym, ap, ◌∙◌, subst, append-nil}
+use Rattle.proof_machines.proofs.net.Words.{arith, if◌then◌else◌, ◌&&◌, ◌==◌, nat_tests, Decides-eqb, add, sent_for, UnitShare, View, Take_sw, Take_to, has}
+use Rattle.proof_machines.proofs.net.Words.{put, joined, only, member_does, from_sw, from_to, ToMembers, Sys, IsSys, inst_step, links_after, at_node}
+use Rattle.proof_machines.proofs.net.Words.{share_expect, unit_share, share_seen, share_items, own_of, own_at, ShareHolds, Any, Old, New, Sharing, find_share}
+use Rattle.proof_machines.proofs.net.Words.{MemberTurn, WholeWorld, whole_inst, ran_of, SeeingShare, split, true_from_ne_false}
+use Rattle.proof_machines.proofs.share.Share.{Item}
 use Rattle.proof_machines.proofs.net.ShareLinks.{sw_links, to_links, quiet_links, view_after, ran_of-append, Goes, Goes.Nothing, Goes.Moves_so}
 use Rattle.proof_machines.proofs.net.MemberSteps.{any_step, as_was, does, SeesMember}
-use Rattle.proof_machines.proofs.net.Shares.{Any, Any.Old, Any.New, Sharing, find_share, MemberTurn, WholeWorld, whole_inst, ran_of, SeeingShare}
 use Rattle.nf_function.specs.declared.unit.Unit as units
-use Rattle.proof_machines.proofs.Tests.{split}
-use Rattle.std.proofs.lemmas.Bool.{true_from_ne_false}
 
 module _ {R : Type 0} (S : Sys R) (A : Sharing S) (laws : IsSys S) (z : SeeingShare) where
   abbrev f : UnitShare R

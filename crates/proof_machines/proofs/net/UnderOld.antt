@@ -1,29 +1,18 @@
 -- A unit that no move takes, at one node: an instance and the controller, on a message of a move, leave it with labels as before, and of its
 -- record and its packets no more than a plain packet of it changes.
-use Rattle.std.proofs.Common.{◌≡◌, ℕ, ◌≤◌, ◌<◌, Bool, true, false, Option, Some, None, List, [], ◌∷◌, refl, sym, ap, ◌∙◌, subst, arith}
-use Rattle.std.specs.Prelude.{if◌then◌else◌, ◌==◌}
-use Rattle.std.proofs.lemmas.Bool.Decides.{nat_tests}
-use Rattle.proof_machines.proofs.share.Lists.{self}
+use Rattle.proof_machines.proofs.net.Words.{◌≡◌, ℕ, ◌≤◌, ◌<◌, Bool, true, false, Option, Some, None, List, [], ◌∷◌, refl, sym, ap, ◌∙◌, subst, arith}
+use Rattle.proof_machines.proofs.net.Words.{if◌then◌else◌, ◌==◌, nat_tests, self, Op, where_true, add, sent_for, only_mine, off_if, NodesDiffer, Each, items}
+use Rattle.proof_machines.proofs.net.Words.{rest_at, Filter, Msg, Carry_on, Pass_on, Fence_on, Mv, Sys, IsSys, rule_of, held_of, NumberedInstance, InstanceTurn}
+use Rattle.proof_machines.proofs.net.Words.{says, on_move, inst_step, Open, find_op, ControllerMove, ctrl_step, seen, Seeing, EachSent, frame, Label, OpLabel}
+use Rattle.proof_machines.proofs.net.Words.{SeesNode, IsController, Below, RestRule, RestOp, NothingOf, none_mine, same_unit, either_way}
 use Rattle.proof_machines.proofs.unit.Machine as moves
 use Rattle.proof_machines.proofs.unit.Real as Real
-use Rattle.proof_machines.proofs.unit.Real.{Op, where_true, add, sent_for, only_mine, off_if}
-use Rattle.proof_machines.proofs.unit.Seen.{NodesDiffer}
-use Rattle.proof_machines.proofs.unit.Labels.{Each}
-use Rattle.proof_machines.proofs.unit.NetViews.{items}
-use Rattle.proof_machines.proofs.unit.Between.{rest_at}
-use Rattle.flow_filter.specs.declared.filter.Filter.{Filter}
-use Rattle.proof_machines.proofs.net.Net.{Msg, Msg.Carry_on, Msg.Pass_on, Msg.Fence_on, Msg.Mv, Sys, IsSys, rule_of, held_of}
-use Rattle.proof_machines.proofs.net.Net.{NumberedInstance, InstanceTurn, says, on_move, inst_step, Open, find_op, ControllerMove, ctrl_step, seen}
-use Rattle.proof_machines.proofs.net.Holding.{Seeing, EachSent, frame, Label, OpLabel, SeesNode, IsController}
 use Rattle.proof_machines.proofs.net.Insts.{InstanceGoes, does, carry_goes, pass_goes, fence_goes}
 use Rattle.proof_machines.proofs.net.InstMoves.{MovesInstance, MovesInstance.Any, MovesInstance.Streams_out, MovesInstance.Puts_in, move_goes}
 use Rattle.proof_machines.proofs.net.CtrlUnit.{SeesController, mdid, ctrl_unit}
-use Rattle.proof_machines.proofs.net.Rest.{Below, RestRule, RestOp, NothingOf, none_mine}
 use Rattle.proof_machines.proofs.net.RestingSeats.{same_mine, mv_label, mv_unseen, no_rule, no_op, rule_labels, op_labels, rules_rest, ops_rest, mv_nothing}
 use Rattle.proof_machines.proofs.net.GlobalShares.{ctrl_none}
 use Rattle.nf_function.specs.declared.unit.Unit as units
-use Rattle.record_table.specs.Table.{same_unit}
-use Rattle.proof_machines.proofs.Tests.{either_way}
 
 module _ {R : Type 0} (S : Sys R) (laws : IsSys S) (u : units.Unit) where
   abbrev mine : ℕ → Bool

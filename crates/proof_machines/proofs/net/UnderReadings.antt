@@ -1,26 +1,18 @@
 -- What is read off a unit under a share: its packets that are done and that wait are all that arrived, in order; each member's record is the
 -- fold of a front of what was done, and of all of it where packets are processed; and with no message left nothing waits.
-use Rattle.std.proofs.Common.{◌≡◌, ◌≢◌, ℕ, ◌≤◌, ◌<◌, true, false, Option, Some, None, List, [], ◌∷◌, ◌++◌, ◌⊎◌, inl, inr, refl, sym, ap, ◌∙◌, subst, arith}
-use Rattle.std.specs.Prelude.{◌&&◌, ◌==◌}
-use Rattle.std.proofs.lemmas.Bool.Decides.{nat_tests}
-use Rattle.proof_machines.proofs.unit.Real.{add}
-use Rattle.proof_machines.proofs.share.Share.{Ran, Item, Item.Carry, Item.Shared, UnitShare, View, has, runs, after}
-use Rattle.proof_machines.proofs.share.Stages.{front, processed, packets, late, path, shape, IsFront, Lacks}
-use Rattle.proof_machines.proofs.share.Records.{own_is, done_is, is_live, seen_front}
+use Rattle.proof_machines.proofs.net.Words.{◌≡◌, ◌≢◌, ℕ, ◌≤◌, ◌<◌, true, false, Option, Some, None, List, [], ◌∷◌, ◌++◌, ◌⊎◌, inl, inr, refl, sym, ap, ◌∙◌}
+use Rattle.proof_machines.proofs.net.Words.{subst, arith, ◌&&◌, ◌==◌, nat_tests, add, Carry, Shared, UnitShare, View, has, runs, front, processed, packets}
+use Rattle.proof_machines.proofs.net.Words.{late, path, shape, IsFront, Lacks, own_is, done_is, is_live, seen_front, Meets, to_members, meets_sw, meets_to, Sys}
+use Rattle.proof_machines.proofs.net.Words.{IsSys, at_node, done_u, GlobalAll, share_expect, unit_share, share_seen, share_items, own_at, Any, Sharing}
+use Rattle.proof_machines.proofs.net.Words.{IsSharing, WholeWorld, ran_of, SeeingShare, true_from_ne_false}
+use Rattle.proof_machines.proofs.share.Share.{Ran, Item, after}
 use Rattle.proof_machines.proofs.share.Order.{in_order}
-use Rattle.proof_machines.proofs.share.Heads.{Meets, to_members, meets_sw, meets_to}
 use Rattle.proof_machines.proofs.share.Rests.{Rests, rests}
-use Rattle.proof_machines.proofs.net.Net.{Sys, IsSys, at_node}
-use Rattle.proof_machines.proofs.net.Rest.{done_u}
-use Rattle.proof_machines.proofs.net.GlobalAll.{GlobalAll}
-use Rattle.proof_machines.proofs.net.ShareViews.{share_expect, unit_share, share_seen, share_items, own_at}
 use Rattle.proof_machines.proofs.net.MemberSteps.{does}
 use Rattle.proof_machines.proofs.net.UnderInst.{did_at, heads, inst_from}
 use Rattle.proof_machines.proofs.net.Under.{Under}
 use Rattle.proof_machines.proofs.net.UnderSteps.{inst_keeps}
 use Rattle.proof_machines.proofs.net.UnderStarts.{packets_done}
-use Rattle.proof_machines.proofs.net.Shares.{Any, Sharing, IsSharing, WholeWorld, ran_of, SeeingShare}
-use Rattle.std.proofs.lemmas.Bool.{true_from_ne_false}
 
 module _ {R : Type 0} (S : Sys R) (A : Sharing S) (z : SeeingShare) (w : WholeWorld S A) (before since : List ℕ) (u : Under S A z w before since) where
   abbrev f : UnitShare R

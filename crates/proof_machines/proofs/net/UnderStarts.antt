@@ -1,33 +1,21 @@
 -- A share begins: a unit that rests at its home, and that its filter takes, is under the share (`under_starts`).
-use Rattle.std.proofs.Common.{◌≡◌, ℕ, ◌≤◌, ◌<◌, Bool, true, false, Option, Some, None, List, [], ◌∷◌, ◌++◌, map, refl, sym, ap, ◌∙◌, append-nil, arith}
-use Rattle.std.specs.Prelude.{if◌then◌else◌, ◌&&◌, ◌==◌}
-use Rattle.std.proofs.lemmas.Bool.Decides.{nat_tests, Decides-eqb}
+use Rattle.proof_machines.proofs.net.Words.{◌≡◌, ℕ, ◌≤◌, ◌<◌, Bool, true, false, Option, Some, None, List, [], ◌∷◌, ◌++◌, map, refl, sym, ap, ◌∙◌, append-nil}
+use Rattle.proof_machines.proofs.net.Words.{arith, if◌then◌else◌, ◌&&◌, ◌==◌, nat_tests, Decides-eqb, Steps, firsts, M_fenced, M_install, M_fence_to}
+use Rattle.proof_machines.proofs.net.Words.{where_true, add, sent_for, Each, Carry, Fence, Install, Stray, View, runs, only, Diverting, packets, shape, IsFront}
+use Rattle.proof_machines.proofs.net.Words.{self, In_packet, Asked, Carry_on, Pass_on, Fence_on, Mv, Sys, num_of, Rest, Below, IsBelow, NothingOf, carries_of}
+use Rattle.proof_machines.proofs.net.Words.{done_u, found_each, find_new, Numbered, Disjoint, TakesSome, OfShare, GlobalAll, mine, share_expect, unit_share}
+use Rattle.proof_machines.proofs.net.Words.{move_seen, new_seen, share_items, own_of, Any, Old, New, ShareMsg, Shared_on, Diverted_on, S_asked, S_install}
+use Rattle.proof_machines.proofs.net.Words.{S_forward, S_get, S_sync, S_chunks, S_shared, S_synced, WantShare, EachNew, olds, Sharing, IsSharing, OpenShare}
+use Rattle.proof_machines.proofs.net.Words.{new_share, find_share, WholeWorld, moves_of, begin_share, MayShare, ran_of, SeeingShare, same_unit, same_unit-true}
+use Rattle.proof_machines.proofs.net.Words.{false_from_ne_true}
 use Rattle.proof_machines.proofs.unit.Machine as moves
-use Rattle.proof_machines.proofs.unit.Machine.{Steps}
-use Rattle.proof_machines.proofs.unit.Lists.{firsts}
 use Rattle.proof_machines.proofs.unit.Real as Real
-use Rattle.proof_machines.proofs.unit.Real.{M_fenced, M_install, M_fence_to, where_true, add, sent_for}
-use Rattle.proof_machines.proofs.unit.Labels.{Each}
-use Rattle.proof_machines.proofs.share.Share.{Ran, Item, Item.Carry, Item.Fence, Item.Install, Item.Stray, View, runs, after, only}
-use Rattle.proof_machines.proofs.share.Stages.{Stage.Diverting, packets, shape, IsFront}
-use Rattle.proof_machines.proofs.share.Lists.{self}
-use Rattle.proof_machines.proofs.net.Net.{Msg.In_packet, Msg.Asked, Msg.Carry_on, Msg.Pass_on, Msg.Fence_on, Msg.Mv, Sys, num_of}
-use Rattle.proof_machines.proofs.net.Rest.{Rest, Below, IsBelow, NothingOf, carries_of, done_u}
-use Rattle.proof_machines.proofs.net.ShareLists.{found_each, find_new}
+use Rattle.proof_machines.proofs.share.Share.{Ran, Item, after}
 use Rattle.proof_machines.proofs.net.ShareRows.{taking_each}
-use Rattle.proof_machines.proofs.net.GlobalAll.{Numbered, Disjoint, TakesSome, OfShare, GlobalAll}
 use Rattle.proof_machines.proofs.net.GlobalShares.{not_yet}
-use Rattle.proof_machines.proofs.net.ShareViews.{mine, share_expect, unit_share, move_seen, new_seen, share_items, own_of}
 use Rattle.proof_machines.proofs.net.ShareLinks.{view_put}
 use Rattle.proof_machines.proofs.net.Under.{Under, put_labels}
-use Rattle.proof_machines.proofs.net.Shares.{Any, Any.Old, Any.New, ShareMsg, ShareMsg.Shared_on, ShareMsg.Diverted_on, ShareMsg.S_asked}
-use Rattle.proof_machines.proofs.net.Shares.{ShareMsg.S_install, ShareMsg.S_forward, ShareMsg.S_get, ShareMsg.S_sync, ShareMsg.S_chunks}
-use Rattle.proof_machines.proofs.net.Shares.{ShareMsg.S_shared, ShareMsg.S_synced, WantShare, EachNew, olds, Sharing, IsSharing, OpenShare}
-use Rattle.proof_machines.proofs.net.Shares.{new_share, find_share, WholeWorld, moves_of, begin_share, MayShare, ran_of, SeeingShare}
 use Rattle.nf_function.specs.declared.unit.Unit as units
-use Rattle.record_table.specs.Table.{same_unit}
-use Rattle.record_table.proofs.UnitOrder.{same_unit-true}
-use Rattle.std.proofs.lemmas.Bool.{false_from_ne_true}
 
 -- the fold depends on the packets alone
 fold_packets : {R : Type 0} (F : Steps R) (r : Option R) (d : List moves.Ran) (ds : List Ran) → firsts d ≡ packets ds → moves.runs F r d ≡ runs F r ds

@@ -1,23 +1,16 @@
 -- Each node's step keeps a unit under a share.
-use Rattle.std.proofs.Common.{◌≡◌, ℕ, Bool, true, false, None, List, [], ◌∷◌, ◌++◌, ◌⊎◌, inl, inr, refl, sym, ap, ◌∙◌, append-nil, append_assoc, arith}
-use Rattle.std.specs.Prelude.{if◌then◌else◌, ◌&&◌, ◌==◌}
-use Rattle.std.proofs.lemmas.Bool.Decides.{nat_tests, Decides-eqb}
-use Rattle.actor_net.proofs.LinkLemmas.{neither}
-use Rattle.proof_machines.proofs.unit.Real.{M_install, M_fence_to, M_forward, where_true, add}
-use Rattle.proof_machines.proofs.unit.Labels.{Each}
-use Rattle.proof_machines.proofs.share.Share.{Item.Carry, ShareMachineStep.Arrive, has, if_mine, moved}
-use Rattle.proof_machines.proofs.share.Stages.{Stage, Stage.Diverting, late, shape, IsShare, FitsStage}
-use Rattle.proof_machines.proofs.share.Steps.{goes_on}
-use Rattle.proof_machines.proofs.share.Heads.{to_members, meets_sw, meets_to}
+use Rattle.proof_machines.proofs.net.Words.{◌≡◌, ℕ, Bool, true, false, None, List, [], ◌∷◌, ◌++◌, ◌⊎◌, inl, inr, refl, sym, ap, ◌∙◌, append-nil, append_assoc}
+use Rattle.proof_machines.proofs.net.Words.{arith, if◌then◌else◌, ◌&&◌, ◌==◌, nat_tests, Decides-eqb, neither, M_install, M_fence_to, M_forward, where_true}
+use Rattle.proof_machines.proofs.net.Words.{add, Each, Carry, Arrive, has, if_mine, Stage, Diverting, late, shape, IsShare, FitsStage, goes_on, to_members}
+use Rattle.proof_machines.proofs.net.Words.{meets_sw, meets_to, Msg, Carry_on, Pass_on, Mv, Sys, IsSys, inst_step, sw_sends, ctrl_step, EachSent, Below}
+use Rattle.proof_machines.proofs.net.Words.{RestRule, NothingOf, OfShare, GlobalAll, mine, share_seen, share_items, own_at, Any, Old, New, ShareMsg}
+use Rattle.proof_machines.proofs.net.Words.{Diverted_on, S_install, as_old, Sharing, IsSharing, told_by, by_share, share_sends, arrive_sends, WholeWorld}
+use Rattle.proof_machines.proofs.net.Words.{whole_inst, whole_ctrl, whole_switch, whole_input, SeeingShare, either_way, split}
+use Rattle.proof_machines.proofs.share.Share.{moved}
 use Rattle.proof_machines.proofs.share.Places.{placed}
-use Rattle.proof_machines.proofs.net.Net.{Msg, Msg.Carry_on, Msg.Pass_on, Msg.Mv, Sys, IsSys, inst_step, sw_sends, ctrl_step}
-use Rattle.proof_machines.proofs.net.Holding.{EachSent}
-use Rattle.proof_machines.proofs.net.Rest.{Below, RestRule, NothingOf}
 use Rattle.proof_machines.proofs.net.AsMoves.{old_sends, old_sends-append, old_sends-old, member_new, by_share_new}
 use Rattle.proof_machines.proofs.net.NewMessages.{each_sent_map, new_head}
-use Rattle.proof_machines.proofs.net.GlobalAll.{OfShare, GlobalAll}
 use Rattle.proof_machines.proofs.net.UnderOld.{inst_leaves, ctrl_leaves}
-use Rattle.proof_machines.proofs.net.ShareViews.{mine, share_seen, share_items, own_at}
 use Rattle.proof_machines.proofs.net.ShareLinks.{holds_alike}
 use Rattle.proof_machines.proofs.net.ShareLabels.{label_of}
 use Rattle.proof_machines.proofs.net.MemberSteps.{does, SeesMember, member_sees}
@@ -26,10 +19,7 @@ use Rattle.proof_machines.proofs.net.UnderInst.{did_at, heads, inst_from, inst_g
 use Rattle.proof_machines.proofs.net.UnderCtrl.{ctrl_goes}
 use Rattle.proof_machines.proofs.net.UnderSwitch.{NoDiverts, LabelAt, switch_goes}
 use Rattle.proof_machines.proofs.net.UnderInput.{Comes, Comes.Not_its, Comes.Arrives, comes}
-use Rattle.proof_machines.proofs.net.Shares.{Any, Any.Old, Any.New, ShareMsg, ShareMsg.Diverted_on, ShareMsg.S_install, as_old, Sharing, IsSharing, told_by}
-use Rattle.proof_machines.proofs.net.Shares.{by_share, share_sends, arrive_sends, WholeWorld, whole_inst, whole_ctrl, whole_switch, whole_input, SeeingShare}
 use Rattle.proof_machines.proofs.net.Under.{f, Under, Goes_on, NextStage, stays, KeepsRest, leads_to, goes_to, head_old, after_old, after_new, put_labels}
-use Rattle.proof_machines.proofs.Tests.{either_way, split}
 
 module _ {R : Type 0} (S : Sys R) (A : Sharing S) (z : SeeingShare) where
   -- which instance sends is nothing to a message

@@ -1,31 +1,20 @@
 -- The switch's step is, to a unit under a share, nothing or a move of the share's machine (`switch_goes`).
-use Rattle.std.proofs.Common.{◌≡◌, ℕ, ◌≤◌, Bool, true, false, Option, Some, None, List, [], ◌∷◌, ◌++◌, refl, sym, ap, ◌∙◌, subst, arith}
-use Rattle.std.specs.Prelude.{if◌then◌else◌, ◌&&◌, ◌==◌}
-use Rattle.std.proofs.lemmas.Bool.Decides.{nat_tests, Decides-eqb}
-use Rattle.std.proofs.lemmas.Cmp.{nat_eq_equiv}
-use Rattle.actor_net.proofs.LinkLemmas.{neither}
+use Rattle.proof_machines.proofs.net.Words.{◌≡◌, ℕ, ◌≤◌, Bool, true, false, Option, Some, None, List, [], ◌∷◌, ◌++◌, refl, sym, ap, ◌∙◌, subst, arith}
+use Rattle.proof_machines.proofs.net.Words.{if◌then◌else◌, ◌&&◌, ◌==◌, nat_tests, Decides-eqb, nat_eq_equiv, neither, record_at, M_fenced, M_forward, M_install}
+use Rattle.proof_machines.proofs.net.Words.{M_fence_to, where_true, add, sent_for, off_if, Carry, Fence, Shared, Diverted, Install, Forward, Get, Sync, Fenced}
+use Rattle.proof_machines.proofs.net.Words.{Chunk, Synced, Stray, UnitShare, View, Take_cs, has, joined, only, from_cs, Stage, IsShare, shape, self, Filter}
+use Rattle.proof_machines.proofs.net.Words.{Msg, Carry_on, Pass_on, Fence_on, Mv, Sys, IsSys, sw_target, sw_sends, links_after, NothingOf, mine, share_expect}
+use Rattle.proof_machines.proofs.net.Words.{unit_share, fit, move_seen, old_seen, new_seen, share_seen, share_items, ShareHolds, Any, Old, New, ShareMsg}
+use Rattle.proof_machines.proofs.net.Words.{Shared_on, Diverted_on, S_asked, S_install, S_forward, S_get, S_sync, S_chunks, S_shared, S_synced, same, as_old}
+use Rattle.proof_machines.proofs.net.Words.{Sharing, share_target, share_sends, WholeWorld, whole_switch, SeeingShare, either_way, split}
 use Rattle.proof_machines.proofs.unit.Real as Real
-use Rattle.proof_machines.proofs.unit.Real.{record_at, M_fenced, M_forward, M_install, M_fence_to, where_true, add, sent_for, off_if}
-use Rattle.proof_machines.proofs.share.Share.{Item, Item.Carry, Item.Fence, Item.Shared, Item.Diverted, Item.Install, Item.Forward}
-use Rattle.proof_machines.proofs.share.Share.{Item.Get, Item.Sync, Item.Fenced, Item.Chunks, Item.Chunk, Item.Synced, Item.Stray}
-use Rattle.proof_machines.proofs.share.Share.{UnitShare, View, ShareMachineStep.Take_cs, has, joined, only, from_cs}
-use Rattle.proof_machines.proofs.share.Stages.{Stage, IsShare, shape}
-use Rattle.proof_machines.proofs.share.Lists.{self}
-use Rattle.flow_filter.specs.declared.filter.Filter.{Filter}
-use Rattle.proof_machines.proofs.net.Net.{Msg, Msg.Carry_on, Msg.Pass_on}
-use Rattle.proof_machines.proofs.net.Net.{Msg.Fence_on, Msg.Mv, Sys, IsSys, sw_target, sw_sends, links_after}
-use Rattle.proof_machines.proofs.net.Rest.{NothingOf}
+use Rattle.proof_machines.proofs.share.Share.{Item, Item.Chunks}
 use Rattle.proof_machines.proofs.net.UntakenSwitch.{sw_same}
 use Rattle.proof_machines.proofs.net.OnShareLinks.{To_switch, cs_items}
-use Rattle.proof_machines.proofs.net.ShareViews.{mine, share_expect, unit_share, fit, move_seen, old_seen, new_seen, share_seen, share_items, ShareHolds}
 use Rattle.proof_machines.proofs.net.ShareLinks.{cs_links, quiet_links, view_after, lone_view, Goes, Goes.Nothing, Goes.Moves_so}
 use Rattle.proof_machines.proofs.net.ShareLabels.{ShareLabel}
 use Rattle.proof_machines.proofs.net.MemberMoves.{Unseen, unseen_view}
-use Rattle.proof_machines.proofs.net.Shares.{Any, Any.Old, Any.New, ShareMsg, ShareMsg.Shared_on, ShareMsg.Diverted_on, ShareMsg.S_asked}
-use Rattle.proof_machines.proofs.net.Shares.{ShareMsg.S_install, ShareMsg.S_forward, ShareMsg.S_get, ShareMsg.S_sync, ShareMsg.S_chunks, ShareMsg.S_shared}
-use Rattle.proof_machines.proofs.net.Shares.{ShareMsg.S_synced, same, as_old, Sharing, share_target, share_sends, WholeWorld, whole_switch, SeeingShare}
 use Rattle.nf_function.specs.declared.unit.Unit as units
-use Rattle.proof_machines.proofs.Tests.{either_way, split}
 
 module _ {R : Type 0} (S : Sys R) (A : Sharing S) (laws : IsSys S) (z : SeeingShare) where
   abbrev f : UnitShare R

@@ -1,33 +1,20 @@
 -- Each node's step and each begin of a move leaves a unit at rest or in a move, with all its packets that arrived.
-use Rattle.std.proofs.Common.{◌≡◌, ◌≢◌, ℕ, suc, ◌+◌, ◌≤◌, ◌<◌, Bool, true, false, Option, Some, None}
-use Rattle.std.proofs.Common.{List, [], ◌∷◌, ◌++◌, refl, sym, ap, ◌∙◌, subst, append-nil, arith}
-use Rattle.std.specs.Prelude.{if◌then◌else◌, ◌&&◌, ◌||◌, ◌==◌}
-use Rattle.std.proofs.lemmas.Bool.Decides.{nat_tests, Decides-eqb}
-use Rattle.proof_machines.proofs.share.Lists.{self}
-use Rattle.proof_machines.proofs.unit.Machine.{At_a, At_b, Ran, Drops, Item, Enable, State, Freezing}
-use Rattle.proof_machines.proofs.unit.Lists.{firsts}
-use Rattle.proof_machines.proofs.unit.Stages.{Stage, Turned_loose, Fenced_loose, Ending_loose, Fence_loose, shape, loose, times, IsOrderedAs}
+use Rattle.proof_machines.proofs.net.Words.{◌≡◌, ◌≢◌, ℕ, suc, ◌+◌, ◌≤◌, ◌<◌, Bool, true, false, Option, Some, None, List, [], ◌∷◌, ◌++◌, refl, sym, ap, ◌∙◌}
+use Rattle.proof_machines.proofs.net.Words.{subst, append-nil, arith, if◌then◌else◌, ◌&&◌, ◌||◌, ◌==◌, nat_tests, Decides-eqb, self, At_a, At_b, Ran, Drops}
+use Rattle.proof_machines.proofs.net.Words.{Item, Enable, State, Freezing, firsts, Turned_loose, Fenced_loose, Ending_loose, Fence_loose, loose, times}
+use Rattle.proof_machines.proofs.net.Words.{IsOrderedAs, M_enable, M_install, Op, sent_for, NodesDiffer, Each, each-append, Nodes, expect, is_over, AtRestNow}
+use Rattle.proof_machines.proofs.net.Words.{Rests_at, seat_ends, seat_at, UnitSeat, Covered, is_covered, seat_shape, seat_all, seat_loose, Filter, inst_next}
+use Rattle.proof_machines.proofs.net.Words.{ctrl_next, sw_next, in_next, begin_next, sw_target, Msg, Mv, MoveAsked, Sys, IsSys, Open, find_op, meets_any}
+use Rattle.proof_machines.proofs.net.Words.{new_op, begin_sends, World, seen, Seeing, frame, Label, OpLabel, place, IsController, Holds, sent, view_put}
+use Rattle.proof_machines.proofs.net.Words.{each_put, Rest, Global, same_unit}
+use Rattle.proof_machines.proofs.unit.Stages.{Stage, shape}
 use Rattle.proof_machines.proofs.unit.Loose.{times-append}
 use Rattle.proof_machines.proofs.unit.Ends.{same_of}
-use Rattle.proof_machines.proofs.unit.Real.{M_enable, M_install, Op, sent_for}
-use Rattle.proof_machines.proofs.unit.Seen.{NodesDiffer}
-use Rattle.proof_machines.proofs.unit.Labels.{Each, each-append}
-use Rattle.proof_machines.proofs.unit.Pairs.{Nodes, expect}
-use Rattle.proof_machines.proofs.unit.Rests.{is_over}
-use Rattle.proof_machines.proofs.unit.Between.{AtRestNow, Rests_at, seat_ends, seat_at}
-use Rattle.proof_machines.proofs.unit.Seats.{UnitSeat, Covered, is_covered, seat_shape, seat_all, seat_loose}
-use Rattle.flow_filter.specs.declared.filter.Filter.{Filter}
-use Rattle.proof_machines.proofs.net.Net.{inst_next, ctrl_next, sw_next, in_next, begin_next, sw_target, Msg}
-use Rattle.proof_machines.proofs.net.Net.{Mv, MoveAsked, Sys, IsSys, Open, find_op, meets_any, new_op, begin_sends, World, seen}
-use Rattle.proof_machines.proofs.net.Holding.{Seeing, frame, Label, OpLabel, place, IsController, Holds}
-use Rattle.proof_machines.proofs.net.Links.{sent, view_put, each_put}
 use Rattle.proof_machines.proofs.net.InstWorld.{Goes_to, inst_holds}
 use Rattle.proof_machines.proofs.net.OtherWorld.{ctrl_holds, put_unseen, one_unseen}
 use Rattle.proof_machines.proofs.net.SwitchWorld.{switch_holds, input_holds}
-use Rattle.proof_machines.proofs.net.Rest.{Rest, Global}
 use Rattle.proof_machines.proofs.net.RestingSeats.{rest_holds, holds_rest}
 use Rattle.nf_function.specs.declared.unit.Unit as units
-use Rattle.record_table.specs.Table.{same_unit}
 
 -- one order behind another
 pub order_join : (b c : Bool) (xs ys zs came : List ℕ) → IsOrderedAs b xs ys → IsOrderedAs c zs (xs ++ came) → IsOrderedAs (b || c) zs (ys ++ came)

@@ -1,22 +1,13 @@
 -- A unit that no share has: no message of a share and no queue has anything of it, and where a share's filter takes it, its packets go
 -- elsewhere than to the share's home. With the switch's and the controller's steps, which keep it so.
-use Rattle.std.proofs.Common.{◌≡◌, ℕ, true, false, Some, None, List, [], ◌∷◌, ◌++◌, refl, ◌∙◌}
-use Rattle.std.specs.Prelude.{if◌then◌else◌, ◌&&◌, ◌==◌}
-use Rattle.proof_machines.proofs.unit.Real.{Chunks, record_at}
-use Rattle.proof_machines.proofs.unit.Labels.{Each}
-use Rattle.proof_machines.proofs.net.Net.{Sys}
-use Rattle.proof_machines.proofs.net.Rest.{none_mine}
+use Rattle.proof_machines.proofs.net.Words.{◌≡◌, ℕ, true, false, Some, None, List, [], ◌∷◌, ◌++◌, refl, ◌∙◌, if◌then◌else◌, ◌&&◌, ◌==◌, Chunks, record_at, Each}
+use Rattle.proof_machines.proofs.net.Words.{Sys, none_mine, AreNumbersApart, found_each, each_set_share, set_find, Any, Old, New, ShareMsg, Shared_on}
+use Rattle.proof_machines.proofs.net.Words.{Diverted_on, S_asked, S_install, S_forward, S_get, S_sync, S_chunks, S_shared, S_synced, EachNew, as_old, Sharing}
+use Rattle.proof_machines.proofs.net.Words.{OpenShare, find_share, set_share, Told, share_row, told_by, SharesStep, by_share, WholeWorld, old_step, whole_ctrl}
+use Rattle.proof_machines.proofs.net.Words.{same_unit, same_unit_equiv, split}
 use Rattle.proof_machines.proofs.net.NewMessages.{OnNew, EachSentNew, each_new_map, each_sent_map, sent_old_and, new_after, new_head}
-use Rattle.proof_machines.proofs.net.ShareLists.{AreNumbersApart, found_each, each_set_share, set_find}
 use Rattle.proof_machines.proofs.net.ShareRows.{Tells, told_cases, ToldOf, SentBy, share_row_by}
-use Rattle.proof_machines.proofs.net.Shares.{Any, Any.Old, Any.New, ShareMsg, ShareMsg.Shared_on, ShareMsg.Diverted_on, ShareMsg.S_asked}
-use Rattle.proof_machines.proofs.net.Shares.{ShareMsg.S_install, ShareMsg.S_forward, ShareMsg.S_get, ShareMsg.S_sync, ShareMsg.S_chunks}
-use Rattle.proof_machines.proofs.net.Shares.{ShareMsg.S_shared, ShareMsg.S_synced, EachNew, as_old, Sharing, OpenShare, find_share}
-use Rattle.proof_machines.proofs.net.Shares.{set_share, Told, share_row, told_by, SharesStep, by_share, WholeWorld, old_step, whole_ctrl}
 use Rattle.nf_function.specs.declared.unit.Unit as units
-use Rattle.record_table.specs.Table.{same_unit}
-use Rattle.record_table.proofs.UnitOrder.{same_unit_equiv}
-use Rattle.proof_machines.proofs.Tests.{split}
 
 module _ {R : Type 0} (S : Sys R) (u : units.Unit) where
   -- a message of a share has nothing of the unit; a copy's chunks may

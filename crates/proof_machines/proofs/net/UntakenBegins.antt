@@ -1,25 +1,16 @@
 -- A unit that no share has stays so when a move or another share begins, when a command or a copy's Get goes out, and when an instance keeps
 -- records that stand by.
-use Rattle.std.proofs.Common.{◌≡◌, ℕ, suc, ◌≤◌, Bool, true, false, List, [], ◌∷◌, ◌++◌, refl, sym, ◌∙◌, arith}
-use Rattle.std.specs.Prelude.{if◌then◌else◌, ◌==◌}
-use Rattle.std.proofs.lemmas.Bool.Decides.{nat_tests}
-use Rattle.proof_machines.proofs.unit.Labels.{each-append}
-use Rattle.flow_filter.specs.declared.filter.Filter.{Filter}
-use Rattle.proof_machines.proofs.net.Net.{Asked, MoveAsked, Sys, IsSys, begin_sends, begin_next, World}
-use Rattle.proof_machines.proofs.unit.Real.{sent_for}
-use Rattle.proof_machines.proofs.net.Rest.{none_mine}
+use Rattle.proof_machines.proofs.net.Words.{◌≡◌, ℕ, suc, ◌≤◌, Bool, true, false, List, [], ◌∷◌, ◌++◌, refl, sym, ◌∙◌, arith, if◌then◌else◌, ◌==◌, nat_tests}
+use Rattle.proof_machines.proofs.net.Words.{each-append, Filter, Asked, MoveAsked, Sys, IsSys, begin_sends, begin_next, World, sent_for, none_mine, find_old}
+use Rattle.proof_machines.proofs.net.Words.{Numbered, GlobalAll, Any, Old, New, ShareMsg, S_asked, S_install, S_get, S_chunks, S_synced, WantShare, olds}
+use Rattle.proof_machines.proofs.net.Words.{as_old, Sharing, OpenShare, new_share, WholeWorld, moves_of, asks, begin_move, begin_share, puts_get, keeps}
 use Rattle.proof_machines.proofs.net.Units.{Where, May, put_where}
 use Rattle.proof_machines.proofs.net.ToldUnits.{begin_where}
 use Rattle.proof_machines.proofs.net.Elsewhere.{elsewhere_where}
 use Rattle.proof_machines.proofs.net.AsMoves.{old_sends, olds-put, no_olds-put, begin_old}
 use Rattle.proof_machines.proofs.net.NewMessages.{sent_old, each_new_both, new_put}
-use Rattle.proof_machines.proofs.net.ShareLists.{find_old}
-use Rattle.proof_machines.proofs.net.GlobalAll.{Numbered, GlobalAll}
 use Rattle.proof_machines.proofs.net.Untaken.{NoShare, ElsewhereHome}
 use Rattle.proof_machines.proofs.net.UntakenInst.{Unshared}
-use Rattle.proof_machines.proofs.net.Shares.{Any, Any.Old, Any.New, ShareMsg, ShareMsg.S_asked, ShareMsg.S_install, ShareMsg.S_get, ShareMsg.S_chunks}
-use Rattle.proof_machines.proofs.net.Shares.{ShareMsg.S_synced, WantShare, olds, as_old, Sharing, OpenShare, new_share, WholeWorld, moves_of, asks, begin_move}
-use Rattle.proof_machines.proofs.net.Shares.{begin_share, puts_get, keeps}
 use Rattle.nf_function.specs.declared.unit.Unit as units
 
 module _ {R : Type 0} (S : Sys R) (A : Sharing S) (laws : IsSys S) (u : units.Unit) where

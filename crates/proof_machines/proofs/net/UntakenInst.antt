@@ -1,27 +1,16 @@
 -- A unit that no share has, and the steps of instances and of the controller: it stays where it is, and no share has it.
-use Rattle.std.proofs.Common.{◌≡◌, ℕ, Bool, true, false, Some, None, List, [], ◌∷◌, ◌++◌, refl, sym, ap, ◌∙◌, append-nil}
-use Rattle.std.specs.Prelude.{if◌then◌else◌, ◌&&◌, ◌==◌, option_to_list}
-use Rattle.std.specs.Option.{option_map_or}
-use Rattle.std.proofs.lemmas.Bool.Decides.{Decides-eqb}
-use Rattle.proof_machines.proofs.unit.Labels.{Each, each_map}
-use Rattle.proof_machines.proofs.unit.UnitPieces.{first}
-use Rattle.proof_machines.proofs.unit.Cuts.{record_first}
-use Rattle.proof_machines.proofs.share.Share.{over}
-use Rattle.proof_machines.proofs.net.Net.{Sys, IsSys, process, inst_step, at_node, put}
-use Rattle.proof_machines.proofs.net.Rest.{done_u}
+use Rattle.proof_machines.proofs.net.Words.{◌≡◌, ℕ, Bool, true, false, Some, None, List, [], ◌∷◌, ◌++◌, refl, sym, ap, ◌∙◌, append-nil, if◌then◌else◌, ◌&&◌}
+use Rattle.proof_machines.proofs.net.Words.{◌==◌, option_to_list, option_map_or, Decides-eqb, Each, each_map, first, record_first, over, Sys, IsSys, process}
+use Rattle.proof_machines.proofs.net.Words.{inst_step, at_node, done_u, found_each, Disjoint, OfShare, GlobalAll, Any, Old, New, ShareMsg, Shared_on, S_get}
+use Rattle.proof_machines.proofs.net.Words.{S_sync, S_shared, olds, as_old, Sharing, IsSharing, OpenShare, find_share, shared_chunk, member_step, WholeWorld}
+use Rattle.proof_machines.proofs.net.Words.{moves_of, whole_inst, whole_ctrl, same_unit, split}
+use Rattle.proof_machines.proofs.net.Net.{put}
 use Rattle.proof_machines.proofs.net.Units.{Where, inst_where, ctrl_where}
 use Rattle.proof_machines.proofs.net.Elsewhere.{elsewhere_where, where_rests}
 use Rattle.proof_machines.proofs.net.AsMoves.{member_new, no_olds-after, inst_old, ctrl_old, ctrl_new}
 use Rattle.proof_machines.proofs.net.NewMessages.{EachSentNew, sent_old, new_after, new_head}
-use Rattle.proof_machines.proofs.net.ShareLists.{found_each}
-use Rattle.proof_machines.proofs.net.GlobalAll.{Disjoint, OfShare, GlobalAll}
 use Rattle.proof_machines.proofs.net.Untaken.{NoShare, ElsewhereHome, Untaken, head_none, ctrl_untaken}
-use Rattle.proof_machines.proofs.net.Shares.{Any, Any.Old, Any.New, ShareMsg, ShareMsg.Shared_on, ShareMsg.S_get, ShareMsg.S_sync, ShareMsg.S_shared, olds}
-use Rattle.proof_machines.proofs.net.Shares.{as_old, Sharing, IsSharing, OpenShare, find_share, shared_chunk, member_step, WholeWorld, moves_of, whole_inst}
-use Rattle.proof_machines.proofs.net.Shares.{whole_ctrl}
 use Rattle.nf_function.specs.declared.unit.Unit as units
-use Rattle.record_table.specs.Table.{same_unit}
-use Rattle.proof_machines.proofs.Tests.{split}
 
 module _ {R : Type 0} (S : Sys R) (u : units.Unit) where
   -- what was done of other units

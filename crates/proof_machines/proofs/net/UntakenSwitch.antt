@@ -1,26 +1,17 @@
 -- A unit that no share has, and the switch's steps: it stays where it is, and no share has it. The switch's packets from the input, too.
-use Rattle.std.proofs.Common.{◌≡◌, ℕ, Bool, true, false, Some, None, List, [], ◌∷◌, ◌++◌, ◌⊎◌, inl, inr, refl, sym, ap, ◌∙◌, subst, append-nil, arith}
-use Rattle.std.specs.Prelude.{if◌then◌else◌, ◌&&◌, ◌==◌}
-use Rattle.std.proofs.lemmas.Bool.Decides.{nat_tests, Decides-eqb}
-use Rattle.proof_machines.proofs.unit.Real.{M_install, sent_for}
-use Rattle.proof_machines.proofs.unit.Labels.{Each, each_map}
-use Rattle.proof_machines.proofs.net.Net.{Msg, Msg.Carry_on, Msg.Fence_on, Msg.Mv, Sys, IsSys, Open, find_op, sw_target, sw_sends, sw_next, in_next, World}
-use Rattle.proof_machines.proofs.net.Rest.{NothingOf}
+use Rattle.proof_machines.proofs.net.Words.{◌≡◌, ℕ, Bool, true, false, Some, None, List, [], ◌∷◌, ◌++◌, ◌⊎◌, inl, inr, refl, sym, ap, ◌∙◌, subst, append-nil}
+use Rattle.proof_machines.proofs.net.Words.{arith, if◌then◌else◌, ◌&&◌, ◌==◌, nat_tests, Decides-eqb, M_install, sent_for, Each, each_map, Msg, Carry_on}
+use Rattle.proof_machines.proofs.net.Words.{Fence_on, Mv, Sys, IsSys, Open, find_op, sw_target, sw_sends, sw_next, in_next, World, NothingOf, found_each}
+use Rattle.proof_machines.proofs.net.Words.{Disjoint, OfShare, GlobalAll, Any, Old, New, ShareMsg, Shared_on, S_install, S_forward, olds, as_old, Sharing}
+use Rattle.proof_machines.proofs.net.Words.{OpenShare, find_share, share_target, share_sends, arrive_sends, WholeWorld, moves_of, whole_switch, whole_input}
+use Rattle.proof_machines.proofs.net.Words.{same_unit, same_unit-true, split, false_from_ne_true}
 use Rattle.proof_machines.proofs.net.Units.{Where, Where.At_rest, Where.In_move, Hands_on, switch_where, input_where}
 use Rattle.proof_machines.proofs.net.Elsewhere.{elsewhere_where, fence_where, where_two, where_rests}
 use Rattle.proof_machines.proofs.net.AsMoves.{old_sends, olds-put, no_olds-put, news-after, no_olds-after, switch_old}
 use Rattle.proof_machines.proofs.net.NewMessages.{EachSentNew, sent_old, new_after, new_put, new_head}
-use Rattle.proof_machines.proofs.net.ShareLists.{found_each}
-use Rattle.proof_machines.proofs.net.GlobalAll.{Disjoint, OfShare, GlobalAll}
 use Rattle.proof_machines.proofs.net.Untaken.{NoShare, ElsewhereHome, Untaken, head_none}
 use Rattle.proof_machines.proofs.net.UntakenInst.{Unshared}
-use Rattle.proof_machines.proofs.net.Shares.{Any, Any.Old, Any.New, ShareMsg, ShareMsg.Shared_on, ShareMsg.S_install, ShareMsg.S_forward, olds, as_old, Sharing}
-use Rattle.proof_machines.proofs.net.Shares.{OpenShare, find_share, share_target, share_sends, arrive_sends, WholeWorld, moves_of, whole_switch, whole_input}
 use Rattle.nf_function.specs.declared.unit.Unit as units
-use Rattle.record_table.specs.Table.{same_unit}
-use Rattle.record_table.proofs.UnitOrder.{same_unit-true}
-use Rattle.proof_machines.proofs.Tests.{split}
-use Rattle.std.proofs.lemmas.Bool.{false_from_ne_true}
 
 module _ {R : Type 0} (S : Sys R) (A : Sharing S) (laws : IsSys S) (u : units.Unit) where
   -- the flag may grow

@@ -1,14 +1,10 @@
 -- Each step for a unit that a third instance owns, while a move takes it: its packets stay in order, its record stays there.
-use Rattle.std.proofs.Common.{◌≡◌, ℕ, Bool, true, false, List, [], ◌∷◌, ◌++◌, map, refl, sym, ap, ◌∙◌, append_assoc, append-nil}
-use Rattle.std.specs.Prelude.{option_to_list}
-use Rattle.std.proofs.lemmas.List.{map-append}
-use Rattle.proof_machines.proofs.unit.Machine.{At_a, At_b, At_c, Ran, Steps, after, Item, Carry, Forward, Fence_to, idle}
-use Rattle.proof_machines.proofs.unit.Machine.{Phase, Idle, State, MachineStep, Begin, Arrive, Take_sa, Take_sb, Take_sc}
-use Rattle.proof_machines.proofs.unit.Machine.{Take_ac, Take_bc, Take_ca, Take_cb, Take_cs, moved, begun, switch_does, Over}
-use Rattle.proof_machines.proofs.unit.Lists.{firsts, firsts-append, runs-append}
-use Rattle.proof_machines.proofs.unit.Stages.{Stage, shape, all_of, Allowed, Placed, arrived_by}
+use Rattle.proof_machines.proofs.unit.Words.{◌≡◌, ℕ, Bool, true, false, List, [], ◌∷◌, ◌++◌, map, refl, sym, ap, ◌∙◌, append_assoc, append-nil, option_to_list}
+use Rattle.proof_machines.proofs.unit.Words.{map-append, At_a, At_b, At_c, Ran, Steps, after, Item, Carry, Forward, Fence_to, idle, Phase, Idle, State}
+use Rattle.proof_machines.proofs.unit.Words.{MachineStep, Begin, Arrive, Take_sa, Take_sb, Take_sc, Take_ac, Take_bc, Take_ca, Take_cb, Take_cs, moved, begun}
+use Rattle.proof_machines.proofs.unit.Words.{switch_does, Over, firsts, firsts-append, runs-append, Stage, shape, all_of, Allowed, Placed, arrived_by, still}
+use Rattle.proof_machines.proofs.unit.Words.{one_more}
 use Rattle.proof_machines.proofs.unit.Kept.{lives, on_way}
-use Rattle.proof_machines.proofs.unit.Early.{still, one_more}
 use Rattle.proof_machines.proofs.unit.Bare.{bare_facts, stays_bare}
 use Rattle.proof_machines.proofs.unit.Steps.{goes_on}
 

@@ -1,11 +1,9 @@
 -- Each step of a refused move leads to a stage, in order: the records go back, the source's rule is turned, its own fence ends the
 -- move.
-use Rattle.std.proofs.Common.{◌≡◌, ℕ, Bool, true, false, Option, Some, None, List, [], ◌∷◌, ◌++◌, map, refl}
-use Rattle.nf_msgs.specs.declared.answer.Answer.{Answer}
-use Rattle.proof_machines.proofs.unit.Machine.{At_a, Ran, on, Steps, after, MachineStep, Arrive, Take_sa, Take_ac, Take_ca, Take_cs, joined}
-use Rattle.proof_machines.proofs.unit.Lists.{passing, plain, passes-plain, plains-plain, marked-plain}
-use Rattle.proof_machines.proofs.unit.Stages.{Restore_goes, Restored_comes, Turn_goes, Turned_back, Returned, Fence_a, Fenced_back, Undone, GoesOn}
-use Rattle.proof_machines.proofs.unit.Early.{shapes, paths, still, one_more}
+use Rattle.proof_machines.proofs.unit.Words.{◌≡◌, ℕ, Bool, true, false, Option, Some, None, List, [], ◌∷◌, ◌++◌, map, refl, Answer, At_a, Ran, on, Steps, after}
+use Rattle.proof_machines.proofs.unit.Words.{MachineStep, Arrive, Take_sa, Take_ac, Take_ca, Take_cs, joined, passing, plain, passes-plain, plains-plain}
+use Rattle.proof_machines.proofs.unit.Words.{marked-plain, Restore_goes, Restored_comes, Turn_goes, Turned_back, Returned, Fence_a, Fenced_back, Undone, GoesOn}
+use Rattle.proof_machines.proofs.unit.Words.{shapes, paths, still, one_more}
 
 pub joined_nothing : {R : Type 0} (F : Steps R) (o : Option R) → joined F o None ≡ o
 joined_nothing F None = refl

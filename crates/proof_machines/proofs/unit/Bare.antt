@@ -1,12 +1,9 @@
 -- A stage without any packet of the unit has no record of it and holds nothing; a step in which no packet comes leaves it so.
-use Rattle.std.proofs.Common.{◌≡◌, ℕ, ◌+◌, Bool, true, false, Option, Some, None, List, [], ◌∷◌, ◌++◌, map, refl, ap, ◌∙◌, arith}
-use Rattle.std.specs.Prelude.{if◌then◌else◌, ◌==◌, option_to_list}
+use Rattle.proof_machines.proofs.unit.Words.{◌≡◌, ℕ, ◌+◌, Bool, true, false, Option, Some, None, List, [], ◌∷◌, ◌++◌, map, refl, ap, ◌∙◌, arith, if◌then◌else◌}
+use Rattle.proof_machines.proofs.unit.Words.{◌==◌, option_to_list, Ran, Steps, after, Part, Rule, Free, Drops, Buffers, Item, Carry, Pass, Fence, Enable, Put}
+use Rattle.proof_machines.proofs.unit.Words.{next, State, MachineStep, firsts, marked, nil_left, nil_right, Stage, At_rest, Streams, Is_wide, shape, path}
+use Rattle.proof_machines.proofs.unit.Words.{all_of, loose, times, Same, IsOrderedAs, Allowed, arrived_by}
 use Rattle.std.proofs.lemmas.Bool.Decides.{Decides-eqb}
-use Rattle.proof_machines.proofs.unit.Machine.{Ran, Steps, after, Part, Rule, Free, Drops, Buffers, Item}
-use Rattle.proof_machines.proofs.unit.Machine.{Carry, Pass, Fence, Enable, Put, next, State, MachineStep}
-use Rattle.proof_machines.proofs.unit.Lists.{firsts, marked}
-use Rattle.proof_machines.proofs.unit.UnitPieces.{nil_left, nil_right}
-use Rattle.proof_machines.proofs.unit.Stages.{Stage, At_rest, Streams, Is_wide, shape, path, all_of, loose, times, Same, IsOrderedAs, Allowed, arrived_by}
 use Rattle.proof_machines.proofs.unit.Path.{passes_in, carries, path_of, path_is}
 use Rattle.proof_machines.proofs.unit.Kept.{Kept, Nowhere, Is_live, On_way, Twice, is_kept, lives, on_way, records_on, frozen_in}
 use Rattle.proof_machines.proofs.unit.Steps.{goes_on}

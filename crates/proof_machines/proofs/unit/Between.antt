@@ -1,9 +1,7 @@
 -- A seat begins as a unit at rest at one side, and a move that is over leaves it so.
-use Rattle.std.proofs.Common.{◌≡◌, ℕ, Bool, true, Some, None, List, [], ◌∷◌, ◌++◌, map, refl, ap, append-nil}
-use Rattle.proof_machines.proofs.unit.Machine.{Where, At_a, At_b, At_c, Ran, Steps, after, Item, Carry, idle, Phase, Idle, Over, State, Ended}
-use Rattle.proof_machines.proofs.unit.Lists.{firsts, never_true}
-use Rattle.proof_machines.proofs.unit.UnitPieces.{nil_left, nil_right}
-use Rattle.proof_machines.proofs.unit.Stages.{Stage, At_rest, Moved, Undone, rest, shape, all_of}
+use Rattle.proof_machines.proofs.unit.Words.{◌≡◌, ℕ, Bool, true, Some, None, List, [], ◌∷◌, ◌++◌, map, refl, ap, append-nil, Where, At_a, At_b, At_c, Ran}
+use Rattle.proof_machines.proofs.unit.Words.{Steps, after, Item, Carry, idle, Phase, Idle, Over, State, Ended, firsts, never_true, nil_left, nil_right, Stage}
+use Rattle.proof_machines.proofs.unit.Words.{At_rest, Moved, Undone, rest, shape, all_of}
 use Rattle.proof_machines.proofs.unit.Path.{carries}
 use Rattle.proof_machines.proofs.unit.DestinationUnits.{strip, beside}
 use Rattle.proof_machines.proofs.unit.Bare.{firsts_nil}

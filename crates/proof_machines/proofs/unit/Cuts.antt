@@ -1,11 +1,8 @@
 -- A source's records, cut into pieces: each unit sees its record in exactly one of them, and the last alone has the mark.
-use Rattle.std.proofs.Common.{◌≡◌, ℕ, suc, zero, true, false, Option, Some, None, List, [], ◌∷◌, ◌++◌}
-use Rattle.std.proofs.Common.{map, length, take, drop, refl, sym, ap, ◌∙◌, append-nil, take-append-drop}
-use Rattle.std.specs.Prelude.{if◌then◌else◌, ◌==◌, option_to_list, nat_le}
+use Rattle.proof_machines.proofs.unit.Words.{◌≡◌, ℕ, suc, zero, true, false, Option, Some, None, List, [], ◌∷◌, ◌++◌, map, length, take, drop, refl, sym, ap}
+use Rattle.proof_machines.proofs.unit.Words.{◌∙◌, append-nil, take-append-drop, if◌then◌else◌, ◌==◌, option_to_list, nat_le, same_unit, is_nil, Piece}
+use Rattle.proof_machines.proofs.unit.Words.{ArePiecesOf, records, closes, first, nil_left, nil_right, first_of_one}
 use Rattle.nf_function.specs.declared.unit.Unit as units
-use Rattle.record_table.specs.Table.{same_unit}
-use Rattle.proof_machines.proofs.unit.Machine.{is_nil, Piece}
-use Rattle.proof_machines.proofs.unit.UnitPieces.{ArePiecesOf, records, closes, first, nil_left, nil_right, first_of_one}
 use Rattle.proof_machines.proofs.unit.Real.{Chunks, record_at, RPiece, Msg, M_piece, Frame, see, view}
 use Rattle.proof_machines.proofs.Tests.{by_if}
 

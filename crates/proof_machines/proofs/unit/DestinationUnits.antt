@@ -1,16 +1,12 @@
 -- Each step for a unit that the destination owns already, while a move takes it: its packets stay in order, also where they are
 -- held, its record stays there.
-use Rattle.std.proofs.Common.{◌≡◌, ℕ, Bool, true, false, Option, Some, None, List, [], ◌∷◌, ◌++◌, map, refl, sym, ap, ◌∙◌, append_assoc, append-nil}
-use Rattle.std.specs.Prelude.{option_to_list}
-use Rattle.nf_msgs.specs.declared.answer.Answer.{Answer}
-use Rattle.proof_machines.proofs.unit.Machine.{At_a, At_b, At_c, Ran, on, Steps, after, Part, Free, Drops, Buffers, Item, Carry, Pass, Fence}
-use Rattle.proof_machines.proofs.unit.Machine.{Enable, Put, Forward, Fence_to, Phase, Idle, State, MachineStep, Begin, Arrive, Take_sa, Take_sb}
-use Rattle.proof_machines.proofs.unit.Machine.{Take_sc, Take_ac, Take_bc, Take_ca, Take_cb, Take_cs, moved, begun, put, put_b, switch_does, Over}
-use Rattle.proof_machines.proofs.unit.Lists.{firsts, firsts-append, firsts-on, runs-append}
-use Rattle.proof_machines.proofs.unit.Stages.{Stage, At_rest, shape, all_of, Allowed, Placed, arrived_by}
+use Rattle.proof_machines.proofs.unit.Words.{◌≡◌, ℕ, Bool, true, false, Option, Some, None, List, [], ◌∷◌, ◌++◌, map, refl, sym, ap, ◌∙◌, append_assoc}
+use Rattle.proof_machines.proofs.unit.Words.{append-nil, option_to_list, Answer, At_a, At_b, At_c, Ran, on, Steps, after, Part, Free, Drops, Buffers, Item}
+use Rattle.proof_machines.proofs.unit.Words.{Carry, Pass, Fence, Enable, Put, Forward, Fence_to, Phase, Idle, State, MachineStep, Begin, Arrive, Take_sa}
+use Rattle.proof_machines.proofs.unit.Words.{Take_sb, Take_sc, Take_ac, Take_bc, Take_ca, Take_cb, Take_cs, moved, begun, put, put_b, switch_does, Over, firsts}
+use Rattle.proof_machines.proofs.unit.Words.{firsts-append, firsts-on, runs-append, Stage, At_rest, shape, all_of, Allowed, Placed, arrived_by, still, one_more}
 use Rattle.proof_machines.proofs.unit.Path.{carries, carries-append}
 use Rattle.proof_machines.proofs.unit.Kept.{records_on, lives, on_way}
-use Rattle.proof_machines.proofs.unit.Early.{still, one_more}
 use Rattle.proof_machines.proofs.unit.Bare.{bare_facts, stays_bare, to_dest, fences, not_drops}
 use Rattle.proof_machines.proofs.unit.Steps.{goes_on}
 

@@ -1,16 +1,12 @@
 -- All steps while a move streams (`streams`): what the door lets on, what is put and answered, and what goes back after a refusal.
 -- Each leads to a stage, in order.
-use Rattle.std.proofs.Common.{◌≡◌, ℕ, Bool, true, false, Option, Some, None, List, [], ◌∷◌, ◌++◌, refl, sym, ap, ◌∙◌, append_assoc, append-nil}
-use Rattle.std.specs.Prelude.{◌&&◌}
+use Rattle.proof_machines.proofs.unit.Words.{◌≡◌, ℕ, Bool, true, false, Option, Some, None, List, [], ◌∷◌, ◌++◌, refl, sym, ap, ◌∙◌, append_assoc, append-nil}
+use Rattle.proof_machines.proofs.unit.Words.{◌&&◌, Answer, At_a, Ran, Steps, after, joined, Part, pick, or_own, is_nil, MachineStep, Arrive, Take_sa, Take_ac}
+use Rattle.proof_machines.proofs.unit.Words.{Take_bc, Take_ca, Take_cb, Mix, Ev, Pc, Dd, events, parts_in, named, shown-events, nil_is, ArePiecesOf, refit}
+use Rattle.proof_machines.proofs.unit.Words.{pick_all, pick-append, pick_one, others, last_is, none_behind, nil_left, nil_right, Streams, All_put, Hold_goes}
+use Rattle.proof_machines.proofs.unit.Words.{Laying, Restore_goes, Doorway, Is_shut, Is_asked, Is_agreed, Is_denied, Is_wide, Is_refused, Flows, body, GoesOn}
+use Rattle.proof_machines.proofs.unit.Words.{shapes, paths, still}
 use Rattle.std.proofs.lemmas.Bool.{and_parts, false_from_ne_true}
-use Rattle.nf_msgs.specs.declared.answer.Answer.{Answer}
-use Rattle.proof_machines.proofs.unit.Machine.{At_a, Ran, Steps, after, joined, Part, pick, or_own, is_nil}
-use Rattle.proof_machines.proofs.unit.Machine.{MachineStep, Arrive, Take_sa, Take_ac, Take_bc, Take_ca, Take_cb}
-use Rattle.proof_machines.proofs.unit.Lists.{Mix, Ev, Pc, Dd, events, parts_in, named, shown-events, nil_is}
-use Rattle.proof_machines.proofs.unit.UnitPieces.{ArePiecesOf, refit, pick_all, pick-append, pick_one, others, last_is, none_behind, nil_left, nil_right}
-use Rattle.proof_machines.proofs.unit.Stages.{Streams, All_put, Hold_goes, Laying, Restore_goes, Doorway, Is_shut}
-use Rattle.proof_machines.proofs.unit.Stages.{Is_asked, Is_agreed, Is_denied, Is_wide, Is_refused, Flows, body, GoesOn}
-use Rattle.proof_machines.proofs.unit.Early.{shapes, paths, still}
 use Rattle.proof_machines.proofs.unit.Flow.{arrives, drops_on, deletes, stores, piece_comes}
 use Rattle.proof_machines.proofs.Tests.{either_way}
 

@@ -1,13 +1,9 @@
 -- Steps while a move streams, whatever the door: a packet comes, is handed out or stored, a piece comes, a Delete is taken. Each
 -- leads to a stage, in order.
-use Rattle.std.proofs.Common.{◌≡◌, ℕ, Bool, Option, Some, None, List, [], ◌∷◌, ◌++◌, refl, sym, append_assoc, append-nil}
-use Rattle.std.specs.Prelude.{if◌then◌else◌, is_some}
-use Rattle.std.proofs.lemmas.List.{map-append}
-use Rattle.proof_machines.proofs.unit.Machine.{At_a, Ran, Steps, after, Part, pick, or_own, Arrive, Take_sa, Take_ac, Take_ca}
-use Rattle.proof_machines.proofs.unit.Lists.{firsts-append, events-append, pieces-append, named-append, Mix, Ev, Pc, Dd, parts_in, named}
-use Rattle.proof_machines.proofs.unit.UnitPieces.{ArePiecesOf, refit, others, last_is}
-use Rattle.proof_machines.proofs.unit.Stages.{Streams, Doorway, Flows, reflow, front, body, GoesOn}
-use Rattle.proof_machines.proofs.unit.Early.{shapes, paths, still}
+use Rattle.proof_machines.proofs.unit.Words.{◌≡◌, ℕ, Bool, Option, Some, None, List, [], ◌∷◌, ◌++◌, refl, sym, append_assoc, append-nil, if◌then◌else◌, is_some}
+use Rattle.proof_machines.proofs.unit.Words.{map-append, At_a, Ran, Steps, after, Part, pick, or_own, Arrive, Take_sa, Take_ac, Take_ca, firsts-append}
+use Rattle.proof_machines.proofs.unit.Words.{events-append, pieces-append, named-append, Mix, Ev, Pc, Dd, parts_in, named, ArePiecesOf, refit, others, last_is}
+use Rattle.proof_machines.proofs.unit.Words.{Streams, Doorway, Flows, reflow, front, body, GoesOn, shapes, paths, still}
 
 ruleset mixed = (map-append, append_assoc, append-nil, events-append, pieces-append, named-append)
 

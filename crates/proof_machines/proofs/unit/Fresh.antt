@@ -1,16 +1,12 @@
 -- Where an instance processes packets of the unit in a step of the machine, its record is that of the fold of all that was done before.
-use Rattle.std.proofs.Common.{◌≡◌, ◌≢◌, ℕ, Bool, true, false, Option, Some, None, List, [], ◌∷◌, ◌++◌, map, refl, sym, ap, ◌∙◌, subst, append-nil}
-use Rattle.std.specs.Prelude.{if◌then◌else◌}
-use Rattle.nf_msgs.specs.declared.answer.Answer.{Answer}
-use Rattle.proof_machines.proofs.unit.Machine.{Where, At_a, At_b, Steps, after, Part, Inst, inst_does, put, Item, Carry}
-use Rattle.proof_machines.proofs.unit.Machine.{Pass, Fence, Put, delete, next, State, Take_sa, Take_sb, put_a, put_b, moved}
-use Rattle.proof_machines.proofs.unit.UnitPieces.{nil_right}
-use Rattle.proof_machines.proofs.unit.Stages.{drops, Stage, At_rest, Streams, All_put, Hold_goes, Held, Laying, Turned, Turned_loose, Restore_goes, Doorway}
-use Rattle.proof_machines.proofs.unit.Stages.{Is_wide, puts_of, shape, all_of}
+use Rattle.proof_machines.proofs.unit.Words.{◌≡◌, ◌≢◌, ℕ, Bool, true, false, Option, Some, None, List, [], ◌∷◌, ◌++◌, map, refl, sym, ap, ◌∙◌, subst}
+use Rattle.proof_machines.proofs.unit.Words.{append-nil, if◌then◌else◌, Answer, Where, At_a, At_b, Steps, after, Part, Inst, inst_does, put, Item, Carry, Pass}
+use Rattle.proof_machines.proofs.unit.Words.{Fence, Put, delete, next, State, Take_sa, Take_sb, put_a, put_b, moved, nil_right, drops, Stage, At_rest, Streams}
+use Rattle.proof_machines.proofs.unit.Words.{All_put, Hold_goes, Held, Laying, Turned, Turned_loose, Restore_goes, Doorway, Is_wide, puts_of, shape, all_of}
+use Rattle.proof_machines.proofs.unit.Words.{cons_nil}
 use Rattle.proof_machines.proofs.unit.Bare.{bare_facts, stays_bare}
 use Rattle.proof_machines.proofs.unit.Steps.{goes_on}
 use Rattle.proof_machines.proofs.unit.Seats.{UnitSeat, Covered, Is_beside, Is_away, seat_shape}
-use Rattle.proof_machines.proofs.unit.Lists.{cons_nil}
 
 -- a message at which no instance processes anything
 abbrev pub still_item : {R : Type 0} → Item R → Bool

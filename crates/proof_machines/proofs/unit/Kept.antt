@@ -1,14 +1,13 @@
 -- In each stage the unit's record is at one place: live at one side, or in one piece or the Restore, or equal in a piece and at the
 -- source.
-use Rattle.std.proofs.Common.{◌≡◌, ℕ, Bool, Option, Some, None, List, [], ◌∷◌, ◌++◌, map, refl, sym, ap, ◌∙◌, append_assoc, append-nil}
-use Rattle.std.specs.Prelude.{option_to_list}
-use Rattle.proof_machines.proofs.unit.Machine.{Ran, Steps, after, Part, pick, Item, Put, Restore, Event, Piece, Put_no, Phase, Streaming, next, delete, State}
-use Rattle.proof_machines.proofs.unit.Lists.{Mix, Ev, Pc, Dd, shown, parts_in, named}
-use Rattle.proof_machines.proofs.unit.UnitPieces.{records, records-append, first, pick_first, nil_left, nil_right}
-use Rattle.proof_machines.proofs.unit.Stages.{Stage, At_rest, Begun, Frozen, Stream_goes, Streams, All_put, Hold_goes, Held, Laying, Turned, Fenced_a}
-use Rattle.proof_machines.proofs.unit.Stages.{Ending_b, Fence_b, Turned_loose, Fenced_loose, Ending_loose, Fence_loose, Fenced_b, Moved, Restore_goes}
-use Rattle.proof_machines.proofs.unit.Stages.{Restored_comes, Turn_goes, Turned_back, Returned, Fence_a, Fenced_back, Undone, Doorway, Is_shut, Is_asked}
-use Rattle.proof_machines.proofs.unit.Stages.{Is_agreed, Is_denied, Is_wide, Is_refused, Flows, front, free_of, puts_of, answers_of, live_of, body, shape}
+use Rattle.proof_machines.proofs.unit.Words.{◌≡◌, ℕ, Bool, Option, Some, None, List, [], ◌∷◌, ◌++◌, map, refl, sym, ap, ◌∙◌, append_assoc, append-nil}
+use Rattle.proof_machines.proofs.unit.Words.{option_to_list, Ran, Steps, after, Part, pick, Item, Put, Restore, Event, Piece, Put_no, Phase, next, delete}
+use Rattle.proof_machines.proofs.unit.Words.{State, Mix, Ev, Pc, Dd, shown, parts_in, named, records, records-append, first, pick_first, nil_left, nil_right}
+use Rattle.proof_machines.proofs.unit.Words.{Stage, At_rest, Begun, Frozen, Stream_goes, Streams, All_put, Hold_goes, Held, Laying, Turned, Fenced_a, Ending_b}
+use Rattle.proof_machines.proofs.unit.Words.{Fence_b, Turned_loose, Fenced_loose, Ending_loose, Fence_loose, Fenced_b, Moved, Restore_goes, Restored_comes}
+use Rattle.proof_machines.proofs.unit.Words.{Turn_goes, Turned_back, Returned, Fence_a, Fenced_back, Undone, Doorway, Is_shut, Is_asked, Is_agreed, Is_denied}
+use Rattle.proof_machines.proofs.unit.Words.{Is_wide, Is_refused, Flows, front, free_of, puts_of, answers_of, live_of, body, shape}
+use Rattle.proof_machines.proofs.unit.Machine.{Streaming}
 
 -- the record in a message
 abbrev pub record_in : {R : Type 0} → Item R → Option R

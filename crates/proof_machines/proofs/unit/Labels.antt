@@ -1,14 +1,10 @@
 -- Another move's pieces have nothing of the unit: at the source that cuts them, at the controller that keeps them, and so in all
 -- that it sends.
-use Rattle.std.proofs.Common.{◌≡◌, ℕ, false, None, Option, List, [], ◌∷◌, ◌++◌, map, refl, sym, ap, ◌∙◌}
-use Rattle.std.specs.Prelude.{is_some}
+use Rattle.proof_machines.proofs.unit.Words.{◌≡◌, ℕ, false, None, Option, List, [], ◌∷◌, ◌++◌, map, refl, sym, ap, ◌∙◌, is_some, is_among, Answer, Streaming}
+use Rattle.proof_machines.proofs.unit.Words.{Said, Nothing, Remove, Ask, Release, Give_back, nil_left, nil_right}
 use Rattle.nf_function.specs.declared.unit.Unit as units
-use Rattle.record_table.specs.Table.{is_among}
-use Rattle.nf_msgs.specs.declared.answer.Answer.{Answer}
 pub use Rattle.actor_net.proofs.WeightLaws.{Each, each-append}
-use Rattle.move_op.specs.Phases.{Streaming}
-use Rattle.move_op.specs.Table.{Said, Nothing, Remove, Restore, Ask, Put, Release, Give_back}
-use Rattle.proof_machines.proofs.unit.UnitPieces.{nil_left, nil_right}
+use Rattle.move_op.specs.Table.{Restore, Put}
 use Rattle.proof_machines.proofs.unit.Real.{Chunks, record_at, RPiece, chunks_of, Msg, M_delete, M_put, M_restore, M_piece, M_put_no, M_install, M_fence_to}
 use Rattle.proof_machines.proofs.unit.Real.{RPhase, Op, OperationTurn, r_words, put_to, forward_to, sends_of, r_from_source, r_from_destination}
 use Rattle.proof_machines.proofs.unit.TableRows.{PhaseHas, SaidHas, Hold, Any, any_each, any_door}

@@ -1,10 +1,8 @@
 -- Each step of a move with a buffer at B, from the last put to the end, leads to a stage, in order.
-use Rattle.std.proofs.Common.{◌≡◌, ℕ, Bool, true, false, List, [], ◌∷◌, ◌++◌, map, refl, ap}
-use Rattle.proof_machines.proofs.unit.Machine.{At_a, At_b, Ran, on, Steps, MachineStep, Arrive, Take_sa, Take_sb, Take_ac, Take_bc, Take_cb, Take_cs}
-use Rattle.proof_machines.proofs.unit.Lists.{passing, plain, passes-passing, plains-passing, marked-passing}
-use Rattle.proof_machines.proofs.unit.Stages.{All_put, Hold_goes, Held, Laying, Turned, Fenced_a, Ending_b}
-use Rattle.proof_machines.proofs.unit.Stages.{Fence_b, Turned_loose, Fenced_b, Moved, GoesOn, Placed, Same, times}
-use Rattle.proof_machines.proofs.unit.Early.{shapes, paths, still, one_more}
+use Rattle.proof_machines.proofs.unit.Words.{◌≡◌, ℕ, Bool, true, false, List, [], ◌∷◌, ◌++◌, map, refl, ap, At_a, At_b, Ran, on, Steps, MachineStep, Arrive}
+use Rattle.proof_machines.proofs.unit.Words.{Take_sa, Take_sb, Take_ac, Take_bc, Take_cb, Take_cs, passing, plain, passes-passing, plains-passing}
+use Rattle.proof_machines.proofs.unit.Words.{marked-passing, All_put, Hold_goes, Held, Laying, Turned, Fenced_a, Ending_b, Fence_b, Turned_loose, Fenced_b}
+use Rattle.proof_machines.proofs.unit.Words.{Moved, GoesOn, Placed, Same, times, shapes, paths, still, one_more}
 
 -- equal lists have the same packets
 pub same_lists : {xs ys : List ℕ} → xs ≡ ys → Same xs ys

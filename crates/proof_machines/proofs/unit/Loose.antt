@@ -1,10 +1,9 @@
 -- Each step of a move without a buffer at B, after its Install, leads to a stage, with the same packets in whatever order.
-use Rattle.std.proofs.Common.{◌≡◌, ℕ, Bool, true, false, List, [], ◌∷◌, ◌++◌, refl, append_assoc, append-nil, arith}
+use Rattle.proof_machines.proofs.unit.Words.{◌≡◌, ℕ, Bool, true, false, List, [], ◌∷◌, ◌++◌, refl, append_assoc, append-nil, arith}
+use Rattle.proof_machines.proofs.unit.Words.{At_b, Ran, Steps, MachineStep, Arrive, Take_sa, Take_sb, Take_ac, Take_cs, firsts-append, passing, plain, plains}
+use Rattle.proof_machines.proofs.unit.Words.{passes-append, plains-append, Turned_loose, Fenced_loose, Ending_loose, Fence_loose, Fenced_b, GoesOn}
+use Rattle.proof_machines.proofs.unit.Words.{shapes, paths, still, one_more}
 pub use Rattle.actor_net.proofs.NumberCounts.{none_in, times-append}
-use Rattle.proof_machines.proofs.unit.Machine.{At_b, Ran, Steps, MachineStep, Arrive, Take_sa, Take_sb, Take_ac, Take_cs}
-use Rattle.proof_machines.proofs.unit.Lists.{firsts-append, passing, plain, plains, passes-append, plains-append}
-use Rattle.proof_machines.proofs.unit.Stages.{Turned_loose, Fenced_loose, Ending_loose, Fence_loose, Fenced_b, GoesOn}
-use Rattle.proof_machines.proofs.unit.Early.{shapes, paths, still, one_more}
 use Rattle.proof_machines.proofs.unit.Late.{same_lists}
 
 ruleset counts = (times-append, firsts-append, passes-append, plains-append, append_assoc, append-nil)

@@ -1,7 +1,5 @@
 -- Of one unit at most one record is on its way: with the pieces that the controller keeps, and in what comes from B.
-use Rattle.std.proofs.Common.{◌≡◌, ◌+◌, ◌≤◌, Option, List, ◌∷◌, ◌++◌, length, length-append, ap, ◌∙◌, sym, arith}
-use Rattle.std.specs.Prelude.{option_to_list}
-use Rattle.proof_machines.proofs.unit.Machine.{Steps, Item}
+use Rattle.proof_machines.proofs.unit.Words.{◌≡◌, ◌+◌, ◌≤◌, Option, List, ◌∷◌, ◌++◌, length, length-append, ap, ◌∙◌, sym, arith, option_to_list, Steps, Item}
 use Rattle.proof_machines.proofs.unit.Kept.{records_on, record_in, frozen_in, free_in, Kept, Nowhere, Is_live, On_way, Twice}
 use Rattle.proof_machines.proofs.unit.Seats.{UnitSeat, seat_shape}
 use Rattle.proof_machines.proofs.unit.SeatLaws.{seat_kept}

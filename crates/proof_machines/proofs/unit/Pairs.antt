@@ -1,10 +1,8 @@
 -- The machine's links as a function of pairs of nodes: the switch is 0, the controller 1, then A, B and a third instance. What a
 -- step of one node leaves on them, for all pairs at once.
-use Rattle.std.proofs.Common.{◌≡◌, ◌≢◌, ℕ, ◌≤◌, true, false, List, [], ◌∷◌, ◌++◌, drop, refl, sym, append-nil, arith}
-use Rattle.std.specs.Prelude.{if◌then◌else◌, ◌&&◌, ◌==◌}
+use Rattle.proof_machines.proofs.unit.Words.{◌≡◌, ◌≢◌, ℕ, ◌≤◌, true, false, List, [], ◌∷◌, ◌++◌, drop, refl, sym, append-nil, arith, if◌then◌else◌, ◌&&◌, ◌==◌}
+use Rattle.proof_machines.proofs.unit.Words.{Item, State, cons_nil}
 use Rattle.std.proofs.lemmas.Bool.Decides.{nat_tests}
-use Rattle.proof_machines.proofs.unit.Machine.{Item, State}
-use Rattle.proof_machines.proofs.unit.Lists.{cons_nil}
 
 -- three instances apart from each other
 pub record Nodes (a b c : ℕ) : Type 0 where

@@ -1,8 +1,7 @@
 -- The path of a stage is what waits in the machine, place by place: on links, in the store, and held.
-use Rattle.std.proofs.Common.{◌≡◌, ℕ, Bool, true, false, List, [], ◌∷◌, ◌++◌, map, refl, ap, append_assoc, append-nil}
-use Rattle.proof_machines.proofs.unit.Machine.{Steps, Item, Carry, Pass, Event, Forward, State}
-use Rattle.proof_machines.proofs.unit.Lists.{marked, passes, plains, Mix, Ev, Pc, Dd, shown, events}
-use Rattle.proof_machines.proofs.unit.Stages.{Stage, At_rest, shape, path, to_a, to_b}
+use Rattle.proof_machines.proofs.unit.Words.{◌≡◌, ℕ, Bool, true, false, List, [], ◌∷◌, ◌++◌, map, refl, ap, append_assoc, append-nil, Steps, Item, Carry, Pass}
+use Rattle.proof_machines.proofs.unit.Words.{Event, Forward, State, marked, passes, plains, Mix, Ev, Pc, Dd, shown, events, Stage, At_rest, shape, path, to_a}
+use Rattle.proof_machines.proofs.unit.Words.{to_b}
 
 abbrev pub passes_in : {R : Type 0} → List (Item R) → List ℕ
 passes_in [] = []

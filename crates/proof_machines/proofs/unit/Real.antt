@@ -1,19 +1,14 @@
 -- A move as the controller keeps it, with chunks of many units and sends with receivers, and what one unit sees of it (`seen`,
 -- `see_phase`, `Sees`).
-use Rattle.std.proofs.Common.{◌≡◌, ℕ, Bool, true, false, Option, Some, None, List, [], ◌∷◌, ◌++◌, map, refl}
-use Rattle.std.specs.Prelude.{if◌then◌else◌, ◌&&◌, ◌==◌}
+use Rattle.proof_machines.proofs.unit.Words.{◌≡◌, ℕ, Bool, true, false, Option, Some, None, List, [], ◌∷◌, ◌++◌, map, refl, if◌then◌else◌, ◌&&◌, ◌==◌, unit_cmp}
+use Rattle.proof_machines.proofs.unit.Words.{is_among, Answer, PhaseOf, Words, on_event, on_source_enabled, on_piece, on_deleted, on_restored, on_source_fenced}
+use Rattle.proof_machines.proofs.unit.Words.{on_put_ok, on_put_no, on_destination_enabled, on_destination_fenced, Where, At_a, At_b, Rule, Buffers, Part, Item}
+use Rattle.proof_machines.proofs.unit.Words.{Enable, Stream, Delete, Put, Restore, Enabled, Event, Piece, Deleted, Put_ok, Put_no, Restored, Fenced, Forward}
+use Rattle.proof_machines.proofs.unit.Words.{Fence_to, Install, Stray, Ended, Phase, ControllerTurn}
 use Rattle.std.specs.FinMap.{find}
 use Rattle.nf_function.specs.declared.unit.Unit as units
-use Rattle.nf_function.specs.Units.{unit_cmp}
-use Rattle.record_table.specs.Table.{is_among}
-use Rattle.nf_msgs.specs.declared.answer.Answer.{Answer}
-use Rattle.move_op.specs.Phases.{PhaseOf}
 use Rattle.move_op.specs.Table as said
-use Rattle.move_op.specs.Table.{Words, on_event, on_source_enabled, on_piece, on_deleted, on_restored, on_source_fenced, on_put_ok, on_put_no}
-use Rattle.move_op.specs.Table.{on_destination_enabled, on_destination_fenced}
 use Rattle.proof_machines.proofs.unit.TableViews.{map_phase}
-use Rattle.proof_machines.proofs.unit.Machine.{Where, At_a, At_b, Rule, Buffers, Part, Item, Enable, Stream, Delete, Put, Restore, Enabled, Event, Piece}
-use Rattle.proof_machines.proofs.unit.Machine.{Deleted, Put_ok, Put_no, Restored, Fenced, Forward, Fence_to, Install, Stray, Ended, Phase, ControllerTurn}
 
 -- chunks mean units with their records
 abbrev pub Chunks : Type 0 → Type 0

@@ -1,7 +1,5 @@
 -- What holds of all that the words of a move come to in the abstract network holds of its row on any message.
-use Rattle.std.proofs.Common.{ℕ, Bool, Option, List}
-use Rattle.actor_net.proofs.WeightLaws.{Each}
-use Rattle.nf_msgs.specs.declared.answer.Answer.{Answer}
+use Rattle.proof_machines.proofs.unit.Words.{ℕ, Bool, Option, List, Each, Answer}
 use Rattle.proof_machines.proofs.unit.Real.{RPiece, Msg, M_event, M_enabled, M_piece, M_deleted, M_restored, M_fenced, M_put_ok, M_put_no, RPhase, Op}
 use Rattle.proof_machines.proofs.unit.Real.{OperationTurn, r_words, put_back, r_from_source, r_from_destination}
 use Rattle.proof_machines.proofs.unit.TableRows.{PhaseHas, Hold, stays, event_holds, source_enabled_holds, piece_holds, deleted_holds, restored_holds}

@@ -1,6 +1,6 @@
 -- The live records of an instance keep the four laws of look-ups of `SeenInst`.
-use Rattle.std.proofs.Common.{◌≡◌, [], ◌∷◌, Option, Some, None, refl, sym, ap, ◌∙◌}
-use Rattle.std.specs.Prelude.{T, if◌then◌else◌, ◌&&◌, option_to_list}
+use Rattle.proof_machines.proofs.unit.Words.{◌≡◌, [], ◌∷◌, Option, Some, None, refl, sym, ap, ◌∙◌, T, if◌then◌else◌, ◌&&◌, option_to_list, unit_cmp, Records}
+use Rattle.proof_machines.proofs.unit.Words.{same_unit, without, either, newest_of, Steps, joined}
 use Rattle.std.specs.Ordering.{is_eq, is_lt}
 use Rattle.std.specs.declared.cmp.Ordering.TheVariants.{Less, Equal, Greater}
 use Rattle.std.specs.FinMap as finite
@@ -8,14 +8,11 @@ use Rattle.std.specs.FinMap.{is_sorted, entries_sorted, get-entries, get-from_en
 use Rattle.std.specs.FinMap.Entries.{below_all}
 use Rattle.std.proofs.Math.Facts.{and_yes}
 use Rattle.nf_function.specs.declared.unit.Unit as units
-use Rattle.nf_function.specs.Units.{unit_cmp}
 use Rattle.nf_function.specs.UnitOrder.{units_total}
 use Rattle.nf_function.specs.Semantics.{Semantics}
 use Rattle.nf_function.specs.Records.{newest}
-use Rattle.record_table.specs.Table.{Records, same_unit, without, either, newest_of}
 use Rattle.record_table.proofs.UnitOrder.{one_unit, same_unit-true}
 use Rattle.record_table.proofs.RecordLookUps.{get-joined, get-without}
-use Rattle.proof_machines.proofs.unit.Machine.{Steps, joined}
 use Rattle.proof_machines.proofs.unit.Real.{Chunks, record_at}
 use Rattle.proof_machines.proofs.unit.Cuts.{all_at}
 use Rattle.proof_machines.proofs.unit.SeenInst.{Tables, Laws}

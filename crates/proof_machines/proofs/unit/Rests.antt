@@ -1,11 +1,9 @@
 -- The machine at rest: with no message on a link the move has ended and no packet is left.
-use Rattle.std.proofs.Common.{◌≡◌, ℕ, Bool, true, false, List, [], ◌∷◌, ◌++◌, map, refl, sym}
-use Rattle.proof_machines.proofs.unit.Machine.{Ran, Steps, Part, Item, Carry, Phase, Over, delete, State}
-use Rattle.proof_machines.proofs.unit.Lists.{Mix, shown, cons_nil, map_nil}
-use Rattle.proof_machines.proofs.unit.Stages.{Stage, At_rest, Begun, Frozen, Stream_goes, Streams, All_put, Hold_goes, Held, Laying, Turned, Fenced_a}
-use Rattle.proof_machines.proofs.unit.Stages.{Ending_b, Fence_b, Turned_loose, Fenced_loose, Ending_loose, Fence_loose, Fenced_b, Moved, Restore_goes}
-use Rattle.proof_machines.proofs.unit.Stages.{Restored_comes, Turn_goes, Turned_back, Returned, Fence_a, Fenced_back, Undone, Doorway, Is_shut, Is_asked}
-use Rattle.proof_machines.proofs.unit.Stages.{Is_agreed, Is_denied, Is_wide, Is_refused, Flows, body, shape, path, IsOrderedAs}
+use Rattle.proof_machines.proofs.unit.Words.{◌≡◌, ℕ, Bool, true, false, List, [], ◌∷◌, ◌++◌, map, refl, sym, Ran, Steps, Part, Item, Carry, Phase, Over, delete}
+use Rattle.proof_machines.proofs.unit.Words.{State, Mix, shown, cons_nil, map_nil, Stage, At_rest, Begun, Frozen, Stream_goes, Streams, All_put, Hold_goes}
+use Rattle.proof_machines.proofs.unit.Words.{Held, Laying, Turned, Fenced_a, Ending_b, Fence_b, Turned_loose, Fenced_loose, Ending_loose, Fence_loose, Fenced_b}
+use Rattle.proof_machines.proofs.unit.Words.{Moved, Restore_goes, Restored_comes, Turn_goes, Turned_back, Returned, Fence_a, Fenced_back, Undone, Doorway}
+use Rattle.proof_machines.proofs.unit.Words.{Is_shut, Is_asked, Is_agreed, Is_denied, Is_wide, Is_refused, Flows, body, shape, path, IsOrderedAs}
 
 pub exactly : (b : Bool) (xs ys : List ℕ) → b ≡ false → IsOrderedAs b xs ys → xs ≡ ys
 exactly true xs ys e o = let never : true ≡ false = e in cc

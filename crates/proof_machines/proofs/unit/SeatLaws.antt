@@ -1,7 +1,5 @@
 -- In each seat the record stands at one place.
-use Rattle.std.proofs.Common.{Option, Some, None, [], refl}
-use Rattle.std.specs.Prelude.{option_to_list}
-use Rattle.proof_machines.proofs.unit.Machine.{Steps, after}
+use Rattle.proof_machines.proofs.unit.Words.{Option, Some, None, [], refl, option_to_list, Steps, after}
 use Rattle.proof_machines.proofs.unit.Kept.{Kept, Nowhere, Is_live, IsKept, is_kept}
 use Rattle.proof_machines.proofs.unit.Away.{shape_away, away_kept}
 use Rattle.proof_machines.proofs.unit.DestinationUnits.{shape_beside, beside_kept}

@@ -1,13 +1,11 @@
 -- Of a move's row over real pieces one unit sees the machine's row; of another message nothing.
-use Rattle.std.proofs.Common.{◌≡◌, ℕ, Bool, true, false, Option, Some, None, List, [], ◌∷◌, ◌++◌, map, refl, ap, ◌∙◌, append-nil}
-use Rattle.std.specs.Prelude.{if◌then◌else◌, ◌||◌, ◌==◌, is_some}
+use Rattle.proof_machines.proofs.unit.Words.{◌≡◌, ℕ, Bool, true, false, Option, Some, None, List, [], ◌∷◌, ◌++◌, map, refl, ap, ◌∙◌, append-nil, if◌then◌else◌}
+use Rattle.proof_machines.proofs.unit.Words.{◌||◌, ◌==◌, is_some, same_unit, is_among, on_event, on_piece, Where, At_a, At_b, Buffers, pick, or_own, next, Item}
+use Rattle.proof_machines.proofs.unit.Words.{Enable, Stream, Delete, Put, Restore, Enabled, Event, Piece, Deleted, Put_ok, Put_no, Restored, Fenced, Forward}
+use Rattle.proof_machines.proofs.unit.Words.{Fence_to, Install, Passing, Ending, Undoing, Ended, ControllerTurn, goes, words, from_source, part_back}
+use Rattle.proof_machines.proofs.unit.Words.{from_destination}
 use Rattle.nf_function.specs.declared.unit.Unit as units
-use Rattle.record_table.specs.Table.{same_unit, is_among}
-use Rattle.move_op.specs.Table.{on_event, on_piece}
-use Rattle.proof_machines.proofs.unit.Machine.{Where, At_a, At_b, Buffers, pick, or_own, next, Item, Enable, Stream, Delete, Put, Restore, Enabled}
-use Rattle.proof_machines.proofs.unit.Machine.{Event, Piece, Deleted, Put_ok, Put_no, Restored, Fenced, Forward, Fence_to, Install, Shut, Asked}
-use Rattle.proof_machines.proofs.unit.Machine.{Streaming, Holding, Passing, Ending, Restoring, Returning, Undoing, Ended, ControllerTurn, goes, words}
-use Rattle.proof_machines.proofs.unit.Machine.{from_source, part_back, from_destination}
+use Rattle.proof_machines.proofs.unit.Machine.{Shut, Asked, Streaming, Holding, Restoring, Returning}
 use Rattle.proof_machines.proofs.unit.TableViews.{Follow, event_follows, source_enabled_follows, piece_follows, deleted_follows, restored_follows}
 use Rattle.proof_machines.proofs.unit.TableViews.{source_fenced_follows, put_ok_follows, put_no_follows, destination_enabled_follows}
 use Rattle.proof_machines.proofs.unit.TableViews.{destination_fenced_follows}

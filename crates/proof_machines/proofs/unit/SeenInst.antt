@@ -1,11 +1,8 @@
 -- Of an instance's rows on pieces one unit sees the machine's instance. Of the table that needs four laws of look-ups.
-use Rattle.std.proofs.Common.{◌≡◌, ℕ, Bool, true, false, Option, Some, None, List, [], ◌∷◌, map, length, refl, ap, ◌∙◌}
-use Rattle.std.specs.Prelude.{if◌then◌else◌, ◌==◌, option_to_list}
+use Rattle.proof_machines.proofs.unit.Words.{◌≡◌, ℕ, Bool, true, false, Option, Some, None, List, [], ◌∷◌, map, length, refl, ap, ◌∙◌, if◌then◌else◌, ◌==◌}
+use Rattle.proof_machines.proofs.unit.Words.{option_to_list, is_among, Answer, Where, Steps, joined, Part, Stream, Delete, Put, Restore, Inst, Did, inst_does}
+use Rattle.proof_machines.proofs.unit.Words.{ArePiecesOf}
 use Rattle.nf_function.specs.declared.unit.Unit as units
-use Rattle.record_table.specs.Table.{is_among}
-use Rattle.nf_msgs.specs.declared.answer.Answer.{Answer}
-use Rattle.proof_machines.proofs.unit.Machine.{Where, Steps, joined, Part, Stream, Delete, Put, Restore, Inst, Did, inst_does}
-use Rattle.proof_machines.proofs.unit.UnitPieces.{ArePiecesOf}
 use Rattle.proof_machines.proofs.unit.Real.{Chunks, record_at, RPiece, Msg, M_piece, M_deleted, M_put_ok, M_put_no, M_restored, Frame, see, view}
 use Rattle.proof_machines.proofs.unit.Cuts.{all_at, marks, chop, chopped_fits, view_pieces}
 

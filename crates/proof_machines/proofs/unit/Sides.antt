@@ -1,11 +1,9 @@
 -- Where the packets of a unit stand at a seat: those at the instance that the switch sends it to come last, and each kind stands at
 -- one side.
-use Rattle.std.proofs.Common.{◌≡◌, ℕ, Bool, true, false, List, [], ◌∷◌, ◌++◌, map, refl, sym, ap, ◌∙◌, append_assoc, append-nil}
-use Rattle.proof_machines.proofs.unit.Machine.{Where, At_a, At_b, At_c, Steps, Item, Carry, Pass, Stray, Inst, Phase, Passing, Ending, Undoing, Over, State}
-use Rattle.proof_machines.proofs.unit.Lists.{firsts}
-use Rattle.proof_machines.proofs.unit.UnitPieces.{nil_left, nil_right}
-use Rattle.proof_machines.proofs.unit.Stages.{Stage, At_rest, Streams, Is_shut, Is_agreed, Laying, Turned, Fenced_a, Ending_b, Fence_b, Turned_loose}
-use Rattle.proof_machines.proofs.unit.Stages.{Fenced_loose, Ending_loose, Fence_loose, Fenced_b, Moved, shape, path, all_of, to_a, to_b}
+use Rattle.proof_machines.proofs.unit.Words.{◌≡◌, ℕ, Bool, true, false, List, [], ◌∷◌, ◌++◌, map, refl, sym, ap, ◌∙◌, append_assoc, append-nil, Where, At_a}
+use Rattle.proof_machines.proofs.unit.Words.{At_b, At_c, Steps, Item, Carry, Pass, Stray, Inst, Phase, Passing, Ending, Undoing, Over, State, firsts, nil_left}
+use Rattle.proof_machines.proofs.unit.Words.{nil_right, Stage, At_rest, Streams, Is_shut, Is_agreed, Laying, Turned, Fenced_a, Ending_b, Fence_b, Turned_loose}
+use Rattle.proof_machines.proofs.unit.Words.{Fenced_loose, Ending_loose, Fence_loose, Fenced_b, Moved, shape, path, all_of, to_a, to_b}
 use Rattle.proof_machines.proofs.unit.Path.{passes_in, carries, events_in, forwards, path_of, path_is, passes_in-append, no_passes, all_carries, no_carries}
 use Rattle.proof_machines.proofs.unit.DestinationUnits.{strip, DestinationUnit, shape_beside}
 use Rattle.proof_machines.proofs.unit.Away.{Away, shape_away}

@@ -1,9 +1,8 @@
 -- Each step from each stage leads to a stage: in order, and with packets processed at the stage's side alone (`goes_on`).
-use Rattle.proof_machines.proofs.unit.Machine.{Steps, MachineStep}
-use Rattle.proof_machines.proofs.unit.Stages.{Stage, At_rest, Begun, Frozen, Stream_goes, Streams, All_put, Hold_goes, Held, Laying, Turned, Fenced_a}
-use Rattle.proof_machines.proofs.unit.Stages.{Ending_b, Fence_b, Turned_loose, Fenced_loose, Ending_loose, Fence_loose, Fenced_b, Moved, Restore_goes}
-use Rattle.proof_machines.proofs.unit.Stages.{Restored_comes, Turn_goes, Turned_back, Returned, Fence_a, Fenced_back, Undone, shape, Allowed, GoesOn}
-use Rattle.proof_machines.proofs.unit.Early.{at_rest, begun_on, frozen, stream_goes}
+use Rattle.proof_machines.proofs.unit.Words.{Steps, MachineStep, Stage, At_rest, Begun, Frozen, Stream_goes, Streams, All_put, Hold_goes, Held, Laying, Turned}
+use Rattle.proof_machines.proofs.unit.Words.{Fenced_a, Ending_b, Fence_b, Turned_loose, Fenced_loose, Ending_loose, Fence_loose, Fenced_b, Moved, Restore_goes}
+use Rattle.proof_machines.proofs.unit.Words.{Restored_comes, Turn_goes, Turned_back, Returned, Fence_a, Fenced_back, Undone, shape, Allowed, GoesOn, at_rest}
+use Rattle.proof_machines.proofs.unit.Words.{begun_on, frozen, stream_goes}
 use Rattle.proof_machines.proofs.unit.Doors.{streams}
 use Rattle.proof_machines.proofs.unit.Late.{all_put, hold_goes, held_on, laying, turned, fenced_a, ending, fence_b, fenced_b, moved_on}
 use Rattle.proof_machines.proofs.unit.Loose.{turned_loose, fenced_loose, ending_loose, fence_loose}

@@ -1,15 +1,13 @@
 -- What holds of all that the words of a move's table come to holds of each row, where it holds of the parcels, the pieces and the reasons that the
 -- move has and that the message brings.
-use Rattle.std.proofs.Common.{Bool, true, false, List, [], ◌∷◌, ◌++◌}
-use Rattle.std.specs.Prelude.{if◌then◌else◌, ◌&&◌, ◌||◌}
-use Rattle.actor_net.proofs.WeightLaws.{Each, each-append}
-use Rattle.nf_msgs.specs.declared.answer.Answer.{Answer}
-use Rattle.move_op.specs.declared.door.Door.{Door}
-use Rattle.move_op.specs.declared.door.Door.TheVariants.{Shut, Asked, Open, Refused}
-use Rattle.move_op.specs.Phases.{PhaseOf, Freezing, Streaming, Holding, Passing, Ending, Restoring, Returning, Undoing, Over}
-use Rattle.move_op.specs.Table.{Words, Said, Nothing, Stream, Remove, Restore, Hold_at_source, Ask, Put, Hold_at_destination, Forward, Release}
-use Rattle.move_op.specs.Table.{Give_back, Fence, asking, push_on, release_row, all_put, is_nil, on_event, on_source_enabled, on_piece, on_deleted}
-use Rattle.move_op.specs.Table.{on_restored, on_source_fenced, on_put_ok, on_put_no, on_destination_enabled, on_destination_fenced}
+use Rattle.proof_machines.proofs.unit.Words.{Bool, true, false, List, [], ◌∷◌, ◌++◌, if◌then◌else◌, ◌&&◌, ◌||◌, Each, Answer, Door, Shut, Asked, Open, Refused}
+use Rattle.proof_machines.proofs.unit.Words.{PhaseOf, Freezing, Streaming, Holding, Restoring, Returning, Words, Said, Nothing, Remove, Hold_at_source, Ask}
+use Rattle.proof_machines.proofs.unit.Words.{Hold_at_destination, Release, Give_back, asking, push_on, release_row, all_put, is_nil, on_event}
+use Rattle.proof_machines.proofs.unit.Words.{on_source_enabled, on_piece, on_deleted, on_restored, on_source_fenced, on_put_ok, on_put_no}
+use Rattle.proof_machines.proofs.unit.Words.{on_destination_enabled, on_destination_fenced}
+use Rattle.actor_net.proofs.WeightLaws.{each-append}
+use Rattle.move_op.specs.Phases.{Passing, Ending, Undoing, Over}
+use Rattle.move_op.specs.Table.{Stream, Restore, Put, Forward, Fence}
 
 -- what a phase has
 abbrev pub DoorHas : (Answer → Type 0) → Door → Type 0

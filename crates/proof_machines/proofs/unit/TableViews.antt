@@ -1,15 +1,12 @@
 -- The table of a move over other parcels, pieces and words: what holds between what the words of two tables come to holds between their rows.
 -- So what is seen of a row is the row of what is seen.
-use Rattle.std.proofs.Common.{◌≡◌, Bool, true, false, List, [], ◌∷◌, ◌++◌, map, refl, sym, subst}
-use Rattle.std.specs.Prelude.{if◌then◌else◌, ◌&&◌, ◌||◌}
-use Rattle.std.proofs.lemmas.List.{map-append}
-use Rattle.nf_msgs.specs.declared.answer.Answer.{Answer}
-use Rattle.move_op.specs.declared.door.Door.{Door}
-use Rattle.move_op.specs.declared.door.Door.TheVariants.{Shut, Asked, Open, Refused}
-use Rattle.move_op.specs.Phases.{PhaseOf, Freezing, Streaming, Holding, Passing, Ending, Restoring, Returning, Undoing, Over}
-use Rattle.move_op.specs.Table.{Words, Nothing, Stream, Remove, Restore, Hold_at_source, Ask, Put, Hold_at_destination, Forward, Release}
-use Rattle.move_op.specs.Table.{Give_back, Fence, asking, push_on, all_put, is_nil, on_event, on_source_enabled, on_piece, on_deleted}
-use Rattle.move_op.specs.Table.{on_restored, on_source_fenced, on_put_ok, on_put_no, on_destination_enabled, on_destination_fenced}
+use Rattle.proof_machines.proofs.unit.Words.{◌≡◌, Bool, true, false, List, [], ◌∷◌, ◌++◌, map, refl, sym, subst, if◌then◌else◌, ◌&&◌, ◌||◌, map-append, Answer}
+use Rattle.proof_machines.proofs.unit.Words.{Door, Shut, Asked, Open, Refused, PhaseOf, Freezing, Streaming, Holding, Restoring, Returning, Words, Nothing}
+use Rattle.proof_machines.proofs.unit.Words.{Remove, Hold_at_source, Ask, Hold_at_destination, Release, Give_back, asking, push_on, all_put, is_nil, on_event}
+use Rattle.proof_machines.proofs.unit.Words.{on_source_enabled, on_piece, on_deleted, on_restored, on_source_fenced, on_put_ok, on_put_no}
+use Rattle.proof_machines.proofs.unit.Words.{on_destination_enabled, on_destination_fenced}
+use Rattle.move_op.specs.Phases.{Passing, Ending, Undoing, Over}
+use Rattle.move_op.specs.Table.{Stream, Restore, Put, Forward, Fence}
 
 -- a phase with other pieces, and another word for how it ended
 abbrev pub map_phase : {C O D U : Type 0} → (C → D) → (O → U) → PhaseOf C O → PhaseOf D U

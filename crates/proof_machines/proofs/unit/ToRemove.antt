@@ -1,16 +1,13 @@
 -- A record that is live at the source and on its way as well is one that the source has given and is still to remove: it stands in a piece
 -- on the link from the source, or its Delete on the link to it. And what a seat has of a third instance.
-use Rattle.std.proofs.Common.{◌≡◌, Bool, true, false, Option, Some, None, List, [], ◌∷◌, ◌++◌, map, refl, sym, ◌∙◌}
-use Rattle.std.specs.Prelude.{◌||◌, is_some}
-use Rattle.proof_machines.proofs.unit.Machine.{At_c, Steps, Part, pick, or_own, Item, Piece, Delete, delete}
-use Rattle.proof_machines.proofs.unit.Lists.{Mix, Ev, Pc, Dd, parts_in}
+use Rattle.proof_machines.proofs.unit.Words.{◌≡◌, Bool, true, false, Option, Some, None, List, [], ◌∷◌, ◌++◌, map, refl, sym, ◌∙◌, ◌||◌, is_some, At_c, Steps}
+use Rattle.proof_machines.proofs.unit.Words.{Part, pick, or_own, Item, Piece, Delete, delete, Mix, Ev, Pc, Dd, parts_in, pick-append, Stage, At_rest, Begun}
+use Rattle.proof_machines.proofs.unit.Words.{Frozen, Stream_goes, Streams, Restored_comes, Turn_goes, Turned_back, Returned, Fence_a, Fenced_back, Undone}
+use Rattle.proof_machines.proofs.unit.Words.{shape}
 use Rattle.proof_machines.proofs.unit.Lists as lists
-use Rattle.proof_machines.proofs.unit.UnitPieces.{pick-append}
 use Rattle.proof_machines.proofs.unit.Kept.{records_on-append, none_on_events, on_way}
 use Rattle.proof_machines.proofs.unit.DestinationUnits.{c_live, beside_kept}
 use Rattle.proof_machines.proofs.unit.Away.{away_kept}
-use Rattle.proof_machines.proofs.unit.Stages.{Stage, At_rest, Begun, Frozen, Stream_goes, Streams, Restored_comes}
-use Rattle.proof_machines.proofs.unit.Stages.{Turn_goes, Turned_back, Returned, Fence_a, Fenced_back, Undone, shape}
 use Rattle.proof_machines.proofs.unit.Seats.{UnitSeat, Covered, Is_beside, Is_away, seat_shape}
 
 -- whether a piece among messages has the unit's record, and whether a Delete names it

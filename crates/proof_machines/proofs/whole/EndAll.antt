@@ -1,21 +1,13 @@
 -- Where no message stands on the links between the first nodes, among them the members of shares and the sides of open moves: a unit under a share has
 -- no packet left, its share is idle, and each member's record is the fold of all that was done. Any other unit is as moves leave it.
-use Rattle.std.proofs.Common.{◌≡◌, ℕ, ◌≤◌, ◌<◌, Bool, true, false, None, Some, List, [], ◌++◌, sym, ap, ◌∙◌, append-nil}
-use Rattle.std.specs.Prelude.{◌&&◌, ◌==◌}
-use Rattle.proof_machines.proofs.unit.Stages.{IsOrderedAs}
-use Rattle.proof_machines.proofs.share.Share.{Phase.Idle, has, runs}
-use Rattle.proof_machines.proofs.share.Stages.{shape}
-use Rattle.proof_machines.proofs.share.Lists.{self}
-use Rattle.proof_machines.proofs.share.Records.{own_is}
-use Rattle.proof_machines.proofs.net.Net.{Sys, IsSys, Open, find_op}
-use Rattle.proof_machines.proofs.net.Rest.{done_u}
+use Rattle.proof_machines.proofs.net.Words.{◌≡◌, ℕ, ◌≤◌, ◌<◌, Bool, true, false, None, Some, List, [], ◌++◌, sym, ap, ◌∙◌, append-nil, ◌&&◌, ◌==◌, IsOrderedAs}
+use Rattle.proof_machines.proofs.net.Words.{Idle, has, runs, shape, self, own_is, Sys, IsSys, Open, find_op, done_u, unit_share, WantShare, olds, Sharing}
+use Rattle.proof_machines.proofs.net.Words.{OpenShare, find_share, WholeWorld, moves_of}
 use Rattle.proof_machines.proofs.net.AtEnd.{AtEnd, at_end}
 use Rattle.proof_machines.proofs.net.Readings.{fold}
-use Rattle.proof_machines.proofs.net.ShareViews.{unit_share}
 use Rattle.proof_machines.proofs.net.Under.{Under}
 use Rattle.proof_machines.proofs.net.UnderStarts.{seeing}
 use Rattle.proof_machines.proofs.net.UnderReadings.{all_done, under_order, under_rests}
-use Rattle.proof_machines.proofs.net.Shares.{WantShare, olds, Sharing, OpenShare, find_share, WholeWorld, moves_of}
 use Rattle.proof_machines.proofs.whole.WhereAll.{Came, WhereAll, Apart_from_shares, Under_share, order_same}
 use Rattle.proof_machines.proofs.whole.Readings.{fold_done, ItsShare, its_share}
 use Rattle.nf_function.specs.declared.unit.Unit as units

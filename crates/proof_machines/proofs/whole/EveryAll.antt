@@ -1,18 +1,13 @@
 -- The invariant of the whole world: what holds of all units at once, and for every unit where it is and that its records which stand by or are in
 -- chunks are folds of fronts of what was done. Each step keeps it, and so does each begin.
-use Rattle.std.proofs.Common.{◌≡◌, ℕ, ◌≤◌, Bool, true, false, List, ◌∷◌}
-use Rattle.std.specs.Prelude.{◌==◌}
-use Rattle.flow_filter.specs.declared.filter.Filter.{Filter}
-use Rattle.proof_machines.proofs.net.Net.{Asked, MoveAsked, Sys, IsSys}
+use Rattle.proof_machines.proofs.net.Words.{◌≡◌, ℕ, ◌≤◌, Bool, true, false, List, ◌∷◌, ◌==◌, Filter, Asked, MoveAsked, Sys, IsSys, TakesSome, GlobalAll, Any}
+use Rattle.proof_machines.proofs.net.Words.{Old, New, S_asked, WantShare, Sharing, IsSharing, WholeWorld, moves_of, whole_inst, whole_ctrl, whole_switch}
+use Rattle.proof_machines.proofs.net.Words.{whole_input, asks, begin_move, begin_share, puts_get, keeps, meets_shares, MayShare, ran_of, SeeingShare}
 use Rattle.proof_machines.proofs.net.Units.{May}
-use Rattle.proof_machines.proofs.net.GlobalAll.{TakesSome, GlobalAll}
 use Rattle.proof_machines.proofs.net.GlobalSteps.{inst_keeps, ctrl_keeps, switch_keeps, input_keeps}
 use Rattle.proof_machines.proofs.net.GlobalBegins.{begin_keeps, share_keeps, get_keeps, keeps_keeps, asks_move_keeps, asks_share_keeps}
 use Rattle.proof_machines.proofs.net.UntakenSwitch.{HandsAny}
 use Rattle.proof_machines.proofs.net.UnderSwitch.{NoDiverts}
-use Rattle.proof_machines.proofs.net.Shares.{Any, Any.Old, Any.New, ShareMsg.S_asked, WantShare, Sharing, IsSharing, WholeWorld}
-use Rattle.proof_machines.proofs.net.Shares.{moves_of, whole_inst, whole_ctrl, whole_switch, whole_input, asks, begin_move}
-use Rattle.proof_machines.proofs.net.Shares.{begin_share, puts_get, keeps, meets_shares, MayShare, ran_of, SeeingShare}
 use Rattle.proof_machines.proofs.whole.WhereAll.{Came, WhereAll, comes, diverted_all, still_all, inst_all, ctrl_all, switch_all}
 use Rattle.proof_machines.proofs.whole.WhereAll.{input_all, begin_all, get_all, asks_move_all, asks_share_all, keeps_all, share_all}
 use Rattle.proof_machines.proofs.whole.Fronts.{FrontOf, Fronts, front_by}

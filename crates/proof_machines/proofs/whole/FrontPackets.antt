@@ -1,8 +1,6 @@
 -- Fronts of what was done of a unit, with nodes, are fronts of its packets alone.
-use Rattle.std.proofs.Common.{List, ap, ◌∙◌}
+use Rattle.proof_machines.proofs.net.Words.{List, ap, ◌∙◌, packets, IsFront, packets-append}
 use Rattle.proof_machines.proofs.share.Share.{Ran}
-use Rattle.proof_machines.proofs.share.Stages.{packets, IsFront}
-use Rattle.proof_machines.proofs.share.Lists.{packets-append}
 
 pub front_packets : (xs ys : List Ran) → IsFront xs ys → IsFront (packets xs) (packets ys)
 front_packets xs ys h = (packets h.0, ap packets h.1 ∙ packets-append xs h.0)

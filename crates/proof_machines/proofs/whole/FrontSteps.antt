@@ -1,31 +1,23 @@
 -- Records that stand by or are in chunks stay folds of fronts of what was done (`Fronts`): with each node's step, each packet of the input and each
 -- begin.
-use Rattle.std.proofs.Common.{◌≡◌, ◌≢◌, ℕ, Bool, true, false, Option, Some, None, List, [], ◌∷◌, ◌++◌, refl, sym, ap, ◌∙◌, subst, append-nil}
-use Rattle.std.specs.Prelude.{if◌then◌else◌, ◌&&◌, ◌==◌}
-use Rattle.proof_machines.proofs.unit.Real.{Chunks, record_at, sent_for}
-use Rattle.proof_machines.proofs.unit.Labels.{Each}
-use Rattle.proof_machines.proofs.share.Share.{Ran, runs}
-use Rattle.proof_machines.proofs.share.Stages.{shape}
-use Rattle.flow_filter.specs.declared.filter.Filter.{Filter}
-use Rattle.proof_machines.proofs.net.Net.{Asked, Carry_on, MoveAsked, Sys, IsSys, inst_step, sw_sends, begin_sends, at_node}
+use Rattle.proof_machines.proofs.net.Words.{◌≡◌, ◌≢◌, ℕ, Bool, true, false, Option, Some, None, List, [], ◌∷◌, ◌++◌, refl, sym, ap, ◌∙◌, subst, append-nil}
+use Rattle.proof_machines.proofs.net.Words.{if◌then◌else◌, ◌&&◌, ◌==◌, Chunks, record_at, sent_for, Each, runs, shape, Filter, Asked, Carry_on, MoveAsked, Sys}
+use Rattle.proof_machines.proofs.net.Words.{IsSys, inst_step, sw_sends, begin_sends, at_node, OfShare, GlobalAll, unit_share, own_of, Any, Old, New, ShareMsg}
+use Rattle.proof_machines.proofs.net.Words.{Shared_on, Diverted_on, S_asked, S_install, S_forward, S_get, S_sync, S_chunks, S_shared, S_synced, WantShare}
+use Rattle.proof_machines.proofs.net.Words.{EachNew, same, as_old, Sharing, IsSharing, OpenShare, find_share, Told, share_row, told_by, by_share, member_step}
+use Rattle.proof_machines.proofs.net.Words.{share_sends, arrive_sends, WholeWorld, old_step, whole_inst, whole_ctrl, whole_switch, whole_input, asks}
+use Rattle.proof_machines.proofs.net.Words.{begin_move, begin_share, puts_get, keeps, ran_of, same_unit}
+use Rattle.proof_machines.proofs.share.Share.{Ran}
 use Rattle.proof_machines.proofs.net.NewMessages.{OnNew, EachSentNew, each_new_map, each_sent_map, sent_old, sent_old_and, new_after, new_put, new_head}
-use Rattle.proof_machines.proofs.net.GlobalAll.{OfShare, GlobalAll}
 use Rattle.proof_machines.proofs.net.ShareRows.{Tells, told_cases, ToldOf, SentBy, share_row_by}
 use Rattle.proof_machines.proofs.net.ShareLabels.{ShareLabel, label_of}
-use Rattle.proof_machines.proofs.net.ShareViews.{unit_share, own_of}
 use Rattle.proof_machines.proofs.net.Untaken.{head_none}
 use Rattle.proof_machines.proofs.net.UnderStarts.{seeing}
 use Rattle.proof_machines.proofs.net.UnderReadings.{under_fresh}
-use Rattle.proof_machines.proofs.net.Shares.{Any, Any.Old, Any.New, ShareMsg, ShareMsg.Shared_on, ShareMsg.Diverted_on, ShareMsg.S_asked}
-use Rattle.proof_machines.proofs.net.Shares.{ShareMsg.S_install, ShareMsg.S_forward, ShareMsg.S_get, ShareMsg.S_sync, ShareMsg.S_chunks}
-use Rattle.proof_machines.proofs.net.Shares.{ShareMsg.S_shared, ShareMsg.S_synced, WantShare, EachNew, same, as_old, Sharing, IsSharing, OpenShare}
-use Rattle.proof_machines.proofs.net.Shares.{find_share, Told, share_row, told_by, by_share, member_step, share_sends, arrive_sends, WholeWorld, old_step}
-use Rattle.proof_machines.proofs.net.Shares.{whole_inst, whole_ctrl, whole_switch, whole_input, asks, begin_move, begin_share, puts_get, keeps, ran_of}
 use Rattle.proof_machines.proofs.whole.WhereAll.{Came, WhereAll, Apart_from_shares, Under_share}
 use Rattle.proof_machines.proofs.whole.Fronts.{FrontOf, MsgFront, Fronts, front_more, front_over, msg_more}
 use Rattle.proof_machines.proofs.whole.Fronts.{ran_more, live_front, selected_front, processed_front, chunk_front}
 use Rattle.nf_function.specs.declared.unit.Unit as units
-use Rattle.record_table.specs.Table.{same_unit}
 
 module _ {R : Type 0} (S : Sys R) (A : Sharing S) (laws : IsSys S) (u : units.Unit) where
   pub no_input : (p y : ℕ) → (y == 0) ≡ false → (p == 0) && (y == 0) ≡ false

@@ -1,34 +1,19 @@
 -- Every record of a unit that stands by, or is in the chunks of a share or a copy, is the fold of a front of what was done of the unit; and so is
 -- every live one, by where the unit is.
-use Rattle.std.proofs.Common.{◌≡◌, ℕ, Bool, true, false, Option, Some, None, List, [], ◌∷◌, ◌++◌}
-use Rattle.std.proofs.Common.{◌⊎◌, inl, inr, refl, sym, ap, ◌∙◌, subst, append-nil, append_assoc}
-use Rattle.std.specs.Prelude.{if◌then◌else◌, ◌&&◌, ◌==◌, option_to_list}
-use Rattle.std.specs.Option.{option_map_or}
-use Rattle.std.proofs.lemmas.Bool.Decides.{Decides-eqb}
-use Rattle.proof_machines.proofs.unit.Machine.{State, idle}
-use Rattle.proof_machines.proofs.unit.Real.{record_at}
-use Rattle.proof_machines.proofs.unit.UnitPieces.{first, first_of_one}
-use Rattle.proof_machines.proofs.unit.Cuts.{record_first}
-use Rattle.proof_machines.proofs.unit.Kept.{Kept, Nowhere, Is_live, On_way, Twice}
-use Rattle.proof_machines.proofs.share.Share.{Ran, runs, over}
-use Rattle.proof_machines.proofs.share.Stages.{IsFront}
-use Rattle.proof_machines.proofs.share.Lists.{runs-append}
-use Rattle.proof_machines.proofs.net.Net.{Sys, IsSys, process, everything}
-use Rattle.proof_machines.proofs.net.Holding.{Seeing, node_at}
-use Rattle.proof_machines.proofs.net.Rest.{done_u}
+use Rattle.proof_machines.proofs.net.Words.{◌≡◌, ℕ, Bool, true, false, Option, Some, None, List, [], ◌∷◌, ◌++◌, ◌⊎◌, inl, inr, refl, sym, ap, ◌∙◌, subst}
+use Rattle.proof_machines.proofs.net.Words.{append-nil, append_assoc, if◌then◌else◌, ◌&&◌, ◌==◌, option_to_list, option_map_or, Decides-eqb, State, idle}
+use Rattle.proof_machines.proofs.net.Words.{record_at, first, first_of_one, record_first, Kept, Nowhere, Is_live, On_way, Twice, runs, over, IsFront}
+use Rattle.proof_machines.proofs.net.Words.{runs-append, Sys, IsSys, process, everything, Seeing, node_at, done_u, GlobalAll, New, ShareMsg, S_sync, S_chunks}
+use Rattle.proof_machines.proofs.net.Words.{S_shared, EachNew, Sharing, shared_chunk, WholeWorld, moves_of, ran_of, same_unit, same_unit_equiv, same_unit-true}
+use Rattle.proof_machines.proofs.net.Words.{either_way, by_if}
+use Rattle.proof_machines.proofs.share.Share.{Ran}
 use Rattle.proof_machines.proofs.net.Readings.{fold, RecordOf}
 use Rattle.proof_machines.proofs.net.NewMessages.{EachSentNew}
-use Rattle.proof_machines.proofs.net.GlobalAll.{GlobalAll}
 use Rattle.proof_machines.proofs.net.ShareLinks.{ran_of-append}
 use Rattle.proof_machines.proofs.net.UnderStarts.{FrontBy}
-use Rattle.proof_machines.proofs.net.Shares.{Any.New, ShareMsg, ShareMsg.S_sync, ShareMsg.S_chunks, ShareMsg.S_shared, EachNew, Sharing, shared_chunk}
-use Rattle.proof_machines.proofs.net.Shares.{WholeWorld, moves_of, ran_of}
 use Rattle.proof_machines.proofs.whole.WhereAll.{Came, WhereAll}
 use Rattle.proof_machines.proofs.whole.Readings.{fold_done, RecordsAll, By_moves, By_share, records_all}
 use Rattle.nf_function.specs.declared.unit.Unit as units
-use Rattle.record_table.specs.Table.{same_unit}
-use Rattle.record_table.proofs.UnitOrder.{same_unit_equiv, same_unit-true}
-use Rattle.proof_machines.proofs.Tests.{either_way, by_if}
 
 -- nothing, or the whole fold
 abbrev pub LiveSo : {R : Type 0} → Option R → Option R → Type 0

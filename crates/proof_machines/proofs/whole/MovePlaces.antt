@@ -1,30 +1,23 @@
 -- Of one unit in a world of moves: where an instance processes packets of it, it may do so (`MayRun`), and its record is the fold of all that
 -- was done before.
-use Rattle.std.proofs.Common.{◌≡◌, ◌≢◌, ℕ, suc, Bool, true, false, Option, Some, None, List, [], ◌∷◌, refl, sym, ap, ◌∙◌, subst, arith}
-use Rattle.std.specs.Prelude.{◌==◌}
-use Rattle.proof_machines.proofs.unit.Machine.{At_a, At_b, At_c, Where as Side, Steps, Ran, Part, Inst, Did, inst_does, Item, State, after}
-use Rattle.proof_machines.proofs.unit.Lists.{firsts, cons_nil, never_true}
-use Rattle.proof_machines.proofs.unit.Pairs.{ShownBy, By_sa, By_sb, By_sc, By_ca, By_cb, By_ac, By_bc, By_cc, By_cs, shown_by}
-use Rattle.proof_machines.proofs.unit.Stages.{At_rest}
-use Rattle.proof_machines.proofs.unit.Seats.{UnitSeat, Covered, Is_beside, Is_away, seat_shape}
-use Rattle.proof_machines.proofs.unit.Between.{seat_at}
+use Rattle.proof_machines.proofs.net.Words.{◌≡◌, ◌≢◌, ℕ, suc, Bool, true, false, Option, Some, None, List, [], ◌∷◌, refl, sym, ap, ◌∙◌, subst, arith, ◌==◌}
+use Rattle.proof_machines.proofs.net.Words.{At_a, At_b, At_c, Steps, Ran, Part, Inst, Did, inst_does, Item, State, after, firsts, cons_nil, never_true, ShownBy}
+use Rattle.proof_machines.proofs.net.Words.{By_sa, By_sb, By_sc, By_ca, By_cb, By_ac, By_bc, By_cc, By_cs, shown_by, At_rest, UnitSeat, Covered, Is_beside}
+use Rattle.proof_machines.proofs.net.Words.{Is_away, seat_shape, seat_at, Op, items, Msg, Sys, IsSys, InstanceTurn, Open, World, find_op, inst_step, seen}
+use Rattle.proof_machines.proofs.net.Words.{Seeing, sides_of, frame, SeesNode, node_at, place, IsController, OpLabel, Holds, Rest, Global, none_mine, done_u}
+use Rattle.proof_machines.proofs.net.Words.{Answer}
+use Rattle.proof_machines.proofs.unit.Machine.{Where as Side}
 use Rattle.proof_machines.proofs.unit.Fresh.{still_ca, still_cb, still_ran, fresh_sa, fresh_sb, fresh_sc, sc_stage}
-use Rattle.proof_machines.proofs.unit.Real.{Op}
-use Rattle.proof_machines.proofs.unit.NetViews.{items}
-use Rattle.proof_machines.proofs.net.Net.{Msg, Sys, IsSys, InstanceTurn, Open, World, find_op, inst_step, seen}
-use Rattle.proof_machines.proofs.net.Holding.{Seeing, sides_of, frame, SeesNode, node_at, place, IsController, OpLabel, Holds}
 use Rattle.proof_machines.proofs.net.Ctrl.{each_found}
 use Rattle.proof_machines.proofs.net.Insts.{InstanceGoes, does}
 use Rattle.proof_machines.proofs.net.InstMoves.{MovesInstance, Any, Streams_out, Puts_in}
 use Rattle.proof_machines.proofs.net.InstWorld.{num, label, step_at, here, is_src, is_dst, is_third, shown}
-use Rattle.proof_machines.proofs.net.Rest.{Rest, Global, none_mine, done_u}
 use Rattle.proof_machines.proofs.net.RestingSeats.{same_mine, same_done}
 use Rattle.proof_machines.proofs.net.Readings.{fold, fold_runs}
 use Rattle.proof_machines.proofs.net.Units.{Where, Where.At_rest, Where.In_move, shown_rest, see}
 use Rattle.proof_machines.proofs.net.Fresh.{some_seen}
 use Rattle.proof_machines.proofs.whole.RoutedSteps.{Routed, To_source, To_destination, source_routed, destination_routed}
 use Rattle.nf_function.specs.declared.unit.Unit as units
-use Rattle.nf_msgs.specs.declared.answer.Answer.{Answer}
 
 third_target : {R : Type 0} (F : Steps R) (s : UnitSeat F) (it : Item R) (v : List (Item R)) → (seat_shape F s).sc ≡ it ∷ v → (seat_shape F s).target ≡ At_c
 third_target F (Covered s) it v e = cons_nil (sym e ∙ sc_stage F s)

@@ -1,29 +1,22 @@
 -- Where packets of a unit are processed in the whole world, as moves know it or at a member of its share, each at home or at its member, and that
 -- the record there is the fold of all that was done before.
-use Rattle.std.proofs.Common.{◌≡◌, ◌≢◌, ℕ, Bool, true, false, Option, None, List, [], ◌∷◌, ◌++◌, refl, sym, ap, ◌∙◌, subst}
-use Rattle.std.specs.Prelude.{if◌then◌else◌, ◌&&◌, ◌==◌}
+use Rattle.proof_machines.proofs.net.Words.{◌≡◌, ◌≢◌, ℕ, Bool, true, false, Option, None, List, [], ◌∷◌, ◌++◌, refl, sym, ap, ◌∙◌, subst, if◌then◌else◌, ◌&&◌}
+use Rattle.proof_machines.proofs.net.Words.{◌==◌, has, packets, processed, Sys, IsSys, inst_step, at_node, none_mine, done_u, GlobalAll, unit_share, Any, Old}
+use Rattle.proof_machines.proofs.net.Words.{New, ShareMsg, Shared_on, S_sync, olds, Sharing, IsSharing, OpenShare, WantShare, member_step, WholeWorld}
+use Rattle.proof_machines.proofs.net.Words.{whole_inst, moves_of, ran_of, SeeingShare, same_unit}
 use Rattle.std.proofs.lemmas.List.{append_cancel_left}
-use Rattle.proof_machines.proofs.share.Share.{has}
-use Rattle.proof_machines.proofs.share.Stages.{packets, processed}
 use Rattle.proof_machines.proofs.share.Places.{At_places, Grows}
-use Rattle.proof_machines.proofs.net.Net.{Sys, IsSys, inst_step, at_node}
-use Rattle.proof_machines.proofs.net.Rest.{none_mine, done_u}
 use Rattle.proof_machines.proofs.net.Readings.{fold}
-use Rattle.proof_machines.proofs.net.GlobalAll.{GlobalAll}
 use Rattle.proof_machines.proofs.net.Untaken.{NoShare, head_none}
-use Rattle.proof_machines.proofs.net.ShareViews.{unit_share}
 use Rattle.proof_machines.proofs.net.Under.{Under, Goes_on}
 use Rattle.proof_machines.proofs.net.UnderSteps.{under_inst}
 use Rattle.proof_machines.proofs.net.UnderStarts.{seeing}
 use Rattle.proof_machines.proofs.net.UnderReadings.{all_done, under_fresh}
-use Rattle.proof_machines.proofs.net.Shares.{Any, Any.Old, Any.New, ShareMsg, ShareMsg.Shared_on, ShareMsg.S_sync, olds, Sharing, IsSharing, OpenShare}
-use Rattle.proof_machines.proofs.net.Shares.{WantShare, member_step, WholeWorld, whole_inst, moves_of, ran_of, SeeingShare}
 use Rattle.proof_machines.proofs.whole.WhereAll.{Came, WhereAll, Apart_from_shares, Under_share}
 use Rattle.proof_machines.proofs.whole.Readings.{fold_done, seen_by, ItsShare, its_share}
 use Rattle.proof_machines.proofs.whole.Fronts.{ran_more}
 use Rattle.proof_machines.proofs.whole.MovePlaces.{MayRun, processed_where}
 use Rattle.nf_function.specs.declared.unit.Unit as units
-use Rattle.record_table.specs.Table.{same_unit}
 
 module _ {R : Type 0} (S : Sys R) (A : Sharing S) (laws : IsSys S) where
   -- what an instance processes

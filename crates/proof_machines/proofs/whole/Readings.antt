@@ -1,23 +1,14 @@
 -- What is read off where a unit is in the whole world: its done packets and those that wait are all that came, in order unless a move without a
 -- buffer took it; and its records.
-use Rattle.std.proofs.Common.{◌≡◌, ℕ, true, false, Option, Some, None, List, [], ◌∷◌, ◌++◌, refl, ap, ◌∙◌}
-use Rattle.std.specs.Prelude.{◌==◌}
-use Rattle.proof_machines.proofs.unit.Machine.{Steps}
-use Rattle.proof_machines.proofs.unit.Stages.{times}
+use Rattle.proof_machines.proofs.net.Words.{◌≡◌, ℕ, true, false, Option, Some, None, List, [], ◌∷◌, ◌++◌, refl, ap, ◌∙◌, ◌==◌, Steps, times, exactly, has, runs}
+use Rattle.proof_machines.proofs.net.Words.{packets, path, shape, IsFront, Lacks, self, Sys, IsSys, done_u, GlobalAll, unit_share, as_share, WantShare, Sharing}
+use Rattle.proof_machines.proofs.net.Words.{OpenShare, find_share, WholeWorld, moves_of, ran_of, SeeingShare}
 use Rattle.proof_machines.proofs.unit.Ends.{same_of}
-use Rattle.proof_machines.proofs.unit.Rests.{exactly}
-use Rattle.proof_machines.proofs.share.Share.{Ran, has, runs}
-use Rattle.proof_machines.proofs.share.Stages.{packets, path, shape, IsFront, Lacks}
-use Rattle.proof_machines.proofs.share.Lists.{self}
-use Rattle.proof_machines.proofs.net.Net.{Sys, IsSys}
-use Rattle.proof_machines.proofs.net.Rest.{done_u}
+use Rattle.proof_machines.proofs.share.Share.{Ran}
 use Rattle.proof_machines.proofs.net.Readings.{fold, not_both, In_order, order_of, RecordOf, record_of}
-use Rattle.proof_machines.proofs.net.GlobalAll.{GlobalAll}
-use Rattle.proof_machines.proofs.net.ShareViews.{unit_share, as_share}
 use Rattle.proof_machines.proofs.net.Under.{Under}
 use Rattle.proof_machines.proofs.net.UnderStarts.{seeing, packets_done}
 use Rattle.proof_machines.proofs.net.UnderReadings.{under_order, under_records}
-use Rattle.proof_machines.proofs.net.Shares.{WantShare, Sharing, OpenShare, find_share, WholeWorld, moves_of, ran_of, SeeingShare}
 use Rattle.proof_machines.proofs.whole.WhereAll.{Came, WhereAll, Apart_from_shares, Under_share}
 use Rattle.nf_function.specs.declared.unit.Unit as units
 

@@ -1,10 +1,8 @@
 -- Where the packets of a unit go while an instance processes some of them: the source of a move processes packets as long as they go there, the
 -- destination as long as they go to either, and neither does for a unit that another instance owned.
-use Rattle.std.proofs.Common.{◌≡◌, ◌≢◌, None, Option, List, [], ◌∷◌, refl, sym, ◌∙◌}
-use Rattle.nf_msgs.specs.declared.answer.Answer.{Answer}
-use Rattle.proof_machines.proofs.unit.Machine.{At_a, At_b, Steps, Part, inst_does, Item, State}
-use Rattle.proof_machines.proofs.unit.Stages.{Stage, Turned, Turned_loose, shape}
-use Rattle.proof_machines.proofs.unit.Seats.{UnitSeat, Covered, Is_beside, Is_away, seat_shape}
+use Rattle.proof_machines.proofs.net.Words.{◌≡◌, ◌≢◌, None, Option, List, [], ◌∷◌, refl, sym, ◌∙◌, Answer, At_a, At_b, Steps, Part, inst_does, Item, State}
+use Rattle.proof_machines.proofs.net.Words.{Turned, Turned_loose, UnitSeat, Covered, Is_beside, Is_away, seat_shape}
+use Rattle.proof_machines.proofs.unit.Stages.{Stage, shape}
 use Rattle.proof_machines.proofs.unit.Fresh.{ran_same, bare_sa, bare_sb, dropped_fence}
 
 source_stage : {R : Type 0} (F : Steps R) (s : Stage F) (it : Item R) (v : List (Item R)) → (shape F s).sa ≡ it ∷ v

@@ -1,35 +1,24 @@
 -- What stands by never goes back: with each step of an instance every record that stands by has seen at least as much of what was done of its unit.
 -- No other step of the whole world changes what stands by.
-use Rattle.std.proofs.Common.{◌≡◌, ℕ, Bool, true, false, Option, Some, None, List, [], ◌∷◌, ◌++◌, ◌⊎◌, inl, inr, refl, sym, ap, ◌∙◌, subst}
-use Rattle.std.specs.Prelude.{if◌then◌else◌, ◌==◌}
-use Rattle.std.proofs.lemmas.Bool.Decides.{Decides-eqb}
-use Rattle.proof_machines.proofs.unit.Real.{Chunks, record_at, add}
-use Rattle.proof_machines.proofs.share.Share.{Ran, Item, Item.Sync, UnitShare, has, over, runs}
-use Rattle.proof_machines.proofs.share.Stages.{front, shape, IsFront}
-use Rattle.proof_machines.proofs.share.Lists.{self}
+use Rattle.proof_machines.proofs.net.Words.{◌≡◌, ℕ, Bool, true, false, Option, Some, None, List, [], ◌∷◌, ◌++◌, ◌⊎◌, inl, inr, refl, sym, ap, ◌∙◌, subst}
+use Rattle.proof_machines.proofs.net.Words.{if◌then◌else◌, ◌==◌, Decides-eqb, Chunks, record_at, add, Sync, UnitShare, has, over, runs, front, shape, IsFront}
+use Rattle.proof_machines.proofs.net.Words.{self, own_is, seen_front, to_members, Sys, IsSys, OfShare, GlobalAll, unit_share, share_seen, share_items, Any, Old}
+use Rattle.proof_machines.proofs.net.Words.{New, ShareMsg, Shared_on, S_sync, WantShare, Sharing, IsSharing, member_step, WholeWorld, whole_inst, ran_of}
+use Rattle.proof_machines.proofs.net.Words.{SeeingShare, same_unit, either_way, true_from_ne_false}
+use Rattle.proof_machines.proofs.share.Share.{Ran, Item}
 use Rattle.proof_machines.proofs.share.Setting.{front_same}
-use Rattle.proof_machines.proofs.share.Records.{own_is, seen_front}
-use Rattle.proof_machines.proofs.share.Heads.{to_members}
-use Rattle.proof_machines.proofs.net.Net.{Sys, IsSys}
 use Rattle.proof_machines.proofs.net.NewMessages.{new_head}
-use Rattle.proof_machines.proofs.net.GlobalAll.{OfShare, GlobalAll}
 use Rattle.proof_machines.proofs.net.ShareLabels.{ShareLabel, label_of}
-use Rattle.proof_machines.proofs.net.ShareViews.{unit_share, share_seen, share_items}
 use Rattle.proof_machines.proofs.net.Untaken.{head_none}
 use Rattle.proof_machines.proofs.net.UnderInst.{heads, inst_from}
 use Rattle.proof_machines.proofs.net.Under.{Under}
 use Rattle.proof_machines.proofs.net.UnderSteps.{under_inst}
 use Rattle.proof_machines.proofs.net.UnderStarts.{seeing}
 use Rattle.proof_machines.proofs.net.UnderReadings.{all_done}
-use Rattle.proof_machines.proofs.net.Shares.{Any, Any.Old, Any.New, ShareMsg, ShareMsg.Shared_on, ShareMsg.S_sync, WantShare, Sharing, IsSharing, member_step}
-use Rattle.proof_machines.proofs.net.Shares.{WholeWorld, whole_inst, ran_of, SeeingShare}
 use Rattle.proof_machines.proofs.whole.WhereAll.{Came, WhereAll, Apart_from_shares, Under_share}
 use Rattle.proof_machines.proofs.whole.Fronts.{Fronts, ran_more, same_after, its_then}
 use Rattle.proof_machines.proofs.whole.FrontSteps.{no_input, table_seen, inst_fronts}
 use Rattle.nf_function.specs.declared.unit.Unit as units
-use Rattle.record_table.specs.Table.{same_unit}
-use Rattle.proof_machines.proofs.Tests.{either_way}
-use Rattle.std.proofs.lemmas.Bool.{true_from_ne_false}
 
 -- a flag that isn't home's
 not_home : (b : Bool) → (if b then false else true) ≡ true → b ≡ false

@@ -1,15 +1,10 @@
 -- The whole world at its start: where moves' world keeps its invariant, no share is open, no message is on a link and nothing stands by, the whole
 -- world keeps its own.
-use Rattle.std.proofs.Common.{◌≡◌, ℕ, ◌<◌, Bool, true, false, None, Some, List, [], inr, length, refl, sym, ap, ◌∙◌, subst}
-use Rattle.std.specs.Prelude.{◌&&◌, ◌==◌}
-use Rattle.proof_machines.proofs.unit.Labels.{Each}
-use Rattle.proof_machines.proofs.net.Net.{Sys, IsSys}
-use Rattle.proof_machines.proofs.net.Rest.{none_mine}
+use Rattle.proof_machines.proofs.net.Words.{◌≡◌, ℕ, ◌<◌, Bool, true, false, None, Some, List, [], inr, length, refl, sym, ap, ◌∙◌, subst, ◌&&◌, ◌==◌, Each, Sys}
+use Rattle.proof_machines.proofs.net.Words.{IsSys, none_mine, AreNumbersApart, Numbered, Disjoint, OfShare, ShareMsg, EachNew, Sharing, OpenShare, find_share}
+use Rattle.proof_machines.proofs.net.Words.{WholeWorld, moves_of, ran_of}
 use Rattle.proof_machines.proofs.net.Every.{Every}
-use Rattle.proof_machines.proofs.net.ShareLists.{AreNumbersApart}
-use Rattle.proof_machines.proofs.net.GlobalAll.{Numbered, Disjoint, OfShare}
 use Rattle.proof_machines.proofs.net.Untaken.{NoShare, ElsewhereHome}
-use Rattle.proof_machines.proofs.net.Shares.{ShareMsg, EachNew, Sharing, OpenShare, find_share, WholeWorld, moves_of, ran_of}
 use Rattle.proof_machines.proofs.whole.WhereAll.{Apart_from_shares}
 use Rattle.proof_machines.proofs.whole.Fronts.{MsgFront, front_none}
 use Rattle.proof_machines.proofs.whole.EveryAll.{EveryAll}

@@ -1,23 +1,15 @@
 -- What moves have of a unit under a share: nothing. No open move takes it, keeps a record or a packet of it, and no message of a move has one. So a
 -- unit that an open move takes, and that of an event, is apart from shares.
-use Rattle.std.proofs.Common.{◌≡◌, ℕ, true, false, Some, None, List, [], ◌∷◌, refl, sym, ◌∙◌, subst}
-use Rattle.std.specs.Prelude.{◌&&◌, ◌==◌}
-use Rattle.proof_machines.proofs.unit.Real.{Chunks, record_at, RPiece, RPhase, M_event, M_put_no, M_install}
-use Rattle.move_op.specs.Phases.{Streaming}
-use Rattle.proof_machines.proofs.unit.Labels.{Each, Without, Clean}
-use Rattle.flow_filter.specs.declared.filter.Filter.{Filter}
-use Rattle.proof_machines.proofs.net.Net.{Msg, Mv, Sys, IsSys, Open, find_op}
+use Rattle.proof_machines.proofs.net.Words.{◌≡◌, ℕ, true, false, Some, None, List, [], ◌∷◌, refl, sym, ◌∙◌, subst, ◌&&◌, ◌==◌, Chunks, record_at, RPiece}
+use Rattle.proof_machines.proofs.net.Words.{RPhase, M_event, M_put_no, M_install, Streaming, Each, Without, Clean, Filter, Msg, Mv, Sys, IsSys, Open, find_op}
+use Rattle.proof_machines.proofs.net.Words.{RestOp, NothingOf, none_mine, Any, Old, olds, Sharing, WholeWorld, moves_of, SeeingShare, Answer, same_unit}
 use Rattle.proof_machines.proofs.net.Ctrl.{each_found}
 use Rattle.proof_machines.proofs.net.Copies.{has, have, copies}
-use Rattle.proof_machines.proofs.net.Rest.{RestOp, NothingOf, none_mine}
 use Rattle.proof_machines.proofs.net.Under.{Under}
-use Rattle.proof_machines.proofs.net.Shares.{Any, Any.Old, olds, Sharing, WholeWorld, moves_of, SeeingShare}
 use Rattle.proof_machines.proofs.net.Units.{Where}
 use Rattle.proof_machines.proofs.net.UnderStarts.{seeing}
 use Rattle.proof_machines.proofs.whole.WhereAll.{Came, WhereAll, Apart_from_shares, Under_share}
 use Rattle.nf_function.specs.declared.unit.Unit as units
-use Rattle.nf_msgs.specs.declared.answer.Answer.{Answer}
-use Rattle.record_table.specs.Table.{same_unit}
 
 has_none : {R : Type 0} (u : units.Unit) (cs : Chunks R) → record_at u cs ≡ None → has u cs ≡ 0
 has_none u cs e = rw e refl

@@ -1,23 +1,16 @@
 -- Where a unit is in the whole world: apart from shares, as moves know it, or under a share. Each node's step and each begin leaves it there, but
 -- for the begin of a share that takes it at its home: from there on it is under that share.
-use Rattle.std.proofs.Common.{◌≡◌, ℕ, ◌+◌, ◌≤◌, Bool, true, false, Some, List, [], ◌∷◌, ◌++◌, refl, sym, ap, ◌∙◌, subst, append-nil, arith}
-use Rattle.std.specs.Prelude.{if◌then◌else◌, ◌&&◌, ◌==◌}
-use Rattle.std.proofs.lemmas.Bool.Decides.{nat_tests, Decides-eqb}
-use Rattle.proof_machines.proofs.unit.Lists.{firsts}
-use Rattle.proof_machines.proofs.unit.Stages.{times, IsOrderedAs}
+use Rattle.proof_machines.proofs.net.Words.{◌≡◌, ℕ, ◌+◌, ◌≤◌, Bool, true, false, Some, List, [], ◌∷◌, ◌++◌, refl, sym, ap, ◌∙◌, subst, append-nil, arith}
+use Rattle.proof_machines.proofs.net.Words.{if◌then◌else◌, ◌&&◌, ◌==◌, nat_tests, Decides-eqb, firsts, times, IsOrderedAs, Each, shape, Filter, Msg, Asked}
+use Rattle.proof_machines.proofs.net.Words.{MoveAsked, Sys, IsSys, sw_target, sw_next, OpLabel, Rest, NothingOf, Disjoint, TakesSome, GlobalAll, unit_share}
+use Rattle.proof_machines.proofs.net.Words.{as_share, Any, Old, New, S_asked, WantShare, olds, Sharing, IsSharing, OpenShare, find_share, WholeWorld, moves_of}
+use Rattle.proof_machines.proofs.net.Words.{whole_inst, whole_ctrl, whole_switch, whole_input, asks, begin_move, begin_share, puts_get, keeps, meets_shares}
+use Rattle.proof_machines.proofs.net.Words.{MayShare, SeeingShare, same_unit, either_way}
 use Rattle.proof_machines.proofs.unit.Loose.{times-append}
-use Rattle.proof_machines.proofs.unit.Labels.{Each}
-use Rattle.proof_machines.proofs.share.Stages.{shape}
-use Rattle.flow_filter.specs.declared.filter.Filter.{Filter}
-use Rattle.proof_machines.proofs.net.Net.{Msg, Asked, MoveAsked, Sys, IsSys, sw_target, sw_next}
-use Rattle.proof_machines.proofs.net.Holding.{OpLabel}
 use Rattle.proof_machines.proofs.net.Ctrl.{each_found}
-use Rattle.proof_machines.proofs.net.Rest.{Rest, NothingOf}
 use Rattle.proof_machines.proofs.net.Units.{Where, Where.At_rest, Where.In_move, May, see, switch_where}
 use Rattle.proof_machines.proofs.net.Elsewhere.{where_two}
-use Rattle.proof_machines.proofs.net.GlobalAll.{Disjoint, TakesSome, GlobalAll}
 use Rattle.proof_machines.proofs.net.GlobalBegins.{meets_none, meets_no_move}
-use Rattle.proof_machines.proofs.net.ShareViews.{unit_share, as_share}
 use Rattle.proof_machines.proofs.net.UntakenInst.{Unshared, inst_unshared, ctrl_unshared}
 use Rattle.proof_machines.proofs.net.UntakenSwitch.{sw_same, HandsAny, switch_unshared, input_unshared}
 use Rattle.proof_machines.proofs.net.UntakenBegins.{begin_unshared, share_unshared, get_unshared, keeps_unshared, asks_move_unshared, asks_share_unshared}
@@ -26,12 +19,7 @@ use Rattle.proof_machines.proofs.net.Under.{Under}
 use Rattle.proof_machines.proofs.net.UnderSteps.{under_inst, under_ctrl, under_switch, under_input, comes_last}
 use Rattle.proof_machines.proofs.net.UnderBegins.{under_begin_move, under_begin_share, under_get, under_asks_move, under_asks_share, under_keeps}
 use Rattle.proof_machines.proofs.net.UnderStarts.{seeing, FrontBy, under_starts}
-use Rattle.proof_machines.proofs.net.Shares.{Any, Any.Old, Any.New, ShareMsg.S_asked, WantShare, olds, Sharing, IsSharing, OpenShare}
-use Rattle.proof_machines.proofs.net.Shares.{find_share, WholeWorld, moves_of, whole_inst, whole_ctrl, whole_switch, whole_input}
-use Rattle.proof_machines.proofs.net.Shares.{asks, begin_move, begin_share, puts_get, keeps, meets_shares, MayShare, SeeingShare}
 use Rattle.nf_function.specs.declared.unit.Unit as units
-use Rattle.record_table.specs.Table.{same_unit}
-use Rattle.proof_machines.proofs.Tests.{either_way}
 
 -- what has come of a unit: its packets, those of them that came while its packets were diverted, and whether a move without a buffer ever handed
 -- it on

@@ -1,31 +1,12 @@
 -- What is kept beside each world of a run: copies that are on their way, and numbers that are to come. It gives what the nodes' steps want, and each
 -- choice keeps it.
-use Rattle.std.proofs.Common.{◌≡◌, ℕ, ◌+◌, ◌<◌, false, List, [], ◌∷◌, length, refl, ◌∙◌, subst, arith}
-use Rattle.std.specs.Prelude.{◌&&◌, ◌==◌}
-use Rattle.std.specs.declared.alloc.Global.{Global}
-use Rattle.std.proofs.lemmas.Bool.Decides.{nat_tests}
-use Rattle.nf_function.specs.declared.chunk.Chunk.{Chunk}
-use Rattle.nf_function.specs.Records.{Fits, Laws as FunctionLaws}
-use Rattle.nf_function.specs.Semantics.{Semantics}
-use Rattle.nf_msgs.specs.declared.msg.Msg.{Msg}
+use Rattle.proof_outlines.proofs.Words.{◌≡◌, ℕ, ◌+◌, ◌<◌, false, List, [], ◌∷◌, length, refl, ◌∙◌, subst, arith, ◌&&◌, ◌==◌, Global, nat_tests, Chunk, Fits}
+use Rattle.proof_outlines.proofs.Words.{Semantics, Msg, Note, Choice, Network, queue_at, world_next, at, opening_waiting, opening_weight, Taking, Takes}
+use Rattle.proof_outlines.proofs.Words.{less_first, Each, EachSent, weigh, Config, Node, IsInput, node_step, node_ready, first_nodes, started_with}
+use Rattle.nf_function.specs.Records.{Laws as FunctionLaws}
 use Rattle.nf_msgs.specs.declared.msg.Msg.TheVariants as msg
-use Rattle.nf_msgs.specs.declared.note.Note.{Note}
 use Rattle.ctrl_node.specs.Controller.{controller_at_start as opened_controller}
-use Rattle.actor_net.specs.declared.choice.Choice.{Choice}
-use Rattle.actor_net.specs.Network.{Network, queue_at, world_next}
-use Rattle.actor_net.proofs.EnabledChoices.{at}
-use Rattle.actor_net.proofs.OpeningWorlds.{opening_waiting, opening_weight}
-use Rattle.actor_net.proofs.RunInduction.{Taking}
-use Rattle.actor_net.proofs.StepOutcome.{Takes}
-use Rattle.actor_net.proofs.WaitingMessages.{less_first}
-use Rattle.actor_net.proofs.WeightLaws.{Each, EachSent, weigh}
-use Rattle.net_world.specs.declared.config.Config.{Config}
-use Rattle.net_world.specs.declared.node.Node.{Node}
-use Rattle.net_world.specs.Input.{IsInput}
-use Rattle.net_world.specs.Nodes.{node_step, node_ready}
-use Rattle.net_world.specs.Start.{first_nodes, started_with}
-use Rattle.proof_outlines.proofs.joined.Given.{Given}
-use Rattle.proof_outlines.proofs.joined.Joined.{count, Label, Joined, node_of, IsTaken, Leads}
+use Rattle.proof_outlines.proofs.joined.Words.{Given, count, Label, Joined, node_of, IsTaken, Leads}
 use Rattle.proof_outlines.proofs.joined.JoinedSteps.{scene, is_taken, input_after, step_leads, takes_at, ready_at, joined_next}
 use Rattle.proof_outlines.proofs.joined.NodeSteps.{Wants, node_leads}
 use Rattle.proof_outlines.proofs.joined.OperationsApart.{AllApart, none_apart}

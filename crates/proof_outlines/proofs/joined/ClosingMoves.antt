@@ -1,35 +1,17 @@
 -- A move is over by its last fence alone, and then nothing is stored for it.
-use Rattle.std.proofs.Common.{◌≡◌, ℕ, Bool, true, false, Some, None, List, [], ◌∷◌, ◌++◌, refl, sym, ap, ◌∙◌}
-use Rattle.std.specs.Prelude.{if◌then◌else◌, ◌&&◌, ◌==◌, unwrap_or}
+use Rattle.proof_outlines.proofs.Words.{◌≡◌, ℕ, Bool, true, false, Some, None, List, [], ◌∷◌, ◌++◌, refl, sym, ap, ◌∙◌, if◌then◌else◌, ◌&&◌, ◌==◌, unwrap_or}
+use Rattle.proof_outlines.proofs.Words.{Chunk, Semantics, FullCell, Answer, Msg, Piece, Door, Phase, MovePlan, MoveState, MoveRow, row, answer_of, keeps}
+use Rattle.proof_outlines.proofs.Words.{next_phase, have_units, source, destination, MoveNext, from_source, from_destination, put_back, words, is_nil, push_on}
+use Rattle.proof_outlines.proofs.Words.{all_put, on_event, on_source_enabled, on_piece, on_deleted, on_restored, on_source_fenced, on_put_ok, on_put_no}
+use Rattle.proof_outlines.proofs.Words.{on_destination_enabled, on_destination_fenced, Open, find_op, WholeWorld, ends, Came, EveryAll, by_if}
 use Rattle.nf_function.specs.declared.unit.Unit as units
-use Rattle.nf_function.specs.declared.chunk.Chunk.{Chunk}
-use Rattle.nf_function.specs.Semantics.{Semantics}
-use Rattle.packet_pool.specs.Pool.{FullCell}
-use Rattle.nf_msgs.specs.declared.answer.Answer.{Answer}
-use Rattle.nf_msgs.specs.declared.msg.Msg.{Msg}
 use Rattle.nf_msgs.specs.declared.msg.Msg.TheVariants as msg
-use Rattle.nf_msgs.specs.declared.msg.Piece.{Piece}
-use Rattle.move_op.specs.declared.door.Door.{Door}
 use Rattle.move_op.specs.declared.door.Door.TheVariants as door
-use Rattle.move_op.specs.Phases.{Phase}
 use Rattle.move_op.specs.Phases as phase
-use Rattle.move_op.specs.Move.{MovePlan, MoveState, MoveRow, row, answer_of, keeps, next_phase, have_units, source, destination, MoveNext}
-use Rattle.move_op.specs.Move.{from_source, from_destination, put_back, words}
-use Rattle.move_op.specs.Table.{is_nil, push_on, all_put, on_event, on_source_enabled, on_piece, on_deleted, on_restored, on_source_fenced, on_put_ok}
-use Rattle.move_op.specs.Table.{on_put_no, on_destination_enabled, on_destination_fenced}
-use Rattle.proof_machines.proofs.net.Net.{Open, find_op}
-use Rattle.proof_machines.proofs.net.Shares.{WholeWorld}
-use Rattle.proof_machines.proofs.net.Stores.{ends, nothing}
-use Rattle.proof_machines.proofs.whole.WhereAll.{Came}
-use Rattle.proof_machines.proofs.whole.EveryAll.{EveryAll}
-use Rattle.proof_outlines.proofs.outline.Outline.{number, is_sys}
-use Rattle.proof_outlines.proofs.outline.MoveOutline.{outline_phase}
-use Rattle.proof_outlines.proofs.outline.ControlOutline.{SeesMove}
-use Rattle.proof_outlines.proofs.joined.Given.{Given, place}
-use Rattle.proof_outlines.proofs.joined.Joined.{S, A}
+use Rattle.proof_machines.proofs.net.Stores.{nothing}
+use Rattle.proof_outlines.proofs.joined.Words.{number, is_sys, outline_phase, SeesMove, Given, place, S, A}
 use Rattle.proof_outlines.proofs.joined.MoveReadings.{none_left_all}
 use Rattle.proof_machines.proofs.unit.Lists.{map_nil}
-use Rattle.proof_machines.proofs.Tests.{by_if}
 
 -- the last fence is awaited
 abbrev closing : Phase → Bool

@@ -1,44 +1,23 @@
 -- The controller's step on each command: it is refused, or its share, move or copy begins.
-use Rattle.std.proofs.Common.{◌≡◌, ℕ, suc, ◌<◌, ◌≤◌, true, false, not, Option, Some, None, List, [], ◌∷◌, ◌++◌, length, refl, sym, ap, ◌∙◌, subst, arith}
-use Rattle.std.specs.Prelude.{if◌then◌else◌, ◌&&◌, ◌==◌, nat_lt, is_some, option_map}
-use Rattle.std.specs.List.{filter_map, IsDistinct}
+use Rattle.proof_outlines.proofs.Words.{◌≡◌, ℕ, suc, ◌<◌, ◌≤◌, true, false, not, Option, Some, None, List, [], ◌∷◌, ◌++◌, length, refl, sym, ap, ◌∙◌, subst}
+use Rattle.proof_outlines.proofs.Words.{arith, if◌then◌else◌, ◌&&◌, ◌==◌, nat_lt, is_some, option_map, filter_map, nat_tests, Decides-ltb, and_parts, not-true}
+use Rattle.proof_outlines.proofs.Words.{Filter, Semantics, Answer, Command, Order, switch_node, instance_node, SharePlan, Operation, Share, lowest_meeting}
+use Rattle.proof_outlines.proofs.Words.{ControllerState, Step, still, refusal, move_between, copy_between, share_begin, begin_step, decision_step, on_asked}
+use Rattle.proof_outlines.proofs.Words.{has_twice, place_of, sent_for, Each, behind, Rising, Any, New, S_asked, S_install, WantShare, new_share, WholeWorld}
+use Rattle.proof_outlines.proofs.Words.{whole_ctrl, begin_share, MayShare, ctrl_every_all, share_every_all, by_if}
+use Rattle.std.specs.List.{IsDistinct}
 use Rattle.std.specs.FinMap as finite
-use Rattle.std.proofs.lemmas.Bool.Decides.{nat_tests, Decides-ltb}
-use Rattle.std.proofs.lemmas.Bool.{and_parts, not-true}
-use Rattle.flow_filter.specs.declared.filter.Filter.{Filter}
-use Rattle.nf_function.specs.Semantics.{Semantics}
-use Rattle.nf_msgs.specs.declared.answer.Answer.{Answer}
-use Rattle.nf_msgs.specs.declared.command.Command.{Command}
-use Rattle.nf_msgs.specs.declared.command.Order.{Order}
 use Rattle.nf_msgs.specs.declared.command.Order.TheVariants as order
 use Rattle.nf_msgs.specs.declared.msg.Msg.TheVariants as msg
-use Rattle.nf_msgs.specs.Nodes.{switch_node, instance_node}
-use Rattle.copy_share.specs.Share.{SharePlan}
 use Rattle.copy_share.specs.Share as share
-use Rattle.ctrl_node.specs.declared.operation.Operation.{Operation}
-use Rattle.ctrl_node.specs.declared.operation.Operation.TheVariants.{Share}
-use Rattle.ctrl_node.specs.Operations.{lowest_meeting}
-use Rattle.ctrl_node.specs.Controller.{ControllerState, Step, still, refusal, move_between, copy_between, share_begin, begin_step, decision_step, on_asked}
-use Rattle.flow_filter.specs.Name.{has_twice, place_of}
-use Rattle.proof_machines.proofs.unit.Real.{sent_for}
-use Rattle.proof_machines.proofs.unit.Labels.{Each}
-use Rattle.proof_machines.proofs.net.Net.{behind}
-use Rattle.proof_machines.proofs.net.Waits.{Rising}
-use Rattle.proof_machines.proofs.net.Shares.{Any, New, S_asked, S_install, WantShare, new_share, WholeWorld, whole_ctrl, begin_share, MayShare}
-use Rattle.proof_machines.proofs.whole.EveryAll.{ctrl_every_all, share_every_all}
-use Rattle.proof_outlines.proofs.outline.FiltersApart.{is_whole}
-use Rattle.proof_outlines.proofs.outline.Outline.{is_sys}
-use Rattle.proof_outlines.proofs.whole.WholeOutline.{outline_all, asked_of, with_member, members_of, share_between, want_share_of, is_sharing}
-use Rattle.proof_outlines.proofs.whole.AskedShare.{members_long, members_are, members_apart}
-use Rattle.proof_outlines.proofs.whole.OpenShares.{StepFollows}
+use Rattle.proof_outlines.proofs.joined.Words.{is_whole, is_sys, outline_all, asked_of, with_member, members_of, share_between, want_share_of, is_sharing}
+use Rattle.proof_outlines.proofs.joined.Words.{members_long, members_are, members_apart, StepFollows, Given, place, Scene, AreShown, IsTaken, IsController}
+use Rattle.proof_outlines.proofs.joined.Words.{IsShare, S, A, count, shown, is_built, commands, came_by, asked_nums}
 use Rattle.proof_outlines.proofs.whole.BeginsAll.{share_begun}
 use Rattle.proof_outlines.proofs.joined.ShareBegins.{place_tells, names_distinct, few_placed, all_apart, FirstKnown, first_known, unknown}
 use Rattle.proof_outlines.proofs.joined.ControllerScenes.{links_by, waits}
 use Rattle.proof_outlines.proofs.joined.ControllerBegins.{no_overlap, none_unknown, controller_begun, listed_begun, OrderNext, Leads_to, stays_still}
 use Rattle.proof_outlines.proofs.joined.ControllerBegins.{answered, shares_apart, moves_apart, rises, link_left, link_same, move_begins, copy_begins}
-use Rattle.proof_outlines.proofs.joined.Given.{Given, place}
-use Rattle.proof_outlines.proofs.joined.Joined.{Scene, AreShown, IsTaken, IsController, IsShare, S, A, count, shown, is_built, commands, came_by, asked_nums}
-use Rattle.proof_machines.proofs.Tests.{by_if}
 
 module _ {F R : Type 0} (f : Semantics R) (g : Given) (n : ℕ) (x : Scene F f g) (p : ℕ) (cmd : Command) (are : AreShown f g n x)
     (is : IsTaken f g n x (record { node = 1; port = p; message = msg.Asked cmd })) where

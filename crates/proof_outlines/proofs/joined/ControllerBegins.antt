@@ -1,57 +1,26 @@
 -- The controller's step on a command that it refuses, or by which a move or a copy begins.
-use Rattle.std.proofs.Common.{◌≡◌, ◌≢◌, ℕ, suc, ◌≤◌, Bool, true, false, cond, Option, Some, None}
-use Rattle.std.proofs.Common.{List, [], ◌∷◌, ◌++◌, refl, sym, ap, ◌∙◌, subst, append-nil, arith}
-use Rattle.std.specs.Prelude.{if◌then◌else◌, ◌&&◌, ◌==◌, not, find, option_map}
-use Rattle.std.specs.Option.{option_or}
-use Rattle.std.specs.Ordering.{nat_cmp, eq_by_cmp}
-use Rattle.std.specs.Str.{bytes_eq}
+use Rattle.proof_outlines.proofs.Words.{◌≡◌, ◌≢◌, ℕ, suc, ◌≤◌, Bool, true, false, cond, Option, Some, None, List, [], ◌∷◌, ◌++◌, refl, sym, ap, ◌∙◌, subst}
+use Rattle.proof_outlines.proofs.Words.{append-nil, arith, if◌then◌else◌, ◌&&◌, ◌==◌, not, find, option_map, option_or, nat_cmp, eq_by_cmp, bytes_eq, nat_tests}
+use Rattle.proof_outlines.proofs.Words.{and_parts, Filter, meets, Semantics, stored_of, Answer, Command, Order, Msg, instance_node, MovePlan, move_at_start}
+use Rattle.proof_outlines.proofs.Words.{CopyPlan, Operation, Move, Copy, Share, lowest_meeting, meets_operation, ControllerState, Step, still, refusal}
+use Rattle.proof_outlines.proofs.Words.{unknown_name, overlap, answers, move_begin, copy_begin, place_of, EachSent, sent_for, Each, each-append, MoveAsked}
+use Rattle.proof_outlines.proofs.Words.{Open, new_op, begin_sends, meets_any, behind, links_after, Rising, AreNumbersApart, Any, Old, New, S_asked, S_get}
+use Rattle.proof_outlines.proofs.Words.{WantShare, OpenShare, find_share, WholeWorld, moves_of, as_old, whole_ctrl, begin_move, puts_get, meets_shares}
+use Rattle.proof_outlines.proofs.Words.{ctrl_every_all, move_every_all, get_every_all, split}
 use Rattle.std.specs.FinMap as finite
-use Rattle.std.proofs.lemmas.Bool.Decides.{nat_tests}
-use Rattle.std.proofs.lemmas.Bool.{and_parts}
-use Rattle.flow_filter.specs.declared.filter.Filter.{Filter}
-use Rattle.flow_filter.specs.Filter.{meets}
-use Rattle.nf_function.specs.Semantics.{Semantics}
-use Rattle.event_store.specs.Store.{stored_of}
-use Rattle.nf_msgs.specs.declared.answer.Answer.{Answer}
 use Rattle.nf_msgs.specs.declared.answer.Answer.TheVariants as answer
-use Rattle.nf_msgs.specs.declared.command.Command.{Command}
-use Rattle.nf_msgs.specs.declared.command.Order.{Order}
 use Rattle.nf_msgs.specs.declared.command.Order.TheVariants as order
-use Rattle.nf_msgs.specs.declared.msg.Msg.{Msg}
 use Rattle.nf_msgs.specs.declared.msg.Msg.TheVariants as msg
-use Rattle.nf_msgs.specs.Nodes.{instance_node}
-use Rattle.move_op.specs.Move.{MovePlan, move_at_start}
-use Rattle.copy_share.specs.Copy.{CopyPlan}
 use Rattle.copy_share.specs.Copy as copy
-use Rattle.ctrl_node.specs.declared.operation.Operation.{Operation}
-use Rattle.ctrl_node.specs.declared.operation.Operation.TheVariants.{Move, Copy, Share}
-use Rattle.ctrl_node.specs.Operations.{lowest_meeting, meets_operation}
-use Rattle.ctrl_node.specs.Controller.{ControllerState, Step, still, refusal, unknown_name, overlap, answers, move_begin, copy_begin}
-use Rattle.flow_filter.specs.Name.{place_of}
-use Rattle.actor_net.proofs.WeightLaws.{EachSent}
-use Rattle.proof_machines.proofs.unit.Real.{sent_for}
-use Rattle.proof_machines.proofs.unit.Labels.{Each, each-append}
 use Rattle.proof_machines.proofs.net.Net as net
-use Rattle.proof_machines.proofs.net.Net.{MoveAsked, Open, new_op, begin_sends, meets_any, behind, links_after}
-use Rattle.proof_machines.proofs.net.Waits.{Rising}
 use Rattle.proof_machines.proofs.net.Units.{May}
-use Rattle.proof_machines.proofs.net.ShareLists.{AreNumbersApart}
-use Rattle.proof_machines.proofs.net.Shares.{Any, Old, New, S_asked, S_get, WantShare, OpenShare, find_share, WholeWorld}
-use Rattle.proof_machines.proofs.net.Shares.{moves_of, as_old, whole_ctrl, begin_move, puts_get, meets_shares}
-use Rattle.proof_machines.proofs.whole.EveryAll.{ctrl_every_all, move_every_all, get_every_all}
-use Rattle.proof_outlines.proofs.outline.FiltersApart.{is_whole}
-use Rattle.proof_outlines.proofs.outline.Outline.{want_at, want_of, is_sys}
-use Rattle.proof_outlines.proofs.outline.OperationTables.{got_insert}
-use Rattle.proof_outlines.proofs.whole.WholeOutline.{outline_all, asked_of, want_share_of, is_sharing}
-use Rattle.proof_outlines.proofs.whole.OpenShares.{OpensAll, real_share}
+use Rattle.proof_outlines.proofs.joined.Words.{is_whole, want_at, want_of, is_sys, got_insert, outline_all, asked_of, want_share_of, is_sharing, OpensAll}
+use Rattle.proof_outlines.proofs.joined.Words.{real_share, Given, place, Scene, AreShown, IsTaken, IsController, IsListed, IsMove, IsCopy, Label, S, A, shown}
+use Rattle.proof_outlines.proofs.joined.Words.{is_whole_if, is_built, commands, came_by, asked_nums}
 use Rattle.proof_outlines.proofs.whole.BeginsAll.{move_begun, copy_begun}
 use Rattle.proof_outlines.proofs.joined.ShareBegins.{place_below, places_apart}
 use Rattle.proof_outlines.proofs.joined.ControllerScenes.{AreQuiet, RowLeads, Idles, links_by, waits, stays, unseen}
 use Rattle.proof_outlines.proofs.joined.ControllerChanges.{NotMove, AreAlike, IsOperation, listed_alike, changed}
-use Rattle.proof_outlines.proofs.joined.Given.{Given, place}
-use Rattle.proof_outlines.proofs.joined.Joined.{Scene, AreShown, IsTaken, IsController, IsListed, IsMove, IsCopy, Label}
-use Rattle.proof_outlines.proofs.joined.Joined.{S, A, shown, is_whole_if, is_built, commands, came_by, asked_nums}
-use Rattle.proof_machines.proofs.Tests.{split}
 
 -- what no entry passes, no value does
 find_none : {X : Type 0} (p : X → Bool) (es : List (ℕ × X)) (k : ℕ) (v : X) → find (λ e. p e.1) es ≡ None → finite.find nat_cmp k es ≡ Some v → p v ≡ false

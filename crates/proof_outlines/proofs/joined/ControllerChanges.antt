@@ -1,23 +1,9 @@
 -- A controller of a run is one after a change at one number, where the operation under it is one of a run, with what is stored for it.
-use Rattle.std.proofs.Common.{◌≡◌, ℕ, ◌≤◌, false, Option, Some, None, List, [], ◌∷◌, refl, sym, ap, ◌∙◌, subst, arith}
-use Rattle.std.specs.Prelude.{◌==◌}
+use Rattle.proof_outlines.proofs.Words.{◌≡◌, ℕ, ◌≤◌, false, Option, Some, None, List, [], ◌∷◌, refl, sym, ap, ◌∙◌, subst, arith, ◌==◌, Decides-eqb, Semantics}
+use Rattle.proof_outlines.proofs.Words.{stored_of, FullCell, answer_of, Operation, Move, Copy, Share, ControllerState, Each, Open, OpenShare, either_way}
+use Rattle.proof_outlines.proofs.Words.{false_from_ne_true}
 use Rattle.std.specs.FinMap as finite
-use Rattle.std.proofs.lemmas.Bool.Decides.{Decides-eqb}
-use Rattle.nf_function.specs.Semantics.{Semantics}
-use Rattle.event_store.specs.Store.{stored_of}
-use Rattle.packet_pool.specs.Pool.{FullCell}
-use Rattle.move_op.specs.Move.{answer_of}
-use Rattle.ctrl_node.specs.declared.operation.Operation.{Operation}
-use Rattle.ctrl_node.specs.declared.operation.Operation.TheVariants.{Move, Copy, Share}
-use Rattle.ctrl_node.specs.Controller.{ControllerState}
-use Rattle.proof_machines.proofs.unit.Labels.{Each}
-use Rattle.proof_machines.proofs.net.Net.{Open}
-use Rattle.proof_machines.proofs.net.Shares.{OpenShare}
-use Rattle.proof_outlines.proofs.whole.OpenShares.{OpensAll}
-use Rattle.proof_outlines.proofs.joined.Given.{Given, place}
-use Rattle.proof_outlines.proofs.joined.Joined.{Genuine, IsController, IsListed, IsMove, IsCopy, IsShare}
-use Rattle.proof_machines.proofs.Tests.{either_way}
-use Rattle.std.proofs.lemmas.Bool.{false_from_ne_true}
+use Rattle.proof_outlines.proofs.joined.Words.{OpensAll, Given, place, Genuine, IsController, IsListed, IsMove, IsCopy, IsShare}
 
 -- no move
 abbrev pub NotMove : Option Operation → Type 0

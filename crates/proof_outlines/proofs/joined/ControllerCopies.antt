@@ -1,32 +1,16 @@
 -- The controller's step on a message of a copy, or one that comes to shares and copies: what came is handed on, or the copy ends. No move and no
 -- share looks at either.
-use Rattle.std.proofs.Common.{◌≡◌, ℕ, true, cond, Option, Some, None, List, [], refl, sym, ap, ◌∙◌, subst, arith}
-use Rattle.std.specs.Prelude.{◌==◌, option_map}
+use Rattle.proof_outlines.proofs.Words.{◌≡◌, ℕ, true, cond, Option, Some, None, List, [], refl, sym, ap, ◌∙◌, subst, arith, ◌==◌, option_map, nat_tests}
+use Rattle.proof_outlines.proofs.Words.{same_Some, Chunk, Semantics, stored_of, Msg, instance_node, Keeping, CopyState, ShareState, Operation, Move, Copy}
+use Rattle.proof_outlines.proofs.Words.{Share, turn_of, ControllerState, Step, still, takes_turn, hand_step, Any, New, S_chunks, find_share, Has_chunks}
+use Rattle.proof_outlines.proofs.Words.{by_share}
 use Rattle.std.specs.FinMap as finite
-use Rattle.std.proofs.lemmas.Bool.Decides.{nat_tests}
-use Rattle.std.proofs.lemmas.Option.{same_Some}
-use Rattle.nf_function.specs.declared.chunk.Chunk.{Chunk}
-use Rattle.nf_function.specs.Semantics.{Semantics}
-use Rattle.event_store.specs.Store.{stored_of}
-use Rattle.nf_msgs.specs.declared.msg.Msg.{Msg}
 use Rattle.nf_msgs.specs.declared.msg.Msg.TheVariants as msg
-use Rattle.nf_msgs.specs.Nodes.{instance_node}
-use Rattle.copy_share.specs.declared.copy_phase.CopyPhase.TheVariants.{Keeping}
-use Rattle.copy_share.specs.Copy.{CopyState}
-use Rattle.copy_share.specs.Share.{ShareState}
-use Rattle.ctrl_node.specs.declared.operation.Operation.{Operation}
-use Rattle.ctrl_node.specs.declared.operation.Operation.TheVariants.{Move, Copy, Share}
-use Rattle.ctrl_node.specs.Operations.{turn_of}
-use Rattle.ctrl_node.specs.Controller.{ControllerState, Step, still, takes_turn, hand_step}
-use Rattle.proof_machines.proofs.net.Shares.{Any, New, S_chunks, find_share, Has_chunks, by_share}
-use Rattle.proof_outlines.proofs.outline.Outline.{entries}
-use Rattle.proof_outlines.proofs.outline.CopyTurns.{CopyTurn, Idle, Hands, Hands_all, Ends, hands, ends, is_copied, copy_turn, move_idle}
-use Rattle.proof_outlines.proofs.outline.OperationTables.{got_insert, got_remove, NotShared, handed_is}
-use Rattle.proof_outlines.proofs.whole.OpenShares.{joins, StepFollows}
+use Rattle.proof_outlines.proofs.joined.Words.{entries, CopyTurn, Idle, Hands, Hands_all, Ends, hands, ends, is_copied, copy_turn, move_idle, got_insert}
+use Rattle.proof_outlines.proofs.joined.Words.{got_remove, NotShared, handed_is, joins, StepFollows, Given, place, Label, Scene, AreShown, IsTaken, IsCopy}
+use Rattle.proof_outlines.proofs.joined.Words.{AreGoodChunks, S, A, shown}
 use Rattle.proof_outlines.proofs.whole.OtherTurns.{copy_handed}
 use Rattle.proof_outlines.proofs.whole.ControlAll.{chunks_follows, all_chunk_follows, kept_follows}
-use Rattle.proof_outlines.proofs.joined.Given.{Given, place}
-use Rattle.proof_outlines.proofs.joined.Joined.{Label, Scene, AreShown, IsTaken, IsCopy, AreGoodChunks, S, A, shown}
 use Rattle.proof_outlines.proofs.joined.ControllerScenes.{RowLeads, Idles}
 use Rattle.proof_outlines.proofs.joined.ControllerChanges.{NotMove, IsKind, IsOperation, operation_is}
 use Rattle.proof_outlines.proofs.joined.ControllerTurns.{no_share_open, none_leads, still_leads, well_idles, share_below, share_leads}

@@ -1,45 +1,20 @@
 -- A controller of a run is one after a row of an open move.
-use Rattle.std.proofs.Common.{◌≡◌, ℕ, ◌+◌, ◌<◌, ◌≤◌, true, false, cond, Option, Some, None, List, [], ◌∷◌, map, refl, sym, ap, ◌∙◌, subst, arith}
-use Rattle.std.specs.Prelude.{if◌then◌else◌, ◌==◌, unwrap_or}
+use Rattle.proof_outlines.proofs.Words.{◌≡◌, ℕ, ◌+◌, ◌<◌, ◌≤◌, true, false, cond, Option, Some, None, List, [], ◌∷◌, map, refl, sym, ap, ◌∙◌, subst, arith}
+use Rattle.proof_outlines.proofs.Words.{if◌then◌else◌, ◌==◌, unwrap_or, nat_tests, Decides-eqb, Semantics, stored_of, Answer, Piece, switch_node, Door, Phase}
+use Rattle.proof_outlines.proofs.Words.{MoveState, MoveRow, answer_of, chunks_of, Move, Turn, turn_of_move, ControllerState, Step, after_turn, RPhase, Each}
+use Rattle.proof_outlines.proofs.Words.{each_map, EachSent, Open, close_op, set_op, write_op, OpenShare, each_set, have, copies, spelled, sent-append}
+use Rattle.proof_outlines.proofs.Words.{either_way, split}
 use Rattle.std.specs.FinMap as finite
-use Rattle.std.proofs.lemmas.Bool.Decides.{nat_tests, Decides-eqb}
-use Rattle.nf_function.specs.Semantics.{Semantics}
 use Rattle.nf_function.specs.declared.unit.Unit as units
-use Rattle.event_store.specs.Store.{stored_of}
-use Rattle.nf_msgs.specs.declared.answer.Answer.{Answer}
 use Rattle.nf_msgs.specs.declared.msg.Msg.TheVariants as msg
-use Rattle.nf_msgs.specs.declared.msg.Piece.{Piece}
-use Rattle.nf_msgs.specs.Nodes.{switch_node}
-use Rattle.move_op.specs.declared.door.Door.{Door}
 use Rattle.move_op.specs.declared.door.Door.TheVariants as door
-use Rattle.move_op.specs.Phases.{Phase}
 use Rattle.move_op.specs.Phases as phase
-use Rattle.move_op.specs.Move.{MoveState, MoveRow, answer_of, chunks_of}
-use Rattle.ctrl_node.specs.declared.operation.Operation.TheVariants.{Move}
-use Rattle.ctrl_node.specs.Operations.{Turn, turn_of_move}
-use Rattle.ctrl_node.specs.Controller.{ControllerState, Step, after_turn}
-use Rattle.proof_machines.proofs.unit.Real.{RPhase}
-use Rattle.proof_machines.proofs.unit.Labels.{Each, each_map}
-use Rattle.actor_net.proofs.WeightLaws.{EachSent}
-use Rattle.proof_machines.proofs.net.Net.{Open, close_op, set_op, write_op}
-use Rattle.proof_machines.proofs.net.Shares.{OpenShare}
-use Rattle.proof_machines.proofs.net.Ctrl.{each_set}
-use Rattle.proof_machines.proofs.net.Copies.{have, copies}
-use Rattle.record_table.specs.Chunks.{spelled}
-use Rattle.proof_outlines.proofs.outline.Outline.{entries, outline_piece}
-use Rattle.proof_outlines.proofs.outline.InstanceOutline.{filter_map-put}
-use Rattle.proof_outlines.proofs.outline.MoveOutline.{outline_phase}
-use Rattle.proof_outlines.proofs.outline.ControlOutline.{stored_after}
-use Rattle.proof_outlines.proofs.outline.OperationTables.{got_insert, got_remove}
-use Rattle.proof_outlines.proofs.whole.OpenShares.{OpensAll}
+use Rattle.proof_outlines.proofs.joined.Words.{entries, outline_piece, filter_map-put, outline_phase, stored_after, got_insert, got_remove, OpensAll, Given}
+use Rattle.proof_outlines.proofs.joined.Words.{place, Genuine, Label, IsController, IsListed, HasPieces, AreFree, AreGoodChunks, IsGoodPiece}
 use Rattle.proof_outlines.proofs.joined.UnitCounts.{times, times-append, times_chunks}
 use Rattle.proof_outlines.proofs.joined.MoveSteps.{RowKeeps, kept_in}
 use Rattle.proof_outlines.proofs.joined.ControllerScenes.{AreQuiet}
 use Rattle.proof_outlines.proofs.joined.ControllerChanges.{AreAlike, IsKind, IsOperation, changed}
-use Rattle.proof_outlines.proofs.joined.Given.{Given, place}
-use Rattle.proof_outlines.proofs.joined.Joined.{Genuine, Label, IsController, IsListed, HasPieces, AreFree, AreGoodChunks, IsGoodPiece}
-use Rattle.net_world.proofs.SentMessages.{sent-append}
-use Rattle.proof_machines.proofs.Tests.{either_way, split}
 
 -- moves that are left when one is closed
 each_left : {R : Type 0} (P Q : Open R → Type 0) (k : ℕ) (es : List (Open R)) → ((e : Open R) → (e.op.num == k) ≡ false → P e → Q e) → Each P es

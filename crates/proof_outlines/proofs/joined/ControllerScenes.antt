@@ -1,37 +1,17 @@
 -- What a row of the controller's table leads to: a whole world that takes the same message, and no more changes than that. The finish after
 -- a row changes nothing of it.
-use Rattle.std.proofs.Common.{◌≡◌, ◌≢◌, ℕ, zero, suc, Bool, true, false, Option, Some, None, List, [], ◌∷◌, ◌++◌, refl, sym, ap, ◌∙◌, subst, append-nil, arith}
-use Rattle.std.specs.Prelude.{if◌then◌else◌, ◌&&◌, ◌==◌}
-use Rattle.std.proofs.lemmas.Bool.Decides.{nat_tests}
+use Rattle.proof_outlines.proofs.Words.{◌≡◌, ◌≢◌, ℕ, zero, suc, Bool, true, false, Option, Some, None, List, [], ◌∷◌, ◌++◌, refl, sym, ap, ◌∙◌, subst}
+use Rattle.proof_outlines.proofs.Words.{append-nil, arith, if◌then◌else◌, ◌&&◌, ◌==◌, nat_tests, Semantics, stored_of, Each, Msg, Note, ControllerState, Step}
+use Rattle.proof_outlines.proofs.Words.{step_and_finish, may_finish, EachSent, sent_for, Open, find_op, behind, links_after, Any, Old, New, S_asked, OpenShare}
+use Rattle.proof_outlines.proofs.Words.{find_share, WholeWorld, Rising, rising_less, EveryAll, ctrl_every_all, as_node, Controller, arrivals_in, dones_in}
+use Rattle.proof_outlines.proofs.Words.{installs_in, sent-append, done-append}
 use Rattle.std.specs.FinMap as finite
-use Rattle.nf_function.specs.Semantics.{Semantics}
-use Rattle.event_store.specs.Store.{stored_of}
-use Rattle.proof_machines.proofs.unit.Labels.{Each}
-use Rattle.nf_msgs.specs.declared.msg.Msg.{Msg}
 use Rattle.nf_msgs.specs.declared.msg.Msg.TheVariants as msg
-use Rattle.nf_msgs.specs.declared.note.Note.{Note}
-use Rattle.ctrl_node.specs.Controller.{ControllerState, Step, step_and_finish, may_finish}
-use Rattle.actor_net.proofs.WeightLaws.{EachSent}
-use Rattle.proof_machines.proofs.unit.Real.{sent_for}
 use Rattle.proof_machines.proofs.net.Net as net
-use Rattle.proof_machines.proofs.net.Net.{Open, find_op, behind, links_after}
-use Rattle.proof_machines.proofs.net.Shares.{Any, Old, New, S_asked}
-use Rattle.proof_machines.proofs.net.Shares.{OpenShare, find_share, WholeWorld}
-use Rattle.proof_machines.proofs.net.Waits.{Rising, rising_less}
-use Rattle.proof_machines.proofs.whole.EveryAll.{EveryAll, ctrl_every_all}
-use Rattle.net_world.specs.Nodes.{as_node}
-use Rattle.net_world.specs.declared.node.Node.TheVariants.{Controller}
-use Rattle.net_world.specs.Log.{arrivals_in, dones_in, installs_in}
-use Rattle.net_world.proofs.SentMessages.{sent-append}
-use Rattle.net_world.proofs.LogLemmas.{done-append}
-use Rattle.proof_outlines.proofs.outline.Outline.{is_sys}
-use Rattle.proof_outlines.proofs.outline.InstanceOutline.{filter_map-put}
-use Rattle.proof_outlines.proofs.whole.WholeOutline.{outline_each, outline_all, is_sharing}
-use Rattle.proof_outlines.proofs.whole.OpenShares.{SeesAny, AllStep, all_step}
+use Rattle.proof_outlines.proofs.joined.Words.{is_sys, filter_map-put, outline_each, outline_all, is_sharing, SeesAny, AllStep, all_step, Given, place, Genuine}
+use Rattle.proof_outlines.proofs.joined.Words.{Label, Scene, Nodes, AreShown, IsTaken, IsController, IsListed, Leads, node_of, shown, S, A, by_node, commands}
+use Rattle.proof_outlines.proofs.joined.Words.{links_next, came_by, asked_nums, Grows}
 use Rattle.proof_outlines.proofs.joined.LogLemmas.{every_same, owners_on, came_on}
-use Rattle.proof_outlines.proofs.joined.Given.{Given, place}
-use Rattle.proof_outlines.proofs.joined.Joined.{Genuine, Label, Scene, Nodes, AreShown, IsTaken, IsController, IsListed, Leads}
-use Rattle.proof_outlines.proofs.joined.Joined.{node_of, shown, S, A, by_node, commands, links_next, came_by, asked_nums, Grows}
 use Rattle.proof_outlines.proofs.joined.NextNumbers.{same_grows}
 
 -- a message is taken from the switch's link, or from another: the numbers of waiting commands rise as before

@@ -1,27 +1,18 @@
 -- The controller's step on a message of a run leads from a world of a run to one.
-use Rattle.std.proofs.Common.{ℕ, true, Option, Some, None, refl, arith}
-use Rattle.std.specs.Prelude.{◌==◌}
+use Rattle.proof_outlines.proofs.Words.{ℕ, true, Option, Some, None, refl, arith, ◌==◌, Semantics, stored_of, Msg, switch_node, ControllerState, still}
+use Rattle.proof_outlines.proofs.Words.{instance_at, on_final, each_map, node_step, by_if}
 use Rattle.nf_function.specs.Records.{Laws as FunctionLaws}
-use Rattle.nf_function.specs.Semantics.{Semantics}
-use Rattle.event_store.specs.Store.{stored_of}
-use Rattle.nf_msgs.specs.declared.msg.Msg.{Msg}
 use Rattle.nf_msgs.specs.declared.msg.Msg.TheVariants as msg
-use Rattle.nf_msgs.specs.Nodes.{switch_node}
-use Rattle.ctrl_node.specs.Controller.{ControllerState, still, instance_at, on_final, row}
+use Rattle.ctrl_node.specs.Controller.{row}
 use Rattle.proof_machines.proofs.unit.Real as real
-use Rattle.proof_machines.proofs.unit.Labels.{each_map}
-use Rattle.net_world.specs.Nodes.{node_step}
-use Rattle.proof_outlines.proofs.outline.Outline.{outline_piece}
-use Rattle.proof_outlines.proofs.outline.MoveOutline.{IsChunk, enabled_row, piece_row, deleted_row, put_ok_row, restored_row}
+use Rattle.proof_outlines.proofs.joined.Words.{outline_piece, IsChunk, enabled_row, piece_row, deleted_row, put_ok_row, restored_row, Given, place, Scene}
+use Rattle.proof_outlines.proofs.joined.Words.{AreShown, IsTaken, Leads, IsGoodChunk, node_of}
 use Rattle.proof_outlines.proofs.joined.ControllerScenes.{RowLeads, lead, stays}
 use Rattle.proof_outlines.proofs.joined.ControllerTurns.{numbered_leads, put_no_leads, event_leads}
 use Rattle.proof_outlines.proofs.joined.ControllerBegins.{CopiesNext}
 use Rattle.proof_outlines.proofs.joined.ControllerAsked.{asked_leads}
 use Rattle.proof_outlines.proofs.joined.ControllerCopies.{chunks_leads, all_chunk_leads, kept_leads}
 use Rattle.proof_outlines.proofs.joined.ShareSteps.{fenced_leads, shared_leads, synced_leads, diverted_leads}
-use Rattle.proof_outlines.proofs.joined.Given.{Given, place}
-use Rattle.proof_outlines.proofs.joined.Joined.{Scene, AreShown, IsTaken, Leads, IsGoodChunk, node_of}
-use Rattle.proof_machines.proofs.Tests.{by_if}
 
 module _ {F R : Type 0} (f : Semantics R) (g : Given) (n : ℕ) (x : Scene F f g) (p : ℕ) (are : AreShown f g n x) where
   abbrev c : ControllerState

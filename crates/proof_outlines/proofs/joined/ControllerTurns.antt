@@ -1,42 +1,25 @@
 -- The controller's step on a message of an open move, or of a number under which no move is open.
-use Rattle.std.proofs.Common.{◌≡◌, ℕ, ◌+◌, ◌<◌, ◌≤◌, true, false, Option, Some, None, List, [], ◌∷◌, ◌++◌, map, length, refl, sym, ap, ◌∙◌, subst, arith}
-use Rattle.std.specs.Prelude.{if◌then◌else◌, ◌==◌, ◌-◌, nat_lt, nat_le, is_some, unwrap_or}
+use Rattle.proof_outlines.proofs.Words.{◌≡◌, ℕ, ◌+◌, ◌<◌, ◌≤◌, true, false, Option, Some, None, List, [], ◌∷◌, ◌++◌, map, length, refl, sym, ap, ◌∙◌, subst}
+use Rattle.proof_outlines.proofs.Words.{arith, if◌then◌else◌, ◌==◌, ◌-◌, nat_lt, nat_le, is_some, unwrap_or, nat_tests, Decides-eqb, Decides-ltb, same_Some}
+use Rattle.proof_outlines.proofs.Words.{Semantics, FullCell, stored_of, Answer, Msg, Refused, switch_node, MoveState, row, row_in, answer_of, source}
+use Rattle.proof_outlines.proofs.Words.{destination, from_source, from_destination, keeps, next_phase, CopyState, ShareState, Operation, Move, Copy, Share}
+use Rattle.proof_outlines.proofs.Words.{turn_of, turn_of_move, ControllerState, Step, still, after_turn, takes_turn, hand_step, instance_at, Each, Open}
+use Rattle.proof_outlines.proofs.Words.{find_op, num_of, found, numbered, each_found, Any, Old, find_share, told_by, by_share, as_old, found_num, found_each}
+use Rattle.proof_outlines.proofs.Words.{copies, either_way}
 use Rattle.std.specs.FinMap as finite
-use Rattle.std.proofs.lemmas.Bool.Decides.{nat_tests, Decides-eqb, Decides-ltb}
-use Rattle.std.proofs.lemmas.Option.{same_Some}
-use Rattle.nf_function.specs.Semantics.{Semantics}
 use Rattle.nf_function.specs.declared.unit.Unit as units
 use Rattle.event_filter.specs.declared.mark.Mark.TheVariants as mark
-use Rattle.packet_pool.specs.Pool.{FullCell}
-use Rattle.event_store.specs.Store.{stored_of}
-use Rattle.nf_msgs.specs.declared.answer.Answer.{Answer}
-use Rattle.nf_msgs.specs.declared.msg.Msg.{Msg}
 use Rattle.nf_msgs.specs.declared.msg.Msg.TheVariants as msg
-use Rattle.nf_msgs.specs.declared.msg.Refused.{Refused}
-use Rattle.nf_msgs.specs.Nodes.{switch_node}
-use Rattle.move_op.specs.Move.{MoveState, row, row_in, answer_of, source, destination, from_source, from_destination, keeps, next_phase}
-use Rattle.copy_share.specs.Copy.{CopyState}
-use Rattle.copy_share.specs.Share.{ShareState}
 use Rattle.copy_share.specs.Share as share
-use Rattle.ctrl_node.specs.declared.operation.Operation.{Operation}
-use Rattle.ctrl_node.specs.declared.operation.Operation.TheVariants.{Move, Copy, Share}
-use Rattle.ctrl_node.specs.Operations.{turn_of, turn_of_move}
-use Rattle.ctrl_node.specs.Controller.{ControllerState, Step, still, after_turn, takes_turn, hand_step, instance_at, on_event}
+use Rattle.ctrl_node.specs.Controller.{on_event}
 use Rattle.proof_machines.proofs.unit.Real as real
-use Rattle.proof_machines.proofs.unit.Labels.{Each}
 use Rattle.proof_machines.proofs.net.Net as net
-use Rattle.proof_machines.proofs.net.Net.{Open, find_op, num_of, found, numbered}
-use Rattle.proof_machines.proofs.net.Ctrl.{each_found}
-use Rattle.proof_machines.proofs.net.Shares.{Any, Old, find_share, told_by, by_share, as_old}
-use Rattle.proof_machines.proofs.net.ShareLists.{found_num, found_each}
-use Rattle.proof_machines.proofs.net.Copies.{has, copies}
-use Rattle.proof_outlines.proofs.outline.Outline.{number, entries, is_sys}
-use Rattle.proof_outlines.proofs.outline.MoveOutline.{outline_plan, outline_phase, RowFollows, put_no_row, event_row}
-use Rattle.proof_outlines.proofs.outline.ControlOutline.{Sees, SeesMove}
-use Rattle.proof_outlines.proofs.outline.CopyTurns.{is_copied, quiet_turn}
-use Rattle.proof_outlines.proofs.outline.OperationTables.{NotShared, handed_is}
-use Rattle.proof_outlines.proofs.whole.OpenShares.{but_shares, share_in, IsUnseen, SeesAny, OpensAll, no_op}
-use Rattle.proof_outlines.proofs.whole.OpenShares.{no_open_share, both as both_shares, joins, AllStep, StepFollows}
+use Rattle.proof_machines.proofs.net.Copies.{has}
+use Rattle.proof_outlines.proofs.joined.Words.{number, entries, is_sys, outline_plan, outline_phase, RowFollows, put_no_row, event_row, Sees, SeesMove}
+use Rattle.proof_outlines.proofs.joined.Words.{is_copied, quiet_turn, NotShared, handed_is, but_shares, share_in, IsUnseen, SeesAny, OpensAll, no_op}
+use Rattle.proof_outlines.proofs.joined.Words.{no_open_share, joins, AllStep, StepFollows, Given, place, Label, Scene, AreShown, IsTaken, IsController}
+use Rattle.proof_outlines.proofs.joined.Words.{IsListed, IsMove, S, A, count, shown, came_by}
+use Rattle.proof_outlines.proofs.whole.OpenShares.{both as both_shares}
 use Rattle.proof_outlines.proofs.whole.ControlAll.{old_follows}
 use Rattle.proof_outlines.proofs.joined.UnitCounts.{times, times_is_has}
 use Rattle.proof_outlines.proofs.joined.MoveReadings.{one_copy_all, one_copy_back_all, event_open_all}
@@ -46,9 +29,6 @@ use Rattle.proof_outlines.proofs.joined.ShareTurns.{DidWell, share_handed_well}
 use Rattle.proof_outlines.proofs.joined.ControllerChanges.{NotMove, listed_alike, changed}
 use Rattle.proof_outlines.proofs.joined.ControllerRows.{controller_after, kept_count, turn_labels, turn_quiet}
 use Rattle.proof_outlines.proofs.joined.ControllerScenes.{RowLeads, waits, step_on, taken, Idles, idles, stays}
-use Rattle.proof_outlines.proofs.joined.Given.{Given, place}
-use Rattle.proof_outlines.proofs.joined.Joined.{Label, Scene, AreShown, IsTaken, IsController, IsListed, IsMove, S, A, count, shown, came_by}
-use Rattle.proof_machines.proofs.Tests.{either_way}
 
 module _ {F R : Type 0} (f : Semantics R) (g : Given) (n : ℕ) (x : Scene F f g) (p : ℕ) (m : Msg) (are : AreShown f g n x)
     (is : IsTaken f g n x (record { node = 1; port = p; message = m })) where

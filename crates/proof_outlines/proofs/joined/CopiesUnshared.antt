@@ -1,27 +1,12 @@
 -- No share takes a unit that an open copy's filter takes; so of chunks of such units none is a share's.
-use Rattle.std.proofs.Common.{◌≡◌, ℕ, true, false, inl, inr, Some, None, List, sym, ap, ◌∙◌, subst}
-use Rattle.std.specs.Prelude.{◌==◌}
+use Rattle.proof_outlines.proofs.Words.{◌≡◌, ℕ, true, false, inl, inr, Some, None, List, sym, ap, ◌∙◌, subst, ◌==◌, Decides-eqb, Filter, Chunk, Semantics}
+use Rattle.proof_outlines.proofs.Words.{CopyState, ShareState, Copy, Share, ControllerState, each_any, record_at, TakesSome, taking_each, taking_found}
+use Rattle.proof_outlines.proofs.Words.{false_from_ne_true}
 use Rattle.std.specs.FinMap as finite
-use Rattle.std.proofs.lemmas.Bool.Decides.{Decides-eqb}
-use Rattle.flow_filter.specs.declared.filter.Filter.{Filter}
-use Rattle.nf_function.specs.declared.chunk.Chunk.{Chunk}
 use Rattle.nf_function.specs.declared.unit.Unit as units
-use Rattle.nf_function.specs.Semantics.{Semantics}
-use Rattle.copy_share.specs.Copy.{CopyState}
-use Rattle.copy_share.specs.Share.{ShareState}
-use Rattle.ctrl_node.specs.declared.operation.Operation.TheVariants.{Copy, Share}
-use Rattle.ctrl_node.specs.Controller.{ControllerState}
-use Rattle.proof_machines.proofs.unit.Labels.{each_any}
-use Rattle.proof_machines.proofs.unit.Real.{record_at}
-use Rattle.proof_machines.proofs.net.GlobalAll.{TakesSome}
-use Rattle.proof_machines.proofs.net.ShareRows.{taking_each, taking_found}
-use Rattle.proof_outlines.proofs.outline.Outline.{entries, is_sys}
-use Rattle.proof_outlines.proofs.whole.OpenShares.{real_share}
+use Rattle.proof_outlines.proofs.joined.Words.{entries, is_sys, real_share, Given, place, S, A, Scene, AreShown}
 use Rattle.proof_outlines.proofs.joined.OperationsApart.{AreApart, AllApart}
 use Rattle.proof_outlines.proofs.joined.StandbyChunks.{AreUnshared}
-use Rattle.proof_outlines.proofs.joined.Given.{Given, place}
-use Rattle.proof_outlines.proofs.joined.Joined.{S, A, Scene, AreShown}
-use Rattle.std.proofs.lemmas.Bool.{false_from_ne_true}
 
 module _ {R : Type 0} (f : Semantics R) (g : Given) where
   -- chunks of no unit but of those that a filter takes

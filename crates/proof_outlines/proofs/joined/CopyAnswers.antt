@@ -1,27 +1,12 @@
 -- What an instance sends for copies: chunks where it is asked for them, and one answer for what it is to keep. All other rows send nothing of that.
-use Rattle.std.proofs.Common.{◌≡◌, ℕ, Bool, true, false, ◌⊎◌, inl, inr, Option, Some, None, List, [], ◌∷◌, ◌++◌, map, refl}
-use Rattle.std.specs.Prelude.{if◌then◌else◌, ◌||◌, option_map, Result, Ok, Err}
+use Rattle.proof_outlines.proofs.Words.{◌≡◌, ℕ, Bool, true, false, ◌⊎◌, inl, inr, Option, Some, None, List, [], ◌∷◌, ◌++◌, map, refl, if◌then◌else◌, ◌||◌}
+use Rattle.proof_outlines.proofs.Words.{option_map, Result, Ok, Err, Filter, Chunk, Semantics, unit_at, ChunkFault, tally_read, are_good, record_chunk, part}
+use Rattle.proof_outlines.proofs.Words.{Mark, FullCell, Piece, Msg, Instance, pieces, to_controller, chunk_told, table_after, with_count, tally_put}
+use Rattle.proof_outlines.proofs.Words.{with_standby, keep_note, tells_and_notes, instance_step, selected_chunks, Each, each-append, each_map}
 use Rattle.std.specs.FinMap as finite
-use Rattle.flow_filter.specs.declared.filter.Filter.{Filter}
-use Rattle.nf_function.specs.declared.chunk.Chunk.{Chunk}
-use Rattle.nf_function.specs.Semantics.{Semantics, unit_at}
-use Rattle.state_chunk.specs.declared.fault.ChunkFault.{ChunkFault}
-use Rattle.state_chunk.specs.Reading.{tally_read}
-use Rattle.record_table.specs.Chunks.{are_good}
-use Rattle.state_chunk.specs.Format.{record_chunk}
-use Rattle.record_table.specs.Table.{part}
-use Rattle.event_filter.specs.declared.mark.Mark.{Mark}
 use Rattle.event_filter.specs.declared.mark.Mark.TheVariants as mark
-use Rattle.packet_pool.specs.Pool.{FullCell}
-use Rattle.nf_msgs.specs.declared.msg.Piece.{Piece}
-use Rattle.nf_msgs.specs.declared.msg.Msg.{Msg}
 use Rattle.nf_msgs.specs.declared.msg.Msg.TheVariants as msg
-use Rattle.instance_worker.specs.declared.instance.Instance.{Instance}
-use Rattle.instance_worker.specs.Pieces.{pieces}
-use Rattle.instance_worker.specs.Instance.{to_controller, still, chunk_told, table_after, with_count, process_step}
-use Rattle.instance_worker.specs.Instance.{on_get, on_standby, on_put_all, tally_put}
-use Rattle.instance_worker.specs.Instance.{with_standby, keep_note, tells_and_notes, instance_step, selected_chunks}
-use Rattle.proof_machines.proofs.unit.Labels.{Each, each-append, each_map}
+use Rattle.instance_worker.specs.Instance.{still, process_step, on_get, on_standby, on_put_all}
 use Rattle.proof_outlines.proofs.outline.InstanceWays.{instance_fits}
 use Rattle.proof_outlines.proofs.outline.MoveRows.{is_of_move}
 

@@ -1,32 +1,16 @@
 -- What is to be kept for a copy, and the answer to it, are one message at most: they come as the copy's phase says. Here, what a step of the
 -- controller does to that number.
-use Rattle.std.proofs.Common.{◌≡◌, ℕ, ◌+◌, ◌≤◌, true, false, cond, Option, Some, None, List, [], ◌∷◌, ◌++◌, refl, ap, ◌∙◌, arith}
-use Rattle.std.specs.Prelude.{if◌then◌else◌, ◌==◌}
-use Rattle.std.specs.List.{filter_map}
+use Rattle.proof_outlines.proofs.Words.{◌≡◌, ℕ, ◌+◌, ◌≤◌, true, false, cond, Option, Some, None, List, [], ◌∷◌, ◌++◌, refl, ap, ◌∙◌, arith, if◌then◌else◌, ◌==◌}
+use Rattle.proof_outlines.proofs.Words.{filter_map, nat_tests, Chunk, Answer, Order, Msg, instance_node, op_of, CopyPhase, CopyPlan, CopyRow, Operation, Copy}
+use Rattle.proof_outlines.proofs.Words.{OpenOperations, Turn, turn_of, serving_of, lasts, with_operation, place_of, ControllerState, Each, by_if}
 use Rattle.std.specs.FinMap as finite
-use Rattle.std.proofs.lemmas.Bool.Decides.{nat_tests}
-use Rattle.nf_function.specs.declared.chunk.Chunk.{Chunk}
-use Rattle.nf_msgs.specs.declared.answer.Answer.{Answer}
-use Rattle.nf_msgs.specs.declared.command.Order.{Order}
 use Rattle.nf_msgs.specs.declared.command.Order.TheVariants as order
-use Rattle.nf_msgs.specs.declared.msg.Msg.{Msg}
 use Rattle.nf_msgs.specs.declared.msg.Msg.TheVariants as msg
-use Rattle.nf_msgs.specs.Nodes.{instance_node}
-use Rattle.nf_msgs.specs.MessageParts.{op_of}
-use Rattle.copy_share.specs.declared.copy_phase.CopyPhase.{CopyPhase}
 use Rattle.copy_share.specs.declared.copy_phase.CopyPhase.TheVariants as copies
-use Rattle.copy_share.specs.Copy.{CopyPlan, CopyRow}
 use Rattle.copy_share.specs.Copy as copy
-use Rattle.ctrl_node.specs.declared.operation.Operation.{Operation}
-use Rattle.ctrl_node.specs.declared.operation.Operation.TheVariants.{Copy}
-use Rattle.ctrl_node.specs.Operations.{OpenOperations, Turn, turn_of, serving_of, lasts, with_operation}
-use Rattle.flow_filter.specs.Name.{place_of}
 use Rattle.ctrl_node.specs.Controller as ctrl
-use Rattle.ctrl_node.specs.Controller.{ControllerState}
-use Rattle.proof_machines.proofs.unit.Labels.{Each}
 use Rattle.proof_outlines.proofs.outline.OperationTables.{got_insert, got_remove}
 use Rattle.proof_outlines.proofs.joined.CopyAnswers.{is_uncopied}
-use Rattle.proof_machines.proofs.Tests.{by_if}
 
 -- whether a message is to be kept for the copy of a number, or says that it was
 abbrev pub keeps_of : ℕ → Msg → ℕ
@@ -81,7 +65,8 @@ module _ (n op : ℕ) (off : (n == op) ≡ false) where
 
   after_at : (c : ControllerState) (t : Turn) (o : Option Answer) → finite.get (ctrl.after_turn c op t o).node.operations n ≡ finite.get c.operations n
   after_at c t None = with_at c.operations t.operation
-  after_at c t (Some why) = by_if (λ (r : ControllerState). finite.get r.operations n ≡ finite.get c.operations n) (lasts t.operation) (with_at c.operations t.operation)
+  after_at c t (Some why) = by_if (λ (r : ControllerState). finite.get r.operations n ≡ finite.get c.operations n)
+      (lasts t.operation) (with_at c.operations t.operation)
       (remove_at (ctrl.with_turn c op t).operations ∙ with_at c.operations t.operation)
 
   pub serves_at : (c : ControllerState) → finite.get (ctrl.serve_step c op).node.operations n ≡ finite.get c.operations n

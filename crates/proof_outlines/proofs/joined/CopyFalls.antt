@@ -1,27 +1,14 @@
 -- The controller's step takes and sends what is to be kept for a copy as the copy's phase goes on: of each number there is one such message at most.
-use Rattle.std.proofs.Common.{◌≡◌, ℕ, ◌+◌, ◌≤◌, Bool, true, false, cond, Option, Some, None, [], ◌∷◌, ◌++◌, refl, sym, ap, ◌∙◌, subst, arith}
-use Rattle.std.specs.Prelude.{if◌then◌else◌, ◌==◌}
+use Rattle.proof_outlines.proofs.Words.{◌≡◌, ℕ, ◌+◌, ◌≤◌, Bool, true, false, cond, Option, Some, None, [], ◌∷◌, ◌++◌, refl, sym, ap, ◌∙◌, subst, arith}
+use Rattle.proof_outlines.proofs.Words.{if◌then◌else◌, ◌==◌, nat_tests, Decides-eqb, flow_of, FullCell, stored_of, with_parcels, Command, Msg, switch_node}
+use Rattle.proof_outlines.proofs.Words.{op_of, CopyPhase, CopyState, CopyRow, Operation, Move, Copy, Share, turn_of, share_of, turn_of_copy, ControllerState}
+use Rattle.proof_outlines.proofs.Words.{Step}
 use Rattle.std.specs.FinMap as finite
-use Rattle.std.proofs.lemmas.Bool.Decides.{nat_tests, Decides-eqb}
-use Rattle.flow_filter.specs.Flow.{flow_of}
-use Rattle.packet_pool.specs.Pool.{FullCell}
-use Rattle.event_store.specs.Store.{stored_of, with_parcels}
-use Rattle.nf_msgs.specs.declared.command.Command.{Command}
-use Rattle.nf_msgs.specs.declared.msg.Msg.{Msg}
 use Rattle.nf_msgs.specs.declared.msg.Msg.TheVariants as msg
-use Rattle.nf_msgs.specs.Nodes.{switch_node}
-use Rattle.nf_msgs.specs.MessageParts.{op_of}
-use Rattle.copy_share.specs.declared.copy_phase.CopyPhase.{CopyPhase}
 use Rattle.copy_share.specs.declared.copy_phase.CopyPhase.TheVariants as copies
-use Rattle.copy_share.specs.Copy.{CopyState, CopyRow}
 use Rattle.copy_share.specs.Copy as copy
-use Rattle.ctrl_node.specs.declared.operation.Operation.{Operation}
-use Rattle.ctrl_node.specs.declared.operation.Operation.TheVariants.{Move, Copy, Share}
-use Rattle.ctrl_node.specs.Operations.{turn_of, share_of, turn_of_copy}
 use Rattle.ctrl_node.specs.Controller as ctrl
-use Rattle.ctrl_node.specs.Controller.{ControllerState, Step}
-use Rattle.proof_outlines.proofs.outline.ControllerWays.{row_by}
-use Rattle.proof_outlines.proofs.outline.OperationTables.{got_insert, got_remove, handed_is, NotShared}
+use Rattle.proof_outlines.proofs.joined.Words.{row_by, got_insert, got_remove, handed_is, NotShared}
 use Rattle.proof_outlines.proofs.joined.CopyCounts.{keeps_of, in_phase, keeping, keeps_sent, keeps_sent-append, IsLight, light_others}
 use Rattle.proof_outlines.proofs.joined.CopyCounts.{none_light, other_light, serves_at, handed_at, decided_at, row_falls}
 use Rattle.proof_outlines.proofs.joined.CopySends.{EachIs, TurnSo, BeginSo, handed_sent, asked_sent, queued_sent}

@@ -1,43 +1,25 @@
 -- What comes of a copy on any link is of the units of its order's filter: the source is asked for them, gives their records alone, and these
 -- are handed on.
-use Rattle.std.proofs.Common.{◌≡◌, ℕ, zero, suc, true, Option, Some, None, List, [], ◌∷◌, inl, inr, refl, sym, ap, ◌∙◌, subst, arith}
-use Rattle.std.specs.Prelude.{if◌then◌else◌, option_to_list}
+use Rattle.proof_outlines.proofs.Words.{◌≡◌, ℕ, zero, suc, true, Option, Some, None, List, [], ◌∷◌, inl, inr, refl, sym, ap, ◌∙◌, subst, arith, if◌then◌else◌}
+use Rattle.proof_outlines.proofs.Words.{option_to_list, Filter, Chunk, Semantics, Command, Msg, op_of, CopyState, Operation, Move, Copy, Share, ControllerState}
+use Rattle.proof_outlines.proofs.Words.{controller_step, selected_chunks, instance_step, EachSent, Each, Chunks, record_at, Any, New, S_chunks, OpenShare}
+use Rattle.proof_outlines.proofs.Words.{node_step}
 use Rattle.std.specs.FinMap as finite
-use Rattle.flow_filter.specs.declared.filter.Filter.{Filter}
-use Rattle.nf_function.specs.declared.chunk.Chunk.{Chunk}
 use Rattle.nf_function.specs.Records.{Laws as FunctionLaws}
-use Rattle.nf_function.specs.Semantics.{Semantics}
-use Rattle.nf_msgs.specs.declared.command.Command.{Command}
 use Rattle.nf_msgs.specs.declared.command.Order.TheVariants as order
-use Rattle.nf_msgs.specs.declared.msg.Msg.{Msg}
 use Rattle.nf_msgs.specs.declared.msg.Msg.TheVariants as msg
-use Rattle.nf_msgs.specs.MessageParts.{op_of}
-use Rattle.copy_share.specs.Copy.{CopyState}
 use Rattle.copy_share.specs.Copy as copy
-use Rattle.ctrl_node.specs.declared.operation.Operation.{Operation}
-use Rattle.ctrl_node.specs.declared.operation.Operation.TheVariants.{Move, Copy, Share}
-use Rattle.ctrl_node.specs.Controller.{ControllerState, controller_step}
 use Rattle.instance_worker.specs.declared.instance.Instance.{Instance as InstanceState}
-use Rattle.instance_worker.specs.Instance.{selected_chunks, instance_step}
-use Rattle.actor_net.proofs.WeightLaws.{EachSent}
-use Rattle.proof_machines.proofs.unit.Labels.{Each}
 use Rattle.proof_machines.proofs.unit.Cuts.{record_first}
 use Rattle.proof_machines.proofs.unit.UnitPieces.{first}
-use Rattle.proof_machines.proofs.unit.Real.{Chunks, record_at}
 use Rattle.proof_machines.proofs.net.Net as net
-use Rattle.proof_machines.proofs.net.Shares.{Any, New, S_chunks, OpenShare}
-use Rattle.proof_outlines.proofs.outline.FiltersApart.{is_whole}
-use Rattle.proof_outlines.proofs.outline.Outline.{entries, is_sys}
-use Rattle.proof_outlines.proofs.outline.StateOutline.{HasRecords}
-use Rattle.proof_outlines.proofs.whole.WholeOutline.{outline_all}
+use Rattle.proof_outlines.proofs.joined.Words.{is_whole, entries, is_sys, HasRecords, outline_all, Given, place, S, node_of, Label, Scene, AreShown, IsCommand}
+use Rattle.proof_outlines.proofs.joined.Words.{IsController, IsTaken}
 use Rattle.proof_outlines.proofs.whole.MemberOutline.{get_follows}
-use Rattle.net_world.specs.Nodes.{node_step}
 use Rattle.proof_outlines.proofs.joined.CopyAnswers.{is_uncopied, AreUncopied, IsAnswer, get_sent, standby_sent, put_all_sent, other_sent}
 use Rattle.proof_outlines.proofs.joined.CopySends.{TurnSo, controller_sent}
 use Rattle.proof_outlines.proofs.joined.StandbyFronts.{each_sent}
 use Rattle.proof_outlines.proofs.joined.CopiesUnshared.{AreWithin}
-use Rattle.proof_outlines.proofs.joined.Given.{Given, place}
-use Rattle.proof_outlines.proofs.joined.Joined.{S, node_of, Label, Scene, AreShown, IsCommand, IsController, IsTaken}
 
 module _ {R : Type 0} (f : Semantics R) (g : Given) where
   -- chunks of units of a filter, which is there

@@ -1,42 +1,21 @@
 -- What the controller sends for copies: it asks for records as a copy begins, or for a share, and hands on what came. Nothing else is of a copy.
-use Rattle.std.proofs.Common.{◌≡◌, ℕ, Bool, true, false, Option, Some, None, List, [], ◌∷◌, ◌++◌, map, refl}
-use Rattle.std.specs.Prelude.{if◌then◌else◌, ◌-◌, ◌==◌, length}
-use Rattle.std.specs.List.{filter_map}
+use Rattle.proof_outlines.proofs.Words.{◌≡◌, ℕ, Bool, true, false, Option, Some, None, List, [], ◌∷◌, ◌++◌, map, refl, if◌then◌else◌, ◌-◌, ◌==◌, length}
+use Rattle.proof_outlines.proofs.Words.{filter_map, Filter, flow_of, Chunk, Pass, FullCell, Answer, Command, Order, Msg, switch_node, instance_node, op_of}
+use Rattle.proof_outlines.proofs.Words.{stored_of, with_parcels, source, destination, Operation, CopyPhase, SharePhase, CopyPlan, CopyState, SharePlan}
+use Rattle.proof_outlines.proofs.Words.{ShareState, home, Move, Copy, Share, Turn, turn_of, serving_of, share_of, place_of, ControllerState, Each, each-append}
+use Rattle.proof_outlines.proofs.Words.{by_if}
 use Rattle.std.specs.FinMap as finite
-use Rattle.flow_filter.specs.declared.filter.Filter.{Filter}
-use Rattle.flow_filter.specs.Flow.{flow_of}
-use Rattle.nf_function.specs.declared.chunk.Chunk.{Chunk}
-use Rattle.event_filter.specs.declared.mark.Mark.TheVariants.{Pass}
-use Rattle.packet_pool.specs.Pool.{FullCell}
-use Rattle.nf_msgs.specs.declared.answer.Answer.{Answer}
-use Rattle.nf_msgs.specs.declared.command.Command.{Command}
-use Rattle.nf_msgs.specs.declared.command.Order.{Order}
 use Rattle.nf_msgs.specs.declared.command.Order.TheVariants as order
-use Rattle.nf_msgs.specs.declared.msg.Msg.{Msg}
 use Rattle.nf_msgs.specs.declared.msg.Msg.TheVariants as msg
-use Rattle.nf_msgs.specs.Nodes.{switch_node, instance_node}
-use Rattle.nf_msgs.specs.MessageParts.{op_of}
-use Rattle.event_store.specs.Store.{stored_of, with_parcels}
-use Rattle.move_op.specs.Move.{source, destination}
-use Rattle.ctrl_node.specs.declared.operation.Operation.{Operation}
-use Rattle.copy_share.specs.declared.copy_phase.CopyPhase.{CopyPhase}
 use Rattle.copy_share.specs.declared.copy_phase.CopyPhase.TheVariants as copies
-use Rattle.copy_share.specs.declared.share_phase.SharePhase.{SharePhase}
 use Rattle.copy_share.specs.declared.share_phase.SharePhase.TheVariants as shares
-use Rattle.copy_share.specs.Copy.{CopyPlan, CopyState}
 use Rattle.copy_share.specs.Copy as copy
-use Rattle.copy_share.specs.Share.{SharePlan, ShareState, home, others as members_but}
+use Rattle.copy_share.specs.Share.{others as members_but}
 use Rattle.copy_share.specs.Share as share
-use Rattle.ctrl_node.specs.declared.operation.Operation.TheVariants.{Move, Copy, Share}
-use Rattle.ctrl_node.specs.Operations.{Turn, turn_of, serving_of, share_of}
-use Rattle.flow_filter.specs.Name.{place_of}
 use Rattle.ctrl_node.specs.Controller as ctrl
-use Rattle.ctrl_node.specs.Controller.{ControllerState}
-use Rattle.proof_machines.proofs.unit.Labels.{Each, each-append}
 use Rattle.proof_outlines.proofs.outline.ControllerWays.{row_by}
 use Rattle.proof_outlines.proofs.outline.MoveRows.{all_sent}
 use Rattle.proof_outlines.proofs.joined.CopyAnswers.{is_uncopied, AreUncopied, no_copy, move_none}
-use Rattle.proof_machines.proofs.Tests.{by_if}
 
 -- What holds of each message that isn't a copy's, of what a copy or a share asks for, and of what a copy hands on, holds of all that is sent.
 module _ (P : Msg → Type 0) (others : (m : Msg) → is_uncopied m ≡ true → P m) where

@@ -1,34 +1,15 @@
 -- In every run what is to be kept for a copy is one message at most, and the copy is open as long as it is on its way.
-use Rattle.std.proofs.Common.{◌≡◌, ℕ, zero, suc, ◌+◌, ◌<◌, ◌≤◌, true, inl, inr, Option}
-use Rattle.std.proofs.Common.{Some, None, List, [], ◌∷◌, get_or, refl, sym, ap, ◌∙◌, subst, arith}
-use Rattle.std.specs.Prelude.{if◌then◌else◌, ◌==◌}
+use Rattle.proof_outlines.proofs.Words.{◌≡◌, ℕ, zero, suc, ◌+◌, ◌<◌, ◌≤◌, true, inl, inr, Option, Some, None, List, [], ◌∷◌, get_or, refl, sym, ap, ◌∙◌, subst}
+use Rattle.proof_outlines.proofs.Words.{arith, if◌then◌else◌, ◌==◌, nat_tests, Chunk, Semantics, Msg, Note, CopyState, Operation, Move, Copy, Share}
+use Rattle.proof_outlines.proofs.Words.{ControllerState, controller_step, instance_step, switch_step, Network, Stepped, reaches, world_next, at, Takes}
+use Rattle.proof_outlines.proofs.Words.{taken_outcome, EachSent, total, sent_weight, total_after, Node, Controller, node_step, by_if}
 use Rattle.std.specs.FinMap as finite
-use Rattle.std.proofs.lemmas.Bool.Decides.{nat_tests}
-use Rattle.nf_function.specs.declared.chunk.Chunk.{Chunk}
-use Rattle.nf_function.specs.Semantics.{Semantics}
-use Rattle.nf_msgs.specs.declared.msg.Msg.{Msg}
 use Rattle.nf_msgs.specs.declared.msg.Msg.TheVariants as msg
-use Rattle.nf_msgs.specs.declared.note.Note.{Note}
-use Rattle.copy_share.specs.Copy.{CopyState}
-use Rattle.ctrl_node.specs.declared.operation.Operation.{Operation}
-use Rattle.ctrl_node.specs.declared.operation.Operation.TheVariants.{Move, Copy, Share}
-use Rattle.ctrl_node.specs.Controller.{ControllerState, controller_step}
 use Rattle.instance_worker.specs.declared.instance.Instance.{Instance as InstanceState}
-use Rattle.instance_worker.specs.Instance.{instance_step}
-use Rattle.switch_node.specs.Switch.{switch_step}
-use Rattle.actor_net.specs.Network.{Network, Stepped, reaches, world_next}
-use Rattle.actor_net.proofs.EnabledChoices.{at}
-use Rattle.actor_net.proofs.StepOutcome.{Takes, taken_outcome}
-use Rattle.actor_net.proofs.WeightLaws.{EachSent, total, sent_weight, total_after}
-use Rattle.net_world.specs.declared.node.Node.{Node}
-use Rattle.net_world.specs.declared.node.Node.TheVariants.{Controller}
-use Rattle.net_world.specs.Nodes.{node_step}
-use Rattle.proof_outlines.proofs.joined.Given.{Given}
-use Rattle.proof_outlines.proofs.joined.Joined.{Label, Joined, node_of}
+use Rattle.proof_outlines.proofs.joined.Words.{Given, Label, Joined, node_of}
 use Rattle.proof_outlines.proofs.joined.CopyAnswers.{is_uncopied, AreUncopied, IsAnswer, get_sent, standby_sent, put_all_sent, other_sent}
 use Rattle.proof_outlines.proofs.joined.CopyCounts.{keeps_of, keeping, keeps_sent, light_others}
 use Rattle.proof_outlines.proofs.joined.CopyFalls.{AreNumbered, controller_falls}
-use Rattle.proof_machines.proofs.Tests.{by_if}
 
 -- what arrives is at most what is sent
 sent_most : (n count k : ℕ) (sends : List (ℕ × Msg)) → sent_weight (keeps_of n) count k sends ≤ keeps_sent n sends

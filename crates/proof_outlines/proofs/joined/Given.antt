@@ -1,24 +1,11 @@
 -- What a run is given, the plans of its commands, and to which node the packets of a unit go after commands that were installed.
-use Rattle.std.proofs.Common.{◌≡◌, ℕ, Bool, false, Option, Some, List, [], ◌∷◌, ◌++◌}
-use Rattle.std.specs.Prelude.{if◌then◌else◌, ◌&&◌, ◌||◌}
-use Rattle.std.specs.List.{filter_map}
-use Rattle.flow_filter.specs.declared.filter.Filter.{Filter}
-use Rattle.flow_filter.specs.declared.packet.Packet.{Packet}
-use Rattle.flow_filter.specs.declared.site.Site.{Site}
+use Rattle.proof_outlines.proofs.Words.{◌≡◌, ℕ, Bool, false, Option, Some, List, [], ◌∷◌, ◌++◌, if◌then◌else◌, ◌&&◌, ◌||◌, filter_map, Filter, Packet, Site}
+use Rattle.proof_outlines.proofs.Words.{takes, Target, Order, Note, Installed, instance_node, MovePlan, CopyPlan, SharePlan, place_of, owner_after, loose_after}
+use Rattle.proof_outlines.proofs.Words.{owner_after_order, is_home}
 use Rattle.nf_function.specs.declared.unit.Unit as units
-use Rattle.nf_function.specs.Units.{takes}
-use Rattle.switch_rules.specs.declared.target.Target.{Target}
 use Rattle.switch_rules.specs.declared.target.Target.TheVariants as target
-use Rattle.nf_msgs.specs.declared.command.Order.{Order}
 use Rattle.nf_msgs.specs.declared.command.Order.TheVariants as order
-use Rattle.nf_msgs.specs.declared.note.Note.{Note}
-use Rattle.nf_msgs.specs.declared.note.Note.TheVariants.{Arrived, Installed}
-use Rattle.nf_msgs.specs.Nodes.{instance_node}
-use Rattle.move_op.specs.Move.{MovePlan}
-use Rattle.copy_share.specs.Copy.{CopyPlan}
-use Rattle.copy_share.specs.Share.{SharePlan}
-use Rattle.flow_filter.specs.Name.{place_of}
-use Rattle.net_world.specs.Places.{owner_after, loose_after, owner_after_order, is_home}
+use Rattle.nf_msgs.specs.declared.note.Note.TheVariants.{Arrived}
 
 -- what a run is given: the site, the packet of each number, the instances' names, the order under each number, and who owns each
 -- unit at first

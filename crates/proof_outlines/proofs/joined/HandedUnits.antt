@@ -1,38 +1,19 @@
 -- What a change of the rules does by the log: a unit's packets go then where its route leads, and a plain move that handed it on is told.
-use Rattle.std.proofs.Common.{◌≡◌, ℕ, Bool, true, false, Option, Some, None, List, [], ◌∷◌, ◌++◌, refl, sym, ap, ◌∙◌, subst, arith}
-use Rattle.std.specs.Prelude.{if◌then◌else◌, ◌&&◌, ◌||◌, ◌==◌}
+use Rattle.proof_outlines.proofs.Words.{◌≡◌, ℕ, Bool, true, false, Option, Some, None, List, [], ◌∷◌, ◌++◌, refl, sym, ap, ◌∙◌, subst, arith, if◌then◌else◌}
+use Rattle.proof_outlines.proofs.Words.{◌&&◌, ◌||◌, ◌==◌, nat_tests, or-true, Filter, Semantics, takes, stored_of, MovePlan, Operation, Move, Copy, Share}
+use Rattle.proof_outlines.proofs.Words.{ControllerState, place_of, Note, instance_node, Open, find_op, sw_target, OpenShare, S_install, share_target}
+use Rattle.proof_outlines.proofs.Words.{installs_in, owner_after_order, hands_on_plain, installed-append}
 use Rattle.std.specs.FinMap as finite
-use Rattle.std.proofs.lemmas.Bool.Decides.{nat_tests}
-use Rattle.std.proofs.Math.Bool.{or-true}
-use Rattle.flow_filter.specs.declared.filter.Filter.{Filter}
-use Rattle.nf_function.specs.Semantics.{Semantics}
-use Rattle.nf_function.specs.Units.{takes}
 use Rattle.nf_function.specs.declared.unit.Unit as units
 use Rattle.switch_rules.specs.declared.target.Target.TheVariants as target
-use Rattle.event_store.specs.Store.{stored_of}
-use Rattle.move_op.specs.Move.{MovePlan}
-use Rattle.ctrl_node.specs.declared.operation.Operation.{Operation}
-use Rattle.ctrl_node.specs.declared.operation.Operation.TheVariants.{Move, Copy, Share}
-use Rattle.ctrl_node.specs.Controller.{ControllerState}
-use Rattle.flow_filter.specs.Name.{place_of}
 use Rattle.nf_msgs.specs.declared.command.Order.TheVariants as order
-use Rattle.nf_msgs.specs.declared.note.Note.{Note}
 use Rattle.nf_msgs.specs.declared.note.Note.TheVariants as note
-use Rattle.nf_msgs.specs.Nodes.{instance_node}
 use Rattle.proof_machines.proofs.unit.Real as real
 use Rattle.proof_machines.proofs.net.Net as net
-use Rattle.proof_machines.proofs.net.Net.{Open, find_op, sw_target}
-use Rattle.proof_machines.proofs.net.Shares.{OpenShare, S_install, share_target}
-use Rattle.net_world.specs.Log.{installs_in}
-use Rattle.net_world.specs.Places.{owner_after_order, hands_on_plain}
-use Rattle.net_world.proofs.LogLemmas.{installed-append}
-use Rattle.proof_outlines.proofs.outline.ControlOutline.{Sees}
-use Rattle.proof_outlines.proofs.outline.FiltersApart.{is_whole, unit_fits, takes_same, takes_whole}
+use Rattle.proof_outlines.proofs.joined.Words.{Sees, is_whole, unit_fits, takes_same, takes_whole, Given, place, IsPlan, IsInstall, IsDivert, owner_by}
+use Rattle.proof_outlines.proofs.joined.Words.{loose_by, diverts, is_diverted, target_by, but_shares, IsController, S, A}
 use Rattle.proof_outlines.proofs.joined.OwnerLemmas.{owner_after-append, loose_after-append}
-use Rattle.proof_outlines.proofs.joined.Given.{Given, place, IsPlan, IsInstall, IsDivert, owner_by, loose_by, diverts, is_diverted, target_by}
 use Rattle.proof_outlines.proofs.joined.LogLemmas.{diverted_after-append}
-use Rattle.proof_outlines.proofs.whole.OpenShares.{but_shares}
-use Rattle.proof_outlines.proofs.joined.Joined.{IsController, S, A}
 
 -- a change of the rules more
 module _ (g : Given) (u : units.Unit) (log : List Note) (op : ℕ) where

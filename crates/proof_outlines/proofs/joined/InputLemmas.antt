@@ -1,18 +1,8 @@
 -- Items of an input are found by their numbers, and their flows and filters are such as the proof of moves looks at.
-use Rattle.std.proofs.Common.{◌≡◌, ℕ, suc, ◌<◌, ◌≤◌, ◌^◌, Bool, true, false, Option, Some, None, List, [], ◌∷◌, map, refl, arith}
-use Rattle.std.specs.Prelude.{if◌then◌else◌, ◌&&◌, ◌||◌, ◌==◌, not, is_some, find}
-use Rattle.std.specs.Option.{ForSome}
-use Rattle.std.proofs.lemmas.Bool.Decides.{nat_tests, Decides-ltb}
-use Rattle.flow_filter.specs.declared.filter.Filter.{Filter}
-use Rattle.flow_filter.specs.declared.flow.Flow.{Flow}
-use Rattle.flow_filter.specs.declared.prefix.Prefix.{Prefix}
-use Rattle.flow_filter.specs.Filter.{IsFilter, IsFlow}
-use Rattle.nf_function.specs.declared.kind.Kind.{Kind}
-use Rattle.nf_function.specs.Units.{has_hosts}
-use Rattle.proof_machines.proofs.unit.Labels.{Each, each_both}
-use Rattle.net_world.specs.Input.{IsRising, IsWhole}
-use Rattle.proof_outlines.proofs.outline.FiltersApart.{number_fits, prefix_fits, filter_fits, flow_fits, is_whole}
-use Rattle.proof_outlines.proofs.outline.InstanceOutline.{some_same}
+use Rattle.proof_outlines.proofs.Words.{◌≡◌, ℕ, suc, ◌<◌, ◌≤◌, ◌^◌, Bool, true, false, Option, Some, None, List, [], ◌∷◌, map, refl, arith, if◌then◌else◌, ◌&&◌}
+use Rattle.proof_outlines.proofs.Words.{◌||◌, ◌==◌, not, is_some, find, ForSome, nat_tests, Decides-ltb, Filter, Flow, Prefix, IsFilter, IsFlow, Kind}
+use Rattle.proof_outlines.proofs.Words.{has_hosts, Each, each_both, IsRising, IsWhole}
+use Rattle.proof_outlines.proofs.joined.Words.{number_fits, prefix_fits, filter_fits, flow_fits, is_whole, some_same}
 
 module _ {X : Type 0} (key : X → ℕ) where
   rising_above : (least : ℕ) (xs : List X) → IsRising least (map key xs) → Each (λ x. least ≤ key x) xs

@@ -1,31 +1,17 @@
 -- What a step of an instance keeps of its records; chunks such as come in a run are good: an instance takes them.
-use Rattle.std.proofs.Common.{◌≡◌, ℕ, suc, ◌+◌, ◌^◌, Bool, true, false, cond, Option, Some, None, List, [], ◌∷◌, length, refl, ap, ◌∙◌, is_some, arith, add-one}
-use Rattle.std.specs.Prelude.{◌&&◌, not, nat_lt}
-use Rattle.std.specs.List.{IsDistinct, AllByRecursion}
-use Rattle.std.specs.Map.{keys_of}
+use Rattle.proof_outlines.proofs.Words.{◌≡◌, ℕ, suc, ◌+◌, ◌^◌, Bool, true, false, cond, Option, Some, None, List, [], ◌∷◌, length, refl, ap, ◌∙◌, is_some}
+use Rattle.proof_outlines.proofs.Words.{arith, add-one, ◌&&◌, not, nat_lt, AllByRecursion, keys_of, nat_tests, IsDistinct-head, IsDistinct-tail, Packet, Site}
+use Rattle.proof_outlines.proofs.Words.{Chunk, Kind, unit_cmp, has_hosts, is_transport, is_unit, units_total, Fits, Semantics, is_sound, kept_after, unit_at}
+use Rattle.proof_outlines.proofs.Words.{Records, same_unit, without, is_among, after_packet, AreSound, are_good, sound_with_kept, sound_retain_keys, Each}
+use Rattle.std.specs.List.{IsDistinct}
 use Rattle.std.specs.FinMap as finite
-use Rattle.std.proofs.lemmas.Bool.Decides.{nat_tests}
-use Rattle.std.proofs.lemmas.Map.Keys.{IsDistinct-head, IsDistinct-tail}
-use Rattle.flow_filter.specs.declared.packet.Packet.{Packet}
-use Rattle.flow_filter.specs.declared.site.Site.{Site}
-use Rattle.nf_function.specs.declared.chunk.Chunk.{Chunk}
-use Rattle.nf_function.specs.declared.kind.Kind.{Kind}
 use Rattle.nf_function.specs.declared.unit.Unit as units
 use Rattle.nf_function.specs.declared.unit.Unit.TheVariants.{Flow as OfFlow, Host as OfHost}
-use Rattle.nf_function.specs.Units.{unit_cmp, has_hosts, is_transport, is_unit}
-use Rattle.nf_function.specs.UnitOrder.{units_total}
-use Rattle.nf_function.specs.Records.{Fits, Laws as FunctionLaws}
-use Rattle.nf_function.specs.Semantics.{Semantics, is_sound, kept_after, unit_at}
-use Rattle.record_table.specs.Table.{Records, same_unit, without, is_among, after_packet, AreSound}
-use Rattle.record_table.specs.Chunks.{records_of, are_good}
+use Rattle.nf_function.specs.Records.{Laws as FunctionLaws}
+use Rattle.record_table.specs.Chunks.{records_of}
 use Rattle.record_table.proofs.ChunkFronts.{equal_to}
-use Rattle.record_table.proofs.RecordLookUps.{at, sound_with_kept, sound_retain_keys}
-use Rattle.proof_machines.proofs.unit.Labels.{Each}
-use Rattle.proof_outlines.proofs.outline.FiltersApart.{unit_fits}
-use Rattle.proof_outlines.proofs.outline.Outline.{entries}
-use Rattle.proof_outlines.proofs.outline.StateOutline.{HasRecords, AreValid}
-use Rattle.proof_outlines.proofs.joined.Given.{Given}
-use Rattle.proof_outlines.proofs.joined.Joined.{IsGoodChunk, AreGoodChunks}
+use Rattle.record_table.proofs.RecordLookUps.{at}
+use Rattle.proof_outlines.proofs.joined.Words.{unit_fits, entries, HasRecords, AreValid, Given, IsGoodChunk, AreGoodChunks}
 
 -- a unit that a function may have a record for is one that packets may have
 proto_fits : (proto : ℕ) → is_transport proto ≡ true → nat_lt proto (2 ^ 8) ≡ true

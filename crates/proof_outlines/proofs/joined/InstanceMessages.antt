@@ -1,39 +1,25 @@
 -- An instance's step on each message of a run leads from a world of a run to one, by the rows of InstanceSteps.
-use Rattle.std.proofs.Common.{◌≡◌, ℕ, zero, suc, ◌≤◌, Bool, true, false, Some, None, List, refl, arith}
-use Rattle.flow_filter.specs.declared.filter.Filter.{Filter}
-use Rattle.nf_function.specs.declared.chunk.Chunk.{Chunk}
+use Rattle.proof_outlines.proofs.Words.{◌≡◌, ℕ, zero, suc, ◌≤◌, Bool, true, false, Some, None, List, refl, arith, Filter, Chunk, Fits, Semantics, Records}
+use Rattle.proof_outlines.proofs.Words.{newest_of, Piece, Msg, FullCell, Action, instance_step, inst_step, everything, is_free, Old, New, ShareMsg}
+use Rattle.proof_outlines.proofs.Words.{Shared_on, S_get, S_sync, member_step, MayKeep, node_step}
 use Rattle.nf_function.specs.declared.unit.Unit as units
-use Rattle.nf_function.specs.Records.{Fits, Laws as FunctionLaws}
-use Rattle.nf_function.specs.Semantics.{Semantics}
-use Rattle.record_table.specs.Table.{Records, newest_of}
+use Rattle.nf_function.specs.Records.{Laws as FunctionLaws}
 use Rattle.record_table.specs.Chunks.{records_of}
-use Rattle.nf_msgs.specs.declared.msg.Piece.{Piece}
-use Rattle.nf_msgs.specs.declared.msg.Msg.{Msg}
 use Rattle.nf_msgs.specs.declared.msg.Msg.TheVariants as msg
-use Rattle.packet_pool.specs.Pool.{FullCell}
-use Rattle.event_filter.specs.declared.action.Action.{Action}
 use Rattle.event_filter.specs.declared.mark.Mark.TheVariants as mark
 use Rattle.instance_worker.specs.declared.instance.Instance.{Instance as InstanceState}
-use Rattle.instance_worker.specs.Instance.{instance_step}
 use Rattle.proof_machines.proofs.unit.Real as real
 use Rattle.proof_machines.proofs.net.Net as net
-use Rattle.proof_machines.proofs.net.Net.{inst_step, put, everything, is_free}
-use Rattle.proof_machines.proofs.net.Shares.{Old, New, ShareMsg, Shared_on, S_get, S_sync, member_step}
-use Rattle.proof_machines.proofs.whole.EveryAll.{MayKeep}
-use Rattle.net_world.specs.Nodes.{node_step}
-use Rattle.proof_outlines.proofs.outline.FiltersApart.{is_whole}
-use Rattle.proof_outlines.proofs.outline.Outline.{number, rule_of, entries, outline_piece, outline_instance, is_sys}
-use Rattle.proof_outlines.proofs.outline.InstanceOutline.{Follows, carry_follows, pass_follows, fence_follows, enable_follows}
-use Rattle.proof_outlines.proofs.outline.StateOutline.{stream_follows, delete_follows, put_follows, restore_follows}
+use Rattle.proof_outlines.proofs.joined.Words.{is_whole, number, rule_of, entries, outline_piece, outline_instance, is_sys, Follows, carry_follows}
+use Rattle.proof_outlines.proofs.joined.Words.{pass_follows, fence_follows, enable_follows, stream_follows, delete_follows, put_follows, restore_follows, Given}
+use Rattle.proof_outlines.proofs.joined.Words.{place, Scene, S, A, shown, came_by, Genuine, AreGoodChunks, IsGoodPiece, Label, IsInstanceAt, AreShown, IsTaken}
+use Rattle.proof_outlines.proofs.joined.Words.{Leads, node_of}
 use Rattle.proof_outlines.proofs.whole.MemberOutline.{MemberFollows, shared_follows, get_follows, sync_follows}
 use Rattle.proof_outlines.proofs.whole.StandbyKept.{leaves_standby, whole_follows, Keeps, standby_keeps, stop_keeps, get_all_keeps, put_all_keeps}
 use Rattle.proof_outlines.proofs.whole.InstanceWorlds.{ShowsAt, old_steps, new_steps, keeps_steps}
 use Rattle.proof_outlines.proofs.joined.InstanceKeeps.{chunks_good}
 use Rattle.proof_outlines.proofs.joined.InstanceRows.{IsRight, Leaves, sound_part, instance_leaves}
 use Rattle.proof_outlines.proofs.joined.StandbyChunks.{MayStandBy, same_may_keep, chunks_may_keep}
-use Rattle.proof_outlines.proofs.joined.Given.{Given, place}
-use Rattle.proof_outlines.proofs.joined.Joined.{Scene, S, A, shown, came_by, Genuine, AreGoodChunks, IsGoodPiece}
-use Rattle.proof_outlines.proofs.joined.Joined.{Label, IsInstanceAt, AreShown, IsTaken, Leads, node_of}
 use Rattle.proof_outlines.proofs.joined.InstanceSteps.{shown_leads, keeps_leads}
 
 -- The messages that an instance takes in a run.

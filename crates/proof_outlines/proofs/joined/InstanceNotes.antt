@@ -1,17 +1,8 @@
 -- What an instance notes: packets that it processed, and neither arrivals nor changes of the rules; what was done is what ran at its node.
-use Rattle.std.proofs.Common.{◌≡◌, ℕ, None, List, [], ◌∷◌, refl, ap, ◌∙◌}
-use Rattle.std.specs.List.{filter_map}
-use Rattle.nf_function.specs.Semantics.{Semantics}
-use Rattle.nf_msgs.specs.declared.note.Note.{Note}
+use Rattle.proof_outlines.proofs.Words.{◌≡◌, ℕ, None, List, [], ◌∷◌, refl, ap, ◌∙◌, filter_map, Semantics, Note, instance_node, Each, at_node, arrival_in}
+use Rattle.proof_outlines.proofs.Words.{arrivals_in, change_in, dones_in, installs_in, none_picked}
 use Rattle.nf_msgs.specs.declared.note.Note.TheVariants as note
-use Rattle.nf_msgs.specs.Nodes.{instance_node}
-use Rattle.proof_machines.proofs.unit.Labels.{Each}
-use Rattle.proof_machines.proofs.net.Net.{at_node}
-use Rattle.net_world.specs.Log.{arrival_in, arrivals_in, change_in, dones_in, installs_in}
-use Rattle.net_world.proofs.PickedLists.{none_picked}
-use Rattle.proof_outlines.proofs.outline.Outline.{ran_in}
-use Rattle.proof_outlines.proofs.joined.Given.{Given}
-use Rattle.proof_outlines.proofs.joined.Joined.{by_node}
+use Rattle.proof_outlines.proofs.joined.Words.{ran_in, Given, by_node}
 
 -- a note of the instance at node k
 abbrev pub IsOwn : ℕ → Note → Type 0

@@ -1,49 +1,26 @@
 -- Each message of a run leaves an instance such a one, and what it sends and notes is such as comes in a run.
-use Rattle.std.proofs.Common.{◌≡◌, ℕ, ◌+◌, ◌≤◌, Bool, true, false, Option, Some, None, List, [], ◌∷◌, ◌++◌, refl, sym, ap, ◌∙◌, subst}
-use Rattle.std.specs.Prelude.{if◌then◌else◌, ◌&&◌, ◌||◌, ◌==◌, not, find, nat_lt, is_some, Ok}
+use Rattle.proof_outlines.proofs.Words.{◌≡◌, ℕ, ◌+◌, ◌≤◌, Bool, true, false, Option, Some, None, List, [], ◌∷◌, ◌++◌, refl, sym, ap, ◌∙◌, subst, if◌then◌else◌}
+use Rattle.proof_outlines.proofs.Words.{◌&&◌, ◌||◌, ◌==◌, not, find, nat_lt, is_some, Ok, Filter, matches, flow_of, Chunk, Fits, Semantics, unit_at, part}
+use Rattle.proof_outlines.proofs.Words.{after_packet, AreSound, Action, Mark, FullCell, Answer, Piece, Msg, switch_node, instance_node, Instance, to_controller}
+use Rattle.proof_outlines.proofs.Words.{is_live, with_count, table_after, share_message, carry_step, on_delete, with_live, with_standby, with_records}
+use Rattle.proof_outlines.proofs.Words.{tally_put, instance_step, EachSent, Each, each-append, is_free, sent-append, split, by_if}
 use Rattle.std.specs.FinMap as finite
-use Rattle.flow_filter.specs.declared.filter.Filter.{Filter}
-use Rattle.flow_filter.specs.Filter.{matches}
-use Rattle.flow_filter.specs.Flow.{flow_of}
-use Rattle.nf_function.specs.declared.chunk.Chunk.{Chunk}
 use Rattle.nf_function.specs.declared.unit.Unit as units
-use Rattle.nf_function.specs.Records.{Fits, Laws as FunctionLaws}
-use Rattle.nf_function.specs.Semantics.{Semantics, unit_at}
-use Rattle.record_table.specs.Table.{part, after_packet, AreSound}
-use Rattle.event_filter.specs.declared.action.Action.{Action}
+use Rattle.nf_function.specs.Records.{Laws as FunctionLaws}
 use Rattle.event_filter.specs.declared.action.Action.TheVariants as action
-use Rattle.event_filter.specs.declared.mark.Mark.{Mark}
 use Rattle.event_filter.specs.declared.mark.Mark.TheVariants as mark
 use Rattle.event_filter.specs.declared.rule.Rule.{Rule as EventRule}
 use Rattle.event_filter.specs.Rules as rules
 use Rattle.event_filter.proofs.RulePlaces.{HasNone, one_each-changed, one_each-push, one_each-without}
-use Rattle.packet_pool.specs.Pool.{FullCell}
-use Rattle.nf_msgs.specs.declared.answer.Answer.{Answer}
 use Rattle.nf_msgs.specs.declared.answer.Answer.TheVariants as answer
-use Rattle.nf_msgs.specs.declared.msg.Piece.{Piece}
-use Rattle.nf_msgs.specs.declared.msg.Msg.{Msg}
 use Rattle.nf_msgs.specs.declared.msg.Msg.TheVariants as msg
-use Rattle.nf_msgs.specs.Nodes.{switch_node, instance_node}
-use Rattle.instance_worker.specs.declared.instance.Instance.{Instance}
-use Rattle.instance_worker.specs.Instance.{Step, to_controller, is_live, with_count, table_after, share_message, process_step, all_processed}
-use Rattle.instance_worker.specs.Instance.{carry_step, on_carry, on_fence, on_delete, with_live, with_standby, with_records}
-use Rattle.instance_worker.specs.Instance.{tally_put, instance_step}
-use Rattle.actor_net.proofs.WeightLaws.{EachSent}
-use Rattle.proof_machines.proofs.unit.Labels.{Each, each-append}
-use Rattle.proof_machines.proofs.net.Net.{is_free}
-use Rattle.proof_outlines.proofs.outline.FiltersApart.{is_whole}
-use Rattle.proof_outlines.proofs.outline.Outline.{number, rule_of}
-use Rattle.proof_outlines.proofs.outline.MoveOutline.{is_done}
-use Rattle.proof_outlines.proofs.outline.InstanceOutline.{IsInstance, held_genuine}
-use Rattle.proof_outlines.proofs.outline.InstanceWays.{may_process, refusal_of, WaysOfInstance, instance_fits}
+use Rattle.instance_worker.specs.Instance.{Step, process_step, all_processed, on_carry, on_fence}
+use Rattle.proof_outlines.proofs.joined.Words.{is_whole, number, rule_of, is_done, IsInstance, held_genuine, may_process, refusal_of, WaysOfInstance}
+use Rattle.proof_outlines.proofs.joined.Words.{instance_fits, Given, place, Genuine, AreGoodChunks, Label}
 use Rattle.proof_outlines.proofs.whole.MemberTables.{AreBothSound, with_part_sound, part_sound, records_sound, newest_sound}
 use Rattle.proof_outlines.proofs.joined.InstanceNotes.{AreOwn, IsOwn}
 use Rattle.proof_outlines.proofs.joined.InstanceKeeps.{sound_after, sound_without, valid_chunks}
 use Rattle.proof_outlines.proofs.joined.InstanceSends.{stream_sends, get_sends, shared_sends}
-use Rattle.proof_outlines.proofs.joined.Given.{Given, place}
-use Rattle.proof_outlines.proofs.joined.Joined.{Genuine, AreGoodChunks, Label}
-use Rattle.net_world.proofs.SentMessages.{sent-append}
-use Rattle.proof_machines.proofs.Tests.{split, by_if}
 
 -- what holds of each rule
 module _ (P : EventRule FullCell → Type 0) where

@@ -1,36 +1,19 @@
 -- What an instance sends is such as comes in a run.
-use Rattle.std.proofs.Common.{◌≡◌, ℕ, zero, suc, ◌≤◌, Bool, true, false, Option, Some, None, List, [], ◌∷◌, ◌++◌, map, length, take, drop, refl, arith}
-use Rattle.std.specs.Prelude.{nat_lt, nat_le, option_map}
-use Rattle.std.specs.List.{IsDistinct, AllByRecursion}
-use Rattle.std.specs.Map.{keys_of}
+use Rattle.proof_outlines.proofs.Words.{◌≡◌, ℕ, zero, suc, ◌≤◌, Bool, true, false, Option, Some, None, List, [], ◌∷◌, ◌++◌, map, length, take, drop, refl}
+use Rattle.proof_outlines.proofs.Words.{arith, nat_lt, nat_le, option_map, AllByRecursion, keys_of, nat_tests, length-map, length-drop, Filter, takes}
+use Rattle.proof_outlines.proofs.Words.{Semantics, is_sound, record_chunk, Records, same_unit, taken_by, AreSound, sound_retain_keys, valid_entries}
+use Rattle.proof_outlines.proofs.Words.{distinct_entries, spelled-record_chunk, FullCell, Piece, switch_node, WholePieces, piece_of, whole_of, pieces}
+use Rattle.proof_outlines.proofs.Words.{to_controller, chunk_told, EachSent, Each, Chunks, by_if}
+use Rattle.std.specs.List.{IsDistinct}
 use Rattle.std.specs.FinMap as finite
-use Rattle.std.proofs.lemmas.Bool.Decides.{nat_tests}
-use Rattle.std.proofs.lemmas.List.{length-map, length-drop}
-use Rattle.flow_filter.specs.declared.filter.Filter.{Filter}
 use Rattle.nf_function.specs.declared.unit.Unit as units
-use Rattle.nf_function.specs.Units.{takes}
 use Rattle.nf_function.specs.Records.{Laws as FunctionLaws}
-use Rattle.nf_function.specs.Semantics.{Semantics, is_sound}
-use Rattle.state_chunk.specs.Format.{record_chunk}
-use Rattle.record_table.specs.Table.{Records, same_unit, taken_by, AreSound}
 use Rattle.record_table.specs.Chunks.{chunks_of}
-use Rattle.record_table.proofs.RecordLookUps.{sound_retain_keys}
-use Rattle.record_table.proofs.MadeChunks.{valid_entries, distinct_entries, spelled-record_chunk}
-use Rattle.packet_pool.specs.Pool.{FullCell}
-use Rattle.nf_msgs.specs.declared.msg.Piece.{Piece}
 use Rattle.nf_msgs.specs.declared.msg.Msg.TheVariants as msg
-use Rattle.nf_msgs.specs.Nodes.{switch_node}
-use Rattle.instance_worker.specs.declared.pieces.WholePieces.{WholePieces}
-use Rattle.instance_worker.specs.Pieces.{piece_of, pieces_from, whole_of, pieces}
-use Rattle.instance_worker.specs.Instance.{to_controller, chunk_told}
-use Rattle.actor_net.proofs.WeightLaws.{EachSent}
-use Rattle.proof_machines.proofs.unit.Labels.{Each}
-use Rattle.proof_machines.proofs.unit.Real.{Chunks}
-use Rattle.proof_outlines.proofs.outline.StateOutline.{chunk_of, AreValid, entries_made, valid_take, valid_drop, map-take, map-drop, all_each}
+use Rattle.instance_worker.specs.Pieces.{pieces_from}
+use Rattle.proof_outlines.proofs.joined.Words.{chunk_of, AreValid, entries_made, valid_take, valid_drop, map-take, map-drop, all_each, Given, IsGoodChunk}
+use Rattle.proof_outlines.proofs.joined.Words.{AreGoodChunks, IsGoodPiece, Label}
 use Rattle.proof_outlines.proofs.joined.InstanceKeeps.{unit_is_fit}
-use Rattle.proof_outlines.proofs.joined.Given.{Given}
-use Rattle.proof_outlines.proofs.joined.Joined.{IsGoodChunk, AreGoodChunks, IsGoodPiece, Label}
-use Rattle.proof_machines.proofs.Tests.{by_if}
 
 -- a front and a rest of distinct units
 module _ {R : Type 0} where

@@ -1,40 +1,24 @@
 -- An instance's step on a message of a run leads from a world of a run to one.
-use Rattle.std.proofs.Common.{◌≡◌, ◌≢◌, ℕ, zero, suc, ◌<◌, ◌≤◌, true, false, Some, None, List, [], ◌++◌, refl, sym, ap, ◌∙◌, subst, append-nil, arith}
-use Rattle.std.specs.Prelude.{if◌then◌else◌, ◌&&◌, ◌==◌}
-use Rattle.std.specs.List.{filter_map}
-use Rattle.std.proofs.lemmas.Bool.Decides.{nat_tests, Decides-eqb}
-use Rattle.std.proofs.Math.Bool.{and-false}
+use Rattle.proof_outlines.proofs.Words.{◌≡◌, ◌≢◌, ℕ, zero, suc, ◌<◌, ◌≤◌, true, false, Some, None, List, [], ◌++◌, refl, sym, ap, ◌∙◌, subst, append-nil, arith}
+use Rattle.proof_outlines.proofs.Words.{if◌then◌else◌, ◌&&◌, ◌==◌, filter_map, nat_tests, Decides-eqb, and-false, Semantics, Records, Msg, Note, instance_step}
+use Rattle.proof_outlines.proofs.Words.{less_first, sent_for, inst_step, links_after, at_node, put, behind, Rising, Any, Old, New, as_old, WholeWorld}
+use Rattle.proof_outlines.proofs.Words.{member_step, whole_inst, EveryAll, inst_every_all, MayKeep, keeps_every_all, as_node, dones_in, installs_in}
+use Rattle.proof_outlines.proofs.Words.{done-append, split}
 use Rattle.nf_function.specs.declared.unit.Unit as units
 use Rattle.nf_function.specs.Records.{Laws as FunctionLaws}
-use Rattle.nf_function.specs.Semantics.{Semantics}
-use Rattle.record_table.specs.Table.{Records}
-use Rattle.nf_msgs.specs.declared.msg.Msg.{Msg}
-use Rattle.nf_msgs.specs.declared.note.Note.{Note}
 use Rattle.instance_worker.specs.declared.instance.Instance.{Instance as InstanceState}
-use Rattle.instance_worker.specs.Instance.{Step, instance_step}
-use Rattle.actor_net.proofs.WaitingMessages.{less_first}
-use Rattle.proof_machines.proofs.unit.Real.{sent_for}
-use Rattle.proof_machines.proofs.net.Net.{inst_step, links_after, at_node, put, behind}
-use Rattle.proof_machines.proofs.net.Waits.{Rising}
-use Rattle.proof_machines.proofs.net.Shares.{Any, Old, New, as_old, WholeWorld, member_step, whole_inst, keeps}
-use Rattle.proof_machines.proofs.whole.EveryAll.{EveryAll, inst_every_all, MayKeep, keeps_every_all}
+use Rattle.instance_worker.specs.Instance.{Step}
+use Rattle.proof_machines.proofs.net.Shares.{keeps}
 use Rattle.net_world.specs.declared.node.Node.TheVariants.{Instance}
-use Rattle.net_world.specs.Nodes.{as_node}
-use Rattle.net_world.specs.Log.{dones_in, installs_in}
-use Rattle.net_world.proofs.LogLemmas.{done-append}
-use Rattle.proof_outlines.proofs.outline.FiltersApart.{unit_fits}
-use Rattle.proof_outlines.proofs.outline.Outline.{ran_in, is_sys}
-use Rattle.proof_outlines.proofs.whole.WholeOutline.{is_sharing}
+use Rattle.proof_outlines.proofs.joined.Words.{unit_fits, ran_in, is_sys, is_sharing, Given, place, target_by, Nodes, Took, Scene, S, A, shown, commands}
+use Rattle.proof_outlines.proofs.joined.Words.{asked_nums, came_by, by_node, links_next, IsSwitch, IsController, IsInstanceAt, AreShown, IsTaken, Leads}
+use Rattle.proof_outlines.proofs.joined.Words.{node_of, Grows}
 use Rattle.proof_outlines.proofs.whole.InstanceWorlds.{ShowsAt, StepsTo, KeepsTo}
 use Rattle.proof_outlines.proofs.joined.LogLemmas.{by_node-append, every_same, owners_on, came_on}
 use Rattle.proof_outlines.proofs.joined.InstanceNotes.{AreOwn, none_arrived, none_installed, done_own}
 use Rattle.proof_outlines.proofs.joined.InstanceKeeps.{has_records}
 use Rattle.proof_outlines.proofs.joined.InstanceRows.{Leaves}
-use Rattle.proof_outlines.proofs.joined.Given.{Given, place, target_by}
-use Rattle.proof_outlines.proofs.joined.Joined.{Nodes, Took, Scene, S, A, shown, commands, asked_nums, came_by, by_node, links_next}
-use Rattle.proof_outlines.proofs.joined.Joined.{IsSwitch, IsController, IsInstanceAt, AreShown, IsTaken, Leads, node_of, Grows}
 use Rattle.proof_outlines.proofs.joined.NextNumbers.{same_grows}
-use Rattle.proof_machines.proofs.Tests.{split}
 
 module _ {F R : Type 0} (f : Semantics R) (laws : FunctionLaws f) (g : Given) (n : ℕ) (x : Scene F f g) (p : ℕ) (j : ℕ) where
   -- the instance's node, and the instance there

@@ -1,63 +1,26 @@
 -- What holds of each world of a run of moves, copies and shares: a whole world of the abstract network shows it, and its messages and nodes are
 -- such as come in a run.
-use Rattle.std.proofs.Common.{◌≡◌, ◌≢◌, ℕ, zero, suc, ◌+◌, ◌<◌, ◌≤◌, Bool, true, false, Option, Some, None, List, [], ◌∷◌, ◌++◌, length, get_or, map}
-use Rattle.std.specs.Prelude.{if◌then◌else◌, ◌&&◌, ◌==◌, not, nat_lt}
-use Rattle.std.specs.List.{filter, filter_map, IsDistinct}
-use Rattle.std.specs.Map.{keys_of}
-use Rattle.std.specs.Str.{bytes_eq}
+use Rattle.proof_outlines.proofs.Words.{◌≡◌, ◌≢◌, ℕ, zero, suc, ◌+◌, ◌<◌, ◌≤◌, Bool, true, false, Option, Some, None, List, [], ◌∷◌, ◌++◌, length, get_or, map}
+use Rattle.proof_outlines.proofs.Words.{if◌then◌else◌, ◌&&◌, ◌==◌, not, nat_lt, filter, filter_map, keys_of, bytes_eq, Filter, Packet, Chunk, Semantics}
+use Rattle.proof_outlines.proofs.Words.{unit_at, same_unit, Mark, stored_of, FullCell, Target, AreFilters, Command, Order, Piece, Msg, Note, instance_node}
+use Rattle.proof_outlines.proofs.Words.{Door, Phase, MoveState, answer_of, CopyState, ShareState, home, SharePhase, SwitchState, takes_in, Move, Copy, Share}
+use Rattle.proof_outlines.proofs.Words.{ControllerState, Network, Stepped, queue_at, at, less_first, OnLinks, EachSent, Each, Open, is_free, links_after}
+use Rattle.proof_outlines.proofs.Words.{Rising, Any, Old, New, S_asked, Sharing, OpenShare, WholeWorld, has, EveryAll, Came, sent_for, Node, Switch, Controller}
+use Rattle.proof_outlines.proofs.Words.{has_twice, Done, arrivals_in, dones_in, installs_in}
+use Rattle.std.specs.List.{IsDistinct}
 use Rattle.std.specs.FinMap as finite
-use Rattle.flow_filter.specs.declared.filter.Filter.{Filter}
-use Rattle.flow_filter.specs.declared.packet.Packet.{Packet}
-use Rattle.nf_function.specs.declared.chunk.Chunk.{Chunk}
 use Rattle.nf_function.specs.declared.unit.Unit as units
-use Rattle.nf_function.specs.Semantics.{Semantics, unit_at}
-use Rattle.record_table.specs.Table.{same_unit}
-use Rattle.event_filter.specs.declared.mark.Mark.{Mark}
 use Rattle.event_filter.specs.declared.mark.Mark.TheVariants as mark
-use Rattle.event_store.specs.Store.{stored_of}
-use Rattle.packet_pool.specs.Pool.{FullCell}
-use Rattle.switch_rules.specs.declared.target.Target.{Target}
 use Rattle.switch_rules.specs.declared.target.Target.TheVariants as target
-use Rattle.switch_rules.specs.Rules.{AreFilters}
-use Rattle.nf_msgs.specs.declared.command.Command.{Command}
-use Rattle.nf_msgs.specs.declared.command.Order.{Order}
 use Rattle.nf_msgs.specs.declared.command.Order.TheVariants as order
-use Rattle.nf_msgs.specs.declared.msg.Piece.{Piece}
-use Rattle.nf_msgs.specs.declared.msg.Msg.{Msg}
 use Rattle.nf_msgs.specs.declared.msg.Msg.TheVariants as msg
-use Rattle.nf_msgs.specs.declared.note.Note.{Note}
-use Rattle.nf_msgs.specs.Nodes.{instance_node}
-use Rattle.move_op.specs.declared.door.Door.{Door}
 use Rattle.move_op.specs.declared.door.Door.TheVariants as door
-use Rattle.move_op.specs.Phases.{Phase}
 use Rattle.move_op.specs.Phases as phase
-use Rattle.move_op.specs.Move.{MoveState, answer_of}
-use Rattle.copy_share.specs.Copy.{CopyState}
 use Rattle.copy_share.specs.Copy as copy
-use Rattle.copy_share.specs.Share.{ShareState, home}
-use Rattle.copy_share.specs.declared.share_phase.SharePhase.{SharePhase}
 use Rattle.copy_share.specs.declared.share_phase.SharePhase.TheVariants.{Out}
-use Rattle.switch_node.specs.Switch.{SwitchState, takes_in}
-use Rattle.ctrl_node.specs.declared.operation.Operation.TheVariants.{Move, Copy, Share}
-use Rattle.ctrl_node.specs.Controller.{ControllerState}
 use Rattle.instance_worker.specs.declared.instance.Instance.{Instance as InstanceState}
-use Rattle.actor_net.specs.Network.{Network, Stepped, queue_at}
-use Rattle.actor_net.proofs.EnabledChoices.{at}
-use Rattle.actor_net.proofs.WaitingMessages.{less_first}
-use Rattle.actor_net.proofs.WeightLaws.{OnLinks, EachSent}
-use Rattle.proof_machines.proofs.unit.Labels.{Each}
 use Rattle.proof_machines.proofs.net.Net as net
-use Rattle.proof_machines.proofs.net.Net.{Open, is_free, links_after}
-use Rattle.proof_machines.proofs.net.Waits.{Rising}
-use Rattle.proof_machines.proofs.net.Shares.{Any, Old, New, S_asked, Sharing, OpenShare, WholeWorld}
-use Rattle.proof_machines.proofs.share.Share.{has}
-use Rattle.proof_machines.proofs.whole.EveryAll.{EveryAll}
-use Rattle.proof_machines.proofs.whole.WhereAll.{Came}
-use Rattle.proof_machines.proofs.unit.Real.{sent_for}
-use Rattle.net_world.specs.declared.node.Node.{Node}
-use Rattle.net_world.specs.declared.node.Node.TheVariants.{Switch, Controller, Instance}
-use Rattle.flow_filter.specs.Name.{has_twice}
-use Rattle.net_world.specs.Log.{Done, arrivals_in, dones_in, installs_in}
+use Rattle.net_world.specs.declared.node.Node.TheVariants.{Instance}
 use Rattle.proof_outlines.proofs.joined.Given.{Given, place, IsPlan, IsCopyPlan, IsSharePlan, IsChange, target_by, diverted_in, loose_by}
 use Rattle.proof_outlines.proofs.outline.FiltersApart.{is_whole, unit_fits}
 use Rattle.proof_outlines.proofs.outline.Outline.{entries, rule_of, sys, is_sys, outline_instance}

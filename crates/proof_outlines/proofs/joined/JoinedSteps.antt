@@ -1,29 +1,10 @@
 -- A choice that is taken leads from a world of a run to one, by the step of its node.
-use Rattle.std.proofs.Common.{◌≡◌, ◌≢◌, ℕ, ◌+◌, true, false, Option, Some, None, List, [], ◌∷◌, ◌++◌, get_or, refl, sym, ap, ◌∙◌, subst, append-nil, arith}
-use Rattle.std.specs.Prelude.{◌&&◌, ◌==◌, nat_lt, not}
-use Rattle.std.specs.List.{filter_map}
-use Rattle.std.proofs.lemmas.Bool.Decides.{nat_tests, Decides-eqb}
-use Rattle.std.proofs.Math.Bool.{and_comm}
-use Rattle.nf_function.specs.Semantics.{Semantics}
-use Rattle.nf_msgs.specs.declared.msg.Msg.{Msg}
-use Rattle.nf_msgs.specs.declared.note.Note.{Note}
-use Rattle.actor_net.specs.declared.choice.Choice.{Choice}
-use Rattle.actor_net.specs.Network.{Network, Stepped, is_input, queue_at, world_next}
-use Rattle.actor_net.proofs.EnabledChoices.{at}
-use Rattle.actor_net.proofs.LinkLemmas.{put_on_link}
-use Rattle.actor_net.proofs.WaitingMessages.{less_first}
-use Rattle.actor_net.proofs.StepOutcome.{Takes, taken_outcome}
-use Rattle.actor_net.proofs.RunInduction.{Taking}
-use Rattle.actor_net.proofs.WeightLaws.{on_links_after}
-use Rattle.proof_machines.proofs.unit.Labels.{Each}
-use Rattle.proof_machines.proofs.net.Shares.{Any}
-use Rattle.switch_node.specs.Switch.{takes_in}
-use Rattle.net_world.specs.declared.node.Node.{Node}
-use Rattle.net_world.specs.Nodes.{node_step, node_ready}
+use Rattle.proof_outlines.proofs.Words.{◌≡◌, ◌≢◌, ℕ, ◌+◌, true, false, Option, Some, None, List, [], ◌∷◌, ◌++◌, get_or, refl, sym, ap, ◌∙◌, subst, append-nil}
+use Rattle.proof_outlines.proofs.Words.{arith, ◌&&◌, ◌==◌, nat_lt, not, filter_map, nat_tests, Decides-eqb, and_comm, Semantics, Msg, Note, Choice, Network}
+use Rattle.proof_outlines.proofs.Words.{Stepped, is_input, queue_at, world_next, at, put_on_link, less_first, Takes, taken_outcome, Taking, on_links_after}
+use Rattle.proof_outlines.proofs.Words.{Each, Any, takes_in, Node, node_step, node_ready, either_way}
 use Rattle.proof_outlines.proofs.outline.LinkOutline.{shows_taken, shows_unseen}
-use Rattle.proof_outlines.proofs.joined.Given.{Given}
-use Rattle.proof_outlines.proofs.joined.Joined.{count, Label, shown, Took, node_of, links_next, Scene, Shows, AreShown, Joined, Leads, IsTaken}
-use Rattle.proof_machines.proofs.Tests.{either_way}
+use Rattle.proof_outlines.proofs.joined.Words.{Given, count, Label, shown, Took, node_of, links_next, Scene, Shows, AreShown, Joined, Leads, IsTaken}
 
 -- what the nodes' steps give: each leads from a world of a run to one, where what the step wants beside is so
 abbrev pub NodeLeads : {F R : Type 0} (f : Semantics R) (g : Given) → ℕ → (Scene F f g → Msg → Type 0) → Type 0

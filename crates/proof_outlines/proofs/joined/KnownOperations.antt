@@ -1,21 +1,9 @@
 -- What is known of the open operations of a controller of a run: moves, copies and shares are those of their orders.
-use Rattle.std.proofs.Common.{◌≡◌, ℕ, Some, None, List, subst}
+use Rattle.proof_outlines.proofs.Words.{◌≡◌, ℕ, Some, None, List, subst, Semantics, Msg, MoveState, CopyState, ShareState, Move, Copy, Share, turn_of}
+use Rattle.proof_outlines.proofs.Words.{ControllerState, takes_turn, Open, OpenShare}
 use Rattle.std.specs.FinMap as finite
-use Rattle.nf_function.specs.Semantics.{Semantics}
-use Rattle.nf_msgs.specs.declared.msg.Msg.{Msg}
-use Rattle.move_op.specs.Move.{MoveState}
-use Rattle.copy_share.specs.Copy.{CopyState}
 use Rattle.copy_share.specs.Copy as copy
-use Rattle.copy_share.specs.Share.{ShareState}
-use Rattle.ctrl_node.specs.declared.operation.Operation.TheVariants.{Move, Copy, Share}
-use Rattle.ctrl_node.specs.Operations.{turn_of}
-use Rattle.ctrl_node.specs.Controller.{ControllerState, takes_turn}
-use Rattle.proof_machines.proofs.net.Net.{Open}
-use Rattle.proof_machines.proofs.net.Shares.{OpenShare}
-use Rattle.proof_outlines.proofs.outline.MoveOutline.{IsRefusing}
-use Rattle.proof_outlines.proofs.outline.CopyTurns.{CopyTurn, copy_turn}
-use Rattle.proof_outlines.proofs.joined.Given.{Given, IsPlan, IsCopyPlan, IsSharePlan}
-use Rattle.proof_outlines.proofs.joined.Joined.{IsController}
+use Rattle.proof_outlines.proofs.joined.Words.{IsRefusing, CopyTurn, copy_turn, Given, IsPlan, IsCopyPlan, IsSharePlan, IsController}
 
 pub record AreKnown (g : Given) (c : ControllerState) : Type 0 where
   pub moves : (op : ℕ) (m : MoveState) → finite.get c.operations op ≡ Some (Move m) → (m.plan.op ≡ op) × IsRefusing m.phase × IsPlan g op m.plan

@@ -1,25 +1,13 @@
 -- What is read off a log that goes on; and where a unit is doesn't depend on how its packets are told.
-use Rattle.std.proofs.Common.{◌≡◌, ℕ, Bool, true, false, List, [], ◌∷◌, ◌++◌, refl, sym, ap, ◌∙◌, subst, append_assoc, append-nil}
-use Rattle.std.specs.Prelude.{if◌then◌else◌, ◌&&◌, ◌||◌}
-use Rattle.std.specs.List.{filter}
-use Rattle.std.proofs.Math.Bool.{or_assoc}
-use Rattle.std.proofs.lemmas.List.{map-append}
+use Rattle.proof_outlines.proofs.Words.{◌≡◌, ℕ, Bool, true, false, List, [], ◌∷◌, ◌++◌, refl, sym, ap, ◌∙◌, subst, append_assoc, append-nil, if◌then◌else◌}
+use Rattle.proof_outlines.proofs.Words.{◌&&◌, ◌||◌, filter, or_assoc, map-append, Note, instance_node, Semantics, Sys, IsSys, Sharing, WholeWorld, Came}
+use Rattle.proof_outlines.proofs.Words.{WhereAll, EveryAll, Done, arrivals_in, installs_in, owner_after_order, owner_after}
 use Rattle.nf_function.specs.declared.unit.Unit as units
-use Rattle.nf_msgs.specs.declared.note.Note.{Note}
 use Rattle.nf_msgs.specs.declared.note.Note.TheVariants as note
-use Rattle.nf_msgs.specs.Nodes.{instance_node}
-use Rattle.nf_function.specs.Semantics.{Semantics}
-use Rattle.proof_machines.proofs.net.Net.{Sys, IsSys}
-use Rattle.proof_machines.proofs.net.Shares.{Sharing, WholeWorld}
-use Rattle.proof_machines.proofs.whole.WhereAll.{Came, WhereAll}
-use Rattle.proof_machines.proofs.whole.EveryAll.{EveryAll}
-use Rattle.net_world.specs.Log.{Done, arrivals_in, installs_in}
 pub use Rattle.net_world.proofs.LogLemmas.{arrived-append, done-append}
-use Rattle.net_world.specs.Places.{owner_after_order, owner_after}
-use Rattle.proof_outlines.proofs.outline.FiltersApart.{unit_fits}
+use Rattle.proof_outlines.proofs.joined.Words.{unit_fits, Given, loose_by, diverts, diverted_after, is_diverted, diverted_in, target_by, Scene, AreShown}
+use Rattle.proof_outlines.proofs.joined.Words.{by_node, came_by, is_of}
 use Rattle.proof_outlines.proofs.joined.OwnerLemmas.{installed_same}
-use Rattle.proof_outlines.proofs.joined.Given.{Given, loose_by, diverts, diverted_after, is_diverted, diverted_in, target_by}
-use Rattle.proof_outlines.proofs.joined.Joined.{Scene, AreShown, by_node, came_by, is_of}
 
 pub by_node-append : {R : Type 0} (f : Semantics R) (g : Given) (xs ys : List Done) → by_node f g (xs ++ ys) ≡ by_node f g xs ++ by_node f g ys
 by_node-append f g xs ys = map-append (λ (d : Done). (d.number, instance_node d.instance)) xs ys

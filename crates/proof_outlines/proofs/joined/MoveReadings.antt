@@ -1,20 +1,13 @@
 -- What is read of an open move in a whole world: of each unit at most one copy of its record, no packet that is left at the end, and no event
 -- without its move. A unit that a share takes has none of these.
-use Rattle.std.proofs.Common.{◌≡◌, ℕ, ◌+◌, ◌≤◌, true, false, Some, None, List, [], ◌∷◌, sym, ap, ◌∙◌, arith}
-use Rattle.flow_filter.specs.declared.filter.Filter.{Filter}
+use Rattle.proof_outlines.proofs.Words.{◌≡◌, ℕ, ◌+◌, ◌≤◌, true, false, Some, None, List, [], ◌∷◌, sym, ap, ◌∙◌, arith, Filter, Answer, same_unit}
+use Rattle.proof_outlines.proofs.Words.{same_unit_equiv, Chunks, M_event, M_put_no, Mv, Sys, IsSys, Open, find_op, Any, Old, olds, Sharing, WholeWorld}
+use Rattle.proof_outlines.proofs.Words.{moves_of, copies, one_copy, one_copy_back, event_open, none_mine, ends, Came, WhereAll, Apart_from_shares, Under_share}
+use Rattle.proof_outlines.proofs.Words.{EveryAll}
 use Rattle.nf_function.specs.declared.unit.Unit as units
-use Rattle.nf_msgs.specs.declared.answer.Answer.{Answer}
-use Rattle.record_table.specs.Table.{same_unit}
-use Rattle.record_table.proofs.UnitOrder.{same_unit_equiv}
-use Rattle.proof_machines.proofs.unit.Real.{Chunks, M_event, M_put_no}
-use Rattle.proof_machines.proofs.net.Net.{Mv, Sys, IsSys, Open, find_op}
-use Rattle.proof_machines.proofs.net.Shares.{Any, Old, olds, Sharing, WholeWorld, moves_of}
 use Rattle.proof_machines.proofs.net.UnderStarts.{seeing}
-use Rattle.proof_machines.proofs.net.Copies.{has, copies, one_copy, one_copy_back, event_open}
-use Rattle.proof_machines.proofs.net.Rest.{none_mine}
-use Rattle.proof_machines.proofs.net.Stores.{ends, none_left}
-use Rattle.proof_machines.proofs.whole.WhereAll.{Came, WhereAll, Apart_from_shares, Under_share}
-use Rattle.proof_machines.proofs.whole.EveryAll.{EveryAll}
+use Rattle.proof_machines.proofs.net.Copies.{has}
+use Rattle.proof_machines.proofs.net.Stores.{none_left}
 use Rattle.proof_machines.proofs.whole.UnderMoves.{no_copies, none_stored, none_back, no_event}
 
 module _ {R : Type 0} (S : Sys R) (A : Sharing S) (laws : IsSys S) (w : WholeWorld S A) (came : units.Unit → Came) (every : EveryAll S A laws w came) where

@@ -1,35 +1,18 @@
 -- Each row of a move's table leaves a move that is open in a run such a one, and what it sends and stores is such as comes in a run.
-use Rattle.std.proofs.Common.{◌≡◌, ℕ, ◌+◌, ◌≤◌, Bool, true, false, List, [], ◌∷◌, ◌++◌, map, refl, ap, ◌∙◌, arith}
-use Rattle.std.specs.Prelude.{◌&&◌, ◌||◌, ◌==◌, nat_lt, unwrap_or}
-use Rattle.nf_function.specs.declared.chunk.Chunk.{Chunk}
+use Rattle.proof_outlines.proofs.Words.{◌≡◌, ℕ, ◌+◌, ◌≤◌, Bool, true, false, List, [], ◌∷◌, ◌++◌, map, refl, ap, ◌∙◌, arith, ◌&&◌, ◌||◌, ◌==◌, nat_lt}
+use Rattle.proof_outlines.proofs.Words.{unwrap_or, Chunk, Semantics, spelled, FullCell, Answer, Piece, Msg, Door, Phase, MovePlan, MoveState, MoveNext, MoveRow}
+use Rattle.proof_outlines.proofs.Words.{keeps, next_phase, chunks_of, have_units, put_back, source, destination, put_to, forward_to, from_source}
+use Rattle.proof_outlines.proofs.Words.{from_destination, row, words, is_nil, push_on, release_row, return_of, all_put, on_event, on_source_enabled, on_piece}
+use Rattle.proof_outlines.proofs.Words.{on_deleted, on_restored, on_source_fenced, on_put_ok, on_put_no, on_destination_enabled, on_destination_fenced}
+use Rattle.proof_outlines.proofs.Words.{EachSent, Each, each-append, sent-append, by_if}
 use Rattle.nf_function.specs.declared.unit.Unit as units
-use Rattle.nf_function.specs.Semantics.{Semantics}
-use Rattle.record_table.specs.Chunks.{spelled}
-use Rattle.packet_pool.specs.Pool.{FullCell}
 use Rattle.switch_rules.specs.declared.target.Target.TheVariants as target
-use Rattle.nf_msgs.specs.declared.answer.Answer.{Answer}
-use Rattle.nf_msgs.specs.declared.msg.Piece.{Piece}
-use Rattle.nf_msgs.specs.declared.msg.Msg.{Msg}
 use Rattle.nf_msgs.specs.declared.msg.Msg.TheVariants as msg
-use Rattle.move_op.specs.declared.door.Door.{Door}
 use Rattle.move_op.specs.declared.door.Door.TheVariants as door
-use Rattle.move_op.specs.Phases.{Phase}
 use Rattle.move_op.specs.Phases as phase
-use Rattle.move_op.specs.Move.{MovePlan, MoveState, MoveNext, MoveRow, keeps, next_phase, chunks_of, have_units, put_back, source, destination}
-use Rattle.move_op.specs.Move.{put_to, forward_to, from_source, from_destination, row, words}
-use Rattle.move_op.specs.Table.{is_nil, push_on, release_row, return_of, all_put, on_event, on_source_enabled, on_piece, on_deleted, on_restored}
-use Rattle.move_op.specs.Table.{on_source_fenced, on_put_ok, on_put_no, on_destination_enabled, on_destination_fenced}
-use Rattle.actor_net.proofs.WeightLaws.{EachSent}
-use Rattle.proof_machines.proofs.unit.Labels.{Each, each-append}
-use Rattle.proof_outlines.proofs.outline.FiltersApart.{is_whole}
-use Rattle.proof_outlines.proofs.outline.Outline.{entries}
-use Rattle.proof_outlines.proofs.outline.InstanceOutline.{filter_map-put}
-use Rattle.proof_outlines.proofs.outline.MoveOutline.{IsRefusing, is_done}
-use Rattle.proof_outlines.proofs.joined.Given.{Given, IsPlan}
-use Rattle.proof_outlines.proofs.joined.Joined.{Genuine, IsMove, IsGoodChunk, AreGoodChunks, IsGoodPiece, AreFree, HasPieces, Label, count}
+use Rattle.proof_outlines.proofs.joined.Words.{is_whole, entries, filter_map-put, IsRefusing, is_done, Given, IsPlan, Genuine, IsMove, IsGoodChunk}
+use Rattle.proof_outlines.proofs.joined.Words.{AreGoodChunks, IsGoodPiece, AreFree, HasPieces, Label, count}
 use Rattle.proof_outlines.proofs.joined.UnitCounts.{times, times-append, distinct_from_times}
-use Rattle.net_world.proofs.SentMessages.{sent-append}
-use Rattle.proof_machines.proofs.Tests.{by_if}
 
 -- the chunks that a message brings back
 abbrev pub brought : Msg → List Chunk

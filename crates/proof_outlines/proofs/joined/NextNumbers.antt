@@ -1,6 +1,5 @@
 -- A step that leaves the next number as it is.
-use Rattle.std.proofs.Common.{ℕ, arith}
-use Rattle.nf_msgs.specs.declared.msg.Msg.{Msg}
+use Rattle.proof_outlines.proofs.Words.{ℕ, arith, Msg}
 use Rattle.nf_msgs.specs.declared.msg.Msg.TheVariants as msg
 use Rattle.proof_outlines.proofs.joined.Joined.{Grows}
 

@@ -1,9 +1,6 @@
 -- Each node's step leads from a world of a run to one, where what the step wants beside the world is so.
-use Rattle.std.proofs.Common.{◌≡◌, ℕ, zero, suc, List, arith}
-use Rattle.nf_function.specs.declared.chunk.Chunk.{Chunk}
-use Rattle.nf_function.specs.Records.{Fits, Laws as FunctionLaws}
-use Rattle.nf_function.specs.Semantics.{Semantics}
-use Rattle.nf_msgs.specs.declared.msg.Msg.{Msg}
+use Rattle.proof_outlines.proofs.Words.{◌≡◌, ℕ, zero, suc, List, arith, Chunk, Fits, Semantics, Msg}
+use Rattle.nf_function.specs.Records.{Laws as FunctionLaws}
 use Rattle.nf_msgs.specs.declared.msg.Msg.TheVariants as msg
 use Rattle.proof_outlines.proofs.joined.StandbyChunks.{MayStandBy}
 use Rattle.proof_outlines.proofs.joined.ControllerBegins.{CopiesNext}
@@ -11,8 +8,7 @@ use Rattle.proof_outlines.proofs.joined.SwitchSteps.{switch_leads}
 use Rattle.proof_outlines.proofs.joined.ControllerSteps.{controller_leads}
 use Rattle.proof_outlines.proofs.joined.InstanceMessages.{instance_leads}
 use Rattle.proof_outlines.proofs.joined.JoinedSteps.{NodeLeads}
-use Rattle.proof_outlines.proofs.joined.Given.{Given}
-use Rattle.proof_outlines.proofs.joined.Joined.{Scene}
+use Rattle.proof_outlines.proofs.joined.Words.{Given, Scene}
 
 -- chunks of a copy that an instance is to keep may stand by, and the number of a copy that is asked for is new
 pub record Wants {F R : Type 0} (f : Semantics R) (g : Given) (x : Scene F f g) (m : Msg) : Type 0 where

@@ -1,31 +1,14 @@
 -- No two open operations of the controller have filters that meet: each message keeps that, since an order whose filter meets one is refused.
-use Rattle.std.proofs.Common.{◌≡◌, ℕ, Bool, true, false, cond, ◌⊎◌, inl, inr, Option, Some, None, List, [], ◌∷◌, ◌++◌, refl, sym, ◌∙◌, subst, arith}
-use Rattle.std.specs.Prelude.{◌==◌}
-use Rattle.std.specs.List.{filter_map}
-use Rattle.std.specs.Option.{option_and_then}
+use Rattle.proof_outlines.proofs.Words.{◌≡◌, ℕ, Bool, true, false, cond, ◌⊎◌, inl, inr, Option, Some, None, List, [], ◌∷◌, ◌++◌, refl, sym, ◌∙◌, subst, arith}
+use Rattle.proof_outlines.proofs.Words.{◌==◌, filter_map, option_and_then, nat_tests, Decides-eqb, Filter, meets, flow_of, FullCell, stored_of, with_parcels}
+use Rattle.proof_outlines.proofs.Words.{Store, Answer, Command, Order, Msg, Operation, Move, Copy, Share, OpenOperations, filter_of, lowest_meeting}
+use Rattle.proof_outlines.proofs.Words.{meets_operation, lasts, Turn, turn_of, serving_of, share_of, with_operation, place_of, ControllerState, controller_step}
+use Rattle.proof_outlines.proofs.Words.{split, by_if}
 use Rattle.std.specs.FinMap as finite
-use Rattle.std.proofs.lemmas.Bool.Decides.{nat_tests, Decides-eqb}
-use Rattle.flow_filter.specs.declared.filter.Filter.{Filter}
-use Rattle.flow_filter.specs.Filter.{meets}
-use Rattle.flow_filter.specs.Flow.{flow_of}
-use Rattle.packet_pool.specs.Pool.{FullCell}
-use Rattle.event_store.specs.Store.{stored_of, with_parcels}
-use Rattle.move_op.specs.Move.{Store}
-use Rattle.nf_msgs.specs.declared.answer.Answer.{Answer}
-use Rattle.nf_msgs.specs.declared.command.Command.{Command}
-use Rattle.nf_msgs.specs.declared.command.Order.{Order}
 use Rattle.nf_msgs.specs.declared.command.Order.TheVariants as order
-use Rattle.nf_msgs.specs.declared.msg.Msg.{Msg}
-use Rattle.ctrl_node.specs.declared.operation.Operation.{Operation}
-use Rattle.ctrl_node.specs.declared.operation.Operation.TheVariants.{Move, Copy, Share}
-use Rattle.ctrl_node.specs.Operations.{OpenOperations, filter_of, lowest_meeting, meets_operation, lasts, Turn, turn_of, serving_of, share_of, with_operation}
-use Rattle.flow_filter.specs.Name.{place_of}
 use Rattle.ctrl_node.specs.Controller as ctrl
-use Rattle.ctrl_node.specs.Controller.{ControllerState, controller_step}
-use Rattle.proof_outlines.proofs.outline.ControllerWays.{row_by}
-use Rattle.proof_outlines.proofs.outline.OperationTables.{got_insert, got_remove}
+use Rattle.proof_outlines.proofs.joined.Words.{row_by, got_insert, got_remove}
 use Rattle.proof_outlines.proofs.joined.ControllerBegins.{no_overlap, none_meets}
-use Rattle.proof_machines.proofs.Tests.{split, by_if}
 
 -- two filters don't meet, if both are there
 abbrev pub AreApart : Option Filter → Option Filter → Type 0
@@ -221,4 +204,5 @@ module _ (c : ControllerState) (port : ℕ) where
 
   -- what is apart stays apart with a message
   pub controller_apart : (m : Msg) → AllApart c.operations → AllApart (controller_step c port m).node.operations
-  controller_apart m apart = by_if (λ (r : ControllerState). AllApart r.operations) (ctrl.may_finish (ctrl.row c port m).node) (row_apart m apart) (row_apart m apart)
+  controller_apart m apart = by_if (λ (r : ControllerState). AllApart r.operations) (ctrl.may_finish (ctrl.row c port m).node) (row_apart m apart)
+      (row_apart m apart)

@@ -1,30 +1,15 @@
 -- Who owns a unit, and whether a plain move handed it on, by a log that goes on; and what stays a place of the unit.
-use Rattle.std.proofs.Common.{◌≡◌, ℕ, Bool, true, Option, None, Some, List, [], ◌∷◌, ◌++◌, refl, sym, ap, ◌∙◌, append-nil}
-use Rattle.std.specs.Prelude.{◌&&◌, ◌||◌, ◌==◌, not}
-use Rattle.std.specs.Option.{option_map_or}
-use Rattle.std.specs.List.{list_any}
-use Rattle.std.proofs.Math.Bool.{or-false, or_assoc}
-use Rattle.std.proofs.lemmas.Bool.{and_parts}
-use Rattle.flow_filter.specs.declared.flow.Flow.{Flow}
-use Rattle.nf_function.specs.declared.kind.Kind.{Kind}
-use Rattle.nf_function.specs.declared.kind.Kind.TheVariants.{Conntrack}
+use Rattle.proof_outlines.proofs.Words.{◌≡◌, ℕ, Bool, true, Option, None, Some, List, [], ◌∷◌, ◌++◌, refl, sym, ap, ◌∙◌, append-nil, ◌&&◌, ◌||◌, ◌==◌, not}
+use Rattle.proof_outlines.proofs.Words.{option_map_or, list_any, or-false, or_assoc, and_parts, Flow, Kind, Conntrack, unit_of, place_of, Order, Msg, Note}
+use Rattle.proof_outlines.proofs.Words.{Each, Config, order_numbered, packet_numbered, answer_in, begin_in, change_in, has_begun, installs_in, first_owner}
+use Rattle.proof_outlines.proofs.Words.{owner_after_order, owner_after, hands_on_plain, loose_after, members_after, member_for, unit_numbered, unit_in, is_at}
+use Rattle.proof_outlines.proofs.Words.{IsMoving, IsPlace, Owns, Is_destination, Is_member, has_answered-append, has_begun-append, installed-append}
+use Rattle.proof_outlines.proofs.Words.{none_picked}
 use Rattle.nf_function.specs.declared.unit.Unit as units
-use Rattle.nf_function.specs.Units.{unit_of}
-use Rattle.flow_filter.specs.Name.{place_of}
-use Rattle.nf_msgs.specs.declared.command.Order.{Order}
-use Rattle.nf_msgs.specs.declared.msg.Msg.{Msg}
-use Rattle.nf_msgs.specs.declared.note.Note.{Note}
 use Rattle.nf_msgs.specs.declared.note.Note.TheVariants as note
-use Rattle.proof_machines.proofs.unit.Labels.{Each}
-use Rattle.net_world.specs.declared.config.Config.{Config}
-use Rattle.net_world.specs.Input.{order_numbered, packet_numbered}
 use Rattle.net_world.specs.Jobs.{Job}
-use Rattle.net_world.specs.Log.{answer_in, begin_in, change_in, has_begun, installs_in}
 use Rattle.net_world.specs.Commands.{has_answered, is_busy}
-use Rattle.net_world.specs.Places.{first_owner, owner_after_order, owner_after, hands_on_plain, loose_after, members_after, member_for}
-use Rattle.net_world.specs.Places.{unit_numbered, unit_in, goes_to, is_at, IsMoving, IsPlace, Owns, Is_destination, Is_member}
-use Rattle.net_world.proofs.LogLemmas.{has_answered-append, has_begun-append, installed-append}
-use Rattle.net_world.proofs.PickedLists.{none_picked}
+use Rattle.net_world.specs.Places.{goes_to}
 use Rattle.proof_outlines.proofs.outline.FiltersApart.{flow_fits, unit_fits}
 use Rattle.proof_outlines.proofs.joined.PlaceNotes.{IsQuiet, is_uninstalled}
 

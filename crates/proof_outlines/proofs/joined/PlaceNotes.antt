@@ -1,26 +1,13 @@
 -- What the steps of the nodes note: an instance what it processed, gave and took, and the others nothing that was processed.
-use Rattle.std.proofs.Common.{◌≡◌, ℕ, Bool, true, false, Option, Some, None, List, [], ◌∷◌, refl, ◌∙◌, subst}
+use Rattle.proof_outlines.proofs.Words.{◌≡◌, ℕ, Bool, true, false, Option, Some, None, List, [], ◌∷◌, refl, ◌∙◌, subst, Semantics, Mark, FullCell, Answer, Msg}
+use Rattle.proof_outlines.proofs.Words.{Note, SwitchState, switch_step, ControllerState, controller_step, Turn, turn_of, Instance, and_then, instance_step}
+use Rattle.proof_outlines.proofs.Words.{Each, each-append, dones_in, done_in, none_picked}
 use Rattle.std.specs.FinMap as finite
-use Rattle.proof_outlines.proofs.outline.ControllerWays.{row_fits}
-use Rattle.proof_outlines.proofs.outline.SwitchWays.{step_fits}
-use Rattle.proof_outlines.proofs.outline.InstanceWays.{instance_fits}
-use Rattle.nf_function.specs.Semantics.{Semantics}
-use Rattle.event_filter.specs.declared.mark.Mark.{Mark}
+use Rattle.proof_outlines.proofs.joined.Words.{row_fits, step_fits, instance_fits}
 use Rattle.event_filter.specs.declared.mark.Mark.TheVariants as mark
-use Rattle.packet_pool.specs.Pool.{FullCell}
-use Rattle.nf_msgs.specs.declared.answer.Answer.{Answer}
-use Rattle.nf_msgs.specs.declared.msg.Msg.{Msg}
-use Rattle.nf_msgs.specs.declared.note.Note.{Note}
 use Rattle.nf_msgs.specs.declared.note.Note.TheVariants as note
-use Rattle.switch_node.specs.Switch.{SwitchState, switch_step}
 use Rattle.ctrl_node.specs.Controller as controllers
-use Rattle.ctrl_node.specs.Controller.{ControllerState, controller_step}
-use Rattle.ctrl_node.specs.Operations.{Turn, turn_of}
-use Rattle.instance_worker.specs.declared.instance.Instance.{Instance}
-use Rattle.instance_worker.specs.Instance.{Step, and_then, instance_step, process_step}
-use Rattle.proof_machines.proofs.unit.Labels.{Each, each-append}
-use Rattle.net_world.specs.Log.{dones_in, done_in}
-use Rattle.net_world.proofs.PickedLists.{none_picked}
+use Rattle.instance_worker.specs.Instance.{Step, process_step}
 
 -- a note of instance k, of nothing but packets and records
 abbrev pub IsQuiet : ℕ → Note → Type 0

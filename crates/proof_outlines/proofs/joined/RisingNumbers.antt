@@ -1,37 +1,20 @@
 -- The numbers of commands that wait for the controller, copies' among them: which messages have one, what the switch sends of them, and what the
 -- abstract network sees of them.
-use Rattle.std.proofs.Common.{◌≡◌, ℕ, zero, suc, ◌≤◌, Bool, true, false, Option, Some, None, List}
-use Rattle.std.proofs.Common.{[], ◌∷◌, ◌++◌, refl, sym, ap, ◌∙◌, subst, append_assoc, arith}
-use Rattle.std.specs.Prelude.{if◌then◌else◌, ◌&&◌, ◌||◌, ◌==◌, not, nat_lt, option_map}
-use Rattle.std.specs.List.{filter_map}
-use Rattle.std.proofs.lemmas.Bool.Decides.{Decides-eqb}
-use Rattle.nf_function.specs.Semantics.{Semantics}
+use Rattle.proof_outlines.proofs.Words.{◌≡◌, ℕ, zero, suc, ◌≤◌, Bool, true, false, Option, Some, None, List, [], ◌∷◌, ◌++◌, refl, sym, ap, ◌∙◌, subst}
+use Rattle.proof_outlines.proofs.Words.{append_assoc, arith, if◌then◌else◌, ◌&&◌, ◌||◌, ◌==◌, not, nat_lt, option_map, filter_map, Decides-eqb, Semantics}
+use Rattle.proof_outlines.proofs.Words.{Target, spelled, Packet, Command, Order, Msg, instance_node, SwitchState, sends_to_instance, goes_to, stop_messages}
+use Rattle.proof_outlines.proofs.Words.{switch_step, has_room, is_there, target_of, at, MoveAsked, Rising, rising_less, Any, Old, New, WantShare, S_asked}
+use Rattle.proof_outlines.proofs.Words.{S_shared}
 use Rattle.event_filter.specs.declared.mark.Mark.TheVariants as mark
-use Rattle.switch_rules.specs.declared.target.Target.{Target}
 use Rattle.switch_rules.specs.declared.target.Target.TheVariants as target
-use Rattle.record_table.specs.Chunks.{spelled}
 use Rattle.nf_function.specs.declared.unit.Unit as units
-use Rattle.flow_filter.specs.declared.packet.Packet.{Packet}
-use Rattle.nf_msgs.specs.declared.command.Command.{Command}
-use Rattle.nf_msgs.specs.declared.command.Order.{Order}
 use Rattle.nf_msgs.specs.declared.command.Order.TheVariants as order
-use Rattle.nf_msgs.specs.declared.msg.Msg.{Msg}
 use Rattle.nf_msgs.specs.declared.msg.Msg.TheVariants as msg
-use Rattle.nf_msgs.specs.Nodes.{instance_node}
-use Rattle.switch_node.specs.Switch.{SwitchState, Step, still, sends_to_instance, goes_to, stop_messages, switch_step, has_room, is_there, target_of}
+use Rattle.switch_node.specs.Switch.{Step, still}
 use Rattle.actor_net.specs.Histories.{sent_for}
-use Rattle.actor_net.proofs.EnabledChoices.{at}
 use Rattle.proof_machines.proofs.net.Net as net
-use Rattle.proof_machines.proofs.net.Net.{MoveAsked}
-use Rattle.proof_machines.proofs.net.Waits.{Rising, rising_less}
-use Rattle.proof_machines.proofs.net.Shares.{Any, Old, New, WantShare, S_asked}
-use Rattle.proof_machines.proofs.net.Shares.{S_shared}
-use Rattle.proof_outlines.proofs.outline.Outline.{want_of}
-use Rattle.proof_outlines.proofs.whole.WholeOutline.{want_share_of, asked_of}
-use Rattle.proof_outlines.proofs.whole.AskedShare.{is_wanted}
+use Rattle.proof_outlines.proofs.joined.Words.{want_of, want_share_of, asked_of, is_wanted, Given, place, Label, shown, commands, asked_nums, Grows}
 use Rattle.proof_outlines.proofs.joined.SwitchLemmas.{want_num}
-use Rattle.proof_outlines.proofs.joined.Given.{Given, place}
-use Rattle.proof_outlines.proofs.joined.Joined.{Label, shown, commands, asked_nums, Grows}
 use Rattle.proof_outlines.proofs.joined.JoinedSteps.{label}
 
 -- the numbers of commands that wait for the controller

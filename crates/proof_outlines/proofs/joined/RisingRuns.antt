@@ -1,35 +1,17 @@
 -- The numbers of commands that wait, at the controller and in the input, rise from the next number on, along every run, copies' among them. So
 -- where a copy is asked for, its number and those after it are new.
-use Rattle.std.proofs.Common.{◌≡◌, ℕ, suc, ◌+◌, ◌<◌, true, false, None, List, [], ◌∷◌, ◌++◌, drop, refl, sym, ap, ◌∙◌, subst, append_assoc, append-nil, arith}
-use Rattle.std.specs.Prelude.{◌&&◌, ◌==◌, nat_lt}
-use Rattle.std.specs.List.{filter_map}
-use Rattle.std.proofs.lemmas.Bool.Decides.{nat_tests, Decides-eqb}
-use Rattle.std.proofs.Math.Bool.{and-false}
-use Rattle.nf_function.specs.Semantics.{Semantics}
-use Rattle.nf_msgs.specs.declared.command.Order.{Order}
+use Rattle.proof_outlines.proofs.Words.{◌≡◌, ℕ, suc, ◌+◌, ◌<◌, true, false, None, List, [], ◌∷◌, ◌++◌, drop, refl, sym, ap, ◌∙◌, subst, append_assoc}
+use Rattle.proof_outlines.proofs.Words.{append-nil, arith, ◌&&◌, ◌==◌, nat_lt, filter_map, nat_tests, Decides-eqb, and-false, Semantics, Order, Msg, Note}
+use Rattle.proof_outlines.proofs.Words.{Choice, Network, is_input, queue_at, world_next, at, put_on_link, less_first, Takes, taken_outcome, Taking, Rising}
+use Rattle.proof_outlines.proofs.Words.{rising_less, Node, node_step, node_ready, either_way}
 use Rattle.nf_msgs.specs.declared.command.Order.TheVariants as order
-use Rattle.nf_msgs.specs.declared.msg.Msg.{Msg}
 use Rattle.nf_msgs.specs.declared.msg.Msg.TheVariants as msg
-use Rattle.nf_msgs.specs.declared.note.Note.{Note}
-use Rattle.actor_net.specs.declared.choice.Choice.{Choice}
-use Rattle.actor_net.specs.Network.{Network, is_input, queue_at, world_next}
-use Rattle.actor_net.proofs.EnabledChoices.{at}
-use Rattle.actor_net.proofs.LinkLemmas.{put_on_link}
-use Rattle.actor_net.proofs.WaitingMessages.{less_first}
-use Rattle.actor_net.proofs.StepOutcome.{Takes, taken_outcome}
-use Rattle.actor_net.proofs.RunInduction.{Taking}
-use Rattle.proof_machines.proofs.net.Waits.{Rising, rising_less}
-use Rattle.net_world.specs.declared.node.Node.{Node}
-use Rattle.net_world.specs.Nodes.{node_step, node_ready}
-use Rattle.proof_outlines.proofs.whole.WholeOutline.{asked_of}
+use Rattle.proof_outlines.proofs.joined.Words.{asked_of, Given, place, Label, count, shown, commands, asked_nums, node_of, Grows, Scene, Joined}
 use Rattle.proof_outlines.proofs.joined.ControllerBegins.{OrderNext, CopiesNext}
 use Rattle.proof_outlines.proofs.joined.RisingNumbers.{numbers, IsUnasked, numbers-append, switch_numbers}
 use Rattle.proof_outlines.proofs.joined.RisingNumbers.{commands_behind, unasked_by, no_command, grows_low, rising_shown}
-use Rattle.proof_outlines.proofs.joined.Given.{Given, place}
-use Rattle.proof_outlines.proofs.joined.Joined.{Label, count, shown, commands, asked_nums, node_of, Grows, Scene, Joined}
 use Rattle.proof_outlines.proofs.joined.JoinedSteps.{NodeLeads, scene, label, input_after, step_leads, joined_after}
 use Rattle.proof_outlines.proofs.joined.JoinedSteps.{after_world, takes_at, ready_at, joined_next, next_is}
-use Rattle.proof_machines.proofs.Tests.{either_way}
 
 module _ {F R : Type 0} (f : Semantics R) (g : Given) where
   -- all numbers that wait

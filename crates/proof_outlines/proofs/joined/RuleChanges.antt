@@ -1,11 +1,6 @@
 -- A step of the switch notes a change of its rules only where it takes one.
-use Rattle.std.proofs.Common.{◌≡◌, ℕ, Bool, true, false, [], refl}
-use Rattle.flow_filter.specs.declared.filter.Filter.{Filter}
-use Rattle.nf_msgs.specs.declared.msg.Msg.{Msg}
+use Rattle.proof_outlines.proofs.Words.{◌≡◌, ℕ, Bool, true, false, [], refl, Filter, Msg, Target, SwitchState, switch_step, installs_in}
 use Rattle.nf_msgs.specs.declared.msg.Msg.TheVariants as msg
-use Rattle.switch_rules.specs.declared.target.Target.{Target}
-use Rattle.switch_node.specs.Switch.{SwitchState, switch_step}
-use Rattle.net_world.specs.Log.{installs_in}
 use Rattle.proof_outlines.proofs.outline.SwitchWays.{step_fits}
 
 pub data Changes (s : SwitchState) (m : Msg) : Type 0 where

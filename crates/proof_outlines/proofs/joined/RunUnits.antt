@@ -1,26 +1,18 @@
 -- What an instance notes as processed ran in the network with shares.
-use Rattle.std.proofs.Common.{◌≡◌, ℕ, suc, ◌≤◌, Some, List, [], refl}
-use Rattle.std.specs.List.{filter_map}
-use Rattle.nf_function.specs.Records.{Fits, Laws as FunctionLaws}
-use Rattle.nf_function.specs.Semantics.{Semantics}
-use Rattle.nf_msgs.specs.declared.msg.Msg.{Msg}
+use Rattle.proof_outlines.proofs.Words.{◌≡◌, ℕ, suc, ◌≤◌, Some, List, [], refl, filter_map, Fits, Semantics, Msg, instance_step, Records, NumberedInstance}
+use Rattle.proof_outlines.proofs.Words.{inst_step, everything, Any, Old, New, Shared_on, S_get, S_sync, WholeWorld, member_step}
+use Rattle.nf_function.specs.Records.{Laws as FunctionLaws}
 use Rattle.instance_worker.specs.declared.instance.Instance.{Instance as InstanceState}
-use Rattle.instance_worker.specs.Instance.{instance_step}
-use Rattle.record_table.specs.Table.{Records}
 use Rattle.proof_machines.proofs.unit.Real as real
 use Rattle.proof_machines.proofs.net.Net as net
-use Rattle.proof_machines.proofs.net.Net.{NumberedInstance, inst_step, everything}
-use Rattle.proof_machines.proofs.net.Shares.{Any, Old, New, Shared_on, S_get, S_sync, WholeWorld, member_step}
-use Rattle.proof_outlines.proofs.outline.Outline.{number, rule_of, entries, outline_piece, ran_in, outline_instance}
-use Rattle.proof_outlines.proofs.outline.InstanceOutline.{carry_follows, pass_follows, fence_follows, enable_follows}
-use Rattle.proof_outlines.proofs.outline.StateOutline.{stream_follows, delete_follows, put_follows, restore_follows}
+use Rattle.proof_outlines.proofs.joined.Words.{number, rule_of, entries, outline_piece, ran_in, outline_instance, carry_follows, pass_follows, fence_follows}
+use Rattle.proof_outlines.proofs.joined.Words.{enable_follows, stream_follows, delete_follows, put_follows, restore_follows, Given, place, S, A, shown, Label}
+use Rattle.proof_outlines.proofs.joined.Words.{IsInstanceAt}
 use Rattle.proof_outlines.proofs.whole.MemberOutline.{shared_follows, get_follows, sync_follows}
 use Rattle.proof_outlines.proofs.whole.StandbyKept.{get_all_keeps, standby_keeps, put_all_keeps}
 use Rattle.proof_outlines.proofs.joined.InstanceKeeps.{chunks_good}
 use Rattle.proof_outlines.proofs.joined.InstanceRows.{sound_part}
 use Rattle.proof_outlines.proofs.joined.InstanceMessages.{Rows, by_message}
-use Rattle.proof_outlines.proofs.joined.Given.{Given, place}
-use Rattle.proof_outlines.proofs.joined.Joined.{S, A, shown, Label, IsInstanceAt}
 
 module _ {R : Type 0} (f : Semantics R) (g : Given) where
   -- the packets that run at an instance with these records standing by, where it takes a message

@@ -1,34 +1,17 @@
 -- Every run of a network leads to a world of a run; what is then read off the log of a unit.
-use Rattle.std.proofs.Common.{◌≡◌, ℕ, ◌+◌, ◌≤◌, true, false, List, [], ◌∷◌, ◌++◌, map, length, refl, sym, ap, ◌∙◌, arith}
-use Rattle.std.specs.Prelude.{if◌then◌else◌, ◌==◌}
-use Rattle.std.specs.declared.alloc.Global.{Global}
+use Rattle.proof_outlines.proofs.Words.{◌≡◌, ℕ, ◌+◌, ◌≤◌, true, false, List, [], ◌∷◌, ◌++◌, map, length, refl, sym, ap, ◌∙◌, arith, if◌then◌else◌, ◌==◌, Global}
+use Rattle.proof_outlines.proofs.Words.{Semantics, Msg, Note, Choice, Network, IsWorld, IsRun, run, world_next, opening_world, Taking, run_induction, done_u}
+use Rattle.proof_outlines.proofs.Words.{Config, Node, IsInput, Done, dones_in, done_where, is_loose, node_step, node_ready, first_nodes, started_with}
 use Rattle.nf_function.specs.declared.unit.Unit as units
 use Rattle.nf_function.specs.Records.{Laws as FunctionLaws}
-use Rattle.nf_function.specs.Semantics.{Semantics}
-use Rattle.nf_msgs.specs.declared.msg.Msg.{Msg}
-use Rattle.nf_msgs.specs.declared.note.Note.{Note}
-use Rattle.actor_net.specs.declared.choice.Choice.{Choice}
-use Rattle.actor_net.specs.Network.{Network, IsWorld, IsRun, run, world_next}
-use Rattle.actor_net.proofs.OpeningWorlds.{opening_world}
-use Rattle.actor_net.proofs.RunInduction.{Taking, run_induction}
 use Rattle.proof_machines.proofs.unit.Stages as stages
-use Rattle.proof_machines.proofs.net.Rest.{done_u}
 use Rattle.proof_machines.proofs.net.Readings.{In_order}
 use Rattle.proof_machines.proofs.whole.Readings.{order_all}
-use Rattle.net_world.specs.declared.config.Config.{Config}
-use Rattle.net_world.specs.declared.node.Node.{Node}
-use Rattle.net_world.specs.Input.{IsInput}
-use Rattle.net_world.specs.Log.{Done, dones_in, done_where}
-use Rattle.net_world.specs.Places.{is_loose}
-use Rattle.net_world.specs.Nodes.{node_step, node_ready}
-use Rattle.net_world.specs.Start.{first_nodes, started_with}
 use Rattle.net_world.specs.Fold.{times, IsFront, is_of, arrived_of, processed_of}
-use Rattle.proof_outlines.proofs.outline.Outline.{is_sys}
+use Rattle.proof_outlines.proofs.joined.Words.{is_sys, Given, S, A, by_node, came_by, Joined}
 use Rattle.net_world.proofs.StartingLemmas.{few_nodes}
 use Rattle.net_world.proofs.NumberCounts.{times-append}
 use Rattle.proof_outlines.proofs.joined.StartJoined.{given, all_fit, count_at_start, start_joined}
-use Rattle.proof_outlines.proofs.joined.Given.{Given}
-use Rattle.proof_outlines.proofs.joined.Joined.{S, A, by_node, came_by, Joined}
 use Rattle.proof_outlines.proofs.joined.BesideRuns.{HasBeside, next_joined, beside_next, beside_at_start}
 
 module _ (F : Type 0) {R : Type 0} (f : Semantics R) (laws : FunctionLaws f) (alloc : Global) (c : Config) (items : List Msg)

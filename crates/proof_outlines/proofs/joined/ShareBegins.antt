@@ -1,15 +1,10 @@
 -- A share that may begin: its members have different places, the names of its order are known, and it is one that the abstract network begins.
-use Rattle.std.proofs.Common.{◌≡◌, ◌≢◌, ℕ, suc, true, false, Option, Some, None, List, [], ◌∷◌, length, get_or, refl, sym, ap, ◌∙◌, subst, arith, true≢false}
-use Rattle.std.specs.Prelude.{Bool, if◌then◌else◌, ◌==◌, not, nat_lt, find, is_some}
-use Rattle.std.specs.List.{filter_map, list_any, AllByRecursion, IsDistinct}
-use Rattle.std.specs.Str.{bytes_eq}
-use Rattle.std.proofs.lemmas.Bool.Decides.{nat_tests, Decides-ltb}
+use Rattle.proof_outlines.proofs.Words.{◌≡◌, ◌≢◌, ℕ, suc, true, false, Option, Some, None, List, [], ◌∷◌, length, get_or, refl, sym, ap, ◌∙◌, subst, arith}
+use Rattle.proof_outlines.proofs.Words.{true≢false, Bool, if◌then◌else◌, ◌==◌, not, nat_lt, find, is_some, filter_map, list_any, AllByRecursion, bytes_eq}
+use Rattle.proof_outlines.proofs.Words.{nat_tests, Decides-ltb, or_parts, false_from_ne_true, instance_node, has_twice, place_of, Each}
+use Rattle.std.specs.List.{IsDistinct}
 use Rattle.std.proofs.lemmas.List.Quantifiers.{position-Some}
 use Rattle.std.proofs.lemmas.Slice.Eq.{bytes_eq-Decides}
-use Rattle.std.proofs.lemmas.Bool.{or_parts, false_from_ne_true}
-use Rattle.nf_msgs.specs.Nodes.{instance_node}
-use Rattle.flow_filter.specs.Name.{has_twice, place_of}
-use Rattle.proof_machines.proofs.unit.Labels.{Each}
 use Rattle.proof_outlines.proofs.whole.WholeOutline.{with_member, members_of}
 
 -- a name has one place, and two names have two

@@ -1,31 +1,15 @@
 -- Each row of a share's table leaves a share that is open in a run such a one, and so does what is then served; what both send is such as comes
 -- in a run.
-use Rattle.std.proofs.Common.{◌≡◌, ℕ, ◌<◌, Bool, true, false, None, List, [], ◌∷◌, map, length, refl, sym, subst, arith}
-use Rattle.std.specs.Prelude.{if◌then◌else◌, ◌==◌, ◌-◌, nat_lt, unwrap_or}
+use Rattle.proof_outlines.proofs.Words.{◌≡◌, ℕ, ◌<◌, Bool, true, false, None, List, [], ◌∷◌, map, length, refl, sym, subst, arith, if◌then◌else◌, ◌==◌, ◌-◌}
+use Rattle.proof_outlines.proofs.Words.{nat_lt, unwrap_or, keys_of, Decides-eqb, Chunk, Semantics, same_unit, FullCell, Msg, instance_node, SharePhase}
+use Rattle.proof_outlines.proofs.Words.{SharePlan, ShareState, ShareRow, Served, home, others, syncs, setting, syncing, on_fenced, on_chunks, on_shared}
+use Rattle.proof_outlines.proofs.Words.{on_synced, member_of, service_if_idle, EachSent, Each, has, split, by_if}
 use Rattle.std.specs.List.{IsDistinct}
-use Rattle.std.specs.Map.{keys_of}
-use Rattle.std.proofs.lemmas.Bool.Decides.{Decides-eqb}
-use Rattle.nf_function.specs.declared.chunk.Chunk.{Chunk}
 use Rattle.nf_function.specs.declared.unit.Unit as units
-use Rattle.nf_function.specs.Semantics.{Semantics}
-use Rattle.record_table.specs.Table.{same_unit}
-use Rattle.packet_pool.specs.Pool.{FullCell}
-use Rattle.nf_msgs.specs.declared.msg.Msg.{Msg}
 use Rattle.nf_msgs.specs.declared.msg.Msg.TheVariants as msg
-use Rattle.nf_msgs.specs.Nodes.{instance_node}
-use Rattle.copy_share.specs.declared.share_phase.SharePhase.{SharePhase}
 use Rattle.copy_share.specs.declared.share_phase.SharePhase.TheVariants as phase
-use Rattle.copy_share.specs.Share.{SharePlan, ShareState, ShareRow, Served, next_phase, home, others, syncs, setting}
-use Rattle.copy_share.specs.Share.{syncing, on_fenced, on_chunks, on_shared, on_synced, row, member_of, service_if_idle}
-use Rattle.actor_net.proofs.WeightLaws.{EachSent}
-use Rattle.proof_machines.proofs.unit.Labels.{Each}
-use Rattle.proof_machines.proofs.share.Share.{has}
-use Rattle.proof_outlines.proofs.outline.FiltersApart.{is_whole}
-use Rattle.proof_outlines.proofs.outline.Outline.{entries}
-use Rattle.proof_outlines.proofs.whole.WholeOutline.{is_sharing}
-use Rattle.proof_outlines.proofs.joined.Given.{Given}
-use Rattle.proof_outlines.proofs.joined.Joined.{Genuine, IsShare, IsOutAt, IsGoodChunk, AreGoodChunks, Label, count}
-use Rattle.proof_machines.proofs.Tests.{split, by_if}
+use Rattle.copy_share.specs.Share.{next_phase, row}
+use Rattle.proof_outlines.proofs.joined.Words.{is_whole, entries, is_sharing, Given, Genuine, IsShare, IsOutAt, IsGoodChunk, AreGoodChunks, Label, count}
 
 -- what holds of each member holds of one
 each_has : (P : ℕ → Type 0) (ms : List ℕ) (k : ℕ) → Each P ms → has ms k ≡ true → P k

@@ -1,41 +1,23 @@
 -- The controller's step on a message that a share looks at: a fence's answer, a record of one unit, an answer to records, and a packet whose
 -- target is the controller.
-use Rattle.std.proofs.Common.{◌≡◌, ℕ, true, false, Option, Some, None, [], refl, sym, ap, ◌∙◌, subst, arith}
-use Rattle.std.specs.Prelude.{if◌then◌else◌, ◌==◌, option_map}
+use Rattle.proof_outlines.proofs.Words.{◌≡◌, ℕ, true, false, Option, Some, None, [], refl, sym, ap, ◌∙◌, subst, arith, if◌then◌else◌, ◌==◌, option_map}
+use Rattle.proof_outlines.proofs.Words.{Decides-eqb, same_Some, Chunk, Semantics, stored_of, FullCell, Msg, switch_node, MoveState, ShareState, Operation, Move}
+use Rattle.proof_outlines.proofs.Words.{Copy, Share, ControllerState, still, hand_step, queue_step, on_diverted, Any, New, S_shared, S_synced, Diverted_on}
+use Rattle.proof_outlines.proofs.Words.{OpenShare, find_share, share_taking, Told, Is_fenced, Has_chunk, Is_synced, Has_packet, by_share, taking_found}
+use Rattle.proof_outlines.proofs.Words.{either_way}
 use Rattle.std.specs.FinMap as finite
-use Rattle.std.proofs.lemmas.Bool.Decides.{Decides-eqb}
-use Rattle.std.proofs.lemmas.Option.{same_Some}
-use Rattle.nf_function.specs.declared.chunk.Chunk.{Chunk}
 use Rattle.nf_function.specs.declared.unit.Unit as units
-use Rattle.nf_function.specs.Semantics.{Semantics}
-use Rattle.event_store.specs.Store.{stored_of}
-use Rattle.packet_pool.specs.Pool.{FullCell}
-use Rattle.nf_msgs.specs.declared.msg.Msg.{Msg}
 use Rattle.nf_msgs.specs.declared.msg.Msg.TheVariants as msg
-use Rattle.nf_msgs.specs.Nodes.{switch_node}
-use Rattle.move_op.specs.Move.{MoveState}
-use Rattle.copy_share.specs.Share.{ShareState}
-use Rattle.ctrl_node.specs.declared.operation.Operation.{Operation}
-use Rattle.ctrl_node.specs.declared.operation.Operation.TheVariants.{Move, Copy, Share}
-use Rattle.ctrl_node.specs.Controller.{ControllerState, still, hand_step, queue_step, on_diverted}
 use Rattle.proof_machines.proofs.unit.Real as real
-use Rattle.proof_machines.proofs.net.Shares.{Any, New, S_shared, S_synced, Diverted_on, OpenShare, find_share}
-use Rattle.proof_machines.proofs.net.Shares.{share_taking, Told, Is_fenced, Has_chunk, Is_synced, Has_packet, by_share}
-use Rattle.proof_machines.proofs.net.ShareRows.{taking_found}
-use Rattle.proof_outlines.proofs.outline.Outline.{number}
-use Rattle.proof_outlines.proofs.outline.MoveOutline.{fenced_row}
-use Rattle.proof_outlines.proofs.outline.CopyTurns.{is_copied}
-use Rattle.proof_outlines.proofs.whole.OpenShares.{joins, real_share, StepFollows}
+use Rattle.proof_outlines.proofs.joined.Words.{number, fenced_row, is_copied, joins, real_share, StepFollows, Given, place, Scene, AreShown, IsTaken, S, A}
+use Rattle.proof_outlines.proofs.joined.Words.{shown}
 use Rattle.proof_outlines.proofs.whole.ControlAll.{unlooked, fenced_follows, shared_follows, synced_follows}
 use Rattle.proof_outlines.proofs.whole.OtherTurns.{move_still}
 use Rattle.proof_outlines.proofs.whole.DivertedAll.{AreApart, taken_is, none_is, diverted_follows}
-use Rattle.proof_outlines.proofs.joined.Given.{Given, place}
-use Rattle.proof_outlines.proofs.joined.Joined.{Scene, AreShown, IsTaken, S, A, shown}
 use Rattle.proof_outlines.proofs.joined.ControllerScenes.{RowLeads, Idles, step_on}
 use Rattle.proof_outlines.proofs.joined.ControllerChanges.{NotMove}
 use Rattle.proof_outlines.proofs.joined.ControllerTurns.{no_share_open, none_leads, copy_leads, still_leads, well_leads, share_below, share_leads, told_leads}
 use Rattle.proof_outlines.proofs.joined.ShareTurns.{DidWell, share_queued_well}
-use Rattle.proof_machines.proofs.Tests.{either_way}
 
 module _ {F R : Type 0} (f : Semantics R) (g : Given) (n : ℕ) (x : Scene F f g) (p : ℕ) (are : AreShown f g n x) where
   abbrev c : ControllerState

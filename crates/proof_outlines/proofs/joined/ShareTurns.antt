@@ -1,27 +1,16 @@
 -- What the controller's step leaves of an open share of a run, on a message of its number and on a packet that is put at the end of its queue: a share of
 -- a run, and all else as it was.
-use Rattle.std.proofs.Common.{◌≡◌, ℕ, cond, Option, Some, None, List, [], ◌∷◌, ◌++◌, refl, sym, ap, ◌∙◌, subst}
+use Rattle.proof_outlines.proofs.Words.{◌≡◌, ℕ, cond, Option, Some, None, List, [], ◌∷◌, ◌++◌, refl, sym, ap, ◌∙◌, subst, self, Semantics, FullCell, stored_of}
+use Rattle.proof_outlines.proofs.Words.{Answer, Msg, switch_node, ShareState, ShareRow, service_if_idle, Share, ControllerState, Step, hand_step, queue_step}
+use Rattle.proof_outlines.proofs.Words.{EachSent, Each, each-append, sent-append}
 use Rattle.std.specs.FinMap as finite
-use Rattle.proof_machines.proofs.share.Lists.{self}
-use Rattle.nf_function.specs.Semantics.{Semantics}
-use Rattle.packet_pool.specs.Pool.{FullCell}
-use Rattle.event_store.specs.Store.{stored_of}
-use Rattle.nf_msgs.specs.declared.answer.Answer.{Answer}
-use Rattle.nf_msgs.specs.declared.msg.Msg.{Msg}
 use Rattle.nf_msgs.specs.declared.msg.Msg.TheVariants as msg
-use Rattle.nf_msgs.specs.Nodes.{switch_node}
-use Rattle.copy_share.specs.Share.{ShareState, ShareRow, next_phase, row, service_if_idle}
-use Rattle.ctrl_node.specs.declared.operation.Operation.TheVariants.{Share}
-use Rattle.ctrl_node.specs.Controller.{ControllerState, Step, hand_step, queue_step}
-use Rattle.actor_net.proofs.WeightLaws.{EachSent}
-use Rattle.proof_machines.proofs.unit.Labels.{Each, each-append}
+use Rattle.copy_share.specs.Share.{next_phase, row}
 use Rattle.proof_outlines.proofs.whole.ShareLeft.{OpenAt, answered, noted, next_share, still_waits, ShareLeaves, handed_leaves, queued_leaves}
-use Rattle.proof_outlines.proofs.joined.Given.{Given}
-use Rattle.proof_outlines.proofs.joined.Joined.{Genuine, IsShare, Label}
+use Rattle.proof_outlines.proofs.joined.Words.{Given, Genuine, IsShare, Label}
 use Rattle.proof_outlines.proofs.joined.ControllerScenes.{AreQuiet}
 use Rattle.proof_outlines.proofs.joined.ControllerChanges.{AreAlike, IsKind, IsOperation}
 use Rattle.proof_outlines.proofs.joined.ShareRows.{RowIs, ServesWell, serves_well, turns_well}
-use Rattle.net_world.proofs.SentMessages.{sent-append}
 
 noted_quiet : (n : ℕ) (a : Option Answer) → AreQuiet (noted n a)
 noted_quiet n None = record { arrived_is = refl; done_is = refl; installed_is = refl }

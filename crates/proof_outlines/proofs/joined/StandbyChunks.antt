@@ -1,22 +1,13 @@
 -- The chunks of a copy that an instance is to keep: their records are folds of fronts of what was done, and no share takes their units. So
 -- what stands by after them may be kept.
-use Rattle.std.proofs.Common.{◌≡◌, ℕ, None, List, [], ◌++◌, refl, sym, ap, ◌∙◌, subst}
+use Rattle.proof_outlines.proofs.Words.{◌≡◌, ℕ, None, List, [], ◌++◌, refl, sym, ap, ◌∙◌, subst, Chunk, Semantics, Records, newest_of, record_at, TakesSome}
+use Rattle.proof_outlines.proofs.Words.{WholeWorld, ran_of, Came, EveryAll, MayKeep}
 use Rattle.std.specs.FinMap as finite
-use Rattle.nf_function.specs.declared.chunk.Chunk.{Chunk}
 use Rattle.nf_function.specs.declared.unit.Unit as units
-use Rattle.nf_function.specs.Semantics.{Semantics}
-use Rattle.record_table.specs.Table.{Records, newest_of}
 use Rattle.record_table.specs.Chunks.{records_of}
-use Rattle.proof_machines.proofs.unit.Real.{record_at}
-use Rattle.proof_machines.proofs.net.GlobalAll.{TakesSome}
-use Rattle.proof_machines.proofs.net.Shares.{WholeWorld, ran_of}
-use Rattle.proof_machines.proofs.whole.WhereAll.{Came}
 use Rattle.proof_machines.proofs.whole.Fronts.{FrontOf, front_none, front_more, ran_more}
-use Rattle.proof_machines.proofs.whole.EveryAll.{EveryAll, MayKeep}
-use Rattle.proof_outlines.proofs.outline.Outline.{entries, is_sys}
+use Rattle.proof_outlines.proofs.joined.Words.{entries, is_sys, Given, S, A}
 use Rattle.proof_outlines.proofs.whole.MemberTables.{kept_has, kept_same}
-use Rattle.proof_outlines.proofs.joined.Given.{Given}
-use Rattle.proof_outlines.proofs.joined.Joined.{S, A}
 
 module _ {R : Type 0} (f : Semantics R) (g : Given) where
   -- their records are such folds

@@ -1,43 +1,22 @@
 -- The records of a copy's chunks on their way to the destination are folds of fronts of what was done: they were, where they came to the
 -- controller, and so they stay.
-use Rattle.std.proofs.Common.{◌≡◌, ℕ, zero, suc, ◌+◌, ◌<◌, true, false, Option, Some, None, List, [], ◌∷◌, ◌++◌, length, refl, sym, ap, ◌∙◌, subst, arith}
-use Rattle.std.specs.Prelude.{◌&&◌, ◌==◌}
+use Rattle.proof_outlines.proofs.Words.{◌≡◌, ℕ, zero, suc, ◌+◌, ◌<◌, true, false, Option, Some, None, List, [], ◌∷◌, ◌++◌, length, refl, sym, ap, ◌∙◌, subst}
+use Rattle.proof_outlines.proofs.Words.{arith, ◌&&◌, ◌==◌, nat_tests, each_map, Filter, Chunk, Semantics, Msg, Note, Operation, Move, Copy, Share}
+use Rattle.proof_outlines.proofs.Words.{controller_step, Choice, Network, Stepped, is_input, queue_at, world_next, at, Takes, Taking, Each, OnLinks, EachSent}
+use Rattle.proof_outlines.proofs.Words.{on_links_after, New, ShareMsg, S_chunks, EachNew, ran_of, Node, node_step, node_ready, dones_in, done-append}
+use Rattle.proof_outlines.proofs.Words.{either_way}
 use Rattle.std.specs.FinMap as finite
-use Rattle.std.proofs.lemmas.Bool.Decides.{nat_tests}
-use Rattle.proof_machines.proofs.unit.Labels.{each_map}
-use Rattle.flow_filter.specs.declared.filter.Filter.{Filter}
-use Rattle.nf_function.specs.declared.chunk.Chunk.{Chunk}
 use Rattle.nf_function.specs.declared.unit.Unit as units
-use Rattle.nf_function.specs.Semantics.{Semantics}
-use Rattle.nf_msgs.specs.declared.msg.Msg.{Msg}
 use Rattle.nf_msgs.specs.declared.msg.Msg.TheVariants as msg
-use Rattle.nf_msgs.specs.declared.note.Note.{Note}
 use Rattle.copy_share.specs.Copy as copy
-use Rattle.ctrl_node.specs.declared.operation.Operation.{Operation}
-use Rattle.ctrl_node.specs.declared.operation.Operation.TheVariants.{Move, Copy, Share}
-use Rattle.ctrl_node.specs.Controller.{controller_step}
-use Rattle.actor_net.specs.declared.choice.Choice.{Choice}
-use Rattle.actor_net.specs.Network.{Network, Stepped, is_input, queue_at, world_next}
-use Rattle.actor_net.proofs.EnabledChoices.{at}
-use Rattle.actor_net.proofs.StepOutcome.{Takes}
-use Rattle.actor_net.proofs.RunInduction.{Taking}
-use Rattle.actor_net.proofs.WeightLaws.{Each, OnLinks, EachSent, on_links_after}
-use Rattle.proof_machines.proofs.net.Shares.{New, ShareMsg, S_chunks, EachNew, ran_of}
 use Rattle.proof_machines.proofs.whole.Fronts.{MsgFront}
-use Rattle.net_world.specs.declared.node.Node.{Node}
-use Rattle.net_world.specs.Nodes.{node_step, node_ready}
-use Rattle.net_world.specs.Log.{dones_in}
-use Rattle.net_world.proofs.LogLemmas.{done-append}
-use Rattle.proof_outlines.proofs.outline.Outline.{entries, is_sys}
+use Rattle.proof_outlines.proofs.joined.Words.{entries, is_sys, Given, S, A, by_node, count, shown, node_of, Label, Scene, AreShown, IsTaken, Leads, Joined}
 use Rattle.proof_outlines.proofs.joined.LogLemmas.{by_node-append}
 use Rattle.proof_outlines.proofs.joined.CopyAnswers.{is_uncopied}
 use Rattle.proof_outlines.proofs.joined.CopySends.{TurnSo, controller_sent}
 use Rattle.proof_outlines.proofs.joined.StandbyChunks.{AreFronted, AreUnshared, MayStandBy, none_fronted, fronted_later}
-use Rattle.proof_outlines.proofs.joined.Given.{Given}
-use Rattle.proof_outlines.proofs.joined.Joined.{S, A, by_node, count, shown, node_of, Label, Scene, AreShown, IsTaken, Leads, Joined}
 use Rattle.proof_outlines.proofs.joined.JoinedSteps.{NodeLeads, scene, is_taken, step_leads, joined_after}
 use Rattle.proof_outlines.proofs.joined.JoinedSteps.{after_world, takes_at, ready_at, joined_next, next_is}
-use Rattle.proof_machines.proofs.Tests.{either_way}
 
 -- the chunks that a message brings to stand by
 abbrev pub kept_of : Msg → List Chunk

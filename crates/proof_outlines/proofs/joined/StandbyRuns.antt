@@ -1,35 +1,18 @@
 -- What a run keeps beside its worlds for copies: chunks that are to stand by are of fronts and of the units of their order's filter, and no two
 -- open operations have filters that meet. So where the copy is open, its chunks may stand by.
-use Rattle.std.proofs.Common.{◌≡◌, ℕ, zero, suc, ◌+◌, ◌<◌, true, false, Option, Some, None, List, [], length, refl, sym, ap, ◌∙◌, subst, arith}
-use Rattle.std.specs.Prelude.{◌&&◌, ◌==◌}
+use Rattle.proof_outlines.proofs.Words.{◌≡◌, ℕ, zero, suc, ◌+◌, ◌<◌, true, false, Option, Some, None, List, [], length, refl, sym, ap, ◌∙◌, subst, arith, ◌&&◌}
+use Rattle.proof_outlines.proofs.Words.{◌==◌, nat_tests, Filter, Chunk, Semantics, Msg, Note, CopyState, Copy, controller_step, Choice, Network, is_input}
+use Rattle.proof_outlines.proofs.Words.{queue_at, world_next, at, Takes, Taking, Each, OnLinks, on_links_after, Node, node_step, node_ready}
 use Rattle.std.specs.FinMap as finite
-use Rattle.std.proofs.lemmas.Bool.Decides.{nat_tests}
-use Rattle.flow_filter.specs.declared.filter.Filter.{Filter}
-use Rattle.nf_function.specs.declared.chunk.Chunk.{Chunk}
 use Rattle.nf_function.specs.Records.{Laws as FunctionLaws}
-use Rattle.nf_function.specs.Semantics.{Semantics}
-use Rattle.nf_msgs.specs.declared.msg.Msg.{Msg}
 use Rattle.nf_msgs.specs.declared.msg.Msg.TheVariants as msg
-use Rattle.nf_msgs.specs.declared.note.Note.{Note}
-use Rattle.copy_share.specs.Copy.{CopyState}
-use Rattle.ctrl_node.specs.declared.operation.Operation.TheVariants.{Copy}
-use Rattle.ctrl_node.specs.Controller.{controller_step}
-use Rattle.actor_net.specs.declared.choice.Choice.{Choice}
-use Rattle.actor_net.specs.Network.{Network, is_input, queue_at, world_next}
-use Rattle.actor_net.proofs.EnabledChoices.{at}
-use Rattle.actor_net.proofs.StepOutcome.{Takes}
-use Rattle.actor_net.proofs.RunInduction.{Taking}
-use Rattle.actor_net.proofs.WeightLaws.{Each, OnLinks, on_links_after}
-use Rattle.net_world.specs.declared.node.Node.{Node}
-use Rattle.net_world.specs.Nodes.{node_step, node_ready}
 use Rattle.proof_outlines.proofs.joined.StandbyChunks.{AreUnshared, MayStandBy}
 use Rattle.proof_outlines.proofs.joined.StandbyFronts.{AreKeptFronts, no_kept_fronts, kept_fronts_next, may_stand_by}
 use Rattle.proof_outlines.proofs.joined.OperationsApart.{AllApart, controller_apart}
 use Rattle.proof_outlines.proofs.joined.CopiesUnshared.{copy_unshared}
 use Rattle.proof_outlines.proofs.joined.CopyTokens.{same_controller}
 use Rattle.proof_outlines.proofs.joined.CopyFilters.{AreWithinIf, IsFiltered, of_input, node_filtered}
-use Rattle.proof_outlines.proofs.joined.Given.{Given}
-use Rattle.proof_outlines.proofs.joined.Joined.{count, Nodes, node_of, Scene, AreShown, Leads, Joined}
+use Rattle.proof_outlines.proofs.joined.Words.{Given, count, Nodes, node_of, Scene, AreShown, Leads, Joined}
 use Rattle.proof_outlines.proofs.joined.JoinedSteps.{NodeLeads, scene, is_taken, step_leads, joined_after}
 use Rattle.proof_outlines.proofs.joined.JoinedSteps.{after_nodes, takes_at, ready_at, joined_next, next_is}
 

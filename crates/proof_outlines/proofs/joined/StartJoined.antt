@@ -1,66 +1,30 @@
 -- The world at the start of a run is a world of a run.
-use Rattle.std.proofs.Common.{◌≡◌, ℕ, zero, suc, ◌+◌, ◌<◌, ◌≤◌, Bool, true, false, Option, Some, None}
-use Rattle.std.proofs.Common.{List, [], ◌∷◌, map, length, get_or, lit<, refl, sym, ap, ◌∙◌, subst, arith}
-use Rattle.std.specs.Prelude.{if◌then◌else◌, ◌&&◌, ◌==◌, nat_lt, option_map, unwrap_or, find}
-use Rattle.std.specs.declared.alloc.Global.{Global}
+use Rattle.proof_outlines.proofs.Words.{◌≡◌, ℕ, zero, suc, ◌+◌, ◌<◌, ◌≤◌, Bool, true, false, Option, Some, None, List, [], ◌∷◌, map, length, get_or, lit<, refl}
+use Rattle.proof_outlines.proofs.Words.{sym, ap, ◌∙◌, subst, arith, if◌then◌else◌, ◌&&◌, ◌==◌, nat_lt, option_map, unwrap_or, find, Global, nat_cmp}
+use Rattle.proof_outlines.proofs.Words.{option_map_or, nat_tests, Decides-ltb, All-cons, All-nil, get_or_append_left, RestRule, stored_of, stored-empty, Ruling}
+use Rattle.proof_outlines.proofs.Words.{WholeWorld, moves_of, Rising, Filter, Flow, Packet, IsFilter, matches, flow_of, Kind, Fits, takes, unit_cmp, unit_of}
+use Rattle.proof_outlines.proofs.Words.{Semantics, AreFilters, any, first_match, opened, FullCell, Command, Order, Msg, instance_node, Each, each_both, Config}
+use Rattle.proof_outlines.proofs.Words.{is_item, packets, commands, no_packet, packet_numbered, order_numbered, IsRising, IsSteered, IsWhole, IsProper, IsInput}
+use Rattle.proof_outlines.proofs.Words.{Node, Note, queue_at, at, opening_waiting, opening_on_links, first_owner, first_switch, first_instance, first_instances}
+use Rattle.proof_outlines.proofs.Words.{first_nodes, started_with, either_way, by_if}
 use Rattle.std.specs.FinMap as finite
-use Rattle.std.specs.Ordering.{nat_cmp}
-use Rattle.std.specs.Option.{option_map_or}
-use Rattle.std.proofs.lemmas.Bool.Decides.{nat_tests, Decides-ltb}
-use Rattle.std.proofs.lemmas.List.Elements.{All-cons, All-nil}
-use Rattle.std.proofs.lemmas.List.{get_or_append_left}
 use Rattle.std.proofs.Math.Seq.{get_or-append_seam}
-use Rattle.proof_machines.proofs.net.Rest.{RestRule}
 use Rattle.event_filter.proofs.RulePlaces.{one_each-none}
-use Rattle.event_store.specs.Store.{stored_of}
-use Rattle.event_store.proofs.StoreLookUps.{stored-empty}
 use Rattle.ctrl_node.specs.Controller.{controller_at_start as opened_controller}
 use Rattle.instance_worker.specs.declared.instance.Instance.{Instance as InstanceState}
-use Rattle.proof_machines.proofs.net.Net.{Ruling}
-use Rattle.proof_machines.proofs.net.Shares.{WholeWorld, moves_of}
 use Rattle.proof_machines.proofs.whole.Starts.{starts}
 use Rattle.proof_machines.proofs.net.Units.{Where, Where.At_rest}
-use Rattle.proof_machines.proofs.net.Waits.{Rising}
-use Rattle.proof_outlines.proofs.outline.Outline.{is_sys, outline_instance}
-use Rattle.flow_filter.specs.declared.filter.Filter.{Filter}
-use Rattle.flow_filter.specs.declared.flow.Flow.{Flow}
-use Rattle.flow_filter.specs.declared.packet.Packet.{Packet}
-use Rattle.flow_filter.specs.Filter.{IsFilter, matches}
-use Rattle.flow_filter.specs.Flow.{flow_of}
+use Rattle.proof_outlines.proofs.joined.Words.{is_sys, outline_instance, is_whole, flow_fits, unit_fits, takes_whole, takes_same, whole_takes, HasRecords}
+use Rattle.proof_outlines.proofs.joined.Words.{all_each, SeesAny, Given, place, GenuinePacket, is_built, IsCommand, Label, S, A, IsSwitch, IsController, Nodes}
+use Rattle.proof_outlines.proofs.joined.Words.{node_of, Scene, Joined, IsInstanceAt, AreShown}
 use Rattle.nf_function.specs.declared.unit.Unit as units
-use Rattle.nf_function.specs.declared.kind.Kind.{Kind}
-use Rattle.nf_function.specs.Records.{Fits}
-use Rattle.nf_function.specs.Units.{takes, unit_cmp, unit_of}
-use Rattle.nf_function.specs.Semantics.{Semantics}
 use Rattle.switch_rules.specs.declared.target.Target.TheVariants as target
-use Rattle.switch_rules.specs.Rules.{AreFilters, any, first_match, opened}
-use Rattle.packet_pool.specs.Pool.{FullCell}
-use Rattle.nf_msgs.specs.declared.command.Command.{Command}
-use Rattle.nf_msgs.specs.declared.command.Order.{Order}
 use Rattle.nf_msgs.specs.declared.command.Order.TheVariants as order
-use Rattle.nf_msgs.specs.declared.msg.Msg.{Msg}
 use Rattle.nf_msgs.specs.declared.msg.Msg.TheVariants as msg
-use Rattle.nf_msgs.specs.Nodes.{instance_node}
-use Rattle.proof_machines.proofs.unit.Labels.{Each, each_both}
-use Rattle.net_world.specs.declared.config.Config.{Config}
-use Rattle.net_world.specs.Input.{is_item, packets, commands, no_packet, packet_numbered, order_numbered, IsRising, IsSteered, IsWhole, IsProper, IsInput}
-use Rattle.net_world.specs.declared.node.Node.{Node}
 use Rattle.net_world.specs.declared.node.Node.TheVariants.{Instance}
-use Rattle.nf_msgs.specs.declared.note.Note.{Note}
-use Rattle.actor_net.specs.Network.{queue_at}
-use Rattle.actor_net.proofs.EnabledChoices.{at}
-use Rattle.actor_net.proofs.OpeningWorlds.{opening_waiting, opening_on_links}
 use Rattle.net_world.proofs.StartingLemmas.{length-first_instances}
-use Rattle.net_world.specs.Places.{first_owner}
-use Rattle.net_world.specs.Start.{first_switch, first_instance, first_instances, first_nodes, started_with}
-use Rattle.proof_outlines.proofs.outline.FiltersApart.{is_whole, flow_fits, unit_fits, takes_whole, takes_same, whole_takes}
 use Rattle.proof_outlines.proofs.joined.InputLemmas.{found_each, fits_flow, whole_is}
-use Rattle.proof_outlines.proofs.outline.StateOutline.{HasRecords, all_each}
-use Rattle.proof_outlines.proofs.whole.OpenShares.{SeesAny}
-use Rattle.proof_outlines.proofs.joined.Given.{Given, place}
-use Rattle.proof_outlines.proofs.joined.Joined.{GenuinePacket, is_built, IsCommand, Label, S, A, IsSwitch, IsController}
-use Rattle.proof_outlines.proofs.joined.Joined.{Nodes, node_of, Scene, Joined, IsInstanceAt, AreShown, commands as numbers_of}
-use Rattle.proof_machines.proofs.Tests.{either_way, by_if}
+use Rattle.proof_outlines.proofs.joined.Joined.{commands as numbers_of}
 
 -- Routes.
 module _ (kind : Kind) where

@@ -1,55 +1,27 @@
 -- The switch's step on an item of the input, and on a cell that comes home, leads from a world of a run to one.
-use Rattle.std.proofs.Common.{◌≡◌, ℕ, ◌+◌, ◌-◌, ◌≤◌, Bool, true, false, Option, Some, None, List, [], ◌∷◌}
-use Rattle.std.proofs.Common.{◌++◌, drop, append_assoc, append-nil, refl, sym, ap, ◌∙◌, subst, arith}
-use Rattle.std.specs.Prelude.{if◌then◌else◌, ◌&&◌, ◌||◌, ◌==◌, not, unwrap_or}
-use Rattle.std.specs.List.{filter}
-use Rattle.std.proofs.lemmas.Bool.Decides.{nat_tests}
-use Rattle.std.proofs.lemmas.List.Elements.{filter-append}
-use Rattle.flow_filter.specs.declared.packet.Packet.{Packet}
-use Rattle.flow_filter.specs.Flow.{flow_of}
+use Rattle.proof_outlines.proofs.Words.{◌≡◌, ℕ, ◌+◌, ◌-◌, ◌≤◌, Bool, true, false, Option, Some, None, List, [], ◌∷◌, ◌++◌, drop, append_assoc, append-nil, refl}
+use Rattle.proof_outlines.proofs.Words.{sym, ap, ◌∙◌, subst, arith, if◌then◌else◌, ◌&&◌, ◌||◌, ◌==◌, not, unwrap_or, filter, nat_tests, filter-append, Packet}
+use Rattle.proof_outlines.proofs.Words.{flow_of, Semantics, unit_at, same_unit-true, FullCell, one_less, one_more, Target, first_match, Command, Msg, Note}
+use Rattle.proof_outlines.proofs.Words.{instance_node, SwitchState, arrival_step, goes_to, has_room, is_there, on_packet, on_command, on_credit, target_of}
+use Rattle.proof_outlines.proofs.Words.{less_first, EachSent, neither, sent_for, MoveAsked, Rising, Any, Old, New, S_asked, WantShare, WholeWorld, arrive_sends}
+use Rattle.proof_outlines.proofs.Words.{asks, whole_input, comes, EveryAll, input_every_all, asks_move_every_all, asks_share_every_all, as_node, Switch}
+use Rattle.proof_outlines.proofs.Words.{arrivals_in, installs_in, arrived-append, by_if}
 use Rattle.nf_function.specs.declared.unit.Unit as units
-use Rattle.nf_function.specs.Semantics.{Semantics, unit_at}
-use Rattle.record_table.proofs.UnitOrder.{same_unit-true}
 use Rattle.event_filter.specs.declared.mark.Mark.TheVariants as mark
-use Rattle.packet_pool.specs.Pool.{FullCell, one_less, one_more}
-use Rattle.switch_rules.specs.declared.target.Target.{Target}
 use Rattle.switch_rules.specs.declared.target.Target.TheVariants as target
-use Rattle.switch_rules.specs.Rules.{first_match}
-use Rattle.nf_msgs.specs.declared.command.Command.{Command}
-use Rattle.nf_msgs.specs.declared.msg.Msg.{Msg}
 use Rattle.nf_msgs.specs.declared.msg.Msg.TheVariants as msg
-use Rattle.nf_msgs.specs.declared.note.Note.{Note}
 use Rattle.nf_msgs.specs.declared.note.Note.TheVariants as note
-use Rattle.nf_msgs.specs.Nodes.{instance_node}
-use Rattle.switch_node.specs.Switch.{SwitchState, arrival_step, goes_to, has_room, is_there, on_packet, on_command, on_credit, still, target_of}
-use Rattle.actor_net.proofs.WaitingMessages.{less_first}
-use Rattle.actor_net.proofs.WeightLaws.{EachSent}
-use Rattle.actor_net.proofs.LinkLemmas.{neither}
-use Rattle.proof_machines.proofs.unit.Real.{sent_for}
+use Rattle.switch_node.specs.Switch.{still}
 use Rattle.proof_machines.proofs.net.Net as net
-use Rattle.proof_machines.proofs.net.Net.{MoveAsked}
-use Rattle.proof_machines.proofs.net.Waits.{Rising}
-use Rattle.proof_machines.proofs.net.Shares.{Any, Old, New, S_asked, WantShare, WholeWorld, arrive_sends, asks, whole_input}
-use Rattle.proof_machines.proofs.whole.WhereAll.{comes}
-use Rattle.proof_machines.proofs.whole.EveryAll.{EveryAll, input_every_all, asks_move_every_all, asks_share_every_all}
-use Rattle.net_world.specs.Nodes.{as_node}
-use Rattle.net_world.specs.declared.node.Node.TheVariants.{Switch}
-use Rattle.net_world.specs.Log.{arrivals_in, installs_in}
-use Rattle.net_world.proofs.LogLemmas.{arrived-append}
-use Rattle.proof_outlines.proofs.outline.FiltersApart.{unit_fits}
-use Rattle.proof_outlines.proofs.outline.Outline.{want_of, is_sys}
-use Rattle.proof_outlines.proofs.whole.WholeOutline.{asked_of, outline_all, is_sharing, want_share_of}
-use Rattle.proof_outlines.proofs.whole.AskedShare.{asked_move, asked_share, asked_none, is_wanted, command_unseen}
-use Rattle.proof_outlines.proofs.whole.SwitchAll.{target_node, GoesToTarget}
+use Rattle.proof_outlines.proofs.joined.Words.{unit_fits, want_of, is_sys, asked_of, outline_all, is_sharing, want_share_of, asked_move, asked_share}
+use Rattle.proof_outlines.proofs.joined.Words.{asked_none, is_wanted, command_unseen, target_node, GoesToTarget, Given, place, is_diverted, owner_by}
+use Rattle.proof_outlines.proofs.joined.Words.{diverted_in, target_by, Genuine, GenuinePacket, IsCommand, IsSwitch, Label, S, A, asked_nums, came_by, commands}
+use Rattle.proof_outlines.proofs.joined.Words.{is_of, shown, Scene, AreShown, Leads}
 use Rattle.proof_outlines.proofs.whole.SwitchWorlds.{command_takes, packet_takes}
 use Rattle.proof_outlines.proofs.joined.LogLemmas.{diverted_in-append, every_same, owners_on, loose_on}
 use Rattle.proof_outlines.proofs.joined.OwnerLemmas.{unit_is_fit}
 use Rattle.proof_outlines.proofs.joined.SwitchLemmas.{rising_without, want_num, after, asked_nums-append, every_on, others_same, quiet, same_switch}
-use Rattle.proof_outlines.proofs.joined.Given.{Given, place, is_diverted, owner_by, diverted_in, target_by}
-use Rattle.proof_outlines.proofs.joined.Joined.{Genuine, GenuinePacket, IsCommand, IsSwitch, Label, S, A}
-use Rattle.proof_outlines.proofs.joined.Joined.{asked_nums, came_by, commands, is_of, shown, Scene, AreShown, Leads}
 use Rattle.proof_outlines.proofs.joined.NextNumbers.{same_grows}
-use Rattle.proof_machines.proofs.Tests.{by_if}
 
 -- the message that a packet goes on in, by its target
 abbrev message_for : Target → FullCell → Msg

@@ -1,36 +1,16 @@
 -- What the steps of the switch have in common: what stays, and a step on a message that the abstract network doesn't see.
-use Rattle.std.proofs.Common.{◌≡◌, ◌≢◌, ℕ, zero, suc, true, false, Option, Some, None, List, [], ◌∷◌, ◌++◌, refl, sym, ap, ◌∙◌, subst, append-nil, arith}
-use Rattle.std.specs.Prelude.{if◌then◌else◌, ◌&&◌, ◌==◌}
+use Rattle.proof_outlines.proofs.Words.{◌≡◌, ◌≢◌, ℕ, zero, suc, true, false, Option, Some, None, List, [], ◌∷◌, ◌++◌, refl, sym, ap, ◌∙◌, subst, append-nil}
+use Rattle.proof_outlines.proofs.Words.{arith, if◌then◌else◌, ◌&&◌, ◌==◌, Semantics, AreFilters, Order, Msg, Note, instance_node, SwitchState, stop_messages}
+use Rattle.proof_outlines.proofs.Words.{less_first, EachSent, sent_for, MoveAsked, Rising, rising_less, Any, Old, New, WholeWorld, EveryAll, Switch, dones_in}
+use Rattle.proof_outlines.proofs.Words.{installs_in, sent-append, done-append}
 use Rattle.nf_function.specs.declared.unit.Unit as units
-use Rattle.nf_function.specs.Semantics.{Semantics}
-use Rattle.switch_rules.specs.Rules.{AreFilters}
-use Rattle.nf_msgs.specs.declared.command.Order.{Order}
 use Rattle.nf_msgs.specs.declared.command.Order.TheVariants as order
-use Rattle.nf_msgs.specs.declared.msg.Msg.{Msg}
 use Rattle.nf_msgs.specs.declared.msg.Msg.TheVariants as msg
-use Rattle.nf_msgs.specs.declared.note.Note.{Note}
-use Rattle.nf_msgs.specs.Nodes.{instance_node}
-use Rattle.switch_node.specs.Switch.{SwitchState, stop_messages}
-use Rattle.actor_net.proofs.WaitingMessages.{less_first}
-use Rattle.actor_net.proofs.WeightLaws.{EachSent}
-use Rattle.proof_machines.proofs.unit.Real.{sent_for}
 use Rattle.proof_machines.proofs.net.Net as net
-use Rattle.proof_machines.proofs.net.Net.{MoveAsked}
-use Rattle.proof_machines.proofs.net.Waits.{Rising, rising_less}
 use Rattle.proof_machines.proofs.net.Shares as shares
-use Rattle.proof_machines.proofs.net.Shares.{Any, Old, New, WholeWorld}
-use Rattle.proof_machines.proofs.whole.EveryAll.{EveryAll}
-use Rattle.net_world.specs.declared.node.Node.TheVariants.{Switch}
-use Rattle.net_world.specs.Log.{dones_in, installs_in}
-use Rattle.proof_outlines.proofs.outline.FiltersApart.{unit_fits}
-use Rattle.proof_outlines.proofs.outline.Outline.{want_at, want_of, is_sys}
-use Rattle.proof_outlines.proofs.whole.WholeOutline.{outline_all}
-use Rattle.proof_outlines.proofs.whole.SwitchAll.{routes_same}
-use Rattle.net_world.proofs.SentMessages.{sent-append}
-use Rattle.net_world.proofs.LogLemmas.{done-append}
+use Rattle.proof_outlines.proofs.joined.Words.{unit_fits, want_at, want_of, is_sys, outline_all, routes_same, Given, place, target_by, Nodes, node_of, Label}
+use Rattle.proof_outlines.proofs.joined.Words.{shown, S, A, asked_nums, came_by, commands, by_node, IsSwitch, Scene, AreShown, Leads}
 use Rattle.proof_outlines.proofs.joined.LogLemmas.{came_on, every_same, owners_on}
-use Rattle.proof_outlines.proofs.joined.Given.{Given, place, target_by}
-use Rattle.proof_outlines.proofs.joined.Joined.{Nodes, node_of, Label, shown, S, A, asked_nums, came_by, commands, by_node, IsSwitch, Scene, AreShown, Leads}
 use Rattle.proof_outlines.proofs.joined.NextNumbers.{same_grows}
 
 pub asked_nums-append : {R : Type 0} (xs ys : List (Any R)) → asked_nums (xs ++ ys) ≡ asked_nums xs ++ asked_nums ys

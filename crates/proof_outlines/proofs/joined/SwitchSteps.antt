@@ -1,46 +1,27 @@
 -- The switch's step on a message of a run leads from a world of a run to one.
-use Rattle.std.proofs.Common.{◌≡◌, ℕ, ◌-◌, Bool, true, Some, List, [], ◌∷◌, ◌++◌, refl, sym, ap, ◌∙◌, subst, arith}
-use Rattle.std.specs.Prelude.{nat_lt}
-use Rattle.std.proofs.lemmas.Bool.{and_parts}
-use Rattle.flow_filter.specs.declared.filter.Filter.{Filter}
-use Rattle.flow_filter.specs.declared.packet.Packet.{Packet}
+use Rattle.proof_outlines.proofs.Words.{◌≡◌, ℕ, ◌-◌, Bool, true, Some, List, [], ◌∷◌, ◌++◌, refl, sym, ap, ◌∙◌, subst, arith, nat_lt, and_parts, Filter, Packet}
+use Rattle.proof_outlines.proofs.Words.{Semantics, FullCell, Target, rules_redirected, Command, Msg, Note, instance_node, SwitchState, on_install}
+use Rattle.proof_outlines.proofs.Words.{sends_to_instance, is_there, stop_messages, EachSent, everything, find_op, links_after, sw_target, Any, Old, New}
+use Rattle.proof_outlines.proofs.Words.{S_forward, S_install, WholeWorld, whole_switch, share_target, EveryAll, switch_every_all, as_node, node_step, Switch}
+use Rattle.proof_outlines.proofs.Words.{arrivals_in, dones_in, installs_in}
 use Rattle.nf_function.specs.declared.unit.Unit as units
 use Rattle.nf_function.specs.Records.{Laws as FunctionLaws}
-use Rattle.nf_function.specs.Semantics.{Semantics}
 use Rattle.event_filter.specs.declared.mark.Mark.TheVariants as mark
-use Rattle.packet_pool.specs.Pool.{FullCell}
-use Rattle.switch_rules.specs.declared.target.Target.{Target}
 use Rattle.switch_rules.specs.declared.target.Target.TheVariants as target
-use Rattle.switch_rules.specs.Rules.{rules_redirected}
 use Rattle.switch_rules.proofs.RedirectLaws.{AreFilters-redirected}
-use Rattle.nf_msgs.specs.declared.command.Command.{Command}
-use Rattle.nf_msgs.specs.declared.msg.Msg.{Msg}
 use Rattle.nf_msgs.specs.declared.msg.Msg.TheVariants as msg
-use Rattle.nf_msgs.specs.declared.note.Note.{Note}
 use Rattle.nf_msgs.specs.declared.note.Note.TheVariants as note
-use Rattle.nf_msgs.specs.Nodes.{instance_node}
-use Rattle.switch_node.specs.Switch.{SwitchState, on_install, sends_to_instance, is_there, stop_messages}
-use Rattle.actor_net.proofs.WeightLaws.{EachSent}
 use Rattle.proof_machines.proofs.unit.Real as real
 use Rattle.proof_machines.proofs.net.Net as net
-use Rattle.proof_machines.proofs.net.Net.{everything, find_op, links_after, sw_target}
 use Rattle.proof_machines.proofs.net.UntakenSwitch.{HandsAny}
-use Rattle.proof_machines.proofs.net.Shares.{Any, Old, New, S_forward, S_install, WholeWorld, whole_switch, share_target}
-use Rattle.proof_machines.proofs.whole.EveryAll.{EveryAll, switch_every_all}
-use Rattle.net_world.specs.Nodes.{as_node, node_step}
-use Rattle.net_world.specs.declared.node.Node.TheVariants.{Switch}
-use Rattle.net_world.specs.Log.{arrivals_in, dones_in, installs_in}
-use Rattle.proof_outlines.proofs.outline.FiltersApart.{filter_fits, filter_is, is_whole, takes_whole, unit_fits}
-use Rattle.proof_outlines.proofs.outline.Outline.{number, is_sys}
-use Rattle.proof_outlines.proofs.whole.WholeOutline.{outline_all, is_sharing}
-use Rattle.proof_outlines.proofs.whole.SwitchAll.{RoutesAll, stops_all}
+use Rattle.proof_outlines.proofs.joined.Words.{filter_fits, filter_is, is_whole, takes_whole, unit_fits, number, is_sys, outline_all, is_sharing, RoutesAll}
+use Rattle.proof_outlines.proofs.joined.Words.{stops_all, Given, place, IsInstall, IsDivert, loose_by, owner_by, target_by, Scene, AreShown, IsTaken, Leads}
+use Rattle.proof_outlines.proofs.joined.Words.{IsSwitch, Label, Genuine, S, A, asked_nums, came_by, count, node_of, shown}
 use Rattle.proof_outlines.proofs.whole.SwitchWorlds.{move_installs, share_installs}
-use Rattle.proof_outlines.proofs.joined.Given.{Given, place, IsInstall, IsDivert, loose_by, owner_by, target_by}
 use Rattle.proof_outlines.proofs.joined.HandedUnits.{handed, handed_to_share, loose_begins, loose_stays, owner_at, plain_hands, plain_is}
 use Rattle.proof_outlines.proofs.joined.LogLemmas.{came_more, every_same, loose_on, owners_on}
 use Rattle.proof_outlines.proofs.joined.SwitchLemmas.{NoneAsked, after, nums_put, others_same, quiet, same_switch, stops_labels}
 use Rattle.proof_outlines.proofs.joined.SwitchArrivals.{command_leads, credit_leads, item_leads, packet_leads}
-use Rattle.proof_outlines.proofs.joined.Joined.{Scene, AreShown, IsTaken, Leads, IsSwitch, Label, Genuine, S, A, asked_nums, came_by, count, node_of, shown}
 use Rattle.proof_outlines.proofs.joined.NextNumbers.{same_grows}
 
 module _ {F R : Type 0} (f : Semantics R) (g : Given) (n : ℕ) (x : Scene F f g) (are : AreShown f g n x) where

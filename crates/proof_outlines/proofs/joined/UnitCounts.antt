@@ -1,23 +1,11 @@
 -- How often a unit stands among chunks; chunks in which none stands twice are of distinct units.
-use Rattle.std.proofs.Common.{◌≡◌, ℕ, ◌+◌, ◌≤◌, false, Some, List, [], ◌∷◌, ◌++◌, map, refl, sym, ap, ◌∙◌, subst, arith}
-use Rattle.std.specs.Prelude.{if◌then◌else◌, is_some}
-use Rattle.std.specs.List.{AllByRecursion, IsDistinct}
-use Rattle.std.specs.Map.{keys_of}
+use Rattle.proof_outlines.proofs.Words.{◌≡◌, ℕ, ◌+◌, ◌≤◌, false, Some, List, [], ◌∷◌, ◌++◌, map, refl, sym, ap, ◌∙◌, subst, arith, if◌then◌else◌, is_some}
+use Rattle.proof_outlines.proofs.Words.{AllByRecursion, keys_of, Semantics, same_unit, spelled, same_unit_equiv, same_unit-true, Piece, chunks_of, Each, Chunks}
+use Rattle.proof_outlines.proofs.Words.{record_at, have, split}
+use Rattle.std.specs.List.{IsDistinct}
 use Rattle.nf_function.specs.declared.unit.Unit as units
-use Rattle.nf_function.specs.Semantics.{Semantics}
-use Rattle.record_table.specs.Table.{same_unit}
-use Rattle.record_table.specs.Chunks.{spelled}
-use Rattle.record_table.proofs.UnitOrder.{same_unit_equiv, same_unit-true}
-use Rattle.nf_msgs.specs.declared.msg.Piece.{Piece}
-use Rattle.move_op.specs.Move.{chunks_of}
-use Rattle.proof_machines.proofs.unit.Labels.{Each}
-use Rattle.proof_machines.proofs.unit.Real.{Chunks, record_at}
-use Rattle.proof_outlines.proofs.outline.Outline.{entries, outline_piece}
-use Rattle.proof_outlines.proofs.outline.InstanceOutline.{filter_map-put}
-use Rattle.proof_machines.proofs.net.Copies.{has, have}
-use Rattle.proof_outlines.proofs.joined.Given.{Given}
-use Rattle.proof_outlines.proofs.joined.Joined.{AreGoodChunks}
-use Rattle.proof_machines.proofs.Tests.{split}
+use Rattle.proof_outlines.proofs.joined.Words.{entries, outline_piece, filter_map-put, Given, AreGoodChunks}
+use Rattle.proof_machines.proofs.net.Copies.{has}
 
 module _ {R : Type 0} where
   -- how many entries are the unit's

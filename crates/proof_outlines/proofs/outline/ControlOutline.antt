@@ -1,34 +1,17 @@
 -- The controller's step on a message of an operation, as the proof of moves sees it.
-use Rattle.std.proofs.Common.{◌≡◌, ℕ, Bool, true, false, Option, Some, None, List, [], ◌∷◌, map, refl, sym, ap, ◌∙◌, subst, append-nil, arith, eqb}
-use Rattle.std.specs.Prelude.{◌==◌, cond, unwrap_or}
-use Rattle.std.specs.Ordering.{nat_cmp}
-use Rattle.std.specs.Cmp.{nat_cmp_total}
+use Rattle.proof_outlines.proofs.Words.{◌≡◌, ℕ, Bool, true, false, Option, Some, None, List, [], ◌∷◌, map, refl, sym, ap, ◌∙◌, subst, append-nil, arith, eqb}
+use Rattle.proof_outlines.proofs.Words.{◌==◌, cond, unwrap_or, nat_cmp, nat_cmp_total, nat_tests, Decides-eqb, Semantics, FullCell, stored_of, order_test}
+use Rattle.proof_outlines.proofs.Words.{stored-with_parcels, Answer, Msg, Phase, MoveState, row, row_in, store_after, answer_of, Operation, Move, Copy, Share}
+use Rattle.proof_outlines.proofs.Words.{OpenOperations, Turn, turn_of, turn_of_move, switch_node, ControllerState, Step, after_turn, takes_turn, RPhase, Open}
+use Rattle.proof_outlines.proofs.Words.{ControllerMove, find_op, write_op, found, wrap, find_close, find_set, find_write_other, either_way}
 use Rattle.std.specs.FinMap as finite
-use Rattle.std.proofs.lemmas.Bool.Decides.{nat_tests, Decides-eqb}
-use Rattle.nf_function.specs.Semantics.{Semantics}
-use Rattle.packet_pool.specs.Pool.{FullCell}
-use Rattle.event_store.specs.Store.{stored_of}
-use Rattle.event_store.proofs.StoreLookUps.{order_test, stored-with_parcels}
-use Rattle.nf_msgs.specs.declared.answer.Answer.{Answer}
-use Rattle.nf_msgs.specs.declared.msg.Msg.{Msg}
 use Rattle.nf_msgs.specs.declared.msg.Msg.TheVariants as msg
-use Rattle.move_op.specs.Phases.{Phase}
 use Rattle.move_op.specs.Phases as phase
-use Rattle.move_op.specs.Move.{MoveState, row, row_in, store_after, answer_of}
-use Rattle.ctrl_node.specs.declared.operation.Operation.{Operation}
-use Rattle.ctrl_node.specs.declared.operation.Operation.TheVariants.{Move, Copy, Share}
-use Rattle.ctrl_node.specs.Operations.{OpenOperations, Turn, turn_of, turn_of_move}
-use Rattle.nf_msgs.specs.Nodes.{switch_node}
-use Rattle.ctrl_node.specs.Controller.{ControllerState, Step, after_turn, takes_turn}
 use Rattle.proof_machines.proofs.unit.Real as real
-use Rattle.proof_machines.proofs.unit.Real.{RPhase}
-use Rattle.proof_machines.proofs.net.Net.{Open, ControllerMove, find_op, write_op, found, wrap}
 use Rattle.proof_machines.proofs.net.Net as net
-use Rattle.proof_machines.proofs.net.Ctrl.{find_close, find_set, find_write_other}
 use Rattle.proof_outlines.proofs.outline.Outline.{number, outline_sent, outline_sends}
 use Rattle.proof_outlines.proofs.outline.InstanceOutline.{filter_map-put}
 use Rattle.proof_outlines.proofs.outline.MoveOutline.{outline_plan, outline_phase, refused_by, RowFollows}
-use Rattle.proof_machines.proofs.Tests.{either_way}
 
 module _ {R : Type 0} (f : Semantics R) (place : List ℕ → Option ℕ) where
   -- an open move, as the proof of moves sees it

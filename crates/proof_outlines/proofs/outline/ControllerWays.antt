@@ -1,28 +1,12 @@
 -- The ways in which the controller goes on with a message: what holds of each of them holds of its row.
-use Rattle.std.proofs.Common.{◌≡◌, ℕ, Bool, true, Option, Some, None, List, [], ◌∷◌, refl}
-use Rattle.std.specs.Prelude.{◌==◌, slice_set}
-use Rattle.std.specs.List.{filter_map}
+use Rattle.proof_outlines.proofs.Words.{◌≡◌, ℕ, Bool, true, Option, Some, None, List, [], ◌∷◌, refl, ◌==◌, slice_set, filter_map, Filter, flow_of, Pass}
+use Rattle.proof_outlines.proofs.Words.{FullCell, Answer, Command, Order, Msg, switch_node, op_of, SharePlan, Share, share_of, place_of, ControllerState, Step}
+use Rattle.proof_outlines.proofs.Words.{by_if}
 use Rattle.std.specs.FinMap as finite
-use Rattle.flow_filter.specs.declared.filter.Filter.{Filter}
-use Rattle.flow_filter.specs.Flow.{flow_of}
-use Rattle.event_filter.specs.declared.mark.Mark.TheVariants.{Pass}
-use Rattle.packet_pool.specs.Pool.{FullCell}
-use Rattle.nf_msgs.specs.declared.answer.Answer.{Answer}
-use Rattle.nf_msgs.specs.declared.command.Command.{Command}
-use Rattle.nf_msgs.specs.declared.command.Order.{Order}
 use Rattle.nf_msgs.specs.declared.command.Order.TheVariants as order
-use Rattle.nf_msgs.specs.declared.msg.Msg.{Msg}
 use Rattle.nf_msgs.specs.declared.msg.Msg.TheVariants as msg
-use Rattle.nf_msgs.specs.Nodes.{switch_node}
-use Rattle.nf_msgs.specs.MessageParts.{op_of}
-use Rattle.copy_share.specs.Share.{SharePlan}
 use Rattle.copy_share.specs.Share as share
-use Rattle.ctrl_node.specs.declared.operation.Operation.TheVariants.{Share}
-use Rattle.ctrl_node.specs.Operations.{share_of}
-use Rattle.flow_filter.specs.Name.{place_of}
 use Rattle.ctrl_node.specs.Controller as ctrl
-use Rattle.ctrl_node.specs.Controller.{ControllerState, Step}
-use Rattle.proof_machines.proofs.Tests.{by_if}
 
 -- The ways of a row, a command taken as a whole: nothing, the end, a final message, an event that goes back, a message of some number, a packet of a
 -- share, and a command.

@@ -1,26 +1,16 @@
 -- What a message does to an open copy: nothing, or what came is handed on to the destination, or the copy ends. A copy's message does
 -- nothing to an open move.
-use Rattle.std.proofs.Common.{◌≡◌, ℕ, Bool, true, false, Some, None, List, [], ◌∷◌, refl, sym, ap, ◌∙◌}
-use Rattle.std.specs.Prelude.{if◌then◌else◌, ◌==◌}
+use Rattle.proof_outlines.proofs.Words.{◌≡◌, ℕ, Bool, true, false, Some, None, List, [], ◌∷◌, refl, sym, ap, ◌∙◌, if◌then◌else◌, ◌==◌, Chunk, Msg, switch_node}
+use Rattle.proof_outlines.proofs.Words.{instance_node, FullCell, stored_of, MoveState, CopyPhase, Getting, Keeping, Over, CopyPlan, CopyState, CopyRow, Move}
+use Rattle.proof_outlines.proofs.Words.{Copy, turn_of, turn_of_move, turn_of_copy, ControllerState, Step, still, without_operation, after_turn, takes_turn}
+use Rattle.proof_outlines.proofs.Words.{by_if}
 use Rattle.std.specs.FinMap as finite
-use Rattle.nf_function.specs.declared.chunk.Chunk.{Chunk}
 use Rattle.nf_msgs.specs.declared.answer.Answer.TheVariants.{Done}
-use Rattle.nf_msgs.specs.declared.msg.Msg.{Msg}
 use Rattle.nf_msgs.specs.declared.msg.Msg.TheVariants as msg
 use Rattle.nf_msgs.specs.declared.note.Note.TheVariants as note
-use Rattle.nf_msgs.specs.Nodes.{switch_node, instance_node}
-use Rattle.packet_pool.specs.Pool.{FullCell}
-use Rattle.event_store.specs.Store.{stored_of}
 use Rattle.move_op.specs.Move as move
-use Rattle.move_op.specs.Move.{MoveState}
-use Rattle.copy_share.specs.declared.copy_phase.CopyPhase.{CopyPhase}
-use Rattle.copy_share.specs.declared.copy_phase.CopyPhase.TheVariants.{Getting, Keeping, Over}
-use Rattle.copy_share.specs.Copy.{CopyPlan, CopyState, CopyRow, next_phase, from_source, from_destination, row, answer_of}
-use Rattle.ctrl_node.specs.declared.operation.Operation.TheVariants.{Move, Copy}
-use Rattle.ctrl_node.specs.Operations.{turn_of, turn_of_move, turn_of_copy}
-use Rattle.ctrl_node.specs.Controller.{ControllerState, Step, still, without_operation, after_turn, takes_turn}
+use Rattle.copy_share.specs.Copy.{next_phase, from_source, from_destination, row, answer_of}
 use Rattle.proof_outlines.proofs.outline.OperationTables.{insert_same, remove_insert}
-use Rattle.proof_machines.proofs.Tests.{by_if}
 
 -- a message that a copy looks at
 abbrev pub is_copied : Msg → Bool

@@ -1,20 +1,11 @@
 -- Filters of moves: which units a filter takes, where it splits none, and that two filters that don't meet take no unit both.
-use Rattle.std.proofs.Common.{◌≡◌, ℕ, ◌<◌, ◌^◌, Bool, true, false, Option, Some, None, refl, sym, ◌∙◌, subst, lit<}
-use Rattle.std.specs.Prelude.{◌&&◌, ◌||◌, not, nat_lt, is_some}
-use Rattle.std.specs.Option.{ForSome}
-use Rattle.std.proofs.lemmas.Bool.Decides.{Decides-ltb}
-use Rattle.std.proofs.lemmas.Bool.{not-true, and_parts, false_from_ne_true}
-use Rattle.flow_filter.specs.declared.filter.Filter.{Filter}
-use Rattle.flow_filter.specs.declared.flow.Flow.{Flow}
-use Rattle.flow_filter.specs.declared.prefix.Prefix.{Prefix}
-use Rattle.flow_filter.specs.Filter.{matches, meet, meets, agrees, holds, IsFlow, IsFilter}
+use Rattle.proof_outlines.proofs.Words.{◌≡◌, ℕ, ◌<◌, ◌^◌, Bool, true, false, Option, Some, None, refl, sym, ◌∙◌, subst, lit<, ◌&&◌, ◌||◌, not, nat_lt, is_some}
+use Rattle.proof_outlines.proofs.Words.{ForSome, Decides-ltb, not-true, and_parts, false_from_ne_true, Filter, Flow, Prefix, matches, meet, meets, agrees}
+use Rattle.proof_outlines.proofs.Words.{holds, IsFlow, IsFilter, Kind, Conntrack, has_hosts, takes, unit_of}
 use Rattle.flow_filter.proofs.FilterLemmas.{meet_clauses}
 use Rattle.flow_filter.proofs.FilterMeets.{some-meet}
-use Rattle.nf_function.specs.declared.kind.Kind.{Kind}
 use Rattle.nf_function.specs.declared.unit.Unit as units
 use Rattle.nf_function.specs.declared.unit.Unit.TheVariants.{Flow as OfFlow, Host as OfHost}
-use Rattle.nf_function.specs.declared.kind.Kind.TheVariants.{Conntrack}
-use Rattle.nf_function.specs.Units.{has_hosts, takes, unit_of}
 use Rattle.proof_machines.proofs.unit.Lists.{none_is}
 
 abbrev pub number_fits : ℕ → Option ℕ → Bool

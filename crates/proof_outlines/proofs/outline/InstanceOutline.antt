@@ -1,37 +1,20 @@
 -- The outline of an instance's step on a packet, a fence or an event rule is the step of the abstract network.
-use Rattle.std.proofs.Common.{◌≡◌, ℕ, true, false, Option, Some, None, List, [], ◌∷◌, ◌++◌, map, filter, refl, sym, ap, ◌∙◌, subst, append-nil}
-use Rattle.std.specs.Prelude.{if◌then◌else◌, ◌==◌, not, is_some, option_map}
-use Rattle.std.specs.Option.{option_map_or}
-use Rattle.std.specs.List.{filter_map}
+use Rattle.proof_outlines.proofs.Words.{◌≡◌, ℕ, true, false, Option, Some, None, List, [], ◌∷◌, ◌++◌, map, refl, sym, ap, ◌∙◌, subst, append-nil, if◌then◌else◌}
+use Rattle.proof_outlines.proofs.Words.{◌==◌, not, is_some, option_map, option_map_or, filter_map, map-append, Filter, Flow, Packet, Site, matches, flow_of}
+use Rattle.proof_outlines.proofs.Words.{is_transport, unit_of, Semantics, unit_at, Records, after_packet, Action, FullCell, Instance, carry_step, on_enable}
+use Rattle.proof_outlines.proofs.Words.{controller_node, M_enable, M_fenced, Each, Ruling, InstanceTurn, find_rule, drop_rule, change_rules, has_rule, set_rule}
+use Rattle.proof_outlines.proofs.Words.{ruled_by, holding, held_of, process, process_all, runs_it, by_rule, inst_step, everything, split}
+use Rattle.std.proofs.Common.{filter}
 use Rattle.std.specs.FinMap as finite
-use Rattle.std.proofs.lemmas.List.{map-append}
-use Rattle.flow_filter.specs.declared.filter.Filter.{Filter}
-use Rattle.flow_filter.specs.declared.flow.Flow.{Flow}
-use Rattle.flow_filter.specs.declared.packet.Packet.{Packet}
-use Rattle.flow_filter.specs.declared.site.Site.{Site}
-use Rattle.flow_filter.specs.Filter.{matches}
-use Rattle.flow_filter.specs.Flow.{flow_of}
-use Rattle.nf_function.specs.Units.{is_transport, unit_of}
-use Rattle.nf_function.specs.Semantics.{Semantics, unit_at}
-use Rattle.record_table.specs.Table.{Records, after_packet}
-use Rattle.event_filter.specs.declared.action.Action.{Action}
 use Rattle.event_filter.specs.declared.action.Action.TheVariants as action
 use Rattle.event_filter.specs.declared.mark.Mark.TheVariants as mark
 use Rattle.event_filter.specs.declared.rule.Rule.{Rule as EventRule}
 use Rattle.event_filter.specs.Rules as rules
-use Rattle.packet_pool.specs.Pool.{FullCell}
-use Rattle.instance_worker.specs.declared.instance.Instance.{Instance}
-use Rattle.instance_worker.specs.Instance.{Step, process_step, all_processed, carry_step, on_carry, on_fence, on_enable}
+use Rattle.instance_worker.specs.Instance.{Step, process_step, all_processed, on_carry, on_fence}
 use Rattle.nf_msgs.specs.declared.msg.Msg.TheVariants as msg
-use Rattle.nf_msgs.specs.Nodes.{controller_node}
-use Rattle.proof_machines.proofs.unit.Real.{M_enable, M_fenced}
-use Rattle.proof_machines.proofs.unit.Labels.{Each}
 use Rattle.proof_machines.proofs.net.Net as net
-use Rattle.proof_machines.proofs.net.Net.{Ruling, InstanceTurn, find_rule, drop_rule, change_rules, has_rule, set_rule, ruled_by}
-use Rattle.proof_machines.proofs.net.Net.{holding, held_of, process, process_all, runs_it, by_rule, inst_step, everything}
 use Rattle.proof_outlines.proofs.outline.FiltersApart.{is_whole, flow_fits, takes_whole, whole_takes}
 use Rattle.proof_outlines.proofs.outline.Outline.{number, rule_of, outline_rule, outline_sent, outline_sends, ran_in, sys, outline_instance}
-use Rattle.proof_machines.proofs.Tests.{split}
 
 -- lists of rules
 without_same : (op : ℕ) (rs : List (EventRule FullCell)) → map outline_rule (rules.without_rule rs op) ≡ drop_rule op (map outline_rule rs)

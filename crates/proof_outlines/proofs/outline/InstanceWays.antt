@@ -1,33 +1,17 @@
 -- The ways in which an instance goes on with a message: what holds of each of them, and of one and then another, holds of its step.
-use Rattle.std.proofs.Common.{◌≡◌, ℕ, Bool, true, false, Option, Some, None, Result, Ok, Err, List, [], ◌∷◌, map, length, refl}
-use Rattle.std.specs.Prelude.{if◌then◌else◌, ◌||◌, nat_lt}
-use Rattle.flow_filter.specs.declared.filter.Filter.{Filter}
-use Rattle.flow_filter.specs.Flow.{flow_of}
-use Rattle.nf_function.specs.declared.chunk.Chunk.{Chunk}
+use Rattle.proof_outlines.proofs.Words.{◌≡◌, ℕ, Bool, true, false, Option, Some, None, Result, Ok, Err, List, [], ◌∷◌, map, length, refl, if◌then◌else◌, ◌||◌}
+use Rattle.proof_outlines.proofs.Words.{nat_lt, Filter, flow_of, Chunk, Semantics, ChunkFault, tally_read, are_good, Action, Mark, Plain, FullCell, Answer}
+use Rattle.proof_outlines.proofs.Words.{Piece, Msg, Instance, pieces, to_controller, tell_step, tells_and_notes, and_then, carry_step, where_good, with_live}
+use Rattle.proof_outlines.proofs.Words.{with_standby, with_records, imported, keep_note, export_note, selected_chunks, piece_put, piece_refusal, tally_put}
+use Rattle.proof_outlines.proofs.Words.{instance_step, by_if}
 use Rattle.nf_function.specs.declared.unit.Unit as units
-use Rattle.nf_function.specs.Semantics.{Semantics}
-use Rattle.state_chunk.specs.declared.fault.ChunkFault.{ChunkFault}
-use Rattle.state_chunk.specs.Reading.{tally_read}
-use Rattle.record_table.specs.Chunks.{are_good}
-use Rattle.event_filter.specs.declared.action.Action.{Action}
 use Rattle.event_filter.specs.declared.decide.Decide.{Decide}
 use Rattle.event_filter.specs.declared.decide.Decide.TheVariants as decide
-use Rattle.event_filter.specs.declared.mark.Mark.{Mark}
-use Rattle.event_filter.specs.declared.mark.Mark.TheVariants.{Plain}
 use Rattle.event_filter.specs.Rules as rules
-use Rattle.packet_pool.specs.Pool.{FullCell}
-use Rattle.nf_msgs.specs.declared.answer.Answer.{Answer}
-use Rattle.nf_msgs.specs.declared.msg.Piece.{Piece}
-use Rattle.nf_msgs.specs.declared.msg.Msg.{Msg}
 use Rattle.nf_msgs.specs.declared.msg.Msg.TheVariants as msg
-use Rattle.instance_worker.specs.declared.instance.Instance.{Instance}
-use Rattle.instance_worker.specs.Pieces.{pieces}
 use Rattle.instance_worker.specs.Instance as worker
-use Rattle.instance_worker.specs.Instance.{Step, to_controller, tell_step, tells_and_notes, and_then, process_step, all_processed, carry_step, on_carry}
-use Rattle.instance_worker.specs.Instance.{on_fence, on_get, on_stream, on_put, on_restore, on_standby, on_sync, on_put_all, where_good, with_live}
-use Rattle.instance_worker.specs.Instance.{with_standby, with_records, imported, keep_note, export_note, selected_chunks, piece_put, piece_refusal}
-use Rattle.instance_worker.specs.Instance.{tally_put, instance_step}
-use Rattle.proof_machines.proofs.Tests.{by_if}
+use Rattle.instance_worker.specs.Instance.{Step, process_step, all_processed, on_carry, on_fence, on_get, on_stream, on_put, on_restore, on_standby, on_sync}
+use Rattle.instance_worker.specs.Instance.{on_put_all}
 
 -- what an instance takes packets by
 abbrev pub may_process : Msg → Bool

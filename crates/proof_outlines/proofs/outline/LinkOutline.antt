@@ -1,19 +1,10 @@
 -- What an outline shows of the links of a world after a choice: what it showed, without the first where that is shown, and the
 -- outlines of what was sent.
-use Rattle.std.proofs.Common.{◌≡◌, ℕ, ◌<◌, Bool, true, false, Option, Some, None, List, [], ◌∷◌, ◌++◌, refl, sym, ap, ◌∙◌, arith}
-use Rattle.std.specs.Prelude.{if◌then◌else◌, ◌==◌, ◌&&◌, nat_lt, option_map}
-use Rattle.std.specs.List.{filter_map}
-use Rattle.std.proofs.lemmas.Bool.Decides.{nat_tests, Decides-eqb, Decides-ltb}
-use Rattle.actor_net.specs.Network.{Network, Stepped, queue_at, world_next, reaches}
+use Rattle.proof_outlines.proofs.Words.{◌≡◌, ℕ, ◌<◌, Bool, true, false, Option, Some, None, List, [], ◌∷◌, ◌++◌, refl, sym, ap, ◌∙◌, arith, if◌then◌else◌, ◌==◌}
+use Rattle.proof_outlines.proofs.Words.{◌&&◌, nat_lt, option_map, filter_map, nat_tests, Decides-eqb, Decides-ltb, Network, Stepped, queue_at, world_next}
+use Rattle.proof_outlines.proofs.Words.{reaches, at, put_on_link, less_first, Takes, taken_outcome, sent_for, behind, links_after, split}
 use Rattle.actor_net.specs.Histories.{sent_for as core_sent}
-use Rattle.actor_net.proofs.EnabledChoices.{at}
-use Rattle.actor_net.proofs.LinkLemmas.{put_on_link}
-use Rattle.actor_net.proofs.WaitingMessages.{less_first}
-use Rattle.actor_net.proofs.StepOutcome.{Takes, taken_outcome}
-use Rattle.proof_machines.proofs.unit.Real.{sent_for}
-use Rattle.proof_machines.proofs.net.Net.{behind, links_after}
 use Rattle.proof_outlines.proofs.outline.InstanceOutline.{filter_map-put}
-use Rattle.proof_machines.proofs.Tests.{split}
 
 module _ {M X : Type 0} (g : M → Option X) where
   abbrev pub of_sent : ℕ × M → Option (ℕ × X)

@@ -1,34 +1,21 @@
 -- The outline of each row of a move's table is the row of the abstract network.
-use Rattle.std.proofs.Common.{◌≡◌, ℕ, Bool, true, false, Option, Some, None, List, [], ◌∷◌, ◌++◌, map, refl, sym, ap, ◌∙◌, subst}
-use Rattle.std.specs.Prelude.{if◌then◌else◌, ◌==◌, unwrap_or}
-use Rattle.nf_function.specs.declared.chunk.Chunk.{Chunk}
+use Rattle.proof_outlines.proofs.Words.{◌≡◌, ℕ, Bool, true, false, Option, Some, None, List, [], ◌∷◌, ◌++◌, map, refl, sym, ap, ◌∙◌, subst, if◌then◌else◌, ◌==◌}
+use Rattle.proof_outlines.proofs.Words.{unwrap_or, Chunk, Semantics, spelled, FullCell, Answer, Refused, Msg, instance_node, Phase, MovePlan, MoveNext, MoveRow}
+use Rattle.proof_outlines.proofs.Words.{keeps, next_phase, have_units, chunks_of, put_back, source, destination, put_to, forward_to, words, from_source}
+use Rattle.proof_outlines.proofs.Words.{from_destination, row, on_event, on_piece, on_source_fenced, RPhase, Op, OperationTurn, r_words, Each, wrap, row_of}
 use Rattle.nf_function.specs.declared.unit.Unit as units
-use Rattle.nf_function.specs.Semantics.{Semantics}
-use Rattle.record_table.specs.Chunks.{spelled}
-use Rattle.packet_pool.specs.Pool.{FullCell}
 use Rattle.switch_rules.specs.declared.target.Target.TheVariants as target
-use Rattle.nf_msgs.specs.declared.answer.Answer.{Answer}
 use Rattle.nf_msgs.specs.declared.answer.Answer.TheVariants as answer
 use Rattle.nf_msgs.specs.declared.msg.Piece.{Piece as APiece}
-use Rattle.nf_msgs.specs.declared.msg.Refused.{Refused}
-use Rattle.nf_msgs.specs.declared.msg.Msg.{Msg}
 use Rattle.nf_msgs.specs.declared.msg.Msg.TheVariants as msg
 use Rattle.nf_msgs.specs.Exports.{units_in}
-use Rattle.nf_msgs.specs.Nodes.{instance_node}
 use Rattle.move_op.specs.declared.door.Door.TheVariants as door
-use Rattle.move_op.specs.Phases.{Phase}
 use Rattle.move_op.specs.Phases as phase
-use Rattle.move_op.specs.Move.{MovePlan, MoveNext, MoveRow, keeps, next_phase, have_units, chunks_of, put_back, source, destination, put_to, forward_to}
-use Rattle.move_op.specs.Move.{words, from_source, from_destination, row}
-use Rattle.move_op.specs.Table.{on_event, on_piece, on_source_fenced}
 use Rattle.proof_machines.proofs.unit.Real as real
-use Rattle.proof_machines.proofs.unit.Real.{RPhase, Op, OperationTurn, r_words}
 use Rattle.proof_machines.proofs.unit.TableViews.{map_phase, Follow, event_follows, source_enabled_follows, piece_follows, deleted_follows}
 use Rattle.proof_machines.proofs.unit.TableViews.{restored_follows, source_fenced_follows, put_ok_follows, put_no_follows}
 use Rattle.proof_machines.proofs.unit.TableViews.{destination_enabled_follows, destination_fenced_follows}
-use Rattle.proof_machines.proofs.unit.Labels.{Each}
 use Rattle.proof_machines.proofs.net.Net as net
-use Rattle.proof_machines.proofs.net.Net.{wrap, row_of}
 use Rattle.proof_outlines.proofs.outline.Outline.{number, entries, outline_piece, outline_sent, outline_sends}
 use Rattle.proof_outlines.proofs.outline.InstanceOutline.{filter_map-put}
 

@@ -1,22 +1,13 @@
 -- What holds of all that the words of a move come to holds of its row on any message. So what holds of each message that a move may send holds of
 -- all that it sends.
-use Rattle.std.proofs.Common.{◌≡◌, ℕ, Bool, true, false, List, [], ◌∷◌, ◌++◌, map, refl}
-use Rattle.std.specs.Prelude.{◌==◌}
-use Rattle.actor_net.proofs.WeightLaws.{Each}
-use Rattle.packet_pool.specs.Pool.{FullCell}
+use Rattle.proof_outlines.proofs.Words.{◌≡◌, ℕ, Bool, true, false, List, [], ◌∷◌, ◌++◌, map, refl, ◌==◌, Each, FullCell, Answer, Piece, Msg, Phase, Said}
+use Rattle.proof_outlines.proofs.Words.{Nothing, Put, Release, Give_back, MovePlan, MoveNext, MoveRow, put_back, source, destination, put_to, forward_to}
+use Rattle.proof_outlines.proofs.Words.{messages_of, words, from_source, from_destination, row, by_if}
 use Rattle.switch_rules.specs.declared.target.Target.TheVariants as target
-use Rattle.nf_msgs.specs.declared.answer.Answer.{Answer}
-use Rattle.nf_msgs.specs.declared.msg.Piece.{Piece}
-use Rattle.nf_msgs.specs.declared.msg.Msg.{Msg}
 use Rattle.nf_msgs.specs.declared.msg.Msg.TheVariants as msg
-use Rattle.move_op.specs.Phases.{Phase}
-use Rattle.move_op.specs.Table.{Said, Nothing, Put, Release, Give_back}
-use Rattle.move_op.specs.Move.{MovePlan, MoveNext, MoveRow, put_back, source, destination, put_to, forward_to}
-use Rattle.move_op.specs.Move.{messages_of, words, from_source, from_destination, row}
 use Rattle.proof_machines.proofs.unit.TableRows.{PhaseHas, Hold, stays, event_holds, source_enabled_holds, piece_holds, deleted_holds, restored_holds}
 use Rattle.proof_machines.proofs.unit.TableRows.{source_fenced_holds, put_ok_holds, put_no_holds, destination_enabled_holds, destination_fenced_holds}
 use Rattle.proof_machines.proofs.unit.TableRows.{Any, any_each, any_phase}
-use Rattle.proof_machines.proofs.Tests.{by_if}
 
 -- what a message of the source brings, and one of the destination
 abbrev pub Brings : (FullCell → Type 0) → (Piece → Type 0) → Msg → Type 0

@@ -1,24 +1,14 @@
 -- The controller's open operations after one is written or closed; and where no share is open nothing is served, so a message of an
 -- operation's number does what its turn does.
-use Rattle.std.proofs.Common.{◌≡◌, ◌≢◌, ℕ, Bool, true, false, cond, Option, Some, None, [], ◌++◌, append-nil, refl, sym, ap, ◌∙◌, subst, arith}
-use Rattle.std.specs.Prelude.{◌==◌}
-use Rattle.std.specs.Ordering.{nat_cmp, eq_by_cmp}
-use Rattle.std.specs.Cmp.{nat_cmp_total}
+use Rattle.proof_outlines.proofs.Words.{◌≡◌, ◌≢◌, ℕ, Bool, true, false, cond, Option, Some, None, [], ◌++◌, append-nil, refl, sym, ap, ◌∙◌, subst, arith, ◌==◌}
+use Rattle.proof_outlines.proofs.Words.{nat_cmp, eq_by_cmp, nat_cmp_total, nat_cmp-IsAntisymmetric, nat_tests, Decides-eqb, Answer, Msg, CopyState, ShareState}
+use Rattle.proof_outlines.proofs.Words.{MoveState, MoveRow, Store, row_in, answer_of, Operation, Move, Copy, Share, OpenOperations, turn_of, serving_of}
+use Rattle.proof_outlines.proofs.Words.{turn_of_move, turn_of_copy, ControllerState, Step, still, with_turn, after_turn, takes_turn, serve_step, and_serves}
+use Rattle.proof_outlines.proofs.Words.{hand_step, split}
 use Rattle.std.specs.FinMap as finite
-use Rattle.std.specs.FinMap.{same_map, nat_cmp-IsAntisymmetric}
-use Rattle.std.proofs.lemmas.Bool.Decides.{nat_tests, Decides-eqb}
+use Rattle.std.specs.FinMap.{same_map}
 use Rattle.std.proofs.lemmas.Cmp.{nat_eq_equiv}
-use Rattle.nf_msgs.specs.declared.answer.Answer.{Answer}
-use Rattle.nf_msgs.specs.declared.msg.Msg.{Msg}
-use Rattle.copy_share.specs.Copy.{CopyState}
 use Rattle.copy_share.specs.Copy as copy
-use Rattle.copy_share.specs.Share.{ShareState}
-use Rattle.move_op.specs.Move.{MoveState, MoveRow, Store, row_in, answer_of}
-use Rattle.ctrl_node.specs.declared.operation.Operation.{Operation}
-use Rattle.ctrl_node.specs.declared.operation.Operation.TheVariants.{Move, Copy, Share}
-use Rattle.ctrl_node.specs.Operations.{OpenOperations, turn_of, serving_of, turn_of_move, turn_of_copy}
-use Rattle.ctrl_node.specs.Controller.{ControllerState, Step, still, with_turn, after_turn, takes_turn, serve_step, and_serves, hand_step}
-use Rattle.proof_machines.proofs.Tests.{split}
 
 order_test : (a b : ℕ) → eq_by_cmp nat_cmp a b ≡ (a == b)
 order_test a b = grind (arith, nat_tests)

@@ -1,47 +1,23 @@
 -- The outlines of messages and instances, packets by their numbers and chunks by their records; and that the real function, filters
 -- and tables have the laws of the abstract network.
-use Rattle.std.proofs.Common.{◌≡◌, ℕ, Bool, Option, Some, None, List, [], ◌∷◌, map, refl, ap, ◌∙◌}
-use Rattle.std.specs.Prelude.{if◌then◌else◌, ◌&&◌, ◌+◌, max, nat_lt, option_map}
-use Rattle.std.specs.List.{filter_map}
+use Rattle.proof_outlines.proofs.Words.{◌≡◌, ℕ, Bool, Option, Some, None, List, [], ◌∷◌, map, refl, ap, ◌∙◌, if◌then◌else◌, ◌&&◌, ◌+◌, max, nat_lt, option_map}
+use Rattle.proof_outlines.proofs.Words.{filter_map, Filter, Packet, Site, meets, Chunk, unit_cmp, units_total, newest, Semantics, unit_at, version_number}
+use Rattle.proof_outlines.proofs.Words.{Records, same_unit, spelled, same_unit_equiv, Action, FullCell, Target, Answer, Order, Piece, Msg, Note, instance_node}
+use Rattle.proof_outlines.proofs.Words.{Instance, Chunks, RPiece, live_table, Sys, IsSys, Ruling, Room, MoveAsked, NumberedInstance, everything}
 use Rattle.std.specs.FinMap as finite
-use Rattle.flow_filter.specs.declared.filter.Filter.{Filter}
-use Rattle.flow_filter.specs.declared.packet.Packet.{Packet}
-use Rattle.flow_filter.specs.declared.site.Site.{Site}
-use Rattle.flow_filter.specs.Filter.{meets}
-use Rattle.nf_function.specs.declared.chunk.Chunk.{Chunk}
 use Rattle.nf_function.specs.declared.unit.Unit as units
-use Rattle.nf_function.specs.Units.{unit_cmp}
-use Rattle.nf_function.specs.UnitOrder.{units_total}
-use Rattle.nf_function.specs.Records.{newest}
-use Rattle.nf_function.specs.Semantics.{Semantics, unit_at}
-use Rattle.state_chunk.specs.Format.{version_number}
-use Rattle.record_table.specs.Table.{Records, same_unit}
-use Rattle.record_table.specs.Chunks.{spelled}
-use Rattle.record_table.proofs.UnitOrder.{same_unit_equiv}
-use Rattle.event_filter.specs.declared.action.Action.{Action}
 use Rattle.event_filter.specs.declared.action.Action.TheVariants as action
 use Rattle.event_filter.specs.declared.mark.Mark.TheVariants as mark
 use Rattle.event_filter.specs.declared.rule.Rule.{Rule as EventRule}
-use Rattle.packet_pool.specs.Pool.{FullCell}
-use Rattle.switch_rules.specs.declared.target.Target.{Target}
 use Rattle.switch_rules.specs.declared.target.Target.TheVariants as target
-use Rattle.nf_msgs.specs.declared.answer.Answer.{Answer}
 use Rattle.nf_msgs.specs.declared.answer.Answer.TheVariants as answer
-use Rattle.nf_msgs.specs.declared.command.Order.{Order}
 use Rattle.nf_msgs.specs.declared.command.Order.TheVariants as order
-use Rattle.nf_msgs.specs.declared.msg.Piece.{Piece}
-use Rattle.nf_msgs.specs.declared.msg.Msg.{Msg}
 use Rattle.nf_msgs.specs.declared.msg.Msg.TheVariants as msg
-use Rattle.nf_msgs.specs.declared.note.Note.{Note}
 use Rattle.nf_msgs.specs.declared.note.Note.TheVariants as note
-use Rattle.nf_msgs.specs.Nodes.{instance_node}
-use Rattle.instance_worker.specs.declared.instance.Instance.{Instance}
 use Rattle.proof_machines.proofs.unit.Machine as machine
 use Rattle.proof_machines.proofs.unit.Real as real
-use Rattle.proof_machines.proofs.unit.Real.{Chunks, RPiece}
-use Rattle.proof_machines.proofs.unit.RecordTables.{live_table, live_laws}
+use Rattle.proof_machines.proofs.unit.RecordTables.{live_laws}
 use Rattle.proof_machines.proofs.net.Net as net
-use Rattle.proof_machines.proofs.net.Net.{Sys, IsSys, Ruling, Room, MoveAsked, NumberedInstance, everything}
 use Rattle.proof_outlines.proofs.outline.FiltersApart.{takes_whole, filters_apart}
 
 -- a cell by its packet's number

@@ -1,40 +1,23 @@
 -- The outline of an instance's step on state that it gives or takes is the step of the abstract network.
-use Rattle.std.proofs.Common.{◌≡◌, ℕ, zero, suc, Bool, true, false, Option, Some, None, List, [], ◌∷◌, map, length, take, drop, refl, sym, ap, ◌∙◌}
-use Rattle.std.specs.Prelude.{if◌then◌else◌, cond, max, nat_le, nat_lt, is_some, All}
+use Rattle.proof_outlines.proofs.Words.{◌≡◌, ℕ, zero, suc, Bool, true, false, Option, Some, None, List, [], ◌∷◌, map, length, take, drop, refl, sym, ap, ◌∙◌}
+use Rattle.proof_outlines.proofs.Words.{if◌then◌else◌, cond, max, nat_le, nat_lt, is_some, All, length-map, All-head, All-tail, Filter, Packet, Site, Chunk}
+use Rattle.proof_outlines.proofs.Words.{takes, units_total, Semantics, record_chunk, version_number, Records, AreSound, taken_by, are_good, one_unit}
+use Rattle.proof_outlines.proofs.Words.{sound_retain_keys, valid_entries, spelled-record_chunk, Answer, Instance, WholePieces, newest_version, piece_of}
+use Rattle.proof_outlines.proofs.Words.{whole_of, pieces, to_controller, on_delete, piece_refusal, piece_put, Chunks, is_nil, Each, live_table, inst_step}
+use Rattle.proof_outlines.proofs.Words.{everything, to_ctrl}
 use Rattle.std.specs.FinMap as finite
-use Rattle.std.proofs.lemmas.List.{length-map}
-use Rattle.std.proofs.lemmas.List.Elements.{All-head, All-tail}
-use Rattle.flow_filter.specs.declared.filter.Filter.{Filter}
-use Rattle.flow_filter.specs.declared.packet.Packet.{Packet}
-use Rattle.flow_filter.specs.declared.site.Site.{Site}
-use Rattle.nf_function.specs.declared.chunk.Chunk.{Chunk}
 use Rattle.nf_function.specs.declared.unit.Unit as units
-use Rattle.nf_function.specs.Units.{takes}
-use Rattle.nf_function.specs.UnitOrder.{units_total}
 use Rattle.nf_function.specs.Records.{Laws as FunctionLaws}
-use Rattle.nf_function.specs.Semantics.{Semantics}
-use Rattle.state_chunk.specs.Format.{record_bytes, record_chunk, version_number}
-use Rattle.record_table.specs.Table.{Records, AreSound, taken_by}
-use Rattle.record_table.specs.Chunks.{records_of, are_good, chunks_of}
-use Rattle.record_table.proofs.UnitOrder.{one_unit}
-use Rattle.record_table.proofs.RecordLookUps.{sound_retain_keys}
-use Rattle.record_table.proofs.MadeChunks.{valid_entries, spelled-record_chunk}
-use Rattle.nf_msgs.specs.declared.answer.Answer.{Answer}
+use Rattle.state_chunk.specs.Format.{record_bytes}
+use Rattle.record_table.specs.Chunks.{records_of, chunks_of}
 use Rattle.nf_msgs.specs.declared.msg.Piece.{Piece as APiece}
 use Rattle.nf_msgs.specs.declared.msg.Msg.TheVariants as msg
-use Rattle.instance_worker.specs.declared.instance.Instance.{Instance}
-use Rattle.instance_worker.specs.declared.pieces.WholePieces.{WholePieces}
-use Rattle.instance_worker.specs.Pieces.{newest_version, piece_of, pieces_from, whole_of, pieces}
-use Rattle.instance_worker.specs.Instance.{to_controller, on_stream, on_delete, on_put, on_restore, piece_refusal, piece_put}
+use Rattle.instance_worker.specs.Pieces.{pieces_from}
+use Rattle.instance_worker.specs.Instance.{on_stream, on_put, on_restore}
 use Rattle.proof_machines.proofs.unit.Real as real
-use Rattle.proof_machines.proofs.unit.Real.{Chunks}
 use Rattle.proof_machines.proofs.unit.Cuts.{marks, chop, is_nil-chop}
-use Rattle.proof_machines.proofs.unit.Machine.{is_nil}
-use Rattle.proof_machines.proofs.unit.Labels.{Each}
-use Rattle.proof_machines.proofs.unit.RecordTables.{live_table}
 use Rattle.proof_machines.proofs.unit.SeenInst.{r_put}
 use Rattle.proof_machines.proofs.net.Net as net
-use Rattle.proof_machines.proofs.net.Net.{inst_step, everything, to_ctrl}
 use Rattle.proof_outlines.proofs.outline.FiltersApart.{is_whole, unit_fits, takes_whole}
 use Rattle.proof_outlines.proofs.outline.Outline.{entries, outline_piece, outline_sends, newest_in, sys, outline_instance}
 use Rattle.proof_outlines.proofs.outline.InstanceOutline.{Follows}

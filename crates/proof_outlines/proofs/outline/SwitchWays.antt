@@ -1,22 +1,10 @@
 -- The ways in which the switch goes on with a message: what holds of each of them holds of its step.
-use Rattle.std.proofs.Common.{ℕ, [], ◌∷◌}
-use Rattle.std.specs.Prelude.{◌-◌, ◌==◌, ◌&&◌, ◌||◌, not, nat_lt}
-use Rattle.flow_filter.specs.declared.filter.Filter.{Filter}
-use Rattle.flow_filter.specs.declared.packet.Packet.{Packet}
-use Rattle.event_filter.specs.declared.mark.Mark.{Mark}
-use Rattle.event_filter.specs.declared.mark.Mark.TheVariants.{Plain}
-use Rattle.packet_pool.specs.Pool.{FullCell, one_more}
-use Rattle.switch_rules.specs.declared.target.Target.{Target}
+use Rattle.proof_outlines.proofs.Words.{ℕ, [], ◌∷◌, ◌-◌, ◌==◌, ◌&&◌, ◌||◌, not, nat_lt, Filter, Packet, Mark, Plain, FullCell, one_more, Target}
+use Rattle.proof_outlines.proofs.Words.{rules_redirected, Command, Msg, Installed, instance_node, controller_node, SwitchState, switch_step, by_if}
 use Rattle.switch_rules.specs.declared.target.Target.TheVariants as target
-use Rattle.switch_rules.specs.Rules.{rules_redirected}
-use Rattle.nf_msgs.specs.declared.command.Command.{Command}
-use Rattle.nf_msgs.specs.declared.msg.Msg.{Msg}
 use Rattle.nf_msgs.specs.declared.msg.Msg.TheVariants as msg
-use Rattle.nf_msgs.specs.declared.note.Note.TheVariants.{Installed}
-use Rattle.nf_msgs.specs.Nodes.{instance_node, controller_node}
 use Rattle.switch_node.specs.Switch as switch
-use Rattle.switch_node.specs.Switch.{SwitchState, Step, switch_step}
-use Rattle.proof_machines.proofs.Tests.{by_if}
+use Rattle.switch_node.specs.Switch.{Step}
 
 module _ (s : SwitchState) (Allows : Msg → Step → Type 0) where
   abbrev installs : ℕ → Filter → ℕ → Target → Step

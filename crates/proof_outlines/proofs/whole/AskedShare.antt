@@ -1,21 +1,12 @@
 -- Commands that come to the switch: what the network with shares sees of them; and the members of a share that is asked for.
-use Rattle.std.proofs.Common.{◌≡◌, ℕ, suc, ◌≤◌, Bool, true, false, Option, Some, None, List, [], ◌∷◌, length, refl, sym, ap, ◌∙◌, subst, arith}
-use Rattle.std.specs.Prelude.{if◌then◌else◌, ◌==◌, option_map}
-use Rattle.std.specs.List.{IsDistinct, AllByRecursion}
-use Rattle.std.specs.Str.{bytes_eq}
-use Rattle.std.proofs.lemmas.Bool.Decides.{nat_tests, Decides-eqb}
-use Rattle.std.proofs.lemmas.Map.Keys.{IsDistinct-head, IsDistinct-tail}
-use Rattle.nf_function.specs.Semantics.{Semantics}
-use Rattle.nf_msgs.specs.declared.command.Command.{Command}
-use Rattle.nf_msgs.specs.declared.command.Order.{Order}
+use Rattle.proof_outlines.proofs.Words.{◌≡◌, ℕ, suc, ◌≤◌, Bool, true, false, Option, Some, None, List, [], ◌∷◌, length, refl, sym, ap, ◌∙◌, subst, arith}
+use Rattle.proof_outlines.proofs.Words.{if◌then◌else◌, ◌==◌, option_map, AllByRecursion, bytes_eq, nat_tests, Decides-eqb, IsDistinct-head, IsDistinct-tail}
+use Rattle.proof_outlines.proofs.Words.{Semantics, Command, Order, controller_node, instance_node, SwitchState, on_command, has, MoveAsked, Any, Old, New}
+use Rattle.proof_outlines.proofs.Words.{WantShare, S_asked}
+use Rattle.std.specs.List.{IsDistinct}
 use Rattle.nf_msgs.specs.declared.command.Order.TheVariants as order
-use Rattle.nf_msgs.specs.Nodes.{controller_node, instance_node}
-use Rattle.switch_node.specs.Switch.{SwitchState, on_command}
-use Rattle.proof_machines.proofs.share.Share.{has}
 use Rattle.proof_machines.proofs.share.Stages.{distinct}
 use Rattle.proof_machines.proofs.net.Net as net
-use Rattle.proof_machines.proofs.net.Net.{MoveAsked}
-use Rattle.proof_machines.proofs.net.Shares.{Any, Old, New, WantShare, S_asked}
 use Rattle.proof_outlines.proofs.outline.Outline.{want_of}
 use Rattle.proof_outlines.proofs.whole.WholeOutline.{with_member, members_of, share_between, want_share_of, asked_of, outline_all}
 

@@ -1,29 +1,14 @@
 -- The controller after a begin of a share, a move or a copy is that of the network with shares.
-use Rattle.std.proofs.Common.{◌≡◌, ℕ, true, false, cond, Option, Some, None, List, [], ◌∷◌, ◌++◌, map, refl, sym, ap, ◌∙◌, subst, arith}
-use Rattle.std.specs.Prelude.{if◌then◌else◌, ◌==◌}
-use Rattle.std.specs.List.{filter_map}
+use Rattle.proof_outlines.proofs.Words.{◌≡◌, ℕ, true, false, cond, Option, Some, None, List, [], ◌∷◌, ◌++◌, map, refl, sym, ap, ◌∙◌, subst, arith}
+use Rattle.proof_outlines.proofs.Words.{if◌then◌else◌, ◌==◌, filter_map, self, Filter, Packet, Site, Semantics, stored_of, instance_node, MovePlan}
+use Rattle.proof_outlines.proofs.Words.{move_at_start, CopyPlan, SharePlan, Operation, Move, Copy, Share, ControllerState, move_begin, copy_begin, share_begin}
+use Rattle.proof_outlines.proofs.Words.{begin_step, place_of, Open, MoveAsked, find_op, new_op, begin_sends, find_old, find_new, Any, New, WantShare, S_install}
+use Rattle.proof_outlines.proofs.Words.{S_get, OpenShare, find_share, new_share, as_old}
 use Rattle.std.specs.FinMap as finite
-use Rattle.proof_machines.proofs.share.Lists.{self}
-use Rattle.flow_filter.specs.declared.filter.Filter.{Filter}
-use Rattle.flow_filter.specs.declared.packet.Packet.{Packet}
-use Rattle.flow_filter.specs.declared.site.Site.{Site}
-use Rattle.nf_function.specs.Semantics.{Semantics}
-use Rattle.event_store.specs.Store.{stored_of}
 use Rattle.nf_msgs.specs.declared.command.Order.TheVariants as order
-use Rattle.nf_msgs.specs.Nodes.{instance_node}
-use Rattle.move_op.specs.Move.{MovePlan, move_at_start}
-use Rattle.copy_share.specs.Copy.{CopyPlan}
 use Rattle.copy_share.specs.Copy as copy
-use Rattle.copy_share.specs.Share.{SharePlan}
 use Rattle.copy_share.specs.Share as share
-use Rattle.ctrl_node.specs.declared.operation.Operation.{Operation}
-use Rattle.ctrl_node.specs.declared.operation.Operation.TheVariants.{Move, Copy, Share}
-use Rattle.ctrl_node.specs.Controller.{ControllerState, move_begin, copy_begin, share_begin, begin_step}
-use Rattle.flow_filter.specs.Name.{place_of}
-use Rattle.proof_machines.proofs.net.Net.{Open, MoveAsked, find_op, new_op, begin_sends}
 use Rattle.proof_machines.proofs.net.GlobalShares.{ops_old}
-use Rattle.proof_machines.proofs.net.ShareLists.{find_old, find_new}
-use Rattle.proof_machines.proofs.net.Shares.{Any, New, WantShare, S_install, S_get, OpenShare, find_share, new_share, as_old}
 use Rattle.proof_outlines.proofs.outline.OperationTables.{got_insert}
 use Rattle.proof_outlines.proofs.whole.WholeOutline.{members_of, share_between, want_share_of, outline_all}
 use Rattle.proof_outlines.proofs.whole.AskedShare.{is_more}

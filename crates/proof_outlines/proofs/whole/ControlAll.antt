@@ -1,41 +1,26 @@
 -- The controller's step on each message of an operation's number is that of the network with shares: what the operation under the number is
 -- told, and nothing where there is none or a copy.
-use Rattle.std.proofs.Common.{◌≡◌, ℕ, ◌<◌, Option, Some, None, List, [], map, length, refl, sym, ap, ◌∙◌, subst, append-nil}
-use Rattle.std.specs.Prelude.{◌==◌, option_map}
+use Rattle.proof_outlines.proofs.Words.{◌≡◌, ℕ, ◌<◌, Option, Some, None, List, [], map, length, refl, sym, ap, ◌∙◌, subst, append-nil, ◌==◌, option_map, Packet}
+use Rattle.proof_outlines.proofs.Words.{Site, Chunk, Semantics, spelled, FullCell, stored_of, Msg, MoveState, ShareState, Operation, Move, Copy, Share}
+use Rattle.proof_outlines.proofs.Words.{ControllerState, hand_step, Sys, Open, ControllerMove, everything, find_op, found, num_of, numbered, Any, ShareMsg, Old}
+use Rattle.proof_outlines.proofs.Words.{New, S_chunks, S_shared, S_synced, Sharing, OpenShare, find_share, Told, Is_fenced, Has_chunks, Has_chunk, Is_synced}
+use Rattle.proof_outlines.proofs.Words.{share_row, as_old, told_by, by_share, old_step, Each, by_if}
 use Rattle.std.specs.FinMap as finite
-use Rattle.flow_filter.specs.declared.packet.Packet.{Packet}
-use Rattle.flow_filter.specs.declared.site.Site.{Site}
-use Rattle.nf_function.specs.declared.chunk.Chunk.{Chunk}
 use Rattle.nf_function.specs.declared.unit.Unit as units
-use Rattle.nf_function.specs.Semantics.{Semantics}
-use Rattle.record_table.specs.Chunks.{spelled}
-use Rattle.packet_pool.specs.Pool.{FullCell}
-use Rattle.event_store.specs.Store.{stored_of}
-use Rattle.nf_msgs.specs.declared.msg.Msg.{Msg}
 use Rattle.nf_msgs.specs.declared.msg.Msg.TheVariants as msg
 use Rattle.move_op.specs.Move as move
-use Rattle.move_op.specs.Move.{MoveState}
-use Rattle.copy_share.specs.Share.{ShareState}
 use Rattle.copy_share.specs.Share as share
-use Rattle.ctrl_node.specs.declared.operation.Operation.{Operation}
-use Rattle.ctrl_node.specs.declared.operation.Operation.TheVariants.{Move, Copy, Share}
-use Rattle.ctrl_node.specs.Controller.{ControllerState, hand_step}
 use Rattle.proof_machines.proofs.unit.Real as real
 use Rattle.proof_machines.proofs.net.Net as net
-use Rattle.proof_machines.proofs.net.Net.{Sys, Open, ControllerMove, everything, find_op, found, num_of, numbered}
-use Rattle.proof_machines.proofs.net.Shares.{Any, ShareMsg, Old, New, S_chunks, S_shared, S_synced, Sharing, OpenShare, find_share, Told}
-use Rattle.proof_machines.proofs.net.Shares.{Is_fenced, Has_chunks, Has_chunk, Is_synced, share_row, as_old, told_by, by_share, old_step}
 use Rattle.proof_outlines.proofs.outline.Outline.{number, entries, sys}
 use Rattle.proof_outlines.proofs.outline.InstanceOutline.{IsGenuine}
 use Rattle.proof_outlines.proofs.outline.MoveOutline.{outline_plan, outline_phase, RowFollows}
-use Rattle.proof_machines.proofs.unit.Labels.{Each}
 use Rattle.proof_outlines.proofs.whole.WholeOutline.{sharing}
 use Rattle.proof_outlines.proofs.whole.ShareOutline.{outline_share, ShareFollows, fenced_rows, chunks_rows, shared_rows, synced_rows}
 use Rattle.proof_outlines.proofs.whole.OpenShares.{but_shares, share_in, IsUnseen, SeesAny, OpensAll, no_op}
 use Rattle.proof_outlines.proofs.whole.OpenShares.{no_open_share, both, joins, all_step, StepFollows}
 use Rattle.proof_outlines.proofs.whole.ShareTurns.{share_handed, share_quiet}
 use Rattle.proof_outlines.proofs.whole.OtherTurns.{Same, none_handed, copy_handed, move_quiet, move_handed}
-use Rattle.proof_machines.proofs.Tests.{by_if}
 
 -- a message that a move doesn't look at
 pub unlooked : (mv : MoveState) (events : List FullCell) (port : ℕ) (m : Msg)

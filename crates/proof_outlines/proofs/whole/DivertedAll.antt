@@ -1,32 +1,14 @@
 -- The controller's step on a packet whose target it is: the share whose filter matches the packet's flow is the one that takes its unit.
-use Rattle.std.proofs.Common.{◌≡◌, ℕ, ◌<◌, Bool, true, false, cond, Option, Some, None, List, [], ◌∷◌, ◌++◌, refl, sym, ap, ◌∙◌, subst, arith}
-use Rattle.std.specs.Prelude.{T, if◌then◌else◌, ◌==◌, find, option_map, unwrap_or}
-use Rattle.std.specs.Ordering.{nat_cmp, eq_by_cmp, is_lt}
+use Rattle.proof_outlines.proofs.Words.{◌≡◌, ℕ, ◌<◌, Bool, true, false, cond, Option, Some, None, List, [], ◌∷◌, ◌++◌, refl, sym, ap, ◌∙◌, subst, arith, T}
+use Rattle.proof_outlines.proofs.Words.{if◌then◌else◌, ◌==◌, find, option_map, unwrap_or, nat_cmp, eq_by_cmp, is_lt, nat_tests, Filter, Flow, Packet, Site}
+use Rattle.proof_outlines.proofs.Words.{matches, flow_of, Semantics, unit_at, FullCell, stored_of, ShareState, Operation, Share, is_shared_by, share_of}
+use Rattle.proof_outlines.proofs.Words.{ControllerState, queue_step, on_diverted, Each, each_any, Sys, Open, AreNumbersApart, taking_each, taking_found, New}
+use Rattle.proof_outlines.proofs.Words.{Diverted_on, Sharing, OpenShare, find_share, share_taking, Has_packet, share_row, by_share, split}
 use Rattle.std.specs.FinMap as finite
 use Rattle.std.specs.FinMap.Entries.{below_all}
-use Rattle.std.proofs.lemmas.Bool.Decides.{nat_tests}
 use Rattle.std.proofs.Math.Facts.{and_yes}
-use Rattle.flow_filter.specs.declared.filter.Filter.{Filter}
-use Rattle.flow_filter.specs.declared.flow.Flow.{Flow}
-use Rattle.flow_filter.specs.declared.packet.Packet.{Packet}
-use Rattle.flow_filter.specs.declared.site.Site.{Site}
-use Rattle.flow_filter.specs.Filter.{matches}
-use Rattle.flow_filter.specs.Flow.{flow_of}
 use Rattle.nf_function.specs.declared.unit.Unit as units
-use Rattle.nf_function.specs.Semantics.{Semantics, unit_at}
-use Rattle.packet_pool.specs.Pool.{FullCell}
-use Rattle.event_store.specs.Store.{stored_of}
-use Rattle.copy_share.specs.Share.{ShareState}
 use Rattle.copy_share.specs.Share as real
-use Rattle.ctrl_node.specs.declared.operation.Operation.{Operation}
-use Rattle.ctrl_node.specs.declared.operation.Operation.TheVariants.{Share}
-use Rattle.ctrl_node.specs.Operations.{is_shared_by, share_of}
-use Rattle.ctrl_node.specs.Controller.{ControllerState, queue_step, on_diverted}
-use Rattle.proof_machines.proofs.unit.Labels.{Each, each_any}
-use Rattle.proof_machines.proofs.net.Net.{Sys, Open}
-use Rattle.proof_machines.proofs.net.ShareLists.{AreNumbersApart}
-use Rattle.proof_machines.proofs.net.ShareRows.{taking_each, taking_found}
-use Rattle.proof_machines.proofs.net.Shares.{New, Diverted_on, Sharing, OpenShare, find_share, share_taking, Has_packet, share_row, by_share}
 use Rattle.proof_outlines.proofs.outline.FiltersApart.{is_whole, takes_whole, whole_takes}
 use Rattle.proof_outlines.proofs.outline.Outline.{number, sys}
 use Rattle.proof_outlines.proofs.outline.InstanceOutline.{IsGenuine}
@@ -34,7 +16,6 @@ use Rattle.proof_outlines.proofs.whole.WholeOutline.{sharing}
 use Rattle.proof_outlines.proofs.whole.ShareOutline.{ShareFollows, outline_share, packet_rows}
 use Rattle.proof_outlines.proofs.whole.OpenShares.{OpensAll, both, real_share, all_step, StepFollows}
 use Rattle.proof_outlines.proofs.whole.ShareTurns.{share_queued}
-use Rattle.proof_machines.proofs.Tests.{split}
 
 pub is_less : (a b : ℕ) → T (is_lt (nat_cmp a b)) → a < b
 is_less a b h = grind (arith, nat_tests)

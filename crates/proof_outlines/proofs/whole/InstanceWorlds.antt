@@ -1,19 +1,10 @@
 -- An instance's step in a world of the network with shares that shows the instance: the world after the abstract step shows what it leaves.
-use Rattle.std.proofs.Common.{◌≡◌, ℕ, true, Option, List, [], ◌++◌, refl, sym, ap, ◌∙◌, subst, arith, append-nil}
-use Rattle.std.specs.Prelude.{if◌then◌else◌, ◌==◌}
-use Rattle.std.specs.List.{filter_map}
-use Rattle.std.proofs.lemmas.Bool.Decides.{nat_tests}
-use Rattle.actor_net.proofs.LinkLemmas.{neither}
-use Rattle.flow_filter.specs.declared.packet.Packet.{Packet}
-use Rattle.flow_filter.specs.declared.site.Site.{Site}
-use Rattle.nf_function.specs.Semantics.{Semantics}
-use Rattle.record_table.specs.Table.{Records}
-use Rattle.instance_worker.specs.declared.instance.Instance.{Instance}
+use Rattle.proof_outlines.proofs.Words.{◌≡◌, ℕ, true, Option, List, [], ◌++◌, refl, sym, ap, ◌∙◌, subst, arith, append-nil, if◌then◌else◌, ◌==◌, filter_map}
+use Rattle.proof_outlines.proofs.Words.{nat_tests, neither, Packet, Site, Semantics, Records, Instance, sent_for, NumberedInstance, inst_step, links_after}
+use Rattle.proof_outlines.proofs.Words.{at_node, put, Old, New, ShareMsg, WholeWorld, member_step, whole_inst}
 use Rattle.instance_worker.specs.Instance.{Step}
-use Rattle.proof_machines.proofs.unit.Real.{sent_for}
 use Rattle.proof_machines.proofs.net.Net as net
-use Rattle.proof_machines.proofs.net.Net.{NumberedInstance, inst_step, links_after, at_node, put}
-use Rattle.proof_machines.proofs.net.Shares.{Old, New, ShareMsg, WholeWorld, member_step, whole_inst, keeps}
+use Rattle.proof_machines.proofs.net.Shares.{keeps}
 use Rattle.proof_outlines.proofs.outline.Outline.{ran_in, outline_instance}
 use Rattle.proof_outlines.proofs.whole.WholeOutline.{outline_all, S, A}
 use Rattle.proof_outlines.proofs.whole.MemberOutline.{MemberFollows}

@@ -1,30 +1,16 @@
 -- The outline of an instance's step on a message of a share is the step of a member of the abstract network.
-use Rattle.std.proofs.Common.{◌≡◌, ℕ, Bool, true, false, Option, Some, None, List, [], ◌∷◌, ◌++◌, refl, ap, ◌∙◌}
-use Rattle.std.specs.Prelude.{option_map}
-use Rattle.std.specs.Option.{option_map_or}
-use Rattle.std.specs.List.{filter_map}
+use Rattle.proof_outlines.proofs.Words.{◌≡◌, ℕ, Bool, true, false, Option, Some, None, List, [], ◌∷◌, ◌++◌, refl, ap, ◌∙◌, option_map, option_map_or}
+use Rattle.proof_outlines.proofs.Words.{filter_map, Filter, Packet, Site, Chunk, takes, Semantics, is_sound, unit_at, record_chunk, Records, AreSound, part}
+use Rattle.proof_outlines.proofs.Words.{after_packet, taken_by, are_good, sound_retain_keys, valid_entries, spelled-record_chunk, FullCell, switch_node}
+use Rattle.proof_outlines.proofs.Words.{controller_node, Instance, to_controller, chunk_told, process, New, ShareMsg, MemberTurn, member_step, shared_chunk}
+use Rattle.proof_outlines.proofs.Words.{Shared_on, S_get, S_sync, S_chunks, S_shared}
 use Rattle.std.specs.FinMap as finite
-use Rattle.flow_filter.specs.declared.filter.Filter.{Filter}
-use Rattle.flow_filter.specs.declared.packet.Packet.{Packet}
-use Rattle.flow_filter.specs.declared.site.Site.{Site}
-use Rattle.nf_function.specs.declared.chunk.Chunk.{Chunk}
 use Rattle.nf_function.specs.declared.unit.Unit as units
-use Rattle.nf_function.specs.Units.{takes}
 use Rattle.nf_function.specs.Records.{Laws as FunctionLaws}
-use Rattle.nf_function.specs.Semantics.{Semantics, is_sound, unit_at}
-use Rattle.state_chunk.specs.Format.{record_chunk}
-use Rattle.record_table.specs.Table.{Records, AreSound, part, after_packet, taken_by}
-use Rattle.record_table.specs.Chunks.{records_of, are_good, chunks_of}
-use Rattle.record_table.proofs.RecordLookUps.{sound_retain_keys}
-use Rattle.record_table.proofs.MadeChunks.{valid_entries, spelled-record_chunk}
+use Rattle.record_table.specs.Chunks.{records_of, chunks_of}
 use Rattle.event_filter.specs.declared.mark.Mark.TheVariants as mark
-use Rattle.packet_pool.specs.Pool.{FullCell}
 use Rattle.nf_msgs.specs.declared.msg.Msg.TheVariants as msg
-use Rattle.nf_msgs.specs.Nodes.{switch_node, controller_node}
-use Rattle.instance_worker.specs.declared.instance.Instance.{Instance}
-use Rattle.instance_worker.specs.Instance.{Step, to_controller, chunk_told, process_step, on_carry, on_get, on_sync}
-use Rattle.proof_machines.proofs.net.Net.{process}
-use Rattle.proof_machines.proofs.net.Shares.{New, ShareMsg, MemberTurn, member_step, shared_chunk, Shared_on, S_get, S_sync, S_chunks, S_shared}
+use Rattle.instance_worker.specs.Instance.{Step, process_step, on_carry, on_get, on_sync}
 use Rattle.proof_outlines.proofs.outline.FiltersApart.{is_whole, takes_whole}
 use Rattle.proof_outlines.proofs.outline.Outline.{number, entries, ran_in, sys, outline_instance}
 use Rattle.proof_outlines.proofs.outline.InstanceOutline.{IsGenuine, IsInstance, after_same}

@@ -1,20 +1,14 @@
 -- What messages of shares and copies leave in an instance's tables: valid records in both, and by look-ups what a copy's records leave of
 -- those that stand by.
-use Rattle.std.proofs.Common.{◌≡◌, Bool, true, false, cond, Option, Some, None, List, [], ◌∷◌, refl, sym, ap, ◌∙◌, subst}
+use Rattle.proof_outlines.proofs.Words.{◌≡◌, Bool, true, false, cond, Option, Some, None, List, [], ◌∷◌, refl, sym, ap, ◌∙◌, subst, Chunk, units_total}
+use Rattle.proof_outlines.proofs.Words.{is_newer, newest, Semantics, is_sound, Records, TableView, same_unit, AreSound, part, with_part, either, union_of}
+use Rattle.proof_outlines.proofs.Words.{newest_of, replaced_by, same_unit-true, get-joined, Chunks, record_at, split}
 use Rattle.std.specs.FinMap as finite
-use Rattle.nf_function.specs.declared.chunk.Chunk.{Chunk}
 use Rattle.nf_function.specs.declared.unit.Unit as units
-use Rattle.nf_function.specs.UnitOrder.{units_total}
-use Rattle.nf_function.specs.Records.{is_newer, newest, Laws as FunctionLaws}
-use Rattle.nf_function.specs.Semantics.{Semantics, is_sound}
-use Rattle.record_table.specs.Table.{Records, TableView, same_unit, AreSound, part, with_part, either, union_of, newest_of, replaced_by}
+use Rattle.nf_function.specs.Records.{Laws as FunctionLaws}
 use Rattle.record_table.specs.Chunks.{records_of}
-use Rattle.record_table.proofs.UnitOrder.{same_unit-true}
-use Rattle.record_table.proofs.RecordLookUps.{get-joined}
-use Rattle.proof_machines.proofs.unit.Real.{Chunks, record_at}
 use Rattle.proof_outlines.proofs.outline.Outline.{entries}
 use Rattle.proof_outlines.proofs.outline.StateOutline.{AreValid}
-use Rattle.proof_machines.proofs.Tests.{split}
 
 -- what holds of both records holds of the one that is chosen
 abbrev Chooses : {R : Type 0} → (R → R → R) → Type 1

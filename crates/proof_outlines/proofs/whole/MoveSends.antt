@@ -1,15 +1,9 @@
 -- What a move sends is of moves alone: the network with shares sees of it what the one of moves does.
-use Rattle.std.proofs.Common.{◌≡◌, ℕ, false, Option, List, [], ◌∷◌, ◌++◌, map, refl, sym, ap, ◌∙◌}
-use Rattle.nf_function.specs.Semantics.{Semantics}
-use Rattle.packet_pool.specs.Pool.{FullCell}
+use Rattle.proof_outlines.proofs.Words.{◌≡◌, ℕ, false, Option, List, [], ◌∷◌, ◌++◌, map, refl, sym, ap, ◌∙◌, Semantics, FullCell, Piece, Msg, Said, Put}
+use Rattle.proof_outlines.proofs.Words.{Release, Give_back, MovePlan, MoveState, put_to, forward_to, messages_of, row, Old, as_old}
 use Rattle.switch_rules.specs.declared.target.Target.TheVariants as target
-use Rattle.nf_msgs.specs.declared.msg.Piece.{Piece}
-use Rattle.nf_msgs.specs.declared.msg.Msg.{Msg}
 use Rattle.nf_msgs.specs.declared.msg.Msg.TheVariants as msg
-use Rattle.move_op.specs.Table.{Said, Put, Release, Give_back}
-use Rattle.move_op.specs.Move.{MovePlan, MoveState, put_to, forward_to, messages_of, row}
 use Rattle.proof_machines.proofs.net.Net as net
-use Rattle.proof_machines.proofs.net.Shares.{Old, as_old}
 use Rattle.proof_outlines.proofs.outline.Outline.{outline_sent, outline_sends}
 use Rattle.proof_outlines.proofs.outline.InstanceOutline.{filter_map-put}
 use Rattle.proof_outlines.proofs.outline.MoveRows.{row_sends}

@@ -1,26 +1,14 @@
 -- The controller's open operations as the network with shares sees them: moves and shares by their numbers, copies not at all; what a change
 -- at one number leaves of the others; and the controller without its shares, which is one of moves alone.
-use Rattle.std.proofs.Common.{◌≡◌, ℕ, Bool, true, false, cond, Option, Some, None, List, ◌++◌, refl, sym, ap, ◌∙◌, subst, arith}
-use Rattle.std.specs.Prelude.{◌==◌}
+use Rattle.proof_outlines.proofs.Words.{◌≡◌, ℕ, Bool, true, false, cond, Option, Some, None, List, ◌++◌, refl, sym, ap, ◌∙◌, subst, arith, ◌==◌}
+use Rattle.proof_outlines.proofs.Words.{nat_cmp-IsAntisymmetric, nat_tests, Decides-eqb, Packet, Site, Semantics, FullCell, stored_of, ShareState, Operation}
+use Rattle.proof_outlines.proofs.Words.{Move, Copy, Share, ControllerState, Step, Sys, Open, ControllerMove, find_op, links_after, Any, Sharing, OpenShare}
+use Rattle.proof_outlines.proofs.Words.{find_share, as_old, old_step, SharesStep, told_by, by_share, WholeWorld, whole_ctrl, either_way}
 use Rattle.std.specs.FinMap as finite
-use Rattle.std.specs.FinMap.{nat_cmp-IsAntisymmetric}
-use Rattle.std.proofs.lemmas.Bool.Decides.{nat_tests, Decides-eqb}
-use Rattle.flow_filter.specs.declared.packet.Packet.{Packet}
-use Rattle.flow_filter.specs.declared.site.Site.{Site}
-use Rattle.nf_function.specs.Semantics.{Semantics}
-use Rattle.packet_pool.specs.Pool.{FullCell}
-use Rattle.event_store.specs.Store.{stored_of}
-use Rattle.copy_share.specs.Share.{ShareState}
-use Rattle.ctrl_node.specs.declared.operation.Operation.{Operation}
-use Rattle.ctrl_node.specs.declared.operation.Operation.TheVariants.{Move, Copy, Share}
-use Rattle.ctrl_node.specs.Controller.{ControllerState, Step}
-use Rattle.proof_machines.proofs.net.Net.{Sys, Open, ControllerMove, find_op, links_after}
-use Rattle.proof_machines.proofs.net.Shares.{Any, Sharing, OpenShare, find_share, as_old, old_step, SharesStep, told_by, by_share, WholeWorld, whole_ctrl}
 use Rattle.proof_outlines.proofs.outline.Outline.{sys}
 use Rattle.proof_outlines.proofs.outline.ControlOutline.{Sees, Opens}
 use Rattle.proof_outlines.proofs.whole.WholeOutline.{outline_all, sharing}
 use Rattle.proof_outlines.proofs.whole.ShareOutline.{SeesShare}
-use Rattle.proof_machines.proofs.Tests.{either_way}
 
 pub turned_test : (k n : ℕ) → (k == n) ≡ false → (n == k) ≡ false
 turned_test k n off = grind (arith, nat_tests, off)

@@ -1,34 +1,16 @@
 -- The controller's step on a message of a number that is no open share's: of a copy or of nothing, neither moves nor shares change; of a move
 -- it is that of the network of moves.
-use Rattle.std.proofs.Common.{◌≡◌, ℕ, true, false, cond, Option, Some, None, List, [], ◌∷◌, map, refl, sym, ap, ◌∙◌, subst}
-use Rattle.std.specs.Prelude.{if◌then◌else◌, ◌==◌, unwrap_or}
+use Rattle.proof_outlines.proofs.Words.{◌≡◌, ℕ, true, false, cond, Option, Some, None, List, [], ◌∷◌, map, refl, sym, ap, ◌∙◌, subst, if◌then◌else◌, ◌==◌}
+use Rattle.proof_outlines.proofs.Words.{unwrap_or, Decides-eqb, self, Packet, Site, Semantics, FullCell, stored_of, Answer, Msg, switch_node, instance_node}
+use Rattle.proof_outlines.proofs.Words.{MoveState, Store, row_in, CopyPhase, Getting, Keeping, CopyPlan, CopyState, CopyRow, Operation, Move, Copy, Turn}
+use Rattle.proof_outlines.proofs.Words.{turn_of, turn_of_move, turn_of_copy, ControllerState, Step, still, after_turn, takes_turn, hand_step, Open, find_op}
+use Rattle.proof_outlines.proofs.Words.{found, find_write_other, OpenShare, find_share, as_old, split, by_if}
 use Rattle.std.specs.FinMap as finite
-use Rattle.std.proofs.lemmas.Bool.Decides.{Decides-eqb}
-use Rattle.proof_machines.proofs.share.Lists.{self}
-use Rattle.flow_filter.specs.declared.packet.Packet.{Packet}
-use Rattle.flow_filter.specs.declared.site.Site.{Site}
-use Rattle.nf_function.specs.Semantics.{Semantics}
-use Rattle.packet_pool.specs.Pool.{FullCell}
-use Rattle.event_store.specs.Store.{stored_of}
-use Rattle.nf_msgs.specs.declared.answer.Answer.{Answer}
-use Rattle.nf_msgs.specs.declared.msg.Msg.{Msg}
 use Rattle.nf_msgs.specs.declared.msg.Msg.TheVariants as msg
-use Rattle.nf_msgs.specs.Nodes.{switch_node, instance_node}
 use Rattle.move_op.specs.Move as move
-use Rattle.move_op.specs.Move.{MoveState, Store, row_in}
-use Rattle.copy_share.specs.declared.copy_phase.CopyPhase.{CopyPhase}
-use Rattle.copy_share.specs.declared.copy_phase.CopyPhase.TheVariants.{Getting, Keeping}
-use Rattle.copy_share.specs.Copy.{CopyPlan, CopyState, CopyRow}
 use Rattle.copy_share.specs.Copy as copy
-use Rattle.ctrl_node.specs.declared.operation.Operation.{Operation}
-use Rattle.ctrl_node.specs.declared.operation.Operation.TheVariants.{Move, Copy}
-use Rattle.ctrl_node.specs.Operations.{Turn, turn_of, turn_of_move, turn_of_copy}
-use Rattle.ctrl_node.specs.Controller.{ControllerState, Step, still, after_turn, takes_turn, hand_step}
 use Rattle.proof_machines.proofs.unit.Real as real
 use Rattle.proof_machines.proofs.net.Net as net
-use Rattle.proof_machines.proofs.net.Net.{Open, find_op, found}
-use Rattle.proof_machines.proofs.net.Ctrl.{find_write_other}
-use Rattle.proof_machines.proofs.net.Shares.{OpenShare, find_share, as_old}
 use Rattle.proof_outlines.proofs.outline.Outline.{number, outline_sends}
 use Rattle.proof_outlines.proofs.outline.MoveOutline.{outline_plan, outline_phase, RowFollows}
 use Rattle.proof_outlines.proofs.outline.ControlOutline.{Sees, SeesMove, Opens, TurnFollows, turn_same, stored_after}
@@ -38,7 +20,6 @@ use Rattle.proof_outlines.proofs.whole.MoveSends.{AreOld, old-put, row_old}
 use Rattle.proof_outlines.proofs.whole.OpenShares.{turned_test, but_shares, share_in, IsUnseen, Table, SeesOne, SeesAny, OpensAll}
 use Rattle.proof_outlines.proofs.whole.OpenShares.{opens_at, unseen_at, no_open_share, without_shares, got_moves, opens_moves, StepFollows}
 use Rattle.proof_outlines.proofs.whole.ShareTurns.{answer_unseen}
-use Rattle.proof_machines.proofs.Tests.{split, by_if}
 
 -- found by its own number
 found_op : {R : Type 0} (es : List (Open R)) (n : ℕ) (e : Open R) → find_op es n ≡ Some e → (e.op.num == n) ≡ true

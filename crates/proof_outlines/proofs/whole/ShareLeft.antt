@@ -1,29 +1,16 @@
 -- What a message of an open share, or a packet at the end of its queue, leaves at the controller: the share in its next phase with what still waits,
 -- and all else as it was.
-use Rattle.std.proofs.Common.{◌≡◌, ℕ, false, cond, Option, Some, None, List, [], ◌∷◌, ◌++◌, refl, sym, ap, ◌∙◌, subst}
-use Rattle.std.specs.Prelude.{◌==◌, unwrap_or}
+use Rattle.proof_outlines.proofs.Words.{◌≡◌, ℕ, false, cond, Option, Some, None, List, [], ◌∷◌, ◌++◌, refl, sym, ap, ◌∙◌, subst, ◌==◌, unwrap_or, Decides-eqb}
+use Rattle.proof_outlines.proofs.Words.{self, cond-cond, FullCell, stored_of, with_parcels, stored-with_parcels, Answer, Msg, Note, switch_node, SharePhase}
+use Rattle.proof_outlines.proofs.Words.{SharePlan, ShareState, ShareRow, service_if_idle, Operation, Share, turn_of, turn_of_share, serving_of, ControllerState}
+use Rattle.proof_outlines.proofs.Words.{Step, with_turn, after_turn, takes_turn, serve_step, and_serves, hand_step, queue_step, Each, split}
 use Rattle.std.specs.FinMap as finite
-use Rattle.std.proofs.lemmas.Bool.Decides.{Decides-eqb}
-use Rattle.proof_machines.proofs.share.Lists.{self, cond-cond}
-use Rattle.packet_pool.specs.Pool.{FullCell}
-use Rattle.event_store.specs.Store.{stored_of, with_parcels, store_after}
-use Rattle.event_store.proofs.StoreLookUps.{stored-with_parcels}
-use Rattle.nf_msgs.specs.declared.answer.Answer.{Answer}
-use Rattle.nf_msgs.specs.declared.msg.Msg.{Msg}
+use Rattle.event_store.specs.Store.{store_after}
 use Rattle.nf_msgs.specs.declared.msg.Msg.TheVariants as msg
-use Rattle.nf_msgs.specs.declared.note.Note.{Note}
 use Rattle.nf_msgs.specs.declared.note.Note.TheVariants as note
-use Rattle.nf_msgs.specs.Nodes.{switch_node}
-use Rattle.copy_share.specs.declared.share_phase.SharePhase.{SharePhase}
 use Rattle.copy_share.specs.declared.share_phase.SharePhase.TheVariants as phase
-use Rattle.copy_share.specs.Share.{SharePlan, ShareState, ShareRow, next_phase, row, service_if_idle}
-use Rattle.ctrl_node.specs.declared.operation.Operation.{Operation}
-use Rattle.ctrl_node.specs.declared.operation.Operation.TheVariants.{Share}
-use Rattle.ctrl_node.specs.Operations.{turn_of, turn_of_share, serving_of}
-use Rattle.ctrl_node.specs.Controller.{ControllerState, Step, with_turn, after_turn, takes_turn, serve_step, and_serves, hand_step, queue_step}
-use Rattle.proof_machines.proofs.unit.Labels.{Each}
+use Rattle.copy_share.specs.Share.{next_phase, row}
 use Rattle.proof_outlines.proofs.outline.OperationTables.{got_insert}
-use Rattle.proof_machines.proofs.Tests.{split}
 
 -- an open share of a controller, with what waits for it
 pub record OpenAt : Type 0 where

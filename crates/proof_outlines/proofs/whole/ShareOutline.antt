@@ -1,35 +1,20 @@
 -- The outline of an open share: what it does with a message, and then serves, is the row of the abstract network.
-use Rattle.std.proofs.Common.{◌≡◌, ℕ, zero, suc, ◌<◌, ◌+◌, Bool, true, false, Option, Some, None, List}
-use Rattle.std.proofs.Common.{[], ◌∷◌, ◌++◌, map, length, refl, sym, ap, ◌∙◌, subst, append-nil, arith}
-use Rattle.std.specs.Prelude.{if◌then◌else◌, ◌==◌, ◌-◌, ◌%◌, not, filter, slice_index, unwrap_or}
-use Rattle.std.proofs.lemmas.Nat.{mod_below}
-use Rattle.std.proofs.lemmas.List.{length-map, map-append}
-use Rattle.std.proofs.lemmas.Bool.Decides.{nat_tests}
-use Rattle.flow_filter.specs.declared.flow.Flow.{Flow}
-use Rattle.flow_filter.specs.declared.packet.Packet.{Packet}
-use Rattle.flow_filter.specs.declared.site.Site.{Site}
-use Rattle.flow_filter.specs.Flow.{flow_of}
-use Rattle.nf_function.specs.declared.chunk.Chunk.{Chunk}
+use Rattle.proof_outlines.proofs.Words.{◌≡◌, ℕ, zero, suc, ◌<◌, ◌+◌, Bool, true, false, Option, Some, None, List, [], ◌∷◌, ◌++◌, map, length, refl, sym, ap}
+use Rattle.proof_outlines.proofs.Words.{◌∙◌, subst, append-nil, arith, if◌then◌else◌, ◌==◌, ◌-◌, ◌%◌, not, slice_index, unwrap_or, mod_below, length-map}
+use Rattle.proof_outlines.proofs.Words.{map-append, nat_tests, Flow, Packet, Site, flow_of, Chunk, Semantics, spelled, FullCell, Msg, instance_node, SharePhase}
+use Rattle.proof_outlines.proofs.Words.{SharePlan, ShareState, ShareRow, home, others, setting, syncing, on_fenced, on_chunks, member_of, service_if_idle, Each}
+use Rattle.proof_outlines.proofs.Words.{each-append, without_number, Sys, Any, New, S_forward, S_get, S_sync, Sharing, OpenShare, Told, Is_fenced, Has_chunks}
+use Rattle.proof_outlines.proofs.Words.{Has_chunk, Is_synced, Has_packet, ShareTurn, s_left, s_row, s_served, share_row}
+use Rattle.std.specs.Prelude.{filter}
 use Rattle.nf_function.specs.declared.unit.Unit as units
-use Rattle.nf_function.specs.Semantics.{Semantics}
-use Rattle.record_table.specs.Chunks.{spelled}
-use Rattle.packet_pool.specs.Pool.{FullCell}
 use Rattle.event_filter.specs.declared.mark.Mark.TheVariants as mark
 use Rattle.nf_msgs.specs.declared.answer.Answer.TheVariants as answer
-use Rattle.nf_msgs.specs.declared.msg.Msg.{Msg}
 use Rattle.nf_msgs.specs.declared.msg.Msg.TheVariants as msg
-use Rattle.nf_msgs.specs.Nodes.{instance_node}
-use Rattle.copy_share.specs.declared.share_phase.SharePhase.{SharePhase}
 use Rattle.copy_share.specs.declared.share_phase.SharePhase.TheVariants as phase
-use Rattle.copy_share.specs.Share.{SharePlan, ShareState, ShareRow, next_phase, home, others, setting}
-use Rattle.copy_share.specs.Share.{syncing, on_fenced, on_chunks, row, member_of, service_if_idle}
+use Rattle.copy_share.specs.Share.{next_phase, row}
 use Rattle.copy_share.specs.Share as shares
-use Rattle.proof_machines.proofs.unit.Labels.{Each, each-append}
 use Rattle.proof_machines.proofs.share.Share as machine
-use Rattle.proof_machines.proofs.share.Share.{without_number}
-use Rattle.proof_machines.proofs.net.Net.{Sys}
-use Rattle.proof_machines.proofs.net.Shares.{Any, New, S_forward, S_get, S_sync, Sharing, OpenShare, Told, Is_fenced, Has_chunks}
-use Rattle.proof_machines.proofs.net.Shares.{Has_chunk, Is_synced, Has_packet, ShareTurn, syncs, s_left, s_row, s_served, share_row}
+use Rattle.proof_machines.proofs.net.Shares.{syncs}
 use Rattle.proof_outlines.proofs.outline.Outline.{number, entries, sys}
 use Rattle.proof_outlines.proofs.outline.InstanceOutline.{IsGenuine, filter_map-put}
 use Rattle.proof_outlines.proofs.whole.WholeOutline.{outline_each, outline_all, member_for, sharing}

@@ -1,26 +1,12 @@
 -- The controller's step on a message of an open share's number, and on a packet that is put at the end of its queue, is that of the network with
 -- shares.
-use Rattle.std.proofs.Common.{◌≡◌, ℕ, false, cond, Option, Some, None, List, [], ◌∷◌, ◌++◌, map, refl, sym, ap, ◌∙◌, subst, append-nil}
-use Rattle.std.specs.Prelude.{◌==◌, unwrap_or}
+use Rattle.proof_outlines.proofs.Words.{◌≡◌, ℕ, false, cond, Option, Some, None, List, [], ◌∷◌, ◌++◌, map, refl, sym, ap, ◌∙◌, subst, append-nil, ◌==◌}
+use Rattle.proof_outlines.proofs.Words.{unwrap_or, Decides-eqb, self, Packet, Site, Semantics, FullCell, stored_of, Answer, Msg, switch_node, ShareState}
+use Rattle.proof_outlines.proofs.Words.{ShareRow, Share, ControllerState, Step, hand_step, queue_step, Sys, Open, find_op, Sharing, OpenShare, find_share}
+use Rattle.proof_outlines.proofs.Words.{set_share, Told, Has_packet, ShareTurn, share_row, by_share, found_num}
 use Rattle.std.specs.FinMap as finite
-use Rattle.std.proofs.lemmas.Bool.Decides.{Decides-eqb}
-use Rattle.proof_machines.proofs.share.Lists.{self}
-use Rattle.flow_filter.specs.declared.packet.Packet.{Packet}
-use Rattle.flow_filter.specs.declared.site.Site.{Site}
-use Rattle.nf_function.specs.Semantics.{Semantics}
-use Rattle.packet_pool.specs.Pool.{FullCell}
-use Rattle.event_store.specs.Store.{stored_of}
-use Rattle.nf_msgs.specs.declared.answer.Answer.{Answer}
-use Rattle.nf_msgs.specs.declared.msg.Msg.{Msg}
 use Rattle.nf_msgs.specs.declared.msg.Msg.TheVariants as msg
-use Rattle.nf_msgs.specs.Nodes.{switch_node}
-use Rattle.copy_share.specs.Share.{ShareState, ShareRow}
 use Rattle.copy_share.specs.Share as real
-use Rattle.ctrl_node.specs.declared.operation.Operation.TheVariants.{Share}
-use Rattle.ctrl_node.specs.Controller.{ControllerState, Step, hand_step, queue_step}
-use Rattle.proof_machines.proofs.net.Net.{Sys, Open, find_op}
-use Rattle.proof_machines.proofs.net.Shares.{Sharing, OpenShare, find_share, set_share, Told, Has_packet, ShareTurn, share_row, by_share}
-use Rattle.proof_machines.proofs.net.ShareLists.{found_num}
 use Rattle.proof_machines.proofs.net.ShareSees.{found_set, found_set_other}
 use Rattle.proof_outlines.proofs.outline.Outline.{number, sys}
 use Rattle.proof_outlines.proofs.outline.InstanceOutline.{filter_map-put}

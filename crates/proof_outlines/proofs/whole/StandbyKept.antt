@@ -1,31 +1,15 @@
 -- Which messages leave what stands by at an instance as it is: those of moves, of which a member's step is then that of the abstract network, and
 -- those that are seen nowhere; and what a copy leaves there.
-use Rattle.std.proofs.Common.{◌≡◌, ℕ, Bool, true, false, Option, List, [], ◌∷◌, map, refl, ap, ◌∙◌}
-use Rattle.std.specs.Prelude.{if◌then◌else◌, ◌||◌, Result, Ok, Err}
-use Rattle.std.specs.List.{filter_map}
-use Rattle.flow_filter.specs.declared.packet.Packet.{Packet}
-use Rattle.flow_filter.specs.declared.site.Site.{Site}
-use Rattle.nf_function.specs.declared.chunk.Chunk.{Chunk}
-use Rattle.nf_function.specs.Semantics.{Semantics}
-use Rattle.state_chunk.specs.declared.fault.ChunkFault.{ChunkFault}
-use Rattle.state_chunk.specs.Reading.{tally_read}
-use Rattle.record_table.specs.Table.{Records, newest_of}
-use Rattle.record_table.specs.Chunks.{records_of, are_good}
-use Rattle.event_filter.specs.declared.mark.Mark.{Mark}
+use Rattle.proof_outlines.proofs.Words.{◌≡◌, ℕ, Bool, true, false, Option, List, [], ◌∷◌, map, refl, ap, ◌∙◌, if◌then◌else◌, ◌||◌, Result, Ok, Err, filter_map}
+use Rattle.proof_outlines.proofs.Words.{Packet, Site, Chunk, Semantics, ChunkFault, tally_read, Records, newest_of, are_good, Mark, FullCell, Msg, Instance}
+use Rattle.proof_outlines.proofs.Words.{pieces, and_then, to_controller, on_stop, on_get_all, tally_put, selected_chunks, instance_step, each-append}
+use Rattle.proof_outlines.proofs.Words.{InstanceTurn, as_old}
+use Rattle.record_table.specs.Chunks.{records_of}
 use Rattle.event_filter.specs.declared.mark.Mark.TheVariants as mark
-use Rattle.packet_pool.specs.Pool.{FullCell}
 use Rattle.nf_msgs.specs.declared.msg.Piece.{Piece as APiece}
-use Rattle.nf_msgs.specs.declared.msg.Msg.{Msg}
 use Rattle.nf_msgs.specs.declared.msg.Msg.TheVariants as msg
-use Rattle.instance_worker.specs.declared.instance.Instance.{Instance}
-use Rattle.instance_worker.specs.Pieces.{pieces}
-use Rattle.instance_worker.specs.Instance.{Step, still, and_then, to_controller, process_step}
-use Rattle.instance_worker.specs.Instance.{on_stop, on_get_all}
-use Rattle.instance_worker.specs.Instance.{on_standby, tally_put, on_put_all, selected_chunks, instance_step}
+use Rattle.instance_worker.specs.Instance.{Step, still, process_step, on_standby, on_put_all}
 use Rattle.proof_outlines.proofs.outline.InstanceWays.{instance_fits}
-use Rattle.proof_machines.proofs.unit.Labels.{each-append}
-use Rattle.proof_machines.proofs.net.Net.{InstanceTurn}
-use Rattle.proof_machines.proofs.net.Shares.{as_old}
 use Rattle.proof_outlines.proofs.outline.Outline.{ran_in, sys, outline_instance}
 use Rattle.proof_outlines.proofs.outline.InstanceOutline.{Follows}
 use Rattle.proof_outlines.proofs.whole.WholeOutline.{outline_all, IsUnshared, AreUnshared, unshared_all}

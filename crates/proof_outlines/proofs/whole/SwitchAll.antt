@@ -1,37 +1,22 @@
 -- The outline of what the switch sends, and of its rules after a change, with the controller among the targets: they are the sends and
 -- routes of the network with shares.
-use Rattle.std.proofs.Common.{◌≡◌, ℕ, zero, suc, Bool, true, false, Option, Some, List, [], ◌∷◌, ◌++◌, refl, sym, ap, ◌∙◌, arith}
-use Rattle.std.specs.Prelude.{if◌then◌else◌, ◌&&◌, ◌==◌, nat_lt, option_map, unwrap_or}
-use Rattle.std.proofs.lemmas.Bool.Decides.{nat_tests}
-use Rattle.std.proofs.lemmas.Bool.{and_parts}
-use Rattle.flow_filter.specs.declared.filter.Filter.{Filter}
-use Rattle.flow_filter.specs.declared.flow.Flow.{Flow}
-use Rattle.flow_filter.specs.declared.packet.Packet.{Packet}
-use Rattle.flow_filter.specs.declared.site.Site.{Site}
-use Rattle.flow_filter.specs.Filter.{matches}
-use Rattle.flow_filter.specs.Flow.{flow_of}
-use Rattle.nf_function.specs.declared.kind.Kind.{Kind}
+use Rattle.proof_outlines.proofs.Words.{◌≡◌, ℕ, zero, suc, Bool, true, false, Option, Some, List, [], ◌∷◌, ◌++◌, refl, sym, ap, ◌∙◌, arith, if◌then◌else◌, ◌&&◌}
+use Rattle.proof_outlines.proofs.Words.{◌==◌, nat_lt, option_map, unwrap_or, nat_tests, and_parts, Filter, Flow, Packet, Site, matches, flow_of, Kind, unit_of}
+use Rattle.proof_outlines.proofs.Words.{Semantics, unit_at, Target, first_match, target_eq, Redirect, redirected_target, rules_redirected, AreFilters, FullCell}
+use Rattle.proof_outlines.proofs.Words.{controller_node, instance_node, SwitchState, has_room, is_there, goes_to, on_packet, on_install, sends_to_instance}
+use Rattle.proof_outlines.proofs.Words.{stop_messages, target_of, sw_target, sw_sends, everything, as_old, arrive_sends, share_target, share_sends, S_install}
+use Rattle.proof_outlines.proofs.Words.{S_forward, split}
 use Rattle.nf_function.specs.declared.unit.Unit as units
-use Rattle.nf_function.specs.Units.{unit_of}
-use Rattle.nf_function.specs.Semantics.{Semantics, unit_at}
 use Rattle.event_filter.specs.declared.mark.Mark.TheVariants as mark
-use Rattle.switch_rules.specs.declared.target.Target.{Target}
 use Rattle.switch_rules.specs.declared.target.Target.TheVariants as target
-use Rattle.switch_rules.specs.Rules.{first_match, target_eq, Redirect, redirected_target, rules_redirected, AreFilters}
 use Rattle.switch_rules.proofs.RedirectLaws.{redirected_law}
-use Rattle.packet_pool.specs.Pool.{FullCell}
 use Rattle.nf_msgs.specs.declared.msg.Msg.TheVariants as msg
-use Rattle.nf_msgs.specs.Nodes.{controller_node, instance_node}
-use Rattle.switch_node.specs.Switch.{SwitchState, has_room, is_there, goes_to, on_packet, on_install, sends_to_instance, stop_messages, target_of}
 use Rattle.proof_machines.proofs.unit.Real as real
 use Rattle.proof_machines.proofs.net.Net as net
-use Rattle.proof_machines.proofs.net.Net.{sw_target, sw_sends, everything}
-use Rattle.proof_machines.proofs.net.Shares.{as_old, arrive_sends, share_target, share_sends, S_install, S_forward}
 use Rattle.proof_outlines.proofs.outline.FiltersApart.{filter_fits, filter_is, flow_fits, flow_is, is_whole, takes_whole, whole_takes}
 use Rattle.proof_outlines.proofs.outline.InstanceOutline.{filter_map-put}
 use Rattle.proof_outlines.proofs.outline.Outline.{number, sys}
 use Rattle.proof_outlines.proofs.whole.WholeOutline.{outline_each, outline_all, sharing}
-use Rattle.proof_machines.proofs.Tests.{split}
 
 -- the node that a target is
 abbrev pub target_node : Target → ℕ

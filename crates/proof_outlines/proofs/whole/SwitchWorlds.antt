@@ -1,25 +1,14 @@
 -- The switch's step in a world of the network with shares whose targets are those of its rules: so they are in the world after the abstract step.
-use Rattle.std.proofs.Common.{◌≡◌, ℕ, Bool, true, false, Option, Some, List, [], ◌++◌, refl, sym, ap}
-use Rattle.std.specs.Prelude.{if◌then◌else◌, ◌==◌, nat_lt}
-use Rattle.flow_filter.specs.declared.filter.Filter.{Filter}
-use Rattle.flow_filter.specs.declared.packet.Packet.{Packet}
-use Rattle.flow_filter.specs.declared.site.Site.{Site}
-use Rattle.flow_filter.specs.Flow.{flow_of}
-use Rattle.nf_function.specs.Semantics.{Semantics}
+use Rattle.proof_outlines.proofs.Words.{◌≡◌, ℕ, Bool, true, false, Option, Some, List, [], ◌++◌, refl, sym, ap, if◌then◌else◌, ◌==◌, nat_lt, Filter, Packet}
+use Rattle.proof_outlines.proofs.Words.{Site, flow_of, Semantics, Target, AreFilters, FullCell, Command, instance_node, SwitchState, arrival_step, goes_to}
+use Rattle.proof_outlines.proofs.Words.{has_room, target_of, on_packet, on_command, on_install, sends_to_instance, sent_for, links_after, everything, Any, Old}
+use Rattle.proof_outlines.proofs.Words.{New, WholeWorld, S_install, S_forward, whole_switch, whole_input, asks}
 use Rattle.event_filter.specs.declared.mark.Mark.TheVariants as mark
-use Rattle.switch_rules.specs.declared.target.Target.{Target}
 use Rattle.switch_rules.specs.declared.target.Target.TheVariants as target
-use Rattle.switch_rules.specs.Rules.{AreFilters}
-use Rattle.packet_pool.specs.Pool.{FullCell}
-use Rattle.nf_msgs.specs.declared.command.Command.{Command}
 use Rattle.nf_msgs.specs.declared.msg.Msg.TheVariants as msg
-use Rattle.nf_msgs.specs.Nodes.{instance_node}
-use Rattle.switch_node.specs.Switch.{SwitchState, Step, arrival_step, still, goes_to, has_room, target_of, on_packet, on_command, on_install, sends_to_instance}
+use Rattle.switch_node.specs.Switch.{Step, still}
 use Rattle.proof_machines.proofs.unit.Real as real
-use Rattle.proof_machines.proofs.unit.Real.{sent_for}
 use Rattle.proof_machines.proofs.net.Net as net
-use Rattle.proof_machines.proofs.net.Net.{links_after, everything}
-use Rattle.proof_machines.proofs.net.Shares.{Any, Old, New, WholeWorld, S_install, S_forward, whole_switch, whole_input, asks}
 use Rattle.proof_outlines.proofs.outline.FiltersApart.{flow_fits, is_whole}
 use Rattle.proof_outlines.proofs.outline.Outline.{number}
 use Rattle.proof_outlines.proofs.whole.AskedShare.{command_all}

@@ -1,36 +1,17 @@
 -- The outlines of messages with those of shares beside those of moves; and that the real choice of a member and the real records that
 -- are set have the laws of the abstract network.
-use Rattle.std.proofs.Common.{◌≡◌, ℕ, zero, suc, ◌<◌, true, Option, Some, None, List, [], ◌∷◌, length, refl, sym, ap, ◌∙◌, arith}
-use Rattle.std.specs.Prelude.{◌==◌, option_map, slice_index}
-use Rattle.std.specs.List.{filter_map}
+use Rattle.proof_outlines.proofs.Words.{◌≡◌, ℕ, zero, suc, ◌<◌, true, Option, Some, None, List, [], ◌∷◌, length, refl, sym, ap, ◌∙◌, arith, ◌==◌, option_map}
+use Rattle.proof_outlines.proofs.Words.{slice_index, filter_map, mod_below, nat_tests, Filter, Flow, Packet, Site, flow_of, place_among, units_total, Semantics}
+use Rattle.proof_outlines.proofs.Words.{either, replaced_by, spelled, get-joined, Order, Msg, instance_node, Each, record_at, has, over, Any, Old, New}
+use Rattle.proof_outlines.proofs.Words.{WantShare, Sharing, IsSharing, olds, as_old, Shared_on, Diverted_on, S_asked, S_install, S_forward, S_get, S_sync}
+use Rattle.proof_outlines.proofs.Words.{S_chunks, S_shared, S_synced, by_if}
 use Rattle.std.specs.FinMap as finite
-use Rattle.std.proofs.lemmas.Nat.{mod_below}
-use Rattle.std.proofs.lemmas.Bool.Decides.{nat_tests}
-use Rattle.flow_filter.specs.declared.filter.Filter.{Filter}
-use Rattle.flow_filter.specs.declared.flow.Flow.{Flow}
-use Rattle.flow_filter.specs.declared.packet.Packet.{Packet}
-use Rattle.flow_filter.specs.declared.site.Site.{Site}
-use Rattle.flow_filter.specs.Flow.{flow_of, place_among}
-use Rattle.nf_function.specs.UnitOrder.{units_total}
-use Rattle.nf_function.specs.Semantics.{Semantics}
-use Rattle.record_table.specs.Table.{either, replaced_by}
-use Rattle.record_table.specs.Chunks.{spelled}
-use Rattle.record_table.proofs.RecordLookUps.{get-joined}
 use Rattle.event_filter.specs.declared.mark.Mark.TheVariants as mark
 use Rattle.switch_rules.specs.declared.target.Target.TheVariants as target
-use Rattle.nf_msgs.specs.declared.command.Order.{Order}
 use Rattle.nf_msgs.specs.declared.command.Order.TheVariants as order
-use Rattle.nf_msgs.specs.declared.msg.Msg.{Msg}
 use Rattle.nf_msgs.specs.declared.msg.Msg.TheVariants as msg
-use Rattle.nf_msgs.specs.Nodes.{instance_node}
-use Rattle.proof_machines.proofs.unit.Labels.{Each}
-use Rattle.proof_machines.proofs.unit.Real.{record_at}
-use Rattle.proof_machines.proofs.share.Share.{has, over}
 use Rattle.proof_machines.proofs.net.Net as net
-use Rattle.proof_machines.proofs.net.Shares.{Any, Old, New, WantShare, Sharing, IsSharing, olds, as_old, Shared_on, Diverted_on}
-use Rattle.proof_machines.proofs.net.Shares.{S_asked, S_install, S_forward, S_get, S_sync, S_chunks, S_shared, S_synced}
 use Rattle.proof_outlines.proofs.outline.Outline.{number, want_of, entries, outline, outline_sends, sys}
-use Rattle.proof_machines.proofs.Tests.{by_if}
 
 -- one member more, if it and the others are known
 abbrev pub with_member : Option ℕ → Option (List ℕ) → Option (List ℕ)
