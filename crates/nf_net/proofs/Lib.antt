@@ -33,6 +33,7 @@ pub mod LiveUnits
 pub mod MemberLemmas
 pub mod MembersServed
 pub mod MoveJudged
+pub mod MoveWays
 pub mod MovedRecords
 pub mod NumberedChunks
 pub mod NumberedUnits
@@ -67,3 +68,4 @@ pub mod answers
 pub mod paths
 pub mod length
 pub mod ends
+mod Words

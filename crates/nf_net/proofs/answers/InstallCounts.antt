@@ -1,29 +1,16 @@
 -- A move sends one change of the switch's rules, when it begins to pass packets on; so the changes that it sent are as many as its phase
 -- says.
-use Rattle.std.proofs.Common.{◌≡◌, ℕ, ◌+◌, Bool, true, false, Option, Some, None, List, [], ◌∷◌, ◌++◌, map, refl, arith}
-use Rattle.std.specs.Prelude.{if◌then◌else◌, ◌&&◌, ◌||◌, ◌==◌, length}
-use Rattle.std.proofs.lemmas.Bool.Decides.{nat_tests}
-use Rattle.proof_machines.proofs.share.Lists.{cond-same}
-use Rattle.nf_function.specs.declared.chunk.Chunk.{Chunk}
-use Rattle.event_filter.specs.declared.action.Action.TheVariants as action
-use Rattle.packet_pool.specs.Pool.{FullCell}
+use Rattle.nf_net.proofs.Words.{◌≡◌, ℕ, ◌+◌, true, false, Option, Some, None, List, [], ◌∷◌, ◌++◌, map, refl, ◌∙◌, arith, if◌then◌else◌, ◌==◌, nat_tests}
+use Rattle.nf_net.proofs.Words.{cond-same, FullCell, Answer, Piece, Msg, Phase, Nothing, Put, Release, Give_back, MovePlan, MoveNext, messages_of, forward_to}
+use Rattle.nf_net.proofs.Words.{reaches, sent_weight}
 use Rattle.switch_rules.specs.declared.target.Target.TheVariants as target
-use Rattle.nf_msgs.specs.declared.answer.Answer.{Answer}
 use Rattle.nf_msgs.specs.declared.answer.Answer.TheVariants as answer
-use Rattle.nf_msgs.specs.declared.msg.Piece.{Piece}
-use Rattle.nf_msgs.specs.declared.msg.Msg.{Msg}
 use Rattle.nf_msgs.specs.declared.msg.Msg.TheVariants as msg
-use Rattle.nf_msgs.specs.Exports.{units_in}
-use Rattle.move_op.specs.declared.door.Door.{Door}
-use Rattle.move_op.specs.declared.door.Door.TheVariants as door
-use Rattle.move_op.specs.Phases.{Phase}
 use Rattle.move_op.specs.Phases as phase
-use Rattle.move_op.specs.Move.{MovePlan, MoveNext, keeps, next_phase, chunks_of, have_units, put_back, source, destination, put_to, forward_to}
-use Rattle.move_op.specs.Move.{enable_at, from_source, from_destination, row, words}
-use Rattle.move_op.specs.Table.{is_nil, push_on, release_row, return_of, all_put, on_event, on_source_enabled, on_piece, on_deleted, on_restored}
-use Rattle.move_op.specs.Table.{on_source_fenced, on_put_ok, on_put_no, on_destination_enabled, on_destination_fenced}
-use Rattle.actor_net.specs.Network.{reaches}
-use Rattle.actor_net.proofs.WeightLaws.{sent_weight}
+use Rattle.move_op.specs.Table.{Said}
+use Rattle.move_op.specs.Move.{row}
+use Rattle.nf_net.proofs.MoveWays.{Goes, Pushed, Asks, Way, Is_removed, Is_taken, Is_refused, Is_undone, move_fits, OfWord, each_forward, each_said}
+use Rattle.nf_net.proofs.MoveWays.{weighs_none}
 use Rattle.nf_net.proofs.answers.CreditCounts.{sent_weight-append}
 use Rattle.proof_outlines.proofs.outline.MoveOutline.{IsRefusing, is_done}
 
@@ -62,10 +49,7 @@ passed p = 0
 
 pub done_none : (a : Answer) → is_done a ≡ false → done_in a ≡ 0
 done_none answer.Done e = cc
-done_none (answer.Unknown n) e = refl
-done_none (answer.Overlap n) e = refl
-done_none (answer.Import a b c) e = refl
-done_none (answer.Old a b) e = refl
+done_none a e = refl
 
 module _ (n k : ℕ) where
   -- neither a change nor the finish is among what is sent
@@ -88,147 +72,59 @@ module _ (n : ℕ) (reach : reaches n 1 0 ≡ true) (plan : MovePlan) where
     pub other : (op : ℕ) → (plan.op == op) ≡ false → sent_weight (install op) n 1 next.sends ≡ 0
     pub unfinished : sent_weight finish n 1 next.sends ≡ 0
 
-  adds_none : (ph : Phase) (next : MoveNext) → passed next.phase ≡ passed ph → NoInstall n 1 next.sends → Adds ph next
-  adds_none ph next same none =
-      record { own = (let own = none (Some plan.op) in omega (arith, same, own)); other = λ op off. none (Some op); unfinished = none None }
+  -- what is said has one change, where stored parcels are released
+  abbrev changes : Said FullCell Piece → ℕ
+  changes (Release cells) = 1
+  changes says = 0
 
-  stays : (ph : Phase) → Adds ph (next_phase ph [])
-  stays ph = adds_none ph (next_phase ph []) refl (λ op. refl)
+  abbrev counts : Option ℕ → Said FullCell Piece → ℕ
+  counts o (Release cells) = change o plan.op
+  counts o says = 0
 
-  puts : (ps : List Piece) → NoInstall n 1 (map (put_to plan false) ps)
-  puts [] = λ op. refl
-  puts (p ∷ ps) = no_more n 1 (destination plan) (msg.Put plan.op p false) (λ op. refl) (map (put_to plan false) ps) (puts ps)
+  none_said : (o : Option ℕ) (says : Said FullCell Piece) → OfWord (λ m. sent_of o m ≡ 0) plan says → sent_weight (sent_of o) n 1 (messages_of plan says) ≡ 0
+  none_said o says h = weighs_none (sent_of o) n 1 (messages_of plan says) (each_said (λ m. sent_of o m ≡ 0) plan says h)
 
-  forwards : (i : ℕ) (cells : List FullCell) → NoInstall n 1 (map (forward_to plan i) cells)
-  forwards i [] = λ op. refl
-  forwards i (c ∷ cells) = no_more n 1 0 (forward_to plan i c).1 (λ op. refl) (map (forward_to plan i) cells) (forwards i cells)
+  said_adds : (o : Option ℕ) (says : Said FullCell Piece) → sent_weight (sent_of o) n 1 (messages_of plan says) ≡ counts o says
+  said_adds o Nothing = refl
+  said_adds o (Release cells) =
+      let last : List (ℕ × Msg) = (0, msg.Install plan.op plan.filter plan.from (target.Instance plan.to)) ∷ [] in
+      let both = sent_weight-append (sent_of o) n 1 (map (forward_to plan plan.to) cells) last in
+      let none = weighs_none (sent_of o) n 1 (map (forward_to plan plan.to) cells) (each_forward (λ m. sent_of o m ≡ 0) plan plan.to (λ c. refl) cells) in
+      let one : sent_weight (sent_of o) n 1 last ≡ change o plan.op = rw reach (omega arith) in
+      omega (arith, both, none, one)
+  said_adds o (Put ps) = none_said o (Put ps) (λ p. refl)
+  said_adds o (Give_back cells) = none_said o (Give_back cells) (refl, λ c. refl)
+  said_adds o says = none_said o says (refl, tt)
 
-  push_adds : (ph : Phase) → passed ph ≡ 0 → (frozen free : List Piece) (came : Bool) (d : Door) → Adds ph (push_on (words plan) frozen free came d)
-  push_adds ph zero frozen [] came door.Shut = adds_none ph _ (omega (arith, zero)) (λ op. refl)
-  push_adds ph zero frozen (p ∷ free) came door.Shut =
-      adds_none ph _ (omega (arith, zero)) (no_one n 1 (destination plan) (msg.Put plan.op p true) (λ op. refl))
-  push_adds ph zero frozen free came (door.Asked last) = adds_none ph _ (omega (arith, zero)) (λ op. refl)
-  push_adds ph zero frozen free came door.Open = adds_none ph _ (omega (arith, zero)) (puts free)
-  push_adds ph zero frozen free came (door.Refused why) =
-      elim (came && is_nil frozen) as (λ c. Adds ph (if c then next_phase (phase.Restoring why)
-      ((source plan, msg.Restore plan.op (chunks_of free)) ∷ []) else next_phase (phase.Streaming frozen free came (door.Refused why)) [])) [
-        | true ↦ adds_none ph _ (omega (arith, zero)) (no_one n 1 (source plan) (msg.Restore plan.op (chunks_of free)) (λ op. refl))
-        | false ↦ adds_none ph _ (omega (arith, zero)) (λ op. refl)
-      ]
+  counts_own : (says : Said FullCell Piece) → counts (Some plan.op) says ≡ changes says
+  counts_own (Release cells) = let self : (plan.op == plan.op) ≡ true = grind (arith, nat_tests) in rw self refl
+  counts_own says = refl
+
+  counts_other : (op : ℕ) → (plan.op == op) ≡ false → (says : Said FullCell Piece) → counts (Some op) says ≡ 0
+  counts_other op off (Release cells) = rw off refl
+  counts_other op off says = refl
+
+  counts_end : (says : Said FullCell Piece) → counts None says ≡ 0
+  counts_end (Release cells) = refl
+  counts_end says = refl
+
+  push_adds : {ph to : Phase} {says : Said FullCell Piece} → Pushed ph to says → changes says + passed ph ≡ passed to
+  push_adds Asks = omega arith
+  push_adds push = omega arith
 
   module _ (events : List FullCell) where
-    released_adds : (ph : Phase) → passed ph ≡ 0 → Adds ph (release_row (words plan) events).next
-    released_adds ph zero =
-        let last : List (ℕ × Msg) = (0, msg.Install plan.op plan.filter plan.from (target.Instance plan.to)) ∷ [] in
-        record {
-          own =
-              let both = sent_weight-append (install plan.op) n 1 (map (forward_to plan plan.to) events) last in
-              let none = forwards plan.to events (Some plan.op) in
-              let self : (plan.op == plan.op) ≡ true = grind (arith, nat_tests) in
-              let one : sent_weight (install plan.op) n 1 last ≡ 1 = rw (reach, self) refl in
-              omega (arith, both, none, one, zero);
-          other = λ op off.
-              let both = sent_weight-append (install op) n 1 (map (forward_to plan plan.to) events) last in
-              let none = forwards plan.to events (Some op) in
-              let one : sent_weight (install op) n 1 last ≡ 0 = rw (reach, off) refl in
-              omega (arith, both, none, one);
-          unfinished =
-              let both = sent_weight-append finish n 1 (map (forward_to plan plan.to) events) last in
-              let none = forwards plan.to events None in
-              let one : sent_weight finish n 1 last ≡ 0 = rw reach refl in
-              omega (arith, both, none, one);
-        }
-
-    returned_adds : (ph : Phase) → passed ph ≡ 0 → (why : Answer) → Adds ph (return_of (words plan) why events).next
-    returned_adds ph zero why = adds_none ph _ (omega (arith, zero)) (no_both n 1 (map (forward_to plan plan.from) events)
-        ((0, msg.FenceTo plan.op plan.from) ∷ []) (forwards plan.from events) (no_one n 1 0 (msg.FenceTo plan.op plan.from) (λ op. refl)))
-
-    all_put_adds : (ph : Phase) → passed ph ≡ 0 → (keep : Bool) → Adds ph (all_put (words plan) events keep).next
-    all_put_adds ph zero true =
-        adds_none ph _ (omega (arith, zero)) (no_one n 1 (destination plan) (enable_at plan (destination plan) action.Buffer).1 (λ op. refl))
-    all_put_adds ph zero false = released_adds ph zero
-
-    event_adds : (ph : Phase) (cell : FullCell) → Adds ph (on_event (words plan) ph events cell).next
-    event_adds phase.Passing cell = adds_none phase.Passing _ refl (no_one n 1 0 (forward_to plan plan.to cell).1 (λ op. refl))
-    event_adds ph cell = stays ph
-
-    source_enabled_adds : (ph : Phase) → Adds ph (on_source_enabled (words plan) ph events).next
-    source_enabled_adds phase.Freezing = adds_none phase.Freezing _ refl (no_one n 1 (source plan) (msg.Stream plan.op plan.filter) (λ op. refl))
-    source_enabled_adds (phase.Returning why) = returned_adds (phase.Returning why) refl why
-    source_enabled_adds ph = stays ph
-
-    piece_adds : (ph : Phase) (p : Piece) → Adds ph (on_piece (words plan) ph p)
-    piece_adds (phase.Streaming frozen free came d) p =
-        elim (have_units p.chunks) as (λ b. Adds (phase.Streaming frozen free came d)
-        (if b then next_phase (phase.Streaming (frozen ++ p ∷ []) free (came || p.last) d) ((source plan, msg.Delete plan.op (units_in p.chunks)) ∷ [])
-        else next_phase (phase.Streaming frozen free came d) [])) [
-          | true ↦ adds_none (phase.Streaming frozen free came d) _ refl (no_one n 1 (source plan) (msg.Delete plan.op (units_in p.chunks)) (λ op. refl))
-          | false ↦ stays (phase.Streaming frozen free came d)
-        ]
-    piece_adds ph p = stays ph
-
-    deleted_adds : (ph : Phase) → Adds ph (on_deleted (words plan) ph)
-    deleted_adds (phase.Streaming (p ∷ frozen) free came d) = push_adds (phase.Streaming (p ∷ frozen) free came d) refl frozen (free ++ p ∷ []) came d
-    deleted_adds (phase.Streaming [] free came d) = stays (phase.Streaming [] free came d)
-    deleted_adds ph = stays ph
-
-    restored_adds : (ph : Phase) → Adds ph (on_restored (words plan) ph)
-    restored_adds (phase.Restoring why) =
-        adds_none (phase.Restoring why) _ refl (no_one n 1 (source plan) (enable_at plan (source plan) action.Buffer).1 (λ op. refl))
-    restored_adds ph = stays ph
-
-    source_fenced_adds : (ph : Phase) → IsRefusing ph → Adds ph (on_source_fenced (words plan) ph)
-    source_fenced_adds phase.Passing h = adds_none phase.Passing _ refl (no_one n 1 0 (msg.FenceTo plan.op plan.to) (λ op. refl))
-    source_fenced_adds (phase.Undoing why) h = adds_none (phase.Undoing why) _ (done_none why h) (λ op. refl)
-    source_fenced_adds ph h = stays ph
-
-    destination_enabled_adds : (ph : Phase) → Adds ph (on_destination_enabled (words plan) ph events).next
-    destination_enabled_adds phase.Holding = released_adds phase.Holding refl
-    destination_enabled_adds ph = stays ph
-
-    destination_fenced_adds : (ph : Phase) → Adds ph (on_destination_fenced (words plan) ph)
-    destination_fenced_adds phase.Ending = adds_none phase.Ending _ refl (λ op. refl)
-    destination_fenced_adds ph = stays ph
-
-    put_ok_adds : (ph : Phase) → Adds ph (on_put_ok (words plan) ph events).next
-    put_ok_adds (phase.Streaming frozen free came (door.Asked last)) =
-        elim last as (λ b. Adds (phase.Streaming frozen free came (door.Asked last))
-        (if b then all_put (words plan) events plan.keep else keeps (push_on (words plan) frozen free came door.Open)).next) [
-          | true ↦ all_put_adds (phase.Streaming frozen free came (door.Asked last)) refl plan.keep
-          | false ↦ push_adds (phase.Streaming frozen free came (door.Asked last)) refl frozen free came door.Open
-        ]
-    put_ok_adds (phase.Streaming frozen free came door.Open) = all_put_adds (phase.Streaming frozen free came door.Open) refl plan.keep
-    put_ok_adds ph = stays ph
-
-    put_no_adds : (ph : Phase) (why : Answer) (chunks : List Chunk) → Adds ph (on_put_no (words plan) ph why (put_back chunks))
-    put_no_adds (phase.Streaming frozen free came (door.Asked last)) why chunks =
-        push_adds (phase.Streaming frozen free came (door.Asked last)) refl frozen (put_back chunks last ∷ free) came (door.Refused why)
-    put_no_adds ph why chunks = stays ph
-
-    -- by the message
-    source_adds : (ph : Phase) (message : Msg) → IsRefusing ph → Adds ph (from_source plan ph events message).next
-    source_adds ph (msg.Event op cell) h = event_adds ph cell
-    source_adds ph (msg.Enabled op) h = source_enabled_adds ph
-    source_adds ph (msg.Piece op p) h = piece_adds ph p
-    source_adds ph (msg.Deleted op) h = deleted_adds ph
-    source_adds ph (msg.Restored op) h = restored_adds ph
-    source_adds ph (msg.Fenced op) h = source_fenced_adds ph h
-    source_adds ph message h = stays ph
-
-    destination_adds : (ph : Phase) (message : Msg) → Adds ph (from_destination plan ph events message).next
-    destination_adds ph (msg.PutOk op) = put_ok_adds ph
-    destination_adds ph (msg.PutNo op refused) = put_no_adds ph refused.why refused.chunks
-    destination_adds ph (msg.Enabled op) = destination_enabled_adds ph
-    destination_adds ph (msg.Fenced op) = destination_fenced_adds ph
-    destination_adds ph message = stays ph
+    way_adds : {ph : Phase} {m : Msg} {x : Goes} → Way events ph m x → IsRefusing ph → changes x.says + passed ph ≡ passed x.to
+    way_adds (Is_removed push) h = push_adds push
+    way_adds (Is_taken push) h = push_adds push
+    way_adds (Is_refused push) h = push_adds push
+    way_adds (Is_undone {why = why}) h = let none = done_none why h in omega (arith, none)
+    way_adds way h = omega arith
 
     pub row_adds : (ph : Phase) (port : ℕ) (message : Msg) → IsRefusing ph → Adds ph (row (record { plan = plan; phase = ph }) events port message).next
-    row_adds ph port message h =
-        elim (port == source plan) as (λ b. Adds ph (if b then from_source plan ph events message else if port == destination plan
-        then from_destination plan ph events message else keeps (next_phase ph [])).next) [
-          | true ↦ source_adds ph message h
-          | false ↦ elim (port == destination plan) as (λ b. Adds ph (if b then from_destination plan ph events message else keeps (next_phase ph [])).next) [
-            | true ↦ destination_adds ph message
-            | false ↦ stays ph
-          ]
-        ]
+    row_adds = move_fits plan events (λ ph m r. IsRefusing ph → Adds ph r.next) (λ ph m x way h.
+        let adds = way_adds way h in
+        record {
+          own = (let all = said_adds (Some plan.op) x.says in let one = counts_own x.says in omega (arith, adds, all, one));
+          other = λ op off. said_adds (Some op) x.says ∙ counts_other op off x.says;
+          unfinished = said_adds None x.says ∙ counts_end x.says;
+        })

@@ -1,27 +1,14 @@
 -- A move asks once for its state, and puts one piece first: what it sends of these is at most what its phase says that it has yet to send.
-use Rattle.std.proofs.Common.{◌≡◌, ℕ, ◌+◌, ◌≤◌, Bool, true, false, List, [], ◌∷◌, ◌++◌, map, refl, arith}
-use Rattle.std.specs.Prelude.{if◌then◌else◌, ◌&&◌, ◌||◌, ◌==◌, length}
-use Rattle.proof_machines.proofs.share.Lists.{cond-same}
-use Rattle.nf_function.specs.declared.chunk.Chunk.{Chunk}
-use Rattle.event_filter.specs.declared.action.Action.TheVariants as action
-use Rattle.packet_pool.specs.Pool.{FullCell}
-use Rattle.switch_rules.specs.declared.target.Target.TheVariants as target
-use Rattle.nf_msgs.specs.declared.answer.Answer.{Answer}
-use Rattle.nf_msgs.specs.declared.msg.Piece.{Piece}
-use Rattle.nf_msgs.specs.declared.msg.Msg.{Msg}
+use Rattle.nf_net.proofs.Words.{◌≡◌, ℕ, ◌+◌, ◌≤◌, Bool, true, false, List, [], ◌∷◌, ◌++◌, refl, arith, if◌then◌else◌, ◌||◌, ◌==◌, cond-same, FullCell, Piece}
+use Rattle.nf_net.proofs.Words.{Msg, Door, Phase, Nothing, Ask, Put, Release, Give_back, MovePlan, MoveNext, messages_of, source, destination, reaches}
+use Rattle.nf_net.proofs.Words.{sent_weight}
 use Rattle.nf_msgs.specs.declared.msg.Msg.TheVariants as msg
-use Rattle.nf_msgs.specs.Exports.{units_in}
-use Rattle.move_op.specs.declared.door.Door.{Door}
 use Rattle.move_op.specs.declared.door.Door.TheVariants as door
-use Rattle.move_op.specs.Phases.{Phase}
 use Rattle.move_op.specs.Phases as phase
-use Rattle.move_op.specs.Move.{MovePlan, MoveNext, keeps, next_phase, chunks_of, have_units, put_back, source, destination, put_to, forward_to}
-use Rattle.move_op.specs.Move.{enable_at, from_source, from_destination, row, words}
-use Rattle.move_op.specs.Table.{is_nil, push_on, release_row, return_of, all_put, on_event, on_source_enabled, on_piece, on_deleted, on_restored}
-use Rattle.move_op.specs.Table.{on_source_fenced, on_put_ok, on_put_no, on_destination_enabled, on_destination_fenced}
-use Rattle.actor_net.specs.Network.{reaches}
-use Rattle.actor_net.proofs.WeightLaws.{sent_weight}
-use Rattle.nf_net.proofs.answers.CreditCounts.{sent_weight-append}
+use Rattle.move_op.specs.Table.{Said, Stream}
+use Rattle.move_op.specs.Move.{row}
+use Rattle.nf_net.proofs.MoveWays.{Goes, Pushed, Asks, Way, Begins, Removes, Is_removed, Is_taken, Is_refused, Holds, Releases}
+use Rattle.nf_net.proofs.MoveWays.{move_fits, OfWord, each_said, weighs_none}
 
 -- what is sent once for a command: a piece that is put first, or the message that asks for its state
 abbrev pub counts : Msg → Bool → ℕ → ℕ
@@ -42,17 +29,7 @@ spent ph first = 1
 pub spent_few : (ph : Phase) (first : Bool) → spent ph first ≤ 1
 spent_few phase.Freezing first = omega arith
 spent_few (phase.Streaming frozen free came door.Shut) true = omega arith
-spent_few (phase.Streaming frozen free came door.Shut) false = omega arith
-spent_few (phase.Streaming frozen free came (door.Asked last)) first = omega arith
-spent_few (phase.Streaming frozen free came door.Open) first = omega arith
-spent_few (phase.Streaming frozen free came (door.Refused why)) first = omega arith
-spent_few phase.Holding first = omega arith
-spent_few phase.Passing first = omega arith
-spent_few phase.Ending first = omega arith
-spent_few (phase.Restoring why) first = omega arith
-spent_few (phase.Returning why) first = omega arith
-spent_few (phase.Undoing why) first = omega arith
-spent_few (phase.Over why) first = omega arith
+spent_few ph first = omega arith
 
 module _ (n k : ℕ) (first : Bool) where
   -- none of these is among what is sent
@@ -64,9 +41,6 @@ module _ (n k : ℕ) (first : Bool) where
 
   pub no_one : (to : ℕ) (m : Msg) → ((op : ℕ) → once first op m ≡ 0) → NoneOnce ((to, m) ∷ [])
   no_one to m none = no_more to m none [] (λ op. refl)
-
-  pub no_both : (xs ys : List (ℕ × Msg)) → NoneOnce xs → NoneOnce ys → NoneOnce (xs ++ ys)
-  no_both xs ys a b op = let both = sent_weight-append (once first op) n k xs ys in let x = a op in let y = b op in omega (arith, both, x, y)
 
   -- one message weighs no more than it counts
   pub at_most : (to : ℕ) (m : Msg) (op : ℕ) → sent_weight (once first op) n k ((to, m) ∷ []) ≤ once first op m
@@ -87,32 +61,6 @@ module _ (n : ℕ) (first : Bool) (plan : MovePlan) where
   pub record Spends (ph : Phase) (next : MoveNext) : Type 0 where
     pub own : sent_weight (once first plan.op) n 1 next.sends + spent ph first ≤ spent next.phase first
     pub other : (op : ℕ) → (plan.op == op) ≡ false → sent_weight (once first op) n 1 next.sends ≡ 0
-
-  spends_none : (ph : Phase) (next : MoveNext) → spent ph first ≤ spent next.phase first → NoneOnce n 1 first next.sends → Spends ph next
-  spends_none ph next more none = record { own = (let own = none plan.op in omega (arith, more, own)); other = λ op off. none op }
-
-  stays : (ph : Phase) → Spends ph (next_phase ph [])
-  stays ph = spends_none ph (next_phase ph []) (omega arith) (λ op. refl)
-
-  puts : (ps : List Piece) → NoneOnce n 1 first (map (put_to plan false) ps)
-  puts [] = λ op. refl
-  puts (p ∷ ps) = no_more n 1 first (destination plan) (msg.Put plan.op p false) (λ op. refl) (map (put_to plan false) ps) (puts ps)
-
-  forwards : (i : ℕ) (cells : List FullCell) → NoneOnce n 1 first (map (forward_to plan i) cells)
-  forwards i [] = λ op. refl
-  forwards i (c ∷ cells) = no_more n 1 first 0 (forward_to plan i c).1 (λ op. refl) (map (forward_to plan i) cells) (forwards i cells)
-
-  -- the phase alone changes, or else what is sent doesn't count
-  into : (ph : Phase) (next : MoveNext) → spent next.phase first ≡ 1 → NoneOnce n 1 first next.sends → Spends ph next
-  into ph next one none = spends_none ph next (let few = spent_few ph first in omega (arith, one, few)) none
-
-  -- one message that counts for this command alone
-  one_sent : (ph : Phase) (to : ℕ) (m : Msg) (next : Phase) → once first plan.op m + spent ph first ≤ spent next first
-      → ((op : ℕ) → (plan.op == op) ≡ false → once first op m ≡ 0) → Spends ph (next_phase next ((to, m) ∷ []))
-  one_sent ph to m next own other = record {
-    own = (let weighs = at_most n 1 first to m plan.op in omega (arith, own, weighs));
-    other = λ op off. (let weighs = at_most n 1 first to m op in let none = other op off in omega (arith, none, weighs));
-  }
 
   first_put : (p : Piece) (frozen free : List Piece) (came : Bool) (b : Bool)
       → counts (msg.Put plan.op p true) b plan.op + spent (phase.Streaming frozen free came door.Shut) b ≤ 1
@@ -135,124 +83,51 @@ module _ (n : ℕ) (first : Bool) (plan : MovePlan) where
   same_spent : (a b c d : List Piece) (came since : Bool) (at : Door) (first : Bool)
       → spent (phase.Streaming a b came at) first ≡ spent (phase.Streaming c d since at) first
   same_spent a b c d came since door.Shut true = refl
-  same_spent a b c d came since door.Shut false = refl
-  same_spent a b c d came since (door.Asked last) first = refl
-  same_spent a b c d came since door.Open first = refl
-  same_spent a b c d came since (door.Refused why) first = refl
+  same_spent a b c d came since at first = refl
 
-  push_spends : (ph : Phase) (frozen free : List Piece) (came : Bool) (d : Door) → spent ph first ≤ spent (phase.Streaming frozen free came d) first
-      → Spends ph (push_on (words plan) frozen free came d)
-  push_spends ph frozen [] came door.Shut more = spends_none ph _ more (λ op. refl)
-  push_spends ph frozen (p ∷ free) came door.Shut more = one_sent ph (destination plan) (msg.Put plan.op p true) (phase.Streaming frozen free came
-      (door.Asked p.last)) (let one = first_put p frozen (p ∷ free) came first in omega (arith, more, one)) (first_put_other p first)
-  push_spends ph frozen free came (door.Asked last) more = into ph _ refl (λ op. refl)
-  push_spends ph frozen free came door.Open more = into ph _ refl (puts free)
-  push_spends ph frozen free came (door.Refused why) more =
-      elim (came && is_nil frozen) as (λ c. Spends ph (if c then next_phase (phase.Restoring why)
-      ((source plan, msg.Restore plan.op (chunks_of free)) ∷ []) else next_phase (phase.Streaming frozen free came (door.Refused why)) [])) [
-        | true ↦ into ph _ refl (no_one n 1 first (source plan) (msg.Restore plan.op (chunks_of free)) (λ op. refl))
-        | false ↦ into ph _ refl (λ op. refl)
-      ]
+  -- what is said counts where a piece asks, or the state is asked for
+  abbrev tells : Said FullCell Piece → Bool → ℕ → ℕ
+  tells (Ask p) b op = counts (msg.Put plan.op p true) b op
+  tells Stream b op = counts (msg.Stream plan.op plan.filter) b op
+  tells says b op = 0
+
+  tells_other : (says : Said FullCell Piece) (op : ℕ) → (plan.op == op) ≡ false → tells says first op ≡ 0
+  tells_other (Ask p) op off = first_put_other p first op off
+  tells_other Stream op off = stream_other first op off
+  tells_other says op off = refl
+
+  none_said : (op : ℕ) (says : Said FullCell Piece) → OfWord (λ m. once first op m ≡ 0) plan says → sent_weight (once first op) n 1 (messages_of plan says) ≤ 0
+  none_said op says h =
+      let none = weighs_none (once first op) n 1 (messages_of plan says) (each_said (λ m. once first op m ≡ 0) plan says h) in omega (arith, none)
+
+  said_spends : (op : ℕ) (says : Said FullCell Piece) → sent_weight (once first op) n 1 (messages_of plan says) ≤ tells says first op
+  said_spends op Nothing = omega arith
+  said_spends op (Ask p) = at_most n 1 first (destination plan) (msg.Put plan.op p true) op
+  said_spends op Stream = at_most n 1 first (source plan) (msg.Stream plan.op plan.filter) op
+  said_spends op (Put ps) = none_said op (Put ps) (λ p. refl)
+  said_spends op (Release cells) = none_said op (Release cells) (refl, λ c. refl)
+  said_spends op (Give_back cells) = none_said op (Give_back cells) (refl, λ c. refl)
+  said_spends op says = none_said op says (refl, tt)
+
+  push_spends : {ph to : Phase} {says : Said FullCell Piece} → Pushed ph to says → tells says first plan.op + spent ph first ≤ spent to first
+  push_spends (Asks {a} {p} {b} {came}) = first_put p a (p ∷ b) came first
+  push_spends push = omega arith
 
   module _ (events : List FullCell) where
-    released_spends : (ph : Phase) → Spends ph (release_row (words plan) events).next
-    released_spends ph = into ph _ refl
-        (no_both n 1 first (map (forward_to plan plan.to) events) ((0, msg.Install plan.op plan.filter plan.from (target.Instance plan.to)) ∷ [])
-        (forwards plan.to events) (no_one n 1 first 0 (msg.Install plan.op plan.filter plan.from (target.Instance plan.to)) (λ op. refl)))
-
-    returned_spends : (ph : Phase) (why : Answer) → Spends ph (return_of (words plan) why events).next
-    returned_spends ph why = into ph _ refl (no_both n 1 first (map (forward_to plan plan.from) events) ((0, msg.FenceTo plan.op plan.from) ∷ [])
-        (forwards plan.from events) (no_one n 1 first 0 (msg.FenceTo plan.op plan.from) (λ op. refl)))
-
-    all_put_spends : (ph : Phase) (keep : Bool) → Spends ph (all_put (words plan) events keep).next
-    all_put_spends ph true = into ph _ refl (no_one n 1 first (destination plan) (enable_at plan (destination plan) action.Buffer).1 (λ op. refl))
-    all_put_spends ph false = released_spends ph
-
-    event_spends : (ph : Phase) (cell : FullCell) → Spends ph (on_event (words plan) ph events cell).next
-    event_spends phase.Passing cell = into phase.Passing _ refl (no_one n 1 first 0 (forward_to plan plan.to cell).1 (λ op. refl))
-    event_spends ph cell = stays ph
-
-    source_enabled_spends : (ph : Phase) → Spends ph (on_source_enabled (words plan) ph events).next
-    source_enabled_spends phase.Freezing =
-        one_sent phase.Freezing (source plan) (msg.Stream plan.op plan.filter) (phase.Streaming [] [] false door.Shut) (stream first) (stream_other first)
-    source_enabled_spends (phase.Returning why) = returned_spends (phase.Returning why) why
-    source_enabled_spends ph = stays ph
-
-    piece_spends : (ph : Phase) (p : Piece) → Spends ph (on_piece (words plan) ph p)
-    piece_spends (phase.Streaming frozen free came d) p =
-        elim (have_units p.chunks) as (λ b. Spends (phase.Streaming frozen free came d)
-        (if b then next_phase (phase.Streaming (frozen ++ p ∷ []) free (came || p.last) d) ((source plan, msg.Delete plan.op (units_in p.chunks)) ∷ [])
-        else next_phase (phase.Streaming frozen free came d) [])) [
-          | true ↦ spends_none (phase.Streaming frozen free came d) _
-              (let same = same_spent frozen free (frozen ++ p ∷ []) free came (came || p.last) d first in omega (arith, same))
-              (no_one n 1 first (source plan) (msg.Delete plan.op (units_in p.chunks)) (λ op. refl))
-          | false ↦ stays (phase.Streaming frozen free came d)
-        ]
-    piece_spends ph p = stays ph
-
-    deleted_spends : (ph : Phase) → Spends ph (on_deleted (words plan) ph)
-    deleted_spends (phase.Streaming (p ∷ frozen) free came d) = push_spends (phase.Streaming (p ∷ frozen) free came d) frozen (free ++ p ∷ []) came d
-        (let same = same_spent (p ∷ frozen) free frozen (free ++ p ∷ []) came came d first in omega (arith, same))
-    deleted_spends (phase.Streaming [] free came d) = stays (phase.Streaming [] free came d)
-    deleted_spends ph = stays ph
-
-    restored_spends : (ph : Phase) → Spends ph (on_restored (words plan) ph)
-    restored_spends (phase.Restoring why) =
-        into (phase.Restoring why) _ refl (no_one n 1 first (source plan) (enable_at plan (source plan) action.Buffer).1 (λ op. refl))
-    restored_spends ph = stays ph
-
-    source_fenced_spends : (ph : Phase) → Spends ph (on_source_fenced (words plan) ph)
-    source_fenced_spends phase.Passing = into phase.Passing _ refl (no_one n 1 first 0 (msg.FenceTo plan.op plan.to) (λ op. refl))
-    source_fenced_spends (phase.Undoing why) = into (phase.Undoing why) _ refl (λ op. refl)
-    source_fenced_spends ph = stays ph
-
-    destination_enabled_spends : (ph : Phase) → Spends ph (on_destination_enabled (words plan) ph events).next
-    destination_enabled_spends phase.Holding = released_spends phase.Holding
-    destination_enabled_spends ph = stays ph
-
-    destination_fenced_spends : (ph : Phase) → Spends ph (on_destination_fenced (words plan) ph)
-    destination_fenced_spends phase.Ending = into phase.Ending _ refl (λ op. refl)
-    destination_fenced_spends ph = stays ph
-
-    put_ok_spends : (ph : Phase) → Spends ph (on_put_ok (words plan) ph events).next
-    put_ok_spends (phase.Streaming frozen free came (door.Asked last)) =
-        elim last as (λ b. Spends (phase.Streaming frozen free came (door.Asked last))
-        (if b then all_put (words plan) events plan.keep else keeps (push_on (words plan) frozen free came door.Open)).next) [
-          | true ↦ all_put_spends (phase.Streaming frozen free came (door.Asked last)) plan.keep
-          | false ↦ push_spends (phase.Streaming frozen free came (door.Asked last)) frozen free came door.Open (omega arith)
-        ]
-    put_ok_spends (phase.Streaming frozen free came door.Open) = all_put_spends (phase.Streaming frozen free came door.Open) plan.keep
-    put_ok_spends ph = stays ph
-
-    put_no_spends : (ph : Phase) (why : Answer) (chunks : List Chunk) → Spends ph (on_put_no (words plan) ph why (put_back chunks))
-    put_no_spends (phase.Streaming frozen free came (door.Asked last)) why chunks =
-        push_spends (phase.Streaming frozen free came (door.Asked last)) frozen (put_back chunks last ∷ free) came (door.Refused why) (omega arith)
-    put_no_spends ph why chunks = stays ph
-
-    -- by the message
-    source_spends : (ph : Phase) (message : Msg) → Spends ph (from_source plan ph events message).next
-    source_spends ph (msg.Event op cell) = event_spends ph cell
-    source_spends ph (msg.Enabled op) = source_enabled_spends ph
-    source_spends ph (msg.Piece op p) = piece_spends ph p
-    source_spends ph (msg.Deleted op) = deleted_spends ph
-    source_spends ph (msg.Restored op) = restored_spends ph
-    source_spends ph (msg.Fenced op) = source_fenced_spends ph
-    source_spends ph message = stays ph
-
-    destination_spends : (ph : Phase) (message : Msg) → Spends ph (from_destination plan ph events message).next
-    destination_spends ph (msg.PutOk op) = put_ok_spends ph
-    destination_spends ph (msg.PutNo op refused) = put_no_spends ph refused.why refused.chunks
-    destination_spends ph (msg.Enabled op) = destination_enabled_spends ph
-    destination_spends ph (msg.Fenced op) = destination_fenced_spends ph
-    destination_spends ph message = stays ph
+    way_spends : {ph : Phase} {m : Msg} {x : Goes} → Way events ph m x → tells x.says first plan.op + spent ph first ≤ spent x.to first
+    way_spends Begins = stream first
+    way_spends (Removes {a} {b} {came} {d} {op} {p}) =
+        let same = same_spent a b (a ++ p ∷ []) b came (came || p.last) d first in omega (arith, same)
+    way_spends (Is_removed {p} {a} {b} {came} {d} push) =
+        let same = same_spent (p ∷ a) b a (b ++ p ∷ []) came came d first in let more = push_spends push in omega (arith, same, more)
+    way_spends (Is_taken push) = push_spends push
+    way_spends (Is_refused push) = push_spends push
+    way_spends (Holds {a} {b} {came} {d} put) = let few = spent_few (phase.Streaming a b came d) first in omega (arith, few)
+    way_spends (Releases {a} {b} {came} {d} put) = let few = spent_few (phase.Streaming a b came d) first in omega (arith, few)
+    way_spends way = omega arith
 
     pub row_spends : (ph : Phase) (port : ℕ) (message : Msg) → Spends ph (row (record { plan = plan; phase = ph }) events port message).next
-    row_spends ph port message =
-        elim (port == source plan) as (λ b. Spends ph (if b then from_source plan ph events message else if port == destination plan
-        then from_destination plan ph events message else keeps (next_phase ph [])).next) [
-          | true ↦ source_spends ph message
-          | false ↦ elim (port == destination plan) as (λ b. Spends ph (if b then from_destination plan ph events message else keeps (next_phase ph [])).next) [
-            | true ↦ destination_spends ph message
-            | false ↦ stays ph
-          ]
-        ]
+    row_spends = move_fits plan events (λ ph m r. Spends ph r.next) (λ ph m x way. record {
+      own = (let all = said_spends plan.op x.says in let more = way_spends way in omega (arith, all, more));
+      other = λ op off. (let all = said_spends op x.says in let none = tells_other x.says op off in omega (arith, all, none));
+    })

@@ -1,24 +1,16 @@
 -- What a move is answered is why it was refused, or that it is done.
-use Rattle.std.proofs.Common.{◌≡◌, ℕ, Bool, true, false, Option, Some, None, List, [], ◌∷◌, ◌++◌, map, refl, subst}
-use Rattle.packet_pool.specs.Pool.{FullCell}
+use Rattle.nf_net.proofs.Words.{◌≡◌, ℕ, Bool, true, false, Option, Some, None, List, [], ◌∷◌, ◌++◌, map, refl, subst, ◌||◌, FullCell, Answer, Piece, Msg, Door}
+use Rattle.nf_net.proofs.Words.{Phase, Nothing, Put, Release, Give_back, MovePlan, MoveState, MoveRow, put_to, forward_to, messages_of, answer_of, EachSent}
+use Rattle.nf_net.proofs.Words.{Given, sent-append}
 use Rattle.switch_rules.specs.declared.target.Target.TheVariants as target
-use Rattle.nf_msgs.specs.declared.answer.Answer.{Answer}
-use Rattle.nf_msgs.specs.declared.msg.Piece.{Piece}
-use Rattle.nf_msgs.specs.declared.msg.Msg.{Msg}
 use Rattle.nf_msgs.specs.declared.msg.Msg.TheVariants as msg
-use Rattle.move_op.specs.declared.door.Door.{Door}
 use Rattle.move_op.specs.declared.door.Door.TheVariants as door
-use Rattle.move_op.specs.Phases.{Phase}
 use Rattle.move_op.specs.Phases as phase
-use Rattle.move_op.specs.Table.{Said, Nothing, Put, Release, Give_back}
-use Rattle.move_op.specs.Move.{MovePlan, MoveState, MoveNext, MoveRow, put_to, forward_to, messages_of, words, row, answer_of}
-use Rattle.actor_net.proofs.WeightLaws.{EachSent}
-use Rattle.proof_machines.proofs.unit.TableRows.{PhaseHas, DoorHas, Hold, Any, any_each}
-use Rattle.proof_outlines.proofs.outline.MoveRows.{Brings, BringsBack, row_holds}
-use Rattle.proof_outlines.proofs.joined.Given.{Given}
+use Rattle.move_op.specs.Table.{Said}
+use Rattle.move_op.specs.Move.{row}
+use Rattle.nf_net.proofs.MoveWays.{Goes, Pushed, Asks, Way, Removes, Is_removed, Is_taken, Is_refused, Holds, Releases, Is_done, move_fits}
 use Rattle.nf_net.proofs.answers.BusyLemmas.{is_outcome}
 use Rattle.nf_net.proofs.answers.BusyOperations.{HasOutcome}
-use Rattle.net_world.proofs.SentMessages.{sent-append}
 
 -- what is known of a message, by sender and receiver
 abbrev pub Says : Given → ℕ → ℕ → Msg → Type 0
@@ -34,42 +26,16 @@ answer_is (phase.Over why) a h is = subst (λ o. is_some_outcome o) is h
     is_some_outcome None = ⊥
 answer_is ph a h is = cc
 
--- a reason that a move is answered, and phases that have such alone
-abbrev IsOutcome : Answer → Type 0
-IsOutcome why = is_outcome why ≡ true
+-- the door alone tells what a move is to be answered, and it is the same as pieces are pushed
+same_door : (a b c d : List Piece) (came since : Bool) (at : Door) → HasOutcome (phase.Streaming a b came at) → HasOutcome (phase.Streaming c d since at)
+same_door a b c d came since (door.Refused why) h = h
+same_door a b c d came since at h = tt
 
-abbrev OutcomesAlone : Phase → Type 0
-OutcomesAlone ph = PhaseHas (Any Piece) IsOutcome IsOutcome ph
-
-at_door : (a b : List Piece) (came : Bool) (d : Door) → HasOutcome (phase.Streaming a b came d) → DoorHas IsOutcome d
-at_door a b came (door.Refused why) h = h
-at_door a b came d h = tt
-
-of_door : (a b : List Piece) (came : Bool) (d : Door) → DoorHas IsOutcome d → HasOutcome (phase.Streaming a b came d)
-of_door a b came (door.Refused why) h = h
-of_door a b came d h = tt
-
-has_alone : (ph : Phase) → HasOutcome ph → OutcomesAlone ph
-has_alone (phase.Streaming a b came d) h = (any_each a, (any_each b, at_door a b came d h))
-has_alone (phase.Restoring why) h = h
-has_alone (phase.Returning why) h = h
-has_alone (phase.Undoing why) h = h
-has_alone (phase.Over why) h = h
-has_alone ph h = tt
-
-of_alone : (ph : Phase) → OutcomesAlone ph → HasOutcome ph
-of_alone (phase.Streaming a b came d) h = of_door a b came d h.1.1
-of_alone (phase.Restoring why) h = h
-of_alone (phase.Returning why) h = h
-of_alone (phase.Undoing why) h = h
-of_alone (phase.Over why) h = h
-of_alone ph h = tt
+push_says : {ph to : Phase} {says : Said FullCell Piece} → Pushed ph to says → HasOutcome ph → HasOutcome to
+push_says Asks h = tt
+push_says push h = h
 
 module _ (g : Given) where
-  record NextSays (next : MoveNext) : Type 0 where
-    outcome : HasOutcome next.phase
-    says : EachSent (Says g) 1 next.sends
-
   -- what a move is to be answered after a row, and what the row sends
   pub record RowSays (r : MoveRow) : Type 0 where
     pub outcome : HasOutcome r.next.phase
@@ -93,25 +59,20 @@ module _ (g : Given) where
         (forwards plan.from cells) (tt, tt)
     said_says said = (tt, tt)
 
-    says : Hold (words plan) (Any FullCell) (Any Piece) IsOutcome IsOutcome NextSays RowSays
-    says = record {
-      done = refl;
-      refused = λ why h. h;
-      next = λ ph said h x. record { outcome = of_alone ph h; says = said_says said };
-      keeps = λ n. record { outcome = n.outcome; says = n.says };
-      stores = λ ps all n. record { outcome = n.outcome; says = n.says };
-    }
-
-  brings : (m : Msg) → Brings (Any FullCell) (Any Piece) m
-  brings (msg.Event op cell) = tt
-  brings (msg.Piece op p) = tt
-  brings m = tt
-
-  brings_back : (port : ℕ) (m : Msg) → Says g port 1 m → BringsBack (Any Piece) IsOutcome m
-  brings_back port (msg.PutNo op refused) h = (h, λ last. tt)
-  brings_back port m h = tt
+    module _ (events : List FullCell) where
+      way_says : (port : ℕ) {ph : Phase} {m : Msg} {x : Goes} → Way events ph m x → HasOutcome ph → Says g port 1 m → HasOutcome x.to
+      way_says port (Removes {a} {b} {came} {d} {op} {p}) h label = same_door a b (a ++ p ∷ []) b came (came || p.last) d h
+      way_says port (Is_removed {p} {a} {b} {came} {d} push) h label = push_says push (same_door (p ∷ a) b a (b ++ p ∷ []) came came d h)
+      way_says port (Is_taken push) h label = push_says push tt
+      way_says port (Is_refused push) h label = push_says push label
+      way_says port (Holds put) h label = tt
+      way_says port (Releases put) h label = tt
+      way_says port Is_done h label = refl
+      way_says port way h label = h
 
   pub move_says : (m : MoveState) (events : List FullCell) (port : ℕ) (message : Msg) → HasOutcome m.phase → Says g port 1 message
       → RowSays (row m events port message)
-  move_says m events port message h label =
-      row_holds (says m.plan) events (any_each events) m.phase (has_alone m.phase h) port message (brings message) (brings_back port message label)
+  move_says m events port message = move_fits m.plan events (λ ph a r. HasOutcome ph → Says g port 1 a → RowSays r) (λ ph a x way h label. record {
+    outcome = way_says m.plan events port way h label;
+    says = said_says m.plan x.says;
+  }) m.phase port message
