@@ -1,60 +1,24 @@
 -- What the controller tells while a copy is open, turn by turn.
-use Rattle.std.proofs.Common.{◌≡◌, ℕ, Bool, true, false, Option, Some, None, List, [], ◌∷◌, ◌++◌, map, refl, sym, ap, ◌∙◌, subst, arith}
-use Rattle.std.specs.Prelude.{if◌then◌else◌, ◌==◌, ◌||◌, is_some}
-use Rattle.std.specs.List.{filter_map}
+use Rattle.nf_net.proofs.Words.{◌≡◌, ℕ, Bool, true, false, Option, Some, None, List, [], ◌∷◌, ◌++◌, map, refl, sym, ap, ◌∙◌, subst, arith, if◌then◌else◌, ◌==◌}
+use Rattle.nf_net.proofs.Words.{◌||◌, or-true, Decides-eqb, nat_tests, Filter, place_of, Chunk, Semantics, stored_of, FullCell, Answer, Order, Msg, Note, op_of}
+use Rattle.nf_net.proofs.Words.{instance_node, MoveState, MoveRow, row_in, CopyState, ShareState, Operation, Move, Copy, Share, turn_of, turn_of_move}
+use Rattle.nf_net.proofs.Words.{turn_of_copy, ControllerState, Choice, Network, EachSent, Each, Open, OpenShare, Config, Node, is_begun, answers_of, IsInput}
+use Rattle.nf_net.proofs.Words.{has_begun-append, sent-append, row_by, CopyTurn, Idle, Hands, Hands_all, Ends, hands, copy_turn, NotShared, noted, is_uncopied}
+use Rattle.nf_net.proofs.Words.{all_sent, TurnSo, Given, IsCopyPlan, Label, given}
 use Rattle.std.specs.FinMap as finite
-use Rattle.std.proofs.Math.Bool.{or-true}
-use Rattle.std.proofs.lemmas.Bool.Decides.{Decides-eqb, nat_tests}
-use Rattle.flow_filter.specs.declared.filter.Filter.{Filter}
-use Rattle.flow_filter.specs.Name.{place_of}
-use Rattle.nf_function.specs.declared.chunk.Chunk.{Chunk}
-use Rattle.nf_function.specs.Semantics.{Semantics}
-use Rattle.event_store.specs.Store.{stored_of}
-use Rattle.packet_pool.specs.Pool.{FullCell}
-use Rattle.nf_msgs.specs.declared.answer.Answer.{Answer}
 use Rattle.nf_msgs.specs.declared.answer.Answer.TheVariants.{Done}
-use Rattle.nf_msgs.specs.declared.command.Order.{Order}
 use Rattle.nf_msgs.specs.declared.command.Order.TheVariants as order
-use Rattle.nf_msgs.specs.declared.msg.Msg.{Msg}
 use Rattle.nf_msgs.specs.declared.msg.Msg.TheVariants as msg
-use Rattle.nf_msgs.specs.declared.note.Note.{Note}
 use Rattle.nf_msgs.specs.declared.note.Note.TheVariants as note
-use Rattle.nf_msgs.specs.MessageParts.{op_of}
-use Rattle.nf_msgs.specs.Nodes.{instance_node}
-use Rattle.move_op.specs.Move.{MoveState, MoveRow, row_in}
-use Rattle.copy_share.specs.declared.copy_phase.CopyPhase.TheVariants as copies
-use Rattle.copy_share.specs.Copy.{CopyState}
 use Rattle.copy_share.specs.Copy as copying
-use Rattle.copy_share.specs.Share.{ShareState}
-use Rattle.ctrl_node.specs.declared.operation.Operation.{Operation}
-use Rattle.ctrl_node.specs.declared.operation.Operation.TheVariants.{Move, Copy, Share}
-use Rattle.ctrl_node.specs.Operations.{turn_of, turn_of_move, turn_of_copy}
 use Rattle.ctrl_node.specs.Controller as ctrl
-use Rattle.ctrl_node.specs.Controller.{ControllerState, Step, still}
-use Rattle.actor_net.specs.declared.choice.Choice.{Choice}
-use Rattle.actor_net.specs.Network.{Network}
-use Rattle.actor_net.proofs.WeightLaws.{EachSent}
-use Rattle.proof_machines.proofs.unit.Labels.{Each}
-use Rattle.proof_machines.proofs.net.Net.{Open}
-use Rattle.proof_machines.proofs.net.Shares.{OpenShare}
-use Rattle.net_world.specs.declared.config.Config.{Config}
-use Rattle.net_world.specs.declared.node.Node.{Node}
-use Rattle.net_world.specs.Commands.{is_begun, answers_of}
-use Rattle.net_world.specs.Input.{IsInput}
-use Rattle.net_world.proofs.LogLemmas.{has_begun-append}
-use Rattle.net_world.proofs.SentMessages.{sent-append}
-use Rattle.proof_outlines.proofs.outline.ControllerWays.{row_by}
-use Rattle.proof_outlines.proofs.outline.CopyTurns.{CopyTurn, Idle, Hands, Hands_all, Ends, hands, ends, copy_turn}
-use Rattle.proof_outlines.proofs.outline.OperationTables.{NotShared}
-use Rattle.proof_outlines.proofs.whole.ShareLeft.{noted}
-use Rattle.proof_outlines.proofs.joined.CopyAnswers.{is_uncopied, is_of_copy, AreNoCopies, move_none}
-use Rattle.proof_outlines.proofs.outline.MoveRows.{all_sent}
-use Rattle.proof_outlines.proofs.joined.CopySends.{TurnSo, handed_sent, queued_sent}
-use Rattle.proof_outlines.proofs.joined.Given.{Given, IsCopyPlan}
-use Rattle.proof_outlines.proofs.joined.Joined.{Label, IsController}
-use Rattle.proof_outlines.proofs.joined.StartJoined.{given}
+use Rattle.ctrl_node.specs.Controller.{Step, still}
+use Rattle.proof_outlines.proofs.outline.CopyTurns.{ends}
+use Rattle.proof_outlines.proofs.joined.CopyAnswers.{is_of_copy, AreNoCopies, move_none}
+use Rattle.proof_outlines.proofs.joined.CopySends.{handed_sent, queued_sent}
+use Rattle.proof_outlines.proofs.joined.Joined.{IsController}
 use Rattle.nf_net.proofs.answers.BusyLemmas.{first_is}
-use Rattle.nf_net.proofs.answers.ControllerCases.{by_operation, by_queue}
+use Rattle.nf_net.proofs.answers.ControllerCases.{OpensBy, Opens_copy, by_command, by_finish, by_operation, by_queue}
 use Rattle.nf_net.proofs.answers.ShareTells.{ShareStep, handed_share, queued_share}
 use Rattle.nf_net.specs.Copies.{UnitCopy, IsOrdered}
 use Rattle.nf_net.proofs.CopyFacts.{WasKept, Told, told_still}
@@ -268,11 +232,8 @@ module _ {F R : Type 0} (f : Semantics R) (c : Config) (items : List Msg) (is : 
       begun_now = let same : (op == op) ≡ true = grind (arith, nat_tests) in
           has_begun-append (λ k. k == op) log (note.Begun op ∷ []) ∙ ap (λ b. is_begun op log || (b || false)) same ∙ or-true (is_begun op log)
 
-      copies_did : (source destination : List ℕ) (filter : Option Filter) → g.orders op ≡ Some (order.Copy source destination filter) → (a b : Option ℕ)
-          → place_of s.names source ≡ a → Did (ctrl.copy_between s op filter a b)
-      copies_did source destination filter what None b at = still_did
-      copies_did source destination filter what (Some from) None at = still_did
-      copies_did source destination None what (Some from) (Some to) at = record {
+      begun_did : {what : Order} (did : Step) → OpensBy s op what did → g.orders op ≡ Some what → Did did
+      begun_did did (Opens_copy {source} {destination} {filter = None} from to at e) what = record {
         says = (
           (λ copy same of. let both = same_copy of.source of.destination source destination (Some copy.filter) None (g.orders copy.op) of.order_is
               (ap g.orders same ∙ what) in
@@ -281,7 +242,7 @@ module _ {F R : Type 0} (f : Semantics R) (c : Config) (items : List Msg) (is : 
         );
         found = λ copy of e. cc;
       }
-      copies_did source destination (Some filter) what (Some from) (Some to) at = record {
+      begun_did did (Opens_copy {source} {destination} {filter = Some filter} from to at e) what = record {
         says = (
           (λ copy same of.
               let both = same_copy of.source of.destination source destination (Some copy.filter) (Some filter) (g.orders copy.op) of.order_is
@@ -296,34 +257,13 @@ module _ {F R : Type 0} (f : Semantics R) (c : Config) (items : List Msg) (is : 
         );
         found = λ copy of e. cc;
       }
-
-      begins_did : (what : Order) → g.orders op ≡ Some what → Did (ctrl.begin_step s op what)
-      begins_did (order.Move source destination filter keep) is_what = between (place_of s.names source) (place_of s.names destination)
-        where
-          between : (a b : Option ℕ) → Did (ctrl.move_between s op filter keep a b)
-          between (Some from) (Some to) = record { says = (tt, tt); found = λ copy of e. cc }
-          between (Some from) None = still_did
-          between None b = still_did
-      begins_did (order.Copy source destination filter) is_what =
-          copies_did source destination filter is_what (place_of s.names source) (place_of s.names destination) refl
-      begins_did (order.Share members filter) is_what = among (filter_map (place_of s.names) members)
-        where
-          among : (places : List ℕ) → Did (ctrl.share_begin s op filter places)
-          among [] = still_did
-          among (home ∷ rest) = record { says = (tt, tt); found = λ copy of e. cc }
-
-      decided_did : (what : Order) → g.orders op ≡ Some what → (o : Option Answer) → ctrl.refusal s what ≡ o → Did (ctrl.decision_step s op what o)
-      decided_did what is_what None at = begins_did what is_what
-      decided_did what is_what (Some a) at = told_did op (Some a) _ refl (λ why e copy same of done. (let is_a : a ≡ why = cc in
-          not_refused (ctrl.unknown_name s what) (ctrl.overlap s what) (at ∙ ap Some (is_a ∙ done)))) (tt, tt)
+      begun_did did by what = record { says = (tt, tt); found = λ copy of e. cc }
 
     asked_did : (op : ℕ) (what : Order) → g.orders op ≡ Some what → Did (ctrl.on_asked s (record { op = op; what = what }))
-    asked_did op what is_what = by_got (finite.get s.operations op) refl
-      where
-        by_got : (o : Option Operation) → finite.get s.operations op ≡ o
-            → Did (if is_some o then still s else ctrl.decision_step s op what (ctrl.refusal s what))
-        by_got None at = decided_did op at what is_what (ctrl.refusal s what) refl
-        by_got (Some x) at = still_did
+    asked_did op what is_what = by_command Did s op what still_did
+        (λ a none at. told_did op (Some a) _ refl (λ why e copy same of done. (let is_a : a ≡ why = cc in
+        not_refused (ctrl.unknown_name s what) (ctrl.overlap s what) (at ∙ ap Some (is_a ∙ done)))) (tt, tt))
+        (λ did none at by. begun_did op none did by is_what)
 
     row_did : (m : Msg) → Label f g p 1 m → Told f c items start cs log p 1 m → Did (ctrl.row s p m)
     row_did = row_by s p (λ m did. Label f g p 1 m → Told f c items start cs log p 1 m → Did did) (record {
@@ -338,15 +278,9 @@ module _ {F R : Type 0} (f : Semantics R) (c : Config) (items : List Msg) (is : 
 
     -- with the finish behind all else
     finished_did : (did : Step) → Did did → Did (ctrl.step_and_finish did)
-    finished_did did h = by_finish (ctrl.may_finish did.node)
-      where
-        by_finish : (b : Bool) → Did (record {
-          node = if b then record did.node { finish_sent = true } else did.node;
-          sends = did.sends ++ (if b then (0, msg.Finish) ∷ [] else []);
-          notes = did.notes;
-        })
-        by_finish true = record { says = sent-append (Tells did.notes) 1 did.sends ((0, msg.Finish) ∷ []) h.says (tt, tt); found = h.found }
-        by_finish false = record { says = sent-append (Tells did.notes) 1 did.sends [] h.says tt; found = h.found }
+    finished_did did h =
+        by_finish Did s did (record { says = sent-append (Tells did.notes) 1 did.sends ((0, msg.Finish) ∷ []) h.says (tt, tt); found = h.found })
+        (record { says = sent-append (Tells did.notes) 1 did.sends [] h.says tt; found = h.found })
 
     pub controller_did : (m : Msg) → Label f g p 1 m → Told f c items start cs log p 1 m → Did (ctrl.controller_step s p m)
     controller_did m label was = finished_did (ctrl.row s p m) (row_did m label was)

@@ -1,52 +1,26 @@
 -- The controller's step keeps what is known of open moves and of their answers, asks once for a command's state, and puts one piece of it first.
-use Rattle.std.proofs.Common.{◌≡◌, ℕ, ◌+◌, ◌≤◌, Bool, true, false, cond, Option, Some, None, List, [], ◌∷◌, ◌++◌, refl, sym, ap, ◌∙◌, subst, arith, map}
-use Rattle.std.specs.Prelude.{if◌then◌else◌, ◌==◌, is_some, option_map, unwrap_or}
-use Rattle.std.specs.List.{filter_map}
-use Rattle.std.specs.Option.{option_or}
+use Rattle.nf_net.proofs.Words.{◌≡◌, ℕ, ◌+◌, ◌≤◌, Bool, true, false, cond, Option, Some, None, List, [], ◌∷◌, ◌++◌, refl, sym, ap, ◌∙◌, subst, arith, map}
+use Rattle.nf_net.proofs.Words.{if◌then◌else◌, ◌==◌, option_map, unwrap_or, option_or, nat_tests, Decides-eqb, Filter, FullCell, Answer, Unknown, Overlap}
+use Rattle.nf_net.proofs.Words.{Order, Piece, Msg, Note, instance_node, op_of, CopyPlan, CopyState, SharePlan, ShareState, MovePlan, MoveState, MoveRow, row_in}
+use Rattle.nf_net.proofs.Words.{move_at_start, answer_of, destination, stored_of, Operation, Move, Copy, Share, OpenOperations, turn_of, turn_of_move}
+use Rattle.nf_net.proofs.Words.{ControllerState, on_asked, on_diverted, after_turn, takes_turn, hand_step, unknown_name, overlap, step_and_finish}
+use Rattle.nf_net.proofs.Words.{controller_step, EachSent, sent_weight, is_begun, is_refusal, sent-append, row_by, got_insert, got_remove, gone_twice}
+use Rattle.nf_net.proofs.Words.{NotShared, copy_turn}
 use Rattle.std.specs.FinMap as finite
-use Rattle.std.proofs.lemmas.Bool.Decides.{nat_tests, Decides-eqb}
-use Rattle.flow_filter.specs.declared.filter.Filter.{Filter}
-use Rattle.packet_pool.specs.Pool.{FullCell}
 use Rattle.event_filter.specs.declared.action.Action.TheVariants as action
 use Rattle.event_filter.specs.declared.mark.Mark.TheVariants.{Pass}
 use Rattle.switch_rules.specs.declared.target.Target.TheVariants as target
-use Rattle.nf_msgs.specs.declared.answer.Answer.{Answer}
-use Rattle.nf_msgs.specs.declared.answer.Answer.TheVariants.{Unknown, Overlap}
-use Rattle.nf_msgs.specs.declared.command.Order.{Order}
-use Rattle.nf_msgs.specs.declared.command.Order.TheVariants as order
-use Rattle.nf_msgs.specs.declared.msg.Piece.{Piece}
-use Rattle.nf_msgs.specs.declared.msg.Msg.{Msg}
 use Rattle.nf_msgs.specs.declared.msg.Msg.TheVariants as msg
-use Rattle.nf_msgs.specs.declared.note.Note.{Note}
 use Rattle.nf_msgs.specs.declared.note.Note.TheVariants as note
-use Rattle.nf_msgs.specs.Nodes.{instance_node}
-use Rattle.nf_msgs.specs.MessageParts.{op_of}
-use Rattle.copy_share.specs.Copy.{CopyPlan, CopyState}
 use Rattle.copy_share.specs.Copy as copy
-use Rattle.copy_share.specs.Share.{SharePlan, ShareState}
 use Rattle.copy_share.specs.Share as share
-use Rattle.move_op.specs.Move.{MovePlan, MoveState, MoveRow, row_in, move_at_start, answer_of, destination}
-use Rattle.event_store.specs.Store.{stored_of}
-use Rattle.ctrl_node.specs.declared.operation.Operation.{Operation}
-use Rattle.ctrl_node.specs.declared.operation.Operation.TheVariants.{Move, Copy, Share}
-use Rattle.ctrl_node.specs.Operations.{OpenOperations, turn_of, turn_of_move}
 use Rattle.ctrl_node.specs.Controller as controller
-use Rattle.ctrl_node.specs.Controller.{ControllerState, Step, still, refusal, move_between, copy_between, share_begin, begin_step}
-use Rattle.ctrl_node.specs.Controller.{decision_step, on_asked, on_diverted, after_turn, takes_turn, hand_step}
-use Rattle.ctrl_node.specs.Controller.{unknown_name, overlap, may_finish, step_and_finish, controller_step}
-use Rattle.flow_filter.specs.Name.{place_of}
-use Rattle.actor_net.proofs.WeightLaws.{EachSent, sent_weight}
-use Rattle.net_world.specs.Commands.{is_begun}
-use Rattle.net_world.specs.Verdicts.{is_refusal}
-use Rattle.net_world.proofs.SentMessages.{sent-append}
-use Rattle.proof_outlines.proofs.outline.ControllerWays.{row_by}
-use Rattle.proof_outlines.proofs.outline.OperationTables.{got_insert, got_remove, gone_twice, NotShared}
-use Rattle.nf_net.proofs.answers.ControllerCases.{by_operation, by_queue}
+use Rattle.ctrl_node.specs.Controller.{Step, still}
+use Rattle.nf_net.proofs.answers.ControllerCases.{OpensBy, Opens_move, Opens_copy, Opens_share, by_command, by_finish, by_operation, by_queue}
 use Rattle.nf_net.proofs.answers.ControllerActs.{other_there}
 use Rattle.nf_net.proofs.JudgedShares.{handed_shared, queued_shared}
 use Rattle.nf_net.proofs.JudgedTables as tables
 use Rattle.nf_net.proofs.JudgedTables.{used, By_verdict}
-use Rattle.proof_outlines.proofs.outline.CopyTurns.{copy_turn}
 use Rattle.nf_net.proofs.answers.BusyLemmas.{began_same, first_is}
 use Rattle.nf_net.proofs.answers.CreditCounts.{sent_weight-append}
 use Rattle.nf_net.proofs.MoveJudged.{Said, Knows, answer_known, row_follows}
@@ -80,28 +54,20 @@ module _ (Part : ℕ → Piece → Type 0) (Verdict : ℕ → Answer → Type 0)
 
   -- the finish behind all else
   finished_is : (did : Step) → StepIs did → StepIs (step_and_finish did)
-  finished_is did h = by_finish (may_finish did.node)
-    where
-      by_finish : (b : Bool) → StepIs (record {
-        node = if b then record did.node { finish_sent = true } else did.node;
-        sends = did.sends ++ (if b then (0, msg.Finish) ∷ [] else []);
-        notes = did.notes;
-      })
-      by_finish true = record {
-        knows = h.knows;
-        says = sent-append (Said Part Verdict Goes) 1 did.sends ((0, msg.Finish) ∷ []) h.says (tt, tt);
-        found = h.found;
-        own = h.own;
-        once = λ op first. (let both = sent_weight-append (once first op) n 1 did.sends ((0, msg.Finish) ∷ []) in
-            let none = no_one n 1 first 0 msg.Finish (λ y. refl) op in let own = h.once op first in omega (arith, both, none, own));
-      }
-      by_finish false = record {
-        knows = h.knows;
-        says = sent-append (Said Part Verdict Goes) 1 did.sends [] h.says tt;
-        found = h.found;
-        own = h.own;
-        once = λ op first. (let both = sent_weight-append (once first op) n 1 did.sends [] in let own = h.once op first in omega (arith, both, own));
-      }
+  finished_is did h = by_finish StepIs c did (record {
+    knows = h.knows;
+    says = sent-append (Said Part Verdict Goes) 1 did.sends ((0, msg.Finish) ∷ []) h.says (tt, tt);
+    found = h.found;
+    own = h.own;
+    once = λ op first. (let both = sent_weight-append (once first op) n 1 did.sends ((0, msg.Finish) ∷ []) in
+        let none = no_one n 1 first 0 msg.Finish (λ y. refl) op in let own = h.once op first in omega (arith, both, none, own));
+  }) (record {
+    knows = h.knows;
+    says = sent-append (Said Part Verdict Goes) 1 did.sends [] h.says tt;
+    found = h.found;
+    own = h.own;
+    once = λ op first. (let both = sent_weight-append (once first op) n 1 did.sends [] in let own = h.once op first in omega (arith, both, own));
+  })
 
   module _ (knows : AllKnow c.operations) where
     quiet_is : (s : ControllerState) (sends : List (ℕ × Msg)) → s.operations ≡ c.operations → EachSent (Said Part Verdict Goes) 1 sends
@@ -250,27 +216,30 @@ module _ (Part : ℕ → Piece → Type 0) (Verdict : ℕ → Answer → Type 0)
             let same : is_begun k (log ++ note.Begun op ∷ []) ≡ is_begun k log = began_same k log (note.Begun op ∷ []) (rw turned refl) in
             rw same (omega arith)
 
-        between_is : (filter : Filter) (keep : Bool) (a b : Option ℕ) → StepIs (move_between c op filter keep a b)
-        between_is filter keep (Some from) (Some to) =
+        -- where what is sent counts for none
+        opens_once : (o : Operation) (sends : List (ℕ × Msg)) → ((first : Bool) → NoneOnce n 1 first sends) → (k : ℕ) (first : Bool)
+            → sent_weight (once first k) n 1 sends + used (finite.get c.operations k) (is_begun k log) first
+            ≤ used (finite.get (finite.insert c.operations op o) k) (is_begun k (log ++ note.Begun op ∷ [])) first
+        opens_once o sends none_sent k first =
+            let sent = none_sent first k in
+            let here : used (finite.get c.operations k) (is_begun k log) first
+            ≤ used (finite.get (finite.insert c.operations op o) k) (is_begun k (log ++ note.Begun op ∷ [])) first =
+            subst (λ q. used (finite.get c.operations k) (is_begun k log) first ≤ used q (is_begun k (log ++ note.Begun op ∷ [])) first)
+            (sym (got_insert c.operations op k o)) (opened_more o k first (k == op) refl) in
+            omega (arith, sent, here)
+
+        begun_is : {what : Order} (did : Step) → OpensBy c op what did → StepIs did
+        begun_is did (Opens_move {filter = filter} {keep = keep} from to e at) =
             let plan : MovePlan = record { op = op; from = from; to = to; filter = filter; keep = keep } in
             record {
               knows = knows_insert op (move_at_start plan) tt;
               says = (tt, tt);
               found = λ k a is. cc;
               own = (refl, tt);
-              once = λ k first.
-                  let sent = no_one n 1 first (from + 2) (msg.Enable op filter action.Drop) (λ y. refl) k in
-                  let here : used (finite.get c.operations k) (is_begun k log) first
-                  ≤ used (finite.get (finite.insert c.operations op (Move (move_at_start plan))) k) (is_begun k (log ++ note.Begun op ∷ [])) first =
-                  subst (λ o. used (finite.get c.operations k) (is_begun k log) first ≤ used o (is_begun k (log ++ note.Begun op ∷ [])) first)
-                  (sym (got_insert c.operations op k (Move (move_at_start plan)))) (opened_more (Move (move_at_start plan)) k first (k == op) refl) in
-                  omega (arith, sent, here);
+              once = opens_once (Move (move_at_start plan)) ((from + 2, msg.Enable op filter action.Drop) ∷ [])
+                  (λ first k. no_one n 1 first (from + 2) (msg.Enable op filter action.Drop) (λ y. refl) k);
             }
-        between_is filter keep None b = still_is
-        between_is filter keep (Some from) None = still_is
-
-        copies_is : (filter : Option Filter) (a b : Option ℕ) → StepIs (copy_between c op filter a b)
-        copies_is filter (Some from) (Some to) =
+        begun_is did (Opens_copy {filter = filter} from to e at) =
             let plan : CopyPlan = record { op = op; from = from; to = to; filter = filter } in
             record {
               knows = λ k x e. knows k x (other_there (k == op) (Some (Copy (copy.copy_at_start plan))) (finite.get c.operations k) x tt
@@ -310,12 +279,7 @@ module _ (Part : ℕ → Piece → Type 0) (Verdict : ℕ → Answer → Type 0)
             asks_apart None first k off = refl
             asks_apart (Some flt) true k off = refl
             asks_apart (Some flt) false k off = rw off refl
-        copies_is filter None b = still_is
-        copies_is filter (Some from) None = still_is
-
-        shares_is : (filter : Filter) (members : List ℕ) → StepIs (share_begin c op filter members)
-        shares_is filter [] = still_is
-        shares_is filter (home ∷ others) =
+        begun_is did (Opens_share {filter = filter} home others) =
             let plan : SharePlan = record { op = op; members = home ∷ others; filter = filter; site = c.site } in
             record {
               knows = λ k x e. knows k x (other_there (k == op) (Some (Share (share.share_at_start plan))) (finite.get c.operations k) x tt
@@ -323,51 +287,32 @@ module _ (Part : ℕ → Piece → Type 0) (Verdict : ℕ → Answer → Type 0)
               says = (tt, tt);
               found = λ k a is. cc;
               own = (refl, tt);
-              once = λ k first.
-                  let sent = no_one n 1 first 0 (msg.Install op filter home target.Controller) (λ y. refl) k in
-                  let here : used (finite.get c.operations k) (is_begun k log) first
-                  ≤ used (finite.get (finite.insert c.operations op (Share (share.share_at_start plan))) k) (is_begun k (log ++ note.Begun op ∷ [])) first =
-                  subst (λ o. used (finite.get c.operations k) (is_begun k log) first ≤ used o (is_begun k (log ++ note.Begun op ∷ [])) first)
-                  (sym (got_insert c.operations op k (Share (share.share_at_start plan))))
-                  (opened_more (Share (share.share_at_start plan)) k first (k == op) refl) in
-                  omega (arith, sent, here);
-            }
-
-        begins_is : (what : Order) → StepIs (begin_step c op what)
-        begins_is (order.Move source destination filter keep) = between_is filter keep (place_of c.names source) (place_of c.names destination)
-        begins_is (order.Copy source destination filter) = copies_is filter (place_of c.names source) (place_of c.names destination)
-        begins_is (order.Share members filter) = shares_is filter (filter_map (place_of c.names) members)
-
-        decided_is : (what : Order) → (o : Option Answer) → refusal c what ≡ o → StepIs (decision_step c op what o)
-        decided_is what None is = begins_is what
-        decided_is what (Some a) is =
-            let cause = refused_is (unknown_name c what) (overlap c what) a is in
-            record {
-              knows = knows;
-              says = (tt, tt);
-              found = λ k b given.
-                  elim (op == k) as (λ t. (op == k) ≡ t → map (λ (one : ℕ × Answer). one.1) (if t then (op, a) ∷ [] else []) ≡ b ∷ [] → IsFound k b) [
-                    | true ↦ λ on e.
-                        let it : op ≡ k = (Decides-eqb op k).0 on in
-                        let its : a ≡ b = first_is a b e in
-                        subst (λ j. IsFound j b) it
-                        (subst (λ z. IsFound op z) its (record { known = λ never. (let on = sym new ∙ never in cc); refused = λ _. cause }))
-                    | false ↦ λ off never. cc
-                  ] refl given;
-              own = (refl, tt);
-              once = λ k first.
-                  let sent = no_one n 1 first 0 (msg.Answered op) (λ y. refl) k in
-                  let same = began_same k log (note.Answered op a ∷ []) refl in
-                  let here = ap (λ b. used (finite.get c.operations k) b first) same in
-                  omega (arith, sent, here);
+              once = opens_once (Share (share.share_at_start plan)) ((0, msg.Install op filter home target.Controller) ∷ [])
+                  (λ first k. no_one n 1 first 0 (msg.Install op filter home target.Controller) (λ y. refl) k);
             }
 
       asked_is : (op : ℕ) (what : Order) → is_begun op log ≡ false → StepIs (on_asked c (record { op = op; what = what }))
-      asked_is op what new = by_got (finite.get c.operations op) refl
-        where
-          by_got : (o : Option Operation) → finite.get c.operations op ≡ o → StepIs (if is_some o then still c else decision_step c op what (refusal c what))
-          by_got None is = decided_is op new is what (refusal c what) refl
-          by_got (Some x) is = still_is
+      asked_is op what new = by_command StepIs c op what still_is (λ a none is. record {
+        knows = knows;
+        says = (tt, tt);
+        found = λ k b given.
+            elim (op == k) as (λ t. (op == k) ≡ t → map (λ (one : ℕ × Answer). one.1) (if t then (op, a) ∷ [] else []) ≡ b ∷ [] → IsFound k b) [
+              | true ↦ λ on e.
+                  let it : op ≡ k = (Decides-eqb op k).0 on in
+                  let its : a ≡ b = first_is a b e in
+                  subst (λ j. IsFound j b) it (subst (λ z. IsFound op z) its (record {
+                    known = λ never. (let on = sym new ∙ never in cc);
+                    refused = λ _. refused_is (unknown_name c what) (overlap c what) a is;
+                  }))
+              | false ↦ λ off never. cc
+            ] refl given;
+        own = (refl, tt);
+        once = λ k first.
+            let sent = no_one n 1 first 0 (msg.Answered op) (λ y. refl) k in
+            let same = began_same k log (note.Answered op a ∷ []) refl in
+            let here = ap (λ b. used (finite.get c.operations k) b first) same in
+            omega (arith, sent, here);
+      }) (λ did none is by. begun_is op new none did by)
 
       row_is : (port : ℕ) (m : Msg) → Said Part Verdict Goes port 1 m → IsNew log m → StepIs (controller.row c port m)
       row_is port = row_by c port (λ m did. Said Part Verdict Goes port 1 m → IsNew log m → StepIs did) (record {

@@ -1,48 +1,25 @@
 -- The controller's step keeps that its open operations are the commands under way, and sends what the orders say.
-use Rattle.std.proofs.Common.{◌≡◌, ℕ, Bool, true, false, Option, Some, None, List, [], ◌∷◌, ◌++◌, refl, sym, ap, ◌∙◌, subst}
-use Rattle.std.specs.Prelude.{if◌then◌else◌, ◌==◌}
-use Rattle.std.specs.List.{filter_map}
+use Rattle.nf_net.proofs.Words.{◌≡◌, ℕ, true, false, Option, Some, None, List, [], ◌∷◌, ◌++◌, refl, sym, ap, ◌∙◌, subst, if◌then◌else◌, ◌==◌, Filter, Semantics}
+use Rattle.nf_net.proofs.Words.{FullCell, Answer, Order, Msg, Note, switch_node, instance_node, op_of, Keeping, SharePlan, ShareState, MoveState, MoveRow}
+use Rattle.nf_net.proofs.Words.{row_in, answer_of, move_at_start, Operation, Move, Copy, Share, turn_of, turn_of_move, ControllerState, on_asked, on_diverted}
+use Rattle.nf_net.proofs.Words.{queue_step, after_turn, takes_turn, hand_step, on_final, instance_at, step_and_finish, controller_step, place_of, stored_of}
+use Rattle.nf_net.proofs.Words.{EachSent, CopyTurn, Idle, Hands, Hands_all, Ends, hands, copy_turn, got_insert, remove_insert, NotShared, Given, Label}
+use Rattle.nf_net.proofs.Words.{answered, noted, is_share, sent-append}
 use Rattle.std.specs.FinMap as finite
-use Rattle.flow_filter.specs.declared.filter.Filter.{Filter}
-use Rattle.nf_function.specs.Semantics.{Semantics}
-use Rattle.packet_pool.specs.Pool.{FullCell}
-use Rattle.nf_msgs.specs.declared.answer.Answer.{Answer}
 use Rattle.nf_msgs.specs.declared.answer.Answer.TheVariants.{Done}
-use Rattle.nf_msgs.specs.declared.command.Order.{Order}
-use Rattle.nf_msgs.specs.declared.command.Order.TheVariants as order
-use Rattle.nf_msgs.specs.declared.msg.Msg.{Msg}
 use Rattle.nf_msgs.specs.declared.msg.Msg.TheVariants as msg
-use Rattle.nf_msgs.specs.declared.note.Note.{Note}
 use Rattle.nf_msgs.specs.declared.note.Note.TheVariants as note
-use Rattle.nf_msgs.specs.Nodes.{switch_node, instance_node}
-use Rattle.nf_msgs.specs.MessageParts.{op_of}
-use Rattle.copy_share.specs.declared.copy_phase.CopyPhase.TheVariants.{Keeping}
-use Rattle.copy_share.specs.Copy.{CopyPlan}
 use Rattle.copy_share.specs.Copy as copy
-use Rattle.copy_share.specs.Share.{SharePlan, ShareState}
 use Rattle.copy_share.specs.Share as share
-use Rattle.move_op.specs.Move.{MovePlan, MoveState, MoveRow, row_in, answer_of, move_at_start}
-use Rattle.ctrl_node.specs.declared.operation.Operation.{Operation}
-use Rattle.ctrl_node.specs.declared.operation.Operation.TheVariants.{Move, Copy, Share}
-use Rattle.ctrl_node.specs.Operations.{turn_of, turn_of_move}
-use Rattle.ctrl_node.specs.Controller.{ControllerState, Step, still, refusal, move_between, copy_between, share_begin, begin_step}
-use Rattle.ctrl_node.specs.Controller.{decision_step, on_asked, on_diverted, queue_step, after_turn, takes_turn, hand_step, numbered, on_event}
-use Rattle.ctrl_node.specs.Controller.{on_final, instance_at, row as controller_row, may_finish, finish_of, step_and_finish, controller_step}
-use Rattle.flow_filter.specs.Name.{place_of}
-use Rattle.event_store.specs.Store.{stored_of}
-use Rattle.actor_net.proofs.WeightLaws.{EachSent}
-use Rattle.proof_outlines.proofs.outline.CopyTurns.{CopyTurn, Idle, Hands, Hands_all, Ends, hands, copy_turn}
-use Rattle.proof_outlines.proofs.outline.OperationTables.{got_insert, remove_insert, NotShared}
-use Rattle.proof_outlines.proofs.joined.Given.{Given}
-use Rattle.proof_outlines.proofs.joined.Joined.{Label}
-use Rattle.nf_net.proofs.answers.ControllerCases.{by_operation, by_queue, by_sender, by_stop}
+use Rattle.ctrl_node.specs.Controller.{Step, still}
+use Rattle.ctrl_node.specs.Controller.{numbered, on_event}
+use Rattle.ctrl_node.specs.Controller.{row as controller_row}
+use Rattle.nf_net.proofs.answers.ControllerCases.{OpensBy, Opens_move, Opens_copy, Opens_share, by_command, by_finish, by_operation, by_queue, by_sender}
+use Rattle.nf_net.proofs.answers.ControllerCases.{by_stop}
 use Rattle.nf_net.proofs.answers.BusyOperations.{HasOutcome, IsShareOf, answers_to, IsBusy, Causes, refusal_is}
 use Rattle.nf_net.proofs.answers.BusyChanges.{other_notes, turned as op_turned, set_up as op_set_up, closed as op_closed, dropped, refused, begun as op_begun}
 use Rattle.nf_net.proofs.answers.MoveSays.{Says, answer_is, move_says}
 use Rattle.nf_net.proofs.answers.ShareTells.{is_set_up, is_of_share, AreOfShare, Tells, ShareStep, handed_share, queued_share}
-use Rattle.proof_outlines.proofs.whole.ShareLeft.{answered, noted}
-use Rattle.net_world.specs.Commands.{is_share}
-use Rattle.net_world.proofs.SentMessages.{sent-append}
 
 -- the number of a command that a message brings
 abbrev pub told_in : Msg → List ℕ
@@ -78,14 +55,9 @@ module _ (g : Given) (log : List Note) (waits : List ℕ) where
 
   -- the finish behind all else changes nothing of it
   finished_is : (did : Step) → StepIs did → StepIs (step_and_finish did)
-  finished_is did h = record {
-    busy = elim (may_finish did.node) as (λ b. IsBusy g (if b then record did.node { finish_sent = true } else did.node).operations (log ++ did.notes) waits) [
-      | true ↦ h.busy
-      | false ↦ h.busy
-    ];
-    says = sent-append (Says g) 1 did.sends (finish_of did.node) h.says
-        (elim (may_finish did.node) as (λ b. EachSent (Says g) 1 (if b then (switch_node, msg.Finish) ∷ [] else [])) [ true ↦ (tt, tt) | false ↦ tt ]);
-  }
+  finished_is did h =
+      by_finish StepIs did.node did (record { busy = h.busy; says = sent-append (Says g) 1 did.sends ((switch_node, msg.Finish) ∷ []) h.says (tt, tt) })
+      (record { busy = h.busy; says = sent-append (Says g) 1 did.sends [] h.says tt })
 
   module _ (c : ControllerState) (h : IsBusy g c.operations log waits) where
     still_is : StepIs (still c)
@@ -189,76 +161,52 @@ module _ (g : Given) (log : List Note) (waits : List ℕ) where
     dropped_is : StepIs (still c)
     dropped_is = still_is c (dropped g c.operations log op waits h)
 
-    between_is : (source destination : List ℕ) (filter : Filter) (keep : Bool) → what ≡ order.Move source destination filter keep
-        → Causes g c.operations log (op ∷ waits) h what None → (a b : Option ℕ) → place_of c.names source ≡ a → place_of c.names destination ≡ b
-        → StepIs (move_between c op filter keep a b)
-    between_is source destination filter keep is may (Some from) (Some to) e k =
-        let plan : MovePlan = record { op = op; from = from; to = to; filter = filter; keep = keep } in
-        record {
-          busy = op_begun g c.operations log op waits h what (Move (move_at_start plan)) known may (record {
+    begun_is : {o : Order} (did : Step) → OpensBy c op o did → what ≡ o → Causes g c.operations log (op ∷ waits) h what None → StepIs did
+    begun_is did (Opens_move {source} {destination} {filter} {keep} from to e k) is may = record {
+      busy = op_begun g c.operations log op waits h what (Move (move_at_start (record { op = op; from = from; to = to; filter = filter; keep = keep })))
+          known may (record {
             source = source;
             destination = destination;
             order_is = known ∙ ap Some is;
             from_is = ap (λ ns. place_of ns source) (sym names) ∙ e;
             to_is = ap (λ ns. place_of ns destination) (sym names) ∙ k;
           }) tt refl;
-          says = (tt, tt);
-        }
-    between_is source destination filter keep is may None b e k = dropped_is
-    between_is source destination filter keep is may (Some from) None e k = dropped_is
-
-    copies_is : (source destination : List ℕ) (filter : Option Filter) → what ≡ order.Copy source destination filter
-        → Causes g c.operations log (op ∷ waits) h what None → (a b : Option ℕ) → place_of c.names source ≡ a → place_of c.names destination ≡ b
-        → StepIs (copy_between c op filter a b)
-    copies_is source destination filter is may (Some from) (Some to) e k =
-        let plan : CopyPlan = record { op = op; from = from; to = to; filter = filter } in
+      says = (tt, tt);
+    }
+    begun_is did (Opens_copy {source} {destination} {filter} from to e k) is may = record {
+      busy = op_begun g c.operations log op waits h what (Copy (copy.copy_at_start (record { op = op; from = from; to = to; filter = filter }))) known may (
         record {
-          busy = op_begun g c.operations log op waits h what (Copy (copy.copy_at_start plan)) known may (
-            record {
-              source = source;
-              destination = destination;
-              order_is = known ∙ ap Some is;
-              from_is = ap (λ ns. place_of ns source) (sym names) ∙ e;
-              to_is = ap (λ ns. place_of ns destination) (sym names) ∙ k;
-            },
-            refl,
-          ) tt refl;
-          says = (asks_say filter, tt);
-        }
+          source = source;
+          destination = destination;
+          order_is = known ∙ ap Some is;
+          from_is = ap (λ ns. place_of ns source) (sym names) ∙ e;
+          to_is = ap (λ ns. place_of ns destination) (sym names) ∙ k;
+        },
+        refl,
+      ) tt refl;
+      says = (asks_say filter, tt);
+    }
       where
         asks_say : (o : Option Filter) → Says g 1 (instance_node from) (copy.asks op o)
         asks_say None = tt
         asks_say (Some flt) = tt
-    copies_is source destination filter is may None b e k = dropped_is
-    copies_is source destination filter is may (Some from) None e k = dropped_is
-
-    shares_is : (names : List (List ℕ)) (filter : Filter) → what ≡ order.Share names filter → Causes g c.operations log (op ∷ waits) h what None
-        → (members : List ℕ) → StepIs (share_begin c op filter members)
-    shares_is names filter is may [] = dropped_is
-    shares_is names filter is may (home ∷ others) =
+    begun_is did (Opens_share {members} {filter} home others) is may =
         let plan : SharePlan = record { op = op; members = home ∷ others; filter = filter; site = c.site } in
         record {
           busy = op_begun g c.operations log op waits h what (Share (share.share_at_start plan)) known may
-              (record { op_is = refl; names = names; order_is = known ∙ ap Some is }) tt refl;
+              (record { op_is = refl; names = members; order_is = known ∙ ap Some is }) tt refl;
           says = (tt, tt);
         }
 
-    begins_is : (o : Order) → what ≡ o → Causes g c.operations log (op ∷ waits) h what None → StepIs (begin_step c op o)
-    begins_is (order.Move source destination filter keep) is may =
-        between_is source destination filter keep is may (place_of c.names source) (place_of c.names destination) refl refl
-    begins_is (order.Copy source destination filter) is may =
-        copies_is source destination filter is may (place_of c.names source) (place_of c.names destination) refl refl
-    begins_is (order.Share members filter) is may = shares_is members filter is may (filter_map (place_of c.names) members)
-
-    decided_is : (o : Option Answer) → Causes g c.operations log (op ∷ waits) h what o → StepIs (decision_step c op what o)
-    decided_is None may = begins_is what refl may
-    decided_is (Some a) cause = record { busy = refused g c.operations log op waits h what a known cause; says = (tt, tt) }
-
     asked_is : StepIs (on_asked c (record { op = op; what = what }))
-    asked_is = elim (finite.contains_key c.operations op) as (λ b. StepIs (if b then still c else decision_step c op what (refusal c what))) [
-      | true ↦ dropped_is
-      | false ↦ decided_is (refusal c what) (refusal_is g c log (op ∷ waits) names h what)
-    ]
+    asked_is =
+        let cause = refusal_is g c log (op ∷ waits) names h what in
+        by_command StepIs c op what dropped_is
+        (λ a new is. record {
+          busy = refused g c.operations log op waits h what a known (subst (Causes g c.operations log (op ∷ waits) h what) is cause);
+          says = (tt, tt);
+        })
+        (λ did new is by. begun_is did by refl (subst (Causes g c.operations log (op ∷ waits) h what) is cause))
 
 module _ {R : Type 0} (f : Semantics R) (g : Given) (log : List Note) (waits : List ℕ) (c : ControllerState) (names : c.names ≡ g.names) where
   row_busy : (p : ℕ) (m : Msg) → Label f g p 1 m → Says g p 1 m → IsBusy g c.operations log (told_in m ++ waits) → StepIs g log waits (controller_row c p m)

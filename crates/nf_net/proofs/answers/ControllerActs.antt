@@ -1,54 +1,31 @@
 -- What the controller's step says of commands: it begins one, answers one and tells the switch, or neither. A move that hasn't changed the
 -- rules after the step hadn't before it, and one that is answered with a refusal hasn't.
-use Rattle.std.proofs.Common.{◌≡◌, ◌≢◌, ℕ, Bool, true, false, cond, Option, Some, None, List, [], ◌∷◌, ◌++◌, refl, sym, ap, ◌∙◌, subst, arith}
-use Rattle.std.specs.Prelude.{if◌then◌else◌, ◌==◌, is_some}
-use Rattle.std.specs.List.{filter_map}
+use Rattle.nf_net.proofs.Words.{◌≡◌, ◌≢◌, ℕ, Bool, true, false, cond, Option, Some, None, List, [], ◌∷◌, ◌++◌, refl, sym, ap, ◌∙◌, subst, arith, if◌then◌else◌}
+use Rattle.nf_net.proofs.Words.{◌==◌, Decides-eqb, Filter, Semantics, FullCell, Answer, Order, Msg, Note, stored_of, Keeping, CopyPlan, CopyState, SharePlan}
+use Rattle.nf_net.proofs.Words.{ShareState, MovePlan, MoveState, MoveRow, row_in, move_at_start, answer_of, Operation, Move, Copy, Share, turn_of, turn_of_move}
+use Rattle.nf_net.proofs.Words.{ControllerState, on_asked, on_diverted, queue_step, after_turn, takes_turn, hand_step, may_finish, step_and_finish}
+use Rattle.nf_net.proofs.Words.{controller_step, reaches, sent_weight, row_by, NotMove, CopyTurn, Idle, Hands, Hands_all, Ends, hands, copy_turns, got_insert}
+use Rattle.nf_net.proofs.Words.{got_remove, gone_twice, NotShared, answered, noted, Given, IsPlan, IsCopyPlan, Label}
 use Rattle.std.specs.FinMap as finite
-use Rattle.std.proofs.lemmas.Bool.Decides.{Decides-eqb}
-use Rattle.flow_filter.specs.declared.filter.Filter.{Filter}
-use Rattle.nf_function.specs.Semantics.{Semantics}
-use Rattle.packet_pool.specs.Pool.{FullCell}
 use Rattle.event_filter.specs.declared.mark.Mark.TheVariants as mark
-use Rattle.nf_msgs.specs.declared.answer.Answer.{Answer}
 use Rattle.nf_msgs.specs.declared.answer.Answer.TheVariants.{Done}
-use Rattle.nf_msgs.specs.declared.command.Order.{Order}
 use Rattle.nf_msgs.specs.declared.command.Order.TheVariants as order
-use Rattle.nf_msgs.specs.declared.msg.Msg.{Msg}
 use Rattle.nf_msgs.specs.declared.msg.Msg.TheVariants as msg
-use Rattle.nf_msgs.specs.declared.note.Note.{Note}
 use Rattle.nf_msgs.specs.declared.note.Note.TheVariants as note
-use Rattle.event_store.specs.Store.{stored_of}
-use Rattle.copy_share.specs.declared.copy_phase.CopyPhase.TheVariants.{Keeping}
-use Rattle.copy_share.specs.Copy.{CopyPlan, CopyState}
 use Rattle.copy_share.specs.Copy as copy
-use Rattle.copy_share.specs.Share.{SharePlan, ShareState}
 use Rattle.copy_share.specs.Share as share
-use Rattle.move_op.specs.Move.{MovePlan, MoveState, MoveRow, row_in, move_at_start, answer_of}
-use Rattle.ctrl_node.specs.declared.operation.Operation.{Operation}
-use Rattle.ctrl_node.specs.declared.operation.Operation.TheVariants.{Move, Copy, Share}
-use Rattle.ctrl_node.specs.Operations.{turn_of, turn_of_move}
 use Rattle.ctrl_node.specs.Controller as controller
-use Rattle.ctrl_node.specs.Controller.{ControllerState, Step, still, refusal, move_between, copy_between, share_begin, begin_step}
-use Rattle.ctrl_node.specs.Controller.{decision_step, on_asked, on_diverted, queue_step, after_turn, takes_turn, hand_step}
-use Rattle.ctrl_node.specs.Controller.{may_finish, finish_of, step_and_finish, controller_step}
-use Rattle.flow_filter.specs.Name.{place_of}
-use Rattle.actor_net.specs.Network.{reaches}
-use Rattle.actor_net.proofs.WeightLaws.{sent_weight}
-use Rattle.nf_net.proofs.answers.ControllerCases.{by_operation, by_queue}
+use Rattle.ctrl_node.specs.Controller.{Step, still}
+use Rattle.ctrl_node.specs.Controller.{finish_of}
+use Rattle.nf_net.proofs.answers.ControllerCases.{OpensBy, Opens_move, Opens_copy, Opens_share, by_command, by_operation, by_queue}
 use Rattle.nf_net.proofs.answers.AnswerSends.{answering, NoAnswer, none_weighs, row_quiet}
-use Rattle.proof_outlines.proofs.outline.ControllerWays.{row_by}
-use Rattle.proof_outlines.proofs.joined.ControllerChanges.{NotMove}
-use Rattle.proof_outlines.proofs.outline.CopyTurns.{CopyTurn, Idle, Hands, Hands_all, Ends, hands, ends}
-use Rattle.proof_outlines.proofs.joined.KnownOperations.{AreKnown, copy_turns}
-use Rattle.proof_outlines.proofs.outline.OperationTables.{got_insert, got_remove, gone_twice, NotShared}
+use Rattle.proof_outlines.proofs.outline.CopyTurns.{ends}
+use Rattle.proof_outlines.proofs.joined.KnownOperations.{AreKnown}
 use Rattle.nf_net.proofs.answers.CreditCounts.{sent_weight-append}
 use Rattle.nf_net.proofs.answers.InstallCounts.{passed, row_adds}
 use Rattle.nf_net.proofs.answers.InstallRuns.{not_done}
 use Rattle.nf_net.proofs.answers.InstallSteps.{over_is}
 use Rattle.nf_net.proofs.answers.ShareTells.{is_set_up, is_of_share, AreOfShare, Tells, ShareStep, handed_share, queued_share}
-use Rattle.proof_outlines.proofs.whole.ShareLeft.{answered, noted}
-use Rattle.proof_outlines.proofs.joined.Given.{Given, IsPlan, IsCopyPlan}
-use Rattle.proof_outlines.proofs.joined.Joined.{Label}
 
 abbrev move_in : MoveState → Option Operation → MoveState
 move_in d (Some (Move m)) = m
@@ -239,64 +216,41 @@ module _ (g : Given) (n : ℕ) (reach : reaches n 1 0 ≡ true) (c : ControllerS
         by_queue Acts c cell still_acts (λ op s is. share_acts op s is (queue_step c cell (Some op)) (queued_share c op s is (are.shares op s is).0 cell))
 
     -- a command that waits
-    module _ (op : ℕ) (none : finite.get c.operations op ≡ None) where
-      between_acts : (filter : Filter) (keep : Bool) (a b : Option ℕ) → Acts (move_between c op filter keep a b)
-      between_acts filter keep (Some from) (Some to) =
-          let plan : MovePlan = record { op = op; from = from; to = to; filter = filter; keep = keep } in
-          record {
-            says = Begins op refl (none_weighs n 1 (controller.move_begin c plan).sends (refl, tt)) none;
-            early = λ k y there zero. elim (k == op) as (λ b. (k == op) ≡ b
-                → cond b (Some (Move (move_at_start plan))) (finite.get c.operations k) ≡ Some (Move y) → Was k y (note.Begun op ∷ [])) [
-                  | true ↦ λ on own. Begins_now (ap (λ q. note.Begun q ∷ []) (sym ((Decides-eqb k op).0 on)))
-                  | false ↦ λ off other. Was_open y other zero refl
-                ] refl (sym (got_insert c.operations op k (Move (move_at_start plan))) ∙ there);
-          }
-      between_acts filter keep None b = still_acts
-      between_acts filter keep (Some from) None = still_acts
-
-      copies_acts : (filter : Option Filter) (a b : Option ℕ) → Acts (copy_between c op filter a b)
-      copies_acts filter (Some from) (Some to) =
-          let plan : CopyPlan = record { op = op; from = from; to = to; filter = filter } in
-          record {
-            says = Begins op refl (none_weighs n 1 (copy.begin_sends plan) (asks_quiet filter, tt)) none;
-            early = λ k x there zero. Was_open x (other_there (k == op) (Some (Copy (copy.copy_at_start plan))) (finite.get c.operations k) x tt
-                (sym (got_insert c.operations op k (Copy (copy.copy_at_start plan))) ∙ there)) zero refl;
-          }
-        where
-          asks_quiet : (o : Option Filter) → answering (copy.asks op o) ≡ 0
-          asks_quiet None = refl
-          asks_quiet (Some flt) = refl
-      copies_acts filter None b = still_acts
-      copies_acts filter (Some from) None = still_acts
-
-      shares_acts : (filter : Filter) (members : List ℕ) → Acts (share_begin c op filter members)
-      shares_acts filter [] = still_acts
-      shares_acts filter (home ∷ others) =
-          let plan : SharePlan = record { op = op; members = home ∷ others; filter = filter; site = c.site } in
-          record {
-            says = Begins op refl (none_weighs n 1 (share.begin_sends plan) (refl, tt)) none;
-            early = λ k x there zero. Was_open x (other_there (k == op) (Some (Share (share.share_at_start plan))) (finite.get c.operations k) x tt
-                (sym (got_insert c.operations op k (Share (share.share_at_start plan))) ∙ there)) zero refl;
-          }
-
-      begins_acts : (what : Order) → Acts (begin_step c op what)
-      begins_acts (order.Move source destination filter keep) = between_acts filter keep (place_of c.names source) (place_of c.names destination)
-      begins_acts (order.Copy source destination filter) = copies_acts filter (place_of c.names source) (place_of c.names destination)
-      begins_acts (order.Share members filter) = shares_acts filter (filter_map (place_of c.names) members)
-
-      decided_acts : (what : Order) → g.orders op ≡ Some what → (o : Option Answer) → Acts (decision_step c op what o)
-      decided_acts what known None = begins_acts what
-      decided_acts what known (Some a) = record {
-        says = Answers op a what refl (rw reach refl) known (λ other. subst IsEarly (sym none) tt);
-        early = λ k y there zero. Was_open y there zero refl;
-      }
+    begun_acts : (op : ℕ) → finite.get c.operations op ≡ None → {what : Order} (did : Step) → OpensBy c op what did → Acts did
+    begun_acts op none did (Opens_move {filter = filter} {keep = keep} from to e at) =
+        let plan : MovePlan = record { op = op; from = from; to = to; filter = filter; keep = keep } in
+        record {
+          says = Begins op refl (none_weighs n 1 (controller.move_begin c plan).sends (refl, tt)) none;
+          early = λ k y there zero. elim (k == op) as (λ b. (k == op) ≡ b
+              → cond b (Some (Move (move_at_start plan))) (finite.get c.operations k) ≡ Some (Move y) → Was k y (note.Begun op ∷ [])) [
+                | true ↦ λ on own. Begins_now (ap (λ q. note.Begun q ∷ []) (sym ((Decides-eqb k op).0 on)))
+                | false ↦ λ off other. Was_open y other zero refl
+              ] refl (sym (got_insert c.operations op k (Move (move_at_start plan))) ∙ there);
+        }
+    begun_acts op none did (Opens_copy {filter = filter} from to e at) =
+        let plan : CopyPlan = record { op = op; from = from; to = to; filter = filter } in
+        record {
+          says = Begins op refl (none_weighs n 1 (copy.begin_sends plan) (asks_quiet filter, tt)) none;
+          early = λ k x there zero. Was_open x (other_there (k == op) (Some (Copy (copy.copy_at_start plan))) (finite.get c.operations k) x tt
+              (sym (got_insert c.operations op k (Copy (copy.copy_at_start plan))) ∙ there)) zero refl;
+        }
+      where
+        asks_quiet : (o : Option Filter) → answering (copy.asks op o) ≡ 0
+        asks_quiet None = refl
+        asks_quiet (Some flt) = refl
+    begun_acts op none did (Opens_share {filter = filter} home others) =
+        let plan : SharePlan = record { op = op; members = home ∷ others; filter = filter; site = c.site } in
+        record {
+          says = Begins op refl (none_weighs n 1 (share.begin_sends plan) (refl, tt)) none;
+          early = λ k x there zero. Was_open x (other_there (k == op) (Some (Share (share.share_at_start plan))) (finite.get c.operations k) x tt
+              (sym (got_insert c.operations op k (Share (share.share_at_start plan))) ∙ there)) zero refl;
+        }
 
     asked_acts : (op : ℕ) (what : Order) → g.orders op ≡ Some what → Acts (on_asked c (record { op = op; what = what }))
-    asked_acts op what known = by_got (finite.get c.operations op) refl
-      where
-        by_got : (o : Option Operation) → finite.get c.operations op ≡ o → Acts (if is_some o then still c else decision_step c op what (refusal c what))
-        by_got None is = decided_acts op is what known (refusal c what)
-        by_got (Some x) is = still_acts
+    asked_acts op what known = by_command Acts c op what still_acts (λ a none is. record {
+      says = Answers op a what refl (rw reach refl) known (λ other. subst IsEarly (sym none) tt);
+      early = λ k y there zero. Was_open y there zero refl;
+    }) (λ did none is by. begun_acts op none did by)
 
     row_acts : {R : Type 0} (f : Semantics R) (port : ℕ) (m : Msg) → Label f g port 1 m → Acts (controller.row c port m)
     row_acts f port = row_by c port (λ m did. Label f g port 1 m → Acts did) (record {

@@ -1,19 +1,25 @@
 -- What holds in each case of a message holds of what the controller does with it: its operation is a share or isn't, a share takes the packet or
--- none does, the instance that sent it is known or isn't.
-use Rattle.std.proofs.Common.{◌≡◌, ℕ, true, false, Option, Some, None, [], ◌∷◌, sym, subst}
-use Rattle.std.specs.Prelude.{if◌then◌else◌, slice_set}
+-- none does, the instance that sent it is known or isn't, a command is open already, is refused, or begins.
+use Rattle.nf_net.proofs.Words.{◌≡◌, ℕ, Bool, true, false, Option, Some, None, List, [], ◌∷◌, ◌++◌, refl, sym, subst, if◌then◌else◌, is_some, slice_set}
+use Rattle.nf_net.proofs.Words.{filter_map, Filter, place_of, Answer, Order, Operation, may_finish, step_and_finish, refusal, move_between, copy_between}
+use Rattle.nf_net.proofs.Words.{share_begin, begin_step, decision_step, on_asked, FullCell, Msg, switch_node, ShareState, Share, turn_of, ControllerState}
+use Rattle.nf_net.proofs.Words.{on_diverted, queue_step, takes_turn, hand_step, on_final, NotShared, handed_is, shared_or_not}
+use Rattle.nf_msgs.specs.declared.command.Order.TheVariants as order
+use Rattle.ctrl_node.specs.Controller.{answers}
 use Rattle.std.specs.FinMap as finite
-use Rattle.packet_pool.specs.Pool.{FullCell}
 use Rattle.event_filter.specs.declared.mark.Mark.TheVariants.{Pass}
-use Rattle.nf_msgs.specs.declared.msg.Msg.{Msg}
 use Rattle.nf_msgs.specs.declared.msg.Msg.TheVariants as msg
-use Rattle.nf_msgs.specs.Nodes.{switch_node}
-use Rattle.copy_share.specs.Share.{ShareState}
-use Rattle.ctrl_node.specs.declared.operation.Operation.TheVariants.{Share}
-use Rattle.ctrl_node.specs.Operations.{turn_of}
-use Rattle.ctrl_node.specs.Controller.{ControllerState, Step, still, on_diverted, queue_step, takes_turn, hand_step, on_event, on_final}
-use Rattle.proof_outlines.proofs.outline.OperationTables.{NotShared, handed_is, shared_or_not}
+use Rattle.ctrl_node.specs.Controller.{Step, still, on_event}
 use Rattle.nf_net.proofs.answers.ShareTells.{Queues, Queues_none, Queues_at, queues}
+
+-- the step in which an operation begins by its order
+pub data OpensBy (c : ControllerState) (op : ℕ) : Order → Step → Type 0 where
+  Opens_move : {source destination : List ℕ} {filter : Filter} {keep : Bool} (from to : ℕ) → place_of c.names source ≡ Some from
+      → place_of c.names destination ≡ Some to → OpensBy c op (order.Move source destination filter keep) (move_between c op filter keep (Some from) (Some to))
+  Opens_copy : {source destination : List ℕ} {filter : Option Filter} (from to : ℕ) → place_of c.names source ≡ Some from
+      → place_of c.names destination ≡ Some to → OpensBy c op (order.Copy source destination filter) (copy_between c op filter (Some from) (Some to))
+  Opens_share : {members : List (List ℕ)} {filter : Filter} (home : ℕ) (others : List ℕ)
+      → OpensBy c op (order.Share members filter) (share_begin c op filter (home ∷ others))
 
 module _ (P : Step → Type 0) (c : ControllerState) where
   pub by_operation : (op port : ℕ) (m : Msg)
@@ -42,3 +48,46 @@ module _ (P : Step → Type 0) (c : ControllerState) where
   pub by_stop : (i : Option ℕ) → P (still c) → ((k : ℕ) → P (still (record c { stopped = slice_set c.stopped k true }))) → P (on_final c i)
   by_stop None none stopped = none
   by_stop (Some k) none stopped = stopped k
+
+  begun : (op : ℕ) (what : Order) → P (still c) → ((did : Step) → OpensBy c op what did → P did) → P (begin_step c op what)
+  begun op (order.Move source destination filter keep) none opens = between (place_of c.names source) (place_of c.names destination) refl refl
+    where
+      between : (a b : Option ℕ) → place_of c.names source ≡ a → place_of c.names destination ≡ b → P (move_between c op filter keep a b)
+      between (Some from) (Some to) e k = opens (move_between c op filter keep (Some from) (Some to)) (Opens_move from to e k)
+      between (Some from) None e k = none
+      between None b e k = none
+  begun op (order.Copy source destination filter) none opens = between (place_of c.names source) (place_of c.names destination) refl refl
+    where
+      between : (a b : Option ℕ) → place_of c.names source ≡ a → place_of c.names destination ≡ b → P (copy_between c op filter a b)
+      between (Some from) (Some to) e k = opens (copy_between c op filter (Some from) (Some to)) (Opens_copy from to e k)
+      between (Some from) None e k = none
+      between None b e k = none
+  begun op (order.Share members filter) none opens = among (filter_map (place_of c.names) members)
+    where
+      among : (places : List ℕ) → P (share_begin c op filter places)
+      among [] = none
+      among (home ∷ others) = opens (share_begin c op filter (home ∷ others)) (Opens_share home others)
+
+  pub by_command : (op : ℕ) (what : Order) → P (still c)
+      → ((a : Answer) → finite.get c.operations op ≡ None → refusal c what ≡ Some a → P (answers c op a))
+      → ((did : Step) → finite.get c.operations op ≡ None → refusal c what ≡ None → OpensBy c op what did → P did)
+      → P (on_asked c (record { op = op; what = what }))
+  by_command op what none refused opens = by_got (finite.get c.operations op) refl
+    where
+      decided : finite.get c.operations op ≡ None → (o : Option Answer) → refusal c what ≡ o → P (decision_step c op what o)
+      decided new (Some a) is = refused a new is
+      decided new None is = begun op what none (λ did by. opens did new is by)
+
+      by_got : (o : Option Operation) → finite.get c.operations op ≡ o → P (if is_some o then still c else decision_step c op what (refusal c what))
+      by_got None new = decided new (refusal c what) refl
+      by_got (Some x) got = none
+
+  -- the finish may stand behind all else
+  pub by_finish : (did : Step)
+      → P (record { node = record did.node { finish_sent = true }; sends = did.sends ++ (switch_node, msg.Finish) ∷ []; notes = did.notes })
+      → P (record { node = did.node; sends = did.sends ++ []; notes = did.notes }) → P (step_and_finish did)
+  by_finish did told untold = elim (may_finish did.node) as (λ b. P (record {
+    node = if b then record did.node { finish_sent = true } else did.node;
+    sends = did.sends ++ (if b then (switch_node, msg.Finish) ∷ [] else []);
+    notes = did.notes;
+  })) [ true ↦ told | false ↦ untold ]

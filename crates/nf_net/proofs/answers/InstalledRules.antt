@@ -1,52 +1,26 @@
 -- The controller's step has asked for a change of the switch's rules for each open move that passes packets on, each done one and each open share.
-use Rattle.std.proofs.Common.{◌≡◌, ℕ, ◌+◌, Bool, true, false, cond, Option, Some, None, List, [], ◌∷◌, ◌++◌, refl, sym, ap, ◌∙◌, subst, arith, map}
-use Rattle.std.specs.Prelude.{if◌then◌else◌, ◌==◌, is_some}
-use Rattle.std.specs.List.{filter_map}
+use Rattle.nf_net.proofs.Words.{◌≡◌, ℕ, ◌+◌, Bool, true, false, cond, Option, Some, None, List, [], ◌∷◌, ◌++◌, refl, sym, ap, ◌∙◌, subst, arith, map}
+use Rattle.nf_net.proofs.Words.{if◌then◌else◌, ◌==◌, nat_tests, Decides-eqb, Filter, Semantics, FullCell, Answer, Order, Msg, instance_node, Keeping, CopyState}
+use Rattle.nf_net.proofs.Words.{SharePlan, ShareState, MoveState, MoveRow, row_in, move_at_start, answer_of, stored_of, Operation, Move, Copy, Share, turn_of}
+use Rattle.nf_net.proofs.Words.{turn_of_move, ControllerState, on_asked, on_diverted, queue_step, after_turn, takes_turn, hand_step, unknown_name, overlap}
+use Rattle.nf_net.proofs.Words.{step_and_finish, controller_step, reaches, sent_weight, answers_of, row_by, got_insert, got_remove, gone_twice, NotShared}
+use Rattle.nf_net.proofs.Words.{CopyTurn, Idle, Hands, Hands_all, Ends, hands, copy_turns, answered, noted, Given, IsPlan, IsCopyPlan, Label}
 use Rattle.std.specs.FinMap as finite
-use Rattle.std.proofs.lemmas.Bool.Decides.{nat_tests, Decides-eqb}
-use Rattle.flow_filter.specs.declared.filter.Filter.{Filter}
-use Rattle.nf_function.specs.Semantics.{Semantics}
-use Rattle.packet_pool.specs.Pool.{FullCell}
 use Rattle.event_filter.specs.declared.action.Action.TheVariants as action
 use Rattle.event_filter.specs.declared.mark.Mark.TheVariants as mark
-use Rattle.nf_msgs.specs.declared.answer.Answer.{Answer}
 use Rattle.nf_msgs.specs.declared.answer.Answer.TheVariants.{Done}
-use Rattle.nf_msgs.specs.declared.command.Order.{Order}
-use Rattle.nf_msgs.specs.declared.command.Order.TheVariants as order
-use Rattle.nf_msgs.specs.declared.msg.Msg.{Msg}
 use Rattle.nf_msgs.specs.declared.msg.Msg.TheVariants as msg
 use Rattle.nf_msgs.specs.declared.note.Note.TheVariants as note
-use Rattle.nf_msgs.specs.Nodes.{instance_node}
-use Rattle.copy_share.specs.declared.copy_phase.CopyPhase.TheVariants.{Keeping}
-use Rattle.copy_share.specs.Copy.{CopyState}
 use Rattle.copy_share.specs.Copy as copy
-use Rattle.copy_share.specs.Share.{SharePlan, ShareState}
 use Rattle.copy_share.specs.Share as share
-use Rattle.move_op.specs.Phases as phase
-use Rattle.move_op.specs.Move.{MovePlan, MoveState, MoveRow, row_in, move_at_start, answer_of}
-use Rattle.event_store.specs.Store.{stored_of}
-use Rattle.ctrl_node.specs.declared.operation.Operation.{Operation}
-use Rattle.ctrl_node.specs.declared.operation.Operation.TheVariants.{Move, Copy, Share}
-use Rattle.ctrl_node.specs.Operations.{turn_of, turn_of_move}
 use Rattle.ctrl_node.specs.Controller as controller
-use Rattle.ctrl_node.specs.Controller.{ControllerState, Step, still, refusal, opening_step, move_between, copy_between, share_begin, begin_step}
-use Rattle.ctrl_node.specs.Controller.{decision_step, on_asked, on_diverted, queue_step, after_turn, takes_turn, hand_step}
-use Rattle.ctrl_node.specs.Controller.{unknown_name, overlap, may_finish, finish_of, step_and_finish, controller_step}
-use Rattle.flow_filter.specs.Name.{place_of}
-use Rattle.actor_net.specs.Network.{reaches}
-use Rattle.actor_net.proofs.WeightLaws.{sent_weight}
-use Rattle.net_world.specs.Commands.{answers_of}
-use Rattle.proof_outlines.proofs.outline.ControllerWays.{row_by}
-use Rattle.proof_outlines.proofs.outline.OperationTables.{got_insert, got_remove, gone_twice, NotShared}
-use Rattle.proof_outlines.proofs.outline.CopyTurns.{CopyTurn, Idle, Hands, Hands_all, Ends, hands, ends}
-use Rattle.proof_outlines.proofs.joined.KnownOperations.{AreKnown, copy_turns}
-use Rattle.nf_net.proofs.answers.ControllerCases.{by_operation, by_queue}
+use Rattle.ctrl_node.specs.Controller.{Step, still, opening_step}
+use Rattle.proof_outlines.proofs.outline.CopyTurns.{ends}
+use Rattle.proof_outlines.proofs.joined.KnownOperations.{AreKnown}
+use Rattle.nf_net.proofs.answers.ControllerCases.{OpensBy, Opens_move, Opens_copy, Opens_share, by_command, by_finish, by_operation, by_queue}
 use Rattle.nf_net.proofs.answers.CreditCounts.{sent_weight-append}
 use Rattle.nf_net.proofs.answers.InstallCounts.{sent_of, install, finish, done_in, passed, Adds, NoInstall, no_one, no_both, row_adds}
 use Rattle.nf_net.proofs.answers.ShareTells.{ShareStep, handed_share, queued_share}
-use Rattle.proof_outlines.proofs.whole.ShareLeft.{answered, noted}
-use Rattle.proof_outlines.proofs.joined.Given.{Given, IsPlan, IsCopyPlan}
-use Rattle.proof_outlines.proofs.joined.Joined.{Label}
 use Rattle.nf_net.proofs.answers.InstallSteps.{is_moving, dones, dones-none, open_in, over_is, shares_none, answered_none, refused_none}
 
 -- The controller.
@@ -68,14 +42,11 @@ module _ (n : ℕ) (reach : reaches n 1 0 ≡ true) (g : Given) (k : ℕ) (c : C
 
   finished_is : (did : Step) → Counts did → Sent (step_and_finish did)
   finished_is did h =
-      let none : sent_weight (install k) n 1 (finish_of did.node) ≡ 0 = elim (may_finish did.node)
-      as (λ b. sent_weight (install k) n 1 (if b then (0, msg.Finish) ∷ [] else []) ≡ 0) [ true ↦ rw reach refl | false ↦ refl ] in
-      let same : open_in (finite.get (step_and_finish did).node.operations k) ≡ open_in (finite.get did.node.operations k) = elim (may_finish did.node)
-      as (λ b. open_in (finite.get (if b then record did.node { finish_sent = true } else did.node).operations k) ≡ open_in (finite.get did.node.operations k))
-      [ true ↦ refl | false ↦ refl ] in
-      let both = sent_weight-append (install k) n 1 did.sends (finish_of did.node) in
       let was = h.sent in
-      omega (arith, none, same, both, was)
+      let told = sent_weight-append (install k) n 1 did.sends ((0, msg.Finish) ∷ []) in
+      let one : sent_weight (install k) n 1 ((0, msg.Finish) ∷ []) ≡ 0 = rw reach refl in
+      let untold = sent_weight-append (install k) n 1 did.sends [] in
+      by_finish Sent c did (omega (arith, was, told, one)) (omega (arith, was, untold))
 
   still_is : Counts (still c)
   still_is = record { sent = refl; unfinished = refl; finish_same = refl }
@@ -232,85 +203,53 @@ module _ (n : ℕ) (reach : reaches n 1 0 ≡ true) (g : Given) (k : ℕ) (c : C
     diverted_is cell =
         by_queue Counts c cell still_is (λ op s is. share_is op s is (queue_step c cell (Some op)) (queued_share c op s is (are.shares op s is).0 cell))
 
-    -- a command that waits
-    module _ (op : ℕ) (none : finite.get c.operations op ≡ None) where
-      between_is : (filter : Filter) (keep : Bool) (a b : Option ℕ) → Counts (move_between c op filter keep a b)
-      between_is filter keep (Some from) (Some to) =
-          let plan : MovePlan = record { op = op; from = from; to = to; filter = filter; keep = keep } in
-          let sent = no_one n 1 (from + 2) (msg.Enable op filter action.Drop) (λ y. refl) in
-          let own = sent (Some k) in
-          let here : open_in (finite.get (finite.insert c.operations op (Move (move_at_start plan))) k) ≡ open_in (finite.get c.operations k) =
-          ap open_in (got_insert c.operations op k (Move (move_at_start plan))) ∙ elim (k == op)
-          as (λ b. (k == op) ≡ b → open_in (cond b (Some (Move (move_at_start plan))) (finite.get c.operations k)) ≡ open_in (finite.get c.operations k)) [
-            | true ↦ λ on. sym (ap (λ y. open_in (finite.get c.operations y)) ((Decides-eqb k op).0 on) ∙ ap open_in none)
-            | false ↦ λ off. refl
-          ] refl in
-          record { sent = omega (arith, here, own); unfinished = sent None; finish_same = refl }
-      between_is filter keep None b = still_is
-      between_is filter keep (Some from) None = still_is
+    -- another operation than a share begins
+    opens_is : (op : ℕ) → finite.get c.operations op ≡ None → (o : Operation) (sends : List (ℕ × Msg)) → open_in (Some o) ≡ 0 → NoInstall n 1 sends
+        → Counts (opening_step c op o sends)
+    opens_is op none o sends zero quiet =
+        let own = quiet (Some k) in
+        let here : open_in (finite.get (finite.insert c.operations op o) k) ≡ open_in (finite.get c.operations k) =
+        ap open_in (got_insert c.operations op k o)
+        ∙ elim (k == op) as (λ b. (k == op) ≡ b → open_in (cond b (Some o) (finite.get c.operations k)) ≡ open_in (finite.get c.operations k)) [
+          | true ↦ λ on. zero ∙ sym (ap (λ y. open_in (finite.get c.operations y)) ((Decides-eqb k op).0 on) ∙ ap open_in none)
+          | false ↦ λ off. refl
+        ] refl in
+        record { sent = omega (arith, here, own); unfinished = quiet None; finish_same = refl }
 
-      -- another operation begins
-      opens_is : (o : Operation) (to : ℕ) (m : Msg) → open_in (Some o) ≡ 0 → ((j : Option ℕ) → sent_of j m ≡ 0) → Counts (opening_step c op o ((to, m) ∷ []))
-      opens_is o to m zero quiet =
-          let sent = no_one n 1 to m quiet in
-          let own = sent (Some k) in
-          let here : open_in (finite.get (finite.insert c.operations op o) k) ≡ open_in (finite.get c.operations k) =
-          ap open_in (got_insert c.operations op k o)
-          ∙ elim (k == op) as (λ b. (k == op) ≡ b → open_in (cond b (Some o) (finite.get c.operations k)) ≡ open_in (finite.get c.operations k)) [
-            | true ↦ λ on. zero ∙ sym (ap (λ y. open_in (finite.get c.operations y)) ((Decides-eqb k op).0 on) ∙ ap open_in none)
-            | false ↦ λ off. refl
-          ] refl in
-          record { sent = omega (arith, here, own); unfinished = sent None; finish_same = refl }
-
-      copies_is : (filter : Option Filter) (a b : Option ℕ) → Counts (copy_between c op filter a b)
-      copies_is filter (Some from) (Some to) = opens_is (Copy (copy.copy_at_start (record { op = op; from = from; to = to; filter = filter })))
-          (instance_node from) (copy.asks op filter) refl (asks_quiet filter)
-        where
-          asks_quiet : (o : Option Filter) (j : Option ℕ) → sent_of j (copy.asks op o) ≡ 0
-          asks_quiet None j = refl
-          asks_quiet (Some flt) j = refl
-      copies_is filter None b = still_is
-      copies_is filter (Some from) None = still_is
-
-      -- a share begins by a change
-      shares_is : (filter : Filter) (members : List ℕ) → Counts (share_begin c op filter members)
-      shares_is filter [] = still_is
-      shares_is filter (home ∷ others) =
-          let plan : SharePlan = record { op = op; members = home ∷ others; filter = filter; site = c.site } in
-          let turned : (op == k) ≡ (k == op) = grind (arith, nat_tests) in
-          let sent : sent_weight (install k) n 1 (share.begin_sends plan) ≡ (if k == op then 1 else 0) = rw (reach, turned) (omega arith) in
-          let here : open_in (finite.get (finite.insert c.operations op (Share (share.share_at_start plan))) k)
-          ≡ open_in (finite.get c.operations k) + (if k == op then 1 else 0) =
-          ap open_in (got_insert c.operations op k (Share (share.share_at_start plan))) ∙ elim (k == op) as (λ b. (k == op) ≡ b → open_in (cond b
-          (Some (Share (share.share_at_start plan))) (finite.get c.operations k)) ≡ open_in (finite.get c.operations k) + (if b then 1 else 0)) [
-            | true ↦ λ on. (let was : open_in (finite.get c.operations k) ≡ 0 = ap (λ y. open_in (finite.get c.operations y)) ((Decides-eqb k op).0 on)
-                ∙ ap open_in none in
-                omega (arith, was))
-            | false ↦ λ off. omega arith
-          ] refl in
-          record { sent = omega (arith, sent, here); unfinished = rw reach refl; finish_same = refl }
-
-      begins_is : (what : Order) → Counts (begin_step c op what)
-      begins_is (order.Move source destination filter keep) = between_is filter keep (place_of c.names source) (place_of c.names destination)
-      begins_is (order.Copy source destination filter) = copies_is filter (place_of c.names source) (place_of c.names destination)
-      begins_is (order.Share members filter) = shares_is filter (filter_map (place_of c.names) members)
-
-      decided_is : (what : Order) (o : Option Answer) → refusal c what ≡ o → Counts (decision_step c op what o)
-      decided_is what None is = begins_is what
-      decided_is what (Some a) is =
-          let refused = refused_none (unknown_name c what) (overlap c what) a is in
-          let sent = no_one n 1 0 (msg.Answered op) (λ y. refl) in
-          let own = sent (Some k) in
-          let noted : dones moving (map (λ (one : ℕ × Answer). one.1) (if op == k then (op, a) ∷ [] else [])) ≡ 0 = elim (op == k) as (λ b.
-          dones moving (map (λ (one : ℕ × Answer). one.1) (if b then (op, a) ∷ [] else [])) ≡ 0) [ true ↦ dones-none moving a refused | false ↦ refl ] in
-          record { sent = omega (arith, own, noted); unfinished = sent None; finish_same = refl }
+    begun_is : (op : ℕ) → finite.get c.operations op ≡ None → {what : Order} (did : Step) → OpensBy c op what did → Counts did
+    begun_is op none did (Opens_move {filter = filter} {keep = keep} from to e at) =
+        opens_is op none (Move (move_at_start (record { op = op; from = from; to = to; filter = filter; keep = keep })))
+        ((from + 2, msg.Enable op filter action.Drop) ∷ []) refl (no_one n 1 (from + 2) (msg.Enable op filter action.Drop) (λ y. refl))
+    begun_is op none did (Opens_copy {filter = filter} from to e at) =
+        opens_is op none (Copy (copy.copy_at_start (record { op = op; from = from; to = to; filter = filter })))
+        ((instance_node from, copy.asks op filter) ∷ []) refl (no_one n 1 (instance_node from) (copy.asks op filter) (asks_quiet filter))
+      where
+        asks_quiet : (o : Option Filter) (j : Option ℕ) → sent_of j (copy.asks op o) ≡ 0
+        asks_quiet None j = refl
+        asks_quiet (Some flt) j = refl
+    begun_is op none did (Opens_share {filter = filter} home others) =
+        let plan : SharePlan = record { op = op; members = home ∷ others; filter = filter; site = c.site } in
+        let turned : (op == k) ≡ (k == op) = grind (arith, nat_tests) in
+        let sent : sent_weight (install k) n 1 (share.begin_sends plan) ≡ (if k == op then 1 else 0) = rw (reach, turned) (omega arith) in
+        let here : open_in (finite.get (finite.insert c.operations op (Share (share.share_at_start plan))) k)
+        ≡ open_in (finite.get c.operations k) + (if k == op then 1 else 0) =
+        ap open_in (got_insert c.operations op k (Share (share.share_at_start plan))) ∙ elim (k == op) as (λ b. (k == op) ≡ b → open_in (cond b
+        (Some (Share (share.share_at_start plan))) (finite.get c.operations k)) ≡ open_in (finite.get c.operations k) + (if b then 1 else 0)) [
+          | true ↦ λ on. (let was : open_in (finite.get c.operations k) ≡ 0 = ap (λ y. open_in (finite.get c.operations y)) ((Decides-eqb k op).0 on)
+              ∙ ap open_in none in
+              omega (arith, was))
+          | false ↦ λ off. omega arith
+        ] refl in
+        record { sent = omega (arith, sent, here); unfinished = rw reach refl; finish_same = refl }
 
     asked_is : (op : ℕ) (what : Order) → Counts (on_asked c (record { op = op; what = what }))
-    asked_is op what = by_got (finite.get c.operations op) refl
-      where
-        by_got : (o : Option Operation) → finite.get c.operations op ≡ o → Counts (if is_some o then still c else decision_step c op what (refusal c what))
-        by_got None is = decided_is op is what (refusal c what) refl
-        by_got (Some x) is = still_is
+    asked_is op what = by_command Counts c op what still_is (λ a new is.
+        let refused = refused_none (unknown_name c what) (overlap c what) a is in
+        let sent = no_one n 1 0 (msg.Answered op) (λ y. refl) in
+        let own = sent (Some k) in
+        let noted : dones moving (map (λ (one : ℕ × Answer). one.1) (if op == k then (op, a) ∷ [] else [])) ≡ 0 = elim (op == k) as (λ b.
+        dones moving (map (λ (one : ℕ × Answer). one.1) (if b then (op, a) ∷ [] else [])) ≡ 0) [ true ↦ dones-none moving a refused | false ↦ refl ] in
+        record { sent = omega (arith, own, noted); unfinished = sent None; finish_same = refl }) (λ did new is by. begun_is op new did by)
 
     pub row_counts : {R : Type 0} (f : Semantics R) (port : ℕ) (m : Msg) → Label f g port 1 m → Counts (controller.row c port m)
     row_counts f port m label = row_by c port (λ _ did. Counts did) (record {

@@ -1,45 +1,25 @@
 -- What the controller's step leaves of what each open copy and share waits for.
-use Rattle.std.proofs.Common.{◌≡◌, ◌≢◌, ℕ, ◌+◌, ◌≤◌, Bool, true, false, cond, Option, Some, None, List, [], ◌∷◌, ◌++◌, length, refl, sym, ap, ◌∙◌, subst, arith}
-use Rattle.std.specs.Prelude.{if◌then◌else◌, ◌&&◌, ◌==◌}
-use Rattle.std.specs.List.{filter_map}
+use Rattle.nf_net.proofs.Words.{◌≡◌, ◌≢◌, ℕ, ◌+◌, ◌≤◌, Bool, true, false, cond, Option, Some, None, List, [], ◌∷◌, ◌++◌, length, refl, sym, ap, ◌∙◌, subst}
+use Rattle.nf_net.proofs.Words.{arith, if◌then◌else◌, ◌&&◌, ◌==◌, nat_tests, Decides-eqb, Decides-ltb, self, Filter, FullCell, stored_of, Answer, Order, Msg}
+use Rattle.nf_net.proofs.Words.{instance_node, op_of, MoveState, MoveRow, row_in, answer_of, CopyPlan, CopyState, CopyRow, SharePlan, ShareState, home}
+use Rattle.nf_net.proofs.Words.{Operation, Move, Copy, Share, OpenOperations, turn_of, turn_of_move, turn_of_copy, ControllerState, place_of, reaches, Each}
+use Rattle.nf_net.proofs.Words.{NotShared, got_insert, got_remove, handed_is, shared_or_not, answered, ShareLeaves, handed_leaves, queued_leaves}
 use Rattle.std.specs.FinMap as finite
-use Rattle.std.proofs.lemmas.Bool.Decides.{nat_tests, Decides-eqb, Decides-ltb}
-use Rattle.proof_machines.proofs.share.Lists.{self}
-use Rattle.flow_filter.specs.declared.filter.Filter.{Filter}
-use Rattle.event_filter.specs.declared.mark.Mark.TheVariants as mark
-use Rattle.packet_pool.specs.Pool.{FullCell}
-use Rattle.event_store.specs.Store.{stored_of}
 use Rattle.switch_rules.specs.declared.target.Target.TheVariants as target
-use Rattle.nf_msgs.specs.declared.answer.Answer.{Answer}
-use Rattle.nf_msgs.specs.declared.command.Order.{Order}
-use Rattle.nf_msgs.specs.declared.command.Order.TheVariants as order
-use Rattle.nf_msgs.specs.declared.msg.Msg.{Msg}
 use Rattle.nf_msgs.specs.declared.msg.Msg.TheVariants as msg
-use Rattle.nf_msgs.specs.Nodes.{instance_node}
-use Rattle.nf_msgs.specs.MessageParts.{op_of}
-use Rattle.move_op.specs.Move.{MoveState, MoveRow, row_in, answer_of}
-use Rattle.copy_share.specs.Copy.{CopyPlan, CopyState, CopyRow}
 use Rattle.copy_share.specs.Copy as copy
-use Rattle.copy_share.specs.Share.{SharePlan, ShareState, home}
 use Rattle.copy_share.specs.Share as share
-use Rattle.ctrl_node.specs.declared.operation.Operation.{Operation}
-use Rattle.ctrl_node.specs.declared.operation.Operation.TheVariants.{Move, Copy, Share}
-use Rattle.ctrl_node.specs.Operations.{OpenOperations, turn_of, turn_of_move, turn_of_copy}
 use Rattle.ctrl_node.specs.Controller as ctrl
-use Rattle.ctrl_node.specs.Controller.{ControllerState, Step}
-use Rattle.flow_filter.specs.Name.{place_of}
-use Rattle.actor_net.specs.Network.{reaches}
-use Rattle.proof_machines.proofs.unit.Labels.{Each}
-use Rattle.proof_outlines.proofs.outline.OperationTables.{NotShared, got_insert, got_remove, handed_is, shared_or_not}
-use Rattle.proof_outlines.proofs.whole.ShareLeft.{answered, ShareLeaves, handed_leaves, queued_leaves}
+use Rattle.event_filter.specs.declared.mark.Mark.TheVariants as mark
+use Rattle.ctrl_node.specs.Controller.{Step}
 use Rattle.proof_outlines.proofs.whole.OpenShares.{turned_test}
 use Rattle.proof_outlines.proofs.joined.CopyCounts.{handed_at}
 use Rattle.proof_outlines.proofs.joined.ShareBegins.{place_below}
-use Rattle.nf_net.proofs.answers.ShareTells.{Queues, Queues_none, Queues_at, queues}
 use Rattle.nf_net.proofs.answers.EndTables.{flag}
 use Rattle.nf_net.proofs.ends.LinkWeights.{sends_weigh}
 use Rattle.nf_net.proofs.ends.Tokens.{Leg, Gets, Alls, token, token_of, at_instance, awaits, counts, weight, wanted}
 use Rattle.nf_net.proofs.ends.TokenRows.{Grants, Fresh, Waits, grants_more, copy_row, share_row, served_grants}
+use Rattle.nf_net.proofs.answers.ControllerCases.{OpensBy, Opens_move, Opens_copy, Opens_share, by_command, by_queue, by_sender, by_stop}
 
 -- what is known of the open copies and shares, of n nodes
 pub record CopyWithin (n op : ℕ) (y : CopyState) : Type 0 where
@@ -187,11 +167,7 @@ module _ (n : ℕ) (switch_there : reaches n 1 0 ≡ true) (c : ControllerState)
       ] refl
 
   diverted_gives : (cell : FullCell) → GivesTokens (msg.Diverted cell) (ctrl.on_diverted c cell)
-  diverted_gives cell = by_queues (ctrl.on_diverted c cell) (queues c cell)
-    where
-      by_queues : (did : Step) → Queues c cell did → GivesTokens (msg.Diverted cell) did
-      by_queues did (Queues_none e) = subst (GivesTokens (msg.Diverted cell)) (sym e) (still_gives (msg.Diverted cell) (λ k. refl))
-      by_queues did (Queues_at op s is e) = subst (GivesTokens (msg.Diverted cell)) (sym e) (queued_gives cell op s is)
+  diverted_gives cell = by_queue (GivesTokens (msg.Diverted cell)) c cell (still_gives (msg.Diverted cell) (λ k. refl)) (λ op s is. queued_gives cell op s is)
 
   -- A command
   module _ (op : ℕ) (what : Order) where
@@ -209,11 +185,6 @@ module _ (n : ℕ) (switch_there : reaches n 1 0 ≡ true) (c : ControllerState)
 
     reach_at : (name : List ℕ) (i : ℕ) → place_of c.names name ≡ Some i → reaches n 1 (instance_node i) ≡ true
     reach_at name i at = let low = (Decides-ltb i (length c.names)).0 (place_below c.names name i at) in grind (arith, nat_tests, low, names)
-
-    moves_between : (filter : Filter) (keep : Bool) (a b : Option ℕ) → GivesTokens asked (ctrl.move_between c op filter keep a b)
-    moves_between filter keep (Some a) (Some b) = opens_gives _ _ (omega arith)
-    moves_between filter keep None b = still_gives asked (λ k. refl)
-    moves_between filter keep (Some a) None = still_gives asked (λ k. refl)
 
     -- what a copy asks for first
     asks_weigh : (plan : CopyPlan) → plan.op ≡ op → reaches n 1 (instance_node plan.from) ≡ true
@@ -242,16 +213,11 @@ module _ (n : ℕ) (switch_there : reaches n 1 0 ≡ true) (c : ControllerState)
         by_filter None = one Alls (msg.GetAll plan.op) (at_instance Alls plan.op plan.from) here
         by_filter (Some filter) = one Gets (msg.Get plan.op filter) (at_instance Gets plan.op plan.from) here
 
-    copies_between : (source destination : List ℕ) (filter : Option Filter) (a b : Option ℕ) → place_of c.names source ≡ a
-        → GivesTokens asked (ctrl.copy_between c op filter a b)
-    copies_between source destination filter (Some a) (Some b) at =
-        opens_gives _ _ (asks_weigh (record { op = op; from = a; to = b; filter = filter }) refl (reach_at source a at))
-    copies_between source destination filter None b at = still_gives asked (λ k. refl)
-    copies_between source destination filter (Some a) None at = still_gives asked (λ k. refl)
-
-    shares_among : (filter : Filter) (members : List ℕ) → GivesTokens asked (ctrl.share_begin c op filter members)
-    shares_among filter [] = still_gives asked (λ k. refl)
-    shares_among filter (member ∷ others) =
+    begun_gives : {o : Order} (did : Step) → OpensBy c op o did → GivesTokens asked did
+    begun_gives did (Opens_move from to e at) = opens_gives _ _ (omega arith)
+    begun_gives did (Opens_copy {source} {destination} {filter} from to e at) =
+        opens_gives _ _ (asks_weigh (record { op = op; from = from; to = to; filter = filter }) refl (reach_at source from e))
+    begun_gives did (Opens_share {members} {filter} member others) =
         let plan : SharePlan = record { op = op; members = member ∷ others; filter = filter; site = c.site } in
         let here = self (instance_node member) in
         let mine = self op in
@@ -263,29 +229,14 @@ module _ (n : ℕ) (switch_there : reaches n 1 0 ≡ true) (c : ControllerState)
         ∙ one in
         opens_gives (Share (share.share_at_start plan)) (share.begin_sends plan) (omega (arith, all))
 
-    begins_gives : (o : Order) → GivesTokens asked (ctrl.begin_step c op o)
-    begins_gives (order.Move source destination filter keep) = moves_between filter keep (place_of c.names source) (place_of c.names destination)
-    begins_gives (order.Copy source destination filter) = copies_between source destination filter (place_of c.names source) (place_of c.names destination) refl
-    begins_gives (order.Share members filter) = shares_among filter (filter_map (place_of c.names) members)
-
-    decided_gives : (o : Option Answer) → GivesTokens asked (ctrl.decision_step c op what o)
-    decided_gives (Some a) = λ k. stays k asked (ctrl.answers c op a) refl refl
-    decided_gives None = begins_gives what
-
     asked_gives : GivesTokens asked (ctrl.on_asked c (record { op = op; what = what }))
-    asked_gives = elim (finite.contains_key c.operations op)
-        as (λ b. GivesTokens asked (if b then ctrl.still c else ctrl.decision_step c op what (ctrl.refusal c what))) [
-          | true ↦ still_gives asked (λ k. refl)
-          | false ↦ decided_gives (ctrl.refusal c what)
-        ]
+    asked_gives = by_command (GivesTokens asked) c op what (still_gives asked (λ k. refl)) (λ a none is k. stays k asked (ctrl.answers c op a) refl refl)
+        (λ did none is by. begun_gives did by)
 
   event_gives : (op : ℕ) (cell : FullCell) (o : Option ℕ) → GivesTokens (msg.Event op cell) (ctrl.on_event c p op cell o)
-  event_gives op cell None = still_gives (msg.Event op cell) (λ k. refl)
-  event_gives op cell (Some i) = elim (finite.contains_key c.operations op) as (λ b. GivesTokens (msg.Event op cell)
-      (if b then ctrl.hand_step c op p (msg.Event op cell) else record { node = c; sends = (0, msg.Forward i (mark.Pass op) cell) ∷ []; notes = [] })) [
-        | true ↦ handed_gives op (msg.Event op cell) refl
-        | false ↦ λ k. stays k (msg.Event op cell) (record { node = c; sends = (0, msg.Forward i (mark.Pass op) cell) ∷ []; notes = [] }) refl refl
-      ]
+  event_gives op cell o = by_sender (GivesTokens (msg.Event op cell)) c p op cell o (still_gives (msg.Event op cell) (λ k. refl))
+      (handed_gives op (msg.Event op cell) refl) (λ i k. stays k (msg.Event op cell)
+      (record { node = c; sends = (0, msg.Forward i (mark.Pass op) cell) ∷ []; notes = [] }) refl refl)
 
   row_gives : (m : Msg) → GivesTokens m (ctrl.row c p m)
   row_gives (msg.Asked x) = elim (p == 0) as (λ b. GivesTokens (msg.Asked x) (if b then ctrl.on_asked c x else ctrl.still c))
@@ -295,11 +246,8 @@ module _ (n : ℕ) (switch_there : reaches n 1 0 ≡ true) (c : ControllerState)
   row_gives msg.End = elim (p == 0) as (λ b. GivesTokens msg.End (if b then ctrl.still (record c { end_came = true }) else ctrl.still c))
       [ true ↦ (λ k. stays k msg.End (ctrl.still (record c { end_came = true })) refl refl) | false ↦ still_gives msg.End (λ k. refl) ]
   row_gives (msg.Event op cell) = event_gives op cell (ctrl.instance_at c p)
-  row_gives msg.Final = by_place (ctrl.instance_at c p)
-    where
-      by_place : (o : Option ℕ) → GivesTokens msg.Final (ctrl.on_final c o)
-      by_place None = still_gives msg.Final (λ k. refl)
-      by_place (Some i) = λ k. stays k msg.Final (ctrl.on_final c (Some i)) refl refl
+  row_gives msg.Final = by_stop (GivesTokens msg.Final) c (ctrl.instance_at c p) (still_gives msg.Final (λ k. refl))
+      (λ i k. stays k msg.Final (ctrl.on_final c (Some i)) refl refl)
   row_gives m = numbered_gives m (op_of m) refl
 
   -- the finish changes nothing of it
