@@ -1,56 +1,27 @@
 -- In every run each chunk on its way is one of a unit that its move takes, and that move is under way.
-use Rattle.std.proofs.Common.{◌≡◌, ◌≢◌, ℕ, zero, suc, ◌+◌, ◌<◌, true, false, cond, Some, List, [], ◌∷◌, map, length, refl, sym, ap, ◌∙◌, subst, arith}
-use Rattle.std.specs.Prelude.{◌==◌, ◌&&◌, filter, All}
-use Rattle.std.specs.List.{flat_map}
+use Rattle.nf_net.proofs.Words.{◌≡◌, ◌≢◌, ℕ, zero, suc, ◌<◌, true, cond, Some, List, [], ◌∷◌, map, refl, sym, ap, ◌∙◌, subst, arith, flat_map, Chunk, Semantics}
+use Rattle.nf_net.proofs.Words.{same_unit, spelled, same_unit_equiv, Msg, Piece, Phase, Operation, Move, Copy, Share, on_link, EachOn, Each, each-append}
+use Rattle.nf_net.proofs.Words.{seat_shape, third_silent, each_found, OpLabel, Untaken, Node, Switch, on_links, IsMoving, chunks_in, kept_in, kept_for, kept_by}
+use Rattle.nf_net.proofs.Words.{is_chunk_of, spelled_of, chunks_on_way, IsChunk, is_sys, given, Given, place, WhereAll, Apart_from_shares, Under_share, S, A}
+use Rattle.nf_net.proofs.Words.{came_by, Label, AreGoodChunks, HasPieces, node_of}
+use Rattle.std.specs.Prelude.{filter, All}
 use Rattle.std.specs.FinMap as finite
-use Rattle.std.proofs.lemmas.Bool.Decides.{nat_tests}
 use Rattle.nf_net.proofs.PlaceSteps.{open_at}
-use Rattle.nf_function.specs.declared.chunk.Chunk.{Chunk}
 use Rattle.nf_function.specs.declared.unit.Unit as units
-use Rattle.nf_function.specs.Semantics.{Semantics}
-use Rattle.record_table.specs.Table.{same_unit}
-use Rattle.record_table.specs.Chunks.{spelled}
-use Rattle.record_table.proofs.UnitOrder.{same_unit_equiv}
-use Rattle.nf_msgs.specs.declared.msg.Msg.{Msg}
 use Rattle.nf_msgs.specs.declared.msg.Msg.TheVariants as msg
-use Rattle.nf_msgs.specs.declared.msg.Piece.{Piece}
-use Rattle.nf_msgs.specs.declared.note.Note.{Note}
-use Rattle.move_op.specs.Phases.{Phase}
 use Rattle.move_op.specs.Phases as phase
 use Rattle.move_op.specs.Move.{chunks_of}
-use Rattle.ctrl_node.specs.declared.operation.Operation.{Operation}
-use Rattle.ctrl_node.specs.declared.operation.Operation.TheVariants.{Move, Copy, Share}
-use Rattle.actor_net.specs.Network.{Network, IsWorld, on_link}
-use Rattle.actor_net.proofs.WeightLaws.{Each as EachOn}
-use Rattle.proof_machines.proofs.unit.Labels.{Each, each-append}
-use Rattle.proof_machines.proofs.unit.Seats.{seat_shape}
-use Rattle.proof_machines.proofs.unit.ToRemove.{third_silent}
-use Rattle.proof_machines.proofs.net.Ctrl.{each_found}
-use Rattle.proof_machines.proofs.net.Holding.{OpLabel}
 use Rattle.proof_machines.proofs.net.Units.{see}
-use Rattle.proof_machines.proofs.net.Untaken.{Untaken}
-use Rattle.net_world.specs.declared.config.Config.{Config}
-use Rattle.net_world.specs.declared.node.Node.{Node}
-use Rattle.net_world.specs.declared.node.Node.TheVariants.{Switch}
-use Rattle.net_world.specs.Input.{IsInput}
-use Rattle.net_world.specs.Path.{on_links}
-use Rattle.net_world.specs.Places.{IsMoving}
-use Rattle.net_world.specs.Records.{chunks_in, kept_in, kept_for, kept_by, is_chunk_of, spelled_of, chunks_on_way}
 use Rattle.nf_net.proofs.paths.ChunkLemmas.{all_chunks, spelled_more}
 use Rattle.nf_net.proofs.paths.ChunkPlaces.{good_pieces, free_pieces, none_on_way}
 use Rattle.nf_net.proofs.answers.MovesUnderWay.{AreUnderWay}
-use Rattle.proof_outlines.proofs.outline.MoveOutline.{IsChunk}
-use Rattle.proof_outlines.proofs.outline.Outline.{is_sys}
 use Rattle.nf_net.proofs.paths.PathNodes.{each_entry}
-use Rattle.nf_net.proofs.paths.PathSeats.{labels, loop_is, AsMoves, Seated, seated, HasSides, Are_there, Rests}
+use Rattle.nf_net.proofs.paths.PathSeats.{labels, on_each, Seated, seated, HasSides, Are_there, Rests}
 use Rattle.nf_net.proofs.paths.SharedChunks.{none_on_way as none_shared}
 use Rattle.nf_net.proofs.paths.PathSums.{each_place, each_link}
-use Rattle.proof_outlines.proofs.joined.StartJoined.{given}
-use Rattle.proof_outlines.proofs.joined.Given.{Given, place}
-use Rattle.proof_machines.proofs.whole.WhereAll.{WhereAll, Apart_from_shares, Under_share}
 use Rattle.nf_net.specs.NumberedChunks.{numbered_on_way, IsOfItsMove}
 use Rattle.nf_net.proofs.NumberedChunks.{bare, same_chunks, shorter, IsOwn, own_on_way}
-use Rattle.proof_outlines.proofs.joined.Joined.{S, A, came_by, Label, AreGoodChunks, HasPieces, Joined, node_of}
+use Rattle.nf_net.proofs.paths.Reached.{Reached, AsMoves}
 
 all_from : {X : Type 0} (P : X → Type 0) (xs : List X) → Each P xs → All P xs
 all_from P [] h k d small = absurd (omega (arith, small))
@@ -84,14 +55,7 @@ module _ {R : Type 0} (f : Semantics R) (g : Given) where
   phase_named : (p : Phase) → HasPieces f g p → Each Named (kept_in p)
   phase_named (phase.Streaming frozen free came d) h = each-append Named (chunks_of frozen) (chunks_of free)
       (pieces_named frozen (good_pieces f g frozen h.0)) (pieces_named free (free_pieces f g d free h.1))
-  phase_named phase.Freezing h = tt
-  phase_named phase.Holding h = tt
-  phase_named phase.Passing h = tt
-  phase_named phase.Ending h = tt
-  phase_named (phase.Restoring why) h = tt
-  phase_named (phase.Returning why) h = tt
-  phase_named (phase.Undoing why) h = tt
-  phase_named (phase.Over why) h = tt
+  phase_named p h = tt
 
   -- such chunks, where each unit of which there is one has a fact
   module _ (Q : units.Unit → Type 0) (P : Chunk → Type 0) (has : (c : Chunk) (u : units.Unit) → c.unit ≡ Some u → Q u → P c) where
@@ -107,22 +71,16 @@ module _ {R : Type 0} (f : Semantics R) (g : Given) where
           each_has cs h.1 (λ v some. q v (λ none. some (shorter f (is_chunk_of v c) c (filter (is_chunk_of v) cs) none))),
         )
 
-module _ {F R : Type 0} (f : Semantics R) (c : Config) (items : List Msg) (is : IsInput f.kind c items) (n : ℕ) (count : n ≡ length c.names + 2)
-    (w : Network (Node F R) Msg Note) (nodes : length w.nodes ≡ n) (j : Joined f (given f c items is) n w) (world : IsWorld w)
-    (busy : AreUnderWay f c items is n w j) where
+module _ {F R : Type 0} (here : Reached F R) (busy : AreUnderWay here.f here.c here.items here.is here.n here.w here.j) where
+  open here use {f, c, items, is, n, w, nodes, j, world}
+
   abbrev g : Given
   g = given f c items is
 
   -- all chunks on their way are of units
   on_named : (s r : ℕ) → s < n → r < n → Each (Named f g) (flat_map chunks_in (on_link w s r))
-  on_named s r hs hr = elim ((s == 0) && (r == 0)) as (λ t. (s == 0) && (r == 0) ≡ t → Each (Named f g) (flat_map chunks_in (on_link w s r))) [
-    | true ↦ λ both.
-        let zs : s ≡ 0 = grind (arith, nat_tests) in
-        let zr : r ≡ 0 = grind (arith, nat_tests) in
-        subst (λ ms. Each (Named f g) (flat_map chunks_in ms))
-        (sym (ap (λ k. on_link w k r) zs ∙ ap (λ k. on_link w 0 k) zr ∙ loop_is f c items is n count w nodes j world)) tt
-    | false ↦ λ off. link_named f g s r (on_link w s r) (labels f c items is n count w nodes j world s r hs hr off)
-  ] refl
+  on_named s r hs hr = on_each here (λ ms. Each (Named f g) (flat_map chunks_in ms)) tt s r
+      (λ off. link_named f g s r (on_link w s r) (labels here s r hs hr off))
 
   kept_named : (k : ℕ) → Each (Named f g) (kept_by (node_of j.nodes k))
   kept_named zero = tt
@@ -145,30 +103,30 @@ module _ {F R : Type 0} (f : Semantics R) (c : Config) (items : List Msg) (is : 
   -- a unit with a chunk on its way has an open move
   record IsMoved (u : units.Unit) : Type 0 where
     apart : Untaken (S f g) u (A f g) j.world
-    seat : Seated f c items is n count w nodes j u
+    seat : Seated here u
     moving : IsMoving items u w.log
     number : moving.op ≡ seat.op.num
 
   moved : (u : units.Unit) → spelled_of f u (chunks_on_way w) ≢ [] → IsMoved u
   moved u some = by_where (j.shown_is.every.unit u)
     where
-      by_seat : AsMoves f c items is n count w nodes j u → Untaken (S f g) u (A f g) j.world → IsMoved u
+      by_seat : AsMoves here u → Untaken (S f g) u (A f g) j.world → IsMoved u
       by_seat at apart = by_sides k.ends
         where
-          k : Seated f c items is n count w nodes j u
-          k = seated f c items is n count w nodes j u at
+          k : Seated here u
+          k = seated here u at
 
-          by_sides : HasSides f c items is n count w nodes j k.op (seat_shape (S f g).F k.seat) → IsMoved u
+          by_sides : HasSides here k.op (seat_shape (S f g).F k.seat) → IsMoved u
           by_sides (Are_there e found src dst) =
               let label = each_found (OpLabel (S f g) (see (S f g) (is_sys f g.site g.packet) u k.op k.third)) k.op.num j.world.ops e k.holds.ops found in
               let on = open_at f c items is n w j busy u k.op.num e found (label.0.0 ∙ label.1) in
               record { apart = apart; seat = k; moving = on.moving; number = on.number }
-          by_sides (Rests none none_b at_a) = absurd (some (none_on_way f c items is n count w nodes j world u apart k.op k.third
+          by_sides (Rests none none_b at_a) = absurd (some (none_on_way here u apart k.op k.third
               (seat_shape (S f g).F k.seat) k.holds (third_silent (S f g).F k.seat) none))
 
       by_where : WhereAll (S f g) (A f g) (is_sys f g.site g.packet) u j.world (came_by f g w.log u) → IsMoved u
       by_where (Apart_from_shares h none) = by_seat h.is h.untaken
-      by_where (Under_share x before b h o i) = absurd (some (none_shared f c items is n count w nodes j world u x before (came_by f g w.log u).diverted h))
+      by_where (Under_share x before b h o i) = absurd (some (none_shared here u x before (came_by f g w.log u).diverted h))
 
   -- so has each chunk, by its unit
   record HasMove (y : Chunk) : Type 0 where
@@ -187,7 +145,7 @@ module _ {F R : Type 0} (f : Semantics R) (c : Config) (items : List Msg) (is : 
   chunks_moved i d small =
       let h = all_from (λ x. HasMove x.1) (numbered_on_way w) all_have i d small in
       let k = h.moved_so.seat in
-      let own = all_from (IsOwn h.unit k.op.num) (numbered_on_way w) (own_on_way f c items is n count w nodes j world h.unit h.moved_so.apart k) i d small in
+      let own = all_from (IsOwn h.unit k.op.num) (numbered_on_way w) (own_on_way here h.unit h.moved_so.apart k) i d small in
       record {
         of = record { unit = h.unit; unit_is = h.unit_is; moving = h.moved_so.moving };
         number = own h.unit_is ∙ ap Some (sym h.moved_so.number);

@@ -1,72 +1,34 @@
 -- In the world of a complete run each packet of the input was processed, and each unit that has a record has it at its owner.
-use Rattle.std.proofs.Common.{◌≡◌, ℕ, ◌+◌, ◌-◌, ◌<◌, ◌≤◌, Bool, true, false, Option, Some, None, List}
-use Rattle.std.proofs.Common.{[], ◌∷◌, ◌++◌, map, length, append-nil, refl, sym, ap, ◌∙◌, subst, arith}
-use Rattle.std.specs.Prelude.{if◌then◌else◌, ◌&&◌, ◌==◌, nat_lt, slice_get}
-use Rattle.std.specs.declared.alloc.Global.{Global}
-use Rattle.std.specs.List.{filter, filter_map}
+use Rattle.nf_net.proofs.Words.{◌≡◌, ℕ, ◌+◌, ◌<◌, ◌≤◌, Bool, true, false, Option, Some, None, List, [], ◌∷◌, ◌++◌, map, length, append-nil, refl, sym, ap, ◌∙◌}
+use Rattle.nf_net.proofs.Words.{subst, arith, if◌then◌else◌, ◌&&◌, ◌==◌, nat_lt, slice_get, Global, filter, filter_map, Decides-eqb, slice_get_within}
+use Rattle.nf_net.proofs.Words.{slice_get-get_or, Filter, Packet, FunctionLaws, Semantics, unit_at, same_unit-true, Target, Order, Msg, Note, instance_node}
+use Rattle.nf_net.proofs.Words.{is_there, Choice, Network, IsRun, is_done, run, queue_at, at, run_world, Each, firsts, nil_right, same_of, none_in, exactly}
+use Rattle.nf_net.proofs.Words.{IsSys, done_u, fold_runs, not_both, AtEnd, OpenShare, find_share, moves_of, olds, ShareRests, EndsAll, At_share, end_all}
+use Rattle.nf_net.proofs.Words.{WhereAll, Apart_from_shares, Under_share, Config, Node, order_numbered, ends_last, IsInput, answers_of, times_installed}
+use Rattle.nf_net.proofs.Words.{arrivals_in, is_loose, owner, unit_numbered, node_step, node_ready, node_ended, is_of, arrived_of, processed_of, live_in}
+use Rattle.nf_net.proofs.Words.{live_at, started_with, unit_fits, is_sys, real_share, target_node, Given, place, GenuinePacket, S, A, shown, came_by, Joined}
+use Rattle.nf_net.proofs.Words.{done_same, same_times, start_world, run_beside, given, count_at_start, genuine}
+use Rattle.std.proofs.Common.{◌-◌}
 use Rattle.std.specs.FinMap as finite
-use Rattle.std.proofs.lemmas.Bool.Decides.{Decides-eqb}
-use Rattle.std.proofs.lemmas.Option.{slice_get_within, slice_get-get_or}
-use Rattle.flow_filter.specs.declared.filter.Filter.{Filter}
-use Rattle.flow_filter.specs.declared.packet.Packet.{Packet}
 use Rattle.flow_filter.specs.Flow.{flow_of}
 use Rattle.nf_function.specs.declared.unit.Unit as units
-use Rattle.nf_function.specs.Records.{Laws as FunctionLaws}
-use Rattle.nf_function.specs.Semantics.{Semantics, unit_at}
-use Rattle.record_table.proofs.UnitOrder.{same_unit-true}
-use Rattle.switch_rules.specs.declared.target.Target.{Target}
 use Rattle.switch_rules.specs.declared.target.Target.TheVariants as target
 use Rattle.nf_msgs.specs.declared.answer.Answer.TheVariants.{Done}
-use Rattle.nf_msgs.specs.declared.command.Order.{Order}
 use Rattle.nf_msgs.specs.declared.command.Order.TheVariants as order
-use Rattle.nf_msgs.specs.declared.msg.Msg.{Msg}
-use Rattle.nf_msgs.specs.declared.note.Note.{Note}
-use Rattle.nf_msgs.specs.Nodes.{instance_node}
-use Rattle.switch_node.specs.Switch.{is_there}
-use Rattle.actor_net.specs.declared.choice.Choice.{Choice}
-use Rattle.actor_net.specs.Network.{Network, IsRun, is_done, run, queue_at}
 use Rattle.actor_net.proofs.CompleteWorlds.{done_waiting}
-use Rattle.actor_net.proofs.EnabledChoices.{at}
-use Rattle.actor_net.proofs.RunInduction.{run_world}
-use Rattle.proof_machines.proofs.unit.Labels.{Each}
-use Rattle.proof_machines.proofs.unit.Lists.{firsts}
-use Rattle.proof_machines.proofs.unit.UnitPieces.{nil_right}
 use Rattle.proof_machines.proofs.unit.Stages as stages
-use Rattle.proof_machines.proofs.unit.Ends.{same_of}
-use Rattle.proof_machines.proofs.unit.Loose.{none_in}
-use Rattle.proof_machines.proofs.unit.Rests.{exactly}
-use Rattle.proof_machines.proofs.net.Net.{IsSys}
-use Rattle.proof_machines.proofs.net.Rest.{done_u}
 use Rattle.proof_machines.proofs.net.Readings as readings
-use Rattle.proof_machines.proofs.net.Readings.{fold_runs, not_both}
-use Rattle.proof_machines.proofs.net.AtEnd.{AtEnd, at_end}
-use Rattle.proof_machines.proofs.net.Shares.{OpenShare, find_share, moves_of, olds}
-use Rattle.proof_machines.proofs.whole.EndAll.{ShareRests, EndsAll, As_moves, At_share, end_all}
-use Rattle.proof_machines.proofs.whole.WhereAll.{WhereAll, Apart_from_shares, Under_share, order_same}
-use Rattle.net_world.specs.declared.config.Config.{Config}
-use Rattle.net_world.specs.declared.node.Node.{Node}
+use Rattle.proof_machines.proofs.net.AtEnd.{at_end}
+use Rattle.proof_machines.proofs.whole.EndAll.{As_moves}
+use Rattle.proof_machines.proofs.whole.WhereAll.{order_same}
 use Rattle.net_world.specs.declared.node.Node.TheVariants.{Instance}
-use Rattle.net_world.specs.Input.{packets, order_numbered, ends_last, IsInput}
-use Rattle.net_world.specs.Commands.{answers_of, times_installed}
-use Rattle.net_world.specs.Log.{arrivals_in}
-use Rattle.net_world.specs.Places.{is_loose, owner, unit_numbered}
-use Rattle.net_world.specs.Nodes.{node_step, node_ready, node_ended}
-use Rattle.net_world.specs.Fold.{times, is_of, fold, arrived_of, processed_of}
+use Rattle.net_world.specs.Input.{packets}
+use Rattle.net_world.specs.Fold.{times, fold}
 use Rattle.nf_net.specs.Promises.{Completed}
-use Rattle.net_world.specs.Records.{live_in, live_at}
-use Rattle.net_world.specs.Start.{started_with}
 use Rattle.nf_net.proofs.answers.ArrivalLemmas.{numbers, runs_joined}
 use Rattle.nf_net.proofs.answers.CommandPromises.{run_busy}
 use Rattle.nf_net.proofs.answers.InstallRuns.{run_installs, done_installed}
 use Rattle.nf_net.proofs.answers.InstallSteps.{is_moving}
-use Rattle.proof_outlines.proofs.outline.FiltersApart.{unit_fits}
-use Rattle.proof_outlines.proofs.outline.Outline.{is_sys}
-use Rattle.proof_outlines.proofs.whole.OpenShares.{real_share}
-use Rattle.proof_outlines.proofs.whole.SwitchAll.{target_node}
-use Rattle.proof_outlines.proofs.joined.Given.{Given, place}
-use Rattle.proof_outlines.proofs.joined.Joined.{GenuinePacket, S, A, shown, came_by, Joined}
-use Rattle.proof_outlines.proofs.joined.RunsJoined.{done_same, same_times, start_world, run_beside}
-use Rattle.proof_outlines.proofs.joined.StartJoined.{given, count_at_start, genuine}
 use Rattle.nf_net.proofs.paths.PathSeats.{there, sides}
 use Rattle.nf_net.proofs.paths.RecordPromises.{instance_of, one_place}
 use Rattle.nf_net.proofs.paths.SharedOwners.{HomesOwn, members_few}
@@ -162,7 +124,7 @@ module _ {R : Type 0} (f : Semantics R) (c : Config) (items : List Msg) (is : Is
           by_target : 2 ≤ j.world.target u → (t : Target) → j.world.target u ≡ target_node t → is_there j.nodes.switch t ≡ true → j.world.target u < n
           by_target two target.Controller at inside = absurd (omega (arith, two, at))
           by_target two (target.Instance i) at inside =
-              subst (λ k. k < n) (sym at) (there f c items is n count w nodes j i (subst (λ k. nat_lt i k ≡ true) j.shown_is.switch.instances inside))
+              subst (λ k. k < n) (sym at) (there c n count i (subst (λ k. nat_lt i k ≡ true) j.shown_is.switch.instances inside))
 
       -- a unit that no share has
       module _ (e : AtEnd (S f g) laws_of u n (moves_of (S f g) (A f g) j.world) (arrived_of f c items u w.log) (is_loose c items u w.log)) where
@@ -224,7 +186,7 @@ module _ {R : Type 0} (f : Semantics R) (c : Config) (items : List Msg) (is : Is
           }
 
       ended : Ended
-      ended = by_end (end_all (S f g) (A f g) laws_of u n j.world (omega (arith, count)) quiet (sides f c items is n count w nodes j)
+      ended = by_end (end_all (S f g) (A f g) laws_of u n j.world (omega (arith, count)) quiet (sides f c items is n count w j)
           (members_few f c items is n count w j) (came_by f g w.log u) (j.shown_is.every.unit u))
         where
           by_end : EndsAll (S f g) (A f g) laws_of u n j.world (came_by f g w.log u) → Ended
@@ -262,7 +224,7 @@ module _ {R : Type 0} (f : Semantics R) (c : Config) (items : List Msg) (is : Is
           by_where : WhereAll (S f g) (A f g) laws_of u j.world (came_by f g w.log u) → i ≡ owner c items u w.log
           by_where (Apart_from_shares h none) =
               moves_own (at_end (S f g) laws_of u n (moves_of (S f g) (A f g) j.world) (omega (arith, count)) (λ a b x y off. ap olds (quiet a b x y off))
-              (sides f c items is n count w nodes j) (arrived_of f c items u w.log) (is_loose c items u w.log) h.is) i r (live_is i r live) live
+              (sides f c items is n count w j) (arrived_of f c items u w.log) (is_loose c items u w.log) h.is) i r (live_is i r live) live
           by_where (Under_share x before b h o t) = elim (instance_node i == x.home) as (λ q. (instance_node i == x.home) ≡ q → i ≡ owner c items u w.log) [
             | true ↦ λ on. (let home : instance_node i ≡ x.home = (Decides-eqb (instance_node i) x.home).0 on in
                 let own : instance_node (owner c items u w.log) ≡ x.home = told u x before (came_by f g w.log u).diverted h in omega (arith, home, own))

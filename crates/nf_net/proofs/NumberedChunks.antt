@@ -1,49 +1,23 @@
 -- A chunk of a unit that is on its way goes with the number of the unit's move, as the unit's seat has it.
-use Rattle.std.proofs.Common.{◌≡◌, ◌≢◌, ℕ, zero, suc, ◌+◌, ◌<◌, Bool, true, false, cond, Option, Some}
-use Rattle.std.proofs.Common.{None, List, [], ◌∷◌, ◌++◌, map, length, refl, sym, ap, ◌∙◌, subst, arith}
-use Rattle.std.specs.Prelude.{◌==◌, ◌&&◌, filter, option_to_list}
-use Rattle.std.specs.Option.{option_map_or}
-use Rattle.std.specs.List.{filter_map, flat_map}
+use Rattle.nf_net.proofs.Words.{◌≡◌, ◌≢◌, ℕ, zero, suc, ◌<◌, Bool, true, false, cond, Option, Some, None, List, [], ◌∷◌, ◌++◌, map, refl, sym, ap, ◌∙◌, subst}
+use Rattle.nf_net.proofs.Words.{◌==◌, option_to_list, option_map_or, filter_map, flat_map, Decides-eqb, map-append, Chunk, Semantics, same_unit, spelled}
+use Rattle.nf_net.proofs.Words.{same_unit_equiv, Msg, Note, op_of, Operation, Network, on_link, EachOn, Each, each-append, record_at, seat_shape, Seeing, olds}
+use Rattle.nf_net.proofs.Words.{Node, Controller, Switch, on_links, chunks_in, kept_for, kept_by, is_chunk_of, spelled_of, chunks_on_way, entries, is_sys}
+use Rattle.nf_net.proofs.Words.{given, Given, S, A, shown, Label, AreGoodChunks, node_of}
+use Rattle.std.specs.Prelude.{filter}
 use Rattle.std.specs.FinMap as finite
-use Rattle.std.proofs.lemmas.Bool.Decides.{nat_tests, Decides-eqb}
-use Rattle.std.proofs.lemmas.List.{map-append}
-use Rattle.nf_function.specs.declared.chunk.Chunk.{Chunk}
 use Rattle.nf_function.specs.declared.unit.Unit as units
-use Rattle.nf_function.specs.Semantics.{Semantics}
-use Rattle.record_table.specs.Table.{same_unit}
-use Rattle.record_table.specs.Chunks.{spelled}
-use Rattle.record_table.proofs.UnitOrder.{same_unit_equiv}
-use Rattle.nf_msgs.specs.declared.msg.Msg.{Msg}
 use Rattle.nf_msgs.specs.declared.msg.Msg.TheVariants as msg
-use Rattle.nf_msgs.specs.declared.note.Note.{Note}
-use Rattle.nf_msgs.specs.MessageParts.{op_of}
-use Rattle.ctrl_node.specs.declared.operation.Operation.{Operation}
-use Rattle.actor_net.specs.Network.{Network, IsWorld, on_link}
-use Rattle.actor_net.proofs.WeightLaws.{Each as EachOn}
-use Rattle.proof_machines.proofs.unit.Labels.{Each, each-append}
-use Rattle.proof_machines.proofs.unit.Real.{record_at}
-use Rattle.proof_machines.proofs.unit.Seats.{seat_shape}
-use Rattle.proof_machines.proofs.net.Holding.{Seeing, Label as Seen_label}
-use Rattle.proof_machines.proofs.net.Shares.{olds}
+use Rattle.proof_machines.proofs.net.Holding.{Label as Seen_label}
 use Rattle.proof_machines.proofs.net.Units.{see}
-use Rattle.proof_machines.proofs.net.Untaken.{Untaken}
-use Rattle.net_world.specs.declared.config.Config.{Config}
-use Rattle.net_world.specs.declared.node.Node.{Node}
-use Rattle.net_world.specs.declared.node.Node.TheVariants.{Controller, Switch}
-use Rattle.net_world.specs.Input.{IsInput}
-use Rattle.net_world.specs.Path.{on_links}
-use Rattle.net_world.specs.Records.{chunks_in, kept_for, kept_by, is_chunk_of, spelled_of, chunks_on_way}
-use Rattle.proof_outlines.proofs.outline.Outline.{entries, is_sys}
 use Rattle.nf_net.proofs.paths.ChunkLemmas.{as_spelled, good_spelled}
 use Rattle.nf_net.proofs.paths.ChunkLinks.{MayBe, first_of_link}
 use Rattle.nf_net.proofs.paths.ChunkPlaces.{none_in_others}
 use Rattle.nf_net.proofs.paths.PathNodes.{each_entry}
-use Rattle.nf_net.proofs.paths.PathSeats.{labels, link_shown, loop_is, Seated}
+use Rattle.nf_net.proofs.paths.PathSeats.{labels, link_shown, on_each, Seated}
 use Rattle.nf_net.proofs.paths.PathSums.{each_place, each_link}
-use Rattle.proof_outlines.proofs.joined.StartJoined.{given}
-use Rattle.proof_outlines.proofs.joined.Given.{Given}
-use Rattle.proof_outlines.proofs.joined.Joined.{S, A, shown, Label, AreGoodChunks, Joined, node_of}
 use Rattle.nf_net.specs.NumberedChunks.{numbered, numbered_in, numbered_by, numbered_on_way}
+use Rattle.nf_net.proofs.paths.Reached.{Reached, IsApart}
 
 -- Without their numbers, they are the chunks on their way.
 abbrev pub bare : Option ℕ × Chunk → Chunk
@@ -120,9 +94,9 @@ module _ {R : Type 0} (f : Semantics R) (g : Given) (z : Seeing) where
       each-append (IsOwn z.unit z.op.num) (numbered_in m) (flat_map numbered_in ms) (msg_own s r m h.0 both.0) (link_own s r ms h.1 both.1)
 
 -- In a world.
-module _ {F R : Type 0} (f : Semantics R) (c : Config) (items : List Msg) (is : IsInput f.kind c items) (n : ℕ) (count : n ≡ length c.names + 2)
-    (w : Network (Node F R) Msg Note) (nodes : length w.nodes ≡ n) (j : Joined f (given f c items is) n w) (world : IsWorld w) (u : units.Unit)
-    (apart : Untaken (S f (given f c items is)) u (A f (given f c items is)) j.world) (k : Seated f c items is n count w nodes j u) where
+module _ {F R : Type 0} (here : Reached F R) (u : units.Unit) (apart : IsApart here u) (k : Seated here u) where
+  open here use {f, c, items, is, n, w, nodes, j, world}
+
   abbrev g : Given
   g = given f c items is
 
@@ -133,22 +107,15 @@ module _ {F R : Type 0} (f : Semantics R) (c : Config) (items : List Msg) (is : 
   Own = IsOwn u k.op.num
 
   on_own : (s r : ℕ) → s < n → r < n → Each Own (flat_map numbered_in (on_link w s r))
-  on_own s r hs hr = elim ((s == 0) && (r == 0)) as (λ t. (s == 0) && (r == 0) ≡ t → Each Own (flat_map numbered_in (on_link w s r))) [
-    | true ↦ λ both.
-        let zs : s ≡ 0 = grind (arith, nat_tests) in
-        let zr : r ≡ 0 = grind (arith, nat_tests) in
-        subst (λ ms. Each Own (flat_map numbered_in ms))
-        (sym (ap (λ y. on_link w y r) zs ∙ ap (λ y. on_link w 0 y) zr ∙ loop_is f c items is n count w nodes j world)) tt
-    | false ↦ λ off. link_own f g z s r (on_link w s r) (labels f c items is n count w nodes j world s r hs hr off)
-        (subst (λ ms. Each (Seen_label (S f g) z s) (olds ms)) (link_shown f c items is n count w nodes j world s r hs hr off) (k.holds.labels s r off))
-  ] refl
+  on_own s r hs hr = on_each here (λ ms. Each Own (flat_map numbered_in ms)) tt s r (λ off. link_own f g z s r (on_link w s r) (labels here s r hs hr off)
+      (subst (λ ms. Each (Seen_label (S f g) z s) (olds ms)) (link_shown here s r hs hr off) (k.holds.labels s r off)))
 
   kept_own : (i : ℕ) → Each Own (numbered_by (node_of j.nodes i))
   kept_own zero = tt
   kept_own (suc zero) = each_entry Own (λ op o. numbered (Some op) (kept_for o)) j.nodes.controller.operations by_got
     where
       by_got : (op : ℕ) (o : Operation) → finite.get j.nodes.controller.operations op ≡ Some o → Each Own (numbered (Some op) (kept_for o))
-      by_got op o there = all_own f u k.op.num op (kept_for o) (λ off. none_in_others f c items is n count w nodes j world u apart k.op k.third
+      by_got op o there = all_own f u k.op.num op (kept_for o) (λ off. none_in_others here u apart k.op k.third
           (seat_shape (S f g).F k.seat) k.holds op o (λ same. (let never : false ≡ true = sym off ∙ (Decides-eqb op k.op.num).1 same in cc)) there)
   kept_own (suc (suc i)) = tt
 

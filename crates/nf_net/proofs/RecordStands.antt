@@ -1,73 +1,41 @@
 -- In every run the record of a unit is live at one instance, or in one chunk on its way, or in both as long as its source is still to
 -- remove it. Where a share has the unit, it is live at the home, and may lack the last packet as long as the home is to take a newer one.
-use Rattle.std.proofs.Common.{◌≡◌, ◌≢◌, ℕ, ◌+◌, ◌<◌, ◌≤◌, true, false, Option, Some, None, List, [], ◌∷◌, ◌++◌, map, length, refl, sym, ap, ◌∙◌, subst, arith}
-use Rattle.std.specs.Prelude.{if◌then◌else◌, ◌==◌, ◌-◌, ◌||◌, nat_lt, slice_get, option_to_list}
-use Rattle.std.specs.List.{flat_map}
-use Rattle.std.specs.declared.alloc.Global.{Global}
+use Rattle.nf_net.proofs.Words.{◌≡◌, ◌≢◌, ℕ, ◌<◌, ◌≤◌, true, false, Option, Some, None, List, [], ◌∷◌, ◌++◌, map, refl, sym, ap, ◌∙◌, subst, arith}
+use Rattle.nf_net.proofs.Words.{if◌then◌else◌, ◌==◌, ◌-◌, ◌||◌, nat_lt, slice_get, option_to_list, flat_map, Global, ltb-false, or_right, nat_tests}
+use Rattle.nf_net.proofs.Words.{Decides-eqb, Decides-ltb, slice_get_past, FunctionLaws, Semantics, Msg, controller_node, instance_node, is_among, Choice, IsRun}
+use Rattle.nf_net.proofs.Words.{on_link, run, State, idle, nil_left, firsts, Kept, third_silent, seat_shape, seat_path, Seeing, node_at, side_place, fold_runs}
+use Rattle.nf_net.proofs.Words.{seat_parts, same_done, WantShare, WhereAll, Apart_from_shares, Under_share, Config, IsInput, job_of, arrivals_in, IsFront}
+use Rattle.nf_net.proofs.Words.{processed_of, owner, node_step, node_ready, started_with, live_in, live_at, given_in, removed_by, AllApart, is_sys, run_beside}
+use Rattle.nf_net.proofs.Words.{done_same, given, Given, S, A, came_by}
 use Rattle.std.specs.FinMap as finite
-use Rattle.std.proofs.lemmas.Bool.{ltb-false, or_right}
-use Rattle.std.proofs.lemmas.Bool.Decides.{nat_tests, Decides-eqb, Decides-ltb}
-use Rattle.std.proofs.lemmas.Option.{slice_get_past}
 use Rattle.nf_function.specs.declared.unit.Unit as units
-use Rattle.nf_function.specs.Records.{Laws as FunctionLaws}
-use Rattle.nf_function.specs.Semantics.{Semantics}
-use Rattle.nf_msgs.specs.declared.msg.Msg.{Msg}
-use Rattle.nf_msgs.specs.declared.note.Note.{Note}
-use Rattle.nf_msgs.specs.Nodes.{controller_node, instance_node}
-use Rattle.record_table.specs.Table.{is_among}
-use Rattle.actor_net.specs.declared.choice.Choice.{Choice}
-use Rattle.actor_net.specs.Network.{Network, IsWorld, IsRun, on_link, run}
-use Rattle.actor_net.proofs.RunInduction.{run_world}
-use Rattle.proof_machines.proofs.unit.Machine.{State, after, idle}
-use Rattle.proof_machines.proofs.unit.UnitPieces.{nil_left}
-use Rattle.proof_machines.proofs.unit.Lists.{firsts}
+use Rattle.proof_machines.proofs.unit.Machine.{after}
 use Rattle.proof_machines.proofs.unit.Bare.{firsts_nil}
-use Rattle.proof_machines.proofs.unit.Kept.{Kept, Nowhere, Is_live, On_way, Twice, lives, on_way}
-use Rattle.proof_machines.proofs.unit.ToRemove.{ToRemove, Is_given, Is_named, still_to_remove, third_live, third_silent}
-use Rattle.proof_machines.proofs.unit.Seats.{seat_shape, seat_path}
+use Rattle.proof_machines.proofs.unit.Kept.{Nowhere, Is_live, On_way, Twice, lives, on_way}
+use Rattle.proof_machines.proofs.unit.ToRemove.{ToRemove, Is_given, Is_named, still_to_remove, third_live}
 use Rattle.proof_machines.proofs.unit.SeatLaws.{seat_kept}
-use Rattle.proof_machines.proofs.net.Holding.{Seeing, node_at, place as side_place}
 use Rattle.proof_machines.proofs.net.Readings as readings
-use Rattle.proof_machines.proofs.net.Readings.{fold_runs, seat_parts}
-use Rattle.proof_machines.proofs.net.RestingSeats.{same_done}
-use Rattle.proof_machines.proofs.net.Shares.{WantShare}
-use Rattle.proof_machines.proofs.net.Under.{Under}
-use Rattle.proof_machines.proofs.net.UnderStarts.{seeing}
 use Rattle.proof_machines.proofs.net.Units.{see}
-use Rattle.proof_machines.proofs.net.Untaken.{Untaken}
-use Rattle.proof_machines.proofs.whole.WhereAll.{WhereAll, Apart_from_shares, Under_share}
-use Rattle.net_world.specs.declared.config.Config.{Config}
-use Rattle.net_world.specs.declared.node.Node.{Node}
-use Rattle.net_world.specs.Input.{packets, IsInput}
-use Rattle.net_world.specs.Jobs.{job_of}
-use Rattle.net_world.specs.Log.{arrivals_in}
-use Rattle.net_world.specs.Fold.{IsFront, fold, processed_of}
-use Rattle.net_world.specs.Places.{owner}
-use Rattle.net_world.specs.Nodes.{node_step, node_ready}
-use Rattle.net_world.specs.Start.{started_with}
+use Rattle.net_world.specs.Input.{packets}
+use Rattle.net_world.specs.Fold.{fold}
 use Rattle.net_world.specs.Seen.{HasRecord, Sees_all, Lacks_last}
 use Rattle.net_world.specs.Records as records
-use Rattle.net_world.specs.Records.{live_in, live_at, given_in, removed_by, is_to_remove, IsNowhereLive, IsLiveAt, HasOneRecord}
+use Rattle.net_world.specs.Records.{is_to_remove, IsNowhereLive, IsLiveAt, HasOneRecord}
 use Rattle.nf_net.proofs.paths.ChunkPlaces.{link_spelled, none_on_way, one_on_way}
 use Rattle.nf_net.proofs.answers.ArrivalLemmas.{arrivals_run}
 use Rattle.nf_net.proofs.answers.BusyRuns.{Busy}
 use Rattle.nf_net.proofs.answers.CommandPromises.{run_busy}
 use Rattle.nf_net.proofs.answers.InstallRuns.{Installs, run_installs}
 use Rattle.nf_net.proofs.paths.SharedOwners.{HomesOwn}
-use Rattle.proof_outlines.proofs.joined.OperationsApart.{AllApart}
 use Rattle.nf_net.proofs.FoldLemmas.{fold_is}
-use Rattle.proof_outlines.proofs.outline.Outline.{is_sys}
 use Rattle.nf_net.proofs.paths.SeatPaths.{IsOwned, by_came}
-use Rattle.nf_net.proofs.paths.PathSeats.{AsMoves, Seated, seated, HasSides, Are_there, Rests, found_instance}
+use Rattle.nf_net.proofs.paths.PathSeats.{Seated, seated, HasSides, Are_there, Rests, found_instance}
 use Rattle.nf_net.proofs.paths.RecordPromises.{one_place}
 use Rattle.nf_net.proofs.paths.SharedChunks.{none_on_way as none_shared}
 use Rattle.nf_net.proofs.InstalledShares.{SaysOfShares, says_of_shares}
 use Rattle.nf_net.proofs.SharedHomes.{goes_so, homes_own}
 use Rattle.nf_net.proofs.paths.SharedRecords.{HasShared, Saw_all, Home_lacks_last, alone, has_shared}
-use Rattle.proof_outlines.proofs.joined.RunsJoined.{run_beside, start_world, done_same}
-use Rattle.proof_outlines.proofs.joined.StartJoined.{given, count_at_start}
-use Rattle.proof_outlines.proofs.joined.Given.{Given}
-use Rattle.proof_outlines.proofs.joined.Joined.{S, A, came_by, Joined}
+use Rattle.nf_net.proofs.paths.Reached.{Reached, reached, IsApart, AsMoves, IsUnder}
 
 -- none of three, and one of three
 record AreNone {R : Type 0} (a b c : Option R) : Type 0 where
@@ -98,15 +66,15 @@ never o r none some = let bad = sym none ∙ some in cc
 not_nil : {P R : Type 0} (xs : List R) (r : R) → xs ≡ [] → xs ≡ r ∷ [] → P
 not_nil xs r none one = let bad = sym none ∙ one in cc
 
-module _ {F R : Type 0} (f : Semantics R) (c : Config) (items : List Msg) (is : IsInput f.kind c items) (n : ℕ) (count : n ≡ length c.names + 2)
-    (w : Network (Node F R) Msg Note) (nodes : length w.nodes ≡ n) (j : Joined f (given f c items is) n w) (world : IsWorld w)
-    (in_turn : IsFront (arrivals_in w.log) (map (λ p. p.number) (packets items))) (u : units.Unit) (at : AsMoves f c items is n count w nodes j u)
-    (apart : Untaken (S f (given f c items is)) u (A f (given f c items is)) j.world) where
+module _ {F R : Type 0} (here : Reached F R) (in_turn : IsFront (arrivals_in here.w.log) (map (λ p. p.number) (packets here.items))) (u : units.Unit)
+    (at : AsMoves here u) (apart : IsApart here u) where
+  open here use {f, c, items, is, n, count, w, nodes, j}
+
   abbrev g : Given
   g = given f c items is
 
-  abbrev k : Seated f c items is n count w nodes j u
-  k = seated f c items is n count w nodes j u at
+  abbrev k : Seated here u
+  k = seated here u at
 
   abbrev x : State R
   x = seat_shape (S f g).F k.seat
@@ -120,7 +88,7 @@ module _ {F R : Type 0} (f : Semantics R) (c : Config) (items : List Msg) (is : 
   -- What is live at an instance.
   live_there : (m : ℕ) → 2 ≤ m → m < n → live_in u (slice_get w.nodes m) ≡ (node_at (S f g) z x m).live
   live_there m two few =
-      ap (live_in u) (found_instance f c items is n count w nodes j m two few) ∙ ap (λ y. finite.get y.live u) (j.shown_is.instances m two few).outline_is
+      ap (live_in u) (found_instance f g n w nodes j m two few) ∙ ap (λ y. finite.get y.live u) (j.shown_is.instances m two few).outline_is
       ∙ (k.holds.insts m).live
 
   nowhere : lives x ≡ [] → IsNowhereLive w u
@@ -141,8 +109,8 @@ module _ {F R : Type 0} (f : Semantics R) (c : Config) (items : List Msg) (is : 
       ]
 
   -- a unit with a record goes to an instance that is there
-  owned : (r : R) → after (S f g).F x.done ≡ Some r → IsOwned f c items is n count w nodes j world in_turn u at apart
-  owned r some = by_came f c items is n count w nodes j world in_turn u at apart
+  owned : (r : R) → after (S f g).F x.done ≡ Some r → IsOwned here in_turn u at apart
+  owned r some = by_came here in_turn u at apart
       (λ all.
       let none : x.done ≡ [] = firsts_nil x.done (nil_left (firsts x.done) (seat_path k.seat) (sym (seat_parts (S f g).F k.seat) ∙ all)) in
       never (after (S f g).F x.done) r (ap (after (S f g).F) none) some)
@@ -165,14 +133,14 @@ module _ {F R : Type 0} (f : Semantics R) (c : Config) (items : List Msg) (is : 
   somewhere : (r : R) → after (S f g).F x.done ≡ Some r → lives x ≡ r ∷ [] → IsSomewhere r
   somewhere r some one = by_side (one_of r x.a.live x.b.live x.c.live one)
     where
-      own : IsOwned f c items is n count w nodes j world in_turn u at apart
+      own : IsOwned here in_turn u at apart
       own = owned r some
 
-      source_there : HasSides f c items is n count w nodes j k.op x → k.op.src < n
+      source_there : HasSides here k.op x → k.op.src < n
       source_there (Are_there e found src dst) = src
       source_there (Rests none_way none_b at_a) = subst (λ m. m < n) (k.holds.target ∙ ap (side_place (S f g) z) at_a) own.few
 
-      destination_there : x.b.live ≡ Some r → HasSides f c items is n count w nodes j k.op x → k.op.dst < n
+      destination_there : x.b.live ≡ Some r → HasSides here k.op x → k.op.dst < n
       destination_there live (Are_there e found src dst) = dst
       destination_there live (Rests none_way none_b at_a) = never x.b.live r none_b live
 
@@ -191,10 +159,10 @@ module _ {F R : Type 0} (f : Semantics R) (c : Config) (items : List Msg) (is : 
 
   -- What is on its way.
   none_way : on_way x ≡ [] → records.on_way f w u ≡ []
-  none_way none = none_on_way f c items is n count w nodes j world u apart k.op k.third x k.holds silent none
+  none_way none = none_on_way here u apart k.op k.third x k.holds silent none
 
   one_way : (r : R) → k.op.src < n → k.op.dst < n → on_way x ≡ r ∷ [] → records.on_way f w u ≡ Some (u, r) ∷ []
-  one_way r src dst one = one_on_way f c items is n count w nodes j world u apart k.op k.third x k.holds silent r one src dst
+  one_way r src dst one = one_on_way here u apart k.op k.third x k.holds silent r one src dst
 
   -- the source is still to remove it
   to_remove : (r : R) → k.op.src < n → ToRemove x.ac x.ca → is_to_remove w u (k.op.src - 2) ≡ true
@@ -220,11 +188,11 @@ module _ {F R : Type 0} (f : Semantics R) (c : Config) (items : List Msg) (is : 
       by_link : ToRemove x.ac x.ca → is_among (flat_map given_in (on_link w k.op.src controller_node)) u
           || is_among (flat_map removed_by (on_link w controller_node k.op.src)) u ≡ true
       by_link (Is_given e) =
-          let read = (link_spelled f c items is n count w nodes j world u apart k.op k.third x k.holds k.op.src 1 few some (rw off_0 refl)).given in
+          let read = (link_spelled here u apart k.op k.third x k.holds k.op.src 1 few some (rw off_0 refl)).given in
           let on : is_among (flat_map given_in (on_link w k.op.src controller_node)) u ≡ true = read ∙ rw (off_0, off_1, self) e in
           rw on refl
       by_link (Is_named e) =
-          let read = (link_spelled f c items is n count w nodes j world u apart k.op k.third x k.holds 1 k.op.src some few refl).removed in
+          let read = (link_spelled here u apart k.op k.third x k.holds 1 k.op.src some few refl).removed in
           let on : is_among (flat_map removed_by (on_link w controller_node k.op.src)) u ≡ true = read ∙ rw (off_0, self) e in
           or_right (is_among (flat_map given_in (on_link w k.op.src controller_node)) u)
           (is_among (flat_map removed_by (on_link w controller_node k.op.src)) u) on
@@ -241,7 +209,7 @@ module _ {F R : Type 0} (f : Semantics R) (c : Config) (items : List Msg) (is : 
     where
       by_sides : (r : R) → after (S f g).F x.done ≡ Some r → on_way x ≡ r ∷ []
           → (k.op.src < n → k.op.dst < n → HasOneRecord f w u (fold f c items None (processed_of f c items u w.log)))
-          → HasSides f c items is n count w nodes j k.op x → HasOneRecord f w u (fold f c items None (processed_of f c items u w.log))
+          → HasSides here k.op x → HasOneRecord f w u (fold f c items None (processed_of f c items u w.log))
       by_sides r some one both (Are_there e found src dst) = both src dst
       by_sides r some one both (Rests none none_b at_a) = not_nil (on_way x) r none one
 
@@ -253,10 +221,11 @@ module _ {F R : Type 0} (f : Semantics R) (c : Config) (items : List Msg) (is : 
       by_kept (Twice r some at_a live way) = by_sides r some way (λ src dst. records.Is_given (k.op.src - 2) r (sym fold_same ∙ some) (at_source r src at_a)
           (one_way r src dst way) (to_remove r src (still_to_remove (S f g).F k.seat r r [] at_a way))) k.ends
 
-module _ {F R : Type 0} (f : Semantics R) (c : Config) (items : List Msg) (is : IsInput f.kind c items) (n : ℕ) (count : n ≡ length c.names + 2)
-    (w : Network (Node F R) Msg Note) (nodes : length w.nodes ≡ n) (j : Joined f (given f c items is) n w) (world : IsWorld w)
-    (in_turn : IsFront (arrivals_in w.log) (map (λ p. p.number) (packets items))) (unmixed : AllApart j.nodes.controller.operations)
-    (b : Busy (given f c items is) w) (h : Installs (given f c items is) w) (says : SaysOfShares f c items w.log) (u : units.Unit) where
+module _ {F R : Type 0} (here : Reached F R) (in_turn : IsFront (arrivals_in here.w.log) (map (λ p. p.number) (packets here.items)))
+    (unmixed : AllApart here.j.nodes.controller.operations) (b : Busy (given here.f here.c here.items here.is) here.w)
+    (h : Installs (given here.f here.c here.items here.is) here.w) (says : SaysOfShares here.f here.c here.items here.w.log) (u : units.Unit) where
+  open here use {f, c, items, is, n, count, w, j}
+
   abbrev gr : Given
   gr = given f c items is
 
@@ -271,16 +240,16 @@ module _ {F R : Type 0} (f : Semantics R) (c : Config) (items : List Msg) (is : 
   folded ps = fold_is f c items is None ps
 
   -- Under a share.
-  module _ (x : WantShare) (before since : List ℕ) (k : Under (S f gr) (A f gr) (seeing (S f gr) (A f gr) u x) j.world before since) where
+  module _ (x : WantShare) (before since : List ℕ) (k : IsUnder here u x before since) where
     abbrev home : ℕ
     home = owner c items u w.log
 
     only_home : (i : ℕ) → i ≢ home → live_at w i u ≡ None
-    only_home = alone f c items is n count w nodes j world told u x before since k
+    only_home = alone here told u x before since k
 
     -- the record at the home is all that there is
     one_there : (o : Option R) → live_at w home u ≡ o → HasOneRecord f w u o
-    one_there None e = records.Has_none refl nowhere_live (none_shared f c items is n count w nodes j world u x before since k)
+    one_there None e = records.Has_none refl nowhere_live (none_shared here u x before since k)
       where
         nowhere_live : IsNowhereLive w u
         nowhere_live i = elim (i == home) as (λ t. (i == home) ≡ t → live_at w i u ≡ None) [
@@ -288,7 +257,7 @@ module _ {F R : Type 0} (f : Semantics R) (c : Config) (items : List Msg) (is : 
           | false ↦ λ off. only_home i (λ same. (let never : true ≡ false = sym ((Decides-eqb i home).1 same) ∙ off in cc))
         ] refl
     one_there (Some r) e =
-        records.Is_live home r refl (record { there = e; alone = at_home }) (none_shared f c items is n count w nodes j world u x before since k)
+        records.Is_live home r refl (record { there = e; alone = at_home }) (none_shared here u x before since k)
       where
         at_home : (i : ℕ) (s : R) → live_at w i u ≡ Some s → i ≡ home
         at_home i s live = elim (i == home) as (λ t. (i == home) ≡ t → i ≡ home) [
@@ -296,7 +265,7 @@ module _ {F R : Type 0} (f : Semantics R) (c : Config) (items : List Msg) (is : 
           | false ↦ λ off. never (live_at w i u) s (only_home i (λ same. (let bad : true ≡ false = sym ((Decides-eqb i home).1 same) ∙ off in cc))) live
         ] refl
 
-    shared_stands : HasShared f c items is n count w nodes j world told u x before since k → HasRecord (job_of f c items) w u
+    shared_stands : HasShared here told u x before since k → HasRecord (job_of f c items) w u
     shared_stands (Saw_all live) = record { seen = all; has_seen = Sees_all refl; one = one_there (fold f c items None all) (live ∙ sym (folded all)) }
     shared_stands (Home_lacks_last y) = record {
       seen = y.seen;
@@ -317,23 +286,14 @@ module _ {F R : Type 0} (f : Semantics R) (c : Config) (items : List Msg) (is : 
     where
       by_where : WhereAll (S f gr) (A f gr) (is_sys f gr.site gr.packet) u j.world (came_by f gr w.log u) → HasRecord (job_of f c items) w u
       by_where (Apart_from_shares h none) =
-          record { seen = all; has_seen = Sees_all refl; one = apart_stands f c items is n count w nodes j world in_turn u h.is h.untaken }
+          record { seen = all; has_seen = Sees_all refl; one = apart_stands here in_turn u h.is h.untaken }
       by_where (Under_share x before b h o i) = shared_stands x before (came_by f gr w.log u).diverted h
-          (has_shared f c items is n count w nodes j world told u x before (came_by f gr w.log u).diverted h)
+          (has_shared here told u x before (came_by f gr w.log u).diverted h)
 
 -- Of every run.
 module _ (F : Type 0) {R : Type 0} (f : Semantics R) (laws : FunctionLaws f) (alloc : Global) (c : Config) (items : List Msg) (is : IsInput f.kind c items)
     (cs : List Choice) (runs : IsRun node_ready (node_step f) cs (started_with {F = F} {R = R} alloc c items)) where
-  abbrev n : ℕ
-  n = length c.names + 2
-
-  abbrev w : Network (Node F R) Msg Note
-  w = run (node_step f) cs (started_with {F = F} {R = R} alloc c items)
-
-  pub records_stand : (u : units.Unit) → HasRecord (job_of f c items) w u
-  records_stand u =
-      let r = run_beside F f laws alloc c items is cs runs in
-      let reached = run_world node_ready (node_step f) n (started_with {F = F} {R = R} alloc c items) (start_world F f laws alloc c items is)
-      (count_at_start F f alloc c items is) cs runs in
-      record_stands f c items is n refl w reached.1 r.joined reached.0 (arrivals_run F f laws alloc c items is cs runs) r.beside.kept.apart
-      (run_busy F f laws alloc c items is cs runs).1 (run_installs F f laws alloc c items is cs runs) (says_of_shares F f laws alloc c items is cs runs) u
+  pub records_stand : (u : units.Unit) → HasRecord (job_of f c items) (run (node_step f) cs (started_with {F = F} {R = R} alloc c items)) u
+  records_stand = record_stands (reached F f laws alloc c items is cs runs) (arrivals_run F f laws alloc c items is cs runs)
+      (run_beside F f laws alloc c items is cs runs).beside.kept.apart (run_busy F f laws alloc c items is cs runs).1
+      (run_installs F f laws alloc c items is cs runs) (says_of_shares F f laws alloc c items is cs runs)

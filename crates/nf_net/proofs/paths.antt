@@ -10,6 +10,7 @@ pub mod PathPromises
 pub mod PathSeats
 pub mod PathStores
 pub mod PathSums
+pub mod Reached
 pub mod RecordPromises
 pub mod SeatPaths
 pub mod SharedChunks

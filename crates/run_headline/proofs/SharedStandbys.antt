@@ -135,7 +135,7 @@ module _ {F R : Type 0} (f : Semantics R) (c : Config) (items : List Msg) (is : 
           let member : has x.members k ≡ true = ap (λ ns. has ns k) members_same ∙ inside in
           let two = h.insts k member in
           let low = few k member in
-          ap (standby_in u) (found_instance f c items is n count_is w nodes j k two low) ∙ ap (λ t. finite.get t u) (j.shown_is.instances k two low).standby_is
+          ap (standby_in u) (found_instance f g n w nodes j k two low) ∙ ap (λ t. finite.get t u) (j.shown_is.instances k two low).standby_is
           ∙ kept_all k member (ap (λ y. k == y) home_same ∙ off) ∙ ap (readings.fold (S f g).F None) (done_same f c items is n w j u)
           ∙ sym (fold_is f c items is None (processed_of f c items u w.log))
 

@@ -1,51 +1,24 @@
 -- Where no message is on a link no packet is under way: each unit that came rests, with all its packets processed.
-use Rattle.std.proofs.Common.{◌≡◌, ℕ, ◌+◌, ◌<◌, ◌≤◌, true, false, List, [], ◌∷◌, ◌++◌, map, length, append-nil, refl, sym, ap, ◌∙◌, subst, arith}
-use Rattle.std.proofs.lemmas.List.Elements.{filter-append}
-use Rattle.std.specs.Prelude.{if◌then◌else◌, ◌&&◌, ◌==◌, nat_lt}
-use Rattle.std.specs.List.{filter}
-use Rattle.flow_filter.specs.declared.packet.Packet.{Packet}
+use Rattle.nf_net.proofs.Words.{◌≡◌, ℕ, ◌+◌, ◌<◌, ◌≤◌, true, false, List, [], ◌∷◌, ◌++◌, map, length, append-nil, refl, sym, ap, ◌∙◌, subst, arith}
+use Rattle.nf_net.proofs.Words.{filter-append, if◌then◌else◌, ◌&&◌, ◌==◌, nat_lt, filter, Packet, Semantics, unit_at, same_unit-true, Target, Msg, Note}
+use Rattle.nf_net.proofs.Words.{is_there, Network, IsWorld, queue_at, at, Each, firsts, nil_right, same_of, none_in, IsSys, AtEnd, OpenShare, moves_of, EndsAll}
+use Rattle.nf_net.proofs.Words.{At_share, ShareRests, end_all, Config, Node, Switch, packet_numbered, IsInput, arrivals_in, is_loose, is_of, arrived_of}
+use Rattle.nf_net.proofs.Words.{processed_of, is_sys, target_node, Given, Label, GenuinePacket, S, A, came_by, Joined, done_same, same_times, given, genuine}
+use Rattle.nf_net.proofs.Words.{silent_total}
 use Rattle.flow_filter.specs.Flow.{flow_of}
 use Rattle.nf_function.specs.declared.unit.Unit as units
-use Rattle.nf_function.specs.Semantics.{Semantics, unit_at}
-use Rattle.record_table.proofs.UnitOrder.{same_unit-true}
-use Rattle.switch_rules.specs.declared.target.Target.{Target}
 use Rattle.switch_rules.specs.declared.target.Target.TheVariants as target
-use Rattle.nf_msgs.specs.declared.msg.Msg.{Msg}
-use Rattle.nf_msgs.specs.declared.note.Note.{Note}
-use Rattle.switch_node.specs.Switch.{is_there}
-use Rattle.actor_net.specs.Network.{Network, IsWorld, queue_at}
-use Rattle.actor_net.proofs.EnabledChoices.{at}
 use Rattle.actor_net.proofs.WeightLaws as weights
-use Rattle.proof_machines.proofs.unit.Labels.{Each}
-use Rattle.proof_machines.proofs.unit.Lists.{firsts}
-use Rattle.proof_machines.proofs.unit.UnitPieces.{nil_right}
 use Rattle.proof_machines.proofs.unit.Stages as stages
-use Rattle.proof_machines.proofs.unit.Ends.{same_of}
-use Rattle.proof_machines.proofs.unit.Loose.{none_in}
-use Rattle.proof_machines.proofs.net.Net.{IsSys}
-use Rattle.proof_machines.proofs.net.AtEnd.{AtEnd}
-use Rattle.proof_machines.proofs.net.Shares.{OpenShare, moves_of}
-use Rattle.proof_machines.proofs.whole.EndAll.{EndsAll, As_moves, At_share, ShareRests, end_all}
-use Rattle.net_world.specs.declared.config.Config.{Config}
-use Rattle.net_world.specs.declared.node.Node.{Node}
-use Rattle.net_world.specs.declared.node.Node.TheVariants.{Switch}
-use Rattle.net_world.specs.Input.{packets, packet_numbered, IsInput}
-use Rattle.net_world.specs.Log.{arrivals_in}
-use Rattle.net_world.specs.Places.{is_loose}
-use Rattle.net_world.specs.Fold.{times, is_of, arrived_of, processed_of}
+use Rattle.proof_machines.proofs.whole.EndAll.{As_moves}
+use Rattle.net_world.specs.Input.{packets}
+use Rattle.net_world.specs.Fold.{times}
 use Rattle.nf_net.proofs.answers.ArrivalLemmas.{numbers}
 use Rattle.nf_net.proofs.answers.CreditCounts.{credit}
-use Rattle.proof_outlines.proofs.outline.Outline.{is_sys}
-use Rattle.proof_outlines.proofs.whole.SwitchAll.{target_node}
-use Rattle.proof_outlines.proofs.joined.Given.{Given}
-use Rattle.proof_outlines.proofs.joined.Joined.{Label, GenuinePacket, S, A, came_by, Joined}
-use Rattle.proof_outlines.proofs.joined.RunsJoined.{done_same, same_times}
-use Rattle.proof_outlines.proofs.joined.StartJoined.{given, genuine}
 use Rattle.nf_net.proofs.paths.PathSeats.{there, sides}
 use Rattle.nf_net.proofs.paths.SharedOwners.{members_few}
 use Rattle.nf_net.proofs.PacketCounts.{few_done, few_came}
 use Rattle.nf_net.proofs.WindowRuns.{InWindow, items_none}
-use Rattle.net_world.proofs.SilentLinks.{silent_total}
 use Rattle.nf_net.proofs.ends.NoMoves.{quiet_links}
 
 module _ {F R : Type 0} (f : Semantics R) (c : Config) (items : List Msg) (is : IsInput f.kind c items)
@@ -78,7 +51,7 @@ module _ {F R : Type 0} (f : Semantics R) (c : Config) (items : List Msg) (is : 
         by_target : (t : Target) → j.world.target u ≡ target_node t → is_there j.nodes.switch t ≡ true → j.world.target u < n
         by_target target.Controller at_node inside = absurd (omega (arith, two, at_node))
         by_target (target.Instance i) at_node inside =
-            subst (λ k. k < n) (sym at_node) (there f c items is n count w nodes j i (subst (λ k. nat_lt i k ≡ true) j.shown_is.switch.instances inside))
+            subst (λ k. k < n) (sym at_node) (there c n count i (subst (λ k. nat_lt i k ≡ true) j.shown_is.switch.instances inside))
 
     -- what came is among what was given
     given_first : (p : ℕ) (ps : List ℕ) → arrived_of f c items u w.log ≡ p ∷ ps
@@ -113,7 +86,7 @@ module _ {F R : Type 0} (f : Semantics R) (c : Config) (items : List Msg) (is : 
     -- each packet that came was processed
     all_went : (p : ℕ) → times p (processed_of f c items u w.log) ≡ times p (arrived_of f c items u w.log)
     all_went = by_end (end_all (S f g) (A f g) laws_of u n j.world (omega (arith, count)) (quiet_links f g n count w j silent)
-        (sides f c items is n count w nodes j) (members_few f c items is n count w j) (came_by f g w.log u) (j.shown_is.every.unit u))
+        (sides f c items is n count w j) (members_few f c items is n count w j) (came_by f g w.log u) (j.shown_is.every.unit u))
       where
         by_end : EndsAll (S f g) (A f g) laws_of u n j.world (came_by f g w.log u) → (p : ℕ)
             → times p (processed_of f c items u w.log) ≡ times p (arrived_of f c items u w.log)

@@ -1,30 +1,15 @@
 -- What the chunks of one unit spell, among good chunks: the unit's record, if they have it, and once.
-use Rattle.std.proofs.Common.{◌≡◌, ℕ, ◌+◌, ◌≤◌, true, false, cond, Option, Some, List, [], ◌∷◌, ◌++◌, map, refl, sym, ap, ◌∙◌, subst, arith}
-use Rattle.std.specs.Prelude.{if◌then◌else◌, filter, is_some, option_to_list}
-use Rattle.std.specs.List.{flat_map}
-use Rattle.std.specs.Option.{option_map_or}
-use Rattle.std.proofs.lemmas.List.{map-append}
-use Rattle.std.proofs.lemmas.List.Elements.{filter-append}
-use Rattle.nf_function.specs.declared.chunk.Chunk.{Chunk}
+use Rattle.nf_net.proofs.Words.{◌≡◌, ℕ, ◌+◌, ◌≤◌, true, false, cond, Option, Some, List, [], ◌∷◌, ◌++◌, map, refl, sym, ap, ◌∙◌, subst, arith, if◌then◌else◌}
+use Rattle.nf_net.proofs.Words.{is_some, option_to_list, flat_map, option_map_or, map-append, filter-append, Chunk, Semantics, Piece, units_in, same_unit}
+use Rattle.nf_net.proofs.Words.{is_among, spelled, same_unit-true, records, records_one, Each, each_map, Frame, record_at, is_chunk_of, spelled_of, IsChunk}
+use Rattle.nf_net.proofs.Words.{units_same, entries, outline_piece, Given, place, AreGoodChunks}
+use Rattle.std.specs.Prelude.{filter}
 use Rattle.nf_function.specs.declared.unit.Unit as units
-use Rattle.nf_function.specs.Semantics.{Semantics}
-use Rattle.nf_msgs.specs.declared.msg.Piece.{Piece}
-use Rattle.nf_msgs.specs.Exports.{units_in}
-use Rattle.record_table.specs.Table.{same_unit, is_among}
-use Rattle.record_table.specs.Chunks.{spelled}
-use Rattle.record_table.proofs.UnitOrder.{same_unit-true}
 use Rattle.move_op.specs.Move.{chunks_of}
-use Rattle.proof_machines.proofs.unit.UnitPieces.{records}
-use Rattle.proof_machines.proofs.unit.Kept.{records_one}
-use Rattle.proof_machines.proofs.unit.Labels.{Each, each_map}
-use Rattle.proof_machines.proofs.unit.Real.{Frame, record_at, see}
+use Rattle.proof_machines.proofs.unit.Real.{see}
 use Rattle.proof_machines.proofs.unit.Seen.{is_among-units}
-use Rattle.net_world.specs.Records.{is_chunk_of, spelled_of}
-use Rattle.proof_outlines.proofs.outline.MoveOutline.{IsChunk, units_same}
-use Rattle.proof_outlines.proofs.outline.Outline.{entries, outline_piece}
 use Rattle.proof_outlines.proofs.joined.UnitCounts.{times, times_from_distinct}
-use Rattle.proof_outlines.proofs.joined.Given.{Given, place}
-use Rattle.proof_outlines.proofs.joined.Joined.{IsGoodChunk, AreGoodChunks}
+use Rattle.proof_outlines.proofs.joined.Joined.{IsGoodChunk}
 
 -- records, as the unit's chunks spell them
 abbrev pub as_spelled : {R : Type 0} → units.Unit → List R → List (Option (units.Unit × R))

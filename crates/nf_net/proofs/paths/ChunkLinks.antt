@@ -1,41 +1,29 @@
 -- What a unit sees of a link is what the chunks there spell of it, and of which units the pieces and the Deletes there are.
-use Rattle.std.proofs.Common.{◌≡◌, ℕ, Bool, true, false, Option, Some, None, List, [], ◌∷◌, ◌++◌, append-nil, refl, sym, ap, ◌∙◌}
-use Rattle.std.specs.Prelude.{if◌then◌else◌, ◌==◌, ◌&&◌, ◌||◌, is_some, option_map, option_to_list}
-use Rattle.std.specs.List.{cons_option, filter_map, flat_map}
-use Rattle.std.proofs.lemmas.List.{map-append}
-use Rattle.std.proofs.lemmas.List.Folds.{list_any-append}
-use Rattle.std.proofs.Math.Bool.{or-false}
+use Rattle.nf_net.proofs.Words.{◌≡◌, ℕ, Bool, true, false, Option, Some, None, List, [], ◌∷◌, ◌++◌, append-nil, refl, sym, ap, ◌∙◌, if◌then◌else◌, ◌==◌, ◌&&◌}
+use Rattle.nf_net.proofs.Words.{◌||◌, is_some, option_map, option_to_list, cons_option, filter_map, flat_map, map-append, list_any-append, or-false, Semantics}
+use Rattle.nf_net.proofs.Words.{same_unit, is_among, spelled, Command, Order, Msg, At_a, At_b, Carry, Event, Fence_to, Install, Stray, records_on, record_at}
+use Rattle.nf_net.proofs.Words.{M_stream, M_fenced, M_install, M_fence_to, Frame, where_true, sends_to, add, Mv, seen, MoveAsked, Seeing, frame, Any, New}
+use Rattle.nf_net.proofs.Words.{WantShare, S_asked, S_shared, olds, OpenShare, chunks_in, given_in, removed_by, spelled_of, want_of, asked_of, want_share_of}
+use Rattle.nf_net.proofs.Words.{Given, place, S, shown, Label, FromController, ToController}
 use Rattle.nf_function.specs.declared.unit.Unit as units
-use Rattle.nf_function.specs.Semantics.{Semantics}
-use Rattle.record_table.specs.Table.{same_unit, is_among}
-use Rattle.record_table.specs.Chunks.{spelled}
 use Rattle.event_filter.specs.declared.mark.Mark.TheVariants as mark
 use Rattle.switch_rules.specs.declared.target.Target.TheVariants as target
-use Rattle.nf_msgs.specs.declared.command.Command.{Command}
-use Rattle.nf_msgs.specs.declared.command.Order.{Order}
 use Rattle.nf_msgs.specs.declared.command.Order.TheVariants as order
-use Rattle.nf_msgs.specs.declared.msg.Msg.{Msg}
 use Rattle.nf_msgs.specs.declared.msg.Msg.TheVariants as msg
 use Rattle.actor_net.proofs.WeightLaws.{Each}
-use Rattle.proof_machines.proofs.unit.Machine.{Where, At_a, At_b, Item, Carry, Pass, Fence, Enable, Stream, Delete, Put, Restore, Enabled}
-use Rattle.proof_machines.proofs.unit.Machine.{Event, Piece, Deleted, Put_ok, Put_no, Restored, Fenced, Forward, Fence_to, Install, Stray}
-use Rattle.proof_machines.proofs.unit.Kept.{record_in, records_on}
+use Rattle.proof_machines.proofs.unit.Machine.{Where, Item, Pass, Fence, Enable, Stream, Delete, Put, Restore, Enabled}
+use Rattle.proof_machines.proofs.unit.Machine.{Piece, Deleted, Put_ok, Put_no, Restored, Fenced, Forward}
+use Rattle.proof_machines.proofs.unit.Kept.{record_in}
 use Rattle.proof_machines.proofs.unit.ToRemove.{gives, deletes}
 use Rattle.proof_machines.proofs.unit.Labels as labels
-use Rattle.proof_machines.proofs.unit.Real.{record_at, M_enable, M_stream, M_delete, M_put, M_restore, M_enabled, M_event, M_piece, M_deleted, M_put_ok}
-use Rattle.proof_machines.proofs.unit.Real.{M_put_no, M_restored, M_fenced, M_forward, M_install, M_fence_to, Frame, see, where_true, sends_to, add}
+use Rattle.proof_machines.proofs.unit.Real.{M_enable, M_delete, M_put, M_restore, M_enabled, M_event, M_piece, M_deleted, M_put_ok}
+use Rattle.proof_machines.proofs.unit.Real.{M_put_no, M_restored, M_forward, see}
 use Rattle.proof_machines.proofs.net.Net as net
-use Rattle.proof_machines.proofs.net.Net.{In_packet, Asked, Carry_on, Pass_on, Fence_on, Mv, seen, MoveAsked}
-use Rattle.proof_machines.proofs.net.Holding.{Seeing, frame}
+use Rattle.proof_machines.proofs.net.Net.{In_packet, Asked, Carry_on, Pass_on, Fence_on}
 use Rattle.proof_machines.proofs.net.Holding as holding
-use Rattle.proof_machines.proofs.net.Shares.{Any, Old, New, WantShare, S_asked, S_shared, olds, OpenShare}
-use Rattle.net_world.specs.Records.{chunks_in, given_in, removed_by, spelled_of}
+use Rattle.proof_machines.proofs.net.Shares.{Old}
 use Rattle.nf_net.proofs.paths.ChunkLemmas.{as_spelled, spelled-append, good_spelled, good_units}
-use Rattle.proof_outlines.proofs.outline.Outline.{want_of}
-use Rattle.proof_outlines.proofs.whole.WholeOutline.{asked_of, want_share_of}
 use Rattle.nf_net.proofs.paths.PathLinks.{see_of, view, seen_more}
-use Rattle.proof_outlines.proofs.joined.Given.{Given, place}
-use Rattle.proof_outlines.proofs.joined.Joined.{S, shown, Label, FromController, ToController}
 
 -- what a list of items has of a unit's record
 pub record Reading (R : Type 0) : Type 0 where

@@ -1,62 +1,32 @@
 -- What all chunks on their way in a world spell of a unit is the unit's record where its seat has it: on the link from or to one side of its
 -- move, or among the pieces that the controller keeps.
-use Rattle.std.proofs.Common.{◌≡◌, ◌≢◌, ℕ, zero, suc, ◌+◌, ◌<◌, ◌≤◌, true, false, Option, Some, None}
-use Rattle.std.proofs.Common.{List, [], ◌∷◌, ◌++◌, map, length, get_or, refl, sym, ap, ◌∙◌, subst, arith}
-use Rattle.std.specs.Prelude.{if◌then◌else◌, ◌==◌, ◌&&◌, nat_lt}
-use Rattle.std.specs.List.{flat_map}
+use Rattle.nf_net.proofs.Words.{◌≡◌, ◌≢◌, ℕ, zero, suc, ◌<◌, ◌≤◌, true, false, Option, Some, None, List, [], ◌∷◌, ◌++◌, map, get_or, refl, sym, ap, ◌∙◌, subst}
+use Rattle.nf_net.proofs.Words.{arith, if◌then◌else◌, ◌==◌, ◌&&◌, nat_lt, flat_map, ltb-false, nat_tests, Decides-eqb, Decides-ltb, map-append, Semantics}
+use Rattle.nf_net.proofs.Words.{stored_of, Piece, Door, Phase, Operation, Move, Copy, Share, on_link, State, records, records_on, records_one, Each, each_map}
+use Rattle.nf_net.proofs.Words.{expect, is_over, Op, Frame, see_phase, Open, find_op, each_found, Seeing, frame, OpLabel, olds, Node, Switch, on_links}
+use Rattle.nf_net.proofs.Words.{chunks_in, kept_in, kept_for, kept_by, spelled_of, Sees, but_shares, outline_phase, outline_piece, is_sys, given, Given, place}
+use Rattle.nf_net.proofs.Words.{S, AreGoodChunks, IsGoodPiece, HasPieces, node_of, FromController, ToController}
 use Rattle.std.specs.FinMap as finite
-use Rattle.std.proofs.lemmas.Bool.{ltb-false}
-use Rattle.std.proofs.lemmas.Bool.Decides.{nat_tests, Decides-eqb, Decides-ltb}
-use Rattle.std.proofs.lemmas.List.{map-append}
 use Rattle.nf_function.specs.declared.unit.Unit as units
-use Rattle.nf_function.specs.Semantics.{Semantics}
-use Rattle.event_store.specs.Store.{stored_of}
-use Rattle.nf_msgs.specs.declared.msg.Msg.{Msg}
-use Rattle.nf_msgs.specs.declared.msg.Piece.{Piece}
-use Rattle.nf_msgs.specs.declared.note.Note.{Note}
-use Rattle.move_op.specs.declared.door.Door.{Door}
 use Rattle.move_op.specs.declared.door.Door.TheVariants as door
-use Rattle.move_op.specs.Phases.{Phase}
 use Rattle.move_op.specs.Phases as phase
 use Rattle.move_op.specs.Move.{chunks_of}
-use Rattle.ctrl_node.specs.declared.operation.Operation.{Operation}
-use Rattle.ctrl_node.specs.declared.operation.Operation.TheVariants.{Move, Copy, Share}
-use Rattle.actor_net.specs.Network.{Network, IsWorld, on_link}
-use Rattle.proof_machines.proofs.unit.Machine.{State}
 use Rattle.proof_machines.proofs.unit.Machine as machine
-use Rattle.proof_machines.proofs.unit.UnitPieces.{records}
-use Rattle.proof_machines.proofs.unit.Kept.{records_on, records_one, on_way}
-use Rattle.proof_machines.proofs.unit.Labels.{Each, Without, Clean, each_map}
-use Rattle.proof_machines.proofs.unit.Pairs.{expect}
-use Rattle.proof_machines.proofs.unit.Rests.{is_over}
-use Rattle.proof_machines.proofs.unit.Real.{Op, Frame, RPiece, RPhase, see, see_phase}
+use Rattle.proof_machines.proofs.unit.Kept.{on_way}
+use Rattle.proof_machines.proofs.unit.Labels.{Without, Clean}
+use Rattle.proof_machines.proofs.unit.Real.{RPiece, RPhase, see}
 use Rattle.move_op.specs.Phases.{Streaming}
-use Rattle.proof_machines.proofs.net.Net.{Open, find_op}
-use Rattle.proof_machines.proofs.net.Ctrl.{each_found}
-use Rattle.proof_machines.proofs.net.Holding.{Seeing, frame, Label, OpLabel, IsController, Holds}
-use Rattle.proof_machines.proofs.net.Shares.{olds, moves_of}
+use Rattle.proof_machines.proofs.net.Holding.{Label, IsController}
 use Rattle.proof_machines.proofs.net.Units.{see as seeing}
-use Rattle.proof_machines.proofs.net.Untaken.{Untaken}
-use Rattle.net_world.specs.declared.config.Config.{Config}
-use Rattle.net_world.specs.declared.node.Node.{Node}
-use Rattle.net_world.specs.declared.node.Node.TheVariants.{Switch}
-use Rattle.net_world.specs.Input.{IsInput}
-use Rattle.net_world.specs.Path.{on_links}
-use Rattle.net_world.specs.Records.{chunks_in, kept_in, kept_for, kept_by, spelled_of}
 use Rattle.net_world.specs.Records as specs
 use Rattle.nf_net.proofs.paths.ChunkLemmas.{as_spelled, spelled-append, spelled-all, pieces_spelled}
 use Rattle.nf_net.proofs.paths.ChunkLinks.{AreSpelled, are_spelled, no_chunks}
 use Rattle.nf_net.proofs.paths.ChunkSums.{kept_records, IsAt, From_a, From_b, To_a, To_b, In_store, none_of, one_of}
-use Rattle.proof_outlines.proofs.outline.ControlOutline.{Sees}
-use Rattle.proof_outlines.proofs.whole.OpenShares.{but_shares}
-use Rattle.proof_outlines.proofs.outline.MoveOutline.{outline_phase}
-use Rattle.proof_outlines.proofs.outline.Outline.{outline_piece, is_sys}
 use Rattle.nf_net.proofs.paths.PathNodes.{map_of}
-use Rattle.nf_net.proofs.paths.PathSeats.{labels, link_shown, link_view, loop_is}
+use Rattle.nf_net.proofs.paths.PathSeats.{labels, link_shown, link_view, on_each}
 use Rattle.nf_net.proofs.paths.PathSums.{one_at, no_link, one_link}
-use Rattle.proof_outlines.proofs.joined.StartJoined.{given}
-use Rattle.proof_outlines.proofs.joined.Given.{Given, place}
-use Rattle.proof_outlines.proofs.joined.Joined.{S, A, AreGoodChunks, IsGoodPiece, AreFree, HasPieces, Joined, node_of, FromController, ToController}
+use Rattle.proof_outlines.proofs.joined.Joined.{AreFree}
+use Rattle.nf_net.proofs.paths.Reached.{Reached, IsApart, HoldsAt}
 
 -- The pieces that the controller keeps.
 module _ {R : Type 0} (f : Semantics R) (g : Given) where
@@ -82,14 +52,7 @@ module _ {R : Type 0} (f : Semantics R) (g : Given) (v : Frame) where
       ∙ ap (λ xs. xs ++ spelled_of f u (chunks_of free)) (pieces_spelled f g u v refl frozen (good_pieces f g frozen h.0))
       ∙ ap (λ xs. as_spelled u fz ++ xs) (pieces_spelled f g u v refl free (free_pieces f g d free h.1))
       ∙ sym (map-append (λ r. Some (u, r)) fz fr)
-  phase_spelled phase.Freezing h = refl
-  phase_spelled phase.Holding h = refl
-  phase_spelled phase.Passing h = refl
-  phase_spelled phase.Ending h = refl
-  phase_spelled (phase.Restoring why) h = refl
-  phase_spelled (phase.Returning why) h = refl
-  phase_spelled (phase.Undoing why) h = refl
-  phase_spelled (phase.Over why) h = refl
+  phase_spelled p h = refl
 
   -- those of another move have nothing of it
   none_in : (ps : List (RPiece R)) → Each (Without u) ps → records (map (see v) ps) ≡ []
@@ -104,11 +67,10 @@ over_keeps : {R : Type 0} (ph : machine.Phase R) → is_over ph ≡ true → kep
 over_keeps (machine.Streaming fz fr came d) e = cc
 over_keeps ph e = refl
 
-module _ {F R : Type 0} (f : Semantics R) (c : Config) (items : List Msg) (is : IsInput f.kind c items) (n : ℕ) (count : n ≡ length c.names + 2)
-    (w : Network (Node F R) Msg Note) (nodes : length w.nodes ≡ n) (j : Joined f (given f c items is) n w) (world : IsWorld w)
-    (u : units.Unit) (apart : Untaken (S f (given f c items is)) u (A f (given f c items is)) j.world) (op : Op) (third : ℕ) (x : State R)
-    (holds : Holds (S f (given f c items is)) (seeing (S f (given f c items is)) (is_sys f (given f c items is).site (given f c items is).packet) u op
-    third) (moves_of (S f (given f c items is)) (A f (given f c items is)) j.world) x) where
+module _ {F R : Type 0} (here : Reached F R) (u : units.Unit) (apart : IsApart here u) (op : Op) (third : ℕ) (x : State R)
+    (holds : HoldsAt here u op third x) where
+  open here use {f, c, items, is, n, count, w, nodes, j, world}
+
   abbrev g : Given
   g = given f c items is
 
@@ -124,21 +86,16 @@ module _ {F R : Type 0} (f : Semantics R) (c : Config) (items : List Msg) (is : 
   -- A link.
   pub link_spelled : (s r : ℕ) → s < n → r < n → (s == 0) && (r == 0) ≡ false → AreSpelled f g z j.world.shares (on_link w s r) (expect a b third x s r)
   link_spelled s r hs hr off =
-      subst (AreSpelled f g z j.world.shares (on_link w s r)) (link_view f c items is n count w nodes j world u apart op third x holds s r hs hr off)
-      (are_spelled f g z j.world.shares s r (on_link w s r) (labels f c items is n count w nodes j world s r hs hr off)
-      (subst (λ ms. Each (Label (S f g) z s) (olds ms)) (link_shown f c items is n count w nodes j world s r hs hr off) (holds.labels s r off)))
+      subst (AreSpelled f g z j.world.shares (on_link w s r)) (link_view here u apart op third x holds s r hs hr off)
+      (are_spelled f g z j.world.shares s r (on_link w s r) (labels here s r hs hr off)
+      (subst (λ ms. Each (Label (S f g) z s) (olds ms)) (link_shown here s r hs hr off) (holds.labels s r off)))
 
   abbrev on : ℕ → ℕ → List (Option (units.Unit × R))
   on s r = spelled_of f u (flat_map chunks_in (on_link w s r))
 
   none_else : (s r : ℕ) → s < n → r < n → (FromController s r → ⊥) → (ToController s r → ⊥) → on s r ≡ []
-  none_else s r hs hr from to = elim ((s == 0) && (r == 0)) as (λ t. (s == 0) && (r == 0) ≡ t → on s r ≡ []) [
-    | true ↦ λ both.
-        let zs : s ≡ 0 = grind (arith, nat_tests) in
-        let zr : r ≡ 0 = grind (arith, nat_tests) in
-        ap (λ k. spelled_of f u (flat_map chunks_in k)) (ap (λ k. on_link w k r) zs ∙ ap (λ k. on_link w 0 k) zr ∙ loop_is f c items is n count w nodes j world)
-    | false ↦ λ off. ap (spelled_of f u) (no_chunks f g s r (on_link w s r) (labels f c items is n count w nodes j world s r hs hr off) from to)
-  ] refl
+  none_else s r hs hr from to = on_each here (λ ms. spelled_of f u (flat_map chunks_in ms) ≡ []) refl s r
+      (λ off. ap (spelled_of f u) (no_chunks f g s r (on_link w s r) (labels here s r hs hr off) from to))
 
   -- where a unit's record may stand on links
   abbrev at : ℕ → ℕ → List R

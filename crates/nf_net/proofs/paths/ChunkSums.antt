@@ -1,9 +1,8 @@
 -- A record that is on its way at a seat stands at one place: on a link between the controller and a side of the move, or in a piece that the
 -- controller keeps.
-use Rattle.std.proofs.Common.{◌≡◌, List, [], ◌∷◌, ◌++◌, refl, append-nil, ap, ◌∙◌}
-use Rattle.proof_machines.proofs.unit.Machine.{State, Phase}
-use Rattle.proof_machines.proofs.unit.UnitPieces.{nil_left, nil_right}
-use Rattle.proof_machines.proofs.unit.Kept.{records_on, frozen_in, free_in, on_way}
+use Rattle.nf_net.proofs.Words.{◌≡◌, List, [], ◌∷◌, ◌++◌, refl, append-nil, ap, ◌∙◌, State, nil_left, nil_right, records_on}
+use Rattle.proof_machines.proofs.unit.Machine.{Phase}
+use Rattle.proof_machines.proofs.unit.Kept.{frozen_in, free_in, on_way}
 
 -- the unit's record in the pieces that the controller keeps
 abbrev pub kept_records : {R : Type 0} → Phase R → List R

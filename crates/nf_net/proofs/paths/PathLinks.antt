@@ -1,42 +1,23 @@
 -- What a unit sees of a link is its packets there: those that were handed on, those that come by the rules, those on their way by the
 -- switch, and events.
-use Rattle.std.proofs.Common.{◌≡◌, ℕ, Bool, true, false, Option, Some, None, List, [], ◌∷◌, ◌++◌, refl, sym, ap, ◌∙◌}
-use Rattle.std.proofs.lemmas.List.Elements.{filter-append}
-use Rattle.std.specs.Prelude.{if◌then◌else◌, ◌==◌, ◌&&◌, option_map}
-use Rattle.std.specs.List.{cons_option, filter, filter_map, flat_map}
-use Rattle.nf_function.specs.declared.chunk.Chunk.{Chunk}
+use Rattle.nf_net.proofs.Words.{◌≡◌, ℕ, Bool, true, false, Option, Some, None, List, [], ◌∷◌, ◌++◌, refl, sym, ap, ◌∙◌, filter-append, if◌then◌else◌, ◌==◌}
+use Rattle.nf_net.proofs.Words.{◌&&◌, option_map, cons_option, filter, filter_map, flat_map, Chunk, Semantics, spelled, FullCell, Mark, Target, Filter, Command}
+use Rattle.nf_net.proofs.Words.{Order, Msg, instance_node, Carry, Event, Fence_to, Install, Stray, At_a, At_b, Frame, where_true, sends_to, add, passes_in}
+use Rattle.nf_net.proofs.Words.{events_in, is_known, seen, MoveAsked, Seeing, frame, Any, New, WantShare, S_asked, S_shared, EachNew, olds, OpenShare, NoShare}
+use Rattle.nf_net.proofs.Words.{passed_in, carried_in, forwarded_in, handed_over_in, diverted_in, number, want_of, asked_of, want_share_of, Given, place, S}
+use Rattle.nf_net.proofs.Words.{shown, Label, FromSwitch, ToSwitch, ToController}
 use Rattle.nf_function.specs.declared.unit.Unit as units
-use Rattle.nf_function.specs.Semantics.{Semantics}
-use Rattle.record_table.specs.Chunks.{spelled}
-use Rattle.packet_pool.specs.Pool.{FullCell}
-use Rattle.event_filter.specs.declared.mark.Mark.{Mark}
 use Rattle.event_filter.specs.declared.mark.Mark.TheVariants as mark
-use Rattle.switch_rules.specs.declared.target.Target.{Target}
 use Rattle.switch_rules.specs.declared.target.Target.TheVariants as target
-use Rattle.flow_filter.specs.declared.filter.Filter.{Filter}
-use Rattle.nf_msgs.specs.declared.command.Command.{Command}
-use Rattle.nf_msgs.specs.declared.command.Order.{Order}
 use Rattle.nf_msgs.specs.declared.command.Order.TheVariants as order
-use Rattle.nf_msgs.specs.declared.msg.Msg.{Msg}
 use Rattle.nf_msgs.specs.declared.msg.Msg.TheVariants as msg
-use Rattle.nf_msgs.specs.Nodes.{instance_node}
-use Rattle.proof_machines.proofs.unit.Machine.{Item, Carry, Pass, Fence, Event, Forward, Fence_to, Install, Stray, At_a, At_b}
+use Rattle.proof_machines.proofs.unit.Machine.{Item, Pass, Fence, Forward}
 use Rattle.actor_net.proofs.WeightLaws.{Each}
-use Rattle.proof_machines.proofs.unit.Real.{Frame, where_true, sends_to, add}
 use Rattle.proof_machines.proofs.unit.NetViews.{items}
-use Rattle.proof_machines.proofs.unit.Path.{passes_in, carries, events_in, forwards}
-use Rattle.proof_machines.proofs.unit.Sides.{is_known}
+use Rattle.proof_machines.proofs.unit.Path.{carries, forwards}
 use Rattle.proof_machines.proofs.net.Net as net
-use Rattle.proof_machines.proofs.net.Net.{seen, MoveAsked}
-use Rattle.proof_machines.proofs.net.Holding.{Seeing, frame}
 use Rattle.proof_machines.proofs.net.NewMessages.{OnNew}
-use Rattle.proof_machines.proofs.net.Shares.{Any, Old, New, WantShare, S_asked, S_shared, EachNew, olds, OpenShare}
-use Rattle.proof_machines.proofs.net.Untaken.{NoShare}
-use Rattle.net_world.specs.Path.{passed_in, carried_in, forwarded_in, handed_over_in, diverted_in}
-use Rattle.proof_outlines.proofs.outline.Outline.{number, want_of}
-use Rattle.proof_outlines.proofs.whole.WholeOutline.{asked_of, want_share_of}
-use Rattle.proof_outlines.proofs.joined.Given.{Given, place}
-use Rattle.proof_outlines.proofs.joined.Joined.{S, shown, Label, FromSwitch, ToSwitch, ToController}
+use Rattle.proof_machines.proofs.net.Shares.{Old}
 
 -- an item that is seen, or not, before others
 module _ {R : Type 0} where

@@ -1,35 +1,19 @@
 -- What a unit sees of an instance's rules and of the controller's open moves is its packets that are held and stored.
-use Rattle.std.proofs.Common.{◌≡◌, ◌≢◌, ℕ, Bool, true, false, cond, Option, Some, None, List, [], ◌∷◌, ◌++◌, map, refl, sym, ap, ◌∙◌, eqb, append-nil, arith}
-use Rattle.std.specs.Prelude.{T, nat_eq, if◌then◌else◌, unwrap_or}
-use Rattle.std.specs.List.{filter, flat_map}
-use Rattle.std.specs.Ordering.{nat_cmp, eq_by_cmp, is_lt, is_eq}
-use Rattle.std.specs.declared.cmp.Ordering.{Ordering}
-use Rattle.std.specs.declared.cmp.Ordering.TheVariants.{Less, Equal, Greater}
+use Rattle.nf_net.proofs.Words.{◌≡◌, ◌≢◌, ℕ, Bool, true, false, cond, Option, Some, None, List, [], ◌∷◌, ◌++◌, map, refl, sym, ap, ◌∙◌, append-nil, arith, T}
+use Rattle.nf_net.proofs.Words.{nat_eq, if◌then◌else◌, unwrap_or, filter, flat_map, nat_cmp, eq_by_cmp, is_lt, is_eq, Ordering, Less, Equal, Greater, is_sorted}
+use Rattle.nf_net.proofs.Words.{entries_sorted, get-entries, below_all, nat_tests, Decides-eqb, IsDistinct-head, IsDistinct-tail, and_yes, Semantics, same_unit}
+use Rattle.nf_net.proofs.Words.{HaveOneEach, stored_of, FullCell, Each, each-append, only_mine, find_rule, held_of, Seeing, frame, RuleLabel, none_mine}
+use Rattle.nf_net.proofs.Words.{RestRule, Given, S}
+use Rattle.std.proofs.Common.{eqb}
 use Rattle.std.specs.FinMap as finite
-use Rattle.std.specs.FinMap.{find, is_sorted, entries_sorted, get-entries}
-use Rattle.std.specs.FinMap.Entries.{below_all}
+use Rattle.std.specs.FinMap.{find}
 use Rattle.std.proofs.lemmas.Bool.{eqb-true}
-use Rattle.std.proofs.lemmas.Bool.Decides.{nat_tests, Decides-eqb}
-use Rattle.std.proofs.lemmas.Map.Keys.{IsDistinct-head, IsDistinct-tail}
-use Rattle.std.proofs.Math.Facts.{and_yes}
 use Rattle.nf_function.specs.declared.unit.Unit as units
-use Rattle.nf_function.specs.Semantics.{Semantics}
-use Rattle.record_table.specs.Table.{same_unit}
 use Rattle.event_filter.specs.declared.rule.Rule.{Rule as EventRule}
-use Rattle.event_filter.specs.Rules.{HaveOneEach}
 use Rattle.event_filter.proofs.RulePlaces.{HasNone, none_behind}
-use Rattle.event_store.specs.Store.{stored_of}
 use Rattle.event_store.proofs.StoreLookUps.{order_test}
-use Rattle.packet_pool.specs.Pool.{FullCell}
-use Rattle.proof_machines.proofs.unit.Labels.{Each, each-append}
-use Rattle.proof_machines.proofs.unit.Real.{only_mine}
-use Rattle.proof_machines.proofs.net.Net.{find_rule, held_of}
-use Rattle.proof_machines.proofs.net.Holding.{Seeing, frame, RuleLabel}
-use Rattle.proof_machines.proofs.net.Rest.{none_mine, RestRule}
 use Rattle.net_world.specs.Path.{numbers}
 use Rattle.proof_outlines.proofs.outline.Outline.{outline_rule}
-use Rattle.proof_outlines.proofs.joined.Given.{Given}
-use Rattle.proof_outlines.proofs.joined.Joined.{S}
 
 not_tied : (o : Ordering) → T (is_lt o) → is_eq o ≡ false
 not_tied Less h = refl

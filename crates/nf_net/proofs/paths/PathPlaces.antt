@@ -1,44 +1,24 @@
 -- What a world has of a unit that no share has on all its links, kind by kind, is what waits there at the seat that shows the unit.
-use Rattle.std.proofs.Common.{◌≡◌, ◌≢◌, ℕ, ◌+◌, ◌<◌, ◌≤◌, Bool, true, false, List, [], ◌++◌, length, refl, sym, ap, ◌∙◌, subst, append-nil, arith}
-use Rattle.std.specs.Prelude.{if◌then◌else◌, ◌==◌, ◌&&◌, nat_lt}
-use Rattle.std.specs.List.{filter, flat_map}
-use Rattle.std.proofs.lemmas.Bool.{ltb-false}
-use Rattle.std.proofs.lemmas.Bool.Decides.{nat_tests, Decides-eqb, Decides-ltb}
+use Rattle.nf_net.proofs.Words.{◌≡◌, ◌≢◌, ℕ, ◌<◌, ◌≤◌, Bool, true, false, List, [], ◌++◌, refl, sym, ap, ◌∙◌, subst, append-nil, arith, if◌then◌else◌, ◌==◌}
+use Rattle.nf_net.proofs.Words.{◌&&◌, nat_lt, filter, flat_map, ltb-false, nat_tests, Decides-eqb, Decides-ltb, Msg, on_link, State, Op, expect, passes_in}
+use Rattle.nf_net.proofs.Words.{events_in, is_known, Seeing, frame, passed_in, forwarded_in, handed_over_in, diverted_in, on_links, is_sys, Given, S, given}
 use Rattle.nf_function.specs.declared.unit.Unit as units
-use Rattle.nf_function.specs.Semantics.{Semantics}
-use Rattle.nf_msgs.specs.declared.msg.Msg.{Msg}
-use Rattle.nf_msgs.specs.declared.note.Note.{Note}
-use Rattle.actor_net.specs.Network.{Network, IsWorld, on_link}
-use Rattle.proof_machines.proofs.unit.Machine.{State}
-use Rattle.proof_machines.proofs.unit.Real.{Op}
-use Rattle.proof_machines.proofs.unit.Pairs.{expect}
-use Rattle.proof_machines.proofs.unit.Path.{passes_in, events_in, forwards}
-use Rattle.proof_machines.proofs.unit.Sides.{OneOf, First, Second, is_known}
-use Rattle.proof_machines.proofs.net.Holding.{Seeing, frame, Holds}
-use Rattle.proof_machines.proofs.net.Shares.{moves_of}
+use Rattle.proof_machines.proofs.unit.Path.{forwards}
+use Rattle.proof_machines.proofs.unit.Sides.{OneOf, First, Second}
 use Rattle.proof_machines.proofs.net.Units.{see}
-use Rattle.proof_machines.proofs.net.Untaken.{Untaken}
-use Rattle.net_world.specs.declared.config.Config.{Config}
-use Rattle.net_world.specs.declared.node.Node.{Node}
-use Rattle.net_world.specs.Input.{IsInput}
-use Rattle.net_world.specs.Path.{passed_in, forwarded_in, handed_over_in, diverted_in, on_links}
-use Rattle.proof_outlines.proofs.outline.Outline.{is_sys}
-use Rattle.proof_outlines.proofs.joined.Given.{Given}
-use Rattle.proof_outlines.proofs.joined.Joined.{S, A, Joined}
 use Rattle.nf_net.proofs.paths.PathSeats.{There, Is_there, Has_none, passed_from, passed_else, events_to}
 use Rattle.nf_net.proofs.paths.PathSeats.{events_else, forwarded_to, forwarded_else, diverted_none}
 use Rattle.nf_net.proofs.paths.PathSums.{those-all, no_link, one_link}
-use Rattle.proof_outlines.proofs.joined.StartJoined.{given}
+use Rattle.nf_net.proofs.paths.Reached.{Reached, IsApart, HoldsAt}
 
 if_nil : (b : Bool) (xs : List ℕ) → xs ≡ [] → (if b then xs else []) ≡ []
 if_nil true xs e = e
 if_nil false xs e = refl
 
-module _ {F R : Type 0} (f : Semantics R) (c : Config) (items : List Msg) (is : IsInput f.kind c items) (n : ℕ) (count : n ≡ length c.names + 2)
-    (w : Network (Node F R) Msg Note) (nodes : length w.nodes ≡ n) (j : Joined f (given f c items is) n w) (world : IsWorld w)
-    (u : units.Unit) (apart : Untaken (S f (given f c items is)) u (A f (given f c items is)) j.world) (op : Op) (third : ℕ) (x : State R)
-    (holds : Holds (S f (given f c items is)) (see (S f (given f c items is)) (is_sys f (given f c items is).site (given f c items is).packet) u op third)
-    (moves_of (S f (given f c items is)) (A f (given f c items is)) j.world) x) where
+module _ {F R : Type 0} (here : Reached F R) (u : units.Unit) (apart : IsApart here u) (op : Op) (third : ℕ) (x : State R)
+    (holds : HoldsAt here u op third x) where
+  open here use {f, c, items, is, n, count, w, nodes, world}
+
   abbrev g : Given
   g = given f c items is
 
@@ -109,13 +89,13 @@ module _ {F R : Type 0} (f : Semantics R) (c : Config) (items : List Msg) (is : 
                     let off_a : (k == a) ≡ false = grind (arith, nat_tests, low, a_two) in
                     let off_b : (k == b) ≡ false = grind (arith, nat_tests, low, b_two) in
                     let small : k < 2 = (Decides-ltb k 2).0 low in
-                    rw (off_a, off_b) (passed_else f c items is n count w nodes j world mine i k hi hk (λ h. absurd (omega (arith, small, h.1))))
+                    rw (off_a, off_b) (passed_else here mine i k hi hk (λ h. absurd (omega (arith, small, h.1))))
                 | false ↦ λ high.
                     let two : 2 ≤ k = ltb-false k 2 high in
                     ap (λ v. filter mine (flat_map passed_in (on_link w v k))) ((Decides-eqb i 0).0 e)
-                    ∙ passed_from f c items is n count w nodes j world u apart op third x holds k two hk ∙ expect_pass k
+                    ∙ passed_from here u apart op third x holds k two hk ∙ expect_pass k
               ] refl
-          | false ↦ λ e. passed_else f c items is n count w nodes j world mine i k hi hk
+          | false ↦ λ e. passed_else here mine i k hi hk
               (λ h. (let never : false ≡ true = sym e ∙ (Decides-eqb i 0).1 h.0 in cc))
         ] refl
 
@@ -165,8 +145,8 @@ module _ {F R : Type 0} (f : Semantics R) (c : Config) (items : List Msg) (is : 
               let i1 : i ≡ 1 = grind (arith, nat_tests, on) in
               let k0 : k ≡ 0 = grind (arith, nat_tests, on) in
               ap (λ v. filter mine (flat_map forwarded_in (on_link w v k))) i1 ∙ ap (λ v. filter mine (flat_map forwarded_in (on_link w 1 v))) k0
-              ∙ forwarded_to f c items is n count w nodes j world u apart op third x holds known
-          | false ↦ λ off. forwarded_else f c items is n count w nodes j world mine i k hi hk
+              ∙ forwarded_to here u apart op third x holds known
+          | false ↦ λ off. forwarded_else here mine i k hi hk
               (λ h. (let on : (i == 1) && (k == 0) ≡ true = rw (h.0, h.1) refl in let never : false ≡ true = sym off ∙ on in cc))
         ] refl
 
@@ -205,13 +185,13 @@ module _ {F R : Type 0} (f : Semantics R) (c : Config) (items : List Msg) (is : 
                 | true ↦ λ low.
                     let off : (i == a) ≡ false = grind (arith, nat_tests, low, a_two) in
                     let small : i < 2 = (Decides-ltb i 2).0 low in
-                    rw off (events_else f c items is n count w nodes j world mine i k hi hk (λ h. absurd (omega (arith, small, h.0))))
+                    rw off (events_else here mine i k hi hk (λ h. absurd (omega (arith, small, h.0))))
                 | false ↦ λ high.
                     let two : 2 ≤ i = ltb-false i 2 high in
                     ap (λ v. filter mine (flat_map handed_over_in (on_link w i v))) ((Decides-eqb k 1).0 e)
-                    ∙ events_to f c items is n count w nodes j world u apart op third x holds i two hi ∙ expect_event i two
+                    ∙ events_to here u apart op third x holds i two hi ∙ expect_event i two
               ] refl
-          | false ↦ λ e. events_else f c items is n count w nodes j world mine i k hi hk
+          | false ↦ λ e. events_else here mine i k hi hk
               (λ h. (let never : false ≡ true = sym e ∙ (Decides-eqb k 1).1 h.1 in cc))
         ] refl
 
@@ -239,4 +219,4 @@ module _ {F R : Type 0} (f : Semantics R) (c : Config) (items : List Msg) (is : 
   diverted_are =
       those-all mine (flat_map diverted_in) w.links
       ∙ no_link w world.square (λ ms. filter mine (flat_map diverted_in ms))
-      (λ i k hi hk. diverted_none f c items is n count w nodes j world u apart op third x holds i k (rw (← nodes) hi) (rw (← nodes) hk))
+      (λ i k hi hk. diverted_none here u apart op third x holds i k (rw (← nodes) hi) (rw (← nodes) hk))

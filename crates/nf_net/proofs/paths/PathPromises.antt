@@ -1,33 +1,16 @@
 -- In every run what came of a unit is what was processed and what is under way, and nothing stands in two places.
-use Rattle.std.proofs.Common.{◌≡◌, ℕ, suc, ◌+◌, ◌<◌, ◌≤◌, Bool, true, false, List, [], ◌∷◌, ◌++◌, map, length, refl, sym, ap, ◌∙◌, subst, arith}
-use Rattle.std.specs.Prelude.{if◌then◌else◌, ◌==◌}
-use Rattle.std.proofs.lemmas.Bool.Decides.{nat_tests, Decides-eqb}
+use Rattle.nf_net.proofs.Words.{◌≡◌, ℕ, suc, ◌+◌, ◌<◌, ◌≤◌, Bool, true, false, List, [], ◌∷◌, ◌++◌, map, refl, sym, ap, ◌∙◌, subst, arith, if◌then◌else◌, ◌==◌}
+use Rattle.nf_net.proofs.Words.{nat_tests, Decides-eqb, Semantics, Msg, Note, Network, same_of, IsOrderedAs, exactly, not_both, WhereAll, Apart_from_shares}
+use Rattle.nf_net.proofs.Words.{Under_share, Config, Node, IsRising, IsInput, arrivals_in, is_loose, IsFront, arrived_of, processed_of, in_flight_of, is_sys}
+use Rattle.nf_net.proofs.Words.{Given, S, A, came_by, same_times, given}
 use Rattle.nf_function.specs.declared.unit.Unit as units
-use Rattle.nf_function.specs.Semantics.{Semantics}
-use Rattle.nf_msgs.specs.declared.msg.Msg.{Msg}
-use Rattle.nf_msgs.specs.declared.note.Note.{Note}
-use Rattle.actor_net.specs.Network.{Network, IsWorld}
-use Rattle.proof_machines.proofs.unit.Ends.{same_of}
-use Rattle.proof_machines.proofs.unit.Stages.{IsOrderedAs}
-use Rattle.proof_machines.proofs.unit.Rests.{exactly}
-use Rattle.proof_machines.proofs.net.Readings.{not_both}
-use Rattle.proof_machines.proofs.whole.WhereAll.{WhereAll, Apart_from_shares, Under_share}
-use Rattle.net_world.specs.declared.config.Config.{Config}
-use Rattle.net_world.specs.declared.node.Node.{Node}
-use Rattle.net_world.specs.Input.{packets, IsRising, IsInput}
-use Rattle.net_world.specs.Log.{arrivals_in}
-use Rattle.net_world.specs.Places.{is_loose}
-use Rattle.net_world.specs.Fold.{times, IsFront, arrived_of, processed_of, in_flight_of}
+use Rattle.net_world.specs.Input.{packets}
+use Rattle.net_world.specs.Fold.{times}
 use Rattle.net_world.proofs.NumberCounts.{times-append}
-use Rattle.proof_outlines.proofs.outline.Outline.{is_sys}
-use Rattle.proof_outlines.proofs.joined.Given.{Given}
-use Rattle.proof_outlines.proofs.joined.Joined.{S, A, came_by, Joined}
-use Rattle.proof_outlines.proofs.joined.RunsJoined.{same_times}
-use Rattle.proof_outlines.proofs.joined.StartJoined.{given}
 use Rattle.nf_net.proofs.paths.PathSeats.{seated}
 use Rattle.nf_net.proofs.paths.SeatPaths as seats
-use Rattle.nf_net.proofs.paths.SharedOwners.{HomesOwn}
 use Rattle.nf_net.proofs.paths.SharedPaths as shares
+use Rattle.nf_net.proofs.paths.Reached.{Reached, HomesTold}
 
 -- no number stands twice where numbers rise
 rising_above : (p least : ℕ) (ns : List ℕ) → IsRising least ns → p < least → times p ns ≡ 0
@@ -53,9 +36,10 @@ came_once f c items is w in_turn p =
     let both = times-append p (arrivals_in w.log) in_turn.rest in
     omega (arith, one, whole, both)
 
-module _ {F R : Type 0} (f : Semantics R) (c : Config) (items : List Msg) (is : IsInput f.kind c items) (n : ℕ) (count : n ≡ length c.names + 2)
-    (w : Network (Node F R) Msg Note) (nodes : length w.nodes ≡ n) (j : Joined f (given f c items is) n w) (world : IsWorld w)
-    (in_turn : IsFront (arrivals_in w.log) (map (λ p. p.number) (packets items))) (told : HomesOwn f c items is n count w j) (u : units.Unit) where
+module _ {F R : Type 0} (here : Reached F R) (in_turn : IsFront (arrivals_in here.w.log) (map (λ p. p.number) (packets here.items))) (told : HomesTold here)
+    (u : units.Unit) where
+  open here use {f, c, items, is, w, j}
+
   abbrev g : Given
   g = given f c items is
 
@@ -70,17 +54,15 @@ module _ {F R : Type 0} (f : Semantics R) (c : Config) (items : List Msg) (is : 
     where
       by_where : WhereAll (S f g) (A f g) (is_sys f g.site g.packet) u j.world (came_by f g w.log u) → Ordered
       by_where (Apart_from_shares h none) =
-          let k = seated f c items is n count w nodes j u h.is in
+          let k = seated here u h.is in
           record {
             flag = k.flag;
-            order = subst (λ ps. IsOrderedAs k.flag ps (arrived_of f c items u w.log))
-                (sym (seats.all_is f c items is n count w nodes j world in_turn u h.is h.untaken)) k.order;
+            order = subst (λ ps. IsOrderedAs k.flag ps (arrived_of f c items u w.log)) (sym (seats.all_is here in_turn u h.is h.untaken)) k.order;
             flag_is = k.flag_is;
           }
       by_where (Under_share x before b h o i) = record {
         flag = b;
-        order = subst (λ ps. IsOrderedAs b ps (arrived_of f c items u w.log))
-            (sym (shares.all_is f c items is n count w nodes j world told u x before (came_by f g w.log u).diverted h)) o;
+        order = subst (λ ps. IsOrderedAs b ps (arrived_of f c items u w.log)) (sym (shares.all_is here told u x before (came_by f g w.log u).diverted h)) o;
         flag_is = i;
       }
 

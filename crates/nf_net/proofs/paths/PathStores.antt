@@ -1,47 +1,21 @@
 -- What the controller stores of a unit that no share has is what its seat has there, and nothing of it waits for a share.
-use Rattle.std.proofs.Common.{◌≡◌, ◌≢◌, ℕ, zero, suc, ◌+◌, ◌<◌, Bool, true, false, Option, Some}
-use Rattle.std.proofs.Common.{None, List, [], length, get_or, refl, sym, ap, ◌∙◌, subst, arith}
-use Rattle.std.specs.Prelude.{if◌then◌else◌, ◌==◌}
-use Rattle.std.specs.List.{filter, flat_map}
+use Rattle.nf_net.proofs.Words.{◌≡◌, ◌≢◌, ℕ, zero, suc, ◌<◌, Bool, true, false, Option, Some, None, List, [], get_or, refl, sym, ap, ◌∙◌, subst, arith}
+use Rattle.nf_net.proofs.Words.{if◌then◌else◌, ◌==◌, filter, flat_map, nat_tests, Decides-eqb, FullCell, stored_of, Operation, Move, Copy, Share, State, Op}
+use Rattle.nf_net.proofs.Words.{only_mine, Open, find_op, each_found, Seeing, frame, OpLabel, none_mine, found_each, Node, Switch, Controller, lasts, stored_by}
+use Rattle.nf_net.proofs.Words.{queued_by, Sees, is_sys, but_shares, both, Given, place, S, node_of, given}
 use Rattle.std.specs.FinMap as finite
-use Rattle.std.proofs.lemmas.Bool.Decides.{nat_tests, Decides-eqb}
 use Rattle.nf_function.specs.declared.unit.Unit as units
-use Rattle.nf_function.specs.Semantics.{Semantics}
-use Rattle.packet_pool.specs.Pool.{FullCell}
-use Rattle.event_store.specs.Store.{stored_of}
-use Rattle.nf_msgs.specs.declared.msg.Msg.{Msg}
-use Rattle.nf_msgs.specs.declared.note.Note.{Note}
-use Rattle.ctrl_node.specs.declared.operation.Operation.{Operation}
-use Rattle.ctrl_node.specs.declared.operation.Operation.TheVariants.{Move, Copy, Share}
-use Rattle.actor_net.specs.Network.{Network}
-use Rattle.proof_machines.proofs.unit.Machine.{State}
-use Rattle.proof_machines.proofs.unit.Real.{Op, only_mine}
 use Rattle.proof_machines.proofs.unit.Sides.{is_released, over_released}
-use Rattle.proof_machines.proofs.net.Net.{Open, find_op}
-use Rattle.proof_machines.proofs.net.Ctrl.{each_found}
-use Rattle.proof_machines.proofs.net.Holding.{Seeing, frame, OpLabel, IsController, Holds}
-use Rattle.proof_machines.proofs.net.Rest.{none_mine}
-use Rattle.proof_machines.proofs.net.ShareLists.{found_each}
-use Rattle.proof_machines.proofs.net.Shares.{moves_of}
+use Rattle.proof_machines.proofs.net.Holding.{IsController}
 use Rattle.proof_machines.proofs.net.Units.{see}
-use Rattle.proof_machines.proofs.net.Untaken.{Untaken}
-use Rattle.net_world.specs.declared.config.Config.{Config}
-use Rattle.net_world.specs.declared.node.Node.{Node}
-use Rattle.net_world.specs.declared.node.Node.TheVariants.{Switch, Controller}
-use Rattle.net_world.specs.Input.{IsInput}
-use Rattle.ctrl_node.specs.Operations.{lasts}
-use Rattle.net_world.specs.Path.{numbers, stored_by, queued_by}
-use Rattle.proof_outlines.proofs.outline.ControlOutline.{Sees}
-use Rattle.proof_outlines.proofs.outline.Outline.{is_sys}
-use Rattle.proof_outlines.proofs.whole.OpenShares.{but_shares, both}
-use Rattle.proof_outlines.proofs.joined.Given.{Given, place}
-use Rattle.proof_outlines.proofs.joined.Joined.{S, A, Joined, node_of}
-use Rattle.proof_outlines.proofs.joined.StartJoined.{given}
+use Rattle.net_world.specs.Path.{numbers}
 use Rattle.nf_net.proofs.paths.PathNodes.{only_those, those_mine, store_of}
 use Rattle.nf_net.proofs.paths.PathSums.{those-all, one_at}
+use Rattle.nf_net.proofs.paths.Reached.{Reached, IsApart, HoldsAt}
 
-module _ {F R : Type 0} (f : Semantics R) (c : Config) (items : List Msg) (is : IsInput f.kind c items) (n : ℕ) (count : n ≡ length c.names + 2)
-    (w : Network (Node F R) Msg Note) (nodes : length w.nodes ≡ n) (j : Joined f (given f c items is) n w) where
+module _ {F R : Type 0} (here : Reached F R) where
+  open here use {f, c, items, is, n, count, w, nodes, j}
+
   abbrev g : Given
   g = given f c items is
 
@@ -113,8 +87,7 @@ module _ {F R : Type 0} (f : Semantics R) (c : Config) (items : List Msg) (is : 
     unseen_store k e = none_seen k (got k) refl (subst (λ o. Sees f (place g) o (but_shares (got k)) (cells k)) e (j.shown_is.controller.opens k).move)
 
   -- A unit that no share has.
-  module _ (u : units.Unit) (apart : Untaken (S f g) u (A f g) j.world) (op : Op) (third : ℕ) (x : State R)
-      (holds : Holds (S f g) (see (S f g) (is_sys f g.site g.packet) u op third) (moves_of (S f g) (A f g) j.world) x) where
+  module _ (u : units.Unit) (apart : IsApart here u) (op : Op) (third : ℕ) (x : State R) (holds : HoldsAt here u op third x) where
     abbrev z : Seeing
     z = see (S f g) (is_sys f g.site g.packet) u op third
 

@@ -1,15 +1,8 @@
 -- Where one of many has anything, what all of them have is what that one has; and what all have of one unit is what each has of it.
-use Rattle.std.proofs.Common.{◌≡◌, ◌≢◌, ℕ, zero, suc, ◌+◌, ◌*◌, ◌<◌, ◌≤◌, Bool, true, false, List, []}
-use Rattle.std.proofs.Common.{◌∷◌, ◌++◌, length, get_or, refl, sym, ap, ◌∙◌, subst, append-nil, arith}
-use Rattle.std.specs.Prelude.{if◌then◌else◌, ◌==◌, ◌-◌, nat_lt}
-use Rattle.std.specs.List.{filter, flat_map}
-use Rattle.std.proofs.lemmas.Bool.{ltb-false}
-use Rattle.std.proofs.lemmas.Bool.Decides.{nat_tests, Decides-eqb, Decides-ltb}
-use Rattle.std.proofs.lemmas.List.Elements.{filter-append}
-use Rattle.actor_net.specs.Network.{Network, on_link}
+use Rattle.nf_net.proofs.Words.{◌≡◌, ◌≢◌, ℕ, zero, suc, ◌+◌, ◌*◌, ◌<◌, ◌≤◌, Bool, true, false, List, [], ◌∷◌, ◌++◌, length, get_or, refl, sym, ap, ◌∙◌, subst}
+use Rattle.nf_net.proofs.Words.{append-nil, arith, if◌then◌else◌, ◌==◌, ◌-◌, nat_lt, filter, flat_map, ltb-false, nat_tests, Decides-eqb, Decides-ltb}
+use Rattle.nf_net.proofs.Words.{filter-append, Network, on_link, Each, each-append, all_but}
 use Rattle.actor_net.proofs.LinkLemmas.{inside}
-use Rattle.proof_machines.proofs.unit.Labels.{Each, each-append}
-use Rattle.net_world.specs.Path.{all_but}
 
 module _ {X Y : Type 0} where
   pub none_at : (of : X → List Y) (xs : List X) (d : X) → ((i : ℕ) → i < length xs → of (get_or xs i d) ≡ []) → flat_map of xs ≡ []

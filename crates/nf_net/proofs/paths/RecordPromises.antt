@@ -1,35 +1,15 @@
 -- The live record of a unit that no share has is the fold of what was processed of it, and it stands at one instance.
-use Rattle.std.proofs.Common.{◌≡◌, ℕ, zero, suc, ◌<◌, ◌≤◌, true, false, Option, Some, None, List, [], ◌∷◌, ◌++◌, length, refl, sym, ap, ◌∙◌, arith}
-use Rattle.std.specs.Prelude.{if◌then◌else◌, ◌==◌, slice_get, option_to_list}
+use Rattle.nf_net.proofs.Words.{◌≡◌, ℕ, zero, suc, ◌<◌, ◌≤◌, true, false, Option, Some, None, List, [], ◌∷◌, ◌++◌, length, refl, sym, ap, ◌∙◌, arith}
+use Rattle.nf_net.proofs.Words.{if◌then◌else◌, ◌==◌, slice_get, option_to_list, Decides-eqb, slice_get_within, get_or_from_slice_get, Semantics, Msg, Note}
+use Rattle.nf_net.proofs.Words.{instance_node, Network, State, idle, Kept, Sys, World, Seeing, node_at, done_u, moves_of, Where, Config, Node, Switch}
+use Rattle.nf_net.proofs.Words.{Controller, IsInput, is_loose, arrived_of, live_in, live_at, is_sys, given, Given, WhereAll, Apart_from_shares, Under_share, S}
+use Rattle.nf_net.proofs.Words.{A, came_by, node_of, Joined}
 use Rattle.std.specs.FinMap as finite
-use Rattle.std.proofs.lemmas.Bool.Decides.{Decides-eqb}
-use Rattle.std.proofs.lemmas.Option.{slice_get_within, get_or_from_slice_get}
 use Rattle.nf_function.specs.declared.unit.Unit as units
-use Rattle.nf_function.specs.Semantics.{Semantics}
-use Rattle.nf_msgs.specs.declared.msg.Msg.{Msg}
-use Rattle.nf_msgs.specs.declared.note.Note.{Note}
-use Rattle.nf_msgs.specs.Nodes.{instance_node}
-use Rattle.actor_net.specs.Network.{Network}
-use Rattle.proof_machines.proofs.unit.Machine.{State, idle}
-use Rattle.proof_machines.proofs.unit.Kept.{Kept, Kept.Nowhere, Kept.Is_live, Kept.On_way, Kept.Twice, lives, on_way}
-use Rattle.proof_machines.proofs.net.Net.{Sys, World}
-use Rattle.proof_machines.proofs.net.Holding.{Seeing, node_at}
-use Rattle.proof_machines.proofs.net.Rest.{done_u}
+use Rattle.proof_machines.proofs.unit.Kept.{Kept.Nowhere, Kept.Is_live, Kept.On_way, Kept.Twice, lives, on_way}
 use Rattle.proof_machines.proofs.net.Readings.{fold, RecordOf, record_of}
-use Rattle.proof_machines.proofs.net.Shares.{moves_of}
-use Rattle.proof_machines.proofs.net.Units.{Where}
-use Rattle.net_world.specs.declared.config.Config.{Config}
-use Rattle.net_world.specs.declared.node.Node.{Node}
-use Rattle.net_world.specs.declared.node.Node.TheVariants.{Switch, Controller, Instance}
-use Rattle.net_world.specs.Input.{IsInput}
-use Rattle.net_world.specs.Places.{is_loose}
-use Rattle.net_world.specs.Fold.{arrived_of}
-use Rattle.net_world.specs.Records.{live_in, live_at}
-use Rattle.proof_outlines.proofs.outline.Outline.{is_sys}
-use Rattle.proof_outlines.proofs.joined.StartJoined.{given}
-use Rattle.proof_outlines.proofs.joined.Given.{Given}
-use Rattle.proof_machines.proofs.whole.WhereAll.{WhereAll, Apart_from_shares, Under_share}
-use Rattle.proof_outlines.proofs.joined.Joined.{S, A, came_by, Nodes, node_of, Joined}
+use Rattle.net_world.specs.declared.node.Node.TheVariants.{Instance}
+use Rattle.proof_outlines.proofs.joined.Joined.{Nodes}
 
 -- where the machine has a record of the unit
 data LivesAt {R : Type 0} (z : Seeing) (x : State R) (k : ℕ) (r : R) : Type 0 where
@@ -77,12 +57,8 @@ is_one o None (Some x) None (Empty e) = cc
 is_one o None (Some x) None (One r e l) = record { is_a = λ s q. cc; is_b = λ s q. ((let same : r ≡ s = cc in e ∙ ap Some same), refl, refl); is_c = λ s q. cc }
 is_one o None None (Some x) (Empty e) = cc
 is_one o None None (Some x) (One r e l) = record { is_a = λ s q. cc; is_b = λ s q. cc; is_c = λ s q. ((let same : r ≡ s = cc in e ∙ ap Some same), refl, refl) }
-is_one o (Some x) (Some y) c (Empty e) = cc
-is_one o (Some x) (Some y) c (One r e l) = cc
-is_one o (Some x) None (Some y) (Empty e) = cc
-is_one o (Some x) None (Some y) (One r e l) = cc
-is_one o None (Some x) (Some y) (Empty e) = cc
-is_one o None (Some x) (Some y) (One r e l) = cc
+is_one o a b c (Empty e) = cc
+is_one o a b c (One r e l) = cc
 
 pub instance_of : {F R : Type 0} (x : Nodes F R) (k : ℕ) → 2 ≤ k → node_of x k ≡ Instance (x.instance k)
 instance_of x zero two = absurd (omega (arith, two))

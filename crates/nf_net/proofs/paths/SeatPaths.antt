@@ -1,62 +1,28 @@
 -- What is under way of a unit that no share has is what waits at its seat, in the order of the seat.
-use Rattle.std.proofs.Common.{◌≡◌, ◌≢◌, ℕ, ◌+◌, ◌<◌, ◌≤◌, Bool, true, false, List, [], ◌∷◌, ◌++◌, map}
-use Rattle.std.proofs.Common.{length, refl, sym, ap, ◌∙◌, subst, append_assoc, append-nil, arith}
-use Rattle.std.specs.Prelude.{if◌then◌else◌, ◌==◌, ◌&&◌, ◌-◌, nat_lt, slice_get, None}
-use Rattle.std.specs.List.{filter, flat_map}
-use Rattle.std.proofs.lemmas.Bool.{ltb-false}
-use Rattle.std.proofs.lemmas.Bool.Decides.{nat_tests, Decides-ltb}
-use Rattle.std.proofs.lemmas.Option.{slice_get_past}
-use Rattle.std.proofs.lemmas.List.Elements.{filter-append}
-use Rattle.flow_filter.specs.declared.packet.Packet.{Packet}
+use Rattle.nf_net.proofs.Words.{◌≡◌, ◌≢◌, ℕ, ◌<◌, ◌≤◌, Bool, true, false, List, [], ◌∷◌, ◌++◌, map, length, refl, sym, ap, ◌∙◌, subst, append_assoc, append-nil}
+use Rattle.nf_net.proofs.Words.{arith, if◌then◌else◌, ◌==◌, ◌&&◌, ◌-◌, nat_lt, slice_get, filter, flat_map, ltb-false, nat_tests, Decides-ltb, slice_get_past}
+use Rattle.nf_net.proofs.Words.{filter-append, Packet, unit_at, same_unit-true, Target, is_there, instance_node, State, idle, nil_right, Each, firsts, same_of}
+use Rattle.nf_net.proofs.Words.{passes_in, events_in, expect, seat_shape, seat_all, seat_path, none_in, Seeing, node_at, side_place, same_done, seat_parts}
+use Rattle.nf_net.proofs.Words.{where_two, moves_of, packet_numbered, arrivals_in, installs_in, all_but, passed_in, forwarded_in, handed_over_in, diverted_in}
+use Rattle.nf_net.proofs.Words.{stored_by, queued_by, on_links, owner, is_loose, IsFront, is_of, arrived_of, processed_of, in_flight_of, unit_fits, target_node}
+use Rattle.nf_net.proofs.Words.{is_sys, unit_is_fit, Given, GenuinePacket, S, A, done_same, given, genuine}
+use Rattle.std.specs.Prelude.{None}
 use Rattle.flow_filter.specs.Flow.{flow_of}
 use Rattle.nf_function.specs.declared.unit.Unit as units
-use Rattle.nf_function.specs.Semantics.{Semantics, unit_at}
-use Rattle.record_table.proofs.UnitOrder.{same_unit-true}
-use Rattle.switch_rules.specs.declared.target.Target.{Target}
 use Rattle.switch_rules.specs.declared.target.Target.TheVariants as target
-use Rattle.switch_node.specs.Switch.{is_there}
-use Rattle.nf_msgs.specs.declared.msg.Msg.{Msg}
-use Rattle.nf_msgs.specs.declared.note.Note.{Note}
-use Rattle.nf_msgs.specs.Nodes.{instance_node}
-use Rattle.actor_net.specs.Network.{Network, IsWorld}
-use Rattle.proof_machines.proofs.unit.Machine.{State, idle}
-use Rattle.proof_machines.proofs.unit.UnitPieces.{nil_right}
-use Rattle.proof_machines.proofs.unit.Labels.{Each}
-use Rattle.proof_machines.proofs.unit.Lists.{firsts}
 use Rattle.proof_machines.proofs.unit.Stages as stages
-use Rattle.proof_machines.proofs.unit.Ends.{same_of}
-use Rattle.proof_machines.proofs.unit.Path.{passes_in, carries, events_in, forwards}
-use Rattle.proof_machines.proofs.unit.Pairs.{expect}
-use Rattle.proof_machines.proofs.unit.Seats.{seat_shape, seat_all, seat_path}
+use Rattle.proof_machines.proofs.unit.Path.{carries, forwards}
 use Rattle.proof_machines.proofs.unit.Sides.{at_side, places, Last, At_source, At_destination, At_third, SidesStand, seat_stands, Empty, empty_of}
-use Rattle.proof_machines.proofs.unit.Loose.{none_in}
-use Rattle.proof_machines.proofs.net.Holding.{Seeing, node_at, place as side_place}
-use Rattle.proof_machines.proofs.net.RestingSeats.{same_done}
-use Rattle.proof_machines.proofs.net.Readings.{seat_parts}
-use Rattle.proof_machines.proofs.net.Elsewhere.{where_two}
-use Rattle.proof_machines.proofs.net.Shares.{moves_of}
-use Rattle.proof_machines.proofs.net.Untaken.{Untaken}
 use Rattle.proof_machines.proofs.net.Units.{see}
-use Rattle.net_world.specs.declared.config.Config.{Config}
-use Rattle.net_world.specs.declared.node.Node.{Node}
-use Rattle.net_world.specs.Input.{packets, packet_numbered, IsInput}
-use Rattle.net_world.specs.Log.{arrivals_in, installs_in}
-use Rattle.net_world.specs.Path.{all_but, passed_in, forwarded_in, handed_over_in, diverted_in, stored_by, queued_by, on_links, at_instance}
-use Rattle.net_world.specs.Places.{owner, is_loose}
-use Rattle.net_world.specs.Fold.{IsFront, is_of, arrived_of, processed_of, in_flight_of}
-use Rattle.proof_outlines.proofs.outline.FiltersApart.{unit_fits}
-use Rattle.proof_outlines.proofs.whole.SwitchAll.{target_node}
-use Rattle.proof_outlines.proofs.outline.Outline.{is_sys}
-use Rattle.proof_outlines.proofs.joined.OwnerLemmas.{unit_is_fit}
-use Rattle.proof_outlines.proofs.joined.Given.{Given, target_by}
+use Rattle.net_world.specs.Input.{packets}
+use Rattle.net_world.specs.Path.{at_instance}
+use Rattle.proof_outlines.proofs.joined.Given.{target_by}
 use Rattle.proof_outlines.proofs.joined.HandedUnits.{owner_at}
-use Rattle.proof_outlines.proofs.joined.Joined.{GenuinePacket, S, A, Joined}
 use Rattle.nf_net.proofs.paths.PathPlaces.{passes_are, forwards_are, events_are, diverted_are}
-use Rattle.nf_net.proofs.paths.PathSeats.{AsMoves, Seated, seated, stands_at}
+use Rattle.nf_net.proofs.paths.PathSeats.{Seated, seated, stands_at}
 use Rattle.nf_net.proofs.paths.PathStores.{store_is, queue_is}
 use Rattle.nf_net.proofs.paths.PathSums.{those-but, but_none, but_one}
-use Rattle.proof_outlines.proofs.joined.RunsJoined.{done_same}
-use Rattle.proof_outlines.proofs.joined.StartJoined.{given, genuine}
+use Rattle.nf_net.proofs.paths.Reached.{Reached, IsApart, AsMoves}
 
 -- of three lists each is empty
 three_nil : (a b c : Bool) (xs ys zs : List ℕ) → xs ≡ [] → ys ≡ [] → zs ≡ [] → (if a then xs else if b then ys else if c then zs else []) ≡ []
@@ -77,10 +43,10 @@ those-places mine p q r s t v x y =
     ∙ ap (λ l. filter mine t ++ l) (filter-append mine v (x ++ y)
     ∙ ap (λ l. filter mine v ++ l) (filter-append mine x y))))))
 
-module _ {F R : Type 0} (f : Semantics R) (c : Config) (items : List Msg) (is : IsInput f.kind c items) (n : ℕ) (count : n ≡ length c.names + 2)
-    (w : Network (Node F R) Msg Note) (nodes : length w.nodes ≡ n) (j : Joined f (given f c items is) n w) (world : IsWorld w)
-    (in_turn : IsFront (arrivals_in w.log) (map (λ p. p.number) (packets items))) (u : units.Unit) (at : AsMoves f c items is n count w nodes j u)
-    (apart : Untaken (S f (given f c items is)) u (A f (given f c items is)) j.world) where
+module _ {F R : Type 0} (here : Reached F R) (in_turn : IsFront (arrivals_in here.w.log) (map (λ p. p.number) (packets here.items))) (u : units.Unit)
+    (at : AsMoves here u) (apart : IsApart here u) where
+  open here use {f, c, items, is, n, count, w, nodes, j}
+
   abbrev g : Given
   g = given f c items is
 
@@ -90,8 +56,8 @@ module _ {F R : Type 0} (f : Semantics R) (c : Config) (items : List Msg) (is : 
   abbrev i0 : ℕ
   i0 = owner c items u w.log
 
-  abbrev k : Seated f c items is n count w nodes j u
-  k = seated f c items is n count w nodes j u at
+  abbrev k : Seated here u
+  k = seated here u at
 
   abbrev x : State R
   x = seat_shape (S f g).F k.seat
@@ -168,7 +134,7 @@ module _ {F R : Type 0} (f : Semantics R) (c : Config) (items : List Msg) (is : 
       ]
 
   inside : (i : ℕ) → instance_node i < n → filter mine (at_instance w i) ≡ at_one (instance_node i)
-  inside i few = stands_at f c items is n count w nodes j world u apart k.op k.third x k.holds (instance_node i) (omega arith) few ∙ side_is (instance_node i)
+  inside i few = stands_at here u apart k.op k.third x k.holds (instance_node i) (omega arith) few ∙ side_is (instance_node i)
 
   outside : (i : ℕ) → n ≤ instance_node i → filter mine (at_instance w i) ≡ []
   outside i far =
@@ -184,8 +150,8 @@ module _ {F R : Type 0} (f : Semantics R) (c : Config) (items : List Msg) (is : 
 
   -- and nothing of it is with a share
   none_shared : filter mine (flat_map queued_by w.nodes) ++ filter mine (on_links w diverted_in) ≡ []
-  none_shared = ap (λ v. v ++ filter mine (on_links w diverted_in)) (queue_is f c items is n count w nodes j u apart k.op k.third x k.holds)
-      ∙ diverted_are f c items is n count w nodes j world u apart k.op k.third x k.holds
+  none_shared = ap (λ v. v ++ filter mine (on_links w diverted_in)) (queue_is here u apart k.op k.third x k.holds)
+      ∙ diverted_are here u apart k.op k.third x k.holds
 
   placed : (last : List ℕ) → Ends last → way ≡ places x last → in_flight_of f c items u w ≡ way
   placed last ends e =
@@ -196,16 +162,16 @@ module _ {F R : Type 0} (f : Semantics R) (c : Config) (items : List Msg) (is : 
       (ap (λ v. filter mine (at_instance w i0) ++ v) none_shared ∙ append-nil (filter mine (at_instance w i0)))
       ∙ ap (λ v. v ++ (filter mine (on_links w forwarded_in) ++ (filter mine (flat_map stored_by w.nodes)
       ++ (filter mine (on_links w handed_over_in) ++ (filter mine (all_but i0 (at_instance w) (length c.names)) ++ filter mine (at_instance w i0))))))
-      (passes_are f c items is n count w nodes j world u apart k.op k.third x k.holds stands.third stands.handed k.passes_a k.passes_b)
+      (passes_are here u apart k.op k.third x k.holds stands.third stands.handed k.passes_a k.passes_b)
       ∙ ap (λ v. (passes_in x.sa ++ passes_in x.sb) ++ (v ++ (filter mine (flat_map stored_by w.nodes)
       ++ (filter mine (on_links w handed_over_in) ++ (filter mine (all_but i0 (at_instance w) (length c.names)) ++ filter mine (at_instance w i0))))))
-      (forwards_are f c items is n count w nodes j world u apart k.op k.third x k.holds stands.known)
+      (forwards_are here u apart k.op k.third x k.holds stands.known)
       ∙ ap (λ v. (passes_in x.sa ++ passes_in x.sb) ++ (forwards x.cs
       ++ (v ++ (filter mine (on_links w handed_over_in) ++ (filter mine (all_but i0 (at_instance w) (length c.names)) ++ filter mine (at_instance w i0))))))
-      (store_is f c items is n count w nodes j u apart k.op k.third x k.holds stands.released)
+      (store_is here u apart k.op k.third x k.holds stands.released)
       ∙ ap (λ v. (passes_in x.sa ++ passes_in x.sb)
       ++ (forwards x.cs ++ (x.store ++ (v ++ (filter mine (all_but i0 (at_instance w) (length c.names)) ++ filter mine (at_instance w i0))))))
-      (events_are f c items is n count w nodes j world u apart k.op k.third x k.holds stands.events_b stands.events_c k.events_a)
+      (events_are here u apart k.op k.third x k.holds stands.events_b stands.events_c k.events_a)
       ∙ ap (λ v. (passes_in x.sa ++ passes_in x.sb) ++ (forwards x.cs ++ (x.store ++ (events_in x.ac ++ v)))) ends.joins
       ∙ append_assoc (passes_in x.sa) (passes_in x.sb) (forwards x.cs ++ (x.store ++ (events_in x.ac ++ last)))
       ∙ sym e

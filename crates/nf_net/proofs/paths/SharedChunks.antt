@@ -1,67 +1,34 @@
 -- No chunk on its way is one of a unit under a share. A record that a member gives, or that the home is told to take, is one of the unit where the unit
 -- sees it so.
-use Rattle.std.proofs.Common.{◌≡◌, ◌≢◌, ℕ, zero, suc, ◌+◌, ◌<◌, Bool, true, false, Option, Some, None}
-use Rattle.std.proofs.Common.{List, [], ◌∷◌, ◌++◌, map, length, refl, sym, ap, ◌∙◌, subst, arith}
-use Rattle.std.specs.Prelude.{if◌then◌else◌, ◌==◌, ◌&&◌, ◌||◌, is_some, option_map, option_to_list}
-use Rattle.std.specs.List.{filter_map, flat_map}
+use Rattle.nf_net.proofs.Words.{◌≡◌, ◌≢◌, ℕ, zero, suc, ◌<◌, Bool, true, false, Option, Some, None, List, [], ◌∷◌, ◌++◌, map, refl, sym, ap, ◌∙◌, subst, arith}
+use Rattle.nf_net.proofs.Words.{if◌then◌else◌, ◌==◌, ◌&&◌, ◌||◌, is_some, option_map, option_to_list, filter_map, flat_map, list_any-append, or_right, or_left}
+use Rattle.nf_net.proofs.Words.{RealChunk, Semantics, same_unit, is_among, stored_of, Order, Msg, units_in, Operation, Move, Copy, Share, on_link, EachOn}
+use Rattle.nf_net.proofs.Words.{Frame, record_at, where_true, add, M_fenced, M_install, M_fence_to, see_phase, View, Open, MoveAsked, find_op, each_found}
+use Rattle.nf_net.proofs.Words.{frame, RestOp, share_seen, share_expect, Any, New, WantShare, ShareMsg, Shared_on, S_asked, S_install, S_sync, S_shared}
+use Rattle.nf_net.proofs.Words.{SeeingShare, seeing, Node, Switch, on_links, chunks_in, kept_for, kept_by, spelled_of, Sees, units_same, entries, want_of}
+use Rattle.nf_net.proofs.Words.{but_shares, asked_of, want_share_of, Given, place, S, A, shown, Label, node_of, given}
 use Rattle.std.specs.FinMap as finite
-use Rattle.std.proofs.lemmas.Bool.Decides.{nat_tests}
-use Rattle.std.proofs.lemmas.List.Folds.{list_any-append}
-use Rattle.std.proofs.lemmas.Bool.{or_right, or_left}
-use Rattle.nf_function.specs.declared.chunk.Chunk.{Chunk as RealChunk}
 use Rattle.nf_function.specs.declared.unit.Unit as units
-use Rattle.nf_function.specs.Semantics.{Semantics}
-use Rattle.record_table.specs.Table.{same_unit, is_among}
 use Rattle.event_filter.specs.declared.mark.Mark.TheVariants as mark
-use Rattle.event_store.specs.Store.{stored_of}
 use Rattle.switch_rules.specs.declared.target.Target.TheVariants as target
-use Rattle.nf_msgs.specs.declared.command.Order.{Order}
 use Rattle.nf_msgs.specs.declared.command.Order.TheVariants as order
-use Rattle.nf_msgs.specs.declared.msg.Msg.{Msg}
 use Rattle.nf_msgs.specs.declared.msg.Msg.TheVariants as msg
-use Rattle.nf_msgs.specs.declared.note.Note.{Note}
-use Rattle.nf_msgs.specs.Exports.{units_in}
-use Rattle.ctrl_node.specs.declared.operation.Operation.{Operation}
-use Rattle.ctrl_node.specs.declared.operation.Operation.TheVariants.{Move, Copy, Share}
-use Rattle.actor_net.specs.Network.{Network, IsWorld, on_link}
-use Rattle.actor_net.proofs.WeightLaws.{Each as EachOn}
-use Rattle.proof_machines.proofs.unit.Real.{Frame, record_at, chunk_unit, where_true, add, M_fenced, M_install, M_fence_to, see_phase}
+use Rattle.proof_machines.proofs.unit.Real.{chunk_unit}
 use Rattle.proof_machines.proofs.share.Share.{Item, Item.Carry, Item.Fence, Item.Shared, Item.Diverted, Item.Install, Item.Forward}
 use Rattle.proof_machines.proofs.share.Share.{Item.Get, Item.Sync, Item.Fenced, Item.Chunks, Item.Chunk, Item.Synced, Item.Stray}
-use Rattle.proof_machines.proofs.share.Share.{View}
 use Rattle.proof_machines.proofs.net.Net as net
-use Rattle.proof_machines.proofs.net.Net.{Open, MoveAsked, find_op}
-use Rattle.proof_machines.proofs.net.Ctrl.{each_found}
-use Rattle.proof_machines.proofs.net.Holding.{frame}
-use Rattle.proof_machines.proofs.net.Rest.{RestOp}
-use Rattle.proof_machines.proofs.net.ShareViews.{share_seen, share_expect}
-use Rattle.proof_machines.proofs.net.Shares.{Any, Old, New, WantShare, ShareMsg, Shared_on, Diverted_on, S_asked, S_install}
-use Rattle.proof_machines.proofs.net.Shares.{S_forward, S_get, S_sync, S_chunks, S_shared, S_synced, SeeingShare}
-use Rattle.proof_machines.proofs.net.Under.{Under}
-use Rattle.proof_machines.proofs.net.UnderStarts.{seeing}
-use Rattle.net_world.specs.declared.config.Config.{Config}
-use Rattle.net_world.specs.declared.node.Node.{Node}
-use Rattle.net_world.specs.declared.node.Node.TheVariants.{Switch}
-use Rattle.net_world.specs.Input.{IsInput}
-use Rattle.net_world.specs.Path.{on_links}
-use Rattle.net_world.specs.Records.{chunks_in, kept_for, kept_by, spelled_of}
+use Rattle.proof_machines.proofs.net.Shares.{Old, Diverted_on}
+use Rattle.proof_machines.proofs.net.Shares.{S_forward, S_get, S_chunks, S_synced}
 use Rattle.net_world.specs.Records as records
-use Rattle.proof_outlines.proofs.outline.ControlOutline.{Sees}
-use Rattle.proof_outlines.proofs.outline.MoveOutline.{units_same}
-use Rattle.proof_outlines.proofs.outline.Outline.{entries, want_of}
-use Rattle.proof_outlines.proofs.whole.OpenShares.{but_shares}
-use Rattle.proof_outlines.proofs.whole.WholeOutline.{asked_of, want_share_of}
-use Rattle.proof_outlines.proofs.joined.Given.{Given, place}
-use Rattle.proof_outlines.proofs.joined.Joined.{S, A, shown, Label, Joined, node_of}
-use Rattle.proof_outlines.proofs.joined.StartJoined.{given}
 use Rattle.nf_net.proofs.paths.ChunkLemmas.{as_spelled, spelled-append, spelled-all, good_spelled, good_units}
 use Rattle.nf_net.proofs.paths.ChunkPlaces.{phase_spelled, none_kept}
 use Rattle.nf_net.proofs.paths.ChunkSums.{kept_records}
 use Rattle.nf_net.proofs.paths.PathNodes.{map_of}
-use Rattle.nf_net.proofs.paths.PathSeats.{labels, loop_is}
+use Rattle.nf_net.proofs.paths.PathSeats.{labels, on_each}
 use Rattle.nf_net.proofs.paths.PathSums.{one_at, no_link}
 use Rattle.nf_net.proofs.paths.SharedLinks.{item_of, IsKnown, AreKnown, first_known, view, seen_more}
 use Rattle.nf_net.proofs.paths.SharedPlaces.{v, link_known, link_view}
+use Rattle.nf_net.proofs.paths.Reached.{Reached, IsUnder}
 
 module _ {R : Type 0} (f : Semantics R) (g : Given) (z : SeeingShare) where
   abbrev u : units.Unit
@@ -233,10 +200,9 @@ module _ {R : Type 0} (f : Semantics R) (g : Given) (z : SeeingShare) where
           by_source (Takes n home cs same own) = real_takes s r m l n home cs kept (is ∙ ap Some same) cc
 
 -- In a world.
-module _ {F R : Type 0} (f : Semantics R) (c : Config) (items : List Msg) (is : IsInput f.kind c items) (n : ℕ) (count : n ≡ length c.names + 2)
-    (w : Network (Node F R) Msg Note) (nodes : length w.nodes ≡ n) (j : Joined f (given f c items is) n w) (world : IsWorld w)
-    (u : units.Unit) (x : WantShare) (before since : List ℕ) (k : Under (S f (given f c items is)) (A f (given f c items is))
-    (seeing (S f (given f c items is)) (A f (given f c items is)) u x) j.world before since) where
+module _ {F R : Type 0} (here : Reached F R) (u : units.Unit) (x : WantShare) (before since : List ℕ) (k : IsUnder here u x before since) where
+  open here use {f, c, items, is, n, count, w, nodes, j, world}
+
   abbrev g : Given
   g = given f c items is
 
@@ -244,15 +210,15 @@ module _ {F R : Type 0} (f : Semantics R) (c : Config) (items : List Msg) (is : 
   z = seeing (S f g) (A f g) u x
 
   abbrev its_view : View R
-  its_view = v f c items is n count w nodes j world u x before since k
+  its_view = v here u x before since k
 
   -- a record that a member gives, and one that the home is to take
   module _ (s r : ℕ) (hs : s < n) (hr : r < n) (off : (s == 0) && (r == 0) ≡ false) (kept : R) where
     on_labels : EachOn (Label f g s r) (on_link w s r)
-    on_labels = labels f c items is n count w nodes j world s r hs hr off
+    on_labels = labels here s r hs hr off
 
     shows : (it : Item R) → share_expect its_view s r ≡ it ∷ [] → view f g z k.covered r (on_link w s r) ≡ it ∷ []
-    shows it e = link_view f c items is n count w nodes j world u x before since k s r hs hr off ∙ e
+    shows it e = link_view here u x before since k s r hs hr off ∙ e
 
     pub given_on : share_expect its_view s r ≡ Chunk (Some kept) ∷ [] → is_among (flat_map records.shared_in (on_link w s r)) u ≡ true
     given_on e =
@@ -273,14 +239,8 @@ module _ {F R : Type 0} (f : Semantics R) (c : Config) (items : List Msg) (is : 
       spelled-append f u (chunks_in m) (flat_map chunks_in ms) ∙ rw (one, rest) refl
 
   on_none : (s r : ℕ) → s < n → r < n → spelled_of f u (flat_map chunks_in (on_link w s r)) ≡ []
-  on_none s r hs hr = elim ((s == 0) && (r == 0)) as (λ t. (s == 0) && (r == 0) ≡ t → spelled_of f u (flat_map chunks_in (on_link w s r)) ≡ []) [
-    | true ↦ λ both.
-        let zs : s ≡ 0 = grind (arith, nat_tests) in
-        let zr : r ≡ 0 = grind (arith, nat_tests) in
-        ap (λ y. spelled_of f u (flat_map chunks_in y)) (ap (λ y. on_link w y r) zs ∙ ap (λ y. on_link w 0 y) zr ∙ loop_is f c items is n count w nodes j world)
-    | false ↦ λ off. none_on_link s r (on_link w s r) (labels f c items is n count w nodes j world s r hs hr off)
-        (link_known f c items is n count w nodes j world u x before since k s r hs hr off)
-  ] refl
+  on_none s r hs hr = on_each here (λ ms. spelled_of f u (flat_map chunks_in ms) ≡ []) refl s r
+      (λ off. none_on_link s r (on_link w s r) (labels here s r hs hr off) (link_known here u x before since k s r hs hr off))
 
   abbrev got : ℕ → Option Operation
   got q = finite.get j.nodes.controller.operations q

@@ -1,43 +1,24 @@
 -- What a unit under a share sees of a link is its packets there: the share's packet on its way to a member, plain ones to the home, those that the
 -- controller hands on, and those that are diverted. Events have none of it.
-use Rattle.std.proofs.Common.{◌≡◌, ℕ, Bool, true, false, Option, Some, None, List, [], ◌∷◌, ◌++◌, refl, sym, ap, ◌∙◌, append-nil}
-use Rattle.std.proofs.lemmas.List.Elements.{filter-append}
-use Rattle.std.specs.Prelude.{if◌then◌else◌, ◌==◌, option_map}
-use Rattle.std.specs.List.{cons_option, filter, filter_map, flat_map}
-use Rattle.flow_filter.specs.declared.filter.Filter.{Filter}
-use Rattle.nf_function.specs.declared.chunk.Chunk.{Chunk as RealChunk}
+use Rattle.nf_net.proofs.Words.{◌≡◌, ℕ, Bool, true, false, Option, Some, None, List, [], ◌∷◌, ◌++◌, refl, sym, ap, ◌∙◌, append-nil, filter-append}
+use Rattle.nf_net.proofs.Words.{if◌then◌else◌, ◌==◌, option_map, cons_option, filter, filter_map, flat_map, Filter, RealChunk, Semantics, spelled}
+use Rattle.nf_net.proofs.Words.{same_unit-true, FullCell, Target, Command, Order, Msg, instance_node, record_at, where_true, add, UnitShare, forwarded}
+use Rattle.nf_net.proofs.Words.{diverted, MoveAsked, NothingOf, ShareLabel, unit_share, share_seen, share_items, Any, New, WantShare, S_asked, S_shared}
+use Rattle.nf_net.proofs.Words.{EachNew, olds, same, SeeingShare, passed_in, carried_in, handed_over_in, number, entries, want_of, asked_of, want_share_of}
+use Rattle.nf_net.proofs.Words.{Given, place, S, A, shown, Label}
 use Rattle.nf_function.specs.declared.unit.Unit as units
-use Rattle.nf_function.specs.Semantics.{Semantics}
-use Rattle.record_table.specs.Chunks.{spelled}
-use Rattle.record_table.proofs.UnitOrder.{same_unit-true}
 use Rattle.event_filter.specs.declared.mark.Mark.TheVariants as mark
-use Rattle.packet_pool.specs.Pool.{FullCell}
-use Rattle.switch_rules.specs.declared.target.Target.{Target}
 use Rattle.switch_rules.specs.declared.target.Target.TheVariants as target
-use Rattle.nf_msgs.specs.declared.command.Command.{Command}
-use Rattle.nf_msgs.specs.declared.command.Order.{Order}
 use Rattle.nf_msgs.specs.declared.command.Order.TheVariants as order
-use Rattle.nf_msgs.specs.declared.msg.Msg.{Msg}
 use Rattle.nf_msgs.specs.declared.msg.Msg.TheVariants as msg
-use Rattle.nf_msgs.specs.Nodes.{instance_node}
 use Rattle.actor_net.proofs.WeightLaws.{Each}
 use Rattle.proof_machines.proofs.unit.Labels as labels
-use Rattle.proof_machines.proofs.unit.Real.{record_at, where_true, add}
 use Rattle.proof_machines.proofs.share.Share.{Item, Item.Carry, Item.Fence, Item.Shared, Item.Diverted, Item.Install, Item.Forward, Item.Get}
-use Rattle.proof_machines.proofs.share.Share.{Item.Sync, Item.Fenced, Item.Chunks, Item.Chunk, Item.Synced, Item.Stray, UnitShare, if_mine}
-use Rattle.proof_machines.proofs.share.Path.{carries, shared_in, forwarded, diverted}
+use Rattle.proof_machines.proofs.share.Share.{Item.Sync, Item.Fenced, Item.Chunks, Item.Chunk, Item.Synced, Item.Stray, if_mine}
+use Rattle.proof_machines.proofs.share.Path.{carries, shared_in}
 use Rattle.proof_machines.proofs.net.Net as net
-use Rattle.proof_machines.proofs.net.Net.{MoveAsked}
-use Rattle.proof_machines.proofs.net.Rest.{NothingOf}
-use Rattle.proof_machines.proofs.net.ShareLabels.{ShareLabel}
-use Rattle.proof_machines.proofs.net.ShareViews.{unit_share, share_seen, share_items}
-use Rattle.proof_machines.proofs.net.Shares.{Any, Old, New, WantShare, S_asked, S_shared, EachNew, olds, same, SeeingShare}
-use Rattle.net_world.specs.Path.{passed_in, carried_in, handed_over_in}
+use Rattle.proof_machines.proofs.net.Shares.{Old}
 use Rattle.net_world.specs.Path as path
-use Rattle.proof_outlines.proofs.outline.Outline.{number, entries, want_of}
-use Rattle.proof_outlines.proofs.whole.WholeOutline.{asked_of, want_share_of}
-use Rattle.proof_outlines.proofs.joined.Given.{Given, place}
-use Rattle.proof_outlines.proofs.joined.Joined.{S, A, shown, Label}
 
 -- an item that is seen, or not, before others
 module _ {R : Type 0} (h : UnitShare R) where

@@ -1,29 +1,10 @@
 -- The members of an open share are among the nodes, and a share that a unit is under, as the controller has it. And what is told
 -- of the log: the home of such a share owns the unit.
-use Rattle.std.proofs.Common.{◌≡◌, ℕ, ◌+◌, ◌<◌, true, false, Some, List, [], ◌∷◌, map, length, refl, sym, ap, ◌∙◌, arith}
-use Rattle.std.specs.Prelude.{if◌then◌else◌, ◌==◌, nat_lt}
-use Rattle.std.proofs.lemmas.Bool.Decides.{Decides-eqb, Decides-ltb}
+use Rattle.nf_net.proofs.Words.{◌≡◌, ℕ, ◌+◌, ◌<◌, true, false, Some, List, [], ◌∷◌, map, length, refl, sym, ap, ◌∙◌, arith, if◌then◌else◌, ◌==◌, nat_lt}
+use Rattle.nf_net.proofs.Words.{Decides-eqb, Decides-ltb, Semantics, Msg, Note, instance_node, Network, Each, View, has, shape, unit_share, as_share, WantShare}
+use Rattle.nf_net.proofs.Words.{OpenShare, find_share, SeeingShare, Under, seeing, Config, Node, IsInput, owner, real_share, RealShare, Given, place, S, A}
+use Rattle.nf_net.proofs.Words.{Joined, given}
 use Rattle.nf_function.specs.declared.unit.Unit as units
-use Rattle.nf_function.specs.Semantics.{Semantics}
-use Rattle.nf_msgs.specs.declared.msg.Msg.{Msg}
-use Rattle.nf_msgs.specs.declared.note.Note.{Note}
-use Rattle.nf_msgs.specs.Nodes.{instance_node}
-use Rattle.actor_net.specs.Network.{Network}
-use Rattle.proof_machines.proofs.unit.Labels.{Each}
-use Rattle.proof_machines.proofs.share.Share.{View, has}
-use Rattle.proof_machines.proofs.share.Stages.{shape}
-use Rattle.proof_machines.proofs.net.ShareViews.{unit_share, as_share}
-use Rattle.proof_machines.proofs.net.Shares.{WantShare, OpenShare, find_share, SeeingShare}
-use Rattle.proof_machines.proofs.net.Under.{Under}
-use Rattle.proof_machines.proofs.net.UnderStarts.{seeing}
-use Rattle.net_world.specs.declared.config.Config.{Config}
-use Rattle.net_world.specs.declared.node.Node.{Node}
-use Rattle.net_world.specs.Input.{IsInput}
-use Rattle.net_world.specs.Places.{owner}
-use Rattle.proof_outlines.proofs.whole.OpenShares.{real_share, RealShare}
-use Rattle.proof_outlines.proofs.joined.Given.{Given, place}
-use Rattle.proof_outlines.proofs.joined.Joined.{S, A, Joined}
-use Rattle.proof_outlines.proofs.joined.StartJoined.{given}
 
 -- members of a share are instances that are there
 few_nodes : (count : ℕ) (xs : List ℕ) → Each (λ x. nat_lt x count ≡ true) xs → (k : ℕ) → has (map instance_node xs) k ≡ true → k < count + 2

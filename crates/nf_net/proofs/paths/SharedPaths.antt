@@ -1,44 +1,27 @@
 -- What is under way of a unit under a share is what waits at its stage, in the order of the stage.
-use Rattle.std.proofs.Common.{◌≡◌, ℕ, ◌+◌, ◌<◌, Bool, List, [], ◌++◌, length, refl, sym, ap, ◌∙◌, subst, arith}
-use Rattle.std.specs.List.{filter, flat_map}
+use Rattle.nf_net.proofs.Words.{◌≡◌, ℕ, ◌<◌, Bool, List, [], ◌++◌, length, refl, sym, ap, ◌∙◌, subst, arith, filter, flat_map, instance_node, done_u, as_share}
+use Rattle.nf_net.proofs.Words.{WantShare, seeing, all_but, passed_in, forwarded_in, handed_over_in, diverted_in, stored_by, queued_by, on_links, owner}
+use Rattle.nf_net.proofs.Words.{processed_of, in_flight_of, Given, S, A, done_same, given}
 use Rattle.nf_function.specs.declared.unit.Unit as units
-use Rattle.nf_function.specs.Semantics.{Semantics}
-use Rattle.nf_msgs.specs.declared.msg.Msg.{Msg}
-use Rattle.nf_msgs.specs.declared.note.Note.{Note}
-use Rattle.nf_msgs.specs.Nodes.{instance_node}
-use Rattle.actor_net.specs.Network.{Network, IsWorld}
 use Rattle.proof_machines.proofs.share.Stages.{path as stage_path}
 use Rattle.proof_machines.proofs.share.Path.{carries}
-use Rattle.proof_machines.proofs.net.Rest.{done_u}
-use Rattle.proof_machines.proofs.net.ShareViews.{as_share}
-use Rattle.proof_machines.proofs.net.Shares.{WantShare}
-use Rattle.proof_machines.proofs.net.Under.{Under}
-use Rattle.proof_machines.proofs.net.UnderStarts.{seeing}
 use Rattle.proof_machines.proofs.net.UnderReadings.{under_order}
-use Rattle.net_world.specs.declared.config.Config.{Config}
-use Rattle.net_world.specs.declared.node.Node.{Node}
-use Rattle.net_world.specs.Input.{IsInput}
-use Rattle.net_world.specs.Path.{all_but, passed_in, forwarded_in, handed_over_in, diverted_in, stored_by, queued_by, on_links, at_instance}
-use Rattle.net_world.specs.Places.{owner}
-use Rattle.net_world.specs.Fold.{processed_of, in_flight_of}
-use Rattle.proof_outlines.proofs.joined.Given.{Given}
-use Rattle.proof_outlines.proofs.joined.Joined.{S, A, Joined}
-use Rattle.proof_outlines.proofs.joined.RunsJoined.{done_same}
-use Rattle.proof_outlines.proofs.joined.StartJoined.{given}
+use Rattle.net_world.specs.Path.{at_instance}
 use Rattle.nf_net.proofs.paths.PathSums.{those-but, but_none}
 use Rattle.nf_net.proofs.paths.SeatPaths.{those-places}
-use Rattle.nf_net.proofs.paths.SharedOwners.{HomesOwn, members_few}
+use Rattle.nf_net.proofs.paths.SharedOwners.{members_few}
 use Rattle.nf_net.proofs.paths.SharedPlaces.{fr, v, its_places, passed_are, forwards_are, diverts_are, events_are, store_is, queue_is, stands_is}
+use Rattle.nf_net.proofs.paths.Reached.{Reached, IsUnder, HomesTold}
 
-module _ {F R : Type 0} (f : Semantics R) (c : Config) (items : List Msg) (is : IsInput f.kind c items) (n : ℕ) (count : n ≡ length c.names + 2)
-    (w : Network (Node F R) Msg Note) (nodes : length w.nodes ≡ n) (j : Joined f (given f c items is) n w) (world : IsWorld w)
-    (told : HomesOwn f c items is n count w j) (u : units.Unit) (x : WantShare) (before since : List ℕ) (k : Under (S f (given f c items is))
-    (A f (given f c items is)) (seeing (S f (given f c items is)) (A f (given f c items is)) u x) j.world before since) where
+module _ {F R : Type 0} (here : Reached F R) (told : HomesTold here) (u : units.Unit) (x : WantShare) (before since : List ℕ)
+    (k : IsUnder here u x before since) where
+  open here use {f, c, items, is, n, count, w, nodes, j, world}
+
   abbrev g : Given
   g = given f c items is
 
   abbrev mine : ℕ → Bool
-  mine = (fr f c items is n count w nodes j world u x before since k).mine
+  mine = (fr here u x before since k).mine
 
   abbrev i0 : ℕ
   i0 = owner c items u w.log
@@ -51,7 +34,7 @@ module _ {F R : Type 0} (f : Semantics R) (c : Config) (items : List Msg) (is : 
 
   home_few : instance_node i0 < n
   home_few = subst (λ m. m < n) (sym home_is) (members_few f c items is n count w j (as_share (S f g) (A f g) (seeing (S f g) (A f g) u x)
-      (v f c items is n count w nodes j world u x before since k).phase (v f c items is n count w nodes j world u x before since k).queue)
+      (v here u x before since k).phase (v here u x before since k).queue)
       k.holds.share x.home k.is.home_in)
 
   -- nothing stands at an instance but the home
@@ -59,32 +42,31 @@ module _ {F R : Type 0} (f : Semantics R) (c : Config) (items : List Msg) (is : 
   others_none =
       those-but mine i0 (at_instance w) (length c.names)
       ∙ but_none i0 (λ i. filter mine (at_instance w i)) (length c.names)
-      (λ i small off. stands_is f c items is n count w nodes j world u x before since k (instance_node i) (omega arith) (few_of i small) ∙ (its_places f c
-      items is n count w nodes j world u x before since k).plain (instance_node i) (λ same. off (let both = same ∙ sym home_is in omega (arith, both))))
+      (λ i small off. stands_is here u x before since k (instance_node i) (omega arith) (few_of i small)
+      ∙ (its_places here u x before since k).plain (instance_node i) (λ same. off (let both = same ∙ sym home_is in omega (arith, both))))
 
-  at_home : filter mine (at_instance w i0) ≡ carries ((v f c items is n count w nodes j world u x before since k).sw x.home)
-  at_home = stands_is f c items is n count w nodes j world u x before since k (instance_node i0) (omega arith) home_few
-      ∙ ap (λ m. carries ((v f c items is n count w nodes j world u x before since k).sw m)) home_is
+  at_home : filter mine (at_instance w i0) ≡ carries ((v here u x before since k).sw x.home)
+  at_home = stands_is here u x before since k (instance_node i0) (omega arith) home_few ∙ ap (λ m. carries ((v here u x before since k).sw m)) home_is
 
   -- six lists in order, of which some are empty
   joined_so : (a b q r s t o p a' b' t' o' p' : List ℕ) → a ≡ a' → b ≡ b' → q ≡ [] → r ≡ [] → s ≡ [] → t ≡ t' → o ≡ o' → p ≡ p'
       → a ++ (b ++ (q ++ (r ++ (s ++ (t ++ (o ++ p)))))) ≡ a' ++ (b' ++ (t' ++ (o' ++ p')))
   joined_so a b q r s t o p a' b' t' o' p' ha hb hq hr hs ht ho hp = rw (ha, hb, hq, hr, hs, ht, ho, hp) refl
 
-  path_is : in_flight_of f c items u w ≡ stage_path (fr f c items is n count w nodes j world u x before since k) k.stage
+  path_is : in_flight_of f c items u w ≡ stage_path (fr here u x before since k) k.stage
   path_is =
       those-places mine (on_links w passed_in) (on_links w forwarded_in) (flat_map stored_by w.nodes) (on_links w handed_over_in)
       (all_but i0 (at_instance w) (length c.names)) (at_instance w i0) (flat_map queued_by w.nodes) (on_links w diverted_in)
       ∙ joined_so _ _ _ _ _ _ _ _ _ _ _ _ _
-      (passed_are f c items is n count w nodes j world u x before since k)
-      (forwards_are f c items is n count w nodes j world u x before since k)
-      (store_is f c items is n count w nodes j world u x before since k)
-      (events_are f c items is n count w nodes j world u x before since k)
+      (passed_are here u x before since k)
+      (forwards_are here u x before since k)
+      (store_is here u x before since k)
+      (events_are here u x before since k)
       others_none
       at_home
-      (queue_is f c items is n count w nodes j world u x before since k)
-      (diverts_are f c items is n count w nodes j world u x before since k)
-      ∙ sym (its_places f c items is n count w nodes j world u x before since k).path_is
+      (queue_is here u x before since k)
+      (diverts_are here u x before since k)
+      ∙ sym (its_places here u x before since k).path_is
 
   -- what was processed and what is under way are what came, before the packets were diverted and since
   pub all_is : processed_of f c items u w.log ++ in_flight_of f c items u w ≡ before ++ since

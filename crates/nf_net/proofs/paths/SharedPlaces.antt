@@ -1,41 +1,16 @@
 -- What a world has of a unit under a share, place by place, in the order of its path, is what waits at the stage that shows the unit.
-use Rattle.std.proofs.Common.{◌≡◌, ℕ, ◌+◌, ◌<◌, ◌≤◌, Bool, true, false, Option, Some, None, List, [], ◌∷◌, ◌++◌, length, refl, sym, ap, ◌∙◌, subst, arith}
-use Rattle.std.specs.Prelude.{if◌then◌else◌, ◌==◌, ◌&&◌, nat_lt, slice_get}
-use Rattle.std.specs.List.{filter, filter_map, flat_map}
-use Rattle.std.proofs.lemmas.Bool.Decides.{nat_tests}
-use Rattle.std.proofs.lemmas.List.Elements.{filter-append}
+use Rattle.nf_net.proofs.Words.{◌≡◌, ℕ, ◌<◌, ◌≤◌, Bool, true, false, Option, Some, None, List, [], ◌∷◌, ◌++◌, refl, sym, ap, ◌∙◌, subst, arith, if◌then◌else◌}
+use Rattle.nf_net.proofs.Words.{◌==◌, ◌&&◌, nat_lt, slice_get, filter, filter_map, flat_map, nat_tests, filter-append, FullCell, Operation, Move, Copy, Share}
+use Rattle.nf_net.proofs.Words.{on_link, Each, UnitShare, View, mine_in, shape, OfShare, Open, find_op, RestRule, NothingOf, none_mine, ShareLabel, label_of}
+use Rattle.nf_net.proofs.Words.{unit_share, share_expect, share_items, as_share, WantShare, OpenShare, EachNew, olds, SeeingShare, seeing, lasts, passed_in}
+use Rattle.nf_net.proofs.Words.{carried_in, forwarded_in, handed_over_in, diverted_in, stored_by, queued_by, held_by, on_links, Sees, but_shares, both, Given}
+use Rattle.nf_net.proofs.Words.{place, S, A, shown, given}
 use Rattle.nf_function.specs.declared.unit.Unit as units
-use Rattle.nf_function.specs.Semantics.{Semantics}
-use Rattle.packet_pool.specs.Pool.{FullCell}
-use Rattle.nf_msgs.specs.declared.msg.Msg.{Msg}
-use Rattle.nf_msgs.specs.declared.note.Note.{Note}
-use Rattle.ctrl_node.specs.declared.operation.Operation.{Operation}
-use Rattle.ctrl_node.specs.declared.operation.Operation.TheVariants.{Move, Copy, Share}
-use Rattle.actor_net.specs.Network.{Network, IsWorld, on_link}
-use Rattle.proof_machines.proofs.unit.Labels.{Each}
-use Rattle.proof_machines.proofs.share.Share.{UnitShare, View, mine_in}
-use Rattle.proof_machines.proofs.share.Stages.{shape}
 use Rattle.proof_machines.proofs.share.Path.{carries, shared_in, forwarded as forwards, diverted as diverts}
-use Rattle.proof_machines.proofs.net.GlobalAll.{OfShare}
-use Rattle.proof_machines.proofs.net.Net.{Open, find_op}
 use Rattle.proof_machines.proofs.net.NewMessages.{each_new_map}
-use Rattle.proof_machines.proofs.net.Rest.{RestRule, NothingOf, none_mine}
-use Rattle.proof_machines.proofs.net.ShareLabels.{ShareLabel, label_of, queue_other}
-use Rattle.proof_machines.proofs.net.ShareViews.{unit_share, share_expect, share_items, as_share}
-use Rattle.proof_machines.proofs.net.Shares.{WantShare, OpenShare, EachNew, olds, SeeingShare}
-use Rattle.proof_machines.proofs.net.Under.{Under}
-use Rattle.proof_machines.proofs.net.UnderStarts.{seeing}
+use Rattle.proof_machines.proofs.net.ShareLabels.{queue_other}
 use Rattle.proof_machines.proofs.whole.UnderMoves.{none_stored}
-use Rattle.net_world.specs.declared.config.Config.{Config}
-use Rattle.net_world.specs.declared.node.Node.{Node}
-use Rattle.net_world.specs.Input.{IsInput}
-use Rattle.ctrl_node.specs.Operations.{lasts}
-use Rattle.net_world.specs.Path.{numbers, passed_in, carried_in, forwarded_in, handed_over_in, diverted_in, stored_by, queued_by, held_by, on_links}
-use Rattle.proof_outlines.proofs.outline.ControlOutline.{Sees}
-use Rattle.proof_outlines.proofs.whole.OpenShares.{but_shares, both}
-use Rattle.proof_outlines.proofs.joined.Given.{Given, place}
-use Rattle.proof_outlines.proofs.joined.Joined.{S, A, shown, Joined}
-use Rattle.proof_outlines.proofs.joined.StartJoined.{given}
+use Rattle.net_world.specs.Path.{numbers}
 use Rattle.nf_net.proofs.paths.PathNodes.{those_mine, held_none}
 use Rattle.nf_net.proofs.paths.PathSeats.{labels, link_shown, none_on, passed_else, forwarded_else, diverted_else, found_instance}
 use Rattle.nf_net.proofs.paths.PathStores.{for_other, stored_for, queued_for, unseen_store, cells, got}
@@ -44,11 +19,11 @@ use Rattle.nf_net.proofs.paths.SharedLinks as links
 use Rattle.nf_net.proofs.paths.SharedLinks.{AreKnown, AreRead, are_read}
 use Rattle.nf_net.proofs.paths.SharedOwners.{real, members_few}
 use Rattle.nf_net.proofs.paths.SharedStages.{Places, places}
+use Rattle.nf_net.proofs.paths.Reached.{Reached, IsUnder}
 
-module _ {F R : Type 0} (f : Semantics R) (c : Config) (items : List Msg) (is : IsInput f.kind c items) (n : ℕ) (count : n ≡ length c.names + 2)
-    (w : Network (Node F R) Msg Note) (nodes : length w.nodes ≡ n) (j : Joined f (given f c items is) n w) (world : IsWorld w)
-    (u : units.Unit) (x : WantShare) (before since : List ℕ) (k : Under (S f (given f c items is)) (A f (given f c items is))
-    (seeing (S f (given f c items is)) (A f (given f c items is)) u x) j.world before since) where
+module _ {F R : Type 0} (here : Reached F R) (u : units.Unit) (x : WantShare) (before since : List ℕ) (k : IsUnder here u x before since) where
+  open here use {f, c, items, is, n, count, w, nodes, j, world}
+
   abbrev g : Given
   g = given f c items is
 
@@ -70,7 +45,7 @@ module _ {F R : Type 0} (f : Semantics R) (c : Config) (items : List Msg) (is : 
   -- Links.
   pub link_known : (s r : ℕ) → s < n → r < n → (s == 0) && (r == 0) ≡ false → AreKnown f g z k.covered s r (filter_map (shown f g) (on_link w s r))
   link_known s r hs hr off =
-      let shows = link_shown f c items is n count w nodes j world s r hs hr off in
+      let shows = link_shown here s r hs hr off in
       let label = label_of (S f g) (A f g) z j.world j.shown_is.every.global k.covered v.phase v.queue k.holds.share r in
       record {
         moves = subst (λ ms. Each (NothingOf (S f g) u s) (olds ms)) shows (k.labels s r off);
@@ -79,11 +54,11 @@ module _ {F R : Type 0} (f : Semantics R) (c : Config) (items : List Msg) (is : 
       }
 
   pub link_view : (s r : ℕ) → s < n → r < n → (s == 0) && (r == 0) ≡ false → links.view f g z k.covered r (on_link w s r) ≡ share_expect v s r
-  link_view s r hs hr off = ap (share_items (S f g) (A f g) z r) (sym (link_shown f c items is n count w nodes j world s r hs hr off)) ∙ k.holds.links s r off
+  link_view s r hs hr off = ap (share_items (S f g) (A f g) z r) (sym (link_shown here s r hs hr off)) ∙ k.holds.links s r off
 
   link_read : (s r : ℕ) → s < n → r < n → (s == 0) && (r == 0) ≡ false → AreRead f g z k.covered (on_link w s r) (share_expect v s r)
   link_read s r hs hr off = subst (AreRead f g z k.covered (on_link w s r)) (link_view s r hs hr off)
-      (are_read f g z k.covered s r (on_link w s r) (labels f c items is n count w nodes j world s r hs hr off) (link_known s r hs hr off))
+      (are_read f g z k.covered s r (on_link w s r) (labels here s r hs hr off) (link_known s r hs hr off))
 
   zero : 0 < n
   zero = omega (arith, count)
@@ -119,7 +94,7 @@ module _ {F R : Type 0} (f : Semantics R) (c : Config) (items : List Msg) (is : 
             let from : a ≡ 0 = grind (arith, nat_tests, on) in
             let high : 2 ≤ b = grind (arith, nat_tests, on) in
             ap (λ s. filter mine (flat_map passed_in (on_link w s b))) from ∙ (to_instance b high hb).shared ∙ its_places.others b (λ same. off from same)
-        | false ↦ λ out. passed_else f c items is n count w nodes j world mine a b ha hb (λ h. (let from = h.0 in
+        | false ↦ λ out. passed_else here mine a b ha hb (λ h. (let from = h.0 in
             let high = h.1 in
             let on : (a == 0) && nat_lt 1 b ≡ true = grind (arith, nat_tests, from, high) in let never : true ≡ false = sym on ∙ out in cc))
       ] refl
@@ -129,29 +104,29 @@ module _ {F R : Type 0} (f : Semantics R) (c : Config) (items : List Msg) (is : 
   forwards_are =
       those-all mine (flat_map forwarded_in) w.links
       ∙ one_link w world.square (λ ms. filter mine (flat_map forwarded_in ms)) 1 0 (rw nodes one) (rw nodes zero)
-      (λ a b ha hb off. forwarded_else f c items is n count w nodes j world mine a b (rw (← nodes) ha) (rw (← nodes) hb) (λ h. off h.0 h.1))
+      (λ a b ha hb off. forwarded_else here mine a b (rw (← nodes) ha) (rw (← nodes) hb) (λ h. off h.0 h.1))
       ∙ (link_read 1 0 one zero refl).forward
 
   pub diverts_are : filter mine (on_links w diverted_in) ≡ diverts fr v.sc
   diverts_are =
       those-all mine (flat_map diverted_in) w.links
       ∙ one_link w world.square (λ ms. filter mine (flat_map diverted_in ms)) 0 1 (rw nodes zero) (rw nodes one)
-      (λ a b ha hb off. diverted_else f c items is n count w nodes j world mine a b (rw (← nodes) ha) (rw (← nodes) hb) off)
+      (λ a b ha hb off. diverted_else here mine a b (rw (← nodes) ha) (rw (← nodes) hb) off)
       ∙ (link_read 0 1 zero one refl).divert
 
   -- no event has any
   pub events_are : filter mine (on_links w handed_over_in) ≡ []
   events_are =
       those-all mine (flat_map handed_over_in) w.links
-      ∙ no_link w world.square (λ ms. filter mine (flat_map handed_over_in ms)) (λ a b ha hb. none_on f c items is n count w nodes j world mine a b
-      handed_over_in (rw (← nodes) ha) (rw (← nodes) hb) (λ off. (link_read a b (rw (← nodes) ha) (rw (← nodes) hb) off).event))
+      ∙ no_link w world.square (λ ms. filter mine (flat_map handed_over_in ms)) (λ a b ha hb.
+      none_on here mine a b handed_over_in (λ off. (link_read a b (rw (← nodes) ha) (rw (← nodes) hb) off).event))
 
   -- The controller stores nothing of it for another operation.
   abbrev its_cells : ℕ → List FullCell
-  its_cells q = cells f c items is n count w nodes j q
+  its_cells q = cells here q
 
   abbrev its_got : ℕ → Option Operation
-  its_got q = got f c items is n count w nodes j q
+  its_got q = got here q
 
   moves_store : (q : ℕ) (o : Open R) → find_op j.world.ops q ≡ Some o → (p : Option Operation) → Sees f (place g) (Some o) (but_shares p) (its_cells q)
       → filter mine (if lasts p then [] else numbers (its_cells q)) ≡ []
@@ -161,16 +136,16 @@ module _ {F R : Type 0} (f : Semantics R) (c : Config) (items : List Msg) (is : 
   moves_store q o found (Some (Move m)) h =
       those_mine f g u (numbers (its_cells q)) ∙ ap (none_mine (S f g) u) (sym h.store) ∙ none_stored (S f g) (A f g) z j.world before since k q o found
 
-  other_store : (q : ℕ) → for_other f c items is n count w nodes j mine q (its_cells q) ≡ []
+  other_store : (q : ℕ) → for_other here mine q (its_cells q) ≡ []
   other_store q = by_open (find_op j.world.ops q) refl
     where
-      by_open : (o : Option (Open R)) → find_op j.world.ops q ≡ o → for_other f c items is n count w nodes j mine q (its_cells q) ≡ []
-      by_open None none = unseen_store f c items is n count w nodes j mine q none
+      by_open : (o : Option (Open R)) → find_op j.world.ops q ≡ o → for_other here mine q (its_cells q) ≡ []
+      by_open None none = unseen_store here mine q none
       by_open (Some o) found = moves_store q o found (its_got q)
           (subst (λ y. Sees f (place g) y (but_shares (its_got q)) (its_cells q)) found (j.shown_is.controller.opens q).move)
 
   pub store_is : filter mine (flat_map stored_by w.nodes) ≡ []
-  store_is = stored_for f c items is n count w nodes j mine 0 (λ q off. other_store q) ∙ other_store 0
+  store_is = stored_for here mine 0 (λ q off. other_store q) ∙ other_store 0
 
   -- What waits for shares waits for its own.
   those_in : (ps : List ℕ) → filter mine ps ≡ mine_in fr ps
@@ -198,7 +173,7 @@ module _ {F R : Type 0} (f : Semantics R) (c : Config) (items : List Msg) (is : 
   queue_is =
       let r = real f c items is n count w j u x before since k in
       let queue : v.queue ≡ numbers (its_cells x.num) = ap (λ y. y.queue) r.sees.is in
-      queued_for f c items is n count w nodes j mine x.num
+      queued_for here mine x.num
       (λ q off. queue_at q (let out : (q == x.num) ≡ false = grind (arith, nat_tests, off) in out) (its_got q) refl)
       ∙ ap (λ o. filter mine (if lasts o then numbers (its_cells x.num) else [])) r.there
       ∙ ap (filter mine) (sym queue) ∙ those_in v.queue
@@ -209,7 +184,7 @@ module _ {F R : Type 0} (f : Semantics R) (c : Config) (items : List Msg) (is : 
     held_is =
         let own = j.shown_is.instances i two few in
         let rules = (j.nodes.instance i).rules in
-        ap (λ o. filter mine (held_by o)) (found_instance f c items is n count w nodes j i two few)
+        ap (λ o. filter mine (held_by o)) (found_instance f g n w nodes j i two few)
         ∙ those-all mine (λ r. numbers r.held) rules
         ∙ held_none f g u rules (subst (λ y. Each (RestRule (S f g) u) y.rules) (sym own.outline_is) (k.rules i))
 

@@ -1,44 +1,23 @@
 -- The records of a unit under a share, at the instances of a world: the live one is at the home and has seen all that was processed, or all but the last
 -- packet, whose member has the newer record standing by while one is on its way to the home.
-use Rattle.std.proofs.Common.{◌≡◌, ◌≢◌, ℕ, ◌+◌, ◌<◌, ◌≤◌, true, false, Option, None, List, [], ◌∷◌, ◌++◌, length, refl, sym, ap, ◌∙◌, arith}
-use Rattle.std.specs.Prelude.{if◌then◌else◌, ◌==◌, ◌-◌, nat_lt, slice_get}
-use Rattle.std.specs.List.{flat_map}
+use Rattle.nf_net.proofs.Words.{◌≡◌, ◌≢◌, ℕ, ◌<◌, ◌≤◌, true, false, Option, None, List, [], ◌∷◌, ◌++◌, refl, sym, ap, ◌∙◌, arith, if◌then◌else◌, ◌==◌, ◌-◌}
+use Rattle.nf_net.proofs.Words.{nat_lt, slice_get, flat_map, ltb-false, or_left, or_right, nat_tests, Decides-ltb, slice_get_past, Semantics, same_unit}
+use Rattle.nf_net.proofs.Words.{is_among, controller_node, instance_node, on_link, Ran, UnitShare, View, has, processed, shape, self, unit_share, as_share}
+use Rattle.nf_net.proofs.Words.{WantShare, SeeingShare, ran_of, seeing, packets_done, fold_packets, owner, is_of, processed_of, live_in, live_at, standby_in}
+use Rattle.nf_net.proofs.Words.{standby_at, Given, S, A, done_same, given}
 use Rattle.std.specs.FinMap as finite
-use Rattle.std.proofs.lemmas.Bool.{ltb-false, or_left, or_right}
-use Rattle.std.proofs.lemmas.Bool.Decides.{nat_tests, Decides-ltb}
-use Rattle.std.proofs.lemmas.Option.{slice_get_past}
 use Rattle.nf_function.specs.declared.unit.Unit as units
-use Rattle.nf_function.specs.Semantics.{Semantics}
-use Rattle.record_table.specs.Table.{same_unit, is_among}
-use Rattle.nf_msgs.specs.declared.msg.Msg.{Msg}
-use Rattle.nf_msgs.specs.declared.note.Note.{Note}
-use Rattle.nf_msgs.specs.Nodes.{controller_node, instance_node}
-use Rattle.actor_net.specs.Network.{Network, IsWorld, on_link}
-use Rattle.proof_machines.proofs.share.Share.{Ran, UnitShare, View, has, runs}
-use Rattle.proof_machines.proofs.share.Stages.{packets, processed, shape}
-use Rattle.proof_machines.proofs.share.Lists.{self, packets-append}
+use Rattle.proof_machines.proofs.share.Share.{runs}
+use Rattle.proof_machines.proofs.share.Stages.{packets}
+use Rattle.proof_machines.proofs.share.Lists.{packets-append}
 use Rattle.proof_machines.proofs.net.Readings.{fold}
-use Rattle.proof_machines.proofs.net.ShareViews.{unit_share, as_share}
-use Rattle.proof_machines.proofs.net.Shares.{WantShare, SeeingShare, ran_of}
-use Rattle.proof_machines.proofs.net.Under.{Under}
-use Rattle.proof_machines.proofs.net.UnderStarts.{seeing, packets_done}
 use Rattle.proof_machines.proofs.net.UnderReadings.{all_done}
-use Rattle.proof_machines.proofs.whole.Readings.{fold_packets}
-use Rattle.net_world.specs.declared.config.Config.{Config}
-use Rattle.net_world.specs.declared.node.Node.{Node}
-use Rattle.net_world.specs.Input.{IsInput}
-use Rattle.net_world.specs.Places.{owner}
-use Rattle.net_world.specs.Fold.{is_of, processed_of}
-use Rattle.net_world.specs.Records.{live_in, live_at, shared_in, synced_in, is_to_take}
-use Rattle.net_world.specs.Standby.{standby_in, standby_at}
-use Rattle.proof_outlines.proofs.joined.Given.{Given}
-use Rattle.proof_outlines.proofs.joined.Joined.{S, A, Joined}
-use Rattle.proof_outlines.proofs.joined.RunsJoined.{done_same}
-use Rattle.proof_outlines.proofs.joined.StartJoined.{given}
+use Rattle.net_world.specs.Records.{shared_in, synced_in, is_to_take}
 use Rattle.nf_net.proofs.paths.PathSeats.{found_instance}
 use Rattle.nf_net.proofs.paths.SharedChunks.{given_on, taken_on}
-use Rattle.nf_net.proofs.paths.SharedOwners.{HomesOwn, members_few}
+use Rattle.nf_net.proofs.paths.SharedOwners.{members_few}
 use Rattle.nf_net.proofs.paths.SharedStages.{Comes, From_member, To_home, Ahead, Sees, Sees_all, Is_ahead, sees}
+use Rattle.nf_net.proofs.paths.Reached.{Reached, IsUnder, HomesTold}
 
 -- the last of those that were done of a unit is the unit's
 last_mine : {R : Type 0} (f : Semantics R) (g : Given) (u : units.Unit) (ds xs : List Ran) (d : Ran) → ran_of (S f g) (A f g) u ds ≡ xs ++ d ∷ []
@@ -57,10 +36,10 @@ last_mine f g u (x ∷ ds) xs d e = elim (same_unit ((S f g).packet_unit x.0) u)
     by_front on later [] q = let same_one : x ≡ d = cc in ap (λ y. same_unit ((S f g).packet_unit y.0) u) (sym same_one) ∙ on
     by_front on later (y ∷ ys) q = let rest : ran_of (S f g) (A f g) u ds ≡ ys ++ d ∷ [] = cc in later ys rest
 
-module _ {F R : Type 0} (f : Semantics R) (c : Config) (items : List Msg) (is : IsInput f.kind c items) (n : ℕ) (count : n ≡ length c.names + 2)
-    (w : Network (Node F R) Msg Note) (nodes : length w.nodes ≡ n) (j : Joined f (given f c items is) n w) (world : IsWorld w)
-    (told : HomesOwn f c items is n count w j) (u : units.Unit) (x : WantShare) (before since : List ℕ) (k : Under (S f (given f c items is))
-    (A f (given f c items is)) (seeing (S f (given f c items is)) (A f (given f c items is)) u x) j.world before since) where
+module _ {F R : Type 0} (here : Reached F R) (told : HomesTold here) (u : units.Unit) (x : WantShare) (before since : List ℕ)
+    (k : IsUnder here u x before since) where
+  open here use {f, c, items, is, n, count, w, nodes, j}
+
   abbrev g : Given
   g = given f c items is
 
@@ -96,12 +75,10 @@ module _ {F R : Type 0} (f : Semantics R) (c : Config) (items : List Msg) (is : 
 
   -- At an instance.
   live_there : (m : ℕ) → 2 ≤ m → m < n → live_in u (slice_get w.nodes m) ≡ (S f g).B.at u (j.world.inst m).live
-  live_there m two low =
-      ap (live_in u) (found_instance f c items is n count w nodes j m two low) ∙ ap (λ y. finite.get y.live u) (j.shown_is.instances m two low).outline_is
+  live_there m two low = ap (live_in u) (found_instance f g n w nodes j m two low) ∙ ap (λ y. finite.get y.live u) (j.shown_is.instances m two low).outline_is
 
   standby_there : (m : ℕ) → 2 ≤ m → m < n → standby_in u (slice_get w.nodes m) ≡ (S f g).B.at u (j.world.standby m)
-  standby_there m two low =
-      ap (standby_in u) (found_instance f c items is n count w nodes j m two low) ∙ ap (λ t. finite.get t u) (j.shown_is.instances m two low).standby_is
+  standby_there m two low = ap (standby_in u) (found_instance f g n w nodes j m two low) ∙ ap (λ t. finite.get t u) (j.shown_is.instances m two low).standby_is
 
   home_live : live_at w i0 u ≡ v.own x.home
   home_live =
@@ -161,7 +138,7 @@ module _ {F R : Type 0} (f : Semantics R) (c : Config) (items : List Msg) (is : 
         let low = two in
         let off_0 : (node == 0) ≡ false = grind (arith, nat_tests, low) in
         let off_1 : (node == 1) ≡ false = grind (arith, nat_tests, low) in
-        let on : is_among (flat_map shared_in (on_link w node controller_node)) u ≡ true = given_on f c items is n count w nodes j world u x before since k
+        let on : is_among (flat_map shared_in (on_link w node controller_node)) u ≡ true = given_on here u x before since k
         node 1 (few node inside) (omega (arith, count)) (rw off_0 refl) r (rw (off_0, off_1) e) in
         or_left (is_among (flat_map shared_in (on_link w (instance_node m) controller_node)) u)
         (is_among (flat_map synced_in (on_link w controller_node (instance_node i0))) u)
@@ -169,7 +146,7 @@ module _ {F R : Type 0} (f : Semantics R) (c : Config) (items : List Msg) (is : 
     comes (To_home r e) =
         let low = k.insts x.home k.is.home_in in
         let off_0 : (x.home == 0) ≡ false = grind (arith, nat_tests, low) in
-        let on : is_among (flat_map synced_in (on_link w controller_node x.home)) u ≡ true = taken_on f c items is n count w nodes j world u x before since
+        let on : is_among (flat_map synced_in (on_link w controller_node x.home)) u ≡ true = taken_on here u x before since
         k 1 x.home (omega (arith, count)) (few x.home k.is.home_in) refl r (rw off_0 e) in
         or_right (is_among (flat_map shared_in (on_link w (instance_node m) controller_node)) u)
         (is_among (flat_map synced_in (on_link w controller_node (instance_node i0))) u)

@@ -1,16 +1,17 @@
 -- At a stage of a share: at which member's link the share's packet is, and the path by its places; and that the live record has seen all that was
 -- processed, or the record of the member that processed the last packet is on its way to the home.
-use Rattle.std.proofs.Common.{◌≡◌, ◌≢◌, ℕ, Bool, true, false, cond, ◌==◌, Option, Some, None, List, [], ◌∷◌}
-use Rattle.std.proofs.Common.{◌++◌, map, inl, inr, refl, sym, ap, ◌∙◌, append_assoc, append-nil, arith}
-use Rattle.std.proofs.lemmas.Bool.Decides.{nat_tests, Decides-eqb}
-use Rattle.proof_machines.proofs.share.Share.{Ran, Item, Item.Carry, Item.Fence, Item.Shared, Item.Sync}
-use Rattle.proof_machines.proofs.share.Share.{Item.Chunk, UnitShare, has, after, over, only, mine_in, nowhere}
-use Rattle.proof_machines.proofs.share.Stages.{Turn, Turn.Going, Turn.Coming, Turn.Quiet, is_going, is_pending, goes_to, served, Stage, Stage.Diverting}
+use Rattle.nf_net.proofs.Words.{◌≡◌, ◌≢◌, ℕ, Bool, true, false, cond, Option, Some, None, List, [], ◌∷◌, ◌++◌, map, inl, inr, refl, sym, ap, ◌∙◌, append_assoc}
+use Rattle.nf_net.proofs.Words.{append-nil, arith, nat_tests, Decides-eqb, Ran, UnitShare, has, mine_in, served, Stage, processed, shape, self, cond-same}
+use Rattle.nf_net.proofs.Words.{forwarded, diverted}
+use Rattle.std.proofs.Common.{◌==◌}
+use Rattle.proof_machines.proofs.share.Share.{Item, Item.Carry, Item.Fence, Item.Shared, Item.Sync}
+use Rattle.proof_machines.proofs.share.Share.{Item.Chunk, after, over, only, nowhere}
+use Rattle.proof_machines.proofs.share.Stages.{Turn, Turn.Going, Turn.Coming, Turn.Quiet, is_going, is_pending, goes_to, Stage.Diverting}
 use Rattle.proof_machines.proofs.share.Stages.{Stage.Fence_goes, Stage.Fenced_comes, Stage.Get_goes, Stage.Chunks_come, Stage.Spreads, Stage.Resting}
-use Rattle.proof_machines.proofs.share.Stages.{Stage.Forwards, Stage.Carries, Stage.Chunk_comes, path, processed, shape, IsShare, Behind, FitsStage}
-use Rattle.proof_machines.proofs.share.Lists.{self, cond-same, runs-append, served-append}
+use Rattle.proof_machines.proofs.share.Stages.{Stage.Forwards, Stage.Carries, Stage.Chunk_comes, path, IsShare, Behind, FitsStage}
+use Rattle.proof_machines.proofs.share.Lists.{runs-append, served-append}
 use Rattle.proof_machines.proofs.share.Path as paths
-use Rattle.proof_machines.proofs.share.Path.{gather, gather_none, gather_only, carries, shared_in, forwarded, diverted}
+use Rattle.proof_machines.proofs.share.Path.{gather, gather_none, gather_only, carries, shared_in}
 use Rattle.proof_machines.proofs.share.Records.{not_pending}
 
 module _ {R : Type 0} (f : UnitShare R) where
@@ -71,13 +72,7 @@ module _ {R : Type 0} (f : UnitShare R) where
       path_is = by_gather (Carries d e p q v) (f.member_of p)
           (gather_only f.members (f.member_of p) (Shared p ∷ []) is.apart (is.member_in p) ∙ sym (own_link (f.member_of p) (Shared p ∷ [])));
     }
-    places (Fenced_comes d b q v) = empty_places (Fenced_comes d b q v) refl
-    places (Get_goes d b q v) = empty_places (Get_goes d b q v) refl
-    places (Chunks_come d b q v) = empty_places (Chunks_come d b q v) refl
-    places (Spreads first d e b c at o left q v) = empty_places (Spreads first d e b c at o left q v) refl
-    places (Resting d e v) = empty_places (Resting d e v) refl
-    places (Forwards d e p q v) = empty_places (Forwards d e p q v) refl
-    places (Chunk_comes d e p q v) = empty_places (Chunk_comes d e p q v) refl
+    places s = empty_places s refl
 
   -- Records: one on its way to the home, from the member, or by the controller.
   pub data Comes (s : Stage R) (member : ℕ) : Type 0 where
