@@ -1,19 +1,11 @@
 -- What the controller's step sends for copies of units is known, where what it takes was; and a copy is answered where its destination has kept what
 -- came.
-use Rattle.std.proofs.Common.{◌≡◌, ℕ, Bool, true, false, Option, Some, None, List, [], ◌∷◌, ◌++◌, refl, sym, ◌∙◌}
-use Rattle.std.specs.Prelude.{if◌then◌else◌, ◌==◌, option_map}
-use Rattle.std.specs.Option.{option_or}
-use Rattle.nf_msgs.specs.declared.answer.Answer.{Answer}
-use Rattle.nf_msgs.specs.declared.answer.Answer.TheVariants.{Done, Overlap, Unknown}
-use Rattle.nf_msgs.specs.declared.msg.Msg.{Msg}
+use Rattle.nf_net.proofs.Words.{◌≡◌, ℕ, Bool, true, false, Option, Some, None, List, [], ◌∷◌, ◌++◌, refl, sym, ◌∙◌, if◌then◌else◌, ◌==◌, option_map, option_or}
+use Rattle.nf_net.proofs.Words.{Answer, Overlap, Unknown, Msg, instance_node, CopyPhase, CopyPlan, CopyState, Each, answered}
+use Rattle.nf_msgs.specs.declared.answer.Answer.TheVariants.{Done}
 use Rattle.nf_msgs.specs.declared.msg.Msg.TheVariants as msg
-use Rattle.nf_msgs.specs.Nodes.{instance_node}
-use Rattle.copy_share.specs.declared.copy_phase.CopyPhase.{CopyPhase}
 use Rattle.copy_share.specs.declared.copy_phase.CopyPhase.TheVariants as copies
-use Rattle.copy_share.specs.Copy.{CopyPlan, CopyState}
 use Rattle.copy_share.specs.Copy as copying
-use Rattle.proof_machines.proofs.unit.Labels.{Each}
-use Rattle.proof_outlines.proofs.whole.ShareLeft.{answered}
 use Rattle.nf_net.proofs.answers.ShareTells.{is_of_share, AreOfShare}
 
 -- A copy ends by the message that its destination has kept what came.
@@ -24,16 +16,12 @@ by_source : (plan : CopyPlan) (ph : CopyPhase) (m : Msg) (a : Answer) → copyin
     → copying.answer_of (copying.from_source plan ph m).phase ≡ Some a → ⊥
 by_source plan copies.Getting (msg.Chunks op chunks) a none some = cc
 by_source plan copies.Getting (msg.AllChunk op chunk) a none some = cc
-by_source plan copies.Getting m a none some = cc
-by_source plan copies.Keeping m a none some = cc
-by_source plan copies.Over m a none some = cc
+by_source plan ph m a none some = cc
 
 by_destination : (plan : CopyPlan) (ph : CopyPhase) (m : Msg) (a : Answer) → copying.answer_of ph ≡ None
     → copying.answer_of (copying.from_destination plan ph m).phase ≡ Some a → (k : ℕ) × (m ≡ msg.Kept k)
 by_destination plan copies.Keeping (msg.Kept k) a none some = (k, refl)
-by_destination plan copies.Keeping m a none some = cc
-by_destination plan copies.Getting m a none some = cc
-by_destination plan copies.Over m a none some = cc
+by_destination plan ph m a none some = cc
 
 pub row_ends : (y : CopyState) (p : ℕ) (m : Msg) (a : Answer) → copying.answer_of y.phase ≡ None → copying.answer_of (copying.row y p m).phase ≡ Some a
     → (k : ℕ) × (m ≡ msg.Kept k)

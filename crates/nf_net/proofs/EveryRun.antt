@@ -1,27 +1,15 @@
 -- Every run keeps the promises, and a complete one those of its end.
-use Rattle.std.proofs.Common.{◌≡◌, ◌≢◌, ℕ, ◌+◌, true, Result, Ok, Err, IfOk, List, length, refl, sym, ap, subst, ◌∙◌}
-use Rattle.std.specs.declared.alloc.Global.{Global}
-use Rattle.nf_function.specs.Records.{Laws as FunctionLaws}
-use Rattle.nf_function.specs.Semantics.{Semantics}
-use Rattle.nf_msgs.specs.declared.msg.Msg.{Msg}
-use Rattle.nf_msgs.specs.declared.note.Note.{Note}
-use Rattle.actor_net.specs.declared.choice.Choice.{Choice}
+use Rattle.nf_net.proofs.Words.{◌≡◌, ◌≢◌, ℕ, true, Ok, List, length, sym, ap, subst, ◌∙◌, Global, FunctionLaws, Semantics, Msg, Note, Choice, StopsShort}
+use Rattle.nf_net.proofs.Words.{Network, IsRun, is_done, run, Config, Node, IsInput, course_of, job_of, node_step, node_ready, node_ended, started_with}
+use Rattle.nf_net.proofs.Words.{AllHome}
+use Rattle.std.proofs.Common.{Result, Err, IfOk}
 use Rattle.actor_net.specs.declared.schedule.Schedule.{Schedule}
 use Rattle.actor_net.specs.declared.replays.ReplayFault.{ReplayFault}
 use Rattle.actor_net.specs.declared.replays.ReplayFault.TheVariants.{NoMemory}
 use Rattle.actor_net.specs.Replays.{replay_of}
 use Rattle.actor_net.proofs.ReplayLaws.{replayed_ok}
-use Rattle.actor_net.specs.Schedules.{StopsShort}
 use Rattle.net_world.specs.Runs.{LeadsTo, choices_of, EndsIn, StopsAt}
-use Rattle.actor_net.specs.Network.{Network, IsRun, is_done, run}
-use Rattle.net_world.specs.declared.config.Config.{Config}
-use Rattle.net_world.specs.declared.node.Node.{Node}
-use Rattle.net_world.specs.Input.{IsInput}
-use Rattle.net_world.specs.Jobs.{course_of, job_of}
-use Rattle.net_world.specs.Nodes.{node_step, node_ready, node_ended}
 use Rattle.nf_net.specs.Promises.{Completed, Promises, Standbys, Verdicts}
-use Rattle.net_world.specs.Start.{started_with}
-use Rattle.net_world.specs.Window.{AllHome}
 use Rattle.nf_net.proofs.answers.ArrivalLemmas.{arrivals_run}
 use Rattle.nf_net.proofs.AtMembers.{at_members}
 use Rattle.nf_net.proofs.ChunkMoves.{chunks_moved}
@@ -40,9 +28,8 @@ use Rattle.nf_net.proofs.SharedHomes.{run_homes}
 use Rattle.nf_net.proofs.SourceRuns.{stays_at_source}
 use Rattle.nf_net.proofs.StandbyRuns.{standbys}
 use Rattle.nf_net.proofs.WindowRuns.{window_kept, all_home}
-use Rattle.proof_outlines.proofs.joined.StartJoined.{count_at_start}
-use Rattle.actor_net.proofs.RunInduction.{run_world}
-use Rattle.proof_outlines.proofs.joined.RunsJoined.{run_beside, start_world, in_order, once}
+use Rattle.proof_outlines.proofs.joined.RunsJoined.{in_order, once}
+use Rattle.nf_net.proofs.paths.Reached.{reached}
 
 module _ (F : Type 0) {R : Type 0} (f : Semantics R) (laws : FunctionLaws f) (alloc : Global) (c : Config) (items : List Msg) (is : IsInput f.kind c items)
     (cs : List Choice) where
@@ -51,19 +38,16 @@ module _ (F : Type 0) {R : Type 0} (f : Semantics R) (laws : FunctionLaws f) (al
 
   pub every_run : IsRun node_ready (node_step f) cs (started_with {F = F} {R = R} alloc c items) → Promises f c items w
   every_run runs =
-      let j = (run_beside F f laws alloc c items is cs runs).joined in
-      let reached = run_world node_ready (node_step f) (length c.names + 2) (started_with {F = F} {R = R} alloc c items)
-      (start_world F f laws alloc c items is) (count_at_start F f alloc c items is) cs runs in
-      let counted = reached.1 in
+      let here = reached F f laws alloc c items is cs runs in
       let turn = arrivals_run F f laws alloc c items is cs runs in
       let told = run_homes F f laws alloc c items is cs runs in
       record {
         in_turn = turn;
-        in_order = in_order f c items is (length c.names + 2) w j;
-        once = once f c items is (length c.names + 2) w j;
-        in_place = in_place f c items is (length c.names + 2) refl w counted j reached.0 turn told;
+        in_order = in_order f c items is here.n w here.j;
+        once = once f c items is here.n w here.j;
+        in_place = in_place here turn told;
         came_once = came_once f c items is w turn;
-        each_in_place = each_in_place f c items is (length c.names + 2) refl w counted j reached.0 turn told;
+        each_in_place = each_in_place here turn told;
         outputs_are = outputs_run F f laws alloc c items is cs runs;
         places = places F f laws alloc c items is cs runs;
         at_members = at_members F f laws alloc c items is cs runs;
@@ -73,10 +57,10 @@ module _ (F : Type 0) {R : Type 0} (f : Semantics R) (laws : FunctionLaws f) (al
         no_rules = no_rules F f laws alloc c items is cs runs;
         at_source = stays_at_source F f laws alloc c items is cs runs;
         window = window_kept F f laws alloc c items is cs runs;
-        parcels = parcels_are f c items w counted (each_in_place f c items is (length c.names + 2) refl w counted j reached.0 turn told);
-        one_record = λ u i k r s. one_place f c items is (length c.names + 2) w counted j u i k r s;
+        parcels = parcels_are f c items w here.nodes (each_in_place here turn told);
+        one_record = λ u i k r s. one_place f c items is here.n w here.nodes here.j u i k r s;
         record_stands = records_stand F f laws alloc c items is cs runs;
-        chunks_moved = chunks_moved f c items is (length c.names + 2) refl w counted j reached.0 (moves_under_way F f laws alloc c items is cs runs j);
+        chunks_moved = chunks_moved here (moves_under_way F f laws alloc c items is cs runs here.j);
       }
 
   pub every_end : IsRun node_ready (node_step f) cs (started_with {F = F} {R = R} alloc c items) → is_done node_ended w ≡ true → Completed f c items w
@@ -174,58 +158,33 @@ module _ (F : Type 0) {R : Type 0} (f : Semantics R) (laws : FunctionLaws f) (al
   stops w start step count short = subst (λ v. StopsAt f v schedule step) start (record { count = count; short = short })
 
 -- the same of a replay: where it hands a world back, the choices are a run
-pub replay_keeps : (F : Type 0) {R : Type 0} (f : Semantics R) (laws : FunctionLaws f) (alloc : Global) (c : Config) (items : List Msg)
-    (is : IsInput f.kind c items) (cs : List Choice) (w : Network (Node F R) Msg Note) (result : Result (Network (Node F R) Msg Note) ReplayFault)
-    → w ≡ started_with alloc c items → (result ≢ Err NoMemory → result ≡ replay_of node_ready (node_step f) cs w)
-    → IfOk result (λ reached. Promises f c items reached)
-replay_keeps F f laws alloc c items is cs w (Err e) start h = tt
-replay_keeps F {R = R} f laws alloc c items is cs w (Ok reached) start h =
-    let ok = replayed_ok node_ready (node_step f) cs w reached (sym (h (λ bad. cc))) in
-    let runs : IsRun node_ready (node_step f) cs (started_with {F = F} {R = R} alloc c items) = subst (λ v. IsRun node_ready (node_step f) cs v) start ok.0 in
-    subst (λ v. Promises f c items v) (sym (ok.1 ∙ ap (run (node_step f) cs) start)) (every_run F f laws alloc c items is cs runs)
+module _ (F : Type 0) {R : Type 0} (f : Semantics R) (laws : FunctionLaws f) (alloc : Global) (c : Config) (items : List Msg) (is : IsInput f.kind c items)
+    (cs : List Choice) (w : Network (Node F R) Msg Note) (result : Result (Network (Node F R) Msg Note) ReplayFault) (start : w ≡ started_with alloc c items)
+    (h : result ≢ Err NoMemory → result ≡ replay_of node_ready (node_step f) cs w) where
+  by_run : (P : Network (Node F R) Msg Note → Type 0)
+      → (IsRun node_ready (node_step f) cs (started_with {F = F} {R = R} alloc c items) → P (run (node_step f) cs (started_with alloc c items))) → IfOk result P
+  by_run P holds = by_result result h
+    where
+      by_result : (r : Result (Network (Node F R) Msg Note) ReplayFault) → (r ≢ Err NoMemory → r ≡ replay_of node_ready (node_step f) cs w) → IfOk r P
+      by_result (Err e) same = tt
+      by_result (Ok reached) same =
+          let ok = replayed_ok node_ready (node_step f) cs w reached (sym (same (λ bad. cc))) in
+          subst P (sym (ok.1 ∙ ap (run (node_step f) cs) start)) (holds (subst (λ v. IsRun node_ready (node_step f) cs v) start ok.0))
 
-pub replay_judges : (F : Type 0) {R : Type 0} (f : Semantics R) (laws : FunctionLaws f) (alloc : Global) (c : Config) (items : List Msg)
-    (is : IsInput f.kind c items) (cs : List Choice) (w : Network (Node F R) Msg Note) (result : Result (Network (Node F R) Msg Note) ReplayFault)
-    → w ≡ started_with alloc c items → (result ≢ Err NoMemory → result ≡ replay_of node_ready (node_step f) cs w)
-    → IfOk result (λ reached. Verdicts (job_of f c items) (course_of w cs))
-replay_judges F f laws alloc c items is cs w (Err e) start h = tt
-replay_judges F {R = R} f laws alloc c items is cs w (Ok reached) start h =
-    let ok = replayed_ok node_ready (node_step f) cs w reached (sym (h (λ bad. cc))) in
-    let runs : IsRun node_ready (node_step f) cs (started_with {F = F} {R = R} alloc c items) = subst (λ v. IsRun node_ready (node_step f) cs v) start ok.0 in
-    subst (λ v. Verdicts (job_of f c items) (course_of v cs)) (sym start) (verdicts F f laws alloc c items is cs runs)
+  pub replay_keeps : IfOk result (λ reached. Promises f c items reached)
+  replay_keeps = by_run (λ reached. Promises f c items reached) (λ runs. every_run F f laws alloc c items is cs runs)
 
-pub replay_stands : (F : Type 0) {R : Type 0} (f : Semantics R) (laws : FunctionLaws f) (alloc : Global) (c : Config) (items : List Msg)
-    (is : IsInput f.kind c items) (cs : List Choice) (w : Network (Node F R) Msg Note) (result : Result (Network (Node F R) Msg Note) ReplayFault)
-    → w ≡ started_with alloc c items → (result ≢ Err NoMemory → result ≡ replay_of node_ready (node_step f) cs w)
-    → IfOk result (λ reached. Standbys (job_of f c items) (course_of w cs))
-replay_stands F f laws alloc c items is cs w (Err e) start h = tt
-replay_stands F {R = R} f laws alloc c items is cs w (Ok reached) start h =
-    let ok = replayed_ok node_ready (node_step f) cs w reached (sym (h (λ bad. cc))) in
-    let runs : IsRun node_ready (node_step f) cs (started_with {F = F} {R = R} alloc c items) = subst (λ v. IsRun node_ready (node_step f) cs v) start ok.0 in
-    subst (λ v. Standbys (job_of f c items) (course_of v cs)) (sym start) (standbys F f laws alloc c items is cs runs)
+  pub replay_judges : IfOk result (λ reached. Verdicts (job_of f c items) (course_of w cs))
+  replay_judges = by_run (λ reached. Verdicts (job_of f c items) (course_of w cs))
+      (λ runs. subst (λ v. Verdicts (job_of f c items) (course_of v cs)) (sym start) (verdicts F f laws alloc c items is cs runs))
 
--- and what its end keeps, where nothing is left to do in the world
-replay_ends : (F : Type 0) {R : Type 0} (f : Semantics R) (laws : FunctionLaws f) (alloc : Global) (c : Config) (items : List Msg)
-    (is : IsInput f.kind c items) (cs : List Choice) (w reached : Network (Node F R) Msg Note)
-    → w ≡ started_with alloc c items → replay_of node_ready (node_step f) cs w ≡ Ok reached → is_done node_ended reached ≡ true
-    → KeepsAll F f laws alloc c items is reached
-replay_ends F {R = R} f laws alloc c items is cs w reached start replay done =
-    let ok = replayed_ok node_ready (node_step f) cs w reached replay in
-    let runs : IsRun node_ready (node_step f) cs (started_with {F = F} {R = R} alloc c items) = subst (λ v. IsRun node_ready (node_step f) cs v) start ok.0 in
-    keeps_all F f laws alloc c items is cs reached (record { is_run = runs; reached = ok.1 ∙ ap (run (node_step f) cs) start }) done
+  pub replay_stands : IfOk result (λ reached. Standbys (job_of f c items) (course_of w cs))
+  replay_stands = by_run (λ reached. Standbys (job_of f c items) (course_of w cs))
+      (λ runs. subst (λ v. Standbys (job_of f c items) (course_of v cs)) (sym start) (standbys F f laws alloc c items is cs runs))
 
-pub replay_completes : (F : Type 0) {R : Type 0} (f : Semantics R) (laws : FunctionLaws f) (alloc : Global) (c : Config) (items : List Msg)
-    (is : IsInput f.kind c items) (cs : List Choice) (w : Network (Node F R) Msg Note) (result : Result (Network (Node F R) Msg Note) ReplayFault)
-    → w ≡ started_with alloc c items → (result ≢ Err NoMemory → result ≡ replay_of node_ready (node_step f) cs w)
-    → IfOk result (λ reached. is_done node_ended reached ≡ true → Completed f c items reached)
-replay_completes F f laws alloc c items is cs w (Err e) start h = tt
-replay_completes F f laws alloc c items is cs w (Ok reached) start h =
-    λ done. (replay_ends F f laws alloc c items is cs w reached start (sym (h (λ bad. cc))) done).completed
+  -- and what its end keeps, where nothing is left to do in the world
+  pub replay_completes : IfOk result (λ reached. is_done node_ended reached ≡ true → Completed f c items reached)
+  replay_completes = by_run (λ reached. is_done node_ended reached ≡ true → Completed f c items reached) (λ runs. every_end F f laws alloc c items is cs runs)
 
-pub replay_homes : (F : Type 0) {R : Type 0} (f : Semantics R) (laws : FunctionLaws f) (alloc : Global) (c : Config) (items : List Msg)
-    (is : IsInput f.kind c items) (cs : List Choice) (w : Network (Node F R) Msg Note) (result : Result (Network (Node F R) Msg Note) ReplayFault)
-    → w ≡ started_with alloc c items → (result ≢ Err NoMemory → result ≡ replay_of node_ready (node_step f) cs w)
-    → IfOk result (λ reached. is_done node_ended reached ≡ true → AllHome c reached)
-replay_homes F f laws alloc c items is cs w (Err e) start h = tt
-replay_homes F f laws alloc c items is cs w (Ok reached) start h =
-    λ done. (replay_ends F f laws alloc c items is cs w reached start (sym (h (λ bad. cc))) done).home
+  pub replay_homes : IfOk result (λ reached. is_done node_ended reached ≡ true → AllHome c reached)
+  replay_homes = by_run (λ reached. is_done node_ended reached ≡ true → AllHome c reached) (λ runs. every_home F f laws alloc c items is cs runs)

@@ -1,33 +1,22 @@
 -- Where an instance processes packets of a unit, the record that it steps is the fold of all that was done of the unit before: by a message of a move its
 -- live record, also where a share has the unit, and by one of a share the record in the table that the message names.
-use Rattle.std.proofs.Common.{◌≡◌, ◌≢◌, ℕ, Bool, true, false, Option, Some, None, List, [], ◌∷◌, ◌⊎◌, inl, inr, refl, ap, ◌∙◌}
-use Rattle.std.specs.Prelude.{if◌then◌else◌, ◌==◌}
-use Rattle.std.proofs.lemmas.Bool.Decides.{Decides-eqb}
+use Rattle.nf_net.proofs.Words.{◌≡◌, ◌≢◌, ℕ, Bool, true, false, Option, Some, None, List, [], ◌∷◌, ◌⊎◌, inl, inr, refl, ap, ◌∙◌, if◌then◌else◌, ◌==◌}
+use Rattle.nf_net.proofs.Words.{Decides-eqb, M_fenced, M_install, M_fence_to, where_true, add, UnitShare, shape, to_members, Sys, IsSys, inst_step, none_mine}
+use Rattle.nf_net.proofs.Words.{done_u, GlobalAll, share_expect, unit_share, share_seen, share_items, own_at, does, heads, inst_from, Under, inst_keeps, seeing}
+use Rattle.nf_net.proofs.Words.{Any, olds, Sharing, IsSharing, WantShare, WholeWorld, moves_of, ran_of, SeeingShare, Came, WhereAll, Apart_from_shares}
+use Rattle.nf_net.proofs.Words.{Under_share, processed_where, same_unit}
 use Rattle.proof_machines.proofs.unit.Real as Real
-use Rattle.proof_machines.proofs.unit.Real.{M_fenced, M_install, M_fence_to, where_true, add}
-use Rattle.proof_machines.proofs.share.Share.{Item, Item.Carry, Item.Fence, Item.Shared, Item.Diverted, Item.Install, Item.Forward, Item.Get}
-use Rattle.proof_machines.proofs.share.Share.{Item.Sync, Item.Fenced, Item.Chunks, Item.Chunk, Item.Synced, Item.Stray, UnitShare, runs}
-use Rattle.proof_machines.proofs.share.Stages.{shape}
-use Rattle.proof_machines.proofs.share.Heads.{Meets, to_members, meets_sw, meets_to}
-use Rattle.proof_machines.proofs.net.Net.{Msg, Msg.In_packet, Msg.Asked, Msg.Carry_on, Msg.Pass_on, Msg.Fence_on, Msg.Mv, Sys, IsSys, inst_step, at_node}
-use Rattle.proof_machines.proofs.net.Rest.{none_mine, done_u}
+use Rattle.proof_machines.proofs.share.Share.{Item, Item.Carry, Item.Fence, Item.Shared}
+use Rattle.proof_machines.proofs.share.Share.{Item.Fenced, Item.Stray, runs}
+use Rattle.proof_machines.proofs.share.Heads.{Meets, meets_sw, meets_to}
+use Rattle.proof_machines.proofs.net.Net.{Msg, Msg.In_packet, Msg.Asked, Msg.Carry_on, Msg.Pass_on, Msg.Fence_on, Msg.Mv, at_node}
 use Rattle.proof_machines.proofs.net.Readings.{fold}
-use Rattle.proof_machines.proofs.net.GlobalAll.{GlobalAll}
-use Rattle.proof_machines.proofs.net.ShareViews.{mine, share_expect, unit_share, move_seen, old_seen, share_seen, share_items, own_at}
-use Rattle.proof_machines.proofs.net.MemberSteps.{does}
-use Rattle.proof_machines.proofs.net.UnderInst.{heads, inst_from}
-use Rattle.proof_machines.proofs.net.Under.{Under}
-use Rattle.proof_machines.proofs.net.UnderSteps.{inst_keeps}
-use Rattle.proof_machines.proofs.net.UnderStarts.{seeing}
+use Rattle.proof_machines.proofs.net.ShareViews.{mine, move_seen, old_seen}
 use Rattle.proof_machines.proofs.net.UnderReadings.{FreshAt, under_fresh}
-use Rattle.proof_machines.proofs.net.Shares.{Any, Any.Old, Any.New, ShareMsg.Shared_on, olds, Sharing}
-use Rattle.proof_machines.proofs.net.Shares.{IsSharing, WantShare, WholeWorld, moves_of, ran_of, SeeingShare}
-use Rattle.proof_machines.proofs.whole.WhereAll.{Came, WhereAll, Apart_from_shares, Under_share}
+use Rattle.proof_machines.proofs.net.Shares.{Any.Old, Any.New, ShareMsg.Shared_on}
 use Rattle.proof_machines.proofs.whole.Readings.{fold_done}
 use Rattle.proof_machines.proofs.whole.FrontSteps.{table_seen}
-use Rattle.proof_machines.proofs.whole.MovePlaces.{processed_where}
 use Rattle.nf_function.specs.declared.unit.Unit as units
-use Rattle.record_table.specs.Table.{same_unit}
 
 module _ {R : Type 0} (S : Sys R) (A : Sharing S) (laws : IsSys S) (u : units.Unit) where
   -- where none of a unit ran, none of its packets did
@@ -88,17 +77,7 @@ module _ {R : Type 0} (S : Sys R) (A : Sharing S) (laws : IsSys S) (u : units.Un
         meets_home : (it : Item R) → share_seen S A z y (Old m) ≡ Some it → Has_run (Some it) → Meets f h.stage y it → y ≡ x.home
         meets_home (Carry q) e r n = n.0
         meets_home (Shared q) e r n = absurd (old_unshared z m q e)
-        meets_home Fence e r n = absurd (r refl)
-        meets_home (Diverted q) e r n = absurd (r refl)
-        meets_home Install e r n = absurd (r refl)
-        meets_home (Forward q i) e r n = absurd (r refl)
-        meets_home Get e r n = absurd (r refl)
-        meets_home (Sync c) e r n = absurd (r refl)
-        meets_home Fenced e r n = absurd (r refl)
-        meets_home (Chunks c) e r n = absurd (r refl)
-        meets_home (Chunk c) e r n = absurd (r refl)
-        meets_home Synced e r n = absurd (r refl)
-        meets_home Stray e r n = absurd (r refl)
+        meets_home it e r n = absurd (r refl)
 
         by_link : (it : Item R) → share_seen S A z y (Old m) ≡ Some it → Has_run (Some it)
             → ((shape f h.stage).sw y ≡ it ∷ left) × (p ≡ 0) ⊎ ((shape f h.stage).to y ≡ it ∷ left) × (p ≡ 1) → y ≡ x.home

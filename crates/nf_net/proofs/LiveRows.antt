@@ -1,52 +1,26 @@
 -- What an instance's step leaves live: what was and isn't removed, and the units that it gains by what it notes.
-use Rattle.std.proofs.Common.{◌≡◌, ℕ, Bool, true, false, cond, Option, Some, None, List, [], ◌∷◌}
-use Rattle.std.proofs.Common.{◌++◌, map, append-nil, append_assoc, refl, sym, ap, ◌∙◌, subst}
-use Rattle.std.specs.Prelude.{if◌then◌else◌, ◌&&◌, ◌||◌, not, is_some, Ok, Err}
-use Rattle.std.specs.List.{flat_map}
+use Rattle.nf_net.proofs.Words.{◌≡◌, ℕ, Bool, true, false, cond, Option, Some, None, List, [], ◌∷◌, ◌++◌, map, append-nil, append_assoc, refl, sym, ap, ◌∙◌}
+use Rattle.nf_net.proofs.Words.{subst, if◌then◌else◌, ◌&&◌, ◌||◌, not, is_some, flat_map, or-false, or_right, or_left, Filter, Site, Chunk, newest}
+use Rattle.nf_net.proofs.Words.{FunctionLaws, Semantics, kept_after, unit_at, Records, same_unit, is_among, either, after_packet, same_unit_equiv, Decide, Mark}
+use Rattle.nf_net.proofs.Words.{FullCell, tally_read, Answer, Piece, Msg, Note, units_in, InstanceState, to_controller, and_then, tell_step, tells_and_notes}
+use Rattle.nf_net.proofs.Words.{with_standby, with_records, keep_note, where_good, is_live, carry_step, tally_put, piece_refusal, instance_step, Each, Config}
+use Rattle.nf_net.proofs.Words.{IsInput, order_numbered, gained_by, is_first_of, is_shared_away, unit_numbered, removed_by, number, Given, chunks_good, Genuine}
+use Rattle.nf_net.proofs.Words.{AreGoodChunks, IsGoodPiece, given}
+use Rattle.std.specs.Prelude.{Ok, Err}
 use Rattle.std.specs.FinMap as finite
-use Rattle.std.proofs.Math.Bool.{or-false}
-use Rattle.std.proofs.lemmas.Bool.{or_right, or_left}
 use Rattle.flow_filter.specs.Flow.{flow_of}
-use Rattle.flow_filter.specs.declared.filter.Filter.{Filter}
-use Rattle.flow_filter.specs.declared.site.Site.{Site}
-use Rattle.nf_function.specs.declared.chunk.Chunk.{Chunk}
 use Rattle.nf_function.specs.declared.unit.Unit as units
-use Rattle.nf_function.specs.Records.{newest, Laws as FunctionLaws}
-use Rattle.nf_function.specs.Semantics.{Semantics, kept_after, unit_at}
-use Rattle.record_table.specs.Table.{Records, same_unit, is_among, either, union_of, after_packet}
+use Rattle.record_table.specs.Table.{union_of}
 use Rattle.record_table.specs.Chunks.{records_of}
 use Rattle.record_table.proofs.RecordLookUps.{get-after_packet, get-joined, get-without}
-use Rattle.record_table.proofs.UnitOrder.{same_unit_equiv}
-use Rattle.event_filter.specs.declared.action.Action.{Action}
-use Rattle.event_filter.specs.declared.decide.Decide.{Decide}
 use Rattle.event_filter.specs.declared.decide.Decide.TheVariants as decide
-use Rattle.event_filter.specs.declared.mark.Mark.{Mark}
 use Rattle.event_filter.specs.declared.mark.Mark.TheVariants as mark
 use Rattle.event_filter.specs.Rules as rules
-use Rattle.packet_pool.specs.Pool.{FullCell}
-use Rattle.state_chunk.specs.Reading.{tally_read}
-use Rattle.nf_msgs.specs.declared.answer.Answer.{Answer}
-use Rattle.nf_msgs.specs.declared.msg.Piece.{Piece}
-use Rattle.nf_msgs.specs.declared.msg.Msg.{Msg}
 use Rattle.nf_msgs.specs.declared.msg.Msg.TheVariants as msg
-use Rattle.nf_msgs.specs.declared.note.Note.{Note}
-use Rattle.nf_msgs.specs.Exports.{units_in}
-use Rattle.instance_worker.specs.declared.instance.Instance.{Instance as InstanceState}
-use Rattle.instance_worker.specs.Instance.{Step, still, to_controller, and_then, tell_step, tells_and_notes, with_live, with_standby, with_records}
-use Rattle.instance_worker.specs.Instance.{imported, keep_note, where_good, is_live, process_step, all_processed, carry_step, on_carry, on_fence, on_stream}
-use Rattle.instance_worker.specs.Instance.{on_get, on_put, on_restore, on_standby, on_sync, on_put_all, tally_put, piece_put, piece_refusal, instance_step}
-use Rattle.proof_machines.proofs.unit.Labels.{Each}
-use Rattle.net_world.specs.declared.config.Config.{Config}
-use Rattle.net_world.specs.Input.{IsInput, order_numbered}
-use Rattle.net_world.specs.Lives.{gained_by, is_first_of, is_shared_away}
-use Rattle.net_world.specs.Places.{unit_numbered}
-use Rattle.net_world.specs.Records.{removed_by}
-use Rattle.proof_outlines.proofs.outline.Outline.{number}
+use Rattle.instance_worker.specs.Instance.{Step, still, with_live}
+use Rattle.instance_worker.specs.Instance.{imported, process_step, all_processed, on_carry, on_fence, on_stream}
+use Rattle.instance_worker.specs.Instance.{on_get, on_put, on_restore, on_standby, on_sync, on_put_all, piece_put}
 use Rattle.nf_net.proofs.paths.ChunkLemmas.{good_units}
-use Rattle.proof_outlines.proofs.joined.Given.{Given}
-use Rattle.proof_outlines.proofs.joined.InstanceKeeps.{chunks_good}
-use Rattle.proof_outlines.proofs.joined.Joined.{Genuine, AreGoodChunks, IsGoodPiece}
-use Rattle.proof_outlines.proofs.joined.StartJoined.{given}
 use Rattle.nf_net.proofs.StandbySteps.{brought_is}
 
 or_true : (a : Bool) → true ≡ a || true
@@ -185,7 +159,7 @@ module _ {R : Type 0} (f : Semantics R) (laws : FunctionLaws f) (c : Config) (it
           ∙ ap (λ us. (is_in i u && not (is_among us u)) || is_among vs u) (sym none)
           ∙ ap (λ us. (is_in i u && not (is_among (removed_by m) u)) || is_among us u) (sym named)
 
-      stays : (m : Msg) (did : Step F R) → removed_by m ≡ [] → did.node.table.live ≡ i.table.live → gains did.notes ≡ [] → Lives m did
+      pub stays : (m : Msg) (did : Step F R) → removed_by m ≡ [] → did.node.table.live ≡ i.table.live → gains did.notes ≡ [] → Lives m did
       stays m did none same named = grows m did [] none (λ u. ap (λ t. is_some (finite.get t u)) same ∙ sym (or-false (is_in i u))) named
 
       -- A packet comes
@@ -320,12 +294,3 @@ module _ {R : Type 0} (f : Semantics R) (laws : FunctionLaws f) (c : Config) (it
         | Ok slots ↦ stays (msg.PutAll op chunk) (tally_put i op (Ok slots)) refl refl refl
         | Err fault ↦ stays (msg.PutAll op chunk) (tally_put i op (Err fault)) refl refl refl
       ]
-
-      pub stop_lives : Lives msg.Stop (instance_step f i msg.Stop)
-      stop_lives = stays msg.Stop (instance_step f i msg.Stop) refl refl refl
-
-      pub enable_lives : (op : ℕ) (filter : Filter) (act : Action) → Lives (msg.Enable op filter act) (instance_step f i (msg.Enable op filter act))
-      enable_lives op filter act = stays (msg.Enable op filter act) (instance_step f i (msg.Enable op filter act)) refl refl refl
-
-      pub get_all_lives : (op : ℕ) → Lives (msg.GetAll op) (instance_step f i (msg.GetAll op))
-      get_all_lives op = stays (msg.GetAll op) (instance_step f i (msg.GetAll op)) refl refl refl

@@ -1,45 +1,19 @@
 -- In a step of a run an instance leaves live what the history says: what was and isn't removed, and what it gains by what it notes.
-use Rattle.std.proofs.Common.{◌≡◌, ℕ, suc, ◌+◌, ◌<◌, Bool, true, false, List, [], ◌∷◌, ◌++◌, length, refl, ap, ◌∙◌, arith}
-use Rattle.std.specs.Prelude.{◌&&◌, ◌||◌, ◌==◌, not}
-use Rattle.std.specs.Option.{option_map_or}
-use Rattle.std.specs.List.{list_any}
-use Rattle.std.proofs.lemmas.Bool.Decides.{nat_tests}
-use Rattle.nf_function.specs.declared.chunk.Chunk.{Chunk}
+use Rattle.nf_net.proofs.Words.{◌≡◌, ℕ, suc, ◌+◌, ◌<◌, Bool, true, false, List, [], ◌∷◌, ◌++◌, length, refl, ap, ◌∙◌, arith, ◌&&◌, ◌||◌, ◌==◌, not}
+use Rattle.nf_net.proofs.Words.{option_map_or, list_any, nat_tests, Chunk, FunctionLaws, Semantics, same_unit_equiv, FullCell, Msg, Note, instance_node}
+use Rattle.nf_net.proofs.Words.{InstanceState, instance_step, Network, queue_at, Each, New, Shared_on, S_sync, Config, Node, IsInput, order_numbered}
+use Rattle.nf_net.proofs.Words.{before_begun, is_first_of, is_shared_away, has_begun, installs_in, begins_in, first_owner, is_home, owner_after, shared_among}
+use Rattle.nf_net.proofs.Words.{unit_numbered, held_genuine, number, entries, Given, Rows, by_message, Genuine, IsInstanceAt, IsTaken, Joined, Scene, AllApart}
+use Rattle.nf_net.proofs.Words.{installed_quiet, IsQuiet, given}
 use Rattle.nf_function.specs.declared.unit.Unit as units
-use Rattle.nf_function.specs.Records.{Laws as FunctionLaws}
-use Rattle.nf_function.specs.Semantics.{Semantics}
-use Rattle.record_table.proofs.UnitOrder.{same_unit_equiv}
 use Rattle.event_filter.specs.declared.mark.Mark.TheVariants as mark
-use Rattle.packet_pool.specs.Pool.{FullCell}
-use Rattle.nf_msgs.specs.declared.msg.Msg.{Msg}
 use Rattle.nf_msgs.specs.declared.msg.Msg.TheVariants as msg
-use Rattle.nf_msgs.specs.declared.note.Note.{Note}
-use Rattle.nf_msgs.specs.Nodes.{instance_node}
-use Rattle.instance_worker.specs.declared.instance.Instance.{Instance as InstanceState}
-use Rattle.instance_worker.specs.Instance.{instance_step}
-use Rattle.actor_net.specs.Network.{Network, queue_at}
 use Rattle.actor_net.proofs.EnabledChoices.{at as at_node}
-use Rattle.proof_machines.proofs.unit.Labels.{Each}
-use Rattle.proof_machines.proofs.net.Shares.{New, Shared_on, S_sync}
-use Rattle.net_world.specs.declared.config.Config.{Config}
-use Rattle.net_world.specs.declared.node.Node.{Node}
-use Rattle.net_world.specs.Input.{IsInput, order_numbered}
-use Rattle.net_world.specs.Lives.{before_begun, is_first_of, is_shared_away}
-use Rattle.net_world.specs.Log.{has_begun, installs_in, begins_in}
-use Rattle.net_world.specs.Places.{first_owner, is_home, owner_after, shared_among, unit_numbered}
-use Rattle.proof_outlines.proofs.outline.InstanceOutline.{held_genuine}
-use Rattle.proof_outlines.proofs.outline.Outline.{number, entries}
 use Rattle.nf_net.proofs.paths.SharedOwners.{HomesOwn}
-use Rattle.proof_outlines.proofs.joined.Given.{Given}
-use Rattle.proof_outlines.proofs.joined.InstanceMessages.{Rows, by_message}
-use Rattle.proof_outlines.proofs.joined.Joined.{Genuine, IsInstanceAt, IsTaken, Joined, Scene}
-use Rattle.proof_outlines.proofs.joined.OperationsApart.{AllApart}
-use Rattle.proof_outlines.proofs.joined.OwnerLemmas.{installed_quiet, begun_quiet}
-use Rattle.proof_outlines.proofs.joined.PlaceNotes.{IsQuiet}
-use Rattle.proof_outlines.proofs.joined.StartJoined.{given}
+use Rattle.proof_outlines.proofs.joined.OwnerLemmas.{begun_quiet}
 use Rattle.nf_net.proofs.answers.BusyRuns.{Busy}
-use Rattle.nf_net.proofs.LiveRows.{Lives, Free, carry_lives, away_lives, fence_lives, delete_lives, put_lives, restore_lives, standby_lives}
-use Rattle.nf_net.proofs.LiveRows.{sync_lives, stream_lives, get_lives, put_all_lives, stop_lives, enable_lives, get_all_lives}
+use Rattle.nf_net.proofs.LiveRows.{stays, Lives, Free, carry_lives, away_lives, fence_lives, delete_lives, put_lives, restore_lives, standby_lives}
+use Rattle.nf_net.proofs.LiveRows.{sync_lives, stream_lives, get_lives, put_all_lives}
 use Rattle.nf_net.proofs.LiveShares.{away_marked, first_synced}
 use Rattle.nf_net.proofs.NumberedUnits.{units_fit}
 use Rattle.nf_net.proofs.ShareOwners.{OwnersStay, installed_before}
@@ -123,14 +97,15 @@ module _ {F R : Type 0} (f : Semantics R) (laws : FunctionLaws f) (c : Config) (
     pass = λ op cell e t copied free. carry_lives f laws c items is y w.log i site (mark.Pass op) cell e refl free;
     shared = shared_lives;
     fence = λ op t copied free. fence_lives f laws c items is y w.log i site op (held_genuine g.site g.packet op i.rules at.rules.held) free;
-    stop = λ t copied free. stop_lives f laws c items is y w.log i site;
-    enable = λ op filter act whole ruled t copied free. enable_lives f laws c items is y w.log i site op filter act;
+    stop = λ t copied free. stays f laws c items is y w.log i site msg.Stop (instance_step f i msg.Stop) refl refl refl;
+    enable = λ op filter act whole ruled t copied free. stays f laws c items is y w.log i site (msg.Enable op filter act)
+        (instance_step f i (msg.Enable op filter act)) refl refl refl;
     stream = λ op filter whole t copied free. stream_lives f laws c items is y w.log i site op filter;
     delete = λ op gone t copied free. delete_lives f laws c items is y w.log i site op gone;
     put = λ op piece first good t copied free. put_lives f laws c items is y w.log i site op piece first good;
     restore = λ op chunks good t copied free. restore_lives f laws c items is y w.log i site op chunks good;
     get = λ op filter whole t copied free. get_lives f laws c items is y w.log i site op filter;
-    get_all = λ op t copied free. get_all_lives f laws c items is y w.log i site op;
+    get_all = λ op t copied free. stays f laws c items is y w.log i site (msg.GetAll op) (instance_step f i (msg.GetAll op)) refl refl refl;
     standby = λ op chunks good t copied free. standby_lives f laws c items is y w.log i site op chunks good (copied op chunks refl);
     put_all = λ op chunk t copied free. put_all_lives f laws c items is y w.log i site op chunk;
     sync = λ home op chunks good t copied free. sync_lives f laws c items is y w.log i site home op chunks good

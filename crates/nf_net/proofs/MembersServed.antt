@@ -1,38 +1,23 @@
 -- Where one packet of a unit that a share has is processed: at its member, if it came while the unit's packets were diverted, and else at home.
-use Rattle.std.proofs.Common.{◌≡◌, ◌≢◌, ℕ, ◌+◌, ◌≤◌, Bool, true, false, cond, Option, Some, None, List}
-use Rattle.std.proofs.Common.{[], ◌∷◌, ◌++◌, map, ◌⊎◌, inl, inr, refl, sym, ap, ◌∙◌, subst, arith}
-use Rattle.std.specs.Prelude.{if◌then◌else◌, ◌&&◌, ◌==◌}
-use Rattle.std.proofs.lemmas.Bool.Decides.{nat_tests, Decides-eqb}
-use Rattle.proof_machines.proofs.unit.Real.{add}
-use Rattle.proof_machines.proofs.unit.Stages.{times, IsOrderedAs}
+use Rattle.nf_net.proofs.Words.{◌≡◌, ◌≢◌, ℕ, ◌+◌, ◌≤◌, Bool, true, false, cond, Option, Some, None, List, [], ◌∷◌, ◌++◌, map, ◌⊎◌, inl, inr, refl, sym, ap, ◌∙◌}
+use Rattle.nf_net.proofs.Words.{subst, arith, if◌then◌else◌, ◌&&◌, ◌==◌, nat_tests, Decides-eqb, add, IsOrderedAs, same_of, Ran, UnitShare, Stage, served}
+use Rattle.nf_net.proofs.Words.{shape, to_members, Sys, IsSys, none_mine, GlobalAll, NoShare, head_none, share_expect, unit_share, share_seen, share_items}
+use Rattle.nf_net.proofs.Words.{own_at, does, heads, inst_from, Under, inst_keeps, seeing, Any, ShareMsg, olds, Sharing, IsSharing, OpenShare, WantShare}
+use Rattle.nf_net.proofs.Words.{member_step, WholeWorld, moves_of, ran_of, SeeingShare, Came, WhereAll, Apart_from_shares, Under_share, ItsShare, its_share}
+use Rattle.nf_net.proofs.Words.{ran_by, MayRun, processed_where, same_unit, Stands, In_first, In_second, stands}
+use Rattle.proof_machines.proofs.unit.Stages.{times}
 use Rattle.proof_machines.proofs.unit.Loose.{times-append}
-use Rattle.proof_machines.proofs.unit.Ends.{same_of}
-use Rattle.proof_machines.proofs.share.Share.{Ran, Item, Item.Carry, UnitShare}
-use Rattle.proof_machines.proofs.share.Stages.{Stage, Stage.Diverting, Stage.Fence_goes, Stage.Fenced_comes, Stage.Get_goes, Stage.Chunks_come}
-use Rattle.proof_machines.proofs.share.Stages.{Stage.Spreads, Stage.Resting, Stage.Forwards, Stage.Carries, Stage.Chunk_comes, packets, served, shape}
+use Rattle.proof_machines.proofs.share.Share.{Item, Item.Carry}
+use Rattle.proof_machines.proofs.share.Stages.{Stage.Diverting}
+use Rattle.proof_machines.proofs.share.Stages.{packets}
 use Rattle.proof_machines.proofs.share.Order.{Parts, parts}
-use Rattle.proof_machines.proofs.share.Heads.{to_members}
 use Rattle.proof_machines.proofs.share.Places.{At_places}
-use Rattle.proof_machines.proofs.net.Net.{Sys, IsSys, at_node}
-use Rattle.proof_machines.proofs.net.Rest.{none_mine}
-use Rattle.proof_machines.proofs.net.GlobalAll.{GlobalAll}
-use Rattle.proof_machines.proofs.net.Untaken.{NoShare, head_none}
-use Rattle.proof_machines.proofs.net.ShareViews.{share_expect, unit_share, share_seen, share_items, own_at}
-use Rattle.proof_machines.proofs.net.MemberSteps.{does}
-use Rattle.proof_machines.proofs.net.UnderInst.{did_at, heads, inst_from}
-use Rattle.proof_machines.proofs.net.Under.{Under}
-use Rattle.proof_machines.proofs.net.UnderSteps.{inst_keeps}
-use Rattle.proof_machines.proofs.net.UnderStarts.{seeing}
+use Rattle.proof_machines.proofs.net.Net.{at_node}
+use Rattle.proof_machines.proofs.net.UnderInst.{did_at}
 use Rattle.proof_machines.proofs.net.UnderReadings.{all_done}
-use Rattle.proof_machines.proofs.net.Shares.{Any, Any.Old, Any.New, ShareMsg, ShareMsg.Shared_on, ShareMsg.S_sync, olds, Sharing}
-use Rattle.proof_machines.proofs.net.Shares.{IsSharing, OpenShare, WantShare, member_step, WholeWorld, moves_of, ran_of, SeeingShare}
-use Rattle.proof_machines.proofs.whole.WhereAll.{Came, WhereAll, Apart_from_shares, Under_share}
-use Rattle.proof_machines.proofs.whole.Readings.{ItsShare, its_share}
-use Rattle.proof_machines.proofs.whole.PlacesAll.{ran_by, Processes, As_moves, At_member, processes_all}
-use Rattle.proof_machines.proofs.whole.MovePlaces.{MayRun, processed_where}
+use Rattle.proof_machines.proofs.net.Shares.{Any.Old, Any.New, ShareMsg.Shared_on, ShareMsg.S_sync}
+use Rattle.proof_machines.proofs.whole.PlacesAll.{Processes, As_moves, At_member, processes_all}
 use Rattle.nf_function.specs.declared.unit.Unit as units
-use Rattle.record_table.specs.Table.{same_unit}
-use Rattle.proof_outlines.proofs.joined.OwnerLemmas.{Stands, In_first, In_second, stands}
 
 -- A packet among some, with its node.
 pub some_times : (front back : List Ran) (p y : ℕ) → 1 ≤ times p (packets (front ++ (p, y) ∷ back))
@@ -61,27 +46,11 @@ module _ {R : Type 0} (f : UnitShare R) where
     | true ↦ λ on _. (Decides-eqb y f.home).0 on
     | false ↦ λ _ never. cc
   ] refl e
-  home_head (Fence_goes d b l q v) off y it rest e = cc
-  home_head (Fenced_comes d b q v) off y it rest e = cc
-  home_head (Get_goes d b q v) off y it rest e = cc
-  home_head (Chunks_come d b q v) off y it rest e = cc
-  home_head (Spreads first d a b c at o left q v) off y it rest e = cc
-  home_head (Resting d a v) off y it rest e = cc
-  home_head (Forwards d a p q v) off y it rest e = cc
-  home_head (Carries d a p q v) off y it rest e = cc
-  home_head (Chunk_comes d a p q v) off y it rest e = cc
+  home_head s off y it rest e = cc
 
   none_to : (s : Stage R) → (shape f s).diverts ≡ false → (y : ℕ) (it : Item R) (rest : List (Item R)) → (shape f s).to y ≡ it ∷ rest → y ≡ f.home
   none_to (Diverting d b l) off y it rest e = cc
-  none_to (Fence_goes d b l q v) off y it rest e = cc
-  none_to (Fenced_comes d b q v) off y it rest e = cc
-  none_to (Get_goes d b q v) off y it rest e = cc
-  none_to (Chunks_come d b q v) off y it rest e = cc
-  none_to (Spreads first d a b c at o left q v) off y it rest e = cc
-  none_to (Resting d a v) off y it rest e = cc
-  none_to (Forwards d a p q v) off y it rest e = cc
-  none_to (Carries d a p q v) off y it rest e = cc
-  none_to (Chunk_comes d a p q v) off y it rest e = cc
+  none_to s off y it rest e = cc
 
 module _ {R : Type 0} (S : Sys R) (A : Sharing S) (laws : IsSys S) (u : units.Unit) where
   -- a packet of the unit where an instance processes some

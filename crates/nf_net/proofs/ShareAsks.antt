@@ -1,24 +1,17 @@
 -- A share asks once for the state of its units, when the fence has come to its home; nothing else that it sends is sent once for a command.
-use Rattle.std.proofs.Common.{◌≡◌, ℕ, ◌+◌, ◌≤◌, Bool, true, false, Option, Some, None, List, [], ◌∷◌, map, refl, ap, subst, arith}
-use Rattle.std.specs.Prelude.{◌==◌, ◌-◌, if◌then◌else◌, length}
-use Rattle.std.proofs.lemmas.Bool.Decides.{nat_tests}
-use Rattle.nf_function.specs.declared.chunk.Chunk.{Chunk}
-use Rattle.packet_pool.specs.Pool.{FullCell}
+use Rattle.nf_net.proofs.Words.{◌≡◌, ℕ, ◌+◌, ◌≤◌, Bool, true, false, Option, Some, None, List, [], ◌∷◌, map, refl, ap, subst, arith, ◌==◌, ◌-◌, if◌then◌else◌}
+use Rattle.nf_net.proofs.Words.{nat_tests, Chunk, FullCell, Answer, Msg, switch_node, instance_node, SharePhase, SharePlan, ShareRow, home, others, syncs}
+use Rattle.nf_net.proofs.Words.{setting, syncing, on_fenced, on_chunks, on_shared, on_synced, service_if_idle, sent_weight, OpenAt, answered, ShareLeaves}
+use Rattle.std.specs.Prelude.{length}
 use Rattle.event_filter.specs.declared.mark.Mark.TheVariants.{Shared}
-use Rattle.nf_msgs.specs.declared.answer.Answer.{Answer}
 use Rattle.nf_msgs.specs.declared.answer.Answer.TheVariants.{Done}
-use Rattle.nf_msgs.specs.declared.msg.Msg.{Msg}
 use Rattle.nf_msgs.specs.declared.msg.Msg.TheVariants as msg
-use Rattle.nf_msgs.specs.Nodes.{switch_node, instance_node}
-use Rattle.copy_share.specs.declared.share_phase.SharePhase.{SharePhase}
 use Rattle.copy_share.specs.declared.share_phase.SharePhase.TheVariants as phase
-use Rattle.copy_share.specs.Share.{SharePlan, ShareRow, next_phase, home, others, syncs, setting, syncing}
-use Rattle.copy_share.specs.Share.{on_fenced, on_chunks, on_shared, on_synced, row, member_of, service_if_idle}
+use Rattle.copy_share.specs.Share.{next_phase}
+use Rattle.copy_share.specs.Share.{row, member_of}
 use Rattle.ctrl_node.specs.Controller.{Step}
-use Rattle.actor_net.proofs.WeightLaws.{sent_weight}
 use Rattle.nf_net.proofs.answers.CreditCounts.{sent_weight-append}
 use Rattle.nf_net.proofs.answers.MoveOnce.{once, NoneOnce, no_more, no_one, at_most, few_counts}
-use Rattle.proof_outlines.proofs.whole.ShareLeft.{OpenAt, answered, ShareLeaves}
 
 -- how often a share has asked in this phase
 abbrev pub asked : SharePhase → ℕ
@@ -27,11 +20,7 @@ asked ph = 1
 
 pub asked_few : (ph : SharePhase) → asked ph ≤ 1
 asked_few phase.Fencing = omega arith
-asked_few phase.Getting = omega arith
-asked_few (phase.Setting left) = omega arith
-asked_few phase.Idle = omega arith
-asked_few (phase.Out member) = omega arith
-asked_few (phase.Syncing left) = omega arith
+asked_few ph = omega arith
 
 module _ (n : ℕ) (first : Bool) (plan : SharePlan) where
   -- what a share in a phase sends, and what it goes to
@@ -112,22 +101,12 @@ module _ (n : ℕ) (first : Bool) (plan : SharePlan) where
   -- what is served counts for nothing
   served_same : (ph : SharePhase) (cells : List FullCell) → asked (service_if_idle plan ph cells).phase ≡ asked ph
   served_same phase.Idle (cell ∷ cells) = refl
-  served_same phase.Idle [] = refl
-  served_same phase.Fencing cells = refl
-  served_same phase.Getting cells = refl
-  served_same (phase.Setting left) cells = refl
-  served_same (phase.Out member) cells = refl
-  served_same (phase.Syncing left) cells = refl
+  served_same ph cells = refl
 
   served_none : (ph : SharePhase) (cells : List FullCell) → NoneOnce n 1 first (service_if_idle plan ph cells).sends
   served_none phase.Idle (cell ∷ cells) =
       no_one n 1 first switch_node (msg.Forward (member_of plan cell) (Shared plan.op (member_of plan cell == home plan)) cell) (λ op. refl)
-  served_none phase.Idle [] = λ op. refl
-  served_none phase.Fencing cells = λ op. refl
-  served_none phase.Getting cells = λ op. refl
-  served_none (phase.Setting left) cells = λ op. refl
-  served_none (phase.Out member) cells = λ op. refl
-  served_none (phase.Syncing left) cells = λ op. refl
+  served_none ph cells = λ op. refl
 
 -- A row of an open share, behind which it serves what it may.
 module _ (n : ℕ) (first : Bool) (x : OpenAt) (op_is : x.share.plan.op ≡ x.num) (r : ShareRow) (did : Step) (l : ShareLeaves x r did)

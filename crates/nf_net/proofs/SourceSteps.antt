@@ -1,66 +1,27 @@
 -- As long as a move hasn't changed the rules, a unit that it takes from its source stays with the source: what each node's step keeps of it.
-use Rattle.std.proofs.Common.{◌≡◌, ◌≢◌, ℕ, suc, true, false, Option, Some, None, List, [], ◌∷◌, ◌++◌, append_assoc, refl, sym, ap, ◌∙◌, subst, arith}
-use Rattle.std.specs.Prelude.{◌&&◌, ◌||◌, ◌==◌}
-use Rattle.std.specs.List.{filter_map}
+use Rattle.nf_net.proofs.Words.{◌≡◌, ◌≢◌, ℕ, suc, true, false, Option, Some, None, List, [], ◌∷◌, ◌++◌, append_assoc, refl, sym, ap, ◌∙◌, subst, arith, ◌&&◌}
+use Rattle.nf_net.proofs.Words.{◌||◌, ◌==◌, filter_map, nat_tests, or-true, Filter, Output, FunctionLaws, Semantics, takes, stored_of, same_unit}
+use Rattle.nf_net.proofs.Words.{same_unit_equiv, Msg, Note, instance_node, Phase, MoveState, Move, InstanceState, instance_step, Network, queue_at, Each}
+use Rattle.nf_net.proofs.Words.{each-append, behind_nil, Open, find_op, none_mine, where_two, Any, New, ShareMsg, olds, moves_of, member_step, seeing, Where}
+use Rattle.nf_net.proofs.Words.{head_none, Config, Node, is_begun, IsInput, order_numbered, installs_in, owner, owner_after, first_owner, unit_numbered}
+use Rattle.nf_net.proofs.Words.{has_begun-append, Sees, is_whole, unit_fits, takes_whole, takes_same, Given, place, S, A, Scene, IsTaken, IsInstanceAt, Joined}
+use Rattle.nf_net.proofs.Words.{came_by, outline_phase, ran_in, is_sys, installed_same, installed_quiet, Stands, In_first, In_second, stands, IsQuiet}
+use Rattle.nf_net.proofs.Words.{instance_quiet, AreUnprocessed, RanAs, Seen, Unseen, ran_as, ran_any, given, all_fit, but_shares, move_apart, WhereAll}
+use Rattle.nf_net.proofs.Words.{Apart_from_shares, Under_share}
 use Rattle.std.specs.FinMap as finite
-use Rattle.std.proofs.lemmas.Bool.Decides.{nat_tests}
 use Rattle.std.proofs.lemmas.List.{append_cancel_left}
-use Rattle.std.proofs.Math.Bool.{or-true}
-use Rattle.flow_filter.specs.declared.filter.Filter.{Filter}
-use Rattle.nf_function.specs.declared.output.Output.{Output}
 use Rattle.nf_function.specs.declared.unit.Unit as units
-use Rattle.nf_function.specs.Records.{Laws as FunctionLaws}
-use Rattle.nf_function.specs.Semantics.{Semantics}
-use Rattle.nf_function.specs.Units.{takes}
-use Rattle.event_store.specs.Store.{stored_of}
-use Rattle.record_table.specs.Table.{same_unit}
-use Rattle.record_table.proofs.UnitOrder.{same_unit_equiv}
 use Rattle.nf_msgs.specs.declared.answer.Answer.TheVariants as answer
-use Rattle.nf_msgs.specs.declared.msg.Msg.{Msg}
-use Rattle.nf_msgs.specs.declared.note.Note.{Note}
 use Rattle.nf_msgs.specs.declared.note.Note.TheVariants as note
-use Rattle.nf_msgs.specs.Nodes.{instance_node}
-use Rattle.move_op.specs.Phases.{Phase}
 use Rattle.move_op.specs.Phases as phase
-use Rattle.move_op.specs.Move.{MoveState}
-use Rattle.ctrl_node.specs.declared.operation.Operation.TheVariants.{Move}
-use Rattle.instance_worker.specs.declared.instance.Instance.{Instance as InstanceState}
-use Rattle.instance_worker.specs.Instance.{instance_step}
-use Rattle.actor_net.specs.Network.{Network, queue_at}
 use Rattle.actor_net.proofs.EnabledChoices.{at as at_node}
-use Rattle.proof_machines.proofs.unit.Labels.{Each, each-append}
 use Rattle.proof_machines.proofs.unit.Real as real
-use Rattle.proof_machines.proofs.unit.Rests.{behind_nil}
 use Rattle.proof_machines.proofs.net.Net as net
-use Rattle.proof_machines.proofs.net.Net.{Open, find_op}
-use Rattle.proof_machines.proofs.net.Rest.{none_mine}
-use Rattle.proof_machines.proofs.net.Elsewhere.{where_two}
-use Rattle.proof_machines.proofs.net.Shares.{Any, Old, New, ShareMsg, olds, moves_of, member_step}
+use Rattle.proof_machines.proofs.net.Shares.{Old}
 use Rattle.proof_machines.proofs.net.Sources.{is_early_real, at_source, untaken}
-use Rattle.proof_machines.proofs.net.UnderStarts.{seeing}
-use Rattle.proof_machines.proofs.net.Units.{Where}
-use Rattle.proof_machines.proofs.net.Untaken.{head_none}
-use Rattle.net_world.specs.declared.config.Config.{Config}
-use Rattle.net_world.specs.declared.node.Node.{Node}
-use Rattle.net_world.specs.Commands.{is_begun}
-use Rattle.net_world.specs.Input.{IsInput, order_numbered}
-use Rattle.net_world.specs.Log.{installs_in}
-use Rattle.net_world.specs.Places.{owner, owner_after, first_owner, unit_numbered}
-use Rattle.net_world.proofs.LogLemmas.{has_begun-append}
-use Rattle.proof_outlines.proofs.outline.ControlOutline.{Sees, SeesMove}
-use Rattle.proof_outlines.proofs.outline.FiltersApart.{is_whole, unit_fits, takes_whole, takes_same}
+use Rattle.proof_outlines.proofs.outline.ControlOutline.{SeesMove}
 use Rattle.nf_net.proofs.answers.InstallCounts.{passed}
-use Rattle.proof_outlines.proofs.joined.Given.{Given, place}
-use Rattle.proof_outlines.proofs.joined.Joined.{S, A, Scene, IsTaken, IsInstanceAt, Joined, came_by}
-use Rattle.proof_outlines.proofs.outline.MoveOutline.{outline_phase}
-use Rattle.proof_outlines.proofs.outline.Outline.{ran_in, is_sys}
-use Rattle.proof_outlines.proofs.joined.OwnerLemmas.{installed_same, installed_quiet, Stands, In_first, In_second, stands}
-use Rattle.proof_outlines.proofs.joined.PlaceNotes.{IsQuiet, instance_quiet, AreUnprocessed}
-use Rattle.proof_outlines.proofs.joined.RunUnits.{RanAs, Seen, Unseen, ran_as, ran_any}
-use Rattle.proof_outlines.proofs.joined.StartJoined.{given, all_fit}
-use Rattle.proof_outlines.proofs.whole.OpenShares.{but_shares}
-use Rattle.proof_machines.proofs.whole.UnderMoves.{move_apart, not_taken}
-use Rattle.proof_machines.proofs.whole.WhereAll.{WhereAll, Apart_from_shares, Under_share}
+use Rattle.proof_machines.proofs.whole.UnderMoves.{not_taken}
 use Rattle.nf_net.proofs.MembersServed.{mine_there, unseen_ran}
 use Rattle.nf_net.proofs.NumberedUnits.{RanThere, ran_there}
 use Rattle.nf_net.proofs.UnitShares.{owner_goes}
@@ -81,16 +42,7 @@ early_outline : {R : Type 0} (f : Semantics R) (place : List ℕ → Option ℕ)
 early_outline f place phase.Passing e = cc
 early_outline f place phase.Ending e = cc
 early_outline f place (phase.Over answer.Done) e = cc
-early_outline f place (phase.Over (answer.Unknown name)) e = refl
-early_outline f place (phase.Over (answer.Overlap op)) e = refl
-early_outline f place (phase.Over (answer.Import a b d)) e = refl
-early_outline f place (phase.Over (answer.Old a b)) e = refl
-early_outline f place phase.Freezing e = refl
-early_outline f place (phase.Streaming frozen free came door) e = refl
-early_outline f place phase.Holding e = refl
-early_outline f place (phase.Restoring why) e = refl
-early_outline f place (phase.Returning why) e = refl
-early_outline f place (phase.Undoing why) e = refl
+early_outline f place ph e = refl
 
 module _ {R : Type 0} (f : Semantics R) (c : Config) (items : List Msg) where
   -- a packet of the unit was processed at the instance
@@ -259,13 +211,7 @@ module _ {F R : Type 0} (f : Semantics R) (laws : FunctionLaws f) (c : Config) (
                 quiet_there : (xs : List Note) → Each (IsQuiet own.index) (xs ++ note.Processed number i output ∷ after) → i ≡ own.index
                 quiet_there [] h = h.0
                 quiet_there (x ∷ xs) h = quiet_there xs h.1
-        one_at before after (note.Arrived number) e = tt
-        one_at before after (note.Begun o) e = tt
-        one_at before after (note.Exported i o us) e = tt
-        one_at before after (note.Imported i o us) e = tt
-        one_at before after (note.Kept i o us) e = tt
-        one_at before after (note.Installed o) e = tt
-        one_at before after (note.Answered o a) e = tt
+        one_at before after x e = tt
 
         instance_at : AreAt f c items u m.plan.from notes
         instance_at = each_by (Is_at f c items u m.plan.from) [] notes notes refl one_at

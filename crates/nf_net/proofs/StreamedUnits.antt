@@ -1,33 +1,19 @@
 -- The pieces of a stream say how many units are given, and whether one of them has a record with a time; and a record has one exactly where a
 -- packet of its unit came later than at time 0.
-use Rattle.std.proofs.Common.{◌≡◌, ℕ, zero, suc, Bool, true, false, cond, Option, Some, None, List, [], ◌∷◌, map, length, take, drop, refl, sym, ap, ◌∙◌, subst}
-use Rattle.std.specs.Prelude.{if◌then◌else◌, ◌&&◌, ◌||◌, max, nat_le}
-use Rattle.std.specs.List.{list_any, IsDistinct, AllByRecursion}
-use Rattle.std.specs.Map.{keys_of}
+use Rattle.nf_net.proofs.Words.{◌≡◌, ℕ, zero, suc, Bool, true, false, cond, Option, Some, None, List, [], ◌∷◌, map, length, take, drop, refl, sym, ap, ◌∙◌}
+use Rattle.nf_net.proofs.Words.{subst, if◌then◌else◌, ◌&&◌, ◌||◌, nat_le, list_any, AllByRecursion, keys_of, IsDistinct-head, IsDistinct-tail, or-false, Filter}
+use Rattle.nf_net.proofs.Words.{Chunk, takes, Fits, FunctionLaws, Semantics, kept_after, version_number, record_chunk, Records, same_unit, taken_by}
+use Rattle.nf_net.proofs.Words.{distinct_entries, one_unit, same_unit_equiv, same_unit-true, Msg, Piece, units_in, WholePieces, piece_of, whole_of, pieces}
+use Rattle.nf_net.proofs.Words.{Each, each_map, Chunks, Config, packet_numbered}
+use Rattle.std.specs.Prelude.{max}
+use Rattle.std.specs.List.{IsDistinct}
 use Rattle.std.specs.FinMap as finite
-use Rattle.std.proofs.lemmas.Map.Keys.{IsDistinct-head, IsDistinct-tail}
-use Rattle.std.proofs.Math.Bool.{or-false}
-use Rattle.flow_filter.specs.declared.filter.Filter.{Filter}
-use Rattle.nf_function.specs.declared.chunk.Chunk.{Chunk}
 use Rattle.nf_function.specs.declared.unit.Unit as units
-use Rattle.nf_function.specs.Units.{has_times, takes}
-use Rattle.nf_function.specs.Records.{Fits, Laws as FunctionLaws, is_timed_kept}
-use Rattle.nf_function.specs.Semantics.{Semantics, kept_after}
-use Rattle.state_chunk.specs.Format.{version_number, record_chunk}
-use Rattle.record_table.specs.Table.{Records, same_unit, taken_by}
+use Rattle.nf_function.specs.Units.{has_times}
+use Rattle.nf_function.specs.Records.{is_timed_kept}
 use Rattle.record_table.specs.Chunks.{chunks_of}
-use Rattle.record_table.proofs.MadeChunks.{distinct_entries}
 use Rattle.record_table.proofs.RecordLookUps.{at}
-use Rattle.record_table.proofs.UnitOrder.{one_unit, same_unit_equiv, same_unit-true}
-use Rattle.nf_msgs.specs.declared.msg.Msg.{Msg}
-use Rattle.nf_msgs.specs.declared.msg.Piece.{Piece}
-use Rattle.nf_msgs.specs.Exports.{units_in}
-use Rattle.instance_worker.specs.declared.pieces.WholePieces.{WholePieces}
-use Rattle.instance_worker.specs.Pieces.{newest_version, piece_of, pieces_from, whole_of, pieces}
-use Rattle.proof_machines.proofs.unit.Labels.{Each, each_map}
-use Rattle.proof_machines.proofs.unit.Real.{Chunks}
-use Rattle.net_world.specs.declared.config.Config.{Config}
-use Rattle.net_world.specs.Input.{packet_numbered}
+use Rattle.instance_worker.specs.Pieces.{newest_version, pieces_from}
 use Rattle.net_world.specs.Fold.{fold}
 use Rattle.proof_outlines.proofs.outline.Outline.{newest_in}
 use Rattle.proof_outlines.proofs.outline.StateOutline.{newest_made}

@@ -1,58 +1,26 @@
 -- The share of a unit in a world of a run: a share that the switch has installed is open, and of all open ones it alone takes its units. So what
 -- the log says of the unit's members is what the controller serves.
-use Rattle.std.proofs.Common.{◌≡◌, ℕ, ◌+◌, ◌<◌, ◌≤◌, inl, inr, Bool, true, false, Option, Some}
-use Rattle.std.proofs.Common.{None, List, [], ◌∷◌, map, length, refl, sym, ap, ◌∙◌, subst, arith}
-use Rattle.std.specs.Prelude.{if◌then◌else◌, ◌&&◌, ◌||◌, ◌==◌, ◌%◌, not, find, is_some, slice_index, slice_index_or}
-use Rattle.std.specs.List.{filter_map}
+use Rattle.nf_net.proofs.Words.{◌≡◌, ℕ, ◌+◌, ◌<◌, ◌≤◌, inl, inr, Bool, true, false, Option, Some, None, List, [], ◌∷◌, map, length, refl, sym, ap, ◌∙◌, subst}
+use Rattle.nf_net.proofs.Words.{arith, if◌then◌else◌, ◌&&◌, ◌||◌, ◌==◌, not, find, is_some, slice_index, slice_index_or, filter_map, length-map, Decides-eqb}
+use Rattle.nf_net.proofs.Words.{Filter, Flow, Semantics, takes, Msg, Note, instance_node, ShareState, home, SharePhase, Operation, Move, Copy, Share, place_of}
+use Rattle.nf_net.proofs.Words.{Network, Stage, shape, where_two, found_each, unit_share, OpenShare, moves_of, ElsewhereHome, seeing, ItsShare, its_share}
+use Rattle.nf_net.proofs.Words.{WhereAll, Apart_from_shares, Under_share, Config, Node, Controller, is_begun, has_answered, is_share, answers_of}
+use Rattle.nf_net.proofs.Words.{times_installed, IsInput, order_numbered, packet_numbered, installs_in, first_owner, is_home, owner, members, member_for}
+use Rattle.nf_net.proofs.Words.{unit_fits, takes_whole, takes_same, is_sys, Both, both, RealShare, real_share, Given, place, is_diverted, S, A, Joined, came_by}
+use Rattle.nf_net.proofs.Words.{AreApart, AllApart, names_known, given}
+use Rattle.std.specs.Prelude.{◌%◌}
 use Rattle.std.specs.FinMap as finite
 use Rattle.std.proofs.lemmas.Nat.{mod_below}
-use Rattle.std.proofs.lemmas.List.{length-map}
-use Rattle.std.proofs.lemmas.Bool.Decides.{Decides-eqb}
-use Rattle.flow_filter.specs.declared.filter.Filter.{Filter}
-use Rattle.flow_filter.specs.declared.flow.Flow.{Flow}
 use Rattle.flow_filter.specs.Flow.{flow_of}
 use Rattle.nf_function.specs.declared.unit.Unit as units
-use Rattle.nf_function.specs.Semantics.{Semantics}
-use Rattle.nf_function.specs.Units.{takes}
 use Rattle.nf_msgs.specs.declared.answer.Answer.TheVariants.{Done}
 use Rattle.nf_msgs.specs.declared.command.Order.TheVariants as order
-use Rattle.nf_msgs.specs.declared.msg.Msg.{Msg}
-use Rattle.nf_msgs.specs.declared.note.Note.{Note}
-use Rattle.nf_msgs.specs.Nodes.{instance_node}
-use Rattle.copy_share.specs.Share.{ShareState, home}
-use Rattle.copy_share.specs.declared.share_phase.SharePhase.{SharePhase}
 use Rattle.copy_share.specs.declared.share_phase.SharePhase.TheVariants as phase
-use Rattle.ctrl_node.specs.declared.operation.Operation.{Operation}
-use Rattle.ctrl_node.specs.declared.operation.Operation.TheVariants.{Move, Copy, Share}
-use Rattle.flow_filter.specs.Name.{place_of}
-use Rattle.actor_net.specs.Network.{Network}
 use Rattle.proof_machines.proofs.share.Share as machine
-use Rattle.proof_machines.proofs.share.Stages.{Stage, Stage.Diverting, Stage.Fence_goes, Stage.Fenced_comes, Stage.Get_goes, Stage.Chunks_come}
-use Rattle.proof_machines.proofs.share.Stages.{Stage.Spreads, Stage.Resting, Stage.Forwards, Stage.Carries, Stage.Chunk_comes, shape}
-use Rattle.proof_machines.proofs.net.Elsewhere.{where_two}
-use Rattle.proof_machines.proofs.net.ShareLists.{found_each}
-use Rattle.proof_machines.proofs.net.ShareViews.{unit_share}
-use Rattle.proof_machines.proofs.net.Shares.{OpenShare, moves_of}
-use Rattle.proof_machines.proofs.net.Untaken.{ElsewhereHome}
-use Rattle.proof_machines.proofs.net.UnderStarts.{seeing}
-use Rattle.proof_machines.proofs.whole.Readings.{ItsShare, its_share}
-use Rattle.proof_machines.proofs.whole.WhereAll.{WhereAll, Apart_from_shares, Under_share}
-use Rattle.net_world.specs.declared.config.Config.{Config}
-use Rattle.net_world.specs.declared.node.Node.{Node}
-use Rattle.net_world.specs.declared.node.Node.TheVariants.{Controller}
-use Rattle.net_world.specs.Commands.{is_begun, has_answered, is_share, answers_of, times_installed}
-use Rattle.net_world.specs.Input.{IsInput, order_numbered, packet_numbered}
-use Rattle.net_world.specs.Log.{installs_in}
-use Rattle.net_world.specs.Places.{first_owner, is_home, owner, members, member_for}
-use Rattle.proof_outlines.proofs.outline.FiltersApart.{unit_fits, takes_whole, takes_same, filters_apart}
-use Rattle.proof_outlines.proofs.outline.Outline.{is_sys}
-use Rattle.proof_outlines.proofs.whole.OpenShares.{Both, both, RealShare, real_share}
+use Rattle.proof_machines.proofs.share.Stages.{Stage.Diverting}
+use Rattle.proof_outlines.proofs.outline.FiltersApart.{filters_apart}
 use Rattle.proof_outlines.proofs.whole.ShareOutline.{share_phase, index_same}
-use Rattle.proof_outlines.proofs.joined.Given.{Given, place, is_diverted}
-use Rattle.proof_outlines.proofs.joined.Joined.{S, A, IsShare, Joined, came_by}
-use Rattle.proof_outlines.proofs.joined.OperationsApart.{AreApart, AllApart}
-use Rattle.proof_outlines.proofs.joined.ShareBegins.{names_known}
-use Rattle.proof_outlines.proofs.joined.StartJoined.{given}
+use Rattle.proof_outlines.proofs.joined.Joined.{IsShare}
 use Rattle.nf_net.proofs.answers.BusyLemmas.{unanswered}
 use Rattle.nf_net.proofs.answers.BusyRuns.{Busy, same_controller, keeps_is, plan_is, told_is, open_began}
 use Rattle.nf_net.proofs.answers.InstallRuns.{Installs, dones_still}
@@ -70,24 +38,12 @@ serves ph = true
 
 serves_same : (ph : SharePhase) → serves (share_phase ph) ≡ is_set_up ph
 serves_same phase.Fencing = refl
-serves_same phase.Getting = refl
-serves_same (phase.Setting left) = refl
-serves_same phase.Idle = refl
-serves_same (phase.Out member) = refl
-serves_same (phase.Syncing left) = refl
+serves_same ph = refl
 
 -- diverts the packets of its units
 serving_diverts : {R : Type 0} (f : machine.UnitShare R) (s : Stage R) → serves (shape f s).phase ≡ true → (shape f s).diverts ≡ true
 serving_diverts f (Diverting d b l) e = cc
-serving_diverts f (Fence_goes d b l q v) e = refl
-serving_diverts f (Fenced_comes d b q v) e = refl
-serving_diverts f (Get_goes d b q v) e = refl
-serving_diverts f (Chunks_come d b q v) e = refl
-serving_diverts f (Spreads first d a b c at o left q v) e = refl
-serving_diverts f (Resting d a v) e = refl
-serving_diverts f (Forwards d a p q v) e = refl
-serving_diverts f (Carries d a p q v) e = refl
-serving_diverts f (Chunk_comes d a p q v) e = refl
+serving_diverts f s e = refl
 
 both_so : (a s b : Bool) → a ≡ true → s ≡ true → a && (s || b) ≡ true
 both_so true true b h k = refl

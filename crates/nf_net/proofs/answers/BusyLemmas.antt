@@ -1,23 +1,16 @@
 -- What the log says of commands, as it goes on.
-use Rattle.std.proofs.Common.{◌≡◌, ℕ, ◌+◌, ◌≤◌, Bool, true, false, Option, None, Some, List, [], ◌∷◌}
-use Rattle.std.proofs.Common.{◌++◌, map, get_or, length, refl, sym, ap, ◌∙◌, subst, append-nil, arith}
-use Rattle.std.specs.Prelude.{if◌then◌else◌, ◌&&◌, ◌||◌, ◌==◌, not, is_some, unwrap_or}
-use Rattle.std.specs.List.{list_any}
-use Rattle.std.proofs.lemmas.Bool.Decides.{nat_tests}
-use Rattle.std.proofs.Math.Bool.{or-true, or-false, or_assoc}
-use Rattle.nf_msgs.specs.declared.answer.Answer.{Answer}
+use Rattle.nf_net.proofs.Words.{◌≡◌, ℕ, ◌+◌, ◌≤◌, Bool, true, false, Option, None, Some, List, [], ◌∷◌, ◌++◌, map, get_or, length, refl, sym, ap, ◌∙◌, subst}
+use Rattle.nf_net.proofs.Words.{append-nil, arith, if◌then◌else◌, ◌&&◌, ◌||◌, ◌==◌, not, is_some, unwrap_or, list_any, nat_tests, or-true, or-false, Answer}
+use Rattle.nf_net.proofs.Words.{Order, Note, Each, unknown_in, has_answered, is_begun, is_share, keeps_off, answers_of, before_command, times_begun, overlaps}
+use Rattle.nf_net.proofs.Words.{MayBegin, IsCause, answers_in, begin_in, begins_in, answers_of-append, has_answered-append, has_begun-append}
+use Rattle.nf_net.proofs.Words.{times_begun-append, before_one, none_picked}
+use Rattle.std.proofs.Math.Bool.{or_assoc}
 use Rattle.nf_msgs.specs.declared.answer.Answer.TheVariants as answer
-use Rattle.nf_msgs.specs.declared.command.Order.{Order}
-use Rattle.nf_msgs.specs.declared.note.Note.{Note}
 use Rattle.nf_msgs.specs.declared.note.Note.TheVariants as note
-use Rattle.proof_machines.proofs.unit.Labels.{Each}
-use Rattle.ctrl_node.specs.Controller.{unknown_in}
-use Rattle.net_world.specs.Commands.{has_answered, is_begun, is_of_command, is_share, keeps_off}
-use Rattle.net_world.specs.Commands.{answers_of, before_command, times_begun, overlaps, MayBegin, IsCause}
-use Rattle.net_world.specs.Log.{answer_in, answers_in, begin_in, begins_in}
-use Rattle.net_world.proofs.LogLemmas.{answers_of-append, has_answered-append, has_begun-append, times_begun-append}
+use Rattle.net_world.specs.Commands.{is_of_command}
+use Rattle.net_world.specs.Log.{answer_in}
 use Rattle.net_world.proofs.PickedLists as fronts
-use Rattle.net_world.proofs.PickedLists.{before_one, kept_none, none_counted, none_kept, none_picked}
+use Rattle.net_world.proofs.PickedLists.{kept_none, none_counted, none_kept}
 
 -- a note of no command's begin or answer
 abbrev pub is_other : Note → Bool
@@ -161,9 +154,7 @@ module _ (names : List (List ℕ)) (orders : ℕ → Option Order) where
   no_cause : (a : Answer) (what : Order) (log : List Note) → is_outcome a ≡ true → IsCauseIn a what log
   no_cause (answer.Unknown name) what log e = cc
   no_cause (answer.Overlap k) what log e = cc
-  no_cause answer.Done what log e = tt
-  no_cause (answer.Import held coming limit) what log e = tt
-  no_cause (answer.Old newest reads) what log e = tt
+  no_cause a what log e = tt
 
   -- its answer, where it began before
   pub answered_begun : (op : ℕ) (log : List Note) (a : Answer) → is_begun op log ≡ true → has_answered op log ≡ false → is_outcome a ≡ true

@@ -1,40 +1,16 @@
 -- Of every run, the switch's rules change once for each move that is done and for each share that began, and for no other command.
-use Rattle.std.proofs.Common.{◌≡◌, ◌≢◌, ℕ, zero, suc, ◌+◌, ◌≤◌, Bool, true, false, Option, Some}
-use Rattle.std.proofs.Common.{None, List, [], ◌∷◌, length, get_or, refl, sym, ap, ◌∙◌, subst, arith}
-use Rattle.std.specs.Prelude.{if◌then◌else◌}
-use Rattle.std.specs.declared.alloc.Global.{Global}
-use Rattle.std.specs.Ordering.{nat_cmp}
+use Rattle.nf_net.proofs.Words.{◌≡◌, ◌≢◌, ℕ, zero, suc, ◌+◌, ◌≤◌, Bool, true, false, Option, Some, None, List, [], ◌∷◌, length, get_or, refl, sym, ap, ◌∙◌}
+use Rattle.nf_net.proofs.Words.{subst, arith, if◌then◌else◌, Global, nat_cmp, nat_tests, FunctionLaws, Semantics, Answer, Msg, Note, Choice, Network, Stepped}
+use Rattle.nf_net.proofs.Words.{IsRun, is_done, reaches, run, world_next, done_weight, at, opening_weight, Taking, run_induction, Takes, taken_outcome}
+use Rattle.nf_net.proofs.Words.{EachSent, total, sent_weight, total_after, Phase, ShareState, Operation, Move, Copy, Share, ControllerState, controller_step}
+use Rattle.nf_net.proofs.Words.{opened_controller, switch_step, Config, Node, Controller, answers_of, times_installed, IsInput, node_step, node_ready}
+use Rattle.nf_net.proofs.Words.{node_ended, first_nodes, started_with, answers_of-append, times_installed-append, Given, Label, Joined, node_of, known}
+use Rattle.nf_net.proofs.Words.{its_takes, its_label, its_labels, instance_quiet, controller_uninstalled, Runs, runs_at_start, runs_next, start_world, given}
+use Rattle.nf_net.proofs.Words.{all_fit, all_labelled, count_at_start}
 use Rattle.std.specs.FinMap as finite
-use Rattle.std.proofs.lemmas.Bool.Decides.{nat_tests}
-use Rattle.nf_function.specs.Records.{Laws as FunctionLaws}
-use Rattle.nf_function.specs.Semantics.{Semantics}
-use Rattle.nf_msgs.specs.declared.answer.Answer.{Answer}
 use Rattle.nf_msgs.specs.declared.answer.Answer.TheVariants as answer
-use Rattle.nf_msgs.specs.declared.msg.Msg.{Msg}
-use Rattle.nf_msgs.specs.declared.note.Note.{Note}
-use Rattle.actor_net.specs.declared.choice.Choice.{Choice}
-use Rattle.actor_net.specs.Network.{Network, Stepped, IsRun, is_done, reaches, run, world_next}
-use Rattle.actor_net.proofs.CompleteWorlds.{done_weight}
-use Rattle.actor_net.proofs.EnabledChoices.{at}
-use Rattle.actor_net.proofs.OpeningWorlds.{opening_weight}
-use Rattle.actor_net.proofs.RunInduction.{Taking, run_induction}
-use Rattle.actor_net.proofs.StepOutcome.{Takes, taken_outcome}
-use Rattle.actor_net.proofs.WeightLaws.{EachSent, total, sent_weight, total_after}
-use Rattle.move_op.specs.Phases.{Phase}
 use Rattle.move_op.specs.Phases as phase
-use Rattle.copy_share.specs.Share.{ShareState}
-use Rattle.ctrl_node.specs.declared.operation.Operation.{Operation}
-use Rattle.ctrl_node.specs.declared.operation.Operation.TheVariants.{Move, Copy, Share}
-use Rattle.ctrl_node.specs.Controller.{ControllerState, controller_step, controller_at_start as opened_controller}
-use Rattle.switch_node.specs.Switch.{switch_step}
-use Rattle.net_world.specs.declared.config.Config.{Config}
-use Rattle.net_world.specs.declared.node.Node.{Node}
-use Rattle.net_world.specs.declared.node.Node.TheVariants.{Controller}
-use Rattle.net_world.specs.Commands.{is_share as shares_units, answers_of, times_installed}
-use Rattle.net_world.specs.Input.{IsInput}
-use Rattle.net_world.specs.Nodes.{node_step, node_ready, node_ended}
-use Rattle.net_world.specs.Start.{first_nodes, started_with}
-use Rattle.net_world.proofs.LogLemmas.{answers_of-append, times_installed-append}
+use Rattle.net_world.specs.Commands.{is_share as shares_units}
 use Rattle.nf_net.proofs.answers.BusyLemmas.{AreOther, none_answered, other_not_answered}
 use Rattle.nf_net.proofs.answers.BusyOperations.{answers_to}
 use Rattle.nf_net.proofs.answers.ShareTells.{is_set_up}
@@ -44,13 +20,7 @@ use Rattle.nf_net.proofs.answers.InstallCounts.{install, done_in, passed}
 use Rattle.nf_net.proofs.answers.InstallSteps.{is_moving, dones, dones-append, dones-none, open_in}
 use Rattle.nf_net.proofs.answers.InstalledRules.{controller_counts}
 use Rattle.nf_net.proofs.answers.InstallNotes.{no_install_to, none_sent, items_none, switch_notes, none_installed, quiet_installed}
-use Rattle.proof_outlines.proofs.joined.Given.{Given}
-use Rattle.proof_outlines.proofs.joined.Joined.{Label, Joined, count, node_of}
-use Rattle.proof_outlines.proofs.joined.KnownOperations.{known}
-use Rattle.proof_outlines.proofs.joined.BesideRuns.{its_takes, its_label, its_labels}
-use Rattle.proof_outlines.proofs.joined.PlaceNotes.{instance_quiet, controller_uninstalled}
-use Rattle.proof_outlines.proofs.joined.RunsJoined.{Runs, runs_at_start, runs_next, start_world}
-use Rattle.proof_outlines.proofs.joined.StartJoined.{given, all_fit, all_labelled, count_at_start}
+use Rattle.proof_outlines.proofs.joined.Joined.{count}
 
 -- the changes that wait and those that the switch noted are those that the controller has sent
 pub record Installs {F R : Type 0} (g : Given) (w : Network (Node F R) Msg Note) : Type 0 where
@@ -143,10 +113,7 @@ module _ {F R : Type 0} (f : Semantics R) (g : Given) (n : ℕ) where
 -- as many as there are answers, or fewer
 one_few : (a : Answer) → done_in a ≤ 1
 one_few answer.Done = omega arith
-one_few (answer.Unknown a) = omega arith
-one_few (answer.Overlap a) = omega arith
-one_few (answer.Import a b c) = omega arith
-one_few (answer.Old a b) = omega arith
+one_few a = omega arith
 
 dones_few : (moving : Bool) (xs : List Answer) → dones moving xs ≤ length xs
 dones_few moving [] = omega arith
@@ -159,15 +126,8 @@ dones_still [] = refl
 dones_still (x ∷ xs) = let rest = dones_still xs in omega (arith, rest)
 
 passed_few : (ph : Phase) → passed ph ≤ 1
-passed_few phase.Passing = omega arith
-passed_few phase.Ending = omega arith
 passed_few (phase.Over why) = one_few why
-passed_few phase.Freezing = omega arith
-passed_few (phase.Streaming frozen free came d) = omega arith
-passed_few phase.Holding = omega arith
-passed_few (phase.Restoring why) = omega arith
-passed_few (phase.Returning why) = omega arith
-passed_few (phase.Undoing why) = omega arith
+passed_few ph = omega arith
 
 open_few : (o : Option Operation) → open_in o ≤ 1
 open_few None = omega arith
@@ -177,10 +137,7 @@ open_few (Some (Share s)) = omega arith
 
 pub not_done : (a : Answer) → a ≢ answer.Done → done_in a ≡ 0
 not_done answer.Done h = absurd (h refl)
-not_done (answer.Unknown a) h = refl
-not_done (answer.Overlap a) h = refl
-not_done (answer.Import a b c) h = refl
-not_done (answer.Old a b) h = refl
+not_done a h = refl
 
 -- What the log of a world of a run then says of changes.
 module _ {F R : Type 0} (f : Semantics R) (g : Given) (n : ℕ) (count_is : n ≡ count f g + 2) (w : Network (Node F R) Msg Note) (j : Joined f g n w)

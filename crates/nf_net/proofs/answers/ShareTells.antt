@@ -1,28 +1,19 @@
 -- What a message does to an open share, and a packet that is put at the end of its queue: it is answered once, where it is set up, and what it
 -- sends are records, packets and the request for records.
-use Rattle.std.proofs.Common.{◌≡◌, ℕ, Bool, true, false, cond, Option, Some, None, List, [], ◌∷◌, ◌++◌, map, length, refl, sym, ◌∙◌}
-use Rattle.std.specs.Prelude.{if◌then◌else◌, ◌==◌, ◌-◌, find, option_map}
+use Rattle.nf_net.proofs.Words.{◌≡◌, ℕ, Bool, true, false, cond, Option, Some, None, List, [], ◌∷◌, ◌++◌, map, length, refl, sym, ◌∙◌, if◌then◌else◌, ◌==◌, ◌-◌}
+use Rattle.nf_net.proofs.Words.{find, option_map, Flow, Chunk, FullCell, stored_of, Answer, Msg, instance_node, SharePhase, SharePlan, ShareState, ShareRow}
+use Rattle.nf_net.proofs.Words.{home, others, syncs, setting, syncing, on_fenced, on_chunks, on_shared, on_synced, service_if_idle, Operation, Move, Copy}
+use Rattle.nf_net.proofs.Words.{Share, turn_of, lasts, ControllerState, after_turn, hand_step, queue_step, on_diverted, Each, OpenAt, answered, noted}
+use Rattle.nf_net.proofs.Words.{ShareLeaves, handed_leaves, queued_leaves}
 use Rattle.std.specs.FinMap as finite
-use Rattle.flow_filter.specs.declared.flow.Flow.{Flow}
 use Rattle.flow_filter.specs.Flow.{flow_of}
-use Rattle.nf_function.specs.declared.chunk.Chunk.{Chunk}
-use Rattle.packet_pool.specs.Pool.{FullCell}
-use Rattle.event_store.specs.Store.{stored_of}
-use Rattle.nf_msgs.specs.declared.answer.Answer.{Answer}
 use Rattle.nf_msgs.specs.declared.answer.Answer.TheVariants.{Done}
-use Rattle.nf_msgs.specs.declared.msg.Msg.{Msg}
 use Rattle.nf_msgs.specs.declared.msg.Msg.TheVariants as msg
-use Rattle.nf_msgs.specs.Nodes.{instance_node}
-use Rattle.copy_share.specs.declared.share_phase.SharePhase.{SharePhase}
 use Rattle.copy_share.specs.declared.share_phase.SharePhase.TheVariants as phase
-use Rattle.copy_share.specs.Share.{SharePlan, ShareState, ShareRow, next_phase, home, others, syncs, setting}
-use Rattle.copy_share.specs.Share.{syncing, on_fenced, on_chunks, on_shared, on_synced, row, service_if_idle}
-use Rattle.ctrl_node.specs.declared.operation.Operation.{Operation}
-use Rattle.ctrl_node.specs.declared.operation.Operation.TheVariants.{Move, Copy, Share}
-use Rattle.ctrl_node.specs.Operations.{Turn, turn_of, lasts, is_shared_by}
-use Rattle.ctrl_node.specs.Controller.{ControllerState, Step, still, with_turn, without_operation, after_turn, hand_step, queue_step, on_diverted}
-use Rattle.proof_machines.proofs.unit.Labels.{Each}
-use Rattle.proof_outlines.proofs.whole.ShareLeft.{OpenAt, answered, noted, ShareLeaves, handed_leaves, queued_leaves}
+use Rattle.copy_share.specs.Share.{next_phase}
+use Rattle.copy_share.specs.Share.{row}
+use Rattle.ctrl_node.specs.Operations.{Turn, is_shared_by}
+use Rattle.ctrl_node.specs.Controller.{Step, still, with_turn, without_operation}
 use Rattle.nf_net.proofs.answers.FirstEntries.{passes, found_passes}
 
 -- whether a share is set up: it is from when it was answered
@@ -110,21 +101,11 @@ module _ (plan : SharePlan) where
   -- what is served changes nothing of it
   served_same : (ph : SharePhase) (cells : List FullCell) → is_set_up (service_if_idle plan ph cells).phase ≡ is_set_up ph
   served_same phase.Idle (cell ∷ cells) = refl
-  served_same phase.Idle [] = refl
-  served_same phase.Fencing cells = refl
-  served_same phase.Getting cells = refl
-  served_same (phase.Setting left) cells = refl
-  served_same (phase.Out member) cells = refl
-  served_same (phase.Syncing left) cells = refl
+  served_same ph cells = refl
 
   served_own : (ph : SharePhase) (cells : List FullCell) → AreOfShare (service_if_idle plan ph cells).sends
   served_own phase.Idle (cell ∷ cells) = (refl, tt)
-  served_own phase.Idle [] = tt
-  served_own phase.Fencing cells = tt
-  served_own phase.Getting cells = tt
-  served_own (phase.Setting left) cells = tt
-  served_own (phase.Out member) cells = tt
-  served_own (phase.Syncing left) cells = tt
+  served_own ph cells = tt
 
 -- A step of the controller that leaves all but one open share as it was: what becomes of the share, what is sent and answered.
 pub record ShareStep (c : ControllerState) (op : ℕ) (s : ShareState) (did : Step) : Type 0 where

@@ -1,37 +1,18 @@
 -- Where no message is on a link and nothing is in the input, all is quiet at the controller, so the finish was sent, and all nodes have ended.
-use Rattle.std.proofs.Common.{◌≡◌, ℕ, zero, suc, ◌+◌, ◌<◌, Bool, true, false, Option, Some, None}
-use Rattle.std.proofs.Common.{List, [], ◌∷◌, length, get_or, refl, sym, ap, ◌∙◌, subst, arith}
-use Rattle.std.specs.Prelude.{if◌then◌else◌, ◌&&◌, ◌==◌, not, find}
-use Rattle.std.specs.List.{list_all}
+use Rattle.nf_net.proofs.Words.{◌≡◌, ℕ, zero, suc, ◌+◌, ◌<◌, Bool, true, false, Option, Some, None, List, [], ◌∷◌, length, get_or, refl, sym, ap, ◌∙◌, subst}
+use Rattle.nf_net.proofs.Words.{arith, if◌then◌else◌, ◌&&◌, ◌==◌, not, find, list_all, nat_tests, Decides-eqb, Semantics, stored_of, FullCell, Msg, Note}
+use Rattle.nf_net.proofs.Words.{SharePhase, ShareState, is_idle, Operation, Move, Copy, Share, OpenOperations, is_quiet, are_quiet, Network, IsWorld, queue_at}
+use Rattle.nf_net.proofs.Words.{at, weigh, total, OpenShare, find_share, Node, Switch, Controller, node_ended, Given, place, Joined, silent_total}
 use Rattle.std.specs.FinMap as finite
-use Rattle.std.proofs.lemmas.Bool.Decides.{nat_tests, Decides-eqb}
-use Rattle.nf_function.specs.Semantics.{Semantics}
-use Rattle.event_store.specs.Store.{stored_of}
-use Rattle.packet_pool.specs.Pool.{FullCell}
-use Rattle.nf_msgs.specs.declared.msg.Msg.{Msg}
-use Rattle.nf_msgs.specs.declared.note.Note.{Note}
-use Rattle.copy_share.specs.declared.share_phase.SharePhase.{SharePhase}
 use Rattle.copy_share.specs.declared.share_phase.SharePhase.TheVariants as shares
-use Rattle.copy_share.specs.Share.{ShareState, is_idle}
-use Rattle.ctrl_node.specs.declared.operation.Operation.{Operation}
-use Rattle.ctrl_node.specs.declared.operation.Operation.TheVariants.{Move, Copy, Share}
-use Rattle.ctrl_node.specs.Operations.{OpenOperations, is_quiet, are_quiet}
-use Rattle.actor_net.specs.Network.{Network, IsWorld, queue_at}
-use Rattle.actor_net.proofs.EnabledChoices.{at}
-use Rattle.actor_net.proofs.WeightLaws.{weigh, total}
-use Rattle.proof_machines.proofs.net.Shares.{OpenShare, find_share}
-use Rattle.net_world.specs.declared.node.Node.{Node}
-use Rattle.net_world.specs.declared.node.Node.TheVariants.{Switch, Controller}
-use Rattle.net_world.specs.Nodes.{node_ended}
 use Rattle.proof_outlines.proofs.whole.OpenShares.{share_in, SeesOne}
 use Rattle.proof_outlines.proofs.whole.ShareOutline.{Rests}
-use Rattle.proof_outlines.proofs.joined.Given.{Given, place}
-use Rattle.proof_outlines.proofs.joined.Joined.{Joined, count}
+use Rattle.proof_outlines.proofs.joined.Joined.{count}
 use Rattle.nf_net.proofs.answers.BusyRuns.{same_controller}
 use Rattle.nf_net.proofs.answers.FirstEntries.{passes, found_passes}
 use Rattle.nf_net.proofs.answers.InstallCounts.{finish}
 use Rattle.nf_net.proofs.answers.EndTables.{flag_full}
-use Rattle.net_world.proofs.SilentLinks.{all_of, silent_total}
+use Rattle.net_world.proofs.SilentLinks.{all_of}
 use Rattle.nf_net.proofs.ends.TokenRuns.{HasEnough, IsCalm, calm}
 use Rattle.nf_net.proofs.ends.NoMoves.{no_move}
 use Rattle.nf_net.proofs.ends.EndSteps.{ending, stop, final}
@@ -60,11 +41,7 @@ found_pass ops q h = by_found (find (λ e. not (q e.1)) (finite.entries ops)) re
 idle_quiet : (ph : SharePhase) (cells : List FullCell) → ph ≡ shares.Idle → Rests ph cells → is_idle ph cells ≡ true
 idle_quiet shares.Idle [] e rests = refl
 idle_quiet shares.Idle (cell ∷ cells) e rests = absurd rests
-idle_quiet shares.Fencing cells e rests = cc
-idle_quiet shares.Getting cells e rests = cc
-idle_quiet (shares.Setting left) cells e rests = cc
-idle_quiet (shares.Out member) cells e rests = cc
-idle_quiet (shares.Syncing left) cells e rests = cc
+idle_quiet ph cells e rests = cc
 
 sent_of : (a b q : Bool) → a && not b && q ≡ false → a ≡ true → q ≡ true → b ≡ true
 sent_of true true q e h k = refl

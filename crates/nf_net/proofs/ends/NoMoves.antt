@@ -1,12 +1,10 @@
 -- Where no message is on a link no move is open: its filter takes a unit, and that unit's seat has no message, so the move has ended.
-use Rattle.std.proofs.Common.{◌≡◌, ◌≢◌, ℕ, ◌+◌, ◌^◌, ◌<◌, ◌≤◌, Bool, true, false, Option, Some, None, List, [], refl, sym, ap, ◌∙◌, subst, arith}
-use Rattle.std.specs.Prelude.{◌&&◌, ◌==◌, nat_lt, nat_eq}
-use Rattle.std.specs.List.{filter_map}
+use Rattle.nf_net.proofs.Words.{◌≡◌, ◌≢◌, ℕ, ◌+◌, ◌^◌, ◌<◌, ◌≤◌, Bool, true, false, Option, Some, None, List, [], refl, sym, ap, ◌∙◌, subst, arith, ◌&&◌, ◌==◌}
+use Rattle.nf_net.proofs.Words.{nat_lt, nat_eq, filter_map, nat_tests, Decides-ltb, and_parts, Filter, Flow, Semantics, stored_of, Msg, Note, instance_node}
+use Rattle.nf_net.proofs.Words.{MoveState, answer_of, Move, Network, queue_at, at, Frame, see_phase, is_over, UnitSeat, seat_shape, Sys, IsSys, Open, find_op}
+use Rattle.nf_net.proofs.Words.{World, Seeing, frame, OpLabel, each_found, RestOp, olds, moves_of, Where, move_apart, Node, is_whole, flow_fits, takes_whole}
+use Rattle.nf_net.proofs.Words.{is_sys, Sees, outline_phase, but_shares, Given, place, S, A, Joined, shown, came_by}
 use Rattle.std.specs.FinMap as finite
-use Rattle.std.proofs.lemmas.Bool.Decides.{nat_tests, Decides-ltb}
-use Rattle.std.proofs.lemmas.Bool.{and_parts}
-use Rattle.flow_filter.specs.declared.filter.Filter.{Filter}
-use Rattle.flow_filter.specs.declared.flow.Flow.{Flow}
 use Rattle.flow_filter.specs.declared.prefix.Prefix.{Prefix}
 use Rattle.flow_filter.specs.Filter.{agrees, holds, matches}
 use Rattle.flow_filter.proofs.PrefixLemmas.{block_own}
@@ -14,36 +12,14 @@ use Rattle.nf_function.specs.declared.kind.Kind.{Kind}
 use Rattle.nf_function.specs.declared.kind.Kind.TheVariants.{Conntrack, Nat, Monitor}
 use Rattle.nf_function.specs.declared.unit.Unit as units
 use Rattle.nf_function.specs.declared.unit.Unit.TheVariants.{Flow as OfFlow, Host as OfHost}
-use Rattle.nf_function.specs.Semantics.{Semantics}
-use Rattle.event_store.specs.Store.{stored_of}
-use Rattle.nf_msgs.specs.declared.msg.Msg.{Msg}
-use Rattle.nf_msgs.specs.declared.note.Note.{Note}
-use Rattle.nf_msgs.specs.Nodes.{instance_node}
 use Rattle.move_op.specs.Phases.{Phase as RealPhase}
 use Rattle.move_op.specs.Phases as phase
-use Rattle.move_op.specs.Move.{MoveState, answer_of}
-use Rattle.ctrl_node.specs.declared.operation.Operation.TheVariants.{Move}
-use Rattle.actor_net.specs.Network.{Network, queue_at}
-use Rattle.actor_net.proofs.EnabledChoices.{at}
-use Rattle.proof_machines.proofs.unit.Real.{Frame, see_phase}
-use Rattle.proof_machines.proofs.unit.Rests.{is_over}
-use Rattle.proof_machines.proofs.unit.Seats.{UnitSeat, seat_shape, seat_rests}
-use Rattle.proof_machines.proofs.net.Net.{Sys, IsSys, Open, find_op, World}
-use Rattle.proof_machines.proofs.net.Holding.{Seeing, frame, OpLabel, IsController, Holds}
-use Rattle.proof_machines.proofs.net.Ctrl.{each_found}
-use Rattle.proof_machines.proofs.net.Rest.{RestOp}
-use Rattle.proof_machines.proofs.net.Shares.{olds, moves_of}
-use Rattle.proof_machines.proofs.net.Units.{Where, Where.At_rest, Where.In_move, see}
+use Rattle.proof_machines.proofs.unit.Seats.{seat_rests}
+use Rattle.proof_machines.proofs.net.Holding.{IsController, Holds}
+use Rattle.proof_machines.proofs.net.Units.{Where.At_rest, Where.In_move, see}
 use Rattle.proof_machines.proofs.net.AtEnd.{is_silent}
-use Rattle.proof_machines.proofs.whole.UnderMoves.{move_apart}
-use Rattle.net_world.specs.declared.node.Node.{Node}
-use Rattle.proof_outlines.proofs.outline.FiltersApart.{number_fits, prefix_fits, filter_fits, is_whole, flow_fits, takes_whole}
-use Rattle.proof_outlines.proofs.outline.Outline.{is_sys}
-use Rattle.proof_outlines.proofs.outline.ControlOutline.{Sees}
-use Rattle.proof_outlines.proofs.outline.MoveOutline.{outline_phase}
-use Rattle.proof_outlines.proofs.whole.OpenShares.{but_shares}
-use Rattle.proof_outlines.proofs.joined.Given.{Given, place}
-use Rattle.proof_outlines.proofs.joined.Joined.{S, A, Joined, count, shown, came_by}
+use Rattle.proof_outlines.proofs.outline.FiltersApart.{number_fits, prefix_fits, filter_fits}
+use Rattle.proof_outlines.proofs.joined.Joined.{count}
 
 -- A filter takes some unit: that of the numbers that it gives, and zeros for the others.
 number_or_0 : Option ℕ → ℕ
@@ -146,14 +122,7 @@ module _ {R : Type 0} (T : Sys R) (laws : IsSys T) (u : units.Unit) (n : ℕ) (v
 not_over : {R : Type 0} (f : Semantics R) (at_place : List ℕ → Option ℕ) (y : Frame) (ph : RealPhase) → answer_of ph ≡ None
     → is_over (see_phase y (outline_phase f at_place ph)) ≡ true → ⊥
 not_over f at_place y phase.Freezing going e = cc
-not_over f at_place y (phase.Streaming frozen free came door) going e = cc
-not_over f at_place y phase.Holding going e = cc
-not_over f at_place y phase.Passing going e = cc
-not_over f at_place y phase.Ending going e = cc
-not_over f at_place y (phase.Restoring why) going e = cc
-not_over f at_place y (phase.Returning why) going e = cc
-not_over f at_place y (phase.Undoing why) going e = cc
-not_over f at_place y (phase.Over why) going e = cc
+not_over f at_place y ph going e = cc
 
 module _ {F R : Type 0} (f : Semantics R) (g : Given) (n : ℕ) (count_is : n ≡ count f g + 2) (w : Network (Node F R) Msg Note) (j : Joined f g n w)
     (nothing : (s r : ℕ) → (r == 0) && (s == 0) ≡ false → queue_at w (at r s) ≡ []) where

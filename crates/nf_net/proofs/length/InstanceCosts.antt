@@ -1,41 +1,22 @@
 -- What an instance sends and holds as it takes a message weighs less than the message and what it held before, but for the pieces that it sends.
-use Rattle.std.proofs.Common.{◌≡◌, ℕ, zero, suc, ◌+◌, ◌*◌, ◌≤◌, Bool, true, false, Option, None, Some, Result, Ok, Err}
-use Rattle.std.proofs.Common.{List, [], ◌∷◌, ◌++◌, map, length, length-append, take, drop, refl, ap, ◌∙◌, subst, arith}
-use Rattle.std.specs.Prelude.{if◌then◌else◌, ◌||◌, ◌==◌, not, nat_lt, nat_le, filter, is_some, nat_eq, option_map}
+use Rattle.nf_net.proofs.Words.{◌≡◌, ℕ, zero, suc, ◌+◌, ◌*◌, ◌≤◌, Bool, true, false, Option, None, Some, List, [], ◌∷◌, ◌++◌, map, length, length-append, take}
+use Rattle.nf_net.proofs.Words.{drop, refl, sym, ap, ◌∙◌, subst, arith, if◌then◌else◌, ◌||◌, ◌==◌, not, nat_le, is_some, nat_eq, option_map, AllByRecursion}
+use Rattle.nf_net.proofs.Words.{option_map_or, nat_tests, Decides-eqb, Filter, Chunk, Semantics, unit_at, record_chunk, part, Mark, Decide, Rule, HaveOneEach}
+use Rattle.nf_net.proofs.Words.{FullCell, Answer, Piece, Msg, switch_node, WholePieces, piece_of, whole_of, to_controller, chunk_told, share_message}
+use Rattle.nf_net.proofs.Words.{selected_chunks, tell_step, carry_step, instance_step, instance_fits, may_process, refusal_of, weigh-append, pieces_among}
+use Rattle.std.specs.Prelude.{filter}
 use Rattle.std.specs.FinMap as finite
-use Rattle.std.specs.List.{IsDistinct, AllByRecursion}
-use Rattle.std.specs.Option.{option_map_or}
-use Rattle.std.proofs.lemmas.Bool.Decides.{nat_tests, Decides-eqb}
-use Rattle.flow_filter.specs.declared.filter.Filter.{Filter}
-use Rattle.nf_function.specs.declared.chunk.Chunk.{Chunk}
+use Rattle.std.specs.List.{IsDistinct}
 use Rattle.nf_function.specs.declared.unit.Unit as units
-use Rattle.nf_function.specs.Semantics.{Semantics, unit_at}
-use Rattle.state_chunk.specs.Format.{record_chunk}
-use Rattle.record_table.specs.Table.{part}
-use Rattle.record_table.specs.Chunks.{are_good}
 use Rattle.event_filter.specs.declared.action.Action.{Action}
-use Rattle.event_filter.specs.declared.mark.Mark.{Mark}
 use Rattle.event_filter.specs.declared.mark.Mark.TheVariants as mark
-use Rattle.event_filter.specs.declared.decide.Decide.{Decide}
 use Rattle.event_filter.specs.declared.decide.Decide.TheVariants as decide
-use Rattle.event_filter.specs.declared.rule.Rule.{Rule}
 use Rattle.event_filter.specs.Rules as rules
-use Rattle.event_filter.specs.Rules.{HaveOneEach}
-use Rattle.packet_pool.specs.Pool.{FullCell}
-use Rattle.state_chunk.specs.declared.fault.ChunkFault.{ChunkFault}
-use Rattle.nf_msgs.specs.declared.answer.Answer.{Answer}
-use Rattle.nf_msgs.specs.declared.msg.Piece.{Piece}
-use Rattle.nf_msgs.specs.declared.msg.Msg.{Msg}
 use Rattle.nf_msgs.specs.declared.msg.Msg.TheVariants as msg
-use Rattle.nf_msgs.specs.Nodes.{switch_node}
 use Rattle.instance_worker.specs.declared.instance.Instance.{Instance}
-use Rattle.instance_worker.specs.declared.pieces.WholePieces.{WholePieces}
-use Rattle.instance_worker.specs.Pieces.{piece_of, pieces_from, whole_of}
-use Rattle.instance_worker.specs.Instance.{Step, to_controller, chunk_told, share_message, still, selected_chunks, process_step}
-use Rattle.instance_worker.specs.Instance.{all_processed, carry_step, where_good, piece_refusal, piece_put, instance_step, on_carry}
-use Rattle.instance_worker.specs.Instance.{on_fence, on_get, on_stream, on_put, on_restore, on_standby, on_sync, on_put_all, tally_put}
-use Rattle.actor_net.proofs.WeightLaws.{weigh-append}
-use Rattle.net_world.specs.Length.{pieces_among}
+use Rattle.instance_worker.specs.Pieces.{pieces_from}
+use Rattle.instance_worker.specs.Instance.{Step, still, process_step}
+use Rattle.instance_worker.specs.Instance.{all_processed, on_carry, on_fence}
 use Rattle.nf_net.proofs.length.Weights.{one_if, of_rules, of_instance, weight, some, processing, cost, cost-append}
 use Rattle.nf_net.proofs.length.Weights as weights
 
@@ -204,81 +185,41 @@ module _ {F R : Type 0} (f : Semantics R) (o : ℕ) where
       let both = cost-append o all.sends (to_controller (msg.Fenced op ∷ [])) in
       omega (arith, costs, holds, less, both)
 
-  -- State
-  good_falls : (i : Instance F R) (m : Msg) (chunks : List Chunk) (step : Step F R) → Falls i m step → Falls i m (where_good f i chunks step)
-  good_falls i m chunks step h = elim (are_good f chunks) as (λ b. Falls i m (if b then step else still i)) [ true ↦ h | false ↦ still_falls i m ]
+  -- State, and what else processes no packet: a piece is refused only where it is put first
+  refused_falls : (i : Instance F R) (op : ℕ) (piece : Piece) (first : Bool) (why : Answer) → refusal_of i piece first ≡ Some why
+      → Falls i (msg.Put op piece first) (tell_step i (msg.PutNo op (record { why = why; chunks = piece.chunks })))
+  refused_falls i op piece true why is = omega arith
+  refused_falls i op piece false why is = cc
 
-  get_falls : (i : Instance F R) (op : ℕ) (filter : Filter) → Falls i (msg.Get op filter) (on_get f i op filter)
-  unfolding on_get
-  get_falls i op filter = omega arith
-
-  stream_falls : (i : Instance F R) (op : ℕ) (filter : Filter) → Falls i (msg.Stream op filter) (on_stream f i op filter)
-  unfolding on_stream
-  stream_falls i op filter =
-      let chunks = selected_chunks f i filter in
-      let costs = cut_costs o op (whole_of chunks) (length chunks) chunks in
-      omega (arith, costs)
-
-  put_falls : (i : Instance F R) (op : ℕ) (piece : Piece) (first : Bool) → Falls i (msg.Put op piece first) (on_put f i op piece first)
-  unfolding on_put
-  put_falls i op piece first =
-      elim (nat_lt piece.total (length piece.chunks)) as (λ b. Falls i (msg.Put op piece first)
-      (if b then still i else piece_put f i op piece (first || piece.last) (if first then piece_refusal i piece else None))) [
-        | true ↦ still_falls i (msg.Put op piece first)
-        | false ↦ by_first first
-      ]
-    where
-      taken_falls : (b : Bool) → Falls i (msg.Put op piece b) (piece_put f i op piece (b || piece.last) None)
-      taken_falls b = good_falls i (msg.Put op piece b) piece.chunks _
-          (elim (b || piece.last) as (λ a. cost o (to_controller (if a then msg.PutOk op ∷ [] else [])) + of_instance i + 1
-          ≤ of_instance i + (1 + one_if a) + 4 * pieces_among (to_controller (if a then msg.PutOk op ∷ [] else [])))
-          [ true ↦ omega arith | false ↦ omega arith ])
-
-      by_refusal : (x : Option Answer) → Falls i (msg.Put op piece true) (piece_put f i op piece true x)
-      by_refusal None = taken_falls true
-      by_refusal (Some why) = omega arith
-
-      by_first : (b : Bool) → Falls i (msg.Put op piece b) (piece_put f i op piece (b || piece.last) (if b then piece_refusal i piece else None))
-      by_first true = by_refusal (piece_refusal i piece)
-      by_first false = taken_falls false
-
-  restore_falls : (i : Instance F R) (op : ℕ) (chunks : List Chunk) → Falls i (msg.Restore op chunks) (on_restore f i op chunks)
-  unfolding on_restore
-  restore_falls i op chunks = good_falls i (msg.Restore op chunks) chunks _ (omega arith)
-
-  standby_falls : (i : Instance F R) (op : ℕ) (chunks : List Chunk) → Falls i (msg.Standby op chunks) (on_standby f i op chunks)
-  unfolding on_standby
-  standby_falls i op chunks = good_falls i (msg.Standby op chunks) chunks _ (omega arith)
-
-  sync_falls : (i : Instance F R) (home : Bool) (op : ℕ) (chunks : List Chunk) → Falls i (msg.Sync home op chunks) (on_sync f i home op chunks)
-  unfolding on_sync
-  sync_falls i home op chunks = good_falls i (msg.Sync home op chunks) chunks _ (omega arith)
-
-  tally_falls : (i : Instance F R) (op : ℕ) (chunk : Chunk) (read : Result (List ℕ) ChunkFault) → Falls i (msg.PutAll op chunk) (tally_put i op read)
-  tally_falls i op chunk (Ok slots) = omega arith
-  tally_falls i op chunk (Err fault) = still_falls i (msg.PutAll op chunk)
-
-  put_all_falls : (i : Instance F R) (op : ℕ) (chunk : Chunk) → Falls i (msg.PutAll op chunk) (on_put_all f i op chunk)
-  unfolding on_put_all
-  put_all_falls i op chunk = tally_falls i op chunk _
-
-  enable_falls : (i : Instance F R) (op : ℕ) (filter : Filter) (action : Action)
-      → Falls i (msg.Enable op filter action) (instance_step f i (msg.Enable op filter action))
-  enable_falls i op filter action = let less = rule_weighs op i.rules filter action in omega (arith, less)
+  other_falls : (i : Instance F R) (m : Msg) → may_process m ≡ false → Falls i m (instance_step f i m)
+  other_falls = instance_fits f (λ i m did. may_process m ≡ false → Falls i m did) (record {
+    still = λ i m e. still_falls i m;
+    held = λ i mk cell op e. cc;
+    processed = λ i mk cell e. cc;
+    released = λ i op cell e. cc;
+    both = λ i m did next does first second e. (let never : true ≡ false = sym does ∙ e in cc);
+    unruled = λ i op did h e. cc;
+    seen = λ i mk cell op e. cc;
+    event = λ i mk cell op e. cc;
+    fenced = λ i op e. cc;
+    stopped = λ i e. omega arith;
+    enabled = λ i op filter action e. (let less = rule_weighs op i.rules filter action in omega (arith, less));
+    given = λ i op filter e. omega arith;
+    streamed = λ i op filter e.
+        (let chunks = selected_chunks f i filter in let costs = cut_costs o op (whole_of chunks) (length chunks) chunks in omega (arith, costs));
+    all_given = λ i op e. omega arith;
+    deleted = λ i op gone e. omega arith;
+    refused = λ i op piece first why is e. refused_falls i op piece first why is;
+    taken = λ i op piece first is e. elim (first || piece.last) as (λ b. cost o (to_controller (if b then msg.PutOk op ∷ [] else [])) + of_instance i + 1
+        ≤ of_instance i + (1 + one_if b) + 4 * pieces_among (to_controller (if b then msg.PutOk op ∷ [] else []))) [ true ↦ omega arith | false ↦ omega arith ];
+    restored = λ i op chunks e. omega arith;
+    stood_by = λ i op chunks e. omega arith;
+    synced = λ i home op chunks e. omega arith;
+    merged = λ i op chunk slots is e. omega arith;
+  })
 
   -- each step of an instance, whose rules are of different operations
   pub instance_falls : (i : Instance F R) → HaveOneEach i.rules → (m : Msg) → Falls i m (instance_step f i m)
   instance_falls i each (msg.Carry mk cell) = carry_falls i each mk cell
   instance_falls i each (msg.Fence op) = fence_falls i op
-  instance_falls i each msg.Stop = omega arith
-  instance_falls i each (msg.Enable op filter action) = enable_falls i op filter action
-  instance_falls i each (msg.Get op filter) = get_falls i op filter
-  instance_falls i each (msg.Stream op filter) = stream_falls i op filter
-  instance_falls i each (msg.GetAll op) = omega arith
-  instance_falls i each (msg.Delete op gone) = omega arith
-  instance_falls i each (msg.Put op piece first) = put_falls i op piece first
-  instance_falls i each (msg.Restore op chunks) = restore_falls i op chunks
-  instance_falls i each (msg.Standby op chunks) = standby_falls i op chunks
-  instance_falls i each (msg.PutAll op chunk) = put_all_falls i op chunk
-  instance_falls i each (msg.Sync home op chunks) = sync_falls i home op chunks
-  instance_falls i each m = still_falls i m
+  instance_falls i each m = other_falls i m refl
