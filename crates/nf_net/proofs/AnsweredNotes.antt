@@ -1,29 +1,18 @@
 -- What a step of an instance notes as processed is answered as by one instance with its records; other nodes note none.
-use Rattle.std.proofs.Common.{◌≡◌, ℕ, false, Option, List, [], ◌∷◌, append-nil, refl, sym, ◌∙◌, subst}
+use Rattle.nf_net.proofs.Words.{◌≡◌, ℕ, false, Option, List, [], ◌∷◌, append-nil, refl, sym, ◌∙◌, subst, uninstalled_unprocessed, switch_unprocessed}
+use Rattle.nf_net.proofs.Words.{controller_uninstalled, Semantics, part, after_packet, Decide, Mark, FullCell, Msg, is_live, carry_step, instance_step}
+use Rattle.nf_net.proofs.Words.{SwitchState, switch_step, ControllerState, controller_step, Each, Config, packet_numbered, dones_in, IsGenuine, may_process}
+use Rattle.nf_net.proofs.Words.{instance_fits}
 use Rattle.std.specs.FinMap as finite
-use Rattle.proof_outlines.proofs.joined.PlaceNotes.{uninstalled_unprocessed, switch_unprocessed, controller_uninstalled, none_done}
+use Rattle.proof_outlines.proofs.joined.PlaceNotes.{none_done}
 use Rattle.flow_filter.specs.Flow.{flow_of}
 use Rattle.nf_function.specs.declared.unit.Unit as units
-use Rattle.nf_function.specs.Semantics.{Semantics}
-use Rattle.record_table.specs.Table.{part, after_packet}
-use Rattle.event_filter.specs.declared.decide.Decide.{Decide}
 use Rattle.event_filter.specs.declared.decide.Decide.TheVariants as decide
-use Rattle.event_filter.specs.declared.mark.Mark.{Mark}
 use Rattle.event_filter.specs.declared.mark.Mark.TheVariants as mark
 use Rattle.event_filter.specs.Rules as rules
-use Rattle.packet_pool.specs.Pool.{FullCell}
-use Rattle.nf_msgs.specs.declared.msg.Msg.{Msg}
 use Rattle.instance_worker.specs.declared.instance.Instance.{Instance}
-use Rattle.instance_worker.specs.Instance.{is_live, process_step, all_processed, carry_step, on_carry, on_fence}
-use Rattle.instance_worker.specs.Instance.{still, instance_step}
-use Rattle.switch_node.specs.Switch.{SwitchState, switch_step}
-use Rattle.ctrl_node.specs.Controller.{ControllerState, controller_step}
-use Rattle.proof_machines.proofs.unit.Labels.{Each}
-use Rattle.net_world.specs.declared.config.Config.{Config}
-use Rattle.net_world.specs.Input.{packet_numbered}
-use Rattle.net_world.specs.Log.{dones_in}
-use Rattle.proof_outlines.proofs.outline.InstanceOutline.{IsGenuine}
-use Rattle.proof_outlines.proofs.outline.InstanceWays.{may_process, instance_fits}
+use Rattle.instance_worker.specs.Instance.{process_step, all_processed, on_carry, on_fence}
+use Rattle.instance_worker.specs.Instance.{still}
 use Rattle.nf_net.proofs.OutputLemmas.{Answered, answered_nothing, answered_packet}
 
 -- the live record of each unit

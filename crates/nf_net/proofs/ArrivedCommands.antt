@@ -1,26 +1,9 @@
 -- Of every run: where a command has begun, the packets that stand before it in the input have come.
-use Rattle.std.proofs.Common.{◌≡◌, ℕ, ◌+◌, ◌<◌, ◌≤◌, true, false, List, [], ◌∷◌, ◌++◌, length, length-append, refl, sym, ap, ◌∙◌, subst, arith}
-use Rattle.std.specs.Prelude.{nat_lt}
-use Rattle.std.specs.declared.alloc.Global.{Global}
-use Rattle.std.proofs.lemmas.Bool.Decides.{nat_tests}
-use Rattle.std.proofs.lemmas.List.{length-map}
-use Rattle.nf_function.specs.Records.{Laws as FunctionLaws}
-use Rattle.nf_function.specs.Semantics.{Semantics}
-use Rattle.nf_msgs.specs.declared.command.Command.{Command}
-use Rattle.nf_msgs.specs.declared.msg.Msg.{Msg}
+use Rattle.nf_net.proofs.Words.{◌≡◌, ℕ, ◌+◌, ◌<◌, ◌≤◌, true, false, List, [], ◌∷◌, ◌++◌, length, length-append, refl, sym, ap, ◌∙◌, subst, arith, nat_lt}
+use Rattle.nf_net.proofs.Words.{Global, nat_tests, length-map, FunctionLaws, Semantics, Command, Msg, Note, Choice, Network, IsRun, run, queue_at, at, Each}
+use Rattle.nf_net.proofs.Words.{Config, Node, is_begun, has_answered, commands, IsInput, arrivals_in, node_step, node_ready, given}
 use Rattle.nf_msgs.specs.declared.msg.Msg.TheVariants as msg
-use Rattle.nf_msgs.specs.declared.note.Note.{Note}
-use Rattle.actor_net.specs.declared.choice.Choice.{Choice}
-use Rattle.actor_net.specs.Network.{Network, IsRun, run, queue_at}
-use Rattle.actor_net.proofs.EnabledChoices.{at}
-use Rattle.proof_machines.proofs.unit.Labels.{Each}
-use Rattle.net_world.specs.declared.config.Config.{Config}
-use Rattle.net_world.specs.declared.node.Node.{Node}
-use Rattle.net_world.specs.Commands.{is_begun, has_answered}
-use Rattle.net_world.specs.Input.{commands, packets, IsInput}
-use Rattle.net_world.specs.Log.{arrivals_in}
-use Rattle.net_world.specs.Nodes.{node_step, node_ready}
-use Rattle.proof_outlines.proofs.joined.StartJoined.{given}
+use Rattle.net_world.specs.Input.{packets}
 use Rattle.nf_net.proofs.answers.ArrivalLemmas.{numbers, runs_joined}
 use Rattle.nf_net.proofs.answers.BusyLemmas.{is_noted, or_off}
 use Rattle.nf_net.proofs.answers.CommandPromises.{run_busy}

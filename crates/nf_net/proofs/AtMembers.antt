@@ -1,40 +1,17 @@
 -- In every run, a packet that came when a share had its unit is processed at its member.
-use Rattle.std.proofs.Common.{◌≡◌, ℕ, ◌+◌, ◌≤◌, Bool, true, false, Some, List, [], ◌∷◌, ◌++◌, length, append_assoc, refl, sym, ap, ◌∙◌, arith}
-use Rattle.std.specs.Prelude.{if◌then◌else◌, ◌==◌, is_some}
-use Rattle.std.specs.List.{filter}
-use Rattle.std.specs.declared.alloc.Global.{Global}
-use Rattle.std.proofs.lemmas.Bool.Decides.{nat_tests}
-use Rattle.nf_function.specs.declared.output.Output.{Output}
+use Rattle.nf_net.proofs.Words.{◌≡◌, ℕ, ◌+◌, ◌≤◌, Bool, true, false, Some, List, [], ◌∷◌, ◌++◌, length, append_assoc, refl, sym, ap, ◌∙◌, arith, if◌then◌else◌}
+use Rattle.nf_net.proofs.Words.{◌==◌, is_some, filter, Global, nat_tests, Output, FunctionLaws, Semantics, same_unit_equiv, Msg, Note, instance_node, Choice}
+use Rattle.nf_net.proofs.Words.{Network, IsRun, run, Ran, ran_of, Config, Node, times_installed, is_of, IsInput, packet_numbered, arrivals_in, dones_in}
+use Rattle.nf_net.proofs.Words.{installs_in, node_step, node_ready, first_owner, members, member_for, unit_numbered, done-append, is_sys, Given, is_diverted, S}
+use Rattle.nf_net.proofs.Words.{A, by_node, came_by, Joined, by_node-append, AllApart, Runs, run_beside, same_times, given}
 use Rattle.nf_function.specs.declared.unit.Unit as units
-use Rattle.nf_function.specs.Records.{Laws as FunctionLaws}
-use Rattle.nf_function.specs.Semantics.{Semantics}
-use Rattle.record_table.proofs.UnitOrder.{same_unit_equiv}
-use Rattle.nf_msgs.specs.declared.msg.Msg.{Msg}
-use Rattle.nf_msgs.specs.declared.note.Note.{Note}
 use Rattle.nf_msgs.specs.declared.note.Note.TheVariants as note
-use Rattle.nf_msgs.specs.Nodes.{instance_node}
-use Rattle.actor_net.specs.declared.choice.Choice.{Choice}
-use Rattle.actor_net.specs.Network.{Network, IsRun, run}
-use Rattle.proof_machines.proofs.share.Share.{Ran}
 use Rattle.proof_machines.proofs.unit.Stages as stages
-use Rattle.proof_machines.proofs.net.Shares.{ran_of}
-use Rattle.net_world.specs.declared.config.Config.{Config}
-use Rattle.net_world.specs.declared.node.Node.{Node}
-use Rattle.net_world.specs.Commands.{times_installed}
-use Rattle.net_world.specs.Fold.{times, is_of}
-use Rattle.net_world.specs.Input.{IsInput, packet_numbered}
-use Rattle.net_world.specs.Log.{arrivals_in, dones_in, installs_in}
-use Rattle.net_world.specs.Nodes.{node_step, node_ready}
-use Rattle.net_world.specs.Places.{first_owner, members, member_for, unit_numbered, AreAtMembers}
-use Rattle.net_world.proofs.LogLemmas.{done-append}
+use Rattle.net_world.specs.Fold.{times}
+use Rattle.net_world.specs.Places.{AreAtMembers}
 use Rattle.net_world.proofs.NumberCounts.{times-append}
-use Rattle.proof_outlines.proofs.outline.Outline.{is_sys}
-use Rattle.proof_outlines.proofs.joined.Given.{Given, is_diverted, diverted_in}
-use Rattle.proof_outlines.proofs.joined.Joined.{S, A, by_node, came_by, Joined}
-use Rattle.proof_outlines.proofs.joined.LogLemmas.{by_node-append, diverted_in-append}
-use Rattle.proof_outlines.proofs.joined.OperationsApart.{AllApart}
-use Rattle.proof_outlines.proofs.joined.RunsJoined.{Runs, run_beside, same_times}
-use Rattle.proof_outlines.proofs.joined.StartJoined.{given}
+use Rattle.proof_outlines.proofs.joined.Given.{diverted_in}
+use Rattle.proof_outlines.proofs.joined.LogLemmas.{diverted_in-append}
 use Rattle.proof_machines.proofs.whole.Fronts.{ran_more}
 use Rattle.nf_net.proofs.answers.ArrivalLemmas.{arrivals_run}
 use Rattle.nf_net.proofs.answers.BusyRuns.{Busy}

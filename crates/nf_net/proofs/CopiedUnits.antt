@@ -1,52 +1,25 @@
 -- As long as a copy is open, no move and no share takes a unit of its filter. So the unit rests: what its owner has of it has seen all of its packets
 -- that were processed, and no other instance has anything of it.
-use Rattle.std.proofs.Common.{◌≡◌, ℕ, ◌<◌, ◌≤◌, inl, inr, true, false, Some, None, List, [], ◌∷◌, length, refl, sym, ap, ◌∙◌, subst, arith}
-use Rattle.std.specs.Prelude.{if◌then◌else◌, ◌==◌, slice_get, is_some, map}
+use Rattle.nf_net.proofs.Words.{◌≡◌, ℕ, ◌<◌, ◌≤◌, inl, inr, true, false, Some, None, List, [], ◌∷◌, length, refl, sym, ap, ◌∙◌, subst, arith, if◌then◌else◌}
+use Rattle.nf_net.proofs.Words.{◌==◌, slice_get, is_some, Decides-eqb, slice_get-get_or, Filter, Semantics, takes, same_unit-true, Msg, Note, instance_node}
+use Rattle.nf_net.proofs.Words.{CopyState, Copy, Move, Network, queue_at, self, shape, each_map, Open, fold_runs, unit_share, as_share, moves_of, seeing, Where}
+use Rattle.nf_net.proofs.Words.{WhereAll, Apart_from_shares, Under_share, Config, Node, is_of, processed_of, IsInput, dones_in, done_where, owner}
+use Rattle.nf_net.proofs.Words.{unit_numbered, live_at, live_in, is_whole, takes_same, unit_fits, is_sys, Given, S, A, came_by, Joined, Scene, AreApart}
+use Rattle.nf_net.proofs.Words.{AllApart, done_same, given}
+use Rattle.std.specs.Prelude.{map}
 use Rattle.std.specs.FinMap as finite
-use Rattle.std.proofs.lemmas.Bool.Decides.{Decides-eqb}
-use Rattle.std.proofs.lemmas.Option.{slice_get-get_or}
-use Rattle.flow_filter.specs.declared.filter.Filter.{Filter}
 use Rattle.nf_function.specs.declared.unit.Unit as units
-use Rattle.nf_function.specs.Semantics.{Semantics}
-use Rattle.nf_function.specs.Units.{takes}
-use Rattle.record_table.proofs.UnitOrder.{same_unit-true}
-use Rattle.nf_msgs.specs.declared.msg.Msg.{Msg}
-use Rattle.nf_msgs.specs.declared.note.Note.{Note}
-use Rattle.nf_msgs.specs.Nodes.{instance_node}
-use Rattle.copy_share.specs.Copy.{CopyState}
-use Rattle.ctrl_node.specs.declared.operation.Operation.TheVariants.{Copy, Move}
-use Rattle.actor_net.specs.Network.{Network, queue_at}
 use Rattle.actor_net.proofs.EnabledChoices.{at as at_node}
-use Rattle.proof_machines.proofs.share.Lists.{self}
-use Rattle.proof_machines.proofs.share.Stages.{shape}
 use Rattle.proof_machines.proofs.unit.Machine.{runs}
-use Rattle.proof_machines.proofs.unit.Labels.{each_map}
 use Rattle.proof_machines.proofs.net.Elsewhere.{Resting, where_rests}
 use Rattle.proof_machines.proofs.net.GlobalAll.{TakesSome}
-use Rattle.proof_machines.proofs.net.Net.{Open}
 use Rattle.proof_machines.proofs.net.Readings as readings
-use Rattle.proof_machines.proofs.net.Readings.{fold_runs}
-use Rattle.proof_machines.proofs.net.ShareViews.{unit_share, as_share}
-use Rattle.proof_machines.proofs.net.Shares.{moves_of}
-use Rattle.proof_machines.proofs.net.UnderStarts.{seeing}
-use Rattle.proof_machines.proofs.net.Units.{Where}
-use Rattle.proof_machines.proofs.whole.WhereAll.{WhereAll, Apart_from_shares, Under_share, found_takes}
-use Rattle.net_world.specs.declared.config.Config.{Config}
-use Rattle.net_world.specs.declared.node.Node.{Node}
+use Rattle.proof_machines.proofs.whole.WhereAll.{found_takes}
 use Rattle.net_world.specs.declared.node.Node.TheVariants.{Instance}
-use Rattle.net_world.specs.Fold.{fold, is_of, processed_of}
-use Rattle.net_world.specs.Input.{IsInput}
-use Rattle.net_world.specs.Log.{Done, dones_in, done_where}
-use Rattle.net_world.specs.Places.{owner, unit_numbered}
-use Rattle.net_world.specs.Records.{live_at, live_in}
-use Rattle.proof_outlines.proofs.outline.FiltersApart.{is_whole, takes_same, unit_fits}
-use Rattle.proof_outlines.proofs.outline.Outline.{is_sys}
+use Rattle.net_world.specs.Fold.{fold}
+use Rattle.net_world.specs.Log.{Done}
 use Rattle.proof_outlines.proofs.joined.CopiesUnshared.{copy_out}
-use Rattle.proof_outlines.proofs.joined.Given.{Given}
-use Rattle.proof_outlines.proofs.joined.Joined.{S, A, came_by, IsListed, Joined, Scene}
-use Rattle.proof_outlines.proofs.joined.OperationsApart.{AreApart, AllApart}
-use Rattle.proof_outlines.proofs.joined.RunsJoined.{done_same}
-use Rattle.proof_outlines.proofs.joined.StartJoined.{given}
+use Rattle.proof_outlines.proofs.joined.Joined.{IsListed}
 use Rattle.nf_net.proofs.paths.RecordPromises.{instance_of, record_is}
 use Rattle.nf_net.proofs.FoldLemmas.{fold_is}
 use Rattle.nf_net.proofs.NumberedUnits.{units_fit}

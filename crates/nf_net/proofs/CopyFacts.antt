@@ -1,27 +1,13 @@
 -- What is known of a copy's messages: that the source was asked, what it gave, and what was kept at the destination. It stays known as a run goes on.
-use Rattle.std.proofs.Common.{◌≡◌, ℕ, true, Some, List, [], ◌∷◌, ◌++◌, append_assoc, sym, ap, ◌∙◌}
+use Rattle.nf_net.proofs.Words.{◌≡◌, ℕ, true, Some, List, [], ◌∷◌, ◌++◌, append_assoc, sym, ap, ◌∙◌, Chunk, Semantics, takes, Msg, Note, instance_node, Choice}
+use Rattle.nf_net.proofs.Words.{Network, run, OnLinks, Config, Node, is_begun, IsFront, processed_of, job_of, node_step, live_at, StandsBy, exported_for}
+use Rattle.nf_net.proofs.Words.{before_export}
 use Rattle.std.specs.FinMap as finite
-use Rattle.nf_function.specs.declared.chunk.Chunk.{Chunk}
 use Rattle.nf_function.specs.declared.unit.Unit as units
-use Rattle.nf_function.specs.Semantics.{Semantics}
-use Rattle.nf_function.specs.Units.{takes}
 use Rattle.record_table.specs.Chunks.{records_of}
-use Rattle.nf_msgs.specs.declared.msg.Msg.{Msg}
 use Rattle.nf_msgs.specs.declared.msg.Msg.TheVariants as msg
-use Rattle.nf_msgs.specs.declared.note.Note.{Note}
-use Rattle.nf_msgs.specs.Nodes.{instance_node}
-use Rattle.actor_net.specs.declared.choice.Choice.{Choice}
-use Rattle.actor_net.specs.Network.{Network, run}
-use Rattle.actor_net.proofs.WeightLaws.{Each, OnLinks}
-use Rattle.net_world.specs.declared.config.Config.{Config}
-use Rattle.net_world.specs.declared.node.Node.{Node}
-use Rattle.net_world.specs.Commands.{is_begun}
-use Rattle.net_world.specs.Fold.{IsFront, processed_of}
-use Rattle.net_world.specs.Jobs.{Job, job_of}
-use Rattle.net_world.specs.Nodes.{node_step}
-use Rattle.net_world.specs.Records.{live_at}
-use Rattle.net_world.specs.Standby.{StandsBy}
-use Rattle.net_world.specs.Verdicts.{exported_for, before_export}
+use Rattle.actor_net.proofs.WeightLaws.{Each}
+use Rattle.net_world.specs.Jobs.{Job}
 use Rattle.nf_net.specs.Copies.{UnitCopy, IsOrdered, IsToGive}
 use Rattle.nf_net.proofs.JudgedFacts.{began_kept}
 use Rattle.nf_net.proofs.VerdictLemmas.{exported_kept, before_export_kept}

@@ -1,47 +1,19 @@
 -- Where the source of a copy of units is to give what it has, the copy is under way: so what the source has of the units has seen all, and what it
 -- sends are the records of them all.
-use Rattle.std.proofs.Common.{◌≡◌, ℕ, ◌+◌, ◌<◌, Bool, true, false, Option, Some, None, List, [], ◌∷◌, length, refl, sym, ap, ◌∙◌, subst, arith}
-use Rattle.std.specs.Prelude.{◌&&◌, ◌||◌, not, is_some}
-use Rattle.std.specs.declared.alloc.Global.{Global}
+use Rattle.nf_net.proofs.Words.{◌≡◌, ℕ, ◌+◌, ◌<◌, Bool, true, false, Option, Some, None, List, [], ◌∷◌, length, refl, sym, ap, ◌∙◌, subst, arith, ◌&&◌, ◌||◌}
+use Rattle.nf_net.proofs.Words.{not, is_some, Global, nat_tests, Filter, place_of, FunctionLaws, Semantics, takes, one_unit, Records, taken_by, Answer, Msg}
+use Rattle.nf_net.proofs.Words.{Note, instance_node, CopyState, Operation, Move, Copy, Share, InstanceState, selected_chunks, Choice, Network, IsRun, run}
+use Rattle.nf_net.proofs.Words.{run_world, Config, Node, answers_of, is_begun, has_answered, is_share, IsInput, job_of, node_step, node_ready, exported_for}
+use Rattle.nf_net.proofs.Words.{is_whole, Given, IsCopyPlan, Joined, start_world, given, count_at_start}
 use Rattle.std.specs.FinMap as finite
-use Rattle.std.proofs.lemmas.Bool.Decides.{nat_tests}
-use Rattle.flow_filter.specs.declared.filter.Filter.{Filter}
-use Rattle.flow_filter.specs.Name.{place_of}
 use Rattle.nf_function.specs.declared.unit.Unit as units
-use Rattle.nf_function.specs.Records.{Laws as FunctionLaws}
-use Rattle.nf_function.specs.Semantics.{Semantics}
-use Rattle.nf_function.specs.Units.{takes}
 use Rattle.record_table.proofs.MadeChunks.{table_read}
 use Rattle.record_table.proofs.RecordLookUps.{sound_retain_keys}
-use Rattle.record_table.proofs.UnitOrder.{one_unit}
 use Rattle.record_table.specs.Chunks.{records_of}
-use Rattle.record_table.specs.Table.{AreSound, Records, taken_by}
-use Rattle.nf_msgs.specs.declared.answer.Answer.{Answer}
+use Rattle.record_table.specs.Table.{AreSound}
 use Rattle.nf_msgs.specs.declared.answer.Answer.TheVariants.{Done}
 use Rattle.nf_msgs.specs.declared.command.Order.TheVariants as order
-use Rattle.nf_msgs.specs.declared.msg.Msg.{Msg}
-use Rattle.nf_msgs.specs.declared.note.Note.{Note}
-use Rattle.nf_msgs.specs.Nodes.{instance_node}
-use Rattle.copy_share.specs.Copy.{CopyState}
-use Rattle.ctrl_node.specs.declared.operation.Operation.{Operation}
-use Rattle.ctrl_node.specs.declared.operation.Operation.TheVariants.{Move, Copy, Share}
-use Rattle.instance_worker.specs.declared.instance.Instance.{Instance as InstanceState}
-use Rattle.instance_worker.specs.Instance.{selected_chunks}
-use Rattle.actor_net.specs.declared.choice.Choice.{Choice}
-use Rattle.actor_net.specs.Network.{Network, IsRun, run}
-use Rattle.actor_net.proofs.RunInduction.{run_world}
-use Rattle.net_world.specs.declared.config.Config.{Config}
-use Rattle.net_world.specs.declared.node.Node.{Node}
-use Rattle.net_world.specs.Commands.{answers_of, is_begun, has_answered, is_share}
-use Rattle.net_world.specs.Input.{IsInput}
-use Rattle.net_world.specs.Jobs.{job_of}
-use Rattle.net_world.specs.Nodes.{node_step, node_ready}
-use Rattle.net_world.specs.Verdicts.{exported_for}
-use Rattle.proof_outlines.proofs.outline.FiltersApart.{is_whole}
-use Rattle.proof_outlines.proofs.joined.Given.{Given, IsCopyPlan}
-use Rattle.proof_outlines.proofs.joined.Joined.{Joined, IsCopy, is_whole_if}
-use Rattle.proof_outlines.proofs.joined.RunsJoined.{start_world}
-use Rattle.proof_outlines.proofs.joined.StartJoined.{given, count_at_start}
+use Rattle.proof_outlines.proofs.joined.Joined.{IsCopy, is_whole_if}
 use Rattle.nf_net.proofs.answers.ArrivalLemmas.{InRun, runs_joined}
 use Rattle.nf_net.proofs.answers.BusyLemmas.{unanswered}
 use Rattle.nf_net.proofs.answers.BusyRuns.{Busy, keeps_is}

@@ -1,37 +1,15 @@
 -- An instance that takes a copy's chunks has then standing by, of each unit that they bring, the record of a front that goes on from the one that came.
-use Rattle.std.proofs.Common.{◌≡◌, ℕ, suc, ◌≤◌, Some, None, List, ◌++◌, length, refl, sym, ap, ◌∙◌, subst, arith}
-use Rattle.std.specs.Prelude.{slice_get}
+use Rattle.nf_net.proofs.Words.{◌≡◌, ℕ, suc, ◌≤◌, Some, None, List, ◌++◌, length, refl, sym, ap, ◌∙◌, subst, arith, slice_get, slice_get-get_or, Chunk, newest}
+use Rattle.nf_net.proofs.Words.{FunctionLaws, Semantics, either, newest_of, each_newest, Msg, Note, instance_node, InstanceState, instance_step, Network}
+use Rattle.nf_net.proofs.Words.{world_next, at, Takes, Outcome, taken_outcome, Config, Node, IsFront, processed_of, most_counted, IsInput, job_of, node_step}
+use Rattle.nf_net.proofs.Words.{standby_at, standby_in, StandsBy, standby_keeps, Given, place, chunks_good, AreGoodChunks, Joined, node_of, given}
 use Rattle.std.specs.FinMap as finite
-use Rattle.std.proofs.lemmas.Option.{slice_get-get_or}
-use Rattle.nf_function.specs.declared.chunk.Chunk.{Chunk}
 use Rattle.nf_function.specs.declared.unit.Unit as units
-use Rattle.nf_function.specs.Records.{newest, Laws as FunctionLaws}
-use Rattle.nf_function.specs.Semantics.{Semantics}
 use Rattle.record_table.specs.Chunks.{records_of}
-use Rattle.record_table.specs.Table.{either, newest_of}
-use Rattle.record_table.proofs.RecordLookUps.{each_newest}
-use Rattle.nf_msgs.specs.declared.msg.Msg.{Msg}
 use Rattle.nf_msgs.specs.declared.msg.Msg.TheVariants as msg
-use Rattle.nf_msgs.specs.declared.note.Note.{Note}
-use Rattle.nf_msgs.specs.Nodes.{instance_node}
-use Rattle.instance_worker.specs.declared.instance.Instance.{Instance as InstanceState}
-use Rattle.instance_worker.specs.Instance.{Step, instance_step}
-use Rattle.actor_net.specs.Network.{Network, world_next}
-use Rattle.actor_net.proofs.EnabledChoices.{at}
-use Rattle.actor_net.proofs.StepOutcome.{Takes, Outcome, taken_outcome}
-use Rattle.net_world.specs.declared.config.Config.{Config}
-use Rattle.net_world.specs.declared.node.Node.{Node}
+use Rattle.instance_worker.specs.Instance.{Step}
 use Rattle.net_world.specs.declared.node.Node.TheVariants.{Instance}
-use Rattle.net_world.specs.Fold.{IsFront, fold, processed_of}
-use Rattle.net_world.specs.Input.{most_counted, IsInput}
-use Rattle.net_world.specs.Jobs.{job_of}
-use Rattle.net_world.specs.Nodes.{node_step}
-use Rattle.net_world.specs.Standby.{standby_at, standby_in, StandsBy}
-use Rattle.proof_outlines.proofs.whole.StandbyKept.{standby_keeps}
-use Rattle.proof_outlines.proofs.joined.Given.{Given, place}
-use Rattle.proof_outlines.proofs.joined.InstanceKeeps.{chunks_good}
-use Rattle.proof_outlines.proofs.joined.Joined.{AreGoodChunks, Joined, node_of}
-use Rattle.proof_outlines.proofs.joined.StartJoined.{given}
+use Rattle.net_world.specs.Fold.{fold}
 use Rattle.nf_net.proofs.FrontLemmas.{front_more, longer}
 use Rattle.nf_net.proofs.StandbyFronts.{IsOfFront, later, stands_front, still_some, went_more}
 

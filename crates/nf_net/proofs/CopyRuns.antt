@@ -1,57 +1,23 @@
 -- In every run what a copy of units brings is known on each link; and where the copy is answered that it is done, what its source had, or what is newer,
 -- stood by at its destination.
-use Rattle.std.proofs.Common.{◌≡◌, ℕ, zero, suc, ◌+◌, ◌≤◌, true, false, inl, inr, Some, None, List}
-use Rattle.std.proofs.Common.{[], ◌∷◌, ◌++◌, append-nil, length, refl, sym, ap, ◌∙◌, subst, arith}
-use Rattle.std.specs.Prelude.{if◌then◌else◌, ◌==◌, slice_get}
-use Rattle.std.specs.declared.alloc.Global.{Global}
+use Rattle.nf_net.proofs.Words.{◌≡◌, ℕ, zero, suc, ◌+◌, ◌≤◌, true, false, inl, inr, Some, None, List, [], ◌∷◌, ◌++◌, append-nil, length, refl, sym, ap, ◌∙◌}
+use Rattle.nf_net.proofs.Words.{subst, arith, ◌==◌, slice_get, Global, nat_tests, slice_get-get_or, Filter, Chunk, FunctionLaws, Semantics, Msg, Note, units_in}
+use Rattle.nf_net.proofs.Words.{instance_node, InstanceState, selected_chunks, instance_step, switch_step, Choice, Network, Stepped, IsRun, run, world_next, at}
+use Rattle.nf_net.proofs.Words.{opening_on_links, Taking, run_induction, run_more, Takes, taken_outcome, EachSent, OnLinks, on_links_after, total_after, Config}
+use Rattle.nf_net.proofs.Words.{Node, answers_of, is_begun, IsFront, processed_of, is_item, most_counted, IsInput, job_of, node_step, node_ready, live_at}
+use Rattle.nf_net.proofs.Words.{live_in, StandsBy, first_nodes, exported_for, before_export, answers_of-append, all_each, its_takes, its_label, its_labels}
+use Rattle.nf_net.proofs.Words.{Given, Label, Joined, node_of, start_world, given, all_fit, count_at_start}
 use Rattle.std.specs.FinMap as finite
-use Rattle.std.proofs.lemmas.Bool.Decides.{nat_tests}
-use Rattle.std.proofs.lemmas.Option.{slice_get-get_or}
-use Rattle.flow_filter.specs.declared.filter.Filter.{Filter}
-use Rattle.nf_function.specs.declared.chunk.Chunk.{Chunk}
 use Rattle.nf_function.specs.declared.unit.Unit as units
-use Rattle.nf_function.specs.Records.{Laws as FunctionLaws}
-use Rattle.nf_function.specs.Semantics.{Semantics}
 use Rattle.nf_function.specs.Units as filters
 use Rattle.nf_msgs.specs.declared.answer.Answer.TheVariants.{Done}
-use Rattle.nf_msgs.specs.declared.msg.Msg.{Msg}
 use Rattle.nf_msgs.specs.declared.msg.Msg.TheVariants as msg
-use Rattle.nf_msgs.specs.declared.note.Note.{Note}
 use Rattle.nf_msgs.specs.declared.note.Note.TheVariants as note
-use Rattle.nf_msgs.specs.Exports.{units_in}
-use Rattle.nf_msgs.specs.Nodes.{instance_node}
-use Rattle.instance_worker.specs.declared.instance.Instance.{Instance as InstanceState}
-use Rattle.instance_worker.specs.Instance.{on_get, selected_chunks, instance_step}
-use Rattle.switch_node.specs.Switch.{switch_step}
-use Rattle.actor_net.specs.declared.choice.Choice.{Choice}
-use Rattle.actor_net.specs.Network.{Network, Stepped, IsRun, run, world_next}
-use Rattle.actor_net.proofs.EnabledChoices.{at}
-use Rattle.actor_net.proofs.OpeningWorlds.{opening_on_links}
-use Rattle.actor_net.proofs.RunInduction.{Taking, run_induction}
-use Rattle.actor_net.proofs.RunLaws.{run_more}
-use Rattle.actor_net.proofs.StepOutcome.{Takes, taken_outcome}
-use Rattle.actor_net.proofs.WeightLaws.{Each, EachSent, OnLinks, on_links_after, total_after}
+use Rattle.instance_worker.specs.Instance.{on_get}
+use Rattle.actor_net.proofs.WeightLaws.{Each}
 use Rattle.proof_machines.proofs.unit.Labels as labels
-use Rattle.net_world.specs.declared.config.Config.{Config}
-use Rattle.net_world.specs.declared.node.Node.{Node}
 use Rattle.net_world.specs.declared.node.Node.TheVariants.{Instance}
-use Rattle.net_world.specs.Commands.{answers_of, is_begun}
-use Rattle.net_world.specs.Fold.{IsFront, processed_of}
-use Rattle.net_world.specs.Input.{is_item, most_counted, IsInput}
-use Rattle.net_world.specs.Jobs.{job_of}
-use Rattle.net_world.specs.Nodes.{node_step, node_ready}
-use Rattle.net_world.specs.Records.{live_at, live_in}
-use Rattle.net_world.specs.Standby.{StandsBy}
-use Rattle.net_world.specs.Start.{first_nodes}
-use Rattle.net_world.specs.Verdicts.{exported_for, before_export}
-use Rattle.net_world.proofs.LogLemmas.{answers_of-append}
-use Rattle.proof_outlines.proofs.outline.StateOutline.{all_each}
-use Rattle.proof_outlines.proofs.joined.BesideRuns.{its_takes, its_label, its_labels}
 use Rattle.proof_outlines.proofs.joined.CopyAnswers.{IsAnswer, get_sent, standby_sent, put_all_sent, other_none}
-use Rattle.proof_outlines.proofs.joined.Given.{Given}
-use Rattle.proof_outlines.proofs.joined.Joined.{Label, Joined, node_of}
-use Rattle.proof_outlines.proofs.joined.RunsJoined.{start_world}
-use Rattle.proof_outlines.proofs.joined.StartJoined.{given, all_fit, count_at_start}
 use Rattle.nf_net.proofs.answers.ArrivalLemmas.{InRun, next_in_run, runs_joined}
 use Rattle.nf_net.proofs.answers.BusyLemmas.{none_answered, other_not_answered}
 use Rattle.nf_net.proofs.answers.BusyNodes.{switch_hands, instance_says}

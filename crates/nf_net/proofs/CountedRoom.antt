@@ -1,19 +1,9 @@
 -- In every run no more is processed of a unit than a record counts.
-use Rattle.std.proofs.Common.{ℕ, suc, ◌+◌, ◌≤◌, Bool, true, false, List, [], ◌∷◌, length, arith}
-use Rattle.std.specs.Prelude.{if◌then◌else◌}
-use Rattle.std.specs.declared.alloc.Global.{Global}
-use Rattle.std.proofs.lemmas.List.{length-map}
+use Rattle.nf_net.proofs.Words.{ℕ, suc, ◌+◌, ◌≤◌, Bool, true, false, List, [], ◌∷◌, length, arith, if◌then◌else◌, Global, length-map, FunctionLaws, Semantics}
+use Rattle.nf_net.proofs.Words.{Msg, Note, Network, Config, Node, is_of, processed_of, most_counted, IsInput, arrivals_in, dones_in, done_where}
 use Rattle.nf_function.specs.declared.unit.Unit as units
-use Rattle.nf_function.specs.Records.{Laws as FunctionLaws}
-use Rattle.nf_function.specs.Semantics.{Semantics}
-use Rattle.nf_msgs.specs.declared.msg.Msg.{Msg}
-use Rattle.nf_msgs.specs.declared.note.Note.{Note}
-use Rattle.actor_net.specs.Network.{Network}
-use Rattle.net_world.specs.declared.config.Config.{Config}
-use Rattle.net_world.specs.declared.node.Node.{Node}
-use Rattle.net_world.specs.Fold.{is_of, processed_of}
-use Rattle.net_world.specs.Input.{packets, most_counted, IsInput}
-use Rattle.net_world.specs.Log.{Done, arrivals_in, dones_in, done_where}
+use Rattle.net_world.specs.Input.{packets}
+use Rattle.net_world.specs.Log.{Done}
 use Rattle.nf_net.proofs.answers.ArrivalLemmas.{numbers, InRun}
 use Rattle.nf_net.proofs.FrontLemmas.{front_length}
 use Rattle.nf_net.proofs.PacketCounts.{few_done}

@@ -1,40 +1,18 @@
 -- Each choice of a run keeps that the switch counts the commands that wait for their answer.
-use Rattle.std.proofs.Common.{◌≡◌, ◌≢◌, ℕ, zero, suc, ◌+◌, ◌<◌, ◌≤◌, Bool, true, false, List, [], ◌∷◌, ◌++◌}
-use Rattle.std.proofs.Common.{length, length-append, drop, append_assoc, refl, sym, ap, ◌∙◌, subst, arith}
-use Rattle.std.specs.Prelude.{◌&&◌, ◌==◌, nat_lt}
-use Rattle.std.specs.declared.alloc.Global.{Global}
-use Rattle.std.proofs.lemmas.Bool.Decides.{nat_tests, Decides-eqb, Decides-ltb}
-use Rattle.nf_function.specs.Records.{Laws as FunctionLaws}
-use Rattle.nf_function.specs.Semantics.{Semantics}
-use Rattle.nf_msgs.specs.declared.answer.Answer.{Answer}
-use Rattle.nf_msgs.specs.declared.msg.Msg.{Msg}
+use Rattle.nf_net.proofs.Words.{◌≡◌, ◌≢◌, ℕ, zero, suc, ◌+◌, ◌<◌, ◌≤◌, Bool, true, false, List, [], ◌∷◌, ◌++◌, length, length-append, drop, append_assoc, refl}
+use Rattle.nf_net.proofs.Words.{sym, ap, ◌∙◌, subst, arith, ◌&&◌, ◌==◌, nat_lt, Global, nat_tests, Decides-eqb, Decides-ltb, FunctionLaws, Semantics, Answer}
+use Rattle.nf_net.proofs.Words.{Msg, Note, SwitchState, switch_step, takes_in, controller_step, Network, Stepped, reaches, world_next, queue_at, at, Takes}
+use Rattle.nf_net.proofs.Words.{taken_outcome, less_first, EachSent, total, sent_weight, total_after, Config, Node, Switch, has_answered, answers_of, commands}
+use Rattle.nf_net.proofs.Words.{IsInput, node_step, node_ready, answers_of-append, known, Given, Label, Joined, node_of, given}
 use Rattle.nf_msgs.specs.declared.msg.Msg.TheVariants as msg
-use Rattle.nf_msgs.specs.declared.note.Note.{Note}
 use Rattle.nf_msgs.specs.declared.note.Note.TheVariants as note
-use Rattle.switch_node.specs.Switch.{SwitchState, switch_step, takes_in}
-use Rattle.ctrl_node.specs.Controller.{controller_step}
-use Rattle.actor_net.specs.Network.{Network, Stepped, is_input, reaches, world_next, queue_at}
-use Rattle.actor_net.proofs.EnabledChoices.{at}
-use Rattle.actor_net.proofs.StepOutcome.{Takes, taken_outcome}
-use Rattle.actor_net.proofs.WaitingMessages.{less_first}
-use Rattle.actor_net.proofs.WeightLaws.{EachSent, total, sent_weight, total_after}
-use Rattle.net_world.specs.declared.config.Config.{Config}
-use Rattle.net_world.specs.declared.node.Node.{Node}
-use Rattle.net_world.specs.declared.node.Node.TheVariants.{Switch}
-use Rattle.net_world.specs.Commands.{has_answered, answers_of}
-use Rattle.net_world.specs.Input.{commands, IsInput}
-use Rattle.net_world.specs.Nodes.{node_step, node_ready}
-use Rattle.net_world.proofs.LogLemmas.{answers_of-append}
+use Rattle.actor_net.specs.Network.{is_input}
 use Rattle.nf_net.proofs.answers.AnswerSends.{answering}
 use Rattle.nf_net.proofs.answers.BusyLemmas.{other_not_answered}
 use Rattle.nf_net.proofs.answers.BusyNodes.{switch_hands, instance_says}
 use Rattle.nf_net.proofs.answers.BusyRuns.{Busy}
 use Rattle.nf_net.proofs.answers.ControllerActs.{SaysSo, SaysSo.Neither, SaysSo.Begins, SaysSo.Answers, controller_acts}
-use Rattle.proof_outlines.proofs.joined.KnownOperations.{known}
-use Rattle.proof_outlines.proofs.joined.Given.{Given}
-use Rattle.proof_outlines.proofs.joined.Joined.{Label, Joined, node_of}
 use Rattle.nf_net.proofs.SettleCounts.{answered_in, AllAnswered, all_answered_more, answered_in_same, answered_one, same_ends}
-use Rattle.proof_outlines.proofs.joined.StartJoined.{given}
 use Rattle.nf_net.proofs.answers.ToldCommands.{some_answers}
 use Rattle.nf_net.proofs.SettleSteps.{switch_in, asking, Counted, InputGoes, InputGoes.Stays, InputGoes.Loses}
 use Rattle.nf_net.proofs.SettleSteps.{no_answer_to, none_sent, asked_there, switch_counts, left, few, none_waits}

@@ -1,13 +1,7 @@
 -- The fold of a unit's records by the words of the promises is that of the abstract network.
-use Rattle.std.proofs.Common.{◌≡◌, ℕ, Option, Some, List, [], ◌∷◌, refl}
-use Rattle.nf_function.specs.Semantics.{Semantics}
-use Rattle.nf_msgs.specs.declared.msg.Msg.{Msg}
+use Rattle.nf_net.proofs.Words.{◌≡◌, ℕ, Option, Some, List, [], ◌∷◌, refl, Semantics, Msg, Config, packet_numbered, IsInput, S, given, all_fit}
 use Rattle.proof_machines.proofs.net.Readings as readings
-use Rattle.net_world.specs.declared.config.Config.{Config}
-use Rattle.net_world.specs.Input.{packet_numbered, IsInput}
 use Rattle.net_world.specs.Fold.{fold}
-use Rattle.proof_outlines.proofs.joined.Joined.{S}
-use Rattle.proof_outlines.proofs.joined.StartJoined.{given, all_fit}
 
 pub fold_is : {R : Type 0} (f : Semantics R) (c : Config) (items : List Msg) (is : IsInput f.kind c items) (kept : Option R) (ps : List ℕ)
     → fold f c items kept ps ≡ readings.fold (S f (given f c items is)).F kept ps

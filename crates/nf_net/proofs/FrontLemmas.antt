@@ -1,22 +1,14 @@
 -- Of two fronts of what was processed of a unit the newer record is that of the longer, and equal records are those of one front.
-use Rattle.std.proofs.Common.{◌≡◌, ℕ, ◌+◌, ◌<◌, ◌≤◌, Bool, true, false, Option, Some, None, List, [], ◌∷◌}
-use Rattle.std.proofs.Common.{◌++◌, length, length-append, append_assoc, append-nil, refl, sym, ap, ◌∙◌, arith}
-use Rattle.std.specs.Prelude.{if◌then◌else◌, nat_le}
+use Rattle.nf_net.proofs.Words.{◌≡◌, ℕ, ◌+◌, ◌<◌, ◌≤◌, Bool, true, false, Option, Some, None, List, [], ◌∷◌, ◌++◌, length, length-append, append_assoc}
+use Rattle.nf_net.proofs.Words.{append-nil, refl, sym, ap, ◌∙◌, arith, if◌then◌else◌, nat_le, nat_cmp, Ordering, Less, Greater, nat_tests, newest, FunctionLaws}
+use Rattle.nf_net.proofs.Words.{Semantics, either, Msg, Config, packet_numbered, most_counted, IsInput, IsFront, all_fit}
 use Rattle.std.specs.Cmp.{nat_cmp_is}
 use Rattle.std.specs.Cmp.Lexicographic.{slice_cmp}
-use Rattle.std.specs.Ordering.{nat_cmp, is_gt, ordering_then}
-use Rattle.std.specs.declared.cmp.Ordering.{Ordering}
-use Rattle.std.specs.declared.cmp.Ordering.TheVariants.{Less, Greater}
+use Rattle.std.specs.Ordering.{is_gt, ordering_then}
 use Rattle.std.proofs.Math.Nat.{min-eq_left}
-use Rattle.std.proofs.lemmas.Bool.Decides.{nat_tests}
-use Rattle.nf_function.specs.Records.{is_newer, newest, Laws as FunctionLaws}
-use Rattle.nf_function.specs.Semantics.{Semantics, packets_in}
-use Rattle.record_table.specs.Table.{either}
-use Rattle.nf_msgs.specs.declared.msg.Msg.{Msg}
-use Rattle.net_world.specs.declared.config.Config.{Config}
-use Rattle.net_world.specs.Input.{packet_numbered, most_counted, IsInput}
-use Rattle.net_world.specs.Fold.{IsFront, fold}
-use Rattle.proof_outlines.proofs.joined.StartJoined.{all_fit}
+use Rattle.nf_function.specs.Records.{is_newer}
+use Rattle.nf_function.specs.Semantics.{packets_in}
+use Rattle.net_world.specs.Fold.{fold}
 
 -- Fronts.
 pub front_same : (xs : List ℕ) → IsFront xs xs

@@ -1,59 +1,21 @@
 -- What the log of every run says of shares: the home of the share that has a unit owns it for good; and a share that the switch installs has begun,
 -- and isn't answered before, if its home owns a unit that it takes.
-use Rattle.std.proofs.Common.{◌≡◌, ℕ, zero, suc, ◌+◌, ◌≤◌, true, false, Option, Some, None, List}
-use Rattle.std.proofs.Common.{[], ◌∷◌, ◌++◌, length, append-nil, refl, sym, ap, ◌∙◌, subst, arith}
-use Rattle.std.specs.Option.{option_or}
-use Rattle.std.specs.declared.alloc.Global.{Global}
-use Rattle.flow_filter.specs.declared.filter.Filter.{Filter}
+use Rattle.nf_net.proofs.Words.{◌≡◌, ℕ, zero, suc, ◌+◌, ◌≤◌, true, false, Option, Some, None, List, [], ◌∷◌, ◌++◌, length, append-nil, refl, sym, ap, ◌∙◌}
+use Rattle.nf_net.proofs.Words.{subst, arith, option_or, Global, Filter, FunctionLaws, Semantics, takes, Msg, Note, instance_node, switch_step, Share}
+use Rattle.nf_net.proofs.Words.{controller_step, Choice, Network, IsRun, run, world_next, queue_at, Taking, taken_outcome, behind_nil, where_two, OfShare}
+use Rattle.nf_net.proofs.Words.{new_head, Any, S_install, moves_of, seeing, no_change, WhereAll, Apart_from_shares, Under_share, Config, Node, is_begun}
+use Rattle.nf_net.proofs.Words.{has_answered, times_installed, IsInput, order_numbered, installs_in, node_step, node_ready, first_owner, owner_after_order}
+use Rattle.nf_net.proofs.Words.{owner_after, is_home, shared_among, members_after, owner, members, installed-append, is_whole, unit_fits, takes_whole}
+use Rattle.nf_net.proofs.Words.{takes_same, is_sys, real_share, its_takes, its_taken, Given, place, owner_next, S, A, Joined, came_by, Scene, IsTaken, node_of}
+use Rattle.nf_net.proofs.Words.{scene, Wants, node_leads, AllApart, installed_same, installed_quiet, installed_none, Stands, In_first, In_second, stands}
+use Rattle.nf_net.proofs.Words.{instance_quiet, controller_uninstalled, Runs, run_beside, given, all_fit}
 use Rattle.nf_function.specs.declared.unit.Unit as units
-use Rattle.nf_function.specs.Records.{Laws as FunctionLaws}
-use Rattle.nf_function.specs.Semantics.{Semantics}
-use Rattle.nf_function.specs.Units.{takes}
 use Rattle.nf_msgs.specs.declared.command.Order.TheVariants as order
-use Rattle.nf_msgs.specs.declared.msg.Msg.{Msg}
-use Rattle.nf_msgs.specs.declared.note.Note.{Note}
 use Rattle.nf_msgs.specs.declared.note.Note.TheVariants as note
-use Rattle.nf_msgs.specs.Nodes.{instance_node}
-use Rattle.switch_node.specs.Switch.{switch_step}
-use Rattle.ctrl_node.specs.declared.operation.Operation.TheVariants.{Share}
-use Rattle.ctrl_node.specs.Controller.{controller_step}
-use Rattle.actor_net.specs.declared.choice.Choice.{Choice}
-use Rattle.actor_net.specs.Network.{Network, IsRun, run, world_next, queue_at}
 use Rattle.actor_net.proofs.EnabledChoices.{at as at_node}
-use Rattle.actor_net.proofs.RunInduction.{Taking}
-use Rattle.actor_net.proofs.StepOutcome.{taken_outcome}
 use Rattle.proof_machines.proofs.unit.Real as real
-use Rattle.proof_machines.proofs.unit.Rests.{behind_nil}
 use Rattle.proof_machines.proofs.net.Net as net
-use Rattle.proof_machines.proofs.net.Elsewhere.{where_two}
-use Rattle.proof_machines.proofs.net.GlobalAll.{OfShare}
-use Rattle.proof_machines.proofs.net.NewMessages.{new_head}
-use Rattle.proof_machines.proofs.net.Shares.{Any, Old, S_install, moves_of}
-use Rattle.proof_machines.proofs.net.UnderStarts.{seeing}
-use Rattle.proof_machines.proofs.whole.UnderMoves.{no_change}
-use Rattle.proof_machines.proofs.whole.WhereAll.{WhereAll, Apart_from_shares, Under_share}
-use Rattle.net_world.specs.declared.config.Config.{Config}
-use Rattle.net_world.specs.declared.node.Node.{Node}
-use Rattle.net_world.specs.Commands.{is_begun, has_answered, times_installed}
-use Rattle.net_world.specs.Input.{IsInput, order_numbered}
-use Rattle.net_world.specs.Log.{installs_in}
-use Rattle.net_world.specs.Nodes.{node_step, node_ready}
-use Rattle.net_world.specs.Places.{first_owner, owner_after_order, owner_after, is_home, shared_among, members_after, owner, members}
-use Rattle.net_world.proofs.LogLemmas.{installed-append}
-use Rattle.proof_outlines.proofs.outline.FiltersApart.{is_whole, unit_fits, takes_whole, takes_same}
-use Rattle.proof_outlines.proofs.outline.Outline.{is_sys}
-use Rattle.proof_outlines.proofs.whole.OpenShares.{real_share}
-use Rattle.proof_outlines.proofs.joined.BesideRuns.{its_takes, its_taken}
-use Rattle.proof_outlines.proofs.joined.Given.{Given, place}
-use Rattle.proof_outlines.proofs.joined.HandedUnits.{owner_next}
-use Rattle.proof_outlines.proofs.joined.Joined.{S, A, Joined, came_by, Scene, IsTaken, node_of}
-use Rattle.proof_outlines.proofs.joined.JoinedSteps.{scene}
-use Rattle.proof_outlines.proofs.joined.NodeSteps.{Wants, node_leads}
-use Rattle.proof_outlines.proofs.joined.OperationsApart.{AllApart}
-use Rattle.proof_outlines.proofs.joined.OwnerLemmas.{installed_same, installed_quiet, installed_none, Stands, In_first, In_second, stands}
-use Rattle.proof_outlines.proofs.joined.PlaceNotes.{instance_quiet, controller_uninstalled}
-use Rattle.proof_outlines.proofs.joined.RunsJoined.{Runs, run_beside}
-use Rattle.proof_outlines.proofs.joined.StartJoined.{given, all_fit}
+use Rattle.proof_machines.proofs.net.Shares.{Old}
 use Rattle.nf_net.proofs.answers.BusyRuns.{Busy, open_began}
 use Rattle.nf_net.proofs.answers.CommandPromises.{run_busy}
 use Rattle.nf_net.proofs.answers.InstallRuns.{Installs, run_installs}

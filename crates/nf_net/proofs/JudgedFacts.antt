@@ -1,39 +1,21 @@
 -- What is known of a move's pieces by the log, and of its verdict by the choices so far: it stays known as both go on.
-use Rattle.std.proofs.Common.{◌≡◌, ℕ, ◌+◌, Bool, true, false, Some, None, List, [], ◌∷◌, ◌++◌, length, refl, sym, ap, ◌∙◌}
-use Rattle.std.specs.Prelude.{if◌then◌else◌, ◌&&◌, ◌==◌, nat_lt}
-use Rattle.std.specs.List.{list_any}
+use Rattle.nf_net.proofs.Words.{◌≡◌, ℕ, ◌+◌, Bool, true, false, Some, None, List, [], ◌∷◌, ◌++◌, length, refl, sym, ap, ◌∙◌, if◌then◌else◌, ◌&&◌, ◌==◌, nat_lt}
+use Rattle.nf_net.proofs.Words.{list_any, or_left, Semantics, version_number, Answer, Import, Piece, Msg, Note, instance_node, piece_refusal, Choice, Network}
+use Rattle.nf_net.proofs.Words.{run, OnLinks, Config, Node, is_begun, order_numbered, course_of, job_of, node_step, is_refusal, exported_for, before_export}
+use Rattle.nf_net.proofs.Words.{is_timed, receiver_of, IsTakenAfter, has_begun-append, Phase}
 use Rattle.std.specs.FinMap as finite
-use Rattle.std.proofs.lemmas.Bool.{or_left}
 use Rattle.nf_function.specs.declared.unit.Unit as units
-use Rattle.nf_function.specs.Semantics.{Semantics}
-use Rattle.state_chunk.specs.Format.{version_number}
-use Rattle.nf_msgs.specs.declared.answer.Answer.{Answer}
-use Rattle.nf_msgs.specs.declared.answer.Answer.TheVariants.{Done, Import, Old}
-use Rattle.nf_msgs.specs.declared.msg.Piece.{Piece}
-use Rattle.nf_msgs.specs.declared.msg.Msg.{Msg}
+use Rattle.nf_msgs.specs.declared.answer.Answer.TheVariants.{Done, Old}
 use Rattle.nf_msgs.specs.declared.msg.Msg.TheVariants as msg
-use Rattle.nf_msgs.specs.declared.note.Note.{Note}
-use Rattle.nf_msgs.specs.Nodes.{instance_node}
 use Rattle.instance_worker.specs.declared.instance.Instance.{Instance}
-use Rattle.instance_worker.specs.Instance.{piece_refusal}
-use Rattle.actor_net.specs.declared.choice.Choice.{Choice}
-use Rattle.actor_net.specs.Network.{Network, run}
-use Rattle.actor_net.proofs.WeightLaws.{Each, OnLinks}
+use Rattle.actor_net.proofs.WeightLaws.{Each}
 use Rattle.proof_machines.proofs.unit.Labels as labels
-use Rattle.net_world.specs.declared.config.Config.{Config}
-use Rattle.net_world.specs.declared.node.Node.{Node}
-use Rattle.net_world.specs.Commands.{is_begun}
-use Rattle.net_world.specs.Input.{order_numbered}
-use Rattle.net_world.specs.Jobs.{course_of, job_of}
-use Rattle.net_world.specs.Nodes.{node_step}
-use Rattle.net_world.specs.Verdicts.{Weighed, verdict, is_refusal, exported_for, before_export, is_timed, receiver_of, IsWeighed, IsTakenAfter}
-use Rattle.net_world.proofs.LogLemmas.{has_begun-append}
+use Rattle.net_world.specs.Verdicts.{Weighed, verdict, IsWeighed}
 use Rattle.nf_net.proofs.answers.InstallSteps.{is_moving}
 use Rattle.nf_net.proofs.JudgedInstance.{answer_by}
 use Rattle.nf_net.proofs.MoveJudged.{Said, Knows}
 use Rattle.nf_net.proofs.VerdictLemmas.{exported_kept, before_export_kept, taken_more}
 use Rattle.move_op.specs.declared.door.Door.TheVariants as door
-use Rattle.move_op.specs.Phases.{Phase}
 use Rattle.move_op.specs.Phases as phase
 
 -- an instance's answer is the verdict by what it holds, and by what the piece says

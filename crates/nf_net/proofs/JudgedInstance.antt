@@ -1,34 +1,19 @@
 -- An instance says of a move's state and of its verdict what is known of them, notes once that state is given, and keeps its limit and its mark.
-use Rattle.std.proofs.Common.{◌≡◌, ℕ, Bool, true, false, Option, Some, None, List, [], ◌∷◌, map, refl, ◌∙◌, subst, arith}
-use Rattle.std.specs.Prelude.{if◌then◌else◌, ◌||◌, option_map}
+use Rattle.nf_net.proofs.Words.{◌≡◌, ℕ, Bool, true, false, Option, Some, None, List, [], ◌∷◌, map, refl, ◌∙◌, subst, arith, if◌then◌else◌, ◌||◌, option_map}
+use Rattle.nf_net.proofs.Words.{Filter, Chunk, Semantics, unit_at, record_chunk, part, Mark, FullCell, Answer, Piece, Msg, switch_node, EachSent, Each, pieces}
+use Rattle.nf_net.proofs.Words.{to_controller, share_message, and_then, piece_refusal, instance_step, selected_chunks, chunk_told, with_count, table_after}
+use Rattle.nf_net.proofs.Words.{may_process, instance_fits, sent-append}
 use Rattle.std.specs.FinMap as finite
-use Rattle.flow_filter.specs.declared.filter.Filter.{Filter}
-use Rattle.nf_function.specs.declared.chunk.Chunk.{Chunk}
 use Rattle.nf_function.specs.declared.unit.Unit as units
-use Rattle.nf_function.specs.Semantics.{Semantics, unit_at}
-use Rattle.state_chunk.specs.Format.{record_chunk}
-use Rattle.record_table.specs.Table.{part}
-use Rattle.event_filter.specs.declared.mark.Mark.{Mark}
 use Rattle.event_filter.specs.declared.mark.Mark.TheVariants as mark
-use Rattle.packet_pool.specs.Pool.{FullCell}
-use Rattle.nf_msgs.specs.declared.answer.Answer.{Answer}
 use Rattle.nf_msgs.specs.declared.answer.Answer.TheVariants.{Done}
-use Rattle.nf_msgs.specs.declared.msg.Piece.{Piece}
-use Rattle.nf_msgs.specs.declared.msg.Msg.{Msg}
 use Rattle.nf_msgs.specs.declared.msg.Msg.TheVariants as msg
-use Rattle.nf_msgs.specs.Nodes.{switch_node}
-use Rattle.actor_net.proofs.WeightLaws.{EachSent}
-use Rattle.proof_machines.proofs.unit.Labels.{Each}
 use Rattle.instance_worker.specs.declared.instance.Instance.{Instance}
-use Rattle.instance_worker.specs.Pieces.{pieces}
-use Rattle.instance_worker.specs.Instance.{Step, to_controller, share_message, and_then, still, process_step}
+use Rattle.instance_worker.specs.Instance.{Step, still, process_step}
 use Rattle.instance_worker.specs.Instance.{on_get, on_stream}
-use Rattle.instance_worker.specs.Instance.{piece_refusal, instance_step, selected_chunks, chunk_told, with_count, table_after}
-use Rattle.proof_outlines.proofs.outline.InstanceWays.{may_process, instance_fits}
 use Rattle.nf_net.proofs.MoveJudged.{Said}
 use Rattle.nf_net.proofs.answers.MoveOnce.{counts}
 use Rattle.nf_net.proofs.VerdictLemmas.{times_given, times_given-append}
-use Rattle.net_world.proofs.SentMessages.{sent-append}
 
 -- the answer by a refusal, or by none
 abbrev pub answer_by : Option Answer → Answer

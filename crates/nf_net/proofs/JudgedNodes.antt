@@ -1,25 +1,10 @@
 -- Each node's step keeps what is known of moves: an instance weighs the first piece that comes, by what it holds and by what the piece says.
-use Rattle.std.proofs.Common.{◌≡◌, ℕ, true, false, List}
-use Rattle.std.proofs.Common.{[], ◌∷◌, refl, ap, arith}
-use Rattle.flow_filter.specs.declared.filter.Filter.{Filter}
-use Rattle.nf_function.specs.Semantics.{Semantics}
-use Rattle.nf_msgs.specs.declared.answer.Answer.{Answer}
-use Rattle.nf_msgs.specs.declared.msg.Piece.{Piece}
-use Rattle.nf_msgs.specs.declared.msg.Msg.{Msg}
+use Rattle.nf_net.proofs.Words.{◌≡◌, ℕ, true, false, List, [], ◌∷◌, refl, ap, arith, Filter, Semantics, Answer, Piece, Msg, Note, units_in, SwitchState}
+use Rattle.nf_net.proofs.Words.{switch_step, InstanceState, selected_chunks, EachSent, Each, Node, step_fits, Given, Label}
 use Rattle.nf_msgs.specs.declared.msg.Msg.TheVariants as msg
-use Rattle.nf_msgs.specs.declared.note.Note.{Note}
 use Rattle.nf_msgs.specs.declared.note.Note.TheVariants as note
-use Rattle.nf_msgs.specs.Exports.{units_in}
-use Rattle.switch_node.specs.Switch.{SwitchState, switch_step}
-use Rattle.instance_worker.specs.declared.instance.Instance.{Instance as InstanceState}
-use Rattle.instance_worker.specs.Instance.{selected_chunks, on_stream}
-use Rattle.actor_net.proofs.WeightLaws.{EachSent}
-use Rattle.proof_machines.proofs.unit.Labels.{Each}
-use Rattle.net_world.specs.declared.node.Node.{Node}
+use Rattle.instance_worker.specs.Instance.{on_stream}
 use Rattle.net_world.specs.declared.node.Node.TheVariants.{Instance}
-use Rattle.proof_outlines.proofs.outline.SwitchWays.{step_fits}
-use Rattle.proof_outlines.proofs.joined.Given.{Given}
-use Rattle.proof_outlines.proofs.joined.Joined.{Label}
 use Rattle.nf_net.proofs.JudgedTables.{is_own}
 use Rattle.nf_net.proofs.MoveJudged.{Said}
 use Rattle.nf_net.proofs.VerdictLemmas.{times_given}

@@ -1,39 +1,18 @@
 -- In every run each move that began is answered by its verdict, which is on what its destination held, and on what came, when it took the first
 -- piece; a copy or a share that began is done, and each other command is refused.
-use Rattle.std.proofs.Common.{◌≡◌, ℕ, ◌+◌, ◌≤◌, Bool, true, false, Some, None, List, [], ◌∷◌, ◌++◌, length, refl, sym, ap, ◌∙◌, subst, arith}
-use Rattle.std.specs.declared.alloc.Global.{Global}
-use Rattle.std.specs.Ordering.{nat_cmp}
+use Rattle.nf_net.proofs.Words.{◌≡◌, ℕ, ◌+◌, ◌≤◌, Bool, true, false, Some, None, List, [], ◌∷◌, ◌++◌, length, refl, sym, ap, ◌∙◌, subst, arith, Global, nat_cmp}
+use Rattle.nf_net.proofs.Words.{Filter, FunctionLaws, Semantics, Answer, Order, Piece, Msg, Note, Choice, Network, Stepped, IsRun, run, world_next}
+use Rattle.nf_net.proofs.Words.{opening_on_links, opening_weight, Taking, run_induction, total, weigh, Each, Operation, opened_controller, unknown_in}
+use Rattle.nf_net.proofs.Words.{InstanceState, Config, Node, is_begun, answers_of, before_command, overlaps, IsCause, MayBegin, is_item, order_numbered}
+use Rattle.nf_net.proofs.Words.{IsInput, course_of, job_of, node_step, node_ready, first_instance, first_nodes, started_with, is_refusal, receiver_of}
+use Rattle.nf_net.proofs.Words.{its_takes, its_label, its_labels, Runs, run_beside, start_world, given, all_fit, count_at_start, all_each}
 use Rattle.std.specs.FinMap as finite
-use Rattle.flow_filter.specs.declared.filter.Filter.{Filter}
-use Rattle.nf_function.specs.Records.{Laws as FunctionLaws}
-use Rattle.nf_function.specs.Semantics.{Semantics}
-use Rattle.nf_msgs.specs.declared.answer.Answer.{Answer}
 use Rattle.nf_msgs.specs.declared.answer.Answer.TheVariants as answer
-use Rattle.nf_msgs.specs.declared.command.Order.{Order}
 use Rattle.nf_msgs.specs.declared.command.Order.TheVariants as order
-use Rattle.nf_msgs.specs.declared.msg.Piece.{Piece}
-use Rattle.nf_msgs.specs.declared.msg.Msg.{Msg}
 use Rattle.nf_msgs.specs.declared.msg.Msg.TheVariants as msg
-use Rattle.nf_msgs.specs.declared.note.Note.{Note}
-use Rattle.actor_net.specs.declared.choice.Choice.{Choice}
-use Rattle.actor_net.specs.Network.{Network, Stepped, IsRun, run, world_next}
-use Rattle.actor_net.proofs.OpeningWorlds.{opening_on_links, opening_weight}
-use Rattle.actor_net.proofs.RunInduction.{Taking, run_induction}
 use Rattle.actor_net.proofs.RunLaws.{run_splits}
-use Rattle.actor_net.proofs.WeightLaws.{total, weigh}
-use Rattle.proof_machines.proofs.unit.Labels.{Each}
-use Rattle.ctrl_node.specs.declared.operation.Operation.{Operation}
-use Rattle.ctrl_node.specs.Controller.{controller_at_start as opened_controller, unknown_in}
-use Rattle.instance_worker.specs.declared.instance.Instance.{Instance as InstanceState}
-use Rattle.net_world.specs.declared.config.Config.{Config}
-use Rattle.net_world.specs.declared.node.Node.{Node}
 use Rattle.net_world.specs.declared.node.Node.TheVariants.{Instance}
-use Rattle.net_world.specs.Commands.{is_begun, answers_of, before_command, overlaps, IsCause, MayBegin}
-use Rattle.net_world.specs.Input.{is_item, order_numbered, IsInput}
-use Rattle.net_world.specs.Jobs.{course_of, job_of}
-use Rattle.net_world.specs.Nodes.{node_step, node_ready}
-use Rattle.net_world.specs.Start.{first_instance, first_nodes, started_with}
-use Rattle.net_world.specs.Verdicts.{is_refusal, receiver_of, IsVerdict}
+use Rattle.net_world.specs.Verdicts.{IsVerdict}
 use Rattle.nf_net.specs.Promises.{Verdicts}
 use Rattle.nf_net.proofs.answers.CommandPromises.{run_answers}
 use Rattle.nf_net.proofs.answers.InstallSteps.{is_moving}
@@ -44,10 +23,7 @@ use Rattle.nf_net.proofs.JudgedSteps.{Part, Verdict, Goes, Judging, SaidBy, happ
 use Rattle.nf_net.proofs.LiveRuns.{run_lived, lives_number}
 use Rattle.nf_net.proofs.MoveJudged.{Said}
 use Rattle.nf_net.proofs.answers.MoveOnce.{once}
-use Rattle.proof_outlines.proofs.joined.BesideRuns.{its_takes, its_label, its_labels}
-use Rattle.proof_outlines.proofs.joined.RunsJoined.{Runs, run_beside, start_world}
-use Rattle.proof_outlines.proofs.joined.StartJoined.{given, all_fit, count_at_start, instance_found}
-use Rattle.proof_outlines.proofs.outline.StateOutline.{all_each}
+use Rattle.proof_outlines.proofs.joined.StartJoined.{instance_found}
 use Rattle.nf_net.proofs.VerdictLemmas.{once_taken, times_taken}
 
 -- An input says nothing of moves.

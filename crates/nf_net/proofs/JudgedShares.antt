@@ -1,24 +1,14 @@
 -- An open share's step keeps what is known of open moves and of answers, and asks once for the share's state: it is answered that it is done, where
 -- it is set up.
-use Rattle.std.proofs.Common.{◌≡◌, ℕ, ◌+◌, ◌≤◌, Bool, true, false, cond, Option, Some, None, List, [], ◌∷◌, ◌++◌, refl, sym, ap, ◌∙◌, subst, arith, map}
-use Rattle.std.specs.Prelude.{if◌then◌else◌, ◌==◌}
+use Rattle.nf_net.proofs.Words.{◌≡◌, ℕ, ◌+◌, ◌≤◌, Bool, true, false, cond, Option, Some, None, List, [], ◌∷◌, ◌++◌, refl, sym, ap, ◌∙◌, subst, arith, map}
+use Rattle.nf_net.proofs.Words.{if◌then◌else◌, ◌==◌, Decides-eqb, stored_of, FullCell, Answer, Piece, Msg, Note, ShareState, ShareRow, service_if_idle, Share}
+use Rattle.nf_net.proofs.Words.{ControllerState, hand_step, queue_step, EachSent, sent_weight, Each, is_begun, answers_of, sent-append, OpenAt, answered, noted}
+use Rattle.nf_net.proofs.Words.{ShareLeaves, handed_leaves, queued_leaves}
 use Rattle.std.specs.FinMap as finite
-use Rattle.std.proofs.lemmas.Bool.Decides.{Decides-eqb}
-use Rattle.event_store.specs.Store.{stored_of}
-use Rattle.packet_pool.specs.Pool.{FullCell}
-use Rattle.nf_msgs.specs.declared.answer.Answer.{Answer}
-use Rattle.nf_msgs.specs.declared.msg.Piece.{Piece}
-use Rattle.nf_msgs.specs.declared.msg.Msg.{Msg}
 use Rattle.nf_msgs.specs.declared.msg.Msg.TheVariants as msg
-use Rattle.nf_msgs.specs.declared.note.Note.{Note}
-use Rattle.copy_share.specs.Share.{ShareState, ShareRow, next_phase, row, service_if_idle}
-use Rattle.ctrl_node.specs.declared.operation.Operation.TheVariants.{Share}
-use Rattle.ctrl_node.specs.Controller.{ControllerState, Step, hand_step, queue_step}
-use Rattle.actor_net.proofs.WeightLaws.{EachSent, sent_weight}
-use Rattle.proof_machines.proofs.unit.Labels.{Each}
-use Rattle.net_world.specs.Commands.{is_begun, answers_of}
-use Rattle.net_world.proofs.SentMessages.{sent-append}
-use Rattle.proof_outlines.proofs.whole.ShareLeft.{OpenAt, answered, noted, next_share, ShareLeaves, handed_leaves, queued_leaves}
+use Rattle.copy_share.specs.Share.{next_phase, row}
+use Rattle.ctrl_node.specs.Controller.{Step}
+use Rattle.proof_outlines.proofs.whole.ShareLeft.{next_share}
 use Rattle.nf_net.proofs.answers.BusyLemmas.{began_same, first_is}
 use Rattle.nf_net.proofs.answers.ControllerActs.{other_there}
 use Rattle.nf_net.proofs.answers.ShareTells.{is_set_up, is_of_share, AreOfShare, Tells, ShareStep, handed_share, queued_share}

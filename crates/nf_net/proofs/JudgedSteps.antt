@@ -1,41 +1,17 @@
 -- What each node's step keeps of what is known of moves: their pieces, what was sent once for them, and their answers.
-use Rattle.std.proofs.Common.{◌≡◌, ◌≢◌, ℕ, suc, ◌+◌, ◌<◌, ◌≤◌, Bool, true, false, Some, List, [], ◌∷◌, ◌++◌, length, get_or, refl, sym, ap, ◌∙◌, subst, arith}
-use Rattle.std.specs.Prelude.{if◌then◌else◌, slice_index, slice_index_or}
-use Rattle.std.specs.declared.alloc.Global.{Global}
+use Rattle.nf_net.proofs.Words.{◌≡◌, ◌≢◌, ℕ, suc, ◌+◌, ◌<◌, ◌≤◌, Bool, true, false, Some, List, [], ◌∷◌, ◌++◌, length, get_or, refl, sym, ap, ◌∙◌, subst, arith}
+use Rattle.nf_net.proofs.Words.{if◌then◌else◌, slice_index, slice_index_or, Global, cond-same, Semantics, Answer, Piece, Msg, Note, MoveState, Move}
+use Rattle.nf_net.proofs.Words.{ControllerState, InstanceState, Choice, Network, Stepped, reaches, run, world_next, queue_at, at, Takes, Outcome, taken_outcome}
+use Rattle.nf_net.proofs.Words.{OnLinks, EachSent, on_links_after, total, total_after, sent_weight, Each, Config, Node, Controller, is_begun, answers_of}
+use Rattle.nf_net.proofs.Words.{IsInput, node_step, started_with, answers_of-append, Given, Label, given}
 use Rattle.std.specs.FinMap as finite
-use Rattle.proof_machines.proofs.share.Lists.{cond-same}
-use Rattle.nf_function.specs.Semantics.{Semantics}
-use Rattle.nf_msgs.specs.declared.answer.Answer.{Answer}
-use Rattle.nf_msgs.specs.declared.msg.Piece.{Piece}
-use Rattle.nf_msgs.specs.declared.msg.Msg.{Msg}
 use Rattle.nf_msgs.specs.declared.msg.Msg.TheVariants as msg
-use Rattle.nf_msgs.specs.declared.note.Note.{Note}
-use Rattle.move_op.specs.Move.{MoveState}
-use Rattle.ctrl_node.specs.declared.operation.Operation.TheVariants.{Move}
-use Rattle.ctrl_node.specs.Controller.{ControllerState}
-use Rattle.instance_worker.specs.declared.instance.Instance.{Instance as InstanceState}
-use Rattle.actor_net.specs.declared.choice.Choice.{Choice}
-use Rattle.actor_net.specs.Network.{Network, Stepped, reaches, run, world_next, queue_at}
-use Rattle.actor_net.proofs.EnabledChoices.{at}
-use Rattle.actor_net.proofs.StepOutcome.{Takes, Outcome, taken_outcome}
-use Rattle.actor_net.proofs.WeightLaws.{OnLinks, EachSent, on_links_after, total, total_after, sent_weight}
-use Rattle.proof_machines.proofs.unit.Labels.{Each}
-use Rattle.net_world.specs.declared.config.Config.{Config}
-use Rattle.net_world.specs.declared.node.Node.{Node}
-use Rattle.net_world.specs.declared.node.Node.TheVariants.{Controller, Instance}
-use Rattle.net_world.specs.Commands.{is_begun, answers_of}
-use Rattle.net_world.specs.Input.{IsInput}
-use Rattle.net_world.specs.Nodes.{node_step}
-use Rattle.net_world.specs.Start.{started_with}
-use Rattle.net_world.proofs.LogLemmas.{answers_of-append}
+use Rattle.net_world.specs.declared.node.Node.TheVariants.{Instance}
 use Rattle.nf_net.proofs.answers.BusyLemmas.{AreOther, none_answered, other_not_answered, other_not_begun, began_same}
 use Rattle.nf_net.proofs.JudgedTables.{used}
 use Rattle.nf_net.proofs.JudgedFacts.{IsPart, IsGoing, HasVerdict, IsFound, part_kept, verdict_kept, found_kept, said_kept, knows_kept, links_kept}
 use Rattle.nf_net.proofs.MoveJudged.{Said, Knows}
 use Rattle.nf_net.proofs.answers.MoveOnce.{once, counts}
-use Rattle.proof_outlines.proofs.joined.Given.{Given}
-use Rattle.proof_outlines.proofs.joined.Joined.{Label}
-use Rattle.proof_outlines.proofs.joined.StartJoined.{given}
 use Rattle.nf_net.proofs.VerdictLemmas.{times_given, times_given-append, is_first_piece, times_taken, times_taken-append}
 
 -- a list that is two has its one element in the first or in the second

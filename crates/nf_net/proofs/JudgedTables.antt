@@ -1,31 +1,15 @@
 -- What the controller's step is to keep of what is known of open moves, of answers and of what is sent once; and that a copy's keeps it.
-use Rattle.std.proofs.Common.{◌≡◌, ℕ, ◌+◌, ◌≤◌, Bool, true, false, cond, Option, Some, None, List, [], ◌∷◌, ◌++◌, refl, sym, ap, ◌∙◌, subst, arith, map}
-use Rattle.std.specs.Prelude.{if◌then◌else◌, ◌==◌}
+use Rattle.nf_net.proofs.Words.{◌≡◌, ℕ, ◌+◌, ◌≤◌, Bool, true, false, cond, Option, Some, None, List, [], ◌∷◌, ◌++◌, refl, sym, ap, ◌∙◌, subst, arith, map}
+use Rattle.nf_net.proofs.Words.{if◌then◌else◌, ◌==◌, Decides-eqb, Answer, Piece, Msg, Note, instance_node, Keeping, CopyState, MoveState, Operation, Move, Copy}
+use Rattle.nf_net.proofs.Words.{Share, OpenOperations, ControllerState, EachSent, sent_weight, Each, is_begun, answers_of, is_refusal, got_insert, got_remove}
+use Rattle.nf_net.proofs.Words.{NotMove, CopyTurn, Idle, Hands, Hands_all, Ends, hands}
 use Rattle.std.specs.FinMap as finite
-use Rattle.std.proofs.lemmas.Bool.Decides.{Decides-eqb}
-use Rattle.nf_msgs.specs.declared.answer.Answer.{Answer}
 use Rattle.nf_msgs.specs.declared.answer.Answer.TheVariants.{Done}
-use Rattle.nf_msgs.specs.declared.msg.Piece.{Piece}
-use Rattle.nf_msgs.specs.declared.msg.Msg.{Msg}
 use Rattle.nf_msgs.specs.declared.msg.Msg.TheVariants as msg
-use Rattle.nf_msgs.specs.declared.note.Note.{Note}
 use Rattle.nf_msgs.specs.declared.note.Note.TheVariants as note
-use Rattle.nf_msgs.specs.Nodes.{instance_node}
-use Rattle.copy_share.specs.declared.copy_phase.CopyPhase.TheVariants.{Keeping}
-use Rattle.copy_share.specs.Copy.{CopyState}
-use Rattle.move_op.specs.Move.{MoveState}
-use Rattle.ctrl_node.specs.declared.operation.Operation.{Operation}
-use Rattle.ctrl_node.specs.declared.operation.Operation.TheVariants.{Move, Copy, Share}
-use Rattle.ctrl_node.specs.Operations.{OpenOperations}
-use Rattle.ctrl_node.specs.Controller.{ControllerState, Step, still}
-use Rattle.actor_net.proofs.WeightLaws.{EachSent, sent_weight}
-use Rattle.proof_machines.proofs.unit.Labels.{Each}
-use Rattle.net_world.specs.Commands.{is_begun, answers_of}
-use Rattle.net_world.specs.Verdicts.{is_refusal}
-use Rattle.proof_outlines.proofs.outline.OperationTables.{got_insert, got_remove}
+use Rattle.ctrl_node.specs.Controller.{Step, still}
 use Rattle.nf_net.proofs.answers.ControllerActs.{other_there}
-use Rattle.proof_outlines.proofs.joined.ControllerChanges.{NotMove}
-use Rattle.proof_outlines.proofs.outline.CopyTurns.{CopyTurn, Idle, Hands, Hands_all, Ends, hands, ends}
+use Rattle.proof_outlines.proofs.outline.CopyTurns.{ends}
 use Rattle.nf_net.proofs.answers.BusyLemmas.{began_same, first_is}
 use Rattle.nf_net.proofs.MoveJudged.{Said, Knows}
 use Rattle.nf_net.proofs.answers.MoveOnce.{once, spent, spent_few, NoneOnce, no_one}

@@ -1,53 +1,19 @@
 -- Each node's step keeps what is known of moves, in a world of a run.
-use Rattle.std.proofs.Common.{◌≡◌, ℕ, zero, suc, ◌+◌, ◌<◌, ◌≤◌, true, false, Some, None, List, []}
-use Rattle.std.proofs.Common.{◌∷◌, ◌++◌, length, get_or, append-nil, refl, sym, ap, ◌∙◌, subst, arith}
-use Rattle.std.specs.Prelude.{if◌then◌else◌, ◌==◌, slice_get, slice_index, slice_index_or}
-use Rattle.std.specs.List.{list_any}
-use Rattle.std.specs.declared.alloc.Global.{Global}
+use Rattle.nf_net.proofs.Words.{◌≡◌, ℕ, zero, suc, ◌+◌, ◌<◌, ◌≤◌, true, false, Some, None, List, [], ◌∷◌, ◌++◌, length, get_or, append-nil, refl, sym, ap, ◌∙◌}
+use Rattle.nf_net.proofs.Words.{subst, arith, if◌then◌else◌, ◌==◌, slice_get, slice_index, slice_index_or, list_any, Global, nat_tests, Decides-eqb}
+use Rattle.nf_net.proofs.Words.{slice_get-get_or, Filter, Chunk, FunctionLaws, Semantics, version_number, Answer, Piece, Msg, Note, units_in, instance_node}
+use Rattle.nf_net.proofs.Words.{MoveState, destination, CopyState, ShareState, Move, Copy, Share, controller_step, switch_step, InstanceState, piece_refusal}
+use Rattle.nf_net.proofs.Words.{selected_chunks, instance_step, pieces, whole_of, Choice, Network, Stepped, IsRun, run, world_next, at, run_world, Takes}
+use Rattle.nf_net.proofs.Words.{taken_outcome, EachSent, total_after, sent_weight, Each, Config, Node, Controller, is_begun, has_answered, IsInput, node_step}
+use Rattle.nf_net.proofs.Words.{node_ready, processed_of, live_in, before_export, is_timed, exported_for, live_number, receiver_of, Given, Label, Joined}
+use Rattle.nf_net.proofs.Words.{node_of, is_whole, run_beside, start_world, given, all_fit, count_at_start}
 use Rattle.std.specs.FinMap as finite
-use Rattle.std.proofs.lemmas.Bool.Decides.{nat_tests, Decides-eqb}
-use Rattle.std.proofs.lemmas.Option.{slice_get-get_or}
-use Rattle.flow_filter.specs.declared.filter.Filter.{Filter}
-use Rattle.nf_function.specs.declared.chunk.Chunk.{Chunk}
 use Rattle.nf_function.specs.declared.unit.Unit as units
-use Rattle.nf_function.specs.Records.{Laws as FunctionLaws}
 use Rattle.nf_function.specs.Units as filters
-use Rattle.nf_function.specs.Semantics.{Semantics}
-use Rattle.state_chunk.specs.Format.{version_number}
-use Rattle.nf_msgs.specs.declared.answer.Answer.{Answer}
-use Rattle.nf_msgs.specs.declared.msg.Piece.{Piece}
-use Rattle.nf_msgs.specs.declared.msg.Msg.{Msg}
 use Rattle.nf_msgs.specs.declared.msg.Msg.TheVariants as msg
-use Rattle.nf_msgs.specs.declared.note.Note.{Note}
 use Rattle.nf_msgs.specs.declared.note.Note.TheVariants as note
-use Rattle.nf_msgs.specs.Exports.{units_in}
-use Rattle.nf_msgs.specs.Nodes.{instance_node}
-use Rattle.move_op.specs.Move.{MoveState, destination}
-use Rattle.copy_share.specs.Copy.{CopyState}
 use Rattle.copy_share.specs.Copy as copy
-use Rattle.copy_share.specs.Share.{ShareState}
-use Rattle.ctrl_node.specs.declared.operation.Operation.TheVariants.{Move, Copy, Share}
-use Rattle.ctrl_node.specs.Controller.{controller_step}
-use Rattle.switch_node.specs.Switch.{switch_step}
-use Rattle.instance_worker.specs.declared.instance.Instance.{Instance as InstanceState}
-use Rattle.instance_worker.specs.Instance.{piece_refusal, selected_chunks, instance_step}
-use Rattle.instance_worker.specs.Pieces.{pieces, whole_of}
-use Rattle.actor_net.specs.declared.choice.Choice.{Choice}
-use Rattle.actor_net.specs.Network.{Network, Stepped, IsRun, run, world_next}
-use Rattle.actor_net.proofs.EnabledChoices.{at}
-use Rattle.actor_net.proofs.RunInduction.{run_world}
-use Rattle.actor_net.proofs.StepOutcome.{Takes, taken_outcome}
-use Rattle.actor_net.proofs.WeightLaws.{EachSent, total_after, sent_weight}
-use Rattle.proof_machines.proofs.unit.Labels.{Each}
-use Rattle.net_world.specs.declared.config.Config.{Config}
-use Rattle.net_world.specs.declared.node.Node.{Node}
-use Rattle.net_world.specs.declared.node.Node.TheVariants.{Controller, Instance}
-use Rattle.net_world.specs.Commands.{is_begun, has_answered}
-use Rattle.net_world.specs.Input.{IsInput}
-use Rattle.net_world.specs.Nodes.{node_step, node_ready}
-use Rattle.net_world.specs.Fold.{processed_of}
-use Rattle.net_world.specs.Records.{live_in}
-use Rattle.net_world.specs.Verdicts.{before_export, is_timed, exported_for, live_number, receiver_of}
+use Rattle.net_world.specs.declared.node.Node.TheVariants.{Instance}
 use Rattle.nf_net.proofs.answers.BusyLemmas.{or_off}
 use Rattle.nf_net.proofs.answers.BusyNodes.{switch_hands, instance_says}
 use Rattle.nf_net.proofs.answers.BusyController.{told_in}
@@ -57,9 +23,6 @@ use Rattle.nf_net.proofs.answers.InstallSteps.{is_moving}
 use Rattle.nf_net.proofs.answers.CommandPromises.{run_busy}
 use Rattle.nf_net.proofs.StreamedUnits.{IsOf, pieces_of, GivesState, record_timed}
 use Rattle.nf_net.proofs.MovedRecords.{streamed_record, taken_give}
-use Rattle.proof_outlines.proofs.joined.Given.{Given}
-use Rattle.proof_outlines.proofs.joined.Joined.{Label, Joined, node_of}
-use Rattle.proof_outlines.proofs.outline.FiltersApart.{is_whole}
 use Rattle.nf_net.proofs.JudgedController.{IsNew, controller_judges}
 use Rattle.nf_net.proofs.JudgedTables.{used, used_few, IsDue, By_verdict, By_still}
 use Rattle.nf_net.proofs.JudgedFacts.{answer_is, IsStill, IsFound, Was_refused, Was_judged, Was_still, began_kept, knows_kept}
@@ -69,8 +32,6 @@ use Rattle.nf_net.proofs.JudgedSteps.{Judging, Leaves, IsFixed, no_stream_to, no
 use Rattle.nf_net.proofs.answers.LinePicks.{at_controller as way_at_controller}
 use Rattle.nf_net.proofs.MoveJudged.{Knows}
 use Rattle.nf_net.proofs.answers.MoveOnce.{once}
-use Rattle.proof_outlines.proofs.joined.RunsJoined.{run_beside, start_world}
-use Rattle.proof_outlines.proofs.joined.StartJoined.{given, all_fit, count_at_start}
 use Rattle.nf_net.proofs.VerdictLemmas.{none_exported, exported_new, before_export_new, before_own}
 use Rattle.nf_net.proofs.JudgedNodes.{switch_given, own_given, switch_says, same_instance, stream_notes}
 

@@ -1,50 +1,23 @@
 -- At every point of a run the units that the history says are live at an instance are those with a live record there, each once.
-use Rattle.std.proofs.Common.{◌≡◌, ◌≢◌, ℕ, zero, suc, ◌<◌, true, false, Option, Some, None, List, [], ◌∷◌, ◌++◌, length, refl, sym, ap, ◌∙◌, subst, arith}
-use Rattle.std.specs.Prelude.{if◌then◌else◌, ◌&&◌, ◌||◌, ◌==◌, not, drop, is_some, slice_get}
-use Rattle.std.specs.List.{flat_map}
-use Rattle.std.specs.declared.alloc.Global.{Global}
+use Rattle.nf_net.proofs.Words.{◌≡◌, ◌≢◌, ℕ, zero, suc, ◌<◌, true, false, Option, Some, None, List, [], ◌∷◌, ◌++◌, length, refl, sym, ap, ◌∙◌, subst, arith}
+use Rattle.nf_net.proofs.Words.{if◌then◌else◌, ◌&&◌, ◌||◌, ◌==◌, not, is_some, slice_get, flat_map, Global, nat_tests, Decides-eqb, slice_get-get_or, Chunk}
+use Rattle.nf_net.proofs.Words.{FunctionLaws, Semantics, is_among, same_unit_equiv, Msg, Note, instance_node, InstanceState, instance_step, Choice, Network}
+use Rattle.nf_net.proofs.Words.{IsRun, run, world_next, queue_at, at, Taking, run_induction, run_world, run_more, Takes, Outcome, taken_outcome, Config, Node}
+use Rattle.nf_net.proofs.Words.{Switch, Controller, processed_of, IsInput, order_numbered, with_units, without_units, gained_by, is_first_of, is_shared_away}
+use Rattle.nf_net.proofs.Words.{node_step, node_ready, unit_numbered, live_in, live_at, removed_by, live_number, its_takes, its_taken, Given, node_of, IsTaken}
+use Rattle.nf_net.proofs.Words.{scene, Wants, node_leads, instance_quiet, Runs, run_beside, start_world, given, all_fit, count_at_start}
+use Rattle.std.specs.Prelude.{drop}
 use Rattle.std.specs.FinMap as finite
-use Rattle.std.proofs.lemmas.Bool.Decides.{nat_tests, Decides-eqb}
-use Rattle.std.proofs.lemmas.Option.{slice_get-get_or}
 use Rattle.std.proofs.Math.Seq.{drop-append_seam}
-use Rattle.nf_function.specs.declared.chunk.Chunk.{Chunk}
 use Rattle.nf_function.specs.declared.unit.Unit as units
-use Rattle.nf_function.specs.Records.{Laws as FunctionLaws}
-use Rattle.nf_function.specs.Semantics.{Semantics}
-use Rattle.record_table.specs.Table.{is_among}
-use Rattle.record_table.proofs.UnitOrder.{same_unit_equiv}
 use Rattle.nf_msgs.specs.declared.command.Order.TheVariants as order
-use Rattle.nf_msgs.specs.declared.msg.Msg.{Msg}
 use Rattle.nf_msgs.specs.declared.msg.Msg.TheVariants as msg
-use Rattle.nf_msgs.specs.declared.note.Note.{Note}
-use Rattle.nf_msgs.specs.Nodes.{instance_node}
-use Rattle.instance_worker.specs.declared.instance.Instance.{Instance as InstanceState}
-use Rattle.instance_worker.specs.Instance.{Step, instance_step}
-use Rattle.actor_net.specs.declared.choice.Choice.{Choice}
-use Rattle.actor_net.specs.Network.{Network, IsRun, run, world_next, queue_at}
-use Rattle.actor_net.proofs.EnabledChoices.{at}
-use Rattle.actor_net.proofs.RunInduction.{Taking, run_induction, run_world}
-use Rattle.actor_net.proofs.RunLaws.{run_more}
-use Rattle.actor_net.proofs.StepOutcome.{Takes, Outcome, taken_outcome}
-use Rattle.net_world.specs.declared.config.Config.{Config}
-use Rattle.net_world.specs.declared.node.Node.{Node}
-use Rattle.net_world.specs.declared.node.Node.TheVariants.{Switch, Controller, Instance}
-use Rattle.net_world.specs.Fold.{fold, processed_of}
-use Rattle.net_world.specs.Input.{IsInput, order_numbered}
-use Rattle.net_world.specs.Lives.{with_units, without_units, lost_by, gained_by, is_first_of, is_shared_away, lives, lives_next, lives_from}
-use Rattle.net_world.specs.Nodes.{node_step, node_ready}
-use Rattle.net_world.specs.Places.{unit_numbered}
-use Rattle.net_world.specs.Records.{live_in, live_at, removed_by}
-use Rattle.net_world.specs.Verdicts.{live_number, number_live}
-use Rattle.proof_outlines.proofs.joined.BesideRuns.{its_takes, its_taken}
+use Rattle.instance_worker.specs.Instance.{Step}
+use Rattle.net_world.specs.declared.node.Node.TheVariants.{Instance}
+use Rattle.net_world.specs.Fold.{fold}
+use Rattle.net_world.specs.Lives.{lost_by, lives, lives_next, lives_from}
+use Rattle.net_world.specs.Verdicts.{number_live}
 use Rattle.proof_outlines.proofs.joined.CopyTokens.{token_open}
-use Rattle.proof_outlines.proofs.joined.Given.{Given}
-use Rattle.proof_outlines.proofs.joined.Joined.{node_of, IsTaken}
-use Rattle.proof_outlines.proofs.joined.JoinedSteps.{scene}
-use Rattle.proof_outlines.proofs.joined.NodeSteps.{Wants, node_leads}
-use Rattle.proof_outlines.proofs.joined.PlaceNotes.{instance_quiet}
-use Rattle.proof_outlines.proofs.joined.RunsJoined.{Runs, run_beside, start_world}
-use Rattle.proof_outlines.proofs.joined.StartJoined.{given, all_fit, count_at_start}
 use Rattle.nf_net.proofs.answers.CommandPromises.{run_busy}
 use Rattle.nf_net.proofs.LiveRows.{Free, Lives}
 use Rattle.nf_net.proofs.LiveShares.{nothing_live}

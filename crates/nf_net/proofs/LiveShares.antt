@@ -1,58 +1,20 @@
 -- A unit that a share has by the log is live at the share's first member alone; and where an instance steps a record that stands by, or takes
 -- records of a share, the log says the same of it.
-use Rattle.std.proofs.Common.{◌≡◌, ℕ, ◌+◌, ◌<◌, Bool, true, false, Option, Some, None, List, [], ◌∷◌, length, refl, sym, ap, ◌∙◌, subst, arith}
-use Rattle.std.specs.Prelude.{if◌then◌else◌, ◌&&◌, ◌||◌, ◌==◌, not, find, is_some, slice_get, slice_index}
-use Rattle.std.specs.List.{filter_map, list_any}
-use Rattle.std.specs.Option.{option_map_or}
+use Rattle.nf_net.proofs.Words.{◌≡◌, ℕ, ◌+◌, ◌<◌, Bool, true, false, Option, Some, None, List, [], ◌∷◌, length, refl, sym, ap, ◌∙◌, subst, arith, if◌then◌else◌}
+use Rattle.nf_net.proofs.Words.{◌&&◌, ◌||◌, ◌==◌, not, find, is_some, slice_get, slice_index, filter_map, list_any, option_map_or, nat_tests, Decides-eqb}
+use Rattle.nf_net.proofs.Words.{get_or_from_slice_get, slice_get_within, or_right, and_parts, Filter, Semantics, takes, same_unit, Order, Msg, Note}
+use Rattle.nf_net.proofs.Words.{instance_node, home, Share, place_of, Network, Chunks, where_two, OfShare, new_head, label_of, found_each, unit_share, Any, New}
+use Rattle.nf_net.proofs.Words.{Shared_on, S_sync, same, OpenShare, WantShare, find_share, moves_of, Under, seeing, ElsewhereHome, head_none, shape, ItsShare}
+use Rattle.nf_net.proofs.Words.{its_share, WhereAll, Apart_from_shares, Under_share, Config, Node, Switch, Controller, is_begun, IsInput, order_numbered}
+use Rattle.nf_net.proofs.Words.{before_begun, is_first_of, is_shared_away, has_begun, begins_in, is_at, is_home, owner, shared_among, live_in, live_at}
+use Rattle.nf_net.proofs.Words.{unit_fits, is_whole, takes_whole, is_sys, Both, RealShare, real_share, Given, place, S, A, Joined, came_by, AllApart, given}
 use Rattle.std.specs.FinMap as finite
-use Rattle.std.proofs.lemmas.Bool.Decides.{nat_tests, Decides-eqb}
-use Rattle.std.proofs.lemmas.Option.{get_or_from_slice_get, slice_get_within}
-use Rattle.std.proofs.lemmas.Bool.{not-true, or_right, and_parts}
-use Rattle.flow_filter.specs.declared.filter.Filter.{Filter}
+use Rattle.std.proofs.lemmas.Bool.{not-true}
 use Rattle.nf_function.specs.declared.unit.Unit as units
-use Rattle.nf_function.specs.Semantics.{Semantics}
-use Rattle.nf_function.specs.Units.{takes}
-use Rattle.record_table.specs.Table.{same_unit}
-use Rattle.nf_msgs.specs.declared.command.Order.{Order}
 use Rattle.nf_msgs.specs.declared.command.Order.TheVariants as order
-use Rattle.nf_msgs.specs.declared.msg.Msg.{Msg}
-use Rattle.nf_msgs.specs.declared.note.Note.{Note}
-use Rattle.nf_msgs.specs.Nodes.{instance_node}
-use Rattle.copy_share.specs.Share.{home}
-use Rattle.ctrl_node.specs.declared.operation.Operation.TheVariants.{Share}
-use Rattle.flow_filter.specs.Name.{place_of}
-use Rattle.actor_net.specs.Network.{Network}
-use Rattle.proof_machines.proofs.unit.Real.{Chunks}
-use Rattle.proof_machines.proofs.net.Elsewhere.{where_two}
-use Rattle.proof_machines.proofs.net.GlobalAll.{OfShare}
-use Rattle.proof_machines.proofs.net.NewMessages.{new_head}
-use Rattle.proof_machines.proofs.net.ShareLabels.{label_of}
-use Rattle.proof_machines.proofs.net.ShareLists.{found_each}
-use Rattle.proof_machines.proofs.net.ShareViews.{unit_share}
-use Rattle.proof_machines.proofs.net.Shares.{Any, New, Shared_on, S_sync, same, OpenShare, WantShare, find_share, moves_of}
-use Rattle.proof_machines.proofs.net.Under.{Under}
-use Rattle.proof_machines.proofs.net.UnderStarts.{seeing}
-use Rattle.proof_machines.proofs.net.Untaken.{ElsewhereHome, head_none}
-use Rattle.proof_machines.proofs.share.Stages.{shape}
-use Rattle.proof_machines.proofs.whole.Readings.{ItsShare, its_share}
-use Rattle.proof_machines.proofs.whole.WhereAll.{WhereAll, Apart_from_shares, Under_share}
-use Rattle.net_world.specs.declared.config.Config.{Config}
-use Rattle.net_world.specs.declared.node.Node.{Node}
-use Rattle.net_world.specs.declared.node.Node.TheVariants.{Switch, Controller, Instance}
-use Rattle.net_world.specs.Commands.{is_begun}
-use Rattle.net_world.specs.Input.{IsInput, order_numbered}
-use Rattle.net_world.specs.Lives.{before_begun, is_first_of, is_shared_away}
-use Rattle.net_world.specs.Log.{has_begun, begins_in}
-use Rattle.net_world.specs.Places.{is_at, is_home, owner, shared_among}
-use Rattle.net_world.specs.Records.{live_in, live_at}
-use Rattle.proof_outlines.proofs.outline.FiltersApart.{unit_fits, is_whole, takes_whole}
-use Rattle.proof_outlines.proofs.outline.Outline.{is_sys}
+use Rattle.net_world.specs.declared.node.Node.TheVariants.{Instance}
 use Rattle.proof_outlines.proofs.whole.SwitchAll.{same_node}
-use Rattle.proof_outlines.proofs.whole.OpenShares.{Both, RealShare, real_share}
-use Rattle.proof_outlines.proofs.joined.Given.{Given, place}
-use Rattle.proof_outlines.proofs.joined.Joined.{S, A, IsShare, Joined, came_by}
-use Rattle.proof_outlines.proofs.joined.OperationsApart.{AllApart}
-use Rattle.proof_outlines.proofs.joined.StartJoined.{given}
+use Rattle.proof_outlines.proofs.joined.Joined.{IsShare}
 use Rattle.nf_net.proofs.answers.BusyRuns.{Busy, open_began}
 use Rattle.nf_net.proofs.paths.RecordPromises.{instance_of}
 use Rattle.nf_net.proofs.paths.SharedOwners.{HomesOwn}

@@ -1,15 +1,11 @@
 -- Units each once: what is added and taken out, and that they are as many as the records that have them.
-use Rattle.std.proofs.Common.{◌≡◌, zero, suc, ◌-◌, ◌≤◌, Bool, true, false, cond, None, List, [], ◌∷◌, length, map, refl, sym, ap, ◌∙◌, arith}
-use Rattle.std.specs.Prelude.{if◌then◌else◌, ◌&&◌, ◌||◌, not, is_some}
+use Rattle.nf_net.proofs.Words.{◌≡◌, zero, suc, ◌≤◌, Bool, true, false, cond, None, List, [], ◌∷◌, length, map, refl, sym, ap, ◌∙◌, arith, if◌then◌else◌, ◌&&◌}
+use Rattle.nf_net.proofs.Words.{◌||◌, not, is_some, get-remove, len-entries, and-false, or-false, units_total, unit_cmp, Records, same_unit, is_among}
+use Rattle.nf_net.proofs.Words.{same_unit-true, same_unit_equiv, with_units, without_units}
+use Rattle.std.proofs.Common.{◌-◌}
 use Rattle.std.specs.FinMap as finite
-use Rattle.std.specs.FinMap.{contains_key-keys, empty_of_len, get-empty, get-remove, len-entries, len-remove}
-use Rattle.std.proofs.Math.Bool.{and-false, or-false}
+use Rattle.std.specs.FinMap.{contains_key-keys, empty_of_len, get-empty, len-remove}
 use Rattle.nf_function.specs.declared.unit.Unit as units
-use Rattle.nf_function.specs.UnitOrder.{units_total}
-use Rattle.nf_function.specs.Units.{unit_cmp}
-use Rattle.record_table.specs.Table.{Records, same_unit, is_among}
-use Rattle.record_table.proofs.UnitOrder.{same_unit-true, same_unit_equiv}
-use Rattle.net_world.specs.Lives.{with_units, without_units}
 
 -- no unit comes twice
 abbrev pub AreOnce : List units.Unit → Type 0

@@ -1,23 +1,12 @@
 -- The members of the share that has a unit, by the commands that the switch has installed; and the place of a packet's member.
-use Rattle.std.proofs.Common.{◌≡◌, ℕ, zero, suc, ◌+◌, ◌<◌, Bool, true, false, Option, Some, None, List, [], ◌∷◌, ◌++◌, length, refl, sym, ap, ◌∙◌, subst, arith}
-use Rattle.std.specs.Prelude.{if◌then◌else◌, ◌&&◌, ◌||◌, not, find, is_some, slice_index, slice_index_or}
-use Rattle.std.specs.List.{filter_map}
-use Rattle.std.specs.Option.{option_or}
-use Rattle.std.proofs.lemmas.Bool.Decides.{Decides-eqb}
-use Rattle.std.proofs.lemmas.Bool.{and_parts}
-use Rattle.flow_filter.specs.declared.filter.Filter.{Filter}
+use Rattle.nf_net.proofs.Words.{◌≡◌, ℕ, zero, suc, ◌+◌, ◌<◌, Bool, true, false, Option, Some, None, List, [], ◌∷◌, ◌++◌, length, refl, sym, ap, ◌∙◌, subst}
+use Rattle.nf_net.proofs.Words.{arith, if◌then◌else◌, ◌&&◌, ◌||◌, not, find, is_some, slice_index, slice_index_or, filter_map, option_or, Decides-eqb}
+use Rattle.nf_net.proofs.Words.{and_parts, Filter, takes, Order, Note, place_of, times_installed, installs_in, is_at, owner_after, owner_after_order, is_home}
+use Rattle.nf_net.proofs.Words.{shared_among, members_after, times_installed-append, counted_now, Given}
 use Rattle.nf_function.specs.declared.unit.Unit as units
-use Rattle.nf_function.specs.Units.{takes}
-use Rattle.nf_msgs.specs.declared.command.Order.{Order}
 use Rattle.nf_msgs.specs.declared.command.Order.TheVariants as order
-use Rattle.nf_msgs.specs.declared.note.Note.{Note}
 use Rattle.nf_msgs.specs.declared.note.Note.TheVariants as note
-use Rattle.flow_filter.specs.Name.{place_of}
-use Rattle.net_world.specs.Commands.{times_installed}
-use Rattle.net_world.specs.Log.{installs_in}
-use Rattle.net_world.specs.Places.{is_at, owner_after, owner_after_order, is_home, shared_among, members_after}
-use Rattle.net_world.proofs.LogLemmas.{times_installed-append, counted_now}
-use Rattle.proof_outlines.proofs.joined.Given.{Given, diverts, diverted_after}
+use Rattle.proof_outlines.proofs.joined.Given.{diverts, diverted_after}
 
 some_or : {X : Type 0} (a b : Option X) → is_some (option_or a b) ≡ is_some a || is_some b
 some_or (Some x) b = refl

@@ -1,43 +1,18 @@
 -- Of a unit that a move asks its source for no share has anything: so each live record of it is the fold of all that was done of it, and the pieces
 -- say which of the records have a time.
-use Rattle.std.proofs.Common.{◌≡◌, ℕ, ◌<◌, ◌≤◌, Bool, true, false, cond, Option, Some, None, List, ◌∷◌, length, refl, sym, ap, ◌∙◌, subst, arith}
-use Rattle.std.specs.Prelude.{◌&&◌, ◌==◌, is_some}
-use Rattle.std.specs.List.{filter_map}
+use Rattle.nf_net.proofs.Words.{◌≡◌, ℕ, ◌<◌, ◌≤◌, Bool, true, false, cond, Option, Some, None, List, ◌∷◌, length, refl, sym, ap, ◌∙◌, subst, arith, ◌&&◌, ◌==◌}
+use Rattle.nf_net.proofs.Words.{is_some, filter_map, nat_tests, Filter, takes, FunctionLaws, Semantics, Records, taken_by, one_unit, Msg, Note, Network}
+use Rattle.nf_net.proofs.Words.{queue_at, at, Each, M_stream, Mv, Sys, IsSys, NothingOf, Where, Any, olds, Sharing, WholeWorld, moves_of, Came, WhereAll}
+use Rattle.nf_net.proofs.Words.{Apart_from_shares, Under_share, Config, Node, IsInput, processed_of, live_at, is_whole, takes_same, is_sys, Given, S, A, shown}
+use Rattle.nf_net.proofs.Words.{came_by, Joined, done_same, given}
 use Rattle.std.specs.FinMap as finite
-use Rattle.std.proofs.lemmas.Bool.Decides.{nat_tests}
-use Rattle.flow_filter.specs.declared.filter.Filter.{Filter}
 use Rattle.nf_function.specs.declared.unit.Unit as units
-use Rattle.nf_function.specs.Units.{takes}
-use Rattle.nf_function.specs.Records.{Laws as FunctionLaws}
-use Rattle.nf_function.specs.Semantics.{Semantics}
-use Rattle.record_table.specs.Table.{Records, taken_by}
 use Rattle.record_table.specs.Chunks.{chunks_of}
 use Rattle.record_table.proofs.RecordLookUps.{same_records}
-use Rattle.record_table.proofs.UnitOrder.{one_unit}
-use Rattle.nf_msgs.specs.declared.msg.Msg.{Msg}
 use Rattle.nf_msgs.specs.declared.msg.Msg.TheVariants as msg
-use Rattle.nf_msgs.specs.declared.note.Note.{Note}
-use Rattle.actor_net.specs.Network.{Network, queue_at}
-use Rattle.actor_net.proofs.EnabledChoices.{at}
-use Rattle.proof_machines.proofs.unit.Labels.{Each}
-use Rattle.proof_machines.proofs.unit.Real.{M_stream}
-use Rattle.proof_machines.proofs.net.Net.{Mv, Sys, IsSys}
-use Rattle.proof_machines.proofs.net.Rest.{NothingOf}
 use Rattle.proof_machines.proofs.net.Readings as readings
-use Rattle.proof_machines.proofs.net.Units.{Where}
-use Rattle.proof_machines.proofs.net.Shares.{Any, Any.Old, olds, Sharing, WholeWorld, moves_of}
-use Rattle.proof_machines.proofs.whole.WhereAll.{Came, WhereAll, Apart_from_shares, Under_share}
-use Rattle.net_world.specs.declared.config.Config.{Config}
-use Rattle.net_world.specs.declared.node.Node.{Node}
-use Rattle.net_world.specs.Input.{IsInput}
-use Rattle.net_world.specs.Fold.{processed_of, fold}
-use Rattle.net_world.specs.Records.{live_at}
-use Rattle.proof_outlines.proofs.outline.FiltersApart.{is_whole, takes_same}
-use Rattle.proof_outlines.proofs.outline.Outline.{is_sys}
-use Rattle.proof_outlines.proofs.joined.Given.{Given}
-use Rattle.proof_outlines.proofs.joined.Joined.{S, A, shown, came_by, Joined}
-use Rattle.proof_outlines.proofs.joined.RunsJoined.{done_same}
-use Rattle.proof_outlines.proofs.joined.StartJoined.{given}
+use Rattle.proof_machines.proofs.net.Shares.{Any.Old}
+use Rattle.net_world.specs.Fold.{fold}
 use Rattle.nf_net.proofs.paths.RecordPromises.{record_is}
 use Rattle.nf_net.proofs.FoldLemmas.{fold_is}
 use Rattle.nf_net.proofs.StreamedUnits.{GivesState, selected_give}

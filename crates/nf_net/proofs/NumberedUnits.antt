@@ -1,28 +1,14 @@
 -- The unit of the packet with any number is one that packets may have; and what an instance notes as processed is among what ran.
-use Rattle.std.proofs.Common.{◌≡◌, ℕ, Bool, true, false, Option, Some, None, List, [], ◌∷◌, ◌++◌, refl, ap}
-use Rattle.std.specs.Prelude.{if◌then◌else◌, ◌&&◌, ◌==◌, not, find, unwrap_or}
-use Rattle.std.specs.List.{cons_option, filter_map}
-use Rattle.flow_filter.specs.declared.packet.Packet.{Packet}
-use Rattle.flow_filter.specs.declared.site.Site.{Site}
-use Rattle.flow_filter.specs.declared.flow.Flow.{Flow}
+use Rattle.nf_net.proofs.Words.{◌≡◌, ℕ, Bool, true, false, Option, Some, None, List, [], ◌∷◌, ◌++◌, refl, ap, if◌then◌else◌, ◌&&◌, ◌==◌, not, find, unwrap_or}
+use Rattle.nf_net.proofs.Words.{cons_option, filter_map, Packet, Site, Flow, Output, Semantics, Msg, Note, Each, Config, packet_numbered, IsInput}
+use Rattle.nf_net.proofs.Words.{unit_numbered, flow_fits, unit_fits, all_each, ran_in, unit_is_fit}
 use Rattle.flow_filter.specs.declared.flow.Direction.{Direction}
 use Rattle.flow_filter.specs.declared.flow.Direction.TheVariants.{Out, In}
 use Rattle.flow_filter.specs.Flow.{flow_of, is_inside, outward, inward}
 use Rattle.flow_filter.specs.FieldSteps.{is_outside_address, owner_of_port}
-use Rattle.nf_function.specs.declared.output.Output.{Output}
-use Rattle.nf_function.specs.Semantics.{Semantics}
-use Rattle.nf_msgs.specs.declared.msg.Msg.{Msg}
-use Rattle.nf_msgs.specs.declared.note.Note.{Note}
 use Rattle.nf_msgs.specs.declared.note.Note.TheVariants as note
-use Rattle.proof_machines.proofs.unit.Labels.{Each}
-use Rattle.net_world.specs.declared.config.Config.{Config}
-use Rattle.net_world.specs.Input.{packets, packet_numbered, no_packet, IsSteered, IsInput}
-use Rattle.net_world.specs.Places.{unit_numbered}
-use Rattle.proof_outlines.proofs.outline.FiltersApart.{flow_fits, unit_fits}
-use Rattle.proof_outlines.proofs.outline.StateOutline.{all_each}
-use Rattle.proof_outlines.proofs.outline.Outline.{ran_in}
+use Rattle.net_world.specs.Input.{packets, no_packet, IsSteered}
 use Rattle.proof_outlines.proofs.joined.InputLemmas.{fits_flow}
-use Rattle.proof_outlines.proofs.joined.OwnerLemmas.{unit_is_fit}
 
 -- the flow of the packet of zeros, whatever is inside
 zeros_fit : (site : Site) (a b : Bool)

@@ -1,29 +1,16 @@
 -- Packets that were processed are answered as one instance answers them: what an instance notes, from the records that it has.
-use Rattle.std.proofs.Common.{◌≡◌, ◌≢◌, ℕ, Bool, true, false, Option, Some, None, List, [], ◌∷◌, ◌++◌, map, refl, sym, ap, ◌∙◌, subst}
-use Rattle.std.specs.Prelude.{if◌then◌else◌}
-use Rattle.std.specs.List.{filter_map}
+use Rattle.nf_net.proofs.Words.{◌≡◌, ◌≢◌, ℕ, Bool, true, false, Option, Some, None, List, [], ◌∷◌, ◌++◌, map, refl, sym, ap, ◌∙◌, subst, if◌then◌else◌}
+use Rattle.nf_net.proofs.Words.{filter_map, map-append, Site, Output, Semantics, unit_at, kept_after, is_transport, Records, same_unit, after_packet}
+use Rattle.nf_net.proofs.Words.{same_unit-true, FullCell, Msg, Note, Each, each-append, Sys, none_mine, Config, packet_numbered, dones_in, done_where, is_of}
+use Rattle.nf_net.proofs.Words.{outputs, number, ran_in, is_sys, IsGenuine}
 use Rattle.std.specs.FinMap as finite
-use Rattle.std.proofs.lemmas.List.{map-append}
-use Rattle.flow_filter.specs.declared.site.Site.{Site}
-use Rattle.nf_function.specs.declared.output.Output.{Output}
 use Rattle.nf_function.specs.declared.unit.Unit as units
-use Rattle.nf_function.specs.Semantics.{Semantics, unit_at, kept_after, output_for}
-use Rattle.nf_function.specs.Units.{is_transport}
-use Rattle.record_table.specs.Table.{Records, same_unit, after_packet}
-use Rattle.record_table.proofs.UnitOrder.{same_unit-true}
-use Rattle.packet_pool.specs.Pool.{FullCell}
-use Rattle.nf_msgs.specs.declared.msg.Msg.{Msg}
-use Rattle.nf_msgs.specs.declared.note.Note.{Note}
+use Rattle.nf_function.specs.Semantics.{output_for}
 use Rattle.nf_msgs.specs.declared.note.Note.TheVariants as note
-use Rattle.proof_machines.proofs.unit.Labels.{Each, each-append}
-use Rattle.proof_machines.proofs.net.Net.{Sys}
-use Rattle.proof_machines.proofs.net.Rest.{none_mine}
-use Rattle.net_world.specs.declared.config.Config.{Config}
-use Rattle.net_world.specs.Input.{packet_numbered}
-use Rattle.net_world.specs.Log.{Done, dones_in, done_where}
-use Rattle.net_world.specs.Fold.{is_of, fold, outputs}
-use Rattle.proof_outlines.proofs.outline.Outline.{number, ran_in, sys, is_sys}
-use Rattle.proof_outlines.proofs.outline.InstanceOutline.{IsGenuine, after_same}
+use Rattle.net_world.specs.Log.{Done}
+use Rattle.net_world.specs.Fold.{fold}
+use Rattle.proof_outlines.proofs.outline.Outline.{sys}
+use Rattle.proof_outlines.proofs.outline.InstanceOutline.{after_same}
 
 -- a packet of TCP or UDP has the number
 abbrev pub IsCarried : List Msg → ℕ → Type 0

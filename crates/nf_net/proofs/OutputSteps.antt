@@ -1,46 +1,21 @@
 -- Along a run all packets that were processed are answered as one instance that nothing moved answers them.
-use Rattle.std.proofs.Common.{◌≡◌, ◌≢◌, ℕ, zero, suc, ◌+◌, ◌≤◌, Bool, true, false, Option, Some, None, List, [], ◌∷◌, length, refl, sym, ap, ◌∙◌, subst, arith}
-use Rattle.std.specs.Prelude.{if◌then◌else◌, ◌&&◌, ◌==◌}
-use Rattle.std.specs.List.{filter_map}
+use Rattle.nf_net.proofs.Words.{◌≡◌, ◌≢◌, ℕ, zero, suc, ◌+◌, ◌≤◌, Bool, true, false, Option, Some, None, List, [], ◌∷◌, length, refl, sym, ap, ◌∙◌, subst}
+use Rattle.nf_net.proofs.Words.{arith, if◌then◌else◌, ◌&&◌, ◌==◌, filter_map, Global, nat_tests, Fits, FunctionLaws, Semantics, part, FullCell, InstanceState}
+use Rattle.nf_net.proofs.Words.{instance_step, Msg, Note, Choice, Network, world_next, run, IsRun, taken_outcome, Taking, run_induction, inst_step, none_mine}
+use Rattle.nf_net.proofs.Words.{done_u, New, Shared_on, Config, Node, packet_numbered, IsInput, dones_in, node_step, node_ready, is_of, outputs, processed_of}
+use Rattle.nf_net.proofs.Words.{started_with, done-append, number, ran_in, is_sys, outline_instance, held_genuine, is_sharing, Given, place, S, A, shown}
+use Rattle.nf_net.proofs.Words.{by_node, came_by, node_of, Scene, IsInstanceAt, AreShown, IsTaken, its_takes, its_taken, Runs, runs_at_start, runs_next}
+use Rattle.nf_net.proofs.Words.{start_world, went_same, all_fit, given, count_at_start}
 use Rattle.std.specs.FinMap as finite
-use Rattle.std.specs.declared.alloc.Global.{Global}
-use Rattle.std.proofs.lemmas.Bool.Decides.{nat_tests}
 use Rattle.nf_function.specs.declared.unit.Unit as units
-use Rattle.nf_function.specs.Records.{Fits, Laws as FunctionLaws}
-use Rattle.nf_function.specs.Semantics.{Semantics}
-use Rattle.record_table.specs.Table.{part}
 use Rattle.event_filter.specs.declared.mark.Mark.TheVariants as mark
-use Rattle.packet_pool.specs.Pool.{FullCell}
-use Rattle.instance_worker.specs.declared.instance.Instance.{Instance as InstanceState}
-use Rattle.instance_worker.specs.Instance.{process_step, on_carry, on_fence, instance_step}
-use Rattle.nf_msgs.specs.declared.msg.Msg.{Msg}
+use Rattle.instance_worker.specs.Instance.{process_step, on_carry, on_fence}
 use Rattle.nf_msgs.specs.declared.msg.Msg.TheVariants as msg
-use Rattle.nf_msgs.specs.declared.note.Note.{Note}
-use Rattle.actor_net.specs.declared.choice.Choice.{Choice}
-use Rattle.actor_net.specs.Network.{Network, world_next, run, IsRun}
-use Rattle.actor_net.proofs.StepOutcome.{taken_outcome}
-use Rattle.actor_net.proofs.RunInduction.{Taking, run_induction}
 use Rattle.proof_machines.proofs.net.Net as net
-use Rattle.proof_machines.proofs.net.Net.{inst_step}
 use Rattle.proof_machines.proofs.net.Readings as readings
-use Rattle.proof_machines.proofs.net.Rest.{none_mine, done_u}
-use Rattle.proof_machines.proofs.net.Shares.{Old, New, Shared_on}
-use Rattle.net_world.specs.declared.config.Config.{Config}
-use Rattle.net_world.specs.declared.node.Node.{Node}
-use Rattle.net_world.specs.Input.{packet_numbered, IsInput}
-use Rattle.net_world.specs.Log.{dones_in}
-use Rattle.net_world.specs.Nodes.{node_step, node_ready}
-use Rattle.net_world.specs.Fold.{is_of, fold, outputs, processed_of, outputs_noted as given_of}
-use Rattle.net_world.specs.Start.{started_with}
-use Rattle.net_world.proofs.LogLemmas.{done-append}
-use Rattle.proof_outlines.proofs.outline.Outline.{number, ran_in, is_sys, outline_instance}
-use Rattle.proof_outlines.proofs.outline.InstanceOutline.{carry_follows, pass_follows, fence_follows, held_genuine}
-use Rattle.proof_outlines.proofs.whole.WholeOutline.{is_sharing}
-use Rattle.proof_outlines.proofs.joined.Given.{Given, place}
-use Rattle.proof_outlines.proofs.joined.Joined.{S, A, shown, by_node, came_by, node_of, Scene, IsInstanceAt, AreShown, IsTaken}
-use Rattle.proof_outlines.proofs.joined.BesideRuns.{its_takes, its_taken}
-use Rattle.proof_outlines.proofs.joined.RunsJoined.{Runs, runs_at_start, runs_next, start_world, went_same}
-use Rattle.proof_outlines.proofs.joined.StartJoined.{all_fit, given, count_at_start}
+use Rattle.proof_machines.proofs.net.Shares.{Old}
+use Rattle.net_world.specs.Fold.{fold, outputs_noted as given_of}
+use Rattle.proof_outlines.proofs.outline.InstanceOutline.{carry_follows, pass_follows, fence_follows}
 use Rattle.nf_net.proofs.OutputLemmas.{numbers, Answered, answered_nothing, answered_more, answered_by, numbers_ran}
 use Rattle.nf_net.proofs.AnsweredNotes.{live_of, kept_of, carry_answered, fence_answered, instance_none, switch_none, controller_none}
 use Rattle.nf_net.proofs.FreshRecords.{fresh_live, fresh_shared}

@@ -1,22 +1,11 @@
 -- At most as many packets are processed as came, where each is processed at most as often as it came; and as many, where it is as often.
-use Rattle.std.proofs.Common.{◌≡◌, ℕ, suc, ◌+◌, ◌≤◌, Bool, true, false, List, [], ◌∷◌, map, length, refl, sym, ap, ◌∙◌, arith}
-use Rattle.std.specs.Prelude.{if◌then◌else◌, ◌==◌}
-use Rattle.std.proofs.lemmas.Bool.Decides.{nat_tests, Decides-eqb}
-use Rattle.std.proofs.lemmas.List.{length-map}
-use Rattle.nf_function.specs.Semantics.{Semantics, unit_at}
+use Rattle.nf_net.proofs.Words.{◌≡◌, ℕ, suc, ◌+◌, ◌≤◌, Bool, true, false, List, [], ◌∷◌, map, length, refl, sym, ap, ◌∙◌, arith, if◌then◌else◌, ◌==◌, nat_tests}
+use Rattle.nf_net.proofs.Words.{Decides-eqb, length-map, Semantics, unit_at, same_unit_equiv, Msg, Note, Network, Config, Node, packet_numbered, IsInput}
+use Rattle.nf_net.proofs.Words.{arrivals_in, dones_in, done_where, is_of, arrived_of, processed_of, times_filter, given, Joined}
 use Rattle.nf_function.specs.declared.unit.Unit as units
-use Rattle.record_table.proofs.UnitOrder.{same_unit_equiv}
-use Rattle.nf_msgs.specs.declared.msg.Msg.{Msg}
-use Rattle.nf_msgs.specs.declared.note.Note.{Note}
-use Rattle.actor_net.specs.Network.{Network}
-use Rattle.net_world.specs.declared.config.Config.{Config}
-use Rattle.net_world.specs.declared.node.Node.{Node}
-use Rattle.net_world.specs.Input.{packet_numbered, IsInput}
-use Rattle.net_world.specs.Log.{Done, arrivals_in, dones_in, done_where}
-use Rattle.net_world.specs.Fold.{times, is_of, arrived_of, processed_of}
-use Rattle.net_world.proofs.NumberCounts.{done_numbers, times_filter}
-use Rattle.proof_outlines.proofs.joined.StartJoined.{given}
-use Rattle.proof_outlines.proofs.joined.Joined.{Joined}
+use Rattle.net_world.specs.Log.{Done}
+use Rattle.net_world.specs.Fold.{times}
+use Rattle.net_world.proofs.NumberCounts.{done_numbers}
 use Rattle.proof_outlines.proofs.joined.RunsJoined.{once}
 
 -- a list without the first of these

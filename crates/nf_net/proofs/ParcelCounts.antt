@@ -1,27 +1,14 @@
 -- The packets under way at their places are as many as came and aren't processed, since of each number as many stand there.
-use Rattle.std.proofs.Common.{◌≡◌, ℕ, zero, suc, ◌+◌, ◌<◌, ◌≤◌, Bool, true, false, Option, Some, None, List}
-use Rattle.std.proofs.Common.{[], ◌++◌, map, length, length-append, append-nil, refl, sym, ap, ◌∙◌, arith}
-use Rattle.std.specs.Prelude.{if◌then◌else◌, ◌&&◌, ◌==◌, ◌*◌, nat_lt, slice_get, slice_index_or}
-use Rattle.std.specs.List.{flat_map}
-use Rattle.std.proofs.lemmas.Bool.Decides.{nat_tests, Decides-eqb, Decides-ltb}
-use Rattle.std.proofs.lemmas.List.{length-map}
-use Rattle.std.proofs.lemmas.Option.{slice_get_within}
-use Rattle.nf_function.specs.Semantics.{Semantics, unit_at}
+use Rattle.nf_net.proofs.Words.{◌≡◌, ℕ, zero, suc, ◌+◌, ◌<◌, ◌≤◌, Bool, true, false, Option, Some, None, List, [], ◌++◌, map, length, length-append, append-nil}
+use Rattle.nf_net.proofs.Words.{refl, sym, ap, ◌∙◌, arith, if◌then◌else◌, ◌&&◌, ◌==◌, nat_lt, slice_get, slice_index_or, flat_map, nat_tests, Decides-eqb}
+use Rattle.nf_net.proofs.Words.{Decides-ltb, length-map, slice_get_within, Semantics, unit_at, same_unit_equiv, Msg, Note, switch_node, instance_node, Network}
+use Rattle.nf_net.proofs.Words.{on_link, Config, Node, packet_numbered, arrivals_in, dones_in, is_of, arrived_of, processed_of, in_flight_of, all_but}
+use Rattle.nf_net.proofs.Words.{carried_in, held_by, on_links, passed_in, forwarded_in, stored_by, handed_over_in, queued_by, diverted_in, owner, times_filter}
+use Rattle.std.specs.Prelude.{◌*◌}
 use Rattle.nf_function.specs.declared.unit.Unit as units
-use Rattle.record_table.proofs.UnitOrder.{same_unit_equiv}
-use Rattle.nf_msgs.specs.declared.msg.Msg.{Msg}
-use Rattle.nf_msgs.specs.declared.note.Note.{Note}
-use Rattle.nf_msgs.specs.Nodes.{switch_node, instance_node}
-use Rattle.actor_net.specs.Network.{Network, on_link}
-use Rattle.net_world.specs.declared.config.Config.{Config}
-use Rattle.net_world.specs.declared.node.Node.{Node}
-use Rattle.net_world.specs.Input.{packet_numbered}
-use Rattle.net_world.specs.Log.{arrivals_in, dones_in}
-use Rattle.net_world.specs.Fold.{times, is_of, arrived_of, processed_of, in_flight_of}
-use Rattle.net_world.specs.Path.{all_but, carried_in, held_by, at_instance, in_flight, on_links, passed_in}
-use Rattle.net_world.specs.Path.{forwarded_in, stored_by, handed_over_in, queued_by, diverted_in}
-use Rattle.net_world.specs.Places.{owner}
-use Rattle.net_world.proofs.NumberCounts.{times-append, times_filter}
+use Rattle.net_world.specs.Fold.{times}
+use Rattle.net_world.specs.Path.{at_instance, in_flight}
+use Rattle.net_world.proofs.NumberCounts.{times-append}
 use Rattle.nf_net.proofs.PacketCounts.{no_longer, done_times}
 
 neither : (a b : Bool) → b ≡ false → a && b ≡ false

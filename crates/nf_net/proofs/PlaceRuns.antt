@@ -1,33 +1,11 @@
 -- In every run packets are processed at places of their units.
-use Rattle.std.proofs.Common.{◌≡◌, ℕ, zero, suc, true, false, List, [], ◌∷◌, ◌++◌, refl, sym, subst}
-use Rattle.std.specs.declared.alloc.Global.{Global}
-use Rattle.nf_function.specs.Records.{Laws as FunctionLaws}
-use Rattle.nf_function.specs.Semantics.{Semantics}
-use Rattle.nf_function.specs.declared.output.Output.{Output}
-use Rattle.switch_node.specs.Switch.{switch_step}
-use Rattle.ctrl_node.specs.Controller.{controller_step}
-use Rattle.nf_msgs.specs.declared.msg.Msg.{Msg}
-use Rattle.nf_msgs.specs.declared.note.Note.{Note}
+use Rattle.nf_net.proofs.Words.{◌≡◌, ℕ, zero, suc, true, false, List, [], ◌∷◌, ◌++◌, refl, sym, subst, Global, FunctionLaws, Semantics, Output, switch_step}
+use Rattle.nf_net.proofs.Words.{controller_step, Msg, Note, Choice, Network, Stepped, IsRun, run, world_next, Taking, taken_outcome, Config, Node, IsInput}
+use Rattle.nf_net.proofs.Words.{job_of, node_step, node_ready, IsPlace, ArePlaces, its_takes, its_taken, Given, IsTaken, node_of, scene, Wants, node_leads}
+use Rattle.nf_net.proofs.Words.{Stands, In_first, In_second, stands, each_there, AreUnprocessed, switch_unprocessed, controller_uninstalled}
+use Rattle.nf_net.proofs.Words.{uninstalled_unprocessed, Runs, run_beside, given, all_fit}
 use Rattle.nf_msgs.specs.declared.note.Note.TheVariants as note
-use Rattle.actor_net.specs.declared.choice.Choice.{Choice}
-use Rattle.actor_net.specs.Network.{Network, Stepped, IsRun, run, world_next}
-use Rattle.actor_net.proofs.RunInduction.{Taking}
-use Rattle.actor_net.proofs.StepOutcome.{taken_outcome}
-use Rattle.net_world.specs.declared.config.Config.{Config}
-use Rattle.net_world.specs.declared.node.Node.{Node}
-use Rattle.net_world.specs.Input.{IsInput}
-use Rattle.net_world.specs.Jobs.{job_of}
-use Rattle.net_world.specs.Nodes.{node_step, node_ready}
-use Rattle.net_world.specs.Places.{IsPlace, ArePlaces}
-use Rattle.proof_outlines.proofs.joined.BesideRuns.{its_takes, its_taken}
-use Rattle.proof_outlines.proofs.joined.Given.{Given}
-use Rattle.proof_outlines.proofs.joined.Joined.{IsTaken, node_of}
-use Rattle.proof_outlines.proofs.joined.JoinedSteps.{scene}
-use Rattle.proof_outlines.proofs.joined.NodeSteps.{Wants, node_leads}
-use Rattle.proof_outlines.proofs.joined.OwnerLemmas.{Stands, In_first, In_second, stands, each_there}
-use Rattle.proof_outlines.proofs.joined.PlaceNotes.{is_unprocessed, AreUnprocessed, switch_unprocessed, controller_uninstalled, uninstalled_unprocessed}
-use Rattle.proof_outlines.proofs.joined.RunsJoined.{Runs, run_beside}
-use Rattle.proof_outlines.proofs.joined.StartJoined.{given, all_fit}
+use Rattle.proof_outlines.proofs.joined.PlaceNotes.{is_unprocessed}
 use Rattle.nf_net.proofs.answers.BusyRuns.{Busy}
 use Rattle.nf_net.proofs.answers.CommandPromises.{run_busy}
 use Rattle.nf_net.proofs.answers.InstallRuns.{Installs, run_installs}

@@ -1,52 +1,18 @@
 -- In a step of a run an instance processes packets at places of their units.
-use Rattle.std.proofs.Common.{◌≡◌, ℕ, suc, ◌+◌, ◌⊎◌, inl, inr, true, false, Option, Some, None, List, [], ◌∷◌, ◌++◌, length, refl, sym, ap, ◌∙◌, subst, arith}
-use Rattle.std.specs.Prelude.{◌&&◌, ◌==◌}
-use Rattle.std.specs.List.{filter_map}
+use Rattle.nf_net.proofs.Words.{◌≡◌, ℕ, suc, ◌+◌, ◌⊎◌, inl, inr, true, false, Option, Some, None, List, [], ◌∷◌, ◌++◌, length, refl, sym, ap, ◌∙◌, subst, arith}
+use Rattle.nf_net.proofs.Words.{◌&&◌, ◌==◌, filter_map, nat_tests, Decides-eqb, and_parts, FunctionLaws, Semantics, takes, Output, same_unit_equiv, Msg, Note}
+use Rattle.nf_net.proofs.Words.{instance_node, FullCell, stored_of, place_of, Operation, Move, Copy, Share, InstanceState, instance_step, Network, queue_at}
+use Rattle.nf_net.proofs.Words.{Each, Open, find_op, Any, New, OpenShare, moves_of, MayRun, ran_by, ItsShare, Config, Node, IsInput, job_of, is_at, owner}
+use Rattle.nf_net.proofs.Words.{members, unit_numbered, IsMoving, IsPlace, Owns, Is_destination, Is_member, is_whole, unit_fits, takes_whole, ran_in, is_sys}
+use Rattle.nf_net.proofs.Words.{outline_instance, Sees, but_shares, is_sharing, Given, place, S, A, Scene, IsTaken, IsInstanceAt, Joined, came_by, AllApart}
+use Rattle.nf_net.proofs.Words.{each_there, IsQuiet, instance_quiet, RanAs, Seen, Unseen, ran_as, ran_any, given, all_fit}
 use Rattle.std.specs.FinMap as finite
-use Rattle.std.proofs.lemmas.Bool.Decides.{nat_tests, Decides-eqb}
-use Rattle.std.proofs.lemmas.Bool.{and_parts}
-use Rattle.nf_function.specs.Records.{Laws as FunctionLaws}
-use Rattle.nf_function.specs.Semantics.{Semantics}
-use Rattle.nf_function.specs.Units.{takes}
-use Rattle.nf_function.specs.declared.output.Output.{Output}
 use Rattle.nf_function.specs.declared.unit.Unit as units
-use Rattle.record_table.proofs.UnitOrder.{same_unit_equiv}
-use Rattle.nf_msgs.specs.declared.msg.Msg.{Msg}
-use Rattle.nf_msgs.specs.declared.note.Note.{Note}
 use Rattle.nf_msgs.specs.declared.note.Note.TheVariants as note
-use Rattle.nf_msgs.specs.Nodes.{instance_node}
-use Rattle.packet_pool.specs.Pool.{FullCell}
-use Rattle.event_store.specs.Store.{stored_of}
-use Rattle.flow_filter.specs.Name.{place_of}
-use Rattle.ctrl_node.specs.declared.operation.Operation.{Operation}
-use Rattle.ctrl_node.specs.declared.operation.Operation.TheVariants.{Move, Copy, Share}
-use Rattle.instance_worker.specs.declared.instance.Instance.{Instance as InstanceState}
-use Rattle.instance_worker.specs.Instance.{instance_step}
-use Rattle.actor_net.specs.Network.{Network, queue_at}
 use Rattle.actor_net.proofs.EnabledChoices.{at as at_node}
-use Rattle.proof_machines.proofs.unit.Labels.{Each}
-use Rattle.proof_machines.proofs.net.Net.{Open, find_op}
-use Rattle.proof_machines.proofs.net.Shares.{Any, Old, New, OpenShare, moves_of}
-use Rattle.proof_machines.proofs.whole.MovePlaces.{MayRun, At_route, At_destination}
-use Rattle.proof_machines.proofs.whole.PlacesAll.{ran_by}
-use Rattle.proof_machines.proofs.whole.Readings.{ItsShare}
-use Rattle.net_world.specs.declared.config.Config.{Config}
-use Rattle.net_world.specs.declared.node.Node.{Node}
-use Rattle.net_world.specs.Input.{IsInput}
-use Rattle.net_world.specs.Jobs.{job_of}
-use Rattle.net_world.specs.Places.{is_at, owner, members, unit_numbered, IsMoving, IsPlace, Owns, Is_destination, Is_member}
-use Rattle.proof_outlines.proofs.outline.FiltersApart.{is_whole, unit_fits, takes_whole}
-use Rattle.proof_outlines.proofs.outline.Outline.{ran_in, is_sys, outline_instance}
-use Rattle.proof_outlines.proofs.outline.ControlOutline.{Sees}
-use Rattle.proof_outlines.proofs.whole.OpenShares.{but_shares}
-use Rattle.proof_outlines.proofs.whole.WholeOutline.{is_sharing}
-use Rattle.proof_outlines.proofs.joined.Given.{Given, place}
-use Rattle.proof_outlines.proofs.joined.Joined.{S, A, Scene, IsTaken, IsInstanceAt, Joined, came_by}
-use Rattle.proof_outlines.proofs.joined.OperationsApart.{AllApart}
-use Rattle.proof_outlines.proofs.joined.OwnerLemmas.{each_there, each_front, place_quiet}
-use Rattle.proof_outlines.proofs.joined.PlaceNotes.{IsQuiet, instance_quiet}
-use Rattle.proof_outlines.proofs.joined.RunUnits.{RanAs, Seen, Unseen, ran_as, ran_any}
-use Rattle.proof_outlines.proofs.joined.StartJoined.{given, all_fit}
+use Rattle.proof_machines.proofs.net.Shares.{Old}
+use Rattle.proof_machines.proofs.whole.MovePlaces.{At_route, At_destination}
+use Rattle.proof_outlines.proofs.joined.OwnerLemmas.{each_front, place_quiet}
 use Rattle.nf_net.proofs.answers.BusyRuns.{Busy}
 use Rattle.nf_net.proofs.answers.InstallRuns.{Installs}
 use Rattle.nf_net.proofs.answers.MovesUnderWay.{AreUnderWay}

@@ -1,23 +1,15 @@
 -- What a step of the switch in a run does to its rules: nothing, or it takes a change that a move or a share has sent, which it notes.
-use Rattle.std.proofs.Common.{◌≡◌, ℕ, true, false, Some, List, [], ◌∷◌, refl, sym, ap, ◌∙◌, subst}
-use Rattle.std.specs.Prelude.{◌&&◌, ◌==◌, nat_lt}
-use Rattle.flow_filter.specs.declared.filter.Filter.{Filter}
-use Rattle.nf_function.specs.Semantics.{Semantics}
-use Rattle.nf_msgs.specs.declared.msg.Msg.{Msg}
+use Rattle.nf_net.proofs.Words.{◌≡◌, ℕ, true, false, Some, List, [], ◌∷◌, refl, sym, ap, ◌∙◌, subst, ◌&&◌, ◌==◌, nat_lt, Filter, Semantics, Msg, Note}
+use Rattle.nf_net.proofs.Words.{instance_node, Target, SwitchState, switch_step, on_install, Any, New, S_install, installs_in, is_whole, Given, Scene, AreShown}
+use Rattle.nf_net.proofs.Words.{IsTaken, Label, shown, is_target}
 use Rattle.nf_msgs.specs.declared.msg.Msg.TheVariants as msg
-use Rattle.nf_msgs.specs.declared.note.Note.{Note}
 use Rattle.nf_msgs.specs.declared.note.Note.TheVariants as note
-use Rattle.nf_msgs.specs.Nodes.{instance_node}
-use Rattle.switch_rules.specs.declared.target.Target.{Target}
 use Rattle.switch_rules.specs.declared.target.Target.TheVariants as target
-use Rattle.switch_node.specs.Switch.{SwitchState, switch_step, on_install}
 use Rattle.proof_machines.proofs.unit.Real as real
 use Rattle.proof_machines.proofs.net.Net as net
-use Rattle.proof_machines.proofs.net.Shares.{Any, Old, New, S_install}
-use Rattle.net_world.specs.Log.{installs_in}
-use Rattle.proof_outlines.proofs.outline.FiltersApart.{is_whole}
-use Rattle.proof_outlines.proofs.joined.Given.{Given, IsInstall, IsDivert}
-use Rattle.proof_outlines.proofs.joined.Joined.{Scene, AreShown, IsTaken, Label, shown, count, is_target}
+use Rattle.proof_machines.proofs.net.Shares.{Old}
+use Rattle.proof_outlines.proofs.joined.Given.{IsInstall, IsDivert}
+use Rattle.proof_outlines.proofs.joined.Joined.{count}
 use Rattle.proof_outlines.proofs.joined.RuleChanges.{Changes, Same, Installs, changes}
 
 installed_note : (s : SwitchState) (count k : ℕ) (filter : Filter) (from : ℕ) (to : Target) → s.instances ≡ count → nat_lt from count ≡ true

@@ -1,20 +1,6 @@
 -- What holds of a network at the start, and goes on with each choice of a run, holds of every run.
-use Rattle.std.proofs.Common.{ℕ, ◌+◌, List, length, sym, subst}
-use Rattle.std.specs.declared.alloc.Global.{Global}
-use Rattle.nf_function.specs.Records.{Laws as FunctionLaws}
-use Rattle.nf_function.specs.Semantics.{Semantics}
-use Rattle.nf_msgs.specs.declared.msg.Msg.{Msg}
-use Rattle.nf_msgs.specs.declared.note.Note.{Note}
-use Rattle.actor_net.specs.declared.choice.Choice.{Choice}
-use Rattle.actor_net.specs.Network.{Network, IsRun, run, world_next}
-use Rattle.actor_net.proofs.RunInduction.{Taking, run_induction}
-use Rattle.net_world.specs.declared.config.Config.{Config}
-use Rattle.net_world.specs.declared.node.Node.{Node}
-use Rattle.net_world.specs.Input.{IsInput}
-use Rattle.net_world.specs.Nodes.{node_step, node_ready}
-use Rattle.net_world.specs.Start.{started_with}
-use Rattle.proof_outlines.proofs.joined.RunsJoined.{start_world}
-use Rattle.proof_outlines.proofs.joined.StartJoined.{count_at_start}
+use Rattle.nf_net.proofs.Words.{ℕ, ◌+◌, List, length, sym, subst, Global, FunctionLaws, Semantics, Msg, Note, Choice, Network, IsRun, run, world_next, Taking}
+use Rattle.nf_net.proofs.Words.{run_induction, Config, Node, IsInput, node_step, node_ready, started_with, start_world, count_at_start}
 
 module _ (F : Type 0) {R : Type 0} (f : Semantics R) (laws : FunctionLaws f) (alloc : Global) (c : Config) (items : List Msg)
     (is : IsInput f.kind c items) where

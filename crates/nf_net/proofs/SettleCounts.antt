@@ -1,20 +1,10 @@
 -- How many commands of an input are answered, by the log; and two ends of one list, by their lengths.
-use Rattle.std.proofs.Common.{◌≡◌, ℕ, suc, ◌+◌, ◌<◌, ◌≤◌, true, false, Some, List, [], ◌∷◌, ◌++◌, map, length, length-append, refl, sym, ap, ◌∙◌, arith}
-use Rattle.std.specs.Prelude.{if◌then◌else◌, ◌||◌, ◌==◌, find, option_map}
-use Rattle.std.proofs.lemmas.Bool.Decides.{nat_tests, Decides-eqb}
-use Rattle.std.proofs.Math.Bool.{or-true}
-use Rattle.std.proofs.lemmas.Bool.{or_left}
-use Rattle.nf_msgs.specs.declared.answer.Answer.{Answer}
-use Rattle.nf_msgs.specs.declared.command.Command.{Command}
-use Rattle.nf_msgs.specs.declared.command.Order.{Order}
-use Rattle.nf_msgs.specs.declared.msg.Msg.{Msg}
+use Rattle.nf_net.proofs.Words.{◌≡◌, ℕ, suc, ◌+◌, ◌<◌, ◌≤◌, true, false, Some, List, [], ◌∷◌, ◌++◌, map, length, length-append, refl, sym, ap, ◌∙◌, arith}
+use Rattle.nf_net.proofs.Words.{if◌then◌else◌, ◌||◌, ◌==◌, find, option_map, nat_tests, Decides-eqb, or-true, or_left, Answer, Command, Order, Msg, Note, Each}
+use Rattle.nf_net.proofs.Words.{has_answered, commands, IsRising, has_answered-append}
 use Rattle.nf_msgs.specs.declared.msg.Msg.TheVariants as msg
-use Rattle.nf_msgs.specs.declared.note.Note.{Note}
 use Rattle.nf_msgs.specs.declared.note.Note.TheVariants as note
-use Rattle.proof_machines.proofs.unit.Labels.{Each}
-use Rattle.net_world.specs.Commands.{has_answered}
-use Rattle.net_world.specs.Input.{packets, commands, IsRising}
-use Rattle.net_world.proofs.LogLemmas.{has_answered-append}
+use Rattle.net_world.specs.Input.{packets}
 use Rattle.nf_net.proofs.answers.BusyController.{told_in}
 use Rattle.nf_net.proofs.answers.BusyLemmas.{answered_same}
 use Rattle.nf_net.proofs.answers.EndTables.{flag, flag_most, flag_full}

@@ -1,42 +1,17 @@
 -- Of every run: what is processed came before, and where a packet behind a settle arrives, all commands before the settle are answered.
-use Rattle.std.proofs.Common.{◌≡◌, ℕ, zero, suc, ◌+◌, ◌≤◌, Bool, true, false, Some, List, [], ◌∷◌, ◌++◌}
-use Rattle.std.proofs.Common.{map, length, length-append, append_assoc, refl, sym, ap, ◌∙◌, subst, arith}
-use Rattle.std.specs.Prelude.{if◌then◌else◌, ◌==◌, nat_lt, find, is_some}
-use Rattle.std.specs.declared.alloc.Global.{Global}
-use Rattle.std.proofs.lemmas.Bool.Decides.{nat_tests, Decides-ltb, Decides-eqb}
-use Rattle.std.proofs.lemmas.List.{map-append}
-use Rattle.proof_machines.proofs.unit.Labels.{each_map}
-use Rattle.flow_filter.specs.declared.packet.Packet.{Packet}
-use Rattle.nf_function.specs.declared.output.Output.{Output}
+use Rattle.nf_net.proofs.Words.{◌≡◌, ℕ, zero, suc, ◌+◌, ◌≤◌, Bool, true, false, Some, List, [], ◌∷◌, ◌++◌, map, length, length-append, append_assoc, refl, sym}
+use Rattle.nf_net.proofs.Words.{ap, ◌∙◌, subst, arith, if◌then◌else◌, ◌==◌, nat_lt, find, is_some, Global, nat_tests, Decides-ltb, Decides-eqb, map-append}
+use Rattle.nf_net.proofs.Words.{each_map, Packet, Output, FunctionLaws, Semantics, same_unit_equiv, Command, Msg, Note, Choice, Network, Stepped, IsRun, run}
+use Rattle.nf_net.proofs.Words.{world_next, queue_at, at, opening_waiting, opening_weight, Taking, Takes, taken_outcome, total, switch_step, controller_step}
+use Rattle.nf_net.proofs.Words.{Config, Node, has_answered, commands, IsInput, arrivals_in, dones_in, done_where, node_step, node_ready, unit_numbered, is_of}
+use Rattle.nf_net.proofs.Words.{processed_of, has_packet, first_nodes, first_switch, arrived-append, its_takes, its_label, its_labels, its_input, Given, Joined}
+use Rattle.nf_net.proofs.Words.{Label, node_of, Wants, node_leads, Stands, In_first, In_second, stands, switch_unprocessed, controller_uninstalled}
+use Rattle.nf_net.proofs.Words.{uninstalled_unprocessed, given, all_fit, all_labelled, count_at_start}
 use Rattle.nf_function.specs.declared.unit.Unit as units
-use Rattle.nf_function.specs.Records.{Laws as FunctionLaws}
-use Rattle.nf_function.specs.Semantics.{Semantics}
-use Rattle.record_table.proofs.UnitOrder.{same_unit_equiv}
-use Rattle.nf_msgs.specs.declared.command.Command.{Command}
-use Rattle.nf_msgs.specs.declared.msg.Msg.{Msg}
 use Rattle.nf_msgs.specs.declared.msg.Msg.TheVariants as msg
-use Rattle.nf_msgs.specs.declared.note.Note.{Note}
 use Rattle.nf_msgs.specs.declared.note.Note.TheVariants as note
-use Rattle.actor_net.specs.declared.choice.Choice.{Choice}
-use Rattle.actor_net.specs.Network.{Network, Stepped, IsRun, run, world_next, queue_at}
-use Rattle.actor_net.proofs.EnabledChoices.{at}
-use Rattle.actor_net.proofs.OpeningWorlds.{opening_waiting, opening_weight}
-use Rattle.actor_net.proofs.RunInduction.{Taking}
-use Rattle.actor_net.proofs.StepOutcome.{Takes, taken_outcome}
-use Rattle.actor_net.proofs.WeightLaws.{total}
-use Rattle.switch_node.specs.Switch.{switch_step}
-use Rattle.ctrl_node.specs.Controller.{controller_step}
-use Rattle.net_world.specs.declared.config.Config.{Config}
-use Rattle.net_world.specs.declared.node.Node.{Node}
-use Rattle.net_world.specs.Commands.{has_answered}
-use Rattle.net_world.specs.Input.{packets, commands, IsInput}
-use Rattle.net_world.specs.Log.{arrivals_in, dones_in, done_where}
-use Rattle.net_world.specs.Nodes.{node_step, node_ready}
-use Rattle.net_world.specs.Places.{unit_numbered}
-use Rattle.net_world.specs.Fold.{times, is_of, processed_of}
-use Rattle.net_world.specs.Settles.{has_packet}
-use Rattle.net_world.specs.Start.{first_nodes, first_switch}
-use Rattle.net_world.proofs.LogLemmas.{arrived-append}
+use Rattle.net_world.specs.Input.{packets}
+use Rattle.net_world.specs.Fold.{times}
 use Rattle.net_world.proofs.NumberCounts.{times-append}
 use Rattle.nf_net.proofs.answers.AnswerSends.{answering}
 use Rattle.nf_net.proofs.answers.ArrivalLemmas.{numbers, InRun, next_in_run, runs_joined}
@@ -45,15 +20,8 @@ use Rattle.nf_net.proofs.answers.BusyLemmas.{answered_same, other_not_answered}
 use Rattle.nf_net.proofs.answers.BusyNodes.{switch_hands}
 use Rattle.nf_net.proofs.answers.BusyRuns.{Busy, busy_next}
 use Rattle.nf_net.proofs.answers.CommandPromises.{run_busy}
-use Rattle.proof_outlines.proofs.joined.BesideRuns.{its_takes, its_label, its_labels, its_input}
-use Rattle.proof_outlines.proofs.joined.Given.{Given}
-use Rattle.proof_outlines.proofs.joined.Joined.{Joined, Label, node_of}
-use Rattle.proof_outlines.proofs.joined.NodeSteps.{Wants, node_leads}
 use Rattle.proof_outlines.proofs.joined.JoinedSteps.{ready_at}
-use Rattle.proof_outlines.proofs.joined.OwnerLemmas.{Stands, In_first, In_second, stands}
-use Rattle.proof_outlines.proofs.joined.PlaceNotes.{switch_unprocessed, controller_uninstalled, uninstalled_unprocessed}
 use Rattle.proof_outlines.proofs.joined.RunsJoined.{once}
-use Rattle.proof_outlines.proofs.joined.StartJoined.{given, all_fit, all_labelled, count_at_start}
 use Rattle.nf_net.proofs.paths.PathPromises.{rising_once}
 use Rattle.nf_net.proofs.AtMembers.{times_those}
 use Rattle.nf_net.proofs.PlaceRuns.{processed_off}

@@ -1,37 +1,16 @@
 -- Of every run: a packet after a settle is processed where the rules of the switch send it, if no command after the settle has begun.
-use Rattle.std.proofs.Common.{◌≡◌, ℕ, Bool, true, false, Option, Some, None, List, ◌∷◌, ◌++◌, append_assoc, refl, sym, ap, ◌∙◌, subst, arith}
-use Rattle.std.specs.Prelude.{◌&&◌, ◌==◌, not}
-use Rattle.std.specs.Option.{option_map_or}
-use Rattle.std.specs.declared.alloc.Global.{Global}
-use Rattle.std.proofs.lemmas.Bool.{or_left}
-use Rattle.nf_function.specs.declared.output.Output.{Output}
+use Rattle.nf_net.proofs.Words.{◌≡◌, ℕ, Bool, true, false, Option, Some, None, List, ◌∷◌, ◌++◌, append_assoc, refl, sym, ap, ◌∙◌, subst, arith, ◌&&◌, ◌==◌, not}
+use Rattle.nf_net.proofs.Words.{option_map_or, Global, or_left, Output, FunctionLaws, Semantics, Command, Msg, Note, Choice, Network, IsRun, run, Each}
+use Rattle.nf_net.proofs.Words.{each-append, each_map, Config, Node, is_begun, has_answered, is_busy, times_installed, packet_numbered, commands}
+use Rattle.nf_net.proofs.Words.{order_numbered, IsInput, job_of, installs_in, node_step, node_ready, first_owner, owner_after, members_after, is_home, owner}
+use Rattle.nf_net.proofs.Words.{members, member_for, unit_numbered, IsMoving, IsPlace, Owns, Is_destination, Is_member, ArePlaces, has_packet, has_begun-append}
+use Rattle.nf_net.proofs.Words.{installed-append, all_each, Given, Stands, In_first, In_second, stands, given}
 use Rattle.nf_function.specs.declared.unit.Unit as units
-use Rattle.nf_function.specs.Records.{Laws as FunctionLaws}
-use Rattle.nf_function.specs.Semantics.{Semantics}
-use Rattle.nf_msgs.specs.declared.command.Command.{Command}
 use Rattle.nf_msgs.specs.declared.command.Order.TheVariants as order
-use Rattle.nf_msgs.specs.declared.msg.Msg.{Msg}
 use Rattle.nf_msgs.specs.declared.msg.Msg.TheVariants as msg
-use Rattle.nf_msgs.specs.declared.note.Note.{Note}
 use Rattle.nf_msgs.specs.declared.note.Note.TheVariants as note
-use Rattle.actor_net.specs.declared.choice.Choice.{Choice}
-use Rattle.actor_net.specs.Network.{Network, IsRun, run}
-use Rattle.proof_machines.proofs.unit.Labels.{Each, each-append, each_map}
-use Rattle.net_world.specs.declared.config.Config.{Config}
-use Rattle.net_world.specs.declared.node.Node.{Node}
-use Rattle.net_world.specs.Commands.{is_begun, has_answered, is_busy, times_installed}
-use Rattle.net_world.specs.Input.{packet_numbered, commands, order_numbered, IsInput}
-use Rattle.net_world.specs.Jobs.{job_of}
-use Rattle.net_world.specs.Log.{installs_in}
-use Rattle.net_world.specs.Nodes.{node_step, node_ready}
-use Rattle.net_world.specs.Places.{first_owner, owner_after, members_after, is_home, owner, members, member_for}
-use Rattle.net_world.specs.Places.{unit_numbered, goes_to, IsMoving, IsPlace, Owns, Is_destination, Is_member, ArePlaces}
-use Rattle.net_world.specs.Settles.{IsAfterSettle, has_packet, NoneBegan, Settles}
-use Rattle.net_world.proofs.LogLemmas.{has_begun-append, installed-append}
-use Rattle.proof_outlines.proofs.outline.StateOutline.{all_each}
-use Rattle.proof_outlines.proofs.joined.Given.{Given}
-use Rattle.proof_outlines.proofs.joined.OwnerLemmas.{Stands, In_first, In_second, stands}
-use Rattle.proof_outlines.proofs.joined.StartJoined.{given}
+use Rattle.net_world.specs.Places.{goes_to}
+use Rattle.net_world.specs.Settles.{IsAfterSettle, NoneBegan, Settles}
 use Rattle.nf_net.proofs.answers.CommandPromises.{run_answers}
 use Rattle.nf_net.proofs.AtMembers.{at_members}
 use Rattle.nf_net.proofs.InstalledShares.{IsInstalledShare, says_of_shares}

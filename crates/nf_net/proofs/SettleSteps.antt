@@ -1,40 +1,21 @@
 -- Each choice of a run keeps that the switch counts the commands that wait for their answer, and so that what stands before a settle that
 -- it has taken is answered.
-use Rattle.std.proofs.Common.{◌≡◌, ◌≢◌, ℕ, suc, ◌+◌, ◌-◌, ◌^◌, ◌<◌, ◌≤◌, true, false, List, [], ◌∷◌, ◌++◌}
-use Rattle.std.proofs.Common.{length, length-append, get_or, refl, ap, ◌∙◌, arith}
-use Rattle.std.specs.Prelude.{if◌then◌else◌, ◌&&◌, ◌||◌, ◌==◌, not, nat_lt, min}
-use Rattle.std.proofs.lemmas.Bool.Decides.{Decides-ltb}
-use Rattle.proof_machines.proofs.share.Lists.{cond-same}
-use Rattle.nf_function.specs.Semantics.{Semantics}
-use Rattle.nf_msgs.specs.declared.msg.Msg.{Msg}
+use Rattle.nf_net.proofs.Words.{◌≡◌, ◌≢◌, ℕ, suc, ◌+◌, ◌^◌, ◌<◌, ◌≤◌, true, false, List, [], ◌∷◌, ◌++◌, length, length-append, get_or, refl, ap, ◌∙◌, arith}
+use Rattle.nf_net.proofs.Words.{if◌then◌else◌, ◌&&◌, ◌||◌, ◌==◌, not, nat_lt, Decides-ltb, cond-same, Semantics, Msg, Note, Target, rules_redirected, Packet}
+use Rattle.nf_net.proofs.Words.{instance_node, MOST_WAITING, SwitchState, switch_step, takes_in, Network, reaches, queue_at, at, EachSent, weigh, total}
+use Rattle.nf_net.proofs.Words.{sent_weight, Each, each_map, Rising, Node, Switch, is_begun, has_answered, commands, Given, Label}
+use Rattle.std.proofs.Common.{◌-◌}
+use Rattle.std.specs.Prelude.{min}
 use Rattle.nf_msgs.specs.declared.msg.Msg.TheVariants as msg
-use Rattle.nf_msgs.specs.declared.note.Note.{Note}
 use Rattle.nf_msgs.specs.declared.note.Note.TheVariants as note
-use Rattle.switch_rules.specs.declared.target.Target.{Target}
 use Rattle.switch_rules.specs.declared.target.Target.TheVariants as target
-use Rattle.switch_rules.specs.Rules.{rules_redirected}
 use Rattle.packet_pool.specs.Pool.{one_more as one_more_cell}
 use Rattle.event_filter.specs.declared.mark.Mark.TheVariants as mark
-use Rattle.flow_filter.specs.declared.packet.Packet.{Packet}
-use Rattle.nf_msgs.specs.Nodes.{instance_node}
-use Rattle.switch_node.specs.declared.switch.TheConstants.{MOST_WAITING}
 use Rattle.switch_node.specs.Switch as switches
-use Rattle.switch_node.specs.Switch.{SwitchState, switch_step, takes_in}
-use Rattle.actor_net.specs.Network.{Network, reaches, queue_at}
-use Rattle.actor_net.proofs.EnabledChoices.{at}
-use Rattle.actor_net.proofs.WeightLaws.{EachSent, weigh, total, sent_weight}
-use Rattle.proof_machines.proofs.unit.Labels.{Each, each_map}
-use Rattle.proof_machines.proofs.net.Waits.{Rising}
-use Rattle.net_world.specs.declared.node.Node.{Node}
-use Rattle.net_world.specs.declared.node.Node.TheVariants.{Switch}
-use Rattle.net_world.specs.Commands.{is_begun, has_answered}
-use Rattle.net_world.specs.Input.{commands}
 use Rattle.nf_net.proofs.answers.AnswerSends.{answering}
 use Rattle.nf_net.proofs.answers.BusyController.{told_in}
 use Rattle.nf_net.proofs.answers.BusyLemmas.{is_noted, or_off}
 use Rattle.nf_net.proofs.answers.BusyRuns.{Busy, waits_of}
-use Rattle.proof_outlines.proofs.joined.Given.{Given}
-use Rattle.proof_outlines.proofs.joined.Joined.{Label}
 use Rattle.nf_net.proofs.answers.LinePicks.{picked}
 use Rattle.nf_net.proofs.SettleCounts.{answered_in, AllAnswered, answered_in-append, answered_most, all_answered, none_answered_in}
 use Rattle.nf_net.proofs.SettleCounts.{low_commands, commands-append}

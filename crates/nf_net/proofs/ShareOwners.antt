@@ -1,62 +1,23 @@
 -- In every run, who owns a unit when a share that takes it begins owns it for good: no move that takes the unit is under way then, and none begins.
-use Rattle.std.proofs.Common.{◌≡◌, ℕ, zero, suc, ◌+◌, Bool, true, false, Some, List, [], ◌∷◌, ◌++◌, length, refl, sym, ap, ◌∙◌, subst, append-nil}
-use Rattle.std.specs.Prelude.{◌||◌, ◌==◌}
-use Rattle.std.specs.List.{list_any, position_or_len}
-use Rattle.std.specs.Option.{option_map_or}
-use Rattle.std.specs.declared.alloc.Global.{Global}
-use Rattle.flow_filter.specs.declared.filter.Filter.{Filter}
+use Rattle.nf_net.proofs.Words.{◌≡◌, ℕ, zero, suc, ◌+◌, Bool, true, false, Some, List, [], ◌∷◌, ◌++◌, length, refl, sym, ap, ◌∙◌, subst, append-nil, ◌||◌, ◌==◌}
+use Rattle.nf_net.proofs.Words.{list_any, option_map_or, Global, Filter, FunctionLaws, Semantics, takes, Msg, Note, instance_node, switch_step, controller_step}
+use Rattle.nf_net.proofs.Words.{Choice, Network, IsRun, run, world_next, Taking, taken_outcome, Each, each_found, OpLabel, NothingOf, found_each, Any, olds}
+use Rattle.nf_net.proofs.Words.{moves_of, Where, seeing, no_change, WhereAll, Apart_from_shares, Under_share, Config, Node, is_begun, IsInput, order_numbered}
+use Rattle.nf_net.proofs.Words.{before_begun, begin_in, installs_in, node_step, node_ready, first_owner, owner_after_order, owner_after, owner}
+use Rattle.nf_net.proofs.Words.{has_begun-append, installed-append, any_picked, before_kept, before_new, unit_fits, is_whole, takes_whole, takes_same, is_sys}
+use Rattle.nf_net.proofs.Words.{Both, both, its_takes, its_taken, Given, place, owner_next, S, A, Joined, came_by, Scene, IsTaken, node_of, scene, Wants}
+use Rattle.nf_net.proofs.Words.{node_leads, AllApart, installed_quiet, installed_none, instance_quiet, controller_uninstalled, Runs, run_beside, given, all_fit}
+use Rattle.std.specs.List.{position_or_len}
 use Rattle.nf_function.specs.declared.unit.Unit as units
-use Rattle.nf_function.specs.Records.{Laws as FunctionLaws}
-use Rattle.nf_function.specs.Semantics.{Semantics}
-use Rattle.nf_function.specs.Units.{takes}
 use Rattle.nf_msgs.specs.declared.command.Order.TheVariants as order
-use Rattle.nf_msgs.specs.declared.msg.Msg.{Msg}
-use Rattle.nf_msgs.specs.declared.note.Note.{Note}
 use Rattle.nf_msgs.specs.declared.note.Note.TheVariants as note
-use Rattle.nf_msgs.specs.Nodes.{instance_node}
-use Rattle.switch_node.specs.Switch.{switch_step}
-use Rattle.ctrl_node.specs.Controller.{controller_step}
-use Rattle.actor_net.specs.declared.choice.Choice.{Choice}
-use Rattle.actor_net.specs.Network.{Network, IsRun, run, world_next}
-use Rattle.actor_net.proofs.RunInduction.{Taking}
-use Rattle.actor_net.proofs.StepOutcome.{taken_outcome}
-use Rattle.proof_machines.proofs.unit.Labels.{Each}
 use Rattle.proof_machines.proofs.unit.Real as real
-use Rattle.proof_machines.proofs.net.Ctrl.{each_found}
 use Rattle.proof_machines.proofs.net.GlobalAll.{Disjoint}
-use Rattle.proof_machines.proofs.net.Holding.{OpLabel}
 use Rattle.proof_machines.proofs.net.Net as net
-use Rattle.proof_machines.proofs.net.Rest.{NothingOf}
-use Rattle.proof_machines.proofs.net.ShareLists.{found_each}
-use Rattle.proof_machines.proofs.net.Shares.{Any, Old, olds, moves_of}
-use Rattle.proof_machines.proofs.net.Units.{Where, At_rest, In_move, see}
-use Rattle.proof_machines.proofs.net.UnderStarts.{seeing}
-use Rattle.proof_machines.proofs.whole.UnderMoves.{no_change}
-use Rattle.proof_machines.proofs.whole.WhereAll.{WhereAll, Apart_from_shares, Under_share}
-use Rattle.net_world.specs.declared.config.Config.{Config}
-use Rattle.net_world.specs.declared.node.Node.{Node}
-use Rattle.net_world.specs.Commands.{is_begun}
-use Rattle.net_world.specs.Input.{IsInput, order_numbered}
-use Rattle.net_world.specs.Lives.{before_begun}
-use Rattle.net_world.specs.Log.{begin_in, change_in, installs_in}
-use Rattle.net_world.specs.Nodes.{node_step, node_ready}
-use Rattle.net_world.specs.Places.{first_owner, owner_after_order, owner_after, owner}
-use Rattle.net_world.proofs.LogLemmas.{has_begun-append, installed-append}
-use Rattle.net_world.proofs.PickedLists.{any_picked, before_all, before_kept, before_new, front_picked}
-use Rattle.proof_outlines.proofs.outline.FiltersApart.{unit_fits, is_whole, takes_whole, takes_same}
-use Rattle.proof_outlines.proofs.outline.Outline.{is_sys}
-use Rattle.proof_outlines.proofs.whole.OpenShares.{Both, both}
-use Rattle.proof_outlines.proofs.joined.BesideRuns.{its_takes, its_taken}
-use Rattle.proof_outlines.proofs.joined.Given.{Given, place}
-use Rattle.proof_outlines.proofs.joined.HandedUnits.{owner_next}
-use Rattle.proof_outlines.proofs.joined.Joined.{S, A, Joined, came_by, Scene, IsTaken, node_of}
-use Rattle.proof_outlines.proofs.joined.JoinedSteps.{scene}
-use Rattle.proof_outlines.proofs.joined.NodeSteps.{Wants, node_leads}
-use Rattle.proof_outlines.proofs.joined.OperationsApart.{AllApart}
-use Rattle.proof_outlines.proofs.joined.OwnerLemmas.{installed_quiet, installed_none}
-use Rattle.proof_outlines.proofs.joined.PlaceNotes.{instance_quiet, controller_uninstalled}
-use Rattle.proof_outlines.proofs.joined.RunsJoined.{Runs, run_beside}
-use Rattle.proof_outlines.proofs.joined.StartJoined.{given, all_fit}
+use Rattle.proof_machines.proofs.net.Shares.{Old}
+use Rattle.proof_machines.proofs.net.Units.{At_rest, In_move, see}
+use Rattle.net_world.specs.Log.{change_in}
+use Rattle.net_world.proofs.PickedLists.{before_all, front_picked}
 use Rattle.nf_net.proofs.answers.BusyRuns.{Busy}
 use Rattle.nf_net.proofs.answers.CommandPromises.{run_busy}
 use Rattle.nf_net.proofs.RuleSteps.{Changed, No_rule, Moves_on, Diverts, changed}

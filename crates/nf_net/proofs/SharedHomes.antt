@@ -1,38 +1,11 @@
 -- The share that a unit is under, by the log: its home owns the unit, and each packet of the unit goes to its member. So in every run.
-use Rattle.std.proofs.Common.{◌≡◌, ℕ, ◌+◌, Bool, true, false, Some, List, length, refl, sym, ap, ◌∙◌, arith}
-use Rattle.std.specs.Prelude.{if◌then◌else◌, ◌&&◌}
-use Rattle.std.specs.declared.alloc.Global.{Global}
-use Rattle.std.specs.Option.{option_map_or}
-use Rattle.std.proofs.lemmas.Bool.{and_parts}
+use Rattle.nf_net.proofs.Words.{◌≡◌, ℕ, ◌+◌, Bool, true, false, Some, List, length, refl, sym, ap, ◌∙◌, arith, if◌then◌else◌, ◌&&◌, Global, option_map_or}
+use Rattle.nf_net.proofs.Words.{and_parts, FunctionLaws, Semantics, takes, same_unit-true, Msg, Note, instance_node, Choice, Network, IsRun, run, shape}
+use Rattle.nf_net.proofs.Words.{unit_share, OpenShare, WantShare, Under, seeing, ItsShare, its_share, Config, Node, is_of, packet_numbered, IsInput, node_step}
+use Rattle.nf_net.proofs.Words.{node_ready, owner, members, member_for, unit_numbered, is_whole, unit_fits, is_sys, Given, S, A, Joined, AllApart, run_beside}
+use Rattle.nf_net.proofs.Words.{given}
 use Rattle.nf_function.specs.declared.unit.Unit as units
-use Rattle.nf_function.specs.Records.{Laws as FunctionLaws}
-use Rattle.nf_function.specs.Semantics.{Semantics}
-use Rattle.nf_function.specs.Units.{takes}
-use Rattle.record_table.proofs.UnitOrder.{same_unit-true}
-use Rattle.nf_msgs.specs.declared.msg.Msg.{Msg}
-use Rattle.nf_msgs.specs.declared.note.Note.{Note}
-use Rattle.nf_msgs.specs.Nodes.{instance_node}
-use Rattle.actor_net.specs.declared.choice.Choice.{Choice}
-use Rattle.actor_net.specs.Network.{Network, IsRun, run}
-use Rattle.proof_machines.proofs.share.Stages.{shape}
-use Rattle.proof_machines.proofs.net.ShareViews.{unit_share}
-use Rattle.proof_machines.proofs.net.Shares.{OpenShare, WantShare}
-use Rattle.proof_machines.proofs.net.Under.{Under}
-use Rattle.proof_machines.proofs.net.UnderStarts.{seeing}
-use Rattle.proof_machines.proofs.whole.Readings.{ItsShare, its_share}
-use Rattle.net_world.specs.declared.config.Config.{Config}
-use Rattle.net_world.specs.declared.node.Node.{Node}
-use Rattle.net_world.specs.Fold.{is_of}
-use Rattle.net_world.specs.Input.{packet_numbered, IsInput}
-use Rattle.net_world.specs.Nodes.{node_step, node_ready}
-use Rattle.net_world.specs.Places.{owner, members, member_for, goes_to, unit_numbered}
-use Rattle.proof_outlines.proofs.outline.FiltersApart.{is_whole, unit_fits}
-use Rattle.proof_outlines.proofs.outline.Outline.{is_sys}
-use Rattle.proof_outlines.proofs.joined.Given.{Given}
-use Rattle.proof_outlines.proofs.joined.Joined.{S, A, Joined}
-use Rattle.proof_outlines.proofs.joined.OperationsApart.{AllApart}
-use Rattle.proof_outlines.proofs.joined.RunsJoined.{run_beside}
-use Rattle.proof_outlines.proofs.joined.StartJoined.{given}
+use Rattle.net_world.specs.Places.{goes_to}
 use Rattle.nf_net.proofs.answers.BusyRuns.{Busy}
 use Rattle.nf_net.proofs.answers.CommandPromises.{run_busy}
 use Rattle.nf_net.proofs.answers.InstallRuns.{Installs, run_installs}

@@ -1,70 +1,33 @@
 -- In every run the packets of units that a refused move was to take from its source were processed there, from its begin to its answer.
-use Rattle.std.proofs.Common.{◌≡◌, ◌≢◌, ℕ, zero, suc, ◌<◌, Bool, true, false, Option, Some, None, List, [], ◌∷◌, ◌++◌}
-use Rattle.std.proofs.Common.{length, length-append, get_or, append_assoc, append-nil, refl, sym, ap, ◌∙◌, subst, arith}
-use Rattle.std.specs.Prelude.{◌&&◌, ◌||◌, ◌==◌, not}
-use Rattle.std.specs.declared.alloc.Global.{Global}
-use Rattle.std.specs.Ordering.{nat_cmp}
+use Rattle.nf_net.proofs.Words.{◌≡◌, ◌≢◌, ℕ, zero, suc, ◌<◌, Bool, true, false, Option, Some, None, List, [], ◌∷◌, ◌++◌, length, length-append, get_or}
+use Rattle.nf_net.proofs.Words.{append_assoc, append-nil, refl, sym, ap, ◌∙◌, subst, arith, ◌&&◌, ◌||◌, ◌==◌, not, Global, nat_cmp, nat_tests, Decides-eqb}
+use Rattle.nf_net.proofs.Words.{Decides-ltb, and_parts, Filter, Output, FunctionLaws, Semantics, Answer, Msg, Note, instance_node, switch_step, MoveState}
+use Rattle.nf_net.proofs.Words.{Operation, Move, Copy, Share, ControllerState, controller_step, opened_controller, place_of, Choice, Network, Stepped, IsRun}
+use Rattle.nf_net.proofs.Words.{reaches, run, world_next, at, Taking, Takes, taken_outcome, Config, Node, Controller, is_begun, has_answered, is_busy}
+use Rattle.nf_net.proofs.Words.{answers_of, times_begun, IsInput, order_numbered, node_step, node_ready, owner, owner_after_order, unit_numbered, begins_in}
+use Rattle.nf_net.proofs.Words.{answers_of-append, times_begun-append, counted_now, owner_next, known, its_takes, its_taken, Given, Label, IsTaken, Joined}
+use Rattle.nf_net.proofs.Words.{node_of, scene, Wants, node_leads, installed_none, Stands, In_first, In_second, stands, each_there, switch_unprocessed}
+use Rattle.nf_net.proofs.Words.{controller_uninstalled, uninstalled_unprocessed, Runs, run_beside, given, all_fit}
 use Rattle.std.specs.FinMap as finite
-use Rattle.std.proofs.lemmas.Bool.Decides.{nat_tests, Decides-eqb, Decides-ltb}
-use Rattle.std.proofs.lemmas.Bool.{and_parts}
-use Rattle.flow_filter.specs.declared.filter.Filter.{Filter}
-use Rattle.nf_function.specs.declared.output.Output.{Output}
-use Rattle.nf_function.specs.Records.{Laws as FunctionLaws}
-use Rattle.nf_function.specs.Semantics.{Semantics}
 use Rattle.nf_function.specs.Units.{takes as takes_unit}
-use Rattle.nf_msgs.specs.declared.answer.Answer.{Answer}
 use Rattle.nf_msgs.specs.declared.answer.Answer.TheVariants.{Done}
 use Rattle.nf_msgs.specs.declared.command.Order.TheVariants as order
-use Rattle.nf_msgs.specs.declared.msg.Msg.{Msg}
-use Rattle.nf_msgs.specs.declared.note.Note.{Note}
 use Rattle.nf_msgs.specs.declared.note.Note.TheVariants as note
-use Rattle.nf_msgs.specs.Nodes.{instance_node}
-use Rattle.switch_node.specs.Switch.{switch_step}
-use Rattle.move_op.specs.Move.{MoveState}
-use Rattle.ctrl_node.specs.declared.operation.Operation.{Operation}
-use Rattle.ctrl_node.specs.declared.operation.Operation.TheVariants.{Move, Copy, Share}
-use Rattle.ctrl_node.specs.Controller.{ControllerState, controller_step, controller_at_start as opened_controller}
-use Rattle.flow_filter.specs.Name.{place_of}
-use Rattle.actor_net.specs.declared.choice.Choice.{Choice}
-use Rattle.actor_net.specs.Network.{Network, Stepped, IsRun, reaches, run, world_next}
-use Rattle.actor_net.proofs.EnabledChoices.{at}
-use Rattle.actor_net.proofs.RunInduction.{Taking}
-use Rattle.actor_net.proofs.StepOutcome.{Takes, taken_outcome}
-use Rattle.net_world.specs.declared.config.Config.{Config}
-use Rattle.net_world.specs.declared.node.Node.{Node}
-use Rattle.net_world.specs.declared.node.Node.TheVariants.{Controller}
-use Rattle.net_world.specs.Commands.{is_begun, has_answered, is_busy, answers_of, times_begun}
-use Rattle.net_world.specs.Input.{IsInput, order_numbered}
-use Rattle.net_world.specs.Nodes.{node_step, node_ready}
-use Rattle.net_world.specs.Places.{owner, owner_after_order, unit_numbered}
 use Rattle.net_world.specs.Refused.{moves_away, StaysAtSource}
-use Rattle.net_world.specs.Log.{begins_in}
-use Rattle.net_world.proofs.LogLemmas.{answers_of-append, times_begun-append, counted_now}
 use Rattle.nf_net.proofs.answers.BusyLemmas.{AreOther, is_other, other_not_begun}
 use Rattle.nf_net.proofs.answers.BusyNodes.{switch_hands, instance_says}
 use Rattle.nf_net.proofs.answers.BusyRuns.{Busy, same_controller, busy_next}
 use Rattle.nf_net.proofs.answers.CommandPromises.{run_busy}
 use Rattle.nf_net.proofs.answers.ControllerActs.{IsEarly, Was, Was.Was_open, Was.Begins_now, SaysSo, SaysSo.Neither}
 use Rattle.nf_net.proofs.answers.ControllerActs.{SaysSo.Begins, SaysSo.Answers, Acts, controller_acts}
-use Rattle.proof_outlines.proofs.joined.HandedUnits.{owner_next}
 use Rattle.nf_net.proofs.answers.InstallCounts.{passed}
-use Rattle.proof_outlines.proofs.joined.KnownOperations.{known}
-use Rattle.proof_outlines.proofs.joined.BesideRuns.{its_takes, its_taken}
-use Rattle.proof_outlines.proofs.joined.Given.{Given}
-use Rattle.proof_outlines.proofs.joined.Joined.{Label, IsTaken, Joined, node_of}
-use Rattle.proof_outlines.proofs.joined.JoinedSteps.{scene}
-use Rattle.proof_outlines.proofs.joined.NodeSteps.{Wants, node_leads}
 use Rattle.nf_net.proofs.answers.MovesUnderWay.{AreUnderWay, moves_under_way}
-use Rattle.proof_outlines.proofs.joined.OwnerLemmas.{installed_none, Stands, In_first, In_second, stands, each_there}
-use Rattle.proof_outlines.proofs.joined.PlaceNotes.{switch_unprocessed, controller_uninstalled, uninstalled_unprocessed}
-use Rattle.proof_outlines.proofs.joined.RunsJoined.{Runs, run_beside}
 use Rattle.nf_net.proofs.InstalledShares.{Alone, Is_it, alone}
 use Rattle.nf_net.proofs.NumberedUnits.{units_fit}
 use Rattle.nf_net.proofs.RuleSteps.{Changed, No_rule, Moves_on, Diverts, changed}
 use Rattle.nf_net.proofs.RunKeeps.{start, count, run_keeps}
 use Rattle.nf_net.proofs.SourceSteps.{Stays, Leaves, AreAt, Is_at, stays_more, owner_stays, quiet_leaves}
 use Rattle.nf_net.proofs.SourceSteps.{unprocessed_at, other_change, instance_leaves, began_there}
-use Rattle.proof_outlines.proofs.joined.StartJoined.{given, all_fit}
 use Rattle.nf_net.proofs.answers.ToldCommands.{some_answers}
 
 -- a note of an answer is none of other things

@@ -1,42 +1,19 @@
 -- Fronts of what was processed of a unit, by its packets: what stands by at an instance in a world of a run, and what is live there, is the record of
 -- one; and what sees more in the whole world that shows it has seen a front that goes on from the older.
-use Rattle.std.proofs.Common.{◌≡◌, ℕ, ◌<◌, ◌≤◌, true, false, Option, Some, None, List, [], ◌∷◌, ◌++◌, length, refl, sym, ap, ◌∙◌, subst, arith}
-use Rattle.std.specs.Prelude.{if◌then◌else◌, nat_lt, slice_get}
+use Rattle.nf_net.proofs.Words.{◌≡◌, ℕ, ◌<◌, ◌≤◌, true, false, Option, Some, None, List, [], ◌∷◌, ◌++◌, length, refl, sym, ap, ◌∙◌, subst, arith, if◌then◌else◌}
+use Rattle.nf_net.proofs.Words.{nat_lt, slice_get, nat_tests, slice_get-get_or, slice_get_past, Semantics, kept_after, is_transport, Msg, Note, instance_node}
+use Rattle.nf_net.proofs.Words.{Network, Ran, done_u, ran_of, packets_done, live_front, fold_packets, Sees_more, Config, Node, packet_numbered, IsInput}
+use Rattle.nf_net.proofs.Words.{dones_in, IsFront, processed_of, live_in, live_at, standby_in, standby_at, done-append, is_sys, Given, S, A, by_node, came_by}
+use Rattle.nf_net.proofs.Words.{Scene, AreShown, IsInstanceAt, Joined, went_same, given}
 use Rattle.std.specs.FinMap as finite
-use Rattle.std.proofs.lemmas.Bool.Decides.{nat_tests}
-use Rattle.std.proofs.lemmas.Option.{slice_get-get_or, slice_get_past}
 use Rattle.nf_function.specs.declared.unit.Unit as units
-use Rattle.nf_function.specs.Semantics.{Semantics, kept_after}
-use Rattle.nf_function.specs.Units.{is_transport}
-use Rattle.nf_msgs.specs.declared.msg.Msg.{Msg}
-use Rattle.nf_msgs.specs.declared.note.Note.{Note}
-use Rattle.nf_msgs.specs.Nodes.{instance_node}
-use Rattle.actor_net.specs.Network.{Network}
 use Rattle.proof_machines.proofs.share.Share as share
-use Rattle.proof_machines.proofs.share.Share.{Ran}
 use Rattle.proof_machines.proofs.share.Stages as stages
 use Rattle.proof_machines.proofs.share.Stages.{packets}
-use Rattle.proof_machines.proofs.net.Rest.{done_u}
-use Rattle.proof_machines.proofs.net.Shares.{ran_of}
-use Rattle.proof_machines.proofs.net.UnderStarts.{packets_done}
 use Rattle.proof_machines.proofs.whole.FrontPackets.{front_packets}
-use Rattle.proof_machines.proofs.whole.Fronts.{FrontOf, live_front}
-use Rattle.proof_machines.proofs.whole.Readings.{fold_packets}
-use Rattle.proof_machines.proofs.whole.SeesMore.{Sees_more}
-use Rattle.net_world.specs.declared.config.Config.{Config}
-use Rattle.net_world.specs.declared.node.Node.{Node}
+use Rattle.proof_machines.proofs.whole.Fronts.{FrontOf}
 use Rattle.net_world.specs.declared.node.Node.TheVariants.{Instance}
-use Rattle.net_world.specs.Input.{packet_numbered, IsInput}
-use Rattle.net_world.specs.Log.{dones_in}
-use Rattle.net_world.specs.Fold.{IsFront, fold, processed_of}
-use Rattle.net_world.specs.Records.{live_in, live_at}
-use Rattle.net_world.specs.Standby.{standby_in, standby_at}
-use Rattle.net_world.proofs.LogLemmas.{done-append}
-use Rattle.proof_outlines.proofs.outline.Outline.{is_sys}
-use Rattle.proof_outlines.proofs.joined.Given.{Given}
-use Rattle.proof_outlines.proofs.joined.Joined.{S, A, by_node, came_by, Scene, AreShown, IsInstanceAt, Joined}
-use Rattle.proof_outlines.proofs.joined.RunsJoined.{went_same}
-use Rattle.proof_outlines.proofs.joined.StartJoined.{given}
+use Rattle.net_world.specs.Fold.{fold}
 use Rattle.nf_net.proofs.paths.RecordPromises.{instance_of}
 use Rattle.nf_net.proofs.FoldLemmas.{fold_is}
 use Rattle.nf_net.proofs.FrontLemmas.{front_same, front_more}

@@ -1,31 +1,12 @@
 -- In every run each record that stands by is that of a front of what was processed of its unit, and the front never gets shorter.
-use Rattle.std.proofs.Common.{◌≡◌, ℕ, ◌+◌, ◌≤◌, ◌⊎◌, inl, inr, List, [], ◌∷◌, ◌++◌, length, length-append, refl, sym, ap, ◌∙◌, subst, arith}
-use Rattle.std.specs.declared.alloc.Global.{Global}
+use Rattle.nf_net.proofs.Words.{◌≡◌, ℕ, ◌+◌, ◌≤◌, ◌⊎◌, inl, inr, List, [], ◌∷◌, ◌++◌, length, length-append, refl, sym, ap, ◌∙◌, subst, arith, Global}
+use Rattle.nf_net.proofs.Words.{FunctionLaws, Semantics, Msg, Note, Choice, Network, Stepped, IsRun, run, world_next, Taking, NextChoice, run_induction}
+use Rattle.nf_net.proofs.Words.{run_world, run_more, Takes, taken_outcome, Config, Node, most_counted, IsInput, course_of, job_of, node_step, node_ready}
+use Rattle.nf_net.proofs.Words.{IsFront, processed_of, StandsBy, started_with, its_takes, node_of, start_world, given, all_fit, count_at_start}
 use Rattle.nf_function.specs.declared.unit.Unit as units
-use Rattle.nf_function.specs.Records.{Laws as FunctionLaws}
-use Rattle.nf_function.specs.Semantics.{Semantics}
-use Rattle.nf_msgs.specs.declared.msg.Msg.{Msg}
-use Rattle.nf_msgs.specs.declared.note.Note.{Note}
-use Rattle.actor_net.specs.declared.choice.Choice.{Choice}
-use Rattle.actor_net.specs.Network.{Network, Stepped, IsRun, run, world_next}
-use Rattle.actor_net.proofs.RunInduction.{Taking, NextChoice, run_induction, run_world}
-use Rattle.actor_net.proofs.RunLaws.{run_more}
-use Rattle.actor_net.proofs.StepOutcome.{Takes, taken_outcome}
-use Rattle.net_world.specs.declared.config.Config.{Config}
-use Rattle.net_world.specs.declared.node.Node.{Node}
-use Rattle.net_world.specs.Input.{most_counted, IsInput}
-use Rattle.net_world.specs.Jobs.{course_of, job_of}
-use Rattle.net_world.specs.Nodes.{node_step, node_ready}
-use Rattle.net_world.specs.Fold.{IsFront, processed_of}
-use Rattle.net_world.specs.Standby.{StandsBy}
-use Rattle.net_world.specs.Start.{started_with}
 use Rattle.nf_net.specs.Promises.{Standbys}
 use Rattle.nf_net.proofs.CopyRuns.{run_copying}
 use Rattle.nf_net.proofs.CountedRoom.{room}
-use Rattle.proof_outlines.proofs.joined.BesideRuns.{its_takes}
-use Rattle.proof_outlines.proofs.joined.Joined.{node_of}
-use Rattle.proof_outlines.proofs.joined.RunsJoined.{start_world}
-use Rattle.proof_outlines.proofs.joined.StartJoined.{given, all_fit, count_at_start}
 use Rattle.nf_net.proofs.answers.ArrivalLemmas.{InRun, next_in_run, start_in_run}
 use Rattle.nf_net.proofs.FrontLemmas.{front_same, front_trans, front_more, one_front}
 use Rattle.nf_net.proofs.StandbyFronts.{went_more, stands_front, still_some}

@@ -1,63 +1,30 @@
 -- A choice of a run leaves what stands by at each instance, or lets it see more of what was processed of its unit: an instance's step by its message.
-use Rattle.std.proofs.Common.{◌≡◌, ◌≢◌, ℕ, zero, suc, ◌+◌, ◌<◌, ◌≤◌, Bool, true, false, Option, Some}
-use Rattle.std.proofs.Common.{None, List, [], ◌∷◌, ◌++◌, length, get_or, refl, sym, ap, ◌∙◌, subst, arith}
-use Rattle.std.specs.Prelude.{◌&&◌, ◌==◌, nat_lt, slice_get}
+use Rattle.nf_net.proofs.Words.{◌≡◌, ◌≢◌, ℕ, zero, suc, ◌+◌, ◌<◌, ◌≤◌, Bool, true, false, Option, Some, None, List, [], ◌∷◌, ◌++◌, length, get_or, refl, sym}
+use Rattle.nf_net.proofs.Words.{ap, ◌∙◌, subst, arith, ◌&&◌, ◌==◌, nat_lt, slice_get, filter_map, nat_tests, Decides-eqb, slice_get-get_or, slice_get_past}
+use Rattle.nf_net.proofs.Words.{Filter, Chunk, units_total, Fits, newest, FunctionLaws, Semantics, either, newest_of, each_newest, FullCell, Msg, Note}
+use Rattle.nf_net.proofs.Words.{instance_node, InstanceState, instance_step, Choice, Network, queue_at, world_next, at, Takes, Outcome, taken_outcome, Taking}
+use Rattle.nf_net.proofs.Words.{EachOn, record_at, New, ShareMsg, Shared_on, S_sync, member_step, ran_of, Sees_more, Config, Node, most_counted, IsInput}
+use Rattle.nf_net.proofs.Words.{dones_in, node_step, node_ready, processed_of, standby_in, standby_at, done-append, number, entries, ran_in, is_sys, is_sharing}
+use Rattle.nf_net.proofs.Words.{standby_keeps, HasBeside, its_takes, its_taken, Given, place, chunks_good, Rows, by_message, S, A, shown, by_node, came_by}
+use Rattle.nf_net.proofs.Words.{node_of, Genuine, AreGoodChunks, Scene, IsInstanceAt, AreShown, IsTaken, Joined, by_node-append, given, all_fit}
 use Rattle.std.specs.FinMap as finite
-use Rattle.std.specs.List.{filter_map}
-use Rattle.std.proofs.lemmas.Bool.Decides.{nat_tests, Decides-eqb}
-use Rattle.std.proofs.lemmas.Option.{slice_get-get_or, slice_get_past}
-use Rattle.flow_filter.specs.declared.filter.Filter.{Filter}
-use Rattle.nf_function.specs.declared.chunk.Chunk.{Chunk}
 use Rattle.nf_function.specs.declared.unit.Unit as units
-use Rattle.nf_function.specs.UnitOrder.{units_total}
-use Rattle.nf_function.specs.Records.{Fits, newest, Laws as FunctionLaws}
-use Rattle.nf_function.specs.Semantics.{Semantics}
-use Rattle.record_table.specs.Table.{either, newest_of}
 use Rattle.record_table.specs.Chunks.{records_of}
-use Rattle.record_table.proofs.RecordLookUps.{each_newest}
 use Rattle.event_filter.specs.declared.mark.Mark.TheVariants as mark
-use Rattle.packet_pool.specs.Pool.{FullCell}
-use Rattle.nf_msgs.specs.declared.msg.Msg.{Msg}
 use Rattle.nf_msgs.specs.declared.msg.Msg.TheVariants as msg
-use Rattle.nf_msgs.specs.declared.note.Note.{Note}
-use Rattle.nf_msgs.specs.Nodes.{instance_node}
-use Rattle.instance_worker.specs.declared.instance.Instance.{Instance as InstanceState}
-use Rattle.instance_worker.specs.Instance.{Step, on_get, instance_step}
-use Rattle.actor_net.specs.declared.choice.Choice.{Choice}
-use Rattle.actor_net.specs.Network.{Network, queue_at, world_next}
-use Rattle.actor_net.proofs.EnabledChoices.{at}
-use Rattle.actor_net.proofs.StepOutcome.{Takes, Outcome, taken_outcome}
-use Rattle.actor_net.proofs.RunInduction.{Taking}
-use Rattle.actor_net.proofs.WeightLaws.{Each as EachOn}
-use Rattle.proof_machines.proofs.unit.Real.{record_at}
+use Rattle.instance_worker.specs.Instance.{Step, on_get}
 use Rattle.proof_machines.proofs.net.Net.{at_node}
-use Rattle.proof_machines.proofs.net.Shares.{New, ShareMsg, Shared_on, S_sync, member_step, whole_inst, ran_of}
-use Rattle.proof_machines.proofs.whole.SeesMore.{Sees_more, inst_sees}
-use Rattle.net_world.specs.declared.config.Config.{Config}
-use Rattle.net_world.specs.declared.node.Node.{Node}
+use Rattle.proof_machines.proofs.net.Shares.{whole_inst}
+use Rattle.proof_machines.proofs.whole.SeesMore.{inst_sees}
 use Rattle.net_world.specs.declared.node.Node.TheVariants.{Instance}
-use Rattle.net_world.specs.Input.{most_counted, IsInput}
-use Rattle.net_world.specs.Log.{dones_in}
-use Rattle.net_world.specs.Nodes.{node_step, node_ready}
-use Rattle.net_world.specs.Fold.{fold, processed_of}
-use Rattle.net_world.specs.Standby.{standby_in, standby_at}
-use Rattle.net_world.proofs.LogLemmas.{done-append}
-use Rattle.proof_outlines.proofs.outline.Outline.{number, entries, ran_in, is_sys}
-use Rattle.proof_outlines.proofs.whole.WholeOutline.{is_sharing}
+use Rattle.net_world.specs.Fold.{fold}
 use Rattle.proof_outlines.proofs.whole.InstanceWorlds.{ShowsAt, new_steps}
 use Rattle.proof_outlines.proofs.whole.MemberOutline.{MemberFollows, shared_follows, sync_follows}
-use Rattle.proof_outlines.proofs.whole.StandbyKept.{leaves_standby, step_unshared, standby_keeps}
-use Rattle.proof_outlines.proofs.joined.BesideRuns.{HasBeside, its_takes, its_taken}
-use Rattle.proof_outlines.proofs.joined.Given.{Given, place}
-use Rattle.proof_outlines.proofs.joined.InstanceKeeps.{chunks_good}
+use Rattle.proof_outlines.proofs.whole.StandbyKept.{leaves_standby, step_unshared}
 use Rattle.proof_outlines.proofs.joined.InstanceNotes.{AreOwn, done_own}
 use Rattle.proof_outlines.proofs.joined.InstanceRows.{IsRight, sound_part, instance_leaves}
-use Rattle.proof_outlines.proofs.joined.InstanceMessages.{Rows, by_message}
-use Rattle.proof_outlines.proofs.joined.Joined.{S, A, shown, by_node, came_by, node_of, Genuine, AreGoodChunks, Scene, IsInstanceAt, AreShown, IsTaken, Joined}
-use Rattle.proof_outlines.proofs.joined.LogLemmas.{by_node-append}
 use Rattle.proof_outlines.proofs.joined.StandbyChunks.{AreFronted}
 use Rattle.proof_outlines.proofs.joined.StandbyFronts.{kept_of, AreKeptFronts}
-use Rattle.proof_outlines.proofs.joined.StartJoined.{given, all_fit}
 use Rattle.nf_net.proofs.FrontLemmas.{longer}
 use Rattle.nf_net.proofs.StandbyFronts.{IsOfFront, SeesMore, sees_same, later, of_front, sees_more, instance_front, stands_front}
 

@@ -1,25 +1,17 @@
 -- What a log says of the state that was given for a command, as it goes on; and of a move whose first piece is taken once, after which
 -- choices that was.
-use Rattle.std.proofs.Common.{◌≡◌, ℕ, ◌+◌, ◌≤◌, Bool, true, false, Option, Some, None, List, [], ◌∷◌}
-use Rattle.std.proofs.Common.{◌++◌, drop, get_or, append_assoc, refl, sym, ap, ◌∙◌, subst, arith}
-use Rattle.std.specs.Prelude.{if◌then◌else◌, ◌==◌, filter_map, find, option_map}
-use Rattle.std.specs.Option.{option_map_or, option_or}
-use Rattle.std.proofs.lemmas.Bool.Decides.{nat_tests}
+use Rattle.nf_net.proofs.Words.{◌≡◌, ℕ, ◌+◌, ◌≤◌, Bool, true, false, Option, Some, None, List, [], ◌∷◌, ◌++◌, drop, get_or, append_assoc, refl, sym, ap, ◌∙◌}
+use Rattle.nf_net.proofs.Words.{subst, arith, if◌then◌else◌, ◌==◌, find, option_map, option_map_or, option_or, nat_tests, Semantics, Msg, Note, Choice, Network}
+use Rattle.nf_net.proofs.Words.{Stepped, run, world_next, queue_at, Node, node_step, course_of, exported_for, before_export, IsTakenAfter, any_picked}
+use Rattle.nf_net.proofs.Words.{before_kept, before_new, before_one}
+use Rattle.std.specs.Prelude.{filter_map}
 use Rattle.std.proofs.lemmas.List.Elements.{filter_map-append}
 use Rattle.std.proofs.lemmas.List.Folds.{find-append}
 use Rattle.nf_function.specs.declared.unit.Unit as units
-use Rattle.nf_function.specs.Semantics.{Semantics}
-use Rattle.nf_msgs.specs.declared.msg.Msg.{Msg}
 use Rattle.nf_msgs.specs.declared.msg.Msg.TheVariants as msg
-use Rattle.nf_msgs.specs.declared.note.Note.{Note}
 use Rattle.nf_msgs.specs.declared.note.Note.TheVariants as note
-use Rattle.actor_net.specs.declared.choice.Choice.{Choice}
-use Rattle.actor_net.specs.Network.{Network, Stepped, run, world_next, queue_at}
-use Rattle.net_world.specs.declared.node.Node.{Node}
-use Rattle.net_world.specs.Nodes.{node_step}
-use Rattle.net_world.specs.Jobs.{course_of}
-use Rattle.net_world.specs.Verdicts.{export_in, exported_for, before_export, IsTakenAfter}
-use Rattle.net_world.proofs.PickedLists.{any_picked, before_kept, before_new, before_one, found_any, unfound_none}
+use Rattle.net_world.specs.Verdicts.{export_in}
+use Rattle.net_world.proofs.PickedLists.{found_any, unfound_none}
 
 -- how often state was given for a command
 abbrev pub times_given : ℕ → List Note → ℕ

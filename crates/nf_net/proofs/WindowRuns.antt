@@ -1,41 +1,13 @@
 -- Every run keeps the window, and a complete one has all cells at home.
-use Rattle.std.proofs.Common.{◌≡◌, ℕ, zero, suc, ◌+◌, ◌≤◌, Bool, true, false, Some, List, [], ◌∷◌}
-use Rattle.std.proofs.Common.{length, length-append, get_or, refl, sym, ap, ◌∙◌, subst, arith}
-use Rattle.std.specs.Prelude.{◌==◌, ◌&&◌}
-use Rattle.std.specs.List.{flat_map}
-use Rattle.std.specs.declared.alloc.Global.{Global}
-use Rattle.std.proofs.lemmas.Bool.Decides.{nat_tests, Decides-eqb}
-use Rattle.std.proofs.lemmas.Option.{slice_get-get_or}
-use Rattle.nf_function.specs.Records.{Laws as FunctionLaws}
-use Rattle.nf_function.specs.Semantics.{Semantics}
-use Rattle.nf_msgs.specs.declared.msg.Msg.{Msg}
+use Rattle.nf_net.proofs.Words.{◌≡◌, ℕ, zero, suc, ◌+◌, ◌≤◌, Bool, true, false, Some, List, [], ◌∷◌, length, length-append, get_or, refl, sym, ap, ◌∙◌, subst}
+use Rattle.nf_net.proofs.Words.{arith, ◌==◌, ◌&&◌, flat_map, Global, nat_tests, Decides-eqb, slice_get-get_or, FunctionLaws, Semantics, Msg, Note, SwitchState}
+use Rattle.nf_net.proofs.Words.{switch_step, Choice, Network, Stepped, IsRun, is_done, reaches, run, world_next, at, Takes, taken_outcome, Taking}
+use Rattle.nf_net.proofs.Words.{run_induction, run_world, opening_weight, done_node, done_weight, EachSent, weigh, total, sent_weight, total_after, Each}
+use Rattle.nf_net.proofs.Words.{Config, Node, Switch, IsInput, arrivals_in, dones_in, node_step, node_ready, node_ended, first_nodes, first_switch}
+use Rattle.nf_net.proofs.Words.{started_with, on_links, AllHome, arrived-append, done-append, given, all_fit, all_labelled, count_at_start, Given, Label}
+use Rattle.nf_net.proofs.Words.{Joined, node_of, its_takes, its_label, its_labels, Runs, runs_at_start, runs_next, run_beside, start_world}
 use Rattle.nf_msgs.specs.declared.msg.Msg.TheVariants as msg
-use Rattle.nf_msgs.specs.declared.note.Note.{Note}
-use Rattle.switch_node.specs.Switch.{SwitchState, switch_step}
-use Rattle.actor_net.specs.declared.choice.Choice.{Choice}
-use Rattle.actor_net.specs.Network.{Network, Stepped, IsRun, is_done, reaches, run, world_next}
-use Rattle.actor_net.proofs.EnabledChoices.{at}
-use Rattle.actor_net.proofs.StepOutcome.{Takes, taken_outcome}
-use Rattle.actor_net.proofs.RunInduction.{Taking, run_induction, run_world}
-use Rattle.actor_net.proofs.OpeningWorlds.{opening_weight}
-use Rattle.actor_net.proofs.CompleteWorlds.{done_node, done_weight}
-use Rattle.actor_net.proofs.WeightLaws.{EachSent, weigh, total, sent_weight, total_after}
-use Rattle.proof_machines.proofs.unit.Labels.{Each}
-use Rattle.net_world.specs.declared.config.Config.{Config}
-use Rattle.net_world.specs.declared.node.Node.{Node}
-use Rattle.net_world.specs.declared.node.Node.TheVariants.{Switch}
-use Rattle.net_world.specs.Input.{IsInput}
-use Rattle.net_world.specs.Log.{arrivals_in, dones_in}
-use Rattle.net_world.specs.Nodes.{node_step, node_ready, node_ended}
-use Rattle.net_world.specs.Start.{first_nodes, first_switch, started_with}
-use Rattle.net_world.specs.Path.{on_links}
-use Rattle.net_world.specs.Window.{Window, AllHome, homeward, switch_in, switch_of}
-use Rattle.net_world.proofs.LogLemmas.{arrived-append, done-append}
-use Rattle.proof_outlines.proofs.joined.StartJoined.{given, all_fit, all_labelled, count_at_start}
-use Rattle.proof_outlines.proofs.joined.Given.{Given}
-use Rattle.proof_outlines.proofs.joined.Joined.{Label, Joined, node_of}
-use Rattle.proof_outlines.proofs.joined.BesideRuns.{its_takes, its_label, its_labels}
-use Rattle.proof_outlines.proofs.joined.RunsJoined.{Runs, runs_at_start, runs_next, run_beside, start_world}
+use Rattle.net_world.specs.Window.{Window, homeward, switch_in, switch_of}
 use Rattle.nf_net.proofs.answers.CreditCounts.{credit, no_credit_from, no_credit_to, none_sent, instance_is}
 use Rattle.nf_net.proofs.answers.ArrivalNotes.{controller_notes_none}
 use Rattle.nf_net.proofs.WindowSteps.{switch_counts}

@@ -1,23 +1,14 @@
 -- What each step keeps of the window: of the packets that came, those under way are as many as the switch counts and as cells aren't at
 -- home; a cell that goes home is still counted until the switch has it.
-use Rattle.std.proofs.Common.{◌≡◌, ℕ, ◌+◌, ◌<◌, ◌≤◌, true, false, List, [], ◌∷◌, length, refl, ap, ◌∙◌, arith}
-use Rattle.std.specs.Prelude.{if◌then◌else◌, ◌==◌, ◌&&◌, nat_lt}
-use Rattle.std.proofs.lemmas.Bool.Decides.{nat_tests, Decides-eqb}
-use Rattle.flow_filter.specs.declared.filter.Filter.{Filter}
-use Rattle.flow_filter.specs.declared.packet.Packet.{Packet}
+use Rattle.nf_net.proofs.Words.{◌≡◌, ℕ, ◌+◌, ◌<◌, ◌≤◌, true, false, List, [], ◌∷◌, length, refl, ap, ◌∙◌, arith, if◌then◌else◌, ◌==◌, ◌&&◌, nat_lt, nat_tests}
+use Rattle.nf_net.proofs.Words.{Decides-eqb, Filter, Packet, FullCell, Target, rules_redirected, Msg, Note, instance_node, SwitchState, switch_step}
+use Rattle.nf_net.proofs.Words.{sends_to_instance, target_of, has_room, is_there, arrivals_in, dones_in}
 use Rattle.event_filter.specs.declared.mark.Mark.TheVariants as mark
-use Rattle.packet_pool.specs.Pool.{FullCell}
-use Rattle.switch_rules.specs.declared.target.Target.{Target}
 use Rattle.switch_rules.specs.declared.target.Target.TheVariants as target
-use Rattle.switch_rules.specs.Rules.{rules_redirected}
-use Rattle.nf_msgs.specs.declared.msg.Msg.{Msg}
 use Rattle.nf_msgs.specs.declared.msg.Msg.TheVariants as msg
-use Rattle.nf_msgs.specs.declared.note.Note.{Note}
 use Rattle.nf_msgs.specs.declared.note.Note.TheVariants as note
-use Rattle.nf_msgs.specs.Nodes.{instance_node}
 use Rattle.switch_node.specs.Switch as switch
-use Rattle.switch_node.specs.Switch.{SwitchState, switch_step, still, sends_to_instance, target_of, has_room, goes_to, is_there}
-use Rattle.net_world.specs.Log.{arrivals_in, dones_in}
+use Rattle.switch_node.specs.Switch.{still, goes_to}
 use Rattle.nf_net.proofs.answers.CreditCounts.{credit}
 
 -- The switch counts what came and what comes home.

@@ -1,15 +1,8 @@
 -- A row of a move sends no message that a command is answered: the controller alone adds it.
-use Rattle.std.proofs.Common.{◌≡◌, ℕ, true, List, [], ◌∷◌, refl}
-use Rattle.proof_machines.proofs.share.Lists.{cond-same}
-use Rattle.packet_pool.specs.Pool.{FullCell}
-use Rattle.nf_msgs.specs.declared.msg.Msg.{Msg}
+use Rattle.nf_net.proofs.Words.{◌≡◌, ℕ, true, List, [], ◌∷◌, refl, cond-same, FullCell, Msg, Phase, MovePlan, reaches, sent_weight, Each, all_sent}
 use Rattle.nf_msgs.specs.declared.msg.Msg.TheVariants as msg
-use Rattle.move_op.specs.Phases.{Phase}
-use Rattle.move_op.specs.Move.{MovePlan, row}
-use Rattle.actor_net.specs.Network.{reaches}
-use Rattle.actor_net.proofs.WeightLaws.{sent_weight}
-use Rattle.proof_machines.proofs.unit.Labels.{Each}
-use Rattle.proof_outlines.proofs.outline.MoveRows.{is_of_move, all_sent}
+use Rattle.move_op.specs.Move.{row}
+use Rattle.proof_outlines.proofs.outline.MoveRows.{is_of_move}
 
 -- a message that a command is answered counts
 abbrev pub answering : Msg → ℕ

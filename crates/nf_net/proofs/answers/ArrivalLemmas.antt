@@ -1,45 +1,22 @@
 -- The switch takes the packets of the input in their order: those that arrived and those that wait are those that were given. This
 -- holds of each world of a run, beside what holds of it as one (`runs_joined`).
-use Rattle.std.proofs.Common.{◌≡◌, ℕ, zero, suc, ◌+◌, true, false, List, [], ◌∷◌, ◌++◌, map, length, drop, append_assoc, refl, sym, ap, ◌∙◌, arith}
-use Rattle.std.specs.Prelude.{if◌then◌else◌, ◌&&◌, ◌==◌, unwrap_or}
-use Rattle.std.specs.declared.alloc.Global.{Global}
-use Rattle.std.proofs.lemmas.Bool.Decides.{nat_tests}
-use Rattle.flow_filter.specs.declared.packet.Packet.{Packet}
+use Rattle.nf_net.proofs.Words.{◌≡◌, ℕ, zero, suc, ◌+◌, true, false, List, [], ◌∷◌, ◌++◌, map, length, drop, append_assoc, refl, sym, ap, ◌∙◌, arith}
+use Rattle.nf_net.proofs.Words.{if◌then◌else◌, ◌&&◌, ◌==◌, unwrap_or, Global, nat_tests, Packet, Fits, FunctionLaws, Semantics, Target, Msg, Note, SwitchState}
+use Rattle.nf_net.proofs.Words.{has_room, is_there, target_of, Choice, Network, IsRun, run, world_next, queue_at, at, opening_waiting, Taking, run_induction}
+use Rattle.nf_net.proofs.Words.{Takes, taken_outcome, less_first, Config, Node, IsInput, arrivals_in, node_step, node_ready, IsFront, first_nodes, started_with}
+use Rattle.nf_net.proofs.Words.{Given, node_of, Scene, AreShown, IsTaken, Joined, scene, Wants, node_leads, HasBeside, its_takes, its_taken, its_input}
+use Rattle.nf_net.proofs.Words.{start_world, given, all_fit, count_at_start, arrived-append}
 use Rattle.flow_filter.specs.Flow.{flow_of}
-use Rattle.nf_function.specs.Records.{Fits, Laws as FunctionLaws}
-use Rattle.nf_function.specs.Semantics.{Semantics}
-use Rattle.switch_rules.specs.declared.target.Target.{Target}
 use Rattle.switch_rules.specs.declared.target.Target.TheVariants as target
 use Rattle.switch_rules.specs.Rules.{first_match}
-use Rattle.nf_msgs.specs.declared.msg.Msg.{Msg}
 use Rattle.nf_msgs.specs.declared.msg.Msg.TheVariants as msg
-use Rattle.nf_msgs.specs.declared.note.Note.{Note}
-use Rattle.switch_node.specs.Switch.{SwitchState, still, goes_to, has_room, is_there, on_packet, target_of}
-use Rattle.actor_net.specs.declared.choice.Choice.{Choice}
-use Rattle.actor_net.specs.Network.{Network, IsRun, run, world_next, queue_at}
-use Rattle.actor_net.proofs.EnabledChoices.{at}
-use Rattle.actor_net.proofs.OpeningWorlds.{opening_waiting}
-use Rattle.actor_net.proofs.RunInduction.{Taking, run_induction}
-use Rattle.actor_net.proofs.StepOutcome.{Takes, taken_outcome}
-use Rattle.actor_net.proofs.WaitingMessages.{less_first}
-use Rattle.net_world.specs.declared.config.Config.{Config}
-use Rattle.net_world.specs.declared.node.Node.{Node}
-use Rattle.net_world.specs.Input.{packets, IsInput}
-use Rattle.net_world.specs.Log.{arrivals_in}
-use Rattle.net_world.specs.Nodes.{node_step, node_ready}
-use Rattle.net_world.specs.Fold.{IsFront}
-use Rattle.net_world.specs.Start.{first_nodes, started_with}
+use Rattle.switch_node.specs.Switch.{still, goes_to, on_packet}
+use Rattle.net_world.specs.Input.{packets}
 use Rattle.nf_net.proofs.answers.ArrivalNotes.{is_packet, switch_notes_none, controller_notes_none, instance_notes_none}
-use Rattle.proof_outlines.proofs.joined.Given.{Given}
-use Rattle.proof_outlines.proofs.joined.Joined.{node_of, Scene, AreShown, IsTaken, Joined}
-use Rattle.proof_outlines.proofs.joined.JoinedSteps.{scene}
-use Rattle.proof_outlines.proofs.joined.NodeSteps.{Wants, node_leads}
-use Rattle.proof_outlines.proofs.joined.BesideRuns.{HasBeside, its_takes, its_taken, its_input, next_joined, beside_next, beside_at_start}
+use Rattle.proof_outlines.proofs.joined.BesideRuns.{next_joined, beside_next, beside_at_start}
 use Rattle.proof_outlines.proofs.whole.SwitchAll.{GoesToTarget}
-use Rattle.proof_outlines.proofs.joined.RunsJoined.{start_world}
-use Rattle.proof_outlines.proofs.joined.StartJoined.{given, all_fit, start_joined, count_at_start}
+use Rattle.proof_outlines.proofs.joined.StartJoined.{start_joined}
 use Rattle.net_world.proofs.StartingLemmas.{few_nodes}
-use Rattle.net_world.proofs.LogLemmas.{arrived-append}
 
 -- the numbers of an input's packets
 abbrev pub numbers : List Msg → List ℕ

@@ -1,18 +1,10 @@
 -- Only the switch notes that packets arrived: one note for each packet of the input that it takes.
-use Rattle.std.proofs.Common.{◌≡◌, ℕ, Bool, true, false, None, [], refl}
-use Rattle.proof_outlines.proofs.outline.SwitchWays.{step_fits}
-use Rattle.nf_function.specs.Semantics.{Semantics}
-use Rattle.nf_msgs.specs.declared.msg.Msg.{Msg}
+use Rattle.nf_net.proofs.Words.{◌≡◌, ℕ, Bool, true, false, None, [], refl, step_fits, Semantics, Msg, Note, SwitchState, switch_step, ControllerState}
+use Rattle.nf_net.proofs.Words.{controller_step, InstanceState, instance_step, arrivals_in, none_picked, IsQuiet, is_uninstalled, instance_quiet}
+use Rattle.nf_net.proofs.Words.{controller_uninstalled}
 use Rattle.nf_msgs.specs.declared.msg.Msg.TheVariants as msg
 use Rattle.nf_msgs.specs.declared.note.Note.TheVariants as note
-use Rattle.nf_msgs.specs.declared.note.Note.{Note}
-use Rattle.switch_node.specs.Switch.{SwitchState, switch_step}
-use Rattle.ctrl_node.specs.Controller.{ControllerState, controller_step}
-use Rattle.instance_worker.specs.declared.instance.Instance.{Instance as InstanceState}
-use Rattle.instance_worker.specs.Instance.{instance_step}
-use Rattle.net_world.specs.Log.{arrival_in, arrivals_in}
-use Rattle.net_world.proofs.PickedLists.{none_picked}
-use Rattle.proof_outlines.proofs.joined.PlaceNotes.{IsQuiet, is_uninstalled, instance_quiet, controller_uninstalled}
+use Rattle.net_world.specs.Log.{arrival_in}
 
 -- a packet of the input
 abbrev pub is_packet : Msg → Bool

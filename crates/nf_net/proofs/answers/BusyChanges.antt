@@ -1,25 +1,15 @@
 -- How open operations and the log go on together: an operation takes a message, is answered, is refused, or begins.
-use Rattle.std.proofs.Common.{◌≡◌, ℕ, suc, ◌<◌, ◌≤◌, Bool, true, false, cond, Some, None, List, [], ◌∷◌, ◌++◌, refl, sym, ap, ◌∙◌, subst, arith, map}
-use Rattle.std.specs.Prelude.{if◌then◌else◌, ◌&&◌, ◌||◌, ◌==◌, not, is_some, nat_lt, unwrap_or}
+use Rattle.nf_net.proofs.Words.{◌≡◌, ℕ, suc, ◌<◌, ◌≤◌, Bool, true, false, cond, Some, None, List, [], ◌∷◌, ◌++◌, refl, sym, ap, ◌∙◌, subst, arith, map}
+use Rattle.nf_net.proofs.Words.{if◌then◌else◌, ◌&&◌, ◌||◌, ◌==◌, not, is_some, nat_lt, unwrap_or, nat_tests, Decides-eqb, Decides-ltb, and-false, or-true}
+use Rattle.nf_net.proofs.Words.{and-true, and_parts, Answer, Order, Note, Operation, OpenOperations, has_answered, is_begun, is_share, keeps_off, answers_of}
+use Rattle.nf_net.proofs.Words.{MayBegin, has_begun-append, has_answered-append, answers_of-append, got_insert, got_remove, Given}
 use Rattle.std.specs.FinMap as finite
-use Rattle.std.proofs.lemmas.Bool.Decides.{nat_tests, Decides-eqb, Decides-ltb}
-use Rattle.std.proofs.Math.Bool.{and-false, or-true, and-true}
-use Rattle.std.proofs.lemmas.Bool.{and_parts}
-use Rattle.nf_msgs.specs.declared.answer.Answer.{Answer}
 use Rattle.nf_msgs.specs.declared.answer.Answer.TheVariants.{Done}
-use Rattle.nf_msgs.specs.declared.command.Order.{Order}
-use Rattle.nf_msgs.specs.declared.note.Note.{Note}
 use Rattle.nf_msgs.specs.declared.note.Note.TheVariants as note
-use Rattle.ctrl_node.specs.declared.operation.Operation.{Operation}
-use Rattle.ctrl_node.specs.Operations.{OpenOperations}
-use Rattle.net_world.specs.Commands.{has_answered, is_begun, is_share, keeps_off, answers_of, MayBegin}
-use Rattle.net_world.proofs.LogLemmas.{has_begun-append, has_answered-append, answers_of-append}
 use Rattle.nf_net.proofs.answers.BusyLemmas.{AreOther, is_noted, is_outcome, IsAnswered, IsCauseIn, or_off, began_same}
 use Rattle.nf_net.proofs.answers.BusyLemmas.{answered_same, keeps_same, answers_same, none_answered, unanswered, other_not_begun}
 use Rattle.nf_net.proofs.answers.BusyLemmas.{other_not_answered, stays_answered, answered_begun, answered_refused, begun_now}
 use Rattle.nf_net.proofs.answers.BusyOperations.{IsPlanned, HasAnswer, answers_to, IsBusy}
-use Rattle.proof_outlines.proofs.outline.OperationTables.{got_insert, got_remove}
-use Rattle.proof_outlines.proofs.joined.Given.{Given}
 
 same_operation : (a b : Operation) → Some a ≡ Some b → a ≡ b
 same_operation a b is = ap (λ o. unwrap_or o a) is

@@ -1,42 +1,21 @@
 -- The steps of the switch and of the instances say nothing of commands, except that the switch hands on each command of the input.
-use Rattle.std.proofs.Common.{◌≡◌, ℕ, zero, suc, ◌+◌, ◌-◌, Bool, true, false, Option, Some, None, List, [], ◌∷◌, ◌++◌, map, refl, sym, ap, ◌∙◌, subst}
-use Rattle.std.specs.Prelude.{if◌then◌else◌, ◌&&◌, ◌||◌, ◌==◌, nat_lt, option_map}
+use Rattle.nf_net.proofs.Words.{◌≡◌, ℕ, zero, suc, ◌+◌, Bool, true, false, Option, Some, None, List, [], ◌∷◌, ◌++◌, map, refl, sym, ap, ◌∙◌, subst}
+use Rattle.nf_net.proofs.Words.{if◌then◌else◌, ◌&&◌, ◌||◌, ◌==◌, nat_lt, option_map, Chunk, Semantics, unit_at, record_chunk, part, Mark, FullCell, Answer}
+use Rattle.nf_net.proofs.Words.{Import, Command, Msg, Note, switch_node, instance_node, Stepped, core_sent, EachSent, Each, each-append, SwitchState}
+use Rattle.nf_net.proofs.Words.{switch_step, stop_messages, InstanceState, pieces, to_controller, share_message, tell_step, tells_and_notes, instance_step}
+use Rattle.nf_net.proofs.Words.{selected_chunks, chunk_told, with_count, table_after, step_fits, refusal_of, instance_fits, Given, Label, sent-append}
 use Rattle.std.specs.FinMap as finite
-use Rattle.nf_function.specs.declared.chunk.Chunk.{Chunk}
 use Rattle.nf_function.specs.declared.unit.Unit as units
-use Rattle.nf_function.specs.Semantics.{Semantics, unit_at}
-use Rattle.state_chunk.specs.Format.{record_chunk}
-use Rattle.record_table.specs.Table.{part}
-use Rattle.event_filter.specs.declared.mark.Mark.{Mark}
 use Rattle.event_filter.specs.declared.mark.Mark.TheVariants as mark
-use Rattle.packet_pool.specs.Pool.{FullCell}
-use Rattle.nf_msgs.specs.declared.answer.Answer.{Answer}
-use Rattle.nf_msgs.specs.declared.answer.Answer.TheVariants.{Import, Old}
-use Rattle.nf_msgs.specs.declared.command.Command.{Command}
+use Rattle.nf_msgs.specs.declared.answer.Answer.TheVariants.{Old}
 use Rattle.nf_msgs.specs.declared.msg.Piece.{Piece as APiece}
-use Rattle.nf_msgs.specs.declared.msg.Msg.{Msg}
 use Rattle.nf_msgs.specs.declared.msg.Msg.TheVariants as msg
-use Rattle.nf_msgs.specs.declared.note.Note.{Note}
-use Rattle.nf_msgs.specs.Nodes.{switch_node, instance_node}
-use Rattle.actor_net.specs.Network.{Stepped}
-use Rattle.actor_net.specs.Histories.{sent_for as core_sent}
-use Rattle.actor_net.proofs.WeightLaws.{EachSent}
-use Rattle.proof_machines.proofs.unit.Labels.{Each, each-append}
 use Rattle.switch_node.specs.Switch as switch
-use Rattle.switch_node.specs.Switch.{SwitchState, switch_step, stop_messages}
-use Rattle.instance_worker.specs.declared.instance.Instance.{Instance as InstanceState}
-use Rattle.instance_worker.specs.Pieces.{pieces}
-use Rattle.instance_worker.specs.Instance.{to_controller, share_message, tell_step, tells_and_notes, still, process_step}
-use Rattle.instance_worker.specs.Instance.{instance_step, selected_chunks, chunk_told, with_count, table_after}
-use Rattle.proof_outlines.proofs.outline.SwitchWays.{step_fits}
-use Rattle.proof_outlines.proofs.outline.InstanceWays.{refusal_of, instance_fits}
-use Rattle.proof_outlines.proofs.joined.Given.{Given}
-use Rattle.proof_outlines.proofs.joined.Joined.{Label}
+use Rattle.instance_worker.specs.Instance.{still, process_step}
 use Rattle.nf_net.proofs.answers.BusyLemmas.{AreOther, is_other, is_outcome}
 use Rattle.nf_net.proofs.answers.BusyController.{told_in}
 use Rattle.nf_net.proofs.answers.LinePicks.{picked}
 use Rattle.nf_net.proofs.answers.MoveSays.{Says}
-use Rattle.net_world.proofs.SentMessages.{sent-append}
 
 -- the numbers of the commands among messages
 abbrev pub numbers : List Msg → List ℕ

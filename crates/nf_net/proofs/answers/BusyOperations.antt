@@ -1,31 +1,22 @@
 -- The open operations of the controller are the commands under way; so what it refuses an order for is true of the log.
-use Rattle.std.proofs.Common.{◌≡◌, ℕ, ◌≤◌, true, false, Option, Some, None, List, [], ◌∷◌, refl, sym, ap, ◌∙◌}
-use Rattle.std.specs.Prelude.{if◌then◌else◌, find, is_some, option_map, option_and_then}
-use Rattle.std.specs.Option.{option_or, option_map_or}
+use Rattle.nf_net.proofs.Words.{◌≡◌, ℕ, ◌≤◌, true, false, Option, Some, None, List, [], ◌∷◌, refl, sym, ap, ◌∙◌, if◌then◌else◌, find, is_some, option_map}
+use Rattle.nf_net.proofs.Words.{option_or, option_map_or, Filter, Answer, Unknown, Overlap, Order, Note, Phase, SharePlan, Operation, Move, Copy, Share}
+use Rattle.nf_net.proofs.Words.{OpenOperations, ControllerState, unknown_name, overlap, refusal, unknown_in, Rising, keeps_off, answers_of, MayBegin, Given}
+use Rattle.nf_net.proofs.Words.{IsPlan, IsCopyPlan}
+use Rattle.std.specs.Prelude.{option_and_then}
 use Rattle.std.specs.FinMap as finite
-use Rattle.flow_filter.specs.declared.filter.Filter.{Filter}
 use Rattle.flow_filter.specs.Filter.{meets}
-use Rattle.nf_msgs.specs.declared.answer.Answer.{Answer}
-use Rattle.nf_msgs.specs.declared.answer.Answer.TheVariants.{Done, Unknown, Overlap}
-use Rattle.nf_msgs.specs.declared.command.Order.{Order}
+use Rattle.nf_msgs.specs.declared.answer.Answer.TheVariants.{Done}
 use Rattle.nf_msgs.specs.declared.command.Order.TheVariants as order
-use Rattle.nf_msgs.specs.declared.note.Note.{Note}
 use Rattle.move_op.specs.declared.door.Door.TheVariants as door
-use Rattle.move_op.specs.Phases.{Phase}
 use Rattle.move_op.specs.Phases as phase
 use Rattle.copy_share.specs.Copy as copy
-use Rattle.copy_share.specs.Share.{SharePlan}
-use Rattle.ctrl_node.specs.declared.operation.Operation.{Operation}
-use Rattle.ctrl_node.specs.declared.operation.Operation.TheVariants.{Move, Copy, Share}
-use Rattle.ctrl_node.specs.Operations.{OpenOperations, meets_operation, lowest_meeting}
+use Rattle.ctrl_node.specs.Operations.{meets_operation, lowest_meeting}
 use Rattle.nf_msgs.specs.Orders.{order_filter}
-use Rattle.ctrl_node.specs.Controller.{ControllerState, unknown_name, overlap, refusal, unknown_in}
-use Rattle.proof_machines.proofs.net.Waits.{Rising}
-use Rattle.net_world.specs.Commands.{keeps_off, busy_filter, answers_of, MayBegin}
+use Rattle.net_world.specs.Commands.{busy_filter}
 use Rattle.nf_net.proofs.answers.BusyLemmas.{is_noted, is_outcome, IsAnswered, IsCauseIn}
 use Rattle.nf_net.proofs.answers.FirstEntries.{passes, IsFirstOf, found_is}
 use Rattle.nf_net.proofs.answers.ShareTells.{is_set_up}
-use Rattle.proof_outlines.proofs.joined.Given.{Given, IsPlan, IsCopyPlan}
 
 -- what a move that was refused, or is over, is to be answered
 abbrev pub HasOutcome : Phase → Type 0

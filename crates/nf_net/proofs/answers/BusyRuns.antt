@@ -1,32 +1,12 @@
 -- Of every run, the open operations of the controller are the commands under way, and the log says what is true of commands.
-use Rattle.std.proofs.Common.{◌≡◌, ◌≢◌, ℕ, zero, suc, ◌+◌, ◌<◌, Bool, true, false, Some, None, List, [], ◌++◌, get_or, refl, sym, ap, ◌∙◌, subst, arith}
-use Rattle.std.specs.Prelude.{if◌then◌else◌, ◌&&◌, ◌||◌, ◌==◌, not, is_some}
+use Rattle.nf_net.proofs.Words.{◌≡◌, ◌≢◌, ℕ, zero, suc, ◌+◌, ◌<◌, Bool, true, false, Some, None, List, [], ◌++◌, get_or, refl, sym, ap, ◌∙◌, subst, arith}
+use Rattle.nf_net.proofs.Words.{if◌then◌else◌, ◌&&◌, ◌||◌, ◌==◌, not, is_some, and_parts, Semantics, Msg, Note, Choice, Network, Stepped, world_next, at, Takes}
+use Rattle.nf_net.proofs.Words.{Outcome, taken_outcome, Taking, OnLinks, EachSent, on_links_after, neither, Each, MoveState, ShareState, Operation, Move, Share}
+use Rattle.nf_net.proofs.Words.{ControllerState, controller_step, switch_step, Node, Controller, node_step, node_ready, has_answered, is_begun, is_busy}
+use Rattle.nf_net.proofs.Words.{is_share, keeps_off, answers_of, Given, IsPlan, Label, Joined, node_of}
 use Rattle.std.specs.FinMap as finite
-use Rattle.std.proofs.lemmas.Bool.{and_parts}
-use Rattle.nf_function.specs.Semantics.{Semantics}
-use Rattle.nf_msgs.specs.declared.msg.Msg.{Msg}
 use Rattle.nf_msgs.specs.declared.msg.Msg.TheVariants as msg
-use Rattle.nf_msgs.specs.declared.note.Note.{Note}
-use Rattle.actor_net.specs.declared.choice.Choice.{Choice}
-use Rattle.actor_net.specs.Network.{Network, Stepped, world_next}
-use Rattle.actor_net.proofs.EnabledChoices.{at}
-use Rattle.actor_net.proofs.StepOutcome.{Takes, Outcome, taken_outcome}
-use Rattle.actor_net.proofs.RunInduction.{Taking}
-use Rattle.actor_net.proofs.WeightLaws.{OnLinks, EachSent, on_links_after}
-use Rattle.actor_net.proofs.LinkLemmas.{neither}
-use Rattle.proof_machines.proofs.unit.Labels.{Each}
-use Rattle.move_op.specs.Move.{MoveState}
-use Rattle.copy_share.specs.Share.{ShareState}
-use Rattle.ctrl_node.specs.declared.operation.Operation.{Operation}
-use Rattle.ctrl_node.specs.declared.operation.Operation.TheVariants.{Move, Share}
-use Rattle.ctrl_node.specs.Controller.{ControllerState, controller_step}
-use Rattle.switch_node.specs.Switch.{switch_step}
-use Rattle.net_world.specs.declared.node.Node.{Node}
-use Rattle.net_world.specs.declared.node.Node.TheVariants.{Controller}
-use Rattle.net_world.specs.Nodes.{node_step, node_ready}
-use Rattle.net_world.specs.Commands.{has_answered, is_begun, is_busy, is_share, keeps_off, answers_of}
-use Rattle.proof_outlines.proofs.joined.Given.{Given, IsPlan}
-use Rattle.proof_outlines.proofs.joined.Joined.{Label, Joined, node_of, count}
+use Rattle.proof_outlines.proofs.joined.Joined.{count}
 use Rattle.nf_net.proofs.answers.BusyOperations.{IsBusy, IsShareOf, answers_to}
 use Rattle.nf_net.proofs.answers.BusyLemmas.{unanswered}
 use Rattle.nf_net.proofs.answers.BusyChanges.{other_notes}

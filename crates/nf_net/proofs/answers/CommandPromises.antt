@@ -1,37 +1,15 @@
 -- What the log says of commands, of every run: each begins and is answered once at most, and what it was refused for, or may begin
 -- by, was true then.
-use Rattle.std.proofs.Common.{◌≡◌, ℕ, ◌+◌, true, false, Option, Some, None, List, [], ◌∷◌, ◌++◌, map, length, refl, sym, ap, ◌∙◌, subst, arith}
-use Rattle.std.specs.Prelude.{is_some}
-use Rattle.std.specs.declared.alloc.Global.{Global}
-use Rattle.std.specs.Ordering.{nat_cmp}
+use Rattle.nf_net.proofs.Words.{◌≡◌, ℕ, ◌+◌, true, false, Option, Some, None, List, [], ◌∷◌, ◌++◌, map, length, refl, sym, ap, ◌∙◌, subst, arith, is_some}
+use Rattle.nf_net.proofs.Words.{Global, nat_cmp, Filter, FunctionLaws, Semantics, Msg, Note, Choice, Network, IsRun, run, queue_at, at, opening_waiting}
+use Rattle.nf_net.proofs.Words.{opening_on_links, run_induction, Each, Rising, Operation, opened_controller, Config, Node, answers_of, is_begun, has_answered}
+use Rattle.nf_net.proofs.Words.{is_share, times_installed, is_item, commands, order_numbered, IsInput, node_step, node_ready, first_nodes, started_with}
+use Rattle.nf_net.proofs.Words.{all_each, given, count_at_start, Runs, runs_at_start, runs_next, start_world, Given, Joined}
 use Rattle.std.specs.FinMap as finite
-use Rattle.flow_filter.specs.declared.filter.Filter.{Filter}
-use Rattle.nf_function.specs.Records.{Laws as FunctionLaws}
-use Rattle.nf_function.specs.Semantics.{Semantics}
 use Rattle.nf_msgs.specs.declared.command.Order.TheVariants as order
-use Rattle.nf_msgs.specs.declared.msg.Msg.{Msg}
 use Rattle.nf_msgs.specs.declared.msg.Msg.TheVariants as msg
-use Rattle.nf_msgs.specs.declared.note.Note.{Note}
-use Rattle.actor_net.specs.declared.choice.Choice.{Choice}
-use Rattle.actor_net.specs.Network.{Network, IsRun, run, queue_at}
-use Rattle.actor_net.proofs.EnabledChoices.{at}
-use Rattle.actor_net.proofs.OpeningWorlds.{opening_waiting, opening_on_links}
-use Rattle.actor_net.proofs.RunInduction.{run_induction}
-use Rattle.proof_machines.proofs.unit.Labels.{Each}
-use Rattle.proof_machines.proofs.net.Waits.{Rising}
-use Rattle.ctrl_node.specs.declared.operation.Operation.{Operation}
-use Rattle.ctrl_node.specs.Controller.{controller_at_start as opened_controller}
-use Rattle.net_world.specs.declared.config.Config.{Config}
-use Rattle.net_world.specs.declared.node.Node.{Node}
-use Rattle.net_world.specs.Commands.{Answers, answers_of, is_begun, has_answered, is_share, times_installed}
-use Rattle.net_world.specs.Input.{is_item, commands, order_numbered, IsInput}
-use Rattle.net_world.specs.Nodes.{node_step, node_ready}
-use Rattle.net_world.specs.Start.{first_nodes, started_with}
-use Rattle.proof_outlines.proofs.outline.StateOutline.{all_each}
-use Rattle.proof_outlines.proofs.joined.StartJoined.{given, count_at_start, rising_of}
-use Rattle.proof_outlines.proofs.joined.RunsJoined.{Runs, runs_at_start, runs_next, start_world}
-use Rattle.proof_outlines.proofs.joined.Given.{Given}
-use Rattle.proof_outlines.proofs.joined.Joined.{Joined}
+use Rattle.net_world.specs.Commands.{Answers}
+use Rattle.proof_outlines.proofs.joined.StartJoined.{rising_of}
 use Rattle.nf_net.proofs.answers.BusyLemmas.{is_noted, none_answered, or_off}
 use Rattle.nf_net.proofs.answers.BusyOperations.{IsBusy}
 use Rattle.nf_net.proofs.answers.BusyNodes.{numbers}

@@ -1,29 +1,14 @@
 -- How many cells a step sends home, and how many packets it notes: an instance sends one home for each packet that it processes.
-use Rattle.std.proofs.Common.{◌≡◌, ℕ, ◌+◌, ◌<◌, ◌≤◌, true, false, Option, Some, None}
-use Rattle.std.proofs.Common.{List, [], ◌∷◌, ◌++◌, map, length, length-append, refl, sym, ap, ◌∙◌, arith}
-use Rattle.std.specs.Prelude.{if◌then◌else◌, ◌||◌}
-use Rattle.proof_machines.proofs.share.Lists.{cond-same}
-use Rattle.nf_function.specs.declared.chunk.Chunk.{Chunk}
+use Rattle.nf_net.proofs.Words.{◌≡◌, ℕ, ◌+◌, ◌<◌, ◌≤◌, true, false, Option, Some, None, List, [], ◌∷◌, ◌++◌, map, length, length-append, refl, sym, ap, ◌∙◌}
+use Rattle.nf_net.proofs.Words.{arith, if◌then◌else◌, ◌||◌, cond-same, Chunk, Semantics, unit_at, Mark, FullCell, Piece, Msg, Note, pieces, to_controller}
+use Rattle.nf_net.proofs.Words.{chunk_told, share_message, tell_step, tells_and_notes, and_then, selected_chunks, instance_step, reaches, EachSent, sent_weight}
+use Rattle.nf_net.proofs.Words.{arrivals_in, dones_in, arrived-append, done-append, instance_fits, Given, Label}
 use Rattle.nf_function.specs.declared.unit.Unit as units
-use Rattle.nf_function.specs.Semantics.{Semantics, unit_at}
-use Rattle.event_filter.specs.declared.mark.Mark.{Mark}
 use Rattle.event_filter.specs.declared.mark.Mark.TheVariants as mark
-use Rattle.packet_pool.specs.Pool.{FullCell}
-use Rattle.nf_msgs.specs.declared.msg.Piece.{Piece}
-use Rattle.nf_msgs.specs.declared.msg.Msg.{Msg}
 use Rattle.nf_msgs.specs.declared.msg.Msg.TheVariants as msg
-use Rattle.nf_msgs.specs.declared.note.Note.{Note}
 use Rattle.instance_worker.specs.declared.instance.Instance.{Instance}
-use Rattle.instance_worker.specs.Pieces.{pieces}
-use Rattle.instance_worker.specs.Instance.{Step, to_controller, chunk_told, share_message, still, tell_step, tells_and_notes, and_then, selected_chunks}
-use Rattle.instance_worker.specs.Instance.{process_step, instance_step}
-use Rattle.actor_net.specs.Network.{reaches}
-use Rattle.actor_net.proofs.WeightLaws.{EachSent, sent_weight}
-use Rattle.net_world.specs.Log.{arrivals_in, dones_in}
-use Rattle.net_world.proofs.LogLemmas.{arrived-append, done-append}
-use Rattle.proof_outlines.proofs.outline.InstanceWays.{instance_fits}
-use Rattle.proof_outlines.proofs.joined.Given.{Given}
-use Rattle.proof_outlines.proofs.joined.Joined.{Label}
+use Rattle.instance_worker.specs.Instance.{Step, still}
+use Rattle.instance_worker.specs.Instance.{process_step}
 
 -- a cell that goes home counts, and nothing else
 abbrev pub credit : Msg → ℕ

@@ -1,34 +1,15 @@
 -- Where nothing is left to be done, no operation is open but shares that are set up, if no command stands after the input's end.
-use Rattle.std.proofs.Common.{◌≡◌, ◌≢◌, ℕ, zero, suc, ◌+◌, ◌<◌, Bool, true, false, None, List, [], ◌∷◌, ◌++◌, length, get_or, refl, sym, ap, ◌∙◌, subst, arith}
-use Rattle.std.specs.Prelude.{if◌then◌else◌, ◌&&◌, ◌==◌, not}
-use Rattle.std.specs.declared.alloc.Global.{Global}
+use Rattle.nf_net.proofs.Words.{◌≡◌, ◌≢◌, ℕ, zero, suc, ◌+◌, ◌<◌, Bool, true, false, None, List, [], ◌∷◌, ◌++◌, length, get_or, refl, sym, ap, ◌∙◌, subst}
+use Rattle.nf_net.proofs.Words.{arith, if◌then◌else◌, ◌&&◌, ◌==◌, not, Global, nat_tests, Decides-eqb, and_parts, FunctionLaws, Semantics, Msg, Note, Choice}
+use Rattle.nf_net.proofs.Words.{Network, Stepped, IsRun, is_done, reaches, run, world_next, queue_at, done_node, done_weight, at, opening_waiting}
+use Rattle.nf_net.proofs.Words.{opening_weight, Taking, run_induction, Takes, taken_outcome, EachSent, total, sent_weight, total_after, Each, are_quiet}
+use Rattle.nf_net.proofs.Words.{ControllerState, may_finish, controller_step, opened_controller, SwitchState, switch_step, Config, Node, Switch, Controller}
+use Rattle.nf_net.proofs.Words.{IsInput, is_item, commands, ends_last, node_step, node_ready, node_ended, first_nodes, first_switch, started_with, Given, Label}
+use Rattle.nf_net.proofs.Words.{Joined, node_of, its_takes, its_label, its_labels, known, Runs, runs_at_start, runs_next, start_world, given, all_fit}
+use Rattle.nf_net.proofs.Words.{all_labelled, count_at_start, all_each}
 use Rattle.std.specs.FinMap as finite
-use Rattle.std.proofs.lemmas.Bool.Decides.{nat_tests, Decides-eqb}
-use Rattle.std.proofs.lemmas.Bool.{and_parts}
-use Rattle.nf_function.specs.Records.{Laws as FunctionLaws}
-use Rattle.nf_function.specs.Semantics.{Semantics}
-use Rattle.nf_msgs.specs.declared.msg.Msg.{Msg}
 use Rattle.nf_msgs.specs.declared.msg.Msg.TheVariants as msg
-use Rattle.nf_msgs.specs.declared.note.Note.{Note}
-use Rattle.actor_net.specs.declared.choice.Choice.{Choice}
-use Rattle.actor_net.specs.Network.{Network, Stepped, IsRun, is_done, reaches, run, world_next, queue_at}
-use Rattle.actor_net.proofs.CompleteWorlds.{done_node, done_weight}
-use Rattle.actor_net.proofs.EnabledChoices.{at}
-use Rattle.actor_net.proofs.OpeningWorlds.{opening_waiting, opening_weight}
-use Rattle.actor_net.proofs.RunInduction.{Taking, run_induction}
-use Rattle.actor_net.proofs.StepOutcome.{Takes, taken_outcome}
-use Rattle.actor_net.proofs.WeightLaws.{EachSent, total, sent_weight, total_after}
-use Rattle.proof_machines.proofs.unit.Labels.{Each}
-use Rattle.ctrl_node.specs.Operations.{are_quiet}
 use Rattle.ctrl_node.specs.Controller as controller
-use Rattle.ctrl_node.specs.Controller.{ControllerState, may_finish, controller_step, controller_at_start as opened_controller}
-use Rattle.switch_node.specs.Switch.{SwitchState, switch_step}
-use Rattle.net_world.specs.declared.config.Config.{Config}
-use Rattle.net_world.specs.declared.node.Node.{Node}
-use Rattle.net_world.specs.declared.node.Node.TheVariants.{Switch, Controller}
-use Rattle.net_world.specs.Input.{IsInput, is_item, commands, ends_last}
-use Rattle.net_world.specs.Nodes.{node_step, node_ready, node_ended}
-use Rattle.net_world.specs.Start.{first_nodes, first_switch, started_with}
 use Rattle.nf_net.proofs.answers.BusyRuns.{same_controller}
 use Rattle.nf_net.proofs.answers.CreditCounts.{sent_weight-append}
 use Rattle.nf_net.proofs.answers.EndTables.{sign_in, no_command, in_order, ordered_behind, IsSettled, quiet_settled}
@@ -36,14 +17,9 @@ use Rattle.nf_net.proofs.answers.EndTables.{row_ends, sign_at_switch, sign_at_co
 use Rattle.nf_net.proofs.answers.InstallCounts.{finish}
 use Rattle.nf_net.proofs.answers.InstalledRules.{row_counts}
 use Rattle.nf_net.proofs.answers.InstallNotes.{no_install_to, none_sent, items_none}
-use Rattle.proof_outlines.proofs.joined.Given.{Given}
-use Rattle.proof_outlines.proofs.joined.Joined.{Label, Joined, count, node_of}
-use Rattle.proof_outlines.proofs.joined.BesideRuns.{its_takes, its_label, its_labels}
-use Rattle.proof_outlines.proofs.joined.KnownOperations.{AreKnown, known}
+use Rattle.proof_outlines.proofs.joined.Joined.{count}
+use Rattle.proof_outlines.proofs.joined.KnownOperations.{AreKnown}
 use Rattle.nf_net.proofs.answers.LinePicks.{picked, on_way, at_switch, at_controller, at_instance}
-use Rattle.proof_outlines.proofs.joined.RunsJoined.{Runs, runs_at_start, runs_next, start_world}
-use Rattle.proof_outlines.proofs.joined.StartJoined.{given, all_fit, all_labelled, count_at_start}
-use Rattle.proof_outlines.proofs.outline.StateOutline.{all_each}
 
 -- how far the end of the input has come: on the way to the controller, at the controller, and with the finish to the switch
 pub record IsEnding (closed : ℕ) (c : ControllerState) (way : List Bool) (finishes : ℕ) : Type 0 where

@@ -1,51 +1,27 @@
 -- What each node's step keeps of the input's end: no command comes after it, the controller finishes once no operation is open but shares
 -- that are set up, and the switch closes where it takes the finish.
-use Rattle.std.proofs.Common.{◌≡◌, ℕ, zero, suc, ◌+◌, ◌-◌, ◌≤◌, Bool, true, false, cond, Option}
-use Rattle.std.proofs.Common.{Some, None, List, [], ◌∷◌, ◌++◌, refl, sym, ap, ◌∙◌, subst, arith}
-use Rattle.std.specs.Prelude.{if◌then◌else◌, ◌&&◌, ◌||◌, ◌==◌, not, nat_lt}
-use Rattle.std.specs.List.{list_all}
-use Rattle.std.specs.Ordering.{nat_cmp, eq_by_cmp}
+use Rattle.nf_net.proofs.Words.{◌≡◌, ℕ, zero, suc, ◌+◌, ◌≤◌, Bool, true, false, cond, Option, Some, None, List, [], ◌∷◌, ◌++◌, refl, sym, ap, ◌∙◌, subst, arith}
+use Rattle.nf_net.proofs.Words.{if◌then◌else◌, ◌&&◌, ◌||◌, ◌==◌, not, nat_lt, list_all, nat_cmp, eq_by_cmp, and_parts, Filter, Packet, Semantics, FullCell}
+use Rattle.nf_net.proofs.Words.{one_more, Target, rules_redirected, Answer, Msg, Note, instance_node, op_of, core_sent, neither, Each, each-append, Operation}
+use Rattle.nf_net.proofs.Words.{Move, Copy, Share, Store, stored_of, SharePhase, ShareState, is_idle, OpenOperations, turn_of, is_quiet, are_quiet}
+use Rattle.nf_net.proofs.Words.{ControllerState, on_diverted, queue_step, takes_turn, hand_step, on_final, instance_at, SwitchState, switch_step, stop_messages}
+use Rattle.nf_net.proofs.Words.{sends_to_instance, target_of, has_room, is_there, row_fits, NotShared, Given, Label}
+use Rattle.std.proofs.Common.{◌-◌}
 use Rattle.std.specs.FinMap as finite
-use Rattle.std.proofs.lemmas.Bool.{and_parts}
-use Rattle.flow_filter.specs.declared.filter.Filter.{Filter}
-use Rattle.flow_filter.specs.declared.packet.Packet.{Packet}
-use Rattle.nf_function.specs.Semantics.{Semantics}
-use Rattle.packet_pool.specs.Pool.{FullCell, one_more}
 use Rattle.event_filter.specs.declared.mark.Mark.TheVariants as mark
-use Rattle.switch_rules.specs.declared.target.Target.{Target}
 use Rattle.switch_rules.specs.declared.target.Target.TheVariants as target
-use Rattle.switch_rules.specs.Rules.{rules_redirected}
-use Rattle.nf_msgs.specs.declared.answer.Answer.{Answer}
-use Rattle.nf_msgs.specs.declared.msg.Msg.{Msg}
 use Rattle.nf_msgs.specs.declared.msg.Msg.TheVariants as msg
-use Rattle.nf_msgs.specs.declared.note.Note.{Note}
 use Rattle.nf_msgs.specs.declared.note.Note.TheVariants as note
-use Rattle.nf_msgs.specs.Nodes.{instance_node}
-use Rattle.nf_msgs.specs.MessageParts.{op_of}
-use Rattle.actor_net.specs.Histories.{sent_for as core_sent}
-use Rattle.actor_net.proofs.LinkLemmas.{neither}
-use Rattle.proof_machines.proofs.unit.Labels.{Each, each-append}
-use Rattle.ctrl_node.specs.declared.operation.Operation.{Operation}
-use Rattle.ctrl_node.specs.declared.operation.Operation.TheVariants.{Move, Copy, Share}
-use Rattle.move_op.specs.Move.{Store}
-use Rattle.event_store.specs.Store.{stored_of}
-use Rattle.copy_share.specs.declared.share_phase.SharePhase.{SharePhase}
 use Rattle.copy_share.specs.declared.share_phase.SharePhase.TheVariants as phase
-use Rattle.copy_share.specs.Share.{ShareState, is_idle}
-use Rattle.ctrl_node.specs.Operations.{OpenOperations, turn_of, is_quiet, are_quiet}
 use Rattle.ctrl_node.specs.Controller as controller
-use Rattle.ctrl_node.specs.Controller.{ControllerState, Step, still}
-use Rattle.ctrl_node.specs.Controller.{on_diverted, queue_step, takes_turn, hand_step, numbered, on_event, on_final, instance_at}
+use Rattle.ctrl_node.specs.Controller.{Step, still}
+use Rattle.ctrl_node.specs.Controller.{numbered, on_event}
 use Rattle.switch_node.specs.Switch as switch
-use Rattle.switch_node.specs.Switch.{SwitchState, switch_step, stop_messages, sends_to_instance, goes_to, target_of, has_room, is_there}
+use Rattle.switch_node.specs.Switch.{goes_to}
 use Rattle.nf_net.proofs.answers.ControllerCases.{by_operation, by_queue, by_sender, by_stop}
 use Rattle.nf_net.proofs.answers.InstallCounts.{finish}
 use Rattle.nf_net.proofs.answers.ShareTells.{is_set_up, Tells, turn_end, ShareStep, handed_share, queued_share}
-use Rattle.proof_outlines.proofs.outline.ControllerWays.{row_fits}
-use Rattle.proof_outlines.proofs.outline.OperationTables.{NotShared}
 use Rattle.proof_outlines.proofs.joined.KnownOperations.{AreKnown}
-use Rattle.proof_outlines.proofs.joined.Given.{Given}
-use Rattle.proof_outlines.proofs.joined.Joined.{Label}
 use Rattle.nf_net.proofs.answers.LinePicks.{picked}
 
 -- a command, or the end

@@ -1,14 +1,7 @@
 -- The first entry of open operations that passes a test has the lowest number of those that do.
-use Rattle.std.proofs.Common.{◌≡◌, ℕ, ◌<◌, ◌≤◌, Bool, true, false, cond, Option, Some, None, List, [], ◌∷◌, refl, ap, ◌∙◌, subst, arith}
-use Rattle.std.specs.Prelude.{T, if◌then◌else◌, find, option_map, unwrap_or}
-use Rattle.std.specs.Option.{option_map_or}
-use Rattle.std.specs.Ordering.{nat_cmp, eq_by_cmp, is_lt}
+use Rattle.nf_net.proofs.Words.{◌≡◌, ℕ, ◌<◌, ◌≤◌, Bool, true, false, cond, Option, Some, None, List, [], ◌∷◌, refl, ap, ◌∙◌, subst, arith, T, if◌then◌else◌}
+use Rattle.nf_net.proofs.Words.{find, option_map, unwrap_or, option_map_or, nat_cmp, eq_by_cmp, is_lt, below_all, nat_tests, and_yes, Operation, OpenOperations}
 use Rattle.std.specs.FinMap as finite
-use Rattle.std.specs.FinMap.Entries.{below_all}
-use Rattle.std.proofs.lemmas.Bool.Decides.{nat_tests}
-use Rattle.std.proofs.Math.Facts.{and_yes}
-use Rattle.ctrl_node.specs.declared.operation.Operation.{Operation}
-use Rattle.ctrl_node.specs.Operations.{OpenOperations}
 use Rattle.proof_outlines.proofs.whole.DivertedAll.{is_less}
 
 -- what a number's operation is, by a test; none fails it

@@ -1,29 +1,18 @@
 -- What the other nodes' steps keep of the changes of the switch's rules: the switch notes each that it takes, and no other node sends or notes
 -- any.
-use Rattle.std.proofs.Common.{◌≡◌, ◌≢◌, ℕ, ◌+◌, ◌-◌, ◌≤◌, true, false, Option, List, [], ◌∷◌, refl, ap, arith}
-use Rattle.std.specs.Prelude.{if◌then◌else◌, ◌||◌, ◌==◌, not, nat_lt, count_by}
-use Rattle.proof_machines.proofs.share.Lists.{cond-same}
-use Rattle.flow_filter.specs.declared.filter.Filter.{Filter}
-use Rattle.flow_filter.specs.declared.packet.Packet.{Packet}
-use Rattle.nf_function.specs.Semantics.{Semantics}
-use Rattle.packet_pool.specs.Pool.{one_more}
+use Rattle.nf_net.proofs.Words.{◌≡◌, ◌≢◌, ℕ, ◌+◌, ◌≤◌, true, false, Option, List, [], ◌∷◌, refl, ap, arith, if◌then◌else◌, ◌||◌, ◌==◌, not, nat_lt, cond-same}
+use Rattle.nf_net.proofs.Words.{Filter, Packet, Semantics, one_more, Target, Msg, Note, SwitchState, switch_step, sends_to_instance, target_of, has_room}
+use Rattle.nf_net.proofs.Words.{reaches, EachSent, weigh, sent_weight, times_installed, Each, Given, Label, is_target, IsQuiet, is_uninstalled}
+use Rattle.std.proofs.Common.{◌-◌}
+use Rattle.std.specs.Prelude.{count_by}
 use Rattle.event_filter.specs.declared.mark.Mark.TheVariants as mark
-use Rattle.switch_rules.specs.declared.target.Target.{Target}
 use Rattle.switch_rules.specs.declared.target.Target.TheVariants as target
-use Rattle.nf_msgs.specs.declared.msg.Msg.{Msg}
 use Rattle.nf_msgs.specs.declared.msg.Msg.TheVariants as msg
-use Rattle.nf_msgs.specs.declared.note.Note.{Note}
 use Rattle.switch_node.specs.Switch as switch
-use Rattle.switch_node.specs.Switch.{SwitchState, switch_step, sends_to_instance, goes_to, target_of, has_room}
-use Rattle.actor_net.specs.Network.{reaches}
-use Rattle.actor_net.proofs.WeightLaws.{EachSent, weigh, sent_weight}
-use Rattle.net_world.specs.Commands.{times_installed}
-use Rattle.proof_machines.proofs.unit.Labels.{Each}
+use Rattle.switch_node.specs.Switch.{goes_to}
 use Rattle.nf_net.proofs.answers.InstallCounts.{sent_of, install}
-use Rattle.proof_outlines.proofs.joined.Given.{Given}
-use Rattle.proof_outlines.proofs.joined.Joined.{Label, count, is_target}
+use Rattle.proof_outlines.proofs.joined.Joined.{count}
 use Rattle.proof_outlines.proofs.joined.OwnerLemmas as owners
-use Rattle.proof_outlines.proofs.joined.PlaceNotes.{IsQuiet, is_uninstalled}
 
 -- Other nodes send neither a change of the rules nor the finish, and none is sent to another node than the switch.
 module _ {R : Type 0} (f : Semantics R) (g : Given) (o : Option ℕ) where

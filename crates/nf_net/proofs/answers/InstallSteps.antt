@@ -1,22 +1,12 @@
 -- What the controller's step keeps of the changes of the switch's rules: it has sent one for each open move that passes packets on, for each
 -- that was done, and for each open share.
-use Rattle.std.proofs.Common.{◌≡◌, ℕ, ◌+◌, Bool, true, false, Option, Some, None, List, [], ◌∷◌, ◌++◌, refl, sym, ap, ◌∙◌, arith}
-use Rattle.std.specs.Prelude.{if◌then◌else◌, option_map}
-use Rattle.std.specs.Option.{option_or}
-use Rattle.nf_msgs.specs.declared.answer.Answer.{Answer}
-use Rattle.nf_msgs.specs.declared.answer.Answer.TheVariants.{Unknown, Overlap}
-use Rattle.nf_msgs.specs.declared.command.Order.{Order}
+use Rattle.nf_net.proofs.Words.{◌≡◌, ℕ, ◌+◌, Bool, true, false, Option, Some, None, List, [], ◌∷◌, ◌++◌, refl, sym, ap, ◌∙◌, arith, if◌then◌else◌, option_map}
+use Rattle.nf_net.proofs.Words.{option_or, Answer, Unknown, Overlap, Order, Msg, Phase, answer_of, Operation, Move, Share, answered}
 use Rattle.nf_msgs.specs.declared.command.Order.TheVariants as order
-use Rattle.nf_msgs.specs.declared.msg.Msg.{Msg}
 use Rattle.nf_msgs.specs.declared.msg.Msg.TheVariants as msg
-use Rattle.move_op.specs.Phases.{Phase}
 use Rattle.move_op.specs.Phases as phase
-use Rattle.move_op.specs.Move.{answer_of}
-use Rattle.ctrl_node.specs.declared.operation.Operation.{Operation}
-use Rattle.ctrl_node.specs.declared.operation.Operation.TheVariants.{Move, Share}
 use Rattle.nf_net.proofs.answers.InstallCounts.{sent_of, done_in, passed, NoInstall, no_more, no_one, no_both}
 use Rattle.nf_net.proofs.answers.ShareTells.{is_of_share, AreOfShare}
-use Rattle.proof_outlines.proofs.whole.ShareLeft.{answered}
 
 -- a command that moves units changes the rules where it is done
 abbrev pub is_moving : Option Order → Bool

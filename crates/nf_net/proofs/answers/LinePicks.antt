@@ -1,17 +1,8 @@
 -- What stands on the way to the controller, which is its link from the switch and the input after it: what is picked out of it, in order,
 -- as a step goes on.
-use Rattle.std.proofs.Common.{◌≡◌, ℕ, suc, ◌<◌, Bool, true, false, List, [], ◌∷◌, ◌++◌, drop, append_assoc, append-nil, refl, sym, ap, ◌∙◌, arith}
-use Rattle.std.specs.Prelude.{if◌then◌else◌, ◌&&◌, ◌==◌, not, nat_lt}
-use Rattle.std.proofs.lemmas.Bool.Decides.{nat_tests, Decides-ltb}
-use Rattle.std.proofs.Math.Bool.{and-false, and-true}
-use Rattle.nf_msgs.specs.declared.msg.Msg.{Msg}
-use Rattle.nf_msgs.specs.declared.note.Note.{Note}
-use Rattle.actor_net.specs.Network.{Network, Stepped, queue_at, world_next, reaches}
-use Rattle.actor_net.specs.Histories.{sent_for as core_sent}
-use Rattle.actor_net.proofs.EnabledChoices.{at}
-use Rattle.actor_net.proofs.LinkLemmas.{put_on_link}
-use Rattle.actor_net.proofs.WaitingMessages.{less_first}
-use Rattle.actor_net.proofs.StepOutcome.{Takes, taken_outcome}
+use Rattle.nf_net.proofs.Words.{◌≡◌, ℕ, suc, ◌<◌, Bool, true, false, List, [], ◌∷◌, ◌++◌, drop, append_assoc, append-nil, refl, sym, ap, ◌∙◌, arith}
+use Rattle.nf_net.proofs.Words.{if◌then◌else◌, ◌&&◌, ◌==◌, not, nat_lt, nat_tests, Decides-ltb, and-false, and-true, Msg, Note, Network, Stepped, queue_at}
+use Rattle.nf_net.proofs.Words.{world_next, reaches, core_sent, at, put_on_link, less_first, Takes, taken_outcome}
 
 put_none : {M : Type 0} (n k s r : ℕ) (sends : List (ℕ × M)) → (s == k) ≡ false → put_on_link n k s r sends ≡ []
 put_none n k s r sends off = ap (λ b. if b && reaches n k r then core_sent r sends else []) off

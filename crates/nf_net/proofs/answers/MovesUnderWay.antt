@@ -1,26 +1,10 @@
 -- In every run the open operations of the controller are the commands that keep others off, and what it knows of a move is what its order says.
-use Rattle.std.proofs.Common.{◌≡◌, ℕ, ◌+◌, true, false, Some, None, List, length, refl}
-use Rattle.std.specs.declared.alloc.Global.{Global}
+use Rattle.nf_net.proofs.Words.{◌≡◌, ℕ, ◌+◌, true, false, Some, None, List, length, refl, Global, FunctionLaws, Semantics, Msg, Note, MoveState, Move, Choice}
+use Rattle.nf_net.proofs.Words.{Network, IsRun, run, Config, Node, order_numbered, IsInput, is_busy, keeps_off, node_step, node_ready, started_with, given}
+use Rattle.nf_net.proofs.Words.{IsPlan, Joined}
 use Rattle.std.specs.FinMap as finite
-use Rattle.nf_function.specs.Records.{Laws as FunctionLaws}
-use Rattle.nf_function.specs.Semantics.{Semantics}
-use Rattle.nf_msgs.specs.declared.msg.Msg.{Msg}
-use Rattle.nf_msgs.specs.declared.note.Note.{Note}
-use Rattle.move_op.specs.Move.{MoveState}
-use Rattle.ctrl_node.specs.declared.operation.Operation.TheVariants.{Move}
-use Rattle.actor_net.specs.declared.choice.Choice.{Choice}
-use Rattle.actor_net.specs.Network.{Network, IsRun, run}
-use Rattle.net_world.specs.declared.config.Config.{Config}
-use Rattle.net_world.specs.declared.node.Node.{Node}
-use Rattle.net_world.specs.Input.{order_numbered, IsInput}
-use Rattle.net_world.specs.Commands.{is_busy, keeps_off}
-use Rattle.net_world.specs.Nodes.{node_step, node_ready}
-use Rattle.net_world.specs.Start.{started_with}
-use Rattle.proof_outlines.proofs.joined.StartJoined.{given}
 use Rattle.nf_net.proofs.answers.BusyRuns.{keeps_is, open_busy, closed_busy, plan_is}
 use Rattle.nf_net.proofs.answers.CommandPromises.{run_busy}
-use Rattle.proof_outlines.proofs.joined.Given.{IsPlan}
-use Rattle.proof_outlines.proofs.joined.Joined.{Joined}
 
 module _ {F R : Type 0} (f : Semantics R) (c : Config) (items : List Msg) (is : IsInput f.kind c items) where
   pub record AreUnderWay (n : ℕ) (w : Network (Node F R) Msg Note) (j : Joined f (given f c items is) n w) : Type 0 where

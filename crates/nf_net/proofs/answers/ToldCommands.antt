@@ -1,59 +1,27 @@
 -- No command is lost: each of the input waits still, or the log says that it began or was answered. So in a complete run each is answered.
-use Rattle.std.proofs.Common.{◌≡◌, ℕ, zero, suc, ◌+◌, ◌≤◌, Bool, true, false, Option, Some, None, List, [], ◌∷◌, ◌++◌, length, refl, sym, ap, ◌∙◌, subst, arith}
-use Rattle.std.specs.Prelude.{if◌then◌else◌, ◌&&◌, ◌||◌, ◌==◌, not, nat_lt, find, is_some, option_map}
-use Rattle.std.specs.List.{filter_map}
-use Rattle.std.specs.Option.{option_or}
-use Rattle.std.specs.declared.alloc.Global.{Global}
+use Rattle.nf_net.proofs.Words.{◌≡◌, ℕ, zero, suc, ◌+◌, ◌≤◌, Bool, true, false, Option, Some, None, List, [], ◌∷◌, ◌++◌, length, refl, sym, ap, ◌∙◌, subst}
+use Rattle.nf_net.proofs.Words.{arith, if◌then◌else◌, ◌&&◌, ◌||◌, ◌==◌, not, nat_lt, find, is_some, option_map, filter_map, option_or, Global, nat_tests}
+use Rattle.nf_net.proofs.Words.{Decides-eqb, Decides-ltb, and_parts, Filter, FunctionLaws, Semantics, Answer, Unknown, Overlap, Order, Msg, Note, Choice}
+use Rattle.nf_net.proofs.Words.{Network, Stepped, IsRun, is_done, reaches, run, world_next, done_weight, at, opening_weight, Taking, run_induction, run_world}
+use Rattle.nf_net.proofs.Words.{Takes, taken_outcome, weigh, total, sent_weight, total_after, Operation, Move, Copy, Share, ControllerState, refusal}
+use Rattle.nf_net.proofs.Words.{unknown_name, overlap, move_between, copy_between, share_begin, begin_step, decision_step, on_asked, controller_step, place_of}
+use Rattle.nf_net.proofs.Words.{SwitchState, switch_step, Config, Node, Controller, is_begun, has_answered, is_share, keeps_off, answers_of, IsInput, commands}
+use Rattle.nf_net.proofs.Words.{order_numbered, ends_last, node_step, node_ready, node_ended, first_nodes, started_with, answers_in, has_begun-append}
+use Rattle.nf_net.proofs.Words.{has_answered-append, is_whole, Given, Label, Joined, node_of, its_takes, its_label, Runs, runs_at_start, runs_next, start_world}
+use Rattle.nf_net.proofs.Words.{names_known, given, all_fit, count_at_start}
 use Rattle.std.specs.FinMap as finite
-use Rattle.std.proofs.lemmas.Bool.Decides.{nat_tests, Decides-eqb, Decides-ltb}
-use Rattle.std.proofs.lemmas.Bool.{and_parts}
-use Rattle.flow_filter.specs.declared.filter.Filter.{Filter}
-use Rattle.nf_function.specs.Records.{Laws as FunctionLaws}
-use Rattle.nf_function.specs.Semantics.{Semantics}
-use Rattle.nf_msgs.specs.declared.answer.Answer.{Answer}
-use Rattle.nf_msgs.specs.declared.answer.Answer.TheVariants.{Done, Unknown, Overlap}
-use Rattle.nf_msgs.specs.declared.command.Order.{Order}
+use Rattle.nf_msgs.specs.declared.answer.Answer.TheVariants.{Done}
 use Rattle.nf_msgs.specs.declared.command.Order.TheVariants as order
-use Rattle.nf_msgs.specs.declared.msg.Msg.{Msg}
 use Rattle.nf_msgs.specs.declared.msg.Msg.TheVariants as msg
-use Rattle.nf_msgs.specs.declared.note.Note.{Note}
-use Rattle.actor_net.specs.declared.choice.Choice.{Choice}
-use Rattle.actor_net.specs.Network.{Network, Stepped, IsRun, is_done, reaches, run, world_next}
-use Rattle.actor_net.proofs.CompleteWorlds.{done_weight}
-use Rattle.actor_net.proofs.EnabledChoices.{at}
-use Rattle.actor_net.proofs.OpeningWorlds.{opening_weight}
-use Rattle.actor_net.proofs.RunInduction.{Taking, run_induction, run_world}
-use Rattle.actor_net.proofs.StepOutcome.{Takes, taken_outcome}
-use Rattle.actor_net.proofs.WeightLaws.{weigh, total, sent_weight, total_after}
-use Rattle.ctrl_node.specs.declared.operation.Operation.{Operation}
-use Rattle.ctrl_node.specs.declared.operation.Operation.TheVariants.{Move, Copy, Share}
 use Rattle.ctrl_node.specs.Controller as controller
-use Rattle.ctrl_node.specs.Controller.{ControllerState, Step, still, refusal, unknown_name, overlap, move_between}
-use Rattle.ctrl_node.specs.Controller.{copy_between, share_begin, begin_step, decision_step, on_asked, controller_step}
-use Rattle.flow_filter.specs.Name.{place_of}
-use Rattle.switch_node.specs.Switch.{SwitchState, switch_step}
-use Rattle.net_world.specs.declared.config.Config.{Config}
-use Rattle.net_world.specs.declared.node.Node.{Node}
-use Rattle.net_world.specs.declared.node.Node.TheVariants.{Controller}
-use Rattle.net_world.specs.Commands.{is_begun, has_answered, is_share, keeps_off, answers_of}
-use Rattle.net_world.specs.Input.{IsInput, commands, order_numbered, ends_last}
-use Rattle.net_world.specs.Nodes.{node_step, node_ready, node_ended}
-use Rattle.net_world.specs.Start.{first_nodes, started_with}
-use Rattle.net_world.specs.Log.{answers_in}
-use Rattle.net_world.proofs.LogLemmas.{has_begun-append, has_answered-append}
+use Rattle.ctrl_node.specs.Controller.{Step, still}
 use Rattle.net_world.proofs.PickedLists.{some_kept}
-use Rattle.proof_outlines.proofs.outline.FiltersApart.{is_whole}
 use Rattle.nf_net.proofs.answers.BusyLemmas.{is_noted}
 use Rattle.nf_net.proofs.answers.BusyRuns.{Busy, same_controller, keeps_is, told_is, busy_next}
 use Rattle.nf_net.proofs.answers.CommandPromises.{start_busy, run_busy}
 use Rattle.nf_net.proofs.answers.EndRuns.{run_ends, all_settled}
 use Rattle.nf_net.proofs.answers.EndTables.{flag, IsSettled, flag_full}
-use Rattle.proof_outlines.proofs.joined.Given.{Given}
-use Rattle.proof_outlines.proofs.joined.Joined.{Label, Joined, count, node_of, is_built}
-use Rattle.proof_outlines.proofs.joined.BesideRuns.{its_takes, its_label}
-use Rattle.proof_outlines.proofs.joined.RunsJoined.{Runs, runs_at_start, runs_next, start_world}
-use Rattle.proof_outlines.proofs.joined.ShareBegins.{names_known}
-use Rattle.proof_outlines.proofs.joined.StartJoined.{given, all_fit, count_at_start}
+use Rattle.proof_outlines.proofs.joined.Joined.{count, is_built}
 
 -- a command of this number that waits
 abbrev pub told : ℕ → Msg → ℕ

@@ -1,37 +1,24 @@
 -- What each node's step does with the input's end, the finish and the stops: the end goes to the controller, which sends the finish once all is quiet, and
 -- the switch then stops the instances, each of which answers.
-use Rattle.std.proofs.Common.{◌≡◌, ◌⊎◌, inl, inr, ℕ, zero, suc, ◌+◌, ◌-◌, ◌<◌, ◌≤◌, Bool, true, false, Option, Some}
-use Rattle.std.proofs.Common.{None, List, [], ◌∷◌, ◌++◌, length, get_or, set, refl, sym, ap, ◌∙◌, subst, arith}
-use Rattle.std.specs.Prelude.{if◌then◌else◌, ◌&&◌, ◌||◌, ◌==◌, not, nat_lt, nat_le}
+use Rattle.nf_net.proofs.Words.{◌≡◌, ◌⊎◌, inl, inr, ℕ, zero, suc, ◌+◌, ◌<◌, ◌≤◌, Bool, true, false, Option, Some, None, List, [], ◌∷◌, ◌++◌, length, get_or}
+use Rattle.nf_net.proofs.Words.{refl, sym, ap, ◌∙◌, subst, arith, if◌then◌else◌, ◌&&◌, ◌||◌, ◌==◌, not, nat_lt, nat_le, nat_tests, Decides-eqb, length-set}
+use Rattle.nf_net.proofs.Words.{Packet, Semantics, one_more, Target, rules_redirected, Answer, Msg, instance_node, turn_of, lasts, are_quiet, ControllerState}
+use Rattle.nf_net.proofs.Words.{may_finish, controller_step, SwitchState, switch_step, stop_messages, reaches, sent_for, put_on_link, weigh, sent_weight}
+use Rattle.nf_net.proofs.Words.{row_fits, Given, Label}
+use Rattle.std.proofs.Common.{◌-◌}
+use Rattle.std.proofs.Common.{set}
 use Rattle.std.specs.FinMap as finite
-use Rattle.std.proofs.lemmas.Bool.Decides.{nat_tests, Decides-eqb}
-use Rattle.std.proofs.lemmas.List.{get_or-set_same, length-set}
-use Rattle.flow_filter.specs.declared.packet.Packet.{Packet}
-use Rattle.nf_function.specs.Semantics.{Semantics}
+use Rattle.std.proofs.lemmas.List.{get_or-set_same}
 use Rattle.event_filter.specs.declared.mark.Mark.TheVariants as mark
-use Rattle.packet_pool.specs.Pool.{one_more}
-use Rattle.switch_rules.specs.declared.target.Target.{Target}
 use Rattle.switch_rules.specs.declared.target.Target.TheVariants as target
-use Rattle.switch_rules.specs.Rules.{rules_redirected}
-use Rattle.nf_msgs.specs.declared.answer.Answer.{Answer}
-use Rattle.nf_msgs.specs.declared.msg.Msg.{Msg}
 use Rattle.nf_msgs.specs.declared.msg.Msg.TheVariants as msg
 use Rattle.nf_msgs.specs.declared.note.Note.TheVariants as note
-use Rattle.nf_msgs.specs.Nodes.{instance_node}
-use Rattle.ctrl_node.specs.Operations.{Turn, turn_of, lasts, are_quiet}
+use Rattle.ctrl_node.specs.Operations.{Turn}
 use Rattle.ctrl_node.specs.Controller as ctrl
-use Rattle.ctrl_node.specs.Controller.{ControllerState, Step, may_finish, controller_step}
+use Rattle.ctrl_node.specs.Controller.{Step}
 use Rattle.switch_node.specs.Switch as switches
-use Rattle.switch_node.specs.Switch.{SwitchState, switch_step, stop_messages}
-use Rattle.actor_net.specs.Network.{reaches}
-use Rattle.actor_net.specs.Histories.{sent_for}
-use Rattle.actor_net.proofs.LinkLemmas.{put_on_link}
-use Rattle.actor_net.proofs.WeightLaws.{weigh, sent_weight}
 use Rattle.nf_net.proofs.answers.CreditCounts.{sent_weight-append}
 use Rattle.nf_net.proofs.answers.InstallCounts.{finish}
-use Rattle.proof_outlines.proofs.outline.ControllerWays.{row_fits}
-use Rattle.proof_outlines.proofs.joined.Given.{Given}
-use Rattle.proof_outlines.proofs.joined.Joined.{Label}
 
 -- the input's end, on its way; a stop; its answer
 abbrev pub ending : Msg → ℕ

@@ -1,45 +1,19 @@
 -- In every run the input's end goes round: from the input to the controller, from there as the finish to the switch, from there as stops to the instances, and
 -- back as their answers. So where no message is on a link, and nothing is in the input, all nodes have ended, if all is quiet at the controller.
-use Rattle.std.proofs.Common.{◌≡◌, ◌≢◌, inl, inr, ℕ, zero, suc, ◌+◌, ◌<◌, ◌≤◌, Bool, true, false, None, List}
-use Rattle.std.proofs.Common.{[], ◌∷◌, length, length-append, get_or, refl, sym, ap, ◌∙◌, subst, arith}
-use Rattle.std.specs.Prelude.{if◌then◌else◌, ◌&&◌, ◌==◌}
-use Rattle.std.specs.declared.alloc.Global.{Global}
-use Rattle.std.proofs.lemmas.Bool.Decides.{nat_tests, Decides-eqb}
-use Rattle.std.proofs.lemmas.List.{length-map}
-use Rattle.proof_machines.proofs.unit.Labels.{Each, each-append}
-use Rattle.nf_function.specs.Records.{Fits, Laws as FunctionLaws}
-use Rattle.nf_function.specs.Semantics.{Semantics}
-use Rattle.nf_msgs.specs.declared.msg.Msg.{Msg}
+use Rattle.nf_net.proofs.Words.{◌≡◌, ◌≢◌, inl, inr, ℕ, zero, suc, ◌+◌, ◌<◌, ◌≤◌, Bool, true, false, None, List, [], ◌∷◌, length, length-append, get_or, refl}
+use Rattle.nf_net.proofs.Words.{sym, ap, ◌∙◌, subst, arith, if◌then◌else◌, ◌&&◌, ◌==◌, Global, nat_tests, Decides-eqb, length-map, Each, each-append, Fits}
+use Rattle.nf_net.proofs.Words.{FunctionLaws, Semantics, Msg, Note, instance_node, ControllerState, may_finish, controller_step, opened_controller, SwitchState}
+use Rattle.nf_net.proofs.Words.{switch_step, InstanceState, instance_step, Choice, Network, Stepped, IsRun, reaches, run, world_next, queue_at, at, put_on_link}
+use Rattle.nf_net.proofs.Words.{opening_weight, Taking, run_induction, Takes, taken_outcome, weigh, total, total_after, Config, Node, Switch, Controller}
+use Rattle.nf_net.proofs.Words.{IsInput, node_step, node_ready, node_ended, first_nodes, first_switch, first_instance, first_instances, started_with, Given}
+use Rattle.nf_net.proofs.Words.{Label, Joined, node_of, its_takes, its_label, Runs, runs_at_start, runs_next, start_world, given, all_fit, count_at_start}
 use Rattle.nf_msgs.specs.declared.msg.Msg.TheVariants as msg
-use Rattle.nf_msgs.specs.declared.note.Note.{Note}
-use Rattle.nf_msgs.specs.Nodes.{instance_node}
-use Rattle.ctrl_node.specs.Controller.{ControllerState, may_finish, controller_step, controller_at_start as opened_controller}
-use Rattle.switch_node.specs.Switch.{SwitchState, switch_step}
-use Rattle.instance_worker.specs.declared.instance.Instance.{Instance as InstanceState}
-use Rattle.instance_worker.specs.Instance.{instance_step}
-use Rattle.actor_net.specs.declared.choice.Choice.{Choice}
-use Rattle.actor_net.specs.Network.{Network, Stepped, IsRun, reaches, run, world_next, queue_at}
-use Rattle.actor_net.proofs.EnabledChoices.{at}
-use Rattle.actor_net.proofs.LinkLemmas.{put_on_link}
-use Rattle.actor_net.proofs.OpeningWorlds.{opening_weight}
-use Rattle.actor_net.proofs.RunInduction.{Taking, run_induction}
-use Rattle.actor_net.proofs.StepOutcome.{Takes, taken_outcome}
-use Rattle.actor_net.proofs.WeightLaws.{weigh, total, total_after}
-use Rattle.net_world.specs.declared.config.Config.{Config}
-use Rattle.net_world.specs.declared.node.Node.{Node}
-use Rattle.net_world.specs.declared.node.Node.TheVariants.{Switch, Controller, Instance}
-use Rattle.net_world.specs.Input.{IsInput}
-use Rattle.net_world.specs.Nodes.{node_step, node_ready, node_ended}
-use Rattle.net_world.specs.Start.{first_nodes, first_switch, first_instance, first_instances, started_with}
+use Rattle.net_world.specs.declared.node.Node.TheVariants.{Instance}
 use Rattle.nf_net.proofs.answers.BusyRuns.{same_controller}
 use Rattle.nf_net.proofs.answers.EndTables.{flag}
 use Rattle.nf_net.proofs.answers.InstallCounts.{finish}
 use Rattle.nf_net.proofs.answers.InstallNotes.{no_install_to}
-use Rattle.proof_outlines.proofs.joined.Given.{Given}
-use Rattle.proof_outlines.proofs.joined.Joined.{Label, Joined, count, node_of}
-use Rattle.proof_outlines.proofs.joined.BesideRuns.{its_takes, its_label}
-use Rattle.proof_outlines.proofs.joined.RunsJoined.{Runs, runs_at_start, runs_next, start_world}
-use Rattle.proof_outlines.proofs.joined.StartJoined.{given, all_fit, count_at_start}
+use Rattle.proof_outlines.proofs.joined.Joined.{count}
 use Rattle.net_world.specs.Length.{ends}
 use Rattle.nf_net.proofs.ends.LinkWeights.{cell}
 use Rattle.nf_net.proofs.ends.TallySteps.{over_by, StepLeaves}

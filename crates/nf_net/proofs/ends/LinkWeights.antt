@@ -1,15 +1,10 @@
 -- What the messages on all links weigh together, where a message weighs by the link that it stands on; and what a step changes of it. Generic
 -- in the actor.
-use Rattle.std.proofs.Common.{◌≡◌, ℕ, zero, suc, ◌+◌, ◌<◌, ◌≤◌, true, false, List, [], ◌∷◌, ◌++◌, refl, ap, subst, ◌∙◌, arith}
-use Rattle.std.specs.Prelude.{if◌then◌else◌, ◌==◌, ◌&&◌}
-use Rattle.std.proofs.lemmas.Bool.Decides.{nat_tests, Decides-eqb}
-use Rattle.actor_net.specs.Network.{Network, Stepped, queue_at, world_next, reaches}
-use Rattle.actor_net.specs.Histories.{sent_for}
-use Rattle.actor_net.proofs.EnabledChoices.{at}
-use Rattle.actor_net.proofs.LinkLemmas.{put_on_link, within}
-use Rattle.actor_net.proofs.WaitingMessages.{less_first}
-use Rattle.actor_net.proofs.StepOutcome.{Takes, taken_outcome}
-use Rattle.actor_net.proofs.WeightLaws.{weigh, weigh-append, weigh_same}
+use Rattle.nf_net.proofs.Words.{◌≡◌, ℕ, zero, suc, ◌+◌, ◌<◌, ◌≤◌, true, false, List, [], ◌∷◌, ◌++◌, refl, ap, subst, ◌∙◌, arith, if◌then◌else◌, ◌==◌, ◌&&◌}
+use Rattle.nf_net.proofs.Words.{nat_tests, Decides-eqb, Network, Stepped, queue_at, world_next, reaches, sent_for, at, put_on_link, less_first, Takes}
+use Rattle.nf_net.proofs.Words.{taken_outcome, weigh, weigh-append}
+use Rattle.actor_net.proofs.LinkLemmas.{within}
+use Rattle.actor_net.proofs.WeightLaws.{weigh_same}
 
 -- a sum over the numbers below one
 abbrev pub upto : (ℕ → ℕ) → ℕ → ℕ

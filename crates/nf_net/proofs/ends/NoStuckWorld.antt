@@ -1,39 +1,18 @@
 -- A world of a run in which no choice is enabled is complete, where the input has an end: each phase that waits has a message on a link, and what the switch
 -- waits for is under way.
-use Rattle.std.proofs.Common.{◌≡◌, inl, inr, ℕ, ◌+◌, ◌≤◌, true, false, Some, List, [], length, refl, sym, ap, ◌∙◌, subst, arith}
-use Rattle.std.specs.Prelude.{◌&&◌, ◌==◌, slice_get}
-use Rattle.std.specs.declared.alloc.Global.{Global}
-use Rattle.std.proofs.lemmas.Bool.Decides.{Decides-eqb, Decides-ltb}
-use Rattle.std.proofs.lemmas.Option.{slice_get-get_or}
-use Rattle.nf_function.specs.Records.{Laws as FunctionLaws}
-use Rattle.nf_function.specs.Semantics.{Semantics}
-use Rattle.nf_msgs.specs.declared.msg.Msg.{Msg}
+use Rattle.nf_net.proofs.Words.{◌≡◌, inl, inr, ℕ, ◌+◌, ◌≤◌, true, false, Some, List, [], length, refl, sym, ap, ◌∙◌, subst, arith, ◌&&◌, ◌==◌, slice_get}
+use Rattle.nf_net.proofs.Words.{Global, Decides-eqb, Decides-ltb, slice_get-get_or, FunctionLaws, Semantics, Msg, Note, MOST_WAITING, SwitchState, takes_in}
+use Rattle.nf_net.proofs.Words.{Choice, MOST_CHOICES, Network, IsWorld, IsRun, is_done, run, queue_at, StopsShort, at, run_world, Config, Node, Switch, IsInput}
+use Rattle.nf_net.proofs.Words.{node_step, node_ready, node_ended, started_with, Joined, start_world, given, count_at_start, IsShort}
 use Rattle.nf_msgs.specs.declared.msg.Msg.TheVariants as msg
-use Rattle.nf_msgs.specs.declared.note.Note.{Note}
-use Rattle.switch_node.specs.declared.switch.TheConstants.{MOST_WAITING}
-use Rattle.switch_node.specs.Switch.{SwitchState, takes_in}
-use Rattle.actor_net.specs.declared.choice.Choice.{Choice}
-use Rattle.actor_net.specs.declared.schedule.TheConstants.{MOST_CHOICES}
-use Rattle.actor_net.specs.Network.{Network, IsWorld, IsRun, is_done, run, queue_at}
-use Rattle.actor_net.specs.Schedules.{enabled_choices, StopsShort}
+use Rattle.actor_net.specs.Schedules.{enabled_choices}
 use Rattle.actor_net.proofs.DisabledChoices.{IsUnready, stuck_links, stuck_input}
-use Rattle.actor_net.proofs.EnabledChoices.{at}
-use Rattle.actor_net.proofs.RunInduction.{run_world}
-use Rattle.net_world.specs.declared.config.Config.{Config}
-use Rattle.net_world.specs.declared.node.Node.{Node}
-use Rattle.net_world.specs.declared.node.Node.TheVariants.{Switch}
-use Rattle.net_world.specs.Input.{IsInput}
-use Rattle.net_world.specs.Nodes.{node_step, node_ready, node_ended}
-use Rattle.net_world.specs.Start.{started_with}
-use Rattle.proof_outlines.proofs.joined.Joined.{Joined}
-use Rattle.proof_outlines.proofs.joined.RunsJoined.{start_world}
-use Rattle.proof_outlines.proofs.joined.StartJoined.{given, count_at_start}
 use Rattle.nf_net.proofs.answers.ArrivalLemmas.{runs_joined}
 use Rattle.nf_net.proofs.answers.CommandPromises.{run_busy}
 use Rattle.nf_net.proofs.answers.ToldCommands.{run_told}
 use Rattle.nf_net.proofs.SettleKeeps.{run_settles}
 use Rattle.nf_net.proofs.WindowRuns.{in_window}
-use Rattle.net_world.specs.Length.{ends, IsShort}
+use Rattle.net_world.specs.Length.{ends}
 use Rattle.nf_net.proofs.length.ShortRuns.{short_runs}
 use Rattle.net_world.proofs.SilentLinks.{all_done}
 use Rattle.nf_net.proofs.ends.TokenRuns.{run_enough}

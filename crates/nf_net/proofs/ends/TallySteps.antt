@@ -1,31 +1,22 @@
 -- Tallies on their way, and those that instances hold, are such: so what an instance is to merge can be read. And an instance ends where it is told to
 -- stop, and not otherwise.
-use Rattle.std.proofs.Common.{◌≡◌, ℕ, zero, suc, ◌^◌, ◌<◌, Bool, true, false, Option, Some, None, Ok, List}
-use Rattle.std.proofs.Common.{[], ◌∷◌, ◌++◌, map, length, slice_index, refl, sym, ap, ◌∙◌, subst, arith}
-use Rattle.std.specs.Prelude.{if◌then◌else◌, ◌||◌, slice_set}
-use Rattle.std.proofs.lemmas.List.{length-set}
-use Rattle.nf_function.specs.declared.chunk.Chunk.{Chunk}
+use Rattle.nf_net.proofs.Words.{◌≡◌, ℕ, zero, suc, ◌^◌, ◌<◌, Bool, true, false, Option, Some, None, Ok, List, [], ◌∷◌, ◌++◌, map, length, refl, sym, ap, ◌∙◌}
+use Rattle.nf_net.proofs.Words.{subst, arith, if◌then◌else◌, ◌||◌, slice_set, length-set, Chunk, Semantics, unit_at, IsTally, tally_read, Mark, FullCell, Piece}
+use Rattle.nf_net.proofs.Words.{Msg, Note, pieces, to_controller, chunk_told, share_message, tell_step, tells_and_notes, and_then, selected_chunks}
+use Rattle.nf_net.proofs.Words.{instance_step, Each, each-append, instance_fits}
+use Rattle.std.proofs.Common.{slice_index}
 use Rattle.nf_function.specs.declared.unit.Unit as units
-use Rattle.nf_function.specs.Semantics.{Semantics, count, unit_at}
+use Rattle.nf_function.specs.Semantics.{count}
 use Rattle.nf_function.specs.Tally.{with_packet_counted, merged}
 use Rattle.nf_function.proofs.MergeLemmas.{merge_laws}
-use Rattle.state_chunk.specs.Format.{IsTally, tally_bytes}
-use Rattle.state_chunk.specs.Reading.{tally_read}
+use Rattle.state_chunk.specs.Format.{tally_bytes}
 use Rattle.state_chunk.proofs.TallyLemmas.{tally_read-tally_bytes}
-use Rattle.event_filter.specs.declared.mark.Mark.{Mark}
 use Rattle.event_filter.specs.declared.mark.Mark.TheVariants as mark
 use Rattle.event_filter.specs.Rules as rules
-use Rattle.packet_pool.specs.Pool.{FullCell}
-use Rattle.nf_msgs.specs.declared.msg.Piece.{Piece}
-use Rattle.nf_msgs.specs.declared.msg.Msg.{Msg}
 use Rattle.nf_msgs.specs.declared.msg.Msg.TheVariants as msg
-use Rattle.nf_msgs.specs.declared.note.Note.{Note}
 use Rattle.instance_worker.specs.declared.instance.Instance.{Instance}
-use Rattle.instance_worker.specs.Pieces.{pieces}
-use Rattle.instance_worker.specs.Instance.{Step, to_controller, chunk_told, share_message, still, tell_step, tells_and_notes, and_then, selected_chunks}
-use Rattle.instance_worker.specs.Instance.{process_step, instance_step}
-use Rattle.proof_machines.proofs.unit.Labels.{Each, each-append}
-use Rattle.proof_outlines.proofs.outline.InstanceWays.{instance_fits}
+use Rattle.instance_worker.specs.Instance.{Step, still}
+use Rattle.instance_worker.specs.Instance.{process_step}
 
 -- one count changed
 set_low : (slots : List ℕ) (i v : ℕ) → v < 2 ^ 64 → ((j : ℕ) → slice_index slots j < 2 ^ 64) → (j : ℕ) → slice_index (slice_set slots i v) j < 2 ^ 64

@@ -1,38 +1,24 @@
 -- The switch and the instances lose no message that an operation waits for: each goes on, as another one of its leg.
-use Rattle.std.proofs.Common.{◌≡◌, ℕ, suc, ◌+◌, ◌<◌, inl, inr, Bool, true, false, cond, Option}
-use Rattle.std.proofs.Common.{Some, None, List, [], ◌∷◌, ◌++◌, refl, sym, ap, ◌∙◌, subst, arith}
-use Rattle.std.specs.Prelude.{if◌then◌else◌, ◌&&◌, nat_lt, is_some, option_map, Ok}
+use Rattle.nf_net.proofs.Words.{◌≡◌, ℕ, suc, ◌+◌, ◌<◌, inl, inr, Bool, true, false, cond, Option, Some, None, List, [], ◌∷◌, ◌++◌, refl, sym, ap, ◌∙◌, subst}
+use Rattle.nf_net.proofs.Words.{arith, if◌then◌else◌, ◌&&◌, nat_lt, is_some, option_map, nat_tests, Decides-ltb, Packet, Site, Chunk, units_total, Fits}
+use Rattle.nf_net.proofs.Words.{FunctionLaws, Semantics, kept_after, unit_at, record_chunk, tally_read, Records, after_packet, same_unit_equiv, FullCell}
+use Rattle.nf_net.proofs.Words.{rules_redirected, Msg, instance_node, reaches, to_controller, chunk_told, tells_and_notes, where_good, with_standby}
+use Rattle.nf_net.proofs.Words.{with_records, keep_note, instance_step, tally_put, SwitchState, switch_step, sends_to_instance, on_install, Given}
+use Rattle.nf_net.proofs.Words.{AreGoodChunks, Label, chunks_good}
+use Rattle.std.specs.Prelude.{Ok}
 use Rattle.std.specs.FinMap as finite
-use Rattle.std.proofs.lemmas.Bool.Decides.{nat_tests, Decides-ltb}
-use Rattle.flow_filter.specs.declared.packet.Packet.{Packet}
-use Rattle.flow_filter.specs.declared.site.Site.{Site}
-use Rattle.nf_function.specs.declared.chunk.Chunk.{Chunk}
 use Rattle.nf_function.specs.declared.unit.Unit as units
-use Rattle.nf_function.specs.UnitOrder.{units_total}
-use Rattle.nf_function.specs.Records.{Fits, Laws as FunctionLaws}
-use Rattle.nf_function.specs.Semantics.{Semantics, kept_after, unit_at}
-use Rattle.state_chunk.specs.Format.{record_chunk}
-use Rattle.state_chunk.specs.Reading.{tally_read}
-use Rattle.record_table.specs.Table.{Records, with_kept, after_packet}
-use Rattle.record_table.proofs.UnitOrder.{same_unit_equiv}
+use Rattle.record_table.specs.Table.{with_kept}
 use Rattle.event_filter.specs.declared.mark.Mark.TheVariants as mark
 use Rattle.event_filter.specs.Rules as rules
-use Rattle.packet_pool.specs.Pool.{FullCell}
 use Rattle.switch_rules.specs.declared.target.Target.TheVariants as target
-use Rattle.switch_rules.specs.Rules.{rules_redirected}
-use Rattle.nf_msgs.specs.declared.msg.Msg.{Msg}
 use Rattle.nf_msgs.specs.declared.msg.Msg.TheVariants as msg
 use Rattle.nf_msgs.specs.declared.note.Note.TheVariants as note
-use Rattle.nf_msgs.specs.Nodes.{instance_node}
-use Rattle.actor_net.specs.Network.{reaches}
 use Rattle.instance_worker.specs.declared.instance.Instance.{Instance}
-use Rattle.instance_worker.specs.Instance.{Step, to_controller, chunk_told, still, tells_and_notes, all_processed, where_good, with_standby, with_records}
-use Rattle.instance_worker.specs.Instance.{keep_note, instance_step, on_carry, on_fence, on_get, on_standby, on_sync, on_put_all, process_step, tally_put}
+use Rattle.instance_worker.specs.Instance.{Step, still, all_processed}
+use Rattle.instance_worker.specs.Instance.{on_carry, on_fence, on_get, on_standby, on_sync, on_put_all, process_step}
 use Rattle.switch_node.specs.Switch as switches
-use Rattle.switch_node.specs.Switch.{SwitchState, switch_step, sends_to_instance, on_install}
-use Rattle.proof_outlines.proofs.joined.Given.{Given}
-use Rattle.proof_outlines.proofs.joined.Joined.{AreGoodChunks, Label, count}
-use Rattle.proof_outlines.proofs.joined.InstanceKeeps.{chunks_good}
+use Rattle.proof_outlines.proofs.joined.Joined.{count}
 use Rattle.nf_net.proofs.ends.Tokens.{Serves, Fences, Token, token, token_of, at_instance, at_member, Goes, Passes}
 
 -- what a packet leaves of its unit

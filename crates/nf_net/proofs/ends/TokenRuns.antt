@@ -1,53 +1,23 @@
 -- In every run each open copy and share has on the links what it waits for: so where no message is on a link no copy is open, and each share is idle.
-use Rattle.std.proofs.Common.{◌≡◌, ◌≢◌, ℕ, zero, suc, ◌+◌, ◌<◌, ◌≤◌, true, false, Option, Some, None, List, []}
-use Rattle.std.proofs.Common.{◌∷◌, length, get_or, replicate, slice_index, refl, sym, ap, ◌∙◌, subst, arith}
-use Rattle.std.specs.Prelude.{◌&&◌, ◌==◌, nat_lt}
-use Rattle.std.specs.declared.alloc.Global.{Global}
-use Rattle.std.specs.Ordering.{nat_cmp}
+use Rattle.nf_net.proofs.Words.{◌≡◌, ◌≢◌, ℕ, zero, suc, ◌+◌, ◌<◌, ◌≤◌, true, false, Option, Some, None, List, [], ◌∷◌, length, get_or, refl, sym, ap, ◌∙◌}
+use Rattle.nf_net.proofs.Words.{subst, arith, ◌&&◌, ◌==◌, nat_lt, Global, nat_cmp, nat_tests, Decides-ltb, Chunk, Fits, FunctionLaws, Semantics, IsTally, Msg}
+use Rattle.nf_net.proofs.Words.{Note, instance_node, CopyPhase, SharePhase, Operation, Move, Copy, Share, ControllerState, controller_step, opened_controller}
+use Rattle.nf_net.proofs.Words.{switch_step, instance_step, Choice, Network, Stepped, IsRun, reaches, run, world_next, queue_at, at, opening_on_links, Taking}
+use Rattle.nf_net.proofs.Words.{run_induction, Takes, taken_outcome, OnLinks, EachSent, on_links_after, Each, each-append, each_map, Config, Node, Controller}
+use Rattle.nf_net.proofs.Words.{IsInput, node_step, node_ready, first_instance, first_instances, first_nodes, started_with, is_uncopied, TurnSo, Given, Label}
+use Rattle.nf_net.proofs.Words.{Joined, node_of, its_takes, its_label, Runs, runs_at_start, runs_next, start_world, given, all_fit, count_at_start}
+use Rattle.std.proofs.Common.{replicate, slice_index}
 use Rattle.std.specs.FinMap as finite
 use Rattle.std.proofs.lemmas.List.{length-replicate}
-use Rattle.std.proofs.lemmas.Bool.Decides.{nat_tests, Decides-ltb}
-use Rattle.nf_function.specs.declared.chunk.Chunk.{Chunk}
-use Rattle.nf_function.specs.Records.{Fits, Laws as FunctionLaws}
-use Rattle.nf_function.specs.Semantics.{Semantics}
-use Rattle.state_chunk.specs.Format.{IsTally}
-use Rattle.nf_msgs.specs.declared.msg.Msg.{Msg}
 use Rattle.nf_msgs.specs.declared.msg.Msg.TheVariants as msg
-use Rattle.nf_msgs.specs.declared.note.Note.{Note}
-use Rattle.nf_msgs.specs.Nodes.{instance_node}
-use Rattle.copy_share.specs.declared.copy_phase.CopyPhase.{CopyPhase}
 use Rattle.copy_share.specs.declared.copy_phase.CopyPhase.TheVariants as copies
-use Rattle.copy_share.specs.declared.share_phase.SharePhase.{SharePhase}
 use Rattle.copy_share.specs.declared.share_phase.SharePhase.TheVariants as shares
 use Rattle.copy_share.specs.Copy as copy
-use Rattle.ctrl_node.specs.declared.operation.Operation.{Operation}
-use Rattle.ctrl_node.specs.declared.operation.Operation.TheVariants.{Move, Copy, Share}
-use Rattle.ctrl_node.specs.Controller.{ControllerState, controller_step, controller_at_start as opened_controller}
-use Rattle.switch_node.specs.Switch.{switch_step}
-use Rattle.instance_worker.specs.Instance.{instance_step}
-use Rattle.actor_net.specs.declared.choice.Choice.{Choice}
-use Rattle.actor_net.specs.Network.{Network, Stepped, IsRun, reaches, run, world_next, queue_at}
-use Rattle.actor_net.proofs.EnabledChoices.{at}
-use Rattle.actor_net.proofs.OpeningWorlds.{opening_on_links}
-use Rattle.actor_net.proofs.RunInduction.{Taking, run_induction}
-use Rattle.actor_net.proofs.StepOutcome.{Takes, taken_outcome}
-use Rattle.actor_net.proofs.WeightLaws.{OnLinks, EachSent, on_links_after}
 use Rattle.actor_net.proofs.WeightLaws as weights
-use Rattle.proof_machines.proofs.unit.Labels.{Each, each-append, each_map}
-use Rattle.net_world.specs.declared.config.Config.{Config}
-use Rattle.net_world.specs.declared.node.Node.{Node}
-use Rattle.net_world.specs.declared.node.Node.TheVariants.{Controller, Instance}
-use Rattle.net_world.specs.Input.{IsInput}
-use Rattle.net_world.specs.Nodes.{node_step, node_ready}
-use Rattle.net_world.specs.Start.{first_instance, first_instances, first_nodes, started_with}
+use Rattle.net_world.specs.declared.node.Node.TheVariants.{Instance}
 use Rattle.nf_net.proofs.answers.BusyRuns.{same_controller}
-use Rattle.proof_outlines.proofs.joined.CopyAnswers.{is_uncopied}
-use Rattle.proof_outlines.proofs.joined.CopySends.{TurnSo, BeginSo, controller_sent}
-use Rattle.proof_outlines.proofs.joined.Given.{Given}
-use Rattle.proof_outlines.proofs.joined.Joined.{Label, Joined, count, node_of}
-use Rattle.proof_outlines.proofs.joined.BesideRuns.{its_takes, its_label}
-use Rattle.proof_outlines.proofs.joined.RunsJoined.{Runs, runs_at_start, runs_next, start_world}
-use Rattle.proof_outlines.proofs.joined.StartJoined.{given, all_fit, count_at_start}
+use Rattle.proof_outlines.proofs.joined.CopySends.{BeginSo, controller_sent}
+use Rattle.proof_outlines.proofs.joined.Joined.{count}
 use Rattle.nf_net.proofs.answers.EndTables.{flag}
 use Rattle.nf_net.proofs.ends.LinkWeights.{sends_weigh, at_links, at_links_same, at_links_none, at_links_after, taken_least}
 use Rattle.nf_net.proofs.ends.Tokens.{Token, token_of, awaits, counts, weight, some_left, copy_wants, share_wants, wanted, passes_weigh}

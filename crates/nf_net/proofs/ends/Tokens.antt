@@ -1,23 +1,13 @@
 -- What an open copy or share waits for: messages of its number on their way, between nodes that its phase names. Each goes on as another one of the same
 -- leg, until the controller takes it.
-use Rattle.std.proofs.Common.{◌≡◌, ℕ, zero, suc, ◌+◌, ◌≤◌, ◌⊎◌, inl, inr, Bool, true, false, Option, Some, None, List, ◌∷◌, ◌++◌, refl, ap, arith}
-use Rattle.std.specs.Prelude.{if◌then◌else◌, ◌&&◌, ◌==◌}
-use Rattle.event_filter.specs.declared.mark.Mark.{Mark}
+use Rattle.nf_net.proofs.Words.{◌≡◌, ℕ, zero, suc, ◌+◌, ◌≤◌, ◌⊎◌, inl, inr, Bool, true, false, Option, Some, None, List, ◌∷◌, ◌++◌, refl, ap, arith}
+use Rattle.nf_net.proofs.Words.{if◌then◌else◌, ◌&&◌, ◌==◌, Mark, Target, Msg, instance_node, CopyPhase, SharePhase, CopyPlan, SharePlan, home, Operation, Copy}
+use Rattle.nf_net.proofs.Words.{Share, reaches}
 use Rattle.event_filter.specs.declared.mark.Mark.TheVariants as mark
-use Rattle.switch_rules.specs.declared.target.Target.{Target}
 use Rattle.switch_rules.specs.declared.target.Target.TheVariants as target
-use Rattle.nf_msgs.specs.declared.msg.Msg.{Msg}
 use Rattle.nf_msgs.specs.declared.msg.Msg.TheVariants as msg
-use Rattle.nf_msgs.specs.Nodes.{instance_node}
-use Rattle.copy_share.specs.declared.copy_phase.CopyPhase.{CopyPhase}
 use Rattle.copy_share.specs.declared.copy_phase.CopyPhase.TheVariants as copies
-use Rattle.copy_share.specs.declared.share_phase.SharePhase.{SharePhase}
 use Rattle.copy_share.specs.declared.share_phase.SharePhase.TheVariants as shares
-use Rattle.copy_share.specs.Copy.{CopyPlan}
-use Rattle.copy_share.specs.Share.{SharePlan, home}
-use Rattle.ctrl_node.specs.declared.operation.Operation.{Operation}
-use Rattle.ctrl_node.specs.declared.operation.Operation.TheVariants.{Copy, Share}
-use Rattle.actor_net.specs.Network.{reaches}
 use Rattle.nf_net.proofs.answers.EndTables.{flag}
 use Rattle.nf_net.proofs.ends.LinkWeights.{sends_weigh, sends_weigh-append}
 

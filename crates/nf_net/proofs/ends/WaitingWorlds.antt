@@ -1,30 +1,11 @@
 -- Where no message is on a link no command waits for its answer at the switch: each that was taken is answered.
-use Rattle.std.proofs.Common.{◌≡◌, ℕ, suc, ◌+◌, ◌<◌, ◌≤◌, true, false, Option, Some, None, List, []}
-use Rattle.std.proofs.Common.{◌∷◌, ◌++◌, map, length, length-append, refl, sym, ap, ◌∙◌, subst, arith}
-use Rattle.std.specs.Prelude.{if◌then◌else◌, ◌&&◌, ◌==◌, is_some}
+use Rattle.nf_net.proofs.Words.{◌≡◌, ℕ, suc, ◌+◌, ◌<◌, ◌≤◌, true, false, Option, Some, None, List, [], ◌∷◌, ◌++◌, map, length, length-append, refl, sym, ap}
+use Rattle.nf_net.proofs.Words.{◌∙◌, subst, arith, if◌then◌else◌, ◌&&◌, ◌==◌, is_some, nat_tests, Semantics, Command, Msg, Note, Operation, Share, Network}
+use Rattle.nf_net.proofs.Words.{IsWorld, queue_at, at, weigh, weigh-append, total, Each, each_map, Config, Node, Switch, is_begun, has_answered, is_share}
+use Rattle.nf_net.proofs.Words.{keeps_off, answers_of, IsInput, IsRising, is_item, commands, all_each, Given, Label, Joined, given, silent_total}
 use Rattle.std.specs.FinMap as finite
-use Rattle.std.proofs.lemmas.Bool.Decides.{nat_tests}
-use Rattle.nf_function.specs.Semantics.{Semantics}
-use Rattle.nf_msgs.specs.declared.command.Command.{Command}
-use Rattle.nf_msgs.specs.declared.msg.Msg.{Msg}
 use Rattle.nf_msgs.specs.declared.msg.Msg.TheVariants as msg
-use Rattle.nf_msgs.specs.declared.note.Note.{Note}
-use Rattle.ctrl_node.specs.declared.operation.Operation.{Operation}
-use Rattle.ctrl_node.specs.declared.operation.Operation.TheVariants.{Share}
-use Rattle.actor_net.specs.Network.{Network, IsWorld, queue_at}
-use Rattle.actor_net.proofs.EnabledChoices.{at}
-use Rattle.actor_net.proofs.WeightLaws.{weigh, weigh-append, total}
-use Rattle.proof_machines.proofs.unit.Labels.{Each, each_map}
-use Rattle.net_world.specs.declared.config.Config.{Config}
-use Rattle.net_world.specs.declared.node.Node.{Node}
-use Rattle.net_world.specs.declared.node.Node.TheVariants.{Switch}
-use Rattle.net_world.specs.Commands.{is_begun, has_answered, is_share, keeps_off, answers_of}
-use Rattle.net_world.specs.Input.{IsInput, IsRising, is_item, commands}
 use Rattle.net_world.specs.Log as log
-use Rattle.proof_outlines.proofs.outline.StateOutline.{all_each}
-use Rattle.proof_outlines.proofs.joined.Given.{Given}
-use Rattle.proof_outlines.proofs.joined.Joined.{Label, Joined}
-use Rattle.proof_outlines.proofs.joined.StartJoined.{given}
 use Rattle.nf_net.proofs.answers.AnswerSends.{answering}
 use Rattle.nf_net.proofs.answers.BusyLemmas.{is_noted}
 use Rattle.nf_net.proofs.answers.BusyRuns.{Busy, keeps_is, told_is}
@@ -32,7 +13,6 @@ use Rattle.nf_net.proofs.answers.EndTables.{flag}
 use Rattle.nf_net.proofs.answers.ToldCommands.{told, Told, closed_answered}
 use Rattle.nf_net.proofs.SettleCounts.{answered_in, AllAnswered, answered_in-append, commands-append}
 use Rattle.nf_net.proofs.SettleSteps.{Counted, items_none}
-use Rattle.net_world.proofs.SilentLinks.{silent_total}
 use Rattle.net_world.proofs.PickedLists.{kept_some}
 use Rattle.nf_net.proofs.ends.TokenRuns.{HasEnough}
 use Rattle.nf_net.proofs.ends.AllEnded.{settled_share}

@@ -1,25 +1,14 @@
 -- The ways in which the controller goes on with a message, where of an operation that a command begins only the operation and the messages
 -- that it begins with count.
-use Rattle.std.proofs.Common.{◌≡◌, ℕ, true, Option, Some, List, [], ◌∷◌, refl}
-use Rattle.std.specs.Prelude.{slice_set}
-use Rattle.proof_outlines.proofs.outline.ControllerWays.{row_fits}
-use Rattle.flow_filter.specs.declared.filter.Filter.{Filter}
+use Rattle.nf_net.proofs.Words.{◌≡◌, ℕ, true, Option, Some, List, [], ◌∷◌, refl, slice_set, row_fits, Filter, FullCell, Answer, Command, Msg, switch_node}
+use Rattle.nf_net.proofs.Words.{MovePlan, move_at_start, CopyPlan, SharePlan, Operation, Move, Copy, Share, ControllerState}
 use Rattle.event_filter.specs.declared.mark.Mark.TheVariants.{Pass}
-use Rattle.packet_pool.specs.Pool.{FullCell}
-use Rattle.nf_msgs.specs.declared.answer.Answer.{Answer}
-use Rattle.nf_msgs.specs.declared.command.Command.{Command}
-use Rattle.nf_msgs.specs.declared.msg.Msg.{Msg}
 use Rattle.nf_msgs.specs.declared.msg.Msg.TheVariants as msg
-use Rattle.nf_msgs.specs.Nodes.{switch_node}
-use Rattle.move_op.specs.Move.{MovePlan, move_at_start, begin_sends}
-use Rattle.copy_share.specs.Copy.{CopyPlan}
+use Rattle.move_op.specs.Move.{begin_sends}
 use Rattle.copy_share.specs.Copy as copy
-use Rattle.copy_share.specs.Share.{SharePlan}
 use Rattle.copy_share.specs.Share as share
-use Rattle.ctrl_node.specs.declared.operation.Operation.{Operation}
-use Rattle.ctrl_node.specs.declared.operation.Operation.TheVariants.{Move, Copy, Share}
 use Rattle.ctrl_node.specs.Controller as ctrl
-use Rattle.ctrl_node.specs.Controller.{ControllerState, Step}
+use Rattle.ctrl_node.specs.Controller.{Step}
 
 -- an operation as a command begins it, with what is sent for it
 pub data IsBegun (x : Operation) (sends : List (ℕ × Msg)) : Type 0 where

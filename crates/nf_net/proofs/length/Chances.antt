@@ -1,19 +1,11 @@
 -- What can still become pieces of a move, and packets that are still to arrive: what messages and nodes weigh by these two. `a` is the weight of a
 -- packet of the input, `k` that of a move whose source hasn't been asked for its chunks.
-use Rattle.std.proofs.Common.{◌≡◌, ℕ, ◌+◌, List, [], ◌∷◌, ◌++◌, length, arith}
-use Rattle.nf_msgs.specs.declared.msg.Msg.{Msg}
+use Rattle.nf_net.proofs.Words.{◌≡◌, ℕ, ◌+◌, List, [], ◌∷◌, ◌++◌, length, arith, Msg, Note, Phase, Operation, Move, ControllerState, Stepped, weigh}
+use Rattle.nf_net.proofs.Words.{arrivals_in, pieces_among}
 use Rattle.nf_msgs.specs.declared.msg.Msg.TheVariants as msg
-use Rattle.nf_msgs.specs.declared.note.Note.{Note}
 use Rattle.nf_msgs.specs.declared.note.Note.TheVariants as note
-use Rattle.move_op.specs.Phases.{Phase}
 use Rattle.move_op.specs.Phases.{Freezing}
-use Rattle.ctrl_node.specs.declared.operation.Operation.{Operation}
-use Rattle.ctrl_node.specs.declared.operation.Operation.TheVariants.{Move}
-use Rattle.ctrl_node.specs.Controller.{ControllerState}
-use Rattle.actor_net.specs.Network.{Stepped}
-use Rattle.actor_net.proofs.WeightLaws.{weigh}
-use Rattle.net_world.specs.Log.{arrivals_in}
-use Rattle.net_world.specs.Length.{one_piece, pieces_among}
+use Rattle.net_world.specs.Length.{one_piece}
 use Rattle.nf_net.proofs.length.MapWeights.{in_all}
 use Rattle.nf_net.proofs.length.SentWeights.{sent_cost}
 

@@ -1,31 +1,18 @@
 -- What the controller sends and keeps as it takes a message weighs less than the message and what it kept before.
-use Rattle.std.proofs.Common.{◌≡◌, ℕ, ◌+◌, ◌*◌, ◌≤◌, Bool, true, false, Option, None, Some, List, [], ◌∷◌, ◌++◌, length, refl, arith}
-use Rattle.std.specs.Prelude.{if◌then◌else◌, ◌&&◌, not, is_some, unwrap_or}
+use Rattle.nf_net.proofs.Words.{◌≡◌, ℕ, ◌+◌, ◌*◌, ◌≤◌, Bool, true, false, Option, None, Some, List, [], ◌∷◌, ◌++◌, length, refl, arith, if◌then◌else◌, ◌&&◌}
+use Rattle.nf_net.proofs.Words.{not, is_some, unwrap_or, stored_of, with_parcels, store_after, FullCell, Answer, Command, Msg, switch_node, Phase, MoveState}
+use Rattle.nf_net.proofs.Words.{Store, row_in, answer_of, CopyPhase, SharePhase, CopyState, ShareState, home, others, Operation, Move, Copy, Share, turn_of}
+use Rattle.nf_net.proofs.Words.{serving_of, are_quiet, ControllerState, controller_step, weigh-append}
 use Rattle.std.specs.FinMap as finite
-use Rattle.event_store.specs.Store.{stored_of, with_parcels, store_after}
-use Rattle.packet_pool.specs.Pool.{FullCell}
-use Rattle.nf_msgs.specs.declared.answer.Answer.{Answer}
-use Rattle.nf_msgs.specs.declared.command.Command.{Command}
-use Rattle.nf_msgs.specs.declared.msg.Msg.{Msg}
 use Rattle.nf_msgs.specs.declared.msg.Msg.TheVariants as msg
-use Rattle.nf_msgs.specs.Nodes.{switch_node}
-use Rattle.move_op.specs.Phases.{Phase}
 use Rattle.move_op.specs.Phases as phase
-use Rattle.move_op.specs.Move.{MoveState, Store, row_in, answer_of}
-use Rattle.copy_share.specs.declared.copy_phase.CopyPhase.{CopyPhase}
 use Rattle.copy_share.specs.declared.copy_phase.CopyPhase.TheVariants as copies
-use Rattle.copy_share.specs.declared.share_phase.SharePhase.{SharePhase}
 use Rattle.copy_share.specs.declared.share_phase.SharePhase.TheVariants as shares
-use Rattle.copy_share.specs.Copy.{CopyState}
 use Rattle.copy_share.specs.Copy as copy
-use Rattle.copy_share.specs.Share.{ShareState, home, others}
 use Rattle.copy_share.specs.Share as share
-use Rattle.ctrl_node.specs.declared.operation.Operation.{Operation}
-use Rattle.ctrl_node.specs.declared.operation.Operation.TheVariants.{Move, Copy, Share}
-use Rattle.ctrl_node.specs.Operations.{Turn, turn_of, serving_of, are_quiet}
+use Rattle.ctrl_node.specs.Operations.{Turn}
 use Rattle.ctrl_node.specs.Controller as ctrl
-use Rattle.ctrl_node.specs.Controller.{ControllerState, Step, controller_step}
-use Rattle.actor_net.proofs.WeightLaws.{weigh-append}
+use Rattle.ctrl_node.specs.Controller.{Step}
 use Rattle.nf_net.proofs.length.MapWeights.{in_all, if_found, insert_weighs, remove_weighs}
 use Rattle.nf_net.proofs.length.Weights.{one_if, of_move, of_copy, of_share, of_operation, kept, weight}
 use Rattle.nf_net.proofs.length.Weights.{some, cost, cost-append, of_controller, unfinished, finish}

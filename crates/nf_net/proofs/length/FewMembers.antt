@@ -1,14 +1,8 @@
 -- A share of some of n instances has at most n - 1 members besides one.
-use Rattle.std.proofs.Common.{◌≡◌, ℕ, suc, ◌+◌, ◌<◌, ◌≤◌, true, false, List, [], ◌∷◌, length, refl, sym, ap, ◌∙◌, subst, arith}
-use Rattle.std.specs.Prelude.{if◌then◌else◌, ◌||◌, ◌==◌, not, nat_lt, filter, slice_index}
-use Rattle.std.specs.List.{list_any}
-use Rattle.std.proofs.lemmas.Bool.Decides.{nat_tests, Decides-eqb}
+use Rattle.nf_net.proofs.Words.{◌≡◌, ℕ, suc, ◌+◌, ◌<◌, ◌≤◌, true, false, List, [], ◌∷◌, length, refl, sym, ap, ◌∙◌, subst, arith, if◌then◌else◌, ◌||◌, ◌==◌}
+use Rattle.nf_net.proofs.Words.{not, nat_lt, slice_index, list_any, nat_tests, Decides-eqb, Semantics, ShareState, home, others, Each, has, Given}
+use Rattle.std.specs.Prelude.{filter}
 use Rattle.std.proofs.lemmas.Map.Steps.{length-le_from_distinct_below}
-use Rattle.nf_function.specs.Semantics.{Semantics}
-use Rattle.copy_share.specs.Share.{ShareState, home, others}
-use Rattle.proof_machines.proofs.unit.Labels.{Each}
-use Rattle.proof_machines.proofs.share.Share.{has}
-use Rattle.proof_outlines.proofs.joined.Given.{Given}
 use Rattle.proof_outlines.proofs.joined.Joined.{count, IsShare, IsOutAt}
 use Rattle.nf_net.proofs.length.ControllerCosts.{HasFew}
 

@@ -1,40 +1,18 @@
 -- An instance has live records of no more units than packets have arrived: each of these units has a packet that was processed.
-use Rattle.std.proofs.Common.{◌≡◌, ℕ, ◌+◌, ◌<◌, ◌≤◌, true, false, cond, Some, None, List, [], ◌∷◌, ◌++◌, map, length, refl, sym, ap, ◌∙◌, subst, arith}
-use Rattle.std.specs.Prelude.{if◌then◌else◌, ◌||◌, ◌==◌}
-use Rattle.std.specs.List.{filter}
+use Rattle.nf_net.proofs.Words.{◌≡◌, ℕ, ◌+◌, ◌<◌, ◌≤◌, true, false, cond, Some, None, List, [], ◌∷◌, ◌++◌, map, length, refl, sym, ap, ◌∙◌, subst, arith}
+use Rattle.nf_net.proofs.Words.{if◌then◌else◌, ◌||◌, ◌==◌, filter, get-entries, len-entries, keys_of, nat_tests, length-map, Semantics, unit_at, unit_cmp, Msg}
+use Rattle.nf_net.proofs.Words.{Note, Records, same_unit, distinct_entries, same_unit_equiv, Network, Ran, done_u, ran_of, packets_done, live_front, Config}
+use Rattle.nf_net.proofs.Words.{Node, arrived_of, processed_of, IsInput, packet_numbered, arrivals_in, is_sys, Given, S, A, came_by, Joined, done_same, given}
 use Rattle.std.specs.FinMap as finite
-use Rattle.std.specs.FinMap.{find, get-entries, len-entries}
-use Rattle.std.specs.Map.{keys_of}
+use Rattle.std.specs.FinMap.{find}
 use Rattle.std.specs.Set.{is_member}
-use Rattle.std.proofs.lemmas.Bool.Decides.{nat_tests}
-use Rattle.std.proofs.lemmas.List.{length-map}
 use Rattle.std.proofs.lemmas.Map.Entries.{length-keys_of}
 use Rattle.std.proofs.lemmas.Map.Made.{length-le_from_is_member}
 use Rattle.nf_function.specs.declared.unit.Unit as units
-use Rattle.nf_function.specs.Semantics.{Semantics, unit_at}
-use Rattle.nf_function.specs.Units.{unit_cmp}
-use Rattle.nf_msgs.specs.declared.msg.Msg.{Msg}
-use Rattle.nf_msgs.specs.declared.note.Note.{Note}
-use Rattle.record_table.specs.Table.{Records, same_unit}
-use Rattle.record_table.proofs.MadeChunks.{distinct_entries}
-use Rattle.record_table.proofs.UnitOrder.{same_unit_equiv}
-use Rattle.actor_net.specs.Network.{Network}
-use Rattle.proof_machines.proofs.share.Share.{Ran, runs}
+use Rattle.proof_machines.proofs.share.Share.{runs}
 use Rattle.proof_machines.proofs.share.Stages.{packets}
-use Rattle.proof_machines.proofs.net.Rest.{done_u}
-use Rattle.proof_machines.proofs.net.Shares.{ran_of}
-use Rattle.proof_machines.proofs.net.UnderStarts.{packets_done}
-use Rattle.proof_machines.proofs.whole.Fronts.{live_front}
-use Rattle.net_world.specs.declared.config.Config.{Config}
-use Rattle.net_world.specs.declared.node.Node.{Node}
-use Rattle.net_world.specs.Fold.{times, arrived_of, processed_of}
-use Rattle.net_world.specs.Input.{IsInput, packet_numbered}
-use Rattle.net_world.specs.Log.{arrivals_in}
-use Rattle.proof_outlines.proofs.outline.Outline.{is_sys}
-use Rattle.proof_outlines.proofs.joined.Given.{Given}
-use Rattle.proof_outlines.proofs.joined.Joined.{S, A, came_by, Joined}
-use Rattle.proof_outlines.proofs.joined.RunsJoined.{done_same, once}
-use Rattle.proof_outlines.proofs.joined.StartJoined.{given}
+use Rattle.net_world.specs.Fold.{times}
+use Rattle.proof_outlines.proofs.joined.RunsJoined.{once}
 
 -- a key of entries is found
 found_key : {R : Type 0} (q : units.Unit) (es : List (units.Unit × R)) → is_member same_unit (keys_of es) q ≡ true → find unit_cmp q es ≡ None → ⊥

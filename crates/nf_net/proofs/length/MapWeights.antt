@@ -1,17 +1,14 @@
 -- What the values of a finite map weigh together, and how that changes as an entry is written or taken away.
-use Rattle.std.proofs.Common.{◌≡◌, ℕ, ◌+◌, ◌≤◌, Bool, true, false, cond, Option, Some, None, List, [], ◌∷◌, length, refl, sym, ap, subst, ◌∙◌, arith}
-use Rattle.std.specs.Prelude.{T, not}
-use Rattle.std.specs.Ordering.{nat_cmp, eq_by_cmp, is_lt, is_eq}
-use Rattle.std.specs.declared.cmp.Ordering.{Ordering}
-use Rattle.std.specs.declared.cmp.Ordering.TheVariants.{Less, Equal, Greater}
+use Rattle.nf_net.proofs.Words.{◌≡◌, ℕ, ◌+◌, ◌≤◌, Bool, true, false, cond, Option, Some, None, List, [], ◌∷◌, length, refl, sym, ap, subst, ◌∙◌, arith, T, not}
+use Rattle.nf_net.proofs.Words.{nat_cmp, eq_by_cmp, is_lt, is_eq, Ordering, Less, Equal, Greater, is_sorted, entries_sorted, get-entries, get-remove}
+use Rattle.nf_net.proofs.Words.{len-entries, below_all, and_yes, weigh}
 use Rattle.std.specs.Cmp.{nat_cmp_total}
 use Rattle.std.specs.FinMap as finite
-use Rattle.std.specs.FinMap.{find, put, is_sorted, same_map, nat_cmp-IsAntisymmetric, entries_sorted, entries-insert}
-use Rattle.std.specs.FinMap.{entries-from_sorted, get-entries, get-remove, get-from_sorted, len-entries, len-empty}
-use Rattle.std.specs.FinMap.Entries.{by_order, below_all, where_key, is_sorted-where_key, find-where_key}
-use Rattle.std.proofs.Math.Facts.{yes_and, and_yes}
+use Rattle.std.specs.FinMap.{find, put, same_map, nat_cmp-IsAntisymmetric, entries-insert}
+use Rattle.std.specs.FinMap.{entries-from_sorted, get-from_sorted, len-empty}
+use Rattle.std.specs.FinMap.Entries.{by_order, where_key, is_sorted-where_key, find-where_key}
+use Rattle.std.proofs.Math.Facts.{yes_and}
 use Rattle.std.proofs.lemmas.Cmp.{eq_by_cmp_equiv, nat_cmp_total}
-use Rattle.actor_net.proofs.WeightLaws.{weigh}
 
 less : (o : Ordering) → T (is_lt o) → o ≡ Less
 less Less p = refl

@@ -1,18 +1,8 @@
 -- Each node's step of a run makes the world lighter, but for the pieces that it sends.
-use Rattle.std.proofs.Common.{◌≡◌, ℕ, zero, suc, ◌+◌, ◌*◌, ◌<◌, ◌≤◌, List, arith}
-use Rattle.nf_function.specs.Semantics.{Semantics}
-use Rattle.nf_msgs.specs.declared.msg.Msg.{Msg}
-use Rattle.nf_msgs.specs.declared.note.Note.{Note}
-use Rattle.actor_net.specs.Network.{Network, Stepped, world_next}
-use Rattle.actor_net.proofs.EnabledChoices.{at}
-use Rattle.actor_net.proofs.StepOutcome.{Takes}
-use Rattle.actor_net.proofs.WeightLaws.{weigh, total, total_after, nodes_after}
-use Rattle.net_world.specs.declared.node.Node.{Node}
-use Rattle.net_world.specs.declared.node.Node.TheVariants.{Switch, Controller, Instance}
-use Rattle.net_world.specs.Nodes.{node_step}
-use Rattle.proof_outlines.proofs.joined.Given.{Given}
-use Rattle.proof_outlines.proofs.joined.Joined.{count, Joined, node_of}
-use Rattle.net_world.specs.Length.{pieces_among}
+use Rattle.nf_net.proofs.Words.{◌≡◌, ℕ, zero, suc, ◌+◌, ◌*◌, ◌<◌, ◌≤◌, List, arith, Semantics, Msg, Note, Network, Stepped, world_next, at, Takes, weigh, total}
+use Rattle.nf_net.proofs.Words.{total_after, nodes_after, Node, Switch, Controller, node_step, Given, Joined, node_of, pieces_among}
+use Rattle.net_world.specs.declared.node.Node.TheVariants.{Instance}
+use Rattle.proof_outlines.proofs.joined.Joined.{count}
 use Rattle.nf_net.proofs.length.Weights.{of_instance, of_controller, weight, cost}
 use Rattle.nf_net.proofs.length.SentWeights.{few_sent}
 use Rattle.nf_net.proofs.length.ControllerCosts.{controller_falls}

@@ -1,9 +1,6 @@
 -- What the open operations weigh together as one of them has taken a message: it is another, or closed.
-use Rattle.std.proofs.Common.{◌≡◌, ℕ, ◌+◌, ◌≤◌, Some, ap, arith}
+use Rattle.nf_net.proofs.Words.{◌≡◌, ℕ, ◌+◌, ◌≤◌, Some, ap, arith, Operation, OpenOperations, remove_insert}
 use Rattle.std.specs.FinMap as finite
-use Rattle.ctrl_node.specs.declared.operation.Operation.{Operation}
-use Rattle.ctrl_node.specs.Operations.{OpenOperations}
-use Rattle.proof_outlines.proofs.outline.OperationTables.{remove_insert}
 use Rattle.nf_net.proofs.length.MapWeights.{in_all, if_found, insert_weighs, remove_weighs}
 
 module _ (weight : Operation → ℕ) (ops : OpenOperations) (op : ℕ) (old new : Operation) (there : finite.get ops op ≡ Some old) where

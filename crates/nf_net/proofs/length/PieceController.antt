@@ -1,23 +1,13 @@
 -- What the controller sends and keeps as it takes a message weighs no more than the message and what it kept before: each move asks its source once.
-use Rattle.std.proofs.Common.{◌≡◌, ℕ, ◌+◌, ◌≤◌, true, false, Option, None, Some, List, [], ◌∷◌, ◌++◌, refl, arith}
-use Rattle.std.specs.Prelude.{if◌then◌else◌}
+use Rattle.nf_net.proofs.Words.{◌≡◌, ℕ, ◌+◌, ◌≤◌, true, false, Option, None, Some, List, [], ◌∷◌, ◌++◌, refl, arith, if◌then◌else◌, stored_of, with_parcels}
+use Rattle.nf_net.proofs.Words.{store_after, FullCell, Answer, Command, Msg, switch_node, Store, row_in, answer_of, Operation, Move, Copy, Share, turn_of}
+use Rattle.nf_net.proofs.Words.{serving_of, ControllerState, controller_step, weigh}
 use Rattle.std.specs.FinMap as finite
-use Rattle.event_store.specs.Store.{stored_of, with_parcels, store_after}
-use Rattle.packet_pool.specs.Pool.{FullCell}
-use Rattle.nf_msgs.specs.declared.answer.Answer.{Answer}
-use Rattle.nf_msgs.specs.declared.command.Command.{Command}
-use Rattle.nf_msgs.specs.declared.msg.Msg.{Msg}
 use Rattle.nf_msgs.specs.declared.msg.Msg.TheVariants as msg
-use Rattle.nf_msgs.specs.Nodes.{switch_node}
-use Rattle.move_op.specs.Move.{Store, row_in, answer_of}
 use Rattle.copy_share.specs.Copy as copy
 use Rattle.copy_share.specs.Share as share
-use Rattle.ctrl_node.specs.declared.operation.Operation.{Operation}
-use Rattle.ctrl_node.specs.declared.operation.Operation.TheVariants.{Move, Copy, Share}
-use Rattle.ctrl_node.specs.Operations.{turn_of, serving_of}
 use Rattle.ctrl_node.specs.Controller as ctrl
-use Rattle.ctrl_node.specs.Controller.{ControllerState, Step, controller_step}
-use Rattle.actor_net.proofs.WeightLaws.{weigh}
+use Rattle.ctrl_node.specs.Controller.{Step}
 use Rattle.nf_net.proofs.length.MapWeights.{insert_weighs}
 use Rattle.nf_net.proofs.length.Chances.{chance, spent, spent-append, arrival, uses, of_operation, of_controller}
 use Rattle.nf_net.proofs.length.BegunOperations.{IsBegun, Is_move, Is_copy, Is_share, row_opens}

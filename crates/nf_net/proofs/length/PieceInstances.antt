@@ -1,32 +1,18 @@
 -- What an instance sends as it takes a message: pieces where it is asked for a move's chunks, as many as these make, and nothing else that counts.
-use Rattle.std.proofs.Common.{◌≡◌, ℕ, zero, suc, ◌+◌, ◌*◌, ◌<◌, ◌≤◌, Bool, true, false, Option, None, Some}
-use Rattle.std.proofs.Common.{List, [], ◌∷◌, map, length, length-drop, drop, take, refl, arith}
-use Rattle.std.specs.Prelude.{if◌then◌else◌, ◌||◌, nat_le, option_map, ◌/◌}
+use Rattle.nf_net.proofs.Words.{◌≡◌, ℕ, zero, suc, ◌+◌, ◌*◌, ◌<◌, ◌≤◌, Bool, true, false, Option, None, Some, List, [], ◌∷◌, map, length, drop, take, refl}
+use Rattle.nf_net.proofs.Words.{arith, if◌then◌else◌, ◌||◌, nat_le, option_map, ◌/◌, nat_tests, Filter, Chunk, Semantics, unit_at, record_chunk, part, Mark}
+use Rattle.nf_net.proofs.Words.{FullCell, Piece, Msg, switch_node, WholePieces, piece_of, pieces, whole_of, to_controller, chunk_told, share_message, and_then}
+use Rattle.nf_net.proofs.Words.{selected_chunks, instance_step, weigh-append, pieces_among, instance_fits}
+use Rattle.std.proofs.Common.{length-drop}
 use Rattle.std.specs.FinMap as finite
-use Rattle.std.proofs.lemmas.Bool.Decides.{nat_tests}
 use Rattle.std.proofs.lemmas.Nat.{le-div}
-use Rattle.flow_filter.specs.declared.filter.Filter.{Filter}
-use Rattle.nf_function.specs.declared.chunk.Chunk.{Chunk}
 use Rattle.nf_function.specs.declared.unit.Unit as units
-use Rattle.nf_function.specs.Semantics.{Semantics, unit_at}
-use Rattle.state_chunk.specs.Format.{record_chunk}
-use Rattle.record_table.specs.Table.{part}
-use Rattle.event_filter.specs.declared.mark.Mark.{Mark}
 use Rattle.event_filter.specs.declared.mark.Mark.TheVariants as mark
-use Rattle.packet_pool.specs.Pool.{FullCell}
-use Rattle.nf_msgs.specs.declared.msg.Piece.{Piece}
-use Rattle.nf_msgs.specs.declared.msg.Msg.{Msg}
 use Rattle.nf_msgs.specs.declared.msg.Msg.TheVariants as msg
-use Rattle.nf_msgs.specs.Nodes.{switch_node}
 use Rattle.instance_worker.specs.declared.instance.Instance.{Instance}
-use Rattle.instance_worker.specs.declared.pieces.WholePieces.{WholePieces}
-use Rattle.instance_worker.specs.Pieces.{piece_of, pieces_from, pieces, whole_of}
-use Rattle.instance_worker.specs.Instance.{Step, to_controller, chunk_told, share_message, still, and_then, selected_chunks, process_step}
-use Rattle.instance_worker.specs.Instance.{instance_step}
+use Rattle.instance_worker.specs.Pieces.{pieces_from}
+use Rattle.instance_worker.specs.Instance.{Step, still, process_step}
 use Rattle.instance_worker.specs.Instance.{on_stream}
-use Rattle.actor_net.proofs.WeightLaws.{weigh-append}
-use Rattle.net_world.specs.Length.{pieces_among}
-use Rattle.proof_outlines.proofs.outline.InstanceWays.{instance_fits}
 use Rattle.nf_net.proofs.length.Chances.{chance, spent, spent-append, spent_parts, arrival, uses}
 
 more_than : (x : ℕ) → nat_le x 64 ≡ false → 64 < x

@@ -1,36 +1,14 @@
 -- The moves of a run send few pieces: each command streams at most once, and then at most the chunks of as many units as there are packets.
-use Rattle.std.proofs.Common.{◌≡◌, ℕ, zero, suc, ◌+◌, ◌*◌, ◌<◌, ◌≤◌, true, false, List, [], ◌∷◌, ◌++◌, length, refl, subst, arith}
-use Rattle.std.specs.Prelude.{◌/◌}
-use Rattle.std.specs.declared.alloc.Global.{Global}
-use Rattle.std.proofs.Math.Nat.{mul-suc, mul_comm}
-use Rattle.flow_filter.specs.declared.filter.Filter.{Filter}
-use Rattle.nf_function.specs.Records.{Laws as FunctionLaws}
-use Rattle.nf_function.specs.Semantics.{Semantics}
-use Rattle.nf_msgs.specs.declared.msg.Msg.{Msg}
+use Rattle.nf_net.proofs.Words.{◌≡◌, ℕ, zero, suc, ◌+◌, ◌*◌, ◌<◌, ◌≤◌, true, false, List, [], ◌∷◌, ◌++◌, length, refl, subst, arith, ◌/◌, Global, mul-suc}
+use Rattle.nf_net.proofs.Words.{Filter, FunctionLaws, Semantics, Msg, Note, Choice, Network, Stepped, IsRun, run, world_next, at, NextChoice, run_induction}
+use Rattle.nf_net.proofs.Words.{Takes, weigh, total, total_after, nodes_after, pieces, selected_chunks, Config, Node, Controller, IsInput, is_item, commands}
+use Rattle.nf_net.proofs.Words.{node_step, node_ready, started_with, all_each, Each, Given, Joined, node_of, given, count_at_start, Runs, runs_at_start}
+use Rattle.nf_net.proofs.Words.{runs_next, start_world, pieces_among, pieces_sent, most_pieces}
+use Rattle.std.proofs.Math.Nat.{mul_comm}
 use Rattle.nf_msgs.specs.declared.msg.Msg.TheVariants as msg
-use Rattle.nf_msgs.specs.declared.note.Note.{Note}
-use Rattle.actor_net.specs.declared.choice.Choice.{Choice}
-use Rattle.actor_net.specs.Network.{Network, Stepped, IsRun, run, world_next}
-use Rattle.actor_net.proofs.EnabledChoices.{at}
-use Rattle.actor_net.proofs.RunInduction.{NextChoice, run_induction}
-use Rattle.actor_net.proofs.StepOutcome.{Takes}
-use Rattle.actor_net.proofs.WeightLaws.{weigh, total, total_after, nodes_after, log_after}
-use Rattle.instance_worker.specs.Pieces.{pieces}
-use Rattle.instance_worker.specs.Instance.{selected_chunks}
+use Rattle.actor_net.proofs.WeightLaws.{log_after}
 use Rattle.instance_worker.proofs.PieceLemmas.{few_selected}
-use Rattle.net_world.specs.declared.config.Config.{Config}
-use Rattle.net_world.specs.declared.node.Node.{Node}
-use Rattle.net_world.specs.declared.node.Node.TheVariants.{Controller}
-use Rattle.net_world.specs.Input.{IsInput, is_item, packets, commands}
-use Rattle.net_world.specs.Nodes.{node_step, node_ready}
-use Rattle.net_world.specs.Start.{started_with}
-use Rattle.proof_outlines.proofs.outline.StateOutline.{all_each}
-use Rattle.proof_machines.proofs.unit.Labels.{Each}
-use Rattle.proof_outlines.proofs.joined.Given.{Given}
-use Rattle.proof_outlines.proofs.joined.Joined.{Joined, node_of}
-use Rattle.proof_outlines.proofs.joined.StartJoined.{given, count_at_start}
-use Rattle.proof_outlines.proofs.joined.RunsJoined.{Runs, runs_at_start, runs_next, start_world}
-use Rattle.net_world.specs.Length.{pieces_among, pieces_sent, most_pieces}
+use Rattle.net_world.specs.Input.{packets}
 use Rattle.nf_net.proofs.length.MapWeights.{empty_weighs}
 use Rattle.nf_net.proofs.length.SentWeights.{few_sent, start_weight}
 use Rattle.nf_net.proofs.length.Chances.{chance, spent_parts, arrival, uses, of_operation, of_controller, arrivals_weigh}

@@ -1,12 +1,8 @@
 -- What the switch sends and notes as it takes a message weighs no more than the message: a command goes on, and a packet of the input arrives once.
-use Rattle.std.proofs.Common.{◌≡◌, ℕ, zero, suc, ◌≤◌, [], ◌∷◌, arith}
-use Rattle.std.specs.Prelude.{◌-◌}
-use Rattle.proof_outlines.proofs.outline.SwitchWays.{step_fits}
-use Rattle.nf_msgs.specs.declared.msg.Msg.{Msg}
+use Rattle.nf_net.proofs.Words.{◌≡◌, ℕ, zero, suc, ◌≤◌, [], ◌∷◌, arith, step_fits, Msg, instance_node, SwitchState, switch_step}
 use Rattle.nf_msgs.specs.declared.msg.Msg.TheVariants as msg
-use Rattle.nf_msgs.specs.Nodes.{instance_node}
 use Rattle.switch_node.specs.Switch as switch
-use Rattle.switch_node.specs.Switch.{SwitchState, Step, switch_step, still}
+use Rattle.switch_node.specs.Switch.{Step, still}
 use Rattle.nf_net.proofs.length.Chances.{chance, spent, spent-append, uses}
 
 module _ (a k : ℕ) (s : SwitchState) where

@@ -1,31 +1,12 @@
 -- No run has more choices than its instances, its packets, the lines of its script and the pieces of its moves allow.
-use Rattle.std.proofs.Common.{◌≡◌, ℕ, zero, suc, ◌+◌, ◌*◌, ◌≤◌, true, false, Some, List, [], ◌∷◌, ◌++◌, length, length-append, refl, sym, ap, subst, ◌∙◌, arith}
-use Rattle.std.specs.Prelude.{◌-◌, slice_get}
-use Rattle.std.specs.declared.alloc.Global.{Global}
-use Rattle.std.proofs.Math.Nat.{mul-suc}
-use Rattle.std.proofs.lemmas.Bool.Decides.{Decides-eqb}
-use Rattle.std.proofs.lemmas.Option.{slice_get-get_or}
-use Rattle.nf_function.specs.Records.{Laws as FunctionLaws}
-use Rattle.nf_function.specs.Semantics.{Semantics}
-use Rattle.nf_msgs.specs.declared.msg.Msg.{Msg}
+use Rattle.nf_net.proofs.Words.{◌≡◌, ℕ, zero, suc, ◌+◌, ◌*◌, ◌≤◌, true, false, Some, List, [], ◌∷◌, ◌++◌, length, length-append, refl, sym, ap, subst, ◌∙◌}
+use Rattle.nf_net.proofs.Words.{arith, ◌-◌, slice_get, Global, mul-suc, Decides-eqb, slice_get-get_or, FunctionLaws, Semantics, Msg, Note, Choice, Network}
+use Rattle.nf_net.proofs.Words.{IsRun, queue_at, run, world_next, Taking, NextChoice, run_induction, Takes, weigh, Config, Node, IsInput, is_item, node_step}
+use Rattle.nf_net.proofs.Words.{node_ready, started_with, all_each, Each, node_of, given, count_at_start, Runs, runs_at_start, runs_next, start_world, lines}
+use Rattle.nf_net.proofs.Words.{pieces_among, pieces_sent, most_choices}
 use Rattle.nf_msgs.specs.declared.msg.Msg.TheVariants as msg
-use Rattle.nf_msgs.specs.declared.note.Note.{Note}
-use Rattle.actor_net.specs.declared.choice.Choice.{Choice}
-use Rattle.actor_net.specs.Network.{Network, IsRun, queue_at, run, world_next}
-use Rattle.actor_net.proofs.RunInduction.{Taking, NextChoice, run_induction}
-use Rattle.actor_net.proofs.StepOutcome.{Takes}
-use Rattle.actor_net.proofs.WeightLaws.{weigh}
-use Rattle.net_world.specs.declared.config.Config.{Config}
-use Rattle.net_world.specs.declared.node.Node.{Node}
-use Rattle.net_world.specs.Input.{IsInput, is_item, packets}
-use Rattle.net_world.specs.Nodes.{node_step, node_ready}
-use Rattle.net_world.specs.Start.{started_with}
-use Rattle.proof_outlines.proofs.outline.StateOutline.{all_each}
-use Rattle.proof_machines.proofs.unit.Labels.{Each}
-use Rattle.proof_outlines.proofs.joined.Joined.{node_of}
-use Rattle.proof_outlines.proofs.joined.StartJoined.{given, count_at_start}
-use Rattle.proof_outlines.proofs.joined.RunsJoined.{Runs, runs_at_start, runs_next, start_world}
-use Rattle.net_world.specs.Length.{lines, ends, has_end, pieces_among, pieces_of, pieces_sent, most_choices}
+use Rattle.net_world.specs.Input.{packets}
+use Rattle.net_world.specs.Length.{ends, has_end, pieces_of}
 use Rattle.nf_net.proofs.length.MapWeights.{empty_weighs}
 use Rattle.nf_net.proofs.length.SentWeights.{start_weight}
 use Rattle.nf_net.proofs.length.Weights.{kept, weight, of_operation}

@@ -1,17 +1,9 @@
 -- What is sent weighs together, and what the nodes and the input of a network weigh at its start.
-use Rattle.std.proofs.Common.{◌≡◌, ℕ, zero, suc, ◌+◌, ◌≤◌, Bool, true, false, List, [], ◌∷◌, length, arith}
-use Rattle.std.specs.Prelude.{if◌then◌else◌}
-use Rattle.std.specs.declared.alloc.Global.{Global}
+use Rattle.nf_net.proofs.Words.{◌≡◌, ℕ, zero, suc, ◌+◌, ◌≤◌, Bool, true, false, List, [], ◌∷◌, length, arith, if◌then◌else◌, Global, Msg, Note, reaches}
+use Rattle.nf_net.proofs.Words.{opening_weight, weigh, weigh-append, total, sent_weight, Config, Node, Switch, Controller, first_switch, first_instance}
+use Rattle.nf_net.proofs.Words.{first_instances, first_nodes, started_with}
 use Rattle.ctrl_node.specs.Controller as controller
-use Rattle.nf_msgs.specs.declared.msg.Msg.{Msg}
-use Rattle.nf_msgs.specs.declared.note.Note.{Note}
-use Rattle.actor_net.specs.Network.{reaches}
-use Rattle.actor_net.proofs.OpeningWorlds.{opening_weight}
-use Rattle.actor_net.proofs.WeightLaws.{weigh, weigh-append, total, sent_weight}
-use Rattle.net_world.specs.declared.config.Config.{Config}
-use Rattle.net_world.specs.declared.node.Node.{Node}
-use Rattle.net_world.specs.declared.node.Node.TheVariants.{Switch, Controller, Instance}
-use Rattle.net_world.specs.Start.{first_switch, first_instance, first_instances, first_nodes, started_with}
+use Rattle.net_world.specs.declared.node.Node.TheVariants.{Instance}
 
 module _ (f : Msg → ℕ) where
   -- messages, each with its receiver

@@ -1,19 +1,12 @@
 -- What a copy's row and a share's row send and leave to do weighs less than the message that they take and what there was to do.
-use Rattle.std.proofs.Common.{◌≡◌, ℕ, ◌+◌, ◌*◌, ◌≤◌, true, false, Some, List, [], ◌∷◌, map, length, refl, arith}
-use Rattle.std.specs.Prelude.{if◌then◌else◌, ◌-◌, ◌==◌, is_some, unwrap_or}
-use Rattle.nf_function.specs.declared.chunk.Chunk.{Chunk}
-use Rattle.packet_pool.specs.Pool.{FullCell}
+use Rattle.nf_net.proofs.Words.{◌≡◌, ℕ, ◌+◌, ◌*◌, ◌≤◌, true, false, Some, List, [], ◌∷◌, map, length, refl, arith, if◌then◌else◌, ◌-◌, ◌==◌, is_some, unwrap_or}
+use Rattle.nf_net.proofs.Words.{Chunk, FullCell, Msg, instance_node, CopyPhase, SharePhase, CopyPlan, CopyRow, SharePlan, ShareRow, home, others, syncs}
+use Rattle.nf_net.proofs.Words.{syncing, on_fenced, on_chunks, on_shared, on_synced, service_if_idle}
 use Rattle.nf_msgs.specs.declared.answer.Answer.TheVariants.{Done}
-use Rattle.nf_msgs.specs.declared.msg.Msg.{Msg}
 use Rattle.nf_msgs.specs.declared.msg.Msg.TheVariants as msg
-use Rattle.nf_msgs.specs.Nodes.{instance_node}
-use Rattle.copy_share.specs.declared.copy_phase.CopyPhase.{CopyPhase}
 use Rattle.copy_share.specs.declared.copy_phase.CopyPhase.TheVariants as copies
-use Rattle.copy_share.specs.declared.share_phase.SharePhase.{SharePhase}
 use Rattle.copy_share.specs.declared.share_phase.SharePhase.TheVariants as shares
-use Rattle.copy_share.specs.Copy.{CopyPlan, CopyRow}
 use Rattle.copy_share.specs.Copy as copy
-use Rattle.copy_share.specs.Share.{SharePlan, ShareRow, home, others, syncs, syncing, on_fenced, on_chunks, on_shared, on_synced, service_if_idle}
 use Rattle.copy_share.specs.Share as share
 use Rattle.nf_net.proofs.length.Weights.{one_if, of_copy, of_share, kept, weight, some, cost}
 

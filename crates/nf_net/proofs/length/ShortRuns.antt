@@ -1,20 +1,9 @@
 -- A run of a short input has fewer choices than a schedule may take.
-use Rattle.std.proofs.Common.{ℕ, ◌+◌, ◌*◌, ◌<◌, ◌≤◌, List, [], ◌∷◌, length, arith}
-use Rattle.std.specs.Prelude.{◌/◌}
-use Rattle.std.specs.declared.alloc.Global.{Global}
+use Rattle.nf_net.proofs.Words.{ℕ, ◌+◌, ◌*◌, ◌<◌, ◌≤◌, List, [], ◌∷◌, length, arith, ◌/◌, Global, FunctionLaws, Semantics, Msg, Choice, MOST_CHOICES, IsRun}
+use Rattle.nf_net.proofs.Words.{Config, IsInput, commands, node_step, node_ready, started_with, lines, pieces_sent, most_pieces, most_choices, IsShort}
 use Rattle.std.proofs.Math.Nat.{mul-le-mul, div-le_of_le-mul}
-use Rattle.nf_function.specs.Records.{Laws as FunctionLaws}
-use Rattle.nf_function.specs.Semantics.{Semantics}
-use Rattle.nf_msgs.specs.declared.msg.Msg.{Msg}
 use Rattle.nf_msgs.specs.declared.msg.Msg.TheVariants as msg
-use Rattle.actor_net.specs.declared.choice.Choice.{Choice}
-use Rattle.actor_net.specs.declared.schedule.TheConstants.{MOST_CHOICES}
-use Rattle.actor_net.specs.Network.{IsRun}
-use Rattle.net_world.specs.declared.config.Config.{Config}
-use Rattle.net_world.specs.Input.{IsInput, packets, commands}
-use Rattle.net_world.specs.Nodes.{node_step, node_ready}
-use Rattle.net_world.specs.Start.{started_with}
-use Rattle.net_world.specs.Length.{lines, pieces_sent, most_pieces, most_choices, IsShort}
+use Rattle.net_world.specs.Input.{packets}
 use Rattle.nf_net.proofs.length.PieceRuns.{pieces_few}
 use Rattle.nf_net.proofs.length.RunLength.{run_length}
 

@@ -1,27 +1,13 @@
 -- What each message, each open operation and each node weighs: at least as much as the choices that are still to come of it. `o` is the
 -- greatest number of members that a share has besides one.
-use Rattle.std.proofs.Common.{◌≡◌, ℕ, ◌+◌, ◌*◌, ◌≤◌, Bool, true, false, List, ◌++◌, length, arith}
-use Rattle.std.specs.Prelude.{◌||◌}
-use Rattle.event_filter.specs.declared.mark.Mark.{Mark}
+use Rattle.nf_net.proofs.Words.{◌≡◌, ℕ, ◌+◌, ◌*◌, ◌≤◌, Bool, true, false, List, ◌++◌, length, arith, ◌||◌, Mark, Rule, FullCell, Piece, Msg, Door, Phase}
+use Rattle.nf_net.proofs.Words.{CopyPhase, SharePhase, Operation, Move, Copy, Share, ControllerState, InstanceState, weigh, weigh-append}
 use Rattle.event_filter.specs.declared.mark.Mark.TheVariants as mark
-use Rattle.event_filter.specs.declared.rule.Rule.{Rule}
-use Rattle.packet_pool.specs.Pool.{FullCell}
-use Rattle.nf_msgs.specs.declared.msg.Piece.{Piece}
-use Rattle.nf_msgs.specs.declared.msg.Msg.{Msg}
 use Rattle.nf_msgs.specs.declared.msg.Msg.TheVariants as msg
-use Rattle.move_op.specs.declared.door.Door.{Door}
 use Rattle.move_op.specs.declared.door.Door.TheVariants as door
-use Rattle.move_op.specs.Phases.{Phase}
 use Rattle.move_op.specs.Phases as phase
-use Rattle.copy_share.specs.declared.copy_phase.CopyPhase.{CopyPhase}
 use Rattle.copy_share.specs.declared.copy_phase.CopyPhase.TheVariants as copies
-use Rattle.copy_share.specs.declared.share_phase.SharePhase.{SharePhase}
 use Rattle.copy_share.specs.declared.share_phase.SharePhase.TheVariants as shares
-use Rattle.ctrl_node.specs.declared.operation.Operation.{Operation}
-use Rattle.ctrl_node.specs.declared.operation.Operation.TheVariants.{Move, Copy, Share}
-use Rattle.ctrl_node.specs.Controller.{ControllerState}
-use Rattle.instance_worker.specs.declared.instance.Instance.{Instance as InstanceState}
-use Rattle.actor_net.proofs.WeightLaws.{weigh, weigh-append}
 use Rattle.nf_net.proofs.length.MapWeights.{in_all}
 use Rattle.nf_net.proofs.length.SentWeights.{sent_cost}
 
