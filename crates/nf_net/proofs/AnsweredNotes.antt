@@ -12,7 +12,6 @@ use Rattle.event_filter.specs.declared.mark.Mark.TheVariants as mark
 use Rattle.event_filter.specs.Rules as rules
 use Rattle.instance_worker.specs.declared.instance.Instance.{Instance}
 use Rattle.instance_worker.specs.Instance.{process_step, all_processed, on_carry, on_fence}
-use Rattle.instance_worker.specs.Instance.{still}
 use Rattle.nf_net.proofs.OutputLemmas.{Answered, answered_nothing, answered_packet}
 
 -- the live record of each unit

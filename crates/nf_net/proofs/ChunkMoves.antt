@@ -1,5 +1,5 @@
 -- In every run each chunk on its way is one of a unit that its move takes, and that move is under way.
-use Rattle.nf_net.proofs.Words.{◌≡◌, ◌≢◌, ℕ, zero, suc, ◌<◌, true, cond, Some, List, [], ◌∷◌, map, refl, sym, ap, ◌∙◌, subst, arith, flat_map, Chunk, Semantics}
+use Rattle.nf_net.proofs.Words.{◌≡◌, ◌≢◌, ℕ, zero, suc, ◌<◌, true, cond, Some, List, [], ◌∷◌, map, sym, ap, ◌∙◌, subst, arith, flat_map, Chunk, Semantics}
 use Rattle.nf_net.proofs.Words.{same_unit, spelled, same_unit_equiv, Msg, Piece, Phase, Operation, Move, Copy, Share, on_link, EachOn, Each, each-append}
 use Rattle.nf_net.proofs.Words.{seat_shape, third_silent, each_found, OpLabel, Untaken, Node, Switch, on_links, IsMoving, chunks_in, kept_in, kept_for, kept_by}
 use Rattle.nf_net.proofs.Words.{is_chunk_of, spelled_of, chunks_on_way, IsChunk, is_sys, given, Given, place, WhereAll, Apart_from_shares, Under_share, S, A}

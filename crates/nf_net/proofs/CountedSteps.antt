@@ -15,7 +15,7 @@ use Rattle.nf_net.proofs.answers.ControllerActs.{SaysSo, SaysSo.Neither, SaysSo.
 use Rattle.nf_net.proofs.SettleCounts.{answered_in, AllAnswered, all_answered_more, answered_in_same, answered_one, same_ends}
 use Rattle.nf_net.proofs.answers.ToldCommands.{some_answers}
 use Rattle.nf_net.proofs.SettleSteps.{switch_in, asking, Counted, InputGoes, InputGoes.Stays, InputGoes.Loses}
-use Rattle.nf_net.proofs.SettleSteps.{no_answer_to, none_sent, asked_there, switch_counts, left, few, none_waits}
+use Rattle.nf_net.proofs.SettleSteps.{no_answer_to, none_sent, asked_there, switch_counts, few, none_waits}
 
 module _ (F : Type 0) {R : Type 0} (f : Semantics R) (laws : FunctionLaws f) (alloc : Global) (c : Config) (items : List Msg)
     (is : IsInput f.kind c items) where

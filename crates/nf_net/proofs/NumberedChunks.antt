@@ -3,7 +3,7 @@ use Rattle.nf_net.proofs.Words.{◌≡◌, ◌≢◌, ℕ, zero, suc, ◌<◌, B
 use Rattle.nf_net.proofs.Words.{◌==◌, option_to_list, option_map_or, filter_map, flat_map, Decides-eqb, map-append, Chunk, Semantics, same_unit, spelled}
 use Rattle.nf_net.proofs.Words.{same_unit_equiv, Msg, Note, op_of, Operation, Network, on_link, EachOn, Each, each-append, record_at, seat_shape, Seeing, olds}
 use Rattle.nf_net.proofs.Words.{Node, Controller, Switch, on_links, chunks_in, kept_for, kept_by, is_chunk_of, spelled_of, chunks_on_way, entries, is_sys}
-use Rattle.nf_net.proofs.Words.{given, Given, S, A, shown, Label, AreGoodChunks, node_of}
+use Rattle.nf_net.proofs.Words.{given, Given, S, shown, Label, AreGoodChunks, node_of}
 use Rattle.std.specs.Prelude.{filter}
 use Rattle.std.specs.FinMap as finite
 use Rattle.nf_function.specs.declared.unit.Unit as units

@@ -1,6 +1,6 @@
 -- How many cells a step sends home, and how many packets it notes: an instance sends one home for each packet that it processes.
 use Rattle.nf_net.proofs.Words.{◌≡◌, ℕ, ◌+◌, ◌<◌, ◌≤◌, true, false, Option, Some, None, List, [], ◌∷◌, ◌++◌, map, length, length-append, refl, sym, ap, ◌∙◌}
-use Rattle.nf_net.proofs.Words.{arith, if◌then◌else◌, ◌||◌, cond-same, Chunk, Semantics, unit_at, Mark, FullCell, Piece, Msg, Note, pieces, to_controller}
+use Rattle.nf_net.proofs.Words.{arith, if◌then◌else◌, ◌||◌, cond-same, Chunk, Semantics, unit_at, Mark, FullCell, Msg, Note, pieces, to_controller}
 use Rattle.nf_net.proofs.Words.{chunk_told, share_message, tell_step, tells_and_notes, and_then, selected_chunks, instance_step, reaches, EachSent, sent_weight}
 use Rattle.nf_net.proofs.Words.{arrivals_in, dones_in, arrived-append, done-append, instance_fits, Given, Label}
 use Rattle.nf_function.specs.declared.unit.Unit as units

@@ -11,7 +11,7 @@ use Rattle.event_filter.specs.declared.mark.Mark.TheVariants as mark
 use Rattle.nf_msgs.specs.declared.msg.Msg.TheVariants as msg
 use Rattle.instance_worker.specs.declared.instance.Instance.{Instance}
 use Rattle.instance_worker.specs.Pieces.{pieces_from}
-use Rattle.instance_worker.specs.Instance.{Step, still, process_step}
+use Rattle.instance_worker.specs.Instance.{Step, process_step}
 use Rattle.instance_worker.specs.Instance.{on_stream}
 use Rattle.nf_net.proofs.length.Chances.{chance, spent, spent-append, spent_parts, arrival, uses}
 
