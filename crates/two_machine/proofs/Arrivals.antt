@@ -70,8 +70,7 @@ module _ {U T C R O : Type 0} (S : System U T C R O) where
   -- arrivals
   goes_notes : (t : Target) (s : Switch) (p : ℕ) → read arrived (goes S t s p).notes ≡ p ∷ []
   goes_notes To_a s p = refl
-  goes_notes To_both s p = refl
-  goes_notes To_b s p = refl
+  goes_notes t s p = refl
 
   lay_notes : (high : Bool) → read (arrived {O = O}) ((if high then Tables.High else Tables.Low) ∷ []) ≡ []
   lay_notes true = refl

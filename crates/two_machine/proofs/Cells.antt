@@ -2,7 +2,7 @@
 use Rattle.std.proofs.Common.{◌≡◌, ◌≢◌, ℕ, ◌+◌, Bool, true, false, List, [], ◌∷◌, ◌++◌, length, refl, ap, ◌∙◌, arith}
 use Rattle.std.specs.Prelude.{if◌then◌else◌, ◌==◌}
 use Rattle.std.proofs.lemmas.List.{length_push}
-use Rattle.two_machine.proofs.Machine.{Free, Drops, Target, To_a, To_both, To_b}
+use Rattle.two_machine.proofs.Machine.{Free, Drops, Target, To_a}
 use Rattle.two_machine.proofs.Tables.{System, Msg, Switch, Ctrl, Inst, Step, In_packet, In_start, In_end, Forward, Lay, Finish, Carry, Pass, Stop, Enable}
 use Rattle.two_machine.proofs.Tables.{Get, Delete, Restore, Fence, Event, Fenced, Credit, goes, switch_step, processed, all_processed, inst_step, forwards}
 use Rattle.two_machine.proofs.Tables.{ctrl_row, soon_at, finishes, ctrl_step, takes_in}
@@ -104,8 +104,7 @@ module _ {U T C R O : Type 0} (S : System U T C R O) where
       → ((goes S t s p).node.flying + 0 ≡ s.flying + weigh cell (sent 2 (goes S t s p).sends) + weigh cell (sent 3 (goes S t s p).sends))
       × ((goes S t s p).node.window ≡ s.window)
   goes_cells To_a s p = (omega arith, refl)
-  goes_cells To_both s p = (omega arith, refl)
-  goes_cells To_b s p = (omega arith, refl)
+  goes_cells t s p = (omega arith, refl)
 
   in_cells : (s : Switch) (m : Msg C) → Label S In m → takes_in S s m ≡ true
       → ((switch_step S s m).node.flying + 0 ≡ s.flying + weigh cell (sent 2 (switch_step S s m).sends) + weigh cell (sent 3 (switch_step S s m).sends))

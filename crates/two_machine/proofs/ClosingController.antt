@@ -1,7 +1,7 @@
 -- What the controller does of the closing in each step: it asks once for the finish of A, as soon as the update is over and the input ended.
-use Rattle.std.proofs.Common.{◌≡◌, ℕ, Bool, true, false, List, [], ◌∷◌, ◌++◌, refl, sym, ap, ◌∙◌}
-use Rattle.std.specs.Prelude.{if◌then◌else◌, ◌&&◌}
-use Rattle.std.proofs.lemmas.Bool.{false≢true}
+use Rattle.std.proofs.Common.{◌≡◌, ℕ, true, false, List, [], ◌∷◌, ◌++◌, refl, sym, ap, ◌∙◌}
+use Rattle.std.specs.Prelude.{if◌then◌else◌}
+use Rattle.std.proofs.lemmas.Bool.{and_parts, false≢true}
 use Rattle.two_machine.proofs.Machine.{Phase, Idle, Freezing, Getting, Deleting, Putting, Holding, Laying, Waiting, Turning, Settling, Ending, Over}
 use Rattle.two_machine.proofs.Tables.{System, Msg, Ctrl, Step, Lay, Final, forwards, ctrl_row, and_then, soon_at, is_over, finishes, soon, ctrl_step, still}
 use Rattle.two_machine.proofs.View.{read, read-append}
@@ -98,11 +98,6 @@ module _ {U T C R O : Type 0} (S : System U T C R O) where
   over_is Over e = refl
   over_is ph e = absurd (false≢true e)
 
-  pub and_first : (a b : Bool) → a && b ≡ true → (a ≡ true) × (b ≡ true)
-  and_first true true e = (refl, refl)
-  and_first true false e = absurd (false≢true e)
-  and_first false b e = absurd (false≢true e)
-
   then_ok : (c : Ctrl C) (one : Step S (Ctrl C)) → RowOk c one → StepOk c (and_then S one (soon S))
   then_ok c one r =
       let f = row_ok tt (soon_row S one.node one.node.phase refl) in
@@ -119,7 +114,7 @@ module _ {U T C R O : Type 0} (S : System U T C R O) where
       record {
         stopped = e.stopped ∙ f.stopped ∙ r.stopped;
         if_done = λ done at_end.
-            let parts = and_first (is_over S c.phase) c.ended at_end in
+            let parts = and_parts (is_over S c.phase) c.ended at_end in
             let over = over_is c.phase parts.0 in
             let one_over : is_over S one.node.phase ≡ true = ap (is_over S) (r.keeps parts.0 ∙ over) in
             let next_over : is_over S next.node.phase ≡ true = ap (is_over S) (f.keeps one_over) ∙ one_over in

@@ -1,7 +1,7 @@
 -- In a complete run all was processed, each record stands at one instance alone, and the verdict is true.
 use Rattle.std.proofs.Common.{◌≡◌, ℕ, Bool, true, false, Option, None, List, [], ◌∷◌, ◌++◌, refl, sym, ap, subst, ◌∙◌, append-nil, arith, ◌⊎◌, inl, inr}
 use Rattle.std.specs.Prelude.{if◌then◌else◌}
-use Rattle.std.proofs.lemmas.Bool.{false≢true}
+use Rattle.std.proofs.lemmas.Bool.{and_parts, false≢true}
 use Rattle.actor_net.specs.declared.choice.Choice.{Choice}
 use Rattle.actor_net.specs.Network.{Network, run, IsRun, is_done}
 use Rattle.two_machine.proofs.Machine.{Over, Scan, Is_done, Is_none, No_low, after, Frame, State}
@@ -15,12 +15,12 @@ use Rattle.two_machine.proofs.Outputs.{mine, record_by, by_log}
 use Rattle.two_machine.proofs.Closing.{Close, Closed, Closing, signs}
 use Rattle.two_machine.proofs.Promises.{listed, processed, has_come, after_low, verdicts, of_unit, fold, live_in, start, LeadsTo, Complete}
 use Rattle.two_machine.proofs.Scans.{came_by, verdicts_by, is_wrong, scan_right, from_start, the_verdict}
-use Rattle.two_machine.proofs.EveryRun.{ran_is, own_is, own_those, fold_is, done_is, WithRight, WithStays, taken_run, untaken_run}
+use Rattle.two_machine.proofs.EveryRun.{own_those, fold_is, WithRight, WithStays, taken_run, untaken_run}
 use Rattle.two_machine.proofs.RunLengths.{Counted, nobody_run}
 use Rattle.two_machine.proofs.Places.{Place, In, Cs, Ac, Sa, Sb, choice, waits, waiting_at}
 use Rattle.actor_net.proofs.CompleteWorlds.{done_waiting, done_node}
-use Rattle.two_machine.proofs.Shapes.{shape}
-use Rattle.two_machine.proofs.ClosingController.{over_is, and_first}
+use Rattle.two_machine.proofs.Shapes.{done_is, shape}
+use Rattle.two_machine.proofs.ClosingController.{over_is}
 
 module _ {U T C R O : Type 0} (S : System U T C R O) where
   -- a world in which nothing is left to do
@@ -35,7 +35,7 @@ module _ {U T C R O : Type 0} (S : System U T C R O) where
   is_over_there v c e =
       let stopped : v.ct.stopped ≡ true = done_node (node_ended S) (net v) e 1 (Is_switch v.sw) (omega arith) in
       let over = ap (λ x. x.over) c.is ∙ closed_only c.at (sym (ap (λ x. x.stopped) c.is) ∙ stopped) in
-      over_is S v.ct.phase (and_first S (is_over S v.ct.phase) v.ct.ended over).0
+      over_is S v.ct.phase (and_parts (is_over S v.ct.phase) v.ct.ended over).0
 
 -- the stages in which the update is over
 pub data Ended : Stage → Type 0 where
@@ -101,17 +101,10 @@ module _ {U T C R O : Type 0} (S : System U T C R O) (laws : Laws S) (window : �
     pub all : of_unit S u (processed w.log) ≡ of_unit S u (early ++ late)
     pub live : live_in S u w.nodes ≡ listed (fold S None (of_unit S u (early ++ late))) []
 
-  from_own : (u : U) (log : List (Note O)) → those (mine S laws u) (read ran log) ≡ those (mine S laws u) (early ++ late)
-      → of_unit S u (processed log) ≡ of_unit S u (early ++ late)
-  from_own u log e =
-      own_is S laws window early late rises u (processed log) ∙ ap (those (mine S laws u)) (ran_is log) ∙ e
-      ∙ sym (own_is S laws window early late rises u (early ++ late))
-
   record_all : (u : U) (log : List (Note O)) → those (mine S laws u) (read ran log) ≡ those (mine S laws u) (early ++ late)
       → record_by S laws u log ≡ fold S None (of_unit S u (early ++ late))
   record_all u log e =
-      fold_is S laws window early late rises u None (read ran log)
-      ∙ ap (λ xs. fold S None xs) (ap (of_unit S u) (sym (ran_is log)) ∙ from_own u log e)
+      fold_is S laws window early late rises u None (read ran log) ∙ ap (λ xs. fold S None xs) e
 
   end_taken : {n : ℕ} (u : U) (its : S.takes u ≡ true) (w : Network (Node T C) (Msg C) (Note O)) → WithRight S laws window early late rises u its n w
       → is_done (node_ended S) w ≡ true → UnitEnd u w
@@ -123,7 +116,7 @@ module _ {U T C R O : Type 0} (S : System U T C R O) (laws : Laws S) (window : �
       let two = none_waits (Of_unit u) its v h e in
       let came = arrived_all (Of_unit u) its v h e in
       let dones : done h.stage ≡ those S.covers (read ran v.log) =
-      done_is S laws window early late rises u (Of_unit u) h.stage ∙ sym (ap (λ x. x.done) h.alike) in
+      done_is (frame S (Of_unit u)) h.stage ∙ sym (ap (λ x. x.done) h.alike) in
       let own_all : those (mine S laws u) (read ran v.log) ≡ those (mine S laws u) (early ++ late) =
       sym (own_those S laws window early late rises u its (read ran v.log)) ∙ ap (those (mine S laws u)) (sym dones ∙ two.1)
       ∙ own_those S laws window early late rises u its (read arrived v.log) ∙ ap (those (mine S laws u)) came
@@ -132,7 +125,7 @@ module _ {U T C R O : Type 0} (S : System U T C R O) (laws : Laws S) (window : �
       let a : S.at v.a.table u ≡ None = ap (λ x. x.a.live) h.alike ∙ records.0 in
       let b : S.at v.b.table u ≡ fold S None (of_unit S u (early ++ late)) =
       ap (λ x. x.b.live) h.alike ∙ records.1 ∙ by_log S laws u its (early ++ late) rises v h ∙ record_all u v.log own_all in
-      rw here (record { all = from_own u v.log own_all; live = ap (λ o. listed o (listed (S.at v.b.table u) [])) a ∙ ap (λ o. listed o []) b })
+      rw here (record { all = own_all; live = ap (λ o. listed o (listed (S.at v.b.table u) [])) a ∙ ap (λ o. listed o []) b })
 
   end_untaken : {n : ℕ} (u : U) (not_its : S.takes u ≡ false) (w : Network (Node T C) (Msg C) (Note O)) → WithStays S laws window early late rises u not_its n w
       → is_done (node_ended S) w ≡ true → UnitEnd u w
@@ -150,7 +143,7 @@ module _ {U T C R O : Type 0} (S : System U T C R O) (laws : Laws S) (window : �
       ∙ ap (those (mine S laws u)) came
       in
       let a : S.at v.a.table u ≡ fold S None (of_unit S u (early ++ late)) = q.a_is ∙ record_all u v.log own_all in
-      rw here (record { all = from_own u v.log own_all; live = ap (λ o. listed (S.at v.a.table u) (listed o [])) q.b_is ∙ ap (λ o. listed o []) a })
+      rw here (record { all = own_all; live = ap (λ o. listed (S.at v.a.table u) (listed o [])) q.b_is ∙ ap (λ o. listed o []) a })
 
   unit_end : (u : U) (cs : List Choice) → IsRun (node_ready S) (node_step S) cs (start S window early late)
       → is_done (node_ended S) (run (node_step S) cs (start S window early late)) ≡ true → UnitEnd u (run (node_step S) cs (start S window early late))

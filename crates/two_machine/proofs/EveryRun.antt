@@ -7,18 +7,18 @@ use Rattle.std.proofs.lemmas.Bool.Decides.{nat_tests, Decides-eqb}
 use Rattle.actor_net.specs.declared.choice.Choice.{Choice}
 use Rattle.actor_net.specs.Network.{Network, run, IsRun}
 use Rattle.two_machine.proofs.Machine.{folded}
-use Rattle.two_machine.proofs.Stages.{Stage, Before, Storing, Passing, Turned, Ends, done, path, Rises}
-use Rattle.two_machine.proofs.Tables.{System, Laws, Msg, Note, Node, Arrived, Processed, Low, High, Done, No_packet, node_step, node_ready}
-use Rattle.two_machine.proofs.View.{read, those, those-append, carries, arrived, ran, Observer, Nobody, Of_unit, frame}
+use Rattle.two_machine.proofs.Stages.{done, path, Rises}
+use Rattle.two_machine.proofs.Tables.{System, Laws, Msg, Note, Node, node_step, node_ready}
+use Rattle.two_machine.proofs.View.{read, those, those-append, carries, arrived, ran, Nobody, Of_unit, frame}
 use Rattle.two_machine.proofs.Places.{with_waits}
 use Rattle.two_machine.proofs.Arrivals.{coming}
 use Rattle.two_machine.proofs.Runs.{Reached, known}
-use Rattle.two_machine.proofs.Outputs.{mine, its_frame, told, due, IsRight, right_keeps, cover_mine}
+use Rattle.two_machine.proofs.Outputs.{mine, its_frame, due, IsRight, right_keeps, cover_mine}
 use Rattle.two_machine.proofs.Untaken.{Stays, stays_keeps}
 use Rattle.two_machine.proofs.RunLengths.{nobody_run}
 use Rattle.two_machine.proofs.Promises.{times, IsFront, processed, of_unit, fold, outputs, given, start, LeadsTo, Every}
 use Rattle.two_machine.proofs.Scans.{scan_right, low_before_high, is_wrong}
-use Rattle.two_machine.proofs.Shapes.{shape}
+use Rattle.two_machine.proofs.Shapes.{done_is}
 use Rattle.two_machine.proofs.TakenMessages.{labels_less, kept_there}
 use Rattle.two_machine.proofs.Starts.{every_run}
 
@@ -42,31 +42,9 @@ times_once p n (x ∷ xs) h =
       | false ↦ λ _. omega (arith, times_once p x xs h.1)
     ] refl
 
-pub ran_is : {O : Type 0} (ns : List (Note O)) → processed ns ≡ read ran ns
-ran_is [] = refl
-ran_is (Processed p i o ∷ ns) = ap (λ xs. p ∷ xs) (ran_is ns)
-ran_is (Arrived p ∷ ns) = ran_is ns
-ran_is (Low ∷ ns) = ran_is ns
-ran_is (High ∷ ns) = ran_is ns
-ran_is (Done ∷ ns) = ran_is ns
-ran_is (No_packet ∷ ns) = ran_is ns
-
 module _ {U T C R O : Type 0} (S : System U T C R O) (laws : Laws S) (window : ℕ) (early late : List ℕ) (rises : Rises 0 (early ++ late)) (u : U) where
   abbrev its_own : List ℕ → List ℕ
   its_own ps = of_unit S u ps
-
-  pub own_is : (ps : List ℕ) → of_unit S u ps ≡ those (mine S laws u) ps
-  own_is [] = refl
-  own_is (p ∷ ps) = ap (λ xs. if S.equal (S.unit_of p) u then p ∷ xs else xs) (own_is ps)
-
-  given_is : (ns : List (Note O)) → given S u ns ≡ told S laws u ns
-  given_is [] = refl
-  given_is (Processed p i o ∷ ns) = ap (λ xs. if S.equal (S.unit_of p) u then o ∷ xs else xs) (given_is ns)
-  given_is (Arrived p ∷ ns) = given_is ns
-  given_is (Low ∷ ns) = given_is ns
-  given_is (High ∷ ns) = given_is ns
-  given_is (Done ∷ ns) = given_is ns
-  given_is (No_packet ∷ ns) = given_is ns
 
   due_is : (r : Option R) (ps : List ℕ) → due S laws u r ps ≡ outputs S r (of_unit S u ps)
   due_is r [] = refl
@@ -117,25 +95,15 @@ module _ {U T C R O : Type 0} (S : System U T C R O) (laws : Laws S) (window : �
   front_from log input waiting order are = record {
     rest = waiting ++ those (mine S laws u) input;
     whole =
-        ap (λ xs. xs ++ (waiting ++ those (mine S laws u) input)) (own_is (processed log) ∙ ap (those (mine S laws u)) (ran_is log))
-        ∙ sym (append_assoc (those (mine S laws u) (read ran log)) waiting (those (mine S laws u) input))
+        sym (append_assoc (those (mine S laws u) (read ran log)) waiting (those (mine S laws u) input))
         ∙ ap (λ xs. xs ++ those (mine S laws u) input) order
         ∙ sym (those-append (mine S laws u) (read arrived log) input)
-        ∙ ap (those (mine S laws u)) are
-        ∙ sym (own_is (early ++ late));
+        ∙ ap (those (mine S laws u)) are;
   }
 
   answers_from : (log : List (Note O)) → IsRight S laws u log
       → given S u log ≡ outputs S None (of_unit S u (processed log))
-  answers_from log right =
-      given_is log ∙ right ∙ due_is None (read ran log) ∙ ap (λ xs. outputs S None (of_unit S u xs)) (sym (ran_is log))
-
-  pub done_is : (o : Observer U) (s : Stage) → done s ≡ (shape (frame S o) s).done
-  done_is o (Before n d l b) = refl
-  done_is o (Storing n d f e l b) = refl
-  done_is o (Passing n d s z x g e l t c b) = refl
-  done_is o (Turned n d s z x g e l t c h y b) = refl
-  done_is o (Ends n d s t h y b) = refl
+  answers_from log right = right ∙ due_is None (read ran log)
 
   abbrev pub WithRight : S.takes u ≡ true → ℕ → Network (Node T C) (Msg C) (Note O) → Type 0
   WithRight its n w = Reached S laws (Of_unit u) its (early ++ late) rises (λ n v. IsRight S laws u v.log) n w
@@ -163,7 +131,7 @@ module _ {U T C R O : Type 0} (S : System U T C R O) (laws : Laws S) (window : �
       let here = r.is in
       let v = r.world in
       let h = r.holds in
-      let dones : done h.stage ≡ those S.covers (read ran v.log) = done_is (Of_unit u) h.stage ∙ sym (ap (λ x. x.done) h.alike) in
+      let dones : done h.stage ≡ those S.covers (read ran v.log) = done_is (frame S (Of_unit u)) h.stage ∙ sym (ap (λ x. x.done) h.alike) in
       let order : those (mine S laws u) (read ran v.log) ++ those (mine S laws u) (path h.stage) ≡ those (mine S laws u) (read arrived v.log) =
       ap (λ xs. xs ++ those (mine S laws u) (path h.stage)) (sym (own_those its (read ran v.log)) ∙ ap (those (mine S laws u)) (sym dones))
       ∙ sym (those-append (mine S laws u) (done h.stage) (path h.stage))

@@ -21,7 +21,7 @@ use Rattle.two_machine.proofs.Places.{Place, In, Cs, Aw, Bw, Sc, Ac, Bc, Sa, Ca,
 use Rattle.two_machine.proofs.Labels.{Label}
 use Rattle.two_machine.proofs.Arrivals.{OneEnd, EndsLast, EndAt, In_input_still, On_link, Has_come}
 use Rattle.two_machine.proofs.Runs.{Holds}
-use Rattle.two_machine.proofs.Closing.{Close, Unsent, Finish_a, Stop_a, Final_a, Finish_b, Stop_b, Final_b, Closed, Closing, signs, ends, is_at_end}
+use Rattle.two_machine.proofs.Closing.{Close, Unsent, Closed, Closing, signs, ends, is_at_end}
 use Rattle.two_machine.proofs.RunLengths.{nobody_run}
 use Rattle.two_machine.proofs.Cells.{Counts}
 use Rattle.two_machine.proofs.Promises.{LeadsTo, switch_window}
@@ -152,12 +152,7 @@ module _ {U T C R O : Type 0} (S : System U T C R O) (laws : Laws S) where
       by : (k : Close) → (signs k).cs ≡ [] → (signs k).sa ≡ [] → (signs k).sb ≡ [] → (signs k).ac ≡ [] → (signs k).bc ≡ [] → (signs k).over ≡ true → k ≡ Closed
       by Closed cs sa sb ac bc e = refl
       by Unsent cs sa sb ac bc e = absurd (false≢true e)
-      by Finish_a cs sa sb ac bc e = cc
-      by Stop_a cs sa sb ac bc e = cc
-      by Final_a cs sa sb ac bc e = cc
-      by Finish_b cs sa sb ac bc e = cc
-      by Stop_b cs sa sb ac bc e = cc
-      by Final_b cs sa sb ac bc e = cc
+      by k cs sa sb ac bc e = cc
 
   -- no packet is under way
   none_flies : (window : ℕ) (v : World T C O) → Counts S window v → Links v → Waiting (view S Nobody v) → v.sw.flying ≡ 0

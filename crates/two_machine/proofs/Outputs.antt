@@ -8,12 +8,13 @@ use Rattle.two_machine.proofs.Stages.{Stage, Restore_goes, Before, Storing, Pass
 use Rattle.two_machine.proofs.Tables.{System, Laws, Msg, Note, Switch, Inst, In_packet, Lay, Carry, Pass, Stop, Enable, Get, Delete, Restore, Fence}
 use Rattle.two_machine.proofs.Tables.{Processed, has_room, goes, switch_step, processed, all_processed, inst_step, ctrl_step, Step}
 use Rattle.two_machine.proofs.View.{World, read, read-append, those, carries, passes, item, ran, Of_unit, frame, view}
-use Rattle.two_machine.proofs.Places.{Place, Ca, Cb, Sa, Sb, In, Cs, Aw, Bw, Sc, Ac, Bc, with_waits}
+use Rattle.two_machine.proofs.Promises.{given}
+use Rattle.two_machine.proofs.Places.{Place, Ca, Cb, Sa, Sb, Sc, Ac, Bc, with_waits}
 use Rattle.two_machine.proofs.Labels.{Label}
 use Rattle.two_machine.proofs.Rows.{Carried, Runs, Hands_out, Held, carried}
 use Rattle.two_machine.proofs.Puts.{result}
 use Rattle.two_machine.proofs.Runs.{Holds}
-use Rattle.two_machine.proofs.Shapes.{shape}
+use Rattle.two_machine.proofs.Shapes.{done_is, shape}
 use Rattle.actor_net.proofs.WeightLaws.{Each}
 use Rattle.two_machine.proofs.StepLabels.{ctrl_ok, gives}
 
@@ -47,9 +48,7 @@ module _ {U T C R O : Type 0} (S : System U T C R O) (laws : Laws S) (u : U) whe
 
   -- what was answered to the unit's packets, and what one instance answers
   abbrev pub told : List (Note O) → List O
-  told [] = []
-  told (Processed p i o ∷ ns) = if mine p then o ∷ told ns else told ns
-  told (n ∷ ns) = told ns
+  told ns = given S u ns
 
   abbrev pub due : Option R → List ℕ → List O
   due r [] = []
@@ -175,8 +174,7 @@ module _ {U T C R O : Type 0} (S : System U T C R O) (laws : Laws S) (u : U) whe
   -- switch and controller process nothing
   goes_ran : (t : Target) (s : Switch) (p : ℕ) → read ran (goes S t s p).notes ≡ []
   goes_ran To_a s p = refl
-  goes_ran To_both s p = refl
-  goes_ran To_b s p = refl
+  goes_ran t s p = refl
 
   pub switch_ran : (s : Switch) (x : Msg C) → read ran (switch_step S s x).notes ≡ []
   switch_ran s (In_packet p) =
@@ -195,14 +193,7 @@ module _ {U T C R O : Type 0} (S : System U T C R O) (laws : Laws S) (u : U) (it
   pub by_log : (v : World T C O) (h : Holds S laws (Of_unit u) its all rises v) → after (its_frame S laws u) (done h.stage) ≡ record_by S laws u v.log
   by_log v h =
       let dones : those S.covers (read ran v.log) ≡ (shape (its_frame S laws u) h.stage).done = ap (λ x. x.done) h.alike in
-      ap (folded (its_frame S laws u) None) (done_of h.stage ∙ sym dones) ∙ folded_those S laws u its None (read ran v.log)
-    where
-      done_of : (s : Stage) → done s ≡ (shape (its_frame S laws u) s).done
-      done_of (Before n d l b) = refl
-      done_of (Storing n d f e l b) = refl
-      done_of (Passing n d s z x g e l t c b) = refl
-      done_of (Turned n d s z x g e l t c h y b) = refl
-      done_of (Ends n d s t h y b) = refl
+      ap (folded (its_frame S laws u) None) (done_is (its_frame S laws u) h.stage ∙ sym dones) ∙ folded_those S laws u its None (read ran v.log)
 
   fresh_here : (v : World T C O) (h : Holds S laws (Of_unit u) its all rises v) → Fresh (its_frame S laws u) (view S (Of_unit u) v) (done h.stage)
   fresh_here v h = subst (λ x. Fresh (its_frame S laws u) x (done h.stage)) (sym h.alike) (fresh_at (its_frame S laws u) h.stage)
@@ -264,10 +255,6 @@ module _ {U T C R O : Type 0} (S : System U T C R O) (laws : Laws S) (u : U) (it
 
   pub right_keeps : (pl : Place) (v : World T C O) (x : Msg C) (rest : List (Msg C)) → Holds S laws (Of_unit u) its all rises (with_waits S pl (x ∷ rest) v)
       → IsRight S laws u (with_waits S pl (x ∷ rest) v).log → IsRight S laws u (result S pl (with_waits S pl rest v) x).log
-  right_keeps In v x rest h right = right_none S laws u v.log (switch_step S v.sw x).notes right (switch_ran S laws u v.sw x)
-  right_keeps Cs v x rest h right = right_none S laws u v.log (switch_step S v.sw x).notes right (switch_ran S laws u v.sw x)
-  right_keeps Aw v x rest h right = right_none S laws u v.log (switch_step S v.sw x).notes right (switch_ran S laws u v.sw x)
-  right_keeps Bw v x rest h right = right_none S laws u v.log (switch_step S v.sw x).notes right (switch_ran S laws u v.sw x)
   right_keeps Sc v x rest h right =
       right_none S laws u v.log (ctrl_step S v.ct 0 x).notes right (ctrl_ok S v.ct 0 x h.labels.kept (gives S Sc x (h.labels.standing Sc).0)).unrun
   right_keeps Ac v x rest h right =
@@ -278,3 +265,4 @@ module _ {U T C R O : Type 0} (S : System U T C R O) (laws : Laws S) (u : U) (it
   right_keeps Ca v x rest h right = right_ca v x (h.labels.standing Ca).0 right
   right_keeps Sb v x rest h right = right_sb v x rest (h.labels.standing Sb).0 h right
   right_keeps Cb v x rest h right = right_cb v x rest (h.labels.standing Cb).0 h right
+  right_keeps pl v x rest h right = right_none S laws u v.log (switch_step S v.sw x).notes right (switch_ran S laws u v.sw x)

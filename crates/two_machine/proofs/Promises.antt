@@ -7,7 +7,7 @@ use Rattle.actor_net.specs.Opening.{opening}
 pub use Rattle.actor_net.specs.Numbers.{IsFront, times}
 use Rattle.two_machine.proofs.Tables.{System, Msg, Note, Node, Arrived, Processed, Low, High, Done, No_packet, Is_switch, Is_inst, node_step, node_ready}
 use Rattle.two_machine.proofs.Tables.{node_ended, first_nodes, items}
-use Rattle.two_machine.proofs.View.{read, arrived}
+use Rattle.two_machine.proofs.View.{read, those, arrived, ran}
 
 -- a list with one item in front, if there is one
 abbrev pub listed : {X : Type 0} → Option X → List X → List X
@@ -17,9 +17,7 @@ listed (Some x) xs = x ∷ xs
 module _ {O : Type 0} where
   -- packets that were processed, in order
   abbrev pub processed : List (Note O) → List ℕ
-  processed [] = []
-  processed (Processed p i o ∷ ns) = p ∷ processed ns
-  processed (n ∷ ns) = processed ns
+  processed ns = read ran ns
 
   -- what stands after the first Low
   abbrev pub after_low : List (Note O) → List (Note O)
@@ -48,8 +46,7 @@ switch_window nodes = None
 module _ {U T C R O : Type 0} (S : System U T C R O) where
   -- the packets of a unit among these
   abbrev pub of_unit : U → List ℕ → List ℕ
-  of_unit u [] = []
-  of_unit u (p ∷ ps) = if S.equal (S.unit_of p) u then p ∷ of_unit u ps else of_unit u ps
+  of_unit u ps = those (λ p. S.equal (S.unit_of p) u) ps
 
   -- one instance that nothing moves: its record after packets of one unit, and its outputs
   abbrev pub fold : Option R → List ℕ → Option R

@@ -1,6 +1,7 @@
 -- What the scan of a log tells: Low before High with a packet between them, and the verdict.
 use Rattle.std.proofs.Common.{◌≡◌, ℕ, Bool, true, false, List, [], ◌∷◌, ◌++◌, refl, sym, ap, ◌∙◌, append-nil}
 use Rattle.std.specs.Prelude.{if◌then◌else◌, ◌||◌}
+use Rattle.std.proofs.Math.Bool.{or-false}
 use Rattle.std.proofs.lemmas.Bool.{false≢true}
 use Rattle.two_machine.proofs.Machine.{Scan, No_low, Low_only, Low_came, High_laid, Is_done, Is_none, Wrong, Frame}
 use Rattle.two_machine.proofs.Stages.{Stage, Passing, Ends, Low_comes, Waits, Is_over}
@@ -29,10 +30,6 @@ abbrev pub has_low : Scan → Bool
 has_low No_low = false
 has_low s = true
 
-or_false : (b : Bool) → b ≡ b || false
-or_false true = refl
-or_false false = refl
-
 module _ {U T C R O : Type 0} (S : System U T C R O) where
   -- nothing rights a wrong log
   wrong_stays : (ns : List (Note O)) → scans S Wrong ns ≡ Wrong
@@ -42,11 +39,7 @@ module _ {U T C R O : Type 0} (S : System U T C R O) where
       by : (b : Bool) → scans S Wrong ns ≡ Wrong → scans S (if b then Wrong else Wrong) ns ≡ Wrong
       by true e = e
       by false e = e
-  wrong_stays (Processed p i o ∷ ns) = wrong_stays ns
-  wrong_stays (Low ∷ ns) = wrong_stays ns
-  wrong_stays (High ∷ ns) = wrong_stays ns
-  wrong_stays (Done ∷ ns) = wrong_stays ns
-  wrong_stays (No_packet ∷ ns) = wrong_stays ns
+  wrong_stays (n ∷ ns) = wrong_stays ns
 
   never : {X : Type 0} → (ns : List (Note O)) → is_wrong (scans S Wrong ns) ≡ false → X
   never ns right = let wrong = wrong_stays ns in absurd (false≢true (sym (rw wrong at right)))
@@ -61,7 +54,7 @@ module _ {U T C R O : Type 0} (S : System U T C R O) where
   come_since : (s : Scan) (ns : List (Note O)) → is_wrong (scans S s ns) ≡ false → has_low s ≡ true → came_by (scans S s ns) ≡ came_by s || has_come S.covers ns
   come_since No_low ns right low = absurd (false≢true low)
   come_since Wrong ns right low = never ns right
-  come_since s [] right low = or_false (came_by s)
+  come_since s [] right low = sym (or-false (came_by s))
   come_since Low_only (Arrived p ∷ ns) right low = by (S.covers p) right (come_since Low_came ns) (come_since Low_only ns)
     where
       by : (b : Bool) → is_wrong (scans S (if b then Low_came else Low_only) ns) ≡ false

@@ -1,5 +1,5 @@
 -- The state of the machine at each stage (`shape`), and where a move from there leads.
-use Rattle.std.proofs.Common.{◌≡◌, ℕ, true, false, Option, None, List, [], ◌∷◌, ◌++◌}
+use Rattle.std.proofs.Common.{◌≡◌, ℕ, true, false, Option, None, List, [], ◌∷◌, ◌++◌, refl}
 use Rattle.two_machine.proofs.Machine.{Rule, Free, Drops, Buffers, Target, To_a, To_both, To_b, Phase, Idle, Freezing, Getting, Deleting, Putting, Holding}
 use Rattle.two_machine.proofs.Machine.{Laying, Waiting, Turning, Settling, Ending, Over, Scan, No_low, Low_only, Low_came, High_laid, Is_done, Is_none, Item}
 use Rattle.two_machine.proofs.Machine.{Enable, Get, Delete, Restore, Fence, Enabled, Chunks, Deleted, Restored, Fenced, Lay, Laid, Copied, Frame, after}
@@ -281,3 +281,8 @@ to next fits alike order = record { next = next; fits = fits; alike = alike; ord
 
 abbrev pub GoesOn : {R : Type 0} → Frame R → Stage → Move → Type 0
 GoesOn f s m = Leads f s (moved f (shape f s) m) (brings m)
+
+-- what a stage has done is what its shape has
+pub done_is : {R : Type 0} (f : Frame R) (s : Stage) → done s ≡ (shape f s).done
+done_is f (Before n d l b) = refl
+done_is f s = refl

@@ -1,7 +1,9 @@
 -- A world of the network, link by link, and what an observer sees of it: nobody, who sees packets and the update's messages alone, or
 -- a unit, which sees its own records besides.
-use Rattle.std.proofs.Common.{◌≡◌, ℕ, Bool, true, false, Option, None, List, [], ◌∷◌, ◌++◌, refl, sym, ap, ◌∙◌, append_assoc}
-use Rattle.std.specs.Prelude.{if◌then◌else◌}
+use Rattle.std.proofs.Common.{◌≡◌, ℕ, Bool, true, false, Option, None, List, [], ◌∷◌, ◌++◌, refl}
+use Rattle.std.specs.Prelude.{if◌then◌else◌, filter, flat_map}
+use Rattle.std.proofs.lemmas.List.Concat.{flat_map-append}
+use Rattle.std.proofs.lemmas.List.Elements.{filter-append}
 use Rattle.actor_net.specs.Network.{Network}
 use Rattle.two_machine.proofs.Machine.{Item, Came, Scan, No_low, scanned, Frame, State}
 use Rattle.two_machine.proofs.Machine as m
@@ -39,25 +41,17 @@ net v = record {
 
 -- what is read of each item of a list, in order
 abbrev pub read : {X Y : Type 0} → (X → List Y) → List X → List Y
-read g [] = []
-read g (x ∷ xs) = g x ++ read g xs
+read g xs = flat_map g xs
 
 pub read-append : {X Y : Type 0} (g : X → List Y) (xs ys : List X) → read g (xs ++ ys) ≡ read g xs ++ read g ys
-read-append g [] ys = refl
-read-append g (x ∷ xs) ys = ap (λ zs. g x ++ zs) (read-append g xs ys) ∙ sym (append_assoc (g x) (read g xs) (read g ys))
+read-append g xs ys = flat_map-append g xs ys
 
 -- those numbers for which the test is true
 abbrev pub those : (ℕ → Bool) → List ℕ → List ℕ
-those k [] = []
-those k (p ∷ ps) = if k p then p ∷ those k ps else those k ps
+those k ps = filter k ps
 
 pub those-append : (k : ℕ → Bool) (xs ys : List ℕ) → those k (xs ++ ys) ≡ those k xs ++ those k ys
-those-append k [] ys = refl
-those-append k (x ∷ xs) ys =
-    elim (k x) as (λ b. (if b then x ∷ those k (xs ++ ys) else those k (xs ++ ys)) ≡ (if b then x ∷ those k xs else those k xs) ++ those k ys) [
-      | true ↦ ap (λ zs. x ∷ zs) (those-append k xs ys)
-      | false ↦ those-append k xs ys
-    ]
+those-append k xs ys = filter-append k xs ys
 
 -- packets in messages
 abbrev pub carries : {C : Type 0} → Msg C → List ℕ

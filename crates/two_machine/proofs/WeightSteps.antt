@@ -2,7 +2,7 @@
 use Rattle.std.proofs.Common.{◌≡◌, ◌≤◌, ℕ, ◌+◌, true, false, List, [], ◌∷◌, ◌++◌, length, refl, arith}
 use Rattle.std.specs.Prelude.{if◌then◌else◌, ◌==◌}
 use Rattle.std.proofs.lemmas.List.{length_push}
-use Rattle.two_machine.proofs.Machine.{Free, Target, To_a, To_both, To_b}
+use Rattle.two_machine.proofs.Machine.{Free, Target, To_a}
 use Rattle.two_machine.proofs.Tables.{System, Msg, Switch, Ctrl, Inst, Step, In_packet, In_start, In_end, Forward, Lay, Finish, Carry, Pass, Stop, Enable}
 use Rattle.two_machine.proofs.Tables.{Get, Delete, Restore, Fence, Event, Fenced, Final, Credit, has_room, goes, switch_step, processed, all_processed}
 use Rattle.two_machine.proofs.Tables.{inst_step, ctrl_step}
@@ -52,8 +52,7 @@ module _ {U T C R O : Type 0} (S : System U T C R O) where
 
   goes_costs : (t : Target) (s : Switch) (p : ℕ) → switch_costs (goes S t s p) ≤ 7
   goes_costs To_a s p = omega arith
-  goes_costs To_both s p = omega arith
-  goes_costs To_b s p = omega arith
+  goes_costs t s p = omega arith
 
   in_costs : (s : Switch) (m : Msg C) → Label S In m → switch_costs (switch_step S s m) + 1 ≤ w_in m
   in_costs s (In_packet p) l =
