@@ -1,6 +1,6 @@
 -- The controller's rows for the answers of members keep what every scene of a run keeps.
 use Rattle.std.proofs.Common.{◌≡◌, ℕ, ◌+◌, ◌-◌, ◌<◌, ◌≤◌, Bool, true, false, List, [], ◌∷◌, ◌++◌, refl, sym, ap, subst, ◌∙◌, append-nil, arith}
-use Rattle.std.specs.Prelude.{if◌then◌else◌, ◌==◌, not, nat_lt, filter, flat_map}
+use Rattle.std.specs.Prelude.{if◌then◌else◌, ◌==◌, nat_lt, filter, flat_map}
 use Rattle.std.proofs.lemmas.Bool.Decides.{nat_tests, Decides-eqb, Decides-ltb}
 use Rattle.nf_function.specs.declared.chunk.Chunk.{Chunk}
 use Rattle.nf_function.specs.Records.{Laws}
@@ -8,21 +8,19 @@ use Rattle.nf_function.specs.Semantics.{Semantics}
 use Rattle.nf_msgs.specs.declared.msg.Msg.{Msg}
 use Rattle.nf_msgs.specs.declared.msg.Msg.TheVariants.{Shared, Synced, Final}
 use Rattle.actor_net.specs.Histories.{sent_for}
-use Rattle.actor_net.proofs.WeightLaws.{Each, weigh}
 use Rattle.strong_share.specs.declared.serving.Serving.TheVariants.{Idle, Out, Syncing}
 use Rattle.strong_share.specs.Parts.{ControllerState}
 use Rattle.strong_share.specs.Tables.{ControllerStep, controller_still, serve_step, syncs, shared_row, synced_row, on_final, row_of_member}
 use Rattle.strong_share.specs.Start.{StrongJob, IsStrongJob}
-use Rattle.strong_share.specs.Words.{entries, events_of, arrivals_in, done_numbers, is_taken, is_taken_at}
+use Rattle.strong_share.specs.Words.{events_of, is_taken_at}
 use Rattle.strong_share.proofs.Lists.{put, two_one, two_zero}
 use Rattle.strong_share.proofs.Scenes.{Scene, controller_did}
 use Rattle.strong_share.proofs.ServedPackets.{Sight, Agrees, serves_alike, tight_alike, rests_serves, serving_of}
 use Rattle.strong_share.proofs.Spreading.{spread_to, told_is, IsTold, spreads, took_is, HasTaken, takes_one, takes_last}
-use Rattle.strong_share.proofs.Reading.{packet_in, plain_in, event_in, answer_in, end_in, stop_in, taken_has, each_taken}
+use Rattle.strong_share.proofs.Reading.{plain_in, event_in, answer_in, taken_first, taken_has, each_taken}
 use Rattle.strong_share.proofs.SyncSends.{syncs_sent, syncs_other}
-use Rattle.strong_share.proofs.Holding.{up_label, down_label, back_label, Labelled, IsRight, Ordered, Ends}
-use Rattle.strong_share.proofs.Holding.{ends_left, sight, Holds, IsSwitch, home_label, in_label, out_label}
-use Rattle.strong_share.proofs.MemberRows.{IsMember}
+use Rattle.strong_share.proofs.Holding.{back_label, Labelled, Ordered, Ends}
+use Rattle.strong_share.proofs.Holding.{sight, Holds}
 use Rattle.strong_share.proofs.QueueRows.{no_notes, serves_members, serve_scene, HoldsLoosely, serve_holds}
 
 -- A member has stopped.
@@ -39,49 +37,32 @@ final_confined c = ap (λ did. sent_for 1 did.sends) (final_members c (nat_lt c.
 
 module _ {F R : Type 0} (f : Semantics R) (job : StrongJob) where
   -- A row that takes an answer from a member and changes neither the log nor what is counted.
-  answer_parts : (x : Scene F R) (j : ℕ) (m : Msg) (rest : List Msg) → j < job.members → x.back j ≡ m ∷ rest → event_in m ≡ [] → Holds f job x → (y : Scene F R)
-      → y.input ≡ x.input → y.up ≡ x.up → y.down ≡ x.down → y.out ≡ x.out → y.home ≡ x.home → y.switch ≡ x.switch → y.member ≡ x.member → y.log ≡ x.log
-      → y.controller.members ≡ x.controller.members → y.back ≡ put x.back j rest
-      → Labelled job y × Ordered job y × Ends job y
-  answer_parts x j m rest j_in is none h y input up down out home switch member log members back = (
+  answer_parts : (x : Scene F R) (j : ℕ) (m : Msg) (rest : List Msg) → j < job.members → x.back j ≡ m ∷ rest → event_in m ≡ [] → Holds f job x
+      → (c : ControllerState) (to : ℕ → List Msg) → c.members ≡ x.controller.members
+      → Labelled job (record x { back = put x.back j rest; controller = c; to = to })
+      × Ordered job (record x { back = put x.back j rest; controller = c; to = to })
+      × Ends job (record x { back = put x.back j rest; controller = c; to = to })
+  answer_parts x j m rest j_in is none h c to members = (
     record {
-      input = subst (Each (in_label job)) (sym input) h.labelled.input;
-      up = subst (Each (up_label job)) (sym up) h.labelled.up;
-      down = subst (Each (down_label job)) (sym down) h.labelled.down;
-      out = subst (λ g. (k : ℕ) → k < job.members → Each (out_label job k) (g k)) (sym out) h.labelled.out;
-      back = subst (λ g. (k : ℕ) → k < job.members → Each (back_label job k) (g k)) (sym back) (each_taken (back_label job) job.members x.back j m rest j_in is
-          h.labelled.back);
-      home = subst (λ g. (k : ℕ) → k < job.members → Each (home_label job) (g k)) (sym home) h.labelled.home;
-      switch = subst (IsSwitch job) (sym switch) h.labelled.switch;
+      input = h.labelled.input;
+      up = h.labelled.up;
+      down = h.labelled.down;
+      out = h.labelled.out;
+      back = each_taken (back_label job) job.members x.back j m rest j_in is h.labelled.back;
+      home = h.labelled.home;
+      switch = h.labelled.switch;
       members = members ∙ h.labelled.members;
-      member = subst (λ g. (k : ℕ) → k < job.members → IsMember job k (g k)) (sym member) h.labelled.member;
+      member = h.labelled.member;
     },
     record {
-      in_turn = ap (λ l. arrivals_in l ++ flat_map packet_in y.input) log ∙ ap (λ ms. arrivals_in x.log ++ flat_map packet_in ms) input ∙ h.ordered.in_turn;
+      in_turn = h.ordered.in_turn;
       each_member = λ k k_in.
-          ap (λ l. events_of k l ++ (flat_map event_in (y.back k) ++ filter (is_taken_at job k) (flat_map plain_in (y.out k)))) log
-          ∙ ap (λ g. events_of k x.log ++ (flat_map event_in (g k) ++ filter (is_taken_at job k) (flat_map plain_in (y.out k)))) back
-          ∙ ap (λ z. events_of k x.log ++ (z ++ filter (is_taken_at job k) (flat_map plain_in (y.out k)))) (taken_has event_in x.back j m rest is none k)
-          ∙ ap (λ g. events_of k x.log ++ (flat_map event_in (x.back k) ++ filter (is_taken_at job k) (flat_map plain_in (g k)))) out
-          ∙ h.ordered.each_member k k_in
-          ∙ ap (λ l. filter (is_taken_at job k) (arrivals_in l)) (sym log);
-      others = ap (λ l. filter (λ p. not (is_taken job p)) (done_numbers l) ++ filter (λ p. not (is_taken job p)) (flat_map plain_in (y.out 0))) log
-          ∙ ap (λ g. filter (λ p. not (is_taken job p)) (done_numbers x.log) ++ filter (λ p. not (is_taken job p)) (flat_map plain_in (g 0))) out
-          ∙ h.ordered.others ∙ ap (λ l. filter (λ p. not (is_taken job p)) (arrivals_in l)) (sym log);
-      right = subst (λ l. Each (IsRight job) (entries l)) (sym log) h.ordered.right;
+          ap (λ z. events_of k x.log ++ (z ++ filter (is_taken_at job k) (flat_map plain_in (x.out k)))) (taken_has event_in x.back j m rest is none k)
+          ∙ h.ordered.each_member k k_in;
+      others = h.ordered.others;
+      right = h.ordered.right;
     },
-    record {
-      closed = ap (λ ms. weigh end_in ms + weigh end_in y.up + weigh end_in y.down + (if y.switch.window.closed then 1 else 0)) input
-          ∙ ap (λ ms. weigh end_in x.input + weigh end_in ms + weigh end_in y.down + (if y.switch.window.closed then 1 else 0)) up
-          ∙ ap (λ ms. weigh end_in x.input + weigh end_in x.up + weigh end_in ms + (if y.switch.window.closed then 1 else 0)) down
-          ∙ ap (λ s. ends_left job x + (if s.window.closed then 1 else 0)) switch ∙ h.ends.closed;
-      stopped = λ k k_in.
-          ap (λ ms. weigh end_in ms + weigh end_in y.up + weigh end_in y.down + weigh stop_in (y.out k) + (if (y.member k).ended then 1 else 0)) input
-          ∙ ap (λ ms. weigh end_in x.input + weigh end_in ms + weigh end_in y.down + weigh stop_in (y.out k) + (if (y.member k).ended then 1 else 0)) up
-          ∙ ap (λ ms. weigh end_in x.input + weigh end_in x.up + weigh end_in ms + weigh stop_in (y.out k) + (if (y.member k).ended then 1 else 0)) down
-          ∙ ap (λ g. ends_left job x + weigh stop_in (g k) + (if (y.member k).ended then 1 else 0)) out
-          ∙ ap (λ g. ends_left job x + weigh stop_in (x.out k) + (if (g k).ended then 1 else 0)) member ∙ h.ends.stopped k k_in;
-    },
+    record { closed = h.ends.closed; stopped = h.ends.stopped },
   )
 
   -- what stays still sends nothing
@@ -119,13 +100,6 @@ module _ {F R : Type 0} (f : Semantics R) (job : StrongJob) where
       down = ap (λ ms. x.down ++ ms) (syncs_other j chunk x.controller.members 0 two_zero) ∙ append-nil x.down
 
   module _ (laws : Laws f) (job_is : IsStrongJob f.kind job) where
-    -- what a member's answer leaves of its link
-    answers_left : (x : Scene F R) (j : ℕ) (m : Msg) (rest : List Msg) (k : ℕ)
-        → flat_map answer_in (put x.back j rest k) ≡ (if k == j then flat_map answer_in rest else flat_map answer_in (x.back k))
-    answers_left x j m rest k =
-        elim (k == j) as (λ b. flat_map answer_in (if b then rest else x.back k) ≡ (if b then flat_map answer_in rest else flat_map answer_in (x.back k)))
-        [ true ↦ refl | false ↦ refl ]
-
     module _ (x : Scene F R) (j : ℕ) (rest : List Msg) (op : ℕ) (chunk : Chunk) (j_in : j < job.members) (h : Holds f job x)
         (is : x.back j ≡ Shared op chunk ∷ rest) where
       told : IsTold f laws job job_is (sight job x) h.serves j chunk (flat_map answer_in rest)
@@ -149,12 +123,12 @@ module _ {F R : Type 0} (f : Semantics R) (job : StrongJob) where
 
       pub told_holds : Holds f job (told_in x j rest chunk)
       told_holds =
-          let parts = answer_parts x j (Shared op chunk) rest j_in is refl h (told_in x j rest chunk) refl refl refl refl refl refl refl refl refl refl in
+          let parts = answer_parts x j (Shared op chunk) rest j_in is refl h (told_in x j rest chunk).controller (told_in x j rest chunk).to refl in
           record {
             labelled = parts.0;
             ordered = parts.1;
             serves = serves_alike f job wanted (sight job (told_in x j rest chunk)) agrees (spreads f laws job job_is (sight job x) h.serves j chunk
-                (flat_map answer_in rest) j_in told (λ k. flat_map answer_in (put x.back j rest k)) (λ k _. answers_left x j (Shared op chunk) rest k));
+                (flat_map answer_in rest) j_in told (λ k. flat_map answer_in (put x.back j rest k)) (λ k _. taken_first answer_in x.back j (Shared op chunk) rest is k));
             tight = λ idle. absurd cc;
             answered = h.answered;
             ends = parts.2;
@@ -188,11 +162,11 @@ module _ {F R : Type 0} (f : Semantics R) (job : StrongJob) where
 
       left_of : (k : ℕ) → k < job.members → flat_map answer_in (put x.back j rest k)
           ≡ (if k == j then flat_map answer_in rest else flat_map answer_in (x.back k))
-      left_of k _ = answers_left x j (Synced op) rest k
+      left_of k _ = taken_first answer_in x.back j (Synced op) rest is k
 
       waits_holds : 1 < took.left → Holds f job waits_on
       waits_holds others =
-          let parts = answer_parts x j (Synced op) rest j_in is refl h waits_on refl refl refl refl refl refl refl refl refl refl in
+          let parts = answer_parts x j (Synced op) rest j_in is refl h waits_on.controller x.to refl in
           record {
             labelled = parts.0;
             ordered = parts.1;
@@ -205,7 +179,7 @@ module _ {F R : Type 0} (f : Semantics R) (job : StrongJob) where
 
       idles_holds : took.left ≤ 1 → HoldsLoosely f job idles
       idles_holds last =
-          let parts = answer_parts x j (Synced op) rest j_in is refl h idles refl refl refl refl refl refl refl refl refl refl in
+          let parts = answer_parts x j (Synced op) rest j_in is refl h idles.controller x.to refl in
           record {
             labelled = parts.0;
             ordered = parts.1;
@@ -249,8 +223,8 @@ module _ {F R : Type 0} (f : Semantics R) (job : StrongJob) where
   pub final_holds : (x : Scene F R) (j : ℕ) (rest : List Msg) → j < job.members → Holds f job x → x.back j ≡ Final ∷ rest
       → Holds f job (changed_in x j rest (final_in x.controller))
   final_holds x j rest j_in h is =
-      let parts = answer_parts x j Final rest j_in is refl h (changed_in x j rest (final_in x.controller)) refl refl refl refl refl refl refl refl
-      (stays_members (nat_lt x.controller.finals x.controller.members)) refl in
+      let parts = answer_parts x j Final rest j_in is refl h (final_in x.controller) x.to
+      (stays (λ c. c.members) refl (nat_lt x.controller.finals x.controller.members)) in
       record {
         labelled = parts.0;
         ordered = parts.1;
@@ -260,22 +234,15 @@ module _ {F R : Type 0} (f : Semantics R) (job : StrongJob) where
         ends = parts.2;
       }
     where
-      stays_members : (b : Bool) → (if b then record x.controller { finals = x.controller.finals + 1 } else x.controller).members ≡ x.controller.members
-      stays_members true = refl
-      stays_members false = refl
-
-      stays_serving : (b : Bool) → (if b then record x.controller { finals = x.controller.finals + 1 } else x.controller).serving ≡ x.controller.serving
-      stays_serving true = refl
-      stays_serving false = refl
-
-      stays_queue : (b : Bool) → (if b then record x.controller { finals = x.controller.finals + 1 } else x.controller).queue ≡ x.controller.queue
-      stays_queue true = refl
-      stays_queue false = refl
+      stays : {X : Type 0} (g : ControllerState → X) → g (record x.controller { finals = x.controller.finals + 1 }) ≡ g x.controller → (b : Bool)
+          → g (if b then record x.controller { finals = x.controller.finals + 1 } else x.controller) ≡ g x.controller
+      stays g same true = same
+      stays g same false = refl
 
       agrees : Agrees f job (sight job x) (sight job (changed_in x j rest (final_in x.controller)))
       agrees = record {
-        serving = stays_serving (nat_lt x.controller.finals x.controller.members);
-        queue = stays_queue (nat_lt x.controller.finals x.controller.members);
+        serving = stays (λ c. c.serving) refl (nat_lt x.controller.finals x.controller.members);
+        queue = stays (λ c. c.queue) refl (nat_lt x.controller.finals x.controller.members);
         to = λ k _. refl;
         answers = λ k _. taken_has answer_in x.back j Final rest is refl k;
         queued = refl;

@@ -204,22 +204,15 @@ module _ (F : Type 0) {R : Type 0} (f : Semantics R) (laws : Laws f) (alloc : Gl
     no_queue = counted.holds.tight idle
 
     -- nothing is under way
-    light_input : (ms : List Msg) → Each (in_label job) ms → weigh cell ms ≡ 0
-    light_input [] l = refl
-    light_input (m ∷ ms) l = let rest = light_input ms l.1 in let one = light m l.0 in omega (arith, rest, one)
+    light_input : (measure : Msg → ℕ) → ((p : Packet) → measure (InPacket p) ≡ 0) → measure InEnd ≡ 0
+        → (ms : List Msg) → Each (in_label job) ms → weigh measure ms ≡ 0
+    light_input measure packet over [] l = refl
+    light_input measure packet over (m ∷ ms) l =
+        let rest = light_input measure packet over ms l.1 in let one = light m l.0 in omega (arith, rest, one)
       where
-        light : (z : Msg) → in_label job z → cell z ≡ 0
-        light (InPacket p) e = refl
-        light InEnd e = refl
-        light z e = absurd e
-
-    unfinal_input : (ms : List Msg) → Each (in_label job) ms → weigh final_in ms ≡ 0
-    unfinal_input [] l = refl
-    unfinal_input (m ∷ ms) l = let rest = unfinal_input ms l.1 in let one = light m l.0 in omega (arith, rest, one)
-      where
-        light : (z : Msg) → in_label job z → final_in z ≡ 0
-        light (InPacket p) e = refl
-        light InEnd e = refl
+        light : (z : Msg) → in_label job z → measure z ≡ 0
+        light (InPacket p) e = packet p
+        light InEnd e = over
         light z e = absurd e
 
     input_label : Each (in_label job) w.input
@@ -232,7 +225,7 @@ module _ (F : Type 0) {R : Type 0} (f : Semantics R) (laws : Laws f) (alloc : Gl
     rests =
         let flies = counted.flies in
         let cells = silent_total w world.0 silent cell in
-        let light = light_input w.input input_label in
+        let light = light_input cell (λ p. refl) refl w.input input_label in
         let queue = ap length no_queue in
         omega (arith, flies, cells, light, queue)
 
@@ -288,7 +281,7 @@ module _ (F : Type 0) {R : Type 0} (f : Semantics R) (laws : Laws f) (alloc : Gl
         let stops = counted.stops in
         let few = counted.few in
         let light = silent_total w world.0 silent final_in in
-        let unfinal = unfinal_input w.input input_label in
+        let unfinal = light_input final_in (λ p. refl) refl w.input input_label in
         let members = counted.holds.labelled.members in
         omega (arith, all, stops, few, light, unfinal, members)
 

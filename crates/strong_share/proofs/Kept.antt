@@ -32,8 +32,8 @@ use Rattle.strong_share.specs.Words.{processed_of, queue_of, live_at, standby_at
 use Rattle.strong_share.specs.Promises.{StrongPromises, StrongCompleted}
 use Rattle.net_world.specs.Input.{IsRising}
 use Rattle.net_world.proofs.FoundPackets.{one_by_one}
-use Rattle.net_world.proofs.NumberCounts.{times-append}
-use Rattle.strong_share.proofs.Lists.{filter_among, times_filter, filter_few}
+use Rattle.net_world.proofs.NumberCounts.{times-append, times_filter}
+use Rattle.strong_share.proofs.Lists.{filter_among, filter_few}
 use Rattle.strong_share.proofs.Folds.{seen, unit_taken}
 use Rattle.strong_share.proofs.Scenes.{Scene, Shows}
 use Rattle.strong_share.proofs.ServedPackets.{raised_number, all_of, waits_of, at_rest, Rests}

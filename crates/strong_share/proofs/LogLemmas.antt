@@ -5,7 +5,6 @@ use Rattle.std.proofs.lemmas.List.{map-append}
 use Rattle.std.proofs.lemmas.List.Elements.{filter-append, filter_map-append}
 use Rattle.nf_function.specs.declared.unit.Unit as units
 use Rattle.nf_function.specs.Semantics.{Semantics}
-use Rattle.nf_msgs.specs.declared.note.Note.{Note}
 use Rattle.net_world.specs.Log as log
 use Rattle.net_world.proofs.LogLemmas as log_lemmas
 use Rattle.strong_share.specs.declared.note.StrongNote.{StrongNote}

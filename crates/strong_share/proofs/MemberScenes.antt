@@ -1,11 +1,11 @@
 -- What a member's step leaves of a scene, and which of its facts stay.
-use Rattle.std.proofs.Common.{◌≡◌, ℕ, ◌+◌, ◌<◌, Bool, true, false, List, [], ◌++◌, map, refl, sym, ap, ◌∙◌}
-use Rattle.std.specs.Prelude.{if◌then◌else◌, ◌==◌, not}
+use Rattle.std.proofs.Common.{◌≡◌, ℕ, ◌+◌, ◌<◌, Bool, true, false, List, [], ◌++◌, map, refl, sym, ap, subst, ◌∙◌}
+use Rattle.std.specs.Prelude.{if◌then◌else◌, ◌==◌, not, filter, flat_map}
 use Rattle.std.proofs.lemmas.Bool.Decides.{Decides-eqb}
 use Rattle.std.specs.FinMap as finite
 use Rattle.nf_function.specs.declared.unit.Unit as units
 use Rattle.nf_function.specs.Semantics.{Semantics}
-use Rattle.record_table.specs.Table.{part}
+use Rattle.record_table.specs.Table.{part, TableView}
 use Rattle.nf_msgs.specs.declared.msg.Msg.{Msg}
 use Rattle.instance_worker.specs.declared.instance.Instance.{Instance as InstanceState}
 use Rattle.instance_worker.specs.Instance.{Step}
@@ -15,18 +15,37 @@ use Rattle.strong_share.specs.declared.note.StrongNote.{StrongNote}
 use Rattle.strong_share.specs.declared.note.StrongNote.TheVariants.{Inner}
 use Rattle.strong_share.specs.Tables.{is_home}
 use Rattle.strong_share.specs.Start.{StrongJob}
+use Rattle.strong_share.specs.Words.{events_of, arrivals_in, done_numbers, is_taken, is_taken_at}
 use Rattle.strong_share.proofs.Lists.{put}
 use Rattle.strong_share.proofs.MemberRows.{IsMember}
 use Rattle.strong_share.proofs.Scenes.{Scene, member_did}
-use Rattle.strong_share.proofs.ServedPackets.{one_if}
-use Rattle.strong_share.proofs.Reading.{stop_in, each_at}
-use Rattle.strong_share.proofs.Holding.{out_label, back_label, home_label, Labelled, Ends, ends_left, Holds}
+use Rattle.strong_share.proofs.ServedPackets.{Agrees, one_if}
+use Rattle.strong_share.proofs.Reading.{packet_in, plain_in, event_in, answer_in, stop_in, each_at, none_at}
+use Rattle.strong_share.proofs.Holding.{out_label, back_label, home_label, Labelled, IsRight, Ordered, Ends, ends_left, sight, Holds}
+use Rattle.strong_share.proofs.LogLemmas.{IsQuiet, entry_numbers, member_numbers}
 
 pub put_own : {X : Type 0} (g : ℕ → X) (j k : ℕ) → put g j (g j) k ≡ g k
 put_own g j k = elim (k == j) as (λ b. (k == j) ≡ b → (if b then g j else g k) ≡ g k) [
   | true ↦ λ on. (let same : k ≡ j = (Decides-eqb k j).0 on in ap g (sym same))
   | false ↦ λ _. refl
 ] refl
+
+-- Packets stay in order where nothing is noted of them, and what waits of each member's is as before.
+pub ordered_quiet : {F R : Type 0} (job : StrongJob) (x y : Scene F R) → Ordered job x → IsQuiet x.log y.log → arrivals_in y.log ≡ arrivals_in x.log
+    → y.input ≡ x.input → ((k : ℕ) → k < job.members → flat_map event_in (y.back k) ++ filter (is_taken_at job k) (flat_map plain_in (y.out k))
+    ≡ flat_map event_in (x.back k) ++ filter (is_taken_at job k) (flat_map plain_in (x.out k)))
+    → filter (λ p. not (is_taken job p)) (flat_map plain_in (y.out 0)) ≡ filter (λ p. not (is_taken job p)) (flat_map plain_in (x.out 0)) → Ordered job y
+ordered_quiet job x y h quiet came input members first = record {
+  in_turn = ap (λ ns. ns ++ flat_map packet_in y.input) came ∙ ap (λ ms. arrivals_in x.log ++ flat_map packet_in ms) input ∙ h.in_turn;
+  each_member = λ k k_in.
+      ap (λ es. member_numbers k es ++ (flat_map event_in (y.back k) ++ filter (is_taken_at job k) (flat_map plain_in (y.out k)))) quiet.entries_stay
+      ∙ ap (λ z. events_of k x.log ++ z) (members k k_in) ∙ h.each_member k k_in ∙ ap (filter (is_taken_at job k)) (sym came);
+  others =
+      ap (λ ds. filter (λ p. not (is_taken job p)) (map (λ d. d.number) ds) ++ filter (λ p. not (is_taken job p)) (flat_map plain_in (y.out 0)))
+      quiet.done_stays
+      ∙ ap (λ z. filter (λ p. not (is_taken job p)) (done_numbers x.log) ++ z) first ∙ h.others ∙ ap (filter (λ p. not (is_taken job p))) (sym came);
+  right = subst (Each (IsRight job)) (sym quiet.entries_stay) h.right;
+}
 
 -- What a member's step leaves: what it sent on its two links, and what it noted.
 module _ {F R : Type 0} (x : Scene F R) (out to : ℕ → List Msg) (j : ℕ) (node : InstanceState F R) (told credits : List Msg) (notes : List StrongNote) where
@@ -118,3 +137,18 @@ module _ {F R : Type 0} (f : Semantics R) (job : StrongJob) (x : Scene F R) (j :
           | true ↦ λ on. (let is_j : k ≡ j = (Decides-eqb k j).0 on in same ∙ ap (λ i. (x.member i).ended) (sym is_j))
           | false ↦ λ _. refl
         ] refl
+
+    -- what is looked at is as before where the member's records are, and it answers nothing
+    pub agrees_left : (out : ℕ → List Msg) (told credits : List Msg) (notes : List StrongNote) → flat_map answer_in told ≡ []
+        → IsQuiet x.log (x.log ++ notes) → ((k : ℕ) → (put x.member j node k).table ≡ (x.member k).table)
+        → Agrees f job (sight job x) (sight job (left_by x out x.to j node told credits notes))
+    agrees_left out told credits notes none quiet tables = record {
+      serving = refl;
+      queue = refl;
+      to = λ k _. refl;
+      answers = λ k _. none_at answer_in (x.back k) told (k == j) none;
+      queued = ap entry_numbers quiet.entries_stay;
+      processed = ap (map (λ d. d.number)) quiet.done_stays;
+      own = λ k _ u. ap (λ (t : TableView R). finite.get (part t (is_home k)) u) (tables k);
+      other = λ k _ u. ap (λ (t : TableView R). finite.get (part t (not (is_home k))) u) (tables k);
+    }

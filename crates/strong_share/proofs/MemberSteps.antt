@@ -1,13 +1,10 @@
 -- The rows of a member for a packet that it raises and for its stop keep what every scene of a run keeps.
-use Rattle.std.proofs.Common.{◌≡◌, ℕ, ◌+◌, ◌<◌, ◌≤◌, Bool, true, false, None, List, [], ◌∷◌, ◌++◌, refl, sym, ap, subst, ◌∙◌, append_assoc, append-nil, arith}
+use Rattle.std.proofs.Common.{◌≡◌, ℕ, ◌+◌, ◌<◌, ◌≤◌, Bool, true, false, List, [], ◌∷◌, ◌++◌, refl, sym, ap, ◌∙◌, append_assoc, append-nil, arith}
 use Rattle.std.specs.Prelude.{if◌then◌else◌, ◌==◌, ◌&&◌, not, filter, flat_map}
 use Rattle.std.proofs.lemmas.Bool.Decides.{Decides-eqb}
-use Rattle.std.specs.FinMap as finite
 use Rattle.flow_filter.specs.Filter.{matches}
 use Rattle.flow_filter.specs.Flow.{flow_of}
-use Rattle.nf_function.specs.declared.unit.Unit as units
 use Rattle.nf_function.specs.Semantics.{Semantics}
-use Rattle.record_table.specs.Table.{part, TableView}
 use Rattle.event_filter.specs.declared.mark.Mark.TheVariants as mark
 use Rattle.packet_pool.specs.Pool.{FullCell}
 use Rattle.nf_msgs.specs.declared.msg.Msg.{Msg}
@@ -15,19 +12,19 @@ use Rattle.nf_msgs.specs.declared.msg.Msg.TheVariants.{Carry, Stop, Event, Final
 use Rattle.instance_worker.specs.declared.instance.Instance.{Instance as InstanceState}
 use Rattle.instance_worker.specs.Instance.{instance_step}
 use Rattle.actor_net.specs.Histories.{sent_for}
-use Rattle.actor_net.proofs.WeightLaws.{Each, weigh}
-use Rattle.strong_share.specs.Tables.{the_share, is_home}
+use Rattle.actor_net.proofs.WeightLaws.{weigh}
+use Rattle.strong_share.specs.Tables.{the_share}
 use Rattle.strong_share.specs.Start.{StrongJob}
-use Rattle.strong_share.specs.Words.{entries, events_of, arrivals_in, done_numbers, is_taken, member_of, is_taken_at, outputs, processed_of, outputs_of}
+use Rattle.strong_share.specs.Words.{arrivals_in, is_taken, member_of, is_taken_at}
 use Rattle.strong_share.proofs.Lists.{put, one_two}
 use Rattle.strong_share.proofs.MemberRows.{raises}
 use Rattle.strong_share.proofs.Scenes.{Scene, member_did}
 use Rattle.strong_share.proofs.ServedPackets.{number, one_if, IsGenuine, Agrees, serves_alike, tight_alike}
-use Rattle.strong_share.proofs.Reading.{packet_in, plain_in, event_in, answer_in, stop_in, taken_has}
+use Rattle.strong_share.proofs.Reading.{plain_in, event_in, stop_in, taken_has}
 use Rattle.strong_share.proofs.Reading.{taken_first, more_at, none_at, each_taken, head_of, taken_weighs}
-use Rattle.strong_share.proofs.Holding.{out_label, IsRight, ends_left, sight, Holds}
-use Rattle.strong_share.proofs.LogLemmas.{entry_numbers}
-use Rattle.strong_share.proofs.MemberScenes.{put_own, left_by, labelled_left, ends_left_by}
+use Rattle.strong_share.proofs.Holding.{out_label, ends_left, sight, Holds}
+use Rattle.strong_share.proofs.LogLemmas.{IsQuiet, answered_same, quiet_log}
+use Rattle.strong_share.proofs.MemberScenes.{put_own, left_by, agrees_left, labelled_left, ends_left_by, ordered_quiet}
 
 -- A packet that the filter matches is raised.
 module _ {F R : Type 0} (f : Semantics R) (job : StrongJob) (x : Scene F R) (j : ℕ) (j_in : j < job.members) (h : Holds f job x) (c : FullCell)
@@ -60,42 +57,26 @@ module _ {F R : Type 0} (f : Semantics R) (job : StrongJob) (x : Scene F R) (j :
       labelled = labelled_left f job x j j_in h (x.member j) (put x.out j rest) x.to (Event the_share c ∷ []) [] []
           (record { rules = refl; site = refl; index = refl }) (each_taken (out_label job) job.members x.out j (Carry mark.Plain c) rest j_in is h.labelled.out)
           (record { genuine = genuine.0; taken = taken; member_is = genuine.1; there = j_in }, tt) tt;
-      ordered = record {
-        in_turn = ap (λ l. arrivals_in l ++ flat_map packet_in x.input) (append-nil x.log) ∙ h.ordered.in_turn;
-        each_member = λ k k_in.
-            ap (λ l. events_of k l ++ (flat_map event_in (x.back k ++ (if k == j then Event the_share c ∷ [] else []))
-            ++ filter (is_taken_at job k) (flat_map plain_in (put x.out j rest k)))) (append-nil x.log)
-            ∙ ap (λ z. events_of k x.log ++ (z ++ filter (is_taken_at job k) (flat_map plain_in (put x.out j rest k))))
-            (more_at event_in (x.back k) (Event the_share c ∷ []) (k == j))
-            ∙ ap (λ z. events_of k x.log ++ ((flat_map event_in (x.back k) ++ (if k == j then number c ∷ [] else [])) ++ filter (is_taken_at job k) z))
-            (taken_first plain_in x.out j (Carry mark.Plain c) rest is k)
-            ∙ ap (λ z. events_of k x.log ++ z) (at_member k)
-            ∙ h.ordered.each_member k k_in
-            ∙ ap (λ l. filter (is_taken_at job k) (arrivals_in l)) (sym (append-nil x.log));
-        others = ap (λ l. filter untaken (done_numbers l) ++ filter untaken (flat_map plain_in (put x.out j rest 0))) (append-nil x.log)
-            ∙ ap (λ z. filter untaken (done_numbers x.log) ++ z) at_first
-            ∙ h.ordered.others
-            ∙ ap (λ l. filter untaken (arrivals_in l)) (sym (append-nil x.log));
-        right = subst (λ l. Each (IsRight job) (entries l)) (sym (append-nil x.log)) h.ordered.right;
-      };
+      ordered = ordered_quiet job x raised_scene h.ordered quiet (ap arrivals_in (append-nil x.log)) refl
+          (λ k k_in.
+          ap (λ z. z ++ filter (is_taken_at job k) (flat_map plain_in (put x.out j rest k))) (more_at event_in (x.back k) (Event the_share c ∷ []) (k == j))
+          ∙ ap (λ z. (flat_map event_in (x.back k) ++ (if k == j then number c ∷ [] else [])) ++ filter (is_taken_at job k) z)
+          (taken_first plain_in x.out j (Carry mark.Plain c) rest is k)
+          ∙ at_member k)
+          at_first;
       serves = serves_alike f job (sight job x) (sight job raised_scene) agrees h.serves;
       tight = tight_alike f job (sight job x) (sight job raised_scene) agrees h.tight;
-      answered = subst (λ l. (u : units.Unit) → outputs_of f job u l ≡ outputs f job None (processed_of f job u l)) (sym (append-nil x.log)) h.answered;
+      answered = answered_same f job x.log raised_scene.log quiet h.answered;
       ends = ends_left_by f job x j j_in h (x.member j) (put x.out j rest) x.to (Event the_share c ∷ []) [] [] refl
           (taken_weighs stop_in x.out j (Carry mark.Plain c) rest is refl);
     }
       where
+        quiet : IsQuiet x.log raised_scene.log
+        quiet = quiet_log x.log [] refl refl
+
         agrees : Agrees f job (sight job x) (sight job raised_scene)
-        agrees = record {
-          serving = refl;
-          queue = refl;
-          to = λ k _. refl;
-          answers = λ k _. none_at answer_in (x.back k) (Event the_share c ∷ []) (k == j) refl;
-          queued = ap (λ l. entry_numbers (entries l)) (append-nil x.log);
-          processed = ap done_numbers (append-nil x.log);
-          own = λ k _ u. ap (λ (i : InstanceState F R). finite.get (part i.table (is_home k)) u) (put_own x.member j k);
-          other = λ k _ u. ap (λ (i : InstanceState F R). finite.get (part i.table (not (is_home k))) u) (put_own x.member j k);
-        }
+        agrees = agrees_left f job x j j_in h (x.member j) (put x.out j rest) (Event the_share c ∷ []) [] [] refl quiet
+            (λ k. ap (λ (i : InstanceState F R). i.table) (put_own x.member j k))
 
         at_member : (k : ℕ) → (flat_map event_in (x.back k) ++ (if k == j then number c ∷ [] else []))
             ++ filter (is_taken_at job k) (if k == j then flat_map plain_in rest else flat_map plain_in (x.out k)) ≡ flat_map event_in (x.back k)
@@ -144,27 +125,14 @@ module _ {F R : Type 0} (f : Semantics R) (job : StrongJob) (x : Scene F R) (j :
   stopped_holds = record {
     labelled = labelled_left f job x j j_in h stopped (put x.out j rest) x.to (Final ∷ []) [] [] (record { rules = refl; site = refl; index = refl })
         (each_taken (out_label job) job.members x.out j Stop rest j_in is h.labelled.out) (tt, tt) tt;
-    ordered = record {
-      in_turn = ap (λ l. arrivals_in l ++ flat_map packet_in x.input) (append-nil x.log) ∙ h.ordered.in_turn;
-      each_member = λ k k_in.
-          ap (λ l. events_of k l ++ (flat_map event_in (x.back k ++ (if k == j then Final ∷ [] else []))
-          ++ filter (is_taken_at job k) (flat_map plain_in (put x.out j rest k)))) (append-nil x.log)
-          ∙ ap (λ z. events_of k x.log ++ (z ++ filter (is_taken_at job k) (flat_map plain_in (put x.out j rest k))))
-          (none_at event_in (x.back k) (Final ∷ []) (k == j) refl)
-          ∙ ap (λ z. events_of k x.log ++ (flat_map event_in (x.back k) ++ filter (is_taken_at job k) z)) (taken_has plain_in x.out j Stop rest is refl k)
-          ∙ h.ordered.each_member k k_in
-          ∙ ap (λ l. filter (is_taken_at job k) (arrivals_in l)) (sym (append-nil x.log));
-      others = ap (λ l. filter (λ p. not (is_taken job p)) (done_numbers l) ++ filter (λ p. not (is_taken job p)) (flat_map plain_in (put x.out j rest 0)))
-          (append-nil x.log)
-          ∙ ap (λ z. filter (λ p. not (is_taken job p)) (done_numbers x.log) ++ filter (λ p. not (is_taken job p)) z)
-          (taken_has plain_in x.out j Stop rest is refl 0)
-          ∙ h.ordered.others
-          ∙ ap (λ l. filter (λ p. not (is_taken job p)) (arrivals_in l)) (sym (append-nil x.log));
-      right = subst (λ l. Each (IsRight job) (entries l)) (sym (append-nil x.log)) h.ordered.right;
-    };
+    ordered = ordered_quiet job x stopped_scene h.ordered quiet (ap arrivals_in (append-nil x.log)) refl
+        (λ k k_in.
+        ap (λ z. z ++ filter (is_taken_at job k) (flat_map plain_in (put x.out j rest k))) (none_at event_in (x.back k) (Final ∷ []) (k == j) refl)
+        ∙ ap (λ z. flat_map event_in (x.back k) ++ filter (is_taken_at job k) z) (taken_has plain_in x.out j Stop rest is refl k))
+        (ap (filter (λ p. not (is_taken job p))) (taken_has plain_in x.out j Stop rest is refl 0));
     serves = serves_alike f job (sight job x) (sight job stopped_scene) agrees h.serves;
     tight = tight_alike f job (sight job x) (sight job stopped_scene) agrees h.tight;
-    answered = subst (λ l. (u : units.Unit) → outputs_of f job u l ≡ outputs f job None (processed_of f job u l)) (sym (append-nil x.log)) h.answered;
+    answered = answered_same f job x.log stopped_scene.log quiet h.answered;
     ends = record {
       closed = h.ends.closed;
       stopped = λ k k_in. elim (k == j) as (λ b. (k == j) ≡ b → ends_left job x + weigh stop_in (if b then rest else x.out k) + one_if
@@ -176,20 +144,12 @@ module _ {F R : Type 0} (f : Semantics R) (job : StrongJob) (x : Scene F R) (j :
     };
   }
     where
+      quiet : IsQuiet x.log stopped_scene.log
+      quiet = quiet_log x.log [] refl refl
+
       agrees : Agrees f job (sight job x) (sight job stopped_scene)
-      agrees = record {
-        serving = refl;
-        queue = refl;
-        to = λ k _. refl;
-        answers = λ k _. none_at answer_in (x.back k) (Final ∷ []) (k == j) refl;
-        queued = ap (λ l. entry_numbers (entries l)) (append-nil x.log);
-        processed = ap done_numbers (append-nil x.log);
-        own = λ k _ u. ap (λ (t : TableView R). finite.get (part t (is_home k)) u) (table k);
-        other = λ k _ u. ap (λ (t : TableView R). finite.get (part t (not (is_home k))) u) (table k);
-      }
-        where
-          table : (k : ℕ) → (put x.member j stopped k).table ≡ (x.member k).table
-          table k = elim (k == j) as (λ b. (k == j) ≡ b → (if b then stopped else x.member k).table ≡ (x.member k).table) [
+      agrees = agrees_left f job x j j_in h stopped (put x.out j rest) (Final ∷ []) [] [] refl quiet
+          (λ k. elim (k == j) as (λ b. (k == j) ≡ b → (if b then stopped else x.member k).table ≡ (x.member k).table) [
             | true ↦ λ on. (let same : k ≡ j = (Decides-eqb k j).0 on in ap (λ i. (x.member i).table) (sym same))
             | false ↦ λ _. refl
-          ] refl
+          ] refl)

@@ -21,6 +21,10 @@ use Rattle.strong_share.proofs.ServedPackets.{Stage.Carries, Stage.Tells, Stage.
 use Rattle.strong_share.proofs.ServedPackets.{to_of, answers_of, serving_of, all_of, waits_of, seen_by, FitsSpread, FitsStage, expected, Serves}
 use Rattle.strong_share.proofs.Turns.{pending_put}
 
+either : {X : Type 0} (b : Bool) (x : X) → (if b then x else x) ≡ x
+either true x = refl
+either false x = refl
+
 module _ {R : Type 0} (f : Semantics R) (laws : Laws f) (job : StrongJob) (is : IsStrongJob f.kind job) where
   -- whether a taken packet is of a unit that isn't taken, and the other way round
   pub not_of : (u : units.Unit) (p : ℕ) (b : Bool) → is_taken job p ≡ b → takes job.filter u ≡ not b → is_of f job u p ≡ false
@@ -94,14 +98,10 @@ module _ {R : Type 0} (f : Semantics R) (laws : Laws f) (job : StrongJob) (is : 
           let off = not_of u (raised_number r) true taken e in
           let own : o.own k u ≡ (if k == 0 then seen f job u o.processed else None) = was ∙ rw e refl in
           ap (λ b. if k == r.member then (if b then Some (after f job (o.own k u) (raised_number r)) else o.own k u) else o.own k u) off
-          ∙ both (k == r.member) (o.own k u) ∙ own
+          ∙ either (k == r.member) (o.own k u) ∙ own
           ∙ ap (λ x. if k == 0 then x else None) (sym (seen_same f laws job is u o.processed (raised_number r) off))
           ∙ ap (λ b. if b then seen f job u (if k == r.member then h.d ++ raised_number r ∷ [] else h.d) else
           (if k == 0 then seen f job u (o.processed ++ raised_number r ∷ []) else None)) (sym e)
-        where
-          both : (b : Bool) (x : Option R) → (if b then x else x) ≡ x
-          both true x = refl
-          both false x = refl
 
   -- A member takes the record.
   pub takes_record : (o : Sight R) (h : Serves f job o) (j : ℕ) → j < job.members → (r : QueuedPacket) (at : ℕ → Turn) (left : ℕ) → h.stage ≡ Spreads r at left
@@ -176,13 +176,9 @@ module _ {R : Type 0} (f : Semantics R) (laws : Laws f) (job : StrongJob) (is : 
           let off = not_of u (raised_number r) true taken e in
           let own : o.own k u ≡ (if k == 0 then seen f job u o.processed else None) = was ∙ rw e refl in
           ap (λ b. if k == j then (if b then Some (record_after f job r h.d) else o.own k u) else o.own k u) off
-          ∙ both (k == j) (o.own k u) ∙ own
+          ∙ either (k == j) (o.own k u) ∙ own
           ∙ ap (λ b. if b then seen f job u (if is_going (put at j Coming k) then h.d else h.d ++ raised_number r ∷ []) else
           (if k == 0 then seen f job u o.processed else None)) (sym e)
-        where
-          both : (b : Bool) (x : Option R) → (if b then x else x) ≡ x
-          both true x = refl
-          both false x = refl
 
   -- The first member processes a packet that the filter doesn't match.
   pub processed_other : (o : Sight R) (h : Serves f job o) (p : ℕ) → is_taken job p ≡ false → (own other : ℕ → units.Unit → Option R)
@@ -210,11 +206,7 @@ module _ {R : Type 0} (f : Semantics R) (laws : Laws f) (job : StrongJob) (is : 
       by_unit k u true e was =
           let off = not_of u p false taken e in
           ap (λ b. if k == 0 then (if b then Some (after f job (o.own k u) p) else o.own k u) else o.own k u) off
-          ∙ both (k == 0) (o.own k u) ∙ was ∙ rw e refl
-        where
-          both : (b : Bool) (x : Option R) → (if b then x else x) ≡ x
-          both true x = refl
-          both false x = refl
+          ∙ either (k == 0) (o.own k u) ∙ was ∙ rw e refl
       by_unit k u false e was =
           let own : o.own k u ≡ (if k == 0 then seen f job u o.processed else None) = was ∙ rw e refl in
           ap (λ x. if k == 0 then (if is_of f job u p then Some (after f job x p) else x) else x) own

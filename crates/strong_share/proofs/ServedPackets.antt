@@ -49,13 +49,17 @@ is_pending Going = true
 is_pending Coming = true
 is_pending Quiet = false
 
--- how many of the first members have yet to answer
 abbrev pub one_if : Bool → ℕ
 one_if b = if b then 1 else 0
 
+-- of how many of the first members this is so
+abbrev pub count_below : (ℕ → Bool) → ℕ → ℕ
+count_below test zero = 0
+count_below test (suc k) = count_below test k + one_if (test k)
+
+-- how many of them have yet to answer
 abbrev pub pending : (ℕ → Turn) → ℕ → ℕ
-pending at zero = 0
-pending at (suc k) = pending at k + one_if (is_pending (at k))
+pending at n = count_below (λ k. is_pending (at k)) n
 
 -- where the packet that is out is: there is none, it goes to its member, its chunk comes back, or the chunk goes round
 pub data Stage : Type 0 where

@@ -33,7 +33,7 @@ use Rattle.strong_share.proofs.ServedPackets.{record_after, chunk_after, FitsSta
 use Rattle.strong_share.proofs.RecordSteps.{processed_out, takes_record}
 use Rattle.strong_share.proofs.Reading.{packet_in, plain_in, event_in, answer_in, more_at, none_at}
 use Rattle.strong_share.proofs.Holding.{IsRight, sight, Holds}
-use Rattle.strong_share.proofs.MemberScenes.{left_by, left_is, labelled_left, own_is, other_is, ends_left_by}
+use Rattle.strong_share.proofs.MemberScenes.{left_by, left_is, labelled_left, ordered_quiet, own_is, other_is, ends_left_by}
 use Rattle.strong_share.proofs.OtherPackets.{answered_more}
 use Rattle.strong_share.proofs.LogLemmas.{arrived-append, entries-append, done_numbers-append, member_numbers, entry_numbers, IsQuiet, quiet_log, answered_same}
 
@@ -291,21 +291,9 @@ module _ {F R : Type 0} (f : Semantics R) (laws : Laws f) (job : StrongJob) (job
     synced_holds = record {
       labelled = labelled_left f job x j j_in h takes_it.node x.out (put x.to j rest) (Synced the_share ∷ []) [] (Inner kept_note ∷ [])
           (record { rules = its_record.rules; site = its_record.site; index = its_record.index }) h.labelled.out (tt, tt) tt;
-      ordered = record {
-        in_turn = ap (λ z. z ++ flat_map packet_in x.input) still_arrived ∙ h.ordered.in_turn;
-        each_member = λ k k_in.
-            ap (λ z. z ++ (flat_map event_in (x.back k ++ (if k == j then Synced the_share ∷ [] else []))
-            ++ filter (is_taken_at job k) (flat_map plain_in (x.out k)))) (ap (member_numbers k) quiet.entries_stay)
-            ∙ ap (λ z. events_of k x.log ++ (z ++ filter (is_taken_at job k) (flat_map plain_in (x.out k))))
-            (none_at event_in (x.back k) (Synced the_share ∷ []) (k == j) refl)
-            ∙ h.ordered.each_member k k_in
-            ∙ ap (filter (is_taken_at job k)) (sym still_arrived);
-        others = ap (λ ds. filter (λ z. not (is_taken job z)) (map (λ d. d.number) ds) ++ filter (λ z. not (is_taken job z)) (flat_map plain_in (x.out 0)))
-            quiet.done_stays
-            ∙ h.ordered.others
-            ∙ ap (filter (λ z. not (is_taken job z))) (sym still_arrived);
-        right = subst (Each (IsRight job)) (sym quiet.entries_stay) h.ordered.right;
-      };
+      ordered = ordered_quiet job x synced_scene h.ordered quiet still_arrived refl
+          (λ k k_in. ap (λ z. z ++ filter (is_taken_at job k) (flat_map plain_in (x.out k)))
+          (none_at event_in (x.back k) (Synced the_share ∷ []) (k == j) refl)) refl;
       serves = serves_alike f job synced_sight (sight job synced_scene) synced_agrees synced_serves;
       tight = tight_alike f job synced_sight (sight job synced_scene) synced_agrees h.tight;
       answered = answered_same f job x.log synced_scene.log quiet h.answered;

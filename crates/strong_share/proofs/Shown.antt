@@ -2,6 +2,7 @@
 use Rattle.std.proofs.Common.{◌≡◌, ◌≢◌, ℕ, zero, suc, ◌+◌, ◌<◌, Bool, true, false, List, [], ◌∷◌}
 use Rattle.std.proofs.Common.{◌++◌, map, drop, get_or, refl, sym, ap, subst, ◌∙◌, append-nil, arith}
 use Rattle.std.specs.Prelude.{if◌then◌else◌, ◌==◌, ◌&&◌, not, nat_lt}
+use Rattle.std.proofs.Math.Bool.{and-false, and-true}
 use Rattle.std.proofs.lemmas.Bool.Decides.{Decides-eqb, Decides-ltb}
 use Rattle.nf_function.specs.Semantics.{Semantics}
 use Rattle.nf_msgs.specs.declared.msg.Msg.{Msg}
@@ -44,10 +45,6 @@ reach_member n k r there =
     let low = (Decides-ltb (r + 2) n).1 there in
     let far : (r + 2 == 0) ≡ false = two_zero r in
     elim (k == 0) as (λ b. nat_lt (r + 2) n && not (b && (r + 2 == 0)) ≡ true) [ true ↦ rw (low, far) refl | false ↦ rw low refl ]
-
-and_false : (b : Bool) → (b && false) ≡ false
-and_false true = refl
-and_false false = refl
 
 if_self : {X : Type 0} (b : Bool) (xs : List X) → xs ≡ [] → (if b then xs else []) ≡ []
 if_self true xs e = e
@@ -100,16 +97,16 @@ module _ {F R : Type 0} (f : Semantics R) (n : ℕ) (w : Network (StrongNode F R
           member = λ k k_in d. other_node 0 p (Switch x.switch) m rest takes (k + 2) d (Instance (x.member k)) (λ e. grind arith) (h.member k k_in d)
               ∙ ap Instance (sym (me k));
           input = input;
-          up = link 0 p (Switch x.switch) m rest takes 0 1 false true (and_false (0 == p)) (let there : 1 < n + 2 = omega arith in
+          up = link 0 p (Switch x.switch) m rest takes 0 1 false true (and-false (0 == p)) (let there : 1 < n + 2 = omega arith in
               let low = (Decides-ltb 1 (n + 2)).1 there in rw low refl) ∙ ap (λ z. z ++ switch_sent 1) (h.up ∙ sym u);
           down = down;
-          out = λ k k_in. link 0 p (Switch x.switch) m rest takes 0 (k + 2) false true (rw (two_zero k) (and_false (0 == p)))
+          out = λ k k_in. link 0 p (Switch x.switch) m rest takes 0 (k + 2) false true (rw (two_zero k) (and-false (0 == p)))
               (reach_member (n + 2) 0 k (omega (arith, k_in))) ∙ ap (λ z. z ++ switch_sent (k + 2)) (h.out k k_in ∙ sym (o k));
-          to = λ k k_in. still 0 p (Switch x.switch) m rest takes 1 (k + 2) (y.to k) (rw (two_zero k) (and_false (1 == p))) refl (h.to k k_in ∙ sym (t k));
-          back = λ k k_in. still 0 p (Switch x.switch) m rest takes (k + 2) 1 (y.back k) (and_false (k + 2 == p)) (two_zero k) (h.back k k_in ∙ sym (b k));
+          to = λ k k_in. still 0 p (Switch x.switch) m rest takes 1 (k + 2) (y.to k) (rw (two_zero k) (and-false (1 == p))) refl (h.to k k_in ∙ sym (t k));
+          back = λ k k_in. still 0 p (Switch x.switch) m rest takes (k + 2) 1 (y.back k) (and-false (k + 2 == p)) (two_zero k) (h.back k k_in ∙ sym (b k));
           home = home;
-          loop = still 0 p (Switch x.switch) m rest takes 1 1 [] (and_false (1 == p)) refl h.loop;
-          between = λ j k. still 0 p (Switch x.switch) m rest takes (k + 2) (j + 2) [] (rw (two_zero j) (and_false (k + 2 == p))) (two_zero k) (h.between j k);
+          loop = still 0 p (Switch x.switch) m rest takes 1 1 [] (and-false (1 == p)) refl h.loop;
+          between = λ j k. still 0 p (Switch x.switch) m rest takes (k + 2) (j + 2) [] (rw (two_zero j) (and-false (k + 2 == p))) (two_zero k) (h.between j k);
           log = l.log ∙ ap (λ z. z ++ (switch_step x.switch m).notes) (h.log ∙ sym lo);
         }
 
@@ -132,20 +129,20 @@ module _ {F R : Type 0} (f : Semantics R) (n : ℕ) (w : Network (StrongNode F R
           controller = l.own;
           member = λ k k_in d. other_node 1 p (Controller x.controller) m rest takes (k + 2) d (Instance (x.member k)) (λ e. grind arith) (h.member k k_in d)
               ∙ ap Instance (sym (me k));
-          input = still 1 p (Controller x.controller) m rest takes 0 0 y.input (and_false (0 == p)) refl (h.input ∙ sym i);
+          input = still 1 p (Controller x.controller) m rest takes 0 0 y.input (and-false (0 == p)) refl (h.input ∙ sym i);
           up = up;
-          down = link 1 p (Controller x.controller) m rest takes 1 0 false true (and_false (1 == p))
+          down = link 1 p (Controller x.controller) m rest takes 1 0 false true (and-false (1 == p))
               (let there : 0 < n + 2 = omega arith in let low = (Decides-ltb 0 (n + 2)).1 there in rw low refl)
               ∙ ap (λ z. z ++ controller_sent 0) (h.down ∙ sym dn);
-          out = λ k k_in. still 1 p (Controller x.controller) m rest takes 0 (k + 2) (y.out k) (rw (two_one k) (and_false (0 == p))) refl
+          out = λ k k_in. still 1 p (Controller x.controller) m rest takes 0 (k + 2) (y.out k) (rw (two_one k) (and-false (0 == p))) refl
               (h.out k k_in ∙ sym (o k));
-          to = λ k k_in. link 1 p (Controller x.controller) m rest takes 1 (k + 2) false true (rw (two_one k) (and_false (1 == p)))
+          to = λ k k_in. link 1 p (Controller x.controller) m rest takes 1 (k + 2) false true (rw (two_one k) (and-false (1 == p)))
               (reach_member (n + 2) 1 k (omega (arith, k_in))) ∙ ap (λ z. z ++ controller_sent (k + 2)) (h.to k k_in ∙ sym (t k));
           back = back;
-          home = λ k k_in. still 1 p (Controller x.controller) m rest takes (k + 2) 0 (y.home k) (and_false (k + 2 == p)) (two_one k)
+          home = λ k k_in. still 1 p (Controller x.controller) m rest takes (k + 2) 0 (y.home k) (and-false (k + 2 == p)) (two_one k)
               (h.home k k_in ∙ sym (hm k));
           loop = loop;
-          between = λ j k. still 1 p (Controller x.controller) m rest takes (k + 2) (j + 2) [] (rw (two_one j) (and_false (k + 2 == p))) (two_one k)
+          between = λ j k. still 1 p (Controller x.controller) m rest takes (k + 2) (j + 2) [] (rw (two_one j) (and-false (k + 2 == p))) (two_one k)
               (h.between j k);
           log = l.log ∙ ap (λ z. z ++ (controller_step x.controller p m).notes) (h.log ∙ sym lo);
         }
@@ -164,13 +161,9 @@ module _ {F R : Type 0} (f : Semantics R) (n : ℕ) (w : Network (StrongNode F R
           → ((k : ℕ) → ys k ≡ links k) → (k : ℕ) → k < n → queue_at (world_next (node_step f) w (at (j + 2) p)) (at r (k + 2)) ≡ ys k
           ++ (if k == j then member_sent r else [])
       sends_to r apart there links ys is same k k_in =
-          link (j + 2) p (Instance (x.member j)) m rest takes (k + 2) r false (k == j) (rw apart (and_false (k + 2 == p)))
-          (let reached = reach_up (n + 2) (j + 2) r there (two_zero j) in rw (two_two k j, reached) (and_true (k == j)))
+          link (j + 2) p (Instance (x.member j)) m rest takes (k + 2) r false (k == j) (rw apart (and-false (k + 2 == p)))
+          (let reached = reach_up (n + 2) (j + 2) r there (two_zero j) in rw (two_two k j, reached) (and-true (k == j)))
           ∙ ap (λ z. z ++ (if k == j then member_sent r else [])) (is k k_in ∙ sym (same k))
-        where
-          and_true : (b : Bool) → (b && true) ≡ b
-          and_true true = refl
-          and_true false = refl
 
       pub member_shows : ((k : ℕ) → member_sent (k + 2) ≡ []) → y.switch ≡ x.switch → y.controller ≡ x.controller → ((k : ℕ) → y.member k ≡ x.member k)
           → y.log ≡ x.log
@@ -195,14 +188,14 @@ module _ {F R : Type 0} (f : Semantics R) (n : ℕ) (w : Network (StrongNode F R
                       (h.member k k_in d)
                       ∙ ap Instance (sym (me k))
                 ] refl;
-            input = still (j + 2) p (Instance (x.member j)) m rest takes 0 0 y.input (rw (zero_two j) (and_false (0 == p))) (zero_two j) (h.input ∙ sym i);
-            up = still (j + 2) p (Instance (x.member j)) m rest takes 0 1 y.up (rw (one_two j) (and_false (0 == p))) (zero_two j) (h.up ∙ sym u);
-            down = still (j + 2) p (Instance (x.member j)) m rest takes 1 0 y.down (rw (zero_two j) (and_false (1 == p))) (one_two j) (h.down ∙ sym dn);
+            input = still (j + 2) p (Instance (x.member j)) m rest takes 0 0 y.input (rw (zero_two j) (and-false (0 == p))) (zero_two j) (h.input ∙ sym i);
+            up = still (j + 2) p (Instance (x.member j)) m rest takes 0 1 y.up (rw (one_two j) (and-false (0 == p))) (zero_two j) (h.up ∙ sym u);
+            down = still (j + 2) p (Instance (x.member j)) m rest takes 1 0 y.down (rw (zero_two j) (and-false (1 == p))) (one_two j) (h.down ∙ sym dn);
             out = out;
             to = to;
             back = sends_to 1 (one_two j) (omega arith) x.back y.back h.back b;
             home = sends_to 0 (zero_two j) (omega arith) x.home y.home h.home hm;
-            loop = still (j + 2) p (Instance (x.member j)) m rest takes 1 1 [] (rw (one_two j) (and_false (1 == p))) (one_two j) h.loop;
+            loop = still (j + 2) p (Instance (x.member j)) m rest takes 1 1 [] (rw (one_two j) (and-false (1 == p))) (one_two j) h.loop;
             between = λ i k. link (j + 2) p (Instance (x.member j)) m rest takes (k + 2) (i + 2) false ((k + 2 == j + 2) && reaches (n + 2) (j + 2) (i + 2))
                 (ap (λ t. (k + 2 == p) && t) (two_two i j) ∙ apart i k) refl
                 ∙ ap (λ z. z ++ (if (k + 2 == j + 2) && reaches (n + 2) (j + 2) (i + 2) then member_sent (i + 2) else [])) (h.between i k)
@@ -217,10 +210,17 @@ module _ {F R : Type 0} (f : Semantics R) (n : ℕ) (w : Network (StrongNode F R
     pub node_is : node_of n x g ≡ k
 
   -- what a choice takes, and what it leaves where nothing goes to where no link leads
-  abbrev Found : ℕ → ℕ → Type 0
-  Found k p = (node : StrongNode F R) (m : Msg) (rest : List Msg) → Takes (node_step f) (n + 2) w k p node m rest
+  abbrev FoundOf : ℕ → ℕ → StrongNode F R → Type 0
+  FoundOf k p node = (m : Msg) (rest : List Msg) → Takes (node_step f) (n + 2) w k p node m rest
       → ((k == 0) && (p == 0) ≡ true → node_ready node m ≡ true) → (g : Goes n x)
       × (Confined f n g → Shows n (world_next (node_step f) w (at k p)) (next_scene f n x g)) × IsTakenBy k p node m g
+
+  abbrev Found : ℕ → ℕ → Type 0
+  Found k p = (node : StrongNode F R) → FoundOf k p node
+
+  -- the node at this number is known
+  at_node : (k p : ℕ) (known : StrongNode F R) → ((d : StrongNode F R) → get_or w.nodes k d ≡ known) → FoundOf k p known → Found k p
+  at_node k p known there found node m rest takes = subst (λ z. FoundOf k p z) (sym (there node) ∙ takes.node_is node) found m rest takes
 
   -- the link from a member, from which is taken
   from_members : (k r i : ℕ) (node : StrongNode F R) (m : Msg) (rest : List Msg) → Takes (node_step f) (n + 2) w k (i + 2) node m rest → (r ≡ k)
@@ -228,128 +228,105 @@ module _ {F R : Type 0} (f : Semantics R) (n : ℕ) (w : Network (StrongNode F R
       → q < n → queue_at (world_next (node_step f) w (at k (i + 2))) (at r (q + 2)) ≡ put links i rest q
   from_members k r i node m rest takes same apart links is first q q_in =
       let on : (r == k) ≡ true = (Decides-eqb r k).1 same in
-      link k (i + 2) node m rest takes (q + 2) r (q == i) false (rw (two_two q i, on) (and_true (q == i))) (rw (apart q) refl)
+      link k (i + 2) node m rest takes (q + 2) r (q == i) false (rw (two_two q i, on) (and-true (q == i))) (rw (apart q) refl)
       ∙ taken_link q i links (queue_at w (at r (q + 2))) m rest (is q q_in) first
-    where
-      and_true : (b : Bool) → (b && true) ≡ b
-      and_true true = refl
-      and_true false = refl
-
-  switch_is : (p : ℕ) (node : StrongNode F R) (m : Msg) (rest : List Msg) → Takes (node_step f) (n + 2) w 0 p node m rest → node ≡ Switch x.switch
-  switch_is p node m rest takes = sym (takes.node_is node) ∙ h.switch node
 
   found_input : Found 0 0
-  found_input node m rest takes ready =
-      let is = switch_is 0 node m rest takes in
-      let takes' = subst (λ z. Takes (node_step f) (n + 2) w 0 0 z m rest) is takes in
+  found_input = at_node 0 0 (Switch x.switch) h.switch (λ m rest takes ready.
       let first : x.input ≡ m ∷ rest = sym h.input ∙ takes.waits in (
-        From_input m rest first (ap (λ z. node_ready z m) (sym is) ∙ ready refl),
+        From_input m rest first (ready refl),
         λ _.
-            switch_shows 0 m rest takes' (record x { input = rest }) refl refl (λ k. refl) refl refl (λ k. refl) (λ k. refl) (λ k. refl)
-            (link 0 0 (Switch x.switch) m rest takes' 0 0 true false refl (and_false (nat_lt 0 (n + 2))) ∙ one_taken (queue_at w (at 0 0)) m rest takes.waits)
-            (still 0 0 (Switch x.switch) m rest takes' 1 0 x.down refl refl h.down)
-            (λ k k_in. still 0 0 (Switch x.switch) m rest takes' (k + 2) 0 (x.home k) (rw (two_zero k) refl) (two_zero k) (h.home k k_in)),
-        record { message = refl; sends = ap (λ z. (node_step f z 0 m).sends) is; node_is = refl },
-      )
+            switch_shows 0 m rest takes (record x { input = rest }) refl refl (λ k. refl) refl refl (λ k. refl) (λ k. refl) (λ k. refl)
+            (link 0 0 (Switch x.switch) m rest takes 0 0 true false refl (and-false (nat_lt 0 (n + 2))) ∙ one_taken (queue_at w (at 0 0)) m rest takes.waits)
+            (still 0 0 (Switch x.switch) m rest takes 1 0 x.down refl refl h.down)
+            (λ k k_in. still 0 0 (Switch x.switch) m rest takes (k + 2) 0 (x.home k) (rw (two_zero k) refl) (two_zero k) (h.home k k_in)),
+        record { message = refl; sends = refl; node_is = refl },
+      ))
 
   found_down : Found 0 1
-  found_down node m rest takes ready =
-      let is = switch_is 1 node m rest takes in
-      let takes' = subst (λ z. Takes (node_step f) (n + 2) w 0 1 z m rest) is takes in
+  found_down = at_node 0 1 (Switch x.switch) h.switch (λ m rest takes ready.
       let first : x.down ≡ m ∷ rest = sym h.down ∙ takes.waits in (
         From_down m rest first,
-        λ _. switch_shows 1 m rest takes' (record x { down = rest }) refl refl (λ k. refl) refl refl (λ k. refl) (λ k. refl) (λ k. refl)
-            (link 0 1 (Switch x.switch) m rest takes' 0 0 false false refl (and_false (nat_lt 0 (n + 2))) ∙ append-nil (queue_at w (at 0 0)) ∙ h.input)
-            (link 0 1 (Switch x.switch) m rest takes' 1 0 true false refl refl ∙ one_taken (queue_at w (at 0 1)) m rest takes.waits)
-            (λ k k_in. still 0 1 (Switch x.switch) m rest takes' (k + 2) 0 (x.home k) (rw (two_one k) refl) (two_zero k) (h.home k k_in)),
-        record { message = refl; sends = ap (λ z. (node_step f z 1 m).sends) is; node_is = refl },
-      )
+        λ _. switch_shows 1 m rest takes (record x { down = rest }) refl refl (λ k. refl) refl refl (λ k. refl) (λ k. refl) (λ k. refl)
+            (link 0 1 (Switch x.switch) m rest takes 0 0 false false refl (and-false (nat_lt 0 (n + 2))) ∙ append-nil (queue_at w (at 0 0)) ∙ h.input)
+            (link 0 1 (Switch x.switch) m rest takes 1 0 true false refl refl ∙ one_taken (queue_at w (at 0 1)) m rest takes.waits)
+            (λ k k_in. still 0 1 (Switch x.switch) m rest takes (k + 2) 0 (x.home k) (rw (two_one k) refl) (two_zero k) (h.home k k_in)),
+        record { message = refl; sends = refl; node_is = refl },
+      ))
 
   found_home : (i : ℕ) → i < n → Found 0 (i + 2)
-  found_home i i_in node m rest takes ready =
-      let is = switch_is (i + 2) node m rest takes in
-      let takes' = subst (λ z. Takes (node_step f) (n + 2) w 0 (i + 2) z m rest) is takes in
+  found_home i i_in = at_node 0 (i + 2) (Switch x.switch) h.switch (λ m rest takes ready.
       let first : x.home i ≡ m ∷ rest = sym (h.home i i_in) ∙ takes.waits in (
         From_home i m rest i_in first,
-        λ _. switch_shows (i + 2) m rest takes' (record x { home = put x.home i rest }) refl refl (λ k. refl) refl refl
+        λ _. switch_shows (i + 2) m rest takes (record x { home = put x.home i rest }) refl refl (λ k. refl) refl refl
             (λ k. refl) (λ k. refl) (λ k. refl)
-            (link 0 (i + 2) (Switch x.switch) m rest takes' 0 0 false false (rw (zero_two i) refl) (and_false (nat_lt 0 (n + 2)))
+            (link 0 (i + 2) (Switch x.switch) m rest takes 0 0 false false (rw (zero_two i) refl) (and-false (nat_lt 0 (n + 2)))
             ∙ append-nil (queue_at w (at 0 0)) ∙ h.input)
-            (still 0 (i + 2) (Switch x.switch) m rest takes' 1 0 x.down (rw (one_two i) refl) refl h.down)
-            (from_members 0 0 i (Switch x.switch) m rest takes' refl two_zero x.home h.home first),
-        record { message = refl; sends = ap (λ z. (node_step f z (i + 2) m).sends) is; node_is = refl },
-      )
+            (still 0 (i + 2) (Switch x.switch) m rest takes 1 0 x.down (rw (one_two i) refl) refl h.down)
+            (from_members 0 0 i (Switch x.switch) m rest takes refl two_zero x.home h.home first),
+        record { message = refl; sends = refl; node_is = refl },
+      ))
 
-  controller_is : (p : ℕ) (node : StrongNode F R) (m : Msg) (rest : List Msg) → Takes (node_step f) (n + 2) w 1 p node m rest → node ≡ Controller x.controller
-  controller_is p node m rest takes = sym (takes.node_is node) ∙ h.controller node
+  -- the controller's link to itself stays empty
+  no_loop : (p : ℕ) (m : Msg) (rest : List Msg) → Takes (node_step f) (n + 2) w 1 p (Controller x.controller) m rest → (1 == p) ≡ false
+      → sent_for 1 (controller_step x.controller p m).sends ≡ [] → queue_at (world_next (node_step f) w (at 1 p)) (at 1 1) ≡ []
+  no_loop p m rest takes apart none =
+      link 1 p (Controller x.controller) m rest takes 1 1 false (reaches (n + 2) 1 1) (rw apart refl) refl
+      ∙ nothing (reaches (n + 2) 1 1) (queue_at w (at 1 1)) (sent_for 1 (controller_step x.controller p m).sends) h.loop none
+    where
+      nothing : (b : Bool) (xs ys : List Msg) → xs ≡ [] → ys ≡ [] → xs ++ (if b then ys else []) ≡ []
+      nothing true xs ys e g = rw (e, g) refl
+      nothing false xs ys e g = rw e refl
 
   found_up : Found 1 0
-  found_up node m rest takes ready =
-      let is = controller_is 0 node m rest takes in
-      let takes' = subst (λ z. Takes (node_step f) (n + 2) w 1 0 z m rest) is takes in
+  found_up = at_node 1 0 (Controller x.controller) h.controller (λ m rest takes ready.
       let first : x.up ≡ m ∷ rest = sym h.up ∙ takes.waits in (
         From_up m rest first,
-        λ none. controller_shows 0 m rest takes' (record x { up = rest }) none refl (λ k. refl) refl refl refl (λ k. refl) (λ k. refl)
+        λ none. controller_shows 0 m rest takes (record x { up = rest }) none refl (λ k. refl) refl refl refl (λ k. refl) (λ k. refl)
             (λ k. refl)
-            (link 1 0 (Controller x.controller) m rest takes' 0 1 true false refl refl ∙ one_taken (queue_at w (at 1 0)) m rest takes.waits)
-            (λ k k_in. still 1 0 (Controller x.controller) m rest takes' (k + 2) 1 (x.back k) (rw (two_zero k) refl) (two_one k) (h.back k k_in))
-            (link 1 0 (Controller x.controller) m rest takes' 1 1 false (reaches (n + 2) 1 1) refl refl
-            ∙ nothing (reaches (n + 2) 1 1) (queue_at w (at 1 1)) (sent_for 1 (controller_step x.controller 0 m).sends) h.loop none),
-        record { message = refl; sends = ap (λ z. (node_step f z 0 m).sends) is; node_is = refl },
-      )
-    where
-      nothing : (b : Bool) (xs ys : List Msg) → xs ≡ [] → ys ≡ [] → xs ++ (if b then ys else []) ≡ []
-      nothing true xs ys e g = rw (e, g) refl
-      nothing false xs ys e g = rw e refl
+            (link 1 0 (Controller x.controller) m rest takes 0 1 true false refl refl ∙ one_taken (queue_at w (at 1 0)) m rest takes.waits)
+            (λ k k_in. still 1 0 (Controller x.controller) m rest takes (k + 2) 1 (x.back k) (rw (two_zero k) refl) (two_one k) (h.back k k_in))
+            (no_loop 0 m rest takes refl none),
+        record { message = refl; sends = refl; node_is = refl },
+      ))
 
   found_back : (i : ℕ) → i < n → Found 1 (i + 2)
-  found_back i i_in node m rest takes ready =
-      let is = controller_is (i + 2) node m rest takes in
-      let takes' = subst (λ z. Takes (node_step f) (n + 2) w 1 (i + 2) z m rest) is takes in
+  found_back i i_in = at_node 1 (i + 2) (Controller x.controller) h.controller (λ m rest takes ready.
       let first : x.back i ≡ m ∷ rest = sym (h.back i i_in) ∙ takes.waits in (
         From_back i m rest i_in first,
-        λ none. controller_shows (i + 2) m rest takes' (record x { back = put x.back i rest }) none refl (λ k. refl) refl refl
+        λ none. controller_shows (i + 2) m rest takes (record x { back = put x.back i rest }) none refl (λ k. refl) refl refl
             refl (λ k. refl) (λ k. refl) (λ k. refl)
-            (still 1 (i + 2) (Controller x.controller) m rest takes' 0 1 x.up (rw (zero_two i) refl) refl h.up)
-            (from_members 1 1 i (Controller x.controller) m rest takes' refl two_one x.back h.back first)
-            (link 1 (i + 2) (Controller x.controller) m rest takes' 1 1 false (reaches (n + 2) 1 1) (rw (one_two i) refl) refl
-            ∙ nothing (reaches (n + 2) 1 1) (queue_at w (at 1 1)) (sent_for 1 (controller_step x.controller (i + 2) m).sends) h.loop none),
-        record { message = refl; sends = ap (λ z. (node_step f z (i + 2) m).sends) is; node_is = refl },
-      )
-    where
-      nothing : (b : Bool) (xs ys : List Msg) → xs ≡ [] → ys ≡ [] → xs ++ (if b then ys else []) ≡ []
-      nothing true xs ys e g = rw (e, g) refl
-      nothing false xs ys e g = rw e refl
+            (still 1 (i + 2) (Controller x.controller) m rest takes 0 1 x.up (rw (zero_two i) refl) refl h.up)
+            (from_members 1 1 i (Controller x.controller) m rest takes refl two_one x.back h.back first)
+            (no_loop (i + 2) m rest takes (one_two i) none),
+        record { message = refl; sends = refl; node_is = refl },
+      ))
 
   found_out : (j : ℕ) → j < n → Found (j + 2) 0
-  found_out j j_in node m rest takes ready =
-      let is : node ≡ Instance (x.member j) = sym (takes.node_is node) ∙ h.member j j_in node in
-      let takes' = subst (λ z. Takes (node_step f) (n + 2) w (j + 2) 0 z m rest) is takes in
+  found_out j j_in = at_node (j + 2) 0 (Instance (x.member j)) (h.member j j_in) (λ m rest takes ready.
       let first : x.out j ≡ m ∷ rest = sym (h.out j j_in) ∙ takes.waits in (
         From_out j m rest j_in first,
-        λ none. member_shows j 0 j_in m rest takes' (record x { out = put x.out j rest }) none refl refl (λ k. refl) refl refl refl
+        λ none. member_shows j 0 j_in m rest takes (record x { out = put x.out j rest }) none refl refl (λ k. refl) refl refl refl
             refl (λ k. refl) (λ k. refl)
-            (λ k k_in. link (j + 2) 0 (Instance (x.member j)) m rest takes' 0 (k + 2) (k == j) false (two_two k j) (rw (zero_two j) refl)
+            (λ k k_in. link (j + 2) 0 (Instance (x.member j)) m rest takes 0 (k + 2) (k == j) false (two_two k j) (rw (zero_two j) refl)
             ∙ taken_link k j x.out (queue_at w (at (k + 2) 0)) m rest (h.out k k_in) first)
-            (λ k k_in. still (j + 2) 0 (Instance (x.member j)) m rest takes' 1 (k + 2) (x.to k) refl (one_two j) (h.to k k_in))
+            (λ k k_in. still (j + 2) 0 (Instance (x.member j)) m rest takes 1 (k + 2) (x.to k) refl (one_two j) (h.to k k_in))
             (λ i k. rw (two_zero k) refl),
-        record { message = refl; sends = ap (λ z. (node_step f z 0 m).sends) is; node_is = refl },
-      )
+        record { message = refl; sends = refl; node_is = refl },
+      ))
 
   found_to : (j : ℕ) → j < n → Found (j + 2) 1
-  found_to j j_in node m rest takes ready =
-      let is : node ≡ Instance (x.member j) = sym (takes.node_is node) ∙ h.member j j_in node in
-      let takes' = subst (λ z. Takes (node_step f) (n + 2) w (j + 2) 1 z m rest) is takes in
+  found_to j j_in = at_node (j + 2) 1 (Instance (x.member j)) (h.member j j_in) (λ m rest takes ready.
       let first : x.to j ≡ m ∷ rest = sym (h.to j j_in) ∙ takes.waits in (
         From_to j m rest j_in first,
-        λ none. member_shows j 1 j_in m rest takes' (record x { to = put x.to j rest }) none refl refl (λ k. refl) refl refl refl
+        λ none. member_shows j 1 j_in m rest takes (record x { to = put x.to j rest }) none refl refl (λ k. refl) refl refl refl
             refl (λ k. refl) (λ k. refl)
-            (λ k k_in. still (j + 2) 1 (Instance (x.member j)) m rest takes' 0 (k + 2) (x.out k) refl (zero_two j) (h.out k k_in))
-            (λ k k_in. link (j + 2) 1 (Instance (x.member j)) m rest takes' 1 (k + 2) (k == j) false (two_two k j) (rw (one_two j) refl)
+            (λ k k_in. still (j + 2) 1 (Instance (x.member j)) m rest takes 0 (k + 2) (x.out k) refl (zero_two j) (h.out k k_in))
+            (λ k k_in. link (j + 2) 1 (Instance (x.member j)) m rest takes 1 (k + 2) (k == j) false (two_two k j) (rw (one_two j) refl)
             ∙ taken_link k j x.to (queue_at w (at (k + 2) 1)) m rest (h.to k k_in) first)
             (λ i k. rw (two_one k) refl),
-        record { message = refl; sends = ap (λ z. (node_step f z 1 m).sends) is; node_is = refl },
-      )
+        record { message = refl; sends = refl; node_is = refl },
+      ))
 
   nothing_waits : {X : Type 0} (k p : ℕ) (node : StrongNode F R) (m : Msg) (rest : List Msg) → Takes (node_step f) (n + 2) w k p node m rest
       → queue_at w (at k p) ≡ [] → X

@@ -1,7 +1,8 @@
 -- The rows of the switch keep what every scene of a run keeps.
 use Rattle.std.proofs.Common.{◌≡◌, ℕ, ◌+◌, ◌-◌, ◌%◌, ◌<◌, Bool, true, false, List, [], ◌∷◌, ◌++◌}
 use Rattle.std.proofs.Common.{map, refl, sym, ap, subst, ◌∙◌, append_assoc, append-nil, arith}
-use Rattle.std.specs.Prelude.{if◌then◌else◌, ◌==◌, ◌&&◌, not, filter, flat_map}
+use Rattle.std.specs.Prelude.{if◌then◌else◌, ◌==◌, not, filter, flat_map}
+use Rattle.std.proofs.Math.Bool.{and-false}
 use Rattle.std.proofs.lemmas.List.Concat.{flat_map-append}
 use Rattle.std.proofs.lemmas.List.Elements.{filter-append}
 use Rattle.flow_filter.specs.declared.packet.Packet.{Packet}
@@ -37,20 +38,6 @@ brought mine true p off = refl
 brought mine false p off = let no = off refl in rw no refl
 
 module _ {F R : Type 0} (f : Semantics R) (job : StrongJob) where
-  -- The parts that a row of the switch leaves alone.
-  pub switch_agrees : (x y : Scene F R) → IsQuiet x.log y.log → y.controller ≡ x.controller → y.to ≡ x.to → y.back ≡ x.back → y.member ≡ x.member
-      → Agrees f job (sight job x) (sight job y)
-  switch_agrees x y q ct to back member = record {
-    serving = ap (λ c. c.serving) ct;
-    queue = ap (λ c. c.queue) ct;
-    to = λ k _. ap (λ g. g k) to;
-    answers = λ k _. ap (λ g. (sight job (record x { back = g })).answers k) back;
-    queued = ap entry_numbers q.entries_stay;
-    processed = ap (map (λ d. d.number)) q.done_stays;
-    own = λ k _ u. ap (λ g. (sight job (record x { member = g })).own k u) member;
-    other = λ k _ u. ap (λ g. (sight job (record x { member = g })).other k u) member;
-  }
-
   -- A packet comes.
   abbrev pub arrives_as : Scene F R → Packet → SwitchStep
   arrives_as x p = record {
@@ -128,7 +115,7 @@ module _ {F R : Type 0} (f : Semantics R) (job : StrongJob) where
           ∙ h.ordered.in_turn;
       each_member =
           λ k k_in. more (is_taken_at job k) k (events_of k (came x rest p).log) (events_of k x.log) (flat_map event_in (x.back k))
-          (ap (member_numbers k) quiet.entries_stay) (λ off. (let other = swapped (member_of job q) k ∙ off in rw other (and_false (is_taken job q))))
+          (ap (member_numbers k) quiet.entries_stay) (λ off. (let other = swapped (member_of job q) k ∙ off in rw other (and-false (is_taken job q))))
           (h.ordered.each_member k k_in);
       others = ap (λ z. z ++ filter untaken (flat_map plain_in ((came x rest p).out 0))) (ap (λ ds. filter untaken (map (λ d. d.number) ds)) quiet.done_stays)
           ∙ ap (λ z. filter untaken (done_numbers x.log) ++ filter untaken z) (more_at plain_in (x.out 0)
@@ -159,14 +146,19 @@ module _ {F R : Type 0} (f : Semantics R) (job : StrongJob) where
       quiet = quiet_log x.log (Inner (Arrived p.number) ∷ []) refl refl
 
       like : Agrees f job (sight job x) (sight job (came x rest p))
-      like = switch_agrees x (came x rest p) quiet refl refl refl refl
+      like = record {
+        serving = refl;
+        queue = refl;
+        to = λ k _. refl;
+        answers = λ k _. refl;
+        queued = ap entry_numbers quiet.entries_stay;
+        processed = ap (map (λ d. d.number)) quiet.done_stays;
+        own = λ k _ u. refl;
+        other = λ k _ u. refl;
+      }
 
       untaken : ℕ → Bool
       untaken i = not (is_taken job i)
-
-      and_false : (b : Bool) → (b && false) ≡ false
-      and_false true = refl
-      and_false false = refl
 
       to_first : (0 == member_of job p.number) ≡ false → not (is_taken job p.number) ≡ false
       to_first off = elim (is_taken job p.number) as (λ b. (0 == (if b then (p.number - 1) % job.members else 0)) ≡ false → not b ≡ false) [

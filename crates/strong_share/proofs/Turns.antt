@@ -1,33 +1,39 @@
--- How many members have yet to answer, where a turn changes and where the chunk goes to all but one.
-use Rattle.std.proofs.Common.{◌≡◌, ℕ, zero, suc, ◌+◌, ◌<◌, ◌≤◌, true, false, refl, ap, arith}
+-- How many members have yet to answer, where a turn changes and where the chunk goes to all but one; and any such count where one changes.
+use Rattle.std.proofs.Common.{◌≡◌, ℕ, zero, suc, ◌+◌, ◌<◌, ◌≤◌, Bool, true, false, refl, ap, arith}
 use Rattle.std.specs.Prelude.{if◌then◌else◌, ◌==◌}
 use Rattle.std.proofs.lemmas.Bool.Decides.{nat_tests, Decides-eqb}
 use Rattle.strong_share.proofs.Lists.{put}
-use Rattle.strong_share.proofs.ServedPackets.{Turn, Turn.Going, Turn.Coming, Turn.Quiet, is_pending, one_if, pending}
+use Rattle.strong_share.proofs.ServedPackets.{Turn, Turn.Going, Turn.Coming, Turn.Quiet, is_pending, one_if, count_below, pending}
+
+-- a count after one of those that are counted changes
+module _ {X : Type 0} (test : X → Bool) (g : ℕ → X) (j : ℕ) (y : X) where
+  count_over : (n : ℕ) → n ≤ j → count_below (λ k. test (put g j y k)) n ≡ count_below (λ k. test (g k)) n
+  count_over zero over = refl
+  count_over (suc k) over =
+      let other : (k == j) ≡ false = grind (arith, nat_tests, over) in
+      let rest = count_over k (omega (arith, over)) in
+      rw (rest, other) refl
+
+  pub count_put : (n : ℕ) → j < n
+      → count_below (λ k. test (put g j y k)) n + one_if (test (g j)) ≡ count_below (λ k. test (g k)) n + one_if (test y)
+  count_put zero there = absurd (omega arith)
+  count_put (suc k) there =
+      elim (k == j) as (λ b. (k == j) ≡ b → count_below (λ i. test (put g j y i)) k + one_if (test (if b then y else g k)) + one_if (test (g j))
+      ≡ count_below (λ i. test (g i)) k + one_if (test (g k)) + one_if (test y)) [
+        | true ↦ λ on.
+            let same : k ≡ j = (Decides-eqb k j).0 on in
+            let rest = count_over k (omega (arith, same)) in
+            let here : one_if (test (g k)) ≡ one_if (test (g j)) = ap (λ i. one_if (test (g i))) same in
+            omega (arith, rest, here)
+        | false ↦ λ off.
+            let apart : j < k = grind (arith, nat_tests, there, off) in
+            let rest = count_put k apart in
+            omega (arith, rest)
+      ] refl
 
 -- a turn that changes
-pending_put_over : (at : ℕ → Turn) (j n : ℕ) (t : Turn) → n ≤ j → pending (put at j t) n ≡ pending at n
-pending_put_over at j zero t over = refl
-pending_put_over at j (suc k) t over =
-    let other : (k == j) ≡ false = grind (arith, nat_tests, over) in
-    let rest = pending_put_over at j k t (omega (arith, over)) in
-    rw (rest, other) refl
-
 pub pending_put : (at : ℕ → Turn) (j n : ℕ) (t : Turn) → j < n → pending (put at j t) n + one_if (is_pending (at j)) ≡ pending at n + one_if (is_pending t)
-pending_put at j zero t there = absurd (omega arith)
-pending_put at j (suc k) t there =
-    elim (k == j) as (λ b. (k == j) ≡ b → pending (put at j t) k + one_if (is_pending (if b then t else at k)) + one_if (is_pending (at j))
-    ≡ pending at k + one_if (is_pending (at k)) + one_if (is_pending t)) [
-      | true ↦ λ on.
-          let same : k ≡ j = (Decides-eqb k j).0 on in
-          let rest = pending_put_over at j k t (omega (arith, same)) in
-          let here : one_if (is_pending (at k)) ≡ one_if (is_pending (at j)) = ap (λ i. one_if (is_pending (at i))) same in
-          omega (arith, rest, here)
-      | false ↦ λ off.
-          let apart : j < k = grind (arith, nat_tests, there, off) in
-          let rest = pending_put at j k t apart in
-          omega (arith, rest)
-    ] refl
+pending_put at j n t there = count_put is_pending at j t n there
 
 -- where none has yet to answer, all is quiet
 pub none_pending : (at : ℕ → Turn) (n : ℕ) → pending at n ≡ 0 → (k : ℕ) → k < n → at k ≡ Quiet

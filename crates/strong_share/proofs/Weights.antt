@@ -11,13 +11,14 @@ use Rattle.instance_worker.specs.declared.instance.Instance.{Instance as Instanc
 use Rattle.actor_net.specs.Network.{reaches}
 use Rattle.actor_net.proofs.WeightLaws.{Each, weigh, weigh-append, sent_weight}
 use Rattle.strong_share.specs.declared.serving.Serving.{Serving}
-use Rattle.strong_share.specs.declared.serving.Serving.TheVariants.{Idle, Out, Syncing}
+use Rattle.strong_share.specs.declared.serving.Serving.TheVariants.{Idle}
 use Rattle.strong_share.specs.declared.queued_packet.QueuedPacket.{QueuedPacket}
 use Rattle.strong_share.specs.Parts.{ControllerState}
 use Rattle.strong_share.specs.Tables.{serve_row, serve_step, syncs, is_home, the_share, sync_to}
 use Rattle.strong_share.proofs.Lists.{put, two_zero}
 use Rattle.strong_share.proofs.MemberLists.{sync_of, syncs_more}
-use Rattle.strong_share.proofs.ServedPackets.{one_if}
+use Rattle.strong_share.proofs.ServedPackets.{count_below, one_if}
+use Rattle.strong_share.proofs.Turns.{count_put}
 use Rattle.switch_node.specs.Switch.{stop_messages}
 
 -- each choice that a message leads to, itself included, where there are so many members beside one
@@ -155,10 +156,8 @@ serve_cost o c = by c.serving c.queue refl
   where
     by : (s : Serving) (q : List QueuedPacket) → c.queue ≡ q → cost o (serve_row c s q).sends + queue_weight o (serve_row c s q).node.queue
         ≡ queue_weight o c.queue
-    by Idle [] e = omega arith
     by Idle (r ∷ rest) e = let all = ap (queue_weight o) e in omega (arith, all)
-    by (Out m) q e = omega arith
-    by (Syncing left) q e = omega arith
+    by s q e = omega arith
 
 pub serve_cells : (n : ℕ) (c : ControllerState) → Each (λ r. r.member < n) c.queue
     → sent_weight cell (n + 2) 1 (serve_step c).sends + length (serve_step c).node.queue ≡ length c.queue
@@ -166,54 +165,29 @@ serve_cells n c there = by c.serving c.queue refl
   where
     by : (s : Serving) (q : List QueuedPacket) → c.queue ≡ q → sent_weight cell (n + 2) 1 (serve_row c s q).sends + length (serve_row c s q).node.queue
         ≡ length c.queue
-    by Idle [] e = omega arith
     by Idle (r ∷ rest) e =
         let first : Each (λ (z : QueuedPacket). z.member < n) (r ∷ rest) = subst (Each (λ (z : QueuedPacket). z.member < n)) e there in
         let one = all_sent cell (n + 2) 1 (instance_node r.member) (Carry (mark.Shared the_share (is_home r.member)) r.cell)
         (reaches_member n 1 r.member first.0) in
         let all : length c.queue ≡ suc (length rest) = ap length e in
         omega (arith, one, all)
-    by (Out m) q e = omega arith
-    by (Syncing left) q e = omega arith
+    by s q e = omega arith
 
 pub serve_finals : (n : ℕ) (c : ControllerState) → (sent_weight final_in n 1 (serve_step c).sends ≡ 0) × ((serve_step c).node.finals ≡ c.finals)
 serve_finals n c = by c.serving c.queue
   where
     by : (s : Serving) (q : List QueuedPacket) → (sent_weight final_in n 1 (serve_row c s q).sends ≡ 0) × ((serve_row c s q).node.finals ≡ c.finals)
-    by Idle [] = (refl, refl)
     by Idle (r ∷ rest) = (none_sent final_in n 1 (instance_node r.member) (Carry (mark.Shared the_share (is_home r.member)) r.cell) refl, refl)
-    by (Out m) q = (refl, refl)
-    by (Syncing left) q = (refl, refl)
+    by s q = (refl, refl)
 
 -- how many of the first members have ended
 module _ {F R : Type 0} where
   abbrev pub ended_below : (ℕ → InstanceState F R) → ℕ → ℕ
-  ended_below g zero = 0
-  ended_below g (suc k) = ended_below g k + one_if (g k).ended
-
-  ended_over : (g : ℕ → InstanceState F R) (j n : ℕ) (y : InstanceState F R) → n ≤ j → ended_below (put g j y) n ≡ ended_below g n
-  ended_over g j zero y over = refl
-  ended_over g j (suc k) y over =
-      let other : (k == j) ≡ false = grind (arith, nat_tests, over) in
-      let rest = ended_over g j k y (omega (arith, over)) in
-      rw (rest, other) refl
+  ended_below g n = count_below (λ k. (g k).ended) n
 
   pub ended_put : (g : ℕ → InstanceState F R) (j n : ℕ) (y : InstanceState F R) → j < n
       → ended_below (put g j y) n + one_if (g j).ended ≡ ended_below g n + one_if y.ended
-  ended_put g j zero y there = absurd (omega arith)
-  ended_put g j (suc k) y there =
-      elim (k == j) as (λ b. (k == j) ≡ b → ended_below (put g j y) k + one_if (if b then y else g k).ended + one_if (g j).ended
-      ≡ ended_below g k + one_if (g k).ended + one_if y.ended) [
-        | true ↦ λ on.
-            let same : k ≡ j = (Decides-eqb k j).0 on in
-            let rest = ended_over g j k y (omega (arith, same)) in
-            let here : one_if (g k).ended ≡ one_if (g j).ended = ap (λ i. one_if (g i).ended) same in
-            omega (arith, rest, here)
-        | false ↦ λ off.
-            let apart : j < k = grind (arith, nat_tests, there, off) in
-            let rest = ended_put g j k y apart in
-            omega (arith, rest)
-      ] refl
+  ended_put g j n y there = count_put (λ (i : InstanceState F R). i.ended) g j y n there
 
   pub ended_few : (g : ℕ → InstanceState F R) (n : ℕ) → ended_below g n ≤ n
   ended_few g zero = omega arith
