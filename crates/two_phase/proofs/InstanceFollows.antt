@@ -197,18 +197,10 @@ module _ {F R : Type 0} (setting : Setting R) where
     enabled act Drops k = record { cells = k.cells; is = ap (λ rs. rules.with_rule rs the_update filter act) k.is; genuine = k.genuine }
     enabled act Buffers k = record { cells = k.cells; is = ap (λ rs. rules.with_rule rs the_update filter act) k.is; genuine = k.genuine }
 
-    pub drop_follows : Follows index (inner_step f i (two.Inner (msg.Enable the_update filter action.Drop)))
-        (core.inst_step (sys setting) index j (core.Enable Drops))
-    drop_follows = record {
-      node = record { live = h.live; site_is = h.site_is; index_is = h.index_is; ended = h.ended; rules = enabled action.Drop j.rule h.rules };
-      sends = ((refl, Outlines.Enabled), tt);
-      notes = refl;
-    }
-
-    pub buffer_follows : Follows index (inner_step f i (two.Inner (msg.Enable the_update filter action.Buffer)))
-        (core.inst_step (sys setting) index j (core.Enable Buffers))
-    buffer_follows = record {
-      node = record { live = h.live; site_is = h.site_is; index_is = h.index_is; ended = h.ended; rules = enabled action.Buffer j.rule h.rules };
+    enable_follows : (act : Action) (r : Rule) → RulesShow setting (rules.with_rule i.rules the_update filter act) r j.held
+        → Follows index (inner_step f i (two.Inner (msg.Enable the_update filter act))) (core.inst_step (sys setting) index j (core.Enable r))
+    enable_follows act r shown = record {
+      node = record { live = h.live; site_is = h.site_is; index_is = h.index_is; ended = h.ended; rules = shown };
       sends = ((refl, Outlines.Enabled), tt);
       notes = refl;
     }
@@ -312,8 +304,8 @@ module _ {F R : Type 0} (setting : Setting R) where
     instance_follows x y (Outlines.Passes cell n g) = pass_follows index i j h cell n g
     instance_follows x y Outlines.Fence = fence_follows
     instance_follows x y Outlines.Stop = stop_follows
-    instance_follows x y Outlines.Enable_drop = drop_follows
-    instance_follows x y Outlines.Enable_buffer = buffer_follows
+    instance_follows x y Outlines.Enable_drop = enable_follows action.Drop Drops (enabled action.Drop j.rule h.rules)
+    instance_follows x y Outlines.Enable_buffer = enable_follows action.Buffer Buffers (enabled action.Buffer j.rule h.rules)
     instance_follows x y Outlines.Get = get_follows
     instance_follows x y (Outlines.Delete c) = delete_follows c
     instance_follows x y (Outlines.Restore c) = restore_follows c

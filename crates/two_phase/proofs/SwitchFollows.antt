@@ -151,13 +151,8 @@ module _ {R : Type 0} (setting : Setting R) where
       → (if b && target_eq (target_before b to) (redirect_of high filter).from then (redirect_of high filter).to else target_before b to)
       ≡ target_before b (laid high to)
   target_after false true To_a = refl
-  target_after false true To_both = refl
-  target_after false true To_b = refl
-  target_after false false to = refl
   target_after true true To_a = refl
-  target_after true true To_both = refl
-  target_after true true To_b = refl
-  target_after true false to = refl
+  target_after high b to = refl
 
   redirect_shows : (s : SwitchState) (t : core.Switch) (high : Bool) → SwitchShows setting s t
       → SwitchShows setting (record s { rules = rules_redirected (redirect_of high s.filter) s.rules }) (record t { target = laid high t.target })

@@ -47,22 +47,16 @@ numbers_done log = map (λ d. d.number) (dones_in (inner_notes log))
 done_is : (ns : List TwoNote) → numbers_done ns ≡ promises.processed (read outline_note ns)
 done_is [] = refl
 done_is (note.Inner (net_note.Processed n i o) ∷ ns) = ap (λ l. n ∷ l) (done_is ns)
-done_is (note.Inner (net_note.Arrived n) ∷ ns) = done_is ns
-done_is (note.Inner n ∷ ns) = done_is ns
 done_is (n ∷ ns) = done_is ns
 
 arrived_is : (ns : List TwoNote) → arrivals_in (inner_notes ns) ≡ read view.arrived (read outline_note ns)
 arrived_is [] = refl
-arrived_is (note.Inner (net_note.Processed n i o) ∷ ns) = arrived_is ns
 arrived_is (note.Inner (net_note.Arrived n) ∷ ns) = ap (λ l. n ∷ l) (arrived_is ns)
-arrived_is (note.Inner n ∷ ns) = arrived_is ns
 arrived_is (n ∷ ns) = arrived_is ns
 
 come_is : (k : ℕ → Bool) (ns : List TwoNote) → list_any k (arrivals_in (inner_notes ns)) ≡ promises.has_come k (read outline_note ns)
 come_is k [] = refl
 come_is k (note.Inner (net_note.Arrived n) ∷ ns) = ap (λ b. k n || b) (come_is k ns)
-come_is k (note.Inner (net_note.Processed n i o) ∷ ns) = come_is k ns
-come_is k (note.Inner n ∷ ns) = come_is k ns
 come_is k (n ∷ ns) = come_is k ns
 
 -- what isn't low is passed over
@@ -76,8 +70,6 @@ after_is : (ns : List TwoNote) → read outline_note (after_low ns) ≡ promises
 after_is [] = refl
 after_is (note.Low ∷ ns) = refl
 after_is (note.Inner (net_note.Arrived n) ∷ ns) = ap (read outline_note) (later (note.Inner (net_note.Arrived n)) ns refl) ∙ after_is ns
-after_is (note.Inner (net_note.Processed n i o) ∷ ns) = ap (read outline_note) (later (note.Inner (net_note.Processed n i o)) ns refl) ∙ after_is ns
-after_is (note.Inner n ∷ ns) = ap (read outline_note) (later (note.Inner n) ns refl) ∙ after_is ns
 after_is (n ∷ ns) = ap (read outline_note) (later n ns refl) ∙ after_is ns
 
 abbrev real_note : core.Note Output → TwoNote
@@ -89,8 +81,6 @@ verdicts_are [] = refl
 verdicts_are (note.Done ∷ ns) = ap (λ l. note.Done ∷ l) (verdicts_are ns)
 verdicts_are (note.NoPacket ∷ ns) = ap (λ l. note.NoPacket ∷ l) (verdicts_are ns)
 verdicts_are (note.Inner (net_note.Arrived n) ∷ ns) = verdicts_are ns
-verdicts_are (note.Inner (net_note.Processed n i o) ∷ ns) = verdicts_are ns
-verdicts_are (note.Inner n ∷ ns) = verdicts_are ns
 verdicts_are (n ∷ ns) = verdicts_are ns
 
 verdict_by : (b : Bool) → map real_note (if b then core.Done ∷ [] else core.No_packet ∷ []) ≡ (if b then note.Done ∷ [] else note.NoPacket ∷ [])
@@ -110,14 +100,8 @@ module _ (F : Type 0) {R : Type 0} (f : Semantics R) (laws : FunctionLaws f) (al
   its = S F f laws alloc job is
 
   -- one unit
-  those_are : (u : units.Unit) (ps : List ℕ) → filter (is_of f (config_of job) (items_of job) u) ps ≡ promises.of_unit its u ps
-  those_are u [] = refl
-  those_are u (p ∷ ps) = ap (λ l. if is_of f (config_of job) (items_of job) u p then p ∷ l else l) (those_are u ps)
-
   mine_is : (u : units.Unit) → mine f job u ≡ promises.of_unit its u (early F f laws alloc job is ++ late F f laws alloc job is)
-  mine_is u =
-      ap (filter (is_of f (config_of job) (items_of job) u)) (numbers_split job.at job.packets)
-      ∙ those_are u (early F f laws alloc job is ++ late F f laws alloc job is)
+  mine_is u = ap (filter (is_of f (config_of job) (items_of job) u)) (numbers_split job.at job.packets)
 
   kept_is : (o : Option R) (p : ℕ)
       → kept_after f job.site o (packet_numbered (items_of job) p) ≡ Some (f.stepped job.site o (packet_numbered (items_of job) p)).kept
@@ -145,13 +129,11 @@ module _ (F : Type 0) {R : Type 0} (f : Semantics R) (laws : FunctionLaws f) (al
         | true ↦ ap (λ l. o ∷ l) (given_is u ns)
         | false ↦ given_is u ns
       ]
-  given_is u (note.Inner (net_note.Arrived n) ∷ ns) = given_is u ns
-  given_is u (note.Inner n ∷ ns) = given_is u ns
   given_is u (n ∷ ns) = given_is u ns
 
   went_is : (u : units.Unit) (ns : List TwoNote)
       → processed_of f (config_of job) (items_of job) u (inner_notes ns) ≡ promises.of_unit its u (promises.processed (read outline_note ns))
-  went_is u ns = done_numbers (is_of f (config_of job) (items_of job) u) (dones_in (inner_notes ns)) ∙ those_are u (numbers_done ns)
+  went_is u ns = done_numbers (is_of f (config_of job) (items_of job) u) (dones_in (inner_notes ns))
       ∙ ap (promises.of_unit its u) (done_is ns)
 
   after_come : (ns : List TwoNote) → has_come job (after_low ns) ≡ promises.has_come its.covers (promises.after_low (read outline_note ns))
