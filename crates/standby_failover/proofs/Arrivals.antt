@@ -12,7 +12,7 @@ use Rattle.net_world.proofs.NumberCounts.{times_filter}
 use Rattle.run_report.specs.nf_net.proofs.PacketCounts.{done_times}
 use Rattle.standby_failover.specs.Failover.{Failover, lost_in_order, lost_packets, numbers_done}
 use Rattle.standby_failover.specs.Failover.{processed_of, reflected_by, is_affected, is_in, is_lost, IsLeft}
-use Rattle.standby_failover.proofs.ListLemmas.{in_filter, in_drop, in_those, in-append, filter_same, none_times, some_in}
+use Rattle.standby_failover.proofs.ListLemmas.{in_filter, in_drop, in-append, filter_same, none_times, some_in}
 use Rattle.standby_failover.proofs.Reflected.{of_itself, processed_those}
 
 module _ {F R : Type 0} (x : Failover F R) where
@@ -23,7 +23,7 @@ module _ {F R : Type 0} (x : Failover F R) where
       let m = is_of x.job.function x.job.config x.job.items u in
       let both = and_parts (is_affected x u) (is_in p (drop (reflected_by x u) (processed_of x u))) e in
       let own : is_in p (processed_of x u) ≡ true = in_drop p (reflected_by x u) (processed_of x u) both.1 in
-      let among : (m p && is_in p (numbers_done x.world.log)) ≡ true = sym (in_those p m (numbers_done x.world.log)) ∙ ap (is_in p) (sym (processed_those x u))
+      let among : (m p && is_in p (numbers_done x.world.log)) ≡ true = sym (in_filter p m (numbers_done x.world.log)) ∙ ap (is_in p) (sym (processed_those x u))
       ∙ own in
       (and_parts (m p) (is_in p (numbers_done x.world.log)) among).1
 

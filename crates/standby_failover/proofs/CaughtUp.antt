@@ -25,18 +25,11 @@ use Rattle.standby_failover.specs.declared.promoted.Promoted.{Promoted}
 use Rattle.standby_failover.specs.Failover.{Failover, record_kept, lost_in_order, open_of, open_packets, numbers_done, processed_of}
 use Rattle.standby_failover.specs.Failover.{reflected_by, standing, is_affected, is_in, is_lost, is_open, HasCaughtUp, IsLeft, IsPromoted}
 use Rattle.standby_failover.specs.Stepping.{after_packets, packet_among}
-use Rattle.standby_failover.proofs.ListLemmas.{IsOnce, those_filter, in_those, filter_same, filter_none, later_kept, once_those, front_and_others}
+use Rattle.standby_failover.proofs.ListLemmas.{IsOnce, those_filter, in_filter, filter_same, filter_none, later_kept, once_those, front_and_others}
 use Rattle.standby_failover.proofs.Reflected.{processed_those, once_done}
 
 module _ {F R : Type 0} (x : Failover F R) where
-  abbrev f : Semantics R
-  f = x.job.function
-
-  abbrev c : Config
-  c = x.job.config
-
-  abbrev items : List Msg
-  items = x.job.items
+  open x.job use {function as f, config as c, items}
 
   abbrev of_unit : units.Unit → ℕ → Bool
   of_unit u = is_of f c items u
@@ -111,7 +104,7 @@ module _ {F R : Type 0} (x : Failover F R) where
     -- the unit of what is picked out for one
     its_unit : (u : units.Unit) (p : ℕ) (ns : List ℕ) → is_in p (filter (of_unit u) ns) ≡ true → (unit_in x.job p ≡ u) × (is_in p ns ≡ true)
     its_unit u p ns e =
-        let both = and_parts (of_unit u p) (is_in p ns) (sym (in_those p (of_unit u) ns) ∙ e) in
+        let both = and_parts (of_unit u p) (is_in p ns) (sym (in_filter p (of_unit u) ns) ∙ e) in
         (same_unit-true (unit_in x.job p) u both.0, both.1)
 
     -- of an affected unit those after the first are lost
@@ -154,10 +147,10 @@ module _ {F R : Type 0} (x : Failover F R) where
         same : (p : ℕ) → is_in p (filter (of_unit u) (arrivals_in x.world.log)) ≡ true → is_open x p ≡ not (is_in p (processed_of x u))
         same p e =
             let it = (its_unit u p (arrivals_in x.world.log) e).0 in
-            let own : of_unit u p ≡ true = (and_parts (of_unit u p) (is_in p (arrivals_in x.world.log)) (sym (in_those p (of_unit u) (arrivals_in x.world.log))
+            let own : of_unit u p ≡ true = (and_parts (of_unit u p) (is_in p (arrivals_in x.world.log)) (sym (in_filter p (of_unit u) (arrivals_in x.world.log))
             ∙ e)).0 in
             let among : is_in p (processed_of x u) ≡ is_in p (numbers_done x.world.log) = ap (is_in p) (processed_those x u)
-            ∙ in_those p (of_unit u) (numbers_done x.world.log) ∙ ap (λ b. b && is_in p (numbers_done x.world.log)) own in
+            ∙ in_filter p (of_unit u) (numbers_done x.world.log) ∙ ap (λ b. b && is_in p (numbers_done x.world.log)) own in
             ap (λ v. is_affected x v && not (is_in p (numbers_done x.world.log))) it
             ∙ ap (λ b. b && not (is_in p (numbers_done x.world.log))) on
             ∙ ap not (sym among)

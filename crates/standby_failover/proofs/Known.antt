@@ -1,13 +1,14 @@
 -- The lost and the open packets are packets of the input.
 use Rattle.std.proofs.Common.{◌≡◌, ℕ, true, List, [], ◌∷◌, ◌++◌, Some, Option, drop, take, length, refl, sym, ap, ◌∙◌}
 use Rattle.std.specs.Prelude.{◌==◌, ◌||◌, All, IsSome, find, is_some}
+use Rattle.std.proofs.Math.Bool.{or-true}
 use Rattle.std.proofs.lemmas.List.Elements.{All-append, All-cons, All-filter, All-nil, All-same, All-weaker, All-take, All-drop}
 use Rattle.std.proofs.lemmas.List.{take_at, drop_at}
 use Rattle.net_world.specs.Input.{packets}
 use Rattle.net_world.specs.Log.{arrivals_in}
 use Rattle.standby_failover.specs.declared.promoted.Promoted.{Promoted}
 use Rattle.standby_failover.specs.Failover.{Failover, lost_in_order, numbers_done, open_packets, is_in, is_lost, is_open, IsLeft, IsPromoted}
-use Rattle.standby_failover.proofs.ListLemmas.{or_true, same_number}
+use Rattle.standby_failover.proofs.ListLemmas.{same_number}
 use Rattle.standby_failover.proofs.Arrivals.{found_came, found_done}
 
 some_of : {X : Type 0} (o : Option X) → ((y : X) × (o ≡ Some y)) → IsSome o
@@ -16,7 +17,7 @@ some_of o h = ap is_some h.1
 all_in : (xs : List ℕ) → All (λ p. is_in p xs ≡ true) xs
 all_in [] = All-nil (λ p. is_in p [] ≡ true)
 all_in (x ∷ xs) = All-cons (λ p. is_in p (x ∷ xs) ≡ true) x xs (ap (λ b. b || is_in x xs) (same_number x))
-    (All-weaker (λ p. is_in p xs ≡ true) (λ p. is_in p (x ∷ xs) ≡ true) (λ p e. ap (λ b. (p == x) || b) e ∙ or_true (p == x)) xs (all_in xs))
+    (All-weaker (λ p. is_in p xs ≡ true) (λ p. is_in p (x ∷ xs) ≡ true) (λ p e. ap (λ b. (p == x) || b) e ∙ or-true (p == x)) xs (all_in xs))
 
 module _ {F R : Type 0} (x : Failover F R) (left : IsLeft x) where
   abbrev IsKnown : ℕ → Type 0

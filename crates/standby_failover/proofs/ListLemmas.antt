@@ -2,11 +2,13 @@
 use Rattle.std.proofs.Common.{◌≡◌, ℕ, ◌+◌, ◌<◌, ◌≤◌, Bool, true, false, suc, zero, List, [], ◌∷◌}
 use Rattle.std.proofs.Common.{◌++◌, take, drop, length, filter, refl, sym, ap, ◌∙◌, subst, arith}
 use Rattle.std.specs.Prelude.{if◌then◌else◌, ◌==◌, ◌&&◌, ◌||◌, not}
+use Rattle.std.proofs.Math.Bool.{or-true}
 use Rattle.std.proofs.lemmas.Bool.Decides.{Decides-eqb}
 use Rattle.std.proofs.lemmas.List.{drop-append-le, take-append-drop}
 use Rattle.std.proofs.lemmas.List.Elements.{filter-append}
+use Rattle.std.proofs.lemmas.List.Folds.{list_any-append}
 use Rattle.net_world.specs.Fold.{IsFront, times}
-use Rattle.net_world.proofs.NumberCounts.{times-append}
+use Rattle.net_world.proofs.NumberCounts.{times-append, times_filter}
 use Rattle.standby_failover.specs.Failover.{is_in}
 
 -- a number that doesn't stand in a list, and one that does
@@ -35,21 +37,13 @@ none_times p [] e = refl
 none_times p (x ∷ xs) e = none_next_times (p == x) (times p xs) (is_in p xs) e (none_times p xs)
 
 pub in-append : (p : ℕ) (xs ys : List ℕ) → is_in p (xs ++ ys) ≡ (is_in p xs || is_in p ys)
-in-append p [] ys = refl
-in-append p (x ∷ xs) ys = elim (p == x) as (λ b. (b || is_in p (xs ++ ys)) ≡ ((b || is_in p xs) || is_in p ys)) [
-  | true ↦ refl
-  | false ↦ in-append p xs ys
-]
+in-append p xs ys = list_any-append (λ q. p == q) xs ys
 
 pub same_number : (p : ℕ) → (p == p) ≡ true
 same_number p = (Decides-eqb p p).1 refl
 
-pub or_true : (b : Bool) → (b || true) ≡ true
-or_true true = refl
-or_true false = refl
-
 pub in_middle : (p : ℕ) (xs ys : List ℕ) → is_in p (xs ++ p ∷ ys) ≡ true
-in_middle p xs ys = in-append p xs (p ∷ ys) ∙ ap (λ b. is_in p xs || (b || is_in p ys)) (same_number p) ∙ or_true (is_in p xs)
+in_middle p xs ys = in-append p xs (p ∷ ys) ∙ ap (λ b. is_in p xs || (b || is_in p ys)) (same_number p) ∙ or-true (is_in p xs)
 
 -- no number stands in the list twice
 abbrev pub IsOnce : List ℕ → Type 0
@@ -88,23 +82,8 @@ among r p xs ys h more =
     let rest = drop_past r xs ys p more none.1 in
     none_in p (drop r (xs ++ p ∷ ys)) (omega (arith, rest, none.0))
 
--- a number of a kind stands among those of the kind as often as among all
-times_next : (p x : ℕ) (b : Bool) (n : ℕ) (xs : List ℕ) → (b ≡ false → (p == x) ≡ false) → times p xs ≡ n
-    → times p (if b then x ∷ xs else xs) ≡ (if p == x then 1 else 0) + n
-times_next p x true n xs h e = omega (arith, e)
-times_next p x false n xs h e = let other = h refl in rw other (omega (arith, e))
-
-other_kind : (m : ℕ → Bool) (p x : ℕ) → m p ≡ true → m x ≡ false → (p == x) ≡ false
-other_kind m p x on off = elim (p == x) as (λ b. (p == x) ≡ b → b ≡ false) [
-  | true ↦ λ e. (let same : p ≡ x = (Decides-eqb p x).0 e in let never : true ≡ false = sym on ∙ ap m same ∙ off in never)
-  | false ↦ λ e. refl
-] refl
-
-pub times-those : (m : ℕ → Bool) (p : ℕ) (xs : List ℕ) → m p ≡ true → times p (filter m xs) ≡ times p xs
-times-those m p [] on = refl
-times-those m p (x ∷ xs) on = times_next p x (m x) (times p xs) (filter m xs) (other_kind m p x on) (times-those m p xs on)
-
-pub those_filter : (m l : ℕ → Bool) (xs : List ℕ) → filter m (filter l xs) ≡ filter l (filter m xs)
+-- what is picked out by two tests, in either order
+pub those_filter : {X : Type 0} (m l : X → Bool) (xs : List X) → filter m (filter l xs) ≡ filter l (filter m xs)
 those_filter m l [] = refl
 those_filter m l (x ∷ xs) = by_tests (those_filter m l xs) (m x) (l x) refl refl
   where
@@ -131,36 +110,28 @@ pub filter_all : (f : ℕ → Bool) (xs : List ℕ) → ((p : ℕ) → is_in p x
 filter_all f [] h = refl
 filter_all f (x ∷ xs) h =
     let on : f x ≡ true = h x (ap (λ b. b || is_in x xs) (same_number x)) in
-    rw on (ap (λ v. x ∷ v) (filter_all f xs (λ p e. h p (ap (λ b. (p == x) || b) e ∙ or_true (p == x)))))
+    rw on (ap (λ v. x ∷ v) (filter_all f xs (λ p e. h p (ap (λ b. (p == x) || b) e ∙ or-true (p == x)))))
 
 pub filter_none : (f : ℕ → Bool) (xs : List ℕ) → ((p : ℕ) → is_in p xs ≡ true → f p ≡ false) → filter f xs ≡ []
 filter_none f [] h = refl
 filter_none f (x ∷ xs) h =
     let off : f x ≡ false = h x (ap (λ b. b || is_in x xs) (same_number x)) in
-    rw off (filter_none f xs (λ p e. h p (ap (λ b. (p == x) || b) e ∙ or_true (p == x))))
+    rw off (filter_none f xs (λ p e. h p (ap (λ b. (p == x) || b) e ∙ or-true (p == x))))
 
 pub filter_same : (f g : ℕ → Bool) (xs : List ℕ) → ((p : ℕ) → is_in p xs ≡ true → f p ≡ g p) → filter f xs ≡ filter g xs
 filter_same f g [] h = refl
 filter_same f g (x ∷ xs) h =
     let same : f x ≡ g x = h x (ap (λ b. b || is_in x xs) (same_number x)) in
-    let rest = filter_same f g xs (λ p e. h p (ap (λ b. (p == x) || b) e ∙ or_true (p == x))) in
+    let rest = filter_same f g xs (λ p e. h p (ap (λ b. (p == x) || b) e ∙ or-true (p == x))) in
     rw same (ap (λ v. if g x then x ∷ v else v) rest)
 
 -- what stands in one part of such a list doesn't stand in the other
 module _ (xs ys : List ℕ) (once : IsOnce (xs ++ ys)) where
   pub not_after : (p : ℕ) → is_in p xs ≡ true → is_in p ys ≡ false
-  not_after p on =
-      let both = times-append p xs ys in
-      let few = once p in
-      let some = some_in p xs on in
-      none_in p ys (omega (arith, both, few, some))
+  not_after p on = none_in p ys (omega (arith, times-append p xs ys, once p, some_in p xs on))
 
   pub not_before : (p : ℕ) → is_in p ys ≡ true → is_in p xs ≡ false
-  not_before p on =
-      let both = times-append p xs ys in
-      let few = once p in
-      let some = some_in p ys on in
-      none_in p xs (omega (arith, both, few, some))
+  not_before p on = none_in p xs (omega (arith, times-append p xs ys, once p, some_in p ys on))
 
   -- so the later part is what is in it, and what isn't in the front
   pub later_is : filter (λ p. is_in p ys) (xs ++ ys) ≡ ys
@@ -191,18 +162,11 @@ front_and_others xs all h once =
 -- what stands after so many stands in the list
 pub in_drop : (p r : ℕ) (xs : List ℕ) → is_in p (drop r xs) ≡ true → is_in p xs ≡ true
 in_drop p r xs e = ap (is_in p) (sym (take-append-drop r xs)) ∙ in-append p (take r xs) (drop r xs) ∙ ap (λ b. is_in p (take r xs) || b) e
-    ∙ or_true (is_in p (take r xs))
-
-pub those_filters : (m : ℕ → Bool) (xs : List ℕ) → filter m xs ≡ filter m xs
-those_filters m [] = refl
-those_filters m (x ∷ xs) = ap (λ v. if m x then x ∷ v else v) (those_filters m xs)
-
-pub in_those : (p : ℕ) (m : ℕ → Bool) (xs : List ℕ) → is_in p (filter m xs) ≡ (m p && is_in p xs)
-in_those p m xs = ap (is_in p) (those_filters m xs) ∙ in_filter p m xs
+    ∙ or-true (is_in p (take r xs))
 
 pub once_those : (m : ℕ → Bool) (xs : List ℕ) → IsOnce xs → IsOnce (filter m xs)
 once_those m xs once p = elim (m p) as (λ b. m p ≡ b → times p (filter m xs) ≤ 1) [
-  | true ↦ λ on. (let same = times-those m p xs on in let few = once p in omega (arith, same, few))
-  | false ↦ λ off. (let no : is_in p (filter m xs) ≡ false = in_those p m xs
+  | true ↦ λ on. (let same = times_filter m p on xs in let few = once p in omega (arith, same, few))
+  | false ↦ λ off. (let no : is_in p (filter m xs) ≡ false = in_filter p m xs
       ∙ ap (λ b. b && is_in p xs) off in let none = none_times p (filter m xs) no in omega (arith, none))
 ] refl

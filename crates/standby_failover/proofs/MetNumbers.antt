@@ -33,23 +33,11 @@ picked_more l log i n within here = ap (filter l) (came_more log i n within here
 -- other notes tell of none
 pub none_done : (n : Note) → ((number : ℕ) (instance : ℕ) (output : Output) → n ≡ note.Processed number instance output → ⊥) → numbers_done (n ∷ []) ≡ []
 none_done (note.Processed number instance output) h = absurd (h number instance output refl)
-none_done (note.Arrived number) h = refl
-none_done (note.Begun op) h = refl
-none_done (note.Exported instance op us) h = refl
-none_done (note.Imported instance op us) h = refl
-none_done (note.Kept instance op us) h = refl
-none_done (note.Installed op) h = refl
-none_done (note.Answered op answer) h = refl
+none_done other h = refl
 
 pub none_came : (n : Note) → ((number : ℕ) → n ≡ note.Arrived number → ⊥) → arrivals_in (n ∷ []) ≡ []
 none_came (note.Arrived number) h = absurd (h number refl)
-none_came (note.Processed number instance output) h = refl
-none_came (note.Begun op) h = refl
-none_came (note.Exported instance op us) h = refl
-none_came (note.Imported instance op us) h = refl
-none_came (note.Kept instance op us) h = refl
-none_came (note.Installed op) h = refl
-none_came (note.Answered op answer) h = refl
+none_came other h = refl
 
 -- a number that is picked out, or not
 pub picked : (l : ℕ → Bool) (p : ℕ) (b : Bool) → l p ≡ b → filter l (p ∷ []) ≡ (if b then p ∷ [] else [])

@@ -5,6 +5,7 @@ use Rattle.std.specs.Prelude.{if◌then◌else◌}
 use Rattle.std.specs.List.{filter}
 use Rattle.std.proofs.Math.Nat.{min-eq_left}
 use Rattle.std.proofs.lemmas.List.{take_at, length-take-le, length-map}
+use Rattle.std.proofs.lemmas.List.Sums.{count_by-le-length, length-filter}
 use Rattle.nf_function.specs.declared.unit.Unit as units
 use Rattle.nf_function.specs.Records.{Laws as FunctionLaws}
 use Rattle.nf_function.specs.Semantics.{Semantics, packets_in}
@@ -13,10 +14,10 @@ use Rattle.nf_msgs.specs.declared.msg.Msg.{Msg}
 use Rattle.net_world.specs.declared.config.Config.{Config}
 use Rattle.net_world.specs.Fold.{IsFront, arrived_of, fold, is_of}
 use Rattle.net_world.specs.Input.{most_counted, packet_numbered, packets, IsInput}
-use Rattle.net_world.specs.Log.{Done, arrivals_in, dones_in, done_where}
+use Rattle.net_world.specs.Log.{arrivals_in, dones_in}
 use Rattle.net_world.specs.Places.{unit_in}
 use Rattle.net_world.specs.Standby.{StandsBy}
-use Rattle.net_world.proofs.NumberCounts.{times_filter}
+use Rattle.net_world.proofs.NumberCounts.{done_numbers, times_filter}
 use Rattle.run_report.specs.nf_net.specs.Promises.{Promises}
 use Rattle.run_report.specs.nf_net.proofs.FrontLemmas.{front_length}
 use Rattle.run_report.specs.nf_net.proofs.PacketCounts.{no_longer, done_times}
@@ -24,37 +25,14 @@ use Rattle.run_report.specs.proof_outlines.proofs.joined.StartJoined.{all_fit}
 use Rattle.standby_failover.specs.Failover.{Failover, record_kept, numbers_done, processed_of, reflected_by, standing, AreReflected, IsReflected}
 use Rattle.standby_failover.proofs.ListLemmas.{IsOnce}
 
-few_those : (m : ℕ → Bool) (xs : List ℕ) → length (filter m xs) ≤ length xs
-few_those m [] = omega arith
-few_those m (x ∷ xs) = let rest = few_those m xs in elim (m x) as (λ b. length (if b then x ∷ filter m xs else filter m xs) ≤ length (x ∷ xs)) [
-  | true ↦ omega (arith, rest)
-  | false ↦ omega (arith, rest)
-]
-
-numbers_of : (m : ℕ → Bool) (ds : List Done) → map (λ d. d.number) (done_where m ds) ≡ filter m (map (λ d. d.number) ds)
-numbers_of m [] = refl
-numbers_of m (d ∷ ds) =
-    elim (m d.number) as (λ b. map (λ x. x.number) (if b then d ∷ done_where m ds else done_where m ds) ≡
-    (if b then d.number ∷ filter m (map (λ x. x.number) ds) else filter m (map (λ x. x.number) ds))) [
-      | true ↦ ap (λ xs. d.number ∷ xs) (numbers_of m ds)
-      | false ↦ numbers_of m ds
-    ]
-
 module _ {F R : Type 0} (x : Failover F R) where
-  abbrev f : Semantics R
-  f = x.job.function
-
-  abbrev c : Config
-  c = x.job.config
-
-  abbrev items : List Msg
-  items = x.job.items
+  open x.job use {function as f, config as c, items}
 
   pub of_itself : (p : ℕ) → is_of f c items (unit_in x.job p) p ≡ true
   of_itself p = same_unit_equiv.refl (unit_in x.job p)
 
   pub processed_those : (u : units.Unit) → processed_of x u ≡ filter (is_of f c items u) (numbers_done x.world.log)
-  processed_those u = numbers_of (is_of f c items u) (dones_in x.world.log)
+  processed_those u = done_numbers (is_of f c items u) (dones_in x.world.log)
 
   module _ (is : IsInput x.job.function.kind x.job.config x.job.items) (ps : Promises x.job.function x.job.config x.job.items x.world) where
     pub once_done : IsOnce (numbers_done x.world.log)
@@ -71,11 +49,12 @@ module _ {F R : Type 0} (x : Failover F R) where
     pub room : (u : units.Unit) → length (processed_of x u) ≤ most_counted
     room u =
         let some = no_longer (processed_of x u) (arrived_of f c items u x.world.log) (ps.once u) in
-        let fewer = few_those (is_of f c items u) (arrivals_in x.world.log) in
+        let kept = length-filter (is_of f c items u) (arrivals_in x.world.log) in
+        let fewer = count_by-le-length (is_of f c items u) (arrivals_in x.world.log) in
         let turn = front_length (arrivals_in x.world.log) (map (λ p. p.number) (packets items)) ps.in_turn in
         let all = length-map (packets items) (λ p. p.number) in
         let few = is.few in
-        omega (arith, some, fewer, turn, all, few)
+        omega (arith, some, kept, fewer, turn, all, few)
 
     module _ (laws : FunctionLaws x.job.function) where
       fold_counts : (r : Option R) (ns : List ℕ) → packets_in f r + length ns ≤ most_counted → packets_in f (fold f c items r ns) ≡ packets_in f r + length ns

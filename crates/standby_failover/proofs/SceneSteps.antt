@@ -4,6 +4,7 @@ use Rattle.std.proofs.Common.{◌∷◌, ◌++◌, take, drop, get_or, length, r
 use Rattle.std.specs.Prelude.{if◌then◌else◌, ◌&&◌, is_some, not, slice_get, unwrap_or}
 use Rattle.std.specs.FinMap as finite
 use Rattle.std.specs.Option.{option_map_or}
+use Rattle.std.proofs.Math.Bool.{and_comm}
 use Rattle.flow_filter.specs.declared.packet.Packet.{Packet}
 use Rattle.nf_function.specs.declared.output.Output.{Output}
 use Rattle.nf_function.specs.declared.unit.Unit as units
@@ -66,12 +67,6 @@ module _ {F R : Type 0} (f : Semantics R) (v : Stopped F R) (s : Scene F R) (is 
       and_comm (is_affected x (unit_in x.job number)) (not (is_in number (numbers_done v.world.log)))
       ∙ ap (λ l. not (is_in number (numbers_done l)) && is_affected x (unit_in x.job number)) (sym is.log)
       ∙ ap (λ a. not (is_in number (numbers_done s.log.now)) && a) (sym (affects_is number came)) ∙ e
-    where
-      and_comm : (a b : Bool) → (a && b) ≡ (b && a)
-      and_comm true true = refl
-      and_comm true false = refl
-      and_comm false true = refl
-      and_comm false false = refl
 
   module _ (laws : FunctionLaws f) where
     pub begun : IsUpTo x [] (finite.empty {X = R} {R = unit_cmp}) []

@@ -6,7 +6,6 @@
 #![tactic(auto)]
 
 pub mod catching_up;
-pub mod fault;
 mod numbers;
 pub mod packets;
 pub mod promoted;
@@ -16,7 +15,6 @@ pub mod reporting;
 mod scene;
 
 pub use catching_up::catch_up;
-pub use fault::FailFault;
 pub use packets::packets_of;
 pub use promoted::{Failing, Numbers, Promoted};
 pub use promoting::{promote, promote_with};

@@ -7,7 +7,6 @@ ghost use Rattle.net_world.specs.Start.{started_with};
 ghost use Rattle.standby_failover.specs.Causes.{IsFailCause, IsReached, first_of, world_after};
 ghost use Rattle.standby_failover.specs.Failover.{IsLeft, IsPromoted, failover_of};
 
-use crate::fault::FailFault;
 use crate::packets::packets_of;
 use crate::promoted::{Failing, Promoted};
 use crate::replay::{into_table, table_of, world_after};
@@ -17,6 +16,7 @@ use flow_filter::Packets;
 use net_world::Config;
 use nf_function::Function;
 use nf_msgs::Msg;
+use run_report::AuditFault;
 use std::alloc::Global;
 
 /// What is left where an instance of a network fails after the first so many choices, and another takes over.
@@ -30,7 +30,7 @@ pub fn promote<F: Function>(
     after: u64,
     failed: u8,
     to: u8,
-) -> Result<Promoted<F>, FailFault>
+) -> Result<Promoted<F>, AuditFault>
     requires input { IsInput F.semantics.kind config.now items.items }
     requires numbered { AreNumbered 1 (packets items.items) }
     requires failed { failed < length config.now.names }
@@ -46,7 +46,7 @@ pub fn promote<F: Function>(
 
     // What [`crate::catch_up`] asks: the numbers are those of packets of the input.
     ensures known { IfOk result (λ promoted. All (λ n. IsSome (find (λ p. p.number == n) (packets items.items))) (promoted.order ++ promoted.pending)) }
-    ensures not_a_run { (step : ℕ) → result ≡ Err (FailFault.NotARun step)
+    ensures not_a_run { (step : ℕ) → result ≡ Err (AuditFault.NotARun step)
         → IsFailCause {F = F.row.Denot} F.semantics (started_with alloc config.now items.items) (first_of choices.now after) step }
 {
     let trace = packets_of(alloc, items.as_slice())?;
@@ -62,7 +62,7 @@ pub fn promote_with<F: Function>(
     trace: &Packets,
     choices: &[Choice],
     failing: &Failing,
-) -> Result<Promoted<F>, FailFault>
+) -> Result<Promoted<F>, AuditFault>
     requires input { IsInput F.semantics.kind config.now items.items }
     requires trace { trace.now ≡ packets items.items }
     requires numbered { AreNumbered 1 trace.now }
@@ -76,7 +76,7 @@ pub fn promote_with<F: Function>(
     ensures promoted { let world = world_after F.semantics (started_with alloc config.now items.items) (first_of choices.now failing.now.after) in
         IfOk result (IsPromoted {F = F.row.Denot} (failover_of (job_of F.semantics config.now items.items) world failing.now.failed failing.now.to)) }
     ensures known { IfOk result (λ promoted. All (λ n. IsSome (find (λ p. p.number == n) (packets items.items))) (promoted.order ++ promoted.pending)) }
-    ensures not_a_run { (step : ℕ) → result ≡ Err (FailFault.NotARun step)
+    ensures not_a_run { (step : ℕ) → result ≡ Err (AuditFault.NotARun step)
         → IsFailCause {F = F.row.Denot} F.semantics (started_with alloc config.now items.items) (first_of choices.now failing.now.after) step }
 {
     let world = world_after::<F>(alloc, config, items, choices, failing.after)?;

@@ -7,14 +7,13 @@ ghost use Rattle.standby_failover.specs.Causes.{IsFailCause, IsReached, first_of
 ghost use Rattle.standby_failover.specs.Failover.{table_at};
 ghost use Rattle.standby_failover.specs.Scenes.{is_instance};
 
-use crate::fault::FailFault;
 use actor_net::{Choice, ReplayFault, World};
 use basics::NoMemory;
 use net_world::{Config, Node, start};
 use nf_function::Function;
 use nf_msgs::{MOST_INSTANCES, Msg, instance_node};
 use record_table::Table;
-use run_report::run_choices;
+use run_report::{AuditFault, run_choices};
 use std::alloc::Global;
 
 /// The world of a network after the first so many choices.
@@ -24,12 +23,12 @@ pub(crate) fn world_after<F: Function>(
     items: Vec<Msg>,
     choices: &[Choice],
     after: u64,
-) -> Result<World<Node<F>>, FailFault>
+) -> Result<World<Node<F>>, AuditFault>
     requires { IsInput F.semantics.kind config.now items.items }
     ensures reached { IfOk result (λ _. IsReached {F = F.row.Denot} F.semantics (started_with alloc config.now items.items) (first_of choices.now after)) }
     ensures world { IfOk result (λ world. world ≡ world_after F.semantics (started_with alloc config.now items.items) (first_of choices.now after)) }
     ensures instances { IfOk result (λ world. (i : ℕ) → i < length config.now.names → is_instance (slice_get world.nodes (instance_node i)) ≡ true) }
-    ensures not_a_run { (step : ℕ) → result ≡ Err (FailFault.NotARun step)
+    ensures not_a_run { (step : ℕ) → result ≡ Err (AuditFault.NotARun step)
         → IsFailCause {F = F.row.Denot} F.semantics (started_with alloc config.now items.items) (first_of choices.now after) step }
 {
     let start = start::<F>(alloc, config, items)?;
@@ -37,12 +36,12 @@ pub(crate) fn world_after<F: Function>(
     let first = &choices[..after.min(count) as usize];
     match run_choices(start, first) {
         Ok(world) if after <= count => Ok(world),
-        Ok(_world) => Err(FailFault::NotARun { step: count + 1 }),
+        Ok(_world) => Err(AuditFault::NotARun { step: count + 1 }),
         Err(ReplayFault::NotEnabled { index }) => {
             let step = index as u64 + 1;
-            Err(FailFault::NotARun { step })
+            Err(AuditFault::NotARun { step })
         }
-        Err(ReplayFault::NoMemory) => Err(FailFault::NoMemory),
+        Err(ReplayFault::NoMemory) => Err(AuditFault::NoMemory),
     }
 }
 

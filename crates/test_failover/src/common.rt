@@ -16,8 +16,8 @@ use flow_filter::{
 use net_world::Config;
 use nf_function::Kind;
 use nf_msgs::{Msg, Names};
-use run_report::Head;
-use standby_failover::{FailFault, Failing, packets_of, promote, report_failover};
+use run_report::{AuditFault, Head};
+use standby_failover::{Failing, packets_of, promote, report_failover};
 use std::alloc::Global;
 use std::test::Fail;
 
@@ -113,7 +113,7 @@ pub fn failover(
     items: Vec<Msg>,
     digits: &str,
     after: u64,
-) -> Result<Result<Text, FailFault>, Fail>
+) -> Result<Result<Text, AuditFault>, Fail>
     requires two { length config.now.names ≡ 2 }
     requires input { IsInput OfFlows config.now items.items }
     requires numbered { AreNumbered 1 (packets items.items) }

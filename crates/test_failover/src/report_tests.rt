@@ -11,7 +11,7 @@ use basics::Boxed;
 use flow_filter::{Filter, Name};
 use net_world::Config;
 use nf_msgs::{Command, Msg, Names, Order};
-use standby_failover::FailFault;
+use run_report::AuditFault;
 use std::alloc::Global;
 use std::test::Fail;
 
@@ -228,7 +228,7 @@ fn the_step_is_told_at_which_choices_are_no_run(rt: HostRuntime) -> Result<(), F
     let config = config(alloc)?;
     for (digits, after, step) in [("00 20", 3, 3), ("00 20", u64::MAX, 3), ("00 30 20", 3, 2)] {
         let fault = failover(alloc, &config, one_packet(alloc, &config)?, digits, after)?;
-        assert_eq!(rt; fault.err(), Some(FailFault::NotARun { step }));
+        assert_eq!(rt; fault.err(), Some(AuditFault::NotARun { step }));
     }
     Ok(())
 }

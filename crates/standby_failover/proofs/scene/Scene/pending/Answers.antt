@@ -1,6 +1,7 @@
 -- A note of a packet that came adds its number where it is open.
 use Rattle.std.proofs.Common.{◌≡◌, Bool, true, false, [], ◌∷◌, ◌++◌, refl, sym, ap, ◌∙◌}
 use Rattle.std.specs.Prelude.{◌&&◌, not}
+use Rattle.std.proofs.Math.Bool.{and-false}
 use Rattle.standby_failover.specs.Failover.{is_in, is_open, numbers_done}
 use Rattle.standby_failover.specs.Scenes.{affects, failover_in, is_marked}
 use Rattle.standby_failover.proofs.MetNumbers.{left_out, met_came, picked_next, picked_same}
@@ -9,10 +10,6 @@ use Rattle.standby_failover.proofs.scene.Scene.pending.Goals as goal
 use Rattle.standby_failover.proofs.scene.Scene.pending.Goals.{then-not-is_marked+then-affects+in_ok-push, else-not-is_marked}
 use Rattle.standby_failover.proofs.scene.Scene.pending.Goals.{else-not-is_marked-via-then-not-is_marked+else-affects}
 use Rattle.standby_failover.proofs.scene.Scene.pending.Goals.{else-not-is_marked-via-else-not-is_marked}
-
-and_false : (b : Bool) → (b && false) ≡ false
-and_false true = refl
-and_false false = refl
 
 pub loop-note-preserved-in_default : goal.loop-note-preserved-in_default
 loop-note-preserved-in_default g c = λ v is.
@@ -43,7 +40,7 @@ loop-note-preserved g c =
           (open_is f v s is number came false (elim w.else-not-is_marked.branch [
             | else-not-is_marked-via-then-not-is_marked+else-affects y ↦
                 ap (λ b. not (is_in number (numbers_done log)) && b) (sym y.affects.ensures ∙ y.if-affects.false)
-                ∙ and_false (not (is_in number (numbers_done log)))
+                ∙ and-false (not (is_in number (numbers_done log)))
             | else-not-is_marked-via-else-not-is_marked y ↦ ap (λ b. not b && affects f s number) (sym tested ∙ y.if-not-is_marked.false)
           ])))
     ]
