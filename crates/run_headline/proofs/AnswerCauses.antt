@@ -5,7 +5,9 @@ use Rattle.std.specs.Prelude.{◌==◌, nat_lt, option_map, option_and_then, if�
 use Rattle.std.specs.List.{AllByRecursion, AllZip, list_any, position_or_len}
 use Rattle.std.specs.Option.{option_map_or}
 use Rattle.std.specs.declared.alloc.Global.{Global}
+use Rattle.std.proofs.Math.Bool.{or-true}
 use Rattle.std.proofs.lemmas.Bool.Decides.{nat_tests, Decides-ltb}
+use Rattle.std.proofs.lemmas.Bool.{and_parts}
 use Rattle.flow_filter.specs.declared.filter.Filter.{Filter}
 use Rattle.flow_filter.specs.Filter.{meets}
 use Rattle.nf_function.specs.declared.unit.Unit as units
@@ -50,13 +52,9 @@ began_before op k log h = any_front begin_in (λ j. j == k) (position_or_len (is
 -- a command that has an answer was noted
 answered_noted : (op : ℕ) (log : List Note) (a : Answer) → answers_of op log ≡ a ∷ [] → is_noted op log ≡ true
 answered_noted op log a is = elim (has_answered op log) as (λ b. has_answered op log ≡ b → (commands_noted.is_begun op log || b) ≡ true) [
-  | true ↦ λ _. or_true (commands_noted.is_begun op log)
+  | true ↦ λ _. or-true (commands_noted.is_begun op log)
   | false ↦ λ off. (let none = sym is ∙ none_answered op log off in cc)
 ] refl
-  where
-    or_true : (b : Bool) → (b || true) ≡ true
-    or_true true = refl
-    or_true false = refl
 
 -- one that began
 abbrev is_of_begun : Answer → Bool
@@ -111,11 +109,6 @@ record IsTooNew (x : Weighed) (newest reads : ℕ) : Type 0 where
   newest_is : newest ≡ timed_version
   reads_is : reads ≡ plain_version
 
-both : (a b : Bool) → (a && b) ≡ true → (a ≡ true) × (b ≡ true)
-both true true h = (refl, refl)
-both true false h = cc
-both false b h = cc
-
 is_too_new : (x : Weighed) (newest reads : ℕ) → answers.Old newest reads ≡ verdict x → IsTooNew x newest reads
 is_too_new x newest reads = elim (nat_lt x.limit (x.held + x.coming)) as (λ b.
     answers.Old newest reads
@@ -125,7 +118,7 @@ is_too_new x newest reads = elim (nat_lt x.limit (x.held + x.coming)) as (λ b.
       | false ↦ elim (x.marked && x.timed)
           as (λ b. (x.marked && x.timed) ≡ b → answers.Old newest reads ≡ (if b then answers.Old timed_version plain_version else answers.Done)
           → IsTooNew x newest reads) [
-            | true ↦ λ on is. (let parts = both x.marked x.timed on in record { marked = parts.0; timed = parts.1; newest_is = cc; reads_is = cc })
+            | true ↦ λ on is. (let parts = and_parts x.marked x.timed on in record { marked = parts.0; timed = parts.1; newest_is = cc; reads_is = cc })
             | false ↦ λ off never. cc
           ] refl
     ]
@@ -182,7 +175,7 @@ module _ {R : Type 0} (F : Type 0) (f : Semantics R) (laws : FunctionLaws f) (al
 
   module _ (op : ℕ) (what : Order) (answer : Answer) (order : orders op ≡ Some what) (told : answers_of op w.log ≡ answer ∷ []) where
     -- it began, if its answer is no refusal
-    began_if : is_refusal answer ≡ false → commands_noted.is_begun op w.log ≡ true
+    pub began_if : is_refusal answer ≡ false → commands_noted.is_begun op w.log ≡ true
     began_if fair = elim (commands_noted.is_begun op w.log) as (λ b. commands_noted.is_begun op w.log ≡ b → b ≡ true) [
       | true ↦ λ _. refl
       | false ↦ λ off. (let never = sym fair ∙ is.verdicts.refused op answer off told in cc)
@@ -212,7 +205,7 @@ module _ {R : Type 0} (F : Type 0) (f : Semantics R) (laws : FunctionLaws f) (al
         let cause = is.promises.answers.causes op what (answers.Overlap k) order told in
         let front = before_command op w.log in
         let one = meets_one what (keeps_off c.names orders k front) (orders k) cause.1.picked in
-        let kept = both (commands_noted.is_begun k front) _ one.keeps_is in
+        let kept = and_parts (commands_noted.is_begun k front) _ one.keeps_is in
         let low : k < op = run_in_turn F f laws alloc c items is.is_input choices is.is_run op k (answered_noted op w.log (answers.Overlap k) told) kept.0 in
         let answer = answer_to w.log is.promises.answers.answered_once items is.answers k one.other one.order_is in
         let unrefused : is_of_begun answer.0 ≡ true = ap not (no_cause k one.other answer.0 one.order_is answer.1 (began_before op k w.log kept.0)) in

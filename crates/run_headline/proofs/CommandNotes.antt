@@ -3,6 +3,7 @@ use Rattle.std.proofs.Common.{◌≡◌, ℕ, Bool, true, false, Option, Some, N
 use Rattle.std.specs.Prelude.{if◌then◌else◌, ◌==◌, ◌||◌, is_some}
 use Rattle.std.specs.List.{filter_map}
 use Rattle.std.specs.FinMap as finite
+use Rattle.std.proofs.Math.Bool.{or-false}
 use Rattle.std.proofs.lemmas.Bool.Decides.{Decides-eqb}
 use Rattle.flow_filter.specs.declared.filter.Filter.{Filter}
 use Rattle.packet_pool.specs.Pool.{FullCell}
@@ -14,7 +15,6 @@ use Rattle.nf_msgs.specs.declared.msg.Msg.{Msg}
 use Rattle.nf_msgs.specs.declared.msg.Msg.TheVariants as msg
 use Rattle.nf_msgs.specs.declared.note.Note.{Note}
 use Rattle.nf_msgs.specs.declared.note.Note.TheVariants as note
-use Rattle.nf_msgs.specs.MessageParts.{op_of}
 use Rattle.nf_msgs.specs.Nodes.{switch_node}
 use Rattle.copy_share.specs.Share.{ShareState}
 use Rattle.ctrl_node.specs.declared.operation.Operation.{Operation}
@@ -22,13 +22,13 @@ use Rattle.ctrl_node.specs.declared.operation.Operation.TheVariants.{Share}
 use Rattle.ctrl_node.specs.Operations.{turn_of}
 use Rattle.ctrl_node.specs.Controller.{ControllerState, Step, still, refusal, move_between, copy_between, share_begin, begin_step, decision_step, on_asked}
 use Rattle.flow_filter.specs.Name.{place_of}
-use Rattle.ctrl_node.specs.Controller.{on_diverted, queue_step, after_turn, takes_turn, hand_step, numbered}
-use Rattle.ctrl_node.specs.Controller.{on_event, on_final, instance_at, row as controller_row, controller_step}
+use Rattle.ctrl_node.specs.Controller.{on_diverted, queue_step, after_turn, takes_turn, hand_step, controller_step}
 use Rattle.net_world.specs.Commands.{before_command, is_of_command}
 use Rattle.net_world.proofs.PickedLists.{before_one}
 use Rattle.run_report.specs.nf_net.proofs.answers.BusyLemmas.{is_noted}
-use Rattle.run_report.specs.nf_net.proofs.answers.ControllerCases.{by_operation, by_queue, by_sender, by_stop}
+use Rattle.run_report.specs.nf_net.proofs.answers.ControllerCases.{by_operation, by_queue}
 use Rattle.run_report.specs.nf_net.proofs.answers.ShareTells.{ShareStep, handed_share, queued_share}
+use Rattle.run_report.specs.proof_outlines.proofs.outline.ControllerWays.{row_by}
 use Rattle.run_report.specs.proof_outlines.proofs.whole.ShareLeft.{noted}
 
 -- the notes are first notes of commands that pass, each the only note
@@ -46,12 +46,10 @@ module _ (P : ℕ → Type 0) where
   ] refl on
 
   only_false : (b : Bool) → b || false ≡ true → b ≡ true
-  only_false true h = refl
-  only_false false h = h
+  only_false b h = sym (or-false b) ∙ h
 
   or_false_of : (b : Bool) → (b || false) || false ≡ true → b || false ≡ true
-  or_false_of true h = refl
-  or_false_of false h = h
+  or_false_of b h = only_false (b || false) h
 
   pub of_answer : (op : ℕ) (a : Answer) → P op → OfThese P (note.Answered op a ∷ [])
   of_answer op a holds k on = (of_same op k on holds, before_one (is_of_command k) (note.Answered op a) [] (only_false (op == k) on))
@@ -96,33 +94,17 @@ module _ (c : ControllerState) where
     diverted_open cell = by_queue OfOpen c cell still_open
         (λ op s is. share_open op s is (queue_step c cell (Some op)) (queued_share c op s is (own op s is) cell))
 
-    numbered_open : (port : ℕ) (m : Msg) (o : Option ℕ) → OfOpen (numbered c port m o)
-    numbered_open port m None = still_open
-    numbered_open port m (Some op) = handed_open op port m
-
-    event_open : (port op : ℕ) (cell : FullCell) (i : Option ℕ) → OfOpen (on_event c port op cell i)
-    event_open port op cell i = by_sender OfOpen c port op cell i still_open (handed_open op port (msg.Event op cell)) (λ k. of_none IsOpen [] refl)
-
-    final_open : (i : Option ℕ) → OfOpen (on_final c i)
-    final_open i = by_stop OfOpen c i still_open (λ k. of_none IsOpen [] refl)
-
-    row_open : (port : ℕ) (m : Msg) → ((x : Command) → m ≡ msg.Asked x → ⊥) → OfOpen (controller_row c port m)
-    row_open port (msg.Asked x) other = absurd (other x refl)
-    row_open port (msg.Diverted cell) other = elim (port == switch_node) as (λ b. OfOpen (if b then on_diverted c cell else still c)) [
-      | true ↦ diverted_open cell
-      | false ↦ still_open
-    ]
-    row_open port msg.End other = elim (port == switch_node) as (λ b. OfOpen (if b then still (record c { end_came = true }) else still c)) [
-      | true ↦ of_none IsOpen [] refl
-      | false ↦ still_open
-    ]
-    row_open port (msg.Event op cell) other = event_open port op cell (instance_at c port)
-    row_open port msg.Final other = final_open (instance_at c port)
-    row_open port m other = numbered_open port m (op_of m)
-
     -- what isn't asked is noted of open operations alone
     pub step_open : (port : ℕ) (m : Msg) → ((x : Command) → m ≡ msg.Asked x → ⊥) → OfOpen (controller_step c port m)
-    step_open port m other = row_open port m other
+    step_open port m unasked = row_by c port (λ y did. ((x : Command) → y ≡ msg.Asked x → ⊥) → OfOpen did) (record {
+      still = λ y other. still_open;
+      ended = λ other. of_none IsOpen [] refl;
+      stopped = λ i other. of_none IsOpen [] refl;
+      returned = λ op i cell other. of_none IsOpen [] refl;
+      handed = λ op y is other. handed_open op port y;
+      diverted = λ cell other. diverted_open cell;
+      asked = λ x other. absurd (other x refl);
+    }) m unasked
 
   -- A command that is asked for.
   module _ (op : ℕ) where

@@ -54,6 +54,7 @@ use Rattle.run_headline.specs.Causes.{is_answered, is_done}
 use Rattle.run_headline.specs.Headline.{is_covered, packets_of}
 use Rattle.run_headline.specs.Instances.{AreStandbys, HasBrought, IsAsNew, StaysAt, dones_of, records_under}
 use Rattle.run_headline.specs.Law.{IsCompleted, done_in, points_of}
+use Rattle.run_headline.proofs.AnswerCauses.{began_if}
 use Rattle.run_headline.proofs.AnswerLines.{answer_to, answered_so}
 use Rattle.run_headline.proofs.FoundNumbers.{IsFound, all_found}
 use Rattle.run_headline.proofs.InstanceLines.{done_unrefused, fronts, here, of, packets_found, said, shared, standbys, stands_after, told_is}
@@ -79,13 +80,7 @@ after_export op log = and_after (λ n. option_map_or (λ one. one.0 == op) (expo
 first_dones : (xs ys : List Note) → take (length (dones_in xs)) (filter_map done_in (xs ++ ys)) ≡ filter_map done_in xs
 first_dones [] ys = refl
 first_dones (note.Processed number i output ∷ xs) ys = ap (λ l. (number, i) ∷ l) (first_dones xs ys)
-first_dones (note.Arrived number ∷ xs) ys = first_dones xs ys
-first_dones (note.Begun op ∷ xs) ys = first_dones xs ys
-first_dones (note.Exported i op us ∷ xs) ys = first_dones xs ys
-first_dones (note.Imported i op us ∷ xs) ys = first_dones xs ys
-first_dones (note.Kept i op us ∷ xs) ys = first_dones xs ys
-first_dones (note.Installed op ∷ xs) ys = first_dones xs ys
-first_dones (note.Answered op answer ∷ xs) ys = first_dones xs ys
+first_dones (other ∷ xs) ys = first_dones xs ys
 
 -- lines that pass a test are no more than what was processed of some, where these pass too
 few_dones : (test : ℕ → Bool) (own : ℕ → Bool) → ((p : ℕ) → test p ≡ true → own p ≡ true) → (xs : List Note)
@@ -104,20 +99,11 @@ few_dones test own less (note.Processed number i output ∷ xs) =
             | false ↦ omega (arith, more)
           ]
     ] refl
-few_dones test own less (note.Arrived number ∷ xs) = few_dones test own less xs
-few_dones test own less (note.Begun op ∷ xs) = few_dones test own less xs
-few_dones test own less (note.Exported i op us ∷ xs) = few_dones test own less xs
-few_dones test own less (note.Imported i op us ∷ xs) = few_dones test own less xs
-few_dones test own less (note.Kept i op us ∷ xs) = few_dones test own less xs
-few_dones test own less (note.Installed op ∷ xs) = few_dones test own less xs
-few_dones test own less (note.Answered op answer ∷ xs) = few_dones test own less xs
+few_dones test own less (other ∷ xs) = few_dones test own less xs
 
 done_only : (a : Answer) → is_done a ≡ true → a ≡ answers.Done
 done_only answers.Done is = refl
-done_only (answers.Unknown name) is = cc
-done_only (answers.Overlap op) is = cc
-done_only (answers.Import held coming limit) is = cc
-done_only (answers.Old newest reads) is = cc
+done_only a is = cc
 
 -- Two names that are known.
 record BothKnown (names : List (List ℕ)) (a b : List ℕ) : Type 0 where
@@ -179,10 +165,7 @@ module _ {R : Type 0} (F : Type 0) (f : Semantics R) (laws : FunctionLaws f) (al
     done_is = answer.1 ∙ ap (λ a. a ∷ []) (done_only answer.0 is_one)
 
     begun : is_begun k.op w.log ≡ true
-    begun = elim (is_begun k.op w.log) as (λ b. is_begun k.op w.log ≡ b → b ≡ true) [
-      | true ↦ λ _. refl
-      | false ↦ λ off. (let never = sym (done_unrefused answer.0 is_one) ∙ is.verdicts.refused k.op answer.0 off answer.1 in cc)
-    ] refl
+    begun = began_if F f laws alloc c items choices is k.op k.what answer.0 order answer.1 (done_unrefused answer.0 is_one)
 
     known : BothKnown c.names source destination
     known = both_known c.names source destination
@@ -312,20 +295,10 @@ module _ {R : Type 0} (F : Type 0) (f : Semantics R) (laws : FunctionLaws f) (al
         (as_new once front behind k whole order is_answer source destination taken what_is u (ap (λ q. takes q u) (sym e.2) ∙ on)
         (subst (StaysAt (of F f laws alloc c items choices is) (said F f laws alloc c items choices is) u) e.0 at)));
   }
-  brought_by once front behind k whole order is_answer (Copy source destination None) what_is = record {
+  brought_by once front behind k whole order is_answer what what_is = record {
     moment = length (packets front);
     late = omega arith;
-    stands = λ s d t u same on at. (let never : Copy s d (Some t) ≡ Copy source destination None = sym same ∙ what_is in cc);
-  }
-  brought_by once front behind k whole order is_answer (Move source destination filter keep) what_is = record {
-    moment = length (packets front);
-    late = omega arith;
-    stands = λ s d t u same on at. (let never : Copy s d (Some t) ≡ Move source destination filter keep = sym same ∙ what_is in cc);
-  }
-  brought_by once front behind k whole order is_answer (Share members filter) what_is = record {
-    moment = length (packets front);
-    late = omega arith;
-    stands = λ s d t u same on at. (let never : Copy s d (Some t) ≡ Share members filter = sym same ∙ what_is in cc);
+    stands = λ s d t u same on at. (let never : Copy s d (Some t) ≡ what = sym same ∙ what_is in cc);
   }
 
   abbrev Brought : Command × ℕ → Type 0

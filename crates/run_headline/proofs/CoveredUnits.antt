@@ -3,6 +3,7 @@ use Rattle.std.proofs.Common.{◌≡◌, ◌≢◌, ℕ, ◌≤◌, Bool, true, 
 use Rattle.std.proofs.Common.{refl, sym, ap, ◌∙◌, arith}
 use Rattle.std.specs.Prelude.{◌==◌}
 use Rattle.std.specs.List.{list_any}
+use Rattle.std.proofs.Math.Bool.{or-true}
 use Rattle.std.proofs.lemmas.Bool.{true≢false}
 use Rattle.std.proofs.lemmas.Bool.Decides.{nat_tests}
 use Rattle.nf_function.specs.declared.unit.Unit as units
@@ -67,14 +68,10 @@ module _ (names : List (List ℕ)) (orders : ℕ → Option Order) (u : units.Un
             let rest = hands_on (owner_after_order names orders u (orders op) i) ops more in
             record {
               op = rest.op;
-              among = rw rest.among (or_true (op == rest.op));
+              among = rw rest.among (or-true (op == rest.op));
               plain = rest.plain;
             }
       ] refl h
-    where
-      or_true : (b : Bool) → (b || true) ≡ true
-      or_true true = refl
-      or_true false = refl
 
 pub some_order : (u : units.Unit) (o : Option Order) → is_plain u o ≡ true → (what : Order) × (o ≡ Some what)
 some_order u (Some what) plain = (what, refl)

@@ -10,7 +10,7 @@ use Rattle.std.proofs.lemmas.List.{length-map}
 use Rattle.flow_filter.specs.declared.packet.Packet.{Packet}
 use Rattle.nf_function.specs.declared.unit.Unit as units
 use Rattle.nf_function.specs.Records.{Laws as FunctionLaws}
-use Rattle.nf_function.specs.Semantics.{Semantics}
+use Rattle.nf_function.specs.Semantics.{Semantics, kept_after}
 use Rattle.nf_msgs.specs.declared.msg.Msg.{Msg}
 use Rattle.nf_msgs.specs.declared.note.Note.{Note}
 use Rattle.nf_msgs.specs.Nodes.{instance_node}
@@ -26,6 +26,7 @@ use Rattle.net_world.specs.Fold.{times}
 use Rattle.net_world.specs.Input.{packet_numbered, packets}
 use Rattle.net_world.specs.Log.{answer_in}
 use Rattle.net_world.specs.Nodes.{node_ready, node_step}
+use Rattle.net_world.proofs.NumberCounts.{numbered_times}
 use Rattle.net_world.specs.Records.{live_at, live_in}
 use Rattle.net_world.specs.Standby.{standby_in}
 use Rattle.net_world.specs.Start.{started_with}
@@ -42,7 +43,7 @@ use Rattle.run_headline.specs.Law.{IsCompleted, lines, subject}
 use Rattle.run_headline.proofs.AnswerCauses.{answers_true}
 use Rattle.run_headline.proofs.CoveredUnits.{uncovered}
 use Rattle.run_headline.proofs.FoundNumbers.{all_found}
-use Rattle.run_headline.proofs.LineNumbers.{any_own, dones_times, has_some, none_both, times_of}
+use Rattle.run_headline.proofs.LineNumbers.{any_own, dones_times, has_some, none_both, one_kept}
 use Rattle.run_headline.proofs.SummaryCounts.{counts_each, names_under}
 use Rattle.run_headline.proofs.UnitOutputs.{folds_same, mine, part, processed_all, tests_agree, unit_outputs}
 use Rattle.run_headline.proofs.UnitStates.{each_kept, kept_nth, kept_of, live_nth, live_of, none_live, nothing, one_live, sorted_kept, under_names}
@@ -168,13 +169,8 @@ module _ {R : Type 0} (F : Type 0) (f : Semantics R) (laws : FunctionLaws f) (al
     records_kept = sorted_kept u (flat_map (named_records true) there) ∙ unsorted
 
     -- a packet leaves a record
-    some_kept : (r : R) (ps : List ℕ) → length (option_to_list (folds.fold f c items (Some r) ps)) ≡ 1
-    some_kept r [] = refl
-    some_kept r (p ∷ ps) = rw ((all_fit f c items is.is_input p).transport) (some_kept (f.stepped c.site (Some r) (packet_numbered items p)).kept ps)
-
-    one_kept : (ps : List ℕ) → length (option_to_list (folds.fold f c items None ps)) ≡ (if has_some ps then 1 else 0)
-    one_kept [] = refl
-    one_kept (p ∷ ps) = rw ((all_fit f c items is.is_input p).transport) (some_kept (f.stepped c.site None (packet_numbered items p)).kept ps)
+    some_step : (o : Option R) (n : ℕ) → (r : R) × (kept_after f c.site o (packet_numbered items n) ≡ Some r)
+    some_step o n = ((f.stepped c.site o (packet_numbered items n)).kept, rw ((all_fit f c items is.is_input n).transport) refl)
 
     abbrev own : List Packet
     own = packets_of of u
@@ -186,7 +182,8 @@ module _ {R : Type 0} (F : Type 0) (f : Semantics R) (laws : FunctionLaws f) (al
         ∙ any_own mine_u part_u (packets items) (tests_agree f c items u (packets items) (all_found (λ p. p.number) 0 (packets items) is.is_input.numbers))
 
     one_state : length (records_of of u (by_unit true there)) ≡ (if list_any part_u (packets items) then 1 else 0)
-    one_state = ap length records_kept ∙ one_kept went ∙ ap (λ b. if b then 1 else 0) some_came
+    one_state =
+        ap length records_kept ∙ one_kept (λ o n. kept_after f c.site o (packet_numbered items n)) some_step went ∙ ap (λ b. if b then 1 else 0) some_came
 
     module _ (off : is_covered of (by_number answer_in w.log) u ≡ false) where
       in_turn : is_loose c items u w.log ≡ false
@@ -208,7 +205,7 @@ module _ {R : Type 0} (F : Type 0) (f : Semantics R) (laws : FunctionLaws f) (al
   headline = record {
     outs = is.outs;
     dones = λ n. dones_times n w.log ∙ all_done f c items w.log is.completed.each_once n ∙ ap (times n) is.completed.all_came
-        ∙ sym (times_of (λ p. p.number) n (packets items));
+        ∙ sym (numbered_times (λ p. p.number) n (packets items));
     answers = answers_true F f laws alloc c items choices is;
     one_state = one_state;
     outputs = λ u off. unit_outputs f c items is.is_input w is.promises is.completed u (in_turn u off) is.outs;

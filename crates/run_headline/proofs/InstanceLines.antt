@@ -7,6 +7,7 @@ use Rattle.std.specs.Str.{bytes_eq}
 use Rattle.std.specs.declared.alloc.Global.{Global}
 use Rattle.std.proofs.lemmas.Bool.{or_parts}
 use Rattle.std.proofs.lemmas.Bool.Decides.{Decides-eqb, nat_tests}
+use Rattle.std.proofs.lemmas.List.{take_at}
 use Rattle.std.proofs.lemmas.List.Quantifiers.{position-Some}
 use Rattle.flow_filter.specs.declared.filter.Filter.{Filter}
 use Rattle.flow_filter.specs.declared.packet.Packet.{Packet}
@@ -58,6 +59,7 @@ use Rattle.run_headline.specs.Headline.{ReportLines, is_covered, packets_of, rec
 use Rattle.run_headline.specs.Subject.{Subject}
 use Rattle.run_headline.specs.Instances.{AreTallies, IsAsNew, IsShared, records_under}
 use Rattle.run_headline.specs.Law.{IsCompleted, lines, subject}
+use Rattle.run_headline.proofs.AnswerCauses.{began_if}
 use Rattle.run_headline.proofs.AnswerLines.{answer_to, answered_so}
 use Rattle.run_headline.proofs.CoveredUnits.{uncovered}
 use Rattle.run_headline.proofs.FoundNumbers.{IsFound, all_found}
@@ -83,10 +85,6 @@ take_less (suc n) j [] = omega arith
 take_less (suc n) zero (x ∷ xs) = omega arith
 take_less (suc n) (suc j) (x ∷ xs) = take_less n j xs
 
-take_front : {X : Type 0} (front rest : List X) → take (length front) (front ++ rest) ≡ front
-take_front [] rest = refl
-take_front (x ∷ front) rest = ap (λ l. x ∷ l) (take_front front rest)
-
 all_take : {X : Type 0} (P : X → Type 0) (n : ℕ) (xs : List X) → AllByRecursion P xs → AllByRecursion P (take n xs)
 all_take P zero xs all = tt
 all_take P (suc n) [] all = tt
@@ -107,10 +105,7 @@ done_passes mine (x ∷ ds) d rest is =
 
 pub done_unrefused : (a : Answer) → is_done a ≡ true → is_refusal a ≡ false
 done_unrefused answers.Done is = refl
-done_unrefused (answers.Unknown name) is = cc
-done_unrefused (answers.Overlap op) is = cc
-done_unrefused (answers.Import held coming limit) is = refl
-done_unrefused (answers.Old newest reads) is = refl
+done_unrefused a is = cc
 
 -- what stands at a place among the named instances
 told_nth : {F R : Type 0} (names : List (List ℕ)) (xs : List (InstanceState F R)) (i : ℕ) (x : NamedInstance R)
@@ -181,7 +176,7 @@ module _ {R : Type 0} (F : Type 0) (f : Semantics R) (laws : FunctionLaws f) (al
       let all = processed_all f c items is.is_input w is.promises is.completed u (uncovered f c items w.log is.promises.answers is.answers u off) in
       let whole : s.front ++ s.is_front.rest ≡ map (λ p. p.number) mine = s.is_front.whole ∙ all ∙ those_numbers f c items u (packets items) packets_found in
       let front : map (λ p. p.number) (take count mine) ≡ s.front =
-      sym (take-map (λ (p : Packet). p.number) count mine) ∙ ap (take count) (sym whole) ∙ take_front s.front s.is_front.rest in
+      sym (take-map (λ (p : Packet). p.number) count mine) ∙ ap (take count) (sym whole) ∙ take_at s.front s.is_front.rest (length s.front) refl in
       let found = all_take (IsThere f c items u) count mine (all_filter (IsThere f c items u) (part f c items u) (packets items) packets_found) in
       sym (folds_numbers f c items u None (take count mine) found) ∙ ap (folds.fold f c items None) front ∙ s.folds
 
@@ -219,11 +214,8 @@ module _ {R : Type 0} (F : Type 0) (f : Semantics R) (laws : FunctionLaws f) (al
     begun : is_begun op w.log ≡ true
     begun =
         let one = answer_to w.log is.promises.answers.answered_once items is.answers op (Share (home ∷ others) taken) order in
-        let unrefused = done_unrefused one.0 (answered_so is_done one.0 op w.log one.1 is_answer) in
-        elim (is_begun op w.log) as (λ b. is_begun op w.log ≡ b → b ≡ true) [
-          | true ↦ λ _. refl
-          | false ↦ λ off. (let never = sym unrefused ∙ is.verdicts.refused op one.0 off one.1 in cc)
-        ] refl
+        began_if F f laws alloc c items choices is op (Share (home ∷ others) taken) one.0 order one.1
+        (done_unrefused one.0 (answered_so is_done one.0 op w.log one.1 is_answer))
 
     known : find (λ name. not (is_some (place_of c.names name))) (home ∷ others) ≡ None
     known = (is.promises.answers.begins op (Share (home ∷ others) taken) order begun).known

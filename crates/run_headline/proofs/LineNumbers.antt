@@ -1,49 +1,39 @@
 -- The lines of packets by their numbers: how often a number stands in them, what is printed of them, and whether a unit has a packet.
-use Rattle.std.proofs.Common.{◌≡◌, ℕ, ◌+◌, Bool, true, false, ◌||◌, cond, List, [], ◌∷◌, ◌++◌, length, map, refl, sym, ap, ◌∙◌, subst, arith}
-use Rattle.std.specs.Prelude.{◌==◌, if◌then◌else◌, codes, filter, filter_map}
+use Rattle.std.proofs.Common.{◌≡◌, ℕ, Bool, true, false, ◌||◌, cond, Option, Some, None, List, [], ◌∷◌, ◌++◌, length, map, refl, sym, ap, ◌∙◌, subst, arith}
+use Rattle.std.specs.Prelude.{◌==◌, if◌then◌else◌, codes, filter, filter_map, fold, option_to_list}
 use Rattle.std.specs.List.{AllByRecursion, flat_map, list_any}
-use Rattle.std.proofs.lemmas.Bool.Decides.{nat_tests}
 use Rattle.flow_filter.specs.declared.packet.Packet.{Packet}
 use Rattle.nf_msgs.specs.declared.note.Note.{Note}
 use Rattle.nf_msgs.specs.declared.note.Note.TheVariants as note
 use Rattle.net_world.specs.Fold.{times}
 use Rattle.net_world.specs.Log.{dones_in}
+use Rattle.net_world.proofs.NumberCounts.{none_in, numbered_times}
 use Rattle.report_lines.specs.Lines.{done_line, done_lines, named_line}
 use Rattle.run_headline.specs.Law.{done_in}
-
--- how many of some have a number
-pub times_of : {X : Type 0} (number : X → ℕ) (n : ℕ) (xs : List X) → length (filter (λ x. number x == n) xs) ≡ times n (map number xs)
-times_of number n [] = refl
-times_of number n (x ∷ xs) = elim (number x == n) as (λ b. (number x == n) ≡ b
-    → length (cond b (x ∷ filter (λ y. number y == n) xs) (filter (λ y. number y == n) xs)) ≡ (if n == number x then 1 else 0) + times n (map number xs)) [
-      | true ↦ λ is. (let turned : (n == number x) ≡ true = grind (arith, nat_tests) in let rest = times_of number n xs in rw turned (omega (arith, rest)))
-      | false ↦ λ is. (let turned : (n == number x) ≡ false = grind (arith, nat_tests) in let rest = times_of number n xs in rw turned (omega (arith, rest)))
-    ] refl
 
 -- What is printed of packets has the numbers of those that were processed.
 done_numbers : (log : List Note) → map (λ d. d.0) (filter_map done_in log) ≡ map (λ d. d.number) (dones_in log)
 done_numbers [] = refl
 done_numbers (note.Processed number instance output ∷ log) = ap (λ l. number ∷ l) (done_numbers log)
-done_numbers (note.Arrived number ∷ log) = done_numbers log
-done_numbers (note.Begun op ∷ log) = done_numbers log
-done_numbers (note.Exported op instance us ∷ log) = done_numbers log
-done_numbers (note.Imported op instance us ∷ log) = done_numbers log
-done_numbers (note.Kept op instance us ∷ log) = done_numbers log
-done_numbers (note.Installed op ∷ log) = done_numbers log
-done_numbers (note.Answered op answer ∷ log) = done_numbers log
+done_numbers (other ∷ log) = done_numbers log
 
 pub dones_times : (n : ℕ) (log : List Note) → length (filter (λ d. d.0 == n) (filter_map done_in log)) ≡ times n (map (λ d. d.number) (dones_in log))
-dones_times n log = times_of (λ d. d.0) n (filter_map done_in log) ∙ ap (times n) (done_numbers log)
-
-pub no_more : (ns : List ℕ) → ((p : ℕ) → times p ns ≡ 0) → ns ≡ []
-no_more [] none = refl
-no_more (n ∷ ns) none = (let own : (n == n) ≡ true = grind (arith, nat_tests) in let here : (if n == n then 1 else 0) + times n ns ≡ 0 = none n in
-    let some : 1 + times n ns ≡ 0 = rw own at here in absurd (omega (arith, some)))
+dones_times n log = numbered_times (λ d. d.0) n (filter_map done_in log) ∙ ap (times n) (done_numbers log)
 
 -- there is a number
 abbrev pub has_some : List ℕ → Bool
 has_some [] = false
 has_some (n ∷ ns) = true
+
+-- a fold whose every step keeps something
+module _ {R : Type 0} (step : Option R → ℕ → Option R) (some : (o : Option R) (n : ℕ) → (r : R) × (step o n ≡ Some r)) where
+  some_kept : (r : R) (ns : List ℕ) → length (option_to_list (fold step (Some r) ns)) ≡ 1
+  some_kept r [] = refl
+  some_kept r (n ∷ ns) = let next = some (Some r) n in ap (λ o. length (option_to_list (fold step o ns))) next.1 ∙ some_kept next.0 ns
+
+  pub one_kept : (ns : List ℕ) → length (option_to_list (fold step None ns)) ≡ (if has_some ns then 1 else 0)
+  one_kept [] = refl
+  one_kept (n ∷ ns) = let next = some None n in ap (λ o. length (option_to_list (fold step o ns))) next.1 ∙ some_kept next.0 ns
 
 -- whether one of some packets passes a test
 pub any_own : (mine : ℕ → Bool) (part : Packet → Bool) (ps : List Packet) → AllByRecursion (λ p. mine p.number ≡ part p) ps
@@ -58,18 +48,12 @@ any_own mine part (p ∷ ps) all = subst (λ b. has_some (cond b (p.number ∷ f
     ])
 
 pub none_both : (xs ys : List ℕ) → ((p : ℕ) → times p xs ≡ times p ys) → has_some xs ≡ has_some ys
-none_both [] ys same = ap has_some (sym (no_more ys (λ p. sym (same p))))
-none_both (x ∷ xs) [] same = absurd (let none = no_more (x ∷ xs) same in let long = ap length none in omega (arith, long))
+none_both [] ys same = ap has_some (sym (none_in ys (λ p. sym (same p))))
+none_both (x ∷ xs) [] same = absurd (let none = none_in (x ∷ xs) same in let long = ap length none in omega (arith, long))
 none_both (x ∷ xs) (y ∷ ys) same = refl
 
 -- the lines of what was processed
 pub done_text : (names : List (List ℕ)) (log : List Note) → flat_map (named_line (codes "done ") names) (filter_map done_in log) ≡ done_lines names log
 done_text names [] = refl
 done_text names (note.Processed number instance output ∷ log) = ap (λ l. done_line names (note.Processed number instance output) ++ l) (done_text names log)
-done_text names (note.Arrived number ∷ log) = done_text names log
-done_text names (note.Begun op ∷ log) = done_text names log
-done_text names (note.Exported op instance us ∷ log) = done_text names log
-done_text names (note.Imported op instance us ∷ log) = done_text names log
-done_text names (note.Kept op instance us ∷ log) = done_text names log
-done_text names (note.Installed op ∷ log) = done_text names log
-done_text names (note.Answered op answer ∷ log) = done_text names log
+done_text names (other ∷ log) = done_text names log

@@ -1,22 +1,15 @@
 -- A step of an instance that takes no tally and gives none adds to its own count in its tally what it notes as processed, and changes no other count.
 use Rattle.std.proofs.Common.{◌≡◌, ℕ, zero, suc, ◌+◌, ◌-◌, ◌^◌, ◌<◌, Bool, true, false, ◌||◌, Option, Some, None, List, [], ◌∷◌, ◌++◌, length, map, slice_index}
 use Rattle.std.proofs.Common.{refl, sym, ap, ◌∙◌, subst, arith}
-use Rattle.std.specs.Prelude.{◌==◌, filter, filter_map, if◌then◌else◌, min, nat_lt, slice_set}
-use Rattle.std.proofs.lemmas.List.{length-set}
-use Rattle.std.proofs.lemmas.Bool.Decides.{nat_tests}
-use Rattle.flow_filter.specs.declared.filter.Filter.{Filter}
-use Rattle.flow_filter.specs.Flow.{flow_of}
+use Rattle.std.specs.Prelude.{◌==◌, filter, filter_map, if◌then◌else◌, min, slice_set}
+use Rattle.std.proofs.lemmas.List.{get_or-set_other, get_or-set_same, length-set}
+use Rattle.std.proofs.lemmas.Bool.Decides.{Decides-eqb, nat_tests}
 use Rattle.nf_function.specs.declared.chunk.Chunk.{Chunk}
 use Rattle.nf_function.specs.declared.unit.Unit as units
 use Rattle.nf_function.specs.Semantics.{Semantics, count, unit_at}
-use Rattle.record_table.specs.Chunks.{are_good}
 use Rattle.event_filter.specs.declared.mark.Mark.{Mark}
 use Rattle.event_filter.specs.declared.mark.Mark.TheVariants as mark
-use Rattle.event_filter.specs.declared.decide.Decide.{Decide}
-use Rattle.event_filter.specs.declared.decide.Decide.TheVariants as decide
-use Rattle.event_filter.specs.Rules as rules
 use Rattle.packet_pool.specs.Pool.{FullCell}
-use Rattle.nf_msgs.specs.declared.answer.Answer.{Answer}
 use Rattle.nf_msgs.specs.declared.msg.Piece.{Piece}
 use Rattle.nf_msgs.specs.declared.msg.Msg.{Msg}
 use Rattle.nf_msgs.specs.declared.msg.Msg.TheVariants as msg
@@ -24,11 +17,10 @@ use Rattle.nf_msgs.specs.declared.note.Note.{Note}
 use Rattle.nf_msgs.specs.declared.note.Note.TheVariants as note
 use Rattle.instance_worker.specs.declared.instance.Instance.{Instance}
 use Rattle.instance_worker.specs.Pieces.{pieces}
-use Rattle.instance_worker.specs.Instance.{Step, to_controller, chunk_told, share_message, still, tell_step, and_then, selected_chunks}
-use Rattle.instance_worker.specs.Instance.{process_step, all_processed, carry_step, where_good, piece_refusal, piece_put, instance_step}
-use Rattle.instance_worker.specs.Instance.{on_carry, on_fence, on_get, on_stream, on_put, on_restore, on_standby, on_sync}
+use Rattle.instance_worker.specs.Instance.{Step, to_controller, chunk_told, share_message, still, and_then, selected_chunks, process_step, instance_step}
 use Rattle.run_report.specs.proof_machines.proofs.unit.Labels.{Each, each-append}
 use Rattle.run_report.specs.proof_outlines.proofs.joined.PlaceNotes.{AreUnprocessed}
+use Rattle.run_report.specs.proof_outlines.proofs.outline.InstanceWays.{instance_fits}
 use Rattle.run_headline.specs.Law.{done_in}
 
 -- how many packets an instance has processed, by the notes
@@ -49,19 +41,6 @@ pub none_done : (j : ℕ) (notes : List Note) → AreUnprocessed notes → done_
 none_done j [] h = refl
 none_done j (note.Processed number k output ∷ ns) h = let never : false ≡ true = h.0 in cc
 none_done j (n ∷ ns) h = none_done j ns h.1
-
--- one count set
-set_own : (slots : List ℕ) (k v : ℕ) → k < length slots → slice_index (slice_set slots k v) k ≡ v
-set_own [] k v low = absurd (omega (arith, low))
-set_own (x ∷ xs) zero v low = refl
-set_own (x ∷ xs) (suc k) v low = set_own xs k v (omega (arith, low))
-
-set_other : (slots : List ℕ) (k v j : ℕ) → (j == k) ≡ false → slice_index (slice_set slots k v) j ≡ slice_index slots j
-set_other [] k v j off = refl
-set_other (x ∷ xs) zero v zero off = cc
-set_other (x ∷ xs) zero v (suc j) off = refl
-set_other (x ∷ xs) (suc k) v zero off = refl
-set_other (x ∷ xs) (suc k) v (suc j) off = set_other xs k v j (grind (arith, nat_tests, off))
 
 -- the greatest count
 abbrev pub most : ℕ
@@ -155,8 +134,9 @@ module _ {F R : Type 0} (f : Semantics R) where
   one_counted n i m cell h = record {
     index = refl;
     long = length-set i.tally.slots i.index (count (slice_index i.tally.slots i.index) 1);
-    own = set_own i.tally.slots i.index (count (slice_index i.tally.slots i.index) 1) h.low ∙ counts;
-    others = λ j off. set_other i.tally.slots i.index (count (slice_index i.tally.slots i.index) 1) j off;
+    own = get_or-set_same i.tally.slots i.index (count (slice_index i.tally.slots i.index) 1) 0 h.low ∙ counts;
+    others = λ j off. get_or-set_other i.tally.slots i.index j (count (slice_index i.tally.slots i.index) 1) 0
+        (λ same. let on = (Decides-eqb j i.index).1 same in let never : true ≡ false = sym on ∙ off in cc);
     notes = λ j off. (let turned : (i.index == j) ≡ false = grind (arith, nat_tests, off) in rw turned refl);
     sends = shared_none (process_step f i m cell).node m (unit_at f.kind i.site cell.packet) ((0, msg.Credit cell) ∷ []) (tt, tt);
   }
@@ -164,87 +144,29 @@ module _ {F R : Type 0} (f : Semantics R) where
       counts : count (slice_index i.tally.slots i.index) 1 ≡ min (n + done_at i.index (process_step f i m cell).notes) most
       counts = let is = h.own in let own : (i.index == i.index) ≡ true = grind (arith, nat_tests) in rw own (omega (arith, is))
 
-  all_counted : (n : ℕ) (i : Instance F R) (cells : List FullCell) → HasCount n i → Counted n i (all_processed f i cells)
-  unfolding all_processed
-  all_counted n i [] h = quiet n i (still i) h (refl, refl) refl tt
-  all_counted n i (cell ∷ cells) h =
-      let first = process_step f i mark.Plain cell in
-      then_counted n i first (λ j. all_processed f j cells) h (one_counted n i mark.Plain cell h)
-      (λ more. all_counted (n + done_at i.index first.notes) first.node cells more)
-
-  carried_counted : (n : ℕ) (i : Instance F R) (m : Mark) (cell : FullCell) (d : Decide) → HasCount n i → Counted n i (carry_step f i m cell d)
-  carried_counted n i m cell decide.Process h = one_counted n i m cell h
-  carried_counted n i m cell (decide.ProcessAndEvent op) h =
-      let first = process_step f i m cell in
-      then_counted n i first (λ j. tell_step j (msg.Seen op cell.packet)) h (one_counted n i m cell h)
-      (λ more. quiet (n + done_at i.index first.notes) first.node (tell_step first.node (msg.Seen op cell.packet)) more (refl, refl) refl (tt, tt))
-  carried_counted n i m cell (decide.Event op) h = quiet n i _ h (refl, refl) refl (tt, tt)
-  carried_counted n i m cell (decide.Buffer op) h = quiet n i _ h (refl, refl) refl tt
-
-  carry_counted : (n : ℕ) (i : Instance F R) (m : Mark) (cell : FullCell) → HasCount n i → Counted n i (on_carry f i m cell)
-  unfolding on_carry
-  carry_counted n i m cell h = carried_counted n i m cell (rules.decide i.rules (flow_of i.site cell.packet).0 m) h
-
-  fence_counted : (n : ℕ) (i : Instance F R) (op : ℕ) → HasCount n i → Counted n i (on_fence f i op)
-  unfolding on_fence
-  fence_counted n i op h =
-      let before : Instance F R = record i { rules = rules.without_rule i.rules op } in
-      let has : HasCount n before = record { low = h.low; own = h.own } in
-      let all = all_processed f before (rules.held_at i.rules op) in
-      let it = then_counted n before all (λ j. tell_step j (msg.Fenced op)) has (all_counted n before (rules.held_at i.rules op) has)
-      (λ more. quiet (n + done_at i.index all.notes) all.node (tell_step all.node (msg.Fenced op)) more (refl, refl) refl (tt, tt)) in
-      record { index = it.index; long = it.long; own = it.own; others = it.others; notes = it.notes; sends = it.sends }
-
-  good_counted : (n : ℕ) (i : Instance F R) (chunks : List Chunk) (did : Step F R) → HasCount n i → Counted n i did → Counted n i (where_good f i chunks did)
-  good_counted n i chunks did h l =
-      elim (are_good f chunks) as (λ b. Counted n i (if b then did else still i)) [ true ↦ l | false ↦ quiet n i (still i) h (refl, refl) refl tt ]
-
-  get_counted : (n : ℕ) (i : Instance F R) (op : ℕ) (filter : Filter) → HasCount n i → Counted n i (on_get f i op filter)
-  unfolding on_get
-  get_counted n i op filter h = unprocessed n i _ h (refl, refl) (refl, tt) (tt, tt)
-
-  stream_counted : (n : ℕ) (i : Instance F R) (op : ℕ) (filter : Filter) → HasCount n i → Counted n i (on_stream f i op filter)
-  unfolding on_stream
-  stream_counted n i op filter h = unprocessed n i _ h (refl, refl) (refl, tt) (pieces_none op (pieces (selected_chunks f i filter)))
-
-  piece_counted : (n : ℕ) (i : Instance F R) (op : ℕ) (piece : Piece) (answered : Bool) (o : Option Answer) → HasCount n i
-      → Counted n i (piece_put f i op piece answered o)
-  piece_counted n i op piece answered (Some why) h = quiet n i _ h (refl, refl) refl (tt, tt)
-  piece_counted n i op piece answered None h = good_counted n i piece.chunks _ h (unprocessed n i _ h (refl, refl) (refl, tt)
-      (elim answered as (λ b. NoTallies (to_controller (if b then msg.PutOk op ∷ [] else []))) [ true ↦ (tt, tt) | false ↦ tt ]))
-
-  put_counted : (n : ℕ) (i : Instance F R) (op : ℕ) (piece : Piece) (first : Bool) → HasCount n i → Counted n i (on_put f i op piece first)
-  unfolding on_put
-  put_counted n i op piece first h = elim (nat_lt piece.total (length piece.chunks)) as (λ b.
-      Counted n i (if b then still i else piece_put f i op piece (first || piece.last) (if first then piece_refusal i piece else None))) [
-        | true ↦ quiet n i (still i) h (refl, refl) refl tt
-        | false ↦ piece_counted n i op piece (first || piece.last) (if first then piece_refusal i piece else None) h
-      ]
-
-  restore_counted : (n : ℕ) (i : Instance F R) (op : ℕ) (chunks : List Chunk) → HasCount n i → Counted n i (on_restore f i op chunks)
-  unfolding on_restore
-  restore_counted n i op chunks h = good_counted n i chunks _ h (unprocessed n i _ h (refl, refl) (refl, tt) (tt, tt))
-
-  standby_counted : (n : ℕ) (i : Instance F R) (op : ℕ) (chunks : List Chunk) → HasCount n i → Counted n i (on_standby f i op chunks)
-  unfolding on_standby
-  standby_counted n i op chunks h = good_counted n i chunks _ h (unprocessed n i _ h (refl, refl) (refl, tt) (tt, tt))
-
-  sync_counted : (n : ℕ) (i : Instance F R) (home : Bool) (op : ℕ) (chunks : List Chunk) → HasCount n i → Counted n i (on_sync f i home op chunks)
-  unfolding on_sync
-  sync_counted n i home op chunks h = good_counted n i chunks _ h (unprocessed n i _ h (refl, refl) (refl, tt) (tt, tt))
-
   pub instance_counted : (n : ℕ) (i : Instance F R) (m : Msg) → is_of_tally m ≡ false → HasCount n i → Counted n i (instance_step f i m)
-  instance_counted n i (msg.Carry mark parcel) off h = carry_counted n i mark parcel h
-  instance_counted n i (msg.Fence op) off h = fence_counted n i op h
-  instance_counted n i msg.Stop off h = quiet n i _ h (refl, refl) refl (tt, tt)
-  instance_counted n i (msg.Enable op taken action) off h = quiet n i _ h (refl, refl) refl (tt, tt)
-  instance_counted n i (msg.Get op taken) off h = get_counted n i op taken h
-  instance_counted n i (msg.Stream op taken) off h = stream_counted n i op taken h
-  instance_counted n i (msg.GetAll op) off h = cc
-  instance_counted n i (msg.Delete op gone) off h = quiet n i _ h (refl, refl) refl (tt, tt)
-  instance_counted n i (msg.Put op piece first) off h = put_counted n i op piece first h
-  instance_counted n i (msg.Restore op chunks) off h = restore_counted n i op chunks h
-  instance_counted n i (msg.Standby op chunks) off h = standby_counted n i op chunks h
-  instance_counted n i (msg.PutAll op chunk) off h = cc
-  instance_counted n i (msg.Sync home op chunks) off h = sync_counted n i home op chunks h
-  instance_counted n i m off h = quiet n i (still i) h (refl, refl) refl tt
+  instance_counted n i m off h = instance_fits f (λ j w did. is_of_tally w ≡ false → (k : ℕ) → HasCount k j → Counted k j did) (record {
+    still = λ j w e k has. quiet k j (still j) has (refl, refl) refl tt;
+    held = λ j mk cell op e k has. quiet k j _ has (refl, refl) refl tt;
+    processed = λ j mk cell e k has. one_counted k j mk cell has;
+    released = λ j op cell e k has. one_counted k j mark.Plain cell has;
+    both = λ j w did next may a b e k has. then_counted k j did next has (a e k has) (λ more. b e (k + done_at j.index did.notes) more);
+    unruled = λ j op did a e k has. (let it = a e k (record { low = has.low; own = has.own }) in
+        record { index = it.index; long = it.long; own = it.own; others = it.others; notes = it.notes; sends = it.sends });
+    seen = λ j mk cell op e k has. quiet k j _ has (refl, refl) refl (tt, tt);
+    event = λ j mk cell op e k has. quiet k j _ has (refl, refl) refl (tt, tt);
+    fenced = λ j op e k has. quiet k j _ has (refl, refl) refl (tt, tt);
+    stopped = λ j e k has. quiet k j _ has (refl, refl) refl (tt, tt);
+    enabled = λ j op filter action e k has. quiet k j _ has (refl, refl) refl (tt, tt);
+    given = λ j op filter e k has. unprocessed k j _ has (refl, refl) (refl, tt) (tt, tt);
+    streamed = λ j op filter e k has. unprocessed k j _ has (refl, refl) (refl, tt) (pieces_none op (pieces (selected_chunks f j filter)));
+    all_given = λ j op e k has. cc;
+    deleted = λ j op gone e k has. quiet k j _ has (refl, refl) refl (tt, tt);
+    refused = λ j op piece first why is e k has. quiet k j _ has (refl, refl) refl (tt, tt);
+    taken = λ j op piece first is e k has. unprocessed k j _ has (refl, refl) (refl, tt) (elim (first || piece.last)
+        as (λ b. NoTallies (to_controller (if b then msg.PutOk op ∷ [] else []))) [ true ↦ (tt, tt) | false ↦ tt ]);
+    restored = λ j op chunks e k has. unprocessed k j _ has (refl, refl) (refl, tt) (tt, tt);
+    stood_by = λ j op chunks e k has. unprocessed k j _ has (refl, refl) (refl, tt) (tt, tt);
+    synced = λ j home op chunks e k has. unprocessed k j _ has (refl, refl) (refl, tt) (tt, tt);
+    merged = λ j op chunk slots is e k has. cc;
+  }) i m off n h

@@ -13,6 +13,7 @@ use Rattle.std.proofs.Math.Facts.{and_yes}
 use Rattle.std.proofs.lemmas.Bool.{or_parts, true≢false}
 use Rattle.std.proofs.lemmas.List.{length-map}
 use Rattle.std.proofs.lemmas.Slice.Eq.{bytes_eq-Decides}
+use Rattle.std.proofs.Math.Bool.{and-false}
 use Rattle.flow_filter.specs.Name.{has_twice}
 use Rattle.nf_function.specs.declared.unit.Unit as units
 use Rattle.nf_function.specs.Units.{unit_cmp}
@@ -82,11 +83,7 @@ module _ {R : Type 0} (u : units.Unit) (name : List ℕ) where
     other_name off [] = refl
     other_name off (e ∷ es) =
         subst (λ b. map (λ s. s.kept) (cond b (named e ∷ filter passes (map named es)) (filter passes (map named es))) ≡ [])
-        (sym (ap (λ b. same_unit e.0 u && b) off ∙ never (same_unit e.0 u))) (other_name off es)
-      where
-        never : (b : Bool) → (b && false) ≡ false
-        never true = refl
-        never false = refl
+        (sym (ap (λ b. same_unit e.0 u && b) off ∙ and-false (same_unit e.0 u))) (other_name off es)
 
   -- of all instances
   module _ {F : Type 0} (live : Bool) where

@@ -11,26 +11,9 @@ use Rattle.net_world.specs.Input.{IsRising}
 use Rattle.report_lines.specs.Sorting.{put_in, sorted_by}
 use Rattle.report_lines.proofs.SortLemmas.{IsUp, less, one_sort, up_sort, same_sort}
 use Rattle.report_lines.proofs.SortedAlready.{not_less}
-
--- two tests, one after the other or the other way round
-module _ {X : Type 0} (p q : X → Bool) where
-  both_ways : (a b : Bool) (x : X) (us vs : List X) → us ≡ vs → cond b (cond a (x ∷ us) us) us ≡ cond a (cond b (x ∷ vs) vs) vs
-  both_ways true true x us vs same = ap (λ l. x ∷ l) same
-  both_ways true false x us vs same = same
-  both_ways false true x us vs same = same
-  both_ways false false x us vs same = same
-
-  filter_first : (x : X) (b : Bool) (l : List X) → filter p (cond b (x ∷ l) l) ≡ cond b (cond (p x) (x ∷ filter p l) (filter p l)) (filter p l)
-  filter_first x true l = refl
-  filter_first x false l = refl
+use Rattle.standby_failover.proofs.ListLemmas.{those_filter}
 
 module _ {X : Type 0} where
-  pub filters_commute : (p q : X → Bool) (xs : List X) → filter p (filter q xs) ≡ filter q (filter p xs)
-  filters_commute p q [] = refl
-  filters_commute p q (x ∷ xs) =
-      filter_first p q x (q x) (filter q xs) ∙ both_ways p q (p x) (q x) x (filter p (filter q xs)) (filter q (filter p xs)) (filters_commute p q xs)
-      ∙ sym (filter_first q p x (p x) (filter p xs))
-
   pub all_filter : (P : X → Type 0) (q : X → Bool) (xs : List X) → AllByRecursion P xs → AllByRecursion P (filter q xs)
   all_filter P q [] all = tt
   all_filter P q (x ∷ xs) all = elim (q x) as (λ b. AllByRecursion P (cond b (x ∷ filter q xs) (filter q xs))) [
@@ -54,8 +37,8 @@ module _ {X K : Type 0} (key : X → K) (cmp : K → K → Ordering) (total : Is
   part_stays q xs up =
       one_sort (less key cmp) order (filter q (sorted_by key cmp xs)) (filter q xs)
       (up_filter (less key cmp) q (sorted_by key cmp xs) (up_sort key cmp order xs)) up
-      (λ z. filters_commute (ties (less key cmp) z) q (sorted_by key cmp xs) ∙ ap (filter q) (same_sort key cmp order z xs)
-      ∙ sym (filters_commute (ties (less key cmp) z) q xs))
+      (λ z. those_filter (ties (less key cmp) z) q (sorted_by key cmp xs) ∙ ap (filter q) (same_sort key cmp order z xs)
+      ∙ sym (those_filter (ties (less key cmp) z) q xs))
 
   -- and so is a part of one item
   up_alone : (xs : List X) → length xs ≤ 1 → IsUp (less key cmp) xs

@@ -1,6 +1,6 @@
 -- The outputs of a unit that no plain move handed on, as they stand among all outputs sorted by the packets' numbers.
 use Rattle.std.proofs.Common.{◌≡◌, ℕ, suc, Bool, true, false, cond, Option, Some, None, List, [], ◌∷◌, map, refl, sym, ap, ◌∙◌, subst, arith}
-use Rattle.std.specs.Prelude.{◌==◌, filter, filter_map, find, fold, scan, zip, unwrap_or}
+use Rattle.std.specs.Prelude.{◌==◌, filter, filter_map, find, fold, scan, zip}
 use Rattle.std.specs.List.{AllByRecursion}
 use Rattle.flow_filter.specs.declared.packet.Packet.{Packet}
 use Rattle.nf_function.specs.declared.output.Output.{Output}
@@ -13,7 +13,7 @@ use Rattle.actor_net.specs.Network.{Network}
 use Rattle.net_world.specs.declared.config.Config.{Config}
 use Rattle.net_world.specs.declared.node.Node.{Node}
 use Rattle.net_world.specs.Fold as folds
-use Rattle.net_world.specs.Input.{IsInput, IsRising, no_packet, packet_numbered, packets}
+use Rattle.net_world.specs.Input.{IsInput, IsRising, packets}
 use Rattle.net_world.specs.Log.{dones_in, done_where}
 use Rattle.net_world.specs.Places.{is_loose}
 use Rattle.run_report.specs.nf_net.specs.Promises.{Promises, Completed}
@@ -21,6 +21,7 @@ use Rattle.report_lines.specs.Lines.{by_number, output_in}
 use Rattle.run_headline.specs.Headline.{outs_of, outputs_to, packets_of, is_of}
 use Rattle.run_headline.specs.Law.{subject}
 use Rattle.run_headline.proofs.FoundNumbers.{all_found, rising_from}
+use Rattle.run_headline.proofs.others.PacketNumbers.{filter_numbers, numbered_is, tests_agree as tests_found}
 use Rattle.run_headline.proofs.SortedParts.{all_filter, part_stays, up_rising}
 use Rattle.std.proofs.lemmas.Cmp.{nat_cmp_total}
 
@@ -32,27 +33,24 @@ module _ (mine : ℕ → Bool) where
   abbrev mine_of : Outs → Outs
   mine_of outs = filter (λ o. mine o.0) outs
 
-  pub numbers_noted : (log : List Note) → map (λ o. o.0) (mine_of (filter_map output_in log)) ≡ map (λ d. d.number) (done_where mine (dones_in log))
-  numbers_noted [] = refl
-  numbers_noted (note.Processed number instance output ∷ log) = elim (mine number) as (λ b.
-      map (λ o. o.0) (cond b ((number, output) ∷ mine_of (filter_map output_in log)) (mine_of (filter_map output_in log)))
-      ≡ map (λ d. d.number)
+  -- what is picked of their numbers and outputs is what is picked of those that were processed
+  picks_noted : {X : Type 0} (pick : ℕ → Output → X) (log : List Note)
+      → map (λ o. pick o.0 o.1) (mine_of (filter_map output_in log)) ≡ map (λ d. pick d.number d.output) (done_where mine (dones_in log))
+  picks_noted pick [] = refl
+  picks_noted pick (note.Processed number instance output ∷ log) = elim (mine number) as (λ b.
+      map (λ o. pick o.0 o.1) (cond b ((number, output) ∷ mine_of (filter_map output_in log)) (mine_of (filter_map output_in log)))
+      ≡ map (λ d. pick d.number d.output)
       (cond b (record { number = number; instance = instance; output = output } ∷ done_where mine (dones_in log)) (done_where mine (dones_in log)))) [
-        | true ↦ ap (λ l. number ∷ l) (numbers_noted log)
-        | false ↦ numbers_noted log
+        | true ↦ ap (λ l. pick number output ∷ l) (picks_noted pick log)
+        | false ↦ picks_noted pick log
       ]
-  numbers_noted (n ∷ log) = numbers_noted log
+  picks_noted pick (n ∷ log) = picks_noted pick log
+
+  pub numbers_noted : (log : List Note) → map (λ o. o.0) (mine_of (filter_map output_in log)) ≡ map (λ d. d.number) (done_where mine (dones_in log))
+  numbers_noted log = picks_noted (λ number output. number) log
 
   pub outputs_noted : (log : List Note) → map (λ o. o.1) (mine_of (filter_map output_in log)) ≡ map (λ d. d.output) (done_where mine (dones_in log))
-  outputs_noted [] = refl
-  outputs_noted (note.Processed number instance output ∷ log) = elim (mine number) as (λ b.
-      map (λ o. o.1) (cond b ((number, output) ∷ mine_of (filter_map output_in log)) (mine_of (filter_map output_in log)))
-      ≡ map (λ d. d.output)
-      (cond b (record { number = number; instance = instance; output = output } ∷ done_where mine (dones_in log)) (done_where mine (dones_in log)))) [
-        | true ↦ ap (λ l. output ∷ l) (outputs_noted log)
-        | false ↦ outputs_noted log
-      ]
-  outputs_noted (n ∷ log) = outputs_noted log
+  outputs_noted log = picks_noted (λ number output. output) log
 
   -- some of rising numbers rise
   pub some_rise : (least : ℕ) (ns : List ℕ) → IsRising least ns → IsRising least (filter mine ns)
@@ -91,41 +89,27 @@ module _ {R : Type 0} (f : Semantics R) (c : Config) (items : List Msg) (u : uni
   abbrev pub IsThere : Packet → Type 0
   IsThere p = find (λ q. q.number == p.number) (packets items) ≡ Some p
 
-  numbered : (p : Packet) → IsThere p → packet_numbered items p.number ≡ p
-  numbered p there = ap (λ o. unwrap_or o no_packet) there
-
   pub tests_agree : (ps : List Packet) → AllByRecursion IsThere ps → AllByRecursion (λ p. mine p.number ≡ part p) ps
-  tests_agree [] all = tt
-  tests_agree (p ∷ ps) all = (ap part (numbered p all.0), tests_agree ps all.1)
-
-  -- one instance is given numbers, or packets
-  pub outputs_same : (kept : Option R) (ps : List Packet) → AllByRecursion IsThere ps
-      → folds.outputs f c items kept (filter mine (map (λ p. p.number) ps)) ≡ scan (kept_after f c.site) (output_for f c.site) kept (filter part ps)
-  outputs_same kept [] all = refl
-  outputs_same kept (p ∷ ps) all =
-      let is : packet_numbered items p.number ≡ p = numbered p all.0 in
-      subst (λ (q : Packet). folds.outputs f c items kept
-      (cond (part q) (p.number ∷ filter mine (map (λ r. r.number) ps)) (filter mine (map (λ r. r.number) ps)))
-      ≡ scan (kept_after f c.site) (output_for f c.site) kept (cond (part p) (p ∷ filter part ps) (filter part ps))) (sym is)
-      (elim (part p) as (λ b. folds.outputs f c items kept (cond b (p.number ∷ filter mine (map (λ r. r.number) ps)) (filter mine (map (λ r. r.number) ps)))
-      ≡ scan (kept_after f c.site) (output_for f c.site) kept (cond b (p ∷ filter part ps) (filter part ps))) [
-        | true ↦ subst (λ (q : Packet). output_for f c.site kept q ∷ folds.outputs f c items (kept_after f c.site kept q) (filter mine (map (λ r. r.number) ps))
-            ≡ output_for f c.site kept p ∷ scan (kept_after f c.site) (output_for f c.site) (kept_after f c.site kept p) (filter part ps)) (sym is)
-            (ap (λ l. output_for f c.site kept p ∷ l) (outputs_same (kept_after f c.site kept p) ps all.1))
-        | false ↦ outputs_same kept ps all.1
-      ])
+  tests_agree ps all = tests_found (packets items) part ps all
 
   -- the numbers of its packets
   pub those_numbers : (ps : List Packet) → AllByRecursion IsThere ps → filter mine (map (λ p. p.number) ps) ≡ map (λ p. p.number) (filter part ps)
-  those_numbers [] all = refl
-  those_numbers (p ∷ ps) all =
-      subst (λ b. cond b (p.number ∷ filter mine (map (λ q. q.number) ps)) (filter mine (map (λ q. q.number) ps))
-      ≡ map (λ q. q.number) (cond (part p) (p ∷ filter part ps) (filter part ps))) (sym (ap part (numbered p all.0)))
-      (elim (part p) as (λ b. cond b (p.number ∷ filter mine (map (λ q. q.number) ps)) (filter mine (map (λ q. q.number) ps))
-      ≡ map (λ q. q.number) (cond b (p ∷ filter part ps) (filter part ps))) [
-        | true ↦ ap (λ l. p.number ∷ l) (those_numbers ps all.1)
-        | false ↦ those_numbers ps all.1
-      ])
+  those_numbers ps all = filter_numbers mine part ps (tests_agree ps all)
+
+  -- one instance is given numbers, or packets
+  outputs_numbers : (kept : Option R) (ps : List Packet) → AllByRecursion IsThere ps
+      → folds.outputs f c items kept (map (λ p. p.number) ps) ≡ scan (kept_after f c.site) (output_for f c.site) kept ps
+  outputs_numbers kept [] all = refl
+  outputs_numbers kept (p ∷ ps) all =
+      subst (λ (q : Packet). output_for f c.site kept q ∷ folds.outputs f c items (kept_after f c.site kept q) (map (λ r. r.number) ps)
+      ≡ output_for f c.site kept p ∷ scan (kept_after f c.site) (output_for f c.site) (kept_after f c.site kept p) ps)
+      (sym (numbered_is (packets items) p all.0))
+      (ap (λ l. output_for f c.site kept p ∷ l) (outputs_numbers (kept_after f c.site kept p) ps all.1))
+
+  pub outputs_same : (kept : Option R) (ps : List Packet) → AllByRecursion IsThere ps
+      → folds.outputs f c items kept (filter mine (map (λ p. p.number) ps)) ≡ scan (kept_after f c.site) (output_for f c.site) kept (filter part ps)
+  outputs_same kept ps all =
+      ap (folds.outputs f c items kept) (those_numbers ps all) ∙ outputs_numbers kept (filter part ps) (all_filter IsThere part ps all)
 
   pub folds_numbers : (kept : Option R) (ps : List Packet) → AllByRecursion IsThere ps
       → folds.fold f c items kept (map (λ p. p.number) ps) ≡ fold (kept_after f c.site) kept ps
@@ -133,7 +117,7 @@ module _ {R : Type 0} (f : Semantics R) (c : Config) (items : List Msg) (u : uni
   folds_numbers kept (p ∷ ps) all =
       subst (λ (q : Packet). folds.fold f c items (kept_after f c.site kept q) (map (λ r. r.number) ps)
       ≡ fold (kept_after f c.site) (kept_after f c.site kept p) ps)
-      (sym (numbered p all.0)) (folds_numbers (kept_after f c.site kept p) ps all.1)
+      (sym (numbered_is (packets items) p all.0)) (folds_numbers (kept_after f c.site kept p) ps all.1)
 
   pub folds_same : (kept : Option R) (ps : List Packet) → AllByRecursion IsThere ps
       → folds.fold f c items kept (filter mine (map (λ p. p.number) ps)) ≡ fold (kept_after f c.site) kept (filter part ps)

@@ -12,7 +12,7 @@ ghost use Rattle.run_headline.specs.StrongLaw.{StrongLaw};
 
 use nf_function::Function;
 pub use run_report::{AuditFault, Head, audit, report, simulate};
-pub use standby_failover::{FailFault, Failing, packets_of, promote_with, report_failover};
+pub use standby_failover::{Failing, packets_of, promote_with, report_failover};
 
 /// The law: the report of each completed run has the lines of the headline.
 pub fn reports_have_headlines<F: Function>()

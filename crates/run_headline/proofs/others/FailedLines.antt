@@ -17,12 +17,11 @@ use Rattle.net_world.specs.Log.{arrivals_in, installs_in}
 use Rattle.net_world.specs.Places.{is_loose, unit_in}
 use Rattle.standby_failover.specs.Failover.{Failover, IsLeft, is_affected, is_in, table_at}
 use Rattle.standby_failover.specs.Lines.{caught_line, promoted_line}
-use Rattle.standby_failover.proofs.ListLemmas.{filter_all, filter_same, in_filter}
+use Rattle.standby_failover.proofs.ListLemmas.{filter_all, filter_same, in_filter, those_filter}
 use Rattle.standby_failover.proofs.PromotedTables.{live_table}
 use Rattle.run_headline.specs.Headline.{moves}
 use Rattle.run_headline.proofs.AnswerLines.{found_any}
 use Rattle.run_headline.proofs.CoveredUnits.{hands_on, is_plain, some_order}
-use Rattle.run_headline.proofs.SortedParts.{filters_commute}
 use Rattle.run_headline.specs.Failover.{LinesOfUnit, may_move, numbered_in}
 use Rattle.run_headline.proofs.others.FailedPackets.{HaveCome, first, first_is, numbered_are, numbers_are, of, with_numbers}
 use Rattle.run_headline.proofs.others.PacketNumbers.{filter_numbered, numbers}
@@ -134,7 +133,7 @@ module _ {F R : Type 0} (x : Failover F R) (left : IsLeft x) where
 
     -- they are those of such units
     all_listed : filter in_picked (filter is_listed (arrivals_in x.world.log)) ≡ picked
-    all_listed = filters_commute in_picked is_listed (arrivals_in x.world.log) ∙ ap (filter is_listed) picked_again ∙ filter_all is_listed picked each_listed
+    all_listed = those_filter in_picked is_listed (arrivals_in x.world.log) ∙ ap (filter is_listed) picked_again ∙ filter_all is_listed picked each_listed
 
     came_listed : HaveCome x left (filter is_listed (arrivals_in x.world.log))
     came_listed n there = (and_parts (is_listed n) (is_in n (arrivals_in x.world.log)) (sym (in_filter n is_listed (arrivals_in x.world.log)) ∙ there)).1

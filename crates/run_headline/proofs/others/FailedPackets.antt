@@ -22,14 +22,13 @@ use Rattle.net_world.specs.Fold.{times}
 use Rattle.net_world.specs.Input.{packets}
 use Rattle.net_world.specs.Log.{arrivals_in}
 use Rattle.net_world.specs.Places.{is_loose, unit_in}
-use Rattle.net_world.proofs.NumberCounts.{times-append}
+use Rattle.net_world.proofs.NumberCounts.{times-append, times_filter}
 use Rattle.standby_failover.specs.Failover.{Failover, IsLeft, is_affected, is_in, is_lost, is_open}
 use Rattle.standby_failover.specs.Failover.{record_kept, lost_packets, numbers_done, open_of, open_packets, processed_of, reflected_by, standing}
-use Rattle.standby_failover.proofs.ListLemmas.{IsOnce, filter_none, filter_same, front_and_others, in_drop, in_filter, in_those}
+use Rattle.standby_failover.proofs.ListLemmas.{IsOnce, filter_none, filter_same, front_and_others, in_drop, in_filter}
 use Rattle.standby_failover.proofs.ListLemmas.{later_kept, none_times, not_before, once_those, others_are, same_number, some_in}
-use Rattle.standby_failover.proofs.ListLemmas.{those_filter, those_filters}
+use Rattle.standby_failover.proofs.ListLemmas.{those_filter}
 use Rattle.standby_failover.proofs.Reflected.{once_done, processed_those}
-use Rattle.strong_share.proofs.Lists.{times_filter}
 use Rattle.run_headline.specs.Headline.{is_of, record_after}
 use Rattle.run_headline.specs.Subject.{Subject}
 use Rattle.run_headline.specs.Law.{subject}
@@ -39,17 +38,8 @@ use Rattle.run_headline.proofs.others.PacketNumbers.{all_numbered, filter_number
 use Rattle.run_headline.proofs.others.SameNumbers.{another_order}
 
 module _ {F R : Type 0} (x : Failover F R) (left : IsLeft x) where
-  abbrev f : Semantics R
-  f = x.job.function
-
-  abbrev c : Config
-  c = x.job.config
-
-  abbrev items : List Msg
-  items = x.job.items
-
-  abbrev log : List Note
-  log = x.world.log
+  open x.job use {function as f, config as c, items}
+  open x.world use {log}
 
   abbrev pub of : Subject R
   of = subject f c items
@@ -118,12 +108,11 @@ module _ {F R : Type 0} (x : Failover F R) (left : IsLeft x) where
 
     own_is : own ≡ with_numbers came
     own_is = ap (filter (is_of of u)) first_is ∙ filter_numbered all (is_of of u) (arrivals_in log)
-        ∙ ap with_numbers (sym (those_filters mine (arrivals_in log)))
 
     -- a packet of the unit that came
     module _ (n : ℕ) (there : is_in n came ≡ true) where
       parts : (mine n ≡ true) × (is_in n (arrivals_in log) ≡ true)
-      parts = and_parts (mine n) (is_in n (arrivals_in log)) (sym (in_those n mine (arrivals_in log)) ∙ there)
+      parts = and_parts (mine n) (is_in n (arrivals_in log)) (sym (in_filter n mine (arrivals_in log)) ∙ there)
 
       unit_is : unit_in x.job n ≡ u
       unit_is = same_unit-true (unit_in x.job n) u parts.0
@@ -146,7 +135,7 @@ module _ {F R : Type 0} (x : Failover F R) (left : IsLeft x) where
 
     module _ (on : is_affected x u ≡ true) where
       done_is : (n : ℕ) → is_in n came ≡ true → is_in n went ≡ is_in n (numbers_done log)
-      done_is n there = ap (is_in n) (processed_those x u) ∙ in_those n mine (numbers_done log) ∙ ap (λ b. b && is_in n (numbers_done log)) (parts n there).0
+      done_is n there = ap (is_in n) (processed_those x u) ∙ in_filter n mine (numbers_done log) ∙ ap (λ b. b && is_in n (numbers_done log)) (parts n there).0
 
       open_is : (n : ℕ) → is_in n came ≡ true → is_open x n ≡ not (is_in n went)
       open_is n there =

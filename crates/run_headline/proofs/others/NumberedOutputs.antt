@@ -5,8 +5,8 @@ use Rattle.std.specs.Ordering.{nat_cmp}
 use Rattle.std.proofs.lemmas.Bool.Decides.{nat_tests}
 use Rattle.std.proofs.lemmas.Cmp.{nat_cmp_total}
 use Rattle.net_world.specs.Fold.{times}
+use Rattle.net_world.proofs.NumberCounts.{numbered_times}
 use Rattle.report_lines.specs.Sorting.{sorted_by}
-use Rattle.run_headline.proofs.LineNumbers.{times_of}
 use Rattle.run_headline.proofs.SortedParts.{one_stays}
 use Rattle.strong_share.proofs.Lists.{filter_few}
 
@@ -62,6 +62,6 @@ module _ {X : Type 0} where
   -- sorted by their numbers, they are found so too
   pub sorted_beside : (xs : List (ℕ × X)) → ((n : ℕ) → times n (firsts xs) ≤ 1) → (n : ℕ) → beside n (sorted_by (λ x. x.0) nat_cmp xs) ≡ beside n xs
   sorted_beside xs once n =
-      let few = times_of (λ x. x.0) n xs in
+      let few = numbered_times (λ x. x.0) n xs in
       let one = once n in
       one_stays (λ x. x.0) nat_cmp nat_cmp_total (λ x. x.0 == n) xs (omega (arith, few, one))

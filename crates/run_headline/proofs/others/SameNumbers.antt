@@ -4,9 +4,8 @@ use Rattle.std.specs.Prelude.{IsPermutation, if◌then◌else◌, ◌==◌}
 use Rattle.std.proofs.lemmas.Bool.Decides.{Decides-eqb}
 use Rattle.std.proofs.lemmas.List.Sorted.{IsPermutation-cons, IsPermutation-middle, IsPermutation-refl, IsPermutation-sym, IsPermutation-trans}
 use Rattle.net_world.specs.Fold.{times}
-use Rattle.net_world.proofs.NumberCounts.{times-append}
+use Rattle.net_world.proofs.NumberCounts.{none_in, times-append}
 use Rattle.standby_failover.proofs.ListLemmas.{same_number}
-use Rattle.run_headline.proofs.LineNumbers.{no_more}
 
 -- where a number stands
 record Stands (n : ℕ) (ns : List ℕ) : Type 0 where
@@ -25,7 +24,7 @@ stands n (m ∷ ns) some = elim (n == m) as (λ b. (n == m) ≡ b → Stands n (
 ] refl
 
 pub another_order : (ns ms : List ℕ) → ((p : ℕ) → times p ns ≡ times p ms) → IsPermutation ns ms
-another_order [] ms same = subst (IsPermutation []) (sym (no_more ms (λ p. sym (same p)))) (IsPermutation-refl [])
+another_order [] ms same = subst (IsPermutation []) (sym (none_in ms (λ p. sym (same p)))) (IsPermutation-refl [])
 another_order (n ∷ ns) ms same =
     let own = ap {B = ℕ} (λ b. if b then 1 else 0) (same_number n) in
     let all = same n in

@@ -7,7 +7,7 @@ use Rattle.std.proofs.lemmas.Bool.Decides.{nat_tests}
 use Rattle.std.proofs.lemmas.Option.{slice_get-get_or}
 use Rattle.nf_function.specs.declared.unit.Unit as units
 use Rattle.nf_function.specs.Records.{Laws}
-use Rattle.nf_function.specs.Semantics.{Semantics}
+use Rattle.nf_function.specs.Semantics.{Semantics, kept_after}
 use Rattle.nf_function.specs.Units.{takes}
 use Rattle.nf_msgs.specs.declared.msg.Msg.{Msg}
 use Rattle.record_table.specs.Table.{TableView, part}
@@ -20,17 +20,17 @@ use Rattle.strong_share.specs.Report.{member_under, named_members}
 use Rattle.strong_share.specs.Start.{StrongJob}
 use Rattle.strong_share.specs.Tables.{is_home}
 use Rattle.strong_share.specs.Words as words
-use Rattle.strong_share.specs.Words.{entries, live_in, processed_of, standby_in}
+use Rattle.strong_share.specs.Words.{entries, live_in, packet_numbered, processed_of, standby_in}
 use Rattle.strong_share.proofs.Folds.{after, kept_is, seen}
 use Rattle.strong_share.proofs.Scenes.{Scene}
 use Rattle.strong_share.proofs.ServedPackets.{seen_by}
 use Rattle.run_headline.specs.Headline.{is_of, record_after}
 use Rattle.run_headline.specs.Subject.{Subject}
-use Rattle.run_headline.proofs.LineNumbers.{any_own, has_some, none_both}
+use Rattle.run_headline.proofs.LineNumbers.{any_own, has_some, none_both, one_kept}
 use Rattle.run_headline.proofs.UnitLines.{each_line, line, sorted_own}
 use Rattle.run_headline.specs.Strong.{in_turn, lines_of, under_each}
 use Rattle.run_headline.specs.StrongLaw.{IsStrongRun, strong_subject}
-use Rattle.run_headline.proofs.others.LoggedOutputs.{both_filtered, those_is}
+use Rattle.run_headline.proofs.others.LoggedOutputs.{both_filtered}
 use Rattle.run_headline.proofs.others.MemberLines.{AreNodes, at_first, at_none, at_others, first_long, lines_are, lines_at, names_told, nodes_from}
 use Rattle.run_headline.proofs.others.PacketNumbers.{numbers, tests_agree}
 use Rattle.run_headline.proofs.others.StrongTurns.{found, record_is}
@@ -125,23 +125,14 @@ module _ {R : Type 0} (F : Type 0) (f : Semantics R) (laws : Laws f) (names : Li
         ] refl
 
     -- a unit with a packet has a record
-    some_kept : (r : R) (ns : List ℕ) → length (option_to_list (words.fold f job (Some r) ns)) ≡ 1
-    some_kept r [] = refl
-    some_kept r (n ∷ ns) =
-        ap (λ o. length (option_to_list (words.fold f job o ns))) (kept_is f laws job is.is_job (Some r) n) ∙ some_kept (after f job (Some r) n) ns
-
-    one_kept : (ns : List ℕ) → length (option_to_list (words.fold f job None ns)) ≡ (if has_some ns then 1 else 0)
-    one_kept [] = refl
-    one_kept (n ∷ ns) = ap (λ o. length (option_to_list (words.fold f job o ns))) (kept_is f laws job is.is_job None n) ∙ some_kept (after f job None n) ns
-
     some_went : has_some went ≡ list_any (is_of of u) job.packets
     some_went =
         none_both went (filter (words.is_of f job u) (numbers job.packets))
         (both_filtered (words.is_of f job u) (words.done_numbers w.log) (numbers job.packets) (completed F f laws names job w is).each_once)
-        ∙ ap has_some (sym (those_is (words.is_of f job u) (numbers job.packets)))
         ∙ any_own (words.is_of f job u) (is_of of u) job.packets (tests_agree job.packets (is_of of u) job.packets (found F f laws names job w is))
 
     pub one_state : length (lines_of u (by_unit true there)) ≡ (if list_any (is_of of u) job.packets then 1 else 0)
     one_state =
         ap length live_lines ∙ first_long u kept names (let two = is.is_job.some in let same = is.members in omega (arith, two, same))
-        ∙ one_kept went ∙ ap (λ b. if b then 1 else 0) some_went
+        ∙ one_kept (λ o n. kept_after f job.site o (packet_numbered job n)) (λ o n. (after f job o n, kept_is f laws job is.is_job o n)) went
+        ∙ ap (λ b. if b then 1 else 0) some_went

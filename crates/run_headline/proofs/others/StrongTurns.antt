@@ -3,6 +3,7 @@ use Rattle.std.proofs.Common.{◌≡◌, ℕ, ◌+◌, ◌-◌, ◌%◌, ◌<◌
 use Rattle.std.proofs.Common.{List, [], ◌∷◌, ◌++◌, length, map, refl, sym, ap, ◌∙◌, arith}
 use Rattle.std.specs.Prelude.{◌==◌, if◌then◌else◌, nat_lt, filter, filter_map, flat_map, fold, scan}
 use Rattle.std.specs.List.{AllByRecursion}
+use Rattle.std.proofs.Math.Bool.{and-false}
 use Rattle.std.proofs.Math.Nat.{mod-lt}
 use Rattle.std.proofs.lemmas.Bool.Decides.{Decides-eqb, Decides-ltb}
 use Rattle.flow_filter.specs.declared.packet.Packet.{Packet}
@@ -21,6 +22,7 @@ use Rattle.net_world.specs.Fold.{times}
 use Rattle.net_world.specs.Input.{IsRising}
 use Rattle.net_world.specs.Log.{dones_in}
 use Rattle.net_world.proofs.FoundPackets.{one_by_one}
+use Rattle.net_world.proofs.NumberCounts.{numbered_times, times_filter}
 use Rattle.report_lines.specs.Lines.{by_number, output_in}
 use Rattle.strong_share.specs.declared.note.StrongNote.{StrongNote}
 use Rattle.strong_share.specs.declared.node.StrongNode.{StrongNode}
@@ -30,18 +32,18 @@ use Rattle.strong_share.specs.Words as words
 use Rattle.strong_share.specs.Words.{entries, inner_notes, is_taken, is_taken_at, member_of, processed_of, queue_order}
 use Rattle.strong_share.proofs.Holding.{IsRight}
 use Rattle.strong_share.proofs.Kept.{given_there, raised_of}
-use Rattle.strong_share.proofs.Lists.{filter_few, times_filter}
+use Rattle.strong_share.proofs.Lists.{filter_few}
 use Rattle.strong_share.proofs.LogLemmas.{entry_numbers}
 use Rattle.run_headline.specs.Headline.{is_of, outputs_to, packets_of, record_after}
 use Rattle.run_headline.specs.Subject.{Subject}
 use Rattle.run_headline.specs.Law.{done_in}
 use Rattle.run_headline.proofs.FoundNumbers.{IsFound, all_found, rising_from}
-use Rattle.run_headline.proofs.LineNumbers.{dones_times, times_of}
+use Rattle.run_headline.proofs.LineNumbers.{dones_times}
 use Rattle.run_headline.proofs.UnitOutputs.{outputs_noted}
 use Rattle.run_headline.specs.Strong.{in_turn, is_turn, outs_for}
 use Rattle.run_headline.specs.StrongLaw.{IsStrongRun, strong_subject}
-use Rattle.run_headline.proofs.others.LoggedOutputs.{done_of_is, noted}
-use Rattle.run_headline.proofs.others.NumberedLines.{rising_sorted}
+use Rattle.run_headline.proofs.others.LoggedOutputs.{noted}
+use Rattle.run_headline.proofs.others.NumberedLines.{rising_sorted, some_here}
 use Rattle.run_headline.proofs.others.NumberedOutputs.{beside, each_found, firsts, sorted_beside}
 use Rattle.run_headline.proofs.others.PacketNumbers.{all_numbered, filter_numbered, filter_numbers, has_number, numbered, numbered_is, numbers, one_found}
 use Rattle.run_headline.proofs.others.StrongWorlds.{completed, promises, right}
@@ -51,14 +53,7 @@ none_pass : {X : Type 0} (test : X → Bool) (xs : List X) → ((x : X) → test
 none_pass test [] off = refl
 none_pass test (x ∷ xs) off = ap (λ b. cond b (x ∷ filter test xs) (filter test xs)) (off x) ∙ none_pass test xs off
 
--- a number that stands first, and one that stands later
-here : (n : ℕ) (ns : List ℕ) → 1 ≤ times n (n ∷ ns)
-here n ns = ap2_le (n == n) ((Decides-eqb n n).1 refl)
-  where
-    ap2_le : (b : Bool) → b ≡ true → 1 ≤ (if b then 1 else 0) + times n ns
-    ap2_le true is = omega arith
-    ap2_le false is = cc
-
+-- a number that stands later
 later : (n m : ℕ) (ns : List ℕ) → 1 ≤ times n ns → 1 ≤ times n (m ∷ ns)
 later n m ns some = omega (arith, some)
 
@@ -99,7 +94,7 @@ module _ {R : Type 0} (F : Type 0) (f : Semantics R) (laws : Laws f) (names : Li
   outs_are = rising_sorted raw (numbers ps) (rising_from 0 1 (numbers ps) (omega arith) rising) raw_times
 
   pub dones_are : (n : ℕ) → length (filter (λ d. d.0 == n) (filter_map done_in notes)) ≡ length (filter (λ p. p.number == n) ps)
-  dones_are n = dones_times n notes ∙ whole.each_once n ∙ sym (times_of (λ p. p.number) n ps)
+  dones_are n = dones_times n notes ∙ whole.each_once n ∙ sym (numbered_times (λ p. p.number) n ps)
 
   -- what was queued is a packet's
   none_untaken : (n : ℕ) → is_taken job n ≡ false → (rs : List (ℕ × ℕ)) → Each (IsRight job) rs → times n (entry_numbers rs) ≡ 0
@@ -126,7 +121,7 @@ module _ {R : Type 0} (F : Type 0) (f : Semantics R) (laws : Laws f) (names : Li
       → flat_map (λ e. filter (λ p. p.number == e.0) ps) rs ≡ map (numbered ps) (entry_numbers rs)
   named_in [] there = refl
   named_in (r ∷ rs) there =
-      ap (λ l. l ++ flat_map (λ e. filter (λ p. p.number == e.0) ps) rs) (one_found r.0 1 ps rising (there r.0 (here r.0 (entry_numbers rs))))
+      ap (λ l. l ++ flat_map (λ e. filter (λ p. p.number == e.0) ps) rs) (one_found r.0 1 ps rising (there r.0 (some_here r.0 (entry_numbers rs))))
       ∙ ap (λ l. numbered ps r.0 ∷ l) (named_in rs (λ n some. there n (later n r.0 (entry_numbers rs) some)))
 
   module _ (u : units.Unit) where
@@ -169,14 +164,14 @@ module _ {R : Type 0} (F : Type 0) (f : Semantics R) (laws : Laws f) (names : Li
     by_numbers [] there = refl
     by_numbers (n ∷ ns) there =
         ap (λ l. l ++ flat_map (λ p. filter (λ o. o.0 == p.number) (by_number output_in notes)) (map (numbered ps) ns))
-        (ap (λ m. beside m (by_number output_in notes)) (has_number n ps (there n (here n ns))) ∙ sorted_beside raw raw_once n)
+        (ap (λ m. beside m (by_number output_in notes)) (has_number n ps (there n (some_here n ns))) ∙ sorted_beside raw raw_once n)
         ∙ ap (λ l. beside n raw ++ l) (by_numbers ns (λ m some. there m (later m n ns some)))
 
     outputs_in : outs_for (by_number output_in notes) (map (numbered ps) went) ≡ words.outputs_of f job u w.log
     outputs_in =
         ap (map (λ o. o.1)) (by_numbers went went_there ∙ ap (λ l. flat_map (λ n. beside n raw) (filter mine l)) (sym (noted notes))
         ∙ each_found mine raw raw_once)
-        ∙ outputs_noted mine notes ∙ ap (map (λ d. d.output)) (done_of_is mine (dones_in notes))
+        ∙ outputs_noted mine notes
 
     pub outputs_are : outs_for (by_number output_in notes) (in_turn of job.filter (entries w.log) u) ≡ outputs_to of (in_turn of job.filter (entries w.log) u)
     outputs_are =
@@ -219,12 +214,8 @@ module _ {R : Type 0} (F : Type 0) (f : Semantics R) (laws : Laws f) (names : Li
               ∙ ap numbers (sym (none_pass (is_turn of job.filter k) ps (λ p. no_turn p never)))
         ] refl
       where
-        and_false : (b : Bool) → (b && false) ≡ false
-        and_false true = refl
-        and_false false = refl
-
         no_turn : (p : Packet) → (k < job.members → ⊥) → is_turn of job.filter k p ≡ false
         no_turn p never =
             ap (λ b. matches job.filter (flow_of job.site p).0 && b)
             (ap (λ m. (p.number - 1) % m == k) (sym is.members) ∙ beyond ((p.number - 1) % job.members) (mod-lt (p.number - 1) some_members) never)
-            ∙ and_false (matches job.filter (flow_of job.site p).0)
+            ∙ and-false (matches job.filter (flow_of job.site p).0)

@@ -9,7 +9,7 @@ use Rattle.flow_filter.specs.declared.packet.Packet.{Packet}
 use Rattle.nf_function.specs.declared.output.Output.{Output}
 use Rattle.nf_function.specs.declared.unit.Unit as units
 use Rattle.nf_function.specs.Records.{Laws}
-use Rattle.nf_function.specs.Semantics.{Semantics, unit_at}
+use Rattle.nf_function.specs.Semantics.{Semantics, kept_after, unit_at}
 use Rattle.nf_msgs.specs.declared.msg.Msg.{Msg}
 use Rattle.nf_msgs.specs.declared.note.Note.{Note}
 use Rattle.record_table.proofs.UnitOrder.{same_unit_equiv}
@@ -19,8 +19,8 @@ use Rattle.net_world.specs.Fold as folds
 use Rattle.net_world.specs.Fold.{times}
 use Rattle.net_world.specs.Input.{IsRising, packet_numbered, packets}
 use Rattle.net_world.specs.Log.{dones_in}
+use Rattle.net_world.proofs.NumberCounts.{done_numbers, numbered_times, times_filter}
 use Rattle.report_lines.specs.Lines.{NamedInstance, by_number, by_unit, named_line, named_records, out_lines, output_in, state_lines, tail_lines}
-use Rattle.strong_share.proofs.Lists.{times_filter}
 use Rattle.two_phase.specs.declared.msg.TwoMsg.{TwoMsg}
 use Rattle.two_phase.specs.declared.note.TwoNote.{TwoNote}
 use Rattle.two_phase.specs.declared.node.TwoNode.{TwoNode}
@@ -36,11 +36,11 @@ use Rattle.run_headline.specs.Law.{done_in}
 use Rattle.run_headline.proofs.FoundNumbers.{all_found, rising_from}
 use Rattle.run_headline.proofs.SortedParts.{part_stays, up_rising}
 use Rattle.run_headline.proofs.UnitOutputs.{IsThere, beside, folds_same, mine, numbers_noted, outputs_noted, outputs_same, part, some_rise, tests_agree}
-use Rattle.run_headline.proofs.LineNumbers.{any_own, done_text, dones_times, has_some, times_of}
+use Rattle.run_headline.proofs.LineNumbers.{any_own, done_text, dones_times, has_some, one_kept}
 use Rattle.run_headline.proofs.UnitLines.{each_line, kept_each, sorted_own}
 use Rattle.run_headline.specs.Published.{HasPublishedHeadline, lines_text, verdict_text}
 use Rattle.run_headline.specs.PublishedLaw.{IsTwoRun, PublishedLaw, two_subject}
-use Rattle.run_headline.proofs.others.LoggedOutputs.{done_numbers_of, noted, those_is}
+use Rattle.run_headline.proofs.others.LoggedOutputs.{noted}
 use Rattle.run_headline.proofs.others.NumberedLines.{rising_sorted}
 use Rattle.run_headline.proofs.others.TwoNodes.{AreFour, four_nodes}
 use Rattle.run_headline.proofs.others.TwoVerdicts.{some_moved, verdict_is}
@@ -94,8 +94,8 @@ module _ {R : Type 0} (F : Type 0) (f : Semantics R) (laws : Laws f) (job : Upda
       let u : units.Unit = unit_at f.kind c.site (packet_numbered items n) in
       let own : mine f c items u n ≡ true = same_unit_equiv.refl u in
       sym (times_filter (mine f c items u) n own (map (λ d. d.number) (dones_in notes)))
-      ∙ ap (times n) (sym (done_numbers_of (mine f c items u) (dones_in notes))
-      ∙ whole.all_went u ∙ those_is (mine f c items u) (trace job)) ∙ times_filter (mine f c items u) n own (trace job) ∙ ap (times n) (sym same_numbers)
+      ∙ ap (times n) (sym (done_numbers (mine f c items u) (dones_in notes))
+      ∙ whole.all_went u) ∙ times_filter (mine f c items u) n own (trace job) ∙ ap (times n) (sym same_numbers)
 
   outs_are : map (λ o. o.0) (by_number output_in notes) ≡ map (λ p. p.number) ps
   outs_are = rising_sorted raw (map (λ p. p.number) ps) rising (λ n. ap (times n) (noted notes) ∙ done_count n)
@@ -149,23 +149,16 @@ module _ {R : Type 0} (F : Type 0) (f : Semantics R) (laws : Laws f) (job : Upda
     record_is = records_kept ∙ ap option_to_list (ap (folds.fold f c items None) processed ∙ folds_same f c items u None ps found)
 
     -- a unit with a packet has a record
-    fits : (n : ℕ) (o : Option R) (ns : List ℕ)
-        → folds.fold f c items o (n ∷ ns) ≡ folds.fold f c items (Some (f.stepped c.site o (packet_numbered items n)).kept) ns
-    fits n o ns =
-        ap (λ b. folds.fold f c items (if b then Some (f.stepped c.site o (packet_numbered items n)).kept else o) ns)
-        (numbered_fits job.site job.packets is.is_job.site is.is_job.steered n).transport
-
-    some_kept : (r : R) (ns : List ℕ) → length (option_to_list (folds.fold f c items (Some r) ns)) ≡ 1
-    some_kept r [] = refl
-    some_kept r (n ∷ ns) = ap (λ o. length (option_to_list o)) (fits n (Some r) ns) ∙ some_kept (f.stepped c.site (Some r) (packet_numbered items n)).kept ns
-
-    one_kept : (ns : List ℕ) → length (option_to_list (folds.fold f c items None ns)) ≡ (if has_some ns then 1 else 0)
-    one_kept [] = refl
-    one_kept (n ∷ ns) = ap (λ o. length (option_to_list o)) (fits n None ns) ∙ some_kept (f.stepped c.site None (packet_numbered items n)).kept ns
+    some_step : (o : Option R) (n : ℕ) → (r : R) × (kept_after f c.site o (packet_numbered items n) ≡ Some r)
+    some_step o n = (
+      (f.stepped c.site o (packet_numbered items n)).kept,
+      ap (λ b. if b then Some (f.stepped c.site o (packet_numbered items n)).kept else o)
+          (numbered_fits job.site job.packets is.is_job.site is.is_job.steered n).transport,
+    )
 
     one_state : length (records_of (of ps) u (by_unit true there)) ≡ (if list_any (is_of (of ps) u) ps then 1 else 0)
     one_state =
-        ap length records_kept ∙ one_kept went
+        ap length records_kept ∙ one_kept (λ o n. kept_after f c.site o (packet_numbered items n)) some_step went
         ∙ ap (λ b. if b then 1 else 0) (ap has_some processed ∙ any_own mine_u (part f c items u) ps (tests_agree f c items u ps found))
 
   abbrev lines : ReportLines R
@@ -174,7 +167,7 @@ module _ {R : Type 0} (F : Type 0) (f : Semantics R) (laws : Laws f) (job : Upda
   headline : Headline (of ps) lines
   headline = record {
     outs = outs_are;
-    dones = λ n. dones_times n notes ∙ done_count n ∙ sym (times_of (λ p. p.number) n ps);
+    dones = λ n. dones_times n notes ∙ done_count n ∙ sym (numbered_times (λ p. p.number) n ps);
     answers = tt;
     one_state = one_state;
     outputs = λ u off. outputs_are u;

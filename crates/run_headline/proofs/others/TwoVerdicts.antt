@@ -2,7 +2,9 @@
 use Rattle.std.proofs.Common.{◌≡◌, ℕ, zero, suc, ◌+◌, Bool, true, false, ◌||◌, List, [], ◌∷◌, ◌++◌, map, drop, refl, sym, ap, ◌∙◌, append-nil}
 use Rattle.std.specs.Prelude.{if◌then◌else◌}
 use Rattle.std.specs.List.{flat_map, list_any, position_or_len}
+use Rattle.std.proofs.Math.Bool.{or-true}
 use Rattle.std.proofs.lemmas.List.Elements.{filter_map-append}
+use Rattle.std.proofs.lemmas.List.Folds.{list_any-append}
 use Rattle.flow_filter.specs.declared.packet.Packet.{Packet}
 use Rattle.flow_filter.specs.Filter.{matches}
 use Rattle.flow_filter.specs.Flow.{flow_of}
@@ -34,20 +36,11 @@ verdict_is true log is = verdict_lines log ∙ ap (flat_map verdict_line) is ∙
 verdict_is false log is = verdict_lines log ∙ ap (flat_map verdict_line) is ∙ append-nil (verdict_text false)
 
 -- one that stands in a part stands in the whole
-or_true : (b : Bool) → (b || true) ≡ true
-or_true true = refl
-or_true false = refl
-
 any_later : (test : ℕ → Bool) (ms ns : List ℕ) → list_any test ns ≡ true → list_any test (ms ++ ns) ≡ true
-any_later test [] ns some = some
-any_later test (m ∷ ms) ns some = ap (λ b. test m || b) (any_later test ms ns some) ∙ or_true (test m)
+any_later test ms ns some = list_any-append test ms ns ∙ ap (λ b. list_any test ms || b) some ∙ or-true (list_any test ms)
 
 any_before : (test : ℕ → Bool) (ms ns : List ℕ) → list_any test ms ≡ true → list_any test (ms ++ ns) ≡ true
-any_before test [] ns some = cc
-any_before test (m ∷ ms) ns some = elim (test m) as (λ b. (b || list_any test ms) ≡ true → (b || list_any test (ms ++ ns)) ≡ true) [
-  | true ↦ λ _. refl
-  | false ↦ λ more. any_before test ms ns more
-] some
+any_before test ms ns some = list_any-append test ms ns ∙ ap (λ b. b || list_any test ns) some
 
 any_dropped : (test : ℕ → Bool) (n : ℕ) (log : List TwoNote) → list_any test (arrivals_in (inner_notes (drop n log))) ≡ true
     → list_any test (arrivals_in (inner_notes log)) ≡ true
