@@ -6,7 +6,7 @@ use Rattle.nf_io.specs.Meaning.{Meaning}
 use Rattle.actor_net.specs.declared.choice.Choice.{Choice}
 use Rattle.command_words.specs.Requests.{NetworkAsked, asks_audit}
 use Rattle.opennf_calls.specs.declared.status.Status.{Status}
-use Rattle.opennf_calls.specs.declared.status.Status.TheVariants.{Ok as Done, Usage, BadScript, BadTrace, BadJournal, NotARun, ReadFault, WriteFault, NoMemory}
+use Rattle.opennf_calls.specs.declared.status.Status.TheVariants.{NotARun, NoMemory}
 use Rattle.opennf_calls.specs.declared.network.Made.{Made}
 use Rattle.opennf_calls.specs.Functions.{OfKind}
 use Rattle.opennf_calls.specs.NetworkRuns.{RunResults, HasRun}
@@ -60,13 +60,7 @@ module _ (told : ToldRun) (old new : Role → Meaning) (bound : IsBound (asks_au
     refl,
   )
   no_run_row NoMemory cause = (silent old new only, refl)
-  no_run_row Done cause = absurd (never cause)
-  no_run_row Usage cause = absurd (never cause)
-  no_run_row (BadScript line kind) cause = absurd (never cause)
-  no_run_row (BadTrace offset kind) cause = absurd (never cause)
-  no_run_row (BadJournal _) cause = absurd (never cause)
-  no_run_row (ReadFault role) cause = absurd (never cause)
-  no_run_row (WriteFault role) cause = absurd (never cause)
+  no_run_row ended cause = absurd (never cause)
 
   -- what the run gives, or why there is nothing
   pub told_row : (r : Result Made Status) → MatchResult r (λ made. HasRun told.words told.scenario None (gives told.words made)

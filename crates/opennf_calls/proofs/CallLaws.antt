@@ -6,11 +6,11 @@ use Rattle.std.specs.Io.KnownBytes.{Appends}
 use Rattle.nf_function.specs.Semantics.{Semantics}
 use Rattle.nf_io.specs.declared.outside.Role.{Role}
 use Rattle.nf_io.specs.Meaning.{Meaning}
-use Rattle.nf_io.specs.declared.outside.Role.TheVariants.{Trace, Script, JournalIn, Report, JournalOut, TraceOut, Errors}
+use Rattle.nf_io.specs.declared.outside.Role.TheVariants.{Script, Report, JournalOut}
 use Rattle.actor_net.specs.declared.schedule.Schedule.{Schedule}
 use Rattle.journal_file.specs.Format.{journal_bytes}
 use Rattle.net_world.specs.Runs.{choices_of}
-use Rattle.command_words.specs.Requests.{Asked, NetworkAsked, asks_sim, asks_run, asks_audit, asks_fail, asks_check, asks_gen, asks_published, asks_strong}
+use Rattle.command_words.specs.Requests.{Asked, NetworkAsked, asks_sim, asks_run, asks_audit}
 use Rattle.run_headline.specs.Subject.{Subject}
 use Rattle.run_headline.specs.Text.{HasHeadline}
 use Rattle.opennf_calls.specs.declared.status.Status.{Status}
@@ -59,11 +59,7 @@ module _ (s : NetworkAsked) (schedule : Schedule) (made again : RunResults) wher
   same_texts : GaveTheSame made again → (role : Role) → IsTrue (is_result (asks_sim s schedule) role) → again.texts role ≡ made.texts role
   same_texts gave Report on = gave.report
   same_texts gave JournalOut on = gave.journal
-  same_texts gave Trace on = cc
-  same_texts gave Script on = cc
-  same_texts gave JournalIn on = cc
-  same_texts gave TraceOut on = cc
-  same_texts gave Errors on = cc
+  same_texts gave role on = cc
 
 -- what a call gave that ended well
 module _ (asked : Asked) (bytes : Role → List ℕ) (call : Call asked bytes) where
@@ -126,8 +122,4 @@ outcome_law (asks_audit t) s bytes call is =
     let same : t ≡ s = cc in
     subst (λ (q : NetworkAsked). SaysHeadline q bytes (call.old Report) (call.new Report)) same
     (says_headline t bytes None one.made one.are.run (call.old Report) (call.new Report) (one.wrote.1 Report refl))
-outcome_law (asks_fail t) s bytes call is = cc
-outcome_law (asks_check t) s bytes call is = cc
-outcome_law (asks_gen t) s bytes call is = cc
-outcome_law (asks_published t schedule) s bytes call is = cc
-outcome_law (asks_strong t schedule) s bytes call is = cc
+outcome_law asked s bytes call is = cc

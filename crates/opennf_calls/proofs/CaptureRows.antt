@@ -2,7 +2,7 @@
 use Rattle.std.proofs.Common.{◌≡◌, ℕ, List, [], ◌&&◌, true, false, None, Some, is_some, Ok, Err, Result, refl, ap, sym, ◌∙◌, subst, IsTrue}
 use Rattle.std.proofs.lemmas.Bool.{and_parts}
 use Rattle.nf_io.specs.declared.outside.Role.{Role}
-use Rattle.nf_io.specs.declared.outside.Role.TheVariants.{Trace, Script, JournalIn, Report, JournalOut, TraceOut, Errors}
+use Rattle.nf_io.specs.declared.outside.Role.TheVariants.{Trace, Script}
 use Rattle.nf_io.specs.Meaning.{Meaning}
 use Rattle.trace_reader.specs.declared.trace.Trace.{Trace as Captured}
 use Rattle.trace_reader.specs.declared.fault.TraceFault.{TraceFault}
@@ -22,12 +22,7 @@ use Rattle.opennf_calls.proofs.RowLemmas.{OneFile, input_alone, not_before, one_
 -- a command that has a capture alone has one file
 pub one_capture : (asked : Asked) (trace : List ℕ) → ((role : Role) → file_for asked role ≡ trace_file trace role) → OneFile asked Trace
 one_capture asked trace files Trace differ = absurd (differ refl)
-one_capture asked trace files Script differ = files Script
-one_capture asked trace files JournalIn differ = files JournalIn
-one_capture asked trace files Report differ = files Report
-one_capture asked trace files JournalOut differ = files JournalOut
-one_capture asked trace files TraceOut differ = files TraceOut
-one_capture asked trace files Errors differ = files Errors
+one_capture asked trace files role differ = files role
 
 -- the command has one file, a capture, which alone can refuse it
 pub record ReadsCapture (asked : Asked) : Type 0 where
@@ -52,12 +47,7 @@ module _ (asked : Asked) (reads : ReadsCapture asked) (old new : Role → Meanin
       none Script is =
           let file = (and_parts (is_input asked Script) true is).0 in
           let no_file : is_some (file_for asked Script) ≡ false = ap is_some (reads.one Script (λ same. cc)) in absurd (cc)
-      none Trace is = absurd (not_before (is_input asked Trace) is)
-      none JournalIn is = absurd (not_before (is_input asked JournalIn) is)
-      none Report is = absurd (not_before (is_input asked Report) is)
-      none JournalOut is = absurd (not_before (is_input asked JournalOut) is)
-      none TraceOut is = absurd (not_before (is_input asked TraceOut) is)
-      none Errors is = absurd (not_before (is_input asked Errors) is)
+      none other is = absurd (not_before (is_input asked other) is)
 
   refuses : (e : TraceFault) (status : Status) → trace_refusal (Err e) ≡ Some status
       → ((bytes : Role → List ℕ) → HasInput asked old bytes → capture_of (bytes Trace) ≡ Err e) → IsRefusedCommand asked old new status
@@ -66,17 +56,9 @@ module _ (asked : Asked) (reads : ReadsCapture asked) (old new : Role → Meanin
   -- a fault of the capture
   pub capture_row : (e : TraceFault) → AnswersCapture old new (Err e) → HasReadCause {A = Captured} (old Trace).faults (new Trace).faults (Err e)
       → RowOf asked old new (record { status = trace_status e; choices = [] })
-  capture_row fault.Magic answers cause = (refuses fault.Magic _ refl (λ bytes told. answers (bytes Trace) (told Trace reads.named)), refl)
-  capture_row fault.PcapNg answers cause = (refuses fault.PcapNg _ refl (λ bytes told. answers (bytes Trace) (told Trace reads.named)), refl)
-  capture_row fault.Version answers cause = (refuses fault.Version _ refl (λ bytes told. answers (bytes Trace) (told Trace reads.named)), refl)
-  capture_row (fault.LinkType n) answers cause = (refuses (fault.LinkType n) _ refl (λ bytes told. answers (bytes Trace) (told Trace reads.named)), refl)
-  capture_row (fault.RecordLength offset n) answers cause =
-      (refuses (fault.RecordLength offset n) _ refl (λ bytes told. answers (bytes Trace) (told Trace reads.named)), refl)
-  capture_row (fault.TooLong offset) answers cause =
-      (refuses (fault.TooLong offset) _ refl (λ bytes told. answers (bytes Trace) (told Trace reads.named)), refl)
-  capture_row (fault.Header length) answers cause = (refuses (fault.Header length) _ refl (λ bytes told. answers (bytes Trace) (told Trace reads.named)), refl)
   capture_row fault.Read answers cause = (read_fault old new only_capture asked Trace bound reads.named (cause.read refl) first, refl)
   capture_row fault.NoMemory answers cause = (silent old new only_capture, refl)
+  capture_row e answers cause = (refuses e _ refl (λ bytes told. answers (bytes Trace) (told Trace reads.named)), refl)
 
   -- the capture was read, and these choices and this report were made of it
   pub capture_report : (captured : Captured) → AnswersCapture old new (Ok captured) → (made : Made)

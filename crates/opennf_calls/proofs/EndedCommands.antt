@@ -5,7 +5,7 @@ use Rattle.nf_io.specs.declared.outside.Role.TheVariants.{Errors}
 use Rattle.nf_io.specs.Meaning.{Meaning, Shown, as_named}
 use Rattle.command_words.specs.declared.fault.ArgumentsFault.{ArgumentsFault}
 use Rattle.command_words.specs.declared.fault.ArgumentsFault.TheVariants as words
-use Rattle.command_words.specs.Requests.{Asked, asks_sim, asks_run, asks_audit, asks_fail, asks_check, asks_gen, asks_published, asks_strong}
+use Rattle.command_words.specs.Requests.{Asked, asks_sim}
 use Rattle.command_words.specs.Views.{Refuses}
 use Rattle.opennf_calls.specs.declared.outcome.Outcome.{Outcome}
 use Rattle.opennf_calls.specs.Command.{file_for}
@@ -26,13 +26,7 @@ same_meaning a b left written faults name =
 -- no file is named for the standard error
 no_file : (asked : Asked) → file_for asked Errors ≡ None
 no_file (asks_sim s schedule) = refl
-no_file (asks_run s) = refl
-no_file (asks_audit s) = refl
-no_file (asks_fail f) = refl
-no_file (asks_check c) = refl
-no_file (asks_gen g) = refl
-no_file (asks_published p schedule) = refl
-no_file (asks_strong s schedule) = refl
+no_file asked = refl
 
 -- a command ended
 module _ (asked : Asked) (shown : Role → List ℕ → Shown) (before old new : Role → Meaning) (outcome : Outcome)

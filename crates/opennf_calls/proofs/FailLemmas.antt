@@ -10,9 +10,9 @@ use Rattle.command_words.specs.Requests.{FailAsked}
 use Rattle.net_world.specs.declared.config.Config.{Config}
 use Rattle.net_world.specs.Jobs.{job_of}
 use Rattle.net_world.specs.Start.{started_with}
+use Rattle.run_headline.specs.run_report.specs.declared.auditing.AuditFault.{AuditFault}
+use Rattle.run_headline.specs.run_report.specs.declared.auditing.AuditFault.TheVariants as audit
 use Rattle.run_headline.specs.run_report.specs.declared.head.Head.{Head}
-use Rattle.run_headline.specs.standby_failover.specs.declared.fault.FailFault.{FailFault}
-use Rattle.run_headline.specs.standby_failover.specs.declared.fault.FailFault.TheVariants as failing
 use Rattle.run_headline.specs.standby_failover.specs.declared.promoted.Promoted.{Promoted}
 use Rattle.run_headline.specs.standby_failover.specs.Causes.{IsFailCause, IsReached, first_of, world_after}
 use Rattle.run_headline.specs.standby_failover.specs.Failover.{Failover, HasCaughtUp, IsLeft, IsPromoted, failover_of}
@@ -27,7 +27,7 @@ use Rattle.opennf_calls.specs.FailRuns.{HasFailover, IsFailover, failing_for}
 use Rattle.opennf_calls.specs.Functions.{OfKind}
 use Rattle.opennf_calls.specs.NetworkRuns.{Scenario, config_for, head_for, items_for, run_given, subject_for}
 use Rattle.opennf_calls.specs.Phases.{IsNoFailoverAs, IsRefusedFailover, reports}
-use Rattle.opennf_calls.specs.Status.{fail_status}
+use Rattle.opennf_calls.specs.Status.{audit_status}
 use Rattle.opennf_calls.proofs.RunLemmas.{same_subject}
 
 module _ {R : Type 0} (F : Type 0) (f : Semantics R) (asked : FailAsked) (g : Scenario) (alloc : Global) (config : Config) (items : List Msg)
@@ -78,14 +78,14 @@ module _ {R : Type 0} (F : Type 0) (f : Semantics R) (asked : FailAsked) (g : Sc
   }
 
   -- the first choices lead to none
-  pub failover_refused : (e : FailFault) →
-      ((step : ℕ) → e ≡ failing.NotARun step → IsFailCause {F = F} f (started_with alloc config items) (first_of told asked.after) step)
-      → IsNoFailoverAs (run_given F f asked.network g) asked told (fail_status e)
-  failover_refused (failing.NotARun step) cause = record {
+  pub failover_refused : (e : AuditFault) →
+      ((step : ℕ) → e ≡ audit.NotARun step → IsFailCause {F = F} f (started_with alloc config items) (first_of told asked.after) step)
+      → IsNoFailoverAs (run_given F f asked.network g) asked told (audit_status e)
+  failover_refused (audit.NotARun step) cause = record {
     alloc = alloc;
     cause = moved (λ c l. IsFailCause {F = F} f (started_with alloc c l) (first_of told asked.after) step) (cause step refl);
   }
-  failover_refused failing.NoMemory cause = tt
+  failover_refused audit.NoMemory cause = tt
 
 -- the function is that of the words
 pub failed_kind : (asked : FailAsked) (g : Scenario) (told : List Choice) (r : Result Made Status)

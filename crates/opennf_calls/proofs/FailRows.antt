@@ -6,7 +6,7 @@ use Rattle.nf_io.specs.Meaning.{Meaning}
 use Rattle.actor_net.specs.declared.choice.Choice.{Choice}
 use Rattle.command_words.specs.Requests.{FailAsked, asks_fail}
 use Rattle.opennf_calls.specs.declared.status.Status.{Status}
-use Rattle.opennf_calls.specs.declared.status.Status.TheVariants.{Ok as Done, Usage, BadScript, BadTrace, BadJournal, NotARun, ReadFault, WriteFault, NoMemory}
+use Rattle.opennf_calls.specs.declared.status.Status.TheVariants.{NotARun, NoMemory}
 use Rattle.opennf_calls.specs.declared.network.Made.{Made}
 use Rattle.opennf_calls.specs.FailRuns.{HasFailover}
 use Rattle.opennf_calls.specs.Functions.{OfKind}
@@ -63,13 +63,7 @@ module _ (f : FailAsked) (scenario : Scenario) (choices : List Choice) (old new 
     refl,
   )
   no_failover_row NoMemory cause = (silent old new only, refl)
-  no_failover_row Done cause = absurd (never cause)
-  no_failover_row Usage cause = absurd (never cause)
-  no_failover_row (BadScript line kind) cause = absurd (never cause)
-  no_failover_row (BadTrace offset kind) cause = absurd (never cause)
-  no_failover_row (BadJournal _) cause = absurd (never cause)
-  no_failover_row (ReadFault role) cause = absurd (never cause)
-  no_failover_row (WriteFault role) cause = absurd (never cause)
+  no_failover_row ended cause = absurd (never cause)
 
   -- what the failover gives, or why there is nothing
   pub failed_row : (r : Result Made Status) → MatchResult r (λ made. HasFailover f scenario choices (reports made)) (IsRefusedFailover f scenario choices)

@@ -1,32 +1,27 @@
 -- What a run of the network is given, or why it is given nothing: a script where the words name one, and then a capture.
-use Rattle.std.proofs.Common.{◌≡◌, ℕ, List, [], true, false, Option, None, Some, is_some, is_none, Ok, Err, refl, ap, ◌∙◌, subst}
-use Rattle.std.specs.Prelude.{option_map}
+use Rattle.std.proofs.Common.{◌≡◌, ℕ, List, [], true, false, Option, None, Some, is_some, is_none, Ok, Err, Result, refl, ap, ◌∙◌, subst}
+use Rattle.std.specs.Prelude.{MatchResult, option_map}
 use Rattle.std.specs.Borrow.{Bor}
 use Rattle.flow_filter.specs.declared.site.Site.{Site}
 use Rattle.flow_filter.specs.Reading.{prefix_numbers}
 use Rattle.nf_io.specs.declared.outside.Role.{Role}
 use Rattle.nf_io.specs.declared.outside.Role.TheVariants.{Trace, Script, JournalIn}
 use Rattle.nf_io.specs.Meaning.{Meaning, Rose}
-use Rattle.nf_io.specs.Transfers.{HasUptoCause}
-use Rattle.nf_io.specs.declared.transfers.UptoFault.{UptoFault}
-use Rattle.nf_io.specs.declared.transfers.UptoFault.TheVariants as upto
 use Rattle.trace_reader.specs.declared.trace.Trace.{Trace as Captured}
 use Rattle.trace_reader.specs.declared.fault.TraceFault.{TraceFault}
 use Rattle.trace_reader.specs.declared.fault.TraceFault.TheVariants as fault
 use Rattle.trace_reader.specs.Answers.{AnswersTrace, HasReadCause}
 use Rattle.trace_reader.specs.Records.{capture_of}
-use Rattle.op_script.specs.declared.fault.ScriptFault.{ScriptFault}
-use Rattle.op_script.specs.declared.fault.ScriptFault.TheVariants as unread
-use Rattle.op_script.specs.declared.fault.ScriptKind.{ScriptKind}
 use Rattle.op_script.specs.declared.script.Script.{Script as TheScript}
 use Rattle.op_script.specs.Reading.{script_of}
 use Rattle.command_words.specs.Requests.{NetworkAsked}
 use Rattle.command_words.specs.Values.{names_of}
 use Rattle.opennf_calls.specs.declared.status.Status.{Status}
+use Rattle.opennf_calls.specs.declared.status.Status.TheVariants.{BadScript, ReadFault, NoMemory}
 use Rattle.opennf_calls.specs.Outcome.{first_refusal, inputs_refusal, script_refusal, trace_refusal}
 use Rattle.opennf_calls.specs.NetworkRuns.{given_script}
-use Rattle.opennf_calls.specs.Phases.{HasInputs, HasScript, InputsFail, ReadAlone, RefusesInputs, TellsInputs, TellsScript}
-use Rattle.opennf_calls.specs.Status.{reading_status, script_status, trace_status}
+use Rattle.opennf_calls.specs.Phases.{HasInputs, HasScript, InputsFail, ReadAlone, RefusesInputs, ScriptFails, ScriptRead, TellsInputs, TellsScript}
+use Rattle.opennf_calls.specs.Status.{trace_status}
 
 -- a file that is named is there
 pub is_named : (file : Option (Bor (List ℕ))) → is_none file ≡ false → is_some (option_map (λ t. t.now) file) ≡ true
@@ -40,20 +35,20 @@ still_named (Some name) there = refl
 pub named_script : (s : NetworkAsked) (bytes : List ℕ) → is_some s.script ≡ true → given_script s bytes ≡ script_of s.kind (names_of s.instances) bytes
 named_script s bytes named = rw named refl
 
--- a script that is refused
-pub script_fails : (s : NetworkAsked) (old new : Role → Meaning) (e : ScriptFault)
-    → ((line : ℕ) (kind : ScriptKind) → e ≡ unread.Bad line kind → (bytes : Role → List ℕ) → TellsInputs s old bytes
-    → given_script s (bytes Script) ≡ Err (line, kind))
-    → InputsFail s old new (script_status e)
-script_fails s old new (unread.Bad line kind) says = λ bytes told.
-    ap (λ said. first_refusal (script_refusal said) (trace_refusal (capture_of (bytes Trace)))) (says line kind refl bytes told)
-script_fails s old new unread.NoMemory says = tt
-
--- a script that can't be read
-pub unread_script : {A : Type 0} (s : NetworkAsked) (old new : Role → Meaning) (e : UptoFault) → is_some s.script ≡ true
-    → HasUptoCause {A = A} (old Script).faults (new Script).faults (Err e) → InputsFail s old new (reading_status Script e)
-unread_script s old new upto.Failed named cause = (named, cause.failed refl, tt)
-unread_script s old new upto.NoMemory named cause = tt
+-- what reading it answers
+pub script_said : (s : NetworkAsked) → is_some s.script ≡ true → (old new : Role → Meaning) (r : Result TheScript Status)
+    → MatchResult r (ScriptRead (script_of s.kind (names_of s.instances)) old new) (ScriptFails (script_of s.kind (names_of s.instances)) old new)
+    → MatchResult r (HasScript s old new) (InputsFail s old new)
+script_said s named old new (Ok script) said = record {
+  said = λ bytes told. named_script s (bytes Script) named ∙ (said (bytes Script) (told.script named)).0;
+  read = λ bytes told there. (said (bytes Script) (told.script named)).1;
+}
+script_said s named old new (Err (ReadFault Script)) rose = (named, rose, tt)
+script_said s named old new (Err NoMemory) said = tt
+script_said s named old new (Err (BadScript line kind)) said = λ bytes told.
+    ap (λ read. first_refusal (script_refusal read) (trace_refusal (capture_of (bytes Trace))))
+    (named_script s (bytes Script) named ∙ said (bytes Script) (told.script named))
+script_said s named old new (Err status) said = absurd said
 
 -- a script has been read
 module _ (s : NetworkAsked) (old mid : Role → Meaning) (script : TheScript) (first : ReadAlone Script old mid) (has : HasScript s old mid script) where
@@ -85,19 +80,13 @@ module _ (s : NetworkAsked) (old mid : Role → Meaning) (script : TheScript) (f
 
     pub trace_fails : (e : TraceFault) → ((bytes : List ℕ) → (mid Trace).left ≡ Some bytes → AnswersTrace (capture_of bytes) (new Trace).left (Err e))
         → HasReadCause {A = Captured} (mid Trace).faults (new Trace).faults (Err e) → InputsFail s old new (trace_status e)
-    trace_fails fault.Magic answers cause = bad fault.Magic answers _ refl (λ bytes due. due)
-    trace_fails fault.PcapNg answers cause = bad fault.PcapNg answers _ refl (λ bytes due. due)
-    trace_fails fault.Version answers cause = bad fault.Version answers _ refl (λ bytes due. due)
-    trace_fails (fault.LinkType n) answers cause = bad (fault.LinkType n) answers _ refl (λ bytes due. due)
-    trace_fails (fault.RecordLength offset n) answers cause = bad (fault.RecordLength offset n) answers _ refl (λ bytes due. due)
-    trace_fails (fault.TooLong offset) answers cause = bad (fault.TooLong offset) answers _ refl (λ bytes due. due)
-    trace_fails (fault.Header length) answers cause = bad (fault.Header length) answers _ refl (λ bytes due. due)
     trace_fails fault.Read answers cause = (
       refl,
       subst (λ (m : Meaning). Rose m.faults (new Trace).faults) same_trace (cause.read refl),
       record { read = still_read; sound = λ bytes told. ap script_refusal (has.said bytes told) },
     )
     trace_fails fault.NoMemory answers cause = tt
+    trace_fails e answers cause = bad e answers _ refl (λ bytes due. due)
 
     -- the capture was read
     pub both_read : (site : Site) → prefix_numbers site.inside ≡ s.inside → site.outside ≡ s.outside → (captured : Captured)

@@ -3,7 +3,7 @@ use Rattle.std.proofs.Common.{◌≡◌, ℕ, List, [], ◌&&◌, true, length, 
 use Rattle.std.specs.Prelude.{IsTrue}
 use Rattle.std.proofs.lemmas.Bool.{and_parts}
 use Rattle.nf_io.specs.declared.outside.Role.{Role}
-use Rattle.nf_io.specs.declared.outside.Role.TheVariants.{Trace, Script, JournalIn, Report, JournalOut, TraceOut, Errors}
+use Rattle.nf_io.specs.declared.outside.Role.TheVariants.{Trace, Script, JournalIn}
 use Rattle.nf_io.specs.Meaning.{Meaning, Rose}
 use Rattle.nf_io.specs.Roles.{is_read}
 use Rattle.actor_net.specs.declared.choice.Choice.{Choice}
@@ -12,8 +12,6 @@ use Rattle.journal_file.specs.declared.fault.JournalFault.TheVariants as fault
 use Rattle.journal_file.specs.Reading.{GivesFrom, HasReadCause, count_of, journal_of, looked_at}
 use Rattle.command_words.specs.Requests.{Asked, NetworkAsked}
 use Rattle.opennf_calls.specs.declared.status.Status.{Status}
-use Rattle.opennf_calls.specs.declared.status.Status.TheVariants.{BadJournal}
-use Rattle.opennf_calls.specs.declared.status.JournalKind.TheVariants as kinds
 use Rattle.opennf_calls.specs.Command.{file_for, is_input, is_read_before, with_journal}
 use Rattle.opennf_calls.specs.NetworkRuns.{Scenario}
 use Rattle.opennf_calls.specs.Outcome.{EarlierAreSound, HasEarlier, HasInput, IsBound, IsRead, IsRefusedCommand, IsScenario, RowOf}
@@ -97,11 +95,7 @@ module _ (s : NetworkAsked) (asked : Asked) (reads : ReadsJournal s asked) (scen
       before : (other : Role) → IsTrue (is_input asked other && is_read_before other JournalIn) → (new other).left ≡ Some []
       before Trace is = (still_read (has.read bytes tells_both)).trace
       before Script is = (still_read (has.read bytes tells_both)).script (sym (input_is Script) ∙ (and_parts (is_input asked Script) true is).0)
-      before JournalIn is = absurd (not_before (is_input asked JournalIn) is)
-      before Report is = absurd (not_before (is_input asked Report) is)
-      before JournalOut is = absurd (not_before (is_input asked JournalOut) is)
-      before TraceOut is = absurd (not_before (is_input asked TraceOut) is)
-      before Errors is = absurd (not_before (is_input asked Errors) is)
+      before other is = absurd (not_before (is_input asked other) is)
 
   -- a fault of the journal
   module _ (e : JournalFault) (answers : AnswersJournal s (length s.instances) mid new (Err e)) where
@@ -119,19 +113,13 @@ module _ (s : NetworkAsked) (asked : Asked) (reads : ReadsJournal s asked) (scen
   pub journal_row : (e : JournalFault) → AnswersJournal s (length s.instances) mid new (Err e)
       → HasReadCause {A = List Choice} (mid JournalIn).faults (new JournalIn).faults (Err e)
       → RowOf asked old new (record { status = journal_status e; choices = [] })
-  journal_row fault.Magic answers cause = (bad fault.Magic answers (BadJournal kinds.Magic) refl (λ bytes is. (due fault.Magic answers bytes is).0), refl)
-  journal_row fault.Version answers cause =
-      (bad fault.Version answers (BadJournal kinds.Version) refl (λ bytes is. (due fault.Version answers bytes is).0), refl)
-  journal_row fault.Kind answers cause = (bad fault.Kind answers (BadJournal kinds.Kind) refl (λ bytes is. (due fault.Kind answers bytes is).0), refl)
-  journal_row fault.Count answers cause = (bad fault.Count answers (BadJournal kinds.Count) refl (λ bytes is. (due fault.Count answers bytes is).0), refl)
-  journal_row fault.Short answers cause = (bad fault.Short answers (BadJournal kinds.Short) refl (λ bytes is. (due fault.Short answers bytes is).0), refl)
-  journal_row fault.Extra answers cause = (bad fault.Extra answers (BadJournal kinds.Extra) refl (λ bytes is. (due fault.Extra answers bytes is).0), refl)
   journal_row fault.Read answers cause = (
     read_fault old new only asked JournalIn bound journal_named
         (subst (λ (m : Meaning). Rose m.faults (new JournalIn).faults) has.journal (cause.read refl)) inputs_sound,
     refl,
   )
   journal_row fault.NoMemory answers cause = (silent old new only, refl)
+  journal_row e answers cause = (bad e answers _ refl (λ bytes is. (due e answers bytes is).0), refl)
 
   -- the journal was read
   module _ (choices : List Choice) (answers : AnswersJournal s (length s.instances) mid new (Ok choices)) where

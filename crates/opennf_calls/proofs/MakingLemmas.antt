@@ -1,7 +1,7 @@
 -- What a command that makes a capture did, from what the making answered.
 use Rattle.std.proofs.Common.{◌≡◌, ◌≤◌, ℕ, List, [], Err, refl, ◌⊎◌, inl, inr, IsTrue}
 use Rattle.nf_io.specs.declared.outside.Role.{Role}
-use Rattle.nf_io.specs.declared.outside.Role.TheVariants.{Trace, Script, JournalIn, Report, JournalOut, TraceOut, Errors}
+use Rattle.nf_io.specs.declared.outside.Role.TheVariants.{Trace, Report, TraceOut, Errors}
 use Rattle.nf_io.specs.Meaning.{Meaning, Rose, OthersStay}
 use Rattle.trace_reader.specs.Generated.{capture}
 use Rattle.trace_reader.specs.Making.{Makes}
@@ -19,20 +19,11 @@ use Rattle.opennf_calls.proofs.TwoResults.{GivesBoth, WritesFirst, file_failed}
 results_of : (g : GenAsked) (other : Role) → IsTrue (is_result (asks_gen g) other) → (other ≡ TraceOut) ⊎ (other ≡ Report)
 results_of g TraceOut result = inl refl
 results_of g Report result = inr refl
-results_of g JournalOut result = absurd (cc)
-results_of g Trace result = absurd (cc)
-results_of g Script result = absurd (cc)
-results_of g JournalIn result = absurd (cc)
-results_of g Errors result = absurd (cc)
+results_of g other result = absurd (cc)
 
 no_input : (g : GenAsked) (other : Role) → IsTrue (is_input (asks_gen g) other) → ⊥
 no_input g Trace input = cc
-no_input g Script input = cc
-no_input g JournalIn input = cc
-no_input g Report input = cc
-no_input g JournalOut input = cc
-no_input g TraceOut input = cc
-no_input g Errors input = cc
+no_input g other input = cc
 
 -- the file is written first
 pub gen_writes : (g : GenAsked) → WritesFirst (asks_gen g) TraceOut

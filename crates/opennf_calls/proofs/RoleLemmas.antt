@@ -2,7 +2,7 @@
 use Rattle.std.proofs.Common.{◌≡◌, ◌≢◌, Bool, true, false, eqb, refl, sym, subst, ◌⊎◌, inl, inr}
 use Rattle.std.proofs.lemmas.Bool.{eqb-true}
 use Rattle.nf_io.specs.declared.outside.Role.{Role}
-use Rattle.nf_io.specs.declared.outside.Role.TheVariants.{Trace, Script, JournalIn, Report, JournalOut, TraceOut, Errors}
+use Rattle.nf_io.specs.declared.outside.Role.TheVariants.{Trace}
 use Rattle.nf_io.specs.Roles.{role_place}
 use Rattle.nf_io.specs.Meaning.{Meaning, OthersStay}
 use Rattle.nf_io.proofs.RolesAfterLoan.{same_place}
@@ -14,12 +14,7 @@ other_place a b differ same =
   where
     no_loop : (r : Role) → eqb (role_place r) (role_place r) ≡ false → ⊥
     no_loop Trace e = cc
-    no_loop Script e = cc
-    no_loop JournalIn e = cc
-    no_loop Report e = cc
-    no_loop JournalOut e = cc
-    no_loop TraceOut e = cc
-    no_loop Errors e = cc
+    no_loop r e = cc
 
 -- a role is this one, or another
 pub this_or_other : (a b : Role) → (a ≡ b) ⊎ (a ≢ b)

@@ -3,11 +3,11 @@ use Rattle.std.proofs.Common.{◌≡◌, ◌≢◌, ℕ, List, [], Bool, true, f
 use Rattle.std.specs.Io.KnownBytes.{Appends}
 use Rattle.std.proofs.lemmas.Bool.{and_parts}
 use Rattle.nf_io.specs.declared.outside.Role.{Role}
-use Rattle.nf_io.specs.declared.outside.Role.TheVariants.{Trace, Script, JournalIn, Report, JournalOut, TraceOut, Errors}
+use Rattle.nf_io.specs.declared.outside.Role.TheVariants.{Trace, Script, Report, JournalOut, TraceOut, Errors}
 use Rattle.nf_io.specs.Meaning.{Meaning, Rose, AppendsFront}
 use Rattle.nf_io.specs.Roles.{is_read}
 use Rattle.actor_net.specs.declared.choice.Choice.{Choice}
-use Rattle.command_words.specs.Requests.{Asked, CheckAsked, GenAsked, asks_check, asks_gen}
+use Rattle.command_words.specs.Requests.{Asked, CheckAsked, asks_check}
 use Rattle.opennf_calls.specs.declared.status.Status.{Status}
 use Rattle.opennf_calls.specs.declared.status.Status.TheVariants.{Ok as Done, WriteFault}
 use Rattle.opennf_calls.specs.Command.{file_for, is_input, is_read_before, is_result, comes_before}
@@ -38,21 +38,7 @@ OneFile asked role = (other : Role) → other ≢ role → file_for asked other 
 
 pub one_file-check : (c : CheckAsked) → OneFile (asks_check c) Script
 one_file-check c Script differ = absurd (differ refl)
-one_file-check c Trace differ = refl
-one_file-check c JournalIn differ = refl
-one_file-check c Report differ = refl
-one_file-check c JournalOut differ = refl
-one_file-check c TraceOut differ = refl
-one_file-check c Errors differ = refl
-
-pub one_file-gen : (g : GenAsked) → OneFile (asks_gen g) TraceOut
-one_file-gen g TraceOut differ = absurd (differ refl)
-one_file-gen g Trace differ = refl
-one_file-gen g Script differ = refl
-one_file-gen g JournalIn differ = refl
-one_file-gen g Report differ = refl
-one_file-gen g JournalOut differ = refl
-one_file-gen g Errors differ = refl
+one_file-check c other differ = refl
 
 -- then that role is the one input, and the report is the one result
 module _ (asked : Asked) (role : Role) (one : OneFile asked role) where
@@ -72,10 +58,7 @@ module _ (asked : Asked) (role : Role) (one : OneFile asked role) where
   report_alone read Report result = refl
   report_alone read JournalOut result = let none = no_result read JournalOut refl in absurd (cc)
   report_alone read TraceOut result = let none = no_result read TraceOut refl in absurd (cc)
-  report_alone read Trace result = absurd (cc)
-  report_alone read Script result = absurd (cc)
-  report_alone read JournalIn result = absurd (cc)
-  report_alone read Errors result = absurd (cc)
+  report_alone read other result = absurd (cc)
 
 -- a role that is read was read, and nothing else
 pub one_read : (role : Role) (old new : Role → Meaning) → IsTrue (is_read role) → ReadAlone role old new → OnlyRead old new
@@ -105,12 +88,7 @@ first_read asked bytes new sound = record { read = none; sound = sound }
   where
     none : (other : Role) → IsTrue (is_input asked other && is_read_before other Script) → (new other).left ≡ Some []
     none Trace is = absurd (not_before (is_input asked Trace) is)
-    none Script is = absurd (not_before (is_input asked Script) is)
-    none JournalIn is = absurd (not_before (is_input asked JournalIn) is)
-    none Report is = absurd (not_before (is_input asked Report) is)
-    none JournalOut is = absurd (not_before (is_input asked JournalOut) is)
-    none TraceOut is = absurd (not_before (is_input asked TraceOut) is)
-    none Errors is = absurd (not_before (is_input asked Errors) is)
+    none other is = absurd (not_before (is_input asked other) is)
 
 -- while inputs are read nothing is written, and no name changes
 module _ (old new : Role → Meaning) (only : OnlyRead old new) where

@@ -2,13 +2,13 @@
 use Rattle.std.proofs.Common.{◌≡◌, ℕ, List, [], ◌&&◌, true, Option, None, Some, is_some, refl, ap, sym, ◌∙◌, IsTrue}
 use Rattle.std.proofs.lemmas.Bool.{and_parts}
 use Rattle.nf_io.specs.declared.outside.Role.{Role}
-use Rattle.nf_io.specs.declared.outside.Role.TheVariants.{Trace, Script, JournalIn, Report, JournalOut, TraceOut, Errors}
+use Rattle.nf_io.specs.declared.outside.Role.TheVariants.{Trace, Script, JournalIn, JournalOut}
 use Rattle.nf_io.specs.Meaning.{Meaning}
 use Rattle.nf_io.specs.Roles.{is_read}
 use Rattle.actor_net.specs.declared.schedule.Schedule.{Schedule}
 use Rattle.command_words.specs.Requests.{Asked, FailAsked, NetworkAsked, asks_sim, asks_run, asks_audit, asks_fail}
 use Rattle.opennf_calls.specs.declared.status.Status.{Status}
-use Rattle.opennf_calls.specs.declared.status.Status.TheVariants.{Ok as Done, Usage, BadScript, BadTrace, BadJournal, NotARun, ReadFault, WriteFault, NoMemory}
+use Rattle.opennf_calls.specs.declared.status.Status.TheVariants.{BadScript, BadTrace, ReadFault, NoMemory}
 use Rattle.opennf_calls.specs.Command.{is_input, is_read_before, run_file, with_journal}
 use Rattle.opennf_calls.specs.NetworkRuns.{Scenario, RunResults, HasRun, given_script}
 use Rattle.opennf_calls.specs.Outcome.{EarlierAreSound, ForResults, HasEarlier, HasInput, IsBound, IsRefusedCommand, RowOf, earlier_refusal}
@@ -20,41 +20,26 @@ use Rattle.opennf_calls.proofs.RowLemmas.{first_read, not_before, read_fault, re
 beside_written : (s : NetworkAsked) (role : Role) → IsTrue (is_some (run_file s role)) → IsTrue (is_read role && is_some (with_journal s JournalOut role))
 beside_written s Trace named = refl
 beside_written s Script named = named
-beside_written s JournalIn named = absurd (cc)
-beside_written s Report named = absurd (cc)
-beside_written s JournalOut named = absurd (cc)
-beside_written s TraceOut named = absurd (cc)
-beside_written s Errors named = absurd (cc)
+beside_written s role named = absurd (cc)
 
 beside_read : (s : NetworkAsked) (role : Role) → IsTrue (is_some (run_file s role)) → IsTrue (is_read role && is_some (with_journal s JournalIn role))
 beside_read s Trace named = refl
 beside_read s Script named = named
-beside_read s JournalIn named = absurd (cc)
-beside_read s Report named = absurd (cc)
-beside_read s JournalOut named = absurd (cc)
-beside_read s TraceOut named = absurd (cc)
-beside_read s Errors named = absurd (cc)
+beside_read s role named = absurd (cc)
 
 -- what was read to its end are all inputs
 all_read : (s : NetworkAsked) (new : Role → Meaning) → ReadToEnd s new
     → (role : Role) → IsTrue (is_read role && is_some (with_journal s JournalOut role)) → (new role).left ≡ Some []
 all_read s new read Trace input = read.trace
 all_read s new read Script input = read.script input
-all_read s new read JournalIn input = absurd (cc)
-all_read s new read Report input = absurd (cc)
-all_read s new read JournalOut input = absurd (cc)
-all_read s new read TraceOut input = absurd (cc)
-all_read s new read Errors input = absurd (cc)
+all_read s new read role input = absurd (cc)
 
 pub journal_read_too : (s : NetworkAsked) (new : Role → Meaning) → ReadToEnd s new → (new JournalIn).left ≡ Some []
     → (role : Role) → IsTrue (is_read role && is_some (with_journal s JournalIn role)) → (new role).left ≡ Some []
 journal_read_too s new read journal Trace input = read.trace
 journal_read_too s new read journal Script input = read.script input
 journal_read_too s new read journal JournalIn input = journal
-journal_read_too s new read journal Report input = absurd (cc)
-journal_read_too s new read journal JournalOut input = absurd (cc)
-journal_read_too s new read journal TraceOut input = absurd (cc)
-journal_read_too s new read journal Errors input = absurd (cc)
+journal_read_too s new read journal role input = absurd (cc)
 
 -- the files of a run are inputs of the command, and what refuses them refuses the command
 pub record Reads (s : NetworkAsked) (asked : Asked) : Type 0 where
@@ -105,23 +90,14 @@ script_first s asked reads old new script bytes told = record { read = read; sou
 
     read : (other : Role) → IsTrue (is_input asked other && is_read_before other Trace) → (new other).left ≡ Some []
     read Script is = script.read bytes told_script (sym reads.script_named ∙ (and_parts (is_input asked Script) true is).0)
-    read Trace is = absurd (not_before (is_input asked Trace) is)
-    read JournalIn is = absurd (not_before (is_input asked JournalIn) is)
-    read Report is = absurd (not_before (is_input asked Report) is)
-    read JournalOut is = absurd (not_before (is_input asked JournalOut) is)
-    read TraceOut is = absurd (not_before (is_input asked TraceOut) is)
-    read Errors is = absurd (not_before (is_input asked Errors) is)
+    read other is = absurd (not_before (is_input asked other) is)
 
 -- what stands before a file of a run was right
 earlier_sound : (s : NetworkAsked) (asked : Asked) → Reads s asked → (old new : Role → Meaning) (role : Role) → IsTrue (is_some (run_file s role))
     → IsSoundBefore s role old new → (bytes : Role → List ℕ) → HasEarlier asked role old bytes → EarlierAreSound asked role bytes new
 earlier_sound s asked reads old new Trace named before bytes told = script_first s asked reads old new before bytes told
 earlier_sound s asked reads old new Script named before bytes told = first_read asked bytes new (reads.none_earlier bytes)
-earlier_sound s asked reads old new JournalIn named before bytes told = absurd (cc)
-earlier_sound s asked reads old new Report named before bytes told = absurd (cc)
-earlier_sound s asked reads old new JournalOut named before bytes told = absurd (cc)
-earlier_sound s asked reads old new TraceOut named before bytes told = absurd (cc)
-earlier_sound s asked reads old new Errors named before bytes told = absurd (cc)
+earlier_sound s asked reads old new role named before bytes told = absurd (cc)
 
 -- the script and the capture give no run
 module _ (s : NetworkAsked) (asked : Asked) (reads : Reads s asked) (old new : Role → Meaning) (only : OnlyRead old new) (bound : IsBound asked old) where
@@ -136,11 +112,7 @@ module _ (s : NetworkAsked) (asked : Asked) (reads : Reads s asked) (old new : R
   fails_row NoMemory fails = (silent old new only, refl)
   fails_row (BadScript line kind) fails = (refuses (BadScript line kind) fails, refl)
   fails_row (BadTrace offset kind) fails = (refuses (BadTrace offset kind) fails, refl)
-  fails_row Done fails = absurd fails
-  fails_row Usage fails = absurd fails
-  fails_row (BadJournal _) fails = absurd fails
-  fails_row (NotARun step) fails = absurd fails
-  fails_row (WriteFault role) fails = absurd fails
+  fails_row ended fails = absurd fails
 
 -- they give a run
 module _ (s : NetworkAsked) (old new : Role → Meaning) (scenario : Scenario) (has : HasInputs s old new scenario) where

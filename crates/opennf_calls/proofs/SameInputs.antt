@@ -75,12 +75,7 @@ same_order (Share m p) (Share m2 p2) e =
     let members : m ≡ m2 = cc in
     let filter : fields_of p ≡ fields_of p2 = cc in
     rw (members, same_filter p p2 filter) refl
-same_order (Move s t p k) (Copy s2 t2 p2) e = cc
-same_order (Move s t p k) (Share m2 p2) e = cc
-same_order (Copy s t p) (Move s2 t2 p2 k2) e = cc
-same_order (Copy s t p) (Share m2 p2) e = cc
-same_order (Share m p) (Move s2 t2 p2 k2) e = cc
-same_order (Share m p) (Copy s2 t2 p2) e = cc
+same_order x x2 e = cc
 
 same_command : (a b : Command) → a.op ≡ b.op → a.what ≡ b.what → a ≡ b
 same_command a b op what = subst (λ x. a ≡ record { op = x; what = b.what }) op (subst (λ x. a ≡ record { op = a.op; what = x }) what refl)

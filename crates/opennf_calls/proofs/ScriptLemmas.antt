@@ -1,25 +1,23 @@
--- A script that is too long shows it in the front that is read; and the row of a script that is refused.
-use Rattle.std.proofs.Common.{◌≡◌, ◌≤◌, ◌+◌, ℕ, Bool, true, false, ltb, List, [], length, take, drop, Some, Ok, Err, refl, arith, length-take}
+-- A script that is too long shows it in the front that is read; and the row of a script that gives nothing.
+use Rattle.std.proofs.Common.{◌≡◌, ◌≤◌, ◌+◌, ℕ, Bool, true, false, ltb, List, [], length, take, drop, Some, Ok, Err, refl, ap, sym, ◌∙◌, arith, length-take}
 use Rattle.std.proofs.lemmas.Bool.{ltb-true, ltb-false, lt-ltb}
 use Rattle.std.proofs.lemmas.List.{take_all, drop_all}
 use Rattle.nf_function.specs.declared.kind.Kind.{Kind}
 use Rattle.op_script.specs.Statements.{Word}
-use Rattle.op_script.specs.Reading.{ScriptView, script_of}
+use Rattle.op_script.specs.Reading.{SaysWhole, ScriptView, script_of, script_view}
 use Rattle.op_script.specs.Printing.{longest_script}
 use Rattle.op_script.specs.declared.fault.ScriptFault.{ScriptFault}
 use Rattle.op_script.specs.declared.fault.ScriptFault.TheVariants as script
 use Rattle.nf_io.specs.declared.outside.Role.{Role}
 use Rattle.nf_io.specs.declared.outside.Role.TheVariants.{Script}
-use Rattle.opennf_calls.specs.declared.status.Status.TheVariants.{BadScript}
-use Rattle.op_script.specs.declared.fault.ScriptKind.{ScriptKind}
 use Rattle.nf_io.specs.Meaning.{Meaning}
-use Rattle.nf_io.specs.Transfers.{HasUptoCause}
-use Rattle.nf_io.specs.declared.transfers.UptoFault.{UptoFault}
-use Rattle.nf_io.specs.declared.transfers.UptoFault.TheVariants as upto
-use Rattle.command_words.specs.Requests.{Asked, CheckAsked, asks_check}
-use Rattle.opennf_calls.specs.Outcome.{HasInput, IsBound, RowOf, refusal_of}
-use Rattle.opennf_calls.specs.Phases.{OnlyRead}
-use Rattle.opennf_calls.specs.Status.{reading_status, script_status}
+use Rattle.command_words.specs.Requests.{CheckAsked, asks_check}
+use Rattle.command_words.specs.Values.{names_of}
+use Rattle.opennf_calls.specs.declared.status.Status.{Status}
+use Rattle.opennf_calls.specs.declared.status.Status.TheVariants.{BadScript, ReadFault, NoMemory}
+use Rattle.opennf_calls.specs.Outcome.{IsBound, RowOf, script_refusal}
+use Rattle.opennf_calls.specs.Phases.{OnlyRead, ScriptFails}
+use Rattle.opennf_calls.specs.Status.{script_status}
 use Rattle.opennf_calls.proofs.RowLemmas.{first_read, read_fault, refused, silent}
 
 front_says : (kind : Kind) (names : List Word) (bytes : List ℕ) (long : Bool) → ltb (longest_script + 1) (length bytes) ≡ long
@@ -52,18 +50,19 @@ nothing_left kind names bytes view said =
     let few = short kind names bytes view (ltb longest_script (length bytes)) refl said in
     drop_all (longest_script + 1) bytes (omega arith)
 
--- the row of the status of a script that is refused
-pub script_row : (asked : Asked) (old new : Role → Meaning) (fault : ScriptFault) → OnlyRead old new → IsBound asked old
-    → ((line : ℕ) (kind : ScriptKind) → fault ≡ script.Bad line kind → (bytes : Role → List ℕ) → HasInput asked old bytes
-    → refusal_of asked bytes ≡ Some (BadScript line kind))
-    → RowOf asked old new (record { status = script_status fault; choices = [] })
-script_row asked old new (script.Bad line kind) only bound says = (refused old new only asked (BadScript line kind) bound (says line kind refl), refl)
-script_row asked old new script.NoMemory only bound says = (silent old new only, refl)
+-- a script that is refused
+pub script_refused : (kind : Kind) (names : List Word) (old new : Role → Meaning) (fault : ScriptFault)
+    → ((bytes : List ℕ) → (old Script).left ≡ Some bytes → SaysWhole script_view (Err fault) (script_of kind names (take (longest_script + 1) bytes)))
+    → ScriptFails (script_of kind names) old new (script_status fault)
+script_refused kind names old new (script.Bad line rule) says = λ bytes told. sym (script_of-front kind names bytes) ∙ says bytes told
+script_refused kind names old new script.NoMemory says = tt
 
--- and that of a script that can't be read
-pub unread_row : {A : Type 0} (c : CheckAsked) (old new : Role → Meaning) (fault : UptoFault) → OnlyRead old new → IsBound (asks_check c) old
-    → HasUptoCause {A = A} (old Script).faults (new Script).faults (Err fault)
-    → RowOf (asks_check c) old new (record { status = reading_status Script fault; choices = [] })
-unread_row c old new upto.Failed only bound cause =
-    (read_fault old new only (asks_check c) Script bound refl (cause.failed refl) (λ bytes told. first_read (asks_check c) bytes new refl), refl)
-unread_row c old new upto.NoMemory only bound cause = (silent old new only, refl)
+-- the row of the status of a script that gives nothing
+pub check_fails : (c : CheckAsked) (old new : Role → Meaning) → OnlyRead old new → IsBound (asks_check c) old → (status : Status)
+    → ScriptFails (script_of c.kind (names_of c.instances)) old new status → RowOf (asks_check c) old new (record { status = status; choices = [] })
+check_fails c old new only bound (ReadFault Script) rose =
+    (read_fault old new only (asks_check c) Script bound refl rose (λ bytes told. first_read (asks_check c) bytes new refl), refl)
+check_fails c old new only bound NoMemory said = (silent old new only, refl)
+check_fails c old new only bound (BadScript line kind) said =
+    (refused old new only (asks_check c) (BadScript line kind) bound (λ bytes told. ap script_refusal (said (bytes Script) (told Script refl))), refl)
+check_fails c old new only bound status said = absurd said

@@ -1,7 +1,7 @@
 -- The row of a command that runs the network, from what it gives and what was written.
 use Rattle.std.proofs.Common.{◌≡◌, ℕ, List, [], None, is_some, false, refl, ap, sym, ◌∙◌, subst, IsTrue, ◌⊎◌, inl, inr}
 use Rattle.nf_io.specs.declared.outside.Role.{Role}
-use Rattle.nf_io.specs.declared.outside.Role.TheVariants.{Trace, Script, JournalIn, Report, JournalOut, TraceOut, Errors}
+use Rattle.nf_io.specs.declared.outside.Role.TheVariants.{Report, JournalOut, TraceOut}
 use Rattle.nf_io.specs.Meaning.{Meaning}
 use Rattle.actor_net.specs.declared.choice.Choice.{Choice}
 use Rattle.actor_net.specs.declared.schedule.Schedule.{Schedule}
@@ -117,19 +117,13 @@ module _ (s : NetworkAsked) (asked : Asked) (files : (role : Role) → file_for 
   alone none Report result = refl
   alone none JournalOut result = let no_file : is_some (file_for asked JournalOut) ≡ false = ap is_some (files JournalOut ∙ none) in absurd (cc)
   alone none TraceOut result = let no_file : is_some (file_for asked TraceOut) ≡ false = ap is_some (files TraceOut) in absurd (cc)
-  alone none Trace result = absurd (cc)
-  alone none Script result = absurd (cc)
-  alone none JournalIn result = absurd (cc)
-  alone none Errors result = absurd (cc)
+  alone none other result = absurd (cc)
 
   only : (other : Role) → IsTrue (is_result asked other) → (other ≡ JournalOut) ⊎ (other ≡ Report)
   only Report result = inr refl
   only JournalOut result = inl refl
   only TraceOut result = let no_file : is_some (file_for asked TraceOut) ≡ false = ap is_some (files TraceOut) in absurd (cc)
-  only Trace result = absurd (cc)
-  only Script result = absurd (cc)
-  only JournalIn result = absurd (cc)
-  only Errors result = absurd (cc)
+  only other result = absurd (cc)
 
   pub writes_run : WritesRun s asked
   writes_run = record {
@@ -146,19 +140,9 @@ run_writes s = writes_run s (asks_run s) (λ role. refl)
 -- an audit writes the report alone
 pub audit_writes : (s : NetworkAsked) (other : Role) → IsTrue (is_result (asks_audit s) other) → other ≡ Report
 audit_writes s Report result = refl
-audit_writes s JournalOut result = absurd (cc)
-audit_writes s TraceOut result = absurd (cc)
-audit_writes s Trace result = absurd (cc)
-audit_writes s Script result = absurd (cc)
-audit_writes s JournalIn result = absurd (cc)
-audit_writes s Errors result = absurd (cc)
+audit_writes s other result = absurd (cc)
 
 -- and so does a failover
 pub fail_writes : (f : FailAsked) (other : Role) → IsTrue (is_result (asks_fail f) other) → other ≡ Report
 fail_writes f Report result = refl
-fail_writes f JournalOut result = absurd (cc)
-fail_writes f TraceOut result = absurd (cc)
-fail_writes f Trace result = absurd (cc)
-fail_writes f Script result = absurd (cc)
-fail_writes f JournalIn result = absurd (cc)
-fail_writes f Errors result = absurd (cc)
+fail_writes f other result = absurd (cc)

@@ -1,6 +1,7 @@
 -- Steps between code and definition, which nobody has to believe: what binding files, reading an input and a whole command leave
 -- of the outside. This project's own.
-use Rattle.std.specs.Prelude.{◌≡◌, ◌≤◌, ℕ, true, false, All, List, [], Option, None, Some, is_some, Ok, length, IsTrue}
+use Rattle.std.specs.Prelude.{◌≡◌, ◌≤◌, ℕ, true, false, All, List, [], Option, None, Some, is_some, Ok, Err, Result, length, IsTrue}
+use Rattle.std.specs.Option.{ForSome}
 use Rattle.nf_io.specs.declared.outside.Role.{Role}
 use Rattle.nf_io.specs.declared.outside.Role.TheVariants.{Errors, JournalIn, JournalOut, Report, Script as ScriptRole, Trace as TraceRole}
 use Rattle.nf_io.specs.Roles.{is_read}
@@ -11,7 +12,8 @@ use Rattle.trace_reader.specs.Records.{AreNumbered}
 use Rattle.trace_reader.specs.Steered.{is_steered_proto}
 use Rattle.op_script.specs.declared.script.Script.{Script}
 use Rattle.op_script.specs.Printing.{IsScript, SplitsNone}
-use Rattle.op_script.specs.Reading.{script_view}
+use Rattle.op_script.specs.Reading.{ScriptView, script_view}
+use Rattle.op_script.specs.declared.fault.ScriptKind.{ScriptKind}
 use Rattle.journal_file.specs.Format.{journal_bytes}
 use Rattle.net_world.specs.Input.{IsInput}
 use Rattle.net_world.specs.Length.{IsShort}
@@ -92,6 +94,17 @@ pub record InputsBound (s : NetworkAsked) (old : Role → Meaning) : Type 0 wher
 pub record HasScript (s : NetworkAsked) (old new : Role → Meaning) (script : Script) : Type 0 where
   pub said : (bytes : Role → List ℕ) → TellsScript s old bytes → given_script s (bytes ScriptRole) ≡ Ok (script_view script)
   pub read : (bytes : Role → List ℕ) → TellsScript s old bytes → IsTrue (is_some s.script) → (new ScriptRole).left ≡ Some []
+
+-- a script was read to its end, as its bytes are read
+abbrev pub ScriptRead : (List ℕ → Result ScriptView (ℕ × ScriptKind)) → (old new : Role → Meaning) → Script → Type 0
+ScriptRead read old new script = ForSome (old ScriptRole).left (λ bytes. (read bytes ≡ Ok (script_view script)) × ((new ScriptRole).left ≡ Some []))
+
+-- why it gives nothing
+abbrev pub ScriptFails : (List ℕ → Result ScriptView (ℕ × ScriptKind)) → (old new : Role → Meaning) → Status → Type 0
+ScriptFails read old new (ReadFault ScriptRole) = Rose (old ScriptRole).faults (new ScriptRole).faults
+ScriptFails read old new NoMemory = Unit {0}
+ScriptFails read old new (BadScript line kind) = ForSome (old ScriptRole).left (λ bytes. read bytes ≡ Err (line, kind))
+ScriptFails read old new status = ⊥
 
 -- the script was read to its end, and isn't refused
 pub record ScriptIsSound (s : NetworkAsked) (old new : Role → Meaning) : Type 0 where

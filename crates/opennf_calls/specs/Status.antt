@@ -14,8 +14,6 @@ use Rattle.journal_file.specs.declared.fault.JournalFault.{JournalFault}
 use Rattle.journal_file.specs.declared.fault.JournalFault.TheVariants as journal
 use Rattle.run_headline.specs.run_report.specs.declared.auditing.AuditFault.{AuditFault}
 use Rattle.run_headline.specs.run_report.specs.declared.auditing.AuditFault.TheVariants as audit
-use Rattle.run_headline.specs.standby_failover.specs.declared.fault.FailFault.{FailFault}
-use Rattle.run_headline.specs.standby_failover.specs.declared.fault.FailFault.TheVariants as failing
 use Rattle.trace_reader.specs.declared.make.MakeFault.{MakeFault}
 use Rattle.trace_reader.specs.declared.make.MakeFault.TheVariants as making
 use Rattle.command_words.specs.declared.fault.ArgumentsFault.{ArgumentsFault}
@@ -142,15 +140,10 @@ journal_status journal.Extra = BadJournal kinds.Extra
 journal_status journal.Read = ReadFault JournalIn
 journal_status journal.NoMemory = NoMemory
 
--- the status of choices that have no report
+-- the status of choices that have no report, or don't lead to a failover
 abbrev pub audit_status : AuditFault → Status
 audit_status (audit.NotARun step) = NotARun step
 audit_status audit.NoMemory = NoMemory
-
--- the status of choices that don't lead to a failover
-abbrev pub fail_status : FailFault → Status
-fail_status (failing.NotARun step) = NotARun step
-fail_status failing.NoMemory = NoMemory
 
 -- the status of a script that can't be read
 abbrev pub script_status : ScriptFault → Status

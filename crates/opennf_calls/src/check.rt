@@ -6,13 +6,13 @@ ghost use Rattle.command_words.specs.RequestViews.{check_view};
 ghost use Rattle.opennf_calls.specs.Outcome.{IsBound, ForResults, RowOf};
 ghost use Rattle.opennf_calls.specs.Phases.{GivesReport, Performs, ReadAlone};
 
-use crate::inputs::{MOST_BYTES, read_script_bytes};
+use crate::inputs::read_said;
 use crate::status::Status;
 use crate::writing::put;
 use command_words::Checking;
 use flow_filter::Text;
 use nf_io::{Outside, Role};
-use op_script::{print_script, read_script};
+use op_script::print_script;
 use std::alloc::Global;
 
 /// Reads the script, whose file is bound, and writes its canonical text.
@@ -44,12 +44,11 @@ fn read_canonical<O: Outside>(
         (λ text. ForResults (asks_check (check_view asked.now)) (O.seen outside.old) (O.seen outside.new) (GivesReport [] text))
         (λ status. RowOf (asks_check (check_view asked.now)) (O.seen outside.old) (O.seen outside.new) (record { status = status; choices = [] })) }
 {
-    let bytes = match read_script_bytes(alloc, outside, MOST_BYTES) {
-        Ok(bytes) => bytes,
-        Err(fault) => return Err(Status::of_reading(Role::Script, fault)),
-    };
     let names = asked.instances.names(alloc)?;
-    let script = read_script(alloc, bytes.items(), asked.kind, names.items())?;
+    let script = match read_said(alloc, asked.kind, names.items(), outside) {
+        Ok(script) => script,
+        Err(status) => return Err(status),
+    };
     let text = print_script(alloc, &script, names.items())?;
     Ok(text)
 }

@@ -1,5 +1,5 @@
 //! The line that goes to the standard error where a command did not end well.
-ghost use Rattle.std.specs.Prelude.{◌≡◌, ◌≤◌, length};
+ghost use Rattle.std.specs.Prelude.{◌≡◌, ◌≤◌, ◌+◌, ◌++◌, decimal, length};
 ghost use Rattle.opennf_calls.specs.Status.{line_of, script_line_of, trace_line_of, journal_line_of, no_run_line_of, fault_line_of, trace_kind_number};
 ghost use Rattle.opennf_calls.specs.LineRoom.{line_room, front_room, digits_room};
 
@@ -42,6 +42,18 @@ fn whole_line(text: &str) -> Line
     line
 }
 
+/// The front of a line, and a number in decimal digits.
+fn counted_line(front: &str, number: u64) -> Line
+    requires { length front.now ≤ front_room }
+    ensures value { result.bytes ≡ front.now ++ decimal number }
+    ensures short { length result.bytes ≤ front_room + digits_room }
+{
+    let mut line = whole_line(front);
+    let mut buffer = Buffer::new();
+    line.push_str(buffer.format(number));
+    line
+}
+
 /// The line of a file that could not be read or written: what failed, and its role.
 fn fault_line(front: &str, role: Role) -> Line
     requires { length front.now ≤ front_room }
@@ -57,9 +69,7 @@ fn fault_line(front: &str, role: Role) -> Line
 fn script_line(number: u32, kind: ScriptKind) -> Line
     ensures { result.bytes ≡ script_line_of number kind }
 {
-    let mut line = whole_line("opennf: script line ");
-    let mut buffer = Buffer::new();
-    line.push_str(buffer.format(number));
+    let mut line = counted_line("opennf: script line ", u64::from(number));
     line.push_str(": ");
     line.push_str(script_kind_name(kind));
     line.push_str("\n");
@@ -94,9 +104,7 @@ fn journal_line(kind: JournalKind) -> Line
 fn no_run_line(step: u64) -> Line
     ensures { result.bytes ≡ no_run_line_of step }
 {
-    let mut line = whole_line("opennf: not a run at step ");
-    let mut buffer = Buffer::new();
-    line.push_str(buffer.format(step));
+    let mut line = counted_line("opennf: not a run at step ", step);
     line.push_str("\n");
     line
 }

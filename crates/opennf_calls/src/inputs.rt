@@ -5,19 +5,21 @@ ghost use Rattle.nf_io.specs.declared.outside.Role.TheVariants.{Trace as TraceRo
 ghost use Rattle.nf_io.specs.Meaning.{CanRead};
 ghost use Rattle.nf_io.specs.Transfers.{HasUptoCause};
 ghost use Rattle.trace_reader.specs.Answers.{AnswersTrace, HasReadCause};
-ghost use Rattle.flow_filter.specs.Limits.{most_packets};
+ghost use Rattle.flow_filter.specs.Limits.{most_instances, most_packets};
 ghost use Rattle.trace_reader.specs.Records.{AreNumbered, capture_of};
 ghost use Rattle.trace_reader.specs.Steered.{is_steered_proto};
 ghost use Rattle.flow_filter.specs.Packet.{IsInRange};
 ghost use Rattle.op_script.specs.Printing.{IsScript, SplitsNone};
-ghost use Rattle.op_script.specs.Reading.{script_view};
+ghost use Rattle.op_script.specs.Reading.{script_of, script_view};
 ghost use Rattle.command_words.specs.Values.{names_of};
 ghost use Rattle.command_words.specs.RequestViews.{network_view};
-ghost use Rattle.opennf_calls.specs.Phases.{CanBegin, HasInputs, HasScript, InputsBound, InputsFail, OnlyRead, ReadAlone, scenario_of};
+ghost use Rattle.opennf_calls.specs.Phases.{CanBegin, HasInputs, HasScript, InputsBound, InputsFail, OnlyRead, ReadAlone};
+ghost use Rattle.opennf_calls.specs.Phases.{ScriptFails, ScriptRead, scenario_of};
 
 use crate::status::Status;
 use command_words::NetworkRequest;
-use flow_filter::Bytes;
+use flow_filter::{Bytes, Name};
+use nf_function::Kind;
 use nf_io::{Outside, Role, RoleSource, UptoFault, read_upto};
 use op_script::{LONGEST_SCRIPT, Script, read_script};
 use run_input::CapturedItems;
@@ -25,7 +27,7 @@ use std::alloc::Global;
 use trace_reader::{Trace, TraceFault, read_trace};
 
 /// The most bytes of a script that are read, but for the one that shows that it is longer.
-pub(crate) const MOST_BYTES: u64 = LONGEST_SCRIPT as u64;
+const MOST_BYTES: u64 = LONGEST_SCRIPT as u64;
 
 /// What a run of the network is given.
 #[derive(Drop)]
@@ -76,12 +78,33 @@ fn read_commands<O: Outside>(
             lines: Vec::new(alloc),
         });
     }
+    let names = asked.instances.names(alloc)?;
+    read_said(alloc, asked.kind, names.items(), outside)
+}
+
+/// Reads the script, for a function and the instances with these names.
+pub(crate) fn read_said<O: Outside>(
+    alloc: Global,
+    kind: Kind,
+    names: &[Name],
+    outside: &mut O,
+) -> Result<Script, Status>
+    requires named { CanRead ScriptRole (O.seen outside.old ScriptRole) }
+    requires few { length names.now ≤ most_instances }
+    ensures alone { ReadAlone ScriptRole (O.seen outside.old) (O.seen outside.new) }
+    ensures right { IfOk result (λ script. IsScript names.now (script_view script)) }
+    ensures whole { IfOk result (λ script. SplitsNone kind (script_view script)) }
+
+    // The script is what its bytes are read as, or the status has its cause.
+    ensures said { MatchResult result
+        (ScriptRead (script_of kind names.now) (O.seen outside.old) (O.seen outside.new))
+        (ScriptFails (script_of kind names.now) (O.seen outside.old) (O.seen outside.new)) }
+{
     let bytes = match read_script_bytes(alloc, outside, MOST_BYTES) {
         Ok(bytes) => bytes,
         Err(fault) => return Err(Status::of_reading(Role::Script, fault)),
     };
-    let names = asked.instances.names(alloc)?;
-    let script = read_script(alloc, bytes.items(), asked.kind, names.items())?;
+    let script = read_script(alloc, bytes.items(), kind, names)?;
     Ok(script)
 }
 
@@ -115,6 +138,7 @@ pub(crate) fn read_packets<O: Outside>(alloc: Global, outside: &mut O) -> Result
     ensures in_range { IfOk result (λ trace. All IsInRange trace.packets) }
     ensures few { IfOk result (λ trace. length trace.packets ≤ most_packets) }
     ensures cause { HasReadCause (O.seen outside.old TraceRole).faults (O.seen outside.new TraceRole).faults result }
+    ensures only { OnlyRead (O.seen outside.old) (O.seen outside.new) }
     ensures alone { ReadAlone TraceRole (O.seen outside.old) (O.seen outside.new) }
 {
     let mut source = RoleSource {
@@ -125,7 +149,7 @@ pub(crate) fn read_packets<O: Outside>(alloc: Global, outside: &mut O) -> Result
 }
 
 /// Reads the script, or one byte more than `most` of one that is longer.
-pub(crate) fn read_script_bytes<O: Outside>(
+fn read_script_bytes<O: Outside>(
     alloc: Global,
     outside: &mut O,
     most: u64,

@@ -1,13 +1,15 @@
 //! How a run of the program ended, with the number that it ends with and the words that tell it.
 ghost use Rattle.std.specs.Prelude.{◌≡◌, ◌≤◌, length};
 ghost use Rattle.opennf_calls.specs.Status.{trace_kind_name, exit_number, journal_kind_name, role_name, script_kind_name, reading_status};
+ghost use Rattle.opennf_calls.specs.Status.{audit_status, journal_status, making_status, script_status, trace_status};
+ghost use Rattle.opennf_calls.specs.declared.status.Status.TheVariants.{NoMemory as OutOfMemory};
 ghost use Rattle.opennf_calls.specs.LineRoom.{trace_kind_room, role_room, script_kind_room, journal_kind_room};
 
 use basics::NoMemory;
 use journal_file::JournalFault;
 use nf_io::{Role, UptoFault};
 use op_script::{ScriptFault, ScriptKind};
-use run_headline::{AuditFault, FailFault};
+use run_headline::AuditFault;
 use trace_reader::{MakeFault, TraceFault};
 
 /// What is wrong with a capture.
@@ -100,9 +102,6 @@ impl Status {
 
 /// The status of a capture that can't be read.
 impl From<TraceFault> for Status {
-    ghost use Rattle.std.specs.Prelude.{◌≡◌};
-    ghost use Rattle.opennf_calls.specs.Status.{trace_status};
-
     ghost from_gives = { λ fault status. status ≡ trace_status fault };
 
     fn from(fault: TraceFault) -> Self {
@@ -122,9 +121,6 @@ impl From<TraceFault> for Status {
 
 /// The status of a capture that can't be made.
 impl From<MakeFault> for Status {
-    ghost use Rattle.std.specs.Prelude.{◌≡◌};
-    ghost use Rattle.opennf_calls.specs.Status.{making_status};
-
     ghost from_gives = { λ fault status. status ≡ making_status fault };
 
     fn from(fault: MakeFault) -> Self {
@@ -139,9 +135,6 @@ impl From<MakeFault> for Status {
 
 /// The status of a journal that can't be read.
 impl From<JournalFault> for Status {
-    ghost use Rattle.std.specs.Prelude.{◌≡◌};
-    ghost use Rattle.opennf_calls.specs.Status.{journal_status};
-
     ghost from_gives = { λ fault status. status ≡ journal_status fault };
 
     fn from(fault: JournalFault) -> Self {
@@ -160,11 +153,8 @@ impl From<JournalFault> for Status {
     }
 }
 
-/// The status of choices that have no report.
+/// The status of choices that have no report, or don't lead to a failover.
 impl From<AuditFault> for Status {
-    ghost use Rattle.std.specs.Prelude.{◌≡◌};
-    ghost use Rattle.opennf_calls.specs.Status.{audit_status};
-
     ghost from_gives = { λ fault status. status ≡ audit_status fault };
 
     fn from(fault: AuditFault) -> Self {
@@ -175,26 +165,8 @@ impl From<AuditFault> for Status {
     }
 }
 
-/// The status of choices that don't lead to a failover.
-impl From<FailFault> for Status {
-    ghost use Rattle.std.specs.Prelude.{◌≡◌};
-    ghost use Rattle.opennf_calls.specs.Status.{fail_status};
-
-    ghost from_gives = { λ fault status. status ≡ fail_status fault };
-
-    fn from(fault: FailFault) -> Self {
-        match fault {
-            FailFault::NotARun { step } => Status::NotARun { step },
-            FailFault::NoMemory => Status::NoMemory,
-        }
-    }
-}
-
 /// The status of a script that can't be read.
 impl From<ScriptFault> for Status {
-    ghost use Rattle.std.specs.Prelude.{◌≡◌};
-    ghost use Rattle.opennf_calls.specs.Status.{script_status};
-
     ghost from_gives = { λ fault status. status ≡ script_status fault };
 
     fn from(fault: ScriptFault) -> Self {
@@ -206,9 +178,6 @@ impl From<ScriptFault> for Status {
 }
 
 impl From<NoMemory> for Status {
-    ghost use Rattle.std.specs.Prelude.{◌≡◌};
-    ghost use Rattle.opennf_calls.specs.declared.status.Status.TheVariants.{NoMemory as OutOfMemory};
-
     ghost from_gives = { λ _ status. status ≡ OutOfMemory };
 
     fn from(_error: NoMemory) -> Self {

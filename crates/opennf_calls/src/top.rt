@@ -5,6 +5,7 @@ ghost use Rattle.nf_io.specs.declared.outside.Role.{Role as TheRole};
 ghost use Rattle.nf_io.specs.Meaning.{Meaning, Shown, CanBind, as_named};
 ghost use Rattle.command_words.specs.Requests.{Asked, asks_run, is_command, request_of};
 ghost use Rattle.command_words.specs.RequestViews.{network_view, calm_view};
+ghost use Rattle.command_words.specs.Views.{Refuses};
 ghost use Rattle.opennf_calls.specs.Command.{is_journal, with_journal};
 ghost use Rattle.opennf_calls.specs.Outcome.{IsBound, MayBind, HasOutcome};
 ghost use Rattle.opennf_calls.specs.Status.{words_status};
@@ -48,7 +49,7 @@ pub fn opennf_top<R: Threads + Wait + Sync, O: Outside, G: Gate>(
 {
     let request = match parse_command(alloc, words) {
         Ok(request) => request,
-        Err(fault) => return tell(refuse(alloc, fault), outside),
+        Err(fault) => return refuse(alloc, fault, outside),
     };
     match request {
         Request::Run(asked) => tell(perform_run(rt, alloc, &asked, outside, gate), outside),
@@ -71,7 +72,7 @@ pub fn opennf_run<R: Threads + Wait + Sync, O: Outside, G: Gate>(
 {
     match parse_run(alloc, words) {
         Ok(asked) => tell(perform_run(rt, alloc, &asked, outside, gate), outside),
-        Err(fault) => tell(refuse(alloc, fault), outside),
+        Err(fault) => refuse(alloc, fault, outside),
     }
 }
 
@@ -84,7 +85,7 @@ pub fn opennf_calm<O: Outside>(alloc: Global, words: &[String], outside: &mut O)
 {
     match parse_calm(alloc, words) {
         Ok(asked) => tell(perform_calm(alloc, &asked, outside), outside),
-        Err(fault) => tell(refuse(alloc, fault), outside),
+        Err(fault) => refuse(alloc, fault, outside),
     }
 }
 
@@ -94,7 +95,7 @@ pub fn opennf_unread<O: Outside>(alloc: Global, outside: &mut O) -> Outcome
     ensures { (request : Option Asked) → HasOutcome request
         (as_named (O.shown outside.old) (O.seen outside.old) (O.seen outside.new)) (O.seen outside.new) result }
 {
-    tell(refuse(alloc, ArgumentsFault::NoMemory), outside)
+    refuse(alloc, ArgumentsFault::NoMemory, outside)
 }
 
 /// Binds the files of a run by threads, and runs the network.
@@ -143,14 +144,22 @@ fn do_calm<O: Outside>(alloc: Global, asked: &CalmRequest<'_>, outside: &mut O) 
 }
 
 /// The end of words that aren't a command.
-fn refuse(alloc: Global, fault: ArgumentsFault) -> Outcome
-    ensures { result ≡ record { status = words_status fault; choices = [] } }
+fn refuse<O: Outside>(alloc: Global, fault: ArgumentsFault, outside: &mut O) -> Outcome
+    requires { (role : TheRole) → (O.seen outside.old role).name ≡ None }
+    ensures { (request : Option Asked) → Refuses fault request
+        → HasOutcome request (as_named (O.shown outside.old) (O.seen outside.old) (O.seen outside.new)) (O.seen outside.new) result }
 {
-    let status = match fault {
+    tell(Outcome::without_run(alloc, status_of(fault)), outside)
+}
+
+/// The status of words that aren't a command.
+fn status_of(fault: ArgumentsFault) -> Status
+    ensures { result ≡ words_status fault }
+{
+    match fault {
         ArgumentsFault::Usage => Status::Usage,
         ArgumentsFault::NoMemory => Status::NoMemory,
-    };
-    Outcome::without_run(alloc, status)
+    }
 }
 
 /// Puts the line of an end to the standard error. A failing standard error changes no status.

@@ -39,6 +39,10 @@ none_below p least (n ∷ ns) up low =
     let rest = none_below p n ns up.1 (omega (arith, first, low)) in
     rw (off, rest) refl
 
+-- nor one among numbers that rise from beyond it
+pub rising_above : (p least : ℕ) (ns : List ℕ) → IsRising least ns → p < least → times p ns ≡ 0
+rising_above p least ns rising low = none_below p least ns (rising_up least ns rising) low
+
 pub some_here : (n : ℕ) (ns : List ℕ) → 1 ≤ times n (n ∷ ns)
 some_here n ns = let own : (n == n) ≡ true = grind (arith, nat_tests) in rw own (omega arith)
 

@@ -1,6 +1,8 @@
 -- What is known of the outside once the source over it is gone.
-use Rattle.std.proofs.Common.{rules}
+use Rattle.std.proofs.Common.{rules, refl}
+use Rattle.nf_io.specs.declared.outside.Role.TheVariants.{Trace}
 use Rattle.nf_io.proofs.RolesAfterLoan.{left_written, left_name, left_others}
+use Rattle.opennf_calls.proofs.RowLemmas.{one_read}
 use Rattle.opennf_calls.proofs.inputs.read_packets.Goals as goal
 
 pub returns-clause-alone : goal.returns-clause-alone
@@ -9,3 +11,6 @@ returns-clause-alone g c = record {
   name = left_name g.O.Outside.seen _ _ _ _ _ c.read_trace.ensures.stays.same_rest (search rules);
   others = left_others g.O.Outside.seen _ _ _ _ _ c.read_trace.ensures.stays.same_rest (search rules);
 }
+
+pub returns-clause-only : goal.returns-clause-only
+returns-clause-only g c = one_read Trace _ _ refl (returns-clause-alone g c)

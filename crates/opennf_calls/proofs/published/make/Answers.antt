@@ -1,22 +1,10 @@
 -- What is made is what the command gives for its capture, or the status has its row.
-use Rattle.std.proofs.Common.{refl}
 use Rattle.std.proofs.lemmas.Result.{err_from_is_err_and}
-use Rattle.nf_io.specs.declared.outside.Role.TheVariants.{Trace}
 use Rattle.command_words.specs.Requests.{asks_published}
 use Rattle.command_words.specs.RequestViews.{published_view}
 use Rattle.opennf_calls.proofs.CaptureRows.{capture_row}
-use Rattle.opennf_calls.proofs.RowLemmas.{one_read}
 use Rattle.opennf_calls.proofs.UpdateRows.{update_reads, update_results}
 use Rattle.opennf_calls.proofs.published.make.Goals as goal
-
-pub returns-in_err-trace-clause-only : goal.returns-in_err-trace-clause-only
-returns-in_err-trace-clause-only g c = one_read Trace _ _ refl c.in_err-trace.ensures.alone
-
-pub returns-in_err-made-clause-only : goal.returns-in_err-made-clause-only
-returns-in_err-made-clause-only g c = one_read Trace _ _ refl c.in_ok-trace.ensures.alone
-
-pub returns-clause-only : goal.returns-clause-only
-returns-clause-only g c = one_read Trace _ _ refl c.in_ok-trace.ensures.alone
 
 pub returns-in_err-trace-clause-row : goal.returns-in_err-trace-clause-row
 returns-in_err-trace-clause-row g c =

@@ -4,7 +4,7 @@ use Rattle.std.specs.Prelude.{string_bytes}
 use Rattle.nf_io.specs.Meaning.{as_named}
 use Rattle.command_words.specs.Requests.{request_of}
 use Rattle.command_words.specs.RequestViews.{calm_view}
-use Rattle.opennf_calls.proofs.EndedCommands.{ended_words, refused_words}
+use Rattle.opennf_calls.proofs.EndedCommands.{ended_words}
 use Rattle.opennf_calls.proofs.top.opennf_calm.Goals as goal
 
 pub returns-in-Ok : goal.returns-in-Ok
@@ -14,11 +14,3 @@ returns-in-Ok g c =
     let old = g.O.Outside.seen c.args.outside.now in
     c.tell.ensures request shown old (ended_words request (calm_view c.in-Ok.asked) (as_named shown old (g.O.Outside.seen c.perform_calm.new.outside))
     (g.O.Outside.seen c.perform_calm.new.outside) c.perform_calm.result c.in-Ok.ensures c.perform_calm.ensures)
-
-pub returns-in-Err : goal.returns-in-Err
-returns-in-Err g c =
-    let request = request_of (map string_bytes c.args.words.now) in
-    let shown = g.O.Outside.shown c.args.outside.now in
-    let old = g.O.Outside.seen c.args.outside.now in
-    c.tell-in-Err.ensures request shown old (refused_words request shown old c.in-Err.fault c.refuse.result c.in-Err.ensures c.requires.unnamed
-    c.refuse.ensures)
