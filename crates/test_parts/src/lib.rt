@@ -5,22 +5,4 @@
 #![tactic(auto)]
 
 #[cfg(test)]
-mod common;
-#[cfg(test)]
-mod message_tests;
-#[cfg(test)]
-mod monitor_tests;
-#[cfg(test)]
-mod pool_tests;
-#[cfg(test)]
-mod rule_tests;
-#[cfg(test)]
-mod store_tests;
-#[cfg(test)]
-mod switch_rules_tests;
-#[cfg(test)]
-mod table_tests;
-#[cfg(test)]
-mod tracker_tests;
-#[cfg(test)]
-mod translator_tests;
+mod tests;

@@ -1,21 +1,9 @@
 //! Tests of the tracker by the states that its outputs name.
-use crate::common::{PACKET, SITE, reverse};
 use conn_tracker::{Conntrack, State, TrackRecord, step};
-use flow_filter::{Direction, Packet, TCP, flow_of};
+use flow_filter::{Direction, Packet, flow_of};
 use nf_function::{Function, Output};
 use std::test::Fail;
-
-/// A TCP packet from 10.0.0.1:40000 to 198.51.100.7:80.
-fn outward(flags: u8) -> Packet {
-    Packet {
-        proto: TCP,
-        sport: 40_000,
-        dst: 0xc633_6407,
-        dport: 80,
-        flags,
-        ..PACKET
-    }
-}
+use test_packets::{PACKET, SITE, outward, reverse};
 
 /// The UDP packet, so many seconds after the start.
 fn asked(seconds: u32) -> Packet {
@@ -28,11 +16,15 @@ fn asked(seconds: u32) -> Packet {
 #[test]
 fn a_handshake_is_established(rt: HostRuntime) -> Result<(), Fail> {
     let mut kept = None;
-    let asked = step(&SITE, &mut kept, &outward(2));
+    let asked = step(&SITE, &mut kept, &outward(1, 2));
     assert_eq!(rt;
         Conntrack::print_output(rt.alloc(), &asked)?.items(),
         b"opening".as_slice()
     );
+    let last = Packet {
+        length: 20,
+        ..outward(3, 16)
+    };
     let mut kept = Some(TrackRecord {
         packets: 2,
         bytes: 40,
@@ -40,7 +32,7 @@ fn a_handshake_is_established(rt: HostRuntime) -> Result<(), Fail> {
         state: State::Answered,
         opener: Direction::Out,
     });
-    let confirmed = step(&SITE, &mut kept, &outward(16));
+    let confirmed = step(&SITE, &mut kept, &last);
     assert_eq!(rt;
         confirmed,
         Output {
@@ -50,8 +42,9 @@ fn a_handshake_is_established(rt: HostRuntime) -> Result<(), Fail> {
         }
     );
     let record = kept.ok_or("no record")?;
+    let text = print_record(rt.alloc(), &record)?;
     assert_eq!(rt;
-        Conntrack::print_record(rt.alloc(), &record)?.items(),
+        text.items(),
         b"established out packets 3 bytes 60".as_slice()
     );
     Ok(())
@@ -60,7 +53,7 @@ fn a_handshake_is_established(rt: HostRuntime) -> Result<(), Fail> {
 #[test]
 fn an_answer_shows_the_opener(rt: HostRuntime) -> Result<(), Fail> {
     let mut kept = None;
-    let answered = step(&SITE, &mut kept, &reverse(outward(18)));
+    let answered = step(&SITE, &mut kept, &reverse(outward(1, 18)));
     assert_eq!(rt;
         Conntrack::print_output(rt.alloc(), &answered)?.items(),
         b"answered".as_slice()

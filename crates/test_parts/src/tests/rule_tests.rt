@@ -1,7 +1,7 @@
-use crate::common::FLOW;
 use event_filter::{Action, Decide, EventRules, Mark};
 use flow_filter::Filter;
 use std::test::Fail;
+use test_packets::FLOW;
 
 /// A parcel that can't be copied.
 #[derive(Debug, PartialEq, Eq, Drop)]

@@ -1,13 +1,13 @@
 //! Tests of the monitor by its outputs and records, as they are printed.
 ghost use Rattle.std.specs.Prelude.{◌≤◌, length};
 
-use crate::common::{PACKET, SITE, reverse};
 use asset_monitor::{Banner, Monitor, SERVICES_PER_HOST, Service};
 use basics::{NoMemory, Text};
 use flow_filter::Packet;
 use nf_function::{Function, Output};
 use std::alloc::Global;
 use std::test::Fail;
+use test_packets::{PACKET, SITE, reverse};
 
 /// A packet that 10.0.0.5 sends from this port to 192.0.2.9:40000.
 fn sent(proto: u8, port: u16, flags: u8, payload: &[u8]) -> Packet

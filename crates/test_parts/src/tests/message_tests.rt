@@ -1,5 +1,4 @@
 //! Tests of messages, notes and answers: their words, and how much room they take.
-use crate::common::{FLOW, PACKET};
 use basics::{Boxed, Bytes, NoMemory};
 use event_filter::Mark;
 use flow_filter::Name;
@@ -8,6 +7,7 @@ use nf_msgs::{Answer, KeptUnits, Msg, Note, Piece, print_answer, show};
 use packet_pool::Pool;
 use std::alloc::Global;
 use std::test::Fail;
+use test_packets::{FLOW, PACKET};
 
 #[test]
 fn each_answer_has_its_words(rt: HostRuntime) -> Result<(), Fail> {

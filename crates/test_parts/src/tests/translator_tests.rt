@@ -1,10 +1,10 @@
-use crate::common::PACKET;
 use addr_translator::{Nat, NatRecord};
 use basics::NoMemory;
 use flow_filter::{Packet, Prefix, Site, TCP};
 use nf_function::{Function, Output};
 use std::alloc::Global;
 use std::test::Fail;
+use test_packets::PACKET;
 
 /// The network 10.0.0.0/24 behind 203.0.113.1.
 const TRANSLATED: Site = Site {

@@ -1,8 +1,8 @@
-use crate::common::PACKET;
 use basics::Boxed;
 use flow_filter::{Packet, TCP};
 use packet_pool::Pool;
 use std::test::Fail;
+use test_packets::PACKET;
 
 const FIRST: Packet = Packet {
     nanos: 1_000_000_000,

@@ -119,9 +119,7 @@ fn a_redirect_of_all_flows_leaves_those_of_a_third_instance(rt: HostRuntime) -> 
 }
 
 #[test]
-fn a_redirect_takes_its_flows_out_of_every_rule_with_the_old_target(
-    rt: HostRuntime,
-) -> Result<(), Fail> {
+fn a_redirect_takes_flows_from_all_rules_of_the_old_target(rt: HostRuntime) -> Result<(), Fail> {
     let routes = [
         (Filter::parse("local=10.0.0.0/25")?, 1),
         (Filter::parse("local=10.0.1.0/24")?, 3),

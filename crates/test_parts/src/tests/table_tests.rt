@@ -1,22 +1,14 @@
 //! Tests of an instance's records: which imports are refused, and what is then live or stands by.
-use crate::common::{FLOW, PACKET, SITE};
 use basics::NoMemory;
 use conn_tracker::{Conntrack, State, TrackRecord};
-use flow_filter::{Direction, Filter, Flow, Packet};
+use flow_filter::{Direction, Filter, Flow};
 use nf_function::{Chunks, Unit, Units};
 use record_table::{ImportFault, Table};
 use std::alloc::Global;
 use std::test::Fail;
+use test_packets::{FLOW, SITE, packet};
 
-/// The UDP packet of the host 10.0.0.H.
-fn packet(host: u8) -> Packet {
-    Packet {
-        src: SITE.inside.bits + u32::from(host),
-        ..PACKET
-    }
-}
-
-/// The unit of that packet.
+/// The unit of the packets of the host 10.0.0.H.
 fn unit(host: u8) -> Unit {
     Unit::Flow(Flow {
         local: SITE.inside.bits + u32::from(host),
@@ -39,7 +31,7 @@ fn record(packets: u64) -> TrackRecord {
 fn table(alloc: Global, hosts: &[u8]) -> Result<Table<Conntrack>, NoMemory> {
     let mut table = Table::open(alloc);
     for host in hosts {
-        table.step(&SITE, &packet(*host), true)?;
+        table.step(&SITE, &packet(1, *host, 5000), true)?;
     }
     Ok(table)
 }
@@ -76,38 +68,36 @@ fn refused(taken: Result<(), ImportFault>) -> Option<(u32, u32, u32)> {
     }
 }
 
-#[test]
-fn two_live_units_and_three_chunks_are_more_than_four(rt: HostRuntime) -> Result<(), Fail> {
-    let alloc = rt.alloc();
-    let mut kept = table(alloc, &[1, 2])?;
-    let coming = chunks(alloc, &[3, 4, 5])?;
-    assert_eq!(rt; coming.items().len(), 3);
-    assert_eq!(rt; refused(kept.import(coming, 3, 4)), Some((2, 3, 4)));
-    assert_eq!(rt; kept.live_count(), 2);
-    Ok(())
+/// The refusal of the chunks of these hosts, of so many that are to come.
+fn imported(
+    alloc: Global,
+    kept: &mut Table<Conntrack>,
+    hosts: &[u8],
+    total: u32,
+    limit: u32,
+) -> Result<Option<(u32, u32, u32)>, Fail> {
+    let coming = chunks(alloc, hosts)?;
+    if coming.items().len() != hosts.len() || coming.items().len() > total as usize {
+        return Err("other chunks".into());
+    }
+    Ok(refused(kept.import(coming, total, limit)))
 }
 
 #[test]
-fn two_live_units_and_three_chunks_are_five(rt: HostRuntime) -> Result<(), Fail> {
+fn chunks_come_where_all_that_are_to_come_have_room(rt: HostRuntime) -> Result<(), Fail> {
     let alloc = rt.alloc();
     let mut kept = table(alloc, &[1, 2])?;
-    let coming = chunks(alloc, &[3, 4, 5])?;
-    assert_eq!(rt; coming.items().len(), 3);
-    assert_eq!(rt; refused(kept.import(coming, 3, 5)), None);
+    let refusal = imported(alloc, &mut kept, &[3, 4, 5], 3, 4)?;
+    assert_eq!(rt; refusal, Some((2, 3, 4)));
+    let refusal = imported(alloc, &mut kept, &[3], 4, 5)?;
+    assert_eq!(rt; refusal, Some((2, 4, 5)));
+    assert_eq!(rt; kept.live_count(), 2);
+    let refusal = imported(alloc, &mut kept, &[3, 4, 5], 3, 5)?;
+    assert_eq!(rt; refusal, None);
     assert_eq!(rt;
         kept.units(true)?.items(),
         [unit(1), unit(2), unit(3), unit(4), unit(5)].as_slice()
     );
-    Ok(())
-}
-
-#[test]
-fn the_limit_is_for_all_chunks_that_are_to_come(rt: HostRuntime) -> Result<(), Fail> {
-    let alloc = rt.alloc();
-    let mut kept = table(alloc, &[1, 2])?;
-    let coming = chunks(alloc, &[3])?;
-    assert_eq!(rt; coming.items().len(), 1);
-    assert_eq!(rt; refused(kept.import(coming, 4, 5)), Some((2, 4, 5)));
     Ok(())
 }
 
