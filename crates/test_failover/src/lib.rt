@@ -5,6 +5,4 @@
 #![tactic(auto)]
 
 #[cfg(test)]
-mod common;
-#[cfg(test)]
 mod report_tests;

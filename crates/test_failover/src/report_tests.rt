@@ -1,56 +1,33 @@
 //! Tests of the report of a failover: which packets and records are lost, and which are promoted.
-ghost use Rattle.std.specs.Prelude.{◌≡◌, All, IfOk};
+ghost use Rattle.std.specs.Prelude.{◌≡◌, All, IfOk, length};
 ghost use Rattle.trace_reader.specs.Records.{AreNumbered};
 ghost use Rattle.nf_function.specs.declared.kind.Kind.TheVariants.{Conntrack as OfFlows};
-ghost use Rattle.nf_msgs.specs.declared.command.Order.{Order as AnOrder};
-ghost use Rattle.net_world.specs.Input.{packets, IsInput, IsProper, IsWhole};
+ghost use Rattle.net_world.specs.Input.{packets, IsInput, IsWhole};
 ghost use Rattle.net_world.specs.Start.{IsConfig};
 
-use crate::common::{came, config, failover};
-use basics::Boxed;
-use flow_filter::{Filter, Name};
+use actor_net::Choice;
+use basics::{NoMemory, Text};
+use conn_tracker::Conntrack;
+use flow_filter::Filter;
 use net_world::Config;
-use nf_msgs::{Command, Msg, Names, Order};
-use run_report::AuditFault;
+use nf_function::Kind;
+use nf_msgs::Msg;
+use run_report::{AuditFault, Head};
+use standby_failover::{Failing, packets_of, promote, report_failover};
 use std::alloc::Global;
 use std::test::Fail;
+use test_packets::{names, packet};
+use test_scenes::{Asked, came, command, config};
 
-/// What the one command of an input asks, of a and b and of all units.
+/// How many packets may be under way.
+const WINDOW: u32 = 8;
+
+/// What a run is given.
 #[derive(Clone, Copy)]
-enum Asked {
-    Copy,
-    Move,
-    Share,
-}
-
-/// The item of the command 1.
-fn command(alloc: Global, asked: Asked) -> Result<Msg, Fail>
-    ensures { IfOk result (λ item. (what : AnOrder) × (item ≡ Msg.InCommand (record { op = 1; what = what })) × IsProper OfFlows what) }
-{
-    let a = Name::read(alloc, b"a")?.ok_or("no name")?;
-    let b = Name::read(alloc, b"b")?.ok_or("no name")?;
-    if a.items() == b.items() {
-        return Err("one instance alone".into());
-    }
-    let filter = Filter::ANY;
-    let what = match asked {
-        Asked::Copy => Order::Copy {
-            src: a,
-            dst: b,
-            filter: Some(filter),
-        },
-        Asked::Move => Order::Move {
-            src: a,
-            dst: b,
-            filter,
-            keep: true,
-        },
-        Asked::Share => Order::Share {
-            members: Names::from_vec(Vec::from_array(alloc, [a, b])?),
-            filter,
-        },
-    };
-    Ok(Msg::InCommand(Boxed::new(alloc, Command { op: 1, what })?))
+enum Given {
+    OnePacket,
+    ThreePackets(Asked),
+    TwoFlows,
 }
 
 /// A packet alone.
@@ -61,24 +38,24 @@ fn one_packet(alloc: Global, config: &Config) -> Result<Vec<Msg>, Fail>
     ensures numbered { IfOk result (λ items. AreNumbered 1 (packets items.items)) }
 {
     let mut items = Vec::new(alloc);
-    items.push(came(alloc, config.site, 1, 5000)?)?;
+    items.push(came(alloc, config.site, packet(1, 1, 5000))?)?;
     items.push(Msg::InEnd)?;
     Ok(items)
 }
 
-/// A packet, a command, and two more packets of the same flow.
-fn three_packets(alloc: Global, config: &Config, what: Asked) -> Result<Vec<Msg>, Fail>
+/// A packet, a command about all units, and two more packets of the same flow.
+fn three_packets(alloc: Global, config: &Config, asked: Asked) -> Result<Vec<Msg>, Fail>
     requires config { IsConfig config.now }
     requires routes { All (λ route. IsWhole OfFlows route.0) config.now.routes }
     ensures input { IfOk result (λ items. IsInput OfFlows config.now items.items) }
     ensures numbered { IfOk result (λ items. AreNumbered 1 (packets items.items)) }
 {
     let mut items = Vec::new(alloc);
-    items.push(came(alloc, config.site, 1, 5000)?)?;
-    items.push(command(alloc, what)?)?;
+    items.push(came(alloc, config.site, packet(1, 1, 5000))?)?;
+    items.push(command(alloc, 1, asked, b'b', Filter::ANY)?)?;
     items.push(Msg::InSettle)?;
-    items.push(came(alloc, config.site, 2, 5000)?)?;
-    items.push(came(alloc, config.site, 3, 5000)?)?;
+    items.push(came(alloc, config.site, packet(2, 1, 5000))?)?;
+    items.push(came(alloc, config.site, packet(3, 1, 5000))?)?;
     items.push(Msg::InEnd)?;
     Ok(items)
 }
@@ -91,14 +68,98 @@ fn two_flows(alloc: Global, config: &Config) -> Result<Vec<Msg>, Fail>
     ensures numbered { IfOk result (λ items. AreNumbered 1 (packets items.items)) }
 {
     let mut items = Vec::new(alloc);
-    items.push(command(alloc, Asked::Share)?)?;
+    items.push(command(alloc, 1, Asked::Share, b'b', Filter::ANY)?)?;
     items.push(Msg::InSettle)?;
-    items.push(came(alloc, config.site, 1, 5000)?)?;
-    items.push(came(alloc, config.site, 2, 5001)?)?;
-    items.push(came(alloc, config.site, 3, 5000)?)?;
-    items.push(came(alloc, config.site, 4, 5001)?)?;
+    items.push(came(alloc, config.site, packet(1, 1, 5000))?)?;
+    items.push(came(alloc, config.site, packet(2, 1, 5001))?)?;
+    items.push(came(alloc, config.site, packet(3, 1, 5000))?)?;
+    items.push(came(alloc, config.site, packet(4, 1, 5001))?)?;
     items.push(Msg::InEnd)?;
     Ok(items)
+}
+
+/// The items of an input.
+fn items(alloc: Global, config: &Config, given: Given) -> Result<Vec<Msg>, Fail>
+    requires config { IsConfig config.now }
+    requires routes { All (λ route. IsWhole OfFlows route.0) config.now.routes }
+    ensures input { IfOk result (λ items. IsInput OfFlows config.now items.items) }
+    ensures numbered { IfOk result (λ items. AreNumbered 1 (packets items.items)) }
+{
+    match given {
+        Given::OnePacket => one_packet(alloc, config),
+        Given::ThreePackets(asked) => three_packets(alloc, config, asked),
+        Given::TwoFlows => two_flows(alloc, config),
+    }
+}
+
+/// The choices that two digits each spell: the node and its port.
+fn choices(alloc: Global, digits: &str) -> Result<Vec<Choice>, NoMemory> {
+    let mut choices = Vec::new(alloc);
+    for pair in digits.split(' ') {
+        if let [node @ b'0'..=b'9', port @ b'0'..=b'9'] = pair.as_bytes() {
+            choices.push(Choice {
+                node: node - b'0',
+                port: port - b'0',
+            })?;
+        }
+    }
+    Ok(choices)
+}
+
+/// The report where a fails after the first so many of these choices, and b takes over.
+fn failover(
+    alloc: Global,
+    config: &Config,
+    items: Vec<Msg>,
+    digits: &str,
+    after: u64,
+) -> Result<Result<Text, AuditFault>, Fail>
+    requires two { length config.now.names ≡ 2 }
+    requires input { IsInput OfFlows config.now items.items }
+    requires numbered { AreNumbered 1 (packets items.items) }
+{
+    let failing = Failing {
+        failed: 0,
+        to: 1,
+        after,
+    };
+    let choices = choices(alloc, digits)?;
+    let trace = packets_of(alloc, items.as_slice())?;
+    let head = Head {
+        kind: Kind::Conntrack,
+        names: names(alloc)?,
+        window: WINDOW,
+        packets: u32::try_from(trace.items().len())?,
+        skipped: 0,
+        cut: false,
+    };
+    match promote::<Conntrack>(
+        alloc,
+        config,
+        items,
+        &choices,
+        after,
+        failing.failed,
+        failing.to,
+    ) {
+        Ok(promoted) => {
+            let (text, _table) = report_failover(alloc, &head, &failing, promoted, config, &trace)?;
+            Ok(Ok(text))
+        }
+        Err(fault) => Ok(Err(fault)),
+    }
+}
+
+/// The same in the run that is given this.
+fn reported(
+    alloc: Global,
+    given: Given,
+    digits: &str,
+    after: u64,
+) -> Result<Result<Text, AuditFault>, Fail> {
+    let config = config(alloc, WINDOW, 9, false)?;
+    let items = items(alloc, &config, given)?;
+    failover(alloc, &config, items, digits, after)
 }
 
 /// The copy is done after the first packet, the second is processed, and the third has come.
@@ -115,119 +176,64 @@ const SHARED: &str =
     "00 10 01 20 12 21 12 31 13 01 00 00 10 01 20 12 31 13 02 00 10 01 30 13 21 12 03 00 10 01 20 12 31 13 02 00 10 01 30";
 
 #[test]
-fn a_copy_lags_by_one_packet_and_another_is_open(rt: HostRuntime) -> Result<(), Fail> {
-    let alloc = rt.alloc();
-    let config = config(alloc)?;
-    let items = three_packets(alloc, &config, Asked::Copy)?;
-    let text = failover(alloc, &config, items, COPIED, 14)??;
-    let wanted = "opennf failover 1
-function conntrack instances 2 window 8
-trace packets 3 skipped 0 whole
-fail a after 14
-promote udp 10.0.0.1:5000 192.0.2.9:53 to b single out packets 1 bytes 20
-lost 2
-open 3
-caught udp 10.0.0.1:5000 192.0.2.9:53 b single out packets 3 bytes 60
-end
-";
-    assert_eq!(rt; text.items(), wanted.as_bytes());
-    Ok(())
-}
-
-#[test]
-fn a_unit_of_which_nothing_stands_by_is_gone(rt: HostRuntime) -> Result<(), Fail> {
-    let alloc = rt.alloc();
-    let config = config(alloc)?;
-    let text = failover(alloc, &config, one_packet(alloc, &config)?, PROCESSED, 2)??;
-    let wanted = "opennf failover 1
-function conntrack instances 2 window 8
-trace packets 1 skipped 0 whole
-fail a after 2
-gone udp 10.0.0.1:5000 192.0.2.9:53
-lost 1
-caught udp 10.0.0.1:5000 192.0.2.9:53 b single out packets 1 bytes 20
-end
-";
-    assert_eq!(rt; text.items(), wanted.as_bytes());
-    Ok(())
-}
-
-#[test]
-fn before_the_first_choice_nothing_is_affected(rt: HostRuntime) -> Result<(), Fail> {
-    let alloc = rt.alloc();
-    let config = config(alloc)?;
-    let text = failover(alloc, &config, one_packet(alloc, &config)?, PROCESSED, 0)??;
-    let wanted = "opennf failover 1
-function conntrack instances 2 window 8
-trace packets 1 skipped 0 whole
-fail a after 0
-end
-";
-    assert_eq!(rt; text.items(), wanted.as_bytes());
-    Ok(())
-}
-
-#[test]
-fn a_record_on_its_way_in_a_chunk_isnt_affected(rt: HostRuntime) -> Result<(), Fail> {
-    let alloc = rt.alloc();
-    let config = config(alloc)?;
-    let items = three_packets(alloc, &config, Asked::Move)?;
-    let text = failover(alloc, &config, items, GIVEN, 11)??;
-    let wanted = "opennf failover 1
-function conntrack instances 2 window 8
-trace packets 3 skipped 0 whole
-fail a after 11
-end
-";
-    assert_eq!(rt; text.items(), wanted.as_bytes());
-    Ok(())
-}
-
-#[test]
-fn the_home_of_a_share_is_ahead_of_its_member(rt: HostRuntime) -> Result<(), Fail> {
-    let alloc = rt.alloc();
-    let config = config(alloc)?;
-    let text = failover(alloc, &config, two_flows(alloc, &config)?, SHARED, 31)??;
-    let wanted = "opennf failover 1
-function conntrack instances 2 window 8
-trace packets 4 skipped 0 whole
-fail a after 31
-promote udp 10.0.0.1:5000 192.0.2.9:53 to b single out packets 1 bytes 20
-promote udp 10.0.0.1:5001 192.0.2.9:53 to b single out packets 1 bytes 20
-lost 3
-caught udp 10.0.0.1:5000 192.0.2.9:53 b single out packets 2 bytes 40
-caught udp 10.0.0.1:5001 192.0.2.9:53 b single out packets 1 bytes 20
-end
-";
-    assert_eq!(rt; text.items(), wanted.as_bytes());
-    Ok(())
-}
-
-#[test]
-fn a_member_of_a_share_is_ahead_of_its_home(rt: HostRuntime) -> Result<(), Fail> {
-    let alloc = rt.alloc();
-    let config = config(alloc)?;
-    let text = failover(alloc, &config, two_flows(alloc, &config)?, SHARED, 39)??;
-    let wanted = "opennf failover 1
-function conntrack instances 2 window 8
-trace packets 4 skipped 0 whole
-fail a after 39
-promote udp 10.0.0.1:5000 192.0.2.9:53 to b single out packets 2 bytes 40
-promote udp 10.0.0.1:5001 192.0.2.9:53 to b single out packets 2 bytes 40
-caught udp 10.0.0.1:5000 192.0.2.9:53 b single out packets 2 bytes 40
-caught udp 10.0.0.1:5001 192.0.2.9:53 b single out packets 2 bytes 40
-end
-";
-    assert_eq!(rt; text.items(), wanted.as_bytes());
+fn each_failover_has_its_report(rt: HostRuntime) -> Result<(), Fail> {
+    let rows: [(Given, &str, u64, u32, &str); 6] = [
+        // A copy lags by one packet, and another is open.
+        (
+            Given::ThreePackets(Asked::Copy),
+            COPIED,
+            14,
+            3,
+            "promote udp 10.0.0.1:5000 192.0.2.9:53 to b single out packets 1 bytes 20\nlost 2\nopen 3\n\
+             caught udp 10.0.0.1:5000 192.0.2.9:53 b single out packets 3 bytes 60\n",
+        ),
+        // A unit of which nothing stands by is gone.
+        (
+            Given::OnePacket,
+            PROCESSED,
+            2,
+            1,
+            "gone udp 10.0.0.1:5000 192.0.2.9:53\nlost 1\ncaught udp 10.0.0.1:5000 192.0.2.9:53 b single out packets 1 bytes 20\n",
+        ),
+        // Before the first choice nothing is affected, and a record on its way in a chunk isn't.
+        (Given::OnePacket, PROCESSED, 0, 1, ""),
+        (Given::ThreePackets(Asked::Move), GIVEN, 11, 3, ""),
+        // The home of a share is ahead of its member, and then the member of its home.
+        (
+            Given::TwoFlows,
+            SHARED,
+            31,
+            4,
+            "promote udp 10.0.0.1:5000 192.0.2.9:53 to b single out packets 1 bytes 20\n\
+             promote udp 10.0.0.1:5001 192.0.2.9:53 to b single out packets 1 bytes 20\nlost 3\n\
+             caught udp 10.0.0.1:5000 192.0.2.9:53 b single out packets 2 bytes 40\n\
+             caught udp 10.0.0.1:5001 192.0.2.9:53 b single out packets 1 bytes 20\n",
+        ),
+        (
+            Given::TwoFlows,
+            SHARED,
+            39,
+            4,
+            "promote udp 10.0.0.1:5000 192.0.2.9:53 to b single out packets 2 bytes 40\n\
+             promote udp 10.0.0.1:5001 192.0.2.9:53 to b single out packets 2 bytes 40\n\
+             caught udp 10.0.0.1:5000 192.0.2.9:53 b single out packets 2 bytes 40\n\
+             caught udp 10.0.0.1:5001 192.0.2.9:53 b single out packets 2 bytes 40\n",
+        ),
+    ];
+    for (given, digits, after, count, lines) in rows {
+        let text = reported(rt.alloc(), given, digits, after)??;
+        let wanted = format!(in rt.alloc();
+            "opennf failover 1\nfunction conntrack instances 2 window 8\ntrace packets {count} skipped 0 whole\nfail a after {after}\n{lines}end\n"
+        )?;
+        assert_eq!(rt; text.items(), wanted.as_bytes());
+    }
     Ok(())
 }
 
 #[test]
 fn the_step_is_told_at_which_choices_are_no_run(rt: HostRuntime) -> Result<(), Fail> {
-    let alloc = rt.alloc();
-    let config = config(alloc)?;
     for (digits, after, step) in [("00 20", 3, 3), ("00 20", u64::MAX, 3), ("00 30 20", 3, 2)] {
-        let fault = failover(alloc, &config, one_packet(alloc, &config)?, digits, after)?;
+        let fault = reported(rt.alloc(), Given::OnePacket, digits, after)?;
         assert_eq!(rt; fault.err(), Some(AuditFault::NotARun { step }));
     }
     Ok(())

@@ -42,7 +42,7 @@ fn a_handshake_is_established(rt: HostRuntime) -> Result<(), Fail> {
         }
     );
     let record = kept.ok_or("no record")?;
-    let text = print_record(rt.alloc(), &record)?;
+    let text = Conntrack::print_record(rt.alloc(), &record)?;
     assert_eq!(rt;
         text.items(),
         b"established out packets 3 bytes 60".as_slice()
