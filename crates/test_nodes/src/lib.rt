@@ -5,14 +5,4 @@
 #![tactic(auto)]
 
 #[cfg(test)]
-mod common;
-#[cfg(test)]
-mod controller_tests;
-#[cfg(test)]
-mod instance_tests;
-#[cfg(test)]
-mod move_tests;
-#[cfg(test)]
-mod share_tests;
-#[cfg(test)]
-mod switch_tests;
+mod tests;

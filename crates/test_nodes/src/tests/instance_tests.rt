@@ -1,5 +1,4 @@
 //! Tests of an instance by the messages that it sends.
-use crate::common::{SITE, packet};
 use actor_net::{Actor, Outbox};
 use basics::Boxed;
 use conn_tracker::Conntrack;
@@ -8,9 +7,9 @@ use flow_filter::{Filter, Packet};
 use instance_worker::Instance;
 use nf_function::Chunks;
 use nf_msgs::{Answer, Msg, Note, Piece};
-use packet_pool::Pool;
 use std::alloc::Global;
 use std::test::Fail;
+use test_packets::{SITE, packet, parcel};
 
 type Out = Outbox<Msg, Note>;
 
@@ -19,37 +18,22 @@ fn instance(alloc: Global, limit: u32, marked: bool) -> Instance<Conntrack> {
     Instance::open(alloc, 3, limit, marked, SITE)
 }
 
-/// The packet with this number of the host 10.0.0.H, with a time where one is given.
-fn packet_at(number: u32, host: u32, nanos: u64) -> Packet {
-    Packet {
-        nanos,
-        ..packet(number, host)
-    }
-}
-
-/// The message that carries a packet in a cell.
-fn carry(alloc: Global, packet: Packet, mark: Mark) -> Result<Msg, Fail> {
-    let mut pool = Pool::open(0, 1);
-    match pool.take(Boxed::new(alloc, packet)?) {
-        Ok(parcel) => Ok(Msg::Carry { mark, parcel }),
-        Err(_packet) => Err("no cell".into()),
-    }
-}
-
 /// Lets the instance process the first packets of so many hosts.
 fn feed(
     alloc: Global,
     it: &mut Instance<Conntrack>,
-    hosts: u32,
+    hosts: u8,
     nanos: u64,
     out: &mut Out,
 ) -> Result<(), Fail> {
     for host in 1..=hosts {
-        it.step(
-            0,
-            carry(alloc, packet_at(host, host, nanos), Mark::Plain)?,
-            out,
-        )?;
+        let packet = Packet {
+            nanos,
+            ..packet(u32::from(host), host, 5000)
+        };
+        let parcel = parcel(alloc, packet)?;
+        let mark = Mark::Plain;
+        it.step(0, Msg::Carry { mark, parcel }, out)?;
     }
     Ok(())
 }

@@ -1,4 +1,4 @@
-use crate::common::{SITE, packet};
+//! Tests of the switch.
 use actor_net::{Actor, Outbox};
 use basics::{Boxed, NoMemory};
 use flow_filter::{CapturedPacket, Filter};
@@ -7,10 +7,11 @@ use std::alloc::Global;
 use std::test::Fail;
 use switch_node::Switch;
 use switch_rules::Target;
+use test_packets::{SITE, packet};
 
 /// The message of the packet with this number of the host 10.0.0.9.
 fn came(alloc: Global, number: u32) -> Result<Msg, NoMemory> {
-    Ok(Msg::InPacket(CapturedPacket::of(alloc, &packet(number, 9))?))
+    Ok(Msg::InPacket(CapturedPacket::of(alloc, &packet(number, 9, 5000))?))
 }
 
 /// The node that gets what was sent first.
