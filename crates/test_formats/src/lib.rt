@@ -6,30 +6,4 @@
 #![tactic(auto)]
 
 #[cfg(test)]
-mod capture_tests;
-#[cfg(test)]
-mod check_words_tests;
-#[cfg(test)]
-mod fail_words_tests;
-#[cfg(test)]
-mod filter_tests;
-#[cfg(test)]
-mod function_tests;
-#[cfg(test)]
-mod input_tests;
-#[cfg(test)]
-mod journal_tests;
-#[cfg(test)]
-mod outside_tests;
-#[cfg(test)]
-mod published_words_tests;
-#[cfg(test)]
-mod run_words;
-#[cfg(test)]
-mod script_tests;
-#[cfg(test)]
-mod sim_words_tests;
-#[cfg(test)]
-mod strong_words_tests;
-#[cfg(test)]
-mod words_tests;
+mod tests;

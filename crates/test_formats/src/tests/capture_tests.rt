@@ -4,12 +4,13 @@ ghost use Rattle.nf_io.specs.Roles.{is_read, needs_name};
 ghost use Rattle.nf_io.specs.Meaning.{CanRead};
 ghost use Rattle.nf_io.specs.Calm.{calm_in};
 
-use crate::outside_tests::{to_read, to_write};
+use crate::tests::outside_tests::{to_read, to_write};
 use basics::NoMemory;
-use flow_filter::Packet;
+use flow_filter::{Packet, SYN};
 use nf_io::{CalmOutside, Outside, Role, RoleSink, RoleSource};
 use std::alloc::Global;
 use std::test::Fail;
+use test_packets::{PACKET, outward};
 use trace_reader::{Trace, TraceFault, TraceReader, make_trace, read_trace};
 
 /// Little-endian, microseconds, link type 101.
@@ -86,9 +87,9 @@ static THREE: [u8; 180] = [
 fn with_calm_capture(
     alloc: Global,
     role: Role,
+    most: usize,
     header: &[u8],
     records: &[u8],
-    most: usize,
 ) -> Result<CalmOutside, NoMemory>
     requires read { IsTrue (is_read role) }
     requires wanted { IsTrue (needs_name role) }
@@ -121,17 +122,9 @@ fn fault_of(alloc: Global, header: &[u8], records: &[u8], tail: &[u8]) -> Option
 /// The packet of `UDP`.
 fn udp(nanos: u64) -> Packet {
     Packet {
-        number: 1,
         nanos,
-        proto: 17,
-        src: 0x0a00_0001,
-        sport: 5000,
-        dst: 0xc000_0209,
-        dport: 53,
-        flags: 0,
-        length: 20,
         held: 20,
-        head: [0; 64],
+        ..PACKET
     }
 }
 
@@ -153,17 +146,9 @@ fn one_packet_is_read_field_by_field(rt: HostRuntime) -> Result<(), Fail> {
 fn frames_are_steered_or_skipped_by_their_bytes(rt: HostRuntime) -> Result<(), Fail> {
     let trace = read(rt.alloc(), [&ETHERNET, &FOUR, b""])?;
     let syn = Packet {
-        number: 2,
-        nanos: 3_000_000_000,
-        proto: 6,
-        src: 0x0a00_0001,
-        sport: 40000,
         dst: 0xc000_0209,
-        dport: 80,
-        flags: 2,
-        length: 0,
-        held: 0,
-        head: [0; 64],
+        nanos: 3_000_000_000,
+        ..outward(2, SYN)
     };
     assert_eq!(rt;
         trace.packets.items().first().map(|first| first.packet()),
@@ -184,7 +169,7 @@ fn frames_are_steered_or_skipped_by_their_bytes(rt: HostRuntime) -> Result<(), F
 fn records_at_hand_are_read_as_those_in_parts(rt: HostRuntime) -> Result<(), Fail> {
     let parts = read(rt.alloc(), [&ETHERNET, &FOUR, b""])?;
     for most in [81, 82, 200, usize::MAX] {
-        let mut outside = with_calm_capture(rt.alloc(), Role::Trace, &ETHERNET, &FOUR, most)?;
+        let mut outside = with_calm_capture(rt.alloc(), Role::Trace, most, &ETHERNET, &FOUR)?;
         let mut source = RoleSource {
             outside: &mut outside,
             role: Role::Trace,

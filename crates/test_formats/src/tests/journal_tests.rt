@@ -1,7 +1,7 @@
 //! Tests of `journal_file`: journals that are read, from bytes and from a source, and written.
 ghost use Rattle.std.specs.Prelude.{[], None};
 
-use crate::outside_tests::to_read;
+use crate::tests::outside_tests::to_read;
 use actor_net::Choice;
 use basics::NoMemory;
 use journal_file::{JournalFault, read_journal, read_journal_from, write_journal};

@@ -2,8 +2,9 @@
 
 use basics::{Boxed, TryCopy};
 use flow_filter::name::{has_twice, is_name};
-use flow_filter::{CapturedPacket, Filter, FilterFault, Flow, Name, Packet, UDP};
+use flow_filter::{CapturedPacket, Filter, FilterFault, Flow, Name, Packet};
 use std::test::Fail;
+use test_packets::PACKET;
 
 /// A flow of 10.0.0.9.
 const FLOW: Flow = Flow {
@@ -15,18 +16,10 @@ const FLOW: Flow = Flow {
 };
 
 /// A packet without payload.
-const PACKET: Packet = Packet {
+const BARE: Packet = Packet {
     nanos: 1_000_000_007,
     number: 3,
-    src: 0x0a00_0001,
-    dst: 0xc000_0209,
-    length: 20,
-    sport: 5000,
-    dport: 53,
-    proto: UDP,
-    flags: 0,
-    held: 0,
-    head: [0; 64],
+    ..PACKET
 };
 
 #[test]
@@ -80,13 +73,13 @@ fn a_packet_waits_with_and_without_payload(rt: HostRuntime) -> Result<(), Fail> 
     let whole = Packet {
         held: 2,
         head: [7; 64],
-        ..PACKET
+        ..BARE
     };
-    for packet in [PACKET, whole] {
+    for packet in [BARE, whole] {
         let captured = CapturedPacket::of(alloc, &packet)?;
         assert_eq!(rt; captured.number(), 3);
         assert_eq!(rt; captured.packet(), packet);
-        let room = Boxed::new(alloc, PACKET)?;
+        let room = Boxed::new(alloc, BARE)?;
         let again = CapturedPacket::of(alloc, &packet)?;
         assert_eq!(rt; again.into_room(room).into_inner(), packet);
         assert_eq!(rt; captured.into_boxed(alloc)?.into_inner(), packet);

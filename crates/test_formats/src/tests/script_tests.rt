@@ -1,12 +1,11 @@
 //! Tests of `op_script`: scripts that are read, printed, and laid between packets; and instances, packets and what is shown of them for other tests.
-ghost use Rattle.std.specs.Prelude.{◌≡◌, true, vec_len, All, IfOk};
+ghost use Rattle.std.specs.Prelude.{◌≡◌, true, All, IfOk};
 ghost use Rattle.std.specs.Option.{ForSome};
 ghost use Rattle.flow_filter.specs.Filter.{IsFilter};
 ghost use Rattle.nf_function.specs.Units.{is_transport};
 ghost use Rattle.trace_reader.specs.Records.{AreNumbered};
 ghost use Rattle.op_script.specs.LineFilters.{what_filter};
 
-use flow_filter::{Name, Packet};
 use nf_function::Kind;
 use nf_msgs::{Command, Msg, Order};
 use op_script::{
@@ -14,21 +13,12 @@ use op_script::{
 };
 use std::alloc::Global;
 use std::test::Fail;
-
-/// The instances `a` and `b`.
-pub(crate) fn instances(alloc: Global) -> Result<Vec<Name>, Fail>
-    ensures { IfOk result (λ names. vec_len names ≡ 2) }
-{
-    let mut names = Vec::new(alloc);
-    names.push(Name::read(alloc, b"a")?.ok_or("no name")?)?;
-    names.push(Name::read(alloc, b"b")?.ok_or("no name")?)?;
-    Ok(names)
-}
+use test_packets::{names, packet, two_names};
 
 /// The fault of a script, for the monitor and the instances `a` and `b`.
 fn fault_of(alloc: Global, text: &[u8]) -> Result<Option<ScriptFault>, Fail> {
-    let names = instances(alloc)?;
-    let read = read_script(alloc, text, Kind::Monitor, names.as_slice());
+    let names = names(alloc)?;
+    let read = read_script(alloc, text, Kind::Monitor, names.items());
     Ok(read.err())
 }
 
@@ -83,16 +73,11 @@ fn the_first_line_that_breaks_a_rule_is_refused(rt: HostRuntime) -> Result<(), F
 
 #[test]
 fn the_canonical_text_has_one_space_between_words(rt: HostRuntime) -> Result<(), Fail> {
-    let names = instances(rt.alloc())?;
+    let names = names(rt.alloc())?;
     let text =
         b"# x\nroute  local=10.0.0.9 b\nat 1 move a b rport=80,proto=tcp order\nat 1\tcopy b a all\nat 2 share b,a any strict\nat 2 settle";
-    let script = read_script(
-        rt.alloc(),
-        text.as_slice(),
-        Kind::Conntrack,
-        names.as_slice(),
-    )?;
-    let printed = print_script(rt.alloc(), &script, names.as_slice())?;
+    let script = read_script(rt.alloc(), text.as_slice(), Kind::Conntrack, names.items())?;
+    let printed = print_script(rt.alloc(), &script, names.items())?;
     let expected =
         b"route local=10.0.0.9/32 b\nat 1 move a b proto=tcp,rport=80 order\nat 1 copy b a all\nat 2 share b,a any strict\nat 2 settle\n";
     assert_eq!(rt; printed.items(), expected.as_slice());
@@ -121,8 +106,7 @@ fn what_of(alloc: Global, op: u32) -> Result<What, Fail>
     if op == 0 {
         return Ok(What::Settle);
     }
-    let src = Name::read(alloc, b"a")?.ok_or("no name")?;
-    let dst = Name::read(alloc, b"b")?.ok_or("no name")?;
+    let (src, dst) = two_names(alloc, b'b')?;
     let what = Order::Copy {
         src,
         dst,
@@ -157,27 +141,7 @@ pub(crate) fn two_packets(alloc: Global) -> Result<PacketItems, Fail>
     ensures steered { IfOk result (All (λ packet. is_transport packet.proto ≡ true)) }
 {
     let mut trace = PacketItems::open(alloc);
-    trace.push(alloc, &packet(1))?;
-    trace.push(alloc, &packet(2))?;
+    trace.push(alloc, &packet(1, 1, 5000))?;
+    trace.push(alloc, &packet(2, 1, 5000))?;
     Ok(trace)
-}
-
-/// A UDP packet with this number.
-fn packet(number: u32) -> Packet
-    ensures number { result.number ≡ number }
-    ensures proto { result.proto ≡ 17 }
-{
-    Packet {
-        number,
-        nanos: 0,
-        proto: 17,
-        src: 0x0a00_0001,
-        sport: 5000,
-        dst: 0xc000_0209,
-        dport: 53,
-        flags: 0,
-        length: 0,
-        held: 0,
-        head: [0; 64],
-    }
 }

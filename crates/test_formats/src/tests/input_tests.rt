@@ -1,6 +1,6 @@
 //! Tests of `run_input`: what a run is given, of a setting, a script and packets.
 
-use crate::script_tests::{shown, two_packets};
+use crate::tests::script_tests::{shown, two_packets};
 use command_words::instances::instances_of;
 use flow_filter::{Filter, Prefix, Site};
 use net_world::Config;
