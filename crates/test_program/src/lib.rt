@@ -5,18 +5,4 @@
 #![tactic(auto)]
 
 #[cfg(test)]
-mod check_tests;
-#[cfg(test)]
-mod fail_tests;
-#[cfg(test)]
-mod generate_tests;
-#[cfg(test)]
-mod journal_tests;
-#[cfg(test)]
-mod published_tests;
-#[cfg(test)]
-mod sim_tests;
-#[cfg(test)]
-mod strong_tests;
-#[cfg(test)]
-mod threads_tests;
+mod tests;

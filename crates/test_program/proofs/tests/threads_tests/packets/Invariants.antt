@@ -2,7 +2,7 @@
 use Rattle.std.proofs.Common.{◌≡◌, true, length, All}
 use Rattle.nf_function.specs.Units.{is_transport}
 use Rattle.trace_reader.specs.Records.{AreNumbered}
-use Rattle.test_program.proofs.threads_tests.packets.Given as goal
+use Rattle.test_program.proofs.tests.threads_tests.packets.Given as goal
 
 abbrev pub invariant-loop-number : goal.invariant-loop-number
 invariant-loop-number l = record {

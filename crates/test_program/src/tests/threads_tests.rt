@@ -1,5 +1,5 @@
 //! Tests of runs of the network by threads.
-ghost use Rattle.std.specs.Prelude.{◌≡◌, ◌<◌, ◌≤◌, true, vec_len, All, IfOk};
+ghost use Rattle.std.specs.Prelude.{◌≡◌, ◌<◌, ◌≤◌, true, All, IfOk};
 ghost use Rattle.flow_filter.specs.Limits.{most_window};
 ghost use Rattle.nf_function.specs.Units.{is_transport};
 ghost use Rattle.nf_function.specs.declared.kind.Kind.TheVariants.{Conntrack as OfFlows};
@@ -10,9 +10,9 @@ use actor_net::{Choice, Choices, World};
 use actor_threads::OpenGate;
 use command_words::instances::instances_of;
 use conn_tracker::Conntrack;
-use flow_filter::{Name, Packet, Prefix, Site, Text, UDP};
+use flow_filter::Text;
 use nf_function::Kind;
-use nf_msgs::{Msg, Names, Note};
+use nf_msgs::{Msg, Note};
 use op_script::{PacketItems, read_script};
 use opennf_calls::threads::run_network;
 use opennf_calls::{Config, Head, Node, Setting, audited, input_of, report};
@@ -21,40 +21,12 @@ use std::sync::Wait;
 use std::test::Fail;
 use std::thread::Threads;
 use test_core::meeting::Meeting;
+use test_packets::{SITE, names, packet};
 
 /// How many packets may be under way in the runs with moves: fewer than there are.
 const WINDOW: u32 = 8;
 
-/// The instances a and b.
-fn instances(alloc: Global) -> Result<Vec<Name>, Fail>
-    ensures { IfOk result (λ names. vec_len names ≡ 2) }
-{
-    let mut names = Vec::new(alloc);
-    names.push(Name::read(alloc, b"a")?.ok_or("no name")?)?;
-    names.push(Name::read(alloc, b"b")?.ok_or("no name")?)?;
-    Ok(names)
-}
-
-/// The UDP packet with this number, of the local port 5000 for even numbers and 5001 for odd ones.
-fn packet(number: u32) -> Packet
-    ensures number { result.number ≡ number }
-    ensures steered { is_transport result.proto ≡ true }
-{
-    Packet {
-        nanos: 0,
-        number,
-        src: 0x0a00_0001,
-        dst: 0xc000_0209,
-        length: 20,
-        sport: 5000 + (number % 2) as u16,
-        dport: 53,
-        proto: UDP,
-        flags: 0,
-        held: 0,
-        head: [0; 64],
-    }
-}
-
+/// So many UDP packets with numbers from 1, of the local port 5000 for even numbers and 5001 for odd ones.
 fn packets(alloc: Global, count: u32) -> Result<PacketItems, Fail>
     requires { count < 2000 }
     ensures numbers { IfOk result (AreNumbered 1) }
@@ -62,7 +34,7 @@ fn packets(alloc: Global, count: u32) -> Result<PacketItems, Fail>
 {
     let mut packets = PacketItems::open(alloc);
     for number in 0..count {
-        let next = packet(number + 1);
+        let next = packet(number + 1, 1, 5000 + ((number + 1) % 2) as u16);
         packets.push(alloc, &next)?;
     }
     Ok(packets)
@@ -75,22 +47,15 @@ fn given(alloc: Global, script: &[u8], count: u32, window: u32) -> Result<(Confi
     ensures { IfOk result (λ given. IsInput OfFlows given.0 given.1.items) }
 {
     let instances = instances_of(alloc, Some("a:9,b:9"))?.ok_or("no instances")?;
+    let packets = packets(alloc, count)?;
     let names = instances.names(alloc)?;
     let script = read_script(alloc, script, Kind::Conntrack, names.items())?;
-    let inside = Prefix {
-        bits: 0x0a00_0000,
-        len: 24,
-    };
     let setting = Setting {
         kind: Kind::Conntrack,
         instances: &instances,
-        site: Site {
-            inside,
-            outside: None,
-        },
+        site: SITE,
         window,
     };
-    let packets = packets(alloc, count)?;
     Ok(input_of(alloc, &setting, &script, packets)?)
 }
 
@@ -131,7 +96,7 @@ fn each_packet_of_two_moves_is_processed_once(rt: HostRuntime) -> Result<(), Fai
 fn head(alloc: Global) -> Result<Head, Fail> {
     Ok(Head {
         kind: Kind::Conntrack,
-        names: Names::from_vec(instances(alloc)?),
+        names: names(alloc)?,
         window: WINDOW,
         packets: 40,
         skipped: 0,

@@ -5,7 +5,7 @@ use Rattle.std.proofs.lemmas.List.Elements.{All-push}
 use Rattle.nf_function.specs.Units.{is_transport}
 use Rattle.flow_filter.specs.declared.packet.Packet.{Packet}
 use Rattle.trace_reader.specs.Records.{AreNumbered}
-use Rattle.test_program.proofs.threads_tests.packets.Goals as goal
+use Rattle.test_program.proofs.tests.threads_tests.packets.Goals as goal
 
 numbered_push : (n : ℕ) (ps : List Packet) (p : Packet) → AreNumbered n ps → p.number ≡ n + length ps → AreNumbered n (ps ++ p ∷ [])
 numbered_push n [] p first last = (omega (arith, last), tt)
@@ -23,5 +23,5 @@ loop-number-preserved c =
       numbers = subst (λ qs. AreNumbered 1 qs) (sym pushed) (numbered_push 1 ps p so_far.numbers (omega (arith, number, count)));
       count = ap length pushed ∙ length-append ps (p ∷ []) ∙ ap (λ n. n + 1) count;
       steered = subst (λ qs. All (λ q. is_transport q.proto ≡ true) qs) (sym pushed)
-          (All-push (λ q. is_transport q.proto ≡ true) ps p so_far.steered c.packet-next.ensures.steered);
+          (All-push (λ q. is_transport q.proto ≡ true) ps p so_far.steered c.packet-next.ensures.transport);
     }
