@@ -41,11 +41,11 @@ flows a b v w =
     let remote = nat_cmp a.remote b.remote in
     let rport = nat_cmp a.rport b.rport in
     let front = two_digits (2 ^ 32) a.proto a.local b.proto b.local v.local w.local proto local (rank a.proto b.proto) (rank a.local b.local) in
-    let near = two_digits (2 ^ 16) (a.proto * 2 ^ 32 + a.local) a.lport (b.proto * 2 ^ 32 + b.local) b.lport v.lport w.lport (ordering_then proto local) lport front
-    (rank a.lport b.lport) in
+    let near = two_digits (2 ^ 16) (a.proto * 2 ^ 32 + a.local) a.lport (b.proto * 2 ^ 32 + b.local) b.lport v.lport w.lport (ordering_then proto local) lport
+    front (rank a.lport b.lport) in
     let far = two_digits (2 ^ 16) a.remote a.rport b.remote b.rport v.rport w.rport remote rport (rank a.remote b.remote) (rank a.rport b.rport) in
-    let whole = two_digits (2 ^ 64) ((a.proto * 2 ^ 32 + a.local) * 2 ^ 16 + a.lport) (a.remote * 2 ^ 16 + a.rport) ((b.proto * 2 ^ 32 + b.local) * 2 ^ 16 + b.lport)
-    (b.remote * 2 ^ 16 + b.rport)
+    let whole = two_digits (2 ^ 64) ((a.proto * 2 ^ 32 + a.local) * 2 ^ 16 + a.lport) (a.remote * 2 ^ 16 + a.rport)
+    ((b.proto * 2 ^ 32 + b.local) * 2 ^ 16 + b.lport) (b.remote * 2 ^ 16 + b.rport)
     (omega (arith, v.remote, v.rport)) (omega (arith, w.remote, w.rport)) (ordering_then (ordering_then proto local) lport) (ordering_then remote rport)
     near far in
     sym (ordering_then-assoc proto local (ordering_then lport (ordering_then remote rport)))

@@ -128,7 +128,8 @@ module _ {F R : Type 0} (f : Semantics R) (job : StrongJob) where
             labelled = parts.0;
             ordered = parts.1;
             serves = serves_alike f job wanted (sight job (told_in x j rest chunk)) agrees (spreads f laws job job_is (sight job x) h.serves j chunk
-                (flat_map answer_in rest) j_in told (λ k. flat_map answer_in (put x.back j rest k)) (λ k _. taken_first answer_in x.back j (Shared op chunk) rest is k));
+                (flat_map answer_in rest) j_in told (λ k. flat_map answer_in (put x.back j rest k))
+                (λ k _. taken_first answer_in x.back j (Shared op chunk) rest is k));
             tight = λ idle. absurd cc;
             answered = h.answered;
             ends = parts.2;

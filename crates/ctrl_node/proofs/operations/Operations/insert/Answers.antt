@@ -11,7 +11,8 @@ invariant_of-self-2 c =
     let done = c.in_ok-insert_sorted.ensures in let old = c.self.inside.by_number.entries in let gs = c.self.inside.shares in (
       rise_from_sorted (keys c.insert_sorted.new.self) (done.sorted (sorted_from_rise (keys c.self.inside.by_number) c.self.invariant.0)) done.unique,
       subst (AreNoted c.note_share.new.shares) (sym (inserted old c.insert_sorted.new.self.entries (view old) c.args.op c.args.operation refl done.updates.0))
-          (noted_with gs c.note_share.new.shares (view old) c.args.op c.args.operation c.self.invariant.1 c.note_share.ensures.kept c.in_ok-note_share.ensures.noted),
+          (noted_with gs c.note_share.new.shares (view old) c.args.op c.args.operation c.self.invariant.1 c.note_share.ensures.kept
+          c.in_ok-note_share.ensures.noted),
     )
 
 pub returns-clause-opened : goal.returns-clause-opened
