@@ -10,8 +10,6 @@ mod fault;
 mod network;
 mod nodes;
 mod runs;
-#[cfg(test)]
-mod tests;
 mod tokens;
 mod words;
 mod work;
