@@ -1,3 +1,4 @@
 pub mod RolesAfterLoan
 pub mod TransferLemmas
 pub mod FileRoles
+pub mod TapeTables

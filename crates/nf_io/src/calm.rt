@@ -52,7 +52,7 @@ impl CalmOutside {
         ensures names { (other : Role) → (calm_in self.new other).name ≡ (calm_in self.old other).name }
         ensures piece { self.new.most ≡ self.old.most }
     {
-        let tape = &mut self.tapes[role as usize];
+        let tape = &mut self.tapes[role.place()];
         tape.put(bytes)
     }
 
@@ -69,7 +69,7 @@ impl CalmOutside {
     pub fn written(&self, role: Role) -> &[u8]
         ensures { (calm_in self.now role).written ≡ Some result.now }
     {
-        self.tapes[role as usize].written()
+        self.tapes[role.place()].written()
     }
 }
 
@@ -91,7 +91,7 @@ impl Outside for CalmOutside {
         ensures shown { (other : Role) (file : List ℕ) → calm_shown self.new other file ≡ calm_shown self.old other file }
         ensures piece { self.new.most ≡ self.old.most }
     {
-        let tape = &mut self.tapes[role as usize];
+        let tape = &mut self.tapes[role.place()];
         tape.bind(name)
     }
 
@@ -109,18 +109,18 @@ impl Outside for CalmOutside {
         ensures piece { self.new.most ≡ self.old.most }
     {
         let most = self.most;
-        let tape = &mut self.tapes[role as usize];
+        let tape = &mut self.tapes[role.place()];
         Ok(tape.read(buf, most))
     }
 
     /// All that is left is at hand, as far as one call may take it.
     fn at_hand(&self, role: Role) -> &[u8] {
-        let left = self.tapes[role as usize].left();
+        let left = self.tapes[role.place()].left();
         &left[..left.len().min(self.most)]
     }
 
     fn skip(&mut self, role: Role, count: usize) {
-        let tape = &mut self.tapes[role as usize];
+        let tape = &mut self.tapes[role.place()];
         tape.skip(count)
     }
 
@@ -140,7 +140,7 @@ impl Outside for CalmOutside {
         ensures piece { self.new.most ≡ self.old.most }
     {
         let most = self.most;
-        let tape = &mut self.tapes[role as usize];
+        let tape = &mut self.tapes[role.place()];
         tape.write(bytes, most)
     }
 }

@@ -64,7 +64,7 @@ impl<S: System> Outside for FileOutside<S> {
     #[inline(always)]
     fn read(&mut self, role: Role, buf: &mut [u8]) -> Result<usize, Failed> {
         let answer = read_role(&self.system, &mut self.files, role, buf);
-        count(&mut self.faults[role as usize], &answer);
+        count(&mut self.faults[role.place()], &answer);
         answer
     }
 
@@ -80,7 +80,7 @@ impl<S: System> Outside for FileOutside<S> {
 
     fn write(&mut self, role: Role, bytes: &[u8]) -> Result<usize, Failed> {
         let answer = write_role(&mut self.system, &mut self.files, role, bytes);
-        count(&mut self.faults[role as usize], &answer);
+        count(&mut self.faults[role.place()], &answer);
         answer
     }
 }

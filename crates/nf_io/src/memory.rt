@@ -53,7 +53,7 @@ impl MemoryOutside {
         ensures names { (other : Role) → (seen_in self.new other).name ≡ (seen_in self.old other).name }
         ensures plans { SamePlans self.old self.new }
     {
-        let tape = &mut self.tapes[role as usize];
+        let tape = &mut self.tapes[role.place()];
         tape.tape.put(bytes)
     }
 
@@ -67,7 +67,7 @@ impl MemoryOutside {
         ensures piece { self.new.most ≡ self.old.most }
         ensures seen { (other : Role) → seen_in self.new other ≡ seen_in self.old other }
     {
-        let tape = &mut self.tapes[role as usize];
+        let tape = &mut self.tapes[role.place()];
         tape.fail(call)
     }
 
@@ -85,7 +85,7 @@ impl MemoryOutside {
     pub fn written(&self, role: Role) -> &[u8]
         ensures { (seen_in self.now role).written ≡ Some result.now }
     {
-        self.tapes[role as usize].tape.written()
+        self.tapes[role.place()].tape.written()
     }
 }
 
@@ -108,7 +108,7 @@ impl Outside for MemoryOutside {
         ensures shown { (other : Role) (file : List ℕ) → shown_in self.new other file ≡ shown_in self.old other file }
         ensures plans { SamePlans self.old self.new }
     {
-        let tape = &mut self.tapes[role as usize];
+        let tape = &mut self.tapes[role.place()];
         tape.tape.bind(name)
     }
 
@@ -126,7 +126,7 @@ impl Outside for MemoryOutside {
         ensures plans { CountsCall role self.old self.new }
     {
         let most = self.most;
-        let tape = &mut self.tapes[role as usize];
+        let tape = &mut self.tapes[role.place()];
         tape.read(buf, most)
     }
 
@@ -153,7 +153,7 @@ impl Outside for MemoryOutside {
         ensures plans { CountsCall role self.old self.new }
     {
         let most = self.most;
-        let tape = &mut self.tapes[role as usize];
+        let tape = &mut self.tapes[role.place()];
         tape.write(bytes, most)
     }
 }

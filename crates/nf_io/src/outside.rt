@@ -30,6 +30,18 @@ pub enum Role {
     Errors,
 }
 
+impl Role {
+    ghost use Rattle.nf_io.specs.Roles.{role_place};
+
+    /// Its place in a table of all seven.
+    pub(crate) fn place(self) -> usize
+        ensures place { result ≡ role_place self }
+        ensures within { result < 7 }
+    {
+        self as usize
+    }
+}
+
 /// What the program reads and writes. `Trace`, `Script` and `JournalIn` are read, the other roles
 /// are written; `Report` and `Errors` need no name.
 pub trait Outside {

@@ -1,6 +1,6 @@
 -- Entries by their places and by their keys.
 use Rattle.std.proofs.Common.{◌≡◌, ℕ, Bool, true, false, ◌-◌, ◌<◌, List, [], ◌∷◌, ◌++◌, length, slice_set, Option, Some, None, arith}
-use Rattle.std.proofs.Common.{ap, sym, ◌∙◌, refl, subst, suc, zero, ◌==◌, is_some, filter, take, get_or, Result, Ok, Err, OnOk, OnErr}
+use Rattle.std.proofs.Common.{ap, sym, ◌∙◌, refl, subst, suc, zero, ◌==◌, is_some, filter, take, get_or, Result, Ok, Err, IfOk, IsErr, OnOk, OnErr}
 use Rattle.std.specs.Prelude.{cond}
 use Rattle.std.specs.Cmp.{IsEquivalence}
 use Rattle.std.specs.List.{slice_get, IsDistinct, AllByRecursion}
@@ -15,6 +15,11 @@ use Rattle.std.proofs.lemmas.Map.{NonePasses, none_passes_from_lookup}
 use Rattle.std.proofs.lemmas.Map.Made.{is_some-lookup}
 use Rattle.unit_map.specs.Entries.{Entries, IsMap, kept_record, record_of, record_at, is_place_of, with_record, has_record}
 use Rattle.unit_map.specs.Notes.{has_key}
+
+-- of an error nothing is asked
+pub no_value : {T E : Type 0} (P : T → Type 0) (r : Result T E) → IsErr r → IfOk r P
+no_value P (Ok x) h = absurd (cc)
+no_value P (Err e) h = tt
 
 pub distinct_none : {K : Type 0} (eq : K → K → Bool) → IsDistinct eq []
 unfolding IsDistinct
@@ -218,3 +223,15 @@ module _ {K R : Type 0} (eq : K → K → Bool) (laws : IsEquivalence eq) where
       → OnOk r (new ≡ old ++ (k, None) ∷ []) → OnErr r (new ≡ old) → (q : K) → record_of eq new q ≡ record_of eq old q
   record_by_add (Ok x) old new k absent ok err q = rw ok (record_added q k old absent)
   record_by_add (Err e) old new k absent ok err q = rw err refl
+
+  -- the entry that was added is the key's
+  pub place_by_add : {E : Type 0} (r : Result ℕ E) (old new : Entries K R) (k : K) → IfOk r (λ place. place ≡ length old)
+      → OnOk r (new ≡ old ++ (k, None) ∷ []) → IfOk r (λ place. is_place_of eq new place k ≡ true)
+  place_by_add (Ok place) old new k last ok = rw (ok, last) (place_added eq laws k None old)
+  place_by_add (Err e) old new k last ok = tt
+
+  -- whether an entry was added or not, places stay those of their keys
+  pub stays_by_add : {T E : Type 0} (r : Result T E) (old new : Entries K R) (added : Entries K R) → OnOk r (new ≡ old ++ added) → OnErr r (new ≡ old)
+      → (place : ℕ) (k : K) → is_place_of eq old place k ≡ true → is_place_of eq new place k ≡ true
+  stays_by_add (Ok x) old new added ok err place k h = rw ok (place_stays eq k old added place h)
+  stays_by_add (Err e) old new added ok err place k h = rw err h

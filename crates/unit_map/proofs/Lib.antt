@@ -1,3 +1,4 @@
+pub mod ProbeLemmas
 pub mod EntryLemmas
 pub mod SlotLemmas
 pub mod SoundnessLemmas

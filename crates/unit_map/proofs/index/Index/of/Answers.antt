@@ -1,12 +1,12 @@
 -- The entry at hand is noted under the count of those with a record.
-use Rattle.std.proofs.Common.{arith, ◌≡◌, ◌+◌, subst, ap, sym, refl, ◌∙◌, ℕ, true, is_some, filter}
+use Rattle.std.proofs.Common.{arith, ◌≡◌, ◌+◌, subst, ap, sym, refl, ◌∙◌, ℕ, true, false, is_some, filter}
 use Rattle.std.specs.Prelude.{not}
 use Rattle.std.specs.Map.{keys_of}
 use Rattle.std.proofs.lemmas.List.{take_all}
 use Rattle.unit_map.specs.Entries.{has_record}
 use Rattle.unit_map.specs.Notes.{key_rules, IsNoted}
 use Rattle.unit_map.specs.Soundness.{AreNoted}
-use Rattle.unit_map.proofs.SoundnessLemmas.{key_laws, noted_nothing, noted_more, count_more}
+use Rattle.unit_map.proofs.SoundnessLemmas.{key_laws, noted_nothing, noted_more, noted_passed, count_more, count_passed}
 use Rattle.unit_map.proofs.index.Index.of.Goals as goal
 
 pub loop-entry-init : goal.loop-entry-init
@@ -16,6 +16,22 @@ loop-entry-init g c = record {
   count = refl;
   noted = noted_nothing _ _;
 }
+
+pub loop-entry-preserved-then-is_none : goal.loop-entry-preserved-then-is_none
+loop-entry-preserved-then-is_none g c =
+    let laws = key_laws g.K.PartialEq.eq g.K.Ord.cmp g.K.Hash.hash_input g.met.K.Eq.laws g.met.K.Ord.total g.met.K.Ord.matches_eq g.met.K.Hash.respects_eq in
+    let es = c.args.entries.now in
+    let i = c.loop-entry.entry-index in
+    let gone : is_some c.entry-item.result.1 ≡ false = c.is_none.ensures ∙ ap not c.if-is_none.true in
+    record {
+      room = c.loop-entry.invariant.room;
+      bound = omega arith;
+      count = c.loop-entry.invariant.count ∙ sym (count_passed es i c.entry-item.result c.loop-entry-test.true c.entry-item.is gone);
+      noted = noted_passed _ laws _ es i c.entry-item.result c.loop-entry-test.true c.entry-item.is gone c.loop-entry.invariant.noted;
+    }
+
+pub note-requires : goal.note-requires
+note-requires g c = record { room = c.loop-entry.invariant.room; counted = omega arith }
 
 pub loop-entry-preserved : goal.loop-entry-preserved
 loop-entry-preserved g c =
