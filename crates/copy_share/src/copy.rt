@@ -102,10 +102,13 @@ impl CopyOp {
         if sender == instance_node(self.from) {
             return self.from_source(message, out);
         }
-        if sender == instance_node(self.to) {
-            return Ok(self.from_destination(message));
-        }
-        Ok(self.phase)
+        let next = if sender == instance_node(self.to) {
+            self.from_destination(&message)
+        } else {
+            self.phase
+        };
+        drop(message);
+        Ok(next)
     }
 
     /// A message of the source.
@@ -115,7 +118,10 @@ impl CopyOp {
     {
         match self.phase {
             CopyPhase::Getting => self.hand_on(message, out),
-            phase => Ok(phase),
+            phase => {
+                drop(message);
+                Ok(phase)
+            }
         }
     }
 
@@ -134,14 +140,17 @@ impl CopyOp {
                 out.send(instance_node(self.to), Msg::PutAll { op, chunk })?;
                 Ok(CopyPhase::Keeping)
             }
-            _ => Ok(CopyPhase::Getting),
+            _ => {
+                drop(message);
+                Ok(CopyPhase::Getting)
+            }
         }
     }
 
     /// A message of the destination.
-    fn from_destination(&self, message: Msg) -> CopyPhase
-        ensures phase { result ≡ (from_destination self.now.plan self.now.phase message).phase }
-        ensures sends { (from_destination self.now.plan self.now.phase message).sends ≡ [] }
+    fn from_destination(&self, message: &Msg) -> CopyPhase
+        ensures phase { result ≡ (from_destination self.now.plan self.now.phase message.now).phase }
+        ensures sends { (from_destination self.now.plan self.now.phase message.now).sends ≡ [] }
     {
         match self.phase {
             CopyPhase::Keeping => self.kept(message),
@@ -150,9 +159,9 @@ impl CopyOp {
     }
 
     /// The destination has kept what came.
-    fn kept(&self, message: Msg) -> CopyPhase
-        ensures phase { result ≡ (from_destination self.now.plan CopyPhase.Keeping message).phase }
-        ensures sends { (from_destination self.now.plan CopyPhase.Keeping message).sends ≡ [] }
+    fn kept(&self, message: &Msg) -> CopyPhase
+        ensures phase { result ≡ (from_destination self.now.plan CopyPhase.Keeping message.now).phase }
+        ensures sends { (from_destination self.now.plan CopyPhase.Keeping message.now).sends ≡ [] }
     {
         let Msg::Kept { .. } = message else {
             return CopyPhase::Keeping;

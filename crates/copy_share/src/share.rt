@@ -100,7 +100,10 @@ impl ShareOp {
                 Ok(None)
             }
             Msg::Synced { .. } => Ok(self.synced()),
-            _ => Ok(None),
+            _ => {
+                drop(message);
+                Ok(None)
+            }
         }
     }
 

@@ -126,7 +126,7 @@ impl Ctrl {
                 if port != SWITCH {
                     return Ok(());
                 }
-                self.asked(command.into_inner(), out)
+                self.asked(command.get(), out)
             }
             Msg::Diverted(parcel) => {
                 if port != SWITCH {
@@ -147,6 +147,7 @@ impl Ctrl {
             }
             message => {
                 let Some(op) = message.op() else {
+                    drop(message);
                     return Ok(());
                 };
                 self.hand(op, port, message, out)

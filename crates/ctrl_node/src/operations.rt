@@ -69,16 +69,23 @@ impl Operations {
         ensures opened { OnOk result (self.new ≡ finite.insert self.old op operation) }
         ensures err { OnErr result (self.new ≡ self.old) }
     {
-        note_share(&mut self.shares, op, &operation)?;
-        self.by_number.insert_sorted(op, operation)?;
-        Ok(())
+        match note_share(&mut self.shares, op, &operation) {
+            Ok(()) => {
+                drop(self.by_number.insert_sorted(op, operation)?);
+                Ok(())
+            }
+            Err(full) => {
+                drop(operation);
+                Err(full)
+            }
+        }
     }
 
     /// Closes the operation with this number.
     pub fn remove(&mut self, op: u32)
         ensures { self.new ≡ finite.remove self.old op }
     {
-        let _closed = self.by_number.shift_remove(&op);
+        drop(self.by_number.shift_remove(&op));
     }
 
     /// Hands a message to the operation with this number, if it is open. The answer comes exactly where it is then over, or
@@ -98,6 +105,7 @@ impl Operations {
         ensures answer { IfOk result (λ answer. answer ≡ (turn_of (finite.get self.old op) store.old sender message).answer) }
     {
         let Some(operation) = self.by_number.get_mut(&op) else {
+            drop(message);
             return Ok(None);
         };
         operation.on(sender, message, store, out)

@@ -140,7 +140,10 @@ impl<F: Function> Instance<F> {
             Msg::Standby { op, chunks } => self.standby(op, chunks, out),
             Msg::PutAll { op, chunk } => self.put_all(op, chunk.get(), out),
             Msg::Sync { home, op, chunks } => self.sync(home, op, chunks, out),
-            _ => Ok(()),
+            _ => {
+                drop(message);
+                Ok(())
+            }
         }
     }
 

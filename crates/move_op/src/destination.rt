@@ -35,7 +35,10 @@ impl Plan {
             Msg::PutNo { refused, .. } => self.put_no(phase, refused.into_inner(), out),
             Msg::Enabled { .. } => self.destination_enabled(phase, store, out),
             Msg::Fenced { .. } => self.destination_fenced(phase, out),
-            _ => Ok(phase),
+            _ => {
+                drop(message);
+                Ok(phase)
+            }
         }
     }
 

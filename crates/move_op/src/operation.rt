@@ -80,7 +80,8 @@ impl MoveOp {
         ensures answer { IfOk result (λ answer. answer ≡ answer_of (row_in self.old store.old sender message).next.phase) }
     {
         let phase = mem::replace(&mut self.phase, Phase::Freezing);
-        self.phase = self.plan.next(phase, sender, message, store, out)?;
+        let next = self.plan.next(phase, sender, message, store, out)?;
+        drop(mem::replace(&mut self.phase, next));
         answer_of(&self.phase)
     }
 

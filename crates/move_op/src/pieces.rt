@@ -59,6 +59,13 @@ impl Pieces {
         Ok(())
     }
 
+    /// Puts a piece before the others, in a place of its own.
+    pub(crate) fn put_first(&mut self, alloc: Global, piece: Piece) -> Result<(), NoMemory>
+        ensures { OnOk result (self.new ≡ piece ∷ self.old) }
+    {
+        self.push_front(Boxed::new(alloc, piece)?)
+    }
+
     /// Takes the first piece.
     pub fn pop(&mut self) -> Option<Boxed<Piece>>
         ensures { MatchOption result ((self.old ≡ []) × (self.new ≡ [])) (λ piece. self.old ≡ piece ∷ self.new) }

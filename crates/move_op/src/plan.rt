@@ -65,6 +65,7 @@ impl Plan {
         if sender == self.destination() {
             return self.from_destination(phase, message, store, out);
         }
+        drop(message);
         Ok(phase)
     }
 

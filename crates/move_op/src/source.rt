@@ -14,7 +14,7 @@ use actor_net::Outbox;
 use basics::{Boxed, NoMemory};
 use event_filter::Action;
 use event_store::EventStore;
-use nf_msgs::{Answer, Msg, Note, Piece, SWITCH, units_in};
+use nf_msgs::{Answer, Msg, Note, Piece, SWITCH};
 use packet_pool::Cell;
 
 impl Plan {
@@ -38,7 +38,10 @@ impl Plan {
             Msg::Deleted { .. } => self.deleted(phase, out),
             Msg::Restored { .. } => self.restored(phase, out),
             Msg::Fenced { .. } => self.source_fenced(phase, out),
-            _ => Ok(phase),
+            _ => {
+                drop(message);
+                Ok(phase)
+            }
         }
     }
 
@@ -63,7 +66,10 @@ impl Plan {
             }
             phase => match store.put(self.op, parcel) {
                 Ok(()) => Ok(phase),
-                Err((full, _parcel)) => Err(full),
+                Err((full, _parcel)) => {
+                    drop(phase);
+                    Err(full)
+                }
             },
         }
     }
@@ -135,9 +141,7 @@ impl Plan {
     {
         match phase {
             Phase::Streaming(mut stream) if have_units(piece.get().chunks.items()) => {
-                let units = units_in(self.alloc, piece.get().chunks.items())?;
-                out.send(self.source(), Msg::Delete { op: self.op, units })?;
-                stream.add(piece)?;
+                stream.take(self, piece, out)?;
                 Ok(Phase::Streaming(stream))
             }
             phase => Ok(phase),

@@ -1,7 +1,8 @@
 //! The pieces of a move while its source sends them: which records are still to be removed, and how the others go on.
 ghost use Rattle.std.specs.Prelude.{◌≡◌, [], ◌∷◌, ◌++◌, ◌||◌, false, OnOk, IfOk};
-ghost use Rattle.move_op.specs.Move.{put_back, words};
+ghost use Rattle.move_op.specs.Move.{put_back, source, words};
 ghost use Rattle.move_op.specs.Table.{asking, on_deleted, push_on};
+ghost use Rattle.nf_msgs.specs.Exports.{units_in};
 ghost use Rattle.move_op.specs.Phases as stages;
 ghost use Rattle.move_op.specs.Phases.{phase_of};
 
@@ -10,8 +11,8 @@ use crate::phase::Phase;
 use crate::pieces::Pieces;
 use crate::plan::Plan;
 use actor_net::Outbox;
-use basics::{Boxed, NoMemory, TryCopy};
-use nf_msgs::{Msg, Note, Piece, Refused};
+use basics::{Boxed, NoMemory};
+use nf_msgs::{Msg, Note, Piece, Refused, units_in};
 use std::alloc::Global;
 use std::mem;
 
@@ -40,8 +41,23 @@ impl Stream {
         }
     }
 
+    /// Takes the next piece: the source is to remove its records.
+    pub(crate) fn take(
+        &mut self,
+        plan: &Plan,
+        piece: Boxed<Piece>,
+        out: &mut Outbox<Msg, Note>,
+    ) -> Result<(), NoMemory>
+        ensures stream { OnOk result (self.new ≡ record self.old { to_remove = self.old.to_remove ++ piece ∷ []; came = self.old.came || piece.last }) }
+        ensures out { OnOk result (out.new ≡ (out.old.0 ++ (source plan.now, Msg.Delete plan.now.op (units_in piece.chunks)) ∷ [], out.old.1)) }
+    {
+        let units = units_in(plan.alloc, piece.get().chunks.items())?;
+        out.send(plan.source(), Msg::Delete { op: plan.op, units })?;
+        self.add(piece)
+    }
+
     /// Takes the next piece, whose records the source is to remove.
-    pub(crate) fn add(&mut self, piece: Boxed<Piece>) -> Result<(), NoMemory>
+    fn add(&mut self, piece: Boxed<Piece>) -> Result<(), NoMemory>
         ensures { OnOk result (self.new ≡ record self.old { to_remove = self.old.to_remove ++ piece ∷ []; came = self.old.came || piece.last }) }
     {
         self.came = self.came || piece.get().last;
@@ -104,28 +120,42 @@ impl Stream {
             newest: 0,
             last,
         };
-        self.removed.push_front(Boxed::new(plan.alloc, piece)?)?;
-        self.door = Door::Refused(why);
+        self.removed.put_first(plan.alloc, piece)?;
+        drop(mem::replace(&mut self.door, Door::Refused(why)));
         self.push(plan, out)
     }
 
     /// The pieces that are removed go on as the door says.
-    fn push(mut self, plan: &Plan, out: &mut Outbox<Msg, Note>) -> Result<Phase, NoMemory>
+    fn push(self, plan: &Plan, out: &mut Outbox<Msg, Note>) -> Result<Phase, NoMemory>
         ensures phase { IfOk result (λ next. phase_of next ≡ (push_on (words plan.now) self.to_remove self.removed self.came self.door).phase) }
         ensures out { OnOk result (out.new ≡ (out.old.0 ++ (push_on (words plan.now) self.to_remove self.removed self.came self.door).sends, out.old.1)) }
     {
-        match &self.door {
-            Door::Shut => self.ask(plan, out),
+        if matches!(self.door, Door::Shut) {
+            return self.ask(plan, out);
+        }
+        let Stream {
+            to_remove,
+            removed,
+            came,
+            door,
+        } = self;
+        match door {
             Door::Open => {
-                let removed = mem::replace(&mut self.removed, Pieces::open(plan.alloc));
                 plan.put_all(removed, out)?;
-                Ok(Phase::Streaming(self))
+                Ok(Phase::Streaming(Stream {
+                    to_remove,
+                    removed: Pieces::open(plan.alloc),
+                    came,
+                    door: Door::Open,
+                }))
             }
-            Door::Refused(why) if self.came && self.to_remove.is_empty() => {
-                let why = why.copy()?;
-                plan.restore(why, self.removed, out)
-            }
-            _ => Ok(Phase::Streaming(self)),
+            Door::Refused(why) if came && to_remove.is_empty() => plan.restore(why, removed, out),
+            door => Ok(Phase::Streaming(Stream {
+                to_remove,
+                removed,
+                came,
+                door,
+            })),
         }
     }
 

@@ -10,3 +10,4 @@ pub mod InOrder
 pub mod SortedEntries
 pub mod MadeChunks
 pub mod OrderedChunks
+pub mod Lifetimes

@@ -1,5 +1,6 @@
 //! The records that chunks bring.
 ghost use Rattle.std.specs.Prelude.{◌≡◌, true, IfOk, IfSome, OnOk, IfErr};
+ghost use Rattle.std.specs.FinMap as finite;
 ghost use Rattle.record_table.specs.Table.{AreSound};
 ghost use Rattle.record_table.specs.Chunks.{spelled, records_of, are_good};
 ghost use Rattle.record_table.specs.Entries.{map_of, AreEntriesOf};
@@ -108,6 +109,22 @@ fn records_in_any_order<F: Function>(
     ensures bad { IfErr result (IsChunkFault F.semantics chunks.now) }
 {
     let mut records = RecordMap::open(alloc);
+    read_into::<F>(alloc, chunks, &mut records)?;
+    Ok(records)
+}
+
+/// Reads the records that chunks spell into a map that is empty.
+fn read_into<F: Function>(
+    alloc: Global,
+    chunks: &[Chunk],
+    records: &mut RecordMap<F::Record>,
+) -> Result<(), ReadFault>
+    requires { records.old ≡ finite.empty }
+    ensures records { OnOk result (records.new ≡ records_of F.semantics chunks.now) }
+    ensures sound { OnOk result (AreSound F.semantics records.new) }
+    ensures good { OnOk result (are_good F.semantics chunks.now ≡ true) }
+    ensures bad { IfErr result (IsChunkFault F.semantics chunks.now) }
+{
     records.reserve(chunks.len())?;
     for (index, chunk) in chunks.iter().enumerate() {
         let Some((unit, record)) = spelled::<F>(alloc, chunk)? else {
@@ -117,7 +134,7 @@ fn records_in_any_order<F: Function>(
             return Err(ReadFault::Bad(index));
         }
     }
-    Ok(records)
+    Ok(())
 }
 
 /// The unit and the record that a chunk spells.

@@ -18,21 +18,21 @@ impl Ctrl {
     /// A command is refused, or begins. One with the number of an open operation comes in no run.
     pub(super) fn asked(
         &mut self,
-        command: Command,
+        command: &Command,
         out: &mut Outbox<Msg, Note>,
     ) -> Result<(), NoMemory>
-        ensures node { OnOk result (self.new ≡ (on_asked self.old command).node) }
-        ensures sends { OnOk result (out.new.0 ≡ out.old.0 ++ (on_asked self.old command).sends) }
-        ensures notes { OnOk result (out.new.1 ≡ out.old.1 ++ (on_asked self.old command).notes) }
+        ensures node { OnOk result (self.new ≡ (on_asked self.old command.now).node) }
+        ensures sends { OnOk result (out.new.0 ≡ out.old.0 ++ (on_asked self.old command.now).sends) }
+        ensures notes { OnOk result (out.new.1 ≡ out.old.1 ++ (on_asked self.old command.now).notes) }
     {
         let Command { op, what } = command;
-        if self.operations.contains(op) {
+        if self.operations.contains(*op) {
             return Ok(());
         }
-        if let Some(answer) = self.refusal(&what)? {
-            return self.answer(op, answer, out);
+        if let Some(answer) = self.refusal(what)? {
+            return self.answer(*op, answer, out);
         }
-        self.begin(op, what, out)
+        self.begin(*op, what, out)
     }
 
     /// The cause for which an order is refused.
@@ -96,10 +96,10 @@ impl Ctrl {
     }
 
     /// An operation begins, between the instances with the order's names.
-    fn begin(&mut self, op: u32, what: Order, out: &mut Outbox<Msg, Note>) -> Result<(), NoMemory>
-        ensures node { OnOk result (self.new ≡ (begin_step self.old op what).node) }
-        ensures sends { OnOk result (out.new.0 ≡ out.old.0 ++ (begin_step self.old op what).sends) }
-        ensures notes { OnOk result (out.new.1 ≡ out.old.1 ++ (begin_step self.old op what).notes) }
+    fn begin(&mut self, op: u32, what: &Order, out: &mut Outbox<Msg, Note>) -> Result<(), NoMemory>
+        ensures node { OnOk result (self.new ≡ (begin_step self.old op what.now).node) }
+        ensures sends { OnOk result (out.new.0 ≡ out.old.0 ++ (begin_step self.old op what.now).sends) }
+        ensures notes { OnOk result (out.new.1 ≡ out.old.1 ++ (begin_step self.old op what.now).notes) }
     {
         match what {
             Order::Move {
@@ -108,18 +108,18 @@ impl Ctrl {
                 filter,
                 keep,
             } => {
-                let source = self.place_of(&src);
-                let destination = self.place_of(&dst);
-                self.begin_move(op, source, destination, &filter, keep, out)
+                let source = self.place_of(src);
+                let destination = self.place_of(dst);
+                self.begin_move(op, source, destination, filter, *keep, out)
             }
             Order::Copy { src, dst, filter } => {
-                let source = self.place_of(&src);
-                let destination = self.place_of(&dst);
-                self.begin_copy(op, source, destination, filter, out)
+                let source = self.place_of(src);
+                let destination = self.place_of(dst);
+                self.begin_copy(op, source, destination, *filter, out)
             }
             Order::Share { members, filter } => {
                 let members = self.places_of(members.items())?;
-                self.begin_share(op, members, &filter, out)
+                self.begin_share(op, members, filter, out)
             }
         }
     }

@@ -1,8 +1,9 @@
 -- A chunk of a unit after the last one brings its record.
-use Rattle.std.proofs.Common.{◌≡◌, ◌∙◌, ◌+◌, ◌∷◌, ◌++◌, [], true, Some, sym, ap, take}
+use Rattle.std.proofs.Common.{append-nil, ◌≡◌, ◌∙◌, ◌+◌, ◌∷◌, ◌++◌, [], true, Some, sym, ap, take}
 use Rattle.std.proofs.lemmas.List.{take_more}
 use Rattle.record_table.specs.Chunks.{spelled}
 use Rattle.record_table.specs.Keeping.{comes_after}
+use Rattle.record_table.proofs.Lifetimes.{of_none, of_entry}
 use Rattle.record_table.proofs.OrderedChunks.{none_in_order, one_more}
 use Rattle.record_table.proofs.reading.records_in_order.Goals as goal
 
@@ -22,3 +23,9 @@ loop-chunk-preserved g c =
     let next : comes_after c.loop-chunk.last c.in-Some.unit ≡ true = sym c.comes_after.ensures ∙ c.if-not-comes_after.false in
     rw (more, c.in_ok-push.ensures.items)
     (one_more f front c.loop-chunk.entries.items c.loop-chunk.last chunk c.in-Some.unit c.in-Some.record c.loop-chunk.invariant spells valid next)
+
+pub branch-entries-requires : goal.branch-entries-requires
+branch-entries-requires g c κs = λ h. (simp append-nil (of_entry κs.0 g.row.F-Record.lives h), of_none κs.1.0)
+
+pub branch-unit-requires : goal.branch-unit-requires
+branch-unit-requires g c κs = λ h. (simp append-nil (of_entry κs.0 g.row.F-Record.lives h), of_none κs.1.0)

@@ -3,7 +3,7 @@ use Rattle.std.proofs.Common.{rules}
 use Rattle.copy_share.proofs.OtherMessages.{other_of_member}
 use Rattle.copy_share.proofs.share.ShareOp.on.Goals as goal
 
-pub returns : goal.returns
-returns c =
+pub returns-in_default : goal.returns-in_default
+returns-in_default c =
     let no = c.in_default in
     rw (other_of_member c.args.self.now c.args.sender c.args.message no.not-Fenced no.not-Chunks no.not-Shared no.not-Synced) (search rules)

@@ -8,12 +8,12 @@ use Rattle.ctrl_node.proofs.operations.Operations.remove.Goals as goal
 
 pub invariant_of-self : goal.invariant_of-self
 invariant_of-self c =
-    let old = c.self.inside.by_number.entries in let left = c.shift_remove-closed.ensures in (
+    let old = c.self.inside.by_number.entries in let left = c.shift_remove.ensures in (
       subst (λ es. Rise (keys_of es)) (sym left.entries) (rest_rise (eqb c.args.op) old c.self.invariant.0),
-      subst (AreNoted c.self.inside.shares) (sym (removed old c.shift_remove-closed.new.self.entries (view old) c.args.op refl left.updates.0))
+      subst (AreNoted c.self.inside.shares) (sym (removed old c.shift_remove.new.self.entries (view old) c.args.op refl left.updates.0))
           (noted_without c.self.inside.shares (view old) c.args.op c.self.invariant.1),
     )
 
 pub returns : goal.returns
-returns c = removed c.self.inside.by_number.entries c.shift_remove-closed.new.self.entries c.args.self.now c.args.op c.self.view_is
-    c.shift_remove-closed.ensures.updates.0
+returns c = removed c.self.inside.by_number.entries c.shift_remove.new.self.entries c.args.self.now c.args.op c.self.view_is
+    c.shift_remove.ensures.updates.0

@@ -4,7 +4,7 @@ use Rattle.move_op.specs.Phases.{phase_of}
 use Rattle.move_op.proofs.OtherMessages.{other_of_destination}
 use Rattle.move_op.proofs.plan.Plan.from_destination.Goals as goal
 
-pub returns : goal.returns
-returns c =
+pub returns-in_default : goal.returns-in_default
+returns-in_default c =
     let no = c.in_default in
     rw (other_of_destination c.args.self.now (phase_of c.args.phase) _ c.args.message no.not-PutOk no.not-PutNo no.not-Enabled no.not-Fenced) (search rules)

@@ -1,9 +1,10 @@
 -- The copies are as valid as the records that stand by, and each takes the place of what is live.
-use Rattle.std.proofs.Common.{◌≡◌, refl, ap, ◌∙◌}
+use Rattle.std.proofs.Common.{◌≡◌, refl, ap, ◌∙◌, append-nil}
 use Rattle.record_table.specs.declared.record_map.Keep.TheVariants.{Coming}
 use Rattle.record_table.specs.Table.{replaced_by}
 use Rattle.record_table.proofs.RecordLookUps.{sound_joined, sound_retain_keys}
 use Rattle.record_table.proofs.CopiedRecords.{those, each_promoted}
+use Rattle.record_table.proofs.Lifetimes.{of_none, of_map}
 use Rattle.record_table.proofs.table.Table.promote.Given.{Over}
 use Rattle.record_table.proofs.table.Table.promote.Goals as goal
 use Rattle.record_table.proofs.table.Table.promote.Goals.{In_ok-join}
@@ -28,3 +29,9 @@ invariant_of-self-2 g c =
           (sound_retain_keys f c.self.inside.standby _ c.self.invariant.1)),
       c.self.invariant.1,
     )
+
+pub branch-copies-requires : goal.branch-copies-requires
+branch-copies-requires g c κs = λ h. (simp append-nil (of_map κs.0 g.row.F-Record.lives h), of_none κs.1.0)
+
+pub invariant_of-self : goal.invariant_of-self
+invariant_of-self g c = (rw c.in_err-join.ensures.err c.self.invariant.0, c.self.invariant.1)

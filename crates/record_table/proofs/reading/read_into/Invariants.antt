@@ -2,7 +2,7 @@
 use Rattle.std.proofs.Common.{◌≡◌, true, take}
 use Rattle.record_table.specs.Table.{AreSound}
 use Rattle.record_table.specs.Chunks.{records_of, are_good}
-use Rattle.record_table.proofs.reading.records_in_any_order.Given as goal
+use Rattle.record_table.proofs.reading.read_into.Given as goal
 
 abbrev pub invariant-loop-index : goal.invariant-loop-index
 invariant-loop-index g l = record {

@@ -9,9 +9,9 @@ use Rattle.nf_function.specs.Semantics.{is_sound}
 use Rattle.record_table.specs.Chunks.{spelled, records_of}
 use Rattle.record_table.proofs.RecordLookUps.{sound_with_kept}
 use Rattle.record_table.proofs.ChunkFronts.{brought_by_none, good_none, brings, good_more, bad_none, bad_again, first_bad}
-use Rattle.record_table.proofs.reading.records_in_any_order.Given.{Over}
-use Rattle.record_table.proofs.reading.records_in_any_order.Goals as goal
-use Rattle.record_table.proofs.reading.records_in_any_order.Goals.{In_ok-insert}
+use Rattle.record_table.proofs.reading.read_into.Given.{Over}
+use Rattle.record_table.proofs.reading.read_into.Goals as goal
+use Rattle.record_table.proofs.reading.read_into.Goals.{In_ok-insert}
 
 was_new : (a b : Bool) → a ≡ not b → b ≡ not a
 was_new a true h = ap not (sym h)
@@ -27,9 +27,9 @@ found g c = sym c.in_ok-unit.ensures.found ∙ c.in-Some.is
 
 pub loop-index-init : goal.loop-index-init
 loop-index-init g c = record {
-  records = c.in_ok-reserve.ensures ∙ c.open-records.ensures ∙ sym (brought_by_none g.F.Function.semantics);
+  records = c.in_ok-reserve.ensures ∙ c.requires ∙ sym (brought_by_none g.F.Function.semantics);
   good = good_none g.F.Function.semantics;
-  sound = λ u. rw (c.in_ok-reserve.ensures, c.open-records.ensures, get-empty unit_cmp u) refl;
+  sound = λ u. rw (c.in_ok-reserve.ensures, c.requires, get-empty unit_cmp u) refl;
 }
 
 pub returns-in_default-clause-bad : goal.returns-in_default-clause-bad
