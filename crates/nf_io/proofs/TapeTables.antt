@@ -1,6 +1,6 @@
 -- One role's tape takes the place of what it was: the role shows the new one, and the others show what they showed.
-use Rattle.std.proofs.Common.{◌≡◌, ◌≢◌, ℕ, ◌<◌, zero, suc, List, [], ◌∷◌, ◌++◌, length, slice_set, slice_index_or, Option, Some, refl, ap, sym, ◌∙◌, subst, arith}
-use Rattle.std.proofs.Common.{None, take, Result, Ok, Err, IfOk, OnOk, OnErr}
+use Rattle.std.proofs.Common.{◌≡◌, ◌≢◌, ℕ, ◌<◌, zero, suc, List, [], ◌∷◌, ◌++◌, length, slice_set, slice_index_or, arith}
+use Rattle.std.proofs.Common.{refl, ap, sym, ◌∙◌, subst, take, Option, None, Some, Result, Ok, Err, IfOk, OnOk, OnErr}
 use Rattle.std.specs.Prelude.{option_map, slice_get, unwrap_or}
 use Rattle.std.proofs.lemmas.Option.{slice_get-get_or}
 use Rattle.nf_io.specs.declared.outside.Role.{Role}

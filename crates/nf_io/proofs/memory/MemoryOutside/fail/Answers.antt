@@ -17,5 +17,6 @@ returns c =
       others = elsewhere plan_of unplanned _ _ _ _ place;
       piece = refl;
       seen = λ role.
-          unchanged meaning_of blank (λ m. m) c.index-self-place.result c.args.self.now.tapes c.place.result c.fail.new.self c.fail.ensures.meaning (role_place role);
+          unchanged meaning_of blank (λ m. m) c.index-self-place.result c.args.self.now.tapes c.place.result c.fail.new.self c.fail.ensures.meaning
+          (role_place role);
     }

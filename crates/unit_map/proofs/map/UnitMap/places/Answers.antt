@@ -98,7 +98,8 @@ loop-item-preserved g c =
 
 pub returns : goal.returns
 returns g c = record {
-  found = subst (λ es. AllZip (λ k place. is_place_of g.K.PartialEq.eq c.loop-item.self-inside.entries.items place k ≡ true) (keys_of es) c.loop-item.places.items)
+  found = subst (λ es. AllZip (λ k place. is_place_of g.K.PartialEq.eq c.loop-item.self-inside.entries.items place k ≡ true)
+      (keys_of es) c.loop-item.places.items)
       (take_all c.loop-item.item-index c.args.items.now (omega (arith, c.loop-item-test.false))) c.loop-item.invariant.found;
   same = c.loop-item.invariant.same;
   map = c.loop-item.invariant.sound.map;
