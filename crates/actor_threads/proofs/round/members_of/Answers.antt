@@ -1,14 +1,45 @@
 -- One more worker stands as the round begins, and in the end each node's.
-use Rattle.std.proofs.Common.{◌≡◌, ◌<◌, ◌+◌, ◌*◌, ℕ, sym, ◌∙◌, ap, subst, arith, length, map, length-append, add-one, slice_index_or}
+use Rattle.std.proofs.Common.{◌≡◌, ◌<◌, ◌+◌, ◌*◌, ℕ, refl, sym, ◌∙◌, ap, subst, arith, length, map, length-append, add-one, slice_index_or}
 use Rattle.std.proofs.lemmas.List.{length-map, map-append}
 use Rattle.actor_threads.specs.Work.{fresh_worker, queues_at}
-use Rattle.actor_threads.specs.LinkTable.{row_at, name_of}
+use Rattle.actor_threads.specs.LinkTable.{row_at, name_of, AllOpened}
 use Rattle.actor_threads.specs.Round.{StartsAs}
 use Rattle.actor_threads.proofs.NotesByCounts.{rest_after}
 use Rattle.actor_threads.proofs.LinkTableLemmas.{mapped_first}
 use Rattle.actor_threads.proofs.GroupLemmas.{one_begins}
 use Rattle.actor_threads.proofs.RoundStart.{starts_as, started_more}
 use Rattle.actor_threads.proofs.round.members_of.Goals as goal
+
+pub loop-number-init : goal.loop-number-init
+loop-number-init g c =
+    let world = c.in_ok-nodes.ensures.world in
+    let whole = c.in_ok-nodes.ensures.parts in
+    let n = c.len-count.result in
+    let nodes = c.from_vec-nodes.ensures.items ∙ c.into_vec.ensures ∙ ap (λ w. w.nodes) whole in
+    let links = c.into_vec-links.ensures ∙ ap (λ w. w.links) whole in
+    let len : n ≡ length c.from_vec-nodes.result.items = omega (arith, c.len-count.ensures, c.from_vec-nodes.result.ok.0) in
+    let many = len ∙ ap length nodes in
+    let none = c.in_ok-members.ensures.items in
+    let sends = c.from_vec-sends.ensures.items in
+    let takes = c.from_vec-takes.ensures.items in
+    record {
+      within = omega arith;
+      many = many;
+      few = subst (λ k. k < 256) (sym many) world.few_nodes;
+      members = ap length none;
+      nodes = nodes;
+      opened = subst (λ l. AllOpened n n (map (λ v. v.items) l) (map (λ v. v.items) c.from_vec-takes.result.items)) (sym sends)
+          (subst (λ l. AllOpened n n (map (λ v. v.items) c.in_ok-sends.field-0.sends.items) (map (λ v. v.items) l)) (sym takes) c.in_ok-sends.ensures);
+      sends = refl;
+      takes = refl;
+      square = ap length links ∙ world.square ∙ sym (ap (λ k. k * k) many);
+      no_loop = λ _. ap (λ l. row_at l 0) links ∙ world.no_loop;
+      links = λ p j _ _. ap (λ l. row_at l (p * n + j)) links;
+      input = λ _. c.into_vec-input.ensures ∙ ap (λ w. w.input) whole;
+      later = λ z. absurd (omega (arith, z));
+      begin = λ k d h. absurd (let low : k < 0 = subst (λ l. k < length l) none h in omega (arith, low));
+      started = λ j d h. absurd (omega (arith, h));
+    }
 
 pub worker_of-requires-clause-count : goal.worker_of-requires-clause-count
 worker_of-requires-clause-count g c =

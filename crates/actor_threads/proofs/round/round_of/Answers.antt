@@ -6,6 +6,14 @@ use Rattle.actor_threads.proofs.RoundWithoutChoice.{history_of}
 use Rattle.actor_threads.proofs.RoundLemmas.{seen, members_count, can_close_members, is_run, is_replay, none_enabled, no_choice, regather, reclose}
 use Rattle.actor_threads.proofs.round.round_of.Goals as goal
 
+pub run_all-requires-clause-some : goal.run_all-requires-clause-some
+run_all-requires-clause-some g c _ _ =
+    let begin = c.in_ok-members.ensures in
+    subst (λ n. 0 < n) (sym (members_count c.args.world c.in_ok-members.members.items begin.members)) begin.world.some_node
+
+pub run_all-requires-clause-begin : goal.run_all-requires-clause-begin
+run_all-requires-clause-begin g c _ _ = c.in_ok-members.ensures.begin
+
 pub gather-requires : goal.gather-requires
 gather-requires g c =
     let before = c.in_ok-members.members.items in
