@@ -1,20 +1,46 @@
 ghost use Rattle.std.specs.Prelude.{◌≡◌};
 
 use basics::NoMemory;
-use fifo_link::{Link, SendEnd, TakeEnd, close};
+use fifo_link::{Full, Link, SendEnd, TakeEnd, close};
+use std::process::Abort;
 use std::sync::Wait;
 use std::test::Fail;
 use std::thread;
 
+/// The message that a send hands back, if it does.
+fn handed_back(sent: Result<(), Full<u64>>) -> Option<u64> {
+    match sent {
+        Ok(()) => None,
+        Err(Full { message }) => Some(message),
+    }
+}
+
+/// Fills an empty link of one place with 1, sends 2, and takes all that there is.
+fn fill_and_send<R: Wait + Abort>(rt: &R, send: &mut SendEnd<u64>, take: &mut TakeEnd<u64>) {
+    assert!(rt; send.send(rt, 1).is_ok());
+    assert_eq!(rt; handed_back(send.send(rt, 2)), Some(2));
+    assert_eq!(rt; take.take(rt), Some(1));
+    assert!(rt; take.take(rt).is_none());
+}
+
 #[test]
 fn a_full_link_hands_the_message_back(rt: HostRuntime) -> Result<(), Fail> {
     let (mut send, mut take) = Link::<u64>::open(rt.alloc(), 1)?;
-    assert!(rt; send.send(&rt, 1).is_ok());
-    let second = send.send(&rt, 2);
-    assert_eq!(rt; second.err().map(|full| full.message), Some(2));
-    assert_eq!(rt; take.take(&rt), Some(1));
-    assert!(rt; take.take(&rt).is_none());
+    fill_and_send(&rt, &mut send, &mut take);
     Ok(())
+}
+
+/// Fills an empty link of one place with this number, and empties it.
+fn fill_and_empty<R: Wait + Abort>(
+    rt: &R,
+    send: &mut SendEnd<u64>,
+    take: &mut TakeEnd<u64>,
+    number: u64,
+) {
+    assert!(rt; take.take(rt).is_none());
+    assert!(rt; send.send(rt, number).is_ok());
+    assert!(rt; send.send(rt, 9).is_err());
+    assert_eq!(rt; take.take(rt), Some(number));
 }
 
 // A taker that answered none for good after its first none would keep its clauses, and so would a sender that stayed full.
@@ -22,10 +48,7 @@ fn a_full_link_hands_the_message_back(rt: HostRuntime) -> Result<(), Fail> {
 fn ends_go_on_after_an_empty_link_and_a_full_one(rt: HostRuntime) -> Result<(), Fail> {
     let (mut send, mut take) = Link::<u64>::open(rt.alloc(), 1)?;
     for number in 0u64..3 {
-        assert!(rt; take.take(&rt).is_none());
-        assert!(rt; send.send(&rt, number).is_ok());
-        assert!(rt; send.send(&rt, 9).is_err());
-        assert_eq!(rt; take.take(&rt), Some(number));
+        fill_and_empty(&rt, &mut send, &mut take, number);
     }
     Ok(())
 }

@@ -1,13 +1,16 @@
 //! Tests of runs by threads: their choices replay to the world that they leave, and two workers are in a step at once.
-ghost use Rattle.std.specs.Prelude.{◌==◌, ◌-◌, ◌<◌, true, if◌then◌else◌, [], ◌∷◌};
+ghost use Rattle.std.specs.Prelude.{◌==◌, ◌-◌, ◌<◌, true, if◌then◌else◌, [], ◌∷◌, ◌≡◌, length, IfOk};
 
 use crate::meeting::Meeting;
-use actor_net::{Actor, Choice, Outbox, World, replay};
+use actor_net::{Actor, Choice, Choices, Outbox, TakeFault, World, replay};
 use actor_threads::{Gate, OpenGate, run_round, run_threads};
 use basics::NoMemory;
 use std::alloc::Global;
+use std::process::Abort;
+use std::sync::Wait;
 use std::sync::atomic::{AtomicU64, Ordering};
 use std::test::Fail;
+use std::thread::Threads;
 
 /// A node that passes what it hears on to two others, counted down, and notes it.
 #[derive(Drop)]
@@ -45,9 +48,10 @@ impl Actor for Chatter {
     }
 }
 
-/// A world of chatting nodes, with as many items, each of this value.
-fn chat(alloc: Global, nodes: u8, items: usize, value: u8) -> Result<World<Chatter>, NoMemory>
+/// So many chatting nodes.
+fn chatters(alloc: Global, nodes: u8) -> Result<Vec<Chatter>, NoMemory>
     requires { (0 < nodes) × (nodes < 250) }
+    ensures { IfOk result (λ all. length all.items ≡ nodes) }
 {
     let mut all = Vec::new(alloc);
     for number in 0..nodes {
@@ -56,18 +60,42 @@ fn chat(alloc: Global, nodes: u8, items: usize, value: u8) -> Result<World<Chatt
             second: (number + 2) % nodes,
         })?;
     }
-    World::start(alloc, all, Vec::from_elem(alloc, value, items)?)
+    Ok(all)
+}
+
+/// A world of chatting nodes, with as many items, each of this value.
+fn chat(alloc: Global, nodes: u8, items: usize, value: u8) -> Result<World<Chatter>, NoMemory>
+    requires { (0 < nodes) × (nodes < 250) }
+{
+    let items = Vec::from_elem(alloc, value, items)?;
+    World::start(alloc, chatters(alloc, nodes)?, items)
+}
+
+/// Whether each choice of a run to this end made a note, and a replay of the choices makes the same ones.
+fn is_replay(alloc: Global, end: &World<Chatter>, choices: &[Choice]) -> Result<bool, Fail> {
+    let again = replay(chat(alloc, 16, 16, 3)?, choices)?;
+    Ok(end.complete() && choices.len() == end.log().len() && again.log() == end.log())
+}
+
+/// Runs sixteen chatting nodes to their end by threads, and then by the choices of that run. Whether both make the same notes.
+fn is_replayed<R: Threads + Wait + Sync>(rt: &R, alloc: Global) -> Result<bool, Fail> {
+    let world = chat(alloc, 16, 16, 3)?;
+    let (end, choices) = run_threads(rt, alloc, world, &OpenGate)?;
+    is_replay(alloc, &end, choices.items())
 }
 
 #[test]
 fn sixteen_chatting_nodes_are_replayed_100_times(rt: HostRuntime) -> Result<(), Fail> {
     for _ in 0..100 {
-        let world = chat(rt.alloc(), 16, 16, 3)?;
-        let (end, choices) = run_threads(&rt, rt.alloc(), world, &OpenGate)?;
-        assert!(rt; end.complete());
-        assert_eq!(rt; choices.items().len(), end.log().len());
-        let again = replay(chat(rt.alloc(), 16, 16, 3)?, choices.items())?;
-        assert_eq!(rt; again.log(), end.log());
+        assert!(rt; is_replayed(&rt, rt.alloc())?);
+    }
+    Ok(())
+}
+
+/// Takes so many items at node 0.
+fn take_items(world: &mut World<Chatter>, items: usize) -> Result<(), TakeFault> {
+    for _ in 0..items {
+        world.take(Choice { node: 0, port: 0 })?;
     }
     Ok(())
 }
@@ -75,23 +103,28 @@ fn sixteen_chatting_nodes_are_replayed_100_times(rt: HostRuntime) -> Result<(), 
 /// A world of three chatting nodes in which so many messages wait for each of nodes 1 and 2, and none for node 0.
 fn crowded(alloc: Global, items: usize) -> Result<World<Chatter>, Fail> {
     let mut world = chat(alloc, 3, items, 1)?;
-    for _ in 0..items {
-        world
-            .take(Choice { node: 0, port: 0 })
-            .ok()
-            .ok_or("no item")?;
-    }
+    take_items(&mut world, items)?;
     Ok(world)
+}
+
+/// The choices of a run of a crowded world by threads through a gate.
+fn crowded_run<R: Threads + Wait + Sync>(
+    rt: &R,
+    alloc: Global,
+    gate: &Meeting,
+) -> Result<Choices, Fail> {
+    let world = crowded(alloc, 1024)?;
+    let (_, choices) = run_threads(rt, alloc, world, gate)?;
+    Ok(choices)
 }
 
 /// Both workers have messages from the start, and so many that neither is through before the other begins.
 #[test]
 fn two_workers_are_in_a_pass_at_once(rt: HostRuntime) -> Result<(), Fail> {
     let gate = Meeting::open(1, 2);
-    let world = crowded(rt.alloc(), 1024)?;
-    let (_end, choices) = run_threads(&rt, rt.alloc(), world, &gate)?;
+    let choices = crowded_run(&rt, rt.alloc(), &gate)?.items().len();
     assert!(rt; gate.met());
-    assert_eq!(rt; gate.passes(), choices.items().len() as u64);
+    assert_eq!(rt; gate.passes(), choices as u64);
     Ok(())
 }
 
@@ -115,6 +148,29 @@ impl Gate for Counting {
     }
 }
 
+/// A round of three chatting nodes through a gate. Its choices.
+fn told_round<R: Threads + Wait + Sync>(
+    rt: &R,
+    alloc: Global,
+    gate: &Counting,
+) -> Result<Choices, Fail> {
+    let world = chat(alloc, 3, 16, 3)?;
+    let (_, choices) = run_round(rt, alloc, world, gate)?;
+    Ok(choices)
+}
+
+/// Looks whether a gate was told the steps of a round with these choices.
+fn see_told(rt: &impl Abort, gate: &Counting, choices: &[Choice]) {
+    assert_eq!(rt; gate.wrong.load(Ordering::SeqCst), 0);
+    for node in 0..3u8 {
+        let steps = choices.iter().filter(|choice| choice.node == node).count();
+        assert_eq!(rt;
+            gate.passes[node as usize].load(Ordering::SeqCst),
+            steps as u64
+        );
+    }
+}
+
 #[test]
 fn a_gate_is_told_the_steps_of_each_node_in_the_round(rt: HostRuntime) -> Result<(), Fail> {
     for _ in 0..2 {
@@ -122,19 +178,8 @@ fn a_gate_is_told_the_steps_of_each_node_in_the_round(rt: HostRuntime) -> Result
             passes: [AtomicU64::new(0), AtomicU64::new(0), AtomicU64::new(0)],
             wrong: AtomicU64::new(0),
         };
-        let (_end, choices) = run_round(&rt, rt.alloc(), chat(rt.alloc(), 3, 16, 3)?, &gate)?;
-        assert_eq!(rt; gate.wrong.load(Ordering::SeqCst), 0);
-        for node in 0..3u8 {
-            let steps = choices
-                .items()
-                .iter()
-                .filter(|choice| choice.node == node)
-                .count();
-            assert_eq!(rt;
-                gate.passes[node as usize].load(Ordering::SeqCst),
-                steps as u64
-            );
-        }
+        let choices = told_round(&rt, rt.alloc(), &gate)?;
+        see_told(&rt, &gate, choices.items());
     }
     Ok(())
 }
