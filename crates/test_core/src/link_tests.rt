@@ -1,3 +1,4 @@
+//! Tests of links: a full one hands a message back, an empty one gives none, and what is sent comes in order, also from another thread.
 ghost use Rattle.std.specs.Prelude.{◌≡◌};
 
 use basics::NoMemory;
