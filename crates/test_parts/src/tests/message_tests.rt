@@ -1,11 +1,12 @@
 //! Tests of messages, notes and answers: their words, and how much room they take.
-use basics::{Boxed, Bytes, NoMemory};
+use basics::{Boxed, Bytes, NoMemory, Text};
 use event_filter::Mark;
 use flow_filter::Name;
 use nf_function::{Chunk, Chunks, Scope, Unit};
 use nf_msgs::{Answer, KeptUnits, Msg, Note, Piece, print_answer, show};
 use packet_pool::Pool;
 use std::alloc::Global;
+use std::process::Abort;
 use std::test::Fail;
 use test_packets::{FLOW, PACKET};
 
@@ -15,25 +16,33 @@ fn each_answer_has_its_words(rt: HostRuntime) -> Result<(), Fail> {
     let Some(name) = Name::read(alloc, b"z9")? else {
         return Ok(());
     };
+    assert_printed(&rt, alloc, Answer::Unknown(name), "unknown z9")?;
+    assert_printed(&rt, alloc, Answer::Done, "done")?;
+    assert_printed(&rt, alloc, Answer::Overlap(12), "overlap 12")?;
     let import = Answer::Import {
         held: 2,
         coming: 3,
         limit: 4,
     };
+    assert_printed(&rt, alloc, import, "import 2 3 4")?;
     let old = Answer::Old {
         newest: 2,
         reads: 1,
     };
-    let cases: [(Answer, &str); 5] = [
-        (Answer::Done, "done"),
-        (Answer::Unknown(name), "unknown z9"),
-        (Answer::Overlap(12), "overlap 12"),
-        (import, "import 2 3 4"),
-        (old, "old 2 1"),
-    ];
-    for (answer, words) in &cases {
-        assert_eq!(rt; print_answer(alloc, answer)?.items(), words.as_bytes());
-    }
+    assert_printed(&rt, alloc, old, "old 2 1")?;
+    Ok(())
+}
+
+/// Asserts that an answer is printed as these words.
+fn assert_printed(
+    rt: &impl Abort,
+    alloc: Global,
+    answer: Answer,
+    words: &str,
+) -> Result<(), NoMemory> {
+    let text = print_answer(alloc, &answer);
+    drop(answer);
+    assert_eq!(rt; text?.items(), words.as_bytes());
     Ok(())
 }
 
@@ -41,32 +50,58 @@ fn each_answer_has_its_words(rt: HostRuntime) -> Result<(), Fail> {
 fn a_message_is_shown_by_its_kind_and_numbers(rt: HostRuntime) -> Result<(), Fail> {
     let alloc = rt.alloc();
     let mut pool = Pool::open(0, 1);
-    if let Ok(parcel) = pool.take(Boxed::new(alloc, PACKET)?) {
-        let forward = Msg::Forward {
-            parcel,
-            mark: Mark::Pass(3),
-            to: 1,
-        };
-        assert_eq!(rt;
-            show(alloc, &forward)?.items(),
-            b"forward packet 1 to 1".as_slice()
-        );
+    if let Some(forward) = forward_shown(alloc, &mut pool)? {
+        assert_eq!(rt; forward.items(), b"forward packet 1 to 1".as_slice());
     }
     assert_eq!(rt; pool.home(), 0);
+    assert_eq!(rt; put_shown(alloc)?.items(), b"put op 4".as_slice());
+    assert_eq!(rt; shown(alloc, Msg::Finish)?.items(), b"finish".as_slice());
+    Ok(())
+}
+
+/// The text of a message.
+fn shown(alloc: Global, message: Msg) -> Result<Text, NoMemory> {
+    let text = show(alloc, &message);
+    drop(message);
+    text
+}
+
+/// The text of a packet that is forwarded in a cell of this pool, if one is at home.
+fn forward_shown(alloc: Global, pool: &mut Pool) -> Result<Option<Text>, NoMemory> {
+    match pool.take(Boxed::new(alloc, PACKET)?) {
+        Ok(parcel) => {
+            let mark = Mark::Pass(3);
+            let text = shown(
+                alloc,
+                Msg::Forward {
+                    parcel,
+                    mark,
+                    to: 1,
+                },
+            )?;
+            Ok(Some(text))
+        }
+        Err(_packet) => Ok(None),
+    }
+}
+
+/// The text of a move's first piece, which has no chunks.
+fn put_shown(alloc: Global) -> Result<Text, NoMemory> {
     let piece = Piece {
         chunks: Chunks::open(alloc),
         total: 0,
         newest: 1,
         last: true,
     };
-    let put = Msg::Put {
-        op: 4,
-        piece: Boxed::new(alloc, piece)?,
-        first: true,
-    };
-    assert_eq!(rt; show(alloc, &put)?.items(), b"put op 4".as_slice());
-    assert_eq!(rt; show(alloc, &Msg::Finish)?.items(), b"finish".as_slice());
-    Ok(())
+    let piece = Boxed::new(alloc, piece)?;
+    shown(
+        alloc,
+        Msg::Put {
+            op: 4,
+            piece,
+            first: true,
+        },
+    )
 }
 
 #[test]
@@ -94,16 +129,39 @@ fn kept_units_are_those_of_the_chunks_that_have_one(rt: HostRuntime) -> Result<(
         ),
     ];
     for (units, wanted) in cases {
-        let kept = KeptUnits::of(alloc, chunks_of(alloc, units)?.items())?;
-        assert_eq!(rt; kept.list(alloc)?.items(), wanted);
-        assert_eq!(rt; kept.count(), wanted.len());
+        assert_kept(&rt, alloc, units, wanted)?;
     }
     Ok(())
+}
+
+/// Asserts that the kept units of chunks of some units are the wanted ones.
+fn assert_kept(
+    rt: &impl Abort,
+    alloc: Global,
+    units: &[Option<Unit>],
+    wanted: &[Unit],
+) -> Result<(), NoMemory> {
+    let kept = kept_of(alloc, units)?;
+    assert_eq!(rt; kept.list(alloc)?.items(), wanted);
+    assert_eq!(rt; kept.count(), wanted.len());
+    Ok(())
+}
+
+/// The kept units of chunks of these units.
+fn kept_of(alloc: Global, units: &[Option<Unit>]) -> Result<KeptUnits, NoMemory> {
+    let chunks = chunks_of(alloc, units)?;
+    KeptUnits::of(alloc, chunks.items())
 }
 
 /// Chunks without bytes, of these units.
 fn chunks_of(alloc: Global, units: &[Option<Unit>]) -> Result<Chunks, NoMemory> {
     let mut chunks = Chunks::open(alloc);
+    push_each(&mut chunks, alloc, units)?;
+    Ok(chunks)
+}
+
+/// Puts a chunk without bytes of each of these units after others.
+fn push_each(chunks: &mut Chunks, alloc: Global, units: &[Option<Unit>]) -> Result<(), NoMemory> {
     for unit in units {
         chunks.push(Chunk {
             scope: Scope::PerFlow,
@@ -111,5 +169,5 @@ fn chunks_of(alloc: Global, units: &[Option<Unit>]) -> Result<Chunks, NoMemory> 
             bytes: Bytes::open(alloc),
         })?;
     }
-    Ok(chunks)
+    Ok(())
 }

@@ -1,5 +1,6 @@
 //! Tests of the switch's rules: where a flow goes, also after redirects, and how many groups the routes take.
 use flow_filter::{Filter, Flow, Prefix};
+use std::process::Abort;
 use std::test::Fail;
 use switch_rules::{Classifier, Rules, Target};
 
@@ -35,8 +36,6 @@ fn the_first_rule_counts_and_not_the_longest_mask(rt: HostRuntime) -> Result<(),
         (Filter::parse("local=0.0.0.0/0")?, Target::Instance(2)),
         (Filter::ANY, Target::Instance(3)),
     ];
-    let classifier = Classifier::build(rt.alloc(), &rules)?;
-    assert_eq!(rt; classifier.groups(), 3);
     let web = Flow {
         local: 0x0a00_0009,
         remote: 0xc633_6407,
@@ -44,15 +43,15 @@ fn the_first_rule_counts_and_not_the_longest_mask(rt: HostRuntime) -> Result<(),
         rport: 80,
         proto: 6,
     };
-    assert_eq!(rt; classifier.target(&web), Some(Target::Controller));
+    let other = Flow { rport: 81, ..web };
     assert_eq!(rt;
-        classifier.target(&Flow { rport: 81, ..web }),
-        Some(Target::Instance(2))
-    );
-    assert_eq!(rt;
-        Classifier::build(rt.alloc(), &rules[..2])?.target(&Flow { rport: 81, ..web }),
+        Classifier::build(rt.alloc(), &rules[..2])?.target(&other),
         None
     );
+    let classifier = Classifier::build(rt.alloc(), &rules)?;
+    assert_eq!(rt; classifier.groups(), 3);
+    assert_eq!(rt; classifier.target(&web), Some(Target::Controller));
+    assert_eq!(rt; classifier.target(&other), Some(Target::Instance(2)));
     Ok(())
 }
 
@@ -96,9 +95,9 @@ fn each_of_2000_flows_goes_by_its_own_of_1000_routes(rt: HostRuntime) -> Result<
 }
 
 /// A UDP flow of a host of 10.0.0.0/16, by the last two bytes of its address.
-const fn flow_at(net: u8, host: u8, lport: u16) -> Flow {
+fn flow_at(net: u8, host: u8, lport: u16) -> Flow {
     Flow {
-        local: 0x0a00_0000 + net as u32 * 0x100 + host as u32,
+        local: 0x0a00_0000 + u32::from(net) * 0x100 + u32::from(host),
         remote: 0xc000_0209,
         lport,
         rport: 53,
@@ -125,13 +124,18 @@ fn a_redirect_takes_flows_from_all_rules_of_the_old_target(rt: HostRuntime) -> R
         (Filter::parse("local=10.0.1.0/24")?, 3),
         (Filter::parse("local=10.0.2.0/24")?, 1),
     ];
-    let mut rules = Rules::open(rt.alloc(), &routes)?;
     let dns = Filter::parse("lport=53")?;
+    let mut rules = Rules::open(rt.alloc(), &routes)?;
     rules.redirect(&dns, Target::Instance(1), Target::Controller)?;
+    assert_redirected(&rt, &rules);
+    Ok(())
+}
+
+/// Asserts where flows of four nets go once those to port 53 of instance 1 go to the controller.
+fn assert_redirected(rt: &impl Abort, rules: &Rules) {
     assert_eq!(rt; rules.target(&flow_at(0, 1, 53)), Target::Controller);
     assert_eq!(rt; rules.target(&flow_at(0, 1, 54)), Target::Instance(1));
     assert_eq!(rt; rules.target(&flow_at(1, 1, 53)), Target::Instance(3));
     assert_eq!(rt; rules.target(&flow_at(2, 1, 53)), Target::Controller);
     assert_eq!(rt; rules.target(&flow_at(3, 1, 53)), Target::Instance(0));
-    Ok(())
 }

@@ -5,6 +5,7 @@ use flow_filter::{Direction, Filter, Flow};
 use nf_function::{Chunks, Unit, Units};
 use record_table::{ImportFault, Table};
 use std::alloc::Global;
+use std::process::Abort;
 use std::test::Fail;
 use test_packets::{FLOW, SITE, packet};
 
@@ -31,9 +32,15 @@ fn record(packets: u64) -> TrackRecord {
 fn table(alloc: Global, hosts: &[u8]) -> Result<Table<Conntrack>, NoMemory> {
     let mut table = Table::open(alloc);
     for host in hosts {
-        table.step(&SITE, &packet(1, *host, 5000), true)?;
+        step_on(&mut table, *host)?;
     }
     Ok(table)
+}
+
+/// Steps a table on a packet of a host.
+fn step_on(table: &mut Table<Conntrack>, host: u8) -> Result<(), NoMemory> {
+    table.step(&SITE, &packet(1, host, 5000), true)?;
+    Ok(())
 }
 
 /// The chunks of the records that packets of these hosts leave.
@@ -114,26 +121,43 @@ fn a_newer_live_record_stays_and_an_older_one_goes(rt: HostRuntime) -> Result<()
 #[test]
 fn records_that_stand_by_are_apart(rt: HostRuntime) -> Result<(), Fail> {
     let alloc = rt.alloc();
+    let coming = chunks(alloc, &[1, 1, 2])?;
     let mut kept = table(alloc, &[1])?;
-    assert_eq!(rt; refused(kept.set_standby(chunks(alloc, &[1, 1, 2])?)), None);
-    assert_eq!(rt; found(&kept, 1, true), Some(record(1)));
-    assert_eq!(rt; found(&kept, 1, false), Some(record(2)));
-    assert_eq!(rt; found(&kept, 2, true), None);
+    assert_apart(&rt, &mut kept, coming);
     Ok(())
+}
+
+/// Asserts that a table with a record of host 1 keeps it where it lets chunks of later records stand by.
+fn assert_apart(rt: &impl Abort, kept: &mut Table<Conntrack>, coming: Chunks) {
+    assert_eq!(rt; refused(kept.set_standby(coming)), None);
+    assert_eq!(rt; found(kept, 1, true), Some(record(1)));
+    assert_eq!(rt; found(kept, 1, false), Some(record(2)));
+    assert_eq!(rt; found(kept, 2, true), None);
 }
 
 #[test]
 fn units_are_selected_in_order_and_removed(rt: HostRuntime) -> Result<(), Fail> {
     let alloc = rt.alloc();
     let mut kept = table(alloc, &[9, 2, 5])?;
-    assert_eq!(rt; kept.select(&Filter::ANY)?.items().len(), 3);
-    assert_eq!(rt;
-        kept.units(true)?.items(),
-        [unit(2), unit(5), unit(9)].as_slice()
-    );
-    let mut gone = Units::open(alloc);
-    gone.push(unit(5))?;
-    assert_eq!(rt; kept.remove(&gone), 1);
+    assert_selected(&rt, &kept)?;
+    assert_eq!(rt; removed(alloc, &mut kept, unit(5))?, 1);
     assert_eq!(rt; kept.live_count(), 2);
     Ok(())
+}
+
+/// Asserts that a table has live records of the hosts 2, 5 and 9, and gives them in this order.
+fn assert_selected(rt: &impl Abort, table: &Table<Conntrack>) -> Result<(), NoMemory> {
+    assert_eq!(rt; table.select(&Filter::ANY)?.items().len(), 3);
+    assert_eq!(rt;
+        table.units(true)?.items(),
+        [unit(2), unit(5), unit(9)].as_slice()
+    );
+    Ok(())
+}
+
+/// How many live records are removed where those of one unit are.
+fn removed(alloc: Global, table: &mut Table<Conntrack>, unit: Unit) -> Result<u32, NoMemory> {
+    let mut gone = Units::open(alloc);
+    gone.push(unit)?;
+    Ok(table.remove(&gone))
 }
