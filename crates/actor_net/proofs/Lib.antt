@@ -1,3 +1,4 @@
+pub mod ChoiceCodeLemmas
 pub mod ClockOrder
 pub mod ClockOrderRun
 pub mod ClockOrderStep

@@ -7,3 +7,4 @@ pub mod Histories
 pub mod Merging
 pub mod PartialMerge
 pub mod Numbers
+pub mod ChoiceCodes

@@ -1,7 +1,5 @@
 ghost use Rattle.std.specs.Prelude.{◌≡◌, ◌<◌, ◌+◌, ◌*◌};
 
-use basics::Sequence;
-
 /// Which message is taken next: the node that takes it, and the port that it comes from. A port is the number of the
 /// sending node, and port 0 of node 0 is the input.
 #[derive(Clone, Copy, Debug, PartialEq, Eq)]
@@ -9,9 +7,6 @@ pub struct Choice {
     pub node: u8,
     pub port: u8,
 }
-
-/// Choices in the order in which they are taken, two bytes each.
-pub type Choices = Sequence<Choice>;
 
 impl Choice {
     ghost use Rattle.actor_net.specs.Network.{is_input, node_numbers};

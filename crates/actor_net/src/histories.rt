@@ -1,7 +1,8 @@
 ghost use Rattle.std.specs.Prelude.{◌≡◌, ◌++◌, map, IfOk, OnOk};
 ghost use Rattle.actor_net.specs.Merging.{IsMerge, history_steps, all_steps as all_steps_lem, choice_of};
 
-use super::choice::{Choice, Choices};
+use super::choice::Choice;
+use super::choices::Choices;
 use super::partial_merge::{merge_by_clock, nodes_rise};
 use basics::{NoMemory, Sequence};
 use std::alloc::Global;
@@ -41,7 +42,7 @@ fn merge_sorted(alloc: Global, histories: &[History]) -> Result<Choices, NoMemor
     let mut steps = all_steps(alloc, histories)?;
     steps.sort_by_key(|step| (step.clock, step.node))?;
     let choices = choices_of(alloc, steps.as_slice())?;
-    Ok(Choices::from_vec(choices))
+    Ok(choices)
 }
 
 /// The steps of all histories, one history after another.
@@ -70,14 +71,15 @@ fn push_steps(steps: &mut Vec<HistoryStep>, history: &History) -> Result<(), NoM
 }
 
 /// The choice of each step, in their order.
-fn choices_of(alloc: Global, steps: &[HistoryStep]) -> Result<Vec<Choice>, NoMemory>
-    ensures { IfOk result (λ choices. choices.items ≡ map choice_of steps.now) }
+fn choices_of(alloc: Global, steps: &[HistoryStep]) -> Result<Choices, NoMemory>
+    ensures { IfOk result (λ choices. choices ≡ map choice_of steps.now) }
 {
-    steps
-        .iter()
-        .map(|step| Choice {
+    let mut choices = Choices::with_capacity(alloc, steps.len())?;
+    for step in steps {
+        choices.push(Choice {
             node: step.node,
             port: step.port,
-        })
-        .collect(alloc)
+        })?;
+    }
+    Ok(choices)
 }

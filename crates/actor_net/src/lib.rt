@@ -13,6 +13,7 @@
 
 pub mod actor;
 pub mod choice;
+pub mod choices;
 pub mod histories;
 mod link;
 mod link_table;
@@ -26,7 +27,8 @@ mod turns;
 pub mod world;
 
 pub use actor::Actor;
-pub use choice::{Choice, Choices};
+pub use choice::Choice;
+pub use choices::{ChoiceReader, Choices};
 pub use histories::{History, merge};
 pub use outbox::Outbox;
 pub use replays::{ReplayFault, replay};

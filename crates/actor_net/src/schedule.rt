@@ -4,7 +4,8 @@ ghost use Rattle.actor_net.specs.Network.{run, IsRun, is_done};
 ghost use Rattle.actor_net.specs.Schedules.{later, pick_of, scheduled, schedule_of, StopsShort};
 
 use super::actor::Actor;
-use super::choice::{Choice, Choices};
+use super::choice::Choice;
+use super::choices::Choices;
 use super::remainders::Remainders;
 use super::world::World;
 use basics::NoMemory;
@@ -55,7 +56,7 @@ pub fn run_schedule<A: Actor>(
         Ok((world, choices))
     } else {
         Err(ScheduleFault::Unfinished {
-            step: choices.items().len() as u64,
+            step: choices.len() as u64,
         })
     }
 }

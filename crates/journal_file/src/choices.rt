@@ -8,10 +8,10 @@ use actor_net::{Choice, Choices};
 use basics::{Bytes, NoMemory};
 
 /// Puts the bytes of choices after others.
-pub(crate) fn push_bytes_of(bytes: &mut Bytes, choices: &[Choice]) -> Result<(), NoMemory>
+pub(crate) fn push_bytes_of(bytes: &mut Bytes, choices: &Choices) -> Result<(), NoMemory>
     ensures { OnOk result (bytes.new ≡ bytes.old ++ flat_map choice_bytes choices.now) }
 {
-    for choice in choices {
+    for choice in choices.iter() {
         bytes.push(choice.node)?;
         bytes.push(choice.port)?;
     }

@@ -5,7 +5,7 @@ ghost use Rattle.journal_file.specs.Reading.{journal_of, AnswersWith};
 use crate::choices::{push_bytes_of, push_choices_in};
 use crate::fault::JournalFault;
 use crate::header::{SIZE, count_of, push_header};
-use actor_net::{Choice, Choices};
+use actor_net::Choices;
 use basics::{Bytes, NoMemory};
 use nf_function::Kind;
 use std::alloc::Global;
@@ -15,7 +15,7 @@ pub fn write_journal(
     alloc: Global,
     kind: Kind,
     instances: u8,
-    choices: &[Choice],
+    choices: &Choices,
 ) -> Result<Bytes, NoMemory>
     ensures bytes { IfOk result (λ bytes. bytes ≡ journal_bytes kind instances choices.now) }
 
@@ -41,7 +41,7 @@ fn push_journal(
     bytes: &mut Bytes,
     kind: Kind,
     instances: u8,
-    choices: &[Choice],
+    choices: &Choices,
 ) -> Result<(), NoMemory>
     ensures { OnOk result (bytes.new ≡ bytes.old ++ journal_bytes kind instances choices.now) }
 {
@@ -83,7 +83,7 @@ fn journal_of(
     if rest.len() > wanted {
         return Err(JournalFault::Extra);
     }
-    let mut choices = Choices::from_vec(Vec::with_capacity(alloc, count as usize)?);
+    let mut choices = Choices::with_capacity(alloc, count as usize)?;
     push_choices_in(&mut choices, rest)?;
     Ok(choices)
 }

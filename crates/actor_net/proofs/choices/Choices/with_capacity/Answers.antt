@@ -1,0 +1,10 @@
+-- No bytes are no choices.
+use Rattle.std.proofs.Common.{[], refl}
+use Rattle.actor_net.proofs.ChoiceCodeLemmas.{are_coded, spelled}
+use Rattle.actor_net.proofs.choices.Choices.with_capacity.Goals as goal
+
+pub invariant_of-result : goal.invariant_of-result
+invariant_of-result c = are_coded 0 _ [] c.in_ok-with_capacity.ensures.items refl
+
+pub returns : goal.returns
+returns c = spelled 0 _ [] c.in_ok-with_capacity.ensures.items refl
