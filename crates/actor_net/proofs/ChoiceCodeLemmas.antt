@@ -7,7 +7,7 @@ use Rattle.std.proofs.lemmas.Grind.{flat_map-append}
 use Rattle.std.proofs.lemmas.List.{append_assoc, length-append, take-append-drop}
 use Rattle.std.proofs.Math.Seq.{take-append_seam}
 use Rattle.actor_net.specs.declared.choice.Choice.{Choice}
-use Rattle.actor_net.specs.ChoiceCodes.{AreCoded, choices_in, choice_then, code_by, code_of, first_choice, short_choice, short_code}
+use Rattle.actor_net.specs.ChoiceCodes.{AreCoded, coded_choices, choice_then, code_by, code_of, first_choice, short_choice, short_code}
 
 -- a byte that stands for a choice is read as it
 short_first : (c : Choice) (rest : List ℕ) (byte : ℕ) → byte < 255 → short_choice byte ≡ c → first_choice (byte ∷ rest) ≡ Some (c, rest)
@@ -51,19 +51,19 @@ pub first_coded : (c : Choice) (rest : List ℕ) → first_choice (code_of c ++ 
 first_coded c rest = first_by c rest (ltb c.node 2 && ltb c.port 63) (ltb c.port 2 && ltb c.node 63) refl refl
 
 -- choices are read from their bytes
-pub read_back : (cs : List Choice) (rest : List ℕ) → choices_in (length cs) (flat_map code_of cs ++ rest) ≡ cs
-unfolding choices_in
+pub read_back : (cs : List Choice) (rest : List ℕ) → coded_choices (length cs) (flat_map code_of cs ++ rest) ≡ cs
+unfolding coded_choices
 read_back [] rest = refl
 read_back (c ∷ cs) rest =
     let apart = append_assoc (code_of c) (flat_map code_of cs) rest in
-    ap (λ bytes. choices_in (suc (length cs)) bytes) apart
-    ∙ ap (λ first. choice_then first (choices_in (length cs))) (first_coded c (flat_map code_of cs ++ rest))
+    ap (λ bytes. coded_choices (suc (length cs)) bytes) apart
+    ∙ ap (λ first. choice_then first (coded_choices (length cs))) (first_coded c (flat_map code_of cs ++ rest))
     ∙ ap (λ more. c ∷ more) (read_back cs rest)
 
 -- bytes that spell these choices are read as them
-pub spelled : (n : ℕ) (bytes : List ℕ) (cs : List Choice) → bytes ≡ flat_map code_of cs → n ≡ length cs → choices_in n bytes ≡ cs
+pub spelled : (n : ℕ) (bytes : List ℕ) (cs : List Choice) → bytes ≡ flat_map code_of cs → n ≡ length cs → coded_choices n bytes ≡ cs
 spelled n bytes cs is count =
-    ap (λ m. choices_in m bytes) count ∙ ap (λ b. choices_in (length cs) b) (is ∙ sym (append-nil (flat_map code_of cs))) ∙ read_back cs []
+    ap (λ m. coded_choices m bytes) count ∙ ap (λ b. coded_choices (length cs) b) (is ∙ sym (append-nil (flat_map code_of cs))) ∙ read_back cs []
 
 pub are_coded : (n : ℕ) (bytes : List ℕ) (cs : List Choice) → bytes ≡ flat_map code_of cs → n ≡ length cs → AreCoded n bytes
 are_coded n bytes cs is count =
@@ -74,25 +74,25 @@ are_coded n bytes cs is count =
     }
 
 joined : (n m : ℕ) (bytes more : List ℕ) → AreCoded n bytes → (cs : List Choice) → more ≡ flat_map code_of cs
-    → bytes ++ more ≡ flat_map code_of (choices_in n bytes ++ cs)
+    → bytes ++ more ≡ flat_map code_of (coded_choices n bytes ++ cs)
 joined n m bytes more coded cs is =
-    ap (λ b. b ++ more) coded.coded ∙ ap (λ b. flat_map code_of (choices_in n bytes) ++ b) is ∙ sym (flat_map-append code_of (choices_in n bytes) cs)
+    ap (λ b. b ++ more) coded.coded ∙ ap (λ b. flat_map code_of (coded_choices n bytes) ++ b) is ∙ sym (flat_map-append code_of (coded_choices n bytes) cs)
 
-added : (n m : ℕ) (bytes : List ℕ) → AreCoded n bytes → (cs : List Choice) → m ≡ length cs → n + m ≡ length (choices_in n bytes ++ cs)
+added : (n m : ℕ) (bytes : List ℕ) → AreCoded n bytes → (cs : List Choice) → m ≡ length cs → n + m ≡ length (coded_choices n bytes ++ cs)
 added n m bytes coded cs count =
-    let parts = length-append (choices_in n bytes) cs in
+    let parts = length-append (coded_choices n bytes) cs in
     omega (arith, parts, coded.counted, count)
 
 -- some choices and more of them
 pub spelled_more : (n m : ℕ) (bytes more : List ℕ) → AreCoded n bytes → (cs : List Choice) → more ≡ flat_map code_of cs → m ≡ length cs
-    → choices_in (n + m) (bytes ++ more) ≡ choices_in n bytes ++ cs
+    → coded_choices (n + m) (bytes ++ more) ≡ coded_choices n bytes ++ cs
 spelled_more n m bytes more coded cs is count =
-    spelled (n + m) (bytes ++ more) (choices_in n bytes ++ cs) (joined n m bytes more coded cs is) (added n m bytes coded cs count)
+    spelled (n + m) (bytes ++ more) (coded_choices n bytes ++ cs) (joined n m bytes more coded cs is) (added n m bytes coded cs count)
 
 pub coded_more : (n m : ℕ) (bytes more : List ℕ) → AreCoded n bytes → (cs : List Choice) → more ≡ flat_map code_of cs → m ≡ length cs
     → AreCoded (n + m) (bytes ++ more)
 coded_more n m bytes more coded cs is count =
-    are_coded (n + m) (bytes ++ more) (choices_in n bytes ++ cs) (joined n m bytes more coded cs is) (added n m bytes coded cs count)
+    are_coded (n + m) (bytes ++ more) (coded_choices n bytes ++ cs) (joined n m bytes more coded cs is) (added n m bytes coded cs count)
 
 some_bytes : (c : Choice) (short : Option ℕ) → 1 ≤ length (code_by c short)
 some_bytes c (Some byte) = omega arith
@@ -110,20 +110,20 @@ takes_some (c ∷ cs) =
 pub few : (n : ℕ) (bytes : List ℕ) → AreCoded n bytes → n ≤ length bytes
 few n bytes coded =
     let same = ap length coded.coded in
-    let some = takes_some (choices_in n bytes) in
+    let some = takes_some (coded_choices n bytes) in
     omega (arith, same, some, coded.counted)
 
 -- where no choice comes first, none is read
-pub none_in : (n : ℕ) (bytes : List ℕ) → first_choice bytes ≡ None → choices_in n bytes ≡ []
-unfolding choices_in
+pub none_in : (n : ℕ) (bytes : List ℕ) → first_choice bytes ≡ None → coded_choices n bytes ≡ []
+unfolding coded_choices
 none_in zero bytes none = refl
-none_in (suc n) bytes none = ap (λ first. choice_then first (choices_in n)) none
+none_in (suc n) bytes none = ap (λ first. choice_then first (coded_choices n)) none
 
 -- the first one, and then those after it
 pub some_in : (n m : ℕ) (bytes : List ℕ) (c : Choice) (rest : List ℕ) → n ≡ suc m → first_choice bytes ≡ Some (c, rest)
-    → choices_in n bytes ≡ c ∷ choices_in m rest
-unfolding choices_in
-some_in n m bytes c rest next first = ap (λ k. choices_in k bytes) next ∙ ap (λ f. choice_then f (choices_in m)) first
+    → coded_choices n bytes ≡ c ∷ coded_choices m rest
+unfolding coded_choices
+some_in n m bytes c rest next first = ap (λ k. coded_choices k bytes) next ∙ ap (λ f. choice_then f (coded_choices m)) first
 
 -- the bytes of the first so many choices are those before the bytes of the others
 pub front_bytes : (bytes rest : List ℕ) (cs : List Choice) (n : ℕ) → bytes ≡ flat_map code_of cs → rest ≡ flat_map code_of (drop n cs)

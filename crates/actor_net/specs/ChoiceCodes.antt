@@ -39,11 +39,11 @@ choice_then None more = []
 choice_then (Some first) more = first.0 ∷ more first.1
 
 -- the first so many choices that bytes spell
-unfoldable pub choices_in : ℕ → List ℕ → List Choice
-choices_in zero bytes = []
-choices_in (suc count) bytes = choice_then (first_choice bytes) (choices_in count)
+unfoldable pub coded_choices : ℕ → List ℕ → List Choice
+coded_choices zero bytes = []
+coded_choices (suc count) bytes = choice_then (first_choice bytes) (coded_choices count)
 
 -- bytes that spell so many choices and nothing else
 pub record AreCoded (count : ℕ) (bytes : List ℕ) : Type 0 where
-  pub coded : bytes ≡ flat_map code_of (choices_in count bytes)
-  pub counted : length (choices_in count bytes) ≡ count
+  pub coded : bytes ≡ flat_map code_of (coded_choices count bytes)
+  pub counted : length (coded_choices count bytes) ≡ count

@@ -1,9 +1,9 @@
 //! Choices in order, most of them in one byte.
-ghost use Rattle.std.specs.Prelude.{◌≡◌, ◌<◌, ◌≤◌, ◌^◌, ◌++◌, List, [], ◌∷◌, length, take, drop, Decides, option_map, IfOk, OnOk, OnErr};
+ghost use Rattle.std.specs.Prelude.{◌≡◌, ◌<◌, ◌≤◌, ◌^◌, ◌++◌, List, [], ◌∷◌, length, take, drop, Decides, option_map, IfOk, None, OnOk, OnErr};
 ghost use Rattle.std.specs.List.{flat_map};
 ghost use Rattle.std.specs.Iterator.{YieldsFirst, item_count};
 ghost use Rattle.actor_net.specs.declared.choice.Choice.{Choice as TheChoice};
-ghost use Rattle.actor_net.specs.ChoiceCodes.{code_of, short_code as short_code_of, short_choice as short_choice_of, first_choice as first_choice_in};
+ghost use Rattle.actor_net.specs.ChoiceCodes.{code_by, code_of, short_code as short_code_of, short_choice as short_choice_of, first_choice as first_choice_in};
 
 use super::choice::Choice;
 use basics::NoMemory;
@@ -24,11 +24,11 @@ pub struct Choices {
 impl Model for Choices {
     ghost use Rattle.std.specs.Prelude.{List};
     ghost use Rattle.actor_net.specs.declared.choice.Choice.{Choice as TheChoice};
-    ghost use Rattle.actor_net.specs.ChoiceCodes.{AreCoded, choices_in};
+    ghost use Rattle.actor_net.specs.ChoiceCodes.{AreCoded, coded_choices};
 
     ghost Value = { List TheChoice };
 
-    ghost view = { λ c. choices_in c.count c.bytes.items };
+    ghost view = { λ c. coded_choices c.count c.bytes.items };
 
     ghost invariant = { λ c. AreCoded c.count c.bytes.items };
 }
@@ -145,13 +145,13 @@ pub struct ChoiceReader<'a> {
 impl<'a> Model for ChoiceReader<'a> {
     ghost use Rattle.std.specs.Prelude.{◌≡◌, List, length};
     ghost use Rattle.actor_net.specs.declared.choice.Choice.{Choice as TheChoice};
-    ghost use Rattle.actor_net.specs.ChoiceCodes.{choices_in};
+    ghost use Rattle.actor_net.specs.ChoiceCodes.{coded_choices};
 
     ghost Value = { List TheChoice };
 
-    ghost view = { λ r. choices_in r.left r.bytes.now };
+    ghost view = { λ r. coded_choices r.left r.bytes.now };
 
-    ghost invariant = { λ r. length (choices_in r.left r.bytes.now) ≡ r.left };
+    ghost invariant = { λ r. length (coded_choices r.left r.bytes.now) ≡ r.left };
 }
 
 impl<'a> Iterator for ChoiceReader<'a> {
@@ -184,8 +184,18 @@ fn push_code(bytes: &mut Vec<u8>, choice: Choice) -> Result<(), NoMemory>
             bytes.push(byte)?;
             Ok(())
         }
-        None => bytes.extend_from_slice(&[LONG, choice.node, choice.port]),
+        None => push_long(bytes, choice),
     }
+}
+
+/// Puts a choice that no byte stands for after others.
+#[cold]
+#[inline(never)]
+fn push_long(bytes: &mut Vec<u8>, choice: Choice) -> Result<(), NoMemory>
+    ensures ok { OnOk result (bytes.new.items ≡ bytes.old.items ++ code_by choice None) }
+    ensures err { OnErr result (bytes.new.items ≡ bytes.old.items) }
+{
+    bytes.extend_from_slice(&[LONG, choice.node, choice.port])
 }
 
 /// The byte that stands for a choice, where one does.

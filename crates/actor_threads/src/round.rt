@@ -282,7 +282,7 @@ fn gather<R: Wait, A: Actor>(
     } = round_parts;
     let mut links = close_all(rt, alloc, ins, outs)?;
     let choices = merge(alloc, histories.as_slice())?;
-    deal_all(choices.items(), &mut notes, &mut log)?;
+    deal_all(&choices, &mut notes, &mut log)?;
     let input = mem::replace(&mut links[0], Sequence::open(alloc));
     let parts = Parts {
         nodes: Sequence::from_vec(nodes),
@@ -317,14 +317,14 @@ fn close_all<M: Drop, R: Wait>(
 
 /// The notes of all nodes, in the order of the choices.
 fn deal_all<N: Drop>(
-    choices: &[Choice],
+    choices: &Choices,
     notes: &mut Vec<NoteQueue<N>>,
     log: &mut Vec<N>,
 ) -> Result<(), NoMemory>
     ensures { OnOk result (log.new.items ≡ log.old.items ++ notes_of_choices (λ j. row_at notes.old.items j) choices.now) }
 {
-    for choice in choices {
-        deal_one(*choice, notes, log)?;
+    for choice in choices.iter() {
+        deal_one(choice, notes, log)?;
     }
     Ok(())
 }
@@ -350,12 +350,10 @@ fn deal_one<N: Drop>(
 fn join(choices: Choices, more: Choices) -> Result<Choices, NoMemory>
     ensures { IfOk result (λ all. all ≡ choices ++ more) }
 {
-    if choices.items().is_empty() {
+    if choices.is_empty() {
         return Ok(more);
     }
     let mut all = choices;
-    for choice in more.items() {
-        all.push(*choice)?;
-    }
+    all.append(&more)?;
     Ok(all)
 }

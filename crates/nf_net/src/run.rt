@@ -13,7 +13,7 @@ ghost use Rattle.net_world.specs.Start.{started_with};
 ghost use Rattle.net_world.specs.Window.{AllHome};
 
 use actor_net::{
-    Choice, Choices, ReplayFault, Schedule, ScheduleFault, World, replay, run_schedule,
+    Choices, ReplayFault, Schedule, ScheduleFault, World, replay, run_schedule,
 };
 use net_world::{Config, Node, start};
 use nf_function::Function;
@@ -47,7 +47,7 @@ pub fn simulate<F: Function>(
 /// Takes the choices in order, each by its node's row of the tables. What isn't handed back is dropped.
 pub fn run_choices<F: Function>(
     world: World<Node<F>>,
-    choices: &[Choice],
+    choices: &Choices,
 ) -> Result<World<Node<F>>, ReplayFault>
     ensures replay { result ≢ Err ReplayFault.NoMemory → result ≡ replay_of node_ready (node_step F.semantics) choices.now world }
     ensures promises { (alloc : AnAllocator) (config : AConfig) (items : List AMessage) → IsInput F.semantics.kind config items

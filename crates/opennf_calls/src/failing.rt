@@ -90,10 +90,8 @@ fn fail_network<F: Function>(
         to: asked.to,
         after: asked.after,
     };
-    let promoted = promote_with::<F>(alloc, &config, items, &trace, choices.items(), &failing)?;
+    let mut choices = choices;
+    let promoted = promote_with::<F>(alloc, &config, items, &trace, &mut choices, &failing)?;
     let (report, _table) = report_failover(alloc, &head, &failing, promoted, &config, &trace)?;
-    let mut taken = choices.into_vec();
-    taken.truncate(asked.after as usize);
-    let choices = Choices::from_vec(taken);
     Ok(Made { choices, report })
 }

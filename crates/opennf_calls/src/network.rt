@@ -225,8 +225,7 @@ fn tell_network<F: Function>(
         items,
         head,
     } = open(alloc, asked, inputs)?;
-    let told = choices.items();
-    let report = audit::<F>(alloc, &config, items, &head, told, asked.summary)?;
+    let report = audit::<F>(alloc, &config, items, &head, &choices, asked.summary)?;
     Ok(Made { choices, report })
 }
 

@@ -29,7 +29,7 @@ pub fn write_results<O: Outside>(
         return write_report(made, outside);
     }
     let count = asked.instances.rows.len() as u8;
-    let Ok(journal) = write_journal(alloc, asked.kind, count, made.choices.items()) else {
+    let Ok(journal) = write_journal(alloc, asked.kind, count, &made.choices) else {
         return Outcome::without_run(alloc, Status::NoMemory);
     };
     match put(outside, Role::JournalOut, journal.items()) {

@@ -9,7 +9,7 @@ ghost use Rattle.run_report.specs.Lines.{report_text};
 
 use crate::head::Head;
 use crate::reporting::report;
-use actor_net::{Choice, ReplayFault};
+use actor_net::{Choices, ReplayFault};
 use basics::{NoMemory, Text};
 use net_world::{Config, start};
 use nf_function::Function;
@@ -24,7 +24,7 @@ pub fn audit<F: Function>(
     config: &Config,
     items: Vec<Msg>,
     head: &Head,
-    choices: &[Choice],
+    choices: &Choices,
     summary: bool,
 ) -> Result<Text, AuditFault>
     requires { IsConfig config.now }

@@ -56,5 +56,5 @@ fn count_choices<R: Env + AllocGlobal + Threads + Wait + Sync>(rt: &R) -> Result
             play(rt, alloc, world, task.chooser)?
         }
     };
-    Ok(choices.items().len())
+    Ok(choices.len())
 }

@@ -1,7 +1,5 @@
 -- What the replay of the first of some choices comes to.
 use Rattle.std.proofs.Common.{◌≡◌, ◌≢◌, ℕ, ◌+◌, ◌<◌, ◌≤◌, true, false, Bool, Result, Ok, Err, List, length, take, refl, sym, ap, ◌∙◌, subst, inl, inr, arith}
-use Rattle.std.specs.Prelude.{min, nat_le}
-use Rattle.std.proofs.lemmas.Bool.Decides.{nat_tests}
 use Rattle.std.proofs.lemmas.List.{length-take, take_all}
 use Rattle.std.proofs.lemmas.Option.{slice_get_within}
 use Rattle.nf_function.specs.Semantics.{Semantics}
@@ -17,48 +15,34 @@ use Rattle.net_world.specs.declared.node.Node.{Node}
 use Rattle.net_world.specs.Nodes.{node_step, node_ready}
 use Rattle.standby_failover.specs.Causes.{FirstChoices, IsFailCause, IsReached, first_of, taken_among, world_after}
 
--- no more of a list are taken than there are
-same_first : {X : Type 0} (m after : ℕ) (cs : List X) → m ≡ min after (length cs) → take m cs ≡ take after cs
-same_first m after cs is = by_test (nat_le after (length cs)) refl
-  where
-    by_test : (b : Bool) → nat_le after (length cs) ≡ b → take m cs ≡ take after cs
-    by_test true on =
-        let few : after ≤ length cs = grind (arith, nat_tests, on) in
-        let same : m ≡ after = omega (arith, is, few) in
-        ap (λ k. take k cs) same
-    by_test false off =
-        let more : length cs < after = grind (arith, nat_tests, off) in
-        take_all m cs (omega (arith, is, more)) ∙ sym (take_all after cs (omega (arith, more)))
-
 -- what a replay is given, and what it comes to
 pub record Replayed (F R : Type 0) : Type 0 where
   pub opening : Network (Node F R) Msg Note
   pub all : List Choice
   pub after : ℕ
-  pub taken_count : ℕ
   pub result : Result (Network (Node F R) Msg Note) ReplayFault
 
-module _ {F R : Type 0} (f : Semantics R) (v : Replayed F R) (least : v.taken_count ≡ min v.after (length v.all))
+module _ {F R : Type 0} (f : Semantics R) (v : Replayed F R)
     (start : Network (Node F R) Msg Note) (at_start : start ≡ v.opening) (h : v.result ≢ Err NoMemory
-    → v.result ≡ replay_of node_ready (node_step f) (take v.taken_count v.all) start) where
+    → v.result ≡ replay_of node_ready (node_step f) (take v.after v.all) start) where
   abbrev first : FirstChoices
   first = first_of v.all v.after
 
-  replay : v.result ≢ Err NoMemory → replay_of node_ready (node_step f) (take v.taken_count v.all) v.opening ≡ v.result
-  replay enough = ap (replay_of node_ready (node_step f) (take v.taken_count v.all)) (sym at_start) ∙ sym (h enough)
+  replay : v.result ≢ Err NoMemory → replay_of node_ready (node_step f) (take v.after v.all) v.opening ≡ v.result
+  replay enough = ap (replay_of node_ready (node_step f) (take v.after v.all)) (sym at_start) ∙ sym (h enough)
 
   module _ (w : Network (Node F R) Msg Note) (ok : v.result ≡ Ok w) where
-    both : IsRun node_ready (node_step f) (take v.taken_count v.all) v.opening × (w ≡ run (node_step f) (take v.taken_count v.all) v.opening)
+    both : IsRun node_ready (node_step f) (take v.after v.all) v.opening × (w ≡ run (node_step f) (take v.after v.all) v.opening)
     both =
         let enough : v.result ≢ Err NoMemory = λ bad. (let never : Ok w ≡ Err NoMemory = sym ok ∙ bad in cc) in
-        replayed_ok node_ready (node_step f) (take v.taken_count v.all) v.opening w (replay enough ∙ ok)
+        replayed_ok node_ready (node_step f) (take v.after v.all) v.opening w (replay enough ∙ ok)
 
     pub is_run : IsRun node_ready (node_step f) (taken_among first) v.opening
-    is_run = subst (λ cs. IsRun node_ready (node_step f) cs v.opening) (same_first v.taken_count v.after v.all least) both.0
+    is_run = both.0
 
     -- a world that is handed back is the one after them
     pub world_is : w ≡ world_after f v.opening first
-    world_is = both.1 ∙ ap (λ cs. run (node_step f) cs v.opening) (same_first v.taken_count v.after v.all least)
+    world_is = both.1
 
     pub is_reached : v.after ≤ length v.all → IsReached f v.opening first
     is_reached enough = record { enough = enough; is_run = is_run }
@@ -71,19 +55,16 @@ module _ {F R : Type 0} (f : Semantics R) (v : Replayed F R) (least : v.taken_co
 
   module _ (index : ℕ) (err : v.result ≡ Err (NotEnabled index)) where
     -- a fault is the first
-    faulty : FirstFault node_ready (node_step f) (record { choices = take v.taken_count v.all; index = index }) v.opening
+    faulty : FirstFault node_ready (node_step f) (record { choices = take v.after v.all; index = index }) v.opening
     faulty =
         let enough : v.result ≢ Err NoMemory = λ bad. (let never : Err (NotEnabled index) ≡ Err NoMemory = sym err ∙ bad in cc) in
-        replayed_fault node_ready (node_step f) (take v.taken_count v.all) v.opening index (replay enough ∙ err)
+        replayed_fault node_ready (node_step f) (take v.after v.all) v.opening index (replay enough ∙ err)
 
     pub index_below : index < length v.all
     index_below =
-        let within = slice_get_within (take v.taken_count v.all) index faulty.choice faulty.there in
-        let long = length-take v.taken_count v.all in
+        let within = slice_get_within (take v.after v.all) index faulty.choice faulty.there in
+        let long = length-take v.after v.all in
         omega (arith, within, long)
 
     pub refused : (step : ℕ) → step ≡ index + 1 → IsFailCause f v.opening first step
-    refused step counted =
-        let fault = subst (λ cs. FirstFault node_ready (node_step f) (record { choices = cs; index = index }) v.opening)
-        (same_first v.taken_count v.after v.all least) faulty in
-        inl (record { index = index; counted = counted; fault = fault })
+    refused step counted = inl (record { index = index; counted = counted; fault = faulty })

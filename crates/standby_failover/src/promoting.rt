@@ -1,5 +1,5 @@
 //! What stands by where an instance fails: the records that are promoted, and the packets that they lack.
-ghost use Rattle.std.specs.Prelude.{◌≡◌, ◌≢◌, ◌<◌, ◌++◌, ◌==◌, ℕ, All, IsSome, find, length, IfOk};
+ghost use Rattle.std.specs.Prelude.{◌≡◌, ◌≢◌, ◌<◌, ◌++◌, ◌==◌, ℕ, All, IsSome, find, length, take, IfOk};
 ghost use Rattle.trace_reader.specs.Records.{AreNumbered};
 ghost use Rattle.net_world.specs.Input.{packets, IsInput};
 ghost use Rattle.net_world.specs.Jobs.{job_of};
@@ -11,7 +11,7 @@ use crate::packets::packets_of;
 use crate::promoted::{Failing, Promoted};
 use crate::replay::{into_table, table_of, world_after};
 use crate::scene::{Affected, Scene};
-use actor_net::Choice;
+use actor_net::Choices;
 use flow_filter::Packets;
 use net_world::Config;
 use nf_function::Function;
@@ -19,14 +19,14 @@ use nf_msgs::Msg;
 use run_report::AuditFault;
 use std::alloc::Global;
 
-/// What is left where an instance of a network fails after the first so many choices, and another takes over.
+/// What is left where an instance of a network fails after the first so many choices, and another takes over. Of the choices these alone are then left.
 ///
 /// The instances go by their places among the names. A unit whose record is on its way in a message isn't affected.
 pub fn promote<F: Function>(
     alloc: Global,
     config: &Config,
     items: Vec<Msg>,
-    choices: &[Choice],
+    choices: &mut Choices,
     after: u64,
     failed: u8,
     to: u8,
@@ -36,18 +36,19 @@ pub fn promote<F: Function>(
     requires failed { failed < length config.now.names }
     requires to { to < length config.now.names }
     requires two { failed ≢ to }
-    ensures reached { IfOk result (λ _. IsReached {F = F.row.Denot} F.semantics (started_with alloc config.now items.items) (first_of choices.now after)) }
+    ensures reached { IfOk result (λ _. IsReached {F = F.row.Denot} F.semantics (started_with alloc config.now items.items) (first_of choices.old after)) }
 
     // What the words of the next clause speak of: the records that stand by are those of so many packets, and of no other number of them.
-    ensures left { let world = world_after F.semantics (started_with alloc config.now items.items) (first_of choices.now after) in
+    ensures left { let world = world_after F.semantics (started_with alloc config.now items.items) (first_of choices.old after) in
         IfOk result (λ _. IsLeft {F = F.row.Denot} (failover_of (job_of F.semantics config.now items.items) world failed to)) }
-    ensures promoted { let world = world_after F.semantics (started_with alloc config.now items.items) (first_of choices.now after) in
+    ensures promoted { let world = world_after F.semantics (started_with alloc config.now items.items) (first_of choices.old after) in
         IfOk result (IsPromoted {F = F.row.Denot} (failover_of (job_of F.semantics config.now items.items) world failed to)) }
 
     // What [`crate::catch_up`] asks: the numbers are those of packets of the input.
     ensures known { IfOk result (λ promoted. All (λ n. IsSome (find (λ p. p.number == n) (packets items.items))) (promoted.order ++ promoted.pending)) }
+    ensures choices { IfOk result (λ _. choices.new ≡ take after choices.old) }
     ensures not_a_run { (step : ℕ) → result ≡ Err (AuditFault.NotARun step)
-        → IsFailCause {F = F.row.Denot} F.semantics (started_with alloc config.now items.items) (first_of choices.now after) step }
+        → IsFailCause {F = F.row.Denot} F.semantics (started_with alloc config.now items.items) (first_of choices.old after) step }
 {
     let trace = packets_of(alloc, items.as_slice())?;
     let failing = Failing { failed, to, after };
@@ -60,7 +61,7 @@ pub fn promote_with<F: Function>(
     config: &Config,
     items: Vec<Msg>,
     trace: &Packets,
-    choices: &[Choice],
+    choices: &mut Choices,
     failing: &Failing,
 ) -> Result<Promoted<F>, AuditFault>
     requires input { IsInput F.semantics.kind config.now items.items }
@@ -70,14 +71,15 @@ pub fn promote_with<F: Function>(
     requires to { failing.now.to < length config.now.names }
     requires two { failing.now.failed ≢ failing.now.to }
     ensures reached { IfOk result
-        (λ _. IsReached {F = F.row.Denot} F.semantics (started_with alloc config.now items.items) (first_of choices.now failing.now.after)) }
-    ensures left { let world = world_after F.semantics (started_with alloc config.now items.items) (first_of choices.now failing.now.after) in
+        (λ _. IsReached {F = F.row.Denot} F.semantics (started_with alloc config.now items.items) (first_of choices.old failing.now.after)) }
+    ensures left { let world = world_after F.semantics (started_with alloc config.now items.items) (first_of choices.old failing.now.after) in
         IfOk result (λ _. IsLeft {F = F.row.Denot} (failover_of (job_of F.semantics config.now items.items) world failing.now.failed failing.now.to)) }
-    ensures promoted { let world = world_after F.semantics (started_with alloc config.now items.items) (first_of choices.now failing.now.after) in
+    ensures promoted { let world = world_after F.semantics (started_with alloc config.now items.items) (first_of choices.old failing.now.after) in
         IfOk result (IsPromoted {F = F.row.Denot} (failover_of (job_of F.semantics config.now items.items) world failing.now.failed failing.now.to)) }
     ensures known { IfOk result (λ promoted. All (λ n. IsSome (find (λ p. p.number == n) (packets items.items))) (promoted.order ++ promoted.pending)) }
+    ensures choices { IfOk result (λ _. choices.new ≡ take failing.now.after choices.old) }
     ensures not_a_run { (step : ℕ) → result ≡ Err (AuditFault.NotARun step)
-        → IsFailCause {F = F.row.Denot} F.semantics (started_with alloc config.now items.items) (first_of choices.now failing.now.after) step }
+        → IsFailCause {F = F.row.Denot} F.semantics (started_with alloc config.now items.items) (first_of choices.old failing.now.after) step }
 {
     let world = world_after::<F>(alloc, config, items, choices, failing.after)?;
     let scene = Scene {

@@ -1,5 +1,5 @@
 //! The world after the first of some choices, and the records of its instances.
-ghost use Rattle.std.specs.Prelude.{◌≡◌, ◌<◌, ℕ, true, length, slice_get, IfOk};
+ghost use Rattle.std.specs.Prelude.{◌≡◌, ◌<◌, ℕ, true, length, slice_get, take, IfOk};
 ghost use Rattle.nf_msgs.specs.Nodes.{instance_node};
 ghost use Rattle.net_world.specs.Input.{IsInput};
 ghost use Rattle.net_world.specs.Start.{started_with};
@@ -7,7 +7,7 @@ ghost use Rattle.standby_failover.specs.Causes.{IsFailCause, IsReached, first_of
 ghost use Rattle.standby_failover.specs.Failover.{table_at};
 ghost use Rattle.standby_failover.specs.Scenes.{is_instance};
 
-use actor_net::{Choice, ReplayFault, World};
+use actor_net::{Choices, ReplayFault, World};
 use basics::NoMemory;
 use net_world::{Config, Node, start};
 use nf_function::Function;
@@ -16,25 +16,26 @@ use record_table::Table;
 use run_report::{AuditFault, run_choices};
 use std::alloc::Global;
 
-/// The world of a network after the first so many choices.
+/// The world of a network after the first so many choices, which alone are then left.
 pub(crate) fn world_after<F: Function>(
     alloc: Global,
     config: &Config,
     items: Vec<Msg>,
-    choices: &[Choice],
+    choices: &mut Choices,
     after: u64,
 ) -> Result<World<Node<F>>, AuditFault>
     requires { IsInput F.semantics.kind config.now items.items }
-    ensures reached { IfOk result (λ _. IsReached {F = F.row.Denot} F.semantics (started_with alloc config.now items.items) (first_of choices.now after)) }
-    ensures world { IfOk result (λ world. world ≡ world_after F.semantics (started_with alloc config.now items.items) (first_of choices.now after)) }
+    ensures reached { IfOk result (λ _. IsReached {F = F.row.Denot} F.semantics (started_with alloc config.now items.items) (first_of choices.old after)) }
+    ensures world { IfOk result (λ world. world ≡ world_after F.semantics (started_with alloc config.now items.items) (first_of choices.old after)) }
+    ensures choices { IfOk result (λ _. choices.new ≡ take after choices.old) }
     ensures instances { IfOk result (λ world. (i : ℕ) → i < length config.now.names → is_instance (slice_get world.nodes (instance_node i)) ≡ true) }
     ensures not_a_run { (step : ℕ) → result ≡ Err (AuditFault.NotARun step)
-        → IsFailCause {F = F.row.Denot} F.semantics (started_with alloc config.now items.items) (first_of choices.now after) step }
+        → IsFailCause {F = F.row.Denot} F.semantics (started_with alloc config.now items.items) (first_of choices.old after) step }
 {
     let start = start::<F>(alloc, config, items)?;
     let count = choices.len() as u64;
-    let first = &choices[..after.min(count) as usize];
-    match run_choices(start, first) {
+    choices.truncate(after as usize);
+    match run_choices(start, choices) {
         Ok(world) if after <= count => Ok(world),
         Ok(_world) => Err(AuditFault::NotARun { step: count + 1 }),
         Err(ReplayFault::NotEnabled { index }) => {

@@ -12,7 +12,7 @@ ghost use Rattle.strong_share.specs.Promises.{StrongCompleted, StrongEnds, Stron
 use crate::node::StrongNode;
 use crate::starting::start;
 use actor_net::{
-    Choice, Choices, ReplayFault, Schedule, ScheduleFault, World, replay, run_schedule,
+    Choices, ReplayFault, Schedule, ScheduleFault, World, replay, run_schedule,
 };
 use flow_filter::{Filter, Packets, Site};
 use nf_function::Function;
@@ -46,7 +46,7 @@ pub fn simulate_strong<F: Function>(
 /// Takes the choices in order, each by its node's row of the tables. What isn't handed back is dropped.
 pub fn run_strong<F: Function>(
     world: World<StrongNode<F>>,
-    choices: &[Choice],
+    choices: &Choices,
 ) -> Result<World<StrongNode<F>>, ReplayFault>
     ensures replay { result ≢ Err ReplayFault.NoMemory → result ≡ replay_of node_ready (node_step F.semantics) choices.now world }
     ensures promises { (alloc : AnAllocator) (job : AJob) → IsStrongJob F.semantics.kind job → world ≡ strong_start alloc job

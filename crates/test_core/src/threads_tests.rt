@@ -72,7 +72,7 @@ fn chat(alloc: Global, nodes: u8, items: usize, value: u8) -> Result<World<Chatt
 }
 
 /// Whether each choice of a run to this end made a note, and a replay of the choices makes the same ones.
-fn is_replay(alloc: Global, end: &World<Chatter>, choices: &[Choice]) -> Result<bool, Fail> {
+fn is_replay(alloc: Global, end: &World<Chatter>, choices: &Choices) -> Result<bool, Fail> {
     let again = replay(chat(alloc, 16, 16, 3)?, choices)?;
     Ok(end.complete() && choices.len() == end.log().len() && again.log() == end.log())
 }
@@ -81,7 +81,7 @@ fn is_replay(alloc: Global, end: &World<Chatter>, choices: &[Choice]) -> Result<
 fn is_replayed<R: Threads + Wait + Sync>(rt: &R, alloc: Global) -> Result<bool, Fail> {
     let world = chat(alloc, 16, 16, 3)?;
     let (end, choices) = run_threads(rt, alloc, world, &OpenGate)?;
-    is_replay(alloc, &end, choices.items())
+    is_replay(alloc, &end, &choices)
 }
 
 #[test]
@@ -122,7 +122,7 @@ fn crowded_run<R: Threads + Wait + Sync>(
 #[test]
 fn two_workers_are_in_a_pass_at_once(rt: HostRuntime) -> Result<(), Fail> {
     let gate = Meeting::open(1, 2);
-    let choices = crowded_run(&rt, rt.alloc(), &gate)?.items().len();
+    let choices = crowded_run(&rt, rt.alloc(), &gate)?.len();
     assert!(rt; gate.met());
     assert_eq!(rt; gate.passes(), choices as u64);
     Ok(())
@@ -160,7 +160,7 @@ fn told_round<R: Threads + Wait + Sync>(
 }
 
 /// Looks whether a gate was told the steps of a round with these choices.
-fn see_told(rt: &impl Abort, gate: &Counting, choices: &[Choice]) {
+fn see_told(rt: &impl Abort, gate: &Counting, choices: &Choices) {
     assert_eq!(rt; gate.wrong.load(Ordering::SeqCst), 0);
     for node in 0..3u8 {
         let steps = choices.iter().filter(|choice| choice.node == node).count();
@@ -179,7 +179,7 @@ fn a_gate_is_told_the_steps_of_each_node_in_the_round(rt: HostRuntime) -> Result
             wrong: AtomicU64::new(0),
         };
         let choices = told_round(&rt, rt.alloc(), &gate)?;
-        see_told(&rt, &gate, choices.items());
+        see_told(&rt, &gate, &choices);
     }
     Ok(())
 }

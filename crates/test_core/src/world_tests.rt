@@ -174,7 +174,7 @@ fn see_schedule(
     wanted: [Choice; 3],
 ) -> Result<(), Fail> {
     let choices = scheduled(alloc, schedule)?;
-    assert_eq!(rt; choices.items(), wanted.as_slice());
+    assert_eq!(rt; choices.to_vec(alloc)?.as_slice(), wanted.as_slice());
     Ok(())
 }
 
@@ -206,7 +206,7 @@ fn see_replay(
     rt: &impl Abort,
     alloc: Global,
     world: &World<Relay>,
-    choices: &[Choice],
+    choices: &Choices,
 ) -> Result<(), Fail> {
     let again = replay(two_items(alloc)?, choices)?;
     see_notes(rt, world, &again);
@@ -218,7 +218,7 @@ fn a_replay_of_a_schedule_is_its_world(rt: HostRuntime) -> Result<(), Fail> {
     let alloc = rt.alloc();
     let start = two_items(alloc)?;
     let (world, choices) = run_schedule(alloc, start, Schedule::Last)?;
-    see_replay(&rt, alloc, &world, choices.items())
+    see_replay(&rt, alloc, &world, &choices)
 }
 
 /// Steps of a node, each with its stamp and its port.
@@ -243,7 +243,7 @@ fn see_merge(rt: &impl Abort, alloc: Global, zero: Steps, one: Steps) -> Result<
     let merged = merge(alloc, histories(alloc, zero, one)?.as_slice())?;
     let back = Choice { node: 0, port: 1 };
     let wanted = [INPUT, FROM_ZERO, FROM_ZERO, back];
-    assert_eq!(rt; merged.items(), wanted.as_slice());
+    assert_eq!(rt; merged.to_vec(alloc)?.as_slice(), wanted.as_slice());
     Ok(())
 }
 

@@ -5,7 +5,7 @@ ghost use Rattle.nf_function.specs.declared.kind.Kind.TheVariants.{Conntrack as 
 ghost use Rattle.net_world.specs.Input.{packets, IsInput, IsWhole};
 ghost use Rattle.net_world.specs.Start.{IsConfig};
 
-use actor_net::Choice;
+use actor_net::{Choice, Choices};
 use basics::{NoMemory, Text};
 use conn_tracker::Conntrack;
 use flow_filter::Filter;
@@ -93,8 +93,8 @@ fn items(alloc: Global, config: &Config, given: Given) -> Result<Vec<Msg>, Fail>
 }
 
 /// The choices that two digits each spell: the node and its port.
-fn choices(alloc: Global, digits: &str) -> Result<Vec<Choice>, NoMemory> {
-    let mut choices = Vec::new(alloc);
+fn choices(alloc: Global, digits: &str) -> Result<Choices, NoMemory> {
+    let mut choices = Choices::open(alloc);
     for pair in digits.split(' ') {
         if let [node @ b'0'..=b'9', port @ b'0'..=b'9'] = pair.as_bytes() {
             choices.push(Choice {
@@ -123,7 +123,7 @@ fn failover(
         to: 1,
         after,
     };
-    let choices = choices(alloc, digits)?;
+    let mut choices = choices(alloc, digits)?;
     let trace = packets_of(alloc, items.as_slice())?;
     let head = Head {
         kind: Kind::Conntrack,
@@ -137,7 +137,7 @@ fn failover(
         alloc,
         config,
         items,
-        &choices,
+        &mut choices,
         after,
         failing.failed,
         failing.to,

@@ -157,7 +157,7 @@ fn the_choices_of_a_run_replay_to_its_log(rt: HostRuntime) -> Result<(), Fail> {
         let given = items(alloc, &config, CASE)?;
         let (world, choices) = simulate::<Conntrack>(alloc, &config, given, schedule)?;
         let opening = start::<Conntrack>(alloc, &config, items(alloc, &config, CASE)?)?;
-        let again = run_choices(opening, choices.items())?;
+        let again = run_choices(opening, &choices)?;
         assert_eq!(rt; told(alloc, &again)?.items(), told(alloc, &world)?.items());
     }
     Ok(())

@@ -2,7 +2,7 @@
 ghost use Rattle.std.specs.Prelude.{◌≡◌, ◌<◌, length, IfOk};
 ghost use Rattle.net_world.specs.Start.{IsConfig};
 
-use actor_net::{Actor, Choice, Choices, Outbox, Schedule, World, run_schedule};
+use actor_net::{Actor, Choices, Outbox, Schedule, World, run_schedule};
 use basics::{Boxed, NoMemory, Text};
 use conn_tracker::Conntrack;
 use event_filter::Mark;
@@ -271,7 +271,7 @@ fn scheduled(alloc: Global) -> Result<Choices, Fail> {
 /// The audit of choices with the input of words.
 fn audited(
     alloc: Global,
-    choices: &[Choice],
+    choices: &Choices,
     summary: bool,
 ) -> Result<Result<Text, AuditFault>, Fail> {
     let items = input(alloc, &WORDS)?;
@@ -284,7 +284,7 @@ fn an_audit_of_a_run_is_its_report(rt: HostRuntime) -> Result<(), Fail> {
     let alloc = rt.alloc();
     let choices = scheduled(alloc)?;
     for summary in [false, true] {
-        let text = audited(alloc, choices.items(), summary)??;
+        let text = audited(alloc, &choices, summary)??;
         let wanted = reported(alloc, &WORDS, summary)?;
         assert_eq!(rt; text.items(), wanted.items());
     }

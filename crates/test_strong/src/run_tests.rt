@@ -1,6 +1,6 @@
 //! Tests of strong sharing by the notes of whole runs.
 use crate::common::{head, reported, sent, site};
-use actor_net::{Choice, Schedule};
+use actor_net::{Choice, Choices, Schedule};
 use basics::Text;
 use conn_tracker::Conntrack;
 use flow_filter::Filter;
@@ -152,7 +152,7 @@ end
     let site = site();
     let packets = sent(alloc, site, 1)?;
     let world = start::<Conntrack>(alloc, site, 256, 2, Filter::ANY, packets)?;
-    let mut choices = Vec::new(alloc);
+    let mut choices = Choices::open(alloc);
     for (node, port) in STOPPED_FIRST {
         choices.push(Choice { node, port })?;
     }

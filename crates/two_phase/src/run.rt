@@ -11,7 +11,7 @@ ghost use Rattle.two_phase.specs.Promises.{Published};
 use crate::node::TwoNode;
 use crate::starting::start;
 use actor_net::{
-    Choice, Choices, ReplayFault, Schedule, ScheduleFault, World, replay, run_schedule,
+    Choices, ReplayFault, Schedule, ScheduleFault, World, replay, run_schedule,
 };
 use flow_filter::{Filter, Packets, Site};
 use nf_function::Function;
@@ -20,7 +20,7 @@ use std::alloc::Global;
 /// Takes the choices in order, each by its node's row of the tables. What isn't handed back is dropped.
 pub fn run_two<F: Function>(
     world: World<TwoNode<F>>,
-    choices: &[Choice],
+    choices: &Choices,
 ) -> Result<World<TwoNode<F>>, ReplayFault>
     ensures replay { result ≢ Err ReplayFault.NoMemory → result ≡ replay_of node_ready (node_step F.semantics) choices.now world }
     ensures published { (alloc : AnAllocator) (job : AJob) → IsUpdateJob F.semantics.kind job → world ≡ two_start alloc job

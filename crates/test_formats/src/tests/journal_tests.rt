@@ -74,16 +74,10 @@ fn fault_of_source(
 #[test]
 fn a_move_is_read_and_written_again(rt: HostRuntime) -> Result<(), Fail> {
     let choices = read_journal(rt.alloc(), &MOVE, Kind::Conntrack, 2)?;
-    assert_eq!(rt; choices.items().len(), 38);
-    assert_eq!(rt;
-        choices.items().get(3).copied(),
-        Some(Choice { node: 2, port: 1 })
-    );
-    assert_eq!(rt;
-        choices.items().last().copied(),
-        Some(Choice { node: 0, port: 3 })
-    );
-    let bytes = write_journal(rt.alloc(), Kind::Conntrack, 2, choices.items())?;
+    assert_eq!(rt; choices.len(), 38);
+    assert_eq!(rt; choices.iter().nth(3), Some(Choice { node: 2, port: 1 }));
+    assert_eq!(rt; choices.iter().last(), Some(Choice { node: 0, port: 3 }));
+    let bytes = write_journal(rt.alloc(), Kind::Conntrack, 2, &choices)?;
     assert_eq!(rt; bytes.items(), &MOVE[..]);
     Ok(())
 }

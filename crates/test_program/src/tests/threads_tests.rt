@@ -6,7 +6,7 @@ ghost use Rattle.nf_function.specs.declared.kind.Kind.TheVariants.{Conntrack as 
 ghost use Rattle.trace_reader.specs.Records.{AreNumbered};
 ghost use Rattle.opennf_calls.specs.net_world.specs.Input.{IsInput};
 
-use actor_net::{Choice, Choices, World};
+use actor_net::{Choices, World};
 use actor_threads::OpenGate;
 use command_words::instances::instances_of;
 use conn_tracker::Conntrack;
@@ -113,7 +113,7 @@ fn run_told<R: Threads + Wait + Sync>(rt: &R, alloc: Global) -> Result<(Text, Ch
 }
 
 /// The report of the same run, by its choices alone.
-fn audit_told(alloc: Global, choices: &[Choice]) -> Result<Text, Fail> {
+fn audit_told(alloc: Global, choices: &Choices) -> Result<Text, Fail> {
     let (config, items) = given(alloc, MOVES.as_bytes(), 40, WINDOW)?;
     let text = audited::<Conntrack>(alloc, &config, items, &head(alloc)?, choices, false)?;
     Ok(text)
@@ -122,7 +122,7 @@ fn audit_told(alloc: Global, choices: &[Choice]) -> Result<Text, Fail> {
 #[test]
 fn the_choices_of_threads_are_audited_to_the_same_report(rt: HostRuntime) -> Result<(), Fail> {
     let (text, choices) = run_told(&rt, rt.alloc())?;
-    let again = audit_told(rt.alloc(), choices.items())?;
+    let again = audit_told(rt.alloc(), &choices)?;
     assert_eq!(rt; text.items(), again.items());
     Ok(())
 }
@@ -140,6 +140,6 @@ fn both_instances_are_in_a_pass_at_once(rt: HostRuntime) -> Result<(), Fail> {
     let (config, items) = given(alloc, script.as_bytes(), 1024, 64)?;
     let (_world, choices) = run_network::<_, Conntrack, _>(&rt, alloc, &config, items, &gate)?;
     assert!(rt; gate.met());
-    assert_eq!(rt; gate.passes(), choices.items().len() as u64);
+    assert_eq!(rt; gate.passes(), choices.len() as u64);
     Ok(())
 }

@@ -51,14 +51,11 @@ returns-in_err-promoted g c =
     let asked = fail_view c.args.asked.now in
     let opening = c.in_ok-config.field-0 in
     let is = c.in_ok-config.ensures in
-    let told : c.items.result.now ≡ c.args.choices = search rules in
     let failed = err_from_is_err_and c.from_residual-in_err-promoted.result c.from_residual-in_err-promoted.ensures.1 in
     rw (failed.1, failed.2)
     (failover_refused g.row.F.Denot f asked (scenario_of c.args.asked.now.network.site c.args.inputs) c.args.alloc opening.config opening.items.items is.config
     is.items c.args.choices c.in_err-promoted.field-0.0 (λ step same.
-    subst (λ (cs : List Choice). IsFailCause {F = g.row.F.Denot} f (started_with c.args.alloc opening.config opening.items.items) (first_of cs asked.after)
-    step)
-    told (c.in_err-promoted.ensures.not_a_run step (ap Err same))))
+    c.in_err-promoted.ensures.not_a_run step (ap Err same)))
 
 pub returns : goal.returns
 returns g c =
@@ -68,19 +65,15 @@ returns g c =
     let opening = c.in_ok-config.field-0 in
     let is = c.in_ok-config.ensures in
     let b = (goal.at.returns g c).In_ok-trace in
-    let told : c.items.result.now ≡ c.args.choices = search rules in
     let left = c.in_ok-promoted.ensures in
     let report = c.in_ok-report.ensures in
-    let world = world_after f (started_with {F = g.row.F.Denot} c.args.alloc opening.config opening.items.items) (first_of c.items.result.now asked.after) in
-    let taken : c.from_vec-choices.result ≡ take asked.after c.args.choices = search rules in
+    let world = world_after f (started_with {F = g.row.F.Denot} c.args.alloc opening.config opening.items.items) (first_of c.args.choices asked.after) in
     failover_is g.row.F.Denot f asked scenario c.args.alloc opening.config opening.items.items is.config is.items c.args.choices opening.head is.head
     c.in_ok-promoted.promoted c.in_ok-report._table
-    (subst (λ (cs : List Choice). Left g.row.F.Denot f asked scenario c.args.alloc opening.config opening.items.items is.config is.items cs
-    c.in_ok-promoted.promoted c.in_ok-report._table) told
     (record {
       reached = left.reached;
       left = left.left;
       is_promoted = left.promoted;
       has_caught_up = report.caught opening.items.items world asked.failed asked.to left.left left.promoted (sym (trace_is g b));
-    }))
-    (record { choices = c.from_vec-choices.result; report = c.in_ok-report.report }) taken report.text
+    })
+    (record { choices = c.promote_with.new.choices; report = c.in_ok-report.report }) left.choices report.text

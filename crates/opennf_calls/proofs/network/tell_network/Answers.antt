@@ -16,31 +16,23 @@ pub returns-in_err-report : goal.returns-in_err-report
 returns-in_err-report g c =
     let opening = c.in_ok-config.field-0 in
     let is = c.in_ok-config.ensures in
-    let told : c.items-told.result.now ≡ c.args.choices = search rules in
     let failed = err_from_is_err_and c.from_residual-in_err-report.result c.from_residual-in_err-report.ensures.1 in
     rw (failed.1, failed.2)
     (run_refused g.row.F.Denot g.F.Function.semantics (network_view c.args.asked.now) (scenario_of c.args.asked.now.site c.args.inputs) c.args.alloc
     opening.config opening.items.items opening.head is.config is.items
-    c.args.choices c.in_err-report.field-0.0 (λ step same.
-    subst (λ (cs : List Choice). IsAuditCause {F = g.row.F.Denot} g.F.Function.semantics (started_with c.args.alloc opening.config opening.items.items) cs
-    step) told
-    (c.in_err-report.ensures.not_a_run step (ap Err same))))
+    c.args.choices c.in_err-report.field-0.0 (λ step same. c.in_err-report.ensures.not_a_run step (ap Err same)))
 
 pub returns : goal.returns
 returns g c =
     let opening = c.in_ok-config.field-0 in
     let is = c.in_ok-config.ensures in
     let report = c.in_ok-report.ensures in
-    let told : c.items-told.result.now ≡ c.args.choices = search rules in
     let start = started_with {F = g.row.F.Denot} {R = g.row.F-Record.Denot} c.args.alloc opening.config opening.items.items in
     let input = subst (λ (k : Kind). IsInput k opening.config opening.items.items) (sym c.requires.kind) is.is_input in (
       run_of g.row.F.Denot g.F.Function.semantics (network_view c.args.asked.now) (scenario_of c.args.asked.now.site c.args.inputs) c.args.alloc
           opening.config opening.items.items opening.head is.config is.items
           g.met.F.Function.laws None (record { choices = c.args.choices; report = c.in_ok-report.report })
-          (world_after g.F.Function.semantics start c.items-told.result.now)
-          (subst (λ (cs : List Choice). Ran g.row.F.Denot g.F.Function.semantics (network_view c.args.asked.now)
-          (scenario_of c.args.asked.now.site c.args.inputs) c.args.alloc opening.config opening.items.items opening.head is.config is.items cs
-          (world_after g.F.Function.semantics start c.items-told.result.now)) told
+          (world_after g.F.Function.semantics start c.args.choices)
           (record {
             leads = report.run.leads;
             complete = report.run.complete;
@@ -50,9 +42,9 @@ returns g c =
             completed = report.completed input;
             home = report.home input;
             few = short_runs g.row.F.Denot g.F.Function.semantics g.met.F.Function.laws c.args.alloc opening.config opening.items.items input is.short
-                c.items-told.result.now report.run.leads.is_run;
+                c.args.choices report.run.leads.is_run;
             input = is.is_input;
             kind = c.requires.kind;
-          })) (λ schedule same. cc) is.head report.text,
+          }) (λ schedule same. cc) is.head report.text,
       refl,
     )

@@ -1,6 +1,6 @@
 -- The first choice that is left, and those after it.
 use Rattle.std.proofs.Common.{◌≡◌, ◌-◌, ◌∷◌, ◌∙◌, suc, length, rules, sym, ap, arith}
-use Rattle.actor_net.specs.ChoiceCodes.{choices_in}
+use Rattle.actor_net.specs.ChoiceCodes.{coded_choices}
 use Rattle.actor_net.proofs.ChoiceCodeLemmas.{none_in, some_in}
 use Rattle.actor_net.proofs.choices.ChoiceReaderIterator.next.Goals as goal
 
@@ -14,7 +14,7 @@ invariant_of-self c =
     let next : c.self.inside.left ≡ suc (c.self.inside.left - 1) = omega (arith, c.if-self-eq0.false) in
     let first = some_in c.self.inside.left (c.self.inside.left - 1) c.self.inside.bytes.now c.in_ok-choice.choice c.in_ok-choice.rest.now next
     (sym c.in_ok-choice.ensures) in
-    let more : suc (length (choices_in (c.self.inside.left - 1) c.in_ok-choice.rest.now)) ≡ c.self.inside.left = sym (ap length first) ∙ c.self.invariant in
+    let more : suc (length (coded_choices (c.self.inside.left - 1) c.in_ok-choice.rest.now)) ≡ c.self.inside.left = sym (ap length first) ∙ c.self.invariant in
     omega (arith, more)
 
 pub returns-clause-steps : goal.returns-clause-steps
@@ -28,5 +28,5 @@ returns-clause-goes c =
     let next : c.self.inside.left ≡ suc (c.self.inside.left - 1) = omega (arith, c.if-self-eq0.false) in
     let first = sym c.self.view_is ∙ some_in c.self.inside.left (c.self.inside.left - 1) c.self.inside.bytes.now c.in_ok-choice.choice
     c.in_ok-choice.rest.now next (sym c.in_ok-choice.ensures) in
-    let fewer : length c.args.self.now ≡ suc (length (choices_in (c.self.inside.left - 1) c.in_ok-choice.rest.now)) = ap length first in
+    let fewer : length c.args.self.now ≡ suc (length (coded_choices (c.self.inside.left - 1) c.in_ok-choice.rest.now)) = ap length first in
     search (rules, fewer, arith)

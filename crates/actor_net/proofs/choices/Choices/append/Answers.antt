@@ -1,6 +1,6 @@
 -- More choices, whose bytes come last.
 use Rattle.std.proofs.Common.{◌≡◌, ◌+◌, ◌++◌, ◌∙◌, sym, ap, arith}
-use Rattle.actor_net.specs.ChoiceCodes.{choices_in}
+use Rattle.actor_net.specs.ChoiceCodes.{coded_choices}
 use Rattle.actor_net.proofs.ChoiceCodeLemmas.{coded_more, few, spelled_more}
 use Rattle.actor_net.proofs.choices.Choices.append.Goals as goal
 
@@ -13,11 +13,11 @@ overflow_add-self c =
 pub invariant_of-self-2 : goal.invariant_of-self-2
 invariant_of-self-2 c =
     rw (c.in_ok-extend_from_slice.ensures.items, c.as_slice.ensures.value) (coded_more c.self.inside.count c.more.inside.count c.self.inside.bytes.items
-    c.more.inside.bytes.items c.self.invariant (choices_in c.more.inside.count c.more.inside.bytes.items) c.more.invariant.coded
+    c.more.inside.bytes.items c.self.invariant (coded_choices c.more.inside.count c.more.inside.bytes.items) c.more.invariant.coded
     (sym c.more.invariant.counted))
 
 pub returns-clause-ok : goal.returns-clause-ok
 returns-clause-ok c =
     rw (c.in_ok-extend_from_slice.ensures.items, c.as_slice.ensures.value, ← c.self.view_is, ← c.more.view_is) (spelled_more c.self.inside.count
-    c.more.inside.count c.self.inside.bytes.items c.more.inside.bytes.items c.self.invariant (choices_in c.more.inside.count c.more.inside.bytes.items)
+    c.more.inside.count c.self.inside.bytes.items c.more.inside.bytes.items c.self.invariant (coded_choices c.more.inside.count c.more.inside.bytes.items)
     c.more.invariant.coded (sym c.more.invariant.counted))

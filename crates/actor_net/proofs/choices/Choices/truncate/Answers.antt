@@ -3,13 +3,13 @@ use Rattle.std.proofs.Common.{◌≡◌, ◌∙◌, List, length, take, sym, ap,
 use Rattle.std.specs.List.{flat_map}
 use Rattle.std.proofs.lemmas.List.{length-take-le}
 use Rattle.actor_net.specs.declared.choice.Choice.{Choice}
-use Rattle.actor_net.specs.ChoiceCodes.{choices_in, code_of}
+use Rattle.actor_net.specs.ChoiceCodes.{coded_choices, code_of}
 use Rattle.actor_net.proofs.ChoiceCodeLemmas.{are_coded, spelled}
 use Rattle.actor_net.proofs.choices.Choices.truncate.Goals as goal
 
 pub invariant_of-self : goal.invariant_of-self
 invariant_of-self c =
-    let all : List Choice = choices_in c.self.inside.count c.self.inside.bytes.items in
+    let all : List Choice = coded_choices c.self.inside.count c.self.inside.bytes.items in
     let left : c.truncate.new.self.items ≡ flat_map code_of (take c.args.count all) = c.truncate.ensures.items
     ∙ ap (λ b. take c.front_size-size.result b) (sym c.as_slice.ensures.value)
     ∙ c.front_size-size.ensures all (c.as_slice.ensures.value ∙ c.self.invariant.coded) in
@@ -18,7 +18,7 @@ invariant_of-self c =
 
 pub returns : goal.returns
 returns c =
-    let all : List Choice = choices_in c.self.inside.count c.self.inside.bytes.items in
+    let all : List Choice = coded_choices c.self.inside.count c.self.inside.bytes.items in
     let left : c.truncate.new.self.items ≡ flat_map code_of (take c.args.count all) = c.truncate.ensures.items
     ∙ ap (λ b. take c.front_size-size.result b) (sym c.as_slice.ensures.value)
     ∙ c.front_size-size.ensures all (c.as_slice.ensures.value ∙ c.self.invariant.coded) in
