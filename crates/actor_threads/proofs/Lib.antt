@@ -15,3 +15,4 @@ pub mod RoundStart
 pub mod SentMessages
 pub mod WorkerSteps
 pub mod GroupLemmas
+pub mod RoundsJoined

@@ -1,6 +1,6 @@
 -- A column of the table of links, taken out one list at a time.
-use Rattle.std.proofs.Common.{◌≡◌, ◌≢◌, ◌<◌, ℕ, ◌+◌, ◌*◌, List, [], ◌∷◌, ◌++◌, length, slice_set, map, sym, ◌∙◌, ap, subst, arith}
-use Rattle.std.proofs.lemmas.List.{length-map, map-append, get_or-set_other, get_or_append_left}
+use Rattle.std.proofs.Common.{◌≡◌, ◌≢◌, ◌<◌, ℕ, ◌+◌, ◌*◌, List, [], ◌∷◌, ◌++◌, length, slice_set, sym, ◌∙◌, subst, arith}
+use Rattle.std.proofs.lemmas.List.{get_or-set_other, get_or_append_left}
 use Rattle.actor_net.proofs.LinkLemmas.{other_place}
 use Rattle.actor_threads.specs.LinkTable.{row_at}
 use Rattle.actor_threads.proofs.LinkTableLemmas.{last_of, same_or}
@@ -16,11 +16,9 @@ module _ {X : Type 0} (links : List (List X)) (place count port node : ℕ) (v :
   other_row p other = get_or-set_other links place (p * count + node) v [] (λ e. other_place count port node p node hn hn (λ same _. other same) (e ∙ is))
 
 -- one list more
-pub lists_more : {V X : Type 0} (f : V → List X) (kept : List V) (new : V) (from : ℕ → List X) (k : ℕ) → length kept ≡ k
-    → ((p : ℕ) → p < k → row_at (map f kept) p ≡ from p) → f new ≡ from k → (p : ℕ) → p < k + 1 → row_at (map f (kept ++ new ∷ [])) p ≡ from p
-lists_more f kept new from k count before last p h =
-    ap (λ l. row_at l p) (map-append f kept (new ∷ []))
-    ∙ same_or p k (row_at (map f kept ++ f new ∷ []) p ≡ from p)
-    (λ e. subst (λ q. row_at (map f kept ++ f new ∷ []) q ≡ from q) (sym e) (last_of (map f kept) (f new) [] k (length-map kept f ∙ count) ∙ last))
-    (λ other.
-    let less : p < k = omega arith in get_or_append_left (map f kept) (f new ∷ []) [] p (omega (arith, length-map kept f, count, less)) ∙ before p less)
+pub lists_more : {X : Type 0} (kept : List (List X)) (new : List X) (from : ℕ → List X) (k : ℕ) → length kept ≡ k
+    → ((p : ℕ) → p < k → row_at kept p ≡ from p) → new ≡ from k → (p : ℕ) → p < k + 1 → row_at (kept ++ new ∷ []) p ≡ from p
+lists_more kept new from k count before last p h =
+    same_or p k (row_at (kept ++ new ∷ []) p ≡ from p)
+    (λ e. subst (λ q. row_at (kept ++ new ∷ []) q ≡ from q) (sym e) (last_of kept new [] k count ∙ last))
+    (λ other. let less : p < k = omega arith in get_or_append_left kept (new ∷ []) [] p (omega (arith, count, less)) ∙ before p less)

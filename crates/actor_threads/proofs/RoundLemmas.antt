@@ -1,11 +1,12 @@
 -- A whole round, from what its members did: the choices are a run, and the world left is its replay.
 use Rattle.std.proofs.Common.{◌≡◌, ◌<◌, ℕ, zero, suc, Bool, true, false, true≢false, List, []}
-use Rattle.std.proofs.Common.{◌∷◌, length, slice_index_or, map, sym, ◌∙◌, ap, refl, subst, arith}
+use Rattle.std.proofs.Common.{◌∷◌, ◌++◌, length, slice_index_or, slice_set, map, sym, ◌∙◌, ap, refl, subst, arith, append-nil}
 use Rattle.std.specs.List.{list_all}
 use Rattle.std.proofs.lemmas.List.{length-map, get_or-map}
 use Rattle.std.proofs.lemmas.Bool.{and_parts}
 use Rattle.actor_net.specs.declared.choice.Choice.{Choice}
-use Rattle.actor_net.specs.declared.histories.History.{History}
+use Rattle.actor_net.specs.Histories.{notes_of_choices}
+use Rattle.actor_net.specs.Merging.{IsMerge}
 use Rattle.actor_net.specs.Network.{Network, Stepped, IsWorld, IsRun, run, is_enabled}
 use Rattle.actor_net.proofs.ClockOrder.{RunLeaves}
 use Rattle.actor_net.proofs.MergeRun.{merged, replay_is}
@@ -13,8 +14,8 @@ use Rattle.actor_threads.specs.declared.groups.Member.{Member}
 use Rattle.actor_threads.specs.Groups.{has_run, AllInRound}
 use Rattle.actor_threads.specs.Ways.{Incoming, Outgoing}
 use Rattle.actor_threads.specs.Work.{WorkerView, Ran}
-use Rattle.actor_threads.specs.LinkTable.{ways_of}
-use Rattle.actor_threads.specs.Round.{AllStart, CanCloseAll, AllClosed, RoundLeft, Gathered}
+use Rattle.actor_threads.specs.LinkTable.{row_at, ways_of}
+use Rattle.actor_threads.specs.Round.{AllStart, CanCloseAll, AllClosed, RoundLeft, StageLeft, after_log}
 use Rattle.actor_threads.proofs.GroupLemmas.{ran}
 use Rattle.actor_threads.proofs.RoundReplay.{can_close_all, node_steps, holds, left, rise_is, matches, fits, leaves}
 use Rattle.actor_threads.proofs.RoundWithoutChoice.{history_of, no_steps, all_quiet}
@@ -69,16 +70,13 @@ module _ {A M N : Type 0} (ready : A → M → Bool) (step : A → ℕ → M →
   can_close_members = can_close_all ready step w (workers before) (workers after) d is all each count
 
   -- what the workers leave
-  abbrev pub left_over : RoundLeft A M N
+  abbrev pub left_over : RoundLeft A M
   left_over = record {
     nodes = map (λ (s : WorkerView A M N). s.node) (workers after);
-    histories = map history_of (workers after);
-    notes = map (λ (s : WorkerView A M N). s.notes) (workers after);
     ways = ways_of (map (λ (s : WorkerView A M N). s.ins) (workers after)) (map (λ (s : WorkerView A M N). s.outs) (workers after));
-    log = w.log;
   }
 
-  module _ (v : Network A M N) (cs : List Choice) (g : Gathered left_over v cs) where
+  module _ (v : Network A M N) (g : StageLeft left_over v) (cs : List Choice) (m : IsMerge (map history_of (workers after)) cs) where
     nodes : length (map (λ (s : WorkerView A M N). s.node) (workers after)) ≡ length w.nodes
     nodes = length-map (workers after) _ ∙ count
 
@@ -90,7 +88,7 @@ module _ {A M N : Type 0} (ready : A → M → Bool) (step : A → ℕ → M →
     replayed = merged ready step d w (map history_of (workers after)) cs (node_steps ready step w (workers before) (workers after) d is all each count)
         (holds ready step w (workers before) (workers after) d is all each count)
         (left ready step w (workers before) (workers after) d is all each count g.links closed.count closed.closed)
-        g.merged (matches ready step w (workers before) (workers after) d is all each count)
+        m (matches ready step w (workers before) (workers after) d is all each count)
         (rise_is ready step w (workers before) (workers after) d is all each count)
         (fits ready step w (workers before) (workers after) d is all each count g.links closed.count closed.closed)
 
@@ -98,16 +96,21 @@ module _ {A M N : Type 0} (ready : A → M → Bool) (step : A → ℕ → M →
     pub is_run : IsRun ready step cs w
     is_run = replayed.is_run
 
-    -- and the world is its replay
-    pub is_replay : v ≡ run step cs w
-    is_replay = g.is ∙ replay_is ready step d w _ (node_steps ready step w (workers before) (workers after) d is all each count)
+    -- and it leads to the stage that is left, with the notes in the order of the choices
+    pub is_replay : w.log ≡ [] → run step cs w ≡ after_log (notes_of_choices (λ j. row_at (map (λ (s : WorkerView A M N). s.notes) (workers after)) j) cs) v
+    is_replay none =
+        let notes = notes_of_choices (λ j. row_at (map (λ (s : WorkerView A M N). s.notes) (workers after)) j) cs in
+        sym (replay_is ready step d w _ (node_steps ready step w (workers before) (workers after) d is all each count)
         (left ready step w (workers before) (workers after) d is all each count g.links closed.count closed.closed) cs is.some_node is.square replayed
-        (leaves ready step w (workers before) (workers after) d is all each count g.links closed.count closed.closed cs)
+        (leaves ready step w (workers before) (workers after) d is all each count g.links closed.count closed.closed cs))
+        ∙ ap (λ l. record { nodes = left_over.nodes; links = slice_set g.links 0 []; input = row_at g.links 0; log = l })
+        (ap (λ l. l ++ notes) none ∙ sym (append-nil notes))
+        ∙ sym (ap (after_log notes) g.is)
 
     -- with no choice none was enabled
     pub none_enabled : cs ≡ [] → (c : Choice) → is_enabled ready w c ≡ false
     none_enabled none = all_quiet ready w d (λ j. slice_index_or (workers before) j blank) all.names is.some_node (λ j h. all.each j blank h) (λ j h.
-        (each j blank h).moves (ap (λ l. length l) (no_steps blank (workers after) cs g.merged none j (subst (λ m. j < m) (sym count) h))
+        (each j blank h).moves (ap (λ l. length l) (no_steps blank (workers after) cs m none j (subst (λ m. j < m) (sym count) h))
         ∙ sym (ap (λ l. length l) (all.each j blank h).steps)))
 
 -- where none is enabled a run has no choice
@@ -116,14 +119,12 @@ pub no_choice : {A M N : Type 0} (ready : A → M → Bool) (step : A → ℕ �
 no_choice ready step w [] r none = refl
 no_choice ready step w (c ∷ cs) r none = absurd (true≢false (sym r.0 ∙ none c))
 
--- what is gathered, by other names for its parts
-pub regather : {A M N : Type 0} {nodes nodes' : List A} {hs hs' : List History} {notes notes' : List (List (List N))} {ins ins' : List (List (Incoming M))}
-    {outs outs' : List (List (Outgoing M))} {log log' : List N} {v : Network A M N} {cs : List Choice}
-    → nodes ≡ nodes' → hs ≡ hs' → notes ≡ notes' → ins ≡ ins' → outs ≡ outs' → log ≡ log'
-    → Gathered (record { nodes = nodes; histories = hs; notes = notes; ways = ways_of ins outs; log = log }) v cs
-    → Gathered (record { nodes = nodes'; histories = hs'; notes = notes'; ways = ways_of ins' outs'; log = log' }) v cs
-regather {A} {M} {N} {nodes} {nodes'} {hs} {hs'} {notes} {notes'} {ins} {ins'} {outs} {outs'} {log} {log'} {v} {cs} a b c d e f g =
-    subst (λ (left : RoundLeft A M N). Gathered left v cs) (λ i. record { nodes = a i; histories = b i; notes = c i; ways = ways_of (d i) (e i); log = f i }) g
+-- what is left, by other names for its parts
+pub releft : {A M N : Type 0} {nodes nodes' : List A} {ins ins' : List (List (Incoming M))} {outs outs' : List (List (Outgoing M))} {v : Network A M N}
+    → nodes ≡ nodes' → ins ≡ ins' → outs ≡ outs' → StageLeft (record { nodes = nodes; ways = ways_of ins outs }) v
+    → StageLeft (record { nodes = nodes'; ways = ways_of ins' outs' }) v
+releft {A} {M} {N} {nodes} {nodes'} {ins} {ins'} {outs} {outs'} {v} a b c g =
+    subst (λ (left : RoundLeft A M). StageLeft left v) (λ i. record { nodes = a i; ways = ways_of (b i) (c i) }) g
 
 pub reclose : {M : Type 0} {n n' : ℕ} {ins ins' : List (List (Incoming M))} {outs outs' : List (List (Outgoing M))} → n ≡ n' → ins ≡ ins' → outs ≡ outs'
     → CanCloseAll n ins outs → CanCloseAll n' ins' outs'

@@ -169,7 +169,7 @@ where
     members
 }
 
-/// The workers of one group take turns, until no group is busy or another pace is wanted. One group looks after the pace.
+/// The workers of one group take turns, until no group is busy or the round is to end. One group looks after that.
 fn run_group<R: Wait, A: Actor, G: Gate>(
     rt: &R,
     gate: &G,
@@ -183,8 +183,7 @@ fn run_group<R: Wait, A: Actor, G: Gate>(
     let mut watch = Watch::new();
     for _ in rt.forever() {
         let steps = turn_all(rt, gate, members);
-        if leads && watch.wants_another_pace(crew, steps, idle.has_slept()) {
-            crew.change_pace();
+        if leads && watch.ends_round(crew, steps, idle.has_slept()) {
             return;
         }
         if idle.is_over(rt, crew, steps > 0) {

@@ -4,8 +4,9 @@ ghost use Rattle.actor_net.specs.Histories.{messages};
 ghost use Rattle.actor_threads.specs.Ways.{unpacked};
 ghost use Rattle.actor_threads.specs.LinkTable.{RowOpened, AllOpened, Closed, RowClosed, CanClose, closing};
 
+use crate::queue::Queue;
 use crate::ways::{Batch, WayIn, WayOut, append};
-use basics::{NoMemory, Sequence};
+use basics::NoMemory;
 use fifo_link::{Link, SendEnd, TakeEnd, close};
 use std::alloc::Global;
 use std::collections::VecDeque;
@@ -57,7 +58,7 @@ pub fn close_row<M: Drop, R: Wait>(
     rt: &R,
     mut row: VecDeque<WayOut<M>>,
     ins: &mut Vec<VecDeque<WayIn<M>>>,
-    links: &mut Vec<Sequence<M>>,
+    links: &mut Vec<Queue<M>>,
 ) -> Result<(), NoMemory>
     requires { CanClose row.items (map (λ v. v.items) ins.old.items) }
     ensures { OnOk result (RowClosed (length row.items) row.items (closing (map (λ v. v.items) ins.old.items) links.old.items)
@@ -79,7 +80,7 @@ fn close_way<M: Drop, R: Wait>(
     rt: &R,
     way_in: WayIn<M>,
     way_out: WayOut<M>,
-) -> Result<Sequence<M>, NoMemory>
+) -> Result<Queue<M>, NoMemory>
     requires { way_out.link ≡ way_in.link }
     ensures { IfOk result (λ list. Closed way_in way_out list) }
 {
@@ -87,7 +88,7 @@ fn close_way<M: Drop, R: Wait>(
     let (send, waiting) = way_out.parts();
     append_all(&mut list, close(rt, send, take).left)?;
     append(&mut list, waiting)?;
-    Ok(Sequence::from_vec(list.into_vec()))
+    Ok(Queue::from_deque(list))
 }
 
 /// Puts the messages of batches after others.

@@ -11,8 +11,8 @@ const SLEEPS: u32 = 16;
 /// Little is under way where the first group did fewer steps between two sleeps.
 const FEW_STEPS: u32 = 64;
 
-/// In one thread the pace is looked at after so many turns, and after twice as many each time that it has changed: a change moves
-/// what is left of the input.
+/// In one thread the pace is looked at after so many turns, and after twice as many each time that it has changed: a change costs
+/// the start of threads, and the wait for them.
 const TURNS: u32 = 256;
 
 /// Much is under way where all workers do as many steps in a turn.
@@ -21,6 +21,10 @@ const MANY_STEPS: u32 = 128;
 /// The number of changes from which on the pace is looked at no more often or rarely.
 const MOST_CHANGES: u64 = 12;
 
+/// A round in threads ends where the first group did so many steps. What it did is then merged beside the next round, from memory that
+/// the processors still have at hand.
+const ROUND_STEPS: u32 = 1 << 16;
+
 /// What the groups of a round know of one another, and the pace at which the next round goes.
 #[derive(Drop)]
 pub(crate) struct Crew {
@@ -28,7 +32,7 @@ pub(crate) struct Crew {
     pub(crate) busy: AtomicU64,
     /// Not 0 where all workers share one thread.
     calm: AtomicU64,
-    /// Not 0 where the round is to end, since another pace is wanted.
+    /// Not 0 where the round is to end.
     ending: AtomicU64,
     /// How often the pace has changed.
     changes: AtomicU64,
@@ -72,12 +76,17 @@ impl Crew {
         self.ending.load(Ordering::SeqCst) != 0
     }
 
+    /// Ends the round.
+    fn end_round(&self) {
+        self.ending.store(1, Ordering::SeqCst);
+    }
+
     /// Ends the round, so that the next one goes at the other pace.
-    pub(crate) fn change_pace(&self) {
+    fn change_pace(&self) {
         let calm = if self.is_calm() { 0 } else { 1 };
         self.calm.store(calm, Ordering::SeqCst);
         self.changes.fetch_add(1, Ordering::SeqCst);
-        self.ending.store(1, Ordering::SeqCst);
+        self.end_round();
     }
 
     /// How many turns in one thread are looked at together.
@@ -87,12 +96,13 @@ impl Crew {
     }
 }
 
-/// What the first group saw since it last looked at the pace.
+/// What the first group saw since it last looked at the pace, and how many steps it did before in this round.
 #[derive(Drop)]
 pub(crate) struct Watch {
     turns: u32,
     sleeps: u32,
     steps: u32,
+    before: u32,
 }
 
 impl Watch {
@@ -101,11 +111,39 @@ impl Watch {
             turns: 0,
             sleeps: 0,
             steps: 0,
+            before: 0,
         }
     }
 
+    /// Counts a turn with so many steps, after a sleep or not, and ends the round where another pace is wanted or it was long: whether it
+    /// did.
+    pub(crate) fn ends_round(&mut self, crew: &Crew, steps: u32, slept: bool) -> bool {
+        if self.wants_another_pace(crew, steps, slept) {
+            crew.change_pace();
+            return true;
+        }
+        if self.is_long() && !crew.is_calm() {
+            crew.end_round();
+            return true;
+        }
+        false
+    }
+
+    /// Whether the group did the steps of a round.
+    fn is_long(&self) -> bool {
+        self.before.saturating_add(self.steps) >= ROUND_STEPS
+    }
+
+    /// Begins to count anew, but for the steps of the round.
+    fn look_anew(&mut self) {
+        self.turns = 0;
+        self.sleeps = 0;
+        self.before = self.before.saturating_add(self.steps);
+        self.steps = 0;
+    }
+
     /// Counts a turn with so many steps, after a sleep or not. Tells whether another pace is wanted.
-    pub(crate) fn wants_another_pace(&mut self, crew: &Crew, steps: u32, slept: bool) -> bool {
+    fn wants_another_pace(&mut self, crew: &Crew, steps: u32, slept: bool) -> bool {
         self.steps = self.steps.saturating_add(steps);
         if crew.is_calm() {
             self.wants_threads(crew)
@@ -121,7 +159,7 @@ impl Watch {
             return false;
         }
         let is_much = self.steps / MANY_STEPS >= self.turns && !crew.is_narrow;
-        *self = Watch::new();
+        self.look_anew();
         is_much
     }
 
@@ -132,7 +170,7 @@ impl Watch {
             return false;
         }
         let is_little = self.steps / FEW_STEPS < self.sleeps;
-        *self = Watch::new();
+        self.look_anew();
         is_little
     }
 }

@@ -1,30 +1,32 @@
 //! A round: all workers run beside each other, and then the world is made anew.
-ghost use Rattle.std.specs.Prelude.{◌≡◌, ◌≢◌, ◌↔◌, false, ◌<◌, ◌+◌, ◌*◌, ◌++◌, ℕ, List, true, [], ◌∷◌, length, map, IfOk, OnOk, All};
+ghost use Rattle.std.specs.Prelude.{◌≡◌, ◌≢◌, ◌↔◌, false, ◌<◌, ◌+◌, ◌*◌, ◌++◌, ℕ, true, [], ◌∷◌, length, map, IfOk, OnOk, All};
 ghost use Rattle.std.specs.List.{list_all};
 ghost use Rattle.actor_net.specs.Network.{node_numbers, IsWorld, IsRun, run, is_enabled, is_done};
-ghost use Rattle.actor_net.specs.Histories.{notes_of_choices};
 ghost use Rattle.actor_net.specs.declared.choice.Choice.{Choice};
 ghost use Rattle.actor_threads.specs.Groups.{IsInRound, has_run};
 ghost use Rattle.actor_threads.specs.LinkTable.{row_at, ways_of};
-ghost use Rattle.actor_threads.specs.Round.{AllStart, CanCloseAll, AllClosed, Gathered, OpenedWith};
+ghost use Rattle.actor_threads.specs.Round.{AllStart, CanCloseAll, AllClosed, OpenedWith, StageLeft, IsRound, MergesMore};
 
 use crate::gate::Gate;
 use crate::groups::{Member, processors, run_all};
 use crate::links::{Ends, close_row, open_all};
+use crate::merged::{Merged, Unmerged};
 use crate::notes::NoteQueue;
 use crate::pace::Crew;
+use crate::queue::Queue;
+use crate::stage::{Stage, StageParts};
 use crate::ways::{Batch, WayIn, WayOut};
 use crate::worker::Worker;
-use actor_net::{Actor, Choice, Choices, History, Parts, World, merge};
+use actor_net::{Actor, Choices, History, World};
 use basics::{NoMemory, Sequence};
 use fifo_link::{SendEnd, TakeEnd};
 use std::alloc::Global;
 use std::collections::VecDeque;
-use std::mem;
 use std::sync::Wait;
 use std::thread::Threads;
+use std::{mem, thread};
 
-/// Rounds of a world until it is complete. The choices are those of all rounds.
+/// Rounds of a world until it is complete. The choices are those of all rounds. What a round did is merged while the next one goes on.
 pub fn run_threads<R: Threads + Wait + Sync, A: Actor + Send, G: Gate>(
     rt: &R,
     alloc: Global,
@@ -37,16 +39,22 @@ where
     ensures run { IfOk result (λ r. IsRun A.is_ready A.stepped r.1 world × (r.0 ≡ run A.stepped r.1 world)) }
     ensures complete { IfOk result (λ r. is_done A.has_ended r.0 ≡ true) }
 {
-    let mut world = world;
-    let mut choices = Choices::open(alloc);
+    if world.complete() {
+        return Ok((world, Choices::open(alloc)));
+    }
     let crew = crew(rt);
+    let (stage, log) = Stage::open(alloc, world)?;
+    let mut merged = Merged::open(alloc, log);
+    let mut round = round_of(rt, alloc, stage, gate, &crew)?;
     for _ in rt.forever() {
-        if world.complete() {
-            return Ok((world, choices));
+        let Round { stage, unmerged } = round;
+        if stage.complete() {
+            let all = merged.add(alloc, unmerged)?;
+            return stage.close(alloc, all);
         }
-        let (next, more) = round_of(rt, alloc, world, gate, &crew)?;
-        choices = join(choices, more)?;
-        world = next;
+        let (all, next) = beside(rt, alloc, merged, unmerged, stage, gate, &crew);
+        merged = all?;
+        round = next?;
     }
     unreachable!()
 }
@@ -65,28 +73,11 @@ where
     ensures run { IfOk result (λ r. IsRun A.is_ready A.stepped r.1 world × (r.0 ≡ run A.stepped r.1 world)) }
     ensures moves { IfOk result (λ r. (r.1 ≡ []) ↔ ((c : Choice) → is_enabled A.is_ready world c ≡ false)) }
 {
-    round_of(rt, alloc, world, gate, &crew(rt))
-}
-
-/// A round by these groups.
-fn round_of<R: Threads + Wait + Sync, A: Actor + Send, G: Gate>(
-    rt: &R,
-    alloc: Global,
-    world: World<A>,
-    gate: &G,
-    crew: &Crew,
-) -> Result<(World<A>, Choices), NoMemory>
-where
-    A::Message: Send,
-    A::Note: Send,
-    ensures run { IfOk result (λ r. IsRun A.is_ready A.stepped r.1 world × (r.0 ≡ run A.stepped r.1 world)) }
-    ensures moves { IfOk result (λ r. (r.1 ≡ []) ↔ ((c : Choice) → is_enabled A.is_ready world c ≡ false)) }
-{
-    let (members, log) = members_of(alloc, world)?;
-    let after = run_all(rt, gate, crew, members)?;
-    let round_parts = take_apart(alloc, after)?;
-    let (left, choices) = gather(rt, alloc, round_parts, log)?;
-    Ok((left, choices))
+    let (stage, log) = Stage::open(alloc, world)?;
+    let Round { stage, unmerged } = round_of(rt, alloc, stage, gate, &crew(rt))?;
+    let all = Merged::open(alloc, log).add(alloc, unmerged)?;
+    let (world, choices) = stage.close(alloc, all)?;
+    Ok((world, choices))
 }
 
 /// The groups of a run, at the busy pace.
@@ -94,25 +85,79 @@ fn crew<R: Threads>(rt: &R) -> Crew {
     Crew::new(processors(rt) == 1)
 }
 
+/// What a round came to: what the next one begins with, and what is still to be merged.
+#[derive(Drop)]
+struct Round<A: Actor> {
+    stage: Stage<A>,
+    unmerged: Unmerged<A::Note>,
+}
+
+/// One more round, and what the round before it did is merged meanwhile.
+fn beside<R: Threads + Wait + Sync, A: Actor + Send, G: Gate>(
+    rt: &R,
+    alloc: Global,
+    merged: Merged<A::Note>,
+    unmerged: Unmerged<A::Note>,
+    stage: Stage<A>,
+    gate: &G,
+    crew: &Crew,
+) -> (
+    Result<Merged<A::Note>, NoMemory>,
+    Result<Round<A>, NoMemory>,
+)
+where
+    A::Message: Send,
+    A::Note: Send,
+    ensures merged { IfOk result.0 (λ all. MergesMore unmerged merged all) }
+    ensures round { IfOk result.1 (λ r. IsRound A.is_ready A.stepped stage r) }
+{
+    thread::join(
+        rt,
+        || -> Result<Merged<A::Note>, NoMemory>
+            ensures { IfOk result (λ all. MergesMore unmerged merged all) }
+        { merged.add(alloc, unmerged) },
+        || -> Result<Round<A>, NoMemory>
+            ensures { IfOk result (λ r. IsRound A.is_ready A.stepped stage r) }
+        { round_of(rt, alloc, stage, gate, crew) },
+    )
+}
+
+/// A round by these groups.
+fn round_of<R: Threads + Wait + Sync, A: Actor + Send, G: Gate>(
+    rt: &R,
+    alloc: Global,
+    stage: Stage<A>,
+    gate: &G,
+    crew: &Crew,
+) -> Result<Round<A>, NoMemory>
+where
+    A::Message: Send,
+    A::Note: Send,
+    ensures { IfOk result (λ r. IsRound A.is_ready A.stepped stage r) }
+{
+    let members = members_of(alloc, stage)?;
+    let after = run_all(rt, gate, crew, members)?;
+    let round_parts = take_apart(alloc, after)?;
+    let round = close_round(rt, alloc, round_parts)?;
+    Ok(round)
+}
+
 /// The workers of all nodes, none of which has done a step.
 pub(crate) fn members_of<A: Actor>(
     alloc: Global,
-    world: World<A>,
-) -> Result<(Vec<Member<A>>, Vec<A::Note>), NoMemory>
-    ensures members { IfOk result (λ s. AllStart world (map (λ x. x.worker) s.0.items)) }
-    ensures begin { IfOk result (λ s. All (λ m. IsInRound A.is_ready A.stepped m.worker m) s.0.items) }
-    ensures log { IfOk result (λ s. s.1.items ≡ world.log) }
-    ensures world { IsWorld world }
+    stage: Stage<A>,
+) -> Result<Vec<Member<A>>, NoMemory>
+    ensures members { IfOk result (λ s. AllStart stage (map (λ x. x.worker) s.items)) }
+    ensures begin { IfOk result (λ s. All (λ m. IsInRound A.is_ready A.stepped m.worker m) s.items) }
+    ensures world { IsWorld stage }
+    ensures log { stage.log ≡ [] }
 {
-    let Parts {
+    let StageParts {
         nodes,
-        links,
-        input,
-        log,
-    } = world.parts()?;
-    let mut nodes = VecDeque::from_vec(nodes.into_vec());
-    let mut links = links.into_vec();
-    let mut input = input.into_vec();
+        mut links,
+        mut input,
+    } = stage.parts();
+    let mut nodes = VecDeque::from_vec(nodes);
     let count = nodes.len();
     let Ends { sends, takes } = open_all(alloc, count)?;
     let mut sends = VecDeque::from_vec(sends);
@@ -128,11 +173,11 @@ pub(crate) fn members_of<A: Actor>(
         let Some(takes) = takes.pop_front() else {
             unreachable!()
         };
-        let items = mem::replace(&mut input, Vec::new(alloc));
+        let items = mem::replace(&mut input, Queue::open(alloc));
         let worker = worker_of(alloc, number, node, items, &mut links, takes, sends)?;
         members.push(Member::open(worker))?;
     }
-    Ok((members, log.into_vec()))
+    Ok(members)
 }
 
 /// The worker of one node, with what stands on the links to it.
@@ -140,17 +185,17 @@ fn worker_of<A: Actor>(
     alloc: Global,
     number: usize,
     node: A,
-    input: Vec<A::Message>,
-    links: &mut Vec<Sequence<A::Message>>,
+    input: Queue<A::Message>,
+    links: &mut Vec<Queue<A::Message>>,
     takes: Vec<TakeEnd<Batch<A::Message>>>,
     sends: Vec<SendEnd<Batch<A::Message>>>,
 ) -> Result<Worker<A>, NoMemory>
     requires count { (number < length takes.items) × (length takes.items < node_numbers) }
     requires square { length links.old.items ≡ length takes.items * length takes.items }
     requires ends { length sends.items ≡ length takes.items }
-    requires input { (number ≡ 0 → row_at links.old.items 0 ≡ []) × (number ≢ 0 → input.items ≡ []) }
+    requires input { (number ≡ 0 → row_at links.old.items 0 ≡ []) × (number ≢ 0 → input ≡ []) }
     ensures worker { IfOk result
-        (λ w. OpenedWith (record { number = number; node = node; links = links.old.items; input = input.items; takes = takes.items; sends = sends.items }) w) }
+        (λ w. OpenedWith (record { number = number; node = node; links = links.old.items; input = input; takes = takes.items; sends = sends.items }) w) }
     ensures others { (p j : ℕ) → j < length takes.items → j ≢ number
         → row_at links.new.items (p * length takes.items + j) ≡ row_at links.old.items (p * length takes.items + j) }
     ensures square { length links.new.items ≡ length links.old.items }
@@ -162,22 +207,21 @@ fn worker_of<A: Actor>(
 /// What stands on the links to one node, taken out of the table.
 fn column<M: Drop>(
     alloc: Global,
-    links: &mut Vec<Sequence<M>>,
+    links: &mut Vec<Queue<M>>,
     count: usize,
     node: usize,
-) -> Result<Vec<Vec<M>>, NoMemory>
+) -> Result<Vec<Queue<M>>, NoMemory>
     requires count { (node < count) × (count < node_numbers) }
     requires square { length links.old.items ≡ count * count }
     ensures kept { IfOk result (λ kept. length kept.items ≡ count) }
-    ensures lists { IfOk result (λ kept. (p : ℕ) → p < count → row_at (map (λ v. v.items) kept.items) p ≡ row_at links.old.items (p * count + node)) }
+    ensures lists { IfOk result (λ kept. (p : ℕ) → p < count → row_at kept.items p ≡ row_at links.old.items (p * count + node)) }
     ensures others { (p j : ℕ) → j < count → j ≢ node → row_at links.new.items (p * count + j) ≡ row_at links.old.items (p * count + j) }
     ensures square { length links.new.items ≡ length links.old.items }
 {
     let mut kept = Vec::with_capacity(alloc, count)?;
     for port in 0..count {
         let at = place(count, port, node);
-        let list = mem::replace(&mut links[at], Sequence::open(alloc));
-        kept.push(list.into_vec())?;
+        kept.push(mem::replace(&mut links[at], Queue::open(alloc)))?;
     }
     Ok(kept)
 }
@@ -256,41 +300,38 @@ impl<A: Actor> RoundParts<A> {
     }
 }
 
-/// The world that the workers left, and the choices that they made.
-fn gather<R: Wait, A: Actor>(
+/// What the workers left, with all links closed.
+fn close_round<R: Wait, A: Actor>(
     rt: &R,
     alloc: Global,
     round_parts: RoundParts<A>,
-    mut log: Vec<A::Note>,
-) -> Result<(World<A>, Choices), NoMemory>
+) -> Result<Round<A>, NoMemory>
     requires some { (0 < length round_parts.nodes.items) × (length round_parts.nodes.items < node_numbers) }
     requires close { CanCloseAll (length round_parts.nodes.items) (map (λ v. v.items) round_parts.ins.items) (map (λ v. v.items) round_parts.outs.items) }
-    ensures { IfOk result (λ r. Gathered (record {
+    ensures stage { IfOk result (λ r. StageLeft (record {
       nodes = round_parts.nodes.items;
-      histories = round_parts.histories.items;
-      notes = round_parts.notes.items;
       ways = ways_of (map (λ v. v.items) round_parts.ins.items) (map (λ v. v.items) round_parts.outs.items);
-      log = log.items;
-    }) r.0 r.1) }
+    }) r.stage) }
+    ensures histories { IfOk result (λ r. r.unmerged.histories ≡ round_parts.histories) }
+    ensures notes { IfOk result (λ r. r.unmerged.notes ≡ round_parts.notes) }
 {
     let RoundParts {
         nodes,
         histories,
-        mut notes,
+        notes,
         ins,
         outs,
     } = round_parts;
     let mut links = close_all(rt, alloc, ins, outs)?;
-    let choices = merge(alloc, histories.as_slice())?;
-    deal_all(&choices, &mut notes, &mut log)?;
-    let input = mem::replace(&mut links[0], Sequence::open(alloc));
-    let parts = Parts {
-        nodes: Sequence::from_vec(nodes),
-        links: Sequence::from_vec(links),
-        input,
-        log: Sequence::from_vec(log),
-    };
-    Ok((World::from_parts(alloc, parts)?, choices))
+    let input = mem::replace(&mut links[0], Queue::open(alloc));
+    Ok(Round {
+        stage: Stage::from_parts(StageParts {
+            nodes,
+            links,
+            input,
+        }),
+        unmerged: Unmerged { histories, notes },
+    })
 }
 
 /// Closes all links. The list of the link from s to r stands at place s * n + r.
@@ -299,7 +340,7 @@ fn close_all<M: Drop, R: Wait>(
     alloc: Global,
     mut ins: Vec<VecDeque<WayIn<M>>>,
     outs: Vec<VecDeque<WayOut<M>>>,
-) -> Result<Vec<Sequence<M>>, NoMemory>
+) -> Result<Vec<Queue<M>>, NoMemory>
     requires { CanCloseAll (length ins.items) (map (λ v. v.items) ins.items) (map (λ v. v.items) outs.items) }
     ensures { IfOk result
         (λ links. AllClosed (length ins.items) (length ins.items) (ways_of (map (λ v. v.items) ins.items) (map (λ v. v.items) outs.items)) links.items) }
@@ -313,47 +354,4 @@ fn close_all<M: Drop, R: Wait>(
         close_row(rt, row, &mut ins, &mut links)?;
     }
     Ok(links)
-}
-
-/// The notes of all nodes, in the order of the choices.
-fn deal_all<N: Drop>(
-    choices: &Choices,
-    notes: &mut Vec<NoteQueue<N>>,
-    log: &mut Vec<N>,
-) -> Result<(), NoMemory>
-    ensures { OnOk result (log.new.items ≡ log.old.items ++ notes_of_choices (λ j. row_at notes.old.items j) choices.now) }
-{
-    for choice in choices.iter() {
-        deal_one(choice, notes, log)?;
-    }
-    Ok(())
-}
-
-/// The notes of one step. They are the next of its node's.
-fn deal_one<N: Drop>(
-    choice: Choice,
-    notes: &mut Vec<NoteQueue<N>>,
-    log: &mut Vec<N>,
-) -> Result<(), NoMemory>
-    ensures { OnOk result ((cs : List Choice) → log.new.items ++ notes_of_choices (λ j. row_at notes.new.items j) cs
-        ≡ log.old.items ++ notes_of_choices (λ j. row_at notes.old.items j) (choice ∷ cs)) }
-{
-    let node = choice.node as usize;
-    if node >= notes.len() {
-        return Ok(());
-    }
-    notes[node].deal(log)?;
-    Ok(())
-}
-
-/// Choices, and after them more.
-fn join(choices: Choices, more: Choices) -> Result<Choices, NoMemory>
-    ensures { IfOk result (λ all. all ≡ choices ++ more) }
-{
-    if choices.is_empty() {
-        return Ok(more);
-    }
-    let mut all = choices;
-    all.append(&more)?;
-    Ok(all)
 }

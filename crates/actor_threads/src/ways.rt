@@ -4,6 +4,7 @@ ghost use Rattle.actor_net.specs.Histories.{messages};
 ghost use Rattle.actor_threads.specs.Ways.{Draws, IsBlocked, with_stamp_0, unpacked, last_clock};
 ghost use Rattle.actor_net.specs.declared.stamped.Stamped.{Stamped};
 
+use crate::queue::Queue;
 use actor_net::Stamped;
 use basics::{NoMemory, Sequence};
 use fifo_link::{Full, SendEnd, TakeEnd};
@@ -38,12 +39,12 @@ impl<M> Model for WayIn<M> {
 
 impl<M: Drop> WayIn<M> {
     /// The way with what is kept from before the round.
-    pub fn open(alloc: Global, end: TakeEnd<Batch<M>>, kept: Vec<M>) -> Self
-        ensures { result ≡ record { link = end.link; done = unpacked end.done; kept = with_stamp_0 kept.items } }
+    pub fn open(alloc: Global, end: TakeEnd<Batch<M>>, kept: Queue<M>) -> Self
+        ensures { result ≡ record { link = end.link; done = unpacked end.done; kept = with_stamp_0 kept } }
     {
         WayIn {
             end,
-            kept: VecDeque::from_vec(kept),
+            kept: kept.into_deque(),
             batch: VecDeque::new(alloc),
         }
     }

@@ -8,6 +8,7 @@ mod look;
 
 use crate::gate::Gate;
 use crate::notes::Notes;
+use crate::queue::Queue;
 use crate::ways::{Batch, Rooms, WayIn, WayOut};
 use actor_net::{Actor, Outbox, Stamped};
 use basics::NoMemory;
@@ -78,16 +79,16 @@ impl<A: Actor> Worker<A> {
         alloc: Global,
         number: u8,
         node: A,
-        input: Vec<A::Message>,
-        kept: Vec<Vec<A::Message>>,
+        input: Queue<A::Message>,
+        kept: Vec<Queue<A::Message>>,
         takes: Vec<TakeEnd<Batch<A::Message>>>,
         sends: Vec<SendEnd<Batch<A::Message>>>,
     ) -> Result<Worker<A>, NoMemory>
         requires lengths { (length kept.items ≡ length takes.items) × (length sends.items ≡ length takes.items) }
         requires few { length takes.items < node_numbers }
         requires node { number < length takes.items }
-        requires input { (number ≡ 0 → slice_index_or (map (λ v. v.items) kept.items) 0 [] ≡ []) × (number ≢ 0 → input.items ≡ []) }
-        ensures { IfOk result (λ w. w ≡ fresh_worker number node (queues_at number input.items (map (λ v. v.items) kept.items)) takes.items sends.items) }
+        requires input { (number ≡ 0 → slice_index_or kept.items 0 [] ≡ []) × (number ≢ 0 → input ≡ []) }
+        ensures { IfOk result (λ w. w ≡ fresh_worker number node (queues_at number input kept.items) takes.items sends.items) }
     {
         let kept = with_input(number, input, VecDeque::from_vec(kept))?;
         let ins = ways_in(alloc, VecDeque::from_vec(takes), kept)?;
@@ -242,11 +243,11 @@ impl<A: Actor> Worker<A> {
 /// What waits at each port: at node 0 the input stands first.
 fn with_input<M: Drop>(
     number: u8,
-    input: Vec<M>,
-    mut kept: VecDeque<Vec<M>>,
-) -> Result<VecDeque<Vec<M>>, NoMemory>
+    input: Queue<M>,
+    mut kept: VecDeque<Queue<M>>,
+) -> Result<VecDeque<Queue<M>>, NoMemory>
     requires { 0 < length kept.items }
-    ensures lists { IfOk result (λ lists. map (λ v. v.items) lists.items ≡ queues_at number input.items (map (λ v. v.items) kept.items)) }
+    ensures lists { IfOk result (λ lists. lists.items ≡ queues_at number input kept.items) }
     ensures count { IfOk result (λ lists. length lists.items ≡ length kept.items) }
 {
     if number != 0 {
@@ -261,10 +262,10 @@ fn with_input<M: Drop>(
 fn ways_in<M: Drop>(
     alloc: Global,
     mut takes: VecDeque<TakeEnd<Batch<M>>>,
-    mut kept: VecDeque<Vec<M>>,
+    mut kept: VecDeque<Queue<M>>,
 ) -> Result<Vec<WayIn<M>>, NoMemory>
     requires { length kept.items ≡ length takes.items }
-    ensures { IfOk result (λ ways. ways.items ≡ all_in takes.items (map (λ v. v.items) kept.items)) }
+    ensures { IfOk result (λ ways. ways.items ≡ all_in takes.items kept.items) }
 {
     let mut ways = Vec::with_capacity(alloc, takes.len())?;
     while let Some(take) = takes.pop_front() {

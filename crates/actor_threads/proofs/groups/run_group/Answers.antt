@@ -8,5 +8,5 @@ loop-preserved g c = all_go_on g.A.Actor.is_ready g.A.Actor.stepped _ _ _ c.loop
 pub returns-then-is_over : goal.returns-then-is_over
 returns-then-is_over g c = all_go_on g.A.Actor.is_ready g.A.Actor.stepped _ _ _ c.loop.auto.members c.loop.invariant c.turn_all-steps.ensures
 
-pub returns-then-wants_another_pace : goal.returns-then-wants_another_pace
-returns-then-wants_another_pace g c = all_go_on g.A.Actor.is_ready g.A.Actor.stepped _ _ _ c.loop.auto.members c.loop.invariant c.turn_all-steps.ensures
+pub returns-then-ends_round : goal.returns-then-ends_round
+returns-then-ends_round g c = all_go_on g.A.Actor.is_ready g.A.Actor.stepped _ _ _ c.loop.auto.members c.loop.invariant c.turn_all-steps.ensures

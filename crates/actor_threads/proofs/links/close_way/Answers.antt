@@ -15,7 +15,7 @@ returns g c =
       sent = c.parts-send.ensures.all ∙ ap (λ l. l ++ waiting) (ap unpacked c.close.ensures.done
           ∙ unpacked-append c.in_ok-take.take.done c.close.result.left.items ∙ ap (λ l. l ++ left) c.in_ok-take.ensures.end.1)
           ∙ append_assoc c.args.way_in.done left waiting;
-      is = c.from_vec.ensures ∙ c.into_vec.ensures.items ∙ c.in_ok-append.ensures
+      is = c.from_deque.ensures ∙ c.in_ok-append.ensures
           ∙ ap (λ l. l ++ messages waiting)
           (c.in_ok-append_all.ensures ∙ ap (λ l. l ++ messages left) c.in_ok-take.ensures.kept ∙ sym (map-append _ c.args.way_in.kept left))
           ∙ sym (map-append _ (c.args.way_in.kept ++ left) waiting) ∙ ap messages (append_assoc c.args.way_in.kept left waiting);

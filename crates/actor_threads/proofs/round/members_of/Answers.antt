@@ -12,11 +12,11 @@ use Rattle.actor_threads.proofs.round.members_of.Goals as goal
 
 pub loop-number-init : goal.loop-number-init
 loop-number-init g c =
-    let world = c.in_ok-nodes.ensures.world in
-    let whole = c.in_ok-nodes.ensures.parts in
+    let world = c.parts-nodes.ensures.world in
+    let whole = c.parts-nodes.ensures.parts in
     let n = c.len-count.result in
-    let nodes = c.from_vec-nodes.ensures.items ∙ c.into_vec.ensures ∙ ap (λ w. w.nodes) whole in
-    let links = c.into_vec-links.ensures ∙ ap (λ w. w.links) whole in
+    let nodes = c.from_vec-nodes.ensures.items ∙ ap (λ w. w.nodes) whole in
+    let links = ap (λ w. w.links) whole in
     let len : n ≡ length c.from_vec-nodes.result.items = omega (arith, c.len-count.ensures, c.from_vec-nodes.result.ok.0) in
     let many = len ∙ ap length nodes in
     let none = c.in_ok-members.ensures.items in
@@ -35,7 +35,7 @@ loop-number-init g c =
       square = ap length links ∙ world.square ∙ sym (ap (λ k. k * k) many);
       no_loop = λ _. ap (λ l. row_at l 0) links ∙ world.no_loop;
       links = λ p j _ _. ap (λ l. row_at l (p * n + j)) links;
-      input = λ _. c.into_vec-input.ensures ∙ ap (λ w. w.input) whole;
+      input = λ _. ap (λ w. w.input) whole;
       later = λ z. absurd (omega (arith, z));
       begin = λ k d h. absurd (let low : k < 0 = subst (λ l. k < length l) none h in omega (arith, low));
       started = λ j d h. absurd (omega (arith, h));
@@ -68,7 +68,7 @@ loop-number-preserved g c =
     let inv = c.loop-number.invariant in
     let k = c.loop-number.number in
     let n = c.len-count.result in
-    let w = c.args.world in
+    let w = c.args.stage in
     let hn = c.loop-number-test.true in
     let node = sym inv.nodes ∙ c.in-Some.ensures.items in
     let took = sym inv.takes ∙ c.in-Some-pop_front-2.ensures.items in
@@ -80,14 +80,14 @@ loop-number-preserved g c =
     let names = name_of (map (λ v. v.items) c.from_vec-sends.result.items) in
     let lists = λ (p : ℕ) (hp : p < n). subst (λ m. p < m → row_at with.kept p ≡ row_at c.loop-number.links.items (p * m + k)) wide (with.lists p) hp
     ∙ inv.links p k (omega arith) hn in
-    let opened_is = c.open.ensures.worker ∙ with.is
-    ∙ ap (λ l. fresh_worker k c.in-Some.node (queues_at k c.replace-items.result.items with.kept) l c.in-Some-pop_front.sends.items) (sym takes)
-    ∙ ap (λ l. fresh_worker k c.in-Some.node (queues_at k c.replace-items.result.items with.kept)
+    let opened_is = c.open-in-loop-number.ensures.worker ∙ with.is
+    ∙ ap (λ l. fresh_worker k c.in-Some.node (queues_at k c.replace-items.result with.kept) l c.in-Some-pop_front.sends.items) (sym takes)
+    ∙ ap (λ l. fresh_worker k c.in-Some.node (queues_at k c.replace-items.result with.kept)
     (row_at (map (λ v. v.items) c.from_vec-takes.result.items) k) l) (sym sends) in
     let new = subst (λ v. StartsAs w names k v) (sym opened_is)
     (starts_as w n k (map (λ v. v.items) c.from_vec-sends.result.items) (map (λ v. v.items) c.from_vec-takes.result.items) (sym inv.many) hn inv.opened
-    c.in-Some.node _ c.replace-items.result.items with.kept node
-    (λ z. ap (λ v. v.items) c.replace-items.ensures.value ∙ inv.input z) (with.count ∙ wide) lists) in
+    c.in-Some.node _ c.replace-items.result with.kept node
+    (λ z. c.replace-items.ensures.value ∙ inv.input z) (with.count ∙ wide) lists) in
     record {
       within = omega (arith, hn);
       many = inv.many;
@@ -102,19 +102,19 @@ loop-number-preserved g c =
       links = λ p j low hj. subst (λ m. row_at c.worker_of.new.links.items (p * m + j) ≡ row_at c.loop-number.links.items (p * m + j)) wide
           (c.in_ok-worker.ensures.others p j (subst (λ m. j < m) (sym wide) hj) (λ e. omega (arith, e))) ∙ inv.links p j (omega arith) hj;
       input = λ z. absurd (omega arith);
-      later = λ _. ap (λ v. v.items) c.replace-items.ensures.after ∙ c.new.ensures.items;
+      later = λ _. c.replace-items.ensures.after ∙ c.«open».ensures;
       begin = rw c.in_ok-push.ensures.items
-          (one_begins g.A.Actor.is_ready g.A.Actor.stepped c.loop-number.members.items _ _ inv.begin c.open.ensures.worker c.open.ensures.begin);
+          (one_begins g.A.Actor.is_ready g.A.Actor.stepped c.loop-number.members.items _ _ inv.begin c.open-in-loop-number.ensures.worker c.open-in-loop-number.ensures.begin);
       started = λ j d h. subst (λ l. StartsAs w names j (slice_index_or l j d))
           (sym (ap (map (λ s. s.worker)) c.in_ok-push.ensures.items ∙ map-append (λ s. s.worker) c.loop-number.members.items _))
-          (started_more w names (map (λ s. s.worker) c.loop-number.members.items) k c.open.result.worker
+          (started_more w names (map (λ s. s.worker) c.loop-number.members.items) k c.open-in-loop-number.result.worker
           (length-map c.loop-number.members.items _ ∙ inv.members) inv.started new j d h);
     }
 
 pub returns-clause-members : goal.returns-clause-members
 returns-clause-members g c =
     let inv = c.loop-number.invariant in
-    let all : c.loop-number.number ≡ length c.args.world.nodes = omega (arith, c.loop-number-test.false, inv.within, inv.many) in
+    let all : c.loop-number.number ≡ length c.args.stage.nodes = omega (arith, c.loop-number-test.false, inv.within, inv.many) in
     record {
       names = name_of (map (λ v. v.items) c.from_vec-sends.result.items);
       count = length-map c.loop-number.members.items _ ∙ inv.members ∙ all;

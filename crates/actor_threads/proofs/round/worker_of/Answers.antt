@@ -1,6 +1,5 @@
 -- The worker is opened with what stood on the links to its node, and the other links stay.
-use Rattle.std.proofs.Common.{◌≡◌, ℕ, ◌<◌, ◌+◌, ◌*◌, length, map, ap, sym, ◌∙◌, subst, arith}
-use Rattle.std.proofs.lemmas.List.{length-map}
+use Rattle.std.proofs.Common.{◌≡◌, ℕ, ◌<◌, ◌+◌, ◌*◌, length, ap, sym, ◌∙◌, subst, arith}
 use Rattle.std.proofs.lemmas.Result.{IfOk-weaker}
 use Rattle.actor_threads.specs.Work.{WorkerView, fresh_worker, queues_at}
 use Rattle.actor_threads.specs.LinkTable.{row_at}
@@ -31,22 +30,22 @@ open-requires g c =
 pub returns : goal.returns
 returns g c =
     let n : c.len.result ≡ length c.args.takes.items = omega (arith, c.len.ensures, c.args.takes.ok.0) in
-    let kept = map (λ v. v.items) c.in_ok-kept.kept.items in
+    let kept = c.in_ok-kept.kept.items in
     let old = c.args.links.now.items in
     let new = c.column.new.links.items in
     let parts : WorkerParts _ _ = record {
       number = c.args.number;
       node = c.args.node;
       links = old;
-      input = c.args.input.items;
+      input = c.args.input;
       takes = c.args.takes.items;
       sends = c.args.sends.items;
     } in
-    let opened : (w : WorkerView _ _ _) → w ≡ fresh_worker c.args.number c.args.node (queues_at c.args.number c.args.input.items kept) c.args.takes.items
+    let opened : (w : WorkerView _ _ _) → w ≡ fresh_worker c.args.number c.args.node (queues_at c.args.number c.args.input kept) c.args.takes.items
     c.args.sends.items → OpenedWith parts w =
     λ w is. record {
       kept = kept;
-      count = length-map c.in_ok-kept.kept.items _ ∙ c.in_ok-kept.ensures.kept ∙ n;
+      count = c.in_ok-kept.ensures.kept ∙ n;
       lists = subst (λ m. (p : ℕ) → p < m → row_at kept p ≡ row_at old (p * m + c.args.number)) n c.in_ok-kept.ensures.lists;
       is = is;
     } in

@@ -4,7 +4,7 @@ use Rattle.std.proofs.lemmas.List.{get_or_default}
 use Rattle.actor_net.specs.Histories.{without_first_list, first_list, notes_of_choices}
 use Rattle.actor_threads.specs.LinkTable.{row_at}
 use Rattle.actor_threads.proofs.DealtNotes.{deal_one}
-use Rattle.actor_threads.proofs.round.deal_one.Goals as goal
+use Rattle.actor_threads.proofs.merged.deal_one.Goals as goal
 
 pub returns : goal.returns
 returns g c = λ cs.
