@@ -104,7 +104,8 @@ loop-number-preserved g c =
       input = λ z. absurd (omega arith);
       later = λ _. c.replace-items.ensures.after ∙ c.«open».ensures;
       begin = rw c.in_ok-push.ensures.items
-          (one_begins g.A.Actor.is_ready g.A.Actor.stepped c.loop-number.members.items _ _ inv.begin c.open-in-loop-number.ensures.worker c.open-in-loop-number.ensures.begin);
+          (one_begins g.A.Actor.is_ready g.A.Actor.stepped c.loop-number.members.items _ _ inv.begin c.open-in-loop-number.ensures.worker
+          c.open-in-loop-number.ensures.begin);
       started = λ j d h. subst (λ l. StartsAs w names j (slice_index_or l j d))
           (sym (ap (map (λ s. s.worker)) c.in_ok-push.ensures.items ∙ map-append (λ s. s.worker) c.loop-number.members.items _))
           (started_more w names (map (λ s. s.worker) c.loop-number.members.items) k c.open-in-loop-number.result.worker
