@@ -12,9 +12,7 @@ ghost use Rattle.net_world.specs.Runs.{choices_of, EndsIn, StopsAt};
 ghost use Rattle.net_world.specs.Start.{started_with};
 ghost use Rattle.net_world.specs.Window.{AllHome};
 
-use actor_net::{
-    Choices, ReplayFault, Schedule, ScheduleFault, World, replay, run_schedule,
-};
+use actor_net::{Choices, ReplayFault, Schedule, ScheduleFault, World, replay, run_schedule};
 use net_world::{Config, Node, start};
 use nf_function::Function;
 use nf_msgs::Msg;

@@ -11,9 +11,7 @@ ghost use Rattle.strong_share.specs.Promises.{StrongCompleted, StrongEnds, Stron
 
 use crate::node::StrongNode;
 use crate::starting::start;
-use actor_net::{
-    Choices, ReplayFault, Schedule, ScheduleFault, World, replay, run_schedule,
-};
+use actor_net::{Choices, ReplayFault, Schedule, ScheduleFault, World, replay, run_schedule};
 use flow_filter::{Filter, Packets, Site};
 use nf_function::Function;
 use std::alloc::Global;

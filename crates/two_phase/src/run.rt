@@ -10,9 +10,7 @@ ghost use Rattle.two_phase.specs.Promises.{Published};
 
 use crate::node::TwoNode;
 use crate::starting::start;
-use actor_net::{
-    Choices, ReplayFault, Schedule, ScheduleFault, World, replay, run_schedule,
-};
+use actor_net::{Choices, ReplayFault, Schedule, ScheduleFault, World, replay, run_schedule};
 use flow_filter::{Filter, Packets, Site};
 use nf_function::Function;
 use std::alloc::Global;
