@@ -1,5 +1,5 @@
 //! The lines of the packets' outputs.
-ghost use Rattle.std.specs.Prelude.{◌≡◌, ◌++◌, true, codes, filter_map, IfOk, OnOk};
+ghost use Rattle.std.specs.Prelude.{◌≡◌, ◌++◌, true, codes, filter_map, length, take, IfOk, OnOk};
 ghost use Rattle.counted_lines.specs.Pages.{pending, word_of};
 ghost use Rattle.report_lines.specs.Lines.{by_number, out_line, out_lines, output_in};
 
@@ -9,54 +9,61 @@ use counted_lines::CountedLines;
 use nf_function::{Function, Output};
 use nf_msgs::Note;
 use std::alloc::Global;
+use std::mem;
 
-/// Puts the line of each packet's output after a text, by the packets' numbers.
+/// Puts the line of each packet's output after a text, by the packets' numbers. They nearly always stand in the log by their numbers, so
+/// they are put in its order, and begun anew where they don't.
 pub fn push_outs<F: Function>(alloc: Global, text: &mut Text, log: &[Note]) -> Result<(), NoMemory>
     ensures { OnOk result (text.new ≡ text.old ++ out_lines F.semantics log.now) }
 {
+    let before = text.items().len();
     let mut lines = CountedLines::open(alloc, b"out ")?;
     let mut ends = OutputEnds::<F>::open(alloc)?;
-    if is_by_number(log) {
-        push_noted_outs::<F>(text, &mut lines, &mut ends, log)?;
-        return lines.flush(text);
+    let in_order = push_noted_outs::<F>(text, &mut lines, &mut ends, log)?;
+    lines.flush(text)?;
+    if in_order {
+        return Ok(());
     }
+    cut_to(alloc, text, before);
     push_sorted_outs::<F>(alloc, text, &mut lines, &mut ends, log)?;
     lines.flush(text)
 }
 
-/// Whether the packets' outputs stand in the log by their numbers, as they nearly always do.
-fn is_by_number(log: &[Note]) -> bool
-    ensures { result ≡ true → filter_map output_in log.now ≡ by_number output_in log.now }
-{
-    let mut last = 0;
-    for note in log {
-        if let Note::Processed { number, .. } = note {
-            if *number < last {
-                return false;
-            }
-            last = *number;
-        }
-    }
-    true
-}
-
-/// Puts the line of each packet's output after the text and the lines that are still to go there, in the order of the log.
+/// Puts the line of each packet's output after the text and the lines that are still to go there, in the order of the log, up to a packet
+/// whose number is less than that of one before it. Tells whether there was none.
 fn push_noted_outs<F: Function>(
     text: &mut Text,
     lines: &mut CountedLines,
     ends: &mut OutputEnds<F>,
     log: &[Note],
-) -> Result<(), NoMemory>
-    requires word { word_of lines.old ≡ codes "out " }
-    requires in_order { filter_map output_in log.now ≡ by_number output_in log.now }
-    ensures { OnOk result (text.new ++ pending lines.new ≡ (text.old ++ pending lines.old) ++ out_lines F.semantics log.now) }
+) -> Result<bool, NoMemory>
+    requires { word_of lines.old ≡ codes "out " }
+    ensures in_order { IfOk result (λ all. all ≡ true
+        → text.new ++ pending lines.new ≡ (text.old ++ pending lines.old) ++ out_lines F.semantics log.now) }
+    ensures front { IfOk result (λ _. take (length (text.old ++ pending lines.old)) (text.new ++ pending lines.new) ≡ text.old ++ pending lines.old) }
+    ensures word { word_of lines.new ≡ word_of lines.old }
 {
+    let mut last = 0;
     for note in log {
         if let Note::Processed { number, output, .. } = note {
+            if *number < last {
+                return Ok(false);
+            }
+            last = *number;
             push_out::<F>(text, lines, ends, *number, output)?;
         }
     }
-    Ok(())
+    Ok(true)
+}
+
+/// Cuts a text to its first bytes, without a copy.
+#[cold]
+fn cut_to(alloc: Global, text: &mut Text, len: usize)
+    ensures { text.new ≡ take len text.old }
+{
+    let mut bytes = mem::replace(text, Text::open(alloc)).into_vec();
+    bytes.truncate(len);
+    *text = Text::from_vec(bytes);
 }
 
 /// Puts the line of each packet's output after the text, by the packets' numbers, where the log has them in another order.
