@@ -1,10 +1,9 @@
 -- The world after a round: what is left on the links, the input that stood for node 0 on its own link, and the notes in the order of the choices.
-use Rattle.std.proofs.Common.{◌<◌, ◌*◌, [], ◌++◌, sym, ◌∙◌, ap, subst, arith, length, map, slice_set, slice_index_or, length-set}
+use Rattle.std.proofs.Common.{◌<◌, ◌*◌, [], sym, ◌∙◌, ap, subst, arith, length, map, slice_set, slice_index_or, length-set}
 use Rattle.std.proofs.lemmas.List.{length-map, get_or_default, get_or-set_same}
-use Rattle.actor_net.specs.Histories.{notes_of_choices}
 use Rattle.actor_net.specs.Merging.{IsMerge}
 use Rattle.actor_net.proofs.LinkLemmas.{inside}
-use Rattle.actor_threads.specs.LinkTable.{row_at, ways_of}
+use Rattle.actor_threads.specs.LinkTable.{ways_of}
 use Rattle.actor_threads.specs.Round.{AllClosed}
 use Rattle.actor_threads.proofs.round.gather.Goals as goal
 
@@ -34,8 +33,7 @@ returns g c =
     let some : 0 < length links = omega (arith, closed.count, inside n 0 0 c.requires.some.0 c.requires.some.0) in
     let empty = c.from_vec-2.ensures ∙ ap (λ l. slice_set links 0 l) (c.replace-input.ensures.after ∙ c.open.ensures) in
     let input = c.replace-input.ensures.value ∙ c.index_mut.ensures.value ∙ get_or_default links 0 _ [] some in
-    let log = c.from_vec-3.ensures ∙ c.in_ok-deal_all.ensures
-    ∙ ap (λ cs. c.args.log.items ++ notes_of_choices (λ j. row_at c.args.round_parts.notes.items j) cs) c.items.ensures in
+    let log = c.from_vec-3.ensures ∙ c.in_ok-deal_all.ensures in
     record {
       links = links;
       closed = closed;
