@@ -179,13 +179,14 @@ fn push_code(bytes: &mut Vec<u8>, choice: Choice) -> Result<(), NoMemory>
     ensures ok { OnOk result (bytes.new.items ≡ bytes.old.items ++ code_of choice) }
     ensures err { OnErr result (bytes.new.items ≡ bytes.old.items) }
 {
-    match short_code(choice) {
-        Some(byte) => {
-            bytes.push(byte)?;
-            Ok(())
-        }
-        None => push_long(bytes, choice),
+    let Some(byte) = short_code(choice) else {
+        return push_long(bytes, choice);
+    };
+    if bytes.len() == bytes.capacity() {
+        bytes.reserve(1)?;
     }
+    bytes.push_reserved(byte);
+    Ok(())
 }
 
 /// Puts a choice that no byte stands for after others.

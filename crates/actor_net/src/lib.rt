@@ -2,7 +2,8 @@
 //!
 //! An [`Actor`] says what a step does at every node, port and message. A [`World`] holds the nodes, a list for each link,
 //! the input and the log, and contracts see it as these lists; it also counts the links that hold something, which no contract
-//! sees. A [`Choice`] names the message that is taken next. The crate touches nothing but memory.
+//! sees. A [`Choice`] names the message that is taken next, and [`Choices`] keeps them in order, most of them in one byte. The crate touches
+//! nothing but memory.
 //!
 //! Its main promise: what [`World::take`] does is one definition, [`replay`] repeats it and names the first choice that isn't
 //! enabled, and [`run_schedule`] takes exactly the choices that its schedule says, which are a run. [`merge`] puts the histories
