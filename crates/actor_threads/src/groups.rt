@@ -9,9 +9,9 @@ use actor_net::Actor;
 use basics::NoMemory;
 use std::sync::Wait;
 use std::sync::atomic::{AtomicU64, Ordering};
-use std::thread;
 use std::thread::Threads;
 use std::time::Duration;
+use std::{hint, thread};
 
 /// A group waits so many turns in a row that did no step without giving its processor away. Its workers then see at once what
 /// others send, as long as these have a processor.
@@ -30,8 +30,8 @@ const REST_TURNS: u32 = 32;
 const IDLE_TURNS: u32 = 2000;
 
 /// How often a group that found nothing to do looks whether others are busy, before it looks for messages again. So several of
-/// them have come meanwhile, where the others have a processor.
-const PAUSE_LOOKS: u32 = 4000;
+/// them have come meanwhile, where the others have a processor. After each look the processor pauses, some ten to a hundred of its cycles.
+const PAUSE_LOOKS: u32 = 80;
 
 /// There are at least so many groups, where there are workers for them. So the workers of a small world never wait for each
 /// other's turns, however few processors there are.
@@ -253,6 +253,7 @@ fn pause(busy: &AtomicU64) {
         if busy.load(Ordering::SeqCst) == 0 {
             return;
         }
+        hint::spin_loop();
     }
 }
 
