@@ -1,4 +1,4 @@
-ghost use Rattle.std.specs.Prelude.{◌≡◌, ℕ, IfOk};
+ghost use Rattle.std.specs.Prelude.{◌≡◌, ◌+◌, ℕ, length, IfOk};
 ghost use Rattle.net_world.specs.Input.{IsInput};
 ghost use Rattle.net_world.specs.Jobs.{course_of, job_of};
 ghost use Rattle.nf_net.specs.Promises.{Completed, Promises, Standbys, Verdicts};
@@ -45,16 +45,25 @@ pub fn audit<F: Function>(
         → IsAuditCause {F = F.row.Denot} F.semantics (started_with alloc config.now items.items) choices.now step }
 {
     let start = start::<F>(alloc, config, items)?;
-    let count = choices.len() as u64;
+    let next = step_after(choices);
     match run_choices(start, choices) {
         Ok(world) if world.complete() => Ok(report(alloc, head, &world, summary)?),
-        Ok(_world) => Err(AuditFault::NotARun { step: count + 1 }),
+        Ok(_world) => Err(AuditFault::NotARun { step: next }),
         Err(ReplayFault::NotEnabled { index }) => {
             let step = index as u64 + 1;
             Err(AuditFault::NotARun { step })
         }
         Err(ReplayFault::NoMemory) => Err(AuditFault::NoMemory),
     }
+}
+
+/// The number of the step after all of these choices, counted from 1.
+pub fn step_after(choices: &Choices) -> u64
+    ensures { result ≡ length choices.now + 1 }
+{
+    // What can be read in order is less than half of all numbers, so there is one more.
+    let _all = choices.iter();
+    choices.len() as u64 + 1
 }
 
 /// Why choices have no report.

@@ -13,7 +13,7 @@ use net_world::{Config, Node, start};
 use nf_function::Function;
 use nf_msgs::{MOST_INSTANCES, Msg, instance_node};
 use record_table::Table;
-use run_report::{AuditFault, run_choices};
+use run_report::{AuditFault, run_choices, step_after};
 use std::alloc::Global;
 
 /// The world of a network after the first so many choices, which alone are then left.
@@ -34,10 +34,11 @@ pub(crate) fn world_after<F: Function>(
 {
     let start = start::<F>(alloc, config, items)?;
     let count = choices.len() as u64;
+    let next = step_after(choices);
     choices.truncate(after as usize);
     match run_choices(start, choices) {
         Ok(world) if after <= count => Ok(world),
-        Ok(_world) => Err(AuditFault::NotARun { step: count + 1 }),
+        Ok(_world) => Err(AuditFault::NotARun { step: next }),
         Err(ReplayFault::NotEnabled { index }) => {
             let step = index as u64 + 1;
             Err(AuditFault::NotARun { step })
