@@ -1,10 +1,11 @@
 -- A world that is handed back is the one after the first choices; a fault is the first, or they are too few.
-use Rattle.std.proofs.Common.{rules, ◌≡◌, Err, length, true, ap, subst, sym, ◌∙◌}
+use Rattle.std.proofs.Common.{rules, ◌≡◌, ◌≢◌, Err, length, take, true, ap, subst, sym, ◌∙◌, arith}
 use Rattle.std.specs.Prelude.{slice_get}
 use Rattle.nf_msgs.specs.declared.msg.Msg.{Msg}
 use Rattle.nf_msgs.specs.declared.note.Note.{Note}
 use Rattle.nf_msgs.specs.Nodes.{instance_node}
 use Rattle.actor_net.specs.Network.{Network}
+use Rattle.actor_net.specs.declared.replays.ReplayFault.TheVariants.{NoMemory}
 use Rattle.actor_net.specs.Replays.{replay_of}
 use Rattle.net_world.specs.declared.node.Node.{Node}
 use Rattle.net_world.specs.Nodes.{node_ready, node_step}
@@ -19,7 +20,8 @@ overflow_add-step g c =
     let opening : Network (Node g.row.F.Denot g.row.F-Record.Denot) Msg Note = started_with c.args.alloc c.args.config.now c.args.items.items in
     let v : Replayed g.row.F.Denot g.row.F-Record.Denot =
     record { opening = opening; all = c.args.choices.now; after = c.args.after; result = c.run_choices.result } in
-    let replayed = λ enough. c.run_choices.ensures.replay enough
+    let replayed : c.run_choices.result ≢ Err NoMemory → c.run_choices.result ≡ replay_of node_ready (node_step g.F.Function.semantics)
+    (take c.args.after c.args.choices.now) c.in_ok-start.start = λ enough. c.run_choices.ensures.replay enough
     ∙ ap (λ cs. replay_of node_ready (node_step g.F.Function.semantics) cs c.in_ok-start.start) c.truncate.ensures in
     let below = index_below g.F.Function.semantics v c.in_ok-start.start c.in_ok-start.ensures replayed c.in-Err-NotEnabled.index
     (c.in-Err-NotEnabled.is ∙ ap Err c.in-Err-NotEnabled.field-0-is) in
@@ -30,17 +32,19 @@ returns-in-Ok-clause-reached g c =
     let opening : Network (Node g.row.F.Denot g.row.F-Record.Denot) Msg Note = started_with c.args.alloc c.args.config.now c.args.items.items in
     let v : Replayed g.row.F.Denot g.row.F-Record.Denot =
     record { opening = opening; all = c.args.choices.now; after = c.args.after; result = c.run_choices.result } in
-    let replayed = λ enough. c.run_choices.ensures.replay enough
+    let replayed : c.run_choices.result ≢ Err NoMemory → c.run_choices.result ≡ replay_of node_ready (node_step g.F.Function.semantics)
+    (take c.args.after c.args.choices.now) c.in_ok-start.start = λ enough. c.run_choices.ensures.replay enough
     ∙ ap (λ cs. replay_of node_ready (node_step g.F.Function.semantics) cs c.in_ok-start.start) c.truncate.ensures in
     is_reached g.F.Function.semantics v c.in_ok-start.start c.in_ok-start.ensures replayed c.in-Ok.world c.in-Ok.is
-    c.if-after-count.true
+    (omega (arith, c.len-count.ensures, c.if-after-count.true))
 
 pub returns-in-Ok-clause-world : goal.returns-in-Ok-clause-world
 returns-in-Ok-clause-world g c =
     let opening : Network (Node g.row.F.Denot g.row.F-Record.Denot) Msg Note = started_with c.args.alloc c.args.config.now c.args.items.items in
     let v : Replayed g.row.F.Denot g.row.F-Record.Denot =
     record { opening = opening; all = c.args.choices.now; after = c.args.after; result = c.run_choices.result } in
-    let replayed = λ enough. c.run_choices.ensures.replay enough
+    let replayed : c.run_choices.result ≢ Err NoMemory → c.run_choices.result ≡ replay_of node_ready (node_step g.F.Function.semantics)
+    (take c.args.after c.args.choices.now) c.in_ok-start.start = λ enough. c.run_choices.ensures.replay enough
     ∙ ap (λ cs. replay_of node_ready (node_step g.F.Function.semantics) cs c.in_ok-start.start) c.truncate.ensures in
     world_is g.F.Function.semantics v c.in_ok-start.start c.in_ok-start.ensures replayed c.in-Ok.world c.in-Ok.is
 
@@ -49,7 +53,8 @@ returns-in-Ok-clause-instances g c = λ i within.
     let opening : Network (Node g.row.F.Denot g.row.F-Record.Denot) Msg Note = started_with c.args.alloc c.args.config.now c.args.items.items in
     let v : Replayed g.row.F.Denot g.row.F-Record.Denot =
     record { opening = opening; all = c.args.choices.now; after = c.args.after; result = c.run_choices.result } in
-    let replayed = λ enough. c.run_choices.ensures.replay enough
+    let replayed : c.run_choices.result ≢ Err NoMemory → c.run_choices.result ≡ replay_of node_ready (node_step g.F.Function.semantics)
+    (take c.args.after c.args.choices.now) c.in_ok-start.start = λ enough. c.run_choices.ensures.replay enough
     ∙ ap (λ cs. replay_of node_ready (node_step g.F.Function.semantics) cs c.in_ok-start.start) c.truncate.ensures in
     let runs = is_run g.F.Function.semantics v c.in_ok-start.start c.in_ok-start.ensures replayed c.in-Ok.world c.in-Ok.is in
     let reached = world_is g.F.Function.semantics v c.in_ok-start.start c.in_ok-start.ensures replayed c.in-Ok.world c.in-Ok.is in
@@ -61,17 +66,19 @@ returns-in-Ok-2-clause-not_a_run g c = λ step is.
     let opening : Network (Node g.row.F.Denot g.row.F-Record.Denot) Msg Note = started_with c.args.alloc c.args.config.now c.args.items.items in
     let v : Replayed g.row.F.Denot g.row.F-Record.Denot =
     record { opening = opening; all = c.args.choices.now; after = c.args.after; result = c.run_choices.result } in
-    let replayed = λ enough. c.run_choices.ensures.replay enough
+    let replayed : c.run_choices.result ≢ Err NoMemory → c.run_choices.result ≡ replay_of node_ready (node_step g.F.Function.semantics)
+    (take c.args.after c.args.choices.now) c.in_ok-start.start = λ enough. c.run_choices.ensures.replay enough
     ∙ ap (λ cs. replay_of node_ready (node_step g.F.Function.semantics) cs c.in_ok-start.start) c.truncate.ensures in
     too_few g.F.Function.semantics v c.in_ok-start.start c.in_ok-start.ensures replayed c.in-Ok.world c.in-Ok.is
-    c.if-after-count.false step (cc)
+    (omega (arith, c.len-count.ensures, c.if-after-count.false)) step (cc)
 
 pub returns-in-Err-NotEnabled-clause-not_a_run : goal.returns-in-Err-NotEnabled-clause-not_a_run
 returns-in-Err-NotEnabled-clause-not_a_run g c =
     let opening : Network (Node g.row.F.Denot g.row.F-Record.Denot) Msg Note = started_with c.args.alloc c.args.config.now c.args.items.items in
     let v : Replayed g.row.F.Denot g.row.F-Record.Denot =
     record { opening = opening; all = c.args.choices.now; after = c.args.after; result = c.run_choices.result } in
-    let replayed = λ enough. c.run_choices.ensures.replay enough
+    let replayed : c.run_choices.result ≢ Err NoMemory → c.run_choices.result ≡ replay_of node_ready (node_step g.F.Function.semantics)
+    (take c.args.after c.args.choices.now) c.in_ok-start.start = λ enough. c.run_choices.ensures.replay enough
     ∙ ap (λ cs. replay_of node_ready (node_step g.F.Function.semantics) cs c.in_ok-start.start) c.truncate.ensures in
     λ step is. refused g.F.Function.semantics v c.in_ok-start.start c.in_ok-start.ensures replayed c.in-Err-NotEnabled.index
     (c.in-Err-NotEnabled.is ∙ ap Err c.in-Err-NotEnabled.field-0-is) step (cc)
