@@ -31,7 +31,7 @@ const IDLE_TURNS: u32 = 2000;
 
 /// How often a group that found nothing to do looks whether others are busy, before it looks for messages again. So several of
 /// them have come meanwhile, where the others have a processor. After each look the processor pauses, some ten to a hundred of its cycles.
-const PAUSE_LOOKS: u32 = 80;
+const PAUSE_LOOKS: u32 = 300;
 
 /// There are at least so many groups, where there are workers for them. So the workers of a small world never wait for each
 /// other's turns, however few processors there are.
