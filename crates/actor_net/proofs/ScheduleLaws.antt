@@ -119,17 +119,10 @@ module _ {A M N : Type 0} (ready : A → M → Bool) (ended : A → Bool) (step 
       sym (append-nil cs) ∙ ap (λ xs. cs ++ xs) (sym (scheduled_end most n schedule w end)) ∙ is
 
   -- a schedule that ends in a world that isn't complete
-  pub stops_short : (n : ℕ) (schedule : Schedule) (start w : Network A M N) (cs all : List Choice) (at : ℕ)
-      → (pick_of ready schedule w ≡ None) ⊎ (MOST_CHOICES ≤ n) → n ≤ MOST_CHOICES → cs ++ scheduled ready ended step (MOST_CHOICES - n) schedule w ≡ all
-      → w ≡ run step cs start → length cs ≡ n → is_done ended w ≡ false → length cs ≡ at
-      → (length all ≡ at) × StopsShort ready ended (run step all start) at
-  stops_short n schedule start w cs all at end below is world count incomplete here =
-      let whole = scheduled_whole MOST_CHOICES n schedule w cs all end is in
-      rw (← whole) (here, record { incomplete = rw world at incomplete; stuck = stuck end })
-    where
-      stuck : (pick_of ready schedule w ≡ None) ⊎ (MOST_CHOICES ≤ n) → (enabled_choices ready (run step cs start) ≡ []) ⊎ (at ≡ MOST_CHOICES)
-      stuck (inl none) = let empty = picked_none ready schedule w none in inl (rw world at empty)
-      stuck (inr over) = inr (omega arith)
+  pub stops_short : (start w : Network A M N) (cs all : List Choice) (at : ℕ) → (enabled_choices ready w ≡ []) ⊎ (length cs ≡ MOST_CHOICES) → cs ≡ all
+      → w ≡ run step cs start → is_done ended w ≡ false → length cs ≡ at → (length all ≡ at) × StopsShort ready ended (run step all start) at
+  stops_short start w cs all at end whole world incomplete here =
+      rw (← whole, ← world) (here, record { incomplete = incomplete; stuck = subst (λ n. (enabled_choices ready w ≡ []) ⊎ (n ≡ MOST_CHOICES)) here end })
 
 -- a choice that can be taken is one of two nodes that are there
 pub enabled_within : {A M N : Type 0} (ready : A → M → Bool) (w : Network A M N) (c : Choice) → 0 < length w.nodes → is_enabled ready w c ≡ true

@@ -100,7 +100,8 @@ impl Choices {
 
     /// How many there are.
     pub fn len(&self) -> usize
-        ensures { result ≡ length self.now }
+        ensures value { result ≡ length self.now }
+        ensures small { length self.now < 2 ^ 63 }
     {
         self.count
     }
@@ -119,7 +120,7 @@ impl Choices {
     {
         ChoiceReader {
             bytes: self.bytes.as_slice(),
-            left: self.count,
+            left: self.len(),
         }
     }
 

@@ -1,7 +1,7 @@
-//! One link: the messages that wait, in the order in which they were sent.
-ghost use Rattle.std.specs.Prelude.{◌≡◌, ◌==◌, [], ◌∷◌, ◌++◌, length, drop, OnOk, OnErr, MatchOption};
+//! Links: the messages that wait, in the order in which they were sent.
+ghost use Rattle.std.specs.Prelude.{◌≡◌, ◌==◌, [], ◌∷◌, ◌++◌, length, drop, IfOk, OnOk, OnErr, MatchOption};
 
-use basics::NoMemory;
+use basics::{NoMemory, Sequence};
 use std::alloc::Global;
 use std::collections::VecDeque;
 use std::marker::Model;
@@ -105,4 +105,33 @@ impl<M> Link<M> {
         self.queue.push_back_reserved(message);
         Ok(())
     }
+}
+
+/// Links that hold these lists, in their order.
+pub fn links_of<M: Drop>(
+    alloc: Global,
+    lists: Sequence<Sequence<M>>,
+) -> Result<Vec<Link<M>>, NoMemory>
+    ensures { IfOk result (λ links. links.items ≡ lists) }
+{
+    let lists = lists.into_vec();
+    let mut links = Vec::with_capacity(alloc, lists.len())?;
+    for list in lists {
+        links.push(Link::from_vec(list.into_vec()))?;
+    }
+    Ok(links)
+}
+
+/// The lists that links hold, in their order.
+pub fn lists_of<M: Drop>(
+    alloc: Global,
+    links: Vec<Link<M>>,
+) -> Result<Sequence<Sequence<M>>, NoMemory>
+    ensures { IfOk result (λ lists. lists ≡ links.items) }
+{
+    let mut lists = Vec::with_capacity(alloc, links.len())?;
+    for link in links {
+        lists.push(Sequence::from_vec(link.into_vec()))?;
+    }
+    Ok(Sequence::from_vec(lists))
 }

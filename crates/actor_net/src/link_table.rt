@@ -5,7 +5,7 @@ ghost use Rattle.actor_net.specs.Network.{node_numbers};
 ghost use Rattle.actor_net.specs.LinkTable.{LinkLists, IsWithin, link_of, with_link, held_below, all_held};
 
 use super::choice::Choice;
-use super::link::Link;
+use super::link::{Link, links_of, lists_of};
 use basics::{NoMemory, Sequence};
 use std::alloc::Global;
 use std::marker::Model;
@@ -40,12 +40,8 @@ impl<M> LinkTable<M> {
         requires { nodes < node_numbers }
         ensures { IfOk result (λ t. t ≡ record { nodes = nodes; lists = replicate (nodes * nodes) [] }) }
     {
-        let mut links = Vec::with_capacity(alloc, nodes * nodes)?;
-        for _place in 0..nodes * nodes {
-            links.push(Link::open(alloc))?;
-        }
         Ok(LinkTable {
-            links,
+            links: empty_links(alloc, nodes * nodes)?,
             counts: Vec::from_elem(alloc, 0, nodes)?,
             all: 0,
         })
@@ -80,11 +76,7 @@ impl<M> LinkTable<M> {
         M: Drop,
         ensures { IfOk result (λ lists. lists ≡ self.lists) }
     {
-        let mut lists = Vec::with_capacity(*self.links.allocator(), self.links.len())?;
-        for link in self.links {
-            lists.push(Sequence::from_vec(link.into_vec()))?;
-        }
-        Ok(Sequence::from_vec(lists))
+        lists_of(*self.links.allocator(), self.links)
     }
 
     /// Whether a link holds nothing.
@@ -161,14 +153,13 @@ impl<M> LinkTable<M> {
     }
 }
 
-/// Links that hold these lists, in their order.
-fn links_of<M: Drop>(alloc: Global, lists: Sequence<Sequence<M>>) -> Result<Vec<Link<M>>, NoMemory>
-    ensures { IfOk result (λ links. links.items ≡ lists) }
+/// So many links that hold nothing.
+fn empty_links<M: Drop>(alloc: Global, count: usize) -> Result<Vec<Link<M>>, NoMemory>
+    ensures { IfOk result (λ links. links.items ≡ replicate count []) }
 {
-    let lists = lists.into_vec();
-    let mut links = Vec::with_capacity(alloc, lists.len())?;
-    for list in lists {
-        links.push(Link::from_vec(list.into_vec()))?;
+    let mut links = Vec::with_capacity(alloc, count)?;
+    for _place in 0..count {
+        links.push(Link::open(alloc))?;
     }
     Ok(links)
 }

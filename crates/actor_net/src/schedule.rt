@@ -1,7 +1,7 @@
 //! Schedules: how a simulated run picks each of its choices.
-ghost use Rattle.std.specs.Prelude.{◌≡◌, ℕ, length, true, Err, IfOk, OnSome};
+ghost use Rattle.std.specs.Prelude.{◌≡◌, ◌⊎◌, ℕ, [], length, true, Err, IfOk, OnSome};
 ghost use Rattle.actor_net.specs.Network.{run, IsRun, is_done};
-ghost use Rattle.actor_net.specs.Schedules.{later, pick_of, scheduled, schedule_of, StopsShort};
+ghost use Rattle.actor_net.specs.Schedules.{later, pick_of, enabled_choices, scheduled, schedule_of, StopsShort};
 
 use super::actor::Actor;
 use super::choice::Choice;
@@ -42,16 +42,7 @@ pub fn run_schedule<A: Actor>(
         × StopsShort A.is_ready A.has_ended (run A.stepped (scheduled A.is_ready A.has_ended A.stepped MOST_CHOICES schedule world) world) step }
 {
     let mut world = world;
-    let mut choices = Choices::open(alloc);
-    let mut picker = Picker::open(schedule);
-    let remainders = Remainders::open();
-    for _ in 0..MOST_CHOICES {
-        let Some(choice) = picker.pick(&world, &remainders) else {
-            break;
-        };
-        world.take_enabled(choice)?;
-        choices.push(choice)?;
-    }
+    let choices = take_scheduled(alloc, &mut world, schedule)?;
     if world.complete() {
         Ok((world, choices))
     } else {
@@ -59,6 +50,29 @@ pub fn run_schedule<A: Actor>(
             step: choices.len() as u64,
         })
     }
+}
+
+/// Takes choices by a schedule until none is enabled, or as many are taken as a run may have.
+fn take_scheduled<A: Actor>(
+    alloc: Global,
+    world: &mut World<A>,
+    schedule: Schedule,
+) -> Result<Choices, NoMemory>
+    ensures choices { IfOk result (λ cs. cs ≡ scheduled A.is_ready A.has_ended A.stepped MOST_CHOICES schedule world.old) }
+    ensures world { IfOk result (λ cs. world.new ≡ run A.stepped cs world.old) }
+    ensures end { IfOk result (λ cs. (enabled_choices A.is_ready world.new ≡ []) ⊎ (length cs ≡ MOST_CHOICES)) }
+{
+    let mut choices = Choices::open(alloc);
+    let mut picker = Picker::open(schedule);
+    let remainders = Remainders::open();
+    for _ in 0..MOST_CHOICES {
+        let Some(choice) = picker.pick(world, &remainders) else {
+            return Ok(choices);
+        };
+        world.take_enabled(choice)?;
+        choices.push(choice)?;
+    }
+    Ok(choices)
 }
 
 /// Why a scheduled run doesn't end.

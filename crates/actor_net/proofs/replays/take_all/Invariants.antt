@@ -1,7 +1,7 @@
 -- What is left to replay, from here, gives what all of it gives.
 use Rattle.std.proofs.Common.{◌≡◌, ◌<◌, ◌+◌, ◌^◌, length}
 use Rattle.actor_net.specs.Network.{run, fault_from}
-use Rattle.actor_net.proofs.replays.replay.Given as goal
+use Rattle.actor_net.proofs.replays.take_all.Given as goal
 
 abbrev pub invariant-loop-choice : goal.invariant-loop-choice
 invariant-loop-choice g l = record {

@@ -3,7 +3,7 @@ use Rattle.std.proofs.Common.{◌≡◌, ◌-◌, ◌++◌, length}
 use Rattle.actor_net.specs.declared.schedule.TheConstants.{MOST_CHOICES}
 use Rattle.actor_net.specs.Network.{run}
 use Rattle.actor_net.specs.Schedules.{scheduled, schedule_of}
-use Rattle.actor_net.proofs.schedule.run_schedule.Given as goal
+use Rattle.actor_net.proofs.schedule.take_scheduled.Given as goal
 
 abbrev pub invariant-loop : goal.invariant-loop
 invariant-loop g l = record {

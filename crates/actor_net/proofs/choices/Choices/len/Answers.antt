@@ -1,7 +1,7 @@
 -- There are no more choices than bytes.
-use Rattle.std.proofs.Common.{arith, ap, length, rules, sym, ◌∙◌, ◌≡◌}
+use Rattle.std.proofs.Common.{arith, ap, length, sym, ◌∙◌, ◌≡◌}
 use Rattle.actor_net.proofs.ChoiceCodeLemmas.{few}
-use Rattle.actor_net.proofs.choices.Choices.iter.Goals as goal
+use Rattle.actor_net.proofs.choices.Choices.len.Goals as goal
 
 pub returns-clause-small : goal.returns-clause-small
 returns-clause-small c =
