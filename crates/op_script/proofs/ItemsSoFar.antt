@@ -1,7 +1,6 @@
--- The input so far, one packet more, and the end.
-use Rattle.std.proofs.Common.{◌≡◌, ℕ, ◌+◌, ◌<◌, ◌^◌, eqb, leb, List, ◌∷◌, [], ◌++◌, map, length, drop, refl, ap, sym, ◌∙◌, arith}
-use Rattle.std.proofs.lemmas.List.{append_assoc}
-use Rattle.basics.proofs.ListLemmas.{no_first}
+-- The input so far, one packet more, also where it is late, and the end.
+use Rattle.std.proofs.Common.{◌≡◌, ℕ, ◌+◌, ◌<◌, eqb, leb, List, ◌∷◌, [], ◌++◌, map, length, get_or, take, drop, set, refl, ap, sym, subst, ◌∙◌, arith}
+use Rattle.std.proofs.lemmas.List.{append_assoc, drop_all, drop_more, drop-set-lt, take_all, take_more_set}
 use Rattle.flow_filter.specs.declared.packet.Packet.{Packet}
 use Rattle.nf_msgs.specs.declared.msg.Msg.{Msg}
 use Rattle.nf_msgs.specs.declared.msg.Msg.TheVariants.{InPacket, InEnd}
@@ -38,24 +37,27 @@ pub record SoFar (input : InputParts) (point : ℕ) (waiting out : List Msg) : T
   pub counted : point + length left ≡ length input.packets
   pub same : out ++ items_from point left input.lines ≡ items_from 0 input.packets input.lines
 
-pub so_far_start : (input : InputParts) (waiting out : List Msg) → waiting ≡ map InPacket input.packets → out ≡ [] → SoFar input 0 waiting out
-so_far_start input waiting out are none = record {
+pub so_far_start : (input : InputParts) (items late : List Msg) → items ≡ map InPacket input.packets → late ≡ [] → SoFar input 0 items late
+so_far_start input items late are none = record {
   left = input.packets;
   waits = are;
   counted = omega arith;
   same = ap (λ l. l ++ items_from 0 input.packets input.lines) none;
 }
 
--- all packets are written
-pub all_written : (input : InputParts) (point : ℕ) (waiting none out : List Msg) → waiting ≡ none → none ≡ drop 1 waiting → SoFar input point waiting out
+-- all packets stand in their places, or are late
+pub all_written : (input : InputParts) (count : ℕ) (items late out : List Msg) → count ≡ length items → out ≡ items ++ late
+    → SoFar input count (drop count items) (take count items ++ late)
     → out ++ said_where (λ at. leb (length input.packets) at) input.lines ≡ items_from 0 input.packets input.lines
-all_written input point waiting none out same rest so_far =
-    let none_wait : map InPacket so_far.left ≡ [] = sym so_far.waits ∙ no_first waiting none same rest in
+all_written input count items late out all is so_far =
+    let none_wait : map InPacket so_far.left ≡ [] = sym so_far.waits ∙ drop_all count items (omega (arith, all)) in
     let no_left : so_far.left ≡ [] = no_packets so_far.left none_wait in
-    let all : out ++ said_where (λ at. leb point at) input.lines ≡ items_from 0 input.packets input.lines = rw no_left at so_far.same in
-    let count : point + length {A = Packet} [] ≡ length input.packets = rw no_left at so_far.counted in
-    let is : length input.packets ≡ point = omega (arith, count) in
-    rw is all
+    let same : (take count items ++ late) ++ said_where (λ at. leb count at) input.lines ≡ items_from 0 input.packets input.lines =
+    rw no_left at so_far.same in
+    let counted : count + length {A = Packet} [] ≡ length input.packets = rw no_left at so_far.counted in
+    let whole : out ≡ take count items ++ late = is ∙ ap (λ l. l ++ late) (sym (take_all count items (omega (arith, all)))) in
+    let end : length input.packets ≡ count = omega (arith, counted) in
+    rw (end, whole) same
 
 -- the whole input
 pub all_items : (packets : List Packet) (lines : List Line) (count : ℕ) (before last after : List Msg) → count ≡ length packets
@@ -63,13 +65,6 @@ pub all_items : (packets : List Packet) (lines : List Line) (count : ℕ) (befor
     → last ≡ before ++ said_where (λ at. leb count at) lines → after ≡ last ++ InEnd ∷ [] → after ≡ items packets lines
 all_items packets lines count before last after counted so_far said end =
     end ∙ ap (λ t. t ++ InEnd ∷ []) (said ∙ ap (λ n. before ++ said_where (λ at. leb n at) lines) counted ∙ so_far)
-
--- with one item less the point is one more
-pub fits_on : (items : List Msg) (item : Msg) (left : List Msg) (point : ℕ) → items ≡ item ∷ left → point + length items < 2 ^ 64
-    → point + 1 + length left < 2 ^ 64
-fits_on items item left point first fits =
-    let before : point + length (item ∷ left) < 2 ^ 64 = rw first at fits in
-    omega (arith, before)
 
 -- the lines at the point are written, and a packet
 one_more : (lines : List Line) (point : ℕ) (packet : Packet) (packets left : List Packet) (before said last after whole : List Msg)
@@ -93,3 +88,18 @@ so_far_more input point waiting rest before said last after item is more end fir
       same = one_more input.lines point parts.packet so_far.left parts.left before said last after _ is more
           (end ∙ ap (λ m. last ++ m ∷ []) parts.first) parts.packets so_far.same;
     }
+
+-- the item at the place is late, and what was late first stands there
+pub late_more : (input : InputParts) (place : ℕ) (items late said last after : List Msg) (item first : Msg) → place < length items
+    → said ≡ said_where (λ at. eqb at place) input.lines → last ≡ late ++ said → first ∷ after ≡ last ++ item ∷ []
+    → item ≡ get_or items place item → SoFar input place (drop place items) (take place items ++ late)
+    → SoFar input (place + 1) (drop (place + 1) (set items place first)) (take (place + 1) (set items place first) ++ after)
+late_more input place items late said last after item first there is more end stood so_far =
+    let next : drop place items ≡ item ∷ drop (place + 1) items =
+    drop_more items place item there ∙ ap (λ x. x ∷ drop (place + 1) items) (sym stood) in
+    let stands : take (place + 1) (set items place first) ++ after ≡ ((take place items ++ late) ++ said) ++ item ∷ [] =
+    ap (λ l. l ++ after) (take_more_set items place first there) ∙ append_assoc (take place items) (first ∷ []) after
+    ∙ ap (λ l. take place items ++ l) (end ∙ ap (λ l. l ++ item ∷ []) more) ∙ simp append_assoc refl in
+    subst (λ rest. SoFar input (place + 1) rest (take (place + 1) (set items place first) ++ after))
+    (sym (drop-set-lt (place + 1) items place first (omega arith)))
+    (so_far_more input place (drop place items) (drop (place + 1) items) (take place items ++ late) said _ _ item is refl stands next so_far)

@@ -1,5 +1,5 @@
 //! The input of a run: packets and the lines of a script, each line at its point.
-ghost use Rattle.std.specs.Prelude.{◌≡◌, ◌<◌, ◌≤◌, ◌^◌, [], ◌++◌, ◌==◌, nat_le, length, map, All, IfOk, OnOk};
+ghost use Rattle.std.specs.Prelude.{◌≡◌, ◌<◌, ◌≤◌, ◌^◌, ◌∷◌, [], ◌++◌, ◌==◌, nat_le, length, map, All, IfOk, OnOk};
 ghost use Rattle.std.specs.List.{list_all, prefix_len};
 ghost use Rattle.op_script.specs.Items.{msg_of, said_where, items_from, AreLinesFrom, items};
 ghost use Rattle.flow_filter.specs.Packet.{IsInRange};
@@ -10,6 +10,7 @@ use basics::{Boxed, NoMemory, TryCopy};
 use nf_msgs::Msg;
 use std::alloc::Global;
 use std::collections::VecDeque;
+use std::mem;
 
 /// The input of a run: the packets in order, and each line of the script after the packet that it names, or after
 /// the last of a shorter trace; and then the end.
@@ -27,26 +28,38 @@ pub fn items(alloc: Global, packets: PacketItems, script: &Script) -> Result<Vec
     Ok(out)
 }
 
-/// The packets, and the lines before them. Where there are none, no packet is moved.
+/// The packets, and the lines before them. Where there are none, no packet is moved; else those after the first line go on by as many places
+/// as lines stand before them, in the room that they have.
 fn with_lines(alloc: Global, packets: PacketItems, lines: &[Line]) -> Result<Vec<Msg>, NoMemory>
     ensures { IfOk result (λ out. out.items ++ said_where (λ at. nat_le (length packets) at) lines.now ≡ items_from 0 packets lines.now) }
 {
-    if stand_after(lines, packets.items().len() as u64) {
+    let count = packets.items().len();
+    if stand_after(lines, count as u64) {
         return Ok(packets.into_items());
     }
-    let mut waiting = VecDeque::from_vec(packets.into_items());
-    let mut out = with_room(alloc, waiting.len(), lines.len())?;
     let ordered = in_order(alloc, lines)?;
     let mut rest = ordered.as_slice();
-    let mut point = 0u64;
-    while let Some(item) = waiting.pop_front() {
-        let count = count_at(rest, point);
-        push_lines(alloc, &mut out, &rest[..count])?;
-        rest = &rest[count..];
-        out.push(item)?;
-        point += 1;
+    let mut out = packets.into_items();
+    // What is to stand at the next places, once a line has taken one.
+    let mut late = VecDeque::new(alloc);
+    for place in 0..count {
+        let here = count_at(rest, place as u64);
+        push_lines(alloc, &mut late, &rest[..here])?;
+        rest = &rest[here..];
+        put_late(&mut out[place], &mut late)?;
     }
+    out.append(&mut late.into_vec())?;
     Ok(out)
+}
+
+/// Gives the item's place to the first that is late, if any is. The item is then the last that is late.
+fn put_late(item: &mut Msg, late: &mut VecDeque<Msg>) -> Result<(), NoMemory>
+    ensures { OnOk result (item.new ∷ late.new.items ≡ late.old.items ++ item.old ∷ []) }
+{
+    if let Some(first) = late.pop_front() {
+        late.push_back(mem::replace(item, first))?;
+    }
+    Ok(())
 }
 
 /// Whether all lines stand at this point or after it.
@@ -54,14 +67,6 @@ fn stand_after(lines: &[Line], point: u64) -> bool
     ensures { result ≡ list_all (λ line. nat_le point line.at) lines.now }
 {
     lines.iter().all(|line| point <= u64::from(line.at))
-}
-
-/// No messages yet, with room for those of so many packets and lines, and for the end.
-fn with_room(alloc: Global, packets: usize, lines: usize) -> Result<Vec<Msg>, NoMemory>
-    ensures { IfOk result (λ out. out.items ≡ []) }
-{
-    let room = packets.saturating_add(lines).saturating_add(1);
-    Ok(Vec::with_capacity(alloc, room)?)
 }
 
 /// The lines in the order of their points, those of one point in file order.
@@ -85,11 +90,11 @@ fn count_at(lines: &[&Line], point: u64) -> usize
 }
 
 /// Appends the messages of lines.
-fn push_lines(alloc: Global, out: &mut Vec<Msg>, lines: &[&Line]) -> Result<(), NoMemory>
-    ensures { OnOk result (out.new.items ≡ out.old.items ++ map (λ line. msg_of line.now.what) lines.now) }
+fn push_lines(alloc: Global, late: &mut VecDeque<Msg>, lines: &[&Line]) -> Result<(), NoMemory>
+    ensures { OnOk result (late.new.items ≡ late.old.items ++ map (λ line. msg_of line.now.what) lines.now) }
 {
     for line in lines {
-        out.push(msg_of(alloc, &line.what)?)?;
+        late.push_back(msg_of(alloc, &line.what)?)?;
     }
     Ok(())
 }

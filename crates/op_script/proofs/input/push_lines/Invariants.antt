@@ -3,6 +3,6 @@ use Rattle.std.proofs.Common.{◌≡◌, ◌++◌, map, take}
 use Rattle.op_script.specs.Items.{msg_of}
 use Rattle.op_script.proofs.input.push_lines.Given as goal
 
--- the lines so far are written
+-- the lines so far are put
 abbrev pub invariant-loop-line : goal.invariant-loop-line
-invariant-loop-line l = l.out.items ≡ l.initial.out.items ++ map (λ line. msg_of line.now.what) (take l.line-index l.lines)
+invariant-loop-line l = l.late.items ≡ l.initial.late.items ++ map (λ line. msg_of line.now.what) (take l.line-index l.lines)

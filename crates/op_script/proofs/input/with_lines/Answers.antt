@@ -1,36 +1,39 @@
--- All packets are written, each after the lines at its point; or no line stands before the last of them.
-use Rattle.std.proofs.Common.{rules, ◌∙◌}
-use Rattle.std.proofs.lemmas.List.{take_rest}
+-- All packets stand in their places or are late, each after the lines at its point; or no line stands before the last of them.
+use Rattle.std.proofs.Common.{rules, ◌++◌, ◌∙◌, List, ap, length, sym}
+use Rattle.std.proofs.lemmas.List.{length-set, take_rest}
+use Rattle.nf_msgs.specs.declared.msg.Msg.{Msg}
 use Rattle.op_script.proofs.LinesByPoint.{still_short, ahead_next, said_first}
-use Rattle.op_script.proofs.ItemsSoFar.{all_written, fits_on, so_far_more, so_far_start}
+use Rattle.op_script.proofs.ItemsSoFar.{all_written, late_more, so_far_start}
 use Rattle.op_script.proofs.PacketLists.{all_after}
 use Rattle.op_script.proofs.input.with_lines.Goals as goal
 
 pub returns-then-stand_after : goal.returns-then-stand_after
 returns-then-stand_after c =
-    all_after c.args.packets c.args.lines.now c.items.result.now c.into_items.result.items c.stand_after.result c.items.ensures.items c.into_items.ensures
-    c.stand_after.ensures c.if-stand_after.true
+    all_after c.args.packets c.args.lines.now c.items-count.result.now c.into_items.result.items c.stand_after.result c.items-count.ensures.items
+    c.into_items.ensures c.stand_after.ensures c.if-stand_after.true
 
 pub returns : goal.returns
-returns c = all_written (record { packets = c.args.packets; lines = c.args.lines.now }) c.loop-item.point c.loop-item.waiting.items _ c.loop-item.out.items
-    c.in_default.ensures.items c.in_default.ensures.rest c.loop-item.invariant.so_far
+returns c =
+    all_written (record { packets = c.args.packets; lines = c.args.lines.now }) c.loop-place.place c.loop-place.out.items c.loop-place.late.items
+    c.append.new.self.items (search rules) (c.in_ok-append.ensures.items ∙ ap (λ (l : List Msg). c.loop-place.out.items ++ l) c.into_vec.ensures.items)
+    c.loop-place.invariant.so_far
 
-pub loop-item-init : goal.loop-item-init
-loop-item-init c = record {
-  fits = search rules;
+pub loop-place-init : goal.loop-place-init
+loop-place-init c = record {
+  many = ap (λ (l : List Msg). length l) (c.into_items-out.ensures ∙ sym c.items-count.ensures.items);
   short = search rules;
   ahead = search rules;
-  so_far = so_far_start (record { packets = c.args.packets; lines = c.args.lines.now }) c.from_vec-waiting.result.items c.in_ok-out.out.items
-      (c.from_vec-waiting.ensures.items ∙ c.into_items-2.ensures) c.in_ok-out.ensures;
+  so_far = so_far_start (record { packets = c.args.packets; lines = c.args.lines.now }) c.into_items-out.result.items c.new-late.result.items
+      c.into_items-out.ensures c.new-late.ensures.items;
 }
 
-pub loop-item-preserved : goal.loop-item-preserved
-loop-item-preserved c = let rest = c.loop-item.rest.now in let count = c.count_at-count.result in let lines = c.args.lines.now in record {
-  fits = fits_on c.loop-item.waiting.items c.in-Some.item _ c.loop-item.point c.in-Some.ensures.items c.loop-item.invariant.fits;
-  short = still_short count rest _ c.loop-item.invariant.short (take_rest rest count);
-  ahead = ahead_next (λ line. line.now) c.loop-item.point count rest _ lines c.loop-item.invariant.ahead c.count_at-count.ensures.count (take_rest rest count);
-  so_far = so_far_more (record { packets = c.args.packets; lines = lines }) c.loop-item.point c.loop-item.waiting.items _ c.loop-item.out.items _
-      c.push_lines.new.out.items _ c.in-Some.item
-      (said_first (λ line. line.now) c.loop-item.point count rest lines c.loop-item.invariant.ahead c.count_at-count.ensures.count)
-      c.in_ok-push_lines.ensures c.in_ok-push.ensures.items c.in-Some.ensures.items c.loop-item.invariant.so_far;
+pub loop-place-preserved : goal.loop-place-preserved
+loop-place-preserved c = let rest = c.loop-place.rest.now in let here = c.count_at-here.result in let lines = c.args.lines.now in record {
+  many = length-set c.loop-place.out.items c.loop-place.place c.put_late.new.item ∙ c.loop-place.invariant.many;
+  short = still_short here rest _ c.loop-place.invariant.short (take_rest rest here);
+  ahead = ahead_next (λ line. line.now) c.loop-place.place here rest _ lines c.loop-place.invariant.ahead c.count_at-here.ensures.count (take_rest rest here);
+  so_far = late_more (record { packets = c.args.packets; lines = lines }) c.loop-place.place c.loop-place.out.items c.loop-place.late.items _
+      c.push_lines.new.late.items c.put_late.new.late.items c.index_mut.result.now c.put_late.new.item (search rules)
+      (said_first (λ line. line.now) c.loop-place.place here rest lines c.loop-place.invariant.ahead c.count_at-here.ensures.count)
+      c.in_ok-push_lines.ensures c.in_ok-put_late.ensures c.index_mut.ensures.value c.loop-place.invariant.so_far;
 }
