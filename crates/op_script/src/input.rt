@@ -1,5 +1,5 @@
 //! The input of a run: packets and the lines of a script, each line at its point.
-ghost use Rattle.std.specs.Prelude.{◌≡◌, ◌<◌, ◌≤◌, ◌^◌, [], ◌++◌, ◌==◌, nat_le, length, map, All, IfOk, OnOk};
+ghost use Rattle.std.specs.Prelude.{◌≡◌, ◌<◌, ◌≤◌, ◌^◌, [], ◌∷◌, ◌++◌, ◌==◌, nat_le, length, map, All, IfOk, OnOk};
 ghost use Rattle.std.specs.List.{list_all, prefix_len};
 ghost use Rattle.op_script.specs.Items.{msg_of, said_where, items_from, AreLinesFrom, items};
 ghost use Rattle.flow_filter.specs.Packet.{IsInRange};
@@ -41,9 +41,8 @@ fn with_lines(alloc: Global, packets: PacketItems, lines: &[Line]) -> Result<Vec
     let mut point = 0u64;
     while let Some(item) = waiting.pop_front() {
         let count = count_at(rest, point);
-        push_lines(alloc, &mut out, &rest[..count])?;
+        push_after(alloc, &mut out, &rest[..count], item)?;
         rest = &rest[count..];
-        out.push(item)?;
         point += 1;
     }
     Ok(out)
@@ -82,6 +81,19 @@ fn count_at(lines: &[&Line], point: u64) -> usize
         .iter()
         .take_while(|line| u64::from(line.at) == point)
         .count()
+}
+
+/// Appends the messages of lines, and an item after them.
+fn push_after(alloc: Global, out: &mut Vec<Msg>, lines: &[&Line], item: Msg) -> Result<(), NoMemory>
+    ensures { OnOk result (out.new.items ≡ (out.old.items ++ map (λ line. msg_of line.now.what) lines.now) ++ item ∷ []) }
+{
+    match push_lines(alloc, out, lines) {
+        Ok(()) => Ok(out.push(item)?),
+        Err(fault) => {
+            drop(item);
+            Err(fault)
+        }
+    }
 }
 
 /// Appends the messages of lines.

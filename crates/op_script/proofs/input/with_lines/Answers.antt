@@ -1,5 +1,5 @@
 -- All packets are written, each after the lines at its point; or no line stands before the last of them.
-use Rattle.std.proofs.Common.{rules, ◌∙◌}
+use Rattle.std.proofs.Common.{rules, ◌∙◌, refl}
 use Rattle.std.proofs.lemmas.List.{take_rest}
 use Rattle.op_script.proofs.LinesByPoint.{still_short, ahead_next, said_first}
 use Rattle.op_script.proofs.ItemsSoFar.{all_written, fits_on, so_far_more, so_far_start}
@@ -30,7 +30,7 @@ loop-item-preserved c = let rest = c.loop-item.rest.now in let count = c.count_a
   short = still_short count rest _ c.loop-item.invariant.short (take_rest rest count);
   ahead = ahead_next (λ line. line.now) c.loop-item.point count rest _ lines c.loop-item.invariant.ahead c.count_at-count.ensures.count (take_rest rest count);
   so_far = so_far_more (record { packets = c.args.packets; lines = lines }) c.loop-item.point c.loop-item.waiting.items _ c.loop-item.out.items _
-      c.push_lines.new.out.items _ c.in-Some.item
+      _ _ c.in-Some.item
       (said_first (λ line. line.now) c.loop-item.point count rest lines c.loop-item.invariant.ahead c.count_at-count.ensures.count)
-      c.in_ok-push_lines.ensures c.in_ok-push.ensures.items c.in-Some.ensures.items c.loop-item.invariant.so_far;
+      refl c.in_ok-push_after.ensures c.in-Some.ensures.items c.loop-item.invariant.so_far;
 }
