@@ -23,8 +23,8 @@ place_of instances name = position (λ (i : InstanceWords). bytes_eq i.name name
 -- the values of `fail`: a journal, and two different instances of the list
 unfoldable pub fail_values : Texts → Option FailAsked
 fail_values given = do
+  after ← value_of (codes "after") given >>= given_number
   network ← network_values given
   failed ← value_of (codes "failed") given >>= place_of network.instances
   to ← value_of (codes "to") given >>= place_of network.instances
-  after ← value_of (codes "after") given >>= given_number
   only (is_some network.journal && not (failed == to)) (Some (record { network = network; failed = failed; to = to; after = after }))

@@ -27,13 +27,13 @@ pub record NetworkAsked : Type 0 where
 unfoldable pub network_values : Texts → Option NetworkAsked
 network_values given = do
   kind ← value_of (codes "function") given >>= function_named
-  instances ← value_of (codes "instances") given >>= instances_of
   inside ← value_of (codes "inside") given >>= inside_of
   outside ← outside_of kind inside (value_of (codes "outside") given)
   window ← window_of (value_of (codes "window") given)
   journal ← file_if (value_of (codes "journal") given)
   trace ← value_of (codes "trace") given >>= file_of
   script ← file_if (value_of (codes "script") given)
+  instances ← value_of (codes "instances") given >>= instances_of
   Some (record {
     kind = kind;
     instances = instances;

@@ -45,8 +45,8 @@ pub data Asked : Type 0 where
 unfoldable pub check_values : Texts → Option CheckAsked
 check_values given = do
   kind ← value_of (codes "function") given >>= function_named
-  instances ← value_of (codes "instances") given >>= instances_of
   script ← value_of (codes "script") given >>= file_of
+  instances ← value_of (codes "instances") given >>= instances_of
   Some (record { kind = kind; instances = instances; script = script })
 
 -- the values of `gen`: 1 to 1,000,000 packets, and 1 to 256 hosts
@@ -62,7 +62,7 @@ abbrev pub run_of : List Text → Option Asked
 run_of words = given_arguments forms.Run words >>= λ g. network_values g >>= λ n. Some (asks_run n)
 
 abbrev pub sim_of : List Text → Option Asked
-sim_of words = given_arguments forms.Sim words >>= λ g. network_values g >>= λ n. schedule_of (value_of (codes "schedule") g) >>= λ s. Some (asks_sim n s)
+sim_of words = given_arguments forms.Sim words >>= λ g. schedule_of (value_of (codes "schedule") g) >>= λ s. network_values g >>= λ n. Some (asks_sim n s)
 
 -- the words of `run`, where the journal must be given
 abbrev pub audit_of : List Text → Option Asked
@@ -83,7 +83,7 @@ published_of words =
 
 abbrev pub strong_of : List Text → Option Asked
 strong_of words =
-    given_arguments forms.Strong words >>= λ g. strong_values g >>= λ v. schedule_of (value_of (codes "schedule") g) >>= λ s. Some (asks_strong v s)
+    given_arguments forms.Strong words >>= λ g. schedule_of (value_of (codes "schedule") g) >>= λ s. strong_values g >>= λ v. Some (asks_strong v s)
 
 -- the commands that start no threads
 unfoldable pub calm_of : Text → List Text → Option Asked

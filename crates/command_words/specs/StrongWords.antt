@@ -39,10 +39,10 @@ filter_if kind (Some text) = filter_of kind text
 unfoldable pub strong_values : Texts → Option StrongAsked
 strong_values given = do
   kind ← value_of (codes "function") given >>= function_named
-  names ← value_of (codes "instances") given >>= members_of
   inside ← value_of (codes "inside") given >>= inside_of
   outside ← outside_of kind inside (value_of (codes "outside") given)
   window ← window_of (value_of (codes "window") given)
   filter ← filter_if kind (value_of (codes "filter") given)
   trace ← value_of (codes "trace") given >>= file_of
+  names ← value_of (codes "instances") given >>= members_of
   Some (record { kind = kind; names = names; inside = inside; outside = outside; window = window; filter = filter; trace = trace })

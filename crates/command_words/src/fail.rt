@@ -32,10 +32,10 @@ pub(crate) fn ask_fail<'a>(
 fn fail_values<'a>(alloc: Global, given: &Given<'a>) -> Result<FailRequest<'a>, ArgumentsFault>
     ensures { Reads fail_view result (fail_values (given_view given.now)) }
 {
+    let after = given_number(given.text("after")).ok_or(ArgumentsFault::Usage)?;
     let network = network_values(alloc, given)?;
     let failed = place_of(&network.instances, given.text("failed")).ok_or(ArgumentsFault::Usage)?;
     let to = place_of(&network.instances, given.text("to")).ok_or(ArgumentsFault::Usage)?;
-    let after = given_number(given.text("after")).ok_or(ArgumentsFault::Usage)?;
     if network.journal.is_none() || failed == to {
         return Err(ArgumentsFault::Usage);
     }

@@ -33,8 +33,8 @@ pub(crate) fn ask_strong<'a>(
     ensures { Reads calm_view result (strong_of (map string_bytes words.entry.now)) }
 {
     let given = read(alloc, Form::Strong, words)?;
-    let asked = strong_values(alloc, &given)?;
     let schedule = schedule_of(given.text("schedule")).ok_or(ArgumentsFault::Usage)?;
+    let asked = strong_values(alloc, &given)?;
     Ok(CalmRequest::Strong(asked, schedule))
 }
 
@@ -44,12 +44,12 @@ fn strong_values<'a>(alloc: Global, given: &Given<'a>) -> Result<StrongRequest<'
     ensures { Reads strong_view result (strong_values (given_view given.now)) }
 {
     let kind = function_of(given.text("function")).ok_or(ArgumentsFault::Usage)?;
-    let names = members_of(alloc, given.text("instances"))?.ok_or(ArgumentsFault::Usage)?;
     let inside = inside_of(given.text("inside")).ok_or(ArgumentsFault::Usage)?;
     let site = site_of(kind, inside, given.text("outside")).ok_or(ArgumentsFault::Usage)?;
     let window = window_of(given.text("window")).ok_or(ArgumentsFault::Usage)?;
     let filter = filter_if(kind, given.text("filter")).ok_or(ArgumentsFault::Usage)?;
     let trace = file_of(given.text("trace")).ok_or(ArgumentsFault::Usage)?;
+    let names = members_of(alloc, given.text("instances"))?.ok_or(ArgumentsFault::Usage)?;
     Ok(StrongRequest {
         kind,
         names,

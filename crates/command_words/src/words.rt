@@ -103,8 +103,8 @@ fn ask_sim<'a>(alloc: Global, words: &'a [String]) -> Result<CalmRequest<'a>, Ar
     ensures { Reads calm_view result (sim_of (map string_bytes words.entry.now)) }
 {
     let given = read(alloc, Form::Sim, words)?;
-    let network = network_values(alloc, &given)?;
     let schedule = schedule_of(given.text("schedule")).ok_or(ArgumentsFault::Usage)?;
+    let network = network_values(alloc, &given)?;
     Ok(CalmRequest::Sim(network, schedule))
 }
 
@@ -147,13 +147,13 @@ pub(crate) fn network_values<'a>(
     ensures { Reads network_view result (network_values (given_view given.now)) }
 {
     let kind = function_of(given.text("function")).ok_or(ArgumentsFault::Usage)?;
-    let instances = instances_of(alloc, given.text("instances"))?.ok_or(ArgumentsFault::Usage)?;
     let inside = inside_of(given.text("inside")).ok_or(ArgumentsFault::Usage)?;
     let site = site_of(kind, inside, given.text("outside")).ok_or(ArgumentsFault::Usage)?;
     let window = window_of(given.text("window")).ok_or(ArgumentsFault::Usage)?;
     let journal = file_if(given.text("journal")).ok_or(ArgumentsFault::Usage)?;
     let trace = file_of(given.text("trace")).ok_or(ArgumentsFault::Usage)?;
     let script = file_if(given.text("script")).ok_or(ArgumentsFault::Usage)?;
+    let instances = instances_of(alloc, given.text("instances"))?.ok_or(ArgumentsFault::Usage)?;
     Ok(NetworkRequest {
         kind,
         instances,
@@ -172,8 +172,8 @@ fn check_values<'a>(alloc: Global, given: &Given<'a>) -> Result<Checking<'a>, Ar
     ensures { Reads check_view result (check_values (given_view given.now)) }
 {
     let kind = function_of(given.text("function")).ok_or(ArgumentsFault::Usage)?;
-    let instances = instances_of(alloc, given.text("instances"))?.ok_or(ArgumentsFault::Usage)?;
     let script = file_of(given.text("script")).ok_or(ArgumentsFault::Usage)?;
+    let instances = instances_of(alloc, given.text("instances"))?.ok_or(ArgumentsFault::Usage)?;
     Ok(Checking {
         kind,
         instances,

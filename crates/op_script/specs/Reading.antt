@@ -136,8 +136,8 @@ Says view (Err one.NoMemory) judged = Unit {0}
 Says view (Err (one.Bad kind)) judged = judged ≡ Err kind
 
 -- a line's fault, under its number
-abbrev pub Numbered : ℕ → Result State LineFault → Result State ScriptFault → Type 0
-Numbered line (Ok s) numbered = numbered ≡ Ok s
+abbrev pub Numbered : {X : Type 0} → ℕ → Result X LineFault → Result X ScriptFault → Type 0
+Numbered line (Ok x) numbered = numbered ≡ Ok x
 Numbered line (Err one.NoMemory) numbered = numbered ≡ Err fault.NoMemory
 Numbered line (Err (one.Bad kind)) numbered = numbered ≡ Err (fault.Bad line kind)
 

@@ -1,4 +1,4 @@
-ghost use Rattle.std.specs.Prelude.{◌≡◌, [], ◌∷◌, ◌++◌, All, OnOk, OnErr, map};
+ghost use Rattle.std.specs.Prelude.{◌≡◌, ◌<◌, [], ◌∷◌, ◌++◌, All, OnOk, OnErr, map, vec_len, vec_capacity};
 ghost use Rattle.nf_msgs.specs.declared.msg.Msg.TheVariants.{InPacket};
 ghost use Rattle.flow_filter.specs.Packet.{IsInRange};
 
@@ -42,8 +42,9 @@ impl PacketItems {
         ensures ok { OnOk result (self.new ≡ self.old ++ packet.now ∷ []) }
         ensures err { OnErr result (self.new ≡ self.old) }
     {
+        make_room(&mut self.items)?;
         let captured = CapturedPacket::of(alloc, packet)?;
-        put(&mut self.items, Msg::InPacket(captured))?;
+        self.items.push_reserved(Msg::InPacket(captured));
         Ok(())
     }
 
@@ -63,15 +64,14 @@ impl PacketItems {
     }
 }
 
-/// Puts an item after the others. There is room for it first, so that it is written once, in its place.
+/// Makes room for an item after the others, so that it is written once, in its place.
 #[inline(always)]
-fn put(items: &mut Vec<Msg>, item: Msg) -> Result<(), NoMemory>
-    ensures ok { OnOk result (items.new.items ≡ items.old.items ++ item ∷ []) }
-    ensures err { OnErr result (items.new.items ≡ items.old.items) }
+fn make_room(items: &mut Vec<Msg>) -> Result<(), NoMemory>
+    ensures room { OnOk result (vec_len items.new < vec_capacity items.new) }
+    ensures same { items.new.items ≡ items.old.items }
 {
     if items.len() == items.capacity() {
         items.reserve(1)?;
     }
-    items.push_reserved(item);
     Ok(())
 }

@@ -81,36 +81,34 @@ fn read_lines(
     while let Some(text) = rest {
         line += 1;
         let (first, more) = first_piece(text, b'\n');
-        reader = numbered(
-            line,
-            with_text(alloc, kind, names, reader, without_return(first)),
-        )?;
+        let added = add_text(alloc, kind, names, &mut reader, without_return(first));
+        numbered(line, added)?;
         rest = more;
     }
     Ok(reader)
 }
 
 /// A line's fault, under its number.
-fn numbered(line: u32, read: Result<Reader, LineFault>) -> Result<Reader, ScriptFault>
+fn numbered(line: u32, read: Result<(), LineFault>) -> Result<(), ScriptFault>
     ensures { Numbered line read result }
 {
     match read {
-        Ok(reader) => Ok(reader),
+        Ok(()) => Ok(()),
         Err(LineFault::Bad(kind)) => Err(ScriptFault::Bad { line, kind }),
         Err(LineFault::NoMemory) => Err(ScriptFault::NoMemory),
     }
 }
 
-/// The reader with a line more.
-fn with_text(
+/// Adds a line.
+fn add_text(
     alloc: Global,
     kind: Kind,
     names: &[Name],
-    reader: Reader,
+    reader: &mut Reader,
     line: &[u8],
-) -> Result<Reader, LineFault>
+) -> Result<(), LineFault>
     requires { length names.now ≤ 2 ^ 8 }
-    ensures { Says (λ s. s) result (with_text kind names.now reader line.now) }
+    ensures { Says (λ _. reader.new) result (with_text kind names.now reader.old line.now) }
 {
     if !is_utf8(line) {
         return Err(LineFault::Bad(ScriptKind::NotUtf8));
@@ -119,7 +117,7 @@ fn with_text(
     let Some(statement) = statement_of(words.as_slice()) else {
         return Err(LineFault::Bad(ScriptKind::Word));
     };
-    with_statement(alloc, kind, names, reader, statement)
+    add_statement(alloc, kind, names, reader, statement)
 }
 
 /// Whether the bytes are UTF-8.
@@ -132,35 +130,35 @@ fn is_utf8(line: &[u8]) -> bool
     }
 }
 
-/// The reader with what a line says, more.
-fn with_statement(
+/// Adds what a line says.
+fn add_statement(
     alloc: Global,
     kind: Kind,
     names: &[Name],
-    reader: Reader,
+    reader: &mut Reader,
     statement: Statement<'_>,
-) -> Result<Reader, LineFault>
+) -> Result<(), LineFault>
     requires { length names.now ≤ 2 ^ 8 }
-    ensures { Says (λ s. s) result (with_statement kind names.now reader (statement_view statement.entry)) }
+    ensures { Says (λ _. reader.new) result (with_statement kind names.now reader.old (statement_view statement.entry)) }
 {
     match statement {
-        Statement::Silent => Ok(reader),
-        Statement::Route { filter, instance } => with_route(kind, names, reader, filter, instance),
-        Statement::At { at, event } => with_event(alloc, kind, reader, at, event),
+        Statement::Silent => Ok(()),
+        Statement::Route { filter, instance } => add_route(kind, names, reader, filter, instance),
+        Statement::At { at, event } => add_event(alloc, kind, reader, at, event),
     }
 }
 
-/// The reader with an initial rule more.
+/// Adds an initial rule.
 #[tactic(auto, unfolding(crate::specs::Reading::with_route))]
-fn with_route(
+fn add_route(
     kind: Kind,
     names: &[Name],
-    mut reader: Reader,
+    reader: &mut Reader,
     filter: &[u8],
     instance: &[u8],
-) -> Result<Reader, LineFault>
+) -> Result<(), LineFault>
     requires { length names.now ≤ 2 ^ 8 }
-    ensures { Says (λ s. s) result (with_route kind names.now reader filter.now instance.now) }
+    ensures { Says (λ _. reader.new) result (with_route kind names.now reader.old filter.now instance.now) }
 {
     if reader.last.is_some() {
         return Err(LineFault::Bad(ScriptKind::Order));
@@ -173,7 +171,7 @@ fn with_route(
         return Err(LineFault::Bad(ScriptKind::TooMany));
     }
     reader.routes.push((filter, place as u8))?;
-    Ok(reader)
+    Ok(())
 }
 
 /// The filter that the text spells, where it splits no unit.
@@ -199,21 +197,21 @@ fn whole(kind: Kind, filter: Filter) -> Result<Filter, LineFault>
     Ok(filter)
 }
 
-/// The reader with an event more.
-fn with_event(
+/// Adds an event.
+fn add_event(
     alloc: Global,
     kind: Kind,
-    reader: Reader,
+    reader: &mut Reader,
     at: u32,
     event: Event<'_>,
-) -> Result<Reader, LineFault>
-    ensures { Says (λ s. s) result (with_event kind reader at (event_view event.entry)) }
+) -> Result<(), LineFault>
+    ensures { Says (λ _. reader.new) result (with_event kind reader.old at (event_view event.entry)) }
 {
     if at < reader.last.unwrap_or(0) {
         return Err(LineFault::Bad(ScriptKind::Order));
     }
     let order = order_said(alloc, kind, event)?;
-    with_line(reader, at, order)
+    add_line(reader, at, order)
 }
 
 /// The order of an event, or `None` for a settle.
@@ -316,30 +314,22 @@ fn names_of(alloc: Global, list: &[u8]) -> Result<Option<Names>, NoMemory>
     Ok(Some(names))
 }
 
-/// The reader with an `at` line more: an order under its number, or a settle.
-fn with_line(reader: Reader, at: u32, order: Option<Order>) -> Result<Reader, LineFault>
+/// Adds an `at` line: an order under its number, or a settle.
+fn add_line(reader: &mut Reader, at: u32, order: Option<Order>) -> Result<(), LineFault>
     requires { ForSome (said_filter order) IsFilter }
-    ensures { Says (λ s. s) result (with_line reader at (option_map order_view order)) }
+    ensures { Says (λ _. reader.new) result (with_line reader.old at (option_map order_view order)) }
 {
     if reader.lines.len() >= MOST_LINES {
+        drop(order);
         return Err(LineFault::Bad(ScriptKind::TooMany));
     }
-    let Reader {
-        routes,
-        mut lines,
-        commands,
-        ..
-    } = reader;
-    let what = numbered_order(commands, order);
+    let what = numbered_order(reader.commands, order);
     let line = Line { at, what };
-    let commands = commands + u32::from(is_command(&line));
-    lines.push(line)?;
-    Ok(Reader {
-        routes,
-        lines,
-        commands,
-        last: Some(at),
-    })
+    let commands = reader.commands + u32::from(is_command(&line));
+    reader.lines.push(line)?;
+    reader.commands = commands;
+    reader.last = Some(at);
+    Ok(())
 }
 
 /// An order under the number after so many commands, or a settle.

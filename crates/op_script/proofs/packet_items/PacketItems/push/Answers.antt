@@ -1,18 +1,21 @@
 -- One packet more stands after the others, as an item.
-use Rattle.std.proofs.Common.{◌≡◌, ◌∙◌, [], ◌∷◌, ◌++◌, ap}
+use Rattle.std.proofs.Common.{◌≡◌, ◌∙◌, [], ◌∷◌, ◌++◌, List, ap}
+use Rattle.nf_msgs.specs.declared.msg.Msg.{Msg}
 use Rattle.nf_msgs.specs.declared.msg.Msg.TheVariants.{InPacket}
 use Rattle.op_script.specs.PacketItems.{packets_of}
 use Rattle.op_script.proofs.PacketLists.{more_packets, still_packets}
 use Rattle.op_script.proofs.packet_items.PacketItems.push.Goals as goal
 
 pub invariant_of-self-2 : goal.invariant_of-self-2
-invariant_of-self-2 c = still_packets c.self.inside.items.items c.put.new.items.items c.args.packet.now c.self.invariant
-    (c.in_ok-put.ensures.ok ∙ ap (λ p. c.self.inside.items.items ++ InPacket p ∷ []) c.in_ok-captured.ensures.same) c.of.ensures.in_range
+invariant_of-self-2 c = still_packets c.self.inside.items.items c.push_reserved.new.self.items c.args.packet.now c.self.invariant
+    (c.push_reserved.ensures.items ∙ ap (λ (l : List Msg). l ++ InPacket c.in_ok-captured.captured ∷ []) c.make_room.ensures.same
+    ∙ ap (λ p. c.self.inside.items.items ++ InPacket p ∷ []) c.in_ok-captured.ensures.same) c.of.ensures.in_range
 
 pub returns-clause-ok : goal.returns-clause-ok
 returns-clause-ok c =
     let is = c.self.view_is in
     let seen : packets_of c.self.inside.items.items ≡ c.args.self.now = cc in
-    more_packets c.self.inside.items.items c.put.new.items.items c.args.packet.now c.self.invariant.packets
-    (c.in_ok-put.ensures.ok ∙ ap (λ p. c.self.inside.items.items ++ InPacket p ∷ []) c.in_ok-captured.ensures.same)
+    more_packets c.self.inside.items.items c.push_reserved.new.self.items c.args.packet.now c.self.invariant.packets
+    (c.push_reserved.ensures.items ∙ ap (λ (l : List Msg). l ++ InPacket c.in_ok-captured.captured ∷ []) c.make_room.ensures.same
+    ∙ ap (λ p. c.self.inside.items.items ++ InPacket p ∷ []) c.in_ok-captured.ensures.same)
     ∙ ap (λ l. l ++ c.args.packet.now ∷ []) seen

@@ -1,12 +1,16 @@
--- One route more, whose filter is in range.
-use Rattle.std.proofs.Common.{ℕ}
+-- One route more, whose filter is in range; or no more, where memory is out.
+use Rattle.std.proofs.Common.{ℕ, All, sym, subst}
 use Rattle.flow_filter.specs.declared.filter.Filter.{Filter}
 use Rattle.flow_filter.specs.Filter.{IsFilter}
 use Rattle.op_script.proofs.OneMore.{one_more}
-use Rattle.op_script.proofs.reading.with_route.Goals as goal
+use Rattle.op_script.proofs.reading.add_route.Goals as goal
 
 pub invariant_of-reader : goal.invariant_of-reader
 invariant_of-reader c =
+    (c.reader.invariant.0, subst (All (λ (route : Filter × ℕ). IsFilter route.0)) (sym c.in_err-push.ensures.items) c.reader.invariant.1)
+
+pub invariant_of-reader-2 : goal.invariant_of-reader-2
+invariant_of-reader-2 c =
     let before = c.reader.inside.routes.items in (
       c.reader.invariant.0,
       one_more (λ (route : Filter × ℕ). IsFilter route.0) before c.push.new.self.items _ c.in_ok-push.ensures.items c.reader.invariant.1
