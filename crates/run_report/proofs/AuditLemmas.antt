@@ -1,6 +1,6 @@
 -- What the replay of choices from a network's start comes to: a world that is handed back is that of a run, and a fault is the first
 -- choice that isn't enabled in its turn.
-use Rattle.std.proofs.Common.{◌≡◌, ◌≢◌, ℕ, ◌+◌, ◌<◌, true, false, Result, Ok, Err, List, length, refl, sym, ap, ◌∙◌, inl, inr}
+use Rattle.std.proofs.Common.{◌≡◌, ◌≢◌, ℕ, ◌+◌, ◌<◌, true, false, Result, Ok, Err, List, length, refl, sym, ap, subst, ◌∙◌, inl, inr}
 use Rattle.std.proofs.lemmas.Option.{slice_get_within}
 use Rattle.nf_function.specs.Semantics.{Semantics}
 use Rattle.nf_msgs.specs.declared.msg.Msg.{Msg}
@@ -15,6 +15,11 @@ use Rattle.net_world.specs.declared.node.Node.{Node}
 use Rattle.net_world.specs.Nodes.{node_step, node_ready, node_ended}
 use Rattle.net_world.specs.Runs.{LeadsTo}
 use Rattle.run_report.specs.Audits.{world_after, IsCompleteRun, IsAuditCause}
+
+-- from one start is from the other
+pub complete_from : {F R : Type 0} (f : Semantics R) (first start : Network (Node F R) Msg Note) → start ≡ first → (cs : List Choice)
+    → IsCompleteRun f start cs → IsCompleteRun f first cs
+complete_from f first start at_start cs whole = subst (λ w. IsCompleteRun f w cs) at_start whole
 
 module _ {F R : Type 0} (f : Semantics R) (first start : Network (Node F R) Msg Note) (at_start : start ≡ first) (cs : List Choice)
     (result : Result (Network (Node F R) Msg Note) ReplayFault) (h : result ≢ Err NoMemory → result ≡ replay_of node_ready (node_step f) cs start) where

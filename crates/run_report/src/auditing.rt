@@ -9,9 +9,9 @@ ghost use Rattle.run_report.specs.Lines.{report_text};
 
 use crate::head::Head;
 use crate::reporting::report;
-use actor_net::{Choices, ReplayFault};
+use actor_net::{Choices, ReplayFault, World};
 use basics::{NoMemory, Text};
-use net_world::{Config, start};
+use net_world::{Config, Node, start};
 use nf_function::Function;
 use nf_msgs::Msg;
 use nf_net::run_choices;
@@ -45,10 +45,28 @@ pub fn audit<F: Function>(
         → IsAuditCause {F = F.row.Denot} F.semantics (started_with alloc config.now items.items) choices.now step }
 {
     let start = start::<F>(alloc, config, items)?;
+    let world = complete_world(start, choices)?;
+    let text = report(alloc, head, &world, summary);
+    drop(world);
+    Ok(text?)
+}
+
+/// The world in which a run of these choices ends. They must be a complete one.
+fn complete_world<F: Function>(
+    start: World<Node<F>>,
+    choices: &Choices,
+) -> Result<World<Node<F>>, AuditFault>
+    ensures run { IfOk result (λ _. IsCompleteRun F.semantics start choices.now) }
+    ensures world { IfOk result (λ world. world ≡ world_after F.semantics start choices.now) }
+    ensures not_a_run { (step : ℕ) → result ≡ Err (AuditFault.NotARun step) → IsAuditCause F.semantics start choices.now step }
+{
     let next = step_after(choices);
     match run_choices(start, choices) {
-        Ok(world) if world.complete() => Ok(report(alloc, head, &world, summary)?),
-        Ok(_world) => Err(AuditFault::NotARun { step: next }),
+        Ok(world) if world.complete() => Ok(world),
+        Ok(world) => {
+            drop(world);
+            Err(AuditFault::NotARun { step: next })
+        }
         Err(ReplayFault::NotEnabled { index }) => {
             let step = index as u64 + 1;
             Err(AuditFault::NotARun { step })

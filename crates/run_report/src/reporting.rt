@@ -17,7 +17,6 @@ use report_lines::{
 use std::alloc::Global;
 
 /// The report of a world. A summary has counts in place of the lines of packets and records.
-#[tactic(auto, unfolding(crate::specs::Lines::report_text))]
 pub fn report<F: Function>(
     alloc: Global,
     head: &Head,
@@ -28,14 +27,30 @@ pub fn report<F: Function>(
 {
     let found = named_instances(alloc, head.names.items(), world.nodes())?;
     let mut text = Text::open(alloc);
-    head.push_lines(&mut text)?;
-    if summary {
-        push_summary(alloc, &mut text, head, world, &found)?;
-    } else {
-        push_whole(alloc, &mut text, head, world, &found)?;
-    }
-    push_tail(&mut text, head.names.items().len(), &found)?;
+    push_report(alloc, &mut text, head, world, &found, summary)?;
     Ok(text)
+}
+
+/// Puts all lines after a text.
+#[tactic(auto, unfolding(crate::specs::Lines::report_text))]
+fn push_report<F: Function>(
+    alloc: Global,
+    text: &mut Text,
+    head: &Head,
+    world: &World<Node<F>>,
+    found: &[NamedInstance<'_, F>],
+    summary: bool,
+) -> Result<(), NoMemory>
+    requires { found.now ≡ named_instances head.now.names world.now.nodes }
+    ensures { OnOk result (text.new ≡ text.old ++ report_text F.semantics head.now summary world.now) }
+{
+    head.push_lines(text)?;
+    if summary {
+        push_summary(alloc, text, head, world, found)?;
+    } else {
+        push_whole(alloc, text, head, world, found)?;
+    }
+    push_tail(text, head.names.items().len(), found)
 }
 
 /// Puts the lines of packets, answers and records after a text.
