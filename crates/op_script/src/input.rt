@@ -46,20 +46,20 @@ fn with_lines(alloc: Global, packets: PacketItems, lines: &[Line]) -> Result<Vec
         let here = count_at(rest, place as u64);
         push_lines(alloc, &mut late, &rest[..here])?;
         rest = &rest[here..];
-        put_late(&mut out[place], &mut late)?;
+        put_late(&mut out[place], &mut late);
     }
     out.append(&mut late.into_vec())?;
     Ok(out)
 }
 
 /// Gives the item's place to the first that is late, if any is. The item is then the last that is late.
-fn put_late(item: &mut Msg, late: &mut VecDeque<Msg>) -> Result<(), NoMemory>
-    ensures { OnOk result (item.new ∷ late.new.items ≡ late.old.items ++ item.old ∷ []) }
+#[inline(always)]
+fn put_late(item: &mut Msg, late: &mut VecDeque<Msg>)
+    ensures { item.new ∷ late.new.items ≡ late.old.items ++ item.old ∷ [] }
 {
     if let Some(first) = late.pop_front() {
-        late.push_back(mem::replace(item, first))?;
+        late.push_back_reserved(mem::replace(item, first));
     }
-    Ok(())
 }
 
 /// Whether all lines stand at this point or after it.

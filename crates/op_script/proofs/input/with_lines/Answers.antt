@@ -35,5 +35,5 @@ loop-place-preserved c = let rest = c.loop-place.rest.now in let here = c.count_
   so_far = late_more (record { packets = c.args.packets; lines = lines }) c.loop-place.place c.loop-place.out.items c.loop-place.late.items _
       c.push_lines.new.late.items c.put_late.new.late.items c.index_mut.result.now c.put_late.new.item (search rules)
       (said_first (λ line. line.now) c.loop-place.place here rest lines c.loop-place.invariant.ahead c.count_at-here.ensures.count)
-      c.in_ok-push_lines.ensures c.in_ok-put_late.ensures c.index_mut.ensures.value c.loop-place.invariant.so_far;
+      c.in_ok-push_lines.ensures c.put_late.ensures c.index_mut.ensures.value c.loop-place.invariant.so_far;
 }
