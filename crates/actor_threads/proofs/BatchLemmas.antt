@@ -20,6 +20,18 @@ module _ {M : Type 0} where
   messages_more before batches batch = append_assoc before (messages (unpacked batches)) (messages batch)
       ∙ ap (λ l. before ++ l) (sym (map-append (λ x. x.message) (unpacked batches) batch) ∙ ap messages (sym (unpacked_more batches batch)))
 
+  -- one message more, without its stamp
+  pub one_message_more : {list : List M} (before : List M) (yielded : List (Stamped M)) (x : Stamped M) → list ≡ before ++ messages yielded
+      → list ++ x.message ∷ [] ≡ before ++ messages (yielded ++ x ∷ [])
+  one_message_more before yielded x e = ap (λ l. l ++ x.message ∷ []) e ∙ append_assoc before (messages yielded) _
+      ∙ ap (λ l. before ++ l) (sym (map-append (λ y. y.message) yielded (x ∷ [])))
+
+  -- the messages of three lists, one after another
+  pub messages_joined : (before : List M) (a b c : List (Stamped M)) → ((before ++ messages a) ++ messages b) ++ messages c ≡ before ++ messages (a ++ (b ++ c))
+  messages_joined before a b c = append_assoc (before ++ messages a) (messages b) (messages c) ∙ append_assoc before (messages a) (messages b ++ messages c)
+      ∙ ap (λ l. before ++ l)
+      (ap (λ l. messages a ++ l) (sym (map-append (λ x. x.message) b c)) ∙ sym (map-append (λ x. x.message) a (b ++ c)))
+
   -- nothing is kept only where no message from before the round is
   pub none_from_before : (kept : List M) (batch : List (Stamped M)) → with_stamp_0 kept ++ batch ≡ [] → kept ≡ []
   none_from_before [] batch e = refl

@@ -16,7 +16,6 @@ mod links;
 mod merged;
 mod notes;
 mod pace;
-pub mod queue;
 pub mod round;
 mod stage;
 pub mod ways;

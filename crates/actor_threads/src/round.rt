@@ -13,11 +13,10 @@ use crate::links::{Ends, close_row, open_all};
 use crate::merged::{Merged, Unmerged};
 use crate::notes::NoteQueue;
 use crate::pace::Crew;
-use crate::queue::Queue;
 use crate::stage::{Stage, StageParts};
 use crate::ways::{Batch, WayIn, WayOut};
-use crate::worker::Worker;
-use actor_net::{Actor, Choices, History, World};
+use crate::worker::{Worker, WorkerParts};
+use actor_net::{Actor, Choices, History, Link, World};
 use basics::{NoMemory, Sequence};
 use fifo_link::{SendEnd, TakeEnd};
 use std::alloc::Global;
@@ -173,7 +172,7 @@ pub(crate) fn members_of<A: Actor>(
         let Some(takes) = takes.pop_front() else {
             unreachable!()
         };
-        let items = mem::replace(&mut input, Queue::open(alloc));
+        let items = mem::replace(&mut input, Link::open(alloc));
         let worker = worker_of(alloc, number, node, items, &mut links, takes, sends)?;
         members.push(Member::open(worker))?;
     }
@@ -185,8 +184,8 @@ fn worker_of<A: Actor>(
     alloc: Global,
     number: usize,
     node: A,
-    input: Queue<A::Message>,
-    links: &mut Vec<Queue<A::Message>>,
+    input: Link<A::Message>,
+    links: &mut Vec<Link<A::Message>>,
     takes: Vec<TakeEnd<Batch<A::Message>>>,
     sends: Vec<SendEnd<Batch<A::Message>>>,
 ) -> Result<Worker<A>, NoMemory>
@@ -207,10 +206,10 @@ fn worker_of<A: Actor>(
 /// What stands on the links to one node, taken out of the table.
 fn column<M: Drop>(
     alloc: Global,
-    links: &mut Vec<Queue<M>>,
+    links: &mut Vec<Link<M>>,
     count: usize,
     node: usize,
-) -> Result<Vec<Queue<M>>, NoMemory>
+) -> Result<Vec<Link<M>>, NoMemory>
     requires count { (node < count) × (count < node_numbers) }
     requires square { length links.old.items ≡ count * count }
     ensures kept { IfOk result (λ kept. length kept.items ≡ count) }
@@ -221,7 +220,7 @@ fn column<M: Drop>(
     let mut kept = Vec::with_capacity(alloc, count)?;
     for port in 0..count {
         let at = place(count, port, node);
-        kept.push(mem::replace(&mut links[at], Queue::open(alloc)))?;
+        kept.push(mem::replace(&mut links[at], Link::open(alloc)))?;
     }
     Ok(kept)
 }
@@ -287,17 +286,38 @@ impl<A: Actor> RoundParts<A> {
         ensures ins { OnOk result (map (λ v. v.items) self.new.ins.items ≡ map (λ v. v.items) self.old.ins.items ++ worker.ins ∷ []) }
         ensures outs { OnOk result (map (λ v. v.items) self.new.outs.items ≡ map (λ v. v.items) self.old.outs.items ++ worker.outs ∷ []) }
     {
-        let parts = worker.parts();
-        self.nodes.push(parts.node)?;
+        let WorkerParts {
+            number,
+            node,
+            steps,
+            notes,
+            ins,
+            outs,
+        } = worker.parts();
+        add_ways(&mut self.ins, &mut self.outs, ins, outs)?;
+        self.notes.push(notes.into_queue())?;
         self.histories.push(History {
-            node: parts.number,
-            steps: Sequence::from_vec(parts.steps),
+            node: number,
+            steps: Sequence::from_vec(steps),
         })?;
-        self.notes.push(parts.notes.into_queue())?;
-        self.ins.push(VecDeque::from_vec(parts.ins))?;
-        self.outs.push(VecDeque::from_vec(parts.outs))?;
+        self.nodes.push(node)?;
         Ok(())
     }
+}
+
+/// Adds the ways in and the ways out of one worker.
+fn add_ways<M: Drop>(
+    all_ins: &mut Vec<VecDeque<WayIn<M>>>,
+    all_outs: &mut Vec<VecDeque<WayOut<M>>>,
+    ins: Vec<WayIn<M>>,
+    outs: Vec<WayOut<M>>,
+) -> Result<(), NoMemory>
+    ensures ins { OnOk result (map (λ v. v.items) all_ins.new.items ≡ map (λ v. v.items) all_ins.old.items ++ ins.items ∷ []) }
+    ensures outs { OnOk result (map (λ v. v.items) all_outs.new.items ≡ map (λ v. v.items) all_outs.old.items ++ outs.items ∷ []) }
+{
+    all_ins.push(VecDeque::from_vec(ins))?;
+    all_outs.push(VecDeque::from_vec(outs))?;
+    Ok(())
 }
 
 /// What the workers left, with all links closed.
@@ -323,7 +343,7 @@ fn close_round<R: Wait, A: Actor>(
         outs,
     } = round_parts;
     let mut links = close_all(rt, alloc, ins, outs)?;
-    let input = mem::replace(&mut links[0], Queue::open(alloc));
+    let input = mem::replace(&mut links[0], Link::open(alloc));
     Ok(Round {
         stage: Stage::from_parts(StageParts {
             nodes,
@@ -340,7 +360,7 @@ fn close_all<M: Drop, R: Wait>(
     alloc: Global,
     mut ins: Vec<VecDeque<WayIn<M>>>,
     outs: Vec<VecDeque<WayOut<M>>>,
-) -> Result<Vec<Queue<M>>, NoMemory>
+) -> Result<Vec<Link<M>>, NoMemory>
     requires { CanCloseAll (length ins.items) (map (λ v. v.items) ins.items) (map (λ v. v.items) outs.items) }
     ensures { IfOk result
         (λ links. AllClosed (length ins.items) (length ins.items) (ways_of (map (λ v. v.items) ins.items) (map (λ v. v.items) outs.items)) links.items) }

@@ -3,8 +3,7 @@ ghost use Rattle.std.specs.Prelude.{◌≡◌, ◌==◌, length, IfOk};
 ghost use Rattle.std.specs.List.{list_all};
 
 use crate::merged::Merged;
-use crate::queue::Queue;
-use actor_net::{Actor, Choices, Parts, World};
+use actor_net::{Actor, Choices, Link, Parts, World, links_of, lists_of};
 use basics::{NoMemory, Sequence};
 use std::alloc::Global;
 use std::marker::Model;
@@ -13,8 +12,8 @@ use std::marker::Model;
 #[derive(Drop)]
 pub(crate) struct Stage<A: Actor> {
     nodes: Vec<A>,
-    links: Vec<Queue<A::Message>>,
-    input: Queue<A::Message>,
+    links: Vec<Link<A::Message>>,
+    input: Link<A::Message>,
 }
 
 impl<A: Actor> Model for Stage<A> {
@@ -32,8 +31,8 @@ impl<A: Actor> Model for Stage<A> {
 #[derive(Drop)]
 pub(crate) struct StageParts<A: Actor> {
     pub(crate) nodes: Vec<A>,
-    pub(crate) links: Vec<Queue<A::Message>>,
-    pub(crate) input: Queue<A::Message>,
+    pub(crate) links: Vec<Link<A::Message>>,
+    pub(crate) input: Link<A::Message>,
 }
 
 impl<A: Actor> Stage<A> {
@@ -53,8 +52,8 @@ impl<A: Actor> Stage<A> {
         } = world.parts()?;
         let stage = Stage {
             nodes: nodes.into_vec(),
-            links: queues_of(alloc, links)?,
-            input: Queue::from_vec(input.into_vec()),
+            links: links_of(alloc, links)?,
+            input: Link::from_vec(input.into_vec()),
         };
         Ok((stage, log.into_vec()))
     }
@@ -112,7 +111,7 @@ impl<A: Actor> Stage<A> {
 }
 
 /// Whether nothing waits on any link.
-fn all_empty<M>(links: &[Queue<M>]) -> bool
+fn all_empty<M>(links: &[Link<M>]) -> bool
     ensures { result ≡ list_all (λ l. length l == 0) links.now }
 {
     links.iter().all(|link| link.is_empty())
@@ -123,32 +122,4 @@ fn all_ended<A: Actor>(nodes: &[A]) -> bool
     ensures { result ≡ list_all A.has_ended nodes.now }
 {
     nodes.iter().all(|node| node.ended())
-}
-
-/// The lists of links as queues.
-fn queues_of<M: Drop>(
-    alloc: Global,
-    lists: Sequence<Sequence<M>>,
-) -> Result<Vec<Queue<M>>, NoMemory>
-    ensures { IfOk result (λ queues. queues.items ≡ lists) }
-{
-    let mut queues = Vec::new(alloc);
-    for list in lists.into_vec() {
-        queues.push(Queue::from_vec(list.into_vec()))?;
-    }
-    Ok(queues)
-}
-
-/// The queues of links as lists.
-fn lists_of<M: Drop>(
-    alloc: Global,
-    queues: Vec<Queue<M>>,
-) -> Result<Sequence<Sequence<M>>, NoMemory>
-    ensures { IfOk result (λ lists. lists ≡ queues.items) }
-{
-    let mut lists = Vec::new(alloc);
-    for queue in queues {
-        lists.push(Sequence::from_vec(queue.into_vec()))?;
-    }
-    Ok(Sequence::from_vec(lists))
 }

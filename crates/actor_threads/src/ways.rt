@@ -1,15 +1,13 @@
 //! A worker's way in from one node, and its way out to one.
-ghost use Rattle.std.specs.Prelude.{◌≡◌, ◌<◌, ◌≤◌, ℕ, List, [], ◌∷◌, ◌++◌, OnOk, IfOk, IfNone, MatchOption, drop, true};
+ghost use Rattle.std.specs.Prelude.{◌≡◌, ◌<◌, ◌≤◌, ℕ, List, [], ◌∷◌, ◌++◌, OnOk, IfOk, IfNone, MatchOption, true};
 ghost use Rattle.actor_net.specs.Histories.{messages};
 ghost use Rattle.actor_threads.specs.Ways.{Draws, IsBlocked, with_stamp_0, unpacked, last_clock};
 ghost use Rattle.actor_net.specs.declared.stamped.Stamped.{Stamped};
 
-use crate::queue::Queue;
-use actor_net::Stamped;
+use actor_net::{Link, Stamped};
 use basics::{NoMemory, Sequence};
 use fifo_link::{Full, SendEnd, TakeEnd};
 use std::alloc::Global;
-use std::collections::VecDeque;
 use std::marker::Model;
 use std::mem;
 use std::sync::Wait;
@@ -22,9 +20,9 @@ pub type Batch<M> = Sequence<Stamped<M>>;
 #[derive(Drop)]
 pub struct WayIn<M> {
     end: TakeEnd<Batch<M>>,
-    kept: VecDeque<M>,
+    kept: Link<M>,
     /// What is left of the batch that was taken last. A message whose step would have no clock stays there.
-    batch: VecDeque<Stamped<M>>,
+    batch: Link<Stamped<M>>,
 }
 
 impl<M> Model for WayIn<M> {
@@ -39,13 +37,13 @@ impl<M> Model for WayIn<M> {
 
 impl<M: Drop> WayIn<M> {
     /// The way with what is kept from before the round.
-    pub fn open(alloc: Global, end: TakeEnd<Batch<M>>, kept: Queue<M>) -> Self
+    pub fn open(alloc: Global, end: TakeEnd<Batch<M>>, kept: Link<M>) -> Self
         ensures { result ≡ record { link = end.link; done = unpacked end.done; kept = with_stamp_0 kept } }
     {
         WayIn {
             end,
-            kept: kept.into_deque(),
-            batch: VecDeque::new(alloc),
+            kept,
+            batch: Link::open(alloc),
         }
     }
 
@@ -55,10 +53,10 @@ impl<M: Drop> WayIn<M> {
         ensures { MatchOption result (IsBlocked self.now)
             (λ x. (clock : ℕ) × (rest : List (Stamped M)) × (self.now.kept ≡ record { clock = clock; message = x.now } ∷ rest)) }
     {
-        if let Some(message) = front(&self.kept) {
+        if let Some(message) = self.kept.first() {
             return Some(message);
         }
-        match front(&self.batch) {
+        match self.batch.first() {
             Some(next) if next.clock < u64::MAX => Some(&next.message),
             _ => None,
         }
@@ -76,7 +74,7 @@ impl<M: Drop> WayIn<M> {
         ensures none { IfNone result (IsBlocked self.old) }
         ensures same { (self.new.link ≡ self.old.link) × (self.new.done ≡ self.old.done) }
     {
-        match self.kept.pop_front() {
+        match self.kept.pop() {
             Some(message) => Some(Stamped { clock: 0, message }),
             None => next_of(&mut self.batch),
         }
@@ -112,54 +110,40 @@ impl<M: Drop> WayIn<M> {
         let Some(batch) = self.end.take(rt) else {
             return None;
         };
-        let used = mem::replace(&mut self.batch, VecDeque::from_vec(batch.into_vec()));
+        let used = mem::replace(&mut self.batch, Link::from_vec(batch.into_vec()));
         rooms.keep(used.into_vec());
         next_of(&mut self.batch)
     }
 
-    /// The take end, and the messages that are kept.
-    pub fn parts(self) -> Result<(TakeEnd<Batch<M>>, VecDeque<M>), NoMemory>
-        ensures end { IfOk result (λ p. (p.0.link ≡ self.link) × (unpacked p.0.done ≡ self.done)) }
-        ensures kept { IfOk result (λ p. p.1.items ≡ messages self.kept) }
+    /// The take end, what is kept from the start of the round, and what is left of a batch.
+    pub fn parts(self) -> (TakeEnd<Batch<M>>, Link<M>, Vec<Stamped<M>>)
+        ensures end { (result.0.link ≡ self.link) × (unpacked result.0.done ≡ self.done) }
+        ensures kept { self.kept ≡ with_stamp_0 result.1 ++ result.2.items }
     {
-        let WayIn {
-            end,
-            mut kept,
-            batch,
-        } = self;
-        append(&mut kept, batch.into_vec())?;
-        Ok((end, kept))
+        (self.end, self.kept, self.batch.into_vec())
     }
 }
 
 /// Puts messages without their stamps after others.
-pub fn append<M: Drop>(list: &mut VecDeque<M>, more: Vec<Stamped<M>>) -> Result<(), NoMemory>
-    ensures { OnOk result (list.new.items ≡ list.old.items ++ messages more.items) }
+pub fn append<M: Drop>(list: &mut Link<M>, more: Vec<Stamped<M>>) -> Result<(), NoMemory>
+    ensures { OnOk result (list.new ≡ list.old ++ messages more.items) }
 {
     for next in more {
-        list.push_back(next.message)?;
+        list.push(next.message)?;
     }
     Ok(())
 }
 
 /// The next message of a batch. One with the last clock stays there.
 #[inline(always)]
-fn next_of<M: Drop>(batch: &mut VecDeque<Stamped<M>>) -> Option<Stamped<M>>
-    ensures some { MatchOption result (batch.new.items ≡ batch.old.items) (λ x. (x.clock < last_clock) × (batch.old.items ≡ x ∷ batch.new.items)) }
-    ensures none { IfNone result ((x : Stamped M) (rest : List (Stamped M)) → batch.old.items ≡ x ∷ rest → last_clock ≤ x.clock) }
+fn next_of<M: Drop>(batch: &mut Link<Stamped<M>>) -> Option<Stamped<M>>
+    ensures some { MatchOption result (batch.new ≡ batch.old) (λ x. (x.clock < last_clock) × (batch.old ≡ x ∷ batch.new)) }
+    ensures none { IfNone result ((x : Stamped M) (rest : List (Stamped M)) → batch.old ≡ x ∷ rest → last_clock ≤ x.clock) }
 {
-    match batch.front() {
-        Some(next) if next.clock < u64::MAX => batch.pop_front(),
+    match batch.first() {
+        Some(next) if next.clock < u64::MAX => batch.pop(),
         _ => None,
     }
-}
-
-/// The first of a list, where one is there.
-#[inline(always)]
-fn front<T>(list: &VecDeque<T>) -> Option<&T>
-    ensures { MatchOption result (list.now.items ≡ []) (λ x. list.now.items ≡ x.now ∷ drop 1 list.now.items) }
-{
-    list.front()
 }
 
 /// A batch that isn't sent at the end of a turn has so many messages.

@@ -8,9 +8,8 @@ mod look;
 
 use crate::gate::Gate;
 use crate::notes::Notes;
-use crate::queue::Queue;
 use crate::ways::{Batch, Rooms, WayIn, WayOut};
-use actor_net::{Actor, Outbox, Stamped};
+use actor_net::{Actor, Link, Outbox, Stamped};
 use basics::NoMemory;
 use crossbeam_utils::CachePadded;
 use fifo_link::{SendEnd, TakeEnd};
@@ -79,8 +78,8 @@ impl<A: Actor> Worker<A> {
         alloc: Global,
         number: u8,
         node: A,
-        input: Queue<A::Message>,
-        kept: Vec<Queue<A::Message>>,
+        input: Link<A::Message>,
+        kept: Vec<Link<A::Message>>,
         takes: Vec<TakeEnd<Batch<A::Message>>>,
         sends: Vec<SendEnd<Batch<A::Message>>>,
     ) -> Result<Worker<A>, NoMemory>
@@ -243,9 +242,9 @@ impl<A: Actor> Worker<A> {
 /// What waits at each port: at node 0 the input stands first.
 fn with_input<M: Drop>(
     number: u8,
-    input: Queue<M>,
-    mut kept: VecDeque<Queue<M>>,
-) -> Result<VecDeque<Queue<M>>, NoMemory>
+    input: Link<M>,
+    mut kept: VecDeque<Link<M>>,
+) -> Result<VecDeque<Link<M>>, NoMemory>
     requires { 0 < length kept.items }
     ensures lists { IfOk result (λ lists. lists.items ≡ queues_at number input kept.items) }
     ensures count { IfOk result (λ lists. length lists.items ≡ length kept.items) }
@@ -262,7 +261,7 @@ fn with_input<M: Drop>(
 fn ways_in<M: Drop>(
     alloc: Global,
     mut takes: VecDeque<TakeEnd<Batch<M>>>,
-    mut kept: VecDeque<Queue<M>>,
+    mut kept: VecDeque<Link<M>>,
 ) -> Result<Vec<WayIn<M>>, NoMemory>
     requires { length kept.items ≡ length takes.items }
     ensures { IfOk result (λ ways. ways.items ≡ all_in takes.items kept.items) }

@@ -20,3 +20,8 @@ returns-clause-on g c =
     let at = (c.for_each_chunk_mut.ensures.by_index i d less).1 in
     subst (λ (v : S × S). GoesOn g.A.Actor.is_ready g.A.Actor.stepped v.0 v.1) (λ j. (at.old_element j, at.new_element j))
     (at.call at.offset d at.offset_in_chunk))
+
+pub returns-clause-count : goal.returns-clause-count
+returns-clause-count g c =
+    let same = c.for_each_chunk_mut.auto.s ∙ ap length c.as_mut_slice.ensures.value in
+    ap length (written_back c.args.members.items c.for_each_chunk_mut.new.s c.args.members.len same c.args.members.ok.0) ∙ same

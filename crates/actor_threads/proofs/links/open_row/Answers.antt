@@ -11,13 +11,13 @@ loop-receiver-preserved g c =
     let inv = c.loop-receiver.invariant in
     let inside : k < length c.loop-receiver.takes.items = omega (arith, inv.end, inv.rows, c.loop-receiver-test.true) in
     let read = row_read (λ v. v.items) c.loop-receiver.takes.items k _ c.index_mut.ensures.value inside in
-    let pushed = c.in_ok-push-2.ensures.items ∙ ap (λ l. l ++ c.in_ok-send.take ∷ []) (sym read) in
+    let took = c.in_ok-open_link.ensures in
+    let pushed = took.1.0 ∙ ap (λ l. l ++ took.0 ∷ []) (sym read) in
     record {
       opened = subst (λ l. RowOpened (k + 1) c.push.new.self.items (map (λ v. v.items) c.args.takes.now.items) l)
-          (sym (row_set (λ v. v.items) c.loop-receiver.takes.items k c.push-in-loop-receiver.new.self _ pushed))
-          (rw c.in_ok-push.ensures.items (row_opened_more k _ _ _ c.in_ok-send.send c.in_ok-send.take inv.opened
-          (subst (λ n. k < n) (sym (length-map c.args.takes.now.items _)) (subst (λ n. k < n) inv.rows inside))
-          (record { link = c.in_ok-send.ensures.link; sent = c.in_ok-send.ensures.done.0; taken = c.in_ok-send.ensures.done.1 })));
+          (sym (row_set (λ v. v.items) c.loop-receiver.takes.items k c.open_link.new.takes _ pushed))
+          (rw c.in_ok-push.ensures.items (row_opened_more k _ _ _ c.in_ok-open_link.field-0 took.0 inv.opened
+          (subst (λ n. k < n) (sym (length-map c.args.takes.now.items _)) (subst (λ n. k < n) inv.rows inside)) took.1.1));
       end = inv.end;
       rows = length-set c.loop-receiver.takes.items k _ ∙ inv.rows;
     }

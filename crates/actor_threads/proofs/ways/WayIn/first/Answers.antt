@@ -6,13 +6,13 @@ use Rattle.actor_threads.proofs.ways.WayIn.first.Goals as goal
 pub returns-in-Some : goal.returns-in-Some
 returns-in-Some g c = (
   0,
-  with_stamp_0 (drop 1 c.self.inside.kept.items) ++ c.self.inside.batch.items,
-  rw (← c.self.view_is) (ap (λ l. with_stamp_0 l ++ c.self.inside.batch.items) c.in-Some.ensures),
+  with_stamp_0 (drop 1 c.self.inside.kept) ++ c.self.inside.batch,
+  rw (← c.self.view_is) (ap (λ l. with_stamp_0 l ++ c.self.inside.batch) c.in-Some.ensures),
 )
 
-pub returns-in-Some-front : goal.returns-in-Some-front
-returns-in-Some-front g c = (
-  c.in-Some-front.next.now.clock,
-  drop 1 c.self.inside.batch.items,
-  rw (← c.self.view_is) (λ i. with_stamp_0 (c.in_default.ensures i) ++ c.in-Some-front.ensures i),
+pub returns-in-Some-first : goal.returns-in-Some-first
+returns-in-Some-first g c = (
+  c.in-Some-first.next.now.clock,
+  drop 1 c.self.inside.batch,
+  rw (← c.self.view_is) (λ i. with_stamp_0 (c.in_default.ensures i) ++ c.in-Some-first.ensures i),
 )

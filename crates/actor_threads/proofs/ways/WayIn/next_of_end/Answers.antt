@@ -8,8 +8,8 @@ use Rattle.actor_threads.proofs.ways.WayIn.next_of_end.Goals as goal
 pub returns : goal.returns
 returns g c =
     let none = ap (λ w. w.kept) c.self.view_is ∙ c.requires in
-    let batch = ap (λ v. v.items) c.replace-used.ensures.after ∙ c.from_vec.ensures.items ∙ c.into_vec.ensures in
-    let left = c.next_of.new.batch.items in
+    let batch = c.replace-used.ensures.after ∙ c.from_vec.ensures ∙ c.into_vec.ensures in
+    let left = c.next_of.new.batch in
     rw (← c.self.view_is) (drew_from _ _ c.next_of.result c.in-Some.batch left
     (ap unpacked c.in-Some.ensures.taken ∙ unpacked_more c.self.inside.end.done c.in-Some.batch) none c.in-Some.ensures.same.0
     (ap (λ l. with_stamp_0 l ++ left) (none_from_before _ _ none))

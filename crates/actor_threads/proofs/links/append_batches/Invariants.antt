@@ -2,7 +2,7 @@
 use Rattle.std.proofs.Common.{◌≡◌, ◌++◌}
 use Rattle.actor_net.specs.Histories.{messages}
 use Rattle.actor_threads.specs.Ways.{unpacked}
-use Rattle.actor_threads.proofs.links.append_all.Given as goal
+use Rattle.actor_threads.proofs.links.append_batches.Given as goal
 
 abbrev pub invariant-loop-batch : goal.invariant-loop-batch
-invariant-loop-batch g l = l.list.items ≡ l.fn.list.items ++ messages (unpacked l.yielded)
+invariant-loop-batch g l = l.list ≡ l.fn.list ++ messages (unpacked l.yielded)
