@@ -25,26 +25,32 @@ pub(crate) fn said(alloc: Global, op: u32, words: &str) -> Result<(u8, Msg), Fai
     Ok((node - b'0', message_of(alloc, op, word)?))
 }
 
-/// The message of a word. A piece comes with `piece`, and the last one with `last`; chunks come with `chunks`, and none of them with `nothing`. With
-/// `first` and `second` a packet comes of which no message tells.
+/// The message of a word. A piece comes with `piece`, and the last one with `last`; chunks come with `chunks`, and none of them with `nothing`.
 fn message_of(alloc: Global, op: u32, word: &str) -> Result<Msg, Fail> {
     match word {
         "move" => move_of(alloc, op),
         "share" => share_of(alloc, op),
+        "piece" => piece(alloc, op, false),
+        "last" => piece(alloc, op, true),
+        "no" => refusal(alloc, op),
+        "event" => event(alloc, op),
+        "diverted" => diverted(alloc),
+        "chunks" => one_chunk(alloc, op),
+        "nothing" => Ok(no_chunks(alloc, op)),
+        "shared" => shared(alloc, op),
+        _ => plain_message(op, word),
+    }
+}
+
+/// The message of a word that brings no more than its number. With `first` and `second` a packet comes of which no message tells.
+fn plain_message(op: u32, word: &str) -> Result<Msg, Fail> {
+    match word {
         "enabled" => Ok(Msg::Enabled { op }),
-        "piece" => Ok(piece(alloc, op, false)?),
-        "last" => Ok(piece(alloc, op, true)?),
         "deleted" => Ok(Msg::Deleted { op }),
         "ok" => Ok(Msg::PutOk { op }),
-        "no" => Ok(refusal(alloc, op)?),
         "restored" => Ok(Msg::Restored { op }),
-        "event" => event(alloc, op),
-        "diverted" => Ok(Msg::Diverted(parcel(alloc, fifth())?)),
         "fenced" => Ok(Msg::Fenced { op }),
-        "chunks" => Ok(one_chunk(alloc, op)?),
-        "nothing" => Ok(no_chunks(alloc, op)),
         "kept" => Ok(Msg::Kept { op }),
-        "shared" => Ok(shared(alloc, op)?),
         "synced" => Ok(Msg::Synced { op }),
         "end" => Ok(Msg::End),
         "final" | "first" | "second" => Ok(Msg::Final),
@@ -84,8 +90,13 @@ fn event(alloc: Global, op: u32) -> Result<Msg, Fail> {
     Ok(Msg::Event { op, parcel })
 }
 
+/// A packet whose target is the controller.
+fn diverted(alloc: Global) -> Result<Msg, Fail> {
+    Ok(Msg::Diverted(parcel(alloc, fifth())?))
+}
+
 /// The refusal of a piece.
-fn refusal(alloc: Global, op: u32) -> Result<Msg, NoMemory> {
+fn refusal(alloc: Global, op: u32) -> Result<Msg, Fail> {
     let refused = Refused {
         why: Answer::Import {
             held: 2,
@@ -108,7 +119,7 @@ fn chunk(alloc: Global) -> Chunk {
 }
 
 /// The chunks of a copy or a share: one without bytes.
-fn one_chunk(alloc: Global, op: u32) -> Result<Msg, NoMemory> {
+fn one_chunk(alloc: Global, op: u32) -> Result<Msg, Fail> {
     let mut chunks = Chunks::open(alloc);
     chunks.push(chunk(alloc))?;
     Ok(Msg::Chunks { op, chunks })
@@ -121,13 +132,13 @@ fn no_chunks(alloc: Global, op: u32) -> Msg {
 }
 
 /// The chunk of a packet of a share.
-fn shared(alloc: Global, op: u32) -> Result<Msg, NoMemory> {
+fn shared(alloc: Global, op: u32) -> Result<Msg, Fail> {
     let chunk = Boxed::new(alloc, chunk(alloc))?;
     Ok(Msg::Shared { op, chunk })
 }
 
 /// A piece without chunks, which may be the last.
-fn piece(alloc: Global, op: u32, last: bool) -> Result<Msg, NoMemory> {
+fn piece(alloc: Global, op: u32, last: bool) -> Result<Msg, Fail> {
     let piece = Piece {
         chunks: Chunks::open(alloc),
         total: 0,
@@ -145,12 +156,26 @@ pub(crate) fn write_done(
     out: Outbox<Msg, Note>,
     answer: Option<Answer>,
 ) -> Result<(), NoMemory> {
-    let (messages, _notes) = out.parts();
-    write_messages(text, alloc, messages.as_slice())?;
-    if let Some(answer) = answer {
-        write_answer(text, alloc, &answer)?;
+    let (messages, notes) = out.parts();
+    let written = write_sent(text, alloc, messages.as_slice(), answer.as_ref());
+    drop(messages);
+    drop(notes);
+    drop(answer);
+    written
+}
+
+/// Writes messages, and then an answer, if there is one.
+fn write_sent(
+    text: &mut Text,
+    alloc: Global,
+    messages: &[(u8, Msg)],
+    answer: Option<&Answer>,
+) -> Result<(), NoMemory> {
+    write_messages(text, alloc, messages)?;
+    match answer {
+        Some(answer) => write_answer(text, alloc, answer),
+        None => Ok(()),
     }
-    Ok(())
 }
 
 /// Writes an answer, in a line.
@@ -159,8 +184,7 @@ pub(crate) fn write_answer(
     alloc: Global,
     answer: &Answer,
 ) -> Result<(), NoMemory> {
-    text.push_bytes(print_answer(alloc, answer)?.items())?;
-    text.push_bytes(b"\n")
+    write_line(text, print_answer(alloc, answer)?, b"")
 }
 
 /// Writes messages after their receivers, each in a line.
@@ -169,14 +193,19 @@ pub(crate) fn write_messages(
     alloc: Global,
     messages: &[(u8, Msg)],
 ) -> Result<(), NoMemory> {
-    for sent in messages {
-        text.push_decimal(u64::from(sent.0))?;
+    for (receiver, message) in messages {
+        text.push_decimal(u64::from(*receiver))?;
         text.push_bytes(b" ")?;
-        text.push_bytes(show(alloc, &sent.1)?.items())?;
-        text.push_bytes(said_of_home(&sent.1))?;
-        text.push_bytes(b"\n")?;
+        write_line(text, show(alloc, message)?, said_of_home(message))?;
     }
     Ok(())
+}
+
+/// Writes a line of these words, and of more after them.
+fn write_line(text: &mut Text, words: Text, more: &[u8]) -> Result<(), NoMemory> {
+    text.push_bytes(words.items())?;
+    text.push_bytes(more)?;
+    text.push_bytes(b"\n")
 }
 
 /// What a message says of the home.

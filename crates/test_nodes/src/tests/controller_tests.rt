@@ -5,6 +5,7 @@ use basics::{NoMemory, Text};
 use ctrl_node::Ctrl;
 use nf_msgs::{Msg, Note};
 use std::alloc::Global;
+use std::process::Abort;
 use std::test::Fail;
 use test_packets::{SITE, names};
 
@@ -35,12 +36,20 @@ fn write_told(
 
 /// What a controller of a and b sends and answers at these messages, and whether it has then ended.
 fn told(alloc: Global, messages: &str) -> Result<(Text, bool), Fail> {
-    let mut text = Text::open(alloc);
     let mut controller = Ctrl::open(alloc, names(alloc)?, SITE)?;
+    let text = all_told(alloc, &mut controller, messages);
+    let ended = controller.ended();
+    drop(controller);
+    Ok((text?, ended))
+}
+
+/// What the controller sends and answers at these messages.
+fn all_told(alloc: Global, controller: &mut Ctrl, messages: &str) -> Result<Text, Fail> {
+    let mut text = Text::open(alloc);
     for words in messages.split(',') {
-        write_told(&mut text, alloc, &mut controller, words)?;
+        write_told(&mut text, alloc, controller, words)?;
     }
-    Ok((text, controller.ended()))
+    Ok(text)
 }
 
 #[test]
@@ -62,9 +71,21 @@ fn each_command_is_answered_before_all_is_told_to_finish(rt: HostRuntime) -> Res
         ),
     ];
     for (messages, wanted, ended) in rows {
-        let (text, has_ended) = told(rt.alloc(), messages)?;
-        assert_eq!(rt; text.items(), wanted.as_bytes());
-        assert_eq!(rt; has_ended, ended);
+        assert_told(&rt, rt.alloc(), messages, wanted, ended)?;
     }
+    Ok(())
+}
+
+/// Asserts what a controller sends and answers at these messages, and whether it has then ended.
+fn assert_told(
+    rt: &impl Abort,
+    alloc: Global,
+    messages: &str,
+    wanted: &str,
+    ended: bool,
+) -> Result<(), Fail> {
+    let (text, has_ended) = told(alloc, messages)?;
+    assert_eq!(rt; text.items(), wanted.as_bytes());
+    assert_eq!(rt; has_ended, ended);
     Ok(())
 }

@@ -5,23 +5,56 @@ use basics::Text;
 use event_store::EventStore;
 use flow_filter::Filter;
 use move_op::MoveOp;
+use nf_msgs::{Msg, Note};
+use packet_pool::Cell;
 use std::alloc::Global;
+use std::process::Abort;
 use std::test::Fail;
 
 /// What a move with number 7 from instance 0 to instance 1 sends at these messages, and its answer.
 fn told(alloc: Global, keep: bool, messages: &str) -> Result<Text, Fail> {
     let mut text = Text::open(alloc);
-    let mut store = EventStore::open(alloc);
+    write_told(&mut text, alloc, keep, messages)?;
+    Ok(text)
+}
+
+/// Writes the same.
+fn write_told(text: &mut Text, alloc: Global, keep: bool, messages: &str) -> Result<(), Fail> {
     let mut out = Outbox::open(alloc);
     let mut operation = MoveOp::begin(alloc, 7, 0, 1, &Filter::ANY, keep, &mut out)?;
-    write_done(&mut text, alloc, out, None)?;
+    let written = write_begun(text, alloc, out, &mut operation, messages);
+    drop(operation);
+    written
+}
+
+/// Writes what a move has sent that has begun, and what it sends at these messages.
+fn write_begun(
+    text: &mut Text,
+    alloc: Global,
+    out: Outbox<Msg, Note>,
+    operation: &mut MoveOp,
+    messages: &str,
+) -> Result<(), Fail> {
+    write_done(text, alloc, out, None)?;
+    let mut store = EventStore::open(alloc);
     for words in messages.split(',') {
-        let (node, message) = said(alloc, 7, words)?;
-        let mut out = Outbox::open(alloc);
-        let answer = operation.on(node, message, &mut store, &mut out)?;
-        write_done(&mut text, alloc, out, answer)?;
+        write_next(text, alloc, operation, &mut store, words)?;
     }
-    Ok(text)
+    Ok(())
+}
+
+/// Writes what the move does with a message.
+fn write_next(
+    text: &mut Text,
+    alloc: Global,
+    operation: &mut MoveOp,
+    store: &mut EventStore<Cell>,
+    words: &str,
+) -> Result<(), Fail> {
+    let (node, message) = said(alloc, 7, words)?;
+    let mut out = Outbox::open(alloc);
+    let answer = operation.on(node, message, store, &mut out)?;
+    Ok(write_done(text, alloc, out, answer)?)
 }
 
 #[test]
@@ -43,8 +76,20 @@ fn a_move_sends_what_its_table_says(rt: HostRuntime) -> Result<(), Fail> {
         ),
     ];
     for (keep, messages, wanted) in rows {
-        let text = told(rt.alloc(), keep, messages)?;
-        assert_eq!(rt; text.items(), wanted.as_bytes());
+        assert_told(&rt, rt.alloc(), keep, messages, wanted)?;
     }
+    Ok(())
+}
+
+/// Asserts what a move sends at these messages, and its answer.
+fn assert_told(
+    rt: &impl Abort,
+    alloc: Global,
+    keep: bool,
+    messages: &str,
+    wanted: &str,
+) -> Result<(), Fail> {
+    let text = told(alloc, keep, messages)?;
+    assert_eq!(rt; text.items(), wanted.as_bytes());
     Ok(())
 }
