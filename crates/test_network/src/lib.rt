@@ -5,6 +5,6 @@
 #![tactic(auto)]
 
 #[cfg(test)]
-mod common;
-#[cfg(test)]
 mod run_tests;
+#[cfg(test)]
+mod told;

@@ -1,18 +1,31 @@
 //! Tests of runs of the network with a command, by what they note.
-ghost use Rattle.std.specs.Prelude.{All, IfOk};
+ghost use Rattle.std.specs.Prelude.{◌≡◌, true, All, IfOk};
+ghost use Rattle.nf_function.specs.Units.{is_transport};
 ghost use Rattle.nf_function.specs.declared.kind.Kind.TheVariants.{Conntrack as OfFlows};
 ghost use Rattle.net_world.specs.Input.{IsInput, IsWhole};
 ghost use Rattle.net_world.specs.Start.{IsConfig};
 
-use crate::common::{Asked, came, command, config, told};
-use actor_net::Schedule;
+use crate::told::told;
+use actor_net::{Choices, Schedule, World};
 use basics::Text;
 use conn_tracker::Conntrack;
-use net_world::{Config, start};
+use flow_filter::{Filter, Packet};
+use net_world::{Config, Node, start};
 use nf_msgs::Msg;
 use nf_net::{run_choices, simulate};
 use std::alloc::Global;
 use std::test::Fail;
+use test_packets::packet;
+use test_scenes::{Asked, came, command, config};
+
+/// How many packets may be under way.
+const WINDOW: u32 = 2;
+
+/// The flows of the local port 5001.
+const ODD: Filter = Filter {
+    lport: Some(5001),
+    ..Filter::ANY
+};
 
 /// Which run there is: the command, the schedule, what b takes, and when the packets come.
 #[derive(Clone, Copy)]
@@ -43,13 +56,13 @@ fn items(alloc: Global, config: &Config, case: Case) -> Result<Vec<Msg>, Fail>
     ensures { IfOk result (λ items. IsInput OfFlows config.now items.items) }
 {
     let mut items = Vec::new(alloc);
-    items.push(came(alloc, config.site, 1, case.nanos)?)?;
-    items.push(command(alloc, 1, case.asked)?)?;
-    items.push(came(alloc, config.site, 2, case.nanos)?)?;
-    items.push(came(alloc, config.site, 3, case.nanos)?)?;
-    items.push(came(alloc, config.site, 5, case.nanos)?)?;
+    items.push(came(alloc, config.site, timed(1, case.nanos))?)?;
+    items.push(command(alloc, 1, case.asked, b'b', ODD)?)?;
+    items.push(came(alloc, config.site, timed(2, case.nanos))?)?;
+    items.push(came(alloc, config.site, timed(3, case.nanos))?)?;
+    items.push(came(alloc, config.site, timed(5, case.nanos))?)?;
     if let Asked::Share = case.asked {
-        items.push(command(alloc, 2, Asked::Move)?)?;
+        items.push(command(alloc, 2, Asked::Move, b'b', ODD)?)?;
         items.push(Msg::InEnd)?;
         return Ok(items);
     }
@@ -57,108 +70,119 @@ fn items(alloc: Global, config: &Config, case: Case) -> Result<Vec<Msg>, Fail>
     Ok(items)
 }
 
+/// The packet with this number and time, from the local port 5000 for an even number and from 5001 for an odd one.
+fn timed(number: u32, nanos: u64) -> Packet
+    ensures number { result.number ≡ number }
+    ensures transport { is_transport result.proto ≡ true }
+{
+    Packet {
+        nanos,
+        ..packet(number, 1, 5000 + (number % 2) as u16)
+    }
+}
+
+/// A run, and its choices.
+fn ran(alloc: Global, case: Case) -> Result<(World<Node<Conntrack>>, Choices), Fail> {
+    let config = config(alloc, WINDOW, case.limit, case.marked)?;
+    let items = items(alloc, &config, case)?;
+    Ok(simulate::<Conntrack>(alloc, &config, items, case.schedule)?)
+}
+
+/// The start of that run.
+fn opening(alloc: Global, case: Case) -> Result<World<Node<Conntrack>>, Fail> {
+    let config = config(alloc, WINDOW, case.limit, case.marked)?;
+    let items = items(alloc, &config, case)?;
+    Ok(start::<Conntrack>(alloc, &config, items)?)
+}
+
 /// What a run notes and leaves.
 fn run_told(alloc: Global, case: Case) -> Result<Text, Fail> {
-    let config = config(alloc, case.limit, case.marked)?;
-    let items = items(alloc, &config, case)?;
-    let (world, _choices) = simulate::<Conntrack>(alloc, &config, items, case.schedule)?;
+    let (world, _choices) = ran(alloc, case)?;
     Ok(told(alloc, &world)?)
 }
 
-#[test]
-fn a_move_keeps_the_order_of_its_flow(rt: HostRuntime) -> Result<(), Fail> {
-    let rows = [
-        (
-            Schedule::First,
-            "came 1\ncame 2\nbegun 1\ndid 1 at 0 single\ncame 3\ndid 2 at 0 single\ncame 5\ndid 3 at 0 single\ndid 5 at 0 single\ngave at 0 units 1\ntook at 1 units 1\ninstalled 1\nanswered 1 done\nlive single out packets 1 bytes 20\n--\nlive single out packets 3 bytes 60\n--\n",
-        ),
-        (
-            Schedule::Last,
-            "came 1\ndid 1 at 0 single\nbegun 1\ngave at 0 units 1\ntook at 1 units 1\ninstalled 1\nanswered 1 done\ncame 2\ndid 2 at 0 single\ncame 3\ndid 3 at 1 single\ncame 5\ndid 5 at 1 single\nlive single out packets 1 bytes 20\n--\nlive single out packets 3 bytes 60\n--\n",
-        ),
-        (
-            Schedule::Number(29),
-            "came 1\nbegun 1\ngave at 0 units 0\ncame 2\ndid 2 at 0 single\ntook at 1 units 0\ncame 3\ndid 1 at 1 single\ninstalled 1\ndid 3 at 1 single\ncame 5\ndid 5 at 1 single\nanswered 1 done\nlive single out packets 1 bytes 20\n--\nlive single out packets 3 bytes 60\n--\n",
-        ),
-    ];
-    for (schedule, expected) in rows {
-        let text = run_told(rt.alloc(), Case { schedule, ..CASE })?;
-        assert_eq!(rt; text.items(), expected.as_bytes());
-    }
-    Ok(())
+/// The same of the run that takes its choices from the start.
+fn replay_told(alloc: Global, case: Case) -> Result<Text, Fail> {
+    let (world, choices) = ran(alloc, case)?;
+    drop(world);
+    let again = run_choices(opening(alloc, case)?, &choices)?;
+    Ok(told(alloc, &again)?)
 }
 
-#[test]
-fn what_the_destination_refuses_goes_back(rt: HostRuntime) -> Result<(), Fail> {
-    let full = Case { limit: 0, ..CASE };
-    let old = Case {
-        schedule: Schedule::Last,
-        marked: true,
-        nanos: 7,
-        ..CASE
-    };
-    let rows = [
-        (
-            full,
-            "came 1\ncame 2\nbegun 1\ndid 1 at 0 single\ncame 3\ndid 2 at 0 single\ncame 5\ndid 3 at 0 single\ndid 5 at 0 single\ngave at 0 units 1\ntook at 0 units 1\nanswered 1 import 0 1 0\nlive single out packets 1 bytes 20\nlive single out packets 3 bytes 60\n--\n--\n",
-        ),
-        (
-            old,
-            "came 1\ndid 1 at 0 single\nbegun 1\ngave at 0 units 1\ntook at 0 units 1\nanswered 1 old 2 1\ncame 2\ndid 2 at 0 single\ncame 3\ndid 3 at 0 single\ncame 5\ndid 5 at 0 single\nlive single out packets 1 bytes 20 seen 7\nlive single out packets 3 bytes 60 seen 7\n--\n--\n",
-        ),
-    ];
-    for (case, expected) in rows {
-        assert_eq!(rt; run_told(rt.alloc(), case)?.items(), expected.as_bytes());
-    }
-    Ok(())
-}
-
-#[test]
-fn a_copy_takes_the_records_of_its_moment_while_packets_flow(rt: HostRuntime) -> Result<(), Fail> {
-    let rows = [
-        (
-            Schedule::First,
-            "came 1\ncame 2\nbegun 1\ndid 1 at 0 single\ncame 3\ndid 2 at 0 single\ncame 5\ndid 3 at 0 single\ndid 5 at 0 single\ngave at 0 units 1\nkept at 1 units 1\nanswered 1 done\nlive single out packets 1 bytes 20\nlive single out packets 3 bytes 60\n--\nstandby single out packets 3 bytes 60\n--\n",
-        ),
-        (
-            Schedule::Last,
-            "came 1\ndid 1 at 0 single\nbegun 1\ngave at 0 units 1\nkept at 1 units 1\nanswered 1 done\ncame 2\ndid 2 at 0 single\ncame 3\ndid 3 at 0 single\ncame 5\ndid 5 at 0 single\nlive single out packets 1 bytes 20\nlive single out packets 3 bytes 60\n--\nstandby single out packets 1 bytes 20\n--\n",
-        ),
-    ];
-    for (schedule, expected) in rows {
-        let case = Case {
-            asked: Asked::Copy,
-            schedule,
+/// Runs, each with what it notes and leaves.
+static RUNS: [(Case, &str); 8] = [
+    // A move keeps the order of its flow.
+    (
+        CASE,
+        "came 1\ncame 2\nbegun 1\ndid 1 at 0 single\ncame 3\ndid 2 at 0 single\ncame 5\ndid 3 at 0 single\ndid 5 at 0 single\ngave at 0 units 1\ntook at 1 units 1\ninstalled 1\nanswered 1 done\nlive single out packets 1 bytes 20\n--\nlive single out packets 3 bytes 60\n--\n",
+    ),
+    (
+        Case {
+            schedule: Schedule::Last,
             ..CASE
-        };
-        assert_eq!(rt; run_told(rt.alloc(), case)?.items(), expected.as_bytes());
-    }
-    Ok(())
-}
+        },
+        "came 1\ndid 1 at 0 single\nbegun 1\ngave at 0 units 1\ntook at 1 units 1\ninstalled 1\nanswered 1 done\ncame 2\ndid 2 at 0 single\ncame 3\ndid 3 at 1 single\ncame 5\ndid 5 at 1 single\nlive single out packets 1 bytes 20\n--\nlive single out packets 3 bytes 60\n--\n",
+    ),
+    (
+        Case {
+            schedule: Schedule::Number(29),
+            ..CASE
+        },
+        "came 1\nbegun 1\ngave at 0 units 0\ncame 2\ndid 2 at 0 single\ntook at 1 units 0\ncame 3\ndid 1 at 1 single\ninstalled 1\ndid 3 at 1 single\ncame 5\ndid 5 at 1 single\nanswered 1 done\nlive single out packets 1 bytes 20\n--\nlive single out packets 3 bytes 60\n--\n",
+    ),
+    // What the destination refuses goes back: where it is full, and where it takes no chunks of version 2.
+    (
+        Case { limit: 0, ..CASE },
+        "came 1\ncame 2\nbegun 1\ndid 1 at 0 single\ncame 3\ndid 2 at 0 single\ncame 5\ndid 3 at 0 single\ndid 5 at 0 single\ngave at 0 units 1\ntook at 0 units 1\nanswered 1 import 0 1 0\nlive single out packets 1 bytes 20\nlive single out packets 3 bytes 60\n--\n--\n",
+    ),
+    (
+        Case {
+            schedule: Schedule::Last,
+            marked: true,
+            nanos: 7,
+            ..CASE
+        },
+        "came 1\ndid 1 at 0 single\nbegun 1\ngave at 0 units 1\ntook at 0 units 1\nanswered 1 old 2 1\ncame 2\ndid 2 at 0 single\ncame 3\ndid 3 at 0 single\ncame 5\ndid 5 at 0 single\nlive single out packets 1 bytes 20 seen 7\nlive single out packets 3 bytes 60 seen 7\n--\n--\n",
+    ),
+    // A copy takes the records of its moment while packets flow.
+    (
+        Case {
+            asked: Asked::Copy,
+            ..CASE
+        },
+        "came 1\ncame 2\nbegun 1\ndid 1 at 0 single\ncame 3\ndid 2 at 0 single\ncame 5\ndid 3 at 0 single\ndid 5 at 0 single\ngave at 0 units 1\nkept at 1 units 1\nanswered 1 done\nlive single out packets 1 bytes 20\nlive single out packets 3 bytes 60\n--\nstandby single out packets 3 bytes 60\n--\n",
+    ),
+    (
+        Case {
+            asked: Asked::Copy,
+            schedule: Schedule::Last,
+            ..CASE
+        },
+        "came 1\ndid 1 at 0 single\nbegun 1\ngave at 0 units 1\nkept at 1 units 1\nanswered 1 done\ncame 2\ndid 2 at 0 single\ncame 3\ndid 3 at 0 single\ncame 5\ndid 5 at 0 single\nlive single out packets 1 bytes 20\nlive single out packets 3 bytes 60\n--\nstandby single out packets 1 bytes 20\n--\n",
+    ),
+    // A share hands each record on before its next packet.
+    (
+        Case {
+            asked: Asked::Share,
+            schedule: Schedule::Last,
+            ..CASE
+        },
+        "came 1\ndid 1 at 0 single\nbegun 1\ninstalled 1\ngave at 0 units 1\nkept at 1 units 1\nanswered 1 done\ncame 2\ndid 2 at 0 single\ncame 3\ndid 3 at 1 single\nkept at 0 units 1\ncame 5\ndid 5 at 1 single\nkept at 0 units 1\nanswered 2 overlap 1\nlive single out packets 1 bytes 20\nlive single out packets 3 bytes 60\n--\nstandby single out packets 3 bytes 60\n--\n",
+    ),
+];
 
 #[test]
-fn a_share_hands_each_record_on_before_its_next_packet(rt: HostRuntime) -> Result<(), Fail> {
-    let case = Case {
-        asked: Asked::Share,
-        schedule: Schedule::Last,
-        ..CASE
-    };
-    let expected =
-        "came 1\ndid 1 at 0 single\nbegun 1\ninstalled 1\ngave at 0 units 1\nkept at 1 units 1\nanswered 1 done\ncame 2\ndid 2 at 0 single\ncame 3\ndid 3 at 1 single\nkept at 0 units 1\ncame 5\ndid 5 at 1 single\nkept at 0 units 1\nanswered 2 overlap 1\nlive single out packets 1 bytes 20\nlive single out packets 3 bytes 60\n--\nstandby single out packets 3 bytes 60\n--\n";
-    assert_eq!(rt; run_told(rt.alloc(), case)?.items(), expected.as_bytes());
+fn each_run_notes_and_leaves_what_its_command_asks(rt: HostRuntime) -> Result<(), Fail> {
+    for (case, expected) in RUNS {
+        assert_eq!(rt; run_told(rt.alloc(), case)?.items(), expected.as_bytes());
+    }
     Ok(())
 }
 
 #[test]
 fn the_choices_of_a_run_replay_to_its_log(rt: HostRuntime) -> Result<(), Fail> {
-    let alloc = rt.alloc();
-    let config = config(alloc, 9, false)?;
-    for schedule in [Schedule::First, Schedule::Number(29)] {
-        let given = items(alloc, &config, CASE)?;
-        let (world, choices) = simulate::<Conntrack>(alloc, &config, given, schedule)?;
-        let opening = start::<Conntrack>(alloc, &config, items(alloc, &config, CASE)?)?;
-        let again = run_choices(opening, &choices)?;
-        assert_eq!(rt; told(alloc, &again)?.items(), told(alloc, &world)?.items());
+    for (case, expected) in RUNS {
+        assert_eq!(rt; replay_told(rt.alloc(), case)?.items(), expected.as_bytes());
     }
     Ok(())
 }

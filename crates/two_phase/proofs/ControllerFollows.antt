@@ -3,7 +3,6 @@ use Rattle.std.proofs.Common.{◌≡◌, ℕ, zero, suc, Bool, true, false, Opti
 use Rattle.std.specs.Prelude.{if◌then◌else◌, ◌==◌, ◌&&◌, ◌||◌, not}
 use Rattle.std.proofs.lemmas.Bool.{false≢true}
 use Rattle.std.proofs.lemmas.Bool.Decides.{nat_tests}
-use Rattle.event_filter.specs.declared.action.Action.TheVariants as action
 use Rattle.packet_pool.specs.Pool.{FullCell}
 use Rattle.nf_msgs.specs.declared.msg.Msg.TheVariants as msg
 use Rattle.two_phase.specs.declared.msg.TwoMsg.{TwoMsg}
@@ -11,9 +10,9 @@ use Rattle.two_phase.specs.declared.msg.TwoMsg.TheVariants as two
 use Rattle.two_phase.specs.declared.note.TwoNote.TheVariants as note
 use Rattle.two_phase.specs.Parts.{ControllerState}
 use Rattle.two_phase.specs.Tables.{Step, still, tell_step, and_then, the_update, forward_messages, on_start, on_enabled}
-use Rattle.two_phase.specs.Tables.{on_chunks, on_deleted, on_restored, is_storing, on_event, on_laid, on_copied, on_fenced}
+use Rattle.two_phase.specs.Tables.{on_chunks, on_deleted, on_restored, is_storing, on_laid, on_copied, on_fenced}
 use Rattle.two_phase.specs.Tables.{on_final, controller_row, are_same, soon, is_over, finish_step, controller_step}
-use Rattle.two_machine.proofs.Machine.{Drops, Buffers, Phase, Idle, Freezing, Getting, Deleting, Putting}
+use Rattle.two_machine.proofs.Machine.{Phase, Idle, Freezing, Getting, Deleting, Putting}
 use Rattle.two_machine.proofs.Machine.{Holding, Laying, Waiting, Turning, Settling, Ending, Over, same}
 use Rattle.two_machine.proofs.Tables as core
 use Rattle.two_machine.proofs.View.{read, read-append}

@@ -6,12 +6,8 @@ use Rattle.packet_pool.specs.Pool.{FullCell}
 use Rattle.nf_msgs.specs.declared.msg.Msg.{Msg}
 use Rattle.nf_msgs.specs.declared.msg.Msg.TheVariants as msg
 use Rattle.two_phase.specs.declared.msg.TwoMsg.TheVariants.{Inner}
-use Rattle.two_phase.specs.Parts.{SwitchState, ControllerState}
-use Rattle.two_phase.specs.Tables.{still, switch_step, controller_row}
-
-pub not_credit : (s : SwitchState) (message : Msg) → ((cell : FullCell) → message ≡ msg.Credit cell → ⊥) → switch_step s (Inner message) ≡ still s
-not_credit s (msg.Credit cell) a = absurd (a cell refl)
-not_credit s message a = refl
+use Rattle.two_phase.specs.Parts.{ControllerState}
+use Rattle.two_phase.specs.Tables.{still, controller_row}
 
 pub not_named : (c : ControllerState) (port : ℕ) (message : Msg)
     → ((op : ℕ) → message ≡ msg.Enabled op → ⊥) → ((op : ℕ) (chunks : List Chunk) → message ≡ msg.Chunks op chunks → ⊥)

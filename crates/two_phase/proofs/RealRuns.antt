@@ -24,7 +24,7 @@ use Rattle.two_machine.proofs.Tables as core
 use Rattle.two_machine.proofs.Tables.{Fenced, Final}
 use Rattle.two_machine.proofs.View.{World, net, Nobody}
 use Rattle.two_machine.proofs.Labels.{Labels, Label}
-use Rattle.two_machine.proofs.Places.{Place, In, Cs, Aw, Bw, Sc, Ac, Bc, Sa, Ca, Sb, Cb, choice, waits, waiting_at}
+use Rattle.two_machine.proofs.Places.{Place, Ac, Bc, choice, waiting_at}
 use Rattle.two_machine.proofs.TakenMessages.{finds, labels_less, written}
 use Rattle.two_machine.proofs.Runs.{Reached, step_reaches}
 use Rattle.two_machine.proofs.Starts.{first_world, opens, first_holds}

@@ -131,7 +131,10 @@ impl TwoCtrl {
                 Ok(())
             }
             TwoMsg::Inner(message) => self.take_inner(port, message, out),
-            _ => Ok(()),
+            _ => {
+                drop(message);
+                Ok(())
+            }
         }
     }
 
@@ -158,7 +161,10 @@ impl TwoCtrl {
             }
             Msg::Fenced { .. } => self.fenced(port, out),
             Msg::Final => self.take_final(port, out),
-            _ => Ok(()),
+            _ => {
+                drop(message);
+                Ok(())
+            }
         }
     }
 

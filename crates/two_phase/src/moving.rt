@@ -64,10 +64,7 @@ impl TwoCtrl {
         ensures notes { OnOk result (out.new.1 ≡ out.old.1) }
     {
         self.phase = Phase::Laying;
-        forward_all(
-            mem::replace(&mut self.store, VecDeque::new(self.alloc)),
-            out,
-        )?;
+        forward_all(&mut self.store, out)?;
         out.send(SWITCH, TwoMsg::Lay { high: false })
     }
 
@@ -179,8 +176,12 @@ pub(crate) fn send_to(
 }
 
 /// Sends packets on to the destination, in order.
-fn forward_all(mut cells: VecDeque<Cell>, out: &mut Outbox<TwoMsg, TwoNote>) -> Result<(), NoMemory>
-    ensures { OnOk result (out.new ≡ (out.old.0 ++ forward_messages cells.items, out.old.1)) }
+fn forward_all(
+    cells: &mut VecDeque<Cell>,
+    out: &mut Outbox<TwoMsg, TwoNote>,
+) -> Result<(), NoMemory>
+    ensures sent { OnOk result (out.new ≡ (out.old.0 ++ forward_messages cells.old.items, out.old.1)) }
+    ensures none { OnOk result (cells.new.items ≡ []) }
 {
     while let Some(cell) = cells.pop_front() {
         out.send(SWITCH, TwoMsg::Forward(cell))?;

@@ -1,5 +1,5 @@
 //! The four nodes of a two-phase update as one type, and what its instances tell besides.
-ghost use Rattle.std.specs.Prelude.{◌≡◌, ◌++◌, map, IfOk, OnOk};
+ghost use Rattle.std.specs.Prelude.{◌≡◌, ◌++◌, map, OnOk};
 ghost use Rattle.instance_worker.specs.Instance.{instance_step};
 ghost use Rattle.two_phase.specs.declared.note.TwoNote.TheVariants.{Inner as AnInner};
 ghost use Rattle.two_phase.specs.Tables.{inner_step, passed, sent_inside, told_of};
@@ -81,37 +81,43 @@ fn step_instance<F: Function>(
     ensures notes { OnOk result (out.new.1 ≡ out.old.1 ++ (inner_step F.semantics instance.old message).notes) }
 {
     let TwoMsg::Inner(message) = message else {
+        drop(message);
         return Ok(());
     };
-    let passed = passed(instance.alloc(), &message)?;
+    let passed = passed(&message);
     let mut inner = Outbox::open(instance.alloc());
     instance.step(port, message, &mut inner)?;
     let (sent, notes) = inner.parts();
     send_all(VecDeque::from_vec(sent), out)?;
     note_all(VecDeque::from_vec(notes), out)?;
-    tell(passed, out)
+    tell(instance.alloc(), passed, out)
 }
 
 /// A copy of the packet that a message takes past the rules.
-fn passed(alloc: Global, message: &Msg) -> Result<Option<Boxed<Packet>>, NoMemory>
-    ensures { IfOk result (λ packet. packet ≡ passed message.now) }
+fn passed(message: &Msg) -> Option<Packet>
+    ensures { result ≡ passed message.now }
 {
     match message {
         Msg::Carry {
             mark: Mark::Pass(_),
             parcel,
-        } => Ok(Some(Boxed::new(alloc, *parcel.packet())?)),
-        _ => Ok(None),
+        } => Some(*parcel.packet()),
+        _ => None,
     }
 }
 
 /// Tells the controller which packet was taken past the rules.
-fn tell(passed: Option<Boxed<Packet>>, out: &mut Outbox<TwoMsg, TwoNote>) -> Result<(), NoMemory>
+fn tell(
+    alloc: Global,
+    passed: Option<Packet>,
+    out: &mut Outbox<TwoMsg, TwoNote>,
+) -> Result<(), NoMemory>
     ensures { OnOk result (out.new ≡ (out.old.0 ++ told_of passed, out.old.1)) }
 {
     let Some(packet) = passed else {
         return Ok(());
     };
+    let packet = Boxed::new(alloc, packet)?;
     let op = THE_UPDATE;
     out.send(CONTROLLER, TwoMsg::Inner(Msg::Seen { op, packet }))
 }

@@ -1,5 +1,5 @@
 /// How far the controller is with the update.
-#[derive(Debug, Drop)]
+#[derive(Clone, Copy, Debug)]
 pub enum Phase {
     /// The update isn't asked for yet.
     Idle,

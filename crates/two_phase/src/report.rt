@@ -40,12 +40,11 @@ pub fn report_two<F: Function>(
     ensures { IfOk result (λ text. text ≡ two_text F.semantics head.now world.now) }
 {
     let names: [&[u8]; 2] = [b"a", b"b"];
-    let instances = named_instances(alloc, &names, world.nodes())?;
     let mut text = Text::open(alloc);
     head.push_lines(&mut text)?;
     push_log::<F>(alloc, &mut text, &names, world.log())?;
     push_verdicts(&mut text, world.log())?;
-    push_instances(alloc, &mut text, &instances)?;
+    push_instances(alloc, &mut text, &names, world.nodes())?;
     Ok(text)
 }
 
@@ -130,12 +129,14 @@ fn verdict_line(note: &TwoNote) -> &'static str
 fn push_instances<F: Function>(
     alloc: Global,
     text: &mut Text,
-    instances: &[NamedInstance<'_, F>],
+    names: &[&'static [u8]],
+    nodes: &[TwoNode<F>],
 ) -> Result<(), NoMemory>
-    ensures { OnOk result (text.new ≡ text.old ++ instance_lines F.semantics instances.now) }
+    ensures { OnOk result (text.new ≡ text.old ++ instance_lines F.semantics (named_instances (texts_seen names.now) nodes.now)) }
 {
-    push_states(alloc, text, instances)?;
-    push_tail(text, 2, instances)
+    let instances = named_instances(alloc, names, nodes)?;
+    push_states(alloc, text, &instances)?;
+    push_tail(text, 2, &instances)
 }
 
 /// The instances among the nodes, each under the name at its place.

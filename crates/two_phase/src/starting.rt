@@ -47,14 +47,14 @@ fn first_nodes<F: Function>(
     requires { (1 ≤ window) × (window ≤ MOST_WINDOW) }
     ensures { IfOk result (λ nodes. nodes.items ≡ first_nodes alloc (record { site = site; window = window; filter = filter; at = 0; packets = [] })) }
 {
-    let switch = TwoSwitch::open(alloc, window, filter, site)?;
-    let controller = TwoCtrl::open(alloc, filter);
-    let source = Instance::open(alloc, SOURCE, MOST_RECORDS, false, site);
-    let destination = Instance::open(alloc, DESTINATION, MOST_RECORDS, false, site);
     let mut nodes = Vec::new(alloc);
+    let switch = TwoSwitch::open(alloc, window, filter, site)?;
     nodes.push(TwoNode::Switch(switch))?;
+    let controller = TwoCtrl::open(alloc, filter);
     nodes.push(TwoNode::Ctrl(controller))?;
+    let source = Instance::open(alloc, SOURCE, MOST_RECORDS, false, site);
     nodes.push(TwoNode::Instance(source))?;
+    let destination = Instance::open(alloc, DESTINATION, MOST_RECORDS, false, site);
     nodes.push(TwoNode::Instance(destination))?;
     Ok(nodes)
 }

@@ -96,7 +96,10 @@ impl TwoSwitch {
                 self.take_back(message);
                 Ok(())
             }
-            _ => Ok(()),
+            _ => {
+                drop(message);
+                Ok(())
+            }
         }
     }
 
@@ -174,17 +177,13 @@ impl TwoSwitch {
         ensures sends { OnOk result (out.new.0 ≡ out.old.0 ++ (on_lay high self.old).sends) }
         ensures notes { OnOk result (out.new.1 ≡ out.old.1 ++ (on_lay high self.old).notes) }
     {
-        let (from, to, note) = if high {
-            (
-                Target::Controller,
-                Target::Instance(DESTINATION),
-                TwoNote::High,
-            )
+        let (from, to) = if high {
+            (Target::Controller, Target::Instance(DESTINATION))
         } else {
-            (Target::Instance(SOURCE), Target::Controller, TwoNote::Low)
+            (Target::Instance(SOURCE), Target::Controller)
         };
         self.rules.redirect(&self.filter, from, to)?;
-        out.note(note)?;
+        out.note(if high { TwoNote::High } else { TwoNote::Low })?;
         out.send(CONTROLLER, TwoMsg::Laid { high })
     }
 
@@ -207,8 +206,9 @@ impl TwoSwitch {
     fn take_back(&mut self, message: Msg)
         ensures { self.new ≡ (switch_step self.old (TwoMsg.Inner message)).node }
     {
-        if let Msg::Credit(cell) = message {
-            self.window.take_home(cell);
+        match message {
+            Msg::Credit(cell) => self.window.take_home(cell),
+            _ => drop(message),
         }
     }
 }

@@ -17,7 +17,7 @@ impl TwoCtrl {
     pub(crate) fn laid(&mut self, high: bool)
         ensures { self.new ≡ (on_laid self.old.phase high self.old).node }
     {
-        match (&self.phase, high) {
+        match (self.phase, high) {
             (Phase::Laying, false) => self.phase = Phase::Waiting,
             (Phase::Turning, true) => self.phase = Phase::Settling,
             _ => {}

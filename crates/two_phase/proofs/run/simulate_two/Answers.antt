@@ -3,27 +3,18 @@ use Rattle.two_phase.specs.Start.{UpdateJob}
 use Rattle.two_phase.proofs.Theorem.{same_choices, same_world, simulated, never_stops}
 use Rattle.two_phase.proofs.run.simulate_two.Goals as goal
 
-pub returns-clause-choices : goal.returns-clause-choices
-returns-clause-choices g c =
+pub returns : goal.returns
+returns g c =
     let job : UpdateJob = record { site = c.args.site; window = c.args.window; filter = c.args.filter; at = c.args.at; packets = c.args.packets } in
-    same_choices g.row.F.Denot g.F.Function.semantics g.met.F.Function.laws c.args.alloc job c.requires c.args.schedule c.run_schedule.result
-    c.in_ok-world.world c.in_ok-world.ensures c.run_schedule.ensures.choices
-
-pub returns-clause-world : goal.returns-clause-world
-returns-clause-world g c =
-    let job : UpdateJob = record { site = c.args.site; window = c.args.window; filter = c.args.filter; at = c.args.at; packets = c.args.packets } in
-    same_world g.row.F.Denot g.F.Function.semantics g.met.F.Function.laws c.args.alloc job c.requires c.run_schedule.result c.in_ok-world.world
-    c.in_ok-world.ensures c.run_schedule.ensures.world
-
-pub returns-clause-published : goal.returns-clause-published
-returns-clause-published g c =
-    let job : UpdateJob = record { site = c.args.site; window = c.args.window; filter = c.args.filter; at = c.args.at; packets = c.args.packets } in
-    simulated g.row.F.Denot g.F.Function.semantics g.met.F.Function.laws c.args.alloc job c.requires c.run_schedule.result c.in_ok-world.world
-    c.in_ok-world.ensures c.run_schedule.ensures.world c.run_schedule.ensures.run
-
-pub returns-clause-finished : goal.returns-clause-finished
-returns-clause-finished g c step is =
-    let job : UpdateJob = record { site = c.args.site; window = c.args.window; filter = c.args.filter; at = c.args.at; packets = c.args.packets } in
-    let short = c.run_schedule.ensures.unfinished step is in
-    never_stops g.row.F.Denot g.F.Function.semantics g.met.F.Function.laws c.args.alloc job c.requires c.args.schedule c.in_ok-world.world
-    c.in_ok-world.ensures step short.0 short.1
+    let laws = g.met.F.Function.laws in
+    let ran = c.run_schedule.ensures in
+    let start = c.in_ok-world.ensures in
+    record {
+      choices = same_choices _ _ laws c.args.alloc job c.requires c.args.schedule c.run_schedule.result c.in_ok-world.world start ran.choices;
+      world = same_world _ _ laws c.args.alloc job c.requires c.run_schedule.result c.in_ok-world.world start ran.world;
+      complete = ran.complete;
+      published = simulated _ _ laws c.args.alloc job c.requires c.run_schedule.result c.in_ok-world.world start ran.world ran.run;
+      finished = λ step is.
+          let short = ran.unfinished step is in
+          never_stops _ _ laws c.args.alloc job c.requires c.args.schedule c.in_ok-world.world start step short.0 short.1;
+    }

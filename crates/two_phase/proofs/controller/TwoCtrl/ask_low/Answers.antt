@@ -11,6 +11,4 @@ returns-clause-sends c =
     after_all c.send.result c.send.new.self c.forward_all.new.out.0 before (forward_messages c.args.self.now.store) ((0, Lay false) ∷ [])
     c.forward_all.new.out.1
     c.send.ensures.ok
-    (ap (λ out. out.0) c.in_ok-forward_all.ensures
-    ∙ ap (λ d. before ++ forward_messages d.items) c.replace.ensures.value
-    ∙ ap (λ s. before ++ forward_messages s.store) c.self.view_is)
+    (ap (λ out. out.0) c.in_ok-forward_all.ensures.sent ∙ ap (λ s. before ++ forward_messages s.store) c.self.view_is)

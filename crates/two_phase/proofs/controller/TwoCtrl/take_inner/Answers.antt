@@ -3,8 +3,8 @@ use Rattle.std.proofs.Common.{rules}
 use Rattle.two_phase.proofs.OtherMessages.{not_named}
 use Rattle.two_phase.proofs.controller.TwoCtrl.take_inner.Goals as goal
 
-pub returns : goal.returns
-returns c =
+pub returns-in_default : goal.returns-in_default
+returns-in_default c =
     let no = c.in_default in
     let same =
     not_named c.args.self.now c.args.port c.args.message no.not-Enabled no.not-Chunks no.not-Deleted no.not-Restored no.not-Event no.not-Seen
