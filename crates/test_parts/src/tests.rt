@@ -1,5 +1,6 @@
 //! The tests, by what they are of.
 
+mod common;
 mod message_tests;
 mod monitor_tests;
 mod pool_tests;

@@ -1,4 +1,5 @@
 //! Tests of messages, notes and answers: their words, and how much room they take.
+use crate::tests::common::assert_text;
 use basics::{Boxed, Bytes, NoMemory, Text};
 use event_filter::Mark;
 use flow_filter::Name;
@@ -42,7 +43,7 @@ fn assert_printed(
 ) -> Result<(), NoMemory> {
     let text = print_answer(alloc, &answer);
     drop(answer);
-    assert_eq!(rt; text?.items(), words.as_bytes());
+    assert_text(rt, text?, words);
     Ok(())
 }
 
@@ -51,11 +52,11 @@ fn a_message_is_shown_by_its_kind_and_numbers(rt: HostRuntime) -> Result<(), Fai
     let alloc = rt.alloc();
     let mut pool = Pool::open(0, 1);
     if let Some(forward) = forward_shown(alloc, &mut pool)? {
-        assert_eq!(rt; forward.items(), b"forward packet 1 to 1".as_slice());
+        assert_text(&rt, forward, "forward packet 1 to 1");
     }
     assert_eq!(rt; pool.home(), 0);
-    assert_eq!(rt; put_shown(alloc)?.items(), b"put op 4".as_slice());
-    assert_eq!(rt; shown(alloc, Msg::Finish)?.items(), b"finish".as_slice());
+    assert_text(&rt, put_shown(alloc)?, "put op 4");
+    assert_text(&rt, shown(alloc, Msg::Finish)?, "finish");
     Ok(())
 }
 

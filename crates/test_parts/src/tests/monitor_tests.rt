@@ -1,11 +1,13 @@
 //! Tests of the monitor by its outputs and records, as they are printed.
 ghost use Rattle.std.specs.Prelude.{◌≤◌, length};
 
-use asset_monitor::{Banner, Monitor, SERVICES_PER_HOST, Service};
+use crate::tests::common::assert_text;
+use asset_monitor::{AssetRecord, Banner, Monitor, SERVICES_PER_HOST, Service};
 use basics::{NoMemory, Text};
 use flow_filter::Packet;
 use nf_function::{Function, Output};
 use std::alloc::Global;
+use std::process::Abort;
 use std::test::Fail;
 use test_packets::{PACKET, SITE, reverse};
 
@@ -51,10 +53,8 @@ fn an_ssh_server_is_found_and_its_banner_kept(rt: HostRuntime) -> Result<(), Fai
         reverse(sent(6, 22, 16, b"")),
         sent(6, 22, 16, b"SSH-2.0-x"),
     ];
-    assert_eq!(rt;
-        printed(rt.alloc(), &packets)?.items(),
-        b"quiet\nnew tcp 22\nquiet\nbanner tcp 22 ssh\npackets 4 services tcp/22/ssh".as_slice()
-    );
+    let wanted = "quiet\nnew tcp 22\nquiet\nbanner tcp 22 ssh\npackets 4 services tcp/22/ssh";
+    assert_text(&rt, printed(rt.alloc(), &packets)?, wanted);
     Ok(())
 }
 
@@ -70,20 +70,38 @@ fn the_first_greeting_of_a_known_service_is_kept(rt: HostRuntime) -> Result<(), 
         sent(6, 80, 22, b""),
         sent(6, 80, 16, b"HTTP/1.1 200 OK"),
     ];
-    assert_eq!(rt;
-        printed(rt.alloc(), &packets)?.items(),
-        b"new udp 53\nquiet\nquiet\nbanner udp 53 greeting\nquiet\nquiet\nquiet\nquiet\n\
-          packets 8 services udp/53/greeting"
-            .as_slice()
-    );
+    let wanted = "new udp 53\nquiet\nquiet\nbanner udp 53 greeting\nquiet\nquiet\nquiet\nquiet\n\
+                  packets 8 services udp/53/greeting";
+    assert_text(&rt, printed(rt.alloc(), &packets)?, wanted);
     Ok(())
 }
 
 #[test]
 fn the_65th_service_of_a_host_isnt_listed(rt: HostRuntime) -> Result<(), Fail> {
     let mut kept = None;
+    assert_listed(&rt, rt.alloc(), &mut kept)?;
+    let record = kept.ok_or("no record")?;
+    assert_eq!(rt; record.packets, 65);
+    assert_eq!(rt; record.services.items().len(), SERVICES_PER_HOST);
+    assert_eq!(rt;
+        record.services.items().last().copied(),
+        Some(Service {
+            proto: 6,
+            port: 64,
+            banner: Banner::Unseen,
+        })
+    );
+    Ok(())
+}
+
+/// Asserts what is said of 65 services of a host, one after another.
+fn assert_listed(
+    rt: &impl Abort,
+    alloc: Global,
+    kept: &mut Option<AssetRecord>,
+) -> Result<(), NoMemory> {
     for port in 1..=65u16 {
-        let output = Monitor::step(rt.alloc(), &SITE, &mut kept, &sent(6, port, 18, b""))?;
+        let output = Monitor::step(alloc, &SITE, kept, &sent(6, port, 18, b""))?;
         let wanted = if port <= 64 {
             Output {
                 code: 1,
@@ -99,16 +117,5 @@ fn the_65th_service_of_a_host_isnt_listed(rt: HostRuntime) -> Result<(), Fail> {
         };
         assert_eq!(rt; output, wanted);
     }
-    let record = kept.ok_or("no record")?;
-    assert_eq!(rt; record.packets, 65);
-    assert_eq!(rt; record.services.items().len(), SERVICES_PER_HOST);
-    assert_eq!(rt;
-        record.services.items().last().copied(),
-        Some(Service {
-            proto: 6,
-            port: 64,
-            banner: Banner::Unseen,
-        })
-    );
     Ok(())
 }

@@ -1,4 +1,5 @@
 use event_store::EventStore;
+use std::process::Abort;
 use std::test::Fail;
 
 /// A parcel that can't be copied.
@@ -8,6 +9,12 @@ struct Parcel(u32);
 #[test]
 fn what_is_put_comes_out_in_order_and_other_lists_stay(rt: HostRuntime) -> Result<(), Fail> {
     let mut store = EventStore::open(rt.alloc());
+    assert_kept(&rt, &mut store);
+    Ok(())
+}
+
+/// Asserts what an empty store gives back of what is put.
+fn assert_kept(rt: &impl Abort, store: &mut EventStore<Parcel>) {
     assert_eq!(rt; store.first(3), None);
     for number in 1..=4 {
         let kept = store.put(3, Parcel(number)).is_ok()
@@ -23,5 +30,4 @@ fn what_is_put_comes_out_in_order_and_other_lists_stay(rt: HostRuntime) -> Resul
     );
     assert_eq!(rt; store.len(3), 0);
     assert_eq!(rt; store.first(9), Some(Parcel(10)));
-    Ok(())
 }

@@ -1,4 +1,5 @@
 //! Tests of the switch's rules: where a flow goes, also after redirects, and how many groups the routes take.
+use basics::NoMemory;
 use flow_filter::{Filter, Flow, Prefix};
 use std::process::Abort;
 use std::test::Fail;
@@ -58,6 +59,15 @@ fn the_first_rule_counts_and_not_the_longest_mask(rt: HostRuntime) -> Result<(),
 #[test]
 fn each_of_2000_flows_goes_by_its_own_of_1000_routes(rt: HostRuntime) -> Result<(), Fail> {
     let mut rules = Vec::new(rt.alloc());
+    push_routes(&mut rules)?;
+    let classifier = Classifier::build(rt.alloc(), &rules)?;
+    assert_eq!(rt; classifier.groups(), 2);
+    assert_routed(&rt, &classifier);
+    Ok(())
+}
+
+/// Puts the route of each prefix and port after others, and the controller's after them.
+fn push_routes(rules: &mut Vec<(Filter, Target)>) -> Result<(), NoMemory> {
     for prefix in 0..PREFIXES {
         for port in 0..PORTS {
             let filter = Filter {
@@ -72,8 +82,11 @@ fn each_of_2000_flows_goes_by_its_own_of_1000_routes(rt: HostRuntime) -> Result<
         }
     }
     rules.push((Filter::ANY, Target::Controller))?;
-    let classifier = Classifier::build(rt.alloc(), &rules)?;
-    assert_eq!(rt; classifier.groups(), 2);
+    Ok(())
+}
+
+/// Asserts that flows to the ports with routes go by them, and as many others to the controller.
+fn assert_routed(rt: &impl Abort, classifier: &Classifier) {
     for prefix in 0..PREFIXES {
         for port in 0..2 * PORTS {
             let flow = Flow {
@@ -91,7 +104,6 @@ fn each_of_2000_flows_goes_by_its_own_of_1000_routes(rt: HostRuntime) -> Result<
             assert_eq!(rt; classifier.target(&flow), Some(target));
         }
     }
-    Ok(())
 }
 
 /// A UDP flow of a host of 10.0.0.0/16, by the last two bytes of its address.
@@ -109,6 +121,11 @@ fn flow_at(net: u8, host: u8, lport: u16) -> Flow {
 fn a_redirect_of_all_flows_leaves_those_of_a_third_instance(rt: HostRuntime) -> Result<(), Fail> {
     let routes = [(Filter::parse("local=10.0.0.9/32")?, 2)];
     let mut rules = Rules::open(rt.alloc(), &routes)?;
+    assert_led(&rt, &mut rules)
+}
+
+/// Asserts where flows go before and after a redirect from instance 0, with a route of one host to instance 2.
+fn assert_led(rt: &impl Abort, rules: &mut Rules) -> Result<(), Fail> {
     assert_eq!(rt; rules.target(&flow_at(0, 1, 5000)), Target::Instance(0));
     assert_eq!(rt; rules.target(&flow_at(0, 9, 5000)), Target::Instance(2));
     rules.redirect(&Filter::ANY, Target::Instance(0), Target::Instance(1))?;

@@ -55,23 +55,21 @@ fn found(table: &Table<Conntrack>, host: u8, live: bool) -> Option<TrackRecord> 
 
 /// The three numbers of a refusal by the limit, and zeros for another refusal.
 fn refused(taken: Result<(), ImportFault>) -> Option<(u32, u32, u32)> {
-    match taken {
-        Ok(()) => None,
-        Err(
-            ImportFault::Limit {
-                held,
-                coming,
-                limit,
-                chunks: _chunks,
-            },
-        ) => Some((held, coming, limit)),
-        Err(
-            ImportFault::Bad {
-                index: _index,
-                chunks: _chunks,
-            },
-        ) => Some((0, 0, 0)),
-        Err(ImportFault::NoMemory(_chunks)) => Some((0, 0, 0)),
+    let fault = taken.err()?;
+    let numbers = numbers_of(&fault);
+    drop(fault);
+    Some(numbers)
+}
+
+fn numbers_of(fault: &ImportFault) -> (u32, u32, u32) {
+    match fault {
+        ImportFault::Limit {
+            held,
+            coming,
+            limit,
+            ..
+        } => (*held, *coming, *limit),
+        _ => (0, 0, 0),
     }
 }
 
@@ -92,15 +90,20 @@ fn imported(
 
 #[test]
 fn chunks_come_where_all_that_are_to_come_have_room(rt: HostRuntime) -> Result<(), Fail> {
-    let alloc = rt.alloc();
-    let mut kept = table(alloc, &[1, 2])?;
-    let refusal = imported(alloc, &mut kept, &[3, 4, 5], 3, 4)?;
-    assert_eq!(rt; refusal, Some((2, 3, 4)));
-    let refusal = imported(alloc, &mut kept, &[3], 4, 5)?;
-    assert_eq!(rt; refusal, Some((2, 4, 5)));
+    let mut kept = table(rt.alloc(), &[1, 2])?;
+    assert_imported(&rt, rt.alloc(), &mut kept)
+}
+
+/// Asserts which chunks a table with records of the hosts 1 and 2 takes in.
+fn assert_imported(
+    rt: &impl Abort,
+    alloc: Global,
+    kept: &mut Table<Conntrack>,
+) -> Result<(), Fail> {
+    assert_eq!(rt; imported(alloc, kept, &[3, 4, 5], 3, 4)?, Some((2, 3, 4)));
+    assert_eq!(rt; imported(alloc, kept, &[3], 4, 5)?, Some((2, 4, 5)));
     assert_eq!(rt; kept.live_count(), 2);
-    let refusal = imported(alloc, &mut kept, &[3, 4, 5], 3, 5)?;
-    assert_eq!(rt; refusal, None);
+    assert_eq!(rt; imported(alloc, kept, &[3, 4, 5], 3, 5)?, None);
     assert_eq!(rt;
         kept.units(true)?.items(),
         [unit(1), unit(2), unit(3), unit(4), unit(5)].as_slice()
@@ -110,12 +113,17 @@ fn chunks_come_where_all_that_are_to_come_have_room(rt: HostRuntime) -> Result<(
 
 #[test]
 fn a_newer_live_record_stays_and_an_older_one_goes(rt: HostRuntime) -> Result<(), Fail> {
-    let alloc = rt.alloc();
-    let mut kept = table(alloc, &[1, 1, 2])?;
-    assert_eq!(rt; refused(kept.restore(chunks(alloc, &[1, 2, 2])?)), None);
-    assert_eq!(rt; found(&kept, 1, true), Some(record(2)));
-    assert_eq!(rt; found(&kept, 2, true), Some(record(2)));
+    let coming = chunks(rt.alloc(), &[1, 2, 2])?;
+    let mut kept = table(rt.alloc(), &[1, 1, 2])?;
+    assert_newest(&rt, &mut kept, coming);
     Ok(())
+}
+
+/// Asserts that a table with two packets of host 1 and one of host 2 keeps the newest records.
+fn assert_newest(rt: &impl Abort, kept: &mut Table<Conntrack>, coming: Chunks) {
+    assert_eq!(rt; refused(kept.restore(coming)), None);
+    assert_eq!(rt; found(kept, 1, true), Some(record(2)));
+    assert_eq!(rt; found(kept, 2, true), Some(record(2)));
 }
 
 #[test]
@@ -137,12 +145,9 @@ fn assert_apart(rt: &impl Abort, kept: &mut Table<Conntrack>, coming: Chunks) {
 
 #[test]
 fn units_are_selected_in_order_and_removed(rt: HostRuntime) -> Result<(), Fail> {
-    let alloc = rt.alloc();
-    let mut kept = table(alloc, &[9, 2, 5])?;
+    let mut kept = table(rt.alloc(), &[9, 2, 5])?;
     assert_selected(&rt, &kept)?;
-    assert_eq!(rt; removed(alloc, &mut kept, unit(5))?, 1);
-    assert_eq!(rt; kept.live_count(), 2);
-    Ok(())
+    assert_removed(&rt, rt.alloc(), &mut kept)
 }
 
 /// Asserts that a table has live records of the hosts 2, 5 and 9, and gives them in this order.
@@ -152,6 +157,17 @@ fn assert_selected(rt: &impl Abort, table: &Table<Conntrack>) -> Result<(), NoMe
         table.units(true)?.items(),
         [unit(2), unit(5), unit(9)].as_slice()
     );
+    Ok(())
+}
+
+/// Asserts that the record of host 5 can be removed, and that two are left.
+fn assert_removed(
+    rt: &impl Abort,
+    alloc: Global,
+    table: &mut Table<Conntrack>,
+) -> Result<(), Fail> {
+    assert_eq!(rt; removed(alloc, table, unit(5))?, 1);
+    assert_eq!(rt; table.live_count(), 2);
     Ok(())
 }
 

@@ -1,4 +1,5 @@
 //! Tests of the tracker by the states that its outputs name.
+use crate::tests::common::assert_text;
 use conn_tracker::{Conntrack, State, TrackRecord, step};
 use flow_filter::{Direction, Packet, flow_of};
 use nf_function::{Function, Output};
@@ -17,10 +18,7 @@ fn asked(seconds: u32) -> Packet {
 fn a_handshake_is_established(rt: HostRuntime) -> Result<(), Fail> {
     let mut kept = None;
     let asked = step(&SITE, &mut kept, &outward(1, 2));
-    assert_eq!(rt;
-        Conntrack::print_output(rt.alloc(), &asked)?.items(),
-        b"opening".as_slice()
-    );
+    assert_text(&rt, Conntrack::print_output(rt.alloc(), &asked)?, "opening");
     let last = Packet {
         length: 20,
         ..outward(3, 16)
@@ -43,10 +41,7 @@ fn a_handshake_is_established(rt: HostRuntime) -> Result<(), Fail> {
     );
     let record = kept.ok_or("no record")?;
     let text = Conntrack::print_record(rt.alloc(), &record)?;
-    assert_eq!(rt;
-        text.items(),
-        b"established out packets 3 bytes 60".as_slice()
-    );
+    assert_text(&rt, text, "established out packets 3 bytes 60");
     Ok(())
 }
 
@@ -54,9 +49,10 @@ fn a_handshake_is_established(rt: HostRuntime) -> Result<(), Fail> {
 fn an_answer_shows_the_opener(rt: HostRuntime) -> Result<(), Fail> {
     let mut kept = None;
     let answered = step(&SITE, &mut kept, &reverse(outward(1, 18)));
-    assert_eq!(rt;
-        Conntrack::print_output(rt.alloc(), &answered)?.items(),
-        b"answered".as_slice()
+    assert_text(
+        &rt,
+        Conntrack::print_output(rt.alloc(), &answered)?,
+        "answered",
     );
     let record = kept.ok_or("no record")?;
     assert_eq!(rt; record.opener, Direction::Out);

@@ -1,8 +1,10 @@
+use crate::tests::common::assert_text;
 use addr_translator::{Nat, NatRecord};
 use basics::NoMemory;
 use flow_filter::{Packet, Prefix, Site, TCP};
 use nf_function::{Function, Output};
 use std::alloc::Global;
+use std::process::Abort;
 use std::test::Fail;
 use test_packets::PACKET;
 
@@ -76,15 +78,22 @@ fn the_253rd_port_of_a_host_is_refused(rt: HostRuntime) -> Result<(), Fail> {
     ];
     for (ports, last, answer, record) in table {
         let (output, kept) = answered(rt.alloc(), ports, &last)?;
-        let kept = kept.ok_or("no record")?;
-        assert_eq!(rt;
-            Nat::print_output(rt.alloc(), &output)?.items(),
-            answer.as_bytes()
-        );
-        assert_eq!(rt;
-            Nat::print_record(rt.alloc(), &kept)?.items(),
-            record.as_bytes()
-        );
+        assert_printed(&rt, rt.alloc(), &output, kept.as_ref(), answer, record)?;
     }
+    Ok(())
+}
+
+/// Asserts how an output and the record that is then kept are printed.
+fn assert_printed(
+    rt: &impl Abort,
+    alloc: Global,
+    output: &Output,
+    kept: Option<&NatRecord>,
+    answer: &str,
+    record: &str,
+) -> Result<(), Fail> {
+    let kept = kept.ok_or("no record")?;
+    assert_text(rt, Nat::print_output(alloc, output)?, answer);
+    assert_text(rt, Nat::print_record(alloc, kept)?, record);
     Ok(())
 }
