@@ -7,8 +7,9 @@ ghost use Rattle.nf_io.specs.Calm.{calm_in};
 use crate::tests::outside_tests::{to_read, to_write};
 use basics::NoMemory;
 use flow_filter::{Packet, SYN};
-use nf_io::{CalmOutside, Outside, Role, RoleSink, RoleSource};
+use nf_io::{CalmOutside, Outside, Role, RoleSink, RoleSource, Source};
 use std::alloc::Global;
+use std::process::Abort;
 use std::test::Fail;
 use test_packets::{PACKET, outward};
 use trace_reader::{Trace, TraceFault, TraceReader, make_trace, read_trace};
@@ -115,8 +116,19 @@ fn read(alloc: Global, parts: [&[u8]; 3]) -> Result<Trace, TraceFault> {
 }
 
 /// The fault of a capture, if it has one.
-fn fault_of(alloc: Global, header: &[u8], records: &[u8], tail: &[u8]) -> Option<TraceFault> {
-    read(alloc, [header, records, tail]).err()
+fn fault_of(alloc: Global, parts: [&[u8]; 3]) -> Option<TraceFault> {
+    read(alloc, parts).err()
+}
+
+/// The packet at a place of what was read.
+fn packet_at(trace: &Trace, place: usize) -> Option<Packet> {
+    let kept = trace.packets.items().get(place)?;
+    Some(kept.packet())
+}
+
+/// How many packets were read, how many records were skipped, and whether the capture is cut.
+fn counts(trace: &Trace) -> (usize, u32, bool) {
+    (trace.packets.items().len(), trace.skipped, trace.cut)
 }
 
 /// The packet of `UDP`.
@@ -132,12 +144,8 @@ fn udp(nanos: u64) -> Packet {
 fn one_packet_is_read_field_by_field(rt: HostRuntime) -> Result<(), Fail> {
     let trace = read(rt.alloc(), [&RAW, &UDP, &UDP[..10]])?;
     assert_eq!(rt;
-        trace.packets.items().first().map(|first| first.packet()),
-        Some(udp(1_000_000_000))
-    );
-    assert_eq!(rt;
-        (trace.packets.items().len(), trace.skipped, trace.cut),
-        (1, 0, true)
+        (packet_at(&trace, 0), counts(&trace)),
+        (Some(udp(1_000_000_000)), (1, 0, true))
     );
     Ok(())
 }
@@ -151,16 +159,8 @@ fn frames_are_steered_or_skipped_by_their_bytes(rt: HostRuntime) -> Result<(), F
         ..outward(2, SYN)
     };
     assert_eq!(rt;
-        trace.packets.items().first().map(|first| first.packet()),
-        Some(udp(2_000_000_005))
-    );
-    assert_eq!(rt;
-        trace.packets.items().get(1).map(|second| second.packet()),
-        Some(syn)
-    );
-    assert_eq!(rt;
-        (trace.packets.items().len(), trace.skipped, trace.cut),
-        (2, 2, false)
+        (packet_at(&trace, 0), packet_at(&trace, 1), counts(&trace)),
+        (Some(udp(2_000_000_005)), Some(syn), (2, 2, false))
     );
     Ok(())
 }
@@ -169,42 +169,58 @@ fn frames_are_steered_or_skipped_by_their_bytes(rt: HostRuntime) -> Result<(), F
 fn records_at_hand_are_read_as_those_in_parts(rt: HostRuntime) -> Result<(), Fail> {
     let parts = read(rt.alloc(), [&ETHERNET, &FOUR, b""])?;
     for most in [81, 82, 200, usize::MAX] {
-        let mut outside = with_calm_capture(rt.alloc(), Role::Trace, most, &ETHERNET, &FOUR)?;
-        let mut source = RoleSource {
-            outside: &mut outside,
-            role: Role::Trace,
-        };
-        let trace = read_trace(rt.alloc(), &mut source)?;
-        let packets = trace.packets.items();
-        assert_eq!(rt; packets.len(), 2, "with {most} at hand");
-        for (packet, part) in packets.iter().zip(parts.packets.items()) {
-            assert_eq!(rt; packet.packet(), part.packet(), "with {most} at hand");
-        }
-        assert_eq!(rt; (trace.skipped, trace.cut), (2, false));
+        let trace = read_at_hand(rt.alloc(), most)?;
+        assert_eq!(rt;
+            (
+                most,
+                packet_at(&trace, 0),
+                packet_at(&trace, 1),
+                counts(&trace)
+            ),
+            (
+                most,
+                packet_at(&parts, 0),
+                packet_at(&parts, 1),
+                (2, 2, false)
+            )
+        );
     }
     Ok(())
 }
 
+/// Reads the four frames, of which so many bytes at most are at hand at once.
+fn read_at_hand(alloc: Global, most: usize) -> Result<Trace, TraceFault>
+    requires { 0 < most }
+{
+    let mut outside = with_calm_capture(alloc, Role::Trace, most, &ETHERNET, &FOUR)?;
+    let mut source = RoleSource {
+        outside: &mut outside,
+        role: Role::Trace,
+    };
+    read_trace(alloc, &mut source)
+}
+
 #[test]
 fn each_fault_of_the_header_has_its_name(rt: HostRuntime) {
-    let alloc = rt.alloc();
-    let fault = fault_of(alloc, &RAW[..23], b"", b"");
-    assert_eq!(rt; fault, Some(TraceFault::Header(23)));
-    let fault = fault_of(alloc, &RAW[..3], b"", b"");
-    assert_eq!(rt; fault, Some(TraceFault::Magic));
-    let fault = fault_of(alloc, b"\x0a\x0d\x0d\x0a", b"", b"");
-    assert_eq!(rt; fault, Some(TraceFault::PcapNg));
-    let fault = fault_of(alloc, &RAW[..6], b"\x03\x00", &RAW[8..]);
-    assert_eq!(rt; fault, Some(TraceFault::Version));
-    let fault = fault_of(alloc, &RAW[..20], b"\x71\x00\x01\x00", b"");
-    assert_eq!(rt; fault, Some(TraceFault::LinkType(113)));
+    let headers: [([&[u8]; 3], TraceFault); 5] = [
+        ([&RAW[..23], b"", b""], TraceFault::Header(23)),
+        ([&RAW[..3], b"", b""], TraceFault::Magic),
+        ([b"\x0a\x0d\x0d\x0a", b"", b""], TraceFault::PcapNg),
+        ([&RAW[..6], b"\x03\x00", &RAW[8..]], TraceFault::Version),
+        (
+            [&RAW[..20], b"\x71\x00\x01\x00", b""],
+            TraceFault::LinkType(113),
+        ),
+    ];
+    for (parts, fault) in headers {
+        assert_eq!(rt; fault_of(rt.alloc(), parts), Some(fault));
+    }
 }
 
 #[test]
 fn a_record_too_long_is_a_fault_at_its_place(rt: HostRuntime) {
-    let fault = fault_of(rt.alloc(), &RAW, &UDP, &LONGEST);
-    assert_eq!(rt; fault, None);
-    let fault = fault_of(rt.alloc(), &RAW, &UDP, &TOO_LONG);
+    assert_eq!(rt; fault_of(rt.alloc(), [&RAW, &UDP, &LONGEST]), None);
+    let fault = fault_of(rt.alloc(), [&RAW, &UDP, &TOO_LONG]);
     let expected = TraceFault::RecordLength {
         offset: 88,
         n: 262_145,
@@ -219,9 +235,17 @@ fn a_fault_of_reading_is_given_again(rt: HostRuntime) -> Result<(), Fail> {
         outside: &mut outside,
         role: Role::Trace,
     };
-    let mut reader = TraceReader::open(&mut source)?;
-    assert_eq!(rt; reader.next(&mut source), Err(TraceFault::Read));
-    assert_eq!(rt; reader.next(&mut source), Err(TraceFault::Read));
+    see_fault_twice(&rt, &mut source)?;
+    Ok(())
+}
+
+/// Reads a capture from a source that fails after the header.
+fn see_fault_twice<S: Source>(rt: &impl Abort, source: &mut S) -> Result<(), TraceFault>
+    requires { S.IsOpen source.old }
+{
+    let mut reader = TraceReader::open(source)?;
+    let answers = (reader.next(source), reader.next(source));
+    assert_eq!(rt; answers, (Err(TraceFault::Read), Err(TraceFault::Read)));
     Ok(())
 }
 

@@ -1,8 +1,11 @@
 //! Tests of `flow_filter`: filters, names, and packets that wait.
 
-use basics::{Boxed, TryCopy};
+ghost use Rattle.std.specs.Prelude.{◌≡◌, length, IfOk};
+
+use basics::{Boxed, NoMemory, TryCopy};
 use flow_filter::name::{has_twice, is_name};
 use flow_filter::{CapturedPacket, Filter, FilterFault, Flow, Name, Packet};
+use std::alloc::Global;
 use std::test::Fail;
 use test_packets::PACKET;
 
@@ -24,30 +27,29 @@ const BARE: Packet = Packet {
 
 #[test]
 fn the_first_field_that_breaks_a_rule_is_refused(rt: HostRuntime) {
-    assert_eq!(rt;
-        Filter::parse("proto=tcp,,lport=x"),
-        Err(FilterFault::Field)
-    );
-    assert_eq!(rt; Filter::parse("lport=1,lport=x"), Err(FilterFault::Twice));
-    assert_eq!(rt;
-        Filter::parse("proto=tcp,rport=080"),
-        Err(FilterFault::Number)
-    );
-    assert_eq!(rt;
-        Filter::parse("local=10.0.0.1/31"),
-        Err(FilterFault::Prefix)
-    );
+    let texts = [
+        ("proto=tcp,,lport=x", FilterFault::Field),
+        ("lport=1,lport=x", FilterFault::Twice),
+        ("proto=tcp,rport=080", FilterFault::Number),
+        ("local=10.0.0.1/31", FilterFault::Prefix),
+    ];
+    for (text, fault) in texts {
+        assert_eq!(rt; Filter::parse(text), Err(fault));
+    }
 }
 
 #[test]
 fn the_canonical_text_has_the_fields_in_their_order(rt: HostRuntime) -> Result<(), Fail> {
-    let filter = Filter::parse("rport=80,local=10.0.0.9,proto=tcp")?;
-    let text = filter.print(rt.alloc())?;
-    assert_eq!(rt;
-        text.items(),
-        b"proto=tcp,local=10.0.0.9/32,rport=80".as_slice()
-    );
-    assert_eq!(rt; Filter::ANY.print(rt.alloc())?.items(), b"any".as_slice());
+    let filters = [
+        (
+            Filter::parse("rport=80,local=10.0.0.9,proto=tcp")?,
+            "proto=tcp,local=10.0.0.9/32,rport=80",
+        ),
+        (Filter::ANY, "any"),
+    ];
+    for (filter, text) in filters {
+        assert_eq!(rt; filter.print(rt.alloc())?.items(), text.as_bytes());
+    }
     Ok(())
 }
 
@@ -55,15 +57,15 @@ fn the_canonical_text_has_the_fields_in_their_order(rt: HostRuntime) -> Result<(
 fn filters_match_meet_and_cover(rt: HostRuntime) -> Result<(), Fail> {
     let prefix = Filter::parse("local=10.0.0.0/25,rport=80")?;
     let host = Filter::parse("local=10.0.0.9,proto=tcp")?;
-    assert!(rt; prefix.matches(&FLOW));
-    assert_eq!(rt;
-        prefix.meet(&host),
-        Some(Filter::parse("proto=tcp,local=10.0.0.9/32,rport=80")?)
-    );
-    assert_eq!(rt; prefix.meet(&Filter::parse("local=10.0.0.128/25")?), None);
+    let both = Filter::parse("proto=tcp,local=10.0.0.9/32,rport=80")?;
+    let other = Filter::parse("local=10.0.0.128/25")?;
     let all = Filter::parse("remote=0.0.0.0/0")?;
-    assert!(rt; all.covers(&Filter::ANY));
-    assert!(rt; !prefix.covers(&all));
+    assert_eq!(rt;
+        (prefix.meet(&host), prefix.meet(&other)),
+        (Some(both), None)
+    );
+    let covers = (all.covers(&Filter::ANY), prefix.covers(&all));
+    assert_eq!(rt; (prefix.matches(&FLOW), covers), (true, (true, false)));
     Ok(())
 }
 
@@ -76,27 +78,59 @@ fn a_packet_waits_with_and_without_payload(rt: HostRuntime) -> Result<(), Fail> 
         ..BARE
     };
     for packet in [BARE, whole] {
-        let captured = CapturedPacket::of(alloc, &packet)?;
-        assert_eq!(rt; captured.number(), 3);
-        assert_eq!(rt; captured.packet(), packet);
-        let room = Boxed::new(alloc, BARE)?;
-        let again = CapturedPacket::of(alloc, &packet)?;
-        assert_eq!(rt; again.into_room(room).into_inner(), packet);
-        assert_eq!(rt; captured.into_boxed(alloc)?.into_inner(), packet);
+        assert_eq!(rt; while_waiting(alloc, &packet)?, (3, packet));
+        assert_eq!(rt;
+            (through_box(alloc, &packet)?, through_room(alloc, &packet)?),
+            (packet, packet)
+        );
     }
     Ok(())
 }
 
+/// The number of a packet, and the packet, while it waits.
+fn while_waiting(alloc: Global, packet: &Packet) -> Result<(u32, Packet), NoMemory> {
+    let captured = CapturedPacket::of(alloc, packet)?;
+    Ok((captured.number(), captured.packet()))
+}
+
+/// A packet that waited, from a box of its own.
+fn through_box(alloc: Global, packet: &Packet) -> Result<Packet, NoMemory> {
+    let boxed = CapturedPacket::of(alloc, packet)?.into_boxed(alloc)?;
+    Ok(boxed.into_inner())
+}
+
+/// A packet that waited, from the room of another.
+fn through_room(alloc: Global, packet: &Packet) -> Result<Packet, NoMemory> {
+    let captured = CapturedPacket::of(alloc, packet)?;
+    let room = Boxed::new(alloc, BARE)?;
+    Ok(captured.into_room(room).into_inner())
+}
+
 #[test]
 fn a_name_has_up_to_16_letters_and_digits(rt: HostRuntime) -> Result<(), Fail> {
+    let texts = [
+        (b"abcdefghijklmno9".as_slice(), true),
+        (b"abcdefghijklmnop9", false),
+        (b"A", false),
+    ];
+    for (text, wanted) in texts {
+        assert_eq!(rt; is_name(text), wanted);
+    }
     let name = Name::read(rt.alloc(), b"b2".as_slice())?.ok_or("no name")?;
-    let again = name.copy()?;
-    assert_eq!(rt; again.items(), b"b2".as_slice());
-    assert!(rt; is_name(b"abcdefghijklmno9".as_slice()));
-    assert!(rt; !is_name(b"abcdefghijklmnop9".as_slice()));
-    assert!(rt; !is_name(b"A".as_slice()));
-    let names = vec![in rt.alloc(); name, again]?;
-    assert!(rt; has_twice(rt.alloc(), names.as_slice())?);
-    assert!(rt; !has_twice(rt.alloc(), &names[1..])?);
+    let names = copied(rt.alloc(), name)?;
+    let both = has_twice(rt.alloc(), names.as_slice())?;
+    let one = has_twice(rt.alloc(), &names[1..])?;
+    assert_eq!(rt;
+        (names[1].items(), both, one),
+        (b"b2".as_slice(), true, false)
+    );
     Ok(())
+}
+
+/// A name and its copy.
+fn copied(alloc: Global, name: Name) -> Result<Vec<Name>, NoMemory>
+    ensures { IfOk result (λ names. length names.items ≡ 2) }
+{
+    let again = name.copy()?;
+    Ok(vec![in alloc; name, again]?)
 }

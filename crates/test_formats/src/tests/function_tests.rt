@@ -1,6 +1,6 @@
 //! Tests of `nf_function`: the tally, units in order, and numbers in stored bytes.
 
-use basics::Bytes;
+use basics::{Bytes, NoMemory};
 use flow_filter::Flow;
 use nf_function::stored::{first_u16, first_u32, first_u64, push_u16, push_u32, push_u64};
 use nf_function::{Tally, Unit};
@@ -27,22 +27,30 @@ fn a_tally_counts_by_instance_and_merges_by_slot(rt: HostRuntime) {
 #[test]
 fn numbers_are_stored_with_their_highest_byte_first(rt: HostRuntime) -> Result<(), Fail> {
     let mut bytes = Bytes::open(rt.alloc());
-    push_u16(&mut bytes, 0x0102)?;
-    push_u32(&mut bytes, 0x0304_0506)?;
-    push_u64(&mut bytes, 0x0708_090a_0b0c_0d0e)?;
+    push_three(&mut bytes, 0x0102, 0x0304_0506, 0x0708_090a_0b0c_0d0e)?;
     assert_eq!(rt;
-        bytes.items(),
-        b"\x01\x02\x03\x04\x05\x06\x07\x08\x09\x0a\x0b\x0c\x0d\x0e".as_slice()
+        (bytes.items(), first_three(bytes.items())),
+        (
+            b"\x01\x02\x03\x04\x05\x06\x07\x08\x09\x0a\x0b\x0c\x0d\x0e".as_slice(),
+            Some((0x0102, 0x0304_0506, 0x0708_090a_0b0c_0d0e, None))
+        )
     );
-    let (two, rest) = first_u16(bytes.items()).ok_or("two bytes")?;
-    let (four, rest) = first_u32(rest).ok_or("four bytes")?;
-    let (eight, rest) = first_u64(rest).ok_or("eight bytes")?;
-    assert_eq!(rt;
-        (two, four, eight),
-        (0x0102, 0x0304_0506, 0x0708_090a_0b0c_0d0e)
-    );
-    assert_eq!(rt; first_u16(rest), None);
     Ok(())
+}
+
+/// Stores three numbers, one after another.
+fn push_three(bytes: &mut Bytes, two: u16, four: u32, eight: u64) -> Result<(), NoMemory> {
+    push_u16(bytes, two)?;
+    push_u32(bytes, four)?;
+    push_u64(bytes, eight)
+}
+
+/// The three numbers that stand first, and what is read of two bytes after them.
+fn first_three(bytes: &[u8]) -> Option<(u16, u32, u64, Option<(u16, &[u8])>)> {
+    let (two, rest) = first_u16(bytes)?;
+    let (four, rest) = first_u32(rest)?;
+    let (eight, rest) = first_u64(rest)?;
+    Some((two, four, eight, first_u16(rest)))
 }
 
 #[test]

@@ -2,12 +2,13 @@
 ghost use Rattle.std.specs.Prelude.{[], None};
 
 use crate::tests::outside_tests::to_read;
-use actor_net::Choice;
+use actor_net::{Choice, Choices};
 use basics::NoMemory;
 use journal_file::{JournalFault, read_journal, read_journal_from, write_journal};
 use nf_function::Kind;
 use nf_io::{Failed, Role, RoleSource, Source};
 use std::alloc::Global;
+use std::process::Abort;
 use std::test::Fail;
 
 /// A move of one unit between two instances of the connection tracker: 38 choices.
@@ -74,12 +75,20 @@ fn fault_of_source(
 #[test]
 fn a_move_is_read_and_written_again(rt: HostRuntime) -> Result<(), Fail> {
     let choices = read_journal(rt.alloc(), &MOVE, Kind::Conntrack, 2)?;
-    assert_eq!(rt; choices.len(), 38);
-    assert_eq!(rt; choices.iter().nth(3), Some(Choice { node: 2, port: 1 }));
-    assert_eq!(rt; choices.iter().last(), Some(Choice { node: 0, port: 3 }));
+    see_choices(&rt, &choices);
     let bytes = write_journal(rt.alloc(), Kind::Conntrack, 2, &choices)?;
     assert_eq!(rt; bytes.items(), &MOVE[..]);
     Ok(())
+}
+
+/// Looks at the choices of [`MOVE`].
+fn see_choices(rt: &impl Abort, choices: &Choices) {
+    let fourth = Choice { node: 2, port: 1 };
+    let last = Choice { node: 0, port: 3 };
+    assert_eq!(rt;
+        (choices.len(), choices.iter().nth(3), choices.iter().last()),
+        (38, Some(fourth), Some(last))
+    );
 }
 
 #[test]
@@ -103,14 +112,21 @@ fn the_first_fault_of_a_header_is_answered(rt: HostRuntime) -> Result<(), Fail> 
 
 #[test]
 fn choices_end_exactly(rt: HostRuntime) -> Result<(), Fail> {
-    let alloc = rt.alloc();
-    assert!(rt; both_answer(alloc, &[0x58; 15], b"", Some(JournalFault::Short))?);
-    assert!(rt; both_answer(alloc, &MOVE, b"", None)?);
-    assert!(rt; both_answer(alloc, &MOVE[..91], b"", Some(JournalFault::Short))?);
-    assert!(rt; both_answer(alloc, &MOVE, b"x", Some(JournalFault::Extra))?);
     let none = counted([0; 4]);
-    assert!(rt; both_answer(alloc, &none, b"", None)?);
-    assert!(rt; both_answer(alloc, &none, b"x", Some(JournalFault::Extra))?);
+    let journals: [(&[u8], &[u8], Option<JournalFault>); 6] = [
+        (&[0x58; 15], b"", Some(JournalFault::Short)),
+        (&MOVE, b"", None),
+        (&MOVE[..91], b"", Some(JournalFault::Short)),
+        (&MOVE, b"x", Some(JournalFault::Extra)),
+        (&none, b"", None),
+        (&none, b"x", Some(JournalFault::Extra)),
+    ];
+    for (header, rest, wanted) in journals {
+        assert!(rt;
+            both_answer(rt.alloc(), header, rest, wanted)?,
+            "{wanted:?}"
+        );
+    }
     Ok(())
 }
 
@@ -153,11 +169,14 @@ impl Source for Endless {
 
 #[test]
 fn no_byte_after_the_fault_is_taken(rt: HostRuntime) -> Result<(), Fail> {
-    let mut endless = Endless { taken: 0 };
-    let answer = read_journal_from(rt.alloc(), &mut endless, Kind::Conntrack, 2).err();
-    assert_eq!(rt; (answer, endless.taken), (Some(JournalFault::Extra), 93));
-    let mut endless = Endless { taken: 0 };
-    let answer = read_journal_from(rt.alloc(), &mut endless, Kind::Nat, 2).err();
-    assert_eq!(rt; (answer, endless.taken), (Some(JournalFault::Kind), 16));
+    let faults = [
+        (Kind::Conntrack, JournalFault::Extra, 93),
+        (Kind::Nat, JournalFault::Kind, 16),
+    ];
+    for (kind, fault, taken) in faults {
+        let mut endless = Endless { taken: 0 };
+        let answer = read_journal_from(rt.alloc(), &mut endless, kind, 2).err();
+        assert_eq!(rt; (answer, endless.taken), (Some(fault), taken));
+    }
     Ok(())
 }

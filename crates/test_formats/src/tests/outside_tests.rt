@@ -7,10 +7,11 @@ ghost use Rattle.nf_io.specs.Memory.{seen_in};
 use basics::NoMemory;
 use nf_io::{
     CalmOutside, Failed, FileOutside, HostSystem, MemoryOutside, Outside, Role, RoleSink,
-    RoleSource, Sink, Source, System, read_upto, write_all,
+    RoleSource, Sink, Source, System, UptoFault, read_upto, write_all,
 };
 use std::alloc::Global;
 use std::io::{ErrorKind, Read, Write};
+use std::process::Abort;
 use std::test::Fail;
 use std::{env, fs, io, process};
 
@@ -58,11 +59,19 @@ fn write_all_leaves_a_front_where_a_write_fails(rt: HostRuntime) -> Result<(), F
         outside: &mut outside,
         role: Role::Report,
     };
-    assert_eq!(rt; write_all(&mut sink, b"abc"), Ok(()));
-    assert_eq!(rt; write_all(&mut sink, b"d"), Err(Failed));
-    assert_eq!(rt; sink.write(b"efg"), Ok(2));
+    see_third_fail(&rt, &mut sink);
     assert_eq!(rt; outside.written(Role::Report), b"abcef".as_slice());
     Ok(())
+}
+
+/// Writes to a sink that takes two bytes at once and whose third write fails.
+fn see_third_fail<S: Sink>(rt: &impl Abort, sink: &mut S)
+    requires { S.IsOpen sink.old }
+{
+    let first = write_all(sink, b"abc");
+    let second = write_all(sink, b"d");
+    let third = sink.write(b"efg");
+    assert_eq!(rt; (first, second, third), (Ok(()), Err(Failed), Ok(2)));
 }
 
 #[test]
@@ -73,10 +82,24 @@ fn read_upto_takes_all_or_one_more_than_the_most(rt: HostRuntime) -> Result<(), 
         outside: &mut outside,
         role: Role::JournalIn,
     };
-    let front = read_upto(rt.alloc(), &mut source, 3)?;
-    assert_eq!(rt; front.items(), b"abcd".as_slice());
-    let rest = read_upto(rt.alloc(), &mut source, 2)?;
-    assert_eq!(rt; rest.items(), b"ef".as_slice());
+    see_upto(&rt, rt.alloc(), &mut source, 3, b"abcd")?;
+    see_upto(&rt, rt.alloc(), &mut source, 2, b"ef")?;
+    Ok(())
+}
+
+/// Reads up to so many bytes, which must be these.
+fn see_upto<S: Source>(
+    rt: &impl Abort,
+    alloc: Global,
+    source: &mut S,
+    most: u64,
+    wanted: &[u8],
+) -> Result<(), UptoFault>
+    requires { S.IsOpen source.old }
+    ensures { S.IsOpen source.new }
+{
+    let found = read_upto(alloc, source, most)?;
+    assert_eq!(rt; found.items(), wanted);
     Ok(())
 }
 
@@ -180,8 +203,13 @@ fn bound<S: System + Drop>(
     ensures written { is_read role ≡ false → IfOk result (λ outside. CanWrite role (⟦<FileOutside<S> as Outside>⟧.seen outside role)) }
 {
     let mut outside = FileOutside::over(system, alloc);
-    outside.bind(role, name)?;
-    Ok(outside)
+    match outside.bind(role, name) {
+        Ok(()) => Ok(outside),
+        Err(fault) => {
+            drop(outside);
+            Err(fault)
+        }
+    }
 }
 
 #[test]
@@ -192,17 +220,27 @@ fn a_signal_is_no_fault_and_a_failed_read_is_no_end(rt: HostRuntime) -> Result<(
         outside: &mut outside,
         role: Role::Trace,
     };
-    let mut buf = [0; 3];
-    assert_eq!(rt; source.read(&mut buf), Ok(3));
-    assert_eq!(rt; buf, *b"abc");
-    assert_eq!(rt; source.read(&mut buf), Ok(1));
-    assert_eq!(rt; buf[0], b'd');
-    assert_eq!(rt; source.read(&mut buf), Err(Failed));
-    assert_eq!(rt; source.read(&mut buf), Ok(3));
-    assert_eq!(rt; buf, *b"efg");
-    assert_eq!(rt; source.read(&mut buf), Ok(1));
-    assert_eq!(rt; source.read(&mut buf), Ok(0));
+    see_read(&rt, &mut source, Ok(b"abc"));
+    see_read(&rt, &mut source, Ok(b"d"));
+    see_read(&rt, &mut source, Err(Failed));
+    see_read(&rt, &mut source, Ok(b"efg"));
+    see_read(&rt, &mut source, Ok(b"h"));
+    see_read(&rt, &mut source, Ok(b""));
+    drop(outside);
     Ok(())
+}
+
+/// Reads at most three bytes, which must be these.
+fn see_read<S: Source>(rt: &impl Abort, source: &mut S, wanted: Result<&[u8], Failed>)
+    requires { S.IsOpen source.old }
+    ensures { S.IsOpen source.new }
+{
+    let mut buf = [0; 3];
+    let read = match source.read(&mut buf) {
+        Ok(count) => Ok(&buf[..count]),
+        Err(fault) => Err(fault),
+    };
+    assert_eq!(rt; read, wanted);
 }
 
 #[test]
@@ -214,6 +252,12 @@ fn a_signal_is_no_fault_of_a_write(rt: HostRuntime) -> Result<(), Fail> {
         role: Role::JournalOut,
     };
     assert_eq!(rt; sink.write(b"xyz"), Ok(2));
+    drop(outside);
+    Ok(())
+}
+
+#[test]
+fn a_signal_is_no_fault_of_a_report(rt: HostRuntime) {
     let system = Interrupted { calls: 0, reads: 0 };
     let mut outside = FileOutside::over(system, rt.alloc());
     let mut sink = RoleSink {
@@ -221,7 +265,7 @@ fn a_signal_is_no_fault_of_a_write(rt: HostRuntime) -> Result<(), Fail> {
         role: Role::Report,
     };
     assert_eq!(rt; sink.write(b"xyz"), Ok(2));
-    Ok(())
+    drop(outside);
 }
 
 #[test]
@@ -230,23 +274,47 @@ fn what_is_written_to_a_file_is_read_under_its_name(rt: HostRuntime) -> Result<(
     let id = process::id(rt.process());
     let name = format!(in rt.alloc(); "{folder}/nf_io-{id}")?;
     let system = HostSystem { rt: rt.clone()? };
-    let mut outside = bound(system, rt.alloc(), Role::JournalOut, name.as_str())?;
+    see_written(&rt, rt.alloc(), system, name.as_str())?;
+    let system = HostSystem { rt: rt.clone()? };
+    see_read_back(&rt, rt.alloc(), system, name.as_str())?;
+    fs::remove_file(&rt, name.as_str())?;
+    Ok(())
+}
+
+/// Writes a journal in two parts to the file with this name.
+fn see_written(
+    rt: &impl Abort,
+    alloc: Global,
+    system: HostSystem<HostRuntime>,
+    name: &str,
+) -> Result<(), NoMemory> {
+    let mut outside = bound(system, alloc, Role::JournalOut, name)?;
     let mut sink = RoleSink {
         outside: &mut outside,
         role: Role::JournalOut,
     };
-    assert_eq!(rt; write_all(&mut sink, b"jour"), Ok(()));
-    assert_eq!(rt; write_all(&mut sink, b"nal"), Ok(()));
-    let system = HostSystem { rt: rt.clone()? };
-    let mut outside = bound(system, rt.alloc(), Role::Script, name.as_str())?;
+    let written = (write_all(&mut sink, b"jour"), write_all(&mut sink, b"nal"));
+    assert_eq!(rt; written, (Ok(()), Ok(())));
+    drop(outside);
+    Ok(())
+}
+
+/// Reads that file as a script.
+fn see_read_back(
+    rt: &impl Abort,
+    alloc: Global,
+    system: HostSystem<HostRuntime>,
+    name: &str,
+) -> Result<(), NoMemory> {
+    let mut outside = bound(system, alloc, Role::Script, name)?;
     let mut source = RoleSource {
         outside: &mut outside,
         role: Role::Script,
     };
     let mut buf = [0; 8];
-    assert_eq!(rt; source.read(&mut buf), Ok(7));
-    assert_eq!(rt; buf, *b"journal\0");
+    let read = source.read(&mut buf);
+    assert_eq!(rt; (read, buf), (Ok(7), *b"journal\0"));
     assert_eq!(rt; source.read(&mut buf), Ok(0));
-    fs::remove_file(&rt, name.as_str())?;
+    drop(outside);
     Ok(())
 }

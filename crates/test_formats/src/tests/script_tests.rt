@@ -1,11 +1,13 @@
 //! Tests of `op_script`: scripts that are read, printed, and laid between packets; and instances, packets and what is shown of them for other tests.
-ghost use Rattle.std.specs.Prelude.{◌≡◌, true, All, IfOk};
+ghost use Rattle.std.specs.Prelude.{◌≡◌, ◌≤◌, ◌^◌, true, length, All, IfOk};
 ghost use Rattle.std.specs.Option.{ForSome};
 ghost use Rattle.flow_filter.specs.Filter.{IsFilter};
 ghost use Rattle.nf_function.specs.Units.{is_transport};
 ghost use Rattle.trace_reader.specs.Records.{AreNumbered};
 ghost use Rattle.op_script.specs.LineFilters.{what_filter};
 
+use basics::Text;
+use flow_filter::Name;
 use nf_function::Kind;
 use nf_msgs::{Command, Msg, Order};
 use op_script::{
@@ -73,29 +75,48 @@ fn the_first_line_that_breaks_a_rule_is_refused(rt: HostRuntime) -> Result<(), F
 
 #[test]
 fn the_canonical_text_has_one_space_between_words(rt: HostRuntime) -> Result<(), Fail> {
-    let names = names(rt.alloc())?;
     let text =
         b"# x\nroute  local=10.0.0.9 b\nat 1 move a b rport=80,proto=tcp order\nat 1\tcopy b a all\nat 2 share b,a any strict\nat 2 settle";
-    let script = read_script(rt.alloc(), text.as_slice(), Kind::Conntrack, names.items())?;
-    let printed = print_script(rt.alloc(), &script, names.items())?;
+    let names = names(rt.alloc())?;
+    let printed = canonical(rt.alloc(), text, names.items())?;
     let expected =
         b"route local=10.0.0.9/32 b\nat 1 move a b proto=tcp,rport=80 order\nat 1 copy b a all\nat 2 share b,a any strict\nat 2 settle\n";
     assert_eq!(rt; printed.items(), expected.as_slice());
     Ok(())
 }
 
+/// The canonical text of a script for the connection tracker.
+fn canonical(alloc: Global, text: &[u8], names: &[Name]) -> Result<Text, Fail>
+    requires { length names.now ≤ 2 ^ 8 }
+{
+    let script = read_script(alloc, text, Kind::Conntrack, names)?;
+    Ok(print_script(alloc, &script, names)?)
+}
+
 #[test]
 fn lines_in_any_order_stand_after_their_packets(rt: HostRuntime) -> Result<(), Fail> {
-    let mut lines = Vec::new(rt.alloc());
-    for (at, op) in [(1, 0), (0, 1), (9, 0), (1, 2), (7, 3)] {
-        let what = what_of(rt.alloc(), op)?;
-        lines.push(Line { at, what })?;
-    }
-    let routes = Vec::new(rt.alloc());
-    let script = Script { routes, lines };
-    let input = items(rt.alloc(), two_packets(rt.alloc())?, &script)?;
+    let input = between_packets(rt.alloc(), two_packets(rt.alloc())?)?;
     let (kinds, _numbers) = shown(rt.alloc(), input.as_slice())?;
     assert_eq!(rt; kinds.as_slice(), b"cpscpsce".as_slice());
+    Ok(())
+}
+
+/// The input of packets and of lines that don't stand in the order of their points.
+fn between_packets(alloc: Global, packets: PacketItems) -> Result<Vec<Msg>, Fail> {
+    let mut script = Script {
+        routes: Vec::new(alloc),
+        lines: Vec::new(alloc),
+    };
+    push_lines(alloc, &mut script.lines)?;
+    Ok(items(alloc, packets, &script)?)
+}
+
+/// Puts lines that don't stand in the order of their points after others.
+fn push_lines(alloc: Global, lines: &mut Vec<Line>) -> Result<(), Fail> {
+    for (at, op) in [(1, 0), (0, 1), (9, 0), (1, 2), (7, 3)] {
+        let what = what_of(alloc, op)?;
+        lines.push(Line { at, what })?;
+    }
     Ok(())
 }
 

@@ -10,6 +10,7 @@ use command_words::{ArgumentsFault, CalmRequest, InstanceWords, Request, parse_c
 use flow_filter::{Filter, Prefix, Site};
 use nf_function::Kind;
 use std::alloc::Global;
+use std::process::Abort;
 use std::test::Fail;
 
 /// The words of a line.
@@ -20,7 +21,7 @@ fn split(alloc: Global, line: &str) -> Result<Vec<String>, NoMemory> {
 }
 
 /// The command that a reading asks for.
-fn asked(reading: Result<Request<'_>, ArgumentsFault>) -> &'static str {
+fn asked(reading: &Result<Request<'_>, ArgumentsFault>) -> &'static str {
     match reading {
         Ok(Request::Run(_)) => "run",
         Ok(Request::Calm(CalmRequest::Sim(..))) => "sim",
@@ -42,19 +43,30 @@ fn first_wrong(
     lines: &[&'static str],
 ) -> Result<Option<&'static str>, NoMemory> {
     for line in lines {
-        let words = split(alloc, line)?;
-        if asked(parse_command(alloc, words.as_slice())) != command {
+        if command_of(alloc, line)? != command {
             return Ok(Some(*line));
         }
     }
     Ok(None)
 }
 
+/// The command that the words of a line ask for.
+fn command_of(alloc: Global, line: &str) -> Result<&'static str, NoMemory> {
+    let words = split(alloc, line)?;
+    let reading = parse_command(alloc, words.as_slice());
+    let command = asked(&reading);
+    drop(reading);
+    Ok(command)
+}
+
 /// The command that words ask for, of those that start no threads.
 fn calm_request(alloc: Global, words: &[String]) -> Result<CalmRequest<'_>, Fail> {
     match parse_command(alloc, words) {
         Ok(Request::Calm(asked)) => Ok(asked),
-        Ok(Request::Run(_)) | Err(_) => Err("no calm command".into()),
+        other => {
+            drop(other);
+            Err("no calm command".into())
+        }
     }
 }
 
@@ -86,7 +98,15 @@ fn words_ask_for_a_command_or_are_refused(rt: HostRuntime) -> Result<(), Fail> {
 #[test]
 fn gen_gives_its_numbers_and_the_file(rt: HostRuntime) -> Result<(), Fail> {
     let words = split(rt.alloc(), "x gen 7 --hosts 200 --packets 10000 t")?;
-    let CalmRequest::Gen(asked) = calm_request(rt.alloc(), words.as_slice())? else {
+    let asked = calm_request(rt.alloc(), words.as_slice())?;
+    let seen = see_gen(&rt, &asked);
+    drop(asked);
+    seen
+}
+
+/// Looks at what `gen` gives.
+fn see_gen(rt: &impl Abort, asked: &CalmRequest<'_>) -> Result<(), Fail> {
+    let CalmRequest::Gen(asked) = asked else {
         return Err("no gen".into());
     };
     assert_eq!(rt;
@@ -106,13 +126,23 @@ fn rows_of(alloc: Global, rows: &[InstanceWords]) -> Result<Vec<(u32, bool)>, No
 #[test]
 fn check_gives_the_instances_and_the_file(rt: HostRuntime) -> Result<(), Fail> {
     let words = split(rt.alloc(), "x check nat --instances a,b:5,c:v1,d:0:v1 s")?;
-    let CalmRequest::Check(checking) = calm_request(rt.alloc(), words.as_slice())? else {
+    let asked = calm_request(rt.alloc(), words.as_slice())?;
+    let seen = see_check(&rt, rt.alloc(), &asked);
+    drop(asked);
+    seen
+}
+
+/// Looks at what `check` gives.
+fn see_check(rt: &impl Abort, alloc: Global, asked: &CalmRequest<'_>) -> Result<(), Fail> {
+    let CalmRequest::Check(checking) = asked else {
         return Err("no check".into());
     };
-    assert_eq!(rt; checking.script, "s");
-    let rows = rows_of(rt.alloc(), checking.instances.rows.as_slice())?;
+    let rows = rows_of(alloc, checking.instances.rows.as_slice())?;
     let expected = [(1_000_000, false), (5, false), (1_000_000, true), (0, true)];
-    assert_eq!(rt; rows.as_slice(), expected.as_slice());
+    assert_eq!(rt;
+        (checking.script, rows.as_slice()),
+        ("s", expected.as_slice())
+    );
     Ok(())
 }
 
@@ -121,11 +151,36 @@ fn sim_gives_all_that_its_words_say(rt: HostRuntime) -> Result<(), Fail> {
     let line =
         "x sim nat --instances a,b:5:v1 --inside 10.0.0.0/24 --outside 203.0.113.1 --window 7 --schedule 9 --journal j --summary t s";
     let words = split(rt.alloc(), line)?;
-    let CalmRequest::Sim(asked, schedule) = calm_request(rt.alloc(), words.as_slice())? else {
+    let asked = calm_request(rt.alloc(), words.as_slice())?;
+    let seen = see_sim(&rt, &asked);
+    drop(asked);
+    seen
+}
+
+/// Looks at what `sim` gives where nothing is left out.
+fn see_sim(rt: &impl Abort, asked: &CalmRequest<'_>) -> Result<(), Fail> {
+    let CalmRequest::Sim(asked, schedule) = asked else {
         return Err("no sim".into());
     };
-    assert_eq!(rt; asked.kind, Kind::Nat);
-    let [a, b] = asked.instances.rows.as_slice() else {
+    let inside = Prefix {
+        bits: 0x0a00_0000,
+        len: 24,
+    };
+    let outside = Some(0xcb00_7101);
+    assert_eq!(rt;
+        (asked.kind, asked.site, asked.window, *schedule),
+        (Kind::Nat, Site { inside, outside }, 7, Schedule::Number(9))
+    );
+    assert_eq!(rt;
+        (asked.journal, asked.summary, asked.trace, asked.script),
+        (Some("j"), true, "t", Some("s"))
+    );
+    see_instances(rt, asked.instances.rows.as_slice())
+}
+
+/// Looks at the two instances that `sim` gives.
+fn see_instances(rt: &impl Abort, rows: &[InstanceWords]) -> Result<(), Fail> {
+    let [a, b] = rows else {
         return Err(Fail::from("not two instances"));
     };
     assert_eq!(rt;
@@ -136,27 +191,30 @@ fn sim_gives_all_that_its_words_say(rt: HostRuntime) -> Result<(), Fail> {
         (b.name.items(), b.limit, b.reads_old),
         ("b".as_bytes(), 5, true)
     );
-    let inside = Prefix {
-        bits: 0x0a00_0000,
-        len: 24,
-    };
-    let outside = Some(0xcb00_7101);
-    assert_eq!(rt; asked.site, Site { inside, outside });
-    assert_eq!(rt; (asked.window, schedule), (7, Schedule::Number(9)));
-    assert_eq!(rt; (asked.journal, asked.summary), (Some("j"), true));
-    assert_eq!(rt; (asked.trace, asked.script), ("t", Some("s")));
     Ok(())
 }
 
 #[test]
 fn what_sim_may_leave_out_has_its_own_value(rt: HostRuntime) -> Result<(), Fail> {
-    let line = "x sim monitor --instances a --inside 10.0.0.0/8 t";
-    let words = split(rt.alloc(), line)?;
-    let CalmRequest::Sim(asked, schedule) = calm_request(rt.alloc(), words.as_slice())? else {
+    let words = split(
+        rt.alloc(),
+        "x sim monitor --instances a --inside 10.0.0.0/8 t",
+    )?;
+    let asked = calm_request(rt.alloc(), words.as_slice())?;
+    let seen = see_bare_sim(&rt, &asked);
+    drop(asked);
+    seen
+}
+
+/// Looks at what `sim` gives where all is left out that may be.
+fn see_bare_sim(rt: &impl Abort, asked: &CalmRequest<'_>) -> Result<(), Fail> {
+    let CalmRequest::Sim(asked, schedule) = asked else {
         return Err("no sim".into());
     };
-    assert_eq!(rt; (asked.kind, asked.site.outside), (Kind::Monitor, None));
-    assert_eq!(rt; (asked.window, schedule), (256, Schedule::First));
+    assert_eq!(rt;
+        (asked.kind, asked.site.outside, asked.window, *schedule),
+        (Kind::Monitor, None, 256, Schedule::First)
+    );
     assert_eq!(rt;
         (asked.journal, asked.summary, asked.script),
         (None, false, None)
@@ -169,13 +227,26 @@ fn fail_gives_the_places_of_two_instances(rt: HostRuntime) -> Result<(), Fail> {
     let line =
         "x fail conntrack --instances a,b:5,c --inside 10.0.0.0/24 --journal j --failed c --to b --after 14 t s";
     let words = split(rt.alloc(), line)?;
-    let CalmRequest::Fail(asked) = calm_request(rt.alloc(), words.as_slice())? else {
+    let asked = calm_request(rt.alloc(), words.as_slice())?;
+    let seen = see_fail(&rt, &asked);
+    drop(asked);
+    seen
+}
+
+/// Looks at what `fail` gives.
+fn see_fail(rt: &impl Abort, asked: &CalmRequest<'_>) -> Result<(), Fail> {
+    let CalmRequest::Fail(asked) = asked else {
         return Err("no fail".into());
     };
-    assert_eq!(rt; (asked.failed, asked.to, asked.after), (2, 1, 14));
     assert_eq!(rt;
-        (asked.network.journal, asked.network.script),
-        (Some("j"), Some("s"))
+        (
+            asked.failed,
+            asked.to,
+            asked.after,
+            asked.network.journal,
+            asked.network.script
+        ),
+        (2, 1, 14, Some("j"), Some("s"))
     );
     Ok(())
 }
@@ -186,13 +257,20 @@ fn published_gives_its_numbers_and_the_file(rt: HostRuntime) -> Result<(), Fail>
         rt.alloc(),
         "x published conntrack --inside 10.0.0.0/24 --window 8 --schedule 9 t 7 any",
     )?;
-    let CalmRequest::Published(asked, schedule) = calm_request(rt.alloc(), words.as_slice())? else {
+    let asked = calm_request(rt.alloc(), words.as_slice())?;
+    let seen = see_published(&rt, &asked);
+    drop(asked);
+    seen
+}
+
+/// Looks at what `published` gives.
+fn see_published(rt: &impl Abort, asked: &CalmRequest<'_>) -> Result<(), Fail> {
+    let CalmRequest::Published(asked, schedule) = asked else {
         return Err("no published".into());
     };
-    assert_eq!(rt; (asked.window, asked.at, asked.trace), (8, 7, "t"));
     assert_eq!(rt;
-        (asked.filter, schedule),
-        (Filter::ANY, Schedule::Number(9))
+        (asked.window, asked.at, asked.trace, asked.filter, *schedule),
+        (8, 7, "t", Filter::ANY, Schedule::Number(9))
     );
     Ok(())
 }
@@ -203,17 +281,24 @@ fn strong_gives_its_names_its_filter_and_the_file(rt: HostRuntime) -> Result<(),
         rt.alloc(),
         "x strong conntrack --instances a,b7 --inside 10.0.0.0/24 --window 8 --schedule 9 t",
     )?;
-    let CalmRequest::Strong(asked, schedule) = calm_request(rt.alloc(), words.as_slice())? else {
+    let asked = calm_request(rt.alloc(), words.as_slice())?;
+    let seen = see_strong(&rt, &asked);
+    drop(asked);
+    seen
+}
+
+/// Looks at what `strong` gives.
+fn see_strong(rt: &impl Abort, asked: &CalmRequest<'_>) -> Result<(), Fail> {
+    let CalmRequest::Strong(asked, schedule) = asked else {
         return Err("no strong".into());
     };
     let [a, b] = asked.names.items() else {
         return Err(Fail::from("not two names"));
     };
     assert_eq!(rt; (a.items(), b.items()), (b"a".as_slice(), b"b7".as_slice()));
-    assert_eq!(rt; (asked.window, asked.trace), (8, "t"));
     assert_eq!(rt;
-        (asked.filter, schedule),
-        (Filter::ANY, Schedule::Number(9))
+        (asked.window, asked.trace, asked.filter, *schedule),
+        (8, "t", Filter::ANY, Schedule::Number(9))
     );
     Ok(())
 }
