@@ -1,27 +1,31 @@
 //! Tests of the reports of runs by their whole texts.
-ghost use Rattle.std.specs.Prelude.{◌≡◌, ◌<◌, length, IfOk};
-ghost use Rattle.net_world.specs.Start.{IsConfig};
+ghost use Rattle.std.specs.Prelude.{◌<◌};
 
 use actor_net::{Actor, Choices, Outbox, Schedule, World, run_schedule};
-use basics::{Boxed, NoMemory, Text};
+use basics::Text;
 use conn_tracker::Conntrack;
 use event_filter::Mark;
-use flow_filter::{CapturedPacket, Filter, Name, Packet, Prefix, Sequence, Site, UDP};
+use flow_filter::{Filter, Prefix};
 use instance_worker::Instance;
-use net_world::{Config, Node, start};
+use net_world::{Node, start};
 use nf_function::Kind;
-use nf_msgs::{Command, Msg, Names, Order};
-use packet_pool::Pool;
-use run_report::{AuditFault, Head, audit, report};
+use nf_msgs::{MOST_INSTANCES, Msg};
+use run_report::{Head, audit, report};
 use std::alloc::Global;
 use std::test::Fail;
+use test_packets::{SITE, names, packet, parcel, reverse};
+use test_scenes::{Asked, came, command, config};
 
-const SITE: Site = Site {
-    inside: Prefix {
-        bits: 0x0a00_0000,
-        len: 24,
-    },
-    outside: None,
+/// How many packets may be under way.
+const WINDOW: u32 = 4;
+
+/// The flows of 10.0.0.1.
+const FIRST_HOST: Filter = Filter {
+    local: Some(Prefix {
+        bits: 0x0a00_0001,
+        len: 32,
+    }),
+    ..Filter::ANY
 };
 
 /// What the switch takes in.
@@ -37,70 +41,19 @@ enum Word {
     End,
 }
 
-/// A UDP packet without a time, with 20 bytes of payload.
-fn packet(number: u32, src: u32, sport: u16, dst: u32, dport: u16) -> Packet {
-    Packet {
-        nanos: 0,
-        number,
-        src,
-        dst,
-        length: 20,
-        sport,
-        dport,
-        proto: UDP,
-        flags: 0,
-        held: 0,
-        head: [0; 64],
-    }
-}
-
-/// The address of a host inside.
-fn host(h: u8) -> u32 {
-    0x0a00_0000 + u32::from(h)
-}
-
-/// The address outside.
-const PEER: u32 = 0xc000_0209;
-
-/// The message of a packet.
-fn packet_in(alloc: Global, packet: Packet) -> Result<Msg, NoMemory> {
-    Ok(Msg::InPacket(CapturedPacket::of(alloc, &packet)?))
-}
-
-/// A command to move the records of 10.0.0.1 from a.
-fn command(alloc: Global, op: u32, letter: u8) -> Result<Msg, NoMemory> {
-    let (Some(src), Some(dst)) = (Name::read(alloc, b"a")?, Name::read(alloc, &[letter])?) else {
-        return Ok(Msg::InSettle);
-    };
-    let filter = Filter {
-        local: Some(Prefix {
-            bits: 0x0a00_0001,
-            len: 32,
-        }),
-        ..Filter::ANY
-    };
-    let what = Order::Move {
-        src,
-        dst,
-        filter,
-        keep: true,
-    };
-    Ok(Msg::InCommand(Boxed::new(alloc, Command { op, what })?))
-}
-
 /// The message of a word.
-fn message(alloc: Global, word: Word) -> Result<Msg, NoMemory> {
+fn message(alloc: Global, word: Word) -> Result<Msg, Fail> {
     match word {
-        Word::Sent(number, h) => packet_in(alloc, packet(number, host(h), 5000, PEER, 53)),
-        Word::Received(number, h) => packet_in(alloc, packet(number, PEER, 53, host(h), 5000)),
-        Word::Move(op, letter) => command(alloc, op, letter),
+        Word::Sent(number, h) => Ok(came(alloc, SITE, packet(number, h, 5000))?),
+        Word::Received(number, h) => Ok(came(alloc, SITE, reverse(packet(number, h, 5000)))?),
+        Word::Move(op, letter) => command(alloc, op, Asked::Move, letter, FIRST_HOST),
         Word::Settle => Ok(Msg::InSettle),
         Word::End => Ok(Msg::InEnd),
     }
 }
 
 /// The messages of words.
-fn input(alloc: Global, words: &[Word]) -> Result<Vec<Msg>, NoMemory> {
+fn input(alloc: Global, words: &[Word]) -> Result<Vec<Msg>, Fail> {
     let mut items = Vec::new(alloc);
     for word in words {
         items.push(message(alloc, *word)?)?;
@@ -108,54 +61,16 @@ fn input(alloc: Global, words: &[Word]) -> Result<Vec<Msg>, NoMemory> {
     Ok(items)
 }
 
-/// The names a and b.
-fn names(alloc: Global) -> Result<Names, Fail>
-    ensures { IfOk result (λ names. length names ≡ 2) }
-{
-    let mut names = Names::open(alloc);
-    names.push(Name::read(alloc, b"a")?.ok_or("no name")?)?;
-    names.push(Name::read(alloc, b"b")?.ok_or("no name")?)?;
-    Ok(names)
-}
-
-/// A network of the instances a and b, where all packets go to a at first.
-fn config(alloc: Global) -> Result<Config, Fail>
-    ensures { IfOk result IsConfig }
-{
-    let mut limits = Sequence::open(alloc);
-    limits.push(9)?;
-    limits.push(9)?;
-    let mut marked = Sequence::open(alloc);
-    marked.push(false)?;
-    marked.push(false)?;
-    Ok(Config {
-        names: names(alloc)?,
-        limits,
-        marked,
-        site: SITE,
-        window: 4,
-        routes: Sequence::open(alloc),
-    })
-}
-
 /// What the reports repeat.
 fn head(alloc: Global) -> Result<Head, Fail> {
     Ok(Head {
         kind: Kind::Conntrack,
         names: names(alloc)?,
-        window: 4,
+        window: WINDOW,
         packets: 4,
         skipped: 2,
         cut: true,
     })
-}
-
-/// The report of the run with this input. The schedule takes the first choice, so that the switch reads on before a takes packets, and a before b.
-fn reported(alloc: Global, words: &[Word], summary: bool) -> Result<Text, Fail> {
-    let head = head(alloc)?;
-    let world = start::<Conntrack>(alloc, &config(alloc)?, input(alloc, words)?)?;
-    let (world, _choices) = run_schedule(alloc, world, Schedule::First)?;
-    Ok(report(alloc, &head, &world, summary)?)
 }
 
 /// Packets of 10.0.0.2 and 10.0.0.1, whose records move to b, and a move to an instance that isn't there.
@@ -171,9 +86,40 @@ static WORDS: [Word; 9] = [
     Word::End,
 ];
 
-#[test]
-fn a_report_has_each_packet_command_and_record(rt: HostRuntime) -> Result<(), Fail> {
-    let whole = "opennf report 1
+/// The run with this input, and its choices. The schedule takes the first choice, so that the switch reads on before a takes packets, and a before b.
+fn ran(alloc: Global) -> Result<(World<Node<Conntrack>>, Choices), Fail> {
+    let config = config(alloc, WINDOW, 9, false)?;
+    let world = start::<Conntrack>(alloc, &config, input(alloc, &WORDS)?)?;
+    Ok(run_schedule(alloc, world, Schedule::First)?)
+}
+
+/// The report of that run.
+fn reported(alloc: Global, summary: bool) -> Result<Text, Fail> {
+    let head = head(alloc)?;
+    let (world, _choices) = ran(alloc)?;
+    Ok(report(alloc, &head, &world, summary)?)
+}
+
+/// The choices of that run.
+fn choices(alloc: Global) -> Result<Choices, Fail> {
+    let (world, choices) = ran(alloc)?;
+    drop(world);
+    Ok(choices)
+}
+
+/// The report of the audit of these choices.
+fn audited(alloc: Global, summary: bool) -> Result<Text, Fail> {
+    let (config, head) = (config(alloc, WINDOW, 9, false)?, head(alloc)?);
+    let choices = choices(alloc)?;
+    let items = input(alloc, &WORDS)?;
+    Ok(audit::<Conntrack>(alloc, &config, items, &head, &choices, summary)?)
+}
+
+/// The report of that run, and its summary.
+static REPORTS: [(bool, &str); 2] = [
+    (
+        false,
+        "opennf report 1
 function conntrack instances 2 window 4
 trace packets 4 skipped 2 cut
 out 1 single
@@ -191,15 +137,11 @@ state udp 10.0.0.2:5000 192.0.2.9:53 a single out packets 2 bytes 40
 tally a 3 0
 tally b 0 1
 end
-";
-    let text = reported(rt.alloc(), &WORDS, false)?;
-    assert_eq!(rt; text.items(), whole.as_bytes());
-    Ok(())
-}
-
-#[test]
-fn a_summary_counts_the_records(rt: HostRuntime) -> Result<(), Fail> {
-    let summary = "opennf report 1
+",
+    ),
+    (
+        true,
+        "opennf report 1
 function conntrack instances 2 window 4
 trace packets 4 skipped 2 cut
 answer 1 done
@@ -209,27 +151,41 @@ live b 1
 tally a 3 0
 tally b 0 1
 end
-";
-    let text = reported(rt.alloc(), &WORDS, true)?;
-    assert_eq!(rt; text.items(), summary.as_bytes());
+",
+    ),
+];
+
+#[test]
+fn a_report_has_each_packet_command_and_record_and_a_summary_counts(
+    rt: HostRuntime,
+) -> Result<(), Fail> {
+    for (summary, whole) in REPORTS {
+        let text = reported(rt.alloc(), summary)?;
+        assert_eq!(rt; text.items(), whole.as_bytes());
+    }
+    Ok(())
+}
+
+#[test]
+fn an_audit_of_a_run_is_its_report(rt: HostRuntime) -> Result<(), Fail> {
+    for (summary, whole) in REPORTS {
+        let text = audited(rt.alloc(), summary)?;
+        assert_eq!(rt; text.items(), whole.as_bytes());
+    }
     Ok(())
 }
 
 /// The message of a packet of a share whose home is elsewhere.
-fn shared(alloc: Global, h: u8) -> Result<Msg, Fail> {
-    let packet = Boxed::new(alloc, packet(1, host(h), 5000, PEER, 53))?;
-    match Pool::open(0, 1).take(packet) {
-        Ok(parcel) => Ok(Msg::Carry {
-            mark: Mark::Shared { op: 1, home: false },
-            parcel,
-        }),
-        Err(_packet) => Err("no cell".into()),
-    }
+fn shared(alloc: Global, host: u8) -> Result<Msg, Fail> {
+    Ok(Msg::Carry {
+        mark: Mark::Shared { op: 1, home: false },
+        parcel: parcel(alloc, packet(1, host, 5000))?,
+    })
 }
 
 /// An instance at which the records of 10.0.0.2 and 10.0.0.1 stand by.
 fn standing_by(alloc: Global, index: u8) -> Result<Node<Conntrack>, Fail>
-    requires { index < 16 }
+    requires { index < MOST_INSTANCES }
 {
     let mut instance = Instance::open(alloc, index, 9, false, SITE);
     let mut out = Outbox::open(alloc);
@@ -238,14 +194,18 @@ fn standing_by(alloc: Global, index: u8) -> Result<Node<Conntrack>, Fail>
     Ok(Node::Instance(instance))
 }
 
-#[test]
-fn records_that_stand_by_have_lines_by_unit_and_then_instance(rt: HostRuntime) -> Result<(), Fail> {
-    let alloc = rt.alloc();
+/// The report of two such instances.
+fn standbys(alloc: Global) -> Result<Text, Fail> {
     let mut nodes = Vec::new(alloc);
     nodes.push(standing_by(alloc, 0)?)?;
     nodes.push(standing_by(alloc, 1)?)?;
     let world = World::start(alloc, nodes, Vec::new(alloc))?;
-    let text = report(alloc, &head(alloc)?, &world, false)?;
+    Ok(report(alloc, &head(alloc)?, &world, false)?)
+}
+
+#[test]
+fn records_that_stand_by_have_lines_by_unit_and_then_instance(rt: HostRuntime) -> Result<(), Fail> {
+    let text = standbys(rt.alloc())?;
     let whole = "opennf report 1
 function conntrack instances 2 window 4
 trace packets 4 skipped 2 cut
@@ -258,35 +218,5 @@ tally b 0 2
 end
 ";
     assert_eq!(rt; text.items(), whole.as_bytes());
-    Ok(())
-}
-
-/// The choices of the run that `reported` tells of.
-fn scheduled(alloc: Global) -> Result<Choices, Fail> {
-    let world = start::<Conntrack>(alloc, &config(alloc)?, input(alloc, &WORDS)?)?;
-    let (_world, choices) = run_schedule(alloc, world, Schedule::First)?;
-    Ok(choices)
-}
-
-/// The audit of choices with the input of words.
-fn audited(
-    alloc: Global,
-    choices: &Choices,
-    summary: bool,
-) -> Result<Result<Text, AuditFault>, Fail> {
-    let items = input(alloc, &WORDS)?;
-    let (config, head) = (config(alloc)?, head(alloc)?);
-    Ok(audit::<Conntrack>(alloc, &config, items, &head, choices, summary))
-}
-
-#[test]
-fn an_audit_of_a_run_is_its_report(rt: HostRuntime) -> Result<(), Fail> {
-    let alloc = rt.alloc();
-    let choices = scheduled(alloc)?;
-    for summary in [false, true] {
-        let text = audited(alloc, &choices, summary)??;
-        let wanted = reported(alloc, &WORDS, summary)?;
-        assert_eq!(rt; text.items(), wanted.items());
-    }
     Ok(())
 }
