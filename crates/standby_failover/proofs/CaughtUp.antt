@@ -12,8 +12,6 @@ use Rattle.nf_function.specs.Semantics.{Semantics, kept_after}
 use Rattle.record_table.specs.Table.{Records, TableView, after_packet, same_unit}
 use Rattle.record_table.proofs.UnitOrder.{same_unit_equiv, same_unit-true}
 use Rattle.record_table.proofs.RecordLookUps.{get-after_packet}
-use Rattle.nf_msgs.specs.declared.msg.Msg.{Msg}
-use Rattle.net_world.specs.declared.config.Config.{Config}
 use Rattle.net_world.specs.Fold.{arrived_of, fold, is_of}
 use Rattle.net_world.specs.Input.{packet_numbered, packets}
 use Rattle.net_world.specs.Log.{arrivals_in}
@@ -210,15 +208,10 @@ after_both f site records [] qs = refl
 after_both f site records (p ∷ ps) qs = after_both f site (after_packet f site records p) ps qs
 
 -- steps on one list and then on another, as one clause
-pub joined_live : {R : Type 0} (f : Semantics R) (site : Site) (trace first second : List Packet) (order pending ns ms : List ℕ) (before mid after : Records R)
-    → after ≡ after_packets f site mid (map (packet_among second) ms) → mid ≡ after_packets f site before (map (packet_among first) ns)
-    → first ≡ trace → second ≡ trace → ns ≡ order → ms ≡ pending → after ≡ after_packets f site before (map (packet_among trace) (order ++ pending))
-joined_live f site trace first second order pending ns ms before mid after b a one two three four =
-    b
-    ∙ ap (λ qs. after_packets f site mid (map (packet_among second) qs)) four
-    ∙ ap (λ ps. after_packets f site mid (map (packet_among ps) pending)) two
-    ∙ ap (λ m. after_packets f site m (map (packet_among trace) pending))
-    (a ∙ ap (λ qs. after_packets f site before (map (packet_among first) qs)) three
-    ∙ ap (λ ps. after_packets f site before (map (packet_among ps) order)) one)
-    ∙ sym (ap (after_packets f site before) (map-append (packet_among trace) order pending)
-    ∙ after_both f site before (map (packet_among trace) order) (map (packet_among trace) pending))
+pub joined_live : {R : Type 0} (f : Semantics R) (site : Site) (trace : List Packet) (first second : List ℕ) (before mid after : Records R)
+    → mid ≡ after_packets f site before (map (packet_among trace) first) → after ≡ after_packets f site mid (map (packet_among trace) second)
+    → after ≡ after_packets f site before (map (packet_among trace) (first ++ second))
+joined_live f site trace first second before mid after a b =
+    b ∙ ap (λ m. after_packets f site m (map (packet_among trace) second)) a
+    ∙ sym (ap (after_packets f site before) (map-append (packet_among trace) first second)
+    ∙ after_both f site before (map (packet_among trace) first) (map (packet_among trace) second))

@@ -1,17 +1,14 @@
 -- In a world of a run the record of a unit that stands by has seen exactly as many of its processed packets as it has counted; each packet was processed
 -- once at most.
-use Rattle.std.proofs.Common.{◌≡◌, ℕ, ◌+◌, ◌≤◌, Bool, true, false, Option, Some, None, List, [], ◌∷◌, map, take, length, refl, sym, ap, ◌∙◌, subst, arith}
-use Rattle.std.specs.Prelude.{if◌then◌else◌}
+use Rattle.std.proofs.Common.{◌≡◌, ℕ, ◌+◌, ◌≤◌, true, Option, Some, None, List, [], ◌∷◌, map, take, length, refl, sym, ap, ◌∙◌, subst, arith}
 use Rattle.std.specs.List.{filter}
 use Rattle.std.proofs.Math.Nat.{min-eq_left}
 use Rattle.std.proofs.lemmas.List.{take_at, length-take-le, length-map}
 use Rattle.std.proofs.lemmas.List.Sums.{count_by-le-length, length-filter}
 use Rattle.nf_function.specs.declared.unit.Unit as units
 use Rattle.nf_function.specs.Records.{Laws as FunctionLaws}
-use Rattle.nf_function.specs.Semantics.{Semantics, packets_in}
+use Rattle.nf_function.specs.Semantics.{packets_in}
 use Rattle.record_table.proofs.UnitOrder.{same_unit_equiv}
-use Rattle.nf_msgs.specs.declared.msg.Msg.{Msg}
-use Rattle.net_world.specs.declared.config.Config.{Config}
 use Rattle.net_world.specs.Fold.{IsFront, arrived_of, fold, is_of}
 use Rattle.net_world.specs.Input.{most_counted, packet_numbered, packets, IsInput}
 use Rattle.net_world.specs.Log.{arrivals_in, dones_in}

@@ -41,9 +41,32 @@ pub fn catch_up<F: Function>(
         pending,
         ..
     } = promoted;
-    step_all(&mut table, &config.site, trace.items(), order.items())?;
-    step_all(&mut table, &config.site, trace.items(), pending.items())?;
+    step_both(
+        &mut table,
+        &config.site,
+        trace.items(),
+        order.items(),
+        pending.items(),
+    )?;
     Ok(table)
+}
+
+/// Steps live records on packets, by their numbers in one list and then in another.
+fn step_both<F: Function>(
+    table: &mut Table<F>,
+    site: &Site,
+    packets: &[CapturedPacket],
+    first: &[u32],
+    second: &[u32],
+) -> Result<(), NoMemory>
+    requires numbered { AreNumbered 1 packets.now }
+    requires known { All (λ n. IsSome (find (λ p. p.number == n) packets.now)) (first.now ++ second.now) }
+    ensures live { OnOk result
+        (table.new.live ≡ after_packets F.semantics site.now table.old.live (map (packet_among packets.now) (first.now ++ second.now))) }
+    ensures standby { OnOk result (table.new.standby ≡ table.old.standby) }
+{
+    step_all(table, site, packets, first)?;
+    step_all(table, site, packets, second)
 }
 
 /// Steps live records on packets, by their numbers.

@@ -1,25 +1,29 @@
 //! What stands by where an instance fails: the records that are promoted, and the packets that they lack.
-ghost use Rattle.std.specs.Prelude.{◌≡◌, ◌≢◌, ◌<◌, ◌++◌, ◌==◌, ℕ, All, IsSome, find, length, take, IfOk};
+ghost use Rattle.std.specs.Prelude.{◌≡◌, ◌≢◌, ◌<◌, ◌⊎◌, ◌++◌, ◌==◌, ℕ, true, All, IsSome, find, length, slice_get, take, IfOk, MatchResult};
 ghost use Rattle.trace_reader.specs.Records.{AreNumbered};
+ghost use Rattle.nf_msgs.specs.Nodes.{instance_node};
 ghost use Rattle.net_world.specs.Input.{packets, IsInput};
 ghost use Rattle.net_world.specs.Jobs.{job_of};
 ghost use Rattle.net_world.specs.Start.{started_with};
 ghost use Rattle.standby_failover.specs.Causes.{IsFailCause, IsReached, first_of, world_after};
-ghost use Rattle.standby_failover.specs.Failover.{IsLeft, IsPromoted, failover_of};
+ghost use Rattle.standby_failover.specs.Failover.{Failover, IsLeft, IsPromoted, failover_of};
+ghost use Rattle.standby_failover.specs.Scenes.{AreAffected, is_instance};
 
 use crate::packets::packets_of;
 use crate::promoted::{Failing, Promoted};
 use crate::replay::{into_table, table_of, world_after};
 use crate::scene::{Affected, Scene};
-use actor_net::Choices;
+use actor_net::{Choices, World};
+use basics::NoMemory;
 use flow_filter::Packets;
-use net_world::Config;
+use net_world::{Config, Node};
 use nf_function::Function;
-use nf_msgs::Msg;
+use nf_msgs::{MOST_INSTANCES, Msg};
 use run_report::AuditFault;
 use std::alloc::Global;
 
-/// What is left where an instance of a network fails after the first so many choices, and another takes over. Of the choices these alone are then left.
+/// What is left where an instance of a network fails after the first so many choices, and another takes over. Of the choices these alone are then left;
+/// where it fails, these or all of them.
 ///
 /// The instances go by their places among the names. A unit whose record is on its way in a message isn't affected.
 pub fn promote<F: Function>(
@@ -46,7 +50,8 @@ pub fn promote<F: Function>(
 
     // What [`crate::catch_up`] asks: the numbers are those of packets of the input.
     ensures known { IfOk result (λ promoted. All (λ n. IsSome (find (λ p. p.number == n) (packets items.items))) (promoted.order ++ promoted.pending)) }
-    ensures choices { IfOk result (λ _. choices.new ≡ take after choices.old) }
+    ensures choices { MatchResult result (λ _. choices.new ≡ take after choices.old)
+        (λ _. (choices.new ≡ choices.old) ⊎ (choices.new ≡ take after choices.old)) }
     ensures not_a_run { (step : ℕ) → result ≡ Err (AuditFault.NotARun step)
         → IsFailCause {F = F.row.Denot} F.semantics (started_with alloc config.now items.items) (first_of choices.old after) step }
 {
@@ -55,7 +60,7 @@ pub fn promote<F: Function>(
     promote_with(alloc, config, items, &trace, choices, &failing)
 }
 
-/// The same, where the packets of the input are at hand.
+/// The same, where the packets of the input are at hand. Of the choices the first so many are left in every case.
 pub fn promote_with<F: Function>(
     alloc: Global,
     config: &Config,
@@ -77,7 +82,7 @@ pub fn promote_with<F: Function>(
     ensures promoted { let world = world_after F.semantics (started_with alloc config.now items.items) (first_of choices.old failing.now.after) in
         IfOk result (IsPromoted {F = F.row.Denot} (failover_of (job_of F.semantics config.now items.items) world failing.now.failed failing.now.to)) }
     ensures known { IfOk result (λ promoted. All (λ n. IsSome (find (λ p. p.number == n) (packets items.items))) (promoted.order ++ promoted.pending)) }
-    ensures choices { IfOk result (λ _. choices.new ≡ take failing.now.after choices.old) }
+    ensures choices { choices.new ≡ take failing.now.after choices.old }
     ensures not_a_run { (step : ℕ) → result ≡ Err (AuditFault.NotARun step)
         → IsFailCause {F = F.row.Denot} F.semantics (started_with alloc config.now items.items) (first_of choices.old failing.now.after) step }
 {
@@ -90,6 +95,21 @@ pub fn promote_with<F: Function>(
         to: table_of(&world, failing.to),
     };
     let affected = scene.affected(alloc)?;
+    let promoted = promoted_from(world, failing, affected)?;
+    Ok(promoted)
+}
+
+/// What is promoted in a world that is done with, by the affected units and their packets.
+fn promoted_from<F: Function>(
+    world: World<Node<F>>,
+    failing: &Failing,
+    affected: Affected,
+) -> Result<Promoted<F>, NoMemory>
+    requires few { failing.now.to < MOST_INSTANCES }
+    requires there { is_instance (slice_get world.nodes (instance_node failing.now.to)) ≡ true }
+    ensures { (x : Failover F.row.Denot F.Record) → world ≡ x.world → failing.now.to ≡ x.to → IsLeft x → x.failed ≢ x.to → AreAffected x affected
+        → IfOk result (IsPromoted x) }
+{
     let mut table = into_table(world, failing.to)?;
     table.promote(&affected.units)?;
     let Affected {

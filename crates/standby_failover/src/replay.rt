@@ -1,10 +1,10 @@
 //! The world after the first of some choices, and the records of its instances.
-ghost use Rattle.std.specs.Prelude.{◌≡◌, ◌<◌, ℕ, true, length, slice_get, take, IfOk};
+ghost use Rattle.std.specs.Prelude.{◌≡◌, ◌<◌, ℕ, Some, true, length, slice_get, take, IfOk};
 ghost use Rattle.nf_msgs.specs.Nodes.{instance_node};
 ghost use Rattle.net_world.specs.Input.{IsInput};
 ghost use Rattle.net_world.specs.Start.{started_with};
 ghost use Rattle.standby_failover.specs.Causes.{IsFailCause, IsReached, first_of, world_after};
-ghost use Rattle.standby_failover.specs.Failover.{table_at};
+ghost use Rattle.standby_failover.specs.Failover.{table_at, table_in};
 ghost use Rattle.standby_failover.specs.Scenes.{is_instance};
 
 use actor_net::{Choices, ReplayFault, World};
@@ -16,7 +16,7 @@ use record_table::Table;
 use run_report::{AuditFault, run_choices, step_after};
 use std::alloc::Global;
 
-/// The world of a network after the first so many choices, which alone are then left.
+/// The world of a network after the first so many choices. In every case these alone are then left.
 pub(crate) fn world_after<F: Function>(
     alloc: Global,
     config: &Config,
@@ -27,18 +27,21 @@ pub(crate) fn world_after<F: Function>(
     requires { IsInput F.semantics.kind config.now items.items }
     ensures reached { IfOk result (λ _. IsReached {F = F.row.Denot} F.semantics (started_with alloc config.now items.items) (first_of choices.old after)) }
     ensures world { IfOk result (λ world. world ≡ world_after F.semantics (started_with alloc config.now items.items) (first_of choices.old after)) }
-    ensures choices { IfOk result (λ _. choices.new ≡ take after choices.old) }
+    ensures choices { choices.new ≡ take after choices.old }
     ensures instances { IfOk result (λ world. (i : ℕ) → i < length config.now.names → is_instance (slice_get world.nodes (instance_node i)) ≡ true) }
     ensures not_a_run { (step : ℕ) → result ≡ Err (AuditFault.NotARun step)
         → IsFailCause {F = F.row.Denot} F.semantics (started_with alloc config.now items.items) (first_of choices.old after) step }
 {
-    let start = start::<F>(alloc, config, items)?;
     let count = choices.len() as u64;
     let next = step_after(choices);
     choices.truncate(after as usize);
+    let start = start::<F>(alloc, config, items)?;
     match run_choices(start, choices) {
         Ok(world) if after <= count => Ok(world),
-        Ok(_world) => Err(AuditFault::NotARun { step: next }),
+        Ok(world) => {
+            drop(world);
+            Err(AuditFault::NotARun { step: next })
+        }
         Err(ReplayFault::NotEnabled { index }) => {
             let step = index as u64 + 1;
             Err(AuditFault::NotARun { step })
@@ -69,8 +72,17 @@ pub(crate) fn into_table<F: Function>(
     ensures { IfOk result (λ table. table ≡ table_at world instance) }
 {
     let mut nodes = world.parts()?.nodes.into_vec();
-    match nodes.swap_remove(usize::from(instance_node(instance))) {
-        Node::Instance(found) => Ok(found.into_table()),
+    let node = nodes.swap_remove(usize::from(instance_node(instance)));
+    Ok(table_in(node))
+}
+
+/// The records of a node that is an instance.
+fn table_in<F: Function>(node: Node<F>) -> Table<F>
+    requires { is_instance (Some node) ≡ true }
+    ensures { result ≡ table_in (Some node) }
+{
+    match node {
+        Node::Instance(found) => found.into_table(),
         _ => unreachable!(),
     }
 }

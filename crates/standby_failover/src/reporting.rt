@@ -1,5 +1,5 @@
 //! The report of a failover.
-ghost use Rattle.std.specs.Prelude.{◌≡◌, ◌++◌, ◌==◌, ℕ, All, IsSome, List, [], find, map, slice_index_or, IfOk, OnOk};
+ghost use Rattle.std.specs.Prelude.{◌≡◌, ◌++◌, ◌==◌, ℕ, All, IsSome, List, [], codes, find, map, slice_index_or, IfOk, OnOk};
 ghost use Rattle.std.specs.List.{flat_map};
 ghost use Rattle.std.specs.Option.{option_copied};
 ghost use Rattle.std.specs.FinMap as finite;
@@ -20,7 +20,7 @@ use crate::promoted::{Failing, Promoted};
 use basics::{NoMemory, Text};
 use flow_filter::{Name, Packets};
 use net_world::Config;
-use nf_function::{Function, Unit};
+use nf_function::{Function, Unit, Units};
 use record_table::Table;
 use report_lines::{push_function_line, push_record, push_trace_line, push_unit};
 use run_report::Head;
@@ -46,17 +46,31 @@ pub fn report_failover<F: Function>(
         → let x = failover_of (job_of F.semantics config.now items) world failed to in
         IsLeft x → IsPromoted x promoted → packets items ≡ trace.now → IfOk result (λ made. HasCaughtUp x made.1) }
 {
+    let to = name_at(head.names.items(), failing.to);
+    let (mut text, units) = front(alloc, head, failing, &promoted)?;
+    let table = catch_up(promoted, config, trace)?;
+    push_end(&mut text, to, units.items(), &table)?;
+    Ok((text, table))
+}
+
+/// The lines down to those of the open packets, and the affected units, which other lines are of too.
+fn front<F: Function>(
+    alloc: Global,
+    head: &Head,
+    failing: &Failing,
+    promoted: &Promoted<F>,
+) -> Result<(Text, Units), NoMemory>
+    ensures text { IfOk result (λ made. made.0 ≡ head_lines head.now ++ fail_line head.now.names failing.now
+        ++ promoted_lines F.semantics (slice_index_or head.now.names failing.now.to []) promoted.now) }
+    ensures units { IfOk result (λ made. made.1 ≡ promoted.now.units) }
+{
+    let units = promoted.units.copy()?;
     let names = head.names.items();
-    let to = name_at(names, failing.to);
     let mut text = Text::open(alloc);
     push_head(&mut text, head)?;
     push_fail(&mut text, names, failing)?;
-    push_promoted(&mut text, to, &promoted)?;
-    let units = promoted.units.copy()?;
-    let table = catch_up(promoted, config, trace)?;
-    push_caught(&mut text, to, units.items(), &table)?;
-    text.push_bytes(b"end\n")?;
-    Ok((text, table))
+    push_promoted(&mut text, name_at(names, failing.to), promoted)?;
+    Ok((text, units))
 }
 
 /// Puts the lines at the top of the report after a text.
@@ -191,6 +205,19 @@ fn push_number(text: &mut Text, word: &[u8], number: u32) -> Result<(), NoMemory
     text.push_bytes(word)?;
     text.push_decimal(u64::from(number))?;
     text.push_bytes(b"\n")
+}
+
+/// Puts the lines of the affected units that have caught up, and the last line, after a text.
+fn push_end<F: Function>(
+    text: &mut Text,
+    name: &[u8],
+    units: &[Unit],
+    table: &Table<F>,
+) -> Result<(), NoMemory>
+    ensures { OnOk result (text.new ≡ text.old ++ caught_lines F.semantics name.now units.now table.now ++ codes "end\n") }
+{
+    push_caught(text, name, units, table)?;
+    text.push_bytes(b"end\n")
 }
 
 /// Puts a line for each affected unit that has caught up after a text.

@@ -1,6 +1,7 @@
 //! What is looked at of the world in which an instance fails.
-ghost use Rattle.std.specs.Prelude.{◌≡◌, IfOk};
+ghost use Rattle.std.specs.Prelude.{◌≡◌, [], IfOk, OnOk};
 ghost use Rattle.std.specs.Option.{option_copied};
+ghost use Rattle.std.specs.FinMap as finite;
 ghost use Rattle.trace_reader.specs.Records.{AreNumbered};
 ghost use Rattle.standby_failover.specs.Failover.{lost_in_order, open_packets};
 ghost use Rattle.standby_failover.specs.Scenes.{AreAffected, IsSceneOf, Stopped, affects, failover_in, has_seen_more};
@@ -66,6 +67,18 @@ impl<F: Function> Scene<'_, F> {
     {
         let mut again = Table::<F>::open(alloc);
         let mut order = Numbers::open(alloc);
+        self.push_lost(&mut again, &mut order)?;
+        Ok(order)
+    }
+
+    /// Puts the numbers of these packets into a list, and makes the records of the others again, from none.
+    fn push_lost(&self, again: &mut Table<F>, order: &mut Numbers) -> Result<(), NoMemory>
+        requires numbered { AreNumbered 1 self.now.packets.now }
+        requires again { again.old.live ≡ finite.empty }
+        requires order { order.old ≡ [] }
+        ensures { (v : Stopped F.row.Denot F.Record) → IsSceneOf F.semantics v self.now
+            → OnOk result (order.new ≡ lost_in_order (failover_in F.semantics v)) }
+    {
         for note in self.log {
             let Note::Processed { number, .. } = note else {
                 continue;
@@ -84,7 +97,7 @@ impl<F: Function> Scene<'_, F> {
                 order.push(*number)?;
             }
         }
-        Ok(order)
+        Ok(())
     }
 
     /// The packets of affected units that came and weren't processed, by number.

@@ -1,19 +1,17 @@
--- The scene is that of the world after the choices, in which all is as the lists say; and the table is that of the instance that takes over, with
--- the records that stand by there of the affected units.
-use Rattle.std.proofs.Common.{◌≡◌, refl, ap, ◌∙◌}
+-- The scene is that of the world after the choices, in which all is as the lists say.
+use Rattle.std.proofs.Common.{refl, ap, ◌∙◌}
 use Rattle.net_world.specs.Start.{started_with}
 use Rattle.standby_failover.specs.Causes.{first_of, world_after}
 use Rattle.standby_failover.specs.Failover.{table_at, IsLeft, IsPromoted}
 use Rattle.standby_failover.specs.Scenes.{AreAffected, Stopped, failover_in}
 use Rattle.standby_failover.proofs.Known.{known}
 use Rattle.standby_failover.proofs.LeftWorlds.{is_left}
-use Rattle.standby_failover.proofs.PromotedTables.{promoted_is}
 use Rattle.standby_failover.proofs.promoting.promote_with.Given.{Over}
 use Rattle.standby_failover.proofs.promoting.promote_with.Goals as goal
-use Rattle.standby_failover.proofs.promoting.promote_with.Goals.{In_ok-promote}
+use Rattle.standby_failover.proofs.promoting.promote_with.Goals.{In_ok-promoted}
 
 -- the world in which the instance fails
-abbrev stopped : (g : Over) (c : In_ok-promote g) → Stopped g.row.F.Denot g.row.F-Record.Denot
+abbrev stopped : (g : Over) (c : In_ok-promoted g) → Stopped g.row.F.Denot g.row.F-Record.Denot
 stopped g c = record {
   config = c.args.config.now;
   items = c.args.items.items;
@@ -23,7 +21,7 @@ stopped g c = record {
   to = c.args.failing.now.to;
 }
 
-left : (g : Over) (c : In_ok-promote g) → IsLeft (failover_in g.F.Function.semantics (stopped g c))
+left : (g : Over) (c : In_ok-promoted g) → IsLeft (failover_in g.F.Function.semantics (stopped g c))
 left g c =
     is_left g.row.F.Denot g.F.Function.semantics g.met.F.Function.laws c.args.alloc c.args.config.now c.args.items.items c.requires.input _
     c.args.failing.now.failed
@@ -33,13 +31,7 @@ left g c =
 pub returns-clause-left : goal.returns-clause-left
 returns-clause-left g c = left g c
 
-promoted : (g : Over) (c : In_ok-promote g) → IsPromoted (failover_in g.F.Function.semantics (stopped g c)) (record {
-  table = c.promote.new.self;
-  units = c.in_ok-affected.affected.units;
-  lost = c.in_ok-affected.affected.lost;
-  pending = c.in_ok-affected.affected.pending;
-  order = c.in_ok-affected.affected.order;
-})
+promoted : (g : Over) (c : In_ok-promoted g) → IsPromoted (failover_in g.F.Function.semantics (stopped g c)) c.in_ok-promoted.promoted
 promoted g c =
     let f = g.F.Function.semantics in
     let v = stopped g c in
@@ -53,16 +45,7 @@ promoted g c =
       left = left g c;
       two = c.requires.two;
     }) in
-    let table : c.in_ok-table.table ≡ table_at v.world c.args.failing.now.to = c.in_ok-table.ensures ∙ ap (λ w. table_at w c.args.failing.now.to) world in
-    record {
-      live = λ u. c.in_ok-promote.ensures.each u ∙ promoted_is (failover_in f v) (left g c) c.requires.two c.in_ok-affected.affected.units found.units u
-          c.in_ok-table.table table;
-      standby = c.promote.ensures.standby ∙ ap (λ t. t.standby) table;
-      lost = found.lost;
-      pending = found.pending;
-      order = found.order;
-      units = found.units;
-    }
+    c.in_ok-promoted.ensures (failover_in f v) world refl (left g c) c.requires.two found
 
 pub returns-clause-promoted : goal.returns-clause-promoted
 returns-clause-promoted g c = promoted g c

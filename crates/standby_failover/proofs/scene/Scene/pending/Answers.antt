@@ -1,5 +1,5 @@
 -- A note of a packet that came adds its number where it is open.
-use Rattle.std.proofs.Common.{◌≡◌, Bool, true, false, [], ◌∷◌, ◌++◌, refl, sym, ap, ◌∙◌}
+use Rattle.std.proofs.Common.{◌≡◌, true, false, [], ◌∷◌, ◌++◌, sym, ap, ◌∙◌}
 use Rattle.std.specs.Prelude.{◌&&◌, not}
 use Rattle.std.proofs.Math.Bool.{and-false}
 use Rattle.standby_failover.specs.Failover.{is_in, is_open, numbers_done}

@@ -3,7 +3,7 @@ use Rattle.std.proofs.Common.{take}
 use Rattle.standby_failover.specs.Failover.{numbers_done}
 use Rattle.standby_failover.specs.Scenes.{Stopped, IsSceneOf, failover_in}
 use Rattle.standby_failover.proofs.LostPackets.{IsUpTo}
-use Rattle.standby_failover.proofs.scene.Scene.lost_in_order.Given as goal
+use Rattle.standby_failover.proofs.scene.Scene.push_lost.Given as goal
 
 abbrev pub invariant-loop-note : goal.invariant-loop-note
 invariant-loop-note g l = (v : Stopped g.row.F.Denot g.row.F-Record.Denot) → IsSceneOf g.F.Function.semantics v l.self

@@ -9,8 +9,8 @@ use Rattle.standby_failover.proofs.LostPackets.{IsUpTo}
 use Rattle.standby_failover.proofs.MetNumbers.{done_same}
 use Rattle.standby_failover.proofs.NumberedPackets.{found}
 use Rattle.standby_failover.proofs.SceneSteps.{begun, is_found, passed_lost, passed_other, passed_seen}
-use Rattle.standby_failover.proofs.scene.Scene.lost_in_order.Goals as goal
-use Rattle.standby_failover.proofs.scene.Scene.lost_in_order.Goals.{then-has_seen_more+in_ok-step_along, else-has_seen_more+in_ok-push}
+use Rattle.standby_failover.proofs.scene.Scene.push_lost.Goals as goal
+use Rattle.standby_failover.proofs.scene.Scene.push_lost.Goals.{then-has_seen_more+in_ok-step_along, else-has_seen_more+in_ok-push}
 
 none_if : {X : Type 0} (o : Option X) → ((y : X) → o ≡ Some y → ⊥) → o ≡ None
 none_if None h = refl
@@ -19,8 +19,8 @@ none_if (Some y) h = absurd (h y refl)
 pub loop-note-init : goal.loop-note-init
 loop-note-init g c = λ v is.
     let f = g.F.Function.semantics in
-    subst (λ t. IsUpTo (failover_in f v) [] t.live c.open-order.result) (sym c.open-again.ensures)
-    (subst (λ o. IsUpTo (failover_in f v) [] finite.empty o) (sym c.open-order.ensures) (begun f v c.args.self.now is g.met.F.Function.laws))
+    subst (λ t. IsUpTo (failover_in f v) [] t c.args.order.now) (sym c.requires.again)
+    (subst (λ o. IsUpTo (failover_in f v) [] finite.empty o) (sym c.requires.order) (begun f v c.args.self.now is g.met.F.Function.laws))
 
 pub loop-note-preserved-in_default : goal.loop-note-preserved-in_default
 loop-note-preserved-in_default g c = λ v is.
