@@ -60,7 +60,7 @@ fn complete_world<F: Function>(
     ensures world { IfOk result (λ world. world ≡ world_after F.semantics start choices.now) }
     ensures not_a_run { (step : ℕ) → result ≡ Err (AuditFault.NotARun step) → IsAuditCause F.semantics start choices.now step }
 {
-    let next = step_after(choices);
+    let next = choices.len() as u64 + 1;
     match run_choices(start, choices) {
         Ok(world) if world.complete() => Ok(world),
         Ok(world) => {
@@ -73,15 +73,6 @@ fn complete_world<F: Function>(
         }
         Err(ReplayFault::NoMemory) => Err(AuditFault::NoMemory),
     }
-}
-
-/// The number of the step after all of these choices, counted from 1.
-pub fn step_after(choices: &Choices) -> u64
-    ensures { result ≡ length choices.now + 1 }
-{
-    // What can be read in order is less than half of all numbers, so there is one more.
-    let _all = choices.iter();
-    choices.len() as u64 + 1
 }
 
 /// Why choices have no report.

@@ -12,7 +12,7 @@ pub mod head;
 mod instances;
 pub mod reporting;
 
-pub use auditing::{AuditFault, audit, step_after};
+pub use auditing::{AuditFault, audit};
 pub use head::Head;
 pub use nf_net::{run_choices, simulate};
 pub use reporting::report;

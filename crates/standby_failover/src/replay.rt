@@ -13,7 +13,7 @@ use net_world::{Config, Node, start};
 use nf_function::Function;
 use nf_msgs::{MOST_INSTANCES, Msg, instance_node};
 use record_table::Table;
-use run_report::{AuditFault, run_choices, step_after};
+use run_report::{AuditFault, run_choices};
 use std::alloc::Global;
 
 /// The world of a network after the first so many choices. In every case these alone are then left.
@@ -33,14 +33,13 @@ pub(crate) fn world_after<F: Function>(
         → IsFailCause {F = F.row.Denot} F.semantics (started_with alloc config.now items.items) (first_of choices.old after) step }
 {
     let count = choices.len() as u64;
-    let next = step_after(choices);
     choices.truncate(after as usize);
     let start = start::<F>(alloc, config, items)?;
     match run_choices(start, choices) {
         Ok(world) if after <= count => Ok(world),
         Ok(world) => {
             drop(world);
-            Err(AuditFault::NotARun { step: next })
+            Err(AuditFault::NotARun { step: count + 1 })
         }
         Err(ReplayFault::NotEnabled { index }) => {
             let step = index as u64 + 1;

@@ -43,7 +43,7 @@ pub returns-in-Ok-clause-reached : goal.returns-in-Ok-clause-reached
 returns-in-Ok-clause-reached g c =
     let b = (goal.at.returns-in-Ok-clause-reached g c).After-run_choices in
     is_reached g.F.Function.semantics (opening g b) (first g b) b.run_choices.result (replayed g b) c.in-Ok.world c.in-Ok.is
-    (omega (arith, c.len-count.ensures, c.if-after-count.true))
+    (omega (arith, c.len-count.ensures.value, c.if-after-count.true))
 
 pub returns-in-Ok-clause-world : goal.returns-in-Ok-clause-world
 returns-in-Ok-clause-world g c =
@@ -63,7 +63,7 @@ pub returns-in-Ok-2-clause-not_a_run : goal.returns-in-Ok-2-clause-not_a_run
 returns-in-Ok-2-clause-not_a_run g c = λ step is.
     let b = (goal.at.returns-in-Ok-2-clause-not_a_run g c).After-run_choices in
     too_few g.F.Function.semantics (opening g b) (first g b) b.run_choices.result (replayed g b) c.in-Ok.world c.in-Ok.is
-    (omega (arith, c.len-count.ensures, c.if-after-count.false)) step (cc)
+    (omega (arith, c.len-count.ensures.value, c.if-after-count.false)) step (cc)
 
 pub returns-in-Err-NotEnabled-clause-not_a_run : goal.returns-in-Err-NotEnabled-clause-not_a_run
 returns-in-Err-NotEnabled-clause-not_a_run g c = λ step is.
