@@ -1,17 +1,45 @@
 //! Tests of strong sharing by the notes of whole runs.
-use crate::common::{head, reported, sent, site};
+use crate::common::{handshake, reported, sent};
 use actor_net::{Choice, Choices, Schedule};
-use basics::Text;
+use basics::{NoMemory, Text};
 use conn_tracker::Conntrack;
-use flow_filter::Filter;
+use flow_filter::{Filter, Site};
+use std::alloc::Global;
 use std::test::Fail;
-use strong_share::{StrongNote, report_strong, run_strong, simulate_strong, start};
+use strong_share::{StrongNote, run_strong, simulate_strong, start};
+use switch_node::switch::MOST_WINDOW;
+use test_packets::SITE;
 
-#[test]
-fn a_packet_is_served_when_all_have_the_state_after_the_one_before(
-    rt: HostRuntime,
-) -> Result<(), Fail> {
-    let whole = "opennf strong 1
+/// The report of the handshake with the members a and b, where these share the flows of a local port, or all.
+fn shared(
+    alloc: Global,
+    site: Site,
+    window: u32,
+    lport: Option<u16>,
+    schedule: Schedule,
+) -> Result<Text, Fail> {
+    if window < 1 || window > MOST_WINDOW {
+        return Err("no such window".into());
+    }
+    let filter = Filter {
+        lport,
+        ..Filter::ANY
+    };
+    let packets = handshake(alloc, site)?;
+    let (world, _choices) = simulate_strong::<Conntrack>(
+        alloc, site, window, 2, filter, packets, schedule,
+    )?;
+    reported(alloc, window, 3, &world)
+}
+
+/// Handshakes by their window, the local port and the schedule, each with its report.
+static HANDSHAKES: [(u32, Option<u16>, Schedule, &str); 3] = [
+    // A packet is served when all have the state after the one before.
+    (
+        256,
+        None,
+        Schedule::Last,
+        "opennf strong 1
 function conntrack instances 2 window 256
 trace packets 3 skipped 0 whole
 out 1 opening
@@ -28,15 +56,14 @@ standby tcp 10.0.0.1:40000 198.51.100.7:80 b established out packets 3 bytes 0
 tally a 2 0
 tally b 0 1
 end
-";
-    let text = reported(rt.alloc(), 256, Filter::ANY, Schedule::Last)?;
-    assert_eq!(rt; text.items(), whole.as_bytes());
-    Ok(())
-}
-
-#[test]
-fn packets_are_served_in_the_order_in_which_they_were_queued(rt: HostRuntime) -> Result<(), Fail> {
-    let whole = "opennf strong 1
+",
+    ),
+    // Packets are served in the order in which they were queued.
+    (
+        4096,
+        None,
+        Schedule::First,
+        "opennf strong 1
 function conntrack instances 2 window 4096
 trace packets 3 skipped 0 whole
 out 1 opening
@@ -53,17 +80,14 @@ standby tcp 10.0.0.1:40000 198.51.100.7:80 b answered out packets 3 bytes 0
 tally a 2 0
 tally b 0 1
 end
-";
-    let text = reported(rt.alloc(), 4096, Filter::ANY, Schedule::First)?;
-    assert_eq!(rt; text.items(), whole.as_bytes());
-    Ok(())
-}
-
-#[test]
-fn what_the_filter_does_not_take_is_processed_by_the_first_member(
-    rt: HostRuntime,
-) -> Result<(), Fail> {
-    let whole = "opennf strong 1
+",
+    ),
+    // What the filter doesn't take is processed by the first member.
+    (
+        1,
+        Some(5000),
+        Schedule::First,
+        "opennf strong 1
 function conntrack instances 2 window 1
 trace packets 3 skipped 0 whole
 out 1 opening
@@ -76,20 +100,35 @@ state tcp 10.0.0.1:40000 198.51.100.7:80 a established out packets 3 bytes 0
 tally a 3 0
 tally b 0 0
 end
-";
-    let filter = Filter {
-        lport: Some(5000),
-        ..Filter::ANY
-    };
-    let text = reported(rt.alloc(), 1, filter, Schedule::First)?;
-    assert_eq!(rt; text.items(), whole.as_bytes());
+",
+    ),
+];
+
+#[test]
+fn each_handshake_has_its_report(rt: HostRuntime) -> Result<(), Fail> {
+    for (window, lport, schedule, whole) in HANDSHAKES {
+        let text = shared(rt.alloc(), SITE, window, lport, schedule)?;
+        assert_eq!(rt; text.items(), whole.as_bytes());
+    }
     Ok(())
 }
 
-#[test]
-fn sixteen_members_take_turns_by_the_numbers_of_packets(rt: HostRuntime) -> Result<(), Fail> {
-    let alloc = rt.alloc();
-    let site = site();
+/// The packets of a log that were queued, each with its member.
+fn queued(alloc: Global, log: &[StrongNote]) -> Result<Text, NoMemory> {
+    let mut text = Text::open(alloc);
+    for note in log {
+        if let StrongNote::Queued { number, member } = note {
+            text.push_decimal(u64::from(*number))?;
+            text.push_bytes(b":")?;
+            text.push_decimal(u64::from(*member))?;
+            text.push_bytes(b" ")?;
+        }
+    }
+    Ok(text)
+}
+
+/// The turns of sixteen members that share all flows, with seventeen packets of one.
+fn turns(alloc: Global, site: Site) -> Result<Text, Fail> {
     let packets = sent(alloc, site, 17)?;
     let (world, _choices) = simulate_strong::<Conntrack>(
         alloc,
@@ -100,15 +139,12 @@ fn sixteen_members_take_turns_by_the_numbers_of_packets(rt: HostRuntime) -> Resu
         packets,
         Schedule::Last,
     )?;
-    let mut text = Text::open(alloc);
-    for note in world.log() {
-        if let StrongNote::Queued { number, member } = note {
-            text.push_decimal(u64::from(*number))?;
-            text.push_bytes(b":")?;
-            text.push_decimal(u64::from(*member))?;
-            text.push_bytes(b" ")?;
-        }
-    }
+    Ok(queued(alloc, world.log())?)
+}
+
+#[test]
+fn sixteen_members_take_turns_by_the_numbers_of_packets(rt: HostRuntime) -> Result<(), Fail> {
+    let text = turns(rt.alloc(), SITE)?;
     let turns =
         "1:0 2:1 3:2 4:3 5:4 6:5 7:6 8:7 9:8 10:9 11:10 12:11 13:12 14:13 15:14 16:15 17:0 ";
     assert_eq!(rt; text.items(), turns.as_bytes());
@@ -134,9 +170,28 @@ static STOPPED_FIRST: [(u8, u8); 15] = [
     (0, 2),
 ];
 
+/// The choices of that run.
+fn stopped_first(alloc: Global) -> Result<Choices, NoMemory> {
+    let mut choices = Choices::open(alloc);
+    for (node, port) in STOPPED_FIRST {
+        choices.push(Choice { node, port })?;
+    }
+    Ok(choices)
+}
+
+/// The report of that run, which is to be complete.
+fn replayed(alloc: Global, site: Site) -> Result<Text, Fail> {
+    let packets = sent(alloc, site, 1)?;
+    let world = start::<Conntrack>(alloc, site, 256, 2, Filter::ANY, packets)?;
+    let world = run_strong(world, &stopped_first(alloc)?)?;
+    if !world.complete() {
+        return Err("not at its end".into());
+    }
+    reported(alloc, 256, 1, &world)
+}
+
 #[test]
 fn a_member_takes_a_record_after_its_stop(rt: HostRuntime) -> Result<(), Fail> {
-    let alloc = rt.alloc();
     let whole = "opennf strong 1
 function conntrack instances 2 window 256
 trace packets 1 skipped 0 whole
@@ -149,16 +204,7 @@ tally a 1 0
 tally b 0 0
 end
 ";
-    let site = site();
-    let packets = sent(alloc, site, 1)?;
-    let world = start::<Conntrack>(alloc, site, 256, 2, Filter::ANY, packets)?;
-    let mut choices = Choices::open(alloc);
-    for (node, port) in STOPPED_FIRST {
-        choices.push(Choice { node, port })?;
-    }
-    let world = run_strong(world, &choices)?;
-    assert!(rt; world.complete());
-    let text = report_strong(alloc, &head(alloc, 256, 1)?, &world)?;
+    let text = replayed(rt.alloc(), SITE)?;
     assert_eq!(rt; text.items(), whole.as_bytes());
     Ok(())
 }
