@@ -1,9 +1,6 @@
 //! Tests of the command `check`.
 
-use crate::tests::common::{outside_of, seen};
-use basics::{NoMemory, Text};
-use nf_io::Role;
-use std::alloc::Global;
+use crate::tests::common::seen_with;
 use std::test::Fail;
 
 /// Scripts that break a rule, with what is seen of them.
@@ -32,21 +29,11 @@ static FAULTS: [(&str, &str); 7] = [
     ),
 ];
 
-/// What is seen of the check of a script.
-fn checked(alloc: Global, line: &str, script: &str) -> Result<Text, NoMemory> {
-    let mut outside = outside_of(alloc, &[])?;
-    outside.put(Role::Script, script.as_bytes())?;
-    seen(alloc, line, outside)
-}
-
 #[test]
 fn check_prints_the_canonical_text(rt: HostRuntime) -> Result<(), Fail> {
     let script = "# x\nroute  local=10.0.0.9 b\nat 1 move a b rport=80,proto=tcp order\n";
-    let text = checked(
-        rt.alloc(),
-        "opennf check conntrack --instances a,b S",
-        script,
-    )?;
+    let line = "opennf check conntrack --instances a,b S";
+    let text = seen_with(rt.alloc(), line, &[], script)?;
     let canonical = "0|route local=10.0.0.9/32 b\nat 1 move a b proto=tcp,rport=80 order\n|";
     assert_eq!(rt; text.items(), canonical.as_bytes());
     Ok(())
@@ -55,7 +42,8 @@ fn check_prints_the_canonical_text(rt: HostRuntime) -> Result<(), Fail> {
 #[test]
 fn each_fault_of_a_script_is_named_with_its_line(rt: HostRuntime) -> Result<(), Fail> {
     for (script, wanted) in FAULTS {
-        let text = checked(rt.alloc(), "opennf check monitor --instances a,b S", script)?;
+        let line = "opennf check monitor --instances a,b S";
+        let text = seen_with(rt.alloc(), line, &[], script)?;
         assert_eq!(rt; text.items(), wanted.as_bytes());
     }
     Ok(())

@@ -78,17 +78,55 @@ pub(crate) fn told(
     Ok(text)
 }
 
-/// What is seen of the end of a line of words over an outside.
-pub(crate) fn seen(alloc: Global, line: &str, outside: MemoryOutside) -> Result<Text, NoMemory>
-    requires { (role : TheRole) → (seen_in outside role).name ≡ None }
+/// What is seen of the end of a line of words over an outside, which is left as it is then.
+pub(crate) fn seen(alloc: Global, line: &str, outside: &mut MemoryOutside) -> Result<Text, NoMemory>
+    requires { (role : TheRole) → (seen_in outside.old role).name ≡ None }
 {
-    let mut outside = outside;
-    let outcome = outcome_of(alloc, line, &mut outside)?;
-    told(alloc, &outcome, &outside)
+    let outcome = outcome_of(alloc, line, outside)?;
+    told(alloc, &outcome, outside)
 }
 
-/// The same over a capture of these pieces.
+/// The same, and what was written to a role.
+pub(crate) fn seen_beside(
+    alloc: Global,
+    line: &str,
+    outside: &mut MemoryOutside,
+    role: Role,
+) -> Result<(Text, Text), NoMemory>
+    requires { (role : TheRole) → (seen_in outside.old role).name ≡ None }
+{
+    let text = seen(alloc, line, outside)?;
+    let mut written = Text::open(alloc);
+    written.push_bytes(outside.written(role))?;
+    Ok((text, written))
+}
+
+/// What is seen of the end of a line of words over a capture of these pieces.
 pub(crate) fn seen_over(alloc: Global, line: &str, pieces: &[&[u8]]) -> Result<Text, NoMemory> {
-    let outside = outside_of(alloc, pieces)?;
+    let mut outside = outside_of(alloc, pieces)?;
+    seen(alloc, line, &mut outside)
+}
+
+/// The same with a script beside the capture.
+pub(crate) fn seen_with(
+    alloc: Global,
+    line: &str,
+    pieces: &[&[u8]],
+    script: &str,
+) -> Result<Text, NoMemory> {
+    let mut outside = outside_of(alloc, pieces)?;
+    seen_by(alloc, line, script, &mut outside)
+}
+
+/// The same over an outside that the script is put into.
+fn seen_by(
+    alloc: Global,
+    line: &str,
+    script: &str,
+    outside: &mut MemoryOutside,
+) -> Result<Text, NoMemory>
+    requires { (role : TheRole) → (seen_in outside.old role).name ≡ None }
+{
+    outside.put(Role::Script, script.as_bytes())?;
     seen(alloc, line, outside)
 }

@@ -1,7 +1,9 @@
 //! Tests of the command `gen`.
-ghost use Rattle.std.specs.Prelude.{◌≤◌};
+ghost use Rattle.std.specs.Prelude.{◌≡◌, ◌≤◌, None};
+ghost use Rattle.nf_io.specs.declared.outside.Role.{Role as TheRole};
+ghost use Rattle.nf_io.specs.Memory.{seen_in};
 
-use crate::tests::common::{outcome_of, outside_of, told};
+use crate::tests::common::{outside_of, seen_beside};
 use basics::{NoMemory, Text};
 use nf_io::{MemoryOutside, Role};
 use std::alloc::Global;
@@ -22,28 +24,34 @@ static CAPTURE: [u8; 168] = [
     0, 53, 0xc3, 0x81, 0, 160, 0, 0,
 ];
 
-/// What is seen of the command that makes it, and the outside after it, where one write to a role fails, if the number of that write isn't 0, and
-/// each write takes at most `most` bytes.
-fn made(
-    alloc: Global,
-    role: Role,
-    failing: u64,
-    most: usize,
-) -> Result<(Text, MemoryOutside), NoMemory>
+/// What is seen of the command that makes it, and the capture that was written, where one write to a role fails, if the number of that write isn't 0,
+/// and each write takes at most `most` bytes.
+fn made(alloc: Global, role: Role, failing: u64, most: usize) -> Result<(Text, Text), NoMemory>
     requires { 1 ≤ most }
 {
     let mut outside = outside_of(alloc, &[])?;
-    outside.fail(role, failing)?;
     outside.piece(most);
-    let outcome = outcome_of(alloc, "opennf gen 7 --packets 3 --hosts 1 T", &mut outside)?;
-    let text = told(alloc, &outcome, &outside)?;
-    Ok((text, outside))
+    made_over(alloc, role, failing, &mut outside)
+}
+
+/// The same over an outside where that write is made to fail.
+fn made_over(
+    alloc: Global,
+    role: Role,
+    failing: u64,
+    outside: &mut MemoryOutside,
+) -> Result<(Text, Text), NoMemory>
+    requires { (role : TheRole) → (seen_in outside.old role).name ≡ None }
+{
+    outside.fail(role, failing)?;
+    let line = "opennf gen 7 --packets 3 --hosts 1 T";
+    seen_beside(alloc, line, outside, Role::TraceOut)
 }
 
 #[test]
 fn the_capture_and_its_line_are_written(rt: HostRuntime) -> Result<(), Fail> {
-    let (text, outside) = made(rt.alloc(), Role::Report, 0, usize::MAX)?;
-    assert_eq!(rt; outside.written(Role::TraceOut), CAPTURE.as_slice());
+    let (text, capture) = made(rt.alloc(), Role::Report, 0, usize::MAX)?;
+    assert_eq!(rt; capture.items(), CAPTURE.as_slice());
     assert_eq!(rt;
         text.items(),
         b"0|gen number 7 packets 3 hosts 1\n|".as_slice()
@@ -53,8 +61,8 @@ fn the_capture_and_its_line_are_written(rt: HostRuntime) -> Result<(), Fail> {
 
 #[test]
 fn a_capture_that_cannot_be_written_leaves_a_front(rt: HostRuntime) -> Result<(), Fail> {
-    let (text, outside) = made(rt.alloc(), Role::TraceOut, 3, 30)?;
-    assert_eq!(rt; outside.written(Role::TraceOut), &CAPTURE[..54]);
+    let (text, capture) = made(rt.alloc(), Role::TraceOut, 3, 30)?;
+    assert_eq!(rt; capture.items(), &CAPTURE[..54]);
     assert_eq!(rt;
         text.items(),
         b"5||opennf: write fault capture\n".as_slice()

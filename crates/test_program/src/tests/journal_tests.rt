@@ -1,6 +1,9 @@
 //! Tests of runs that write or read a journal, and of summaries.
+ghost use Rattle.std.specs.Prelude.{◌≡◌, None};
+ghost use Rattle.nf_io.specs.declared.outside.Role.{Role as TheRole};
+ghost use Rattle.nf_io.specs.Memory.{seen_in};
 
-use crate::tests::common::{HEADER, ONE_PACKET, RECORD, outcome_of, outside_of, told};
+use crate::tests::common::{HEADER, ONE_PACKET, RECORD, outside_of, seen_beside};
 use basics::{NoMemory, Text};
 use nf_io::{MemoryOutside, Role};
 use std::alloc::Global;
@@ -13,14 +16,27 @@ static JOURNAL: [u8; 32] = [
     0, 0, 0, 0, 1, 0, 0, 1, 2, 0, 0, 2, 2, 0, 1, 2,
 ];
 
-/// What is seen of a command over [`RECORD`] with a journal J, and the outside after it. The first write to a role that is given fails.
+/// What is seen of a command over [`RECORD`] with a journal J, and the journal that was written. The first write to a role that is given fails.
 fn journaled(
     alloc: Global,
     command: &str,
     journal: &[u8],
     failing: Option<Role>,
-) -> Result<(Text, MemoryOutside), NoMemory> {
+) -> Result<(Text, Text), NoMemory> {
     let mut outside = outside_of(alloc, &[&HEADER, &RECORD])?;
+    journaled_over(alloc, command, journal, failing, &mut outside)
+}
+
+/// The same over an outside with that capture.
+fn journaled_over(
+    alloc: Global,
+    command: &str,
+    journal: &[u8],
+    failing: Option<Role>,
+    outside: &mut MemoryOutside,
+) -> Result<(Text, Text), NoMemory>
+    requires { (role : TheRole) → (seen_in outside.old role).name ≡ None }
+{
     outside.put(Role::JournalIn, journal)?;
     if let Some(role) = failing {
         outside.fail(role, 1)?;
@@ -28,9 +44,7 @@ fn journaled(
     let line = format!(in alloc;
         "opennf {command} --instances a --inside 10.0.0.0/24 --journal J T"
     )?;
-    let outcome = outcome_of(alloc, line.as_str(), &mut outside)?;
-    let text = told(alloc, &outcome, &outside)?;
-    Ok((text, outside))
+    seen_beside(alloc, line.as_str(), outside, Role::JournalOut)
 }
 
 #[test]
@@ -44,9 +58,9 @@ fn a_run_and_its_audit_report_the_same(rt: HostRuntime) -> Result<(), Fail> {
         ("audit conntrack --summary", &JOURNAL, b"", summary),
     ];
     for (command, given, written, wanted) in rows {
-        let (text, outside) = journaled(rt.alloc(), command, given, None)?;
+        let (text, journal) = journaled(rt.alloc(), command, given, None)?;
         assert_eq!(rt; text.items(), wanted.as_bytes(), "{command}");
-        assert_eq!(rt; outside.written(Role::JournalOut), written, "{command}");
+        assert_eq!(rt; journal.items(), written, "{command}");
     }
     Ok(())
 }
@@ -68,7 +82,7 @@ fn each_fault_of_a_journal_has_its_line(rt: HostRuntime) -> Result<(), Fail> {
     for (place, byte, wanted) in SPOILED {
         let mut journal = JOURNAL;
         journal[place] = byte;
-        let (text, _outside) = journaled(rt.alloc(), "audit conntrack", &journal, None)?;
+        let (text, _written) = journaled(rt.alloc(), "audit conntrack", &journal, None)?;
         assert_eq!(rt; text.items(), wanted.as_bytes());
     }
     Ok(())
@@ -77,7 +91,7 @@ fn each_fault_of_a_journal_has_its_line(rt: HostRuntime) -> Result<(), Fail> {
 #[test]
 fn a_journal_that_cannot_be_written_leaves_no_report(rt: HostRuntime) -> Result<(), Fail> {
     let failing = Some(Role::JournalOut);
-    let (text, _outside) = journaled(rt.alloc(), "sim conntrack", b"", failing)?;
+    let (text, _written) = journaled(rt.alloc(), "sim conntrack", b"", failing)?;
     assert_eq!(rt;
         text.items(),
         b"5||opennf: write fault journal\n".as_slice()

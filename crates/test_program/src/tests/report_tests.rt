@@ -1,9 +1,11 @@
 //! Tests of `sim`, `published` and `strong` by what is seen of them: whole reports, refusals and faults.
-ghost use Rattle.std.specs.Prelude.{◌≤◌};
+ghost use Rattle.std.specs.Prelude.{◌≡◌, ◌≤◌, None};
+ghost use Rattle.nf_io.specs.declared.outside.Role.{Role as TheRole};
+ghost use Rattle.nf_io.specs.Memory.{seen_in};
 
-use crate::tests::common::{HEADER, ONE_PACKET, RECORD, outside_of, seen, seen_over};
+use crate::tests::common::{HEADER, ONE_PACKET, RECORD, outside_of, seen, seen_over, seen_with};
 use basics::{NoMemory, Text};
-use nf_io::Role;
+use nf_io::{MemoryOutside, Role};
 use std::alloc::Global;
 use std::test::Fail;
 
@@ -198,9 +200,7 @@ fn four_packets(alloc: Global, line: &str, script: &str) -> Result<Text, NoMemor
         &sent(3, 1),
         &sent(4, 2),
     ];
-    let mut outside = outside_of(alloc, &pieces)?;
-    outside.put(Role::Script, script.as_bytes())?;
-    seen(alloc, line, outside)
+    seen_with(alloc, line, &pieces, script)
 }
 
 #[test]
@@ -257,8 +257,15 @@ fn faulty(alloc: Global, role: Role, most: usize) -> Result<Text, NoMemory>
     requires { 1 ≤ most }
 {
     let mut outside = outside_of(alloc, &[&HEADER, &RECORD])?;
-    outside.fail(role, 2)?;
     outside.piece(most);
+    seen_failing(alloc, role, &mut outside)
+}
+
+/// What is seen of it over an outside where that call is made to fail.
+fn seen_failing(alloc: Global, role: Role, outside: &mut MemoryOutside) -> Result<Text, NoMemory>
+    requires { (role : TheRole) → (seen_in outside.old role).name ≡ None }
+{
+    outside.fail(role, 2)?;
     seen(alloc, SIM, outside)
 }
 

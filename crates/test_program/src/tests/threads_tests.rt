@@ -71,6 +71,17 @@ fn processed(alloc: Global, world: &World<Node<Conntrack>>) -> Result<Vec<u32>, 
     Ok(numbers)
 }
 
+/// Whether nothing is left to do after a run by threads with two moves, and these numbers of it.
+fn run_processed<R: Threads + Wait + Sync>(
+    rt: &R,
+    alloc: Global,
+) -> Result<(bool, Vec<u32>), Fail> {
+    let (config, items) = given(alloc, MOVES.as_bytes(), 40, WINDOW)?;
+    let (world, _choices) = run_network::<_, Conntrack, _>(rt, alloc, &config, items, &OpenGate)?;
+    let numbers = processed(alloc, &world)?;
+    Ok((world.complete(), numbers))
+}
+
 /// Some packets are under way when the move begins, and some come while it is open.
 static MOVES: &str = "route any a\nat 9 move a b lport=5001 order\nat 20 move b a any lossfree\n";
 
@@ -82,12 +93,9 @@ fn each_packet_of_two_moves_is_processed_once(rt: HostRuntime) -> Result<(), Fai
         expected.push(number + 1)?;
     }
     for _ in 0..20 {
-        let (config, items) = given(alloc, MOVES.as_bytes(), 40, WINDOW)?;
-        let (world, _choices) = run_network::<_, Conntrack, _>(
-            &rt, alloc, &config, items, &OpenGate,
-        )?;
-        assert!(rt; world.complete());
-        assert_eq!(rt; processed(alloc, &world)?.as_slice(), expected.as_slice());
+        let (complete, numbers) = run_processed(&rt, alloc)?;
+        assert!(rt; complete);
+        assert_eq!(rt; numbers.as_slice(), expected.as_slice());
     }
     Ok(())
 }
@@ -132,14 +140,23 @@ const A: u8 = 2;
 
 const B: u8 = 3;
 
-#[test]
-fn both_instances_are_in_a_pass_at_once(rt: HostRuntime) -> Result<(), Fail> {
-    let alloc = rt.alloc();
-    let gate = Meeting::open(A, B);
+/// How many choices a run by threads makes whose nodes pass a gate.
+fn choices_through<R: Threads + Wait + Sync>(
+    rt: &R,
+    alloc: Global,
+    gate: &Meeting,
+) -> Result<u64, Fail> {
     let script = "route lport=5001 b\nroute any a\n";
     let (config, items) = given(alloc, script.as_bytes(), 1024, 64)?;
-    let (_world, choices) = run_network::<_, Conntrack, _>(&rt, alloc, &config, items, &gate)?;
+    let (_world, choices) = run_network::<_, Conntrack, _>(rt, alloc, &config, items, gate)?;
+    Ok(choices.len() as u64)
+}
+
+#[test]
+fn both_instances_are_in_a_pass_at_once(rt: HostRuntime) -> Result<(), Fail> {
+    let gate = Meeting::open(A, B);
+    let count = choices_through(&rt, rt.alloc(), &gate)?;
     assert!(rt; gate.met());
-    assert_eq!(rt; gate.passes(), choices.len() as u64);
+    assert_eq!(rt; gate.passes(), count);
     Ok(())
 }
