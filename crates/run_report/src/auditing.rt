@@ -1,3 +1,4 @@
+//! The report of the run that choices are, and why they are none.
 ghost use Rattle.std.specs.Prelude.{◌≡◌, ◌+◌, ℕ, length, IfOk};
 ghost use Rattle.net_world.specs.Input.{IsInput};
 ghost use Rattle.net_world.specs.Jobs.{course_of, job_of};

@@ -1,3 +1,4 @@
+//! The report of a world of a run: its head, the lines of packets, answers and records, and its tail.
 ghost use Rattle.std.specs.Prelude.{◌≡◌, ◌++◌, IfOk, OnOk};
 ghost use Rattle.run_report.specs.Lines.{named_instances, packet_lines, record_lines, report_text, summary_lines, whole_lines};
 ghost use Rattle.report_lines.specs.Lines.{tail_lines};
