@@ -19,5 +19,5 @@ pub returns : goal.returns
 returns c =
     let other : eqb c.args.sender (source c.args.self.now) ≡ false = ne_eqb _ _ (λ same. c.if-sender-source.false (same ∙ sym c.source.ensures)) in
     let neither : eqb c.args.sender (destination c.args.self.now) ≡ false =
-        ne_eqb _ _ (λ same. c.if-sender-destination.false (same ∙ sym c.destination.ensures)) in
+    ne_eqb _ _ (λ same. c.if-sender-destination.false (same ∙ sym c.destination.ensures)) in
     rw (other, neither) (search rules)
