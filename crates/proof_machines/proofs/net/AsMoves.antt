@@ -6,9 +6,8 @@ use Rattle.proof_machines.proofs.net.Words.{Syncing, Msg, MoveAsked, Sys, proces
 use Rattle.proof_machines.proofs.net.Words.{ctrl_next, sw_next, begin_next, Any, Old, New, ShareMsg, Shared_on, S_forward, S_sync, ShareTurn, S_shared, olds}
 use Rattle.proof_machines.proofs.net.Words.{as_old, Sharing, OpenShare, Told, Is_fenced, Has_chunks, Has_chunk, Is_synced, Has_packet, syncs, s_row, s_served}
 use Rattle.proof_machines.proofs.net.Words.{told_by, by_share, shared_chunk, member_step, WholeWorld, moves_of, whole_inst, whole_ctrl, whole_switch}
-use Rattle.proof_machines.proofs.net.Words.{begin_move, by_if}
+use Rattle.proof_machines.proofs.net.Words.{begin_move, by_if, Unit}
 use Rattle.proof_machines.proofs.net.Elsewhere.{Elsewhere}
-use Rattle.nf_function.specs.declared.unit.Unit as units
 
 abbrev pub put_old : {R : Type 0} → ℕ → Any R → List (ℕ × Msg R) → List (ℕ × Msg R)
 put_old j (Old m) xs = (j, m) ∷ xs
@@ -136,7 +135,7 @@ module _ {R : Type 0} (S : Sys R) (A : Sharing S) where
 
   -- The steps, as moves see them
   module _ (w : WholeWorld S A) (p : ℕ) (m : Msg R) (rest : List (Any R)) where
-    pub inst_old : (u : units.Unit) (y : ℕ) → w.link p y ≡ Old m ∷ rest
+    pub inst_old : (u : Unit) (y : ℕ) → w.link p y ≡ Old m ∷ rest
         → Elsewhere S u (inst_next S (moves_of S A w) p y m) (moves_of S A (whole_inst S A w p y (Old m)))
     inst_old u y waits = record {
       target = refl;
@@ -163,10 +162,10 @@ module _ {R : Type 0} (S : Sys R) (A : Sharing S) where
         both = old_sends-append (as_old sent) its ∙ ap (λ v. v ++ old_sends its) (old_sends-old sent)
             ∙ ap (λ v. sent ++ v) (by_share_new w.shares p (told_by S A w.shares (Old m))) ∙ append-nil sent
 
-    pub ctrl_old : (u : units.Unit) → w.link p 1 ≡ Old m ∷ rest → Elsewhere S u (ctrl_next S (moves_of S A w) p m) (moves_of S A (whole_ctrl S A w p (Old m)))
+    pub ctrl_old : (u : Unit) → w.link p 1 ≡ Old m ∷ rest → Elsewhere S u (ctrl_next S (moves_of S A w) p m) (moves_of S A (whole_ctrl S A w p (Old m)))
     ctrl_old u waits = record { target = refl; ops = refl; live = λ k. refl; rules = λ k. refl; link = λ i j _. ctrl_links waits i j; done = refl }
 
-    pub switch_old : (u : units.Unit) → w.link p 0 ≡ Old m ∷ rest → Elsewhere S u (sw_next S (moves_of S A w) p m) (moves_of S A (whole_switch S A w p (Old m)))
+    pub switch_old : (u : Unit) → w.link p 0 ≡ Old m ∷ rest → Elsewhere S u (sw_next S (moves_of S A w) p m) (moves_of S A (whole_switch S A w p (Old m)))
     switch_old u waits = record {
       target = refl;
       ops = refl;
@@ -176,7 +175,7 @@ module _ {R : Type 0} (S : Sys R) (A : Sharing S) where
       done = refl;
     }
 
-  pub ctrl_new : (u : units.Unit) (w : WholeWorld S A) (p : ℕ) (m : ShareMsg R) (rest : List (Any R)) → w.link p 1 ≡ New m ∷ rest
+  pub ctrl_new : (u : Unit) (w : WholeWorld S A) (p : ℕ) (m : ShareMsg R) (rest : List (Any R)) → w.link p 1 ≡ New m ∷ rest
       → Elsewhere S u (moves_of S A w) (moves_of S A (whole_ctrl S A w p (New m)))
   ctrl_new u w p m rest waits = record {
     target = refl;
@@ -188,7 +187,7 @@ module _ {R : Type 0} (S : Sys R) (A : Sharing S) where
     done = refl;
   }
 
-  pub begin_old : (u : units.Unit) (w : WholeWorld S A) (x : MoveAsked) → Elsewhere S u (begin_next S (moves_of S A w) x) (moves_of S A (begin_move S A w x))
+  pub begin_old : (u : Unit) (w : WholeWorld S A) (x : MoveAsked) → Elsewhere S u (begin_next S (moves_of S A w) x) (moves_of S A (begin_move S A w x))
   begin_old u w x = record {
     target = refl;
     ops = refl;

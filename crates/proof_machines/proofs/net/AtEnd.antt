@@ -4,10 +4,10 @@ use Rattle.proof_machines.proofs.net.Words.{◌≡◌, ℕ, ◌<◌, ◌≤◌, 
 use Rattle.proof_machines.proofs.net.Words.{◌&&◌, ◌==◌, nat_tests, At_a, At_b, At_c, Ran, after, State, firsts, IsOrderedAs, Nodes, expect, items, Silent}
 use Rattle.proof_machines.proofs.net.Words.{none_carried, AtRestNow, Rests_at, rest_at, seat_ends, UnitSeat, seat_shape, seat_all, seat_rests, Op, Sys, IsSys}
 use Rattle.proof_machines.proofs.net.Words.{Open, find_op, World, seen, Seeing, frame, node_at, place, IsController, Holds, Rest, carries_of, done_u, split}
-use Rattle.proof_machines.proofs.unit.Machine.{Where as Side, Carry, Phase}
+use Rattle.proof_machines.proofs.net.Words.{Unit, Side}
+use Rattle.proof_machines.proofs.unit.Machine.{Carry, Phase}
 use Rattle.proof_machines.proofs.net.RestingSeats.{same_done}
 use Rattle.proof_machines.proofs.net.Units.{Where, Where.At_rest, Where.In_move, see}
-use Rattle.nf_function.specs.declared.unit.Unit as units
 
 -- the links of the machine that its nodes tell
 module _ {R : Type 0} (a b c : ℕ) (nodes : Nodes a b c) (x : State R) where
@@ -31,7 +31,7 @@ module _ {R : Type 0} (a b c : ℕ) (nodes : Nodes a b c) (x : State R) where
         cs = cs;
       }
 
-module _ {R : Type 0} (S : Sys R) (laws : IsSys S) (u : units.Unit) (n : ℕ) (w : World S) where
+module _ {R : Type 0} (S : Sys R) (laws : IsSys S) (u : Unit) (n : ℕ) (w : World S) where
   -- the unit's packets that are done, and those that are left
   pub record AtEnd (ps : List ℕ) (c : Bool) : Type 0 where
     pub ran : List Ran

@@ -3,40 +3,39 @@ use Rattle.proof_machines.proofs.net.Words.{◌≡◌, ℕ, ◌+◌, ◌≤◌, 
 use Rattle.proof_machines.proofs.net.Words.{if◌then◌else◌, ◌&&◌, ◌==◌, is_some, option_to_list, nat_tests, Decides-eqb, Item, Put_no, State, Chunks, record_at}
 use Rattle.proof_machines.proofs.net.Words.{RPiece, RPhase, M_event, M_put_no, Frame, see, see_phase, Streaming, records, Each, Without, Clean, frozen_in}
 use Rattle.proof_machines.proofs.net.Words.{free_in, expect, seat_shape, items, Msg, Mv, Sys, IsSys, Open, find_op, World, seen, Seeing, frame, Label, OpLabel}
-use Rattle.proof_machines.proofs.net.Words.{IsController, Holds, head, NothingOf, Global, same_unit, same_unit_equiv, Filter, Answer, either_way}
+use Rattle.proof_machines.proofs.net.Words.{IsController, Holds, head, NothingOf, Global, same_unit, same_unit_equiv, Filter, Answer, either_way, Unit}
 use Rattle.proof_machines.proofs.unit.OneCopy.{few_records, records_head}
 use Rattle.proof_machines.proofs.net.Ctrl.{none_some, each_found}
 use Rattle.proof_machines.proofs.net.Units.{Where, Where.At_rest, Where.In_move, shown, see as seeing}
-use Rattle.nf_function.specs.declared.unit.Unit as units
 
 module _ {R : Type 0} where
   -- 1 where the chunks have a record of the unit
-  abbrev pub has : units.Unit → Chunks R → ℕ
+  abbrev pub has : Unit → Chunks R → ℕ
   has u cs = if is_some (record_at u cs) then 1 else 0
 
   -- how many pieces have one
-  abbrev pub have : units.Unit → List (RPiece R) → ℕ
+  abbrev pub have : Unit → List (RPiece R) → ℕ
   have u [] = 0
   have u (p ∷ ps) = has u p.chunks + have u ps
 
-  abbrev pub copies : units.Unit → RPhase R → ℕ
+  abbrev pub copies : Unit → RPhase R → ℕ
   copies u (Streaming frozen free came door) = have u frozen + have u free
   copies u ph = 0
 
   -- none of another move
-  has_none : (u : units.Unit) (cs : Chunks R) → record_at u cs ≡ None → has u cs ≡ 0
+  has_none : (u : Unit) (cs : Chunks R) → record_at u cs ≡ None → has u cs ≡ 0
   has_none u cs e = rw e refl
 
-  have_none : (u : units.Unit) (ps : List (RPiece R)) → Each (Without u) ps → have u ps ≡ 0
+  have_none : (u : Unit) (ps : List (RPiece R)) → Each (Without u) ps → have u ps ≡ 0
   have_none u [] h = refl
   have_none u (p ∷ ps) h = let a = has_none u p.chunks h.0 in let b = have_none u ps h.1 in rw (a, b) refl
 
-  copies_none : (u : units.Unit) (ph : RPhase R) → Clean u ph → copies u ph ≡ 0
+  copies_none : (u : Unit) (ph : RPhase R) → Clean u ph → copies u ph ≡ 0
   copies_none u (Streaming frozen free came door) h = let a = have_none u frozen h.0 in let b = have_none u free h.1 in rw (a, b) refl
   copies_none u ph h = refl
 
   -- of its own move as many as the machine has
-  has_own : (u : units.Unit) (cs : Chunks R) → has u cs ≡ length (option_to_list (record_at u cs))
+  has_own : (u : Unit) (cs : Chunks R) → has u cs ≡ length (option_to_list (record_at u cs))
   has_own u cs = elim (record_at u cs) as (λ o. (if is_some o then 1 else 0) ≡ length (option_to_list o)) [ None ↦ refl | Some r ↦ refl ]
 
   have_own : (v : Frame) (ps : List (RPiece R)) → have v.unit ps ≡ length (records (map (see v) ps))
@@ -71,7 +70,7 @@ module _ {R : Type 0} (S : Sys R) (laws : IsSys S) where
       (c.0, copies_own (frame S z) e.phase ∙ ap (λ ph. length (frozen_in ph) + length (free_in ph)) c.1)
 
   -- of a unit, by where it is
-  pub one_copy : (w : World S) → Global S w → (u : units.Unit) (ps : List ℕ) (b : Bool) → Where S laws u w ps b → (n : ℕ) (e : Open R)
+  pub one_copy : (w : World S) → Global S w → (u : Unit) (ps : List ℕ) (b : Bool) → Where S laws u w ps b → (n : ℕ) (e : Open R)
       → find_op w.ops n ≡ Some e → copies u e.phase ≤ 1
   one_copy w g u ps b here n e there =
       let k = shown S laws u w ps b g here in
@@ -95,7 +94,7 @@ module _ {R : Type 0} (S : Sys R) (laws : IsSys S) where
       ∙ h.views i 1 ∙ all
 
   -- and with what was refused and is on its way back
-  pub one_copy_back : (w : World S) → Global S w → (u : units.Unit) (ps : List ℕ) (b : Bool) → Where S laws u w ps b → (n : ℕ) (e : Open R)
+  pub one_copy_back : (w : World S) → Global S w → (u : Unit) (ps : List ℕ) (b : Bool) → Where S laws u w ps b → (n : ℕ) (e : Open R)
       → find_op w.ops n ≡ Some e → (g : Filter) (why : Answer) (cs : Chunks R) (rest : List (Msg R)) → w.link e.op.dst 1 ≡ Mv g (M_put_no n why cs) ∷ rest
       → has u cs + copies u e.phase ≤ 1
   one_copy_back w global u ps b here n e there g why cs rest waits =
@@ -126,7 +125,7 @@ module _ {R : Type 0} (S : Sys R) (laws : IsSys S) where
       → w.link i 1 ≡ Mv g (M_event n p) ∷ rest → find_op w.ops n ≡ None → ⊥
   event_open w i n p ps bared here g rest waits none = by_where here
     where
-      u : units.Unit
+      u : Unit
       u = S.packet_unit p
 
       self : same_unit u u ≡ true

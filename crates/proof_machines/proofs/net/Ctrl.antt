@@ -5,11 +5,10 @@ use Rattle.proof_machines.proofs.net.Words.{same_Some, Where, At_a, At_b, Item, 
 use Rattle.proof_machines.proofs.net.Words.{from_source, from_destination, record_at, M_enable, M_stream, M_delete, M_put, M_restore, M_event, M_forward}
 use Rattle.proof_machines.proofs.net.Words.{M_install, M_fence_to, RPhase, Op, r_goes, r_from_source, r_from_destination, where_true, see, sends_to, only_mine}
 use Rattle.proof_machines.proofs.net.Words.{see_phase, Sees, NodesDiffer, frame_of, quiet, did_a, did_b, from_source_seen, from_destination_seen, Each, Open}
-use Rattle.proof_machines.proofs.net.Words.{find_op, set_op, close_op, write_op, num_of, is_among, split, by_if}
+use Rattle.proof_machines.proofs.net.Words.{find_op, set_op, close_op, write_op, num_of, is_among, split, by_if, Unit}
 use Rattle.proof_machines.proofs.unit.Machine.{Install, Stray}
-use Rattle.proof_machines.proofs.unit.Real as Real
+use Rattle.proof_machines.proofs.unit.Real
 use Rattle.move_op.specs.Phases.{Over}
-use Rattle.nf_function.specs.declared.unit.Unit as units
 
 pub none_some : {X : Type 0} {P : Type 0} {a : X} → None ≡ Some a → P
 none_some e = cc
@@ -72,7 +71,7 @@ each_found P k (x ∷ es) e h there =
     (λ _ is. each_found P k es e h.1 is) there
 
 -- a row of a move on each message that bears its number, also on those that it doesn't know
-module _ {R : Type 0} (o : Op) (mine : ℕ → Bool) (u : units.Unit) (t : NodesDiffer o) where
+module _ {R : Type 0} (o : Op) (mine : ℕ → Bool) (u : Unit) (t : NodesDiffer o) where
   its_num : (k : ℕ) (it : Item R) → k ≡ o.num → where_true (k == o.num) it ≡ Some it
   its_num k it e = let n = t.num in rw (e, n) refl
 

@@ -2,15 +2,14 @@
 -- sent has its labels.
 use Rattle.proof_machines.proofs.net.Words.{◌≡◌, ℕ, Bool, true, false, Option, Some, None, List, [], ◌∷◌, refl, sym, ap, ◌∙◌, subst, if◌then◌else◌, ◌==◌}
 use Rattle.proof_machines.proofs.net.Words.{eqb-true, both_ways, same_Some, Item, Pass, State, ControllerTurn, goes, from_source, from_destination, M_enable}
-use Rattle.proof_machines.proofs.net.Words.{M_stream, M_delete, M_put, M_restore, M_event, M_piece, M_put_no}
-use Rattle.proof_machines.proofs.net.Words.{M_forward, M_install, M_fence_to, RPhase, Op, OperationTurn, r_goes, r_from_source, r_from_destination}
-use Rattle.proof_machines.proofs.net.Words.{Frame, where_true, none_if, add, view, only_mine, see_phase, sent_for, sends_to, Sees, NodesDiffer, quiet, did_a}
-use Rattle.proof_machines.proofs.net.Words.{did_b, Each, Foreign, SentForeign, Clean, StaysClean, from_source_clean, from_destination_clean, items, Filter, Msg}
-use Rattle.proof_machines.proofs.net.Words.{Carry_on, Pass_on, Fence_on, Mv, Sys, Open, find_op, write_op, num_of, row_of, row, filter_for, wrap}
-use Rattle.proof_machines.proofs.net.Words.{ControllerMove, found, numbered, ctrl_step, seen, Seeing, EachSent, frame, MoveLabel, Label, OpLabel, IsController}
-use Rattle.proof_machines.proofs.net.Words.{same_unit, either_way, by_if}
+use Rattle.proof_machines.proofs.net.Words.{M_stream, M_delete, M_put, M_restore, M_event, M_piece, M_put_no, M_forward, M_install, M_fence_to, RPhase, Op}
+use Rattle.proof_machines.proofs.net.Words.{OperationTurn, r_goes, r_from_source, r_from_destination, Frame, where_true, none_if, add, view, only_mine}
+use Rattle.proof_machines.proofs.net.Words.{see_phase, sent_for, sends_to, Sees, NodesDiffer, quiet, did_a, did_b, Each, Foreign, SentForeign, Clean}
+use Rattle.proof_machines.proofs.net.Words.{StaysClean, from_source_clean, from_destination_clean, items, Filter, Msg, Carry_on, Pass_on, Fence_on, Mv, Sys}
+use Rattle.proof_machines.proofs.net.Words.{Open, find_op, write_op, num_of, row_of, row, filter_for, wrap, ControllerMove, found, numbered, ctrl_step, seen}
+use Rattle.proof_machines.proofs.net.Words.{Seeing, EachSent, frame, MoveLabel, Label, OpLabel, IsController, same_unit, either_way, by_if}
 use Rattle.proof_machines.proofs.unit.Machine.{Carry, Fence, Forward, Phase}
-use Rattle.proof_machines.proofs.unit.Real as Real
+use Rattle.proof_machines.proofs.unit.Real
 use Rattle.move_op.specs.Phases.{Over}
 use Rattle.proof_machines.proofs.unit.Quiet.{Is_quiet, IsNotMine, view_nothing, from_source_quiet, from_destination_quiet}
 use Rattle.proof_machines.proofs.net.RowNumbers.{OfRow, SentOf, row_numbers}

@@ -4,16 +4,14 @@ use Rattle.proof_machines.proofs.net.Words.{◌≡◌, ℕ, ◌≤◌, Bool, tru
 use Rattle.proof_machines.proofs.net.Words.{if◌then◌else◌, ◌&&◌, ◌==◌, Decides-eqb, At_a, At_b, At_c, Ran, State, sent_for, only_mine, Each, Nodes, items}
 use Rattle.proof_machines.proofs.net.Words.{seat_shape, Msg, In_packet, Asked, Carry_on, Pass_on, Fence_on, Mv, Sys, IsSys, find_rule, rule_of, held_of}
 use Rattle.proof_machines.proofs.net.Words.{find_op, World, seen, Seeing, frame, Label, shows, RuleLabel, OpLabel, place, IsController, Holds, each_put, Rest}
-use Rattle.proof_machines.proofs.net.Words.{RestRule, RestOp, NothingOf, carries_of, done_u, same_unit, split, false_from_ne_true}
-use Rattle.proof_machines.proofs.unit.Machine.{Where as Side}
+use Rattle.proof_machines.proofs.net.Words.{RestRule, RestOp, NothingOf, carries_of, done_u, same_unit, split, false_from_ne_true, Unit, Side}
 use Rattle.proof_machines.proofs.net.Ctrl.{each_found}
 use Rattle.proof_machines.proofs.net.OtherWorld.{put_unseen, one_unseen}
 use Rattle.proof_machines.proofs.net.RestingSeats.{same_done}
 use Rattle.proof_machines.proofs.net.Units.{Where, Where.At_rest, Where.In_move, see}
-use Rattle.nf_function.specs.declared.unit.Unit as units
 
 -- all that where a unit is looks at
-pub record Elsewhere {R : Type 0} (S : Sys R) (u : units.Unit) (w v : World S) : Type 0 where
+pub record Elsewhere {R : Type 0} (S : Sys R) (u : Unit) (w v : World S) : Type 0 where
   pub target : v.target u ≡ w.target u
   pub ops : v.ops ≡ w.ops
   pub live : (k : ℕ) → S.B.at u (v.inst k).live ≡ S.B.at u (w.inst k).live
@@ -22,14 +20,14 @@ pub record Elsewhere {R : Type 0} (S : Sys R) (u : units.Unit) (w v : World S) :
   pub done : done_u S u v.done ≡ done_u S u w.done
 
 -- a unit at rest, without a word of where its packets are
-pub record Resting {R : Type 0} (S : Sys R) (u : units.Unit) (w : World S) : Type 0 where
+pub record Resting {R : Type 0} (S : Sys R) (u : Unit) (w : World S) : Type 0 where
   pub owner : ℕ
   pub done : List Ran
   pub waits : List ℕ
   pub rest : Rest S u w owner done waits
 
 module _ {R : Type 0} (S : Sys R) where
-  pub elsewhere_rest : (u : units.Unit) (w v : World S) (owner : ℕ) (d : List Ran) (l : List ℕ) → Elsewhere S u w v → Rest S u w owner d l
+  pub elsewhere_rest : (u : Unit) (w v : World S) (owner : ℕ) (d : List Ran) (l : List ℕ) → Elsewhere S u w v → Rest S u w owner d l
       → Rest S u v owner d l
   elsewhere_rest u w v owner d l e h = record {
     two = h.two;
@@ -66,7 +64,7 @@ module _ {R : Type 0} (S : Sys R) where
           (λ _. refl)
           (λ off. ap (items (seen (frame S z))) (e.link i j off))
 
-  module _ (laws : IsSys S) (u : units.Unit) where
+  module _ (laws : IsSys S) (u : Unit) where
     pub elsewhere_where : (w v : World S) (ps : List ℕ) (c : Bool) → Elsewhere S u w v → Where S laws u w ps c → Where S laws u v ps c
     elsewhere_where w v ps c e (At_rest owner d l b h o f) = At_rest owner d l b (elsewhere_rest u w v owner d l e h) o f
     elsewhere_where w v ps c e (In_move op third x s b there h o f k) = In_move op third x s b (ap (λ es. find_op es op.num) e.ops ∙ there)

@@ -5,13 +5,12 @@ use Rattle.proof_machines.proofs.net.Words.{M_piece, M_forward, M_install, M_fen
 use Rattle.proof_machines.proofs.net.Words.{ctrl_next, sw_next, in_next, begin_next, Msg, Carry_on, Pass_on, Fence_on, Mv, MoveAsked, Sys, IsSys, Ruling}
 use Rattle.proof_machines.proofs.net.Words.{first_rule, set_rule, hold, holding, drop_rule, to_ctrl, NumberedInstance, by_kind, by_rule, inst_step, Open}
 use Rattle.proof_machines.proofs.net.Words.{find_op, num_of, row, wrap, found, numbered, ctrl_step, sw_sends, new_op, begin_sends, World, EachSent, each_after}
-use Rattle.proof_machines.proofs.net.Words.{each_put, Below, IsBelow, Global, Answer, by_if}
-use Rattle.proof_machines.proofs.unit.Real as Real
+use Rattle.proof_machines.proofs.net.Words.{each_put, Below, IsBelow, Global, Answer, by_if, Unit}
+use Rattle.proof_machines.proofs.unit.Real
 use Rattle.proof_machines.proofs.net.RuleLists.{each-change, each_set}
 use Rattle.proof_machines.proofs.net.RowNumbers.{OfRow, SentOf, row_numbers}
 use Rattle.proof_machines.proofs.net.Ctrl.{each_write, each_found}
 use Rattle.proof_machines.proofs.net.Units.{Where}
-use Rattle.nf_function.specs.declared.unit.Unit as units
 
 module _ {R : Type 0} (S : Sys R) (laws : IsSys S) where
   -- numbers of what an instance sends and of its rules
@@ -32,7 +31,7 @@ module _ {R : Type 0} (S : Sys R) (laws : IsSys S) where
     rules_set : (n : ℕ) (g : Filter) (k : Rule) (rs : List Ruling) → n < b → RulesBelow rs → RulesBelow (set_rule n g k rs)
     rules_set n g k rs e h = each_set (λ r. r.num < b) n g k rs (λ r _ x. x) e h
 
-    first_below : (u : units.Unit) (rs : List Ruling) (r : Ruling) → RulesBelow rs → first_rule S u rs ≡ Some r → r.num < b
+    first_below : (u : Unit) (rs : List Ruling) (r : Ruling) → RulesBelow rs → first_rule S u rs ≡ Some r → r.num < b
     first_below u [] r h e = cc
     first_below u (x ∷ rs) r h e = elim (S.takes x.filter u) as (λ t. (if t then Some x else first_rule S u rs) ≡ Some r → r.num < b)
         [ true ↦ λ is. let same : x ≡ r = cc in subst (λ y. y.num < b) same h.0 | false ↦ λ is. first_below u rs r h.1 is ] e
@@ -186,6 +185,6 @@ module _ {R : Type 0} (S : Sys R) (laws : IsSys S) where
         ops = each-append (λ e. e.op.num < suc x.num) w.ops (new_op x.num x ∷ []) more.ops (omega arith, tt);
       }
 
-  pub record Every (w : World S) (arrived : units.Unit → List ℕ) (bared : units.Unit → Bool) : Type 0 where
+  pub record Every (w : World S) (arrived : Unit → List ℕ) (bared : Unit → Bool) : Type 0 where
     pub global : Global S w
-    pub unit : (u : units.Unit) → Where S laws u w (arrived u) (bared u)
+    pub unit : (u : Unit) → Where S laws u w (arrived u) (bared u)

@@ -2,8 +2,7 @@
 use Rattle.proof_machines.proofs.net.Words.{◌≡◌, ◌≢◌, ℕ, true, false, Option, Some, None, List, [], ◌∷◌, refl, sym, ap, ◌∙◌, subst, ◌==◌, At_a, At_b, Part}
 use Rattle.proof_machines.proofs.net.Words.{Inst, Did, inst_does, Item, State, firsts, ShownBy, By_sa, By_sb, By_sc, By_ca, By_cb, By_ac, By_bc, By_cc, By_cs}
 use Rattle.proof_machines.proofs.net.Words.{shown_by, UnitSeat, seat_shape, items, Msg, Sys, IsSys, InstanceTurn, World, inst_step, seen, Seeing, sides_of}
-use Rattle.proof_machines.proofs.net.Words.{frame, SeesNode, node_at, Holds, none_mine, Answer}
-use Rattle.proof_machines.proofs.unit.Machine.{Where as Side, sends as did_sends}
+use Rattle.proof_machines.proofs.net.Words.{frame, SeesNode, node_at, Holds, none_mine, Answer, Side, did_sends}
 use Rattle.proof_machines.proofs.unit.Fresh.{still_ca, still_cb, still_ran}
 use Rattle.proof_machines.proofs.net.Insts.{InstanceGoes, does}
 use Rattle.proof_machines.proofs.net.InstMoves.{MovesInstance, Any, Streams_out, Puts_in}

@@ -9,9 +9,9 @@ use Rattle.flow_filter.specs.declared.filter.Filter.{Filter}
 use Rattle.proof_machines.proofs.net.Net.{Sys, NumberedInstance, find_op}
 use Rattle.proof_machines.proofs.net.Rest.{Global}
 use Rattle.proof_machines.proofs.net.ShareLists.{AreNumbersApart}
-use Rattle.proof_machines.proofs.net.Shares.{Any, ShareMsg, ShareMsg.Shared_on, ShareMsg.Diverted_on, ShareMsg.S_asked, ShareMsg.S_install}
-use Rattle.proof_machines.proofs.net.Shares.{ShareMsg.S_forward, ShareMsg.S_get, ShareMsg.S_sync, ShareMsg.S_chunks, ShareMsg.S_shared}
-use Rattle.proof_machines.proofs.net.Shares.{ShareMsg.S_synced, EachNew, same, Sharing, OpenShare, find_share, share_taking, WholeWorld, moves_of}
+use Rattle.proof_machines.proofs.net.Shares.{Any, ShareMsg, ShareMsg.Shared_on, ShareMsg.Diverted_on, ShareMsg.S_asked, ShareMsg.S_install, ShareMsg.S_forward}
+use Rattle.proof_machines.proofs.net.Shares.{ShareMsg.S_get, ShareMsg.S_sync, ShareMsg.S_chunks, ShareMsg.S_shared, ShareMsg.S_synced, EachNew, same, Sharing}
+use Rattle.proof_machines.proofs.net.Shares.{OpenShare, find_share, share_taking, WholeWorld, moves_of}
 use Rattle.nf_function.specs.declared.unit.Unit as units
 use Rattle.std.proofs.lemmas.Bool.{false_from_ne_true}
 
@@ -25,7 +25,7 @@ pub record Opened (es : List OpenShare) (n : ℕ) (P : OpenShare → Type 0) : T
 abbrev pub Numbered : {R : Type 0} → ℕ → ShareMsg R → Type 0
 Numbered b (S_get n g) = n < b
 Numbered b (S_chunks n cs) = n < b
-Numbered b m = Unit {0}
+Numbered b m = Prim.Unit {0}
 
 module _ {R : Type 0} (S : Sys R) where
   -- no unit is taken by both
@@ -47,7 +47,7 @@ module _ {R : Type 0} (S : Sys R) where
   abbrev pub OfShare : List OpenShare → ℕ → ShareMsg R → Type 0
   OfShare es j (Shared_on n home p) = Opened es n (λ e. (S.takes e.filter (S.packet_unit p) ≡ true) × (same home (j == e.home) ≡ true))
   OfShare es j (Diverted_on p) = (j ≡ 1) × TakesSome es (S.packet_unit p)
-  OfShare es j (S_asked x) = Unit {0}
+  OfShare es j (S_asked x) = Prim.Unit {0}
   OfShare es j (S_install n g from) = Opened es n (λ e. (g ≡ e.filter) × (from ≡ e.home))
   OfShare es j (S_forward n home p to) =
       Opened es n (λ e. (S.takes e.filter (S.packet_unit p) ≡ true) × (has e.members to ≡ true) × (same home (to == e.home) ≡ true))
@@ -55,7 +55,7 @@ module _ {R : Type 0} (S : Sys R) where
   OfShare es j (S_sync n home cs) = Opened es n (λ e. Within e.filter cs × (same home (j == e.home) ≡ true))
   OfShare es j (S_chunks n cs) = (e : OpenShare) → find_share es n ≡ Some e → Within e.filter cs
   OfShare es j (S_shared n c) = Opened es n (λ e. S.takes e.filter c.0 ≡ true)
-  OfShare es j (S_synced n) = Opened es n (λ e. Unit {0})
+  OfShare es j (S_synced n) = Opened es n (λ e. Prim.Unit {0})
 
   module _ (A : Sharing S) where
     pub record GlobalAll (w : WholeWorld S A) : Type 0 where

@@ -4,12 +4,11 @@ use Rattle.proof_machines.proofs.net.Words.{arith, if◌then◌else◌, ◌==◌
 use Rattle.proof_machines.proofs.net.Words.{find_op, ctrl_step, num_of, numbered, found, row, SameShare, AreNumbersApart, find_set, set_find, find_more}
 use Rattle.proof_machines.proofs.net.Words.{find_old, Opened, Numbered, Within, TakesSome, OfShare, Any, Old, New, ShareMsg, Shared_on, Diverted_on, S_asked}
 use Rattle.proof_machines.proofs.net.Words.{S_install, S_forward, S_get, S_sync, S_chunks, S_shared, S_synced, same, Sharing, IsSharing, OpenShare, find_share}
-use Rattle.proof_machines.proofs.net.Words.{set_share, share_taking, Told, same_unit, same_unit-true, split, by_if}
+use Rattle.proof_machines.proofs.net.Words.{set_share, share_taking, Told, same_unit, same_unit-true, split, by_if, Unit}
 use Rattle.proof_machines.proofs.net.Net as net
 use Rattle.proof_machines.proofs.net.Ctrl.{each_write}
 use Rattle.proof_machines.proofs.net.NewMessages.{OnNew}
 use Rattle.proof_machines.proofs.net.ShareRows.{Tells, ToldOf, SentBy, taking_each}
-use Rattle.nf_function.specs.declared.unit.Unit as units
 
 -- Lists of shares
 pub each_set_any : (P : OpenShare → Type 0) (n : ℕ) (ph : Phase) (q : List ℕ) → ((e : OpenShare) → P e → P (record e { phase = ph; queue = q }))
@@ -92,7 +91,7 @@ module _ {R : Type 0} (S : Sys R) where
   opened_set n ph q es k P again o =
       let f = find_set n ph q es k o.share o.found in record { share = f.share; found = f.found; says = again f.share o.share f.same o.says }
 
-  same_filter : (d e : OpenShare) (v : units.Unit) (b : Bool) → SameShare d e → S.takes e.filter v ≡ b → S.takes d.filter v ≡ b
+  same_filter : (d e : OpenShare) (v : Unit) (b : Bool) → SameShare d e → S.takes e.filter v ≡ b → S.takes d.filter v ≡ b
   same_filter d e v b s is = ap (λ g. S.takes g v) s.filter ∙ is
 
   same_home : (d e : OpenShare) (home : Bool) (j : ℕ) → SameShare d e → same home (j == e.home) ≡ true → same home (j == d.home) ≡ true
@@ -101,7 +100,7 @@ module _ {R : Type 0} (S : Sys R) where
   same_within : (d e : OpenShare) (cs : Chunks R) → SameShare d e → Within S e.filter cs → Within S d.filter cs
   same_within d e cs s w v out = w v (ap (λ g. S.takes g v) (sym s.filter) ∙ out)
 
-  pub taking_set : (n : ℕ) (ph : Phase) (q : List ℕ) (es : List OpenShare) (v : units.Unit) → TakesSome S es v → TakesSome S (set_share n ph q es) v
+  pub taking_set : (n : ℕ) (ph : Phase) (q : List ℕ) (es : List OpenShare) (v : Unit) → TakesSome S es v → TakesSome S (set_share n ph q es) v
   taking_set n ph q [] v h = let never : None ≡ Some h.0 = h.1 in cc
   taking_set n ph q (x ∷ es) v h = by_if (λ r. TakesSome S r v) (x.num == n) (first (S.takes x.filter v) refl h.1)
       (later (S.takes x.filter v) refl h.1 (λ is. taking_set n ph q es v (h.0, is)))
@@ -132,13 +131,13 @@ module _ {R : Type 0} (S : Sys R) where
   of_share_set n ph q es j (S_chunks k cs) o = λ e is v out.
       let f = set_find n ph q es k e is in o f.share f.found v (ap (λ g. S.takes g v) f.same.filter ∙ out)
   of_share_set n ph q es j (S_shared k c) o = opened_set n ph q es k (λ e. S.takes e.filter c.0 ≡ true) (λ d e s h. same_filter d e c.0 true s h) o
-  of_share_set n ph q es j (S_synced k) o = opened_set n ph q es k (λ e. Unit {0}) (λ d e s h. tt) o
+  of_share_set n ph q es j (S_synced k) o = opened_set n ph q es k (λ e. Prim.Unit {0}) (λ d e s h. tt) o
 
   -- another begins
   opened_more : (es : List OpenShare) (x : OpenShare) (k : ℕ) (P : OpenShare → Type 0) → Opened es k P → Opened (es ++ x ∷ []) k P
   opened_more es x k P o = record { share = o.share; found = find_more es x k o.share o.found; says = o.says }
 
-  taking_more : (es : List OpenShare) (x : OpenShare) (v : units.Unit) (e : OpenShare) → share_taking S es v ≡ Some e → share_taking S (es ++ x ∷ []) v ≡ Some e
+  taking_more : (es : List OpenShare) (x : OpenShare) (v : Unit) (e : OpenShare) → share_taking S es v ≡ Some e → share_taking S (es ++ x ∷ []) v ≡ Some e
   taking_more [] x v e is = cc
   taking_more (y ∷ es) x v e is = elim (S.takes y.filter v) as (λ b. (if b then Some y else share_taking S es v) ≡ Some e
       → (if b then Some y else share_taking S (es ++ x ∷ []) v) ≡ Some e) [ true ↦ λ there. there | false ↦ λ there. taking_more es x v e there ] is
@@ -158,11 +157,11 @@ module _ {R : Type 0} (S : Sys R) where
   of_share_more es x b fresh j (S_chunks k cs) few o = λ e is.
       let off : (x.num == k) ≡ false = grind (arith, nat_tests, few, fresh) in o e (sym (find_old es x k off) ∙ is)
   of_share_more es x b fresh j (S_shared k c) few o = opened_more es x k (λ e. S.takes e.filter c.0 ≡ true) o
-  of_share_more es x b fresh j (S_synced k) few o = opened_more es x k (λ e. Unit {0}) o
+  of_share_more es x b fresh j (S_synced k) few o = opened_more es x k (λ e. Prim.Unit {0}) o
 
   -- What a share is told, and what it sends
   module _ (A : Sharing S) where
-    one_within : (g : Filter) (c : units.Unit × R) → S.takes g c.0 ≡ true → Within S g (c ∷ [])
+    one_within : (g : Filter) (c : Unit × R) → S.takes g c.0 ≡ true → Within S g (c ∷ [])
     one_within g c on v out = split (same_unit v c.0) (λ b. (if b then Some c.1 else None) ≡ None)
         (λ is. let same : v ≡ c.0 = same_unit-true v c.0 is in let never : true ≡ false = sym on ∙ ap (S.takes g) (sym same) ∙ out in cc)
         (λ _. refl)
@@ -181,7 +180,7 @@ module _ {R : Type 0} (S : Sys R) where
         rw eq (one_within e.filter c (subst (λ d. S.takes d.filter c.0 ≡ true) same h.says))
     told_of es (New (S_synced n)) e t h is = rw is tt
     told_of es (New (Diverted_on p)) e t h is =
-        let eq = is.1 in let k = (taking_each S A (λ _. Unit {0}) es (S.packet_unit p) e (each_any es) is.0).1 in rw eq k
+        let eq = is.1 in let k = (taking_each S A (λ _. Prim.Unit {0}) es (S.packet_unit p) e (each_any es) is.0).1 in rw eq k
     told_of es m e t h is = absurd is
 
     -- d is the share e after its step

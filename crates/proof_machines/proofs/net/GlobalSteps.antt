@@ -9,8 +9,8 @@ use Rattle.proof_machines.proofs.net.Words.{ShareMsg, Shared_on, S_install, S_fo
 use Rattle.proof_machines.proofs.net.Words.{OpenShare, find_share, set_share, Told, share_row, told_by, SharesStep, by_share, member_step, share_sends}
 use Rattle.proof_machines.proofs.net.Words.{arrive_sends, old_step, WholeWorld, moves_of, whole_inst, whole_ctrl, whole_switch, whole_input}
 use Rattle.proof_machines.proofs.net.Every.{inst_global, ctrl_global, switch_global, input_global}
-use Rattle.proof_machines.proofs.net.AsMoves.{old_sends, old_sends-old, olds-put, no_olds-put, olds-after}
-use Rattle.proof_machines.proofs.net.AsMoves.{news-after, no_olds-after, by_share_new, member_new, ctrl_links}
+use Rattle.proof_machines.proofs.net.AsMoves.{old_sends, old_sends-old, olds-put, no_olds-put, olds-after, news-after, no_olds-after, by_share_new, member_new}
+use Rattle.proof_machines.proofs.net.AsMoves.{ctrl_links}
 use Rattle.proof_machines.proofs.net.NewMessages.{OnNew, EachSentNew, each_new_map, each_sent_map, sent_old, sent_old_and, new_after, new_put, new_head}
 use Rattle.proof_machines.proofs.net.ShareRows.{Tells, told_cases, SentBy, share_row_by}
 use Rattle.proof_machines.proofs.net.GlobalShares.{each_set_any, nums_set, none_set, ctrl_each, ctrl_none, of_share_set, TakenBy, told_of, sent_of}

@@ -3,9 +3,9 @@ use Rattle.std.proofs.Common.{◌≡◌, ℕ, true, false, Option, Some, None, L
 use Rattle.std.specs.Prelude.{if◌then◌else◌, ◌&&◌, ◌==◌}
 use Rattle.proof_machines.proofs.unit.Machine.{Where, At_a, At_b, At_c, Inst, Item, State, idle}
 use Rattle.proof_machines.proofs.unit.Lists.{firsts}
-use Rattle.proof_machines.proofs.unit.Real as Real
-use Rattle.proof_machines.proofs.unit.Real.{record_at, M_enable, M_stream, M_delete, M_put, M_restore, M_event}
-use Rattle.proof_machines.proofs.unit.Real.{M_piece, M_put_no, M_install, Op, Frame, see_phase, only_mine}
+use Rattle.proof_machines.proofs.unit.Real
+use Rattle.proof_machines.proofs.unit.Real.{record_at, M_enable, M_stream, M_delete, M_put, M_restore, M_event, M_piece, M_put_no, M_install, Op, Frame}
+use Rattle.proof_machines.proofs.unit.Real.{see_phase, only_mine}
 use Rattle.proof_machines.proofs.unit.Seen.{NodesDiffer, frame_of}
 use Rattle.proof_machines.proofs.unit.Labels.{Each, Without, Clean}
 use Rattle.proof_machines.proofs.unit.Pairs.{Nodes, Sides, expect}
@@ -26,7 +26,7 @@ abbrev pub sides_of : Seeing → Sides
 sides_of z = record { source = z.op.src; destination = z.op.dst; third = z.third }
 
 abbrev pub EachSent : {M : Type 0} → (ℕ → M → Type 0) → List (ℕ × M) → Type 0
-EachSent P [] = Unit {0}
+EachSent P [] = Prim.Unit {0}
 EachSent P (x ∷ xs) = P x.0 x.1 × EachSent P xs
 
 module _ {R : Type 0} (S : Sys R) (z : Seeing) where
@@ -44,12 +44,12 @@ module _ {R : Type 0} (S : Sys R) (z : Seeing) where
   MoveLabel g (M_restore n cs) = (n == z.op.num) ≡ false → record_at z.unit cs ≡ None
   MoveLabel g (M_piece n p) = (n == z.op.num) ≡ false → Without z.unit p
   MoveLabel g (M_put_no n why cs) = (n == z.op.num) ≡ false → record_at z.unit cs ≡ None
-  MoveLabel g m = Unit {0}
+  MoveLabel g m = Prim.Unit {0}
 
   -- the switch sends an instance no message of a move but packets and fences, and no packet comes from elsewhere than the input
   abbrev pub Label : ℕ → Msg R → Type 0
   Label i (Mv g m) = ((i == 0) ≡ false) × MoveLabel g m
-  Label i m = Unit {0}
+  Label i m = Prim.Unit {0}
 
   abbrev pub RuleLabel : Ruling → Type 0
   RuleLabel r = (S.takes r.filter z.unit ≡ (r.num == z.op.num)) × ((r.num == z.op.num) ≡ false → only_mine frame r.held ≡ []) × (is_free r.rule ≡ false)

@@ -2,16 +2,15 @@
 use Rattle.proof_machines.proofs.net.Words.{◌≡◌, ℕ, Bool, true, false, Option, Some, None, List, [], ◌∷◌, map, length, refl, sym, ap, ◌∙◌, subst, if◌then◌else◌}
 use Rattle.proof_machines.proofs.net.Words.{◌&&◌, ◌==◌, eqb-true, both_ways, Where, At_a, At_b, Rule, Part, Inst, Did, Item, Enable, Stream, Delete, Put}
 use Rattle.proof_machines.proofs.net.Words.{Restore, Fence_to, ArePiecesOf, Chunks, record_at, RPiece, M_enable, M_stream, M_delete, M_put, M_restore}
-use Rattle.proof_machines.proofs.net.Words.{M_enabled, M_piece, M_forward, M_install, M_fence_to}
-use Rattle.proof_machines.proofs.net.Words.{Frame, where_true, see, sends_to, view, only_mine, Each, Without, cut_foreign, all_at, marks, chop, joined-chop}
-use Rattle.proof_machines.proofs.net.Words.{SeesInstance, r_stream, r_delete, r_restore, r_put, parts_of, stream_seen, delete_seen, restore_seen, put_seen}
-use Rattle.proof_machines.proofs.net.Words.{Filter, everything, Msg, Sys, IsSys, to_ctrl, NumberedInstance, InstanceTurn, says, with_table, on_move, is_free}
-use Rattle.proof_machines.proofs.net.Words.{held_of, Seeing, EachSent, frame, MoveLabel, Label, SeesNode, is_among, Answer, split}
-use Rattle.proof_machines.proofs.unit.Machine.{joined, sends as did_sends, Forward, Install, Stray}
-use Rattle.proof_machines.proofs.unit.Real as Real
+use Rattle.proof_machines.proofs.net.Words.{M_enabled, M_piece, M_forward, M_install, M_fence_to, Frame, where_true, see, sends_to, view, only_mine, Each}
+use Rattle.proof_machines.proofs.net.Words.{Without, cut_foreign, all_at, marks, chop, joined-chop, SeesInstance, r_stream, r_delete, r_restore, r_put}
+use Rattle.proof_machines.proofs.net.Words.{parts_of, stream_seen, delete_seen, restore_seen, put_seen, Filter, everything, Msg, Sys, IsSys, to_ctrl}
+use Rattle.proof_machines.proofs.net.Words.{NumberedInstance, InstanceTurn, says, with_table, on_move, is_free, held_of, Seeing, EachSent, frame, MoveLabel}
+use Rattle.proof_machines.proofs.net.Words.{Label, SeesNode, is_among, Answer, split, Unit, did_sends}
+use Rattle.proof_machines.proofs.unit.Machine.{joined, Forward, Install, Stray}
+use Rattle.proof_machines.proofs.unit.Real
 use Rattle.proof_machines.proofs.net.RuleLists.{find_set_other, set_own_rule, set_own_held}
 use Rattle.proof_machines.proofs.net.Insts.{InstanceGoes, does, ctrl_sends, ctrl_else, one_else, label_set}
-use Rattle.nf_function.specs.declared.unit.Unit as units
 
 module _ {R : Type 0} (S : Sys R) (laws : IsSys S) (z : Seeing) (num : (z.op.num == z.op.num) ≡ true) (w : Where) (i : NumberedInstance S) (x : Inst R)
     (s : SeesNode S z i x) where
@@ -129,7 +128,7 @@ module _ {R : Type 0} (S : Sys R) (laws : IsSys S) (z : Seeing) (num : (z.op.num
       (pieces_label m (marks (length xs) (S.newest xs) (chop (length xs) xs))
       (λ _. cut_foreign z.unit (length xs) (S.newest xs) (chop (length xs) xs) (ap (all_at z.unit) (joined-chop (length xs) xs) ∙ none)))))
 
-  delete_goes : (g : Filter) (m : ℕ) (us : List units.Unit) → ((m == n) ≡ false → is_among us z.unit ≡ false)
+  delete_goes : (g : Filter) (m : ℕ) (us : List Unit) → ((m == n) ≡ false → is_among us z.unit ≡ false)
       → MovesInstance (on_move S i g (M_delete m us)) (Real.seen fr (M_delete m us))
   delete_goes g m us l = Any (λ parts refuse.
       split (m == n) (λ b. Goes (on_move S i g (M_delete m us)) (do_it parts refuse (where_true b (Delete (is_among us z.unit)))))

@@ -8,8 +8,8 @@ use Rattle.proof_machines.proofs.net.Words.{By_bc, By_cc, By_cs, shown_by, Each,
 use Rattle.proof_machines.proofs.net.Words.{covered_stays, seat_allowed, base_of, items, inst_next, Msg, In_packet, Asked, Carry_on, Pass_on, Fence_on, Mv, Sys}
 use Rattle.proof_machines.proofs.net.Words.{IsSys, NumberedInstance, InstanceTurn, inst_step, World, links_after, at_node, seen, find_op, Seeing, sides_of}
 use Rattle.proof_machines.proofs.net.Words.{EachSent, frame, Label, SeesNode, shows, node_at, done_of, Holds, IsController, sent, head, view_some, view_none}
-use Rattle.proof_machines.proofs.net.Words.{done_of-append, done_at, each_after, Answer, either_way, split}
-use Rattle.proof_machines.proofs.unit.Machine.{sends as did_sends, Take_sc}
+use Rattle.proof_machines.proofs.net.Words.{done_of-append, done_at, each_after, Answer, either_way, split, did_sends}
+use Rattle.proof_machines.proofs.unit.Machine.{Take_sc}
 use Rattle.proof_machines.proofs.unit.Stages.{shape}
 use Rattle.proof_machines.proofs.net.Insts.{InstanceGoes, does, carry_goes, pass_goes, fence_goes}
 use Rattle.proof_machines.proofs.net.InstMoves.{MovesInstance, Any, Streams_out, Puts_in, move_goes}

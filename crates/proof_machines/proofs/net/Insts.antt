@@ -5,9 +5,9 @@ use Rattle.proof_machines.proofs.net.Words.{carried, ran_one, Item, Pass, firsts
 use Rattle.proof_machines.proofs.net.Words.{sent_for, only_mine-append, Each, items, Filter, Carry_on, Pass_on, Fence_on, Sys, IsSys, Ruling, first_rule}
 use Rattle.proof_machines.proofs.net.Words.{find_rule, set_rule, hold, holding, drop_rule, rule_of, is_free, held_of, to_ctrl, NumberedInstance, InstanceTurn}
 use Rattle.proof_machines.proofs.net.Words.{process, process_all, runs_it, by_kind, by_rule, fenced, inst_step, seen, Seeing, EachSent, frame, Label, RuleLabel}
-use Rattle.proof_machines.proofs.net.Words.{SeesNode, same_unit, same_unit-true, Answer, either_way, split, by_if}
-use Rattle.proof_machines.proofs.unit.Machine.{runs, sends as did_sends, Carry, Fence}
-use Rattle.proof_machines.proofs.unit.Real as Real
+use Rattle.proof_machines.proofs.net.Words.{SeesNode, same_unit, same_unit-true, Answer, either_way, split, by_if, did_sends}
+use Rattle.proof_machines.proofs.unit.Machine.{runs, Carry, Fence}
+use Rattle.proof_machines.proofs.unit.Real
 use Rattle.proof_machines.proofs.net.RuleLists.{each-change, each_set, find_hold_other, find_hold_own, hold_rule}
 
 module _ {R : Type 0} (S : Sys R) (laws : IsSys S) (z : Seeing) (num : (z.op.num == z.op.num) ≡ true) where

@@ -5,7 +5,7 @@ use Rattle.proof_machines.proofs.net.Words.{M_piece, M_fenced, M_install, M_fenc
 use Rattle.proof_machines.proofs.net.Words.{Stray, member_does, Filter, Msg, Carry_on, Pass_on, Fence_on, Mv, Sys, IsSys, Ruling, first_rule, to_ctrl}
 use Rattle.proof_machines.proofs.net.Words.{NumberedInstance, by_kind, by_rule, on_move, inst_step, EachSent, NothingOf, mine, unit_share, move_seen, old_seen}
 use Rattle.proof_machines.proofs.net.Words.{share_items, own_of, Old, as_old, Sharing, SeeingShare, Answer, split}
-use Rattle.proof_machines.proofs.unit.Real as Real
+use Rattle.proof_machines.proofs.unit.Real
 use Rattle.proof_machines.proofs.share.Share as share
 use Rattle.proof_machines.proofs.share.Share.{Item, Did}
 use Rattle.proof_machines.proofs.net.UnderOld.{LeavesInstance, packet_in}

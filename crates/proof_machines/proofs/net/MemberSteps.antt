@@ -6,7 +6,7 @@ use Rattle.proof_machines.proofs.net.Words.{member_does, stepped, chunk_of, if_m
 use Rattle.proof_machines.proofs.net.Words.{none_mine, mine, unit_share, fit, new_seen, share_items, own_of, Any, Old, New, ShareMsg, Shared_on, Diverted_on}
 use Rattle.proof_machines.proofs.net.Words.{S_asked, S_install, S_forward, S_get, S_sync, S_chunks, S_shared, S_synced, same, as_old, Sharing, IsSharing}
 use Rattle.proof_machines.proofs.net.Words.{shared_chunk, MemberTurn, member_step, ran_of, SeeingShare, same_unit_equiv, same_unit-true, split}
-use Rattle.proof_machines.proofs.unit.Real as Real
+use Rattle.proof_machines.proofs.unit.Real
 use Rattle.proof_machines.proofs.share.Share.{Item, Item.Chunks, Did}
 use Rattle.proof_machines.proofs.share.Share as share
 use Rattle.proof_machines.proofs.net.ShareLabels.{ShareLabel}

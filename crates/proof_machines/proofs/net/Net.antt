@@ -4,10 +4,10 @@
 use Rattle.std.proofs.Common.{◌≡◌, ℕ, suc, Bool, true, false, Option, Some, None, List, [], ◌∷◌, ◌++◌, length, map, drop}
 use Rattle.std.specs.Prelude.{if◌then◌else◌, ◌&&◌, ◌==◌, is_some}
 use Rattle.proof_machines.proofs.unit.Machine.{Steps, Rule, Free, Drops, Buffers, Item, Carry, Pass, Fence}
-use Rattle.proof_machines.proofs.unit.Real as Real
-use Rattle.proof_machines.proofs.unit.Real.{Chunks, RPiece, M_enable, M_stream, M_delete, M_put, M_restore, M_enabled, M_event, M_piece}
-use Rattle.proof_machines.proofs.unit.Real.{M_deleted, M_put_ok, M_put_no, M_restored, M_fenced, M_forward, M_install, M_fence_to, RPhase}
-use Rattle.proof_machines.proofs.unit.Real.{Op, OperationTurn, r_goes, r_from_source, r_from_destination, Frame, where_true, sent_for}
+use Rattle.proof_machines.proofs.unit.Real
+use Rattle.proof_machines.proofs.unit.Real.{Chunks, RPiece, M_enable, M_stream, M_delete, M_put, M_restore, M_enabled, M_event, M_piece, M_deleted, M_put_ok}
+use Rattle.proof_machines.proofs.unit.Real.{M_put_no, M_restored, M_fenced, M_forward, M_install, M_fence_to, RPhase, Op, OperationTurn, r_goes, r_from_source}
+use Rattle.proof_machines.proofs.unit.Real.{r_from_destination, Frame, where_true, sent_for}
 use Rattle.move_op.specs.Phases.{Freezing, Over}
 use Rattle.nf_msgs.specs.declared.answer.Answer.{Answer}
 use Rattle.nf_function.specs.declared.unit.Unit as units

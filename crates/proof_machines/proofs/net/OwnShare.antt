@@ -5,12 +5,11 @@ use Rattle.proof_machines.proofs.net.Words.{items-append, sent_for-append, Forwa
 use Rattle.proof_machines.proofs.net.Words.{Fencing, Getting, Setting, Idle, Out, Syncing, has, without_number, only, nowhere, waits, serve, answers, sync_to}
 use Rattle.proof_machines.proofs.net.Words.{share_does, distinct, IsShare, self, has-without, apart_of, Sys, mine, unit_share, fit, share_seen, share_items}
 use Rattle.proof_machines.proofs.net.Words.{as_share, Any, New, S_forward, S_get, S_sync, same, Sharing, OpenShare, Told, Is_fenced, Has_chunks, Has_chunk}
-use Rattle.proof_machines.proofs.net.Words.{Is_synced, Has_packet, syncs, ShareTurn, s_goes, s_served, share_row, SeeingShare, split, false_from_ne_true}
-use Rattle.proof_machines.proofs.unit.Real as Real
+use Rattle.proof_machines.proofs.net.Words.{Is_synced, Has_packet, syncs, ShareTurn, s_goes, s_served, share_row, SeeingShare, split, false_from_ne_true, Unit}
+use Rattle.proof_machines.proofs.unit.Real
 use Rattle.proof_machines.proofs.share.Share.{Item, Item.Chunks, ControllerTurn}
 use Rattle.proof_machines.proofs.net.OnShareLinks.{Sender, IdleEmpty}
 use Rattle.proof_machines.proofs.net.ShareLinks.{lone_view}
-use Rattle.nf_function.specs.declared.unit.Unit as units
 
 -- the loop over the members: one message for each but one
 syncs_sent : {R : Type 0} (n home j k : ℕ) (cs : Real.Chunks R) (ms : List ℕ) → distinct ms ≡ true
@@ -162,7 +161,7 @@ module _ {R : Type 0} (S : Sys R) (A : Sharing S) (z : SeeingShare) (is : IsShar
   chunks_sees Idle q sender cs empty from = still Idle q empty
   chunks_sees x q sender cs empty from = still x q empty
 
-  pub chunk_sees : (ph : Phase) (q : List ℕ) (sender : ℕ) (c : units.Unit × R) → IdleEmpty f ph q → Sender f ph sender (Chunk (record_at z.unit (c ∷ [])))
+  pub chunk_sees : (ph : Phase) (q : List ℕ) (sender : ℕ) (c : Unit × R) → IdleEmpty f ph q → Sender f ph sender (Chunk (record_at z.unit (c ∷ [])))
       → SeesRow (Row ph q sender (Has_chunk c)) (share_does f (Chunk (record_at z.unit (c ∷ []))) ph q)
   chunk_sees (Out m) q sender c empty from =
       let same_is : m ≡ sender = cc in

@@ -3,14 +3,12 @@
 use Rattle.proof_machines.proofs.net.Words.{◌≡◌, ℕ, Bool, true, false, Option, Some, None, List, [], ◌∷◌, ◌++◌, refl, sym, ap, ◌∙◌, subst, append-nil, Ran}
 use Rattle.proof_machines.proofs.net.Words.{Steps, after, State, firsts, firsts-append, nil_left, times, Same, Kept, lives, on_way, UnitSeat, Covered}
 use Rattle.proof_machines.proofs.net.Words.{Is_beside, Is_away, seat_shape, seat_all, seat_path, exactly, Sys, IsSys, World, Seeing, node_at, Holds, Global}
-use Rattle.proof_machines.proofs.net.Words.{done_u}
+use Rattle.proof_machines.proofs.net.Words.{done_u, Unit, same_of}
 use Rattle.proof_machines.proofs.unit.Machine.{runs}
 use Rattle.proof_machines.proofs.unit.Stages.{shape, path}
-use Rattle.proof_machines.proofs.unit.Ends.{same_of}
 use Rattle.proof_machines.proofs.unit.SeatLaws.{seat_kept}
 use Rattle.proof_machines.proofs.net.RestingSeats.{same_done}
 use Rattle.proof_machines.proofs.net.Units.{Where, Where.At_rest, Where.In_move, shown, see}
-use Rattle.nf_function.specs.declared.unit.Unit as units
 
 -- the fold over packets
 abbrev pub fold : {R : Type 0} → Steps R → Option R → List ℕ → Option R
@@ -33,7 +31,7 @@ seat_parts F (Covered s) = refl
 seat_parts F (Is_beside s) = ap (λ v. v ++ seat_path (Is_beside s)) (sym (firsts_bare s.d (shape F s.base).done (path s.base) s.bare))
 seat_parts F (Is_away s) = ap (λ v. v ++ s.l) (sym (firsts_bare s.d (shape F s.base).done (path s.base) s.bare))
 
-module _ {R : Type 0} (S : Sys R) (laws : IsSys S) (u : units.Unit) where
+module _ {R : Type 0} (S : Sys R) (laws : IsSys S) (u : Unit) where
   -- done and waiting are what arrived
   pub record In_order (done ps : List ℕ) (c : Bool) : Type 0 where
     pub waits : List ℕ

@@ -5,7 +5,7 @@ use Rattle.std.specs.Prelude.{if◌then◌else◌, ◌&&◌, ◌==◌}
 use Rattle.std.proofs.lemmas.Bool.Decides.{nat_tests}
 use Rattle.proof_machines.proofs.unit.Machine.{Ran, after}
 use Rattle.proof_machines.proofs.unit.Lists.{firsts}
-use Rattle.proof_machines.proofs.unit.Real as Real
+use Rattle.proof_machines.proofs.unit.Real
 use Rattle.proof_machines.proofs.unit.Real.{record_at, M_enable, M_stream, M_delete, M_put, M_restore, M_event, M_piece, M_put_no, M_forward, M_install}
 use Rattle.proof_machines.proofs.unit.Seen.{NodesDiffer}
 use Rattle.proof_machines.proofs.unit.Labels.{Each, Without, Clean}
@@ -16,13 +16,13 @@ use Rattle.record_table.specs.Table.{same_unit, is_among}
 
 -- numbers below a bound
 abbrev pub IsBelow : ℕ → Option ℕ → Type 0
-IsBelow b None = Unit {0}
+IsBelow b None = Prim.Unit {0}
 IsBelow b (Some k) = k < b
 
 abbrev pub Below : {R : Type 0} → ℕ → Msg R → Type 0
 Below b (Fence_on k) = k < b
 Below b (Mv g m) = IsBelow b (num_of m)
-Below b m = Unit {0}
+Below b m = Prim.Unit {0}
 
 module _ {R : Type 0} (S : Sys R) where
   pub record Global (w : World S) : Type 0 where
@@ -45,13 +45,13 @@ module _ {R : Type 0} (S : Sys R) (u : units.Unit) where
   HasNothing g (M_restore n cs) = record_at u cs ≡ None
   HasNothing g (M_piece n p) = Without u p
   HasNothing g (M_put_no n why cs) = record_at u cs ≡ None
-  HasNothing g m = Unit {0}
+  HasNothing g m = Prim.Unit {0}
 
   -- a message has nothing of the unit but a plain packet
   abbrev pub NothingOf : ℕ → Msg R → Type 0
   NothingOf i (Mv g m) = ((i == 0) ≡ false) × HasNothing g m
   NothingOf i (Pass_on p) = mine p ≡ false
-  NothingOf i m = Unit {0}
+  NothingOf i m = Prim.Unit {0}
 
   abbrev pub none_mine : List ℕ → List ℕ
   none_mine [] = []

@@ -1,18 +1,17 @@
 -- A world with a unit at rest shows a seat at rest, and a seat at rest whose move isn't open is a unit at rest.
 use Rattle.proof_machines.proofs.net.Words.{◌≡◌, ℕ, ◌≤◌, ◌<◌, Bool, true, false, Option, Some, None, List, [], ◌∷◌, map, refl, sym, ap, ◌∙◌, subst, unwrap_or}
 use Rattle.proof_machines.proofs.net.Words.{arith, if◌then◌else◌, ◌&&◌, ◌==◌, nat_tests, Where, At_a, At_b, At_c, Ran, after, Free, idle, Item, Over, firsts}
-use Rattle.proof_machines.proofs.net.Words.{M_enable, M_stream, M_delete, M_put, M_restore, M_event, M_piece, M_put_no}
-use Rattle.proof_machines.proofs.net.Words.{M_forward, M_install, M_fence_to, where_true, add, only_mine, off_if, none_if, NodesDiffer}
-use Rattle.proof_machines.proofs.net.Words.{Each, each_both, Nodes, expect, rest_at, items, Filter, Msg, In_packet, Asked, Carry_on, Pass_on, Fence_on, Mv, Sys}
-use Rattle.proof_machines.proofs.net.Words.{Ruling, find_rule, rule_of, is_free, held_of, Open, find_op, num_of, World, seen, Seeing, frame, MoveLabel, Label}
-use Rattle.proof_machines.proofs.net.Words.{RuleLabel, OpLabel, SeesNode, shows, node_at, place, IsController, done_of, Holds, same_unit, IsBelow, Below}
-use Rattle.proof_machines.proofs.net.Words.{below_off, Global, HasNothing, NothingOf, none_mine, RestRule, RestOp, carries_of, done_u, Rest, split}
+use Rattle.proof_machines.proofs.net.Words.{M_enable, M_stream, M_delete, M_put, M_restore, M_event, M_piece, M_put_no, M_forward, M_install, M_fence_to}
+use Rattle.proof_machines.proofs.net.Words.{where_true, add, only_mine, off_if, none_if, NodesDiffer, Each, each_both, Nodes, expect, rest_at, items, Filter}
+use Rattle.proof_machines.proofs.net.Words.{Msg, In_packet, Asked, Carry_on, Pass_on, Fence_on, Mv, Sys, Ruling, find_rule, rule_of, is_free, held_of, Open}
+use Rattle.proof_machines.proofs.net.Words.{find_op, num_of, World, seen, Seeing, frame, MoveLabel, Label, RuleLabel, OpLabel, SeesNode, shows, node_at, place}
+use Rattle.proof_machines.proofs.net.Words.{IsController, done_of, Holds, same_unit, IsBelow, Below, below_off, Global, HasNothing, NothingOf, none_mine}
+use Rattle.proof_machines.proofs.net.Words.{RestRule, RestOp, carries_of, done_u, Rest, split, Unit}
 use Rattle.proof_machines.proofs.unit.Machine.{Carry, Stray, Phase, Idle}
-use Rattle.proof_machines.proofs.unit.Real as Real
-use Rattle.nf_function.specs.declared.unit.Unit as units
+use Rattle.proof_machines.proofs.unit.Real
 
 module _ {R : Type 0} (S : Sys R) (z : Seeing) where
-  abbrev u : units.Unit
+  abbrev u : Unit
   u = z.unit
 
   abbrev n : ℕ

@@ -4,9 +4,8 @@ use Rattle.proof_machines.proofs.net.Words.{◌≡◌, ℕ, true, false, Some, N
 use Rattle.proof_machines.proofs.net.Words.{Decides-eqb, record_at, Each, each_any, Phase, has, Sys, found_each, Disjoint, OfShare, GlobalAll, mine, as_share}
 use Rattle.proof_machines.proofs.net.Words.{ShareMsg, Shared_on, Diverted_on, S_asked, S_install, S_forward, S_get, S_sync, S_chunks, S_shared, S_synced, same}
 use Rattle.proof_machines.proofs.net.Words.{Sharing, OpenShare, find_share, share_taking, WholeWorld, SeeingShare, same_unit-true, either_way, split}
-use Rattle.proof_machines.proofs.net.Words.{false_from_ne_true}
+use Rattle.proof_machines.proofs.net.Words.{false_from_ne_true, Unit}
 use Rattle.proof_machines.proofs.net.ShareRows.{taking_each, taking_found}
-use Rattle.nf_function.specs.declared.unit.Unit as units
 
 module _ {R : Type 0} (S : Sys R) (A : Sharing S) (z : SeeingShare) where
   -- on a link to node r
@@ -17,9 +16,9 @@ module _ {R : Type 0} (S : Sys R) (A : Sharing S) (z : SeeingShare) where
       ((n == z.num) ≡ true → (same home (to == z.home) ≡ true) × (has z.members to ≡ true)) × ((n == z.num) ≡ false → mine S A z p ≡ false)
   ShareLabel r (S_get n g) = (n == z.num) ≡ true → (r ≡ z.home) × (g ≡ z.filter)
   ShareLabel r (S_sync n home cs) = ((n == z.num) ≡ true → same home (r == z.home) ≡ true) × ((n == z.num) ≡ false → record_at z.unit cs ≡ None)
-  ShareLabel r m = Unit {0}
+  ShareLabel r m = Prim.Unit {0}
 
-  takes_some : (es : List OpenShare) (n : ℕ) (e : OpenShare) (v : units.Unit) → find_share es n ≡ Some e → S.takes e.filter v ≡ true
+  takes_some : (es : List OpenShare) (n : ℕ) (e : OpenShare) (v : Unit) → find_share es n ≡ Some e → S.takes e.filter v ≡ true
       → (d : OpenShare) × (share_taking S es v ≡ Some d)
   takes_some [] n e v is on = cc
   takes_some (x ∷ es) n e v is on =
@@ -76,19 +75,19 @@ module _ {R : Type 0} (S : Sys R) (A : Sharing S) (z : SeeingShare) where
     label_of r (S_synced n) of = tt
 
     -- the share that takes what the unit's share takes, and one that takes what it doesn't
-    pub taking_own : (v : units.Unit) → S.takes z.filter v ≡ true → share_taking S w.shares v ≡ Some (as_share S A z ph q)
+    pub taking_own : (v : Unit) → S.takes z.filter v ≡ true → share_taking S w.shares v ≡ Some (as_share S A z ph q)
     taking_own v takes =
         let k = takes_some w.shares z.num (as_share S A z ph q) v there takes in
         let found = taking_found S A w.shares v k.0 g.nums_apart k.1 in
-        let its = (taking_each S A (λ _. Unit {0}) w.shares v k.0 (each_any w.shares) k.1).1 in
+        let its = (taking_each S A (λ _. Prim.Unit {0}) w.shares v k.0 (each_any w.shares) k.1).1 in
         either_way (k.0.num == z.num) (λ on. k.1 ∙ ap Some (own_is k.0.num k.0 found on))
         (λ off. let never : true ≡ false = sym its ∙ other_is k.0.num k.0 found off v takes in cc)
 
-    pub taking_other : (v : units.Unit) (e : OpenShare) → S.takes z.filter v ≡ false → share_taking S w.shares v ≡ Some e → (e.num == z.num) ≡ false
+    pub taking_other : (v : Unit) (e : OpenShare) → S.takes z.filter v ≡ false → share_taking S w.shares v ≡ Some e → (e.num == z.num) ≡ false
     taking_other v e out is = false_from_ne_true (e.num == z.num)
         (λ on.
         let same_is = own_is e.num e (taking_found S A w.shares v e g.nums_apart is) on in
-        let its = (taking_each S A (λ _. Unit {0}) w.shares v e (each_any w.shares) is).1 in
+        let its = (taking_each S A (λ _. Prim.Unit {0}) w.shares v e (each_any w.shares) is).1 in
         let never : true ≡ false = sym its ∙ ap (λ y. S.takes y.filter v) same_is ∙ out in
         cc)
 

@@ -3,20 +3,19 @@ use Rattle.proof_machines.proofs.net.Words.{◌≡◌, ℕ, true, false, Option,
 use Rattle.proof_machines.proofs.net.Words.{M_fenced, Each, each-append, Phase, Fencing, Getting, Setting, Idle, Out, Syncing, self, Mv, Sys, EachSent}
 use Rattle.proof_machines.proofs.net.Words.{AreNumbersApart, found_own, Any, Old, New, Diverted_on, S_forward, S_get, S_sync, S_chunks, S_shared, S_synced}
 use Rattle.proof_machines.proofs.net.Words.{Sharing, OpenShare, find_share, share_taking, Told, Is_fenced, Has_chunks, Has_chunk, Is_synced, Has_packet, syncs}
-use Rattle.proof_machines.proofs.net.Words.{ShareTurn, s_row, s_served, share_row, told_by, SharesStep, by_share, split, by_if}
+use Rattle.proof_machines.proofs.net.Words.{ShareTurn, s_row, s_served, share_row, told_by, SharesStep, by_share, split, by_if, Unit}
 use Rattle.proof_machines.proofs.net.NewMessages.{each_sent_append}
-use Rattle.nf_function.specs.declared.unit.Unit as units
 
 module _ {R : Type 0} (S : Sys R) (A : Sharing S) where
   -- the share that takes a unit is found by its number
-  pub taking_each : (P : OpenShare → Type 0) (es : List OpenShare) (v : units.Unit) (e : OpenShare) → Each P es → share_taking S es v ≡ Some e
+  pub taking_each : (P : OpenShare → Type 0) (es : List OpenShare) (v : Unit) (e : OpenShare) → Each P es → share_taking S es v ≡ Some e
       → P e × (S.takes e.filter v ≡ true)
   taking_each P [] v e h is = cc
   taking_each P (x ∷ es) v e h is = split (S.takes x.filter v) (λ b. (if b then Some x else share_taking S es v) ≡ Some e → P e × (S.takes e.filter v ≡ true))
       (λ on there. let same : x ≡ e = cc in (subst P same h.0, subst (λ y. S.takes y.filter v ≡ true) same on))
       (λ _ there. taking_each P es v e h.1 there) is
 
-  pub taking_found : (es : List OpenShare) (v : units.Unit) (e : OpenShare) → AreNumbersApart es → share_taking S es v ≡ Some e → find_share es e.num ≡ Some e
+  pub taking_found : (es : List OpenShare) (v : Unit) (e : OpenShare) → AreNumbersApart es → share_taking S es v ≡ Some e → find_share es e.num ≡ Some e
   taking_found [] v e h is = cc
   taking_found (x ∷ es) v e h is =
       elim (S.takes x.filter v) as (λ b. (if b then Some x else share_taking S es v) ≡ Some e → find_share (x ∷ es) e.num ≡ Some e) [
@@ -60,10 +59,10 @@ module _ {R : Type 0} (S : Sys R) (A : Sharing S) where
   -- Of one share: packets that are Q and chunks that are C
   module _ (e : OpenShare) (Q : ℕ → Type 0) (C : Chunks R → Type 0) where
     abbrev pub ToldOf : Told R → Type 0
-    ToldOf Is_fenced = Unit {0}
+    ToldOf Is_fenced = Prim.Unit {0}
     ToldOf (Has_chunks cs) = C cs
     ToldOf (Has_chunk c) = C (c ∷ [])
-    ToldOf Is_synced = Unit {0}
+    ToldOf Is_synced = Prim.Unit {0}
     ToldOf (Has_packet p) = Q p
 
     abbrev pub SentBy : ℕ → Any R → Type 0

@@ -9,7 +9,7 @@ use Rattle.proof_machines.proofs.net.Words.{move_seen, old_seen, new_seen, share
 use Rattle.proof_machines.proofs.net.Words.{S_forward, S_get, S_sync, S_chunks, S_shared, S_synced, same, Sharing, OpenShare, find_share, set_share}
 use Rattle.proof_machines.proofs.net.Words.{share_taking, Told, Is_fenced, Has_chunks, Has_chunk, Is_synced, Has_packet, share_row, told_by, SharesStep}
 use Rattle.proof_machines.proofs.net.Words.{by_share, WholeWorld, old_step, SeeingShare, same_unit-true, split, false_from_ne_true}
-use Rattle.proof_machines.proofs.unit.Real as Real
+use Rattle.proof_machines.proofs.unit.Real
 use Rattle.proof_machines.proofs.share.Share.{Item, Item.Chunks, ControllerTurn}
 use Rattle.proof_machines.proofs.net.Ctrl.{each_found}
 use Rattle.proof_machines.proofs.net.RowNumbers.{OfRow, SentOf, row_numbers}

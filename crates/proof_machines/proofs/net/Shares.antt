@@ -7,8 +7,8 @@ use Rattle.proof_machines.proofs.unit.Real.{Chunks, record_at, M_fenced, sent_fo
 use Rattle.proof_machines.proofs.share.Share as share
 use Rattle.proof_machines.proofs.share.Stages.{distinct}
 use Rattle.flow_filter.specs.declared.filter.Filter.{Filter}
-use Rattle.proof_machines.proofs.net.Net.{Msg, Carry_on, Fence_on, Mv, MoveAsked, Sys, NumberedInstance, inst_step, process, Open, ControllerMove}
-use Rattle.proof_machines.proofs.net.Net.{ctrl_step, sw_target, sw_sends, meets_any, new_op, begin_sends, World, links_after, at_node, put}
+use Rattle.proof_machines.proofs.net.Net.{Msg, Carry_on, Fence_on, Mv, MoveAsked, Sys, NumberedInstance, inst_step, process, Open, ControllerMove, ctrl_step}
+use Rattle.proof_machines.proofs.net.Net.{sw_target, sw_sends, meets_any, new_op, begin_sends, World, links_after, at_node, put}
 use Rattle.nf_function.specs.declared.unit.Unit as units
 use Rattle.record_table.specs.Table.{same_unit}
 
@@ -45,7 +45,7 @@ olds (New m ∷ ms) = olds ms
 
 -- of each message of a share on a link
 abbrev pub EachNew : {R : Type 0} → (ShareMsg R → Type 0) → List (Any R) → Type 0
-EachNew P [] = Unit {0}
+EachNew P [] = Prim.Unit {0}
 EachNew P (Old m ∷ ms) = EachNew P ms
 EachNew P (New m ∷ ms) = P m × EachNew P ms
 

@@ -5,14 +5,13 @@ use Rattle.proof_machines.proofs.net.Words.{◌==◌, ◌&&◌, Decides-eqb, At_
 use Rattle.proof_machines.proofs.net.Words.{Frame, see_phase, where_true, add, Laying, Turned, Fenced_a, Ending_b, Fence_b, Turned_loose, Fenced_loose}
 use Rattle.proof_machines.proofs.net.Words.{Ending_loose, Fence_loose, Fenced_b, Moved, Returned, to_a, Each, UnitSeat, Covered, Is_beside, Is_away, seat_shape}
 use Rattle.proof_machines.proofs.net.Words.{items, never_true, cons_nil, Filter, Msg, Mv, Sys, IsSys, Open, World, find_op, inst_step, seen, frame, Label}
-use Rattle.proof_machines.proofs.net.Words.{IsController, OpLabel, Holds, RestOp, none_mine}
+use Rattle.proof_machines.proofs.net.Words.{IsController, OpLabel, Holds, RestOp, none_mine, Unit}
 use Rattle.proof_machines.proofs.unit.Machine.{Install, Stray, Phase}
 use Rattle.move_op.specs.Phases.{Freezing}
 use Rattle.proof_machines.proofs.unit.Stages.{Stage, shape}
 use Rattle.proof_machines.proofs.net.Ctrl.{each_found}
 use Rattle.proof_machines.proofs.net.Fresh.{From_switch, From_switch.From_sa, From_switch.From_sb, From_switch.From_sc, comes_from_switch}
 use Rattle.proof_machines.proofs.net.Units.{Where, Where.At_rest, Where.In_move, see}
-use Rattle.nf_function.specs.declared.unit.Unit as units
 
 -- whether a move in this phase hasn't sent its change of the rules
 abbrev pub is_early : {R : Type 0} → Phase R → Bool
@@ -67,7 +66,7 @@ early_stage F (Returned d x f b k why) h = record { sb = refl; sc = refl; cs = �
 early_stage F s h = record { sb = refl; sc = refl; cs = λ it v e. cons_nil (sym e) }
 
 module _ {R : Type 0} (S : Sys R) (laws : IsSys S) (w : World S) (n : ℕ) (e : Open R) (there : find_op w.ops n ≡ Some e)
-    (early : is_early_real e.phase ≡ true) (u : units.Unit) (takes : S.takes e.filter u ≡ true) where
+    (early : is_early_real e.phase ≡ true) (u : Unit) (takes : S.takes e.filter u ≡ true) where
   -- what shows the unit
   record Seated : Type 0 where
     third : ℕ

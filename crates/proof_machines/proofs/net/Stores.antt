@@ -1,13 +1,12 @@
 -- What a move stored has gone on before its last fence: then nothing is stored for it.
 use Rattle.proof_machines.proofs.net.Words.{◌≡◌, ℕ, Bool, true, false, Some, List, [], ◌∷◌, refl, sym, ap, ◌∙◌, subst, if◌then◌else◌, ◌==◌, Decides-eqb, RPhase}
 use Rattle.proof_machines.proofs.net.Words.{Frame, see_phase, Undoing, seat_shape, cons_nil, Sys, IsSys, Open, find_op, World, frame, OpLabel, IsController}
-use Rattle.proof_machines.proofs.net.Words.{none_mine, Global, same_unit, same_unit_equiv, either_way}
+use Rattle.proof_machines.proofs.net.Words.{none_mine, Global, same_unit, same_unit_equiv, either_way, Unit}
 use Rattle.move_op.specs.Phases.{Ending}
 use Rattle.proof_machines.proofs.unit.Sides.{is_released, seat_stands}
 use Rattle.proof_machines.proofs.net.Ctrl.{each_found}
 use Rattle.proof_machines.proofs.net.RestingSeats.{same_mine}
 use Rattle.proof_machines.proofs.net.Units.{Where, shown, see as seeing}
-use Rattle.nf_function.specs.declared.unit.Unit as units
 
 -- the last fence is awaited
 abbrev pub ends : {R : Type 0} → RPhase R → Bool
@@ -22,7 +21,7 @@ ends_released v p e = cc
 
 module _ {R : Type 0} (S : Sys R) (laws : IsSys S) where
   -- a list in which no unit has a packet
-  pub nothing : (ps : List ℕ) → ((u : units.Unit) → none_mine S u ps ≡ []) → ps ≡ []
+  pub nothing : (ps : List ℕ) → ((u : Unit) → none_mine S u ps ≡ []) → ps ≡ []
   nothing [] h = refl
   nothing (p ∷ ps) h =
       let own : same_unit (S.packet_unit p) (S.packet_unit p) ≡ true = same_unit_equiv.refl (S.packet_unit p) in
@@ -32,7 +31,7 @@ module _ {R : Type 0} (S : Sys R) (laws : IsSys S) where
 
   -- of a unit, by where it is
   pub none_left : (w : World S) → Global S w → (n : ℕ) (e : Open R) → find_op w.ops n ≡ Some e → ends e.phase ≡ true
-      → (u : units.Unit) (ps : List ℕ) (b : Bool) → Where S laws u w ps b → none_mine S u e.store ≡ []
+      → (u : Unit) (ps : List ℕ) (b : Bool) → Where S laws u w ps b → none_mine S u e.store ≡ []
   none_left w g n e there late u ps b here =
       let k = shown S laws u w ps b g here in
       let z = seeing S laws u k.op k.third in

@@ -3,16 +3,15 @@ use Rattle.proof_machines.proofs.net.Words.{◌≡◌, ◌≢◌, ℕ, suc, ◌+
 use Rattle.proof_machines.proofs.net.Words.{arith, if◌then◌else◌, ◌||◌, ◌==◌, nat_tests, Decides-eqb, At_a, At_b, At_c, Ran, Drops, Item, Enable, Freezing}
 use Rattle.proof_machines.proofs.net.Words.{Begin, moved, Over, firsts, IsOrderedAs, Op, Nodes, rest_at, seat_at, seat_begins, UnitSeat, is_covered, seat_shape}
 use Rattle.proof_machines.proofs.net.Words.{seat_all, seat_loose, Filter, begin_next, MoveAsked, Sys, IsSys, Open, find_op, meets_any, new_op, World, OpLabel}
-use Rattle.proof_machines.proofs.net.Words.{place, Rest, Global, either_way, split, false_from_ne_true}
-use Rattle.proof_machines.proofs.unit.Machine.{Where as Side, Idle}
+use Rattle.proof_machines.proofs.net.Words.{place, Rest, Global, either_way, split, false_from_ne_true, Unit, Side}
+use Rattle.proof_machines.proofs.unit.Machine.{Idle}
 use Rattle.proof_machines.proofs.net.Ctrl.{each_found}
 use Rattle.proof_machines.proofs.net.InstWorld.{moves_on}
 use Rattle.proof_machines.proofs.net.RestingSeats.{rest_holds}
-use Rattle.nf_function.specs.declared.unit.Unit as units
-use Rattle.proof_machines.proofs.net.Units.{order_join, order_same, May, see, Flagged, Where, Where.At_rest, Where.In_move}
-use Rattle.proof_machines.proofs.net.Units.{settle, apart_of, shown_rest, either, loose_flag, stays, other_begins, covered_begins}
+use Rattle.proof_machines.proofs.net.Units.{order_join, order_same, May, see, Flagged, Where, Where.At_rest, Where.In_move, settle, apart_of, shown_rest}
+use Rattle.proof_machines.proofs.net.Units.{either, loose_flag, stays, other_begins, covered_begins}
 
-module _ {R : Type 0} (S : Sys R) (laws : IsSys S) (u : units.Unit) where
+module _ {R : Type 0} (S : Sys R) (laws : IsSys S) (u : Unit) where
   any_tells : (g : Filter) (es : List (Open R)) (n : ℕ) (e : Open R) → meets_any S g es ≡ false → find_op es n ≡ Some e → S.takes g u ≡ true
       → S.takes e.filter u ≡ false
   any_tells g [] n e apart there t = cc

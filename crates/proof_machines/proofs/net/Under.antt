@@ -3,9 +3,8 @@
 use Rattle.proof_machines.proofs.net.Words.{◌≡◌, ℕ, ◌≤◌, true, false, None, List, [], ◌∷◌, ◌++◌, refl, sym, ap, ◌∙◌, subst, append-nil, if◌then◌else◌, ◌&&◌}
 use Rattle.proof_machines.proofs.net.Words.{◌==◌, neither, sent_for, Each, UnitShare, has, Stage, front, processed, early, late, shape, IsFront, IsShare}
 use Rattle.proof_machines.proofs.net.Words.{FitsStage, goes_on, Msg, Sys, links_after, EachSent, each_after, each_put, RestRule, RestOp, NothingOf, unit_share}
-use Rattle.proof_machines.proofs.net.Words.{ShareHolds, Any, Old, New, ShareMsg, olds, Sharing, WholeWorld, SeeingShare}
+use Rattle.proof_machines.proofs.net.Words.{ShareHolds, Any, Old, New, ShareMsg, olds, Sharing, WholeWorld, SeeingShare, Grows, placed}
 use Rattle.proof_machines.proofs.share.Share.{moved}
-use Rattle.proof_machines.proofs.share.Places.{Grows, placed}
 use Rattle.proof_machines.proofs.net.AsMoves.{old_sends, olds-put, olds-after, news-after}
 use Rattle.proof_machines.proofs.net.ShareLinks.{Goes, Goes.Nothing, Goes.Moves_so, holds_alike}
 

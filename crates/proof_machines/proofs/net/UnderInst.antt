@@ -3,11 +3,10 @@ use Rattle.proof_machines.proofs.net.Words.{◌≡◌, ℕ, Bool, true, false, S
 use Rattle.proof_machines.proofs.net.Words.{arith, if◌then◌else◌, ◌&&◌, ◌==◌, nat_tests, Decides-eqb, add, sent_for, UnitShare, View, Take_sw, Take_to, has}
 use Rattle.proof_machines.proofs.net.Words.{put, joined, only, member_does, from_sw, from_to, ToMembers, Sys, IsSys, inst_step, links_after, at_node}
 use Rattle.proof_machines.proofs.net.Words.{share_expect, unit_share, share_seen, share_items, own_of, own_at, ShareHolds, Any, Old, New, Sharing, find_share}
-use Rattle.proof_machines.proofs.net.Words.{MemberTurn, WholeWorld, whole_inst, ran_of, SeeingShare, split, true_from_ne_false}
+use Rattle.proof_machines.proofs.net.Words.{MemberTurn, WholeWorld, whole_inst, ran_of, SeeingShare, split, true_from_ne_false, Unit}
 use Rattle.proof_machines.proofs.share.Share.{Item}
 use Rattle.proof_machines.proofs.net.ShareLinks.{sw_links, to_links, quiet_links, view_after, ran_of-append, Goes, Goes.Nothing, Goes.Moves_so}
 use Rattle.proof_machines.proofs.net.MemberSteps.{any_step, as_was, does, SeesMember}
-use Rattle.nf_function.specs.declared.unit.Unit as units
 
 module _ {R : Type 0} (S : Sys R) (A : Sharing S) (laws : IsSys S) (z : SeeingShare) where
   abbrev f : UnitShare R
@@ -29,7 +28,7 @@ module _ {R : Type 0} (S : Sys R) (A : Sharing S) (laws : IsSys S) (z : SeeingSh
   inst_shares w p y (Old m) = refl
   inst_shares w p y (New m) = refl
 
-  inst_target : (w : WholeWorld S A) (p y : ℕ) (m : Any R) (v : units.Unit) → (whole_inst S A w p y m).target v ≡ w.target v
+  inst_target : (w : WholeWorld S A) (p y : ℕ) (m : Any R) (v : Unit) → (whole_inst S A w p y m).target v ≡ w.target v
   inst_target w p y (Old m) v = refl
   inst_target w p y (New m) v = refl
 

@@ -4,17 +4,16 @@ use Rattle.proof_machines.proofs.net.Words.{◌≡◌, ℕ, ◌≤◌, ◌<◌, 
 use Rattle.proof_machines.proofs.net.Words.{if◌then◌else◌, ◌==◌, nat_tests, self, Op, where_true, add, sent_for, only_mine, off_if, NodesDiffer, Each, items}
 use Rattle.proof_machines.proofs.net.Words.{rest_at, Filter, Msg, Carry_on, Pass_on, Fence_on, Mv, Sys, IsSys, rule_of, held_of, NumberedInstance, InstanceTurn}
 use Rattle.proof_machines.proofs.net.Words.{says, on_move, inst_step, Open, find_op, ControllerMove, ctrl_step, seen, Seeing, EachSent, frame, Label, OpLabel}
-use Rattle.proof_machines.proofs.net.Words.{SeesNode, IsController, Below, RestRule, RestOp, NothingOf, none_mine, same_unit, either_way}
+use Rattle.proof_machines.proofs.net.Words.{SeesNode, IsController, Below, RestRule, RestOp, NothingOf, none_mine, same_unit, either_way, Unit}
 use Rattle.proof_machines.proofs.unit.Machine as moves
-use Rattle.proof_machines.proofs.unit.Real as Real
+use Rattle.proof_machines.proofs.unit.Real
 use Rattle.proof_machines.proofs.net.Insts.{InstanceGoes, does, carry_goes, pass_goes, fence_goes}
 use Rattle.proof_machines.proofs.net.InstMoves.{MovesInstance, MovesInstance.Any, MovesInstance.Streams_out, MovesInstance.Puts_in, move_goes}
 use Rattle.proof_machines.proofs.net.CtrlUnit.{SeesController, mdid, ctrl_unit}
 use Rattle.proof_machines.proofs.net.RestingSeats.{same_mine, mv_label, mv_unseen, no_rule, no_op, rule_labels, op_labels, rules_rest, ops_rest, mv_nothing}
 use Rattle.proof_machines.proofs.net.GlobalShares.{ctrl_none}
-use Rattle.nf_function.specs.declared.unit.Unit as units
 
-module _ {R : Type 0} (S : Sys R) (laws : IsSys S) (u : units.Unit) where
+module _ {R : Type 0} (S : Sys R) (laws : IsSys S) (u : Unit) where
   abbrev mine : ℕ → Bool
   mine p = same_unit (S.packet_unit p) u
 

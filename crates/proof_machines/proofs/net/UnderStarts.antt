@@ -7,15 +7,14 @@ use Rattle.proof_machines.proofs.net.Words.{done_u, found_each, find_new, Number
 use Rattle.proof_machines.proofs.net.Words.{move_seen, new_seen, share_items, own_of, Any, Old, New, ShareMsg, Shared_on, Diverted_on, S_asked, S_install}
 use Rattle.proof_machines.proofs.net.Words.{S_forward, S_get, S_sync, S_chunks, S_shared, S_synced, WantShare, EachNew, olds, Sharing, IsSharing, OpenShare}
 use Rattle.proof_machines.proofs.net.Words.{new_share, find_share, WholeWorld, moves_of, begin_share, MayShare, ran_of, SeeingShare, same_unit, same_unit-true}
-use Rattle.proof_machines.proofs.net.Words.{false_from_ne_true}
+use Rattle.proof_machines.proofs.net.Words.{false_from_ne_true, Unit}
 use Rattle.proof_machines.proofs.unit.Machine as moves
-use Rattle.proof_machines.proofs.unit.Real as Real
+use Rattle.proof_machines.proofs.unit.Real
 use Rattle.proof_machines.proofs.share.Share.{Ran, Item, after}
 use Rattle.proof_machines.proofs.net.ShareRows.{taking_each}
 use Rattle.proof_machines.proofs.net.GlobalShares.{not_yet}
 use Rattle.proof_machines.proofs.net.ShareLinks.{view_put}
 use Rattle.proof_machines.proofs.net.Under.{Under, put_labels}
-use Rattle.nf_function.specs.declared.unit.Unit as units
 
 -- the fold depends on the packets alone
 fold_packets : {R : Type 0} (F : Steps R) (r : Option R) (d : List moves.Ran) (ds : List Ran) → firsts d ≡ packets ds → moves.runs F r d ≡ runs F r ds
@@ -27,7 +26,7 @@ fold_packets F r (x ∷ d) (y ∷ ds) e =
     let others : firsts d ≡ packets ds = cc in
     ap (λ p. moves.runs F (Some (F.step r p)) d) same_first ∙ fold_packets F (Some (F.step r y.0)) d ds others
 
-module _ {R : Type 0} (S : Sys R) (A : Sharing S) (u : units.Unit) where
+module _ {R : Type 0} (S : Sys R) (A : Sharing S) (u : Unit) where
   -- a unit and the share that is asked for
   abbrev pub seeing : WantShare → SeeingShare
   seeing x = record { unit = u; num = x.num; home = x.home; members = x.members; filter = x.filter }
@@ -63,13 +62,13 @@ module _ {R : Type 0} (S : Sys R) (A : Sharing S) (u : units.Unit) where
     not_mine p out = false_from_ne_true (mine S A z p)
         (λ on. let never : true ≡ false = sym covered ∙ ap (S.takes x.filter) (sym (same_unit-true (S.packet_unit p) u on)) ∙ out in cc)
 
-    not_taken : (e : OpenShare) (v : units.Unit) → Disjoint S x.filter e.filter → S.takes e.filter v ≡ true → S.takes x.filter v ≡ false
+    not_taken : (e : OpenShare) (v : Unit) → Disjoint S x.filter e.filter → S.takes e.filter v ≡ true → S.takes x.filter v ≡ false
     not_taken e v d on = false_from_ne_true (S.takes x.filter v) (λ t. let never : true ≡ false = sym on ∙ d v t in cc)
 
     others_packet : (n p : ℕ) (e : OpenShare) → find_share w.shares n ≡ Some e → S.takes e.filter (S.packet_unit p) ≡ true → mine S A z p ≡ false
     others_packet n p e there on = not_mine p (not_taken e (S.packet_unit p) (found_each (λ e. Disjoint S x.filter e.filter) w.shares n e apart there) on)
 
-    diverted_off : (v : units.Unit) → TakesSome S w.shares v → S.takes x.filter v ≡ false
+    diverted_off : (v : Unit) → TakesSome S w.shares v → S.takes x.filter v ≡ false
     diverted_off v t = let k = taking_each S A (λ e. Disjoint S x.filter e.filter) w.shares v t.0 apart t.1 in not_taken t.0 v k.0 k.1
 
     new_none : (j : ℕ) (m : ShareMsg R) → OfShare S w.shares j m → Numbered w.next m → new_seen S A z j m ≡ None
@@ -141,7 +140,7 @@ module _ {R : Type 0} (S : Sys R) (A : Sharing S) (u : units.Unit) where
     some_members h = omega (arith, h)
 
     pub under_starts : IsSharing S A → (may : MayShare S A w x) (d : List moves.Ran) (l : List ℕ) → Rest S u (moves_of S A w) x.home d l
-        → ((k : ℕ) → FrontBy w k) → ((v : units.Unit) → w.target v ≡ 1 → TakesSome S w.shares v) → Under S A z (begin_share S A w x) (firsts d ++ l) []
+        → ((k : ℕ) → FrontBy w k) → ((v : Unit) → w.target v ≡ 1 → TakesSome S w.shares v) → Under S A z (begin_share S A w x) (firsts d ++ l) []
     under_starts ok may d l h by diverts =
         let ds = ran_of S A u w.done in
         let b : ℕ → List Ran = λ k. (by k).seen in

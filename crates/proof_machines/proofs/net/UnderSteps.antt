@@ -5,9 +5,8 @@ use Rattle.proof_machines.proofs.net.Words.{add, Each, Carry, Arrive, has, if_mi
 use Rattle.proof_machines.proofs.net.Words.{meets_sw, meets_to, Msg, Carry_on, Pass_on, Mv, Sys, IsSys, inst_step, sw_sends, ctrl_step, EachSent, Below}
 use Rattle.proof_machines.proofs.net.Words.{RestRule, NothingOf, OfShare, GlobalAll, mine, share_seen, share_items, own_at, Any, Old, New, ShareMsg}
 use Rattle.proof_machines.proofs.net.Words.{Diverted_on, S_install, as_old, Sharing, IsSharing, told_by, by_share, share_sends, arrive_sends, WholeWorld}
-use Rattle.proof_machines.proofs.net.Words.{whole_inst, whole_ctrl, whole_switch, whole_input, SeeingShare, either_way, split}
+use Rattle.proof_machines.proofs.net.Words.{whole_inst, whole_ctrl, whole_switch, whole_input, SeeingShare, either_way, split, placed}
 use Rattle.proof_machines.proofs.share.Share.{moved}
-use Rattle.proof_machines.proofs.share.Places.{placed}
 use Rattle.proof_machines.proofs.net.AsMoves.{old_sends, old_sends-append, old_sends-old, member_new, by_share_new}
 use Rattle.proof_machines.proofs.net.NewMessages.{each_sent_map, new_head}
 use Rattle.proof_machines.proofs.net.UnderOld.{inst_leaves, ctrl_leaves}

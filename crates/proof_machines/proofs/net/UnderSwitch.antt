@@ -6,15 +6,14 @@ use Rattle.proof_machines.proofs.net.Words.{Chunk, Synced, Stray, UnitShare, Vie
 use Rattle.proof_machines.proofs.net.Words.{Msg, Carry_on, Pass_on, Fence_on, Mv, Sys, IsSys, sw_target, sw_sends, links_after, NothingOf, mine, share_expect}
 use Rattle.proof_machines.proofs.net.Words.{unit_share, fit, move_seen, old_seen, new_seen, share_seen, share_items, ShareHolds, Any, Old, New, ShareMsg}
 use Rattle.proof_machines.proofs.net.Words.{Shared_on, Diverted_on, S_asked, S_install, S_forward, S_get, S_sync, S_chunks, S_shared, S_synced, same, as_old}
-use Rattle.proof_machines.proofs.net.Words.{Sharing, share_target, share_sends, WholeWorld, whole_switch, SeeingShare, either_way, split}
-use Rattle.proof_machines.proofs.unit.Real as Real
+use Rattle.proof_machines.proofs.net.Words.{Sharing, share_target, share_sends, WholeWorld, whole_switch, SeeingShare, either_way, split, Unit}
+use Rattle.proof_machines.proofs.unit.Real
 use Rattle.proof_machines.proofs.share.Share.{Item, Item.Chunks}
 use Rattle.proof_machines.proofs.net.UntakenSwitch.{sw_same}
 use Rattle.proof_machines.proofs.net.OnShareLinks.{To_switch, cs_items}
 use Rattle.proof_machines.proofs.net.ShareLinks.{cs_links, quiet_links, view_after, lone_view, Goes, Goes.Nothing, Goes.Moves_so}
 use Rattle.proof_machines.proofs.net.ShareLabels.{ShareLabel}
 use Rattle.proof_machines.proofs.net.MemberMoves.{Unseen, unseen_view}
-use Rattle.nf_function.specs.declared.unit.Unit as units
 
 module _ {R : Type 0} (S : Sys R) (A : Sharing S) (laws : IsSys S) (z : SeeingShare) where
   abbrev f : UnitShare R
@@ -22,10 +21,10 @@ module _ {R : Type 0} (S : Sys R) (A : Sharing S) (laws : IsSys S) (z : SeeingSh
 
   -- no message of a move turns a target into the controller
   abbrev pub NoDiverts : WholeWorld S A → Any R → Type 0
-  NoDiverts w (Old m) = (v : units.Unit) → sw_target S w.target m v ≡ 1 → w.target v ≡ 1
-  NoDiverts w (New m) = Unit {0}
+  NoDiverts w (Old m) = (v : Unit) → sw_target S w.target m v ≡ 1 → w.target v ≡ 1
+  NoDiverts w (New m) = Prim.Unit {0}
 
-  abbrev targets : WholeWorld S A → Any R → units.Unit → ℕ
+  abbrev targets : WholeWorld S A → Any R → Unit → ℕ
   targets w (Old m) v = sw_target S w.target m v
   targets w (New m) v = share_target S A w.target m v
 
@@ -38,7 +37,7 @@ module _ {R : Type 0} (S : Sys R) (A : Sharing S) (laws : IsSys S) (z : SeeingSh
 
   -- what the switch isn't sent
   abbrev IsNotFor : Option (Item R) → Type 0
-  IsNotFor None = Unit {0}
+  IsNotFor None = Prim.Unit {0}
   IsNotFor (Some it) = To_switch it → ⊥
 
   not_if : (b : Bool) (it : Item R) → (To_switch it → ⊥) → IsNotFor (where_true b it)
@@ -125,7 +124,7 @@ module _ {R : Type 0} (S : Sys R) (A : Sharing S) (laws : IsSys S) (z : SeeingSh
       unseen (Some it) e n = absurd (n (cs_items f s it left (from_ctrl it (ap (λ o. add o left) (sym e) ∙ heads)).0))
 
       quiet : share_seen S A z 0 m ≡ None → ((r : ℕ) → sent r ≡ []) → targets w m z.unit ≡ w.target z.unit
-          → ((v : units.Unit) → S.takes z.filter v ≡ true → targets w m v ≡ 1 → w.target v ≡ 1) → Goes S A z w' x
+          → ((v : Unit) → S.takes z.filter v ≡ true → targets w m v ≡ 1 → w.target v ≡ 1) → Goes S A z w' x
       quiet none nothing target diverts = Nothing (record {
         links = λ i j e. after_is i j e ∙ quiet_links x p 0 i j left sent (ap (λ o. add o left) (sym none) ∙ heads) nothing;
         own = h.own;
@@ -138,7 +137,7 @@ module _ {R : Type 0} (S : Sys R) (A : Sharing S) (laws : IsSys S) (z : SeeingSh
       -- an item is seen
       moves_on : (it : Item R) (to : ℕ → List (Item R)) (b : Bool) → share_seen S A z 0 m ≡ Some it
           → from_cs f x (it ∷ left) ≡ record x { cs = left; sw = joined x.sw to; diverts = b } → sent 1 ≡ [] → ((k : ℕ) → sent k ≡ to k)
-          → targets w m z.unit ≡ (if b then 1 else z.home) → ((v : units.Unit) → S.takes z.filter v ≡ true → targets w m v ≡ 1 → b ≡ true) → Goes S A z w' x
+          → targets w m z.unit ≡ (if b then 1 else z.home) → ((v : Unit) → S.takes z.filter v ≡ true → targets w m v ≡ 1 → b ≡ true) → Goes S A z w' x
       moves_on it to b sees does at_1 at_k target diverts =
           let from = from_ctrl it (ap (λ o. add o left) (sym sees) ∙ heads) in
           Moves_so Take_cs refl (subst (λ ys. ShareHolds S A z w' (from_cs f x ys)) (sym from.0) (subst (λ y. ShareHolds S A z w' y) (sym does) (record {
@@ -160,7 +159,7 @@ module _ {R : Type 0} (S : Sys R) (A : Sharing S) (laws : IsSys S) (z : SeeingSh
 
     -- a share's message without effect at the switch
     idle : (m : ShareMsg R) (rest : List (Any R)) → w.link p 0 ≡ New m ∷ rest → share_sends S A m ≡ []
-        → ((v : units.Unit) → share_target S A w.target m v ≡ w.target v) → IsNotFor (new_seen S A z 0 m) → Goes S A z (Next_to w p (New m)) x
+        → ((v : Unit) → share_target S A w.target m v ≡ w.target v) → IsNotFor (new_seen S A z 0 m) → Goes S A z (Next_to w p (New m)) x
     idle m rest waits none target never = quiet (New m) rest waits (unseen (New m) rest waits (new_seen S A z 0 m) refl never)
         (λ r. ap (λ xs. share_items S A z r (sent_for r xs)) none) (target z.unit) (λ v _ c. sym (target v) ∙ c)
 

@@ -6,15 +6,13 @@ use Rattle.proof_machines.proofs.net.Words.{IsOrderedAs, M_enable, M_install, Op
 use Rattle.proof_machines.proofs.net.Words.{Rests_at, seat_ends, seat_at, UnitSeat, Covered, is_covered, seat_shape, seat_all, seat_loose, Filter, inst_next}
 use Rattle.proof_machines.proofs.net.Words.{ctrl_next, sw_next, in_next, begin_next, sw_target, Msg, Mv, MoveAsked, Sys, IsSys, Open, find_op, meets_any}
 use Rattle.proof_machines.proofs.net.Words.{new_op, begin_sends, World, seen, Seeing, frame, Label, OpLabel, place, IsController, Holds, sent, view_put}
-use Rattle.proof_machines.proofs.net.Words.{each_put, Rest, Global, same_unit}
+use Rattle.proof_machines.proofs.net.Words.{each_put, Rest, Global, same_unit, Unit, same_of}
 use Rattle.proof_machines.proofs.unit.Stages.{Stage, shape}
 use Rattle.proof_machines.proofs.unit.Loose.{times-append}
-use Rattle.proof_machines.proofs.unit.Ends.{same_of}
 use Rattle.proof_machines.proofs.net.InstWorld.{Goes_to, inst_holds}
 use Rattle.proof_machines.proofs.net.OtherWorld.{ctrl_holds, put_unseen, one_unseen}
 use Rattle.proof_machines.proofs.net.SwitchWorld.{switch_holds, input_holds}
 use Rattle.proof_machines.proofs.net.RestingSeats.{rest_holds, holds_rest}
-use Rattle.nf_function.specs.declared.unit.Unit as units
 
 -- one order behind another
 pub order_join : (b c : Bool) (xs ys zs came : List ℕ) → IsOrderedAs b xs ys → IsOrderedAs c zs (xs ++ came) → IsOrderedAs (b || c) zs (ys ++ came)
@@ -34,7 +32,7 @@ pub record May {R : Type 0} (S : Sys R) (w : World S) (x : MoveAsked) : Type 0 w
   pub other : x.src ≢ x.dst
   pub apart : meets_any S x.filter w.ops ≡ false
 
-module _ {R : Type 0} (S : Sys R) (laws : IsSys S) (u : units.Unit) where
+module _ {R : Type 0} (S : Sys R) (laws : IsSys S) (u : Unit) where
   abbrev pub see : Op → ℕ → Seeing
   see o c = record { unit = u; op = o; third = c }
 

@@ -4,12 +4,11 @@ use Rattle.proof_machines.proofs.net.Words.{◌≡◌, ℕ, true, false, Some, N
 use Rattle.proof_machines.proofs.net.Words.{Sys, none_mine, AreNumbersApart, found_each, each_set_share, set_find, Any, Old, New, ShareMsg, Shared_on}
 use Rattle.proof_machines.proofs.net.Words.{Diverted_on, S_asked, S_install, S_forward, S_get, S_sync, S_chunks, S_shared, S_synced, EachNew, as_old, Sharing}
 use Rattle.proof_machines.proofs.net.Words.{OpenShare, find_share, set_share, Told, share_row, told_by, SharesStep, by_share, WholeWorld, old_step, whole_ctrl}
-use Rattle.proof_machines.proofs.net.Words.{same_unit, same_unit_equiv, split}
+use Rattle.proof_machines.proofs.net.Words.{same_unit, same_unit_equiv, split, Unit}
 use Rattle.proof_machines.proofs.net.NewMessages.{OnNew, EachSentNew, each_new_map, each_sent_map, sent_old_and, new_after, new_head}
 use Rattle.proof_machines.proofs.net.ShareRows.{Tells, told_cases, ToldOf, SentBy, share_row_by}
-use Rattle.nf_function.specs.declared.unit.Unit as units
 
-module _ {R : Type 0} (S : Sys R) (u : units.Unit) where
+module _ {R : Type 0} (S : Sys R) (u : Unit) where
   -- a message of a share has nothing of the unit; a copy's chunks may
   abbrev pub NoShare : List OpenShare → ShareMsg R → Type 0
   NoShare es (Shared_on n home p) = same_unit (S.packet_unit p) u ≡ false
@@ -18,9 +17,9 @@ module _ {R : Type 0} (S : Sys R) (u : units.Unit) where
   NoShare es (S_sync n home cs) = record_at u cs ≡ None
   NoShare es (S_chunks n cs) = (e : OpenShare) → find_share es n ≡ Some e → record_at u cs ≡ None
   NoShare es (S_shared n c) = same_unit c.0 u ≡ false
-  NoShare es m = Unit {0}
+  NoShare es m = Prim.Unit {0}
 
-  abbrev pub ElsewhereHome : (units.Unit → ℕ) → OpenShare → Type 0
+  abbrev pub ElsewhereHome : (Unit → ℕ) → OpenShare → Type 0
   ElsewhereHome t e = S.takes e.filter u ≡ true → (e.home == t u) ≡ false
 
   -- packets of other units
@@ -53,7 +52,7 @@ module _ {R : Type 0} (S : Sys R) (u : units.Unit) where
     no_share_set n ph q es (S_synced k) h = tt
     no_share_set n ph q es m h = h
 
-    one_chunk : (c : units.Unit × R) → same_unit c.0 u ≡ false → record_at u (c ∷ []) ≡ None
+    one_chunk : (c : Unit × R) → same_unit c.0 u ≡ false → record_at u (c ∷ []) ≡ None
     one_chunk c off = let other : same_unit u c.0 ≡ false = same_unit_equiv.symm u c.0 ∙ off in rw other refl
 
     -- The controller

@@ -3,7 +3,7 @@
 use Rattle.proof_machines.proofs.net.Words.{◌≡◌, ℕ, suc, ◌≤◌, Bool, true, false, List, [], ◌∷◌, ◌++◌, refl, sym, ◌∙◌, arith, if◌then◌else◌, ◌==◌, nat_tests}
 use Rattle.proof_machines.proofs.net.Words.{each-append, Filter, Asked, MoveAsked, Sys, IsSys, begin_sends, begin_next, World, sent_for, none_mine, find_old}
 use Rattle.proof_machines.proofs.net.Words.{Numbered, GlobalAll, Any, Old, New, ShareMsg, S_asked, S_install, S_get, S_chunks, S_synced, WantShare, olds}
-use Rattle.proof_machines.proofs.net.Words.{as_old, Sharing, OpenShare, new_share, WholeWorld, moves_of, asks, begin_move, begin_share, puts_get, keeps}
+use Rattle.proof_machines.proofs.net.Words.{as_old, Sharing, OpenShare, new_share, WholeWorld, moves_of, asks, begin_move, begin_share, puts_get, keeps, Unit}
 use Rattle.proof_machines.proofs.net.Units.{Where, May, put_where}
 use Rattle.proof_machines.proofs.net.ToldUnits.{begin_where}
 use Rattle.proof_machines.proofs.net.Elsewhere.{elsewhere_where}
@@ -11,9 +11,8 @@ use Rattle.proof_machines.proofs.net.AsMoves.{old_sends, olds-put, no_olds-put, 
 use Rattle.proof_machines.proofs.net.NewMessages.{sent_old, each_new_both, new_put}
 use Rattle.proof_machines.proofs.net.Untaken.{NoShare, ElsewhereHome}
 use Rattle.proof_machines.proofs.net.UntakenInst.{Unshared}
-use Rattle.nf_function.specs.declared.unit.Unit as units
 
-module _ {R : Type 0} (S : Sys R) (A : Sharing S) (laws : IsSys S) (u : units.Unit) where
+module _ {R : Type 0} (S : Sys R) (A : Sharing S) (laws : IsSys S) (u : Unit) where
   pub begin_unshared : (w : WholeWorld S A) (ps : List ℕ) (c : Bool) → GlobalAll S A w → (x : MoveAsked) → May S (moves_of S A w) x
       → Unshared S A laws u w ps c → Unshared S A laws u (begin_move S A w x) ps c
   begin_unshared w ps c g x may h = record {

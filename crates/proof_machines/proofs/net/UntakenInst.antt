@@ -3,16 +3,15 @@ use Rattle.proof_machines.proofs.net.Words.{◌≡◌, ℕ, Bool, true, false, S
 use Rattle.proof_machines.proofs.net.Words.{◌==◌, option_to_list, option_map_or, Decides-eqb, Each, each_map, first, record_first, over, Sys, IsSys, process}
 use Rattle.proof_machines.proofs.net.Words.{inst_step, at_node, done_u, found_each, Disjoint, OfShare, GlobalAll, Any, Old, New, ShareMsg, Shared_on, S_get}
 use Rattle.proof_machines.proofs.net.Words.{S_sync, S_shared, olds, as_old, Sharing, IsSharing, OpenShare, find_share, shared_chunk, member_step, WholeWorld}
-use Rattle.proof_machines.proofs.net.Words.{moves_of, whole_inst, whole_ctrl, same_unit, split}
+use Rattle.proof_machines.proofs.net.Words.{moves_of, whole_inst, whole_ctrl, same_unit, split, Unit}
 use Rattle.proof_machines.proofs.net.Net.{put}
 use Rattle.proof_machines.proofs.net.Units.{Where, inst_where, ctrl_where}
 use Rattle.proof_machines.proofs.net.Elsewhere.{elsewhere_where, where_rests}
 use Rattle.proof_machines.proofs.net.AsMoves.{member_new, no_olds-after, inst_old, ctrl_old, ctrl_new}
 use Rattle.proof_machines.proofs.net.NewMessages.{EachSentNew, sent_old, new_after, new_head}
 use Rattle.proof_machines.proofs.net.Untaken.{NoShare, ElsewhereHome, Untaken, head_none, ctrl_untaken}
-use Rattle.nf_function.specs.declared.unit.Unit as units
 
-module _ {R : Type 0} (S : Sys R) (u : units.Unit) where
+module _ {R : Type 0} (S : Sys R) (u : Unit) where
   -- what was done of other units
   pub done_other : (ds : List (ℕ × ℕ)) (p y : ℕ) → same_unit (S.packet_unit p) u ≡ false → done_u S u (ds ++ (p, y) ∷ []) ≡ done_u S u ds
   done_other [] p y off = rw off refl
@@ -23,7 +22,7 @@ module _ {R : Type 0} (S : Sys R) (u : units.Unit) where
       (λ on. let same : k ≡ y = (Decides-eqb k y).0 on in e ∙ ap (λ j. f (g j)) (sym same))
       (λ _. refl)
 
-module _ {R : Type 0} (S : Sys R) (A : Sharing S) (laws : IsSys S) (u : units.Unit) where
+module _ {R : Type 0} (S : Sys R) (A : Sharing S) (laws : IsSys S) (u : Unit) where
   -- where a unit is that no share has
   pub record Unshared (w : WholeWorld S A) (ps : List ℕ) (c : Bool) : Type 0 where
     pub is : Where S laws u (moves_of S A w) ps c
@@ -38,7 +37,7 @@ module _ {R : Type 0} (S : Sys R) (A : Sharing S) (laws : IsSys S) (u : units.Un
   -- the home gives nothing of the unit
   abbrev GetsNone : WholeWorld S A → ℕ → ShareMsg R → Type 0
   GetsNone w y (S_get n g) = (e : OpenShare) → find_share w.shares n ≡ Some e → (if S.takes g u then S.B.at u (w.inst y).live else None) ≡ None
-  GetsNone w y m = Unit {0}
+  GetsNone w y m = Prim.Unit {0}
 
   gets_none : (w : WholeWorld S A) (ps : List ℕ) (c : Bool) (y : ℕ) → GlobalAll S A w → Unshared w ps c → (m : ShareMsg R) → OfShare S w.shares y m
       → GetsNone w y m

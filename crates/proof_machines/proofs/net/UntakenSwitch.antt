@@ -4,28 +4,27 @@ use Rattle.proof_machines.proofs.net.Words.{arith, if◌then◌else◌, ◌&&◌
 use Rattle.proof_machines.proofs.net.Words.{Fence_on, Mv, Sys, IsSys, Open, find_op, sw_target, sw_sends, sw_next, in_next, World, NothingOf, found_each}
 use Rattle.proof_machines.proofs.net.Words.{Disjoint, OfShare, GlobalAll, Any, Old, New, ShareMsg, Shared_on, S_install, S_forward, olds, as_old, Sharing}
 use Rattle.proof_machines.proofs.net.Words.{OpenShare, find_share, share_target, share_sends, arrive_sends, WholeWorld, moves_of, whole_switch, whole_input}
-use Rattle.proof_machines.proofs.net.Words.{same_unit, same_unit-true, split, false_from_ne_true}
+use Rattle.proof_machines.proofs.net.Words.{same_unit, same_unit-true, split, false_from_ne_true, Unit}
 use Rattle.proof_machines.proofs.net.Units.{Where, Where.At_rest, Where.In_move, Hands_on, switch_where, input_where}
 use Rattle.proof_machines.proofs.net.Elsewhere.{elsewhere_where, fence_where, where_two, where_rests}
 use Rattle.proof_machines.proofs.net.AsMoves.{old_sends, olds-put, no_olds-put, news-after, no_olds-after, switch_old}
 use Rattle.proof_machines.proofs.net.NewMessages.{EachSentNew, sent_old, new_after, new_put, new_head}
 use Rattle.proof_machines.proofs.net.Untaken.{NoShare, ElsewhereHome, Untaken, head_none}
 use Rattle.proof_machines.proofs.net.UntakenInst.{Unshared}
-use Rattle.nf_function.specs.declared.unit.Unit as units
 
-module _ {R : Type 0} (S : Sys R) (A : Sharing S) (laws : IsSys S) (u : units.Unit) where
+module _ {R : Type 0} (S : Sys R) (A : Sharing S) (laws : IsSys S) (u : Unit) where
   -- the flag may grow
   where_grows : (w : World S) (ps : List ℕ) (c d : Bool) → (c ≡ true → d ≡ true) → Where S laws u w ps c → Where S laws u w ps d
   where_grows w ps c d grows (At_rest owner n l b h o f) = At_rest owner n l b h o (λ e. grows (f e))
   where_grows w ps c d grows (In_move op third x s b there h o f k) = In_move op third x s b there h o (λ e. grows (f e)) (λ on plain at. grows (k on plain at))
 
   -- A message of a move
-  pub sw_same : (t : units.Unit → ℕ) (p : ℕ) (m : Msg R) → NothingOf S u p m → sw_target S t m u ≡ t u
+  pub sw_same : (t : Unit → ℕ) (p : ℕ) (m : Msg R) → NothingOf S u p m → sw_target S t m u ≡ t u
   sw_same t p (Mv g (M_install n from to)) h = let off = h.1 in rw off refl
   sw_same t p m h = refl
 
   -- a unit that a share takes is at rest, so no move changes its target
-  homes_after : (ops : List (Open R)) (t v : units.Unit → ℕ) (es : List OpenShare) → (Each (λ o. S.takes o.filter u ≡ false) ops → v u ≡ t u)
+  homes_after : (ops : List (Open R)) (t v : Unit → ℕ) (es : List OpenShare) → (Each (λ o. S.takes o.filter u ≡ false) ops → v u ≡ t u)
       → Each (λ e. Each (λ o. Disjoint S e.filter o.filter) ops) es → Each (ElsewhereHome S u t) es → Each (ElsewhereHome S u v) es
   homes_after ops t v [] same a h = tt
   homes_after ops t v (e ∷ es) same a h = ((λ on. let is = same (each_map (λ o d. d u on) ops a.0) in rw is (h.0 on)), homes_after ops t v es same a.1 h.1)
@@ -95,7 +94,7 @@ module _ {R : Type 0} (S : Sys R) (A : Sharing S) (laws : IsSys S) (u : units.Un
   -- The steps. No message of a share hands a unit on
   abbrev pub HandsAny : WholeWorld S A → Any R → Bool → Type 0
   HandsAny w (Old m) d = Hands_on S laws u (moves_of S A w) m d
-  HandsAny w (New m) d = Unit {0}
+  HandsAny w (New m) d = Prim.Unit {0}
 
   pub switch_unshared : (w : WholeWorld S A) (ps : List ℕ) (c d : Bool) → GlobalAll S A w → (p : ℕ) (m : Any R) (rest : List (Any R)) → (p == 0) ≡ false
       → w.link p 0 ≡ m ∷ rest → (c ≡ true → d ≡ true) → HandsAny w m d → Unshared S A laws u w ps c → Unshared S A laws u (whole_switch S A w p m) ps d

@@ -40,6 +40,7 @@ pub use Rattle.proof_machines.proofs.net.Shares.{share_row, SharesStep, share_se
 pub use Rattle.proof_machines.proofs.net.Shares.{EachNew, s_goes, share_target}
 pub use Rattle.proof_machines.proofs.share.Heads.{to_members, ToMembers, Meets, meets_sw, meets_to}
 pub use Rattle.proof_machines.proofs.share.Lists.{self, has-without, apart_of, cond-same, packets-append, runs-append}
+pub use Rattle.proof_machines.proofs.share.Places.{Grows, placed}
 pub use Rattle.proof_machines.proofs.share.Records.{own_is, done_is, is_live, seen_front}
 pub use Rattle.proof_machines.proofs.share.Share.{Phase, Phase.Fencing, Phase.Getting, Phase.Setting, Phase.Idle, Phase.Out, Phase.Syncing, Item.Carry}
 pub use Rattle.proof_machines.proofs.share.Share.{Item.Install, Item.Stray, Item.Fence, Item.Forward, has, joined, ShareMachineStep.Take_sc, runs, Item.Fenced}
@@ -54,6 +55,7 @@ pub use Rattle.proof_machines.proofs.share.Stages.{packets, Lacks}
 pub use Rattle.proof_machines.proofs.share.Steps.{goes_on}
 pub use Rattle.proof_machines.proofs.unit.Between.{AtRestNow, Rests_at, rest_at, seat_ends, seat_at, seat_begins}
 pub use Rattle.proof_machines.proofs.unit.Cuts.{marks, chop, record_first, all_at, joined-chop, some_parts}
+pub use Rattle.proof_machines.proofs.unit.Ends.{same_of}
 pub use Rattle.proof_machines.proofs.unit.Kept.{frozen_in, free_in, Kept, lives, on_way, Nowhere, Is_live, On_way, Twice}
 pub use Rattle.proof_machines.proofs.unit.Labels.{Each, Without, Clean, Foreign, SentForeign, StaysClean, from_source_clean, from_destination_clean}
 pub use Rattle.proof_machines.proofs.unit.Labels.{each-append, each_map, each_any, cut_foreign, each_both}
@@ -62,7 +64,7 @@ pub use Rattle.proof_machines.proofs.unit.Machine.{At_a, At_b, At_c, Ran, after,
 pub use Rattle.proof_machines.proofs.unit.Machine.{ControllerTurn, goes, from_source, from_destination, Over, Pass, Rule, Free, Drops, Buffers, Part, Inst, Did}
 pub use Rattle.proof_machines.proofs.unit.Machine.{inst_does, MachineStep, Take_sa, Take_sb, Take_ca, Take_cb, moved, put_a, put_b, put_c, on, carried, ran_one}
 pub use Rattle.proof_machines.proofs.unit.Machine.{Steps, delete, next, Take_ac, Take_bc, put_ctrl, idle, Passing, Ending, Ended, Freezing, switch_does}
-pub use Rattle.proof_machines.proofs.unit.Machine.{redirected, send_to, Begin}
+pub use Rattle.proof_machines.proofs.unit.Machine.{redirected, send_to, Begin, Where as Side, sends as did_sends}
 pub use Rattle.proof_machines.proofs.unit.NetViews.{items, items-append}
 pub use Rattle.proof_machines.proofs.unit.Pairs.{Nodes, expect, ShownBy, By_sa, By_sb, By_sc, By_ca, By_cb, By_ac, By_bc, By_cc, By_cs, shown_by, after_take}
 pub use Rattle.proof_machines.proofs.unit.Pairs.{a_from_s, a_from_c, b_from_s, b_from_c, c_from_s, nothing_seen, ctrl_from_a, ctrl_from_b, switch_from_c}
@@ -82,3 +84,4 @@ pub use Rattle.proof_machines.proofs.unit.Stages.{IsOrderedAs, Allowed, arrived_
 pub use Rattle.proof_machines.proofs.unit.Stages.{Ending_loose, Returned, Doorway, Is_wide, puts_of, to_a, to_b, times, Same, Fence_b, Fence_loose, Fenced_b}
 pub use Rattle.proof_machines.proofs.unit.Stages.{Moved, loose, At_rest}
 pub use Rattle.proof_machines.proofs.unit.UnitPieces.{records, first, ArePiecesOf, first_of_one, nil_left}
+pub use Rattle.nf_function.specs.declared.unit.Unit.{Unit}

@@ -1,16 +1,16 @@
 -- What a step does to a stage of a share, from the moment on that the switch has fenced the home.
-use Rattle.std.proofs.Common.{◌≡◌, ℕ, Bool, true, false, cond, not, ◌&&◌, ◌==◌, Option, List, []}
-use Rattle.std.proofs.Common.{◌∷◌, ◌++◌, length, refl, sym, ap, subst, ◌∙◌, append-nil, arith}
+use Rattle.std.proofs.Common.{◌≡◌, ℕ, Bool, true, false, cond, not, ◌&&◌, ◌==◌, Option, List, [], ◌∷◌, ◌++◌, length, refl, sym, ap, subst, ◌∙◌, append-nil}
+use Rattle.std.proofs.Common.{arith}
 use Rattle.std.proofs.lemmas.Bool.Decides.{nat_tests}
-use Rattle.proof_machines.proofs.share.Share.{Ran, Item, Item.Get, Item.Sync, Item.Fenced, Item.Chunks, UnitShare, View, Phase, Phase.Setting, put}
-use Rattle.proof_machines.proofs.share.Share.{put_ctrl, waits, serve, answers, sync_to, ShareMachineStep, ShareMachineStep.Arrive, ShareMachineStep.Take_sc}
+use Rattle.proof_machines.proofs.share.Share.{Ran, Item, Item.Get, Item.Sync, Item.Fenced, Item.Chunks, UnitShare, View, Phase, Phase.Setting, put, put_ctrl}
+use Rattle.proof_machines.proofs.share.Share.{waits, serve, answers, sync_to, ShareMachineStep, ShareMachineStep.Arrive, ShareMachineStep.Take_sc}
 use Rattle.proof_machines.proofs.share.Share.{ShareMachineStep.Take_to, ShareMachineStep.Take_back, has, without_number, after, over, moved, from_to, from_back}
-use Rattle.proof_machines.proofs.share.Stages.{Turn.Going, Turn.Quiet, is_going, goes_to, comes_from, Stage, Stage.Fenced_comes}
-use Rattle.proof_machines.proofs.share.Stages.{Stage.Get_goes, Stage.Chunks_come, Stage.Spreads, shape, IsFront, IsShare, FitsSpread, Behind, brings, Leads}
-use Rattle.proof_machines.proofs.share.Lists.{self, over_front, has-without, distinct-without, length-without}
-use Rattle.proof_machines.proofs.share.Lists.{counts_turns, turns_sent, turn_of, in_without, turn_self}
-use Rattle.proof_machines.proofs.share.Setting.{links, orders, at_only, front_same, front_more, alike_in, same_view, same_but_sc, same_but_to}
-use Rattle.proof_machines.proofs.share.Setting.{leads, leads_same, stays, seen_more}
+use Rattle.proof_machines.proofs.share.Stages.{Turn.Going, Turn.Quiet, is_going, goes_to, comes_from, Stage, Stage.Fenced_comes, Stage.Get_goes}
+use Rattle.proof_machines.proofs.share.Stages.{Stage.Chunks_come, Stage.Spreads, shape, IsFront, IsShare, FitsSpread, Behind, brings, Leads}
+use Rattle.proof_machines.proofs.share.Lists.{self, over_front, has-without, distinct-without, length-without, counts_turns, turns_sent, turn_of, in_without}
+use Rattle.proof_machines.proofs.share.Lists.{turn_self}
+use Rattle.proof_machines.proofs.share.Setting.{links, orders, at_only, front_same, front_more, alike_in, same_view, same_but_sc, same_but_to, leads}
+use Rattle.proof_machines.proofs.share.Setting.{leads_same, stays, seen_more}
 
 module _ {R : Type 0} (f : UnitShare R) where
   pub fenced_comes : (d : List Ran) (b : ℕ → List Ran) (q v : List ℕ) → ((k : ℕ) → IsFront (b k) d) → (m : ShareMachineStep)

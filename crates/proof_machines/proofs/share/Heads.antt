@@ -3,9 +3,9 @@
 use Rattle.std.proofs.Common.{◌≡◌, ℕ, true, false, cond, ◌==◌, Option, List, [], ◌∷◌, ◌++◌, map, refl, sym, subst, ◌∙◌}
 use Rattle.std.proofs.lemmas.Bool.Decides.{Decides-eqb}
 use Rattle.proof_machines.proofs.share.Share.{Ran, Item, Item.Carry, Item.Fence, Item.Shared, Item.Get, Item.Sync, UnitShare, View, has, only, over, after}
-use Rattle.proof_machines.proofs.share.Stages.{Turn, Turn.Going, is_going, is_pending, goes_to, Stage, Stage.Diverting}
-use Rattle.proof_machines.proofs.share.Stages.{Stage.Fence_goes, Stage.Fenced_comes, Stage.Get_goes, Stage.Chunks_come, Stage.Spreads}
-use Rattle.proof_machines.proofs.share.Stages.{Stage.Carries, front, processed, shape, IsFront, IsShare, FitsStage}
+use Rattle.proof_machines.proofs.share.Stages.{Turn, Turn.Going, is_going, is_pending, goes_to, Stage, Stage.Diverting, Stage.Fence_goes, Stage.Fenced_comes}
+use Rattle.proof_machines.proofs.share.Stages.{Stage.Get_goes, Stage.Chunks_come, Stage.Spreads, Stage.Carries, front, processed, shape, IsFront, IsShare}
+use Rattle.proof_machines.proofs.share.Stages.{FitsStage}
 use Rattle.proof_machines.proofs.share.Lists.{self}
 use Rattle.proof_machines.proofs.Tests.{either_way, split}
 

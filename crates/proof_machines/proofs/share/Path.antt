@@ -2,8 +2,8 @@
 -- the queue, and diverted.
 use Rattle.std.proofs.Common.{◌≡◌, ℕ, Bool, true, false, cond, ◌==◌, List, [], ◌∷◌, ◌++◌, map, refl, sym, ap, subst, append_assoc, append-nil, arith}
 use Rattle.std.proofs.lemmas.Bool.Decides.{nat_tests, Decides-eqb}
-use Rattle.proof_machines.proofs.share.Share.{Item, Item.Carry, Item.Fence, Item.Shared, Item.Diverted}
-use Rattle.proof_machines.proofs.share.Share.{Item.Forward, UnitShare, View, has, if_mine, mine_in, only, nowhere}
+use Rattle.proof_machines.proofs.share.Share.{Item, Item.Carry, Item.Fence, Item.Shared, Item.Diverted, Item.Forward, UnitShare, View, has, if_mine, mine_in}
+use Rattle.proof_machines.proofs.share.Share.{only, nowhere}
 use Rattle.proof_machines.proofs.share.Stages.{Stage, Stage.Diverting, Stage.Fence_goes, Stage.Carries, shape, path, distinct, IsShare}
 use Rattle.proof_machines.proofs.share.Lists.{self, apart_of}
 use Rattle.proof_machines.proofs.Tests.{split}

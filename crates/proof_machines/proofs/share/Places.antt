@@ -1,9 +1,9 @@
 -- Where the unit's packets are processed: in each step at home, by the old rules, or each at its member (`placed`).
 use Rattle.std.proofs.Common.{◌≡◌, ℕ, Bool, true, false, cond, Option, List, [], ◌∷◌, ◌++◌, ◌⊎◌, inl, inr, refl, sym, subst, ◌∙◌, append-nil}
-use Rattle.proof_machines.proofs.share.Share.{Ran, at_node, Item, Item.Carry, Item.Shared, Item.Install, Item.Forward, UnitShare, View}
-use Rattle.proof_machines.proofs.share.Share.{ShareMachineStep, ShareMachineStep.Arrive, ShareMachineStep.Take_cs, ShareMachineStep.Take_sc}
-use Rattle.proof_machines.proofs.share.Share.{ShareMachineStep.Take_sw, ShareMachineStep.Take_to, ShareMachineStep.Take_back, has}
-use Rattle.proof_machines.proofs.share.Share.{member_does, from_cs, from_sc, from_sw, from_to, from_back, moved}
+use Rattle.proof_machines.proofs.share.Share.{Ran, at_node, Item, Item.Carry, Item.Shared, Item.Install, Item.Forward, UnitShare, View, ShareMachineStep}
+use Rattle.proof_machines.proofs.share.Share.{ShareMachineStep.Arrive, ShareMachineStep.Take_cs, ShareMachineStep.Take_sc, ShareMachineStep.Take_sw}
+use Rattle.proof_machines.proofs.share.Share.{ShareMachineStep.Take_to, ShareMachineStep.Take_back, has, member_does, from_cs, from_sc, from_sw, from_to}
+use Rattle.proof_machines.proofs.share.Share.{from_back, moved}
 use Rattle.proof_machines.proofs.share.Stages.{Stage, processed, shape, IsShare, FitsStage}
 use Rattle.proof_machines.proofs.share.Steps.{goes_on}
 use Rattle.proof_machines.proofs.share.Records.{done_is}

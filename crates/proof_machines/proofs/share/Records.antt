@@ -2,9 +2,9 @@
 -- member has just processed (`is_live`). Each has seen a front of it (`seen_front`).
 use Rattle.std.proofs.Common.{◌≡◌, ℕ, Bool, true, false, cond, ◌==◌, List, [], ◌∷◌, ◌++◌, inl, inr, refl, sym, append_assoc, append-nil}
 use Rattle.proof_machines.proofs.share.Share.{Ran, UnitShare, if_mine, after}
-use Rattle.proof_machines.proofs.share.Stages.{Turn, Turn.Going, is_going, is_pending, Stage, Stage.Diverting, Stage.Fence_goes}
-use Rattle.proof_machines.proofs.share.Stages.{Stage.Fenced_comes, Stage.Get_goes, Stage.Chunks_come, Stage.Spreads, Stage.Resting, Stage.Forwards}
-use Rattle.proof_machines.proofs.share.Stages.{Stage.Carries, Stage.Chunk_comes, front, processed, shape, served, IsFront, FitsStage, Behind, Lacks, Live}
+use Rattle.proof_machines.proofs.share.Stages.{Turn, Turn.Going, is_going, is_pending, Stage, Stage.Diverting, Stage.Fence_goes, Stage.Fenced_comes}
+use Rattle.proof_machines.proofs.share.Stages.{Stage.Get_goes, Stage.Chunks_come, Stage.Spreads, Stage.Resting, Stage.Forwards, Stage.Carries}
+use Rattle.proof_machines.proofs.share.Stages.{Stage.Chunk_comes, front, processed, shape, served, IsFront, FitsStage, Behind, Lacks, Live}
 use Rattle.proof_machines.proofs.share.Lists.{cond-same, self, served-append}
 use Rattle.proof_machines.proofs.share.Setting.{front_same}
 use Rattle.proof_machines.proofs.share.Serving.{took_more}

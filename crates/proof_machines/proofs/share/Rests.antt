@@ -4,9 +4,9 @@ use Rattle.std.proofs.Common.{◌≡◌, ℕ, true, false, ◌==◌, Option, Lis
 use Rattle.proof_machines.proofs.unit.Rests.{behind_nil}
 use Rattle.proof_machines.proofs.unit.Lists.{cons_nil}
 use Rattle.proof_machines.proofs.share.Share.{Ran, Item, Item.Carry, Item.Fence, Item.Diverted, UnitShare, Phase.Idle, View, has, only}
-use Rattle.proof_machines.proofs.share.Stages.{Turn, Turn.Going, Turn.Coming, Turn.Quiet, is_pending, goes_to, comes_from, count, Stage}
-use Rattle.proof_machines.proofs.share.Stages.{Stage.Fence_goes, Stage.Fenced_comes, Stage.Get_goes, Stage.Chunks_come, Stage.Spreads, Stage.Resting}
-use Rattle.proof_machines.proofs.share.Stages.{Stage.Carries, Stage.Chunk_comes, front, processed, path, shape, IsShare, FitsStage}
+use Rattle.proof_machines.proofs.share.Stages.{Turn, Turn.Going, Turn.Coming, Turn.Quiet, is_pending, goes_to, comes_from, count, Stage, Stage.Fence_goes}
+use Rattle.proof_machines.proofs.share.Stages.{Stage.Fenced_comes, Stage.Get_goes, Stage.Chunks_come, Stage.Spreads, Stage.Resting, Stage.Carries}
+use Rattle.proof_machines.proofs.share.Stages.{Stage.Chunk_comes, front, processed, path, shape, IsShare, FitsStage}
 use Rattle.proof_machines.proofs.share.Lists.{self, count-none}
 
 -- a stage that waits for nothing

@@ -3,8 +3,8 @@ use Rattle.std.proofs.Common.{◌≡◌, ℕ, Bool, true, false, cond, ◌==◌,
 use Rattle.proof_machines.proofs.share.Share.{Ran, Item.Shared, Item.Chunk, UnitShare, Phase.Syncing, put, sync_to, ShareMachineStep, ShareMachineStep.Arrive}
 use Rattle.proof_machines.proofs.share.Share.{ShareMachineStep.Take_cs, ShareMachineStep.Take_sc, ShareMachineStep.Take_sw, ShareMachineStep.Take_back, has}
 use Rattle.proof_machines.proofs.share.Share.{without_number, if_mine, at_node, runs, after, chunk_of, over, moved, from_sw, from_back}
-use Rattle.proof_machines.proofs.share.Stages.{Turn, is_pending, Stage.Spreads, Stage.Resting, Stage.Forwards, Stage.Carries}
-use Rattle.proof_machines.proofs.share.Stages.{Stage.Chunk_comes, shape, served, IsFront, IsShare, Behind, brings, Leads}
+use Rattle.proof_machines.proofs.share.Stages.{Turn, is_pending, Stage.Spreads, Stage.Resting, Stage.Forwards, Stage.Carries, Stage.Chunk_comes, shape, served}
+use Rattle.proof_machines.proofs.share.Stages.{IsFront, IsShare, Behind, brings, Leads}
 use Rattle.proof_machines.proofs.share.Lists.{runs-append, served-append, turn_of, turn_self, served_at}
 use Rattle.proof_machines.proofs.share.Setting.{links, orders, at_only, front_same, alike_in, same_but_sc, same_view, leads, leads_same, stays}
 use Rattle.proof_machines.proofs.share.FencedSetting.{sync_goes, none_comes, turns, some_left, just_sent, at_least_one}

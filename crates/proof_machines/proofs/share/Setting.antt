@@ -1,6 +1,6 @@
 -- Each move from each stage in which a share is set up, up to the first Sync.
-use Rattle.std.proofs.Common.{◌≡◌, ℕ, ◌+◌, Bool, true, false, cond, ◌==◌, Option, None, Some, List, []}
-use Rattle.std.proofs.Common.{◌∷◌, ◌++◌, map, refl, sym, ap, subst, ◌∙◌, append_assoc, append-nil}
+use Rattle.std.proofs.Common.{◌≡◌, ℕ, ◌+◌, Bool, true, false, cond, ◌==◌, Option, None, Some, List, [], ◌∷◌, ◌++◌, map, refl, sym, ap, subst, ◌∙◌, append_assoc}
+use Rattle.std.proofs.Common.{append-nil}
 use Rattle.std.proofs.lemmas.Bool.Decides.{Decides-eqb}
 use Rattle.std.proofs.lemmas.List.{map-append}
 use Rattle.proof_machines.proofs.share.Share.{Ran, Item, Item.Carry, Item.Fence, UnitShare, View, ShareMachineStep, ShareMachineStep.Arrive}
@@ -8,8 +8,8 @@ use Rattle.proof_machines.proofs.share.Share.{ShareMachineStep.Take_cs, ShareMac
 use Rattle.proof_machines.proofs.share.Share.{from_sw}
 use Rattle.proof_machines.proofs.share.Stages.{Stage, Stage.Diverting, Stage.Fence_goes, Stage.Fenced_comes, front, early, late, shape, IsFront, FitsStage}
 use Rattle.proof_machines.proofs.share.Stages.{Alike, brings, Leads}
-use Rattle.proof_machines.proofs.share.Lists.{cond-same, cond-append, cond-cond, self, runs-append, mine_in-append, served-append}
-use Rattle.proof_machines.proofs.share.Lists.{packets-append, packets-served}
+use Rattle.proof_machines.proofs.share.Lists.{cond-same, cond-append, cond-cond, self, runs-append, mine_in-append, served-append, packets-append}
+use Rattle.proof_machines.proofs.share.Lists.{packets-served}
 use Rattle.proof_machines.proofs.Tests.{split}
 
 pub ruleset links = (cond-append, cond-cond, cond-same, append-nil, map-append)

@@ -1,10 +1,10 @@
 -- Each move while a Sync goes round among the members.
-use Rattle.std.proofs.Common.{◌≡◌, ℕ, ◌+◌, ◌-◌, Bool, true, false, cond, ◌==◌, Option, List, []}
-use Rattle.std.proofs.Common.{◌∷◌, ◌++◌, map, inl, inr, refl, sym, ap, subst, ◌∙◌, append-nil, true≢false, arith}
+use Rattle.std.proofs.Common.{◌≡◌, ℕ, ◌+◌, ◌-◌, Bool, true, false, cond, ◌==◌, Option, List, [], ◌∷◌, ◌++◌, map, inl, inr, refl, sym, ap, subst, ◌∙◌}
+use Rattle.std.proofs.Common.{append-nil, true≢false, arith}
 use Rattle.std.proofs.lemmas.Bool.Decides.{nat_tests, Decides-eqb}
 use Rattle.proof_machines.proofs.share.Share.{Ran, Item, Item.Diverted, Item.Sync, Item.Synced, UnitShare, View, ShareMachineStep, ShareMachineStep.Arrive}
-use Rattle.proof_machines.proofs.share.Share.{ShareMachineStep.Take_sc, ShareMachineStep.Take_to, ShareMachineStep.Take_back, has, if_mine, after}
-use Rattle.proof_machines.proofs.share.Share.{over, put, moved, from_to, from_back, put_ctrl, waits, serve, Phase.Setting, Phase.Syncing}
+use Rattle.proof_machines.proofs.share.Share.{ShareMachineStep.Take_sc, ShareMachineStep.Take_to, ShareMachineStep.Take_back, has, if_mine, after, over, put}
+use Rattle.proof_machines.proofs.share.Share.{moved, from_to, from_back, put_ctrl, waits, serve, Phase.Setting, Phase.Syncing}
 use Rattle.proof_machines.proofs.share.Stages.{Turn, Turn.Going, Turn.Coming, Turn.Quiet, is_going, is_pending, goes_to, comes_from, count, Stage}
 use Rattle.proof_machines.proofs.share.Stages.{Stage.Spreads, Stage.Resting, Stage.Forwards, shape, served, IsFront, FitsSpread, Behind, brings, Leads}
 use Rattle.proof_machines.proofs.share.Lists.{count-put, count-zero, pending-put}

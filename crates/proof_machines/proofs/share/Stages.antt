@@ -2,10 +2,10 @@
 -- what was processed and seen, what arrived, and where the packets wait (`path`).
 use Rattle.std.proofs.Common.{◌≡◌, ℕ, ◌+◌, ◌<◌, Bool, true, false, not, Option, List, [], ◌∷◌, ◌++◌, map, length, ◌⊎◌}
 use Rattle.std.specs.Prelude.{if◌then◌else◌, ◌&&◌, ◌==◌}
-use Rattle.proof_machines.proofs.share.Share.{Ran, Item, Item.Carry, Item.Fence, Item.Shared, Item.Diverted, Item.Install, Item.Forward, Item.Get}
-use Rattle.proof_machines.proofs.share.Share.{Item.Sync, Item.Fenced, Item.Chunks, Item.Chunk, Item.Synced, UnitShare, Phase, Phase.Fencing}
-use Rattle.proof_machines.proofs.share.Share.{Phase.Getting, Phase.Setting, Phase.Idle, Phase.Out, Phase.Syncing, View, ShareMachineStep}
-use Rattle.proof_machines.proofs.share.Share.{ShareMachineStep.Arrive, has, if_mine, mine_in, after, chunk_of, over, only, nowhere}
+use Rattle.proof_machines.proofs.share.Share.{Ran, Item, Item.Carry, Item.Fence, Item.Shared, Item.Diverted, Item.Install, Item.Forward, Item.Get, Item.Sync}
+use Rattle.proof_machines.proofs.share.Share.{Item.Fenced, Item.Chunks, Item.Chunk, Item.Synced, UnitShare, Phase, Phase.Fencing, Phase.Getting, Phase.Setting}
+use Rattle.proof_machines.proofs.share.Share.{Phase.Idle, Phase.Out, Phase.Syncing, View, ShareMachineStep, ShareMachineStep.Arrive, has, if_mine, mine_in}
+use Rattle.proof_machines.proofs.share.Share.{after, chunk_of, over, only, nowhere}
 
 -- where a member is with a Sync: it is on its way, the answer is, or neither
 pub data Turn : Type 0 where

@@ -1,13 +1,11 @@
 -- A source's records, cut into pieces: each unit sees its record in exactly one of them, and the last alone has the mark.
 use Rattle.proof_machines.proofs.unit.Words.{◌≡◌, ℕ, suc, zero, true, false, Option, Some, None, List, [], ◌∷◌, ◌++◌, map, length, take, drop, refl, sym, ap}
 use Rattle.proof_machines.proofs.unit.Words.{◌∙◌, append-nil, take-append-drop, if◌then◌else◌, ◌==◌, option_to_list, nat_le, same_unit, is_nil, Piece}
-use Rattle.proof_machines.proofs.unit.Words.{ArePiecesOf, records, closes, first, nil_left, nil_right, first_of_one}
-use Rattle.nf_function.specs.declared.unit.Unit as units
+use Rattle.proof_machines.proofs.unit.Words.{ArePiecesOf, records, closes, first, nil_left, nil_right, first_of_one, Unit, by_if}
 use Rattle.proof_machines.proofs.unit.Real.{Chunks, record_at, RPiece, Msg, M_piece, Frame, see, view}
-use Rattle.proof_machines.proofs.Tests.{by_if}
 
 -- all records of a unit in chunks
-abbrev pub all_at : {R : Type 0} → units.Unit → Chunks R → List R
+abbrev pub all_at : {R : Type 0} → Unit → Chunks R → List R
 all_at u [] = []
 all_at u (c ∷ cs) = if same_unit u c.0 then c.1 ∷ all_at u cs else all_at u cs
 
@@ -36,7 +34,7 @@ is_nil-chop zero xs = refl
 is_nil-chop (suc n) xs =
     elim (nat_le (length xs) 64) as (λ b. is_nil (if b then xs ∷ [] else take 64 xs ∷ chop n (drop 64 xs)) ≡ false) [ true ↦ refl | false ↦ refl ]
 
-pub all_at-append : {R : Type 0} (u : units.Unit) (x y : Chunks R) → all_at u (x ++ y) ≡ all_at u x ++ all_at u y
+pub all_at-append : {R : Type 0} (u : Unit) (x y : Chunks R) → all_at u (x ++ y) ≡ all_at u x ++ all_at u y
 all_at-append u [] y = refl
 all_at-append u (c ∷ x) y =
     elim (same_unit u c.0) as (λ b. (if b then c.1 ∷ all_at u (x ++ y) else all_at u (x ++ y)) ≡ (if b then c.1 ∷ all_at u x else all_at u x) ++ all_at u y) [
@@ -44,7 +42,7 @@ all_at-append u (c ∷ x) y =
       | false ↦ all_at-append u x y
     ]
 
-pub record_first : {R : Type 0} (u : units.Unit) (x : Chunks R) → record_at u x ≡ first (all_at u x)
+pub record_first : {R : Type 0} (u : Unit) (x : Chunks R) → record_at u x ≡ first (all_at u x)
 record_first u [] = refl
 record_first u (c ∷ x) =
     elim (same_unit u c.0) as (λ b. (if b then Some c.1 else record_at u x) ≡ first (if b then c.1 ∷ all_at u x else all_at u x)) [

@@ -2,8 +2,8 @@
 use Rattle.std.proofs.Common.{ℕ, Bool, List, [], ◌∷◌, ◌++◌, map, refl, sym, append_assoc, append-nil}
 use Rattle.std.proofs.lemmas.List.{map-append}
 use Rattle.proof_machines.proofs.unit.Machine.{Where, At_a, Ran, Steps, after, Part, MachineStep, Begin, Arrive, Take_sa, Take_ac, Take_ca}
-use Rattle.proof_machines.proofs.unit.Lists.{firsts-append, firsts-on, runs-append, passes-append, plains-append}
-use Rattle.proof_machines.proofs.unit.Lists.{events-append, Ev, Pc, events-sent, pieces-sent, named-sent, shown-sent}
+use Rattle.proof_machines.proofs.unit.Lists.{firsts-append, firsts-on, runs-append, passes-append, plains-append, events-append, Ev, Pc, events-sent}
+use Rattle.proof_machines.proofs.unit.Lists.{pieces-sent, named-sent, shown-sent}
 use Rattle.proof_machines.proofs.unit.UnitPieces.{ArePiecesOf, pick_all, not_nil}
 use Rattle.proof_machines.proofs.unit.Stages.{At_rest, Begun, Frozen, Stream_goes, Streams, Flows, Is_shut, body, shape, Allowed, GoesOn, Placed}
 

@@ -1,8 +1,7 @@
 -- Another move's pieces have nothing of the unit: at the source that cuts them, at the controller that keeps them, and so in all
 -- that it sends.
 use Rattle.proof_machines.proofs.unit.Words.{◌≡◌, ℕ, false, None, Option, List, [], ◌∷◌, ◌++◌, map, refl, sym, ap, ◌∙◌, is_some, is_among, Answer, Streaming}
-use Rattle.proof_machines.proofs.unit.Words.{Said, Nothing, Remove, Ask, Release, Give_back, nil_left, nil_right}
-use Rattle.nf_function.specs.declared.unit.Unit as units
+use Rattle.proof_machines.proofs.unit.Words.{Said, Nothing, Remove, Ask, Release, Give_back, nil_left, nil_right, Unit}
 pub use Rattle.actor_net.proofs.WeightLaws.{Each, each-append}
 use Rattle.move_op.specs.Table.{Restore, Put}
 use Rattle.proof_machines.proofs.unit.Real.{Chunks, record_at, RPiece, chunks_of, Msg, M_delete, M_put, M_restore, M_piece, M_put_no, M_install, M_fence_to}
@@ -20,33 +19,33 @@ pub each_both : {X : Type 0} {P Q T : X → Type 0} → ((x : X) → P x → Q x
 each_both g [] p q = tt
 each_both g (x ∷ xs) p q = (g x p.0 q.0, each_both g xs p.1 q.1)
 
-pub each_any : {X : Type 0} (xs : List X) → Each (λ _. Unit {0}) xs
+pub each_any : {X : Type 0} (xs : List X) → Each (λ _. Prim.Unit {0}) xs
 each_any [] = tt
 each_any (x ∷ xs) = (tt, each_any xs)
 
-abbrev pub Without : {R : Type 0} → units.Unit → RPiece R → Type 0
+abbrev pub Without : {R : Type 0} → Unit → RPiece R → Type 0
 Without u p = record_at u p.chunks ≡ None
 
-abbrev pub Foreign : {R : Type 0} → units.Unit → Msg R → Type 0
+abbrev pub Foreign : {R : Type 0} → Unit → Msg R → Type 0
 Foreign u (M_delete o us) = is_among us u ≡ false
 Foreign u (M_put o p first) = Without u p
 Foreign u (M_restore o cs) = record_at u cs ≡ None
 Foreign u (M_piece o p) = Without u p
 Foreign u (M_put_no o why cs) = record_at u cs ≡ None
-Foreign u m = Unit {0}
+Foreign u m = Prim.Unit {0}
 
-abbrev pub SentForeign : {R : Type 0} → units.Unit → ℕ × Msg R → Type 0
+abbrev pub SentForeign : {R : Type 0} → Unit → ℕ × Msg R → Type 0
 SentForeign u x = Foreign u x.1
 
-abbrev pub Clean : {R : Type 0} → units.Unit → RPhase R → Type 0
+abbrev pub Clean : {R : Type 0} → Unit → RPhase R → Type 0
 Clean u (Streaming fz fr came door) = Each (Without u) fz × Each (Without u) fr
-Clean u phase = Unit {0}
+Clean u phase = Prim.Unit {0}
 
-abbrev pub StaysClean : {R : Type 0} → units.Unit → OperationTurn R → Type 0
+abbrev pub StaysClean : {R : Type 0} → Unit → OperationTurn R → Type 0
 StaysClean u did = Clean u did.phase × Each (SentForeign u) did.sends
 
 -- the pieces that a source cuts for another filter
-pub cut_foreign : {R : Type 0} (u : units.Unit) (total newest : ℕ) (cs : List (Chunks R)) → all_at u (joined_up cs) ≡ []
+pub cut_foreign : {R : Type 0} (u : Unit) (total newest : ℕ) (cs : List (Chunks R)) → all_at u (joined_up cs) ≡ []
     → Each (Without u) (marks total newest cs)
 cut_foreign u total newest [] e = tt
 cut_foreign u total newest (c ∷ cs) e =
@@ -54,19 +53,19 @@ cut_foreign u total newest (c ∷ cs) e =
     let none = nil_left (all_at u c) (all_at u (joined_up cs)) both in
     (record_first u c ∙ rw none refl, cut_foreign u total newest cs (nil_right (all_at u c) (all_at u (joined_up cs)) both))
 
-pieces_foreign : {R : Type 0} (u : units.Unit) (ps : List (RPiece R)) → Each (Without u) ps → record_at u (chunks_of ps) ≡ None
+pieces_foreign : {R : Type 0} (u : Unit) (ps : List (RPiece R)) → Each (Without u) ps → record_at u (chunks_of ps) ≡ None
 pieces_foreign u [] e = refl
 pieces_foreign u (p ∷ ps) e = let a = e.0 in let b = pieces_foreign u ps e.1 in record_at-append u p.chunks (chunks_of ps) ∙ rw (a, b) refl
 
-puts_foreign : {R : Type 0} (u : units.Unit) (o : Op) (ps : List (RPiece R)) → Each (Without u) ps → Each (SentForeign u) (map (put_to o) ps)
+puts_foreign : {R : Type 0} (u : Unit) (o : Op) (ps : List (RPiece R)) → Each (Without u) ps → Each (SentForeign u) (map (put_to o) ps)
 puts_foreign u o [] e = tt
 puts_foreign u o (p ∷ ps) e = (e.0, puts_foreign u o ps e.1)
 
-forwards_foreign : (R : Type 0) (u : units.Unit) (to : ℕ) (f : List ℕ) → Each (SentForeign u) (map (forward_to {R = R} to) f)
+forwards_foreign : (R : Type 0) (u : Unit) (to : ℕ) (f : List ℕ) → Each (SentForeign u) (map (forward_to {R = R} to) f)
 forwards_foreign R u to [] = tt
 forwards_foreign R u to (p ∷ f) = (tt, forwards_foreign R u to f)
 
-module _ {R : Type 0} (u : units.Unit) (o : Op) where
+module _ {R : Type 0} (u : Unit) (o : Op) where
   said_foreign : (said : Said ℕ (RPiece R)) → SaidHas (Any ℕ) (Without u) said → Each (SentForeign u) (sends_of o said)
   said_foreign Nothing h = tt
   said_foreign (Remove p) h = (is_among-units u p.chunks ∙ ap is_some h, tt)

@@ -1,8 +1,8 @@
 -- Each step of a move without a buffer at B, after its Install, leads to a stage, with the same packets in whatever order.
-use Rattle.proof_machines.proofs.unit.Words.{◌≡◌, ℕ, Bool, true, false, List, [], ◌∷◌, ◌++◌, refl, append_assoc, append-nil, arith}
-use Rattle.proof_machines.proofs.unit.Words.{At_b, Ran, Steps, MachineStep, Arrive, Take_sa, Take_sb, Take_ac, Take_cs, firsts-append, passing, plain, plains}
-use Rattle.proof_machines.proofs.unit.Words.{passes-append, plains-append, Turned_loose, Fenced_loose, Ending_loose, Fence_loose, Fenced_b, GoesOn}
-use Rattle.proof_machines.proofs.unit.Words.{shapes, paths, still, one_more}
+use Rattle.proof_machines.proofs.unit.Words.{◌≡◌, ℕ, Bool, true, false, List, [], ◌∷◌, ◌++◌, refl, append_assoc, append-nil, arith, At_b, Ran, Steps}
+use Rattle.proof_machines.proofs.unit.Words.{MachineStep, Arrive, Take_sa, Take_sb, Take_ac, Take_cs, firsts-append, passing, plain, plains, passes-append}
+use Rattle.proof_machines.proofs.unit.Words.{plains-append, Turned_loose, Fenced_loose, Ending_loose, Fence_loose, Fenced_b, GoesOn, shapes, paths, still}
+use Rattle.proof_machines.proofs.unit.Words.{one_more}
 pub use Rattle.actor_net.proofs.NumberCounts.{none_in, times-append}
 use Rattle.proof_machines.proofs.unit.Late.{same_lists}
 

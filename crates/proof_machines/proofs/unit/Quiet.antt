@@ -1,13 +1,12 @@
 -- A row of another move shows the unit nothing: what it sends isn't seen, and it still keeps no packet of the unit.
 use Rattle.proof_machines.proofs.unit.Words.{◌≡◌, ℕ, Bool, true, false, None, Option, List, [], ◌∷◌, map, refl, if◌then◌else◌, ◌==◌, Answer, Said, Nothing}
-use Rattle.proof_machines.proofs.unit.Words.{Release, Give_back, cons_nil}
+use Rattle.proof_machines.proofs.unit.Words.{Release, Give_back, cons_nil, split, by_if}
 use Rattle.move_op.specs.Table.{Put, Forward}
 use Rattle.proof_machines.proofs.unit.Real.{RPiece, Msg, M_event, M_put_no, M_install, M_fence_to, RPhase, Op, OperationTurn, r_words, put_to, forward_to}
 use Rattle.proof_machines.proofs.unit.Real.{sends_of, r_from_source, r_from_destination, Frame, where_true, seen, view, only_mine, sent_for}
 use Rattle.proof_machines.proofs.unit.Labels.{Each, each-append}
 use Rattle.proof_machines.proofs.unit.TableRows.{Hold, SaidHas, Any, any_phase}
 use Rattle.proof_machines.proofs.unit.RealRows.{Brings, BringsBack, from_source_holds, from_destination_holds}
-use Rattle.proof_machines.proofs.Tests.{split, by_if}
 
 abbrev pub Unseen : {R : Type 0} → Frame → ℕ × Msg R → Type 0
 Unseen v x = seen v x.1 ≡ None

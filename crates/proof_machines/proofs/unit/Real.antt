@@ -4,21 +4,20 @@ use Rattle.proof_machines.proofs.unit.Words.{◌≡◌, ℕ, Bool, true, false, 
 use Rattle.proof_machines.proofs.unit.Words.{is_among, Answer, PhaseOf, Words, on_event, on_source_enabled, on_piece, on_deleted, on_restored, on_source_fenced}
 use Rattle.proof_machines.proofs.unit.Words.{on_put_ok, on_put_no, on_destination_enabled, on_destination_fenced, Where, At_a, At_b, Rule, Buffers, Part, Item}
 use Rattle.proof_machines.proofs.unit.Words.{Enable, Stream, Delete, Put, Restore, Enabled, Event, Piece, Deleted, Put_ok, Put_no, Restored, Fenced, Forward}
-use Rattle.proof_machines.proofs.unit.Words.{Fence_to, Install, Stray, Ended, Phase, ControllerTurn}
+use Rattle.proof_machines.proofs.unit.Words.{Fence_to, Install, Stray, Ended, Phase, ControllerTurn, Unit}
 use Rattle.std.specs.FinMap.{find}
-use Rattle.nf_function.specs.declared.unit.Unit as units
 use Rattle.move_op.specs.Table as said
 use Rattle.proof_machines.proofs.unit.TableViews.{map_phase}
 
 -- chunks mean units with their records
 abbrev pub Chunks : Type 0 → Type 0
-Chunks R = List (units.Unit × R)
+Chunks R = List (Unit × R)
 
 -- the record of a unit in chunks: that of the first chunk which has it
-abbrev pub record_at : {R : Type 0} → units.Unit → Chunks R → Option R
+abbrev pub record_at : {R : Type 0} → Unit → Chunks R → Option R
 record_at = find unit_cmp
 
-abbrev pub chunk_unit : {R : Type 0} → units.Unit × R → units.Unit
+abbrev pub chunk_unit : {R : Type 0} → Unit × R → Unit
 chunk_unit c = c.0
 
 pub record RPiece (R : Type 0) : Type 0 where
@@ -34,7 +33,7 @@ chunks_of (p ∷ ps) = p.chunks ++ chunks_of ps
 pub data Msg (R : Type 0) : Type 0 where
   M_enable : ℕ → Rule → Msg R
   M_stream : ℕ → Msg R
-  M_delete : ℕ → List units.Unit → Msg R
+  M_delete : ℕ → List Unit → Msg R
   M_put : ℕ → RPiece R → Bool → Msg R
   M_restore : ℕ → Chunks R → Msg R
   M_enabled : ℕ → Msg R
@@ -125,7 +124,7 @@ r_from_destination o phase f m = r_goes phase f []
 -- what one unit sees: its packets, its unit, the move
 pub record Frame : Type 0 where
   pub mine : ℕ → Bool
-  pub unit : units.Unit
+  pub unit : Unit
   pub move : ℕ
   pub from : ℕ
   pub to : ℕ

@@ -1,13 +1,12 @@
 -- The live records of an instance keep the four laws of look-ups of `SeenInst`.
 use Rattle.proof_machines.proofs.unit.Words.{◌≡◌, [], ◌∷◌, Option, Some, None, refl, sym, ap, ◌∙◌, T, if◌then◌else◌, ◌&&◌, option_to_list, unit_cmp, Records}
-use Rattle.proof_machines.proofs.unit.Words.{same_unit, without, either, newest_of, Steps, joined}
+use Rattle.proof_machines.proofs.unit.Words.{same_unit, without, either, newest_of, Steps, joined, Unit, split}
 use Rattle.std.specs.Ordering.{is_eq, is_lt}
 use Rattle.std.specs.declared.cmp.Ordering.TheVariants.{Less, Equal, Greater}
 use Rattle.std.specs.FinMap as finite
 use Rattle.std.specs.FinMap.{is_sorted, entries_sorted, get-entries, get-from_entries, get-retain_keys}
 use Rattle.std.specs.FinMap.Entries.{below_all}
 use Rattle.std.proofs.Math.Facts.{and_yes}
-use Rattle.nf_function.specs.declared.unit.Unit as units
 use Rattle.nf_function.specs.UnitOrder.{units_total}
 use Rattle.nf_function.specs.Semantics.{Semantics}
 use Rattle.nf_function.specs.Records.{newest}
@@ -16,7 +15,6 @@ use Rattle.record_table.proofs.RecordLookUps.{get-joined, get-without}
 use Rattle.proof_machines.proofs.unit.Real.{Chunks, record_at}
 use Rattle.proof_machines.proofs.unit.Cuts.{all_at}
 use Rattle.proof_machines.proofs.unit.SeenInst.{Tables, Laws}
-use Rattle.proof_machines.proofs.Tests.{split}
 
 -- an instance's live records as a table: chunks that come are their records, and those that are selected stand in the order of units
 abbrev pub live_table : {R : Type 0} → Semantics R → Tables R
@@ -30,7 +28,7 @@ live_table {R} f = record {
 }
 
 module _ {R : Type 0} where
-  none_above : (u : units.Unit) (es : Chunks R) → T (below_all unit_cmp u es) → all_at u es ≡ []
+  none_above : (u : Unit) (es : Chunks R) → T (below_all unit_cmp u es) → all_at u es ≡ []
   none_above u [] h = refl
   none_above u (e ∷ es) h =
       elim (unit_cmp u e.0) as (λ o. T (is_lt o && below_all unit_cmp u es) → (if is_eq o then e.1 ∷ all_at u es else all_at u es) ≡ []) [
@@ -40,7 +38,7 @@ module _ {R : Type 0} where
       ] h
 
   -- a map has each unit once
-  pub all_at-sorted : (u : units.Unit) (es : Chunks R) → T (is_sorted unit_cmp es) → all_at u es ≡ option_to_list (record_at u es)
+  pub all_at-sorted : (u : Unit) (es : Chunks R) → T (is_sorted unit_cmp es) → all_at u es ≡ option_to_list (record_at u es)
   all_at-sorted u [] h = refl
   all_at-sorted u (e ∷ es) h =
       let parts = and_yes (below_all unit_cmp e.0 es) (is_sorted unit_cmp es) h in
@@ -57,7 +55,7 @@ module _ {R : Type 0} where
   -- the records of an instance keep the laws
   pub live_laws : (F : Steps R) (f : Semantics R) → ((coming held : R) → F.newer coming held ≡ newest f held coming) → Laws F (live_table f)
   live_laws F f newer =
-      let taken_in = (λ (u : units.Unit) (cs : Chunks R) (t : Records R).
+      let taken_in = (λ (u : Unit) (cs : Chunks R) (t : Records R).
       get-joined (newest f) t (finite.from_entries cs) u
       ∙ ap (either (newest f) (finite.get t u)) (get-from_entries units_total cs u)
       ∙ joined_is F f newer (record_at u cs) (finite.get t u)) in

@@ -3,20 +3,18 @@ use Rattle.proof_machines.proofs.unit.Words.{◌≡◌, ℕ, Bool, true, false, 
 use Rattle.proof_machines.proofs.unit.Words.{◌||◌, ◌==◌, is_some, same_unit, is_among, on_event, on_piece, Where, At_a, At_b, Buffers, pick, or_own, next, Item}
 use Rattle.proof_machines.proofs.unit.Words.{Enable, Stream, Delete, Put, Restore, Enabled, Event, Piece, Deleted, Put_ok, Put_no, Restored, Fenced, Forward}
 use Rattle.proof_machines.proofs.unit.Words.{Fence_to, Install, Passing, Ending, Undoing, Ended, ControllerTurn, goes, words, from_source, part_back}
-use Rattle.proof_machines.proofs.unit.Words.{from_destination}
-use Rattle.nf_function.specs.declared.unit.Unit as units
+use Rattle.proof_machines.proofs.unit.Words.{from_destination, Unit, split}
 use Rattle.proof_machines.proofs.unit.Machine.{Shut, Asked, Streaming, Holding, Restoring, Returning}
 use Rattle.proof_machines.proofs.unit.TableViews.{Follow, event_follows, source_enabled_follows, piece_follows, deleted_follows, restored_follows}
 use Rattle.proof_machines.proofs.unit.TableViews.{source_fenced_follows, put_ok_follows, put_no_follows, destination_enabled_follows}
 use Rattle.proof_machines.proofs.unit.TableViews.{destination_fenced_follows}
-use Rattle.proof_machines.proofs.unit.Real.{Chunks, record_at, chunk_unit, RPiece, chunks_of, Msg, M_enable, M_stream, M_delete, M_put, M_restore}
-use Rattle.proof_machines.proofs.unit.Real.{M_enabled, M_event, M_piece, M_deleted, M_put_ok, M_put_no, M_restored, M_fenced, M_forward, M_install}
-use Rattle.proof_machines.proofs.unit.Real.{M_fence_to, RPhase, Op, r_goes, r_words, forward_to, r_from_source, r_from_destination, put_back}
-use Rattle.proof_machines.proofs.unit.Real.{Frame, where_true, see, sends_to, seen, add, view, only_mine, see_phase, sent_for, Sees}
-use Rattle.proof_machines.proofs.Tests.{split}
+use Rattle.proof_machines.proofs.unit.Real.{Chunks, record_at, chunk_unit, RPiece, chunks_of, Msg, M_enable, M_stream, M_delete, M_put, M_restore, M_enabled}
+use Rattle.proof_machines.proofs.unit.Real.{M_event, M_piece, M_deleted, M_put_ok, M_put_no, M_restored, M_fenced, M_forward, M_install, M_fence_to, RPhase, Op}
+use Rattle.proof_machines.proofs.unit.Real.{r_goes, r_words, forward_to, r_from_source, r_from_destination, put_back, Frame, where_true, see, sends_to, seen}
+use Rattle.proof_machines.proofs.unit.Real.{add, view, only_mine, see_phase, sent_for, Sees}
 
 -- chunks at a unit
-pub record_at-append : {R : Type 0} (u : units.Unit) (x y : Chunks R) → record_at u (x ++ y) ≡ or_own (record_at u x) (record_at u y)
+pub record_at-append : {R : Type 0} (u : Unit) (x y : Chunks R) → record_at u (x ++ y) ≡ or_own (record_at u x) (record_at u y)
 record_at-append u [] y = refl
 record_at-append u (c ∷ x) y =
     elim (same_unit u c.0) as (λ b. (if b then Some c.1 else record_at u (x ++ y)) ≡ or_own (if b then Some c.1 else record_at u x) (record_at u y)) [
@@ -24,7 +22,7 @@ record_at-append u (c ∷ x) y =
       | false ↦ record_at-append u x y
     ]
 
-pub is_among-units : {R : Type 0} (u : units.Unit) (x : Chunks R) → is_among (map chunk_unit x) u ≡ is_some (record_at u x)
+pub is_among-units : {R : Type 0} (u : Unit) (x : Chunks R) → is_among (map chunk_unit x) u ≡ is_some (record_at u x)
 is_among-units u [] = refl
 is_among-units u (c ∷ x) =
     elim (same_unit u c.0) as (λ b. (b || is_among (map chunk_unit x) u) ≡ is_some (if b then Some c.1 else record_at u x)) [
@@ -83,7 +81,7 @@ pub record NodesDiffer (o : Op) : Type 0 where
   pub 0_src : (0 == o.src) ≡ false
   pub 0_dst : (0 == o.dst) ≡ false
 
-abbrev pub frame_of : Op → (ℕ → Bool) → units.Unit → Frame
+abbrev pub frame_of : Op → (ℕ → Bool) → Unit → Frame
 frame_of o mine u = record { mine = mine; unit = u; move = o.num; from = o.src; to = o.dst }
 
 -- items and messages at a type
@@ -96,7 +94,7 @@ r_fwd to p = M_forward p to
 abbrev r_put : {R : Type 0} → ℕ → RPiece R → Msg R
 r_put n p = M_put n p false
 
-module _ {R : Type 0} (o : Op) (mine : ℕ → Bool) (u : units.Unit) (t : NodesDiffer o) where
+module _ {R : Type 0} (o : Op) (mine : ℕ → Bool) (u : Unit) (t : NodesDiffer o) where
   view_puts : (fr : List (RPiece R)) → view (frame_of o mine u) (map (r_put o.num) fr) ≡ map next (map (see (frame_of o mine u)) fr)
   view_puts [] = refl
   view_puts (p ∷ fr) = let n = t.num in rw n (ap (λ z. next (see (frame_of o mine u) p) ∷ z) (view_puts fr))
@@ -250,7 +248,7 @@ module _ {R : Type 0} (o : Op) (mine : ℕ → Bool) (u : units.Unit) (t : Nodes
 
   -- a message that a move takes from an instance has its number
   abbrev pub Numbered : Msg R → Type 0
-  Numbered (M_event n p) = Unit {0}
+  Numbered (M_event n p) = Prim.Unit {0}
   Numbered (M_enabled n) = n ≡ o.num
   Numbered (M_piece n p) = n ≡ o.num
   Numbered (M_deleted n) = n ≡ o.num

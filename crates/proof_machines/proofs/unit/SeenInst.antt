@@ -1,31 +1,30 @@
 -- Of an instance's rows on pieces one unit sees the machine's instance. Of the table that needs four laws of look-ups.
 use Rattle.proof_machines.proofs.unit.Words.{◌≡◌, ℕ, Bool, true, false, Option, Some, None, List, [], ◌∷◌, map, length, refl, ap, ◌∙◌, if◌then◌else◌, ◌==◌}
 use Rattle.proof_machines.proofs.unit.Words.{option_to_list, is_among, Answer, Where, Steps, joined, Part, Stream, Delete, Put, Restore, Inst, Did, inst_does}
-use Rattle.proof_machines.proofs.unit.Words.{ArePiecesOf}
-use Rattle.nf_function.specs.declared.unit.Unit as units
+use Rattle.proof_machines.proofs.unit.Words.{ArePiecesOf, Unit}
 use Rattle.proof_machines.proofs.unit.Real.{Chunks, record_at, RPiece, Msg, M_piece, M_deleted, M_put_ok, M_put_no, M_restored, Frame, see, view}
 use Rattle.proof_machines.proofs.unit.Cuts.{all_at, marks, chop, chopped_fits, view_pieces}
 
 -- a table, by look-ups
 pub record Tables (R : Type 0) : Type 1 where
   pub T : Type 0
-  pub at : units.Unit → T → Option R
-  pub select : (units.Unit → Bool) → T → Chunks R
-  pub remove : List units.Unit → T → T
+  pub at : Unit → T → Option R
+  pub select : (Unit → Bool) → T → Chunks R
+  pub remove : List Unit → T → T
   pub import : Chunks R → T → T
   pub restore : Chunks R → T → T
 
 pub record Laws {R : Type 0} (F : Steps R) (B : Tables R) : Type 0 where
-  pub selected : (u : units.Unit) (g : units.Unit → Bool) (t : B.T) → all_at u (B.select g t) ≡ option_to_list (if g u then B.at u t else None)
-  pub removed : (u : units.Unit) (us : List units.Unit) (t : B.T) → B.at u (B.remove us t) ≡ (if is_among us u then None else B.at u t)
-  pub imported : (u : units.Unit) (cs : Chunks R) (t : B.T) → B.at u (B.import cs t) ≡ joined F (record_at u cs) (B.at u t)
-  pub restored : (u : units.Unit) (cs : Chunks R) (t : B.T) → B.at u (B.restore cs t) ≡ joined F (record_at u cs) (B.at u t)
+  pub selected : (u : Unit) (g : Unit → Bool) (t : B.T) → all_at u (B.select g t) ≡ option_to_list (if g u then B.at u t else None)
+  pub removed : (u : Unit) (us : List Unit) (t : B.T) → B.at u (B.remove us t) ≡ (if is_among us u then None else B.at u t)
+  pub imported : (u : Unit) (cs : Chunks R) (t : B.T) → B.at u (B.import cs t) ≡ joined F (record_at u cs) (B.at u t)
+  pub restored : (u : Unit) (cs : Chunks R) (t : B.T) → B.at u (B.restore cs t) ≡ joined F (record_at u cs) (B.at u t)
 
 module _ {R : Type 0} (F : Steps R) (B : Tables R) where
-  abbrev pub r_stream : ℕ → ℕ → ℕ → (units.Unit → Bool) → B.T → B.T × List (Msg R)
+  abbrev pub r_stream : ℕ → ℕ → ℕ → (Unit → Bool) → B.T → B.T × List (Msg R)
   r_stream o total newest g t = (t, map (λ p. M_piece o p) (marks total newest (chop (length (B.select g t)) (B.select g t))))
 
-  abbrev pub r_delete : ℕ → List units.Unit → B.T → B.T × List (Msg R)
+  abbrev pub r_delete : ℕ → List Unit → B.T → B.T × List (Msg R)
   r_delete o us t = (B.remove us t, M_deleted o ∷ [])
 
   abbrev pub r_restore : ℕ → Chunks R → B.T → B.T × List (Msg R)
@@ -47,10 +46,10 @@ module _ {R : Type 0} (F : Steps R) (B : Tables R) where
 
   module _ (laws : Laws F B) (w : Where) (v : Frame) (i : Inst R) (t : B.T) (is : B.at v.unit t ≡ i.live) (same : (v.move == v.move) ≡ true) where
     -- the pieces that this source sends
-    abbrev pub parts_of : ℕ → ℕ → (units.Unit → Bool) → List (Part R)
+    abbrev pub parts_of : ℕ → ℕ → (Unit → Bool) → List (Part R)
     parts_of total newest g = map (see v) (marks total newest (chop (length (B.select g t)) (B.select g t)))
 
-    pub stream_seen : (total newest : ℕ) (g : units.Unit → Bool) (refuse : Option Answer) → g v.unit ≡ true → SeesInstance v i
+    pub stream_seen : (total newest : ℕ) (g : Unit → Bool) (refuse : Option Answer) → g v.unit ≡ true → SeesInstance v i
         (r_stream v.move total newest g t) (inst_does F w (parts_of total newest g) refuse i Stream) × ArePiecesOf (parts_of total newest g) i.live
     stream_seen total newest g refuse takes_it =
         let xs = B.select g t in
@@ -59,7 +58,7 @@ module _ {R : Type 0} (F : Steps R) (B : Tables R) where
           chopped_fits v total newest (length xs) xs i.live own,
         )
 
-    pub delete_seen : (us : List units.Unit) (parts : List (Part R)) (refuse : Option Answer)
+    pub delete_seen : (us : List Unit) (parts : List (Part R)) (refuse : Option Answer)
         → SeesInstance v i (r_delete v.move us t) (inst_does F w parts refuse i (Delete (is_among us v.unit)))
     delete_seen us parts refuse = record {
       live = laws.removed v.unit us t ∙ ap (λ o. if is_among us v.unit then None else o) is;

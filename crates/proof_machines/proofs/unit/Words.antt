@@ -11,8 +11,10 @@ pub use Rattle.move_op.specs.Table.{asking, push_on, release_row, all_put}
 pub use Rattle.move_op.specs.declared.door.Door.{Door}
 pub use Rattle.move_op.specs.declared.door.Door.TheVariants.{Shut, Asked, Open, Refused}
 pub use Rattle.nf_function.specs.Units.{unit_cmp}
+pub use Rattle.nf_function.specs.declared.unit.Unit.{Unit}
 pub use Rattle.nf_msgs.specs.declared.answer.Answer.{Answer}
 pub use Rattle.record_table.specs.Table.{same_unit, is_among, Records, without, either, newest_of}
+pub use Rattle.proof_machines.proofs.Tests.{split, by_if}
 pub use Rattle.proof_machines.proofs.unit.Early.{still, one_more, shapes, paths, at_rest, begun_on, frozen, stream_goes}
 pub use Rattle.proof_machines.proofs.unit.Lists.{firsts, firsts-append, runs-append, passing, plain, passes-plain, plains-plain, marked-plain, marked}
 pub use Rattle.proof_machines.proofs.unit.Lists.{never_true, firsts-on, Mix, Ev, Pc, Dd, events, parts_in, named, shown-events, nil_is, events-append}

@@ -2,7 +2,7 @@
 -- no packet left, its share is idle, and each member's record is the fold of all that was done. Any other unit is as moves leave it.
 use Rattle.proof_machines.proofs.net.Words.{◌≡◌, ℕ, ◌≤◌, ◌<◌, Bool, true, false, None, Some, List, [], ◌++◌, sym, ap, ◌∙◌, append-nil, ◌&&◌, ◌==◌, IsOrderedAs}
 use Rattle.proof_machines.proofs.net.Words.{Idle, has, runs, shape, self, own_is, Sys, IsSys, Open, find_op, done_u, unit_share, WantShare, olds, Sharing}
-use Rattle.proof_machines.proofs.net.Words.{OpenShare, find_share, WholeWorld, moves_of}
+use Rattle.proof_machines.proofs.net.Words.{OpenShare, find_share, WholeWorld, moves_of, Unit}
 use Rattle.proof_machines.proofs.net.AtEnd.{AtEnd, at_end}
 use Rattle.proof_machines.proofs.net.Readings.{fold}
 use Rattle.proof_machines.proofs.net.Under.{Under}
@@ -10,9 +10,8 @@ use Rattle.proof_machines.proofs.net.UnderStarts.{seeing}
 use Rattle.proof_machines.proofs.net.UnderReadings.{all_done, under_order, under_rests}
 use Rattle.proof_machines.proofs.whole.WhereAll.{Came, WhereAll, Apart_from_shares, Under_share, order_same}
 use Rattle.proof_machines.proofs.whole.Readings.{fold_done, ItsShare, its_share}
-use Rattle.nf_function.specs.declared.unit.Unit as units
 
-module _ {R : Type 0} (S : Sys R) (A : Sharing S) (laws : IsSys S) (u : units.Unit) (n : ℕ) (w : WholeWorld S A) where
+module _ {R : Type 0} (S : Sys R) (A : Sharing S) (laws : IsSys S) (u : Unit) (n : ℕ) (w : WholeWorld S A) where
   -- a unit under a share that rests: all its packets are done
   pub record ShareRests (k : Came) (e : OpenShare) : Type 0 where
     pub its : ItsShare S A laws u w e

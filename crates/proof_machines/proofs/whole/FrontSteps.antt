@@ -6,7 +6,7 @@ use Rattle.proof_machines.proofs.net.Words.{IsSys, inst_step, sw_sends, begin_se
 use Rattle.proof_machines.proofs.net.Words.{Shared_on, Diverted_on, S_asked, S_install, S_forward, S_get, S_sync, S_chunks, S_shared, S_synced, WantShare}
 use Rattle.proof_machines.proofs.net.Words.{EachNew, same, as_old, Sharing, IsSharing, OpenShare, find_share, Told, share_row, told_by, by_share, member_step}
 use Rattle.proof_machines.proofs.net.Words.{share_sends, arrive_sends, WholeWorld, old_step, whole_inst, whole_ctrl, whole_switch, whole_input, asks}
-use Rattle.proof_machines.proofs.net.Words.{begin_move, begin_share, puts_get, keeps, ran_of, same_unit}
+use Rattle.proof_machines.proofs.net.Words.{begin_move, begin_share, puts_get, keeps, ran_of, same_unit, Unit}
 use Rattle.proof_machines.proofs.share.Share.{Ran}
 use Rattle.proof_machines.proofs.net.NewMessages.{OnNew, EachSentNew, each_new_map, each_sent_map, sent_old, sent_old_and, new_after, new_put, new_head}
 use Rattle.proof_machines.proofs.net.ShareRows.{Tells, told_cases, ToldOf, SentBy, share_row_by}
@@ -15,11 +15,10 @@ use Rattle.proof_machines.proofs.net.Untaken.{head_none}
 use Rattle.proof_machines.proofs.net.UnderStarts.{seeing}
 use Rattle.proof_machines.proofs.net.UnderReadings.{under_fresh}
 use Rattle.proof_machines.proofs.whole.WhereAll.{Came, WhereAll, Apart_from_shares, Under_share}
-use Rattle.proof_machines.proofs.whole.Fronts.{FrontOf, MsgFront, Fronts, front_more, front_over, msg_more}
-use Rattle.proof_machines.proofs.whole.Fronts.{ran_more, live_front, selected_front, processed_front, chunk_front}
-use Rattle.nf_function.specs.declared.unit.Unit as units
+use Rattle.proof_machines.proofs.whole.Fronts.{FrontOf, MsgFront, Fronts, front_more, front_over, msg_more, ran_more, live_front, selected_front}
+use Rattle.proof_machines.proofs.whole.Fronts.{processed_front, chunk_front}
 
-module _ {R : Type 0} (S : Sys R) (A : Sharing S) (laws : IsSys S) (u : units.Unit) where
+module _ {R : Type 0} (S : Sys R) (A : Sharing S) (laws : IsSys S) (u : Unit) where
   pub no_input : (p y : ℕ) → (y == 0) ≡ false → (p == 0) && (y == 0) ≡ false
   no_input p y y0 = rw y0 (elim (p == 0) as (λ b. b && false ≡ false) [ true ↦ refl | false ↦ refl ])
 
@@ -151,12 +150,12 @@ module _ {R : Type 0} (S : Sys R) (A : Sharing S) (laws : IsSys S) (u : units.Un
   abbrev In_front : List Ran → Chunks R → Type 0
   In_front ds cs = FrontOf S A laws u ds (record_at u cs)
 
-  any_packets : (ps : List ℕ) → Each (λ _. Unit {0}) ps
+  any_packets : (ps : List ℕ) → Each (λ _. Prim.Unit {0}) ps
   any_packets [] = tt
   any_packets (p ∷ ps) = (tt, any_packets ps)
 
   told_front : (ds : List Ran) (es : List OpenShare) (m : Any R) (e : OpenShare) (t : Told R) → OnNew (MsgFront S A laws u ds) m → Tells S A es m e t
-      → ToldOf S A e (λ _. Unit {0}) (In_front ds) t
+      → ToldOf S A e (λ _. Prim.Unit {0}) (In_front ds) t
   told_front ds es (Old m) e t h is = rw is tt
   told_front ds es (New (S_chunks n cs)) e t h is = let eq = is.1 in rw eq h
   told_front ds es (New (S_shared n c)) e t h is = let eq = is.1 in rw eq h
@@ -164,7 +163,7 @@ module _ {R : Type 0} (S : Sys R) (A : Sharing S) (laws : IsSys S) (u : units.Un
   told_front ds es (New (Diverted_on p)) e t h is = let eq = is.1 in rw eq tt
   told_front ds es m e t h is = absurd is
 
-  sent_front : (ds : List Ran) (e : OpenShare) (j : ℕ) (m : Any R) → SentBy S A e (λ _. Unit {0}) (In_front ds) j m → OnNew (MsgFront S A laws u ds) m
+  sent_front : (ds : List Ran) (e : OpenShare) (j : ℕ) (m : Any R) → SentBy S A e (λ _. Prim.Unit {0}) (In_front ds) j m → OnNew (MsgFront S A laws u ds) m
   sent_front ds e j (New (S_sync n home cs)) h = h.1
   sent_front ds e j (New (S_chunks n cs)) h = absurd h
   sent_front ds e j (New (S_shared n c)) h = absurd h
@@ -190,8 +189,8 @@ module _ {R : Type 0} (S : Sys R) (A : Sharing S) (laws : IsSys S) (u : units.Un
 
       goes : (e : OpenShare) (t : Told R) → find_share w.shares e.num ≡ Some e → Tells S A w.shares m e t
           → EachSentNew (λ _ x. MsgFront S A laws u ds x) (by_share S A w.shares p (Some (e, t))).sends
-      goes e t there is = each_sent_map (SentBy S A e (λ _. Unit {0}) (In_front ds)) (λ _ x. OnNew (MsgFront S A laws u ds) x)
-          (λ j x h. sent_front ds e j x h) (share_row S A e p t).sends (share_row_by S A e (λ _. Unit {0}) (In_front ds) p t (told_front ds w.shares m e t
+      goes e t there is = each_sent_map (SentBy S A e (λ _. Prim.Unit {0}) (In_front ds)) (λ _ x. OnNew (MsgFront S A laws u ds) x)
+          (λ j x h. sent_front ds e j x h) (share_row S A e p t).sends (share_row_by S A e (λ _. Prim.Unit {0}) (In_front ds) p t (told_front ds w.shares m e t
           (head_front w fr p 1 m rest (elim (p == 0) as (λ b. b && false ≡ false) [ true ↦ refl | false ↦ refl ]) waits) is) (any_packets e.queue)).1
 
   -- The switch sends no chunk, and so does the input

@@ -5,7 +5,7 @@ use Rattle.proof_machines.proofs.net.Words.{append-nil, append_assoc, if◌then�
 use Rattle.proof_machines.proofs.net.Words.{record_at, first, first_of_one, record_first, Kept, Nowhere, Is_live, On_way, Twice, runs, over, IsFront}
 use Rattle.proof_machines.proofs.net.Words.{runs-append, Sys, IsSys, process, everything, Seeing, node_at, done_u, GlobalAll, New, ShareMsg, S_sync, S_chunks}
 use Rattle.proof_machines.proofs.net.Words.{S_shared, EachNew, Sharing, shared_chunk, WholeWorld, moves_of, ran_of, same_unit, same_unit_equiv, same_unit-true}
-use Rattle.proof_machines.proofs.net.Words.{either_way, by_if}
+use Rattle.proof_machines.proofs.net.Words.{either_way, by_if, Unit}
 use Rattle.proof_machines.proofs.share.Share.{Ran}
 use Rattle.proof_machines.proofs.net.Readings.{fold, RecordOf}
 use Rattle.proof_machines.proofs.net.NewMessages.{EachSentNew}
@@ -13,7 +13,6 @@ use Rattle.proof_machines.proofs.net.ShareLinks.{ran_of-append}
 use Rattle.proof_machines.proofs.net.UnderStarts.{FrontBy}
 use Rattle.proof_machines.proofs.whole.WhereAll.{Came, WhereAll}
 use Rattle.proof_machines.proofs.whole.Readings.{fold_done, RecordsAll, By_moves, By_share, records_all}
-use Rattle.nf_function.specs.declared.unit.Unit as units
 
 -- nothing, or the whole fold
 abbrev pub LiveSo : {R : Type 0} → Option R → Option R → Type 0
@@ -50,7 +49,7 @@ module _ {R : Type 0} (all : Option R) where
   lives_so at_a a b c way (On_way r is live on) = none_live a b c live
   lives_so at_a a b c way (Twice r is here live on) = one_live r a b c is live
 
-module _ {R : Type 0} (S : Sys R) (A : Sharing S) (laws : IsSys S) (u : units.Unit) where
+module _ {R : Type 0} (S : Sys R) (A : Sharing S) (laws : IsSys S) (u : Unit) where
   -- a record that has seen a front of these
   pub record FrontOf (ds : List Ran) (r : Option R) : Type 0 where
     pub seen : List Ran
@@ -61,7 +60,7 @@ module _ {R : Type 0} (S : Sys R) (A : Sharing S) (laws : IsSys S) (u : units.Un
   MsgFront ds (S_sync n home cs) = FrontOf ds (record_at u cs)
   MsgFront ds (S_chunks n cs) = FrontOf ds (record_at u cs)
   MsgFront ds (S_shared n c) = FrontOf ds (record_at u (c ∷ []))
-  MsgFront ds m = Unit {0}
+  MsgFront ds m = Prim.Unit {0}
 
   pub record Fronts (w : WholeWorld S A) : Type 0 where
     pub standby : (k : ℕ) → FrontOf (ran_of S A u w.done) (S.B.at u (w.standby k))
@@ -125,7 +124,7 @@ module _ {R : Type 0} (S : Sys R) (A : Sharing S) (laws : IsSys S) (u : units.Un
           (λ off. front_none (ran_of S A u w.done) (S.B.at u (w.inst j).live) (s.away j off))
 
   -- what a table gives
-  pub selected_front : (ds : List Ran) (g : units.Unit → Bool) (t : S.B.T) → FrontOf ds (S.B.at u t) → FrontOf ds (record_at u (S.B.select g t))
+  pub selected_front : (ds : List Ran) (g : Unit → Bool) (t : S.B.T) → FrontOf ds (S.B.at u t) → FrontOf ds (record_at u (S.B.select g t))
   selected_front ds g t h = subst (λ o. FrontOf ds o)
       (sym (record_first u (S.B.select g t) ∙ ap first (laws.laws.selected u g t) ∙ first_of_one (if g u then S.B.at u t else None)))
       (by_if (FrontOf ds) (g u) h (front_none ds None refl))

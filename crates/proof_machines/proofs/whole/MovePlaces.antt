@@ -5,8 +5,7 @@ use Rattle.proof_machines.proofs.net.Words.{At_a, At_b, At_c, Steps, Ran, Part, 
 use Rattle.proof_machines.proofs.net.Words.{By_sa, By_sb, By_sc, By_ca, By_cb, By_ac, By_bc, By_cc, By_cs, shown_by, At_rest, UnitSeat, Covered, Is_beside}
 use Rattle.proof_machines.proofs.net.Words.{Is_away, seat_shape, seat_at, Op, items, Msg, Sys, IsSys, InstanceTurn, Open, World, find_op, inst_step, seen}
 use Rattle.proof_machines.proofs.net.Words.{Seeing, sides_of, frame, SeesNode, node_at, place, IsController, OpLabel, Holds, Rest, Global, none_mine, done_u}
-use Rattle.proof_machines.proofs.net.Words.{Answer}
-use Rattle.proof_machines.proofs.unit.Machine.{Where as Side}
+use Rattle.proof_machines.proofs.net.Words.{Answer, Unit, Side}
 use Rattle.proof_machines.proofs.unit.Fresh.{still_ca, still_cb, still_ran, fresh_sa, fresh_sb, fresh_sc, sc_stage}
 use Rattle.proof_machines.proofs.net.Ctrl.{each_found}
 use Rattle.proof_machines.proofs.net.Insts.{InstanceGoes, does}
@@ -17,7 +16,6 @@ use Rattle.proof_machines.proofs.net.Readings.{fold, fold_runs}
 use Rattle.proof_machines.proofs.net.Units.{Where, Where.At_rest, Where.In_move, shown_rest, see}
 use Rattle.proof_machines.proofs.net.Fresh.{some_seen}
 use Rattle.proof_machines.proofs.whole.RoutedSteps.{Routed, To_source, To_destination, source_routed, destination_routed}
-use Rattle.nf_function.specs.declared.unit.Unit as units
 
 third_target : {R : Type 0} (F : Steps R) (s : UnitSeat F) (it : Item R) (v : List (Item R)) → (seat_shape F s).sc ≡ it ∷ v → (seat_shape F s).target ≡ At_c
 third_target F (Covered s) it v e = cons_nil (sym e ∙ sc_stage F s)
@@ -144,11 +142,11 @@ module _ {R : Type 0} (S : Sys R) (laws : IsSys S) (z : Seeing) (w : World S) (s
 -- where a packet of the unit may be processed: where its packets go, and at the destination of an open move of it as long as they go to the
 -- move's source
 module _ {R : Type 0} (S : Sys R) where
-  pub data MayRun (w : World S) (u : units.Unit) (y : ℕ) : Type 0 where
+  pub data MayRun (w : World S) (u : Unit) (y : ℕ) : Type 0 where
     At_route : w.target u ≡ y → MayRun w u y
     At_destination : (n : ℕ) (e : Open R) → find_op w.ops n ≡ Some e → S.takes e.filter u ≡ true → w.target u ≡ e.op.src → y ≡ e.op.dst → MayRun w u y
 
-module _ {R : Type 0} (S : Sys R) (laws : IsSys S) (u : units.Unit) (w : World S) where
+module _ {R : Type 0} (S : Sys R) (laws : IsSys S) (u : Unit) (w : World S) where
   pub record Processed (y : ℕ) : Type 0 where
     pub place : MayRun S w u y
     pub live : S.B.at u (w.inst y).live ≡ fold S.F None (done_u S u w.done)

@@ -3,9 +3,9 @@
 use Rattle.proof_machines.proofs.net.Words.{◌≡◌, ◌≢◌, ℕ, Bool, true, false, Option, None, List, [], ◌∷◌, ◌++◌, refl, sym, ap, ◌∙◌, subst, if◌then◌else◌, ◌&&◌}
 use Rattle.proof_machines.proofs.net.Words.{◌==◌, has, packets, processed, Sys, IsSys, inst_step, at_node, none_mine, done_u, GlobalAll, unit_share, Any, Old}
 use Rattle.proof_machines.proofs.net.Words.{New, ShareMsg, Shared_on, S_sync, olds, Sharing, IsSharing, OpenShare, WantShare, member_step, WholeWorld}
-use Rattle.proof_machines.proofs.net.Words.{whole_inst, moves_of, ran_of, SeeingShare, same_unit}
+use Rattle.proof_machines.proofs.net.Words.{whole_inst, moves_of, ran_of, SeeingShare, same_unit, Unit, Grows}
 use Rattle.std.proofs.lemmas.List.{append_cancel_left}
-use Rattle.proof_machines.proofs.share.Places.{At_places, Grows}
+use Rattle.proof_machines.proofs.share.Places.{At_places}
 use Rattle.proof_machines.proofs.net.Readings.{fold}
 use Rattle.proof_machines.proofs.net.Untaken.{NoShare, head_none}
 use Rattle.proof_machines.proofs.net.Under.{Under, Goes_on}
@@ -16,7 +16,6 @@ use Rattle.proof_machines.proofs.whole.WhereAll.{Came, WhereAll, Apart_from_shar
 use Rattle.proof_machines.proofs.whole.Readings.{fold_done, seen_by, ItsShare, its_share}
 use Rattle.proof_machines.proofs.whole.Fronts.{ran_more}
 use Rattle.proof_machines.proofs.whole.MovePlaces.{MayRun, processed_where}
-use Rattle.nf_function.specs.declared.unit.Unit as units
 
 module _ {R : Type 0} (S : Sys R) (A : Sharing S) (laws : IsSys S) where
   -- what an instance processes
@@ -25,7 +24,7 @@ module _ {R : Type 0} (S : Sys R) (A : Sharing S) (laws : IsSys S) where
   ran_by w y (New m) = (member_step S A (w.inst y).live (w.standby y) m).ran
 
   -- the table in which a member of a share keeps its record: the live one at home
-  abbrev pub record_of_member : WholeWorld S A → units.Unit → Bool → ℕ → Option R
+  abbrev pub record_of_member : WholeWorld S A → Unit → Bool → ℕ → Option R
   record_of_member w u home k = if home then S.B.at u (w.inst k).live else S.B.at u (w.standby k)
 
   -- what a step adds to what was done of a unit under a share is at home or at its member
@@ -37,13 +36,13 @@ module _ {R : Type 0} (S : Sys R) (A : Sharing S) (laws : IsSys S) where
       (subst (λ ds. Grows f (processed f h.stage) ds) (sym (all_done S A z v early late n.under)) n.placed)
 
   -- where an instance processes packets of the unit; under a share each of them at home or at its member
-  pub data Processes (w : WholeWorld S A) (u : units.Unit) (y : ℕ) (ps : List ℕ) : Type 0 where
+  pub data Processes (w : WholeWorld S A) (u : Unit) (y : ℕ) (ps : List ℕ) : Type 0 where
     As_moves : MayRun S (moves_of S A w) u y → S.B.at u (w.inst y).live ≡ fold S.F None (done_u S u w.done) → Processes w u y ps
     At_member : (e : OpenShare) → ItsShare S A laws u w e → has e.members y ≡ true
         → At_places (unit_share S A (seen_by S A laws u e)) (ran_of S A u (at_node y ps))
         → record_of_member w u (y == e.home) y ≡ fold S.F None (done_u S u w.done) → Processes w u y ps
 
-  module _ (u : units.Unit) where
+  module _ (u : Unit) where
     its_ran : (y : ℕ) (ps : List ℕ) → packets (ran_of S A u (at_node y ps)) ≡ none_mine S u ps
     its_ran y [] = refl
     its_ran y (p ∷ ps) = elim (same_unit (S.packet_unit p) u) as (λ b.

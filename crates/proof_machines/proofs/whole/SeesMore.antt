@@ -4,7 +4,7 @@ use Rattle.proof_machines.proofs.net.Words.{◌≡◌, ℕ, Bool, true, false, O
 use Rattle.proof_machines.proofs.net.Words.{if◌then◌else◌, ◌==◌, Decides-eqb, Chunks, record_at, add, Sync, UnitShare, has, over, runs, front, shape, IsFront}
 use Rattle.proof_machines.proofs.net.Words.{self, own_is, seen_front, to_members, Sys, IsSys, OfShare, GlobalAll, unit_share, share_seen, share_items, Any, Old}
 use Rattle.proof_machines.proofs.net.Words.{New, ShareMsg, Shared_on, S_sync, WantShare, Sharing, IsSharing, member_step, WholeWorld, whole_inst, ran_of}
-use Rattle.proof_machines.proofs.net.Words.{SeeingShare, same_unit, either_way, true_from_ne_false}
+use Rattle.proof_machines.proofs.net.Words.{SeeingShare, same_unit, either_way, true_from_ne_false, Unit}
 use Rattle.proof_machines.proofs.share.Share.{Ran, Item}
 use Rattle.proof_machines.proofs.share.Setting.{front_same}
 use Rattle.proof_machines.proofs.net.NewMessages.{new_head}
@@ -18,14 +18,13 @@ use Rattle.proof_machines.proofs.net.UnderReadings.{all_done}
 use Rattle.proof_machines.proofs.whole.WhereAll.{Came, WhereAll, Apart_from_shares, Under_share}
 use Rattle.proof_machines.proofs.whole.Fronts.{Fronts, ran_more, same_after, its_then}
 use Rattle.proof_machines.proofs.whole.FrontSteps.{no_input, table_seen, inst_fronts}
-use Rattle.nf_function.specs.declared.unit.Unit as units
 
 -- a flag that isn't home's
 not_home : (b : Bool) → (if b then false else true) ≡ true → b ≡ false
 not_home true e = sym e
 not_home false e = refl
 
-module _ {R : Type 0} (S : Sys R) (A : Sharing S) (laws : IsSys S) (u : units.Unit) where
+module _ {R : Type 0} (S : Sys R) (A : Sharing S) (laws : IsSys S) (u : Unit) where
   -- the newer of two records that stand by has seen a front of what was done, and no less than the older
   pub record Sees_more (all : List Ran) (old new : Option R) : Type 0 where
     pub before : List Ran

@@ -2,20 +2,19 @@
 -- world keeps its own.
 use Rattle.proof_machines.proofs.net.Words.{◌≡◌, ℕ, ◌<◌, Bool, true, false, None, Some, List, [], inr, length, refl, sym, ap, ◌∙◌, subst, ◌&&◌, ◌==◌, Each, Sys}
 use Rattle.proof_machines.proofs.net.Words.{IsSys, none_mine, AreNumbersApart, Numbered, Disjoint, OfShare, ShareMsg, EachNew, Sharing, OpenShare, find_share}
-use Rattle.proof_machines.proofs.net.Words.{WholeWorld, moves_of, ran_of}
+use Rattle.proof_machines.proofs.net.Words.{WholeWorld, moves_of, ran_of, Unit}
 use Rattle.proof_machines.proofs.net.Every.{Every}
 use Rattle.proof_machines.proofs.net.Untaken.{NoShare, ElsewhereHome}
 use Rattle.proof_machines.proofs.whole.WhereAll.{Apart_from_shares}
 use Rattle.proof_machines.proofs.whole.Fronts.{MsgFront, front_none}
 use Rattle.proof_machines.proofs.whole.EveryAll.{EveryAll}
-use Rattle.nf_function.specs.declared.unit.Unit as units
 
 module _ {R : Type 0} (S : Sys R) (A : Sharing S) (laws : IsSys S) where
   -- nothing but what moves see
   pub record IsStart (w : WholeWorld S A) : Type 0 where
     pub shares : w.shares ≡ []
     pub links : (i j : ℕ) → (i == 0) && (j == 0) ≡ false → w.link i j ≡ []
-    pub standby : (u : units.Unit) (k : ℕ) → S.B.at u (w.standby k) ≡ None
+    pub standby : (u : Unit) (k : ℕ) → S.B.at u (w.standby k) ≡ None
 
   module _ (w : WholeWorld S A) (start : IsStart w) where
     no_new : (P : ShareMsg R → Type 0) (i j : ℕ) → (i == 0) && (j == 0) ≡ false → EachNew P (w.link i j)
@@ -27,7 +26,7 @@ module _ {R : Type 0} (S : Sys R) (A : Sharing S) (laws : IsSys S) where
     none_found : (n : ℕ) → find_share w.shares n ≡ None
     none_found n = ap (λ es. find_share es n) start.shares
 
-    pub starts : (arrived : units.Unit → List ℕ) (bared : units.Unit → Bool) → Every S laws (moves_of S A w) arrived bared
+    pub starts : (arrived : Unit → List ℕ) (bared : Unit → Bool) → Every S laws (moves_of S A w) arrived bared
         → EveryAll S A laws w (λ u. record { all = arrived u; diverted = []; bared = bared u })
     starts arrived bared h = record {
       global = record {

@@ -2,23 +2,22 @@
 -- unit that an open move takes, and that of an event, is apart from shares.
 use Rattle.proof_machines.proofs.net.Words.{◌≡◌, ℕ, true, false, Some, None, List, [], ◌∷◌, refl, sym, ◌∙◌, subst, ◌&&◌, ◌==◌, Chunks, record_at, RPiece}
 use Rattle.proof_machines.proofs.net.Words.{RPhase, M_event, M_put_no, M_install, Streaming, Each, Without, Clean, Filter, Msg, Mv, Sys, IsSys, Open, find_op}
-use Rattle.proof_machines.proofs.net.Words.{RestOp, NothingOf, none_mine, Any, Old, olds, Sharing, WholeWorld, moves_of, SeeingShare, Answer, same_unit}
+use Rattle.proof_machines.proofs.net.Words.{RestOp, NothingOf, none_mine, Any, Old, olds, Sharing, WholeWorld, moves_of, SeeingShare, Answer, same_unit, Unit}
 use Rattle.proof_machines.proofs.net.Ctrl.{each_found}
 use Rattle.proof_machines.proofs.net.Copies.{has, have, copies}
 use Rattle.proof_machines.proofs.net.Under.{Under}
 use Rattle.proof_machines.proofs.net.Units.{Where}
 use Rattle.proof_machines.proofs.net.UnderStarts.{seeing}
 use Rattle.proof_machines.proofs.whole.WhereAll.{Came, WhereAll, Apart_from_shares, Under_share}
-use Rattle.nf_function.specs.declared.unit.Unit as units
 
-has_none : {R : Type 0} (u : units.Unit) (cs : Chunks R) → record_at u cs ≡ None → has u cs ≡ 0
+has_none : {R : Type 0} (u : Unit) (cs : Chunks R) → record_at u cs ≡ None → has u cs ≡ 0
 has_none u cs e = rw e refl
 
-have_none : {R : Type 0} (u : units.Unit) (ps : List (RPiece R)) → Each (Without u) ps → have u ps ≡ 0
+have_none : {R : Type 0} (u : Unit) (ps : List (RPiece R)) → Each (Without u) ps → have u ps ≡ 0
 have_none u [] h = refl
 have_none u (p ∷ ps) h = let a = has_none u p.chunks h.0 in let b = have_none u ps h.1 in rw (a, b) refl
 
-copies_none : {R : Type 0} (u : units.Unit) (ph : RPhase R) → Clean u ph → copies u ph ≡ 0
+copies_none : {R : Type 0} (u : Unit) (ph : RPhase R) → Clean u ph → copies u ph ≡ 0
 copies_none u (Streaming frozen free came door) h = let a = have_none u frozen h.0 in let b = have_none u free h.1 in rw (a, b) refl
 copies_none u ph h = refl
 
@@ -54,7 +53,7 @@ module _ {R : Type 0} (S : Sys R) (A : Sharing S) (z : SeeingShare) (w : WholeWo
   pub no_change : (n from to : ℕ) (g : Filter) (rest : List (Any R)) → w.link 1 0 ≡ Old (Mv g (M_install n from to)) ∷ rest → S.takes g z.unit ≡ false
   no_change n from to g rest waits = (head_label 1 0 refl (Mv g (M_install n from to)) rest waits).1
 
-module _ {R : Type 0} (S : Sys R) (A : Sharing S) (laws : IsSys S) (u : units.Unit) (w : WholeWorld S A) (k : Came) where
+module _ {R : Type 0} (S : Sys R) (A : Sharing S) (laws : IsSys S) (u : Unit) (w : WholeWorld S A) (k : Came) where
   -- as moves know it
   pub move_apart : WhereAll S A laws u w k → (n : ℕ) (e : Open R) → find_op w.ops n ≡ Some e → S.takes e.filter u ≡ true
       → Where S laws u (moves_of S A w) k.all k.bared

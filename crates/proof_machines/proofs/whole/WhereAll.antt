@@ -5,7 +5,7 @@ use Rattle.proof_machines.proofs.net.Words.{if◌then◌else◌, ◌&&◌, ◌==
 use Rattle.proof_machines.proofs.net.Words.{MoveAsked, Sys, IsSys, sw_target, sw_next, OpLabel, Rest, NothingOf, Disjoint, TakesSome, GlobalAll, unit_share}
 use Rattle.proof_machines.proofs.net.Words.{as_share, Any, Old, New, S_asked, WantShare, olds, Sharing, IsSharing, OpenShare, find_share, WholeWorld, moves_of}
 use Rattle.proof_machines.proofs.net.Words.{whole_inst, whole_ctrl, whole_switch, whole_input, asks, begin_move, begin_share, puts_get, keeps, meets_shares}
-use Rattle.proof_machines.proofs.net.Words.{MayShare, SeeingShare, same_unit, either_way}
+use Rattle.proof_machines.proofs.net.Words.{MayShare, SeeingShare, same_unit, either_way, Unit}
 use Rattle.proof_machines.proofs.unit.Loose.{times-append}
 use Rattle.proof_machines.proofs.net.Ctrl.{each_found}
 use Rattle.proof_machines.proofs.net.Units.{Where, Where.At_rest, Where.In_move, May, see, switch_where}
@@ -19,7 +19,6 @@ use Rattle.proof_machines.proofs.net.Under.{Under}
 use Rattle.proof_machines.proofs.net.UnderSteps.{under_inst, under_ctrl, under_switch, under_input, comes_last}
 use Rattle.proof_machines.proofs.net.UnderBegins.{under_begin_move, under_begin_share, under_get, under_asks_move, under_asks_share, under_keeps}
 use Rattle.proof_machines.proofs.net.UnderStarts.{seeing, FrontBy, under_starts}
-use Rattle.nf_function.specs.declared.unit.Unit as units
 
 -- what has come of a unit: its packets, those of them that came while its packets were diverted, and whether a move without a buffer ever handed
 -- it on
@@ -37,7 +36,7 @@ pub order_same : (b : Bool) (xs zs ys : List ℕ) → xs ≡ zs → IsOrderedAs 
 order_same b xs zs ys e o = subst (λ v. IsOrderedAs b v ys) e o
 
 -- a share that is found takes what its filter takes
-pub found_takes : {R : Type 0} (S : Sys R) (es : List OpenShare) (n : ℕ) (e : OpenShare) (v : units.Unit) → find_share es n ≡ Some e
+pub found_takes : {R : Type 0} (S : Sys R) (es : List OpenShare) (n : ℕ) (e : OpenShare) (v : Unit) → find_share es n ≡ Some e
     → S.takes e.filter v ≡ true → TakesSome S es v
 found_takes S [] n e v is on = cc
 found_takes S (x ∷ es) n e v is on = either_way (S.takes x.filter v) (λ t. (x, rw t refl))
@@ -49,7 +48,7 @@ found_takes S (x ∷ es) n e v is on = either_way (S.takes x.filter v) (λ t. (x
       | false ↦ others
     ] is
 
-module _ {R : Type 0} (S : Sys R) (A : Sharing S) (laws : IsSys S) (u : units.Unit) where
+module _ {R : Type 0} (S : Sys R) (A : Sharing S) (laws : IsSys S) (u : Unit) where
   -- under a share `b` says whether a loose move once handed the unit on: a share never does
   pub data WhereAll (w : WholeWorld S A) (k : Came) : Type 0 where
     Apart_from_shares : Unshared S A laws u w k.all k.bared → k.diverted ≡ [] → WhereAll w k
@@ -173,7 +172,7 @@ module _ {R : Type 0} (S : Sys R) (A : Sharing S) (laws : IsSys S) (u : units.Un
         → WhereAll (begin_share S A w x) k
     elsewhere away h none = Apart_from_shares (share_unshared S A laws u w k.all k.bared g x may.fresh away h) none
 
-    taken : ((v : units.Unit) → w.target v ≡ 1 → TakesSome S w.shares v) → HasFronts w x → S.takes x.filter u ≡ true → k.diverted ≡ []
+    taken : ((v : Unit) → w.target v ≡ 1 → TakesSome S w.shares v) → HasFronts w x → S.takes x.filter u ≡ true → k.diverted ≡ []
         → Unshared S A laws u w k.all k.bared → Where S laws u (moves_of S A w) k.all k.bared → WhereAll (begin_share S A w x) k
     taken diverts fronts takes none h (At_rest owner d l b r o f) = either_way (owner == x.home)
         (λ on.
@@ -191,7 +190,7 @@ module _ {R : Type 0} (S : Sys R) (A : Sharing S) (laws : IsSys S) (u : units.Un
         let never : false ≡ true = sym (out.0 u takes) ∙ a.0.0 ∙ a.1 in
         cc
 
-    pub share_all : ((v : units.Unit) → w.target v ≡ 1 → TakesSome S w.shares v) → HasFronts w x → WhereAll w k → WhereAll (begin_share S A w x) k
+    pub share_all : ((v : Unit) → w.target v ≡ 1 → TakesSome S w.shares v) → HasFronts w x → WhereAll w k → WhereAll (begin_share S A w x) k
     share_all diverts fronts (Under_share y before b h o f) =
         Under_share y before b (under_begin_share S A (seeing S A u y) w before k.diverted h g x may.fresh).under o f
     share_all diverts fronts (Apart_from_shares h none) = either_way (S.takes x.filter u) (λ takes. taken diverts fronts takes none h h.is)
