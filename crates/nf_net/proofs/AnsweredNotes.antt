@@ -2,24 +2,20 @@
 use Rattle.nf_net.proofs.Words.{◌≡◌, ℕ, false, Option, List, [], ◌∷◌, append-nil, refl, sym, ◌∙◌, subst, uninstalled_unprocessed, switch_unprocessed}
 use Rattle.nf_net.proofs.Words.{controller_uninstalled, Semantics, part, after_packet, Decide, Mark, FullCell, Msg, is_live, carry_step, instance_step}
 use Rattle.nf_net.proofs.Words.{SwitchState, switch_step, ControllerState, controller_step, Each, Config, packet_numbered, dones_in, IsGenuine, may_process}
-use Rattle.nf_net.proofs.Words.{instance_fits}
+use Rattle.nf_net.proofs.Words.{instance_fits, Unit, flow_of}
 use Rattle.std.specs.FinMap as finite
 use Rattle.proof_outlines.proofs.joined.PlaceNotes.{none_done}
-use Rattle.flow_filter.specs.Flow.{flow_of}
-use Rattle.nf_function.specs.declared.unit.Unit as units
-use Rattle.event_filter.specs.declared.decide.Decide.TheVariants as decide
-use Rattle.event_filter.specs.declared.mark.Mark.TheVariants as mark
 use Rattle.event_filter.specs.Rules as rules
 use Rattle.instance_worker.specs.declared.instance.Instance.{Instance}
 use Rattle.instance_worker.specs.Instance.{process_step, all_processed, on_carry, on_fence}
 use Rattle.nf_net.proofs.OutputLemmas.{Answered, answered_nothing, answered_packet}
 
 -- the live record of each unit
-abbrev pub live_of : {F R : Type 0} → Instance F R → units.Unit → Option R
+abbrev pub live_of : {F R : Type 0} → Instance F R → Unit → Option R
 live_of i u = finite.get i.table.live u
 
 -- the record of each unit in the part of the table that a packet with this mark steps
-abbrev pub kept_of : {F R : Type 0} → Instance F R → Mark → units.Unit → Option R
+abbrev pub kept_of : {F R : Type 0} → Instance F R → Mark → Unit → Option R
 kept_of i m u = finite.get (part i.table (is_live m)) u
 
 abbrev GenuineCell : Config → List Msg → FullCell → Type 0
@@ -31,7 +27,7 @@ module _ {F R : Type 0} (f : Semantics R) (c : Config) (items : List Msg) where
   unfolding process_step all_processed
   all_answered i [] at h = answered_nothing f c items (live_of i)
   all_answered i (cell ∷ cells) at h =
-      let next = (process_step f i mark.Plain cell).node in
+      let next = (process_step f i Mark.Plain cell).node in
       answered_packet f c items i.table.live i.site cell at h.0 i.index (dones_in (all_processed f next cells).notes) (all_answered next cells at h.1)
 
   one_answered : (i : Instance F R) (m : Mark) (cell : FullCell) → i.site ≡ c.site → GenuineCell c items cell
@@ -42,11 +38,11 @@ module _ {F R : Type 0} (f : Semantics R) (c : Config) (items : List Msg) where
 
   carried_answered : (i : Instance F R) (m : Mark) (cell : FullCell) (d : Decide) → i.site ≡ c.site → GenuineCell c items cell
       → Answered f c items (kept_of i m) (dones_in (carry_step f i m cell d).notes)
-  carried_answered i m cell decide.Process at g = one_answered i m cell at g
-  carried_answered i m cell (decide.ProcessAndEvent op) at g =
+  carried_answered i m cell Decide.Process at g = one_answered i m cell at g
+  carried_answered i m cell (Decide.ProcessAndEvent op) at g =
       subst (λ ns. Answered f c items (kept_of i m) (dones_in ns)) (sym (append-nil (process_step f i m cell).notes)) (one_answered i m cell at g)
-  carried_answered i m cell (decide.Event op) at g = answered_nothing f c items (kept_of i m)
-  carried_answered i m cell (decide.Buffer op) at g = answered_nothing f c items (kept_of i m)
+  carried_answered i m cell (Decide.Event op) at g = answered_nothing f c items (kept_of i m)
+  carried_answered i m cell (Decide.Buffer op) at g = answered_nothing f c items (kept_of i m)
 
   pub carry_answered : (i : Instance F R) (m : Mark) (cell : FullCell) → i.site ≡ c.site → GenuineCell c items cell
       → Answered f c items (kept_of i m) (dones_in (on_carry f i m cell).notes)

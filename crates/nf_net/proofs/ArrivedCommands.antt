@@ -2,7 +2,6 @@
 use Rattle.nf_net.proofs.Words.{◌≡◌, ℕ, ◌+◌, ◌<◌, ◌≤◌, true, false, List, [], ◌∷◌, ◌++◌, length, length-append, refl, sym, ap, ◌∙◌, subst, arith, nat_lt}
 use Rattle.nf_net.proofs.Words.{Global, nat_tests, length-map, FunctionLaws, Semantics, Command, Msg, Note, Choice, Network, IsRun, run, queue_at, at, Each}
 use Rattle.nf_net.proofs.Words.{Config, Node, is_begun, has_answered, commands, IsInput, arrivals_in, node_step, node_ready, given}
-use Rattle.nf_msgs.specs.declared.msg.Msg.TheVariants as msg
 use Rattle.net_world.specs.Input.{packets}
 use Rattle.nf_net.proofs.answers.ArrivalLemmas.{numbers, runs_joined}
 use Rattle.nf_net.proofs.answers.BusyLemmas.{is_noted, or_off}
@@ -38,25 +37,25 @@ module _ (F : Type 0) {R : Type 0} (f : Semantics R) (laws : FunctionLaws f) (al
       omega (arith, both, same, some, all)
 
   -- what waits in the input hasn't begun
-  waits_on : (ms behind : List Msg) (command : Command) → left ≡ ms ++ msg.InCommand command ∷ behind → is_begun command.op w.log ≡ false
+  waits_on : (ms behind : List Msg) (command : Command) → left ≡ ms ++ Msg.InCommand command ∷ behind → is_begun command.op w.log ≡ false
   waits_on ms behind command e =
       let b = (run_busy F f laws alloc c items is cs run_is).1 in
       let none = each_there (λ x. is_noted x.op w.log ≡ false) (commands ms) command (commands behind) (subst (λ xs. Each (λ x. is_noted x.op w.log ≡ false)
-      xs) (ap commands e ∙ commands-append ms (msg.InCommand command ∷ behind)) (unnoted_waits (given f c items is) w b)) in
+      xs) (ap commands e ∙ commands-append ms (Msg.InCommand command ∷ behind)) (unnoted_waits (given f c items is) w b)) in
       (or_off (is_begun command.op w.log) (has_answered command.op w.log) none).0
 
-  pub came_before : (op : ℕ) → is_begun op w.log ≡ true → (front behind : List Msg) (command : Command) → items ≡ front ++ msg.InCommand command ∷ behind
+  pub came_before : (op : ℕ) → is_begun op w.log ≡ true → (front behind : List Msg) (command : Command) → items ≡ front ++ Msg.InCommand command ∷ behind
       → command.op ≡ op → length (packets front) ≤ length (arrivals_in w.log)
   came_before op begun front behind command whole same =
       elim (nat_lt (length behind) (length left)) as (λ b. nat_lt (length behind) (length left) ≡ b → length (packets front) ≤ length (arrivals_in w.log)) [
         | true ↦ λ on.
             let more : length behind < length left = grind (arith, nat_tests, on) in
-            let ends = longer_end counted.took left front (msg.InCommand command ∷ behind) (sym counted.whole ∙ whole) (omega (arith, more)) in
+            let ends = longer_end counted.took left front (Msg.InCommand command ∷ behind) (sym counted.whole ∙ whole) (omega (arith, more)) in
             let never : true ≡ false = sym begun ∙ ap (λ k. is_begun k w.log) (sym same) ∙ waits_on ends.0 behind command ends.1 in
             cc
         | false ↦ λ off.
             let few : length left ≤ length behind = grind (arith, nat_tests, off) in
-            let ends = longer_end front (msg.InCommand command ∷ behind) counted.took left (sym whole ∙ counted.whole) (omega (arith, few)) in
+            let ends = longer_end front (Msg.InCommand command ∷ behind) counted.took left (sym whole ∙ counted.whole) (omega (arith, few)) in
             let all : length (packets items) ≡ length (packets front) + (length (packets ends.0) + length (packets left)) =
             ap (λ xs. length (packets xs)) (whole ∙ ap (λ xs. front ++ xs) ends.1) ∙ counts front (ends.0 ++ left)
             ∙ ap (λ k. length (packets front) + k) (counts ends.0 left) in

@@ -3,9 +3,7 @@ use Rattle.nf_net.proofs.Words.{◌≡◌, ℕ, ◌+◌, ◌≤◌, Bool, true, 
 use Rattle.nf_net.proofs.Words.{◌==◌, is_some, filter, Global, nat_tests, Output, FunctionLaws, Semantics, same_unit_equiv, Msg, Note, instance_node, Choice}
 use Rattle.nf_net.proofs.Words.{Network, IsRun, run, Ran, ran_of, Config, Node, times_installed, is_of, IsInput, packet_numbered, arrivals_in, dones_in}
 use Rattle.nf_net.proofs.Words.{installs_in, node_step, node_ready, first_owner, members, member_for, unit_numbered, done-append, is_sys, Given, is_diverted, S}
-use Rattle.nf_net.proofs.Words.{A, by_node, came_by, Joined, by_node-append, AllApart, Runs, run_beside, same_times, given}
-use Rattle.nf_function.specs.declared.unit.Unit as units
-use Rattle.nf_msgs.specs.declared.note.Note.TheVariants as note
+use Rattle.nf_net.proofs.Words.{A, by_node, came_by, Joined, by_node-append, AllApart, Runs, run_beside, same_times, given, Unit}
 use Rattle.proof_machines.proofs.unit.Stages as stages
 use Rattle.net_world.specs.Fold.{times}
 use Rattle.net_world.specs.Places.{AreAtMembers}
@@ -38,9 +36,9 @@ module _ {F R : Type 0} (f : Semantics R) (c : Config) (items : List Msg) (is : 
   g = given f c items is
 
   module _ (before between after : List Note) (number i : ℕ) (output : Output) (names : List (List ℕ))
-      (whole : w.log ≡ before ++ note.Arrived number ∷ (between ++ note.Processed number i output ∷ after))
+      (whole : w.log ≡ before ++ Note.Arrived number ∷ (between ++ Note.Processed number i output ∷ after))
       (shared : members c items (unit_numbered c items f.kind number) before ≡ Some names) where
-    abbrev u : units.Unit
+    abbrev u : Unit
     u = unit_numbered c items f.kind number
 
     abbrev mine : ℕ → Bool
@@ -50,7 +48,7 @@ module _ {F R : Type 0} (f : Semantics R) (c : Config) (items : List Msg) (is : 
     own = same_unit_equiv.refl u
 
     abbrev rest : List Note
-    rest = between ++ note.Processed number i output ∷ after
+    rest = between ++ Note.Processed number i output ∷ after
 
     -- it came once, while the unit's packets were diverted
     once : stages.times number (filter mine (arrivals_in w.log)) ≤ 1
@@ -63,11 +61,11 @@ module _ {F R : Type 0} (f : Semantics R) (c : Config) (items : List Msg) (is : 
     came : 1 ≤ stages.times number (diverted_in g mine u [] w.log)
     came =
         let split : diverted_in g mine u [] w.log
-        ≡ diverted_in g mine u [] before ++ diverted_in g mine u (installs_in before) (note.Arrived number ∷ rest) =
-        ap (diverted_in g mine u []) whole ∙ diverted_in-append g mine u [] before (note.Arrived number ∷ rest) in
+        ≡ diverted_in g mine u [] before ++ diverted_in g mine u (installs_in before) (Note.Arrived number ∷ rest) =
+        ap (diverted_in g mine u []) whole ∙ diverted_in-append g mine u [] before (Note.Arrived number ∷ rest) in
         let mine_is = own in
         let diverted_is = diverted in
-        let head : diverted_in g mine u (installs_in before) (note.Arrived number ∷ rest) ≡ number ∷ diverted_in g mine u (installs_in before) rest =
+        let head : diverted_in g mine u (installs_in before) (Note.Arrived number ∷ rest) ≡ number ∷ diverted_in g mine u (installs_in before) rest =
         rw (mine_is, diverted_is) refl in
         let same = same_times number (diverted_in g mine u [] w.log) in
         let all = ap (times number) (split ∙ ap (λ v. diverted_in g mine u [] before ++ v) head) in
@@ -80,23 +78,23 @@ module _ {F R : Type 0} (f : Semantics R) (c : Config) (items : List Msg) (is : 
 
     -- and was done
     abbrev front : List Note
-    front = before ++ note.Arrived number ∷ between
+    front = before ++ Note.Arrived number ∷ between
 
     abbrev ran : List Note → List Ran
     ran log = ran_of (S f g) (A f g) u (by_node f g (dones_in log))
 
-    log_is : w.log ≡ front ++ note.Processed number i output ∷ after
-    log_is = whole ∙ sym (append_assoc before (note.Arrived number ∷ between) (note.Processed number i output ∷ after))
+    log_is : w.log ≡ front ++ Note.Processed number i output ∷ after
+    log_is = whole ∙ sym (append_assoc before (Note.Arrived number ∷ between) (Note.Processed number i output ∷ after))
 
     done_there : ran_of (S f g) (A f g) u j.world.done ≡ ran front ++ (number, instance_node i) ∷ ran after
     done_there =
         let mine_is = own in
-        let here : ran_of (S f g) (A f g) u (by_node f g (dones_in (note.Processed number i output ∷ after))) ≡ (number, instance_node i) ∷ ran after =
+        let here : ran_of (S f g) (A f g) u (by_node f g (dones_in (Note.Processed number i output ∷ after))) ≡ (number, instance_node i) ∷ ran after =
         rw mine_is refl in
         ap (ran_of (S f g) (A f g) u)
-        (j.shown_is.done_is ∙ ap (λ log. by_node f g (dones_in log)) log_is ∙ ap (by_node f g) (done-append front (note.Processed number i output ∷ after))
-        ∙ by_node-append f g (dones_in front) (dones_in (note.Processed number i output ∷ after)))
-        ∙ ran_more (S f g) (A f g) (is_sys f g.site g.packet) u (by_node f g (dones_in front)) (by_node f g (dones_in (note.Processed number i output ∷ after)))
+        (j.shown_is.done_is ∙ ap (λ log. by_node f g (dones_in log)) log_is ∙ ap (by_node f g) (done-append front (Note.Processed number i output ∷ after))
+        ∙ by_node-append f g (dones_in front) (dones_in (Note.Processed number i output ∷ after)))
+        ∙ ran_more (S f g) (A f g) (is_sys f g.site g.packet) u (by_node f g (dones_in front)) (by_node f g (dones_in (Note.Processed number i output ∷ after)))
         ∙ ap (λ v. ran front ++ v) here
 
     at : DoneAt (S f g) (A f g) (is_sys f g.site g.packet) u j.world (came_by f g w.log u) number (instance_node i) once came (ran front) (ran after) done_there
@@ -108,11 +106,11 @@ module _ {F R : Type 0} (f : Semantics R) (c : Config) (items : List Msg) (is : 
     its_member =
         let r : IsSharedBy g u (first_owner u c.routes) (installs_in before) names = shared_by g u (first_owner u c.routes) (installs_in before) names shared in
         let there : InstalledIn before r.front r.op = installed_in before r.front r.op r.back r.whole in
-        let log : w.log ≡ there.first ++ note.Installed r.op ∷ (there.rest ++ note.Arrived number ∷ rest) = whole
-        ∙ ap (λ v. v ++ note.Arrived number ∷ rest) there.whole
-        ∙ append_assoc there.first (note.Installed r.op ∷ there.rest) (note.Arrived number ∷ rest) in
+        let log : w.log ≡ there.first ++ Note.Installed r.op ∷ (there.rest ++ Note.Arrived number ∷ rest) = whole
+        ∙ ap (λ v. v ++ Note.Arrived number ∷ rest) there.whole
+        ∙ append_assoc there.first (Note.Installed r.op ∷ there.rest) (Note.Arrived number ∷ rest) in
         let some : 1 ≤ times_installed r.op w.log =
-        let is_there = ap (times_installed r.op) log ∙ times_there r.op there.first (there.rest ++ note.Arrived number ∷ rest) in omega (arith, is_there) in
+        let is_there = ap (times_installed r.op) log ∙ times_there r.op there.first (there.rest ++ Note.Arrived number ∷ rest) in omega (arith, is_there) in
         let o : IsOpenShare f c items is n count_is w j apart b r.op names r.its.filter = open_installed f c items is n count_is w j apart b h r.op names
         r.its.filter r.its.order_is some in
         member_is f c items is n count_is w j apart b u (units_fit f c items is number) r.op names r.its.filter o r.its.takes_it at.share at.its number i

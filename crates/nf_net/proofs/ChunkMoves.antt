@@ -3,12 +3,10 @@ use Rattle.nf_net.proofs.Words.{◌≡◌, ◌≢◌, ℕ, zero, suc, ◌<◌, t
 use Rattle.nf_net.proofs.Words.{same_unit, spelled, same_unit_equiv, Msg, Piece, Phase, Operation, Move, Copy, Share, on_link, EachOn, Each, each-append}
 use Rattle.nf_net.proofs.Words.{seat_shape, third_silent, each_found, OpLabel, Untaken, Node, Switch, on_links, IsMoving, chunks_in, kept_in, kept_for, kept_by}
 use Rattle.nf_net.proofs.Words.{is_chunk_of, spelled_of, chunks_on_way, IsChunk, is_sys, given, Given, place, WhereAll, Apart_from_shares, Under_share, S, A}
-use Rattle.nf_net.proofs.Words.{came_by, Label, AreGoodChunks, HasPieces, node_of}
+use Rattle.nf_net.proofs.Words.{came_by, Label, AreGoodChunks, HasPieces, node_of, Unit}
 use Rattle.std.specs.Prelude.{filter, All}
 use Rattle.std.specs.FinMap as finite
 use Rattle.nf_net.proofs.PlaceSteps.{open_at}
-use Rattle.nf_function.specs.declared.unit.Unit as units
-use Rattle.nf_msgs.specs.declared.msg.Msg.TheVariants as msg
 use Rattle.move_op.specs.Phases as phase
 use Rattle.move_op.specs.Move.{chunks_of}
 use Rattle.proof_machines.proofs.net.Units.{see}
@@ -38,10 +36,10 @@ module _ {R : Type 0} (f : Semantics R) (g : Given) where
   Named = IsChunk f (place g)
 
   msg_named : (s r : ℕ) (m : Msg) → Label f g s r m → Each Named (chunks_in m)
-  msg_named s r (msg.Piece op piece) l = all_chunks f g piece.chunks l.1.good
-  msg_named s r (msg.Put op piece first) l = all_chunks f g piece.chunks l.1.good
-  msg_named s r (msg.Restore op chunks) l = all_chunks f g chunks l.1
-  msg_named s r (msg.PutNo op refused) l = all_chunks f g refused.chunks l.1
+  msg_named s r (Msg.Piece op piece) l = all_chunks f g piece.chunks l.1.good
+  msg_named s r (Msg.Put op piece first) l = all_chunks f g piece.chunks l.1.good
+  msg_named s r (Msg.Restore op chunks) l = all_chunks f g chunks l.1
+  msg_named s r (Msg.PutNo op refused) l = all_chunks f g refused.chunks l.1
   msg_named s r m l = tt
 
   link_named : (s r : ℕ) (ms : List Msg) → EachOn (Label f g s r) ms → Each Named (flat_map chunks_in ms)
@@ -58,8 +56,8 @@ module _ {R : Type 0} (f : Semantics R) (g : Given) where
   phase_named p h = tt
 
   -- such chunks, where each unit of which there is one has a fact
-  module _ (Q : units.Unit → Type 0) (P : Chunk → Type 0) (has : (c : Chunk) (u : units.Unit) → c.unit ≡ Some u → Q u → P c) where
-    each_has : (cs : List Chunk) → Each Named cs → ((u : units.Unit) → spelled_of f u cs ≢ [] → Q u) → Each P cs
+  module _ (Q : Unit → Type 0) (P : Chunk → Type 0) (has : (c : Chunk) (u : Unit) → c.unit ≡ Some u → Q u → P c) where
+    each_has : (cs : List Chunk) → Each Named cs → ((u : Unit) → spelled_of f u cs ≢ [] → Q u) → Each P cs
     each_has [] h q = tt
     each_has (c ∷ cs) h q =
         let u = h.0.entry.0 in
@@ -101,13 +99,13 @@ module _ {F R : Type 0} (here : Reached F R) (busy : AreUnderWay here.f here.c h
       (λ i small. subst (λ y. Each (Named f g) (kept_by y)) (sym (j.nodes_are i (rw (← nodes) small) d)) (kept_named i)))
 
   -- a unit with a chunk on its way has an open move
-  record IsMoved (u : units.Unit) : Type 0 where
+  record IsMoved (u : Unit) : Type 0 where
     apart : Untaken (S f g) u (A f g) j.world
     seat : Seated here u
     moving : IsMoving items u w.log
     number : moving.op ≡ seat.op.num
 
-  moved : (u : units.Unit) → spelled_of f u (chunks_on_way w) ≢ [] → IsMoved u
+  moved : (u : Unit) → spelled_of f u (chunks_on_way w) ≢ [] → IsMoved u
   moved u some = by_where (j.shown_is.every.unit u)
     where
       by_seat : AsMoves here u → Untaken (S f g) u (A f g) j.world → IsMoved u
@@ -130,7 +128,7 @@ module _ {F R : Type 0} (here : Reached F R) (busy : AreUnderWay here.f here.c h
 
   -- so has each chunk, by its unit
   record HasMove (y : Chunk) : Type 0 where
-    unit : units.Unit
+    unit : Unit
     unit_is : y.unit ≡ Some unit
     moved_so : IsMoved unit
 

@@ -2,29 +2,22 @@
 use Rattle.nf_net.proofs.Words.{◌≡◌, ℕ, ◌+◌, ◌<◌, ◌≤◌, Bool, true, false, Option, Some, None, List, [], ◌∷◌, ◌++◌, map, length, append-nil, refl, sym, ap, ◌∙◌}
 use Rattle.nf_net.proofs.Words.{subst, arith, if◌then◌else◌, ◌&&◌, ◌==◌, nat_lt, slice_get, Global, filter, filter_map, Decides-eqb, slice_get_within}
 use Rattle.nf_net.proofs.Words.{slice_get-get_or, Filter, Packet, FunctionLaws, Semantics, unit_at, same_unit-true, Target, Order, Msg, Note, instance_node}
-use Rattle.nf_net.proofs.Words.{is_there, Choice, Network, IsRun, is_done, run, queue_at, at, run_world, Each, firsts, nil_right, same_of, none_in, exactly}
-use Rattle.nf_net.proofs.Words.{IsSys, done_u, fold_runs, not_both, AtEnd, OpenShare, find_share, moves_of, olds, ShareRests, EndsAll, At_share, end_all}
-use Rattle.nf_net.proofs.Words.{WhereAll, Apart_from_shares, Under_share, Config, Node, order_numbered, ends_last, IsInput, answers_of, times_installed}
-use Rattle.nf_net.proofs.Words.{arrivals_in, is_loose, owner, unit_numbered, node_step, node_ready, node_ended, is_of, arrived_of, processed_of, live_in}
-use Rattle.nf_net.proofs.Words.{live_at, started_with, unit_fits, is_sys, real_share, target_node, Given, place, GenuinePacket, S, A, shown, came_by, Joined}
-use Rattle.nf_net.proofs.Words.{done_same, same_times, start_world, run_beside, given, count_at_start, genuine}
+use Rattle.nf_net.proofs.Words.{is_there, Choice, Network, IsRun, is_done, run, queue_at, at, Each, firsts, nil_right, same_of, none_in, exactly, IsSys, done_u}
+use Rattle.nf_net.proofs.Words.{fold_runs, not_both, AtEnd, OpenShare, find_share, moves_of, olds, ShareRests, EndsAll, At_share, end_all, WhereAll}
+use Rattle.nf_net.proofs.Words.{Apart_from_shares, Under_share, Config, Node, order_numbered, ends_last, IsInput, answers_of, times_installed, arrivals_in}
+use Rattle.nf_net.proofs.Words.{is_loose, owner, unit_numbered, node_step, node_ready, node_ended, is_of, arrived_of, processed_of, live_in, live_at}
+use Rattle.nf_net.proofs.Words.{started_with, unit_fits, is_sys, real_share, target_node, Given, place, GenuinePacket, S, A, shown, came_by, Joined, done_same}
+use Rattle.nf_net.proofs.Words.{same_times, run_beside, given, genuine, Unit, flow_of, Done, Instance, Completed}
 use Rattle.std.proofs.Common.{◌-◌}
 use Rattle.std.specs.FinMap as finite
-use Rattle.flow_filter.specs.Flow.{flow_of}
-use Rattle.nf_function.specs.declared.unit.Unit as units
-use Rattle.switch_rules.specs.declared.target.Target.TheVariants as target
-use Rattle.nf_msgs.specs.declared.answer.Answer.TheVariants.{Done}
-use Rattle.nf_msgs.specs.declared.command.Order.TheVariants as order
 use Rattle.actor_net.proofs.CompleteWorlds.{done_waiting}
 use Rattle.proof_machines.proofs.unit.Stages as stages
 use Rattle.proof_machines.proofs.net.Readings as readings
 use Rattle.proof_machines.proofs.net.AtEnd.{at_end}
 use Rattle.proof_machines.proofs.whole.EndAll.{As_moves}
 use Rattle.proof_machines.proofs.whole.WhereAll.{order_same}
-use Rattle.net_world.specs.declared.node.Node.TheVariants.{Instance}
 use Rattle.net_world.specs.Input.{packets}
 use Rattle.net_world.specs.Fold.{times, fold}
-use Rattle.nf_net.specs.Promises.{Completed}
 use Rattle.nf_net.proofs.answers.ArrivalLemmas.{numbers, runs_joined}
 use Rattle.nf_net.proofs.answers.CommandPromises.{run_busy}
 use Rattle.nf_net.proofs.answers.InstallRuns.{run_installs, done_installed}
@@ -38,6 +31,7 @@ use Rattle.nf_net.proofs.SharedHomes.{run_homes}
 use Rattle.nf_net.proofs.StandbyFronts.{IsOfFront, still_some, lives_front}
 use Rattle.nf_net.proofs.UnitShares.{owner_goes}
 use Rattle.nf_net.proofs.answers.ToldCommands.{each_answered}
+use Rattle.nf_net.proofs.RunKeeps.{after_world}
 
 module _ {R : Type 0} (f : Semantics R) (c : Config) (items : List Msg) (is : IsInput f.kind c items) where
   abbrev g : Given
@@ -62,7 +56,7 @@ module _ {R : Type 0} (f : Semantics R) (c : Config) (items : List Msg) (is : Is
         let at = ap (λ x. x.home) r.sees.is in
         omega (arith, at)
 
-    module _ (u : units.Unit) where
+    module _ (u : Unit) where
       -- what was processed of the unit is all that came, and its record is at an instance
       record Ended : Type 0 where
         flag : Bool
@@ -122,8 +116,8 @@ module _ {R : Type 0} (f : Semantics R) (c : Config) (items : List Msg) (is : Is
           ] refl e
         where
           by_target : 2 ≤ j.world.target u → (t : Target) → j.world.target u ≡ target_node t → is_there j.nodes.switch t ≡ true → j.world.target u < n
-          by_target two target.Controller at inside = absurd (omega (arith, two, at))
-          by_target two (target.Instance i) at inside =
+          by_target two Target.Controller at inside = absurd (omega (arith, two, at))
+          by_target two (Target.Instance i) at inside =
               subst (λ k. k < n) (sym at) (there c n count i (subst (λ k. nat_lt i k ≡ true) j.shown_is.switch.instances inside))
 
       -- a unit that no share has
@@ -238,7 +232,7 @@ module _ {R : Type 0} (f : Semantics R) (c : Config) (items : List Msg) (is : Is
 
     pub completed : (ends_last items ≡ true → (op : ℕ) (what : Order) → order_numbered items op ≡ Some what → length (answers_of op w.log) ≡ 1)
         → ((op : ℕ) (source destination : List ℕ) (filter : Filter) (keep : Bool)
-        → order_numbered items op ≡ Some (order.Move source destination filter keep) → answers_of op w.log ≡ Done ∷ [] → times_installed op w.log ≡ 1)
+        → order_numbered items op ≡ Some (Order.Move source destination filter keep) → answers_of op w.log ≡ Done ∷ [] → times_installed op w.log ≡ 1)
         → Completed f c items w
     completed answered installed = record {
       all_came = all_came;
@@ -260,8 +254,7 @@ module _ {F R : Type 0} (f : Semantics R) (laws : FunctionLaws f) (alloc : Globa
       → Completed f c items (run (node_step f) cs start)
   complete_run cs ok done =
       let h = runs_joined F f laws alloc c items is cs ok in
-      let world = run_world node_ready (node_step f) (length c.names + 2) start (start_world F f laws alloc c items is)
-      (count_at_start F f alloc c items is) cs ok in
+      let world = after_world F f laws alloc c items is cs ok in
       let busy = run_busy F f laws alloc c items is cs ok in
       let changes = run_installs F f laws alloc c items is cs ok in
       completed f c items is (length c.names + 2) refl (run (node_step f) cs start) world.1 (run_beside F f laws alloc c items is cs ok).joined h.in_turn

@@ -5,17 +5,15 @@ use Rattle.nf_net.proofs.Words.{◌==◌, slice_get, is_some, Decides-eqb, slice
 use Rattle.nf_net.proofs.Words.{CopyState, Copy, Move, Network, queue_at, self, shape, each_map, Open, fold_runs, unit_share, as_share, moves_of, seeing, Where}
 use Rattle.nf_net.proofs.Words.{WhereAll, Apart_from_shares, Under_share, Config, Node, is_of, processed_of, IsInput, dones_in, done_where, owner}
 use Rattle.nf_net.proofs.Words.{unit_numbered, live_at, live_in, is_whole, takes_same, unit_fits, is_sys, Given, S, A, came_by, Joined, Scene, AreApart}
-use Rattle.nf_net.proofs.Words.{AllApart, done_same, given}
+use Rattle.nf_net.proofs.Words.{AllApart, done_same, given, Unit, Instance}
 use Rattle.std.specs.Prelude.{map}
 use Rattle.std.specs.FinMap as finite
-use Rattle.nf_function.specs.declared.unit.Unit as units
 use Rattle.actor_net.proofs.EnabledChoices.{at as at_node}
 use Rattle.proof_machines.proofs.unit.Machine.{runs}
 use Rattle.proof_machines.proofs.net.Elsewhere.{Resting, where_rests}
 use Rattle.proof_machines.proofs.net.GlobalAll.{TakesSome}
 use Rattle.proof_machines.proofs.net.Readings as readings
 use Rattle.proof_machines.proofs.whole.WhereAll.{found_takes}
-use Rattle.net_world.specs.declared.node.Node.TheVariants.{Instance}
 use Rattle.net_world.specs.Fold.{fold}
 use Rattle.net_world.specs.Log.{Done}
 use Rattle.proof_outlines.proofs.joined.CopiesUnshared.{copy_out}
@@ -26,7 +24,7 @@ use Rattle.nf_net.proofs.NumberedUnits.{units_fit}
 use Rattle.nf_net.proofs.UnitShares.{owner_goes}
 
 -- a unit of which a packet was processed is one that packets may have
-module _ {R : Type 0} (f : Semantics R) (c : Config) (items : List Msg) (is : IsInput f.kind c items) (u : units.Unit) where
+module _ {R : Type 0} (f : Semantics R) (c : Config) (items : List Msg) (is : IsInput f.kind c items) (u : Unit) where
   done_fits : (d : Done) (ds rest : List Done) → done_where (is_of f c items u) ds ≡ d ∷ rest → unit_fits f.kind u ≡ true
   done_fits d [] rest e = cc
   done_fits d (x ∷ ds) rest e = elim (is_of f c items u x.number) as (λ b. is_of f c items u x.number ≡ b
@@ -46,7 +44,7 @@ module _ {R : Type 0} (f : Semantics R) (c : Config) (items : List Msg) (is : Is
 
 module _ {F R : Type 0} (f : Semantics R) (c : Config) (items : List Msg) (is : IsInput f.kind c items) (n : ℕ) (w : Network (Node F R) Msg Note)
     (nodes : length w.nodes ≡ n) (j : Joined f (given f c items is) n w) (apart : AllApart j.nodes.controller.operations) (op : ℕ) (y : CopyState)
-    (filter : Filter) (there : finite.get j.nodes.controller.operations op ≡ Some (Copy y)) (filter_is : y.plan.filter ≡ Some filter) (u : units.Unit) where
+    (filter : Filter) (there : finite.get j.nodes.controller.operations op ≡ Some (Copy y)) (filter_is : y.plan.filter ≡ Some filter) (u : Unit) where
   abbrev g : Given
   g = given f c items is
 

@@ -1,14 +1,10 @@
 -- What is known of a copy's messages: that the source was asked, what it gave, and what was kept at the destination. It stays known as a run goes on.
 use Rattle.nf_net.proofs.Words.{◌≡◌, ℕ, true, Some, List, [], ◌∷◌, ◌++◌, append_assoc, sym, ap, ◌∙◌, Chunk, Semantics, takes, Msg, Note, instance_node, Choice}
 use Rattle.nf_net.proofs.Words.{Network, run, OnLinks, Config, Node, is_begun, IsFront, processed_of, job_of, node_step, live_at, StandsBy, exported_for}
-use Rattle.nf_net.proofs.Words.{before_export}
+use Rattle.nf_net.proofs.Words.{before_export, Unit, records_of, UnitCopy, IsOrdered, IsToGive}
 use Rattle.std.specs.FinMap as finite
-use Rattle.nf_function.specs.declared.unit.Unit as units
-use Rattle.record_table.specs.Chunks.{records_of}
-use Rattle.nf_msgs.specs.declared.msg.Msg.TheVariants as msg
 use Rattle.actor_net.proofs.WeightLaws.{Each}
 use Rattle.net_world.specs.Jobs.{Job}
-use Rattle.nf_net.specs.Copies.{UnitCopy, IsOrdered, IsToGive}
 use Rattle.nf_net.proofs.JudgedFacts.{began_kept}
 use Rattle.nf_net.proofs.VerdictLemmas.{exported_kept, before_export_kept}
 
@@ -27,14 +23,14 @@ module _ {F R : Type 0} (f : Semantics R) (c : Config) (items : List Msg) (start
     pub to_give : IsToGive its_job (world_after before) copy
     pub rest : List Note
     pub log_is : log ≡ (world_after before).log ++ rest
-    pub given : List units.Unit
+    pub given : List Unit
     pub given_is : exported_for copy.op log ≡ Some given
     pub gave : before_export copy.op log ≡ (world_after before).log
 
   -- and these chunks bring it
   pub record AreGiven (cs : List Choice) (log : List Note) (copy : UnitCopy) (chunks : List Chunk) : Type 0 where
     pub by : HasGiven cs log copy
-    pub bring : (u : units.Unit) (kept : R) → takes copy.filter u ≡ true → live_at (world_after by.before) copy.source u ≡ Some kept
+    pub bring : (u : Unit) (kept : R) → takes copy.filter u ≡ true → live_at (world_after by.before) copy.source u ≡ Some kept
         → finite.get (records_of f chunks) u ≡ Some kept
 
   -- what goes on from it stood by at the destination after some of these choices
@@ -43,7 +39,7 @@ module _ {F R : Type 0} (f : Semantics R) (c : Config) (items : List Msg) (start
     pub until : List Choice
     pub since : List Choice
     pub whole : until ++ since ≡ cs
-    pub stood : (u : units.Unit) (kept : R) → takes copy.filter u ≡ true → live_at (world_after by.before) copy.source u ≡ Some kept
+    pub stood : (u : Unit) (kept : R) → takes copy.filter u ≡ true → live_at (world_after by.before) copy.source u ≡ Some kept
         → (now : StandsBy its_job (world_after until) copy.destination u) × IsFront (processed_of f c items u (world_after by.before).log) now.front
 
   -- what is known of a message of a copy of units, by its receiver
@@ -52,14 +48,14 @@ module _ {F R : Type 0} (f : Semantics R) (c : Config) (items : List Msg) (start
     Of op P = (copy : UnitCopy) → copy.op ≡ op → IsOrdered c items copy → P copy
 
     abbrev pub Told : ℕ → ℕ → Msg → Type 0
-    Told s r (msg.Get op filter) = Of op (λ copy. (filter ≡ copy.filter) × (r ≡ instance_node copy.source) × (is_begun op log ≡ true))
-    Told s r (msg.Chunks op chunks) = Of op (λ copy. AreGiven cs log copy chunks)
-    Told s r (msg.Standby op chunks) = Of op (λ copy. (r ≡ instance_node copy.destination) × AreGiven cs log copy chunks)
-    Told s r (msg.Kept op) = Of op (λ copy. WasKept cs log copy)
-    Told s r (msg.GetAll op) = Of op (λ copy. ⊥)
-    Told s r (msg.AllChunk op chunk) = Of op (λ copy. ⊥)
-    Told s r (msg.PutAll op chunk) = Of op (λ copy. ⊥)
-    Told s r m = Unit {0}
+    Told s r (Msg.Get op filter) = Of op (λ copy. (filter ≡ copy.filter) × (r ≡ instance_node copy.source) × (is_begun op log ≡ true))
+    Told s r (Msg.Chunks op chunks) = Of op (λ copy. AreGiven cs log copy chunks)
+    Told s r (Msg.Standby op chunks) = Of op (λ copy. (r ≡ instance_node copy.destination) × AreGiven cs log copy chunks)
+    Told s r (Msg.Kept op) = Of op (λ copy. WasKept cs log copy)
+    Told s r (Msg.GetAll op) = Of op (λ copy. ⊥)
+    Told s r (Msg.AllChunk op chunk) = Of op (λ copy. ⊥)
+    Told s r (Msg.PutAll op chunk) = Of op (λ copy. ⊥)
+    Told s r m = Prim.Unit {0}
 
   -- One choice and its notes further.
   module _ (cs : List Choice) (d : Choice) (log notes : List Note) where
@@ -95,13 +91,13 @@ module _ {F R : Type 0} (f : Semantics R) (c : Config) (items : List Msg) (start
         record { by = given_still copy h.by; until = h.until; since = h.since ++ d ∷ []; whole = further h.until h.since h.whole; stood = h.stood }
 
     pub told_still : (s r : ℕ) (m : Msg) → Told cs log s r m → Told later_on more s r m
-    told_still s r (msg.Get op filter) h = λ copy same of. (let it = h copy same of in (it.0, it.1, began_kept f c items start op log notes it.2))
-    told_still s r (msg.Chunks op chunks) h = λ copy same of. chunks_still copy chunks (h copy same of)
-    told_still s r (msg.Standby op chunks) h = λ copy same of. (let it = h copy same of in (it.0, chunks_still copy chunks it.1))
-    told_still s r (msg.Kept op) h = λ copy same of. kept_still copy (h copy same of)
-    told_still s r (msg.GetAll op) h = h
-    told_still s r (msg.AllChunk op chunk) h = h
-    told_still s r (msg.PutAll op chunk) h = h
+    told_still s r (Msg.Get op filter) h = λ copy same of. (let it = h copy same of in (it.0, it.1, began_kept f c items start op log notes it.2))
+    told_still s r (Msg.Chunks op chunks) h = λ copy same of. chunks_still copy chunks (h copy same of)
+    told_still s r (Msg.Standby op chunks) h = λ copy same of. (let it = h copy same of in (it.0, chunks_still copy chunks it.1))
+    told_still s r (Msg.Kept op) h = λ copy same of. kept_still copy (h copy same of)
+    told_still s r (Msg.GetAll op) h = h
+    told_still s r (Msg.AllChunk op chunk) h = h
+    told_still s r (Msg.PutAll op chunk) h = h
     told_still s r m h = tt
 
     each_still : (s r : ℕ) (ms : List Msg) → Each (Told cs log s r) ms → Each (Told later_on more s r) ms

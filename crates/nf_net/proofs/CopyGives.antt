@@ -3,27 +3,21 @@
 use Rattle.nf_net.proofs.Words.{◌≡◌, ℕ, ◌+◌, ◌<◌, Bool, true, false, Option, Some, None, List, [], ◌∷◌, length, refl, sym, ap, ◌∙◌, subst, arith, ◌&&◌, ◌||◌}
 use Rattle.nf_net.proofs.Words.{not, is_some, Global, nat_tests, Filter, place_of, FunctionLaws, Semantics, takes, one_unit, Records, taken_by, Answer, Msg}
 use Rattle.nf_net.proofs.Words.{Note, instance_node, CopyState, Operation, Move, Copy, Share, InstanceState, selected_chunks, Choice, Network, IsRun, run}
-use Rattle.nf_net.proofs.Words.{run_world, Config, Node, answers_of, is_begun, has_answered, is_share, IsInput, job_of, node_step, node_ready, exported_for}
-use Rattle.nf_net.proofs.Words.{is_whole, Given, IsCopyPlan, Joined, start_world, given, count_at_start}
+use Rattle.nf_net.proofs.Words.{Config, Node, answers_of, is_begun, has_answered, is_share, IsInput, job_of, node_step, node_ready, exported_for, is_whole}
+use Rattle.nf_net.proofs.Words.{Given, IsCopyPlan, Joined, given, Unit, Order, records_of, Done, UnitCopy, IsOrdered, IsToGive, run_beside}
 use Rattle.std.specs.FinMap as finite
-use Rattle.nf_function.specs.declared.unit.Unit as units
 use Rattle.record_table.proofs.MadeChunks.{table_read}
 use Rattle.record_table.proofs.RecordLookUps.{sound_retain_keys}
-use Rattle.record_table.specs.Chunks.{records_of}
 use Rattle.record_table.specs.Table.{AreSound}
-use Rattle.nf_msgs.specs.declared.answer.Answer.TheVariants.{Done}
-use Rattle.nf_msgs.specs.declared.command.Order.TheVariants as order
 use Rattle.proof_outlines.proofs.joined.Joined.{IsCopy, is_whole_if}
-use Rattle.nf_net.proofs.answers.ArrivalLemmas.{InRun, runs_joined}
 use Rattle.nf_net.proofs.answers.BusyLemmas.{unanswered}
 use Rattle.nf_net.proofs.answers.BusyRuns.{Busy, keeps_is}
 use Rattle.nf_net.proofs.answers.CommandPromises.{run_busy}
-use Rattle.nf_net.specs.Copies.{UnitCopy, IsOrdered, IsToGive}
 use Rattle.nf_net.proofs.ArrivedCommands.{came_before}
 use Rattle.nf_net.proofs.CopiedUnits.{had, owned}
 use Rattle.nf_net.proofs.CopyFacts.{WasKept}
 use Rattle.nf_net.proofs.JudgedRuns.{verdicts}
-use Rattle.nf_net.proofs.RunKeeps.{start}
+use Rattle.nf_net.proofs.RunKeeps.{start, after_world}
 
 both_so : (a s b : Bool) → a ≡ true → b ≡ false → a && (s || not b) ≡ true
 both_so true true b h k = refl
@@ -33,7 +27,7 @@ both_so false s b h k = cc
 
 -- What an instance gives, its chunks spell.
 module _ {F R : Type 0} (f : Semantics R) (laws : FunctionLaws f) (i : InstanceState F R) (filter : Filter) (sound : AreSound f i.table.live) where
-  pub given_spell : (u : units.Unit) (kept : R) → takes filter u ≡ true → finite.get i.table.live u ≡ Some kept
+  pub given_spell : (u : Unit) (kept : R) → takes filter u ≡ true → finite.get i.table.live u ≡ Some kept
       → finite.get (records_of f (selected_chunks f i filter)) u ≡ Some kept
   given_spell u kept on live =
       let read = table_read f laws (taken_by filter i.table.live) (sound_retain_keys f i.table.live (takes filter) sound) in
@@ -52,18 +46,14 @@ module _ (F : Type 0) {R : Type 0} (f : Semantics R) (laws : FunctionLaws f) (al
   abbrev w : Network (Node F R) Msg Note
   w = run (node_step f) cs (start F f laws alloc c items is)
 
-  abbrev r : InRun F f laws alloc c items is w
-  r = runs_joined F f laws alloc c items is cs run_is
-
   abbrev j : Joined f g n w
-  j = r.joined
+  j = (run_beside F f laws alloc c items is cs run_is).joined
 
   b : Busy g w
   b = (run_busy F f laws alloc c items is cs run_is).1
 
   nodes : length w.nodes ≡ n
-  nodes = (run_world node_ready (node_step f) n (start F f laws alloc c items is) (start_world F f laws alloc c items is)
-      (count_at_start F f alloc c items is) cs run_is).1
+  nodes = (after_world F f laws alloc c items is cs run_is).1
 
   module _ (copy : UnitCopy) (of : IsOrdered c items copy) where
     -- the open copy of the order
@@ -74,9 +64,9 @@ module _ (F : Type 0) {R : Type 0} (f : Semantics R) (laws : FunctionLaws f) (al
       pub from_is : state.plan.from ≡ copy.source
       pub to_is : state.plan.to ≡ copy.destination
 
-    same_order : (a b x y : List ℕ) (o : Option Filter) → g.orders copy.op ≡ Some (order.Copy a b (Some copy.filter))
-        → g.orders copy.op ≡ Some (order.Copy x y o) → (a ≡ x) × (b ≡ y) × (Some copy.filter ≡ o)
-    same_order a b x y o h k = let both : Some (order.Copy a b (Some copy.filter)) ≡ Some (order.Copy x y o) = sym h ∙ k in (cc, cc, cc)
+    same_order : (a b x y : List ℕ) (o : Option Filter) → g.orders copy.op ≡ Some (Order.Copy a b (Some copy.filter))
+        → g.orders copy.op ≡ Some (Order.Copy x y o) → (a ≡ x) × (b ≡ y) × (Some copy.filter ≡ o)
+    same_order a b x y o h k = let both : Some (Order.Copy a b (Some copy.filter)) ≡ Some (Order.Copy x y o) = sym h ∙ k in (cc, cc, cc)
 
     copy_open : (y : CopyState) → finite.get j.nodes.controller.operations copy.op ≡ Some (Copy y) → IsOpen
     copy_open y there =
@@ -87,13 +77,13 @@ module _ (F : Type 0) {R : Type 0} (f : Semantics R) (laws : FunctionLaws f) (al
         let to : Some y.plan.to ≡ Some copy.destination = sym plan.to_is ∙ ap (place_of c.names) (sym same.1) ∙ of.destination_is in
         record { state = y; there = there; filter_is = sym same.2; from_is = cc; to_is = cc }
 
-    not_move : (a b x y : List ℕ) (p q : Filter) (keep : Bool) → g.orders copy.op ≡ Some (order.Copy a b (Some p))
-        → g.orders copy.op ≡ Some (order.Move x y q keep) → ⊥
-    not_move a b x y p q keep h k = let both : Some (order.Copy a b (Some p)) ≡ Some (order.Move x y q keep) = sym h ∙ k in cc
+    not_move : (a b x y : List ℕ) (p q : Filter) (keep : Bool) → g.orders copy.op ≡ Some (Order.Copy a b (Some p))
+        → g.orders copy.op ≡ Some (Order.Move x y q keep) → ⊥
+    not_move a b x y p q keep h k = let both : Some (Order.Copy a b (Some p)) ≡ Some (Order.Move x y q keep) = sym h ∙ k in cc
 
-    not_share : (a b : List ℕ) (names : List (List ℕ)) (p q : Filter) → g.orders copy.op ≡ Some (order.Copy a b (Some p))
-        → g.orders copy.op ≡ Some (order.Share names q) → ⊥
-    not_share a b names p q h k = let both : Some (order.Copy a b (Some p)) ≡ Some (order.Share names q) = sym h ∙ k in cc
+    not_share : (a b : List ℕ) (names : List (List ℕ)) (p q : Filter) → g.orders copy.op ≡ Some (Order.Copy a b (Some p))
+        → g.orders copy.op ≡ Some (Order.Share names q) → ⊥
+    not_share a b names p q h k = let both : Some (Order.Copy a b (Some p)) ≡ Some (Order.Share names q) = sym h ∙ k in cc
 
     found_open : (o : Option Operation) → finite.get j.nodes.controller.operations copy.op ≡ o → is_some o ≡ true → IsOpen
     found_open None at some = cc

@@ -2,20 +2,17 @@
 use Rattle.nf_net.proofs.Words.{◌≡◌, ℕ, suc, ◌≤◌, Some, None, List, ◌++◌, length, refl, sym, ap, ◌∙◌, subst, arith, slice_get, slice_get-get_or, Chunk, newest}
 use Rattle.nf_net.proofs.Words.{FunctionLaws, Semantics, either, newest_of, each_newest, Msg, Note, instance_node, InstanceState, instance_step, Network}
 use Rattle.nf_net.proofs.Words.{world_next, at, Takes, Outcome, taken_outcome, Config, Node, IsFront, processed_of, most_counted, IsInput, job_of, node_step}
-use Rattle.nf_net.proofs.Words.{standby_at, standby_in, StandsBy, standby_keeps, Given, place, chunks_good, AreGoodChunks, Joined, node_of, given}
+use Rattle.nf_net.proofs.Words.{standby_at, standby_in, StandsBy, standby_keeps, Given, place, chunks_good, AreGoodChunks, Joined, node_of, given, Unit}
+use Rattle.nf_net.proofs.Words.{records_of, Instance}
 use Rattle.std.specs.FinMap as finite
-use Rattle.nf_function.specs.declared.unit.Unit as units
-use Rattle.record_table.specs.Chunks.{records_of}
-use Rattle.nf_msgs.specs.declared.msg.Msg.TheVariants as msg
 use Rattle.instance_worker.specs.Instance.{Step}
-use Rattle.net_world.specs.declared.node.Node.TheVariants.{Instance}
 use Rattle.net_world.specs.Fold.{fold}
 use Rattle.nf_net.proofs.FrontLemmas.{front_more, longer}
 use Rattle.nf_net.proofs.StandbyFronts.{IsOfFront, later, stands_front, still_some, went_more}
 
 module _ {F R : Type 0} (f : Semantics R) (laws : FunctionLaws f) (c : Config) (items : List Msg) (is : IsInput f.kind c items)
     (n : ℕ) (w : Network (Node F R) Msg Note) (j : Joined f (given f c items is) n w) (y p op : ℕ) (chunks : List Chunk)
-    (rest : List Msg) (takes : Takes (node_step f) n w (suc (suc y)) p (node_of j.nodes (suc (suc y))) (msg.Standby op chunks) rest)
+    (rest : List Msg) (takes : Takes (node_step f) n w (suc (suc y)) p (node_of j.nodes (suc (suc y))) (Msg.Standby op chunks) rest)
     (good : AreGoodChunks f (given f c items is) chunks) where
   abbrev g : Given
   g = given f c items is
@@ -27,13 +24,13 @@ module _ {F R : Type 0} (f : Semantics R) (laws : FunctionLaws f) (c : Config) (
   i = j.nodes.instance k
 
   abbrev did : Step F R
-  did = instance_step f i (msg.Standby op chunks)
+  did = instance_step f i (Msg.Standby op chunks)
 
   abbrev v : Network (Node F R) Msg Note
   v = world_next (node_step f) w (at k p)
 
-  left : Outcome (node_step f) n w k p (node_of j.nodes k) (msg.Standby op chunks) rest v
-  left = taken_outcome (node_step f) n w k p (node_of j.nodes k) (msg.Standby op chunks) rest takes
+  left : Outcome (node_step f) n w k p (node_of j.nodes k) (Msg.Standby op chunks) rest v
+  left = taken_outcome (node_step f) n w k p (node_of j.nodes k) (Msg.Standby op chunks) rest takes
 
   node_is : instance_node y ≡ k
   node_is = omega arith
@@ -46,12 +43,12 @@ module _ {F R : Type 0} (f : Semantics R) (laws : FunctionLaws f) (c : Config) (
   now_is = ap (λ o u. standby_in u o) (subst (λ z. slice_get v.nodes z ≡ Some (Instance did.node)) (sym node_is) (slice_get-get_or v.nodes k
       (Instance did.node) (let small = takes.receiver in let count = left.count in rw count small) ∙ ap Some (left.own (Instance did.node))))
 
-  newer_is : (u : units.Unit) → finite.get did.node.table.standby u ≡ either (newest f) (finite.get i.table.standby u) (finite.get (records_of f chunks) u)
+  newer_is : (u : Unit) → finite.get did.node.table.standby u ≡ either (newest f) (finite.get i.table.standby u) (finite.get (records_of f chunks) u)
   newer_is u =
       ap (λ r. finite.get r u) (standby_keeps f g.site g.packet (place g) i op chunks (chunks_good f laws g chunks good)).standby
       ∙ each_newest f i.table.standby (records_of f chunks) (newest_of f i.table.standby (records_of f chunks)) refl u
 
-  pub kept_at : (u : units.Unit) (xs : List ℕ) (kept : R) → IsFront xs (processed_of f c items u w.log) → fold f c items None xs ≡ Some kept
+  pub kept_at : (u : Unit) (xs : List ℕ) (kept : R) → IsFront xs (processed_of f c items u w.log) → fold f c items None xs ≡ Some kept
       → finite.get (records_of f chunks) u ≡ Some kept → length (processed_of f c items u v.log) ≤ most_counted
       → (now : StandsBy (job_of f c items) v y u) × IsFront xs now.front
   kept_at u xs kept front folds brought few =

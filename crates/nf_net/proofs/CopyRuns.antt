@@ -3,26 +3,20 @@
 use Rattle.nf_net.proofs.Words.{◌≡◌, ℕ, zero, suc, ◌+◌, ◌≤◌, true, false, inl, inr, Some, None, List, [], ◌∷◌, ◌++◌, append-nil, length, refl, sym, ap, ◌∙◌}
 use Rattle.nf_net.proofs.Words.{subst, arith, ◌==◌, slice_get, Global, nat_tests, slice_get-get_or, Filter, Chunk, FunctionLaws, Semantics, Msg, Note, units_in}
 use Rattle.nf_net.proofs.Words.{instance_node, InstanceState, selected_chunks, instance_step, switch_step, Choice, Network, Stepped, IsRun, run, world_next, at}
-use Rattle.nf_net.proofs.Words.{opening_on_links, Taking, run_induction, run_more, Takes, taken_outcome, EachSent, OnLinks, on_links_after, total_after, Config}
-use Rattle.nf_net.proofs.Words.{Node, answers_of, is_begun, IsFront, processed_of, is_item, most_counted, IsInput, job_of, node_step, node_ready, live_at}
-use Rattle.nf_net.proofs.Words.{live_in, StandsBy, first_nodes, exported_for, before_export, answers_of-append, all_each, its_takes, its_label, its_labels}
-use Rattle.nf_net.proofs.Words.{Given, Label, Joined, node_of, start_world, given, all_fit, count_at_start}
+use Rattle.nf_net.proofs.Words.{opening_on_links, run_more, Takes, taken_outcome, EachSent, OnLinks, on_links_after, total_after, Config, Node, answers_of}
+use Rattle.nf_net.proofs.Words.{is_begun, IsFront, processed_of, is_item, most_counted, IsInput, job_of, node_step, node_ready, live_at, live_in, StandsBy}
+use Rattle.nf_net.proofs.Words.{first_nodes, exported_for, before_export, answers_of-append, all_each, Given, Label, Joined, node_of, given, count_at_start}
+use Rattle.nf_net.proofs.Words.{Unit, Done, Instance, UnitCopy, IsOrdered, Runs}
 use Rattle.std.specs.FinMap as finite
-use Rattle.nf_function.specs.declared.unit.Unit as units
 use Rattle.nf_function.specs.Units as filters
-use Rattle.nf_msgs.specs.declared.answer.Answer.TheVariants.{Done}
-use Rattle.nf_msgs.specs.declared.msg.Msg.TheVariants as msg
-use Rattle.nf_msgs.specs.declared.note.Note.TheVariants as note
 use Rattle.instance_worker.specs.Instance.{on_get}
 use Rattle.actor_net.proofs.WeightLaws.{Each}
 use Rattle.proof_machines.proofs.unit.Labels as labels
-use Rattle.net_world.specs.declared.node.Node.TheVariants.{Instance}
 use Rattle.proof_outlines.proofs.joined.CopyAnswers.{IsAnswer, get_sent, standby_sent, put_all_sent, other_none}
-use Rattle.nf_net.proofs.answers.ArrivalLemmas.{InRun, next_in_run, runs_joined}
+use Rattle.nf_net.proofs.answers.ArrivalLemmas.{next_in_run, runs_joined}
 use Rattle.nf_net.proofs.answers.BusyLemmas.{none_answered, other_not_answered}
 use Rattle.nf_net.proofs.answers.BusyNodes.{switch_hands, instance_says}
 use Rattle.nf_net.proofs.answers.MoveOnce.{once}
-use Rattle.nf_net.specs.Copies.{UnitCopy, IsOrdered}
 use Rattle.nf_net.proofs.CopyTurns.{all_none, controller_did}
 use Rattle.nf_net.proofs.CopyFacts.{AreGiven, HasGiven, WasKept, Told, given_still, kept_still, links_still}
 use Rattle.nf_net.proofs.CopyGives.{given_spell, to_give}
@@ -31,12 +25,12 @@ use Rattle.nf_net.proofs.CountedRoom.{room}
 use Rattle.nf_net.proofs.JudgedRuns.{run_judging}
 use Rattle.nf_net.proofs.JudgedSteps.{OneOf, In_first, In_second, one_of, none_once}
 use Rattle.nf_net.proofs.JudgedTables.{used_few}
-use Rattle.nf_net.proofs.RunKeeps.{start}
+use Rattle.nf_net.proofs.RunKeeps.{start, run_keeps}
 use Rattle.nf_net.proofs.StandbyFronts.{went_more}
 use Rattle.nf_net.proofs.VerdictLemmas.{none_exported, exported_new, before_export_new}
 
 get_notes : {F R : Type 0} (f : Semantics R) (i : InstanceState F R) (op : ℕ) (filter : Filter)
-    → (instance_step f i (msg.Get op filter)).notes ≡ note.Exported i.index op (units_in (selected_chunks f i filter)) ∷ []
+    → (instance_step f i (Msg.Get op filter)).notes ≡ Note.Exported i.index op (units_in (selected_chunks f i filter)) ∷ []
 unfolding on_get
 get_notes f i op filter = refl
 
@@ -44,13 +38,13 @@ get_notes f i op filter = refl
 module _ {F R : Type 0} (f : Semantics R) (c : Config) (items : List Msg) (g : Given) (first : Network (Node F R) Msg Note) (cs : List Choice)
     (log : List Note) where
   switch_told : (r : ℕ) (m : Msg) → Label f g 0 r m → Told f c items first cs log 0 r m
-  switch_told r (msg.Get op filter) label = let never = label.0.0 in absurd (omega (arith, never))
-  switch_told r (msg.GetAll op) label = let never = label.0 in absurd (omega (arith, never))
-  switch_told r (msg.Chunks op chunks) label = let never = label.0.0 in absurd (omega (arith, never))
-  switch_told r (msg.AllChunk op chunk) label = let never = label.0 in absurd (omega (arith, never))
-  switch_told r (msg.Standby op chunks) label = let never = label.0.0 in absurd (omega (arith, never))
-  switch_told r (msg.PutAll op chunk) label = let never = label.0 in absurd (omega (arith, never))
-  switch_told r (msg.Kept op) label = let never = label.0 in absurd (omega (arith, never))
+  switch_told r (Msg.Get op filter) label = let never = label.0.0 in absurd (omega (arith, never))
+  switch_told r (Msg.GetAll op) label = let never = label.0 in absurd (omega (arith, never))
+  switch_told r (Msg.Chunks op chunks) label = let never = label.0.0 in absurd (omega (arith, never))
+  switch_told r (Msg.AllChunk op chunk) label = let never = label.0 in absurd (omega (arith, never))
+  switch_told r (Msg.Standby op chunks) label = let never = label.0.0 in absurd (omega (arith, never))
+  switch_told r (Msg.PutAll op chunk) label = let never = label.0 in absurd (omega (arith, never))
+  switch_told r (Msg.Kept op) label = let never = label.0 in absurd (omega (arith, never))
   switch_told r m label = tt
 
   switch_tells : (sends : List (ℕ × Msg)) → EachSent (Label f g) 0 sends → EachSent (Told f c items first cs log) 0 sends
@@ -59,10 +53,10 @@ module _ {F R : Type 0} (f : Semantics R) (c : Config) (items : List Msg) (g : G
 
   items_told : (ms : List Msg) → labels.Each (λ item. is_item item ≡ true) ms → Each (Told f c items first cs log 0 0) ms
   items_told [] h = tt
-  items_told (msg.InCommand k ∷ ms) h = (tt, items_told ms h.1)
-  items_told (msg.InPacket p ∷ ms) h = (tt, items_told ms h.1)
-  items_told (msg.InSettle ∷ ms) h = (tt, items_told ms h.1)
-  items_told (msg.InEnd ∷ ms) h = (tt, items_told ms h.1)
+  items_told (Msg.InCommand k ∷ ms) h = (tt, items_told ms h.1)
+  items_told (Msg.InPacket p ∷ ms) h = (tt, items_told ms h.1)
+  items_told (Msg.InSettle ∷ ms) h = (tt, items_told ms h.1)
+  items_told (Msg.InEnd ∷ ms) h = (tt, items_told ms h.1)
   items_told (m ∷ ms) h = let never : false ≡ true = h.0 in cc
 
 module _ (F : Type 0) {R : Type 0} (f : Semantics R) (laws : FunctionLaws f) (alloc : Global) (c : Config) (items : List Msg)
@@ -94,12 +88,9 @@ module _ (F : Type 0) {R : Type 0} (f : Semantics R) (laws : FunctionLaws f) (al
     found = λ copy of e. cc;
   }
 
-  module _ (cs : List Choice) (run_is : IsRun node_ready step cs first) (k p : ℕ) (h : Copying cs (run step cs first)) where
+  module _ (cs : List Choice) (r : Runs F f laws alloc c items is (run step cs first)) (k p : ℕ) (h : Copying cs (run step cs first)) where
     abbrev w : Network (Node F R) Msg Note
     w = run step cs first
-
-    abbrev r : InRun F f laws alloc c items is w
-    r = runs_joined F f laws alloc c items is cs run_is
 
     abbrev j : Joined f g n w
     j = r.joined
@@ -145,23 +136,24 @@ module _ (F : Type 0) {R : Type 0} (f : Semantics R) (laws : FunctionLaws f) (al
       other : ((op : ℕ) → answers_of op (step node p m).notes ≡ []) → EachSent (Tells later log) k (step node p m).sends → Leaves
       other none says = record { says = says; found = λ copy of e. (let never = sym (none copy.op) ∙ e in cc) }
 
-  module _ (cs : List Choice) (run_is : IsRun node_ready step cs first) (p : ℕ) (h : Copying cs (run step cs first)) (rest : List Msg) where
-    at_switch : (m : Msg) → Label f g p 0 m → EachSent (Label f g) 0 (step (node_of (j cs run_is 0 p h).nodes 0) p m).sends
-        → (takes : Takes step n (w cs run_is 0 p h) 0 p (node_of (j cs run_is 0 p h).nodes 0) m rest)
-        → Leaves cs run_is 0 p h (node_of (j cs run_is 0 p h).nodes 0) m rest takes
+  module _ (cs : List Choice) (run_is : IsRun node_ready step cs first) (r : Runs F f laws alloc c items is (run step cs first)) (p : ℕ)
+      (h : Copying cs (run step cs first)) (rest : List Msg) where
+    at_switch : (m : Msg) → Label f g p 0 m → EachSent (Label f g) 0 (step (node_of (j cs r 0 p h).nodes 0) p m).sends
+        → (takes : Takes step n (w cs r 0 p h) 0 p (node_of (j cs r 0 p h).nodes 0) m rest)
+        → Leaves cs r 0 p h (node_of (j cs r 0 p h).nodes 0) m rest takes
     at_switch m label sent takes =
-        let s = (j cs run_is 0 p h).nodes.switch in
-        other cs run_is 0 p h (node_of (j cs run_is 0 p h).nodes 0) m rest takes
+        let s = (j cs r 0 p h).nodes.switch in
+        other cs r 0 p h (node_of (j cs r 0 p h).nodes 0) m rest takes
         (λ op. none_answered op (switch_step s m).notes (other_not_answered op (switch_step s m).notes (switch_hands f g s p m label).notes_are))
-        (switch_tells f c items g first (cs ++ at 0 p ∷ []) (log cs run_is 0 p h (node_of (j cs run_is 0 p h).nodes 0) m rest takes) (switch_step s m).sends
+        (switch_tells f c items g first (cs ++ at 0 p ∷ []) (log cs r 0 p h (node_of (j cs r 0 p h).nodes 0) m rest takes) (switch_step s m).sends
         sent)
 
-    at_controller : (m : Msg) → Label f g p 1 m → (takes : Takes step n (w cs run_is 1 p h) 1 p (node_of (j cs run_is 1 p h).nodes 1) m rest)
-        → Leaves cs run_is 1 p h (node_of (j cs run_is 1 p h).nodes 1) m rest takes
+    at_controller : (m : Msg) → Label f g p 1 m → (takes : Takes step n (w cs r 1 p h) 1 p (node_of (j cs r 1 p h).nodes 1) m rest)
+        → Leaves cs r 1 p h (node_of (j cs r 1 p h).nodes 1) m rest takes
     at_controller m label takes =
-        let x = j cs run_is 1 p h in
-        let did = controller_did f c items is first cs (at 1 p) (w cs run_is 1 p h).log x.nodes.controller x.world.ops x.world.shares x.world.next p
-        x.shown_is.controller m label (was cs run_is 1 p h (node_of x.nodes 1) m rest takes) in
+        let x = j cs r 1 p h in
+        let did = controller_did f c items is first cs (at 1 p) (w cs r 1 p h).log x.nodes.controller x.world.ops x.world.shares x.world.next p
+        x.shown_is.controller m label (was cs r 1 p h (node_of x.nodes 1) m rest takes) in
         record { says = did.says; found = did.found }
 
     -- An instance.
@@ -169,8 +161,8 @@ module _ (F : Type 0) {R : Type 0} (f : Semantics R) (laws : FunctionLaws f) (al
       abbrev z : ℕ
       z = suc (suc y)
 
-      abbrev x : Joined f g n (w cs run_is z p h)
-      x = j cs run_is z p h
+      abbrev x : Joined f g n (w cs r z p h)
+      x = j cs r z p h
 
       abbrev i : InstanceState F R
       i = x.nodes.instance z
@@ -179,46 +171,46 @@ module _ (F : Type 0) {R : Type 0} (f : Semantics R) (laws : FunctionLaws f) (al
       notes_of m = (instance_step f i m).notes
 
       abbrev Known : Msg → ℕ → ℕ → Msg → Type 0
-      Known m = Tells (cs ++ at z p ∷ []) ((w cs run_is z p h).log ++ notes_of m)
+      Known m = Tells (cs ++ at z p ∷ []) ((w cs r z p h).log ++ notes_of m)
 
       abbrev TakesHere : Msg → Type 0
-      TakesHere m = Takes step n (w cs run_is z p h) z p (Instance i) m rest
+      TakesHere m = Takes step n (w cs r z p h) z p (Instance i) m rest
 
       -- what a source gives
-      module _ (op : ℕ) (filter : Filter) (takes : TakesHere (msg.Get op filter))
-          (sent : EachSent (Label f g) z (instance_step f i (msg.Get op filter)).sends) where
+      module _ (op : ℕ) (filter : Filter) (takes : TakesHere (Msg.Get op filter))
+          (sent : EachSent (Label f g) z (instance_step f i (Msg.Get op filter)).sends) where
         abbrev m : Msg
-        m = msg.Get op filter
+        m = Msg.Get op filter
 
-        none_before : exported_for op (w cs run_is z p h).log ≡ None
+        none_before : exported_for op (w cs r z p h).log ≡ None
         none_before =
-            let weight = total_after step n (w cs run_is z p h) z p (Instance i) m rest takes (once false op) in
+            let weight = total_after step n (w cs r z p h) z p (Instance i) m rest takes (once false op) in
             let none = none_once f g op false n z (step (Instance i) p m).sends (λ never. absurd (omega (arith, never))) sent in
             let own : (op == op) ≡ true = grind (arith, nat_tests) in
             let one : once false op m ≡ 1 = rw own refl in
             let judging = run_judging F f laws alloc c items is cs run_is in
             let most = judging.once op false in
-            let few = used_few (finite.get judging.controller.operations op) (is_begun op (w cs run_is z p h).log) false in
-            none_exported op (w cs run_is z p h).log (omega (arith, weight, none, one, most, few))
+            let few = used_few (finite.get judging.controller.operations op) (is_begun op (w cs r z p h).log) false in
+            none_exported op (w cs r z p h).log (omega (arith, weight, none, one, most, few))
 
-        there : slice_get (w cs run_is z p h).nodes (instance_node y) ≡ Some (Instance i)
+        there : slice_get (w cs r z p h).nodes (instance_node y) ≡ Some (Instance i)
         there =
             let number : instance_node y ≡ z = omega arith in
-            subst (λ q. slice_get (w cs run_is z p h).nodes q ≡ Some (Instance i)) (sym number) (slice_get-get_or (w cs run_is z p h).nodes z (Instance i)
+            subst (λ q. slice_get (w cs r z p h).nodes q ≡ Some (Instance i)) (sym number) (slice_get-get_or (w cs r z p h).nodes z (Instance i)
             (let small = takes.receiver in let count = takes.count in rw count small) ∙ ap Some (x.nodes_are z takes.receiver (Instance i)))
 
         gives : (copy : UnitCopy) → copy.op ≡ op → IsOrdered c items copy
-            → AreGiven f c items first (cs ++ at z p ∷ []) ((w cs run_is z p h).log ++ notes_of m) copy (selected_chunks f i filter)
+            → AreGiven f c items first (cs ++ at z p ∷ []) ((w cs r z p h).log ++ notes_of m) copy (selected_chunks f i filter)
         gives copy same of =
-            let it = was cs run_is z p h (Instance i) m rest takes copy same of in
+            let it = was cs r z p h (Instance i) m rest takes copy same of in
             let us = units_in (selected_chunks f i filter) in
             let own : (op == op) ≡ true = grind (arith, nat_tests) in
             let noted = get_notes f i op filter in
-            let log0 = (w cs run_is z p h).log in
-            let given_now : exported_for op (note.Exported i.index op us ∷ []) ≡ Some us = rw own refl in
+            let log0 = (w cs r z p h).log in
+            let given_now : exported_for op (Note.Exported i.index op us ∷ []) ≡ Some us = rw own refl in
             let units_are : exported_for op (log0 ++ notes_of m) ≡ Some us = exported_new op log0 (notes_of m) none_before ∙ ap (exported_for op) noted
             ∙ given_now in
-            let none_before_now : before_export op (note.Exported i.index op us ∷ []) ≡ [] = rw own refl in
+            let none_before_now : before_export op (Note.Exported i.index op us ∷ []) ≡ [] = rw own refl in
             let before : before_export op (log0 ++ notes_of m) ≡ log0 = before_export_new op log0 (notes_of m) none_before
             ∙ ap (λ ns. log0 ++ before_export op ns) noted ∙ ap (λ ns. log0 ++ ns) none_before_now ∙ append-nil log0 in
             let has_begun : is_begun copy.op log0 ≡ true = ap (λ q. is_begun q log0) same ∙ it.2 in
@@ -238,100 +230,87 @@ module _ (F : Type 0) {R : Type 0} (f : Semantics R) (laws : FunctionLaws f) (al
                 gave = ap (λ q. before_export q (log0 ++ notes_of m)) same ∙ before;
               };
               bring = λ u kept taken_so live. given_spell f laws i filter two.records.sound u kept (ap (λ q. filters.takes q u) it.0 ∙ taken_so)
-                  (sym (ap (live_in u) there) ∙ ap (λ q. live_at (w cs run_is z p h) q u) (sym at_source) ∙ live);
+                  (sym (ap (live_in u) there) ∙ ap (λ q. live_at (w cs r z p h) q u) (sym at_source) ∙ live);
             }
 
       -- what a destination keeps
-      module _ (op : ℕ) (chunks : List Chunk) (takes : TakesHere (msg.Standby op chunks)) (label : Label f g p z (msg.Standby op chunks))
-          (few : (u : units.Unit) → length (processed_of f c items u (world_next step (w cs run_is z p h) (at z p)).log) ≤ most_counted) where
+      module _ (op : ℕ) (chunks : List Chunk) (takes : TakesHere (Msg.Standby op chunks)) (label : Label f g p z (Msg.Standby op chunks))
+          (few : (u : Unit) → length (processed_of f c items u (world_next step (w cs r z p h) (at z p)).log) ≤ most_counted) where
         abbrev q : Msg
-        q = msg.Standby op chunks
+        q = Msg.Standby op chunks
 
         keeps : (copy : UnitCopy) → copy.op ≡ op → IsOrdered c items copy
-            → WasKept f c items first (cs ++ at z p ∷ []) ((w cs run_is z p h).log ++ notes_of q) copy
+            → WasKept f c items first (cs ++ at z p ∷ []) ((w cs r z p h).log ++ notes_of q) copy
         unfolding given_still
         keeps copy same of =
-            let it = was cs run_is z p h (Instance i) q rest takes copy same of in
-            let by : HasGiven f c items first cs (w cs run_is z p h).log copy = it.1.by in
+            let it = was cs r z p h (Instance i) q rest takes copy same of in
+            let by : HasGiven f c items first cs (w cs r z p h).log copy = it.1.by in
             let here : instance_node y ≡ z = omega arith in
             let at_destination : y ≡ copy.destination = (let node = it.0 in omega (arith, node, here)) in
             record {
-              by = given_still f c items first cs (at z p) (w cs run_is z p h).log (notes_of q) copy by;
+              by = given_still f c items first cs (at z p) (w cs r z p h).log (notes_of q) copy by;
               until = cs ++ at z p ∷ [];
               since = [];
               whole = append-nil (cs ++ at z p ∷ []);
               stood = stood copy it.1 at_destination;
             }
           where
-            stood : (copy : UnitCopy) (it : AreGiven f c items first cs (w cs run_is z p h).log copy chunks) → y ≡ copy.destination
-                → (u : units.Unit) (kept : R) → filters.takes copy.filter u ≡ true → live_at (run step it.by.before first) copy.source u ≡ Some kept
+            stood : (copy : UnitCopy) (it : AreGiven f c items first cs (w cs r z p h).log copy chunks) → y ≡ copy.destination
+                → (u : Unit) (kept : R) → filters.takes copy.filter u ≡ true → live_at (run step it.by.before first) copy.source u ≡ Some kept
                 → (now : StandsBy (job_of f c items) (run step (cs ++ at z p ∷ []) first) copy.destination u)
                 × IsFront (processed_of f c items u (run step it.by.before first).log) now.front
             stood copy it at_destination u kept taken_so live =
                 let xs = processed_of f c items u (run step it.by.before first).log in
                 let folds = it.by.to_give.had u kept taken_so live in
-                let front : IsFront xs (processed_of f c items u (w cs run_is z p h).log) = record {
+                let front : IsFront xs (processed_of f c items u (w cs r z p h).log) = record {
                   rest = processed_of f c items u it.by.rest;
                   whole = sym (went_more f c items u (run step it.by.before first).log it.by.rest) ∙ ap (processed_of f c items u) (sym it.by.log_is);
                 } in
-                let now = kept_at f laws c items is n (w cs run_is z p h) x y p op chunks rest takes label.1 u xs kept front folds
+                let now = kept_at f laws c items is n (w cs r z p h) x y p op chunks rest takes label.1 u xs kept front folds
                 (it.bring u kept taken_so live) (few u) in
                 subst (λ d. (now : StandsBy (job_of f c items) (run step (cs ++ at z p ∷ []) first) d u) × IsFront xs now.front) at_destination (subst
-                (λ a. (now : StandsBy (job_of f c items) a y u) × IsFront xs now.front) (run_more step cs (at z p) first (w cs run_is z p h) refl) now)
+                (λ a. (now : StandsBy (job_of f c items) a y u) × IsFront xs now.front) (run_more step cs (at z p) first (w cs r z p h) refl) now)
 
       answer_told : (m : Msg) (op : ℕ) (sends : List (ℕ × Msg)) → ((copy : UnitCopy) → copy.op ≡ op → IsOrdered c items copy
-          → WasKept f c items first (cs ++ at z p ∷ []) ((w cs run_is z p h).log ++ notes_of m) copy)
+          → WasKept f c items first (cs ++ at z p ∷ []) ((w cs r z p h).log ++ notes_of m) copy)
           → IsAnswer op sends → EachSent (Known m) z sends
       answer_told m op sends kept_so (inl none) = subst (λ xs. EachSent (Known m) z xs) (sym none) tt
       answer_told m op sends kept_so (inr one) = subst (λ xs. EachSent (Known m) z xs) (sym one) (kept_so, tt)
 
       tells : (m : Msg) → Label f g p z m → EachSent (Label f g) z (instance_step f i m).sends → (takes : TakesHere m)
-          → ((u : units.Unit) → length (processed_of f c items u (world_next step (w cs run_is z p h) (at z p)).log) ≤ most_counted)
+          → ((u : Unit) → length (processed_of f c items u (world_next step (w cs r z p h) (at z p)).log) ≤ most_counted)
           → EachSent (Known m) z (instance_step f i m).sends
-      tells (msg.Get op filter) label sent takes few =
-          subst (λ xs. EachSent (Known (msg.Get op filter)) z xs) (sym (get_sent f i op filter)) (gives op filter takes sent, tt)
-      tells (msg.Standby op chunks) label sent takes few = answer_told (msg.Standby op chunks) op (instance_step f i (msg.Standby op chunks)).sends
+      tells (Msg.Get op filter) label sent takes few =
+          subst (λ xs. EachSent (Known (Msg.Get op filter)) z xs) (sym (get_sent f i op filter)) (gives op filter takes sent, tt)
+      tells (Msg.Standby op chunks) label sent takes few = answer_told (Msg.Standby op chunks) op (instance_step f i (Msg.Standby op chunks)).sends
           (keeps op chunks takes label few) (standby_sent f i op chunks)
-      tells (msg.PutAll op chunk) label sent takes few = answer_told (msg.PutAll op chunk) op (instance_step f i (msg.PutAll op chunk)).sends
-          (λ copy same of. absurd (was cs run_is z p h (Instance i) (msg.PutAll op chunk) rest takes copy same of)) (put_all_sent f i op chunk)
-      tells (msg.GetAll op) label sent takes few = (λ copy same of. was cs run_is z p h (Instance i) (msg.GetAll op) rest takes copy same of, tt)
-      tells (msg.Chunks op chunks) label sent takes few = tt
-      tells (msg.AllChunk op chunk) label sent takes few = tt
-      tells (msg.Kept op) label sent takes few = tt
+      tells (Msg.PutAll op chunk) label sent takes few = answer_told (Msg.PutAll op chunk) op (instance_step f i (Msg.PutAll op chunk)).sends
+          (λ copy same of. absurd (was cs r z p h (Instance i) (Msg.PutAll op chunk) rest takes copy same of)) (put_all_sent f i op chunk)
+      tells (Msg.GetAll op) label sent takes few = (λ copy same of. was cs r z p h (Instance i) (Msg.GetAll op) rest takes copy same of, tt)
+      tells (Msg.Chunks op chunks) label sent takes few = tt
+      tells (Msg.AllChunk op chunk) label sent takes few = tt
+      tells (Msg.Kept op) label sent takes few = tt
       tells m label sent takes few =
-          all_none f c items is first cs (at z p) (w cs run_is z p h).log (notes_of m) z (instance_step f i m).sends (other_none f i m refl)
+          all_none f c items is first cs (at z p) (w cs r z p h).log (notes_of m) z (instance_step f i m).sends (other_none f i m refl)
 
       at_instance : (m : Msg) → Label f g p z m → EachSent (Label f g) z (instance_step f i m).sends → (takes : TakesHere m)
-          → ((u : units.Unit) → length (processed_of f c items u (world_next step (w cs run_is z p h) (at z p)).log) ≤ most_counted)
-          → Leaves cs run_is z p h (Instance i) m rest takes
-      at_instance m label sent takes few = other cs run_is z p h (Instance i) m rest takes
+          → ((u : Unit) → length (processed_of f c items u (world_next step (w cs r z p h) (at z p)).log) ≤ most_counted)
+          → Leaves cs r z p h (Instance i) m rest takes
+      at_instance m label sent takes few = other cs r z p h (Instance i) m rest takes
           (λ op. none_answered op (notes_of m) (other_not_answered op (notes_of m) (instance_says f g z i m).notes_are))
           (tells m label sent takes few)
 
-    each_next : (k : ℕ) (m : Msg) (takes : Takes step n (w cs run_is k p h) k p (node_of (j cs run_is k p h).nodes k) m rest)
-        → Label f g p k m → EachSent (Label f g) k (step (node_of (j cs run_is k p h).nodes k) p m).sends
-        → ((u : units.Unit) → length (processed_of f c items u (world_next step (w cs run_is k p h) (at k p)).log) ≤ most_counted)
-        → Copying (cs ++ at k p ∷ []) (world_next step (w cs run_is k p h) (at k p))
-    each_next zero m takes label sent few = leaves cs run_is 0 p h (node_of (j cs run_is 0 p h).nodes 0) m rest takes (at_switch m label sent takes)
-    each_next (suc zero) m takes label sent few = leaves cs run_is 1 p h (node_of (j cs run_is 1 p h).nodes 1) m rest takes (at_controller m label takes)
+    each_next : (k : ℕ) (m : Msg) (takes : Takes step n (w cs r k p h) k p (node_of (j cs r k p h).nodes k) m rest)
+        → Label f g p k m → EachSent (Label f g) k (step (node_of (j cs r k p h).nodes k) p m).sends
+        → ((u : Unit) → length (processed_of f c items u (world_next step (w cs r k p h) (at k p)).log) ≤ most_counted)
+        → Copying (cs ++ at k p ∷ []) (world_next step (w cs r k p h) (at k p))
+    each_next zero m takes label sent few = leaves cs r 0 p h (node_of (j cs r 0 p h).nodes 0) m rest takes (at_switch m label sent takes)
+    each_next (suc zero) m takes label sent few = leaves cs r 1 p h (node_of (j cs r 1 p h).nodes 1) m rest takes (at_controller m label takes)
     each_next (suc (suc y)) m takes label sent few =
-        leaves cs run_is (suc (suc y)) p h (node_of (j cs run_is (suc (suc y)) p h).nodes (suc (suc y))) m rest takes (at_instance y m label sent takes few)
+        leaves cs r (suc (suc y)) p h (node_of (j cs r (suc (suc y)) p h).nodes (suc (suc y))) m rest takes (at_instance y m label sent takes few)
 
   -- every run keeps it
   pub run_copying : (cs : List Choice) → IsRun node_ready step cs first → Copying cs (run step cs first)
-  run_copying cs run_is = run_induction node_ready step n Copying first
-      (λ ds w d next h. subst (λ v. Taking node_ready step n v d → Copying ds v → Copying (ds ++ d ∷ []) (world_next step v d)) (sym next.reached)
-      (λ t x. next_copying ds next.is_run d t x) next.taking h)
-      (start_world F f laws alloc c items is) (count_at_start F f alloc c items is) start_copying cs run_is
-    where
-      next_copying : (ds : List Choice) (ds_is : IsRun node_ready step ds first) (d : Choice) → Taking node_ready step n (run step ds first) d
-          → Copying ds (run step ds first) → Copying (ds ++ d ∷ []) (world_next step (run step ds first) d)
-      next_copying ds ds_is d t h =
-          let fitting = all_fit f c items is in
-          let w = run step ds first in
-          let r = runs_joined F f laws alloc c items is ds ds_is in
-          each_next ds ds_is d.port h t.rest d.node t.message
-          (its_takes f laws g fitting n refl w d t r.joined r.beside)
-          (its_label f laws g fitting n refl w d t r.joined r.beside)
-          (its_labels f laws g fitting n refl w d t r.joined r.beside)
-          (room F f laws alloc c items is (world_next step w d) (next_in_run F f laws alloc c items is w d t r))
+  run_copying = run_keeps F f laws alloc c items is Copying start_copying (λ ds ok d s h. each_next ds ok s.runs d.port h s.taking.rest d.node
+      s.taking.message s.takes s.taken.label s.labels (room F f laws alloc c items is (world_next step (run step ds first) d)
+      (next_in_run F f laws alloc c items is (run step ds first) d s (runs_joined F f laws alloc c items is ds ok).in_turn)))

@@ -4,12 +4,8 @@ use Rattle.nf_net.proofs.Words.{◌||◌, or-true, Decides-eqb, nat_tests, Filte
 use Rattle.nf_net.proofs.Words.{instance_node, MoveState, MoveRow, row_in, CopyState, ShareState, Operation, Move, Copy, Share, turn_of, turn_of_move}
 use Rattle.nf_net.proofs.Words.{turn_of_copy, ControllerState, Choice, Network, EachSent, Each, Open, OpenShare, Config, Node, is_begun, answers_of, IsInput}
 use Rattle.nf_net.proofs.Words.{has_begun-append, sent-append, row_by, CopyTurn, Idle, Hands, Hands_all, Ends, hands, copy_turn, NotShared, noted, is_uncopied}
-use Rattle.nf_net.proofs.Words.{all_sent, TurnSo, Given, IsCopyPlan, Label, given}
+use Rattle.nf_net.proofs.Words.{all_sent, TurnSo, Given, IsCopyPlan, Label, given, Done, UnitCopy, IsOrdered}
 use Rattle.std.specs.FinMap as finite
-use Rattle.nf_msgs.specs.declared.answer.Answer.TheVariants.{Done}
-use Rattle.nf_msgs.specs.declared.command.Order.TheVariants as order
-use Rattle.nf_msgs.specs.declared.msg.Msg.TheVariants as msg
-use Rattle.nf_msgs.specs.declared.note.Note.TheVariants as note
 use Rattle.copy_share.specs.Copy as copying
 use Rattle.ctrl_node.specs.Controller as ctrl
 use Rattle.ctrl_node.specs.Controller.{Step, still}
@@ -20,7 +16,6 @@ use Rattle.proof_outlines.proofs.joined.Joined.{IsController}
 use Rattle.nf_net.proofs.answers.BusyLemmas.{first_is}
 use Rattle.nf_net.proofs.answers.ControllerCases.{OpensBy, Opens_copy, by_command, by_finish, by_operation, by_queue}
 use Rattle.nf_net.proofs.answers.ShareTells.{ShareStep, handed_share, queued_share}
-use Rattle.nf_net.specs.Copies.{UnitCopy, IsOrdered}
 use Rattle.nf_net.proofs.CopyFacts.{WasKept, Told, told_still}
 use Rattle.nf_net.proofs.CopyController.{row_ends, not_refused, is_shared, answer_shared}
 
@@ -34,13 +29,13 @@ module _ {F R : Type 0} (f : Semantics R) (c : Config) (items : List Msg) (is : 
   Tells notes = Told f c items start (cs ++ d ∷ []) (log ++ notes)
 
   of_none : (notes : List Note) (s r : ℕ) (m : Msg) → is_of_copy m ≡ false → Tells notes s r m
-  of_none notes s r (msg.Get op filter) e = cc
-  of_none notes s r (msg.GetAll op) e = cc
-  of_none notes s r (msg.Chunks op chunks) e = cc
-  of_none notes s r (msg.AllChunk op chunk) e = cc
-  of_none notes s r (msg.Standby op chunks) e = cc
-  of_none notes s r (msg.PutAll op chunk) e = cc
-  of_none notes s r (msg.Kept op) e = cc
+  of_none notes s r (Msg.Get op filter) e = cc
+  of_none notes s r (Msg.GetAll op) e = cc
+  of_none notes s r (Msg.Chunks op chunks) e = cc
+  of_none notes s r (Msg.AllChunk op chunk) e = cc
+  of_none notes s r (Msg.Standby op chunks) e = cc
+  of_none notes s r (Msg.PutAll op chunk) e = cc
+  of_none notes s r (Msg.Kept op) e = cc
   of_none notes s r m e = tt
 
   pub all_none : (notes : List Note) (s : ℕ) (sends : List (ℕ × Msg)) → AreNoCopies sends → EachSent (Tells notes) s sends
@@ -49,21 +44,21 @@ module _ {F R : Type 0} (f : Semantics R) (c : Config) (items : List Msg) (is : 
 
   -- a message doesn't ask for the units of a copy
   abbrev AsksNot : Msg → Type 0
-  AsksNot (msg.Get op filter) = (copy : UnitCopy) → copy.op ≡ op → IsOrdered c items copy → ⊥
+  AsksNot (Msg.Get op filter) = (copy : UnitCopy) → copy.op ≡ op → IsOrdered c items copy → ⊥
   AsksNot m = Unit {0}
 
   others : (m : Msg) → is_uncopied m ≡ true → AsksNot m
-  others (msg.Get op filter) e = cc
+  others (Msg.Get op filter) e = cc
   others m e = tt
 
   shared_tells : (notes : List Note) (r : ℕ) (m : Msg) → is_shared m ≡ true → AsksNot m → Tells notes 1 r m
-  shared_tells notes r (msg.Get op filter) e h = λ copy same of. absurd (h copy same of)
-  shared_tells notes r (msg.GetAll op) e h = cc
-  shared_tells notes r (msg.Chunks op chunks) e h = cc
-  shared_tells notes r (msg.AllChunk op chunk) e h = cc
-  shared_tells notes r (msg.Standby op chunks) e h = cc
-  shared_tells notes r (msg.PutAll op chunk) e h = cc
-  shared_tells notes r (msg.Kept op) e h = cc
+  shared_tells notes r (Msg.Get op filter) e h = λ copy same of. absurd (h copy same of)
+  shared_tells notes r (Msg.GetAll op) e h = cc
+  shared_tells notes r (Msg.Chunks op chunks) e h = cc
+  shared_tells notes r (Msg.AllChunk op chunk) e h = cc
+  shared_tells notes r (Msg.Standby op chunks) e h = cc
+  shared_tells notes r (Msg.PutAll op chunk) e h = cc
+  shared_tells notes r (Msg.Kept op) e h = cc
   shared_tells notes r m e h = tt
 
   shares_tell : (notes : List Note) (sends : List (ℕ × Msg)) → Each (λ x. is_shared x.1 ≡ true) sends → Each (λ x. AsksNot x.1) sends
@@ -72,17 +67,17 @@ module _ {F R : Type 0} (f : Semantics R) (c : Config) (items : List Msg) (is : 
   shares_tell notes (x ∷ xs) h k = (shared_tells notes x.0 x.1 h.0 k.0, shares_tell notes xs h.1 k.1)
 
   -- Orders are one thing.
-  same_copy : (a b x y : List ℕ) (o p : Option Filter) (k : Option Order) → k ≡ Some (order.Copy a b o) → k ≡ Some (order.Copy x y p)
+  same_copy : (a b x y : List ℕ) (o p : Option Filter) (k : Option Order) → k ≡ Some (Order.Copy a b o) → k ≡ Some (Order.Copy x y p)
       → (a ≡ x) × (b ≡ y) × (o ≡ p)
-  same_copy a b x y o p k h q = let both : Some (order.Copy a b o) ≡ Some (order.Copy x y p) = sym h ∙ q in (cc, cc, cc)
+  same_copy a b x y o p k h q = let both : Some (Order.Copy a b o) ≡ Some (Order.Copy x y p) = sym h ∙ q in (cc, cc, cc)
 
-  not_move : (a b : List ℕ) (o : Option Filter) (x y : List ℕ) (filter : Filter) (keep : Bool) (k : Option Order) → k ≡ Some (order.Copy a b o)
-      → k ≡ Some (order.Move x y filter keep) → ⊥
-  not_move a b o x y filter keep k h q = let both : Some (order.Copy a b o) ≡ Some (order.Move x y filter keep) = sym h ∙ q in cc
+  not_move : (a b : List ℕ) (o : Option Filter) (x y : List ℕ) (filter : Filter) (keep : Bool) (k : Option Order) → k ≡ Some (Order.Copy a b o)
+      → k ≡ Some (Order.Move x y filter keep) → ⊥
+  not_move a b o x y filter keep k h q = let both : Some (Order.Copy a b o) ≡ Some (Order.Move x y filter keep) = sym h ∙ q in cc
 
-  not_share : (a b : List ℕ) (o : Option Filter) (names : List (List ℕ)) (filter : Filter) (k : Option Order) → k ≡ Some (order.Copy a b o)
-      → k ≡ Some (order.Share names filter) → ⊥
-  not_share a b o names filter k h q = let both : Some (order.Copy a b o) ≡ Some (order.Share names filter) = sym h ∙ q in cc
+  not_share : (a b : List ℕ) (o : Option Filter) (names : List (List ℕ)) (filter : Filter) (k : Option Order) → k ≡ Some (Order.Copy a b o)
+      → k ≡ Some (Order.Share names filter) → ⊥
+  not_share a b o names filter k h q = let both : Some (Order.Copy a b o) ≡ Some (Order.Share names filter) = sym h ∙ q in cc
 
   module _ (s : ControllerState) (ops : List (Open R)) (shares : List OpenShare) (next p : ℕ) (known : IsController f g s ops shares next) where
     -- what a step sends is known, and where it answers that a copy is done the destination has kept what came
@@ -117,7 +112,7 @@ module _ {F R : Type 0} (f : Semantics R) (c : Config) (items : List Msg) (is : 
     }
 
     -- An open share.
-    share_not : (op : ℕ) (x : ShareState) → finite.get s.operations op ≡ Some (Share x) → AsksNot (msg.Get x.plan.op x.plan.filter)
+    share_not : (op : ℕ) (x : ShareState) → finite.get s.operations op ≡ Some (Share x) → AsksNot (Msg.Get x.plan.op x.plan.filter)
     share_not op x there = λ copy same of. (let it = known.shared op x there in
         not_share of.source of.destination (Some copy.filter) it.plan.names x.plan.filter (g.orders copy.op) of.order_is (ap g.orders same ∙ it.plan.order_is))
 
@@ -138,7 +133,7 @@ module _ {F R : Type 0} (f : Semantics R) (c : Config) (items : List Msg) (is : 
         told_did op (Some why) _ refl (λ a e copy same of done. (let it = known.moves op mv there in
         not_move of.source of.destination (Some copy.filter) it.plan.source it.plan.destination mv.plan.filter mv.plan.keep (g.orders copy.op) of.order_is
         (ap g.orders (same ∙ sym it.op_is) ∙ it.plan.order_is)))
-        (sent-append (Tells (note.Answered op why ∷ [])) 1 r.next.sends ((0, msg.Answered op) ∷ []) (all_none (note.Answered op why ∷ []) 1 r.next.sends none)
+        (sent-append (Tells (Note.Answered op why ∷ [])) 1 r.next.sends ((0, Msg.Answered op) ∷ []) (all_none (Note.Answered op why ∷ []) 1 r.next.sends none)
         (tt, tt))
 
     -- An open copy.
@@ -162,7 +157,7 @@ module _ {F R : Type 0} (f : Semantics R) (c : Config) (items : List Msg) (is : 
       number_of : (k : ℕ) → op_of m ≡ Some k → k ≡ op
       number_of k e = let both : Some k ≡ Some op = sym e ∙ its in cc
 
-      hands_did : (k : ℕ) (chunks : List Chunk) → m ≡ msg.Chunks k chunks → Did (hands s op y (msg.Standby y.plan.op chunks))
+      hands_did : (k : ℕ) (chunks : List Chunk) → m ≡ Msg.Chunks k chunks → Did (hands s op y (Msg.Standby y.plan.op chunks))
       hands_did k chunks e = quiet _ refl (
         (λ copy same of.
             let from : k ≡ op = number_of k (ap op_of e) in
@@ -171,7 +166,7 @@ module _ {F R : Type 0} (f : Semantics R) (c : Config) (items : List Msg) (is : 
         tt,
       )
 
-      hands_all_did : (k : ℕ) (chunk : Chunk) → m ≡ msg.AllChunk k chunk → Did (hands s op y (msg.PutAll y.plan.op chunk))
+      hands_all_did : (k : ℕ) (chunk : Chunk) → m ≡ Msg.AllChunk k chunk → Did (hands s op y (Msg.PutAll y.plan.op chunk))
       hands_all_did k chunk e = quiet _ refl (
         (λ copy same of.
             let from : k ≡ op = number_of k (ap op_of e) in
@@ -179,16 +174,16 @@ module _ {F R : Type 0} (f : Semantics R) (c : Config) (items : List Msg) (is : 
         tt,
       )
 
-      ends_did : (k : ℕ) → m ≡ msg.Kept k → Did (ends s op)
+      ends_did : (k : ℕ) → m ≡ Msg.Kept k → Did (ends s op)
       ends_did k e = record {
         says = (tt, tt);
         found = λ copy of done. elim (op == copy.op)
             as (λ b. (op == copy.op) ≡ b → map (λ (one : ℕ × Answer). one.1) (if b then (op, Done) ∷ [] else []) ≡ Done ∷ []
-            → WasKept f c items start (cs ++ d ∷ []) (log ++ note.Answered op Done ∷ []) copy) [
+            → WasKept f c items start (cs ++ d ∷ []) (log ++ Note.Answered op Done ∷ []) copy) [
               | true ↦ λ on _.
                   let from : k ≡ op = number_of k (ap op_of e) in
-                  let it = subst (λ z. Told f c items start (cs ++ d ∷ []) (log ++ note.Answered op Done ∷ []) p 1 z) e
-                  (told_still f c items start cs d log (note.Answered op Done ∷ []) p 1 m was) in
+                  let it = subst (λ z. Told f c items start (cs ++ d ∷ []) (log ++ Note.Answered op Done ∷ []) p 1 z) e
+                  (told_still f c items start cs d log (Note.Answered op Done ∷ []) p 1 m was) in
                   it copy (sym ((Decides-eqb op copy.op).0 on) ∙ sym from) of
               | false ↦ λ _ never. cc
             ] refl done;
@@ -199,7 +194,7 @@ module _ {F R : Type 0} (f : Semantics R) (c : Config) (items : List Msg) (is : 
       by_turn a row did at (Idle e) = subst Did (sym e) still_did
       by_turn a row did at (Hands k chunks e same) = subst Did (sym same) (hands_did k chunks e)
       by_turn a row did at (Hands_all k chunk e same) = subst Did (sym same) (hands_all_did k chunk e)
-      by_turn None row did at (Ends same) = let never : note.Answered op Done ∷ [] ≡ [] = ap (λ x. x.notes) (sym same ∙ at) in cc
+      by_turn None row did at (Ends same) = let never : Note.Answered op Done ∷ [] ≡ [] = ap (λ x. x.notes) (sym same ∙ at) in cc
       by_turn (Some a) row did at (Ends same) = let it = row_ends y p m a (known.copies op y there).going row in subst Did (sym same) (ends_did it.0 it.1)
 
       copy_did : Did (ctrl.takes_turn s op (turn_of (Some (Copy y)) s.store p m))
@@ -228,9 +223,9 @@ module _ {F R : Type 0} (f : Semantics R) (c : Config) (items : List Msg) (is : 
 
     -- A command that waits.
     module _ (op : ℕ) (none : finite.get s.operations op ≡ None) where
-      begun_now : is_begun op (log ++ note.Begun op ∷ []) ≡ true
+      begun_now : is_begun op (log ++ Note.Begun op ∷ []) ≡ true
       begun_now = let same : (op == op) ≡ true = grind (arith, nat_tests) in
-          has_begun-append (λ k. k == op) log (note.Begun op ∷ []) ∙ ap (λ b. is_begun op log || (b || false)) same ∙ or-true (is_begun op log)
+          has_begun-append (λ k. k == op) log (Note.Begun op ∷ []) ∙ ap (λ b. is_begun op log || (b || false)) same ∙ or-true (is_begun op log)
 
       begun_did : {what : Order} (did : Step) → OpensBy s op what did → g.orders op ≡ Some what → Did did
       begun_did did (Opens_copy {source} {destination} {filter = None} from to at e) what = record {
@@ -279,7 +274,7 @@ module _ {F R : Type 0} (f : Semantics R) (c : Config) (items : List Msg) (is : 
     -- with the finish behind all else
     finished_did : (did : Step) → Did did → Did (ctrl.step_and_finish did)
     finished_did did h =
-        by_finish Did s did (record { says = sent-append (Tells did.notes) 1 did.sends ((0, msg.Finish) ∷ []) h.says (tt, tt); found = h.found })
+        by_finish Did s did (record { says = sent-append (Tells did.notes) 1 did.sends ((0, Msg.Finish) ∷ []) h.says (tt, tt); found = h.found })
         (record { says = sent-append (Tells did.notes) 1 did.sends [] h.says tt; found = h.found })
 
     pub controller_did : (m : Msg) → Label f g p 1 m → Told f c items start cs log p 1 m → Did (ctrl.controller_step s p m)

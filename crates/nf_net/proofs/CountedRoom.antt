@@ -1,7 +1,6 @@
 -- In every run no more is processed of a unit than a record counts.
 use Rattle.nf_net.proofs.Words.{ℕ, suc, ◌+◌, ◌≤◌, Bool, true, false, List, [], ◌∷◌, length, arith, if◌then◌else◌, Global, length-map, FunctionLaws, Semantics}
-use Rattle.nf_net.proofs.Words.{Msg, Note, Network, Config, Node, is_of, processed_of, most_counted, IsInput, arrivals_in, dones_in, done_where}
-use Rattle.nf_function.specs.declared.unit.Unit as units
+use Rattle.nf_net.proofs.Words.{Msg, Note, Network, Config, Node, is_of, processed_of, most_counted, IsInput, arrivals_in, dones_in, done_where, Unit}
 use Rattle.net_world.specs.Input.{packets}
 use Rattle.net_world.specs.Log.{Done}
 use Rattle.nf_net.proofs.answers.ArrivalLemmas.{numbers, InRun}
@@ -21,11 +20,11 @@ module _ (F : Type 0) {R : Type 0} (f : Semantics R) (laws : FunctionLaws f) (al
   abbrev n : ℕ
   n = length c.names + 2
 
-  pub room : (w : Network (Node F R) Msg Note) → InRun F f laws alloc c items is w → (u : units.Unit) → length (processed_of f c items u w.log) ≤ most_counted
+  pub room : (w : Network (Node F R) Msg Note) → InRun F f laws alloc c items is w → (u : Unit) → length (processed_of f c items u w.log) ≤ most_counted
   room w h u =
       let own = length-map (done_where (is_of f c items u) (dones_in w.log)) (λ d. d.number) in
       let some = few_of (is_of f c items u) (dones_in w.log) in
-      let came = few_done f c items is n w h.joined in
+      let came = few_done f c items is n w h.runs.joined in
       let turn = front_length (arrivals_in w.log) (numbers items) (record { rest = _; whole = h.in_turn }) in
       let all = length-map (packets items) (λ p. p.number) in
       let few = is.few in

@@ -4,8 +4,6 @@ use Rattle.nf_net.proofs.Words.{sym, ap, ◌∙◌, subst, arith, ◌&&◌, ◌=
 use Rattle.nf_net.proofs.Words.{Msg, Note, SwitchState, switch_step, takes_in, controller_step, Network, Stepped, reaches, world_next, queue_at, at, Takes}
 use Rattle.nf_net.proofs.Words.{taken_outcome, less_first, EachSent, total, sent_weight, total_after, Config, Node, Switch, has_answered, answers_of, commands}
 use Rattle.nf_net.proofs.Words.{IsInput, node_step, node_ready, answers_of-append, known, Given, Label, Joined, node_of, given}
-use Rattle.nf_msgs.specs.declared.msg.Msg.TheVariants as msg
-use Rattle.nf_msgs.specs.declared.note.Note.TheVariants as note
 use Rattle.actor_net.specs.Network.{is_input}
 use Rattle.nf_net.proofs.answers.AnswerSends.{answering}
 use Rattle.nf_net.proofs.answers.BusyLemmas.{other_not_answered}
@@ -14,8 +12,8 @@ use Rattle.nf_net.proofs.answers.BusyRuns.{Busy}
 use Rattle.nf_net.proofs.answers.ControllerActs.{SaysSo, SaysSo.Neither, SaysSo.Begins, SaysSo.Answers, controller_acts}
 use Rattle.nf_net.proofs.SettleCounts.{answered_in, AllAnswered, all_answered_more, answered_in_same, answered_one, same_ends}
 use Rattle.nf_net.proofs.answers.ToldCommands.{some_answers}
-use Rattle.nf_net.proofs.SettleSteps.{switch_in, asking, Counted, InputGoes, InputGoes.Stays, InputGoes.Loses}
-use Rattle.nf_net.proofs.SettleSteps.{no_answer_to, none_sent, asked_there, switch_counts, few, none_waits}
+use Rattle.nf_net.proofs.SettleSteps.{switch_in, asking, Counted, InputGoes, InputGoes.Stays, InputGoes.Loses, no_answer_to, none_sent, asked_there}
+use Rattle.nf_net.proofs.SettleSteps.{switch_counts, few, none_waits}
 
 module _ (F : Type 0) {R : Type 0} (f : Semantics R) (laws : FunctionLaws f) (alloc : Global) (c : Config) (items : List Msg)
     (is : IsInput f.kind c items) where
@@ -87,7 +85,7 @@ module _ (F : Type 0) {R : Type 0} (f : Semantics R) (laws : FunctionLaws f) (al
           omega (arith, log, weight, less, was, counts, answered, sent)
         where
           counted : (x : Msg) (xs : List Msg) → length (commands (x ∷ xs)) ≡ asking x + length (commands xs)
-          counted (msg.InCommand d) xs = omega arith
+          counted (Msg.InCommand d) xs = omega arith
           counted x xs = omega arith
 
           input_counts : InputGoes m (queue_at w (at 0 0)) (queue_at v (at 0 0)) Is_ready
@@ -102,13 +100,13 @@ module _ (F : Type 0) {R : Type 0} (f : Semantics R) (laws : FunctionLaws f) (al
 
       -- a settle that is taken
       settled_after : h.switch ≡ j.nodes.switch → InputGoes m (queue_at w (at 0 0)) (queue_at v (at 0 0)) Is_ready → (front behind : List Msg)
-          → items ≡ front ++ msg.InSettle ∷ behind → length (queue_at v (at 0 0)) ≤ length behind → AllAnswered (commands front) v.log
+          → items ≡ front ++ Msg.InSettle ∷ behind → length (queue_at v (at 0 0)) ≤ length behind → AllAnswered (commands front) v.log
       settled_after same goes front behind whole short = subst (λ l. AllAnswered (commands front) l)
           (sym (taken_outcome step n w k p (node_of j.nodes k) m rest takes).log) (all_answered_more (commands front) w.log notes (by_goes goes))
         where
-          taken_now : m ∷ queue_at v (at 0 0) ≡ msg.InSettle ∷ behind → takes_in j.nodes.switch m ≡ true → h.switch.waiting ≡ 0
+          taken_now : m ∷ queue_at v (at 0 0) ≡ Msg.InSettle ∷ behind → takes_in j.nodes.switch m ≡ true → h.switch.waiting ≡ 0
           taken_now e on =
-              let settle : m ≡ msg.InSettle = cc in
+              let settle : m ≡ Msg.InSettle = cc in
               ap (λ s. s.waiting) same ∙ (Decides-eqb j.nodes.switch.waiting 0).0 (subst (λ x. takes_in j.nodes.switch x ≡ true) settle on)
 
           by_goes : InputGoes m (queue_at w (at 0 0)) (queue_at v (at 0 0)) Is_ready → AllAnswered (commands front) w.log
@@ -118,7 +116,7 @@ module _ (F : Type 0) {R : Type 0} (f : Semantics R) (laws : FunctionLaws f) (al
                 | true ↦ λ on.
                     let more = (Decides-ltb (length behind) (length (queue_at w (at 0 0)))).0 on in
                     let one = ap length e in
-                    let ends = same_ends h.took (queue_at w (at 0 0)) front (msg.InSettle ∷ behind) (sym h.whole ∙ whole) (omega (arith, more, one, short)) in
+                    let ends = same_ends h.took (queue_at w (at 0 0)) front (Msg.InSettle ∷ behind) (sym h.whole ∙ whole) (omega (arith, more, one, short)) in
                     subst (λ xs. AllAnswered (commands xs) w.log) ends.0 (none_waits g w b items h (taken_now (sym e ∙ ends.1) r.1))
                 | false ↦ λ off. (let few : length (queue_at w (at 0 0)) ≤ length behind = grind (arith, nat_tests, off) in h.settled front behind whole few)
               ] refl
@@ -182,16 +180,16 @@ module _ (F : Type 0) {R : Type 0} (f : Semantics R) (laws : FunctionLaws f) (al
             let stays = answered_in_same (commands items) w.log ns none in omega (arith, same, stays)
 
         -- a command is answered once
-        unanswered_before : (op : ℕ) (a : Answer) → (controller_step j.nodes.controller p m).notes ≡ note.Answered op a ∷ [] → (q : Bool)
+        unanswered_before : (op : ℕ) (a : Answer) → (controller_step j.nodes.controller p m).notes ≡ Note.Answered op a ∷ [] → (q : Bool)
             → has_answered op w.log ≡ q → has_answered op w.log ≡ false
         unanswered_before op a e false is = is
         unanswered_before op a e true is =
             let self : (op == op) ≡ true = grind (arith, nat_tests) in
-            let log : (world_next step w (at 1 p)).log ≡ w.log ++ note.Answered op a ∷ [] = (taken_outcome step n w 1 p (node_of j.nodes 1) m rest it.takes).log
+            let log : (world_next step w (at 1 p)).log ≡ w.log ++ Note.Answered op a ∷ [] = (taken_outcome step n w 1 p (node_of j.nodes 1) m rest it.takes).log
             ∙ ap (λ ns. w.log ++ ns) e in
-            let one : length (answers_of op (note.Answered op a ∷ [])) ≡ 1 = rw self refl in
-            let both = ap (λ l. length (answers_of op l)) log ∙ ap length (answers_of-append op w.log (note.Answered op a ∷ []))
-            ∙ length-append (answers_of op w.log) (answers_of op (note.Answered op a ∷ [])) in
+            let one : length (answers_of op (Note.Answered op a ∷ [])) ≡ 1 = rw self refl in
+            let both = ap (λ l. length (answers_of op l)) log ∙ ap length (answers_of-append op w.log (Note.Answered op a ∷ []))
+            ∙ length-append (answers_of op w.log) (answers_of op (Note.Answered op a ∷ [])) in
             let some = some_answers op w.log is in
             let once = (after.is.answered op).answered_once in
             absurd (omega (arith, one, both, some, once))
@@ -200,7 +198,7 @@ module _ (F : Type 0) {R : Type 0} (f : Semantics R) (laws : FunctionLaws f) (al
             → h.switch.waiting + answered_in (commands items) (world_next step w (at 1 p)).log
             + length (commands (queue_at (world_next step w (at 1 p)) (at 0 0))) ≡ length (commands items) + total answering (world_next step w (at 1 p))
         by_says (Neither e sent) counts = balance_after 1 p m rest it h.switch 0 counts (stays_by [] e (λ op. refl)) sent
-        by_says (Begins op e sent closed) counts = balance_after 1 p m rest it h.switch 0 counts (stays_by (note.Begun op ∷ []) e (λ k. refl)) sent
+        by_says (Begins op e sent closed) counts = balance_after 1 p m rest it h.switch 0 counts (stays_by (Note.Begun op ∷ []) e (λ k. refl)) sent
         by_says (Answers op a what e sent known early) counts = balance_after 1 p m rest it h.switch 1 counts
             (ap (λ ns. answered_in (commands items) (w.log ++ ns)) e
             ∙ answered_one op a what w.log (unanswered_before op a e (has_answered op w.log) refl) 0 (commands items) is.ops known) sent

@@ -1,7 +1,7 @@
 -- Every run keeps the promises, and a complete one those of its end.
 use Rattle.nf_net.proofs.Words.{◌≡◌, ◌≢◌, ℕ, true, Ok, List, length, sym, ap, subst, ◌∙◌, Global, FunctionLaws, Semantics, Msg, Note, Choice, StopsShort}
 use Rattle.nf_net.proofs.Words.{Network, IsRun, is_done, run, Config, Node, IsInput, course_of, job_of, node_step, node_ready, node_ended, started_with}
-use Rattle.nf_net.proofs.Words.{AllHome}
+use Rattle.nf_net.proofs.Words.{AllHome, Completed, Standbys, Verdicts}
 use Rattle.std.proofs.Common.{Result, Err, IfOk}
 use Rattle.actor_net.specs.declared.schedule.Schedule.{Schedule}
 use Rattle.actor_net.specs.declared.replays.ReplayFault.{ReplayFault}
@@ -9,7 +9,7 @@ use Rattle.actor_net.specs.declared.replays.ReplayFault.TheVariants.{NoMemory}
 use Rattle.actor_net.specs.Replays.{replay_of}
 use Rattle.actor_net.proofs.ReplayLaws.{replayed_ok}
 use Rattle.net_world.specs.Runs.{LeadsTo, choices_of, EndsIn, StopsAt}
-use Rattle.nf_net.specs.Promises.{Completed, Promises, Standbys, Verdicts}
+use Rattle.nf_net.specs.Promises.{Promises}
 use Rattle.nf_net.proofs.answers.ArrivalLemmas.{arrivals_run}
 use Rattle.nf_net.proofs.AtMembers.{at_members}
 use Rattle.nf_net.proofs.ChunkMoves.{chunks_moved}

@@ -4,10 +4,9 @@ use Rattle.nf_net.proofs.Words.{◌≡◌, ◌≢◌, ℕ, Bool, true, false, Op
 use Rattle.nf_net.proofs.Words.{Decides-eqb, M_fenced, M_install, M_fence_to, where_true, add, UnitShare, shape, to_members, Sys, IsSys, inst_step, none_mine}
 use Rattle.nf_net.proofs.Words.{done_u, GlobalAll, share_expect, unit_share, share_seen, share_items, own_at, does, heads, inst_from, Under, inst_keeps, seeing}
 use Rattle.nf_net.proofs.Words.{Any, olds, Sharing, IsSharing, WantShare, WholeWorld, moves_of, ran_of, SeeingShare, Came, WhereAll, Apart_from_shares}
-use Rattle.nf_net.proofs.Words.{Under_share, processed_where, same_unit}
-use Rattle.proof_machines.proofs.unit.Real as Real
-use Rattle.proof_machines.proofs.share.Share.{Item, Item.Carry, Item.Fence, Item.Shared}
-use Rattle.proof_machines.proofs.share.Share.{Item.Fenced, Item.Stray, runs}
+use Rattle.nf_net.proofs.Words.{Under_share, processed_where, same_unit, Unit}
+use Rattle.proof_machines.proofs.unit.Real
+use Rattle.proof_machines.proofs.share.Share.{Item, Item.Carry, Item.Fence, Item.Shared, Item.Fenced, Item.Stray, runs}
 use Rattle.proof_machines.proofs.share.Heads.{Meets, meets_sw, meets_to}
 use Rattle.proof_machines.proofs.net.Net.{Msg, Msg.In_packet, Msg.Asked, Msg.Carry_on, Msg.Pass_on, Msg.Fence_on, Msg.Mv, at_node}
 use Rattle.proof_machines.proofs.net.Readings.{fold}
@@ -16,9 +15,8 @@ use Rattle.proof_machines.proofs.net.UnderReadings.{FreshAt, under_fresh}
 use Rattle.proof_machines.proofs.net.Shares.{Any.Old, Any.New, ShareMsg.Shared_on}
 use Rattle.proof_machines.proofs.whole.Readings.{fold_done}
 use Rattle.proof_machines.proofs.whole.FrontSteps.{table_seen}
-use Rattle.nf_function.specs.declared.unit.Unit as units
 
-module _ {R : Type 0} (S : Sys R) (A : Sharing S) (laws : IsSys S) (u : units.Unit) where
+module _ {R : Type 0} (S : Sys R) (A : Sharing S) (laws : IsSys S) (u : Unit) where
   -- where none of a unit ran, none of its packets did
   none_of : (y : ℕ) (ps : List ℕ) → ran_of S A u (at_node y ps) ≡ [] → none_mine S u ps ≡ []
   none_of y [] e = refl

@@ -2,16 +2,13 @@
 -- and isn't answered before, if its home owns a unit that it takes.
 use Rattle.nf_net.proofs.Words.{◌≡◌, ℕ, zero, suc, ◌+◌, ◌≤◌, true, false, Option, Some, None, List, [], ◌∷◌, ◌++◌, length, append-nil, refl, sym, ap, ◌∙◌}
 use Rattle.nf_net.proofs.Words.{subst, arith, option_or, Global, Filter, FunctionLaws, Semantics, takes, Msg, Note, instance_node, switch_step, Share}
-use Rattle.nf_net.proofs.Words.{controller_step, Choice, Network, IsRun, run, world_next, queue_at, Taking, taken_outcome, behind_nil, where_two, OfShare}
-use Rattle.nf_net.proofs.Words.{new_head, Any, S_install, moves_of, seeing, no_change, WhereAll, Apart_from_shares, Under_share, Config, Node, is_begun}
-use Rattle.nf_net.proofs.Words.{has_answered, times_installed, IsInput, order_numbered, installs_in, node_step, node_ready, first_owner, owner_after_order}
-use Rattle.nf_net.proofs.Words.{owner_after, is_home, shared_among, members_after, owner, members, installed-append, is_whole, unit_fits, takes_whole}
-use Rattle.nf_net.proofs.Words.{takes_same, is_sys, real_share, its_takes, its_taken, Given, place, owner_next, S, A, Joined, came_by, Scene, IsTaken, node_of}
-use Rattle.nf_net.proofs.Words.{scene, Wants, node_leads, AllApart, installed_same, installed_quiet, installed_none, Stands, In_first, In_second, stands}
-use Rattle.nf_net.proofs.Words.{instance_quiet, controller_uninstalled, Runs, run_beside, given, all_fit}
-use Rattle.nf_function.specs.declared.unit.Unit as units
-use Rattle.nf_msgs.specs.declared.command.Order.TheVariants as order
-use Rattle.nf_msgs.specs.declared.note.Note.TheVariants as note
+use Rattle.nf_net.proofs.Words.{controller_step, Choice, Network, IsRun, run, queue_at, behind_nil, where_two, OfShare, new_head, Any, S_install, moves_of}
+use Rattle.nf_net.proofs.Words.{seeing, no_change, WhereAll, Apart_from_shares, Under_share, Config, Node, is_begun, has_answered, times_installed, IsInput}
+use Rattle.nf_net.proofs.Words.{order_numbered, installs_in, node_step, node_ready, first_owner, owner_after_order, owner_after, is_home, shared_among}
+use Rattle.nf_net.proofs.Words.{members_after, owner, members, installed-append, is_whole, unit_fits, takes_whole, takes_same, is_sys, real_share, Given, place}
+use Rattle.nf_net.proofs.Words.{owner_next, S, A, Joined, came_by, Scene, IsTaken, node_of, scene, Wants, node_leads, AllApart, installed_same, installed_quiet}
+use Rattle.nf_net.proofs.Words.{installed_none, Stands, In_first, In_second, stands, instance_quiet, controller_uninstalled, Runs, given, all_fit, Unit, Order}
+use Rattle.nf_net.proofs.Words.{nowhere}
 use Rattle.actor_net.proofs.EnabledChoices.{at as at_node}
 use Rattle.proof_machines.proofs.unit.Real as real
 use Rattle.proof_machines.proofs.net.Net as net
@@ -21,7 +18,7 @@ use Rattle.nf_net.proofs.answers.CommandPromises.{run_busy}
 use Rattle.nf_net.proofs.answers.InstallRuns.{Installs, run_installs}
 use Rattle.nf_net.proofs.MemberLemmas.{SharesIt, shares_it, members-append}
 use Rattle.nf_net.proofs.RuleSteps.{Changed, No_rule, Moves_on, Diverts, changed}
-use Rattle.nf_net.proofs.RunKeeps.{start, count, run_keeps}
+use Rattle.nf_net.proofs.RunKeeps.{start, count, log_keeps}
 use Rattle.nf_net.proofs.UnitShares.{members_go, set_up_installed}
 
 none_or : {X : Type 0} (o : Option X) → option_or o None ≡ o
@@ -37,26 +34,26 @@ alone x y [] back e = let same : x ≡ y = cc in let none : [] ≡ back = cc in 
 alone x y (z ∷ []) back e = cc
 alone x y (z ∷ (v ∷ front)) back e = cc
 
-installed_nowhere : (notes cs back : List Note) (op : ℕ) → installs_in notes ≡ [] → notes ≡ cs ++ note.Installed op ∷ back → ⊥
+installed_nowhere : (notes cs back : List Note) (op : ℕ) → installs_in notes ≡ [] → notes ≡ cs ++ Note.Installed op ∷ back → ⊥
 installed_nowhere notes cs back op none e =
-    behind_nil (installs_in cs) op (installs_in back) (sym (sym none ∙ ap installs_in e ∙ installed-append cs (note.Installed op ∷ back)))
+    behind_nil (installs_in cs) op (installs_in back) (sym (sym none ∙ ap installs_in e ∙ installed-append cs (Note.Installed op ∷ back)))
 
 abbrev op_in : ℕ → Note → ℕ
-op_in d (note.Installed op) = op
+op_in d (Note.Installed op) = op
 op_in d n = d
 
 module _ {R : Type 0} (f : Semantics R) (c : Config) (items : List Msg) where
   -- where the switch installs a share: the log up to there
   pub record IsInstalledShare (first : List Note) (op : ℕ) (ms : List (List ℕ)) (filter : Filter) : Type 0 where
     pub begun : is_begun op first ≡ true
-    pub set_up : (u : units.Unit) → unit_fits f.kind u ≡ true → takes filter u ≡ true
+    pub set_up : (u : Unit) → unit_fits f.kind u ≡ true → takes filter u ≡ true
         → is_home c.names (order_numbered items) ms (owner c items u first) ≡ true → has_answered op first ≡ true → 1 ≤ times_installed op first
 
   pub record SaysOfShares (log : List Note) : Type 0 where
-    pub homes : (u : units.Unit) → unit_fits f.kind u ≡ true → (ms : List (List ℕ)) → members c items u log ≡ Some ms
+    pub homes : (u : Unit) → unit_fits f.kind u ≡ true → (ms : List (List ℕ)) → members c items u log ≡ Some ms
         → is_home c.names (order_numbered items) ms (owner c items u log) ≡ true
-    pub installs : (first rest : List Note) (op : ℕ) (ms : List (List ℕ)) (filter : Filter) → log ≡ first ++ note.Installed op ∷ rest
-        → order_numbered items op ≡ Some (order.Share ms filter) → IsInstalledShare first op ms filter
+    pub installs : (first rest : List Note) (op : ℕ) (ms : List (List ℕ)) (filter : Filter) → log ≡ first ++ Note.Installed op ∷ rest
+        → order_numbered items op ≡ Some (Order.Share ms filter) → IsInstalledShare first op ms filter
 
   -- notes of no change of the rules
   quiet_says : (log notes : List Note) → installs_in notes ≡ [] → SaysOfShares log → SaysOfShares (log ++ notes)
@@ -65,32 +62,32 @@ module _ {R : Type 0} (f : Semantics R) (c : Config) (items : List Msg) where
         let same = installed_same log notes none in
         ap (λ ops. is_home c.names (order_numbered items) ms (owner_after c.names (order_numbered items) u (first_owner u c.routes) ops)) same
         ∙ h.homes u fits ms (ap (members_after c.names (order_numbered items) u (first_owner u c.routes)) (sym same) ∙ e);
-    installs = λ first rest op ms filter e what. by_place first rest op ms filter what (stands log notes first (note.Installed op) rest e);
+    installs = λ first rest op ms filter e what. by_place first rest op ms filter what (stands log notes first (Note.Installed op) rest e);
   }
     where
-      by_place : (first rest : List Note) (op : ℕ) (ms : List (List ℕ)) (filter : Filter) → order_numbered items op ≡ Some (order.Share ms filter)
-          → Stands log notes (record { before = first; item = note.Installed op; after = rest }) → IsInstalledShare first op ms filter
+      by_place : (first rest : List Note) (op : ℕ) (ms : List (List ℕ)) (filter : Filter) → order_numbered items op ≡ Some (Order.Share ms filter)
+          → Stands log notes (record { before = first; item = Note.Installed op; after = rest }) → IsInstalledShare first op ms filter
       by_place first rest op ms filter what (In_first cs here) = h.installs first cs op ms filter here what
       by_place first rest op ms filter what (In_second cs from there) = absurd (installed_nowhere notes cs rest op none there)
 
   -- a change of the rules
   module _ (log : List Note) (k : ℕ) (h : SaysOfShares log)
-      (new : (ms : List (List ℕ)) (filter : Filter) → order_numbered items k ≡ Some (order.Share ms filter) → IsInstalledShare log k ms filter) where
+      (new : (ms : List (List ℕ)) (filter : Filter) → order_numbered items k ≡ Some (Order.Share ms filter) → IsInstalledShare log k ms filter) where
     installs_more : (first rest : List Note) (op : ℕ) (ms : List (List ℕ)) (filter : Filter)
-        → log ++ note.Installed k ∷ [] ≡ first ++ note.Installed op ∷ rest → order_numbered items op ≡ Some (order.Share ms filter)
+        → log ++ Note.Installed k ∷ [] ≡ first ++ Note.Installed op ∷ rest → order_numbered items op ≡ Some (Order.Share ms filter)
         → IsInstalledShare first op ms filter
-    installs_more first rest op ms filter e what = by_place (stands log (note.Installed k ∷ []) first (note.Installed op) rest e)
+    installs_more first rest op ms filter e what = by_place (stands log (Note.Installed k ∷ []) first (Note.Installed op) rest e)
       where
-        by_alone : (cs : List Note) → first ≡ log ++ cs → Alone (note.Installed k) (note.Installed op) cs rest → IsInstalledShare first op ms filter
+        by_alone : (cs : List Note) → first ≡ log ++ cs → Alone (Note.Installed k) (Note.Installed op) cs rest → IsInstalledShare first op ms filter
         by_alone cs from (Is_it same none last) =
             let op_is : k ≡ op = ap (op_in 0) same in
             let at : log ≡ first = sym (from ∙ ap (λ xs. log ++ xs) none ∙ append-nil log) in
             subst (λ xs. IsInstalledShare xs op ms filter) at
             (subst (λ q. IsInstalledShare log q ms filter) op_is (new ms filter (ap (order_numbered items) op_is ∙ what)))
 
-        by_place : Stands log (note.Installed k ∷ []) (record { before = first; item = note.Installed op; after = rest }) → IsInstalledShare first op ms filter
+        by_place : Stands log (Note.Installed k ∷ []) (record { before = first; item = Note.Installed op; after = rest }) → IsInstalledShare first op ms filter
         by_place (In_first cs here) = h.installs first cs op ms filter here what
-        by_place (In_second cs from there) = by_alone cs from (alone (note.Installed k) (note.Installed op) cs rest there)
+        by_place (In_second cs from there) = by_alone cs from (alone (Note.Installed k) (Note.Installed op) cs rest there)
 
 module _ {F R : Type 0} (f : Semantics R) (c : Config) (items : List Msg) (is : IsInput f.kind c items) (n : ℕ) (count_is : n ≡ length c.names + 2)
     (w : Network (Node F R) Msg Note) (j : Joined f (given f c items is) n w) (apart : AllApart j.nodes.controller.operations)
@@ -99,15 +96,15 @@ module _ {F R : Type 0} (f : Semantics R) (c : Config) (items : List Msg) (is : 
   g = given f c items is
 
   -- the members of a unit after a change more
-  members_next : (u : units.Unit) (k : ℕ) → members c items u (w.log ++ note.Installed k ∷ [])
+  members_next : (u : Unit) (k : ℕ) → members c items u (w.log ++ Note.Installed k ∷ [])
       ≡ option_or (members c items u w.log) (shared_among c.names (order_numbered items) u (order_numbered items k) (owner c items u w.log))
   members_next u k =
-      ap (members_after c.names (order_numbered items) u (first_owner u c.routes)) (installed-append w.log (note.Installed k ∷ []))
+      ap (members_after c.names (order_numbered items) u (first_owner u c.routes)) (installed-append w.log (Note.Installed k ∷ []))
       ∙ members-append g u (first_owner u c.routes) (installs_in w.log) (k ∷ [])
       ∙ ap (option_or (members c items u w.log)) (none_or (shared_among c.names (order_numbered items) u (order_numbered items k) (owner c items u w.log)))
 
   -- a move takes no unit that a share has
-  not_moved : (u : units.Unit) → unit_fits f.kind u ≡ true → (ms : List (List ℕ)) → members c items u w.log ≡ Some ms
+  not_moved : (u : Unit) → unit_fits f.kind u ≡ true → (ms : List (List ℕ)) → members c items u w.log ≡ Some ms
       → (k : ℕ) (filter : Filter) (from dst : ℕ) (rest : List (Any R)) → is_whole f.kind filter ≡ true
       → j.world.link 1 0 ≡ Old (net.Mv filter (real.M_install k from dst)) ∷ rest → takes filter u ≡ false
   not_moved u fits ms e k filter from dst rest whole waits = sym (takes_same f.kind filter u whole fits) ∙ by_where (j.shown_is.every.unit u)
@@ -120,25 +117,25 @@ module _ {F R : Type 0} (f : Semantics R) (c : Config) (items : List Msg) (is : 
       by_where (Under_share x before d q o m) = no_change (S f g) (A f g) (seeing (S f g) (A f g) u x) j.world before _ q k from dst filter rest waits
 
   -- the same owner and members, or the first ones
-  module _ (k : ℕ) (u : units.Unit) (fits : unit_fits f.kind u ≡ true) (ms : List (List ℕ))
-      (e : members c items u (w.log ++ note.Installed k ∷ []) ≡ Some ms) where
+  module _ (k : ℕ) (u : Unit) (fits : unit_fits f.kind u ≡ true) (ms : List (List ℕ))
+      (e : members c items u (w.log ++ Note.Installed k ∷ []) ≡ Some ms) where
     home_by : (stays : (old : List (List ℕ)) → members c items u w.log ≡ Some old
         → owner_after_order c.names (order_numbered items) u (order_numbered items k) (owner c items u w.log) ≡ owner c items u w.log)
         (begins : SharesIt g u (order_numbered items k) (owner c items u w.log) ms
         → owner_after_order c.names (order_numbered items) u (order_numbered items k) (owner c items u w.log) ≡ owner c items u w.log)
-        → is_home c.names (order_numbered items) ms (owner c items u (w.log ++ note.Installed k ∷ [])) ≡ true
+        → is_home c.names (order_numbered items) ms (owner c items u (w.log ++ Note.Installed k ∷ [])) ≡ true
     home_by stays begins = by_old (members c items u w.log) refl (sym (members_next u k) ∙ e)
       where
         i' : ℕ
         i' = owner c items u w.log
 
         at_owner : owner_after_order c.names (order_numbered items) u (order_numbered items k) i' ≡ i' → is_home c.names (order_numbered items) ms i' ≡ true
-            → is_home c.names (order_numbered items) ms (owner c items u (w.log ++ note.Installed k ∷ [])) ≡ true
+            → is_home c.names (order_numbered items) ms (owner c items u (w.log ++ Note.Installed k ∷ [])) ≡ true
         at_owner same on = ap (is_home c.names (order_numbered items) ms) (owner_next g u w.log k ∙ same) ∙ on
 
         by_old : (o : Option (List (List ℕ))) → members c items u w.log ≡ o
             → option_or o (shared_among c.names (order_numbered items) u (order_numbered items k) i') ≡ Some ms
-            → is_home c.names (order_numbered items) ms (owner c items u (w.log ++ note.Installed k ∷ [])) ≡ true
+            → is_home c.names (order_numbered items) ms (owner c items u (w.log ++ Note.Installed k ∷ [])) ≡ true
         by_old (Some old) at found = let same : old ≡ ms = cc in at_owner (stays old at) (h.homes u fits ms (at ∙ ap Some same))
         by_old None at found = let its = shares_it g u (order_numbered items k) i' ms found in at_owner (begins its) its.home
 
@@ -156,10 +153,10 @@ module _ {F R : Type 0} (f : Semantics R) (c : Config) (items : List Msg) (is : 
       installs = installs_more f c items w.log k h (λ ms flt what. let never = sym order_is ∙ what in cc);
     })
       where
-        order_is : order_numbered items k ≡ Some (order.Move its.plan_is.source its.plan_is.destination filter its.plan.keep)
-        order_is = its.plan_is.order_is ∙ ap (λ y. Some (order.Move its.plan_is.source its.plan_is.destination y its.plan.keep)) its.filter_is
+        order_is : order_numbered items k ≡ Some (Order.Move its.plan_is.source its.plan_is.destination filter its.plan.keep)
+        order_is = its.plan_is.order_is ∙ ap (λ y. Some (Order.Move its.plan_is.source its.plan_is.destination y its.plan.keep)) its.filter_is
 
-        unmoved : (u : units.Unit) → takes filter u ≡ false
+        unmoved : (u : Unit) → takes filter u ≡ false
             → owner_after_order c.names (order_numbered items) u (order_numbered items k) (owner c items u w.log) ≡ owner c items u w.log
         unmoved u off = let what = order_is in rw (what, off) refl
     says_after (Diverts k filter from rest noted its whole waits) = subst (λ ns. SaysOfShares f c items (w.log ++ ns)) (sym noted) (record {
@@ -170,7 +167,7 @@ module _ {F R : Type 0} (f : Semantics R) (c : Config) (items : List Msg) (is : 
       });
     })
       where
-        unmoved : (u : units.Unit) → owner_after_order c.names (order_numbered items) u (order_numbered items k) (owner c items u w.log) ≡ owner c items u w.log
+        unmoved : (u : Unit) → owner_after_order c.names (order_numbered items) u (order_numbered items k) (owner c items u w.log) ≡ owner c items u w.log
         unmoved u = let what = its.order_is in rw what refl
 
         begun : is_begun k w.log ≡ true
@@ -201,22 +198,12 @@ module _ (F : Type 0) {R : Type 0} (f : Semantics R) (laws : FunctionLaws f) (al
     step_says (suc (suc y)) p m it = quiet_says f c items w.log (node_step f (node_of r.joined.nodes (suc (suc y))) p m).notes
         (installed_quiet (r.joined.nodes.instance (suc (suc y))).index _ (instance_quiet f (r.joined.nodes.instance (suc (suc y))) m)) h
 
-    next_says : (d : Choice) → Taking node_ready (node_step f) n w d → SaysOfShares f c items (world_next (node_step f) w d).log
-    next_says d t = subst (SaysOfShares f c items) (sym (taken_outcome (node_step f) n w d.node d.port (node_of r.joined.nodes d.node) t.message t.rest
-        (its_takes f laws gr (all_fit f c items is) n refl w d t r.joined r.beside)).log)
-        (step_says d.node d.port t.message (its_taken f laws gr (all_fit f c items is) n refl w d t r.joined r.beside))
-
   says_at_start : SaysOfShares f c items []
   says_at_start = record {
     homes = λ u fits ms e. cc;
-    installs = λ before rest op ms filter e what. absurd (nowhere before rest op e);
+    installs = λ before rest op ms filter e what. absurd (nowhere before rest (Note.Installed op) e);
   }
-    where
-      nowhere : (before rest : List Note) (op : ℕ) → [] ≡ before ++ note.Installed op ∷ rest → ⊥
-      nowhere [] rest op e = cc
-      nowhere (x ∷ before) rest op e = cc
 
   pub says_of_shares : (cs : List Choice) → IsRun node_ready (node_step f) cs first → SaysOfShares f c items (run (node_step f) cs first).log
-  says_of_shares cs run_is = run_keeps F f laws alloc c items is (λ w. SaysOfShares f c items w.log) says_at_start
-      (λ ds ok d t h. next_says (run (node_step f) ds first) (run_beside F f laws alloc c items is ds ok) (run_busy F f laws alloc c items is ds ok).1
-      (run_installs F f laws alloc c items is ds ok) h d t) cs run_is
+  says_of_shares = log_keeps F f laws alloc c items is (SaysOfShares f c items) says_at_start (λ ds ok d s h. step_says (run (node_step f) ds first) s.runs
+      (run_busy F f laws alloc c items is ds ok).1 (run_installs F f laws alloc c items is ds ok) h d.node d.port s.taking.message s.taken)

@@ -5,13 +5,9 @@ use Rattle.nf_net.proofs.Words.{Order, Piece, Msg, Note, instance_node, op_of, C
 use Rattle.nf_net.proofs.Words.{move_at_start, answer_of, destination, stored_of, Operation, Move, Copy, Share, OpenOperations, turn_of, turn_of_move}
 use Rattle.nf_net.proofs.Words.{ControllerState, on_asked, on_diverted, after_turn, takes_turn, hand_step, unknown_name, overlap, step_and_finish}
 use Rattle.nf_net.proofs.Words.{controller_step, EachSent, sent_weight, is_begun, is_refusal, sent-append, row_by, got_insert, got_remove, gone_twice}
-use Rattle.nf_net.proofs.Words.{NotShared, copy_turn}
+use Rattle.nf_net.proofs.Words.{NotShared, copy_turn, Action, Target}
 use Rattle.std.specs.FinMap as finite
-use Rattle.event_filter.specs.declared.action.Action.TheVariants as action
 use Rattle.event_filter.specs.declared.mark.Mark.TheVariants.{Pass}
-use Rattle.switch_rules.specs.declared.target.Target.TheVariants as target
-use Rattle.nf_msgs.specs.declared.msg.Msg.TheVariants as msg
-use Rattle.nf_msgs.specs.declared.note.Note.TheVariants as note
 use Rattle.copy_share.specs.Copy as copy
 use Rattle.copy_share.specs.Share as share
 use Rattle.ctrl_node.specs.Controller as controller
@@ -34,7 +30,7 @@ refused_is None None a is = cc
 
 -- a command that a message brings didn't begin
 abbrev pub IsNew : List Note → Msg → Type 0
-IsNew log (msg.Asked a) = is_begun a.op log ≡ false
+IsNew log (Msg.Asked a) = is_begun a.op log ≡ false
 IsNew log m = Unit {0}
 
 abbrev move_in : MoveState → Option Operation → MoveState
@@ -56,11 +52,11 @@ module _ (Part : ℕ → Piece → Type 0) (Verdict : ℕ → Answer → Type 0)
   finished_is : (did : Step) → StepIs did → StepIs (step_and_finish did)
   finished_is did h = by_finish StepIs c did (record {
     knows = h.knows;
-    says = sent-append (Said Part Verdict Goes) 1 did.sends ((0, msg.Finish) ∷ []) h.says (tt, tt);
+    says = sent-append (Said Part Verdict Goes) 1 did.sends ((0, Msg.Finish) ∷ []) h.says (tt, tt);
     found = h.found;
     own = h.own;
-    once = λ op first. (let both = sent_weight-append (once first op) n 1 did.sends ((0, msg.Finish) ∷ []) in
-        let none = no_one n 1 first 0 msg.Finish (λ y. refl) op in let own = h.once op first in omega (arith, both, none, own));
+    once = λ op first. (let both = sent_weight-append (once first op) n 1 did.sends ((0, Msg.Finish) ∷ []) in
+        let none = no_one n 1 first 0 Msg.Finish (λ y. refl) op in let own = h.once op first in omega (arith, both, none, own));
   }) (record {
     knows = h.knows;
     says = sent-append (Said Part Verdict Goes) 1 did.sends [] h.says tt;
@@ -151,7 +147,7 @@ module _ (Part : ℕ → Piece → Type 0) (Verdict : ℕ → Answer → Type 0)
             | true ↦ λ never. cc
             | false ↦ λ was. knows k y was
           ] (sym (gone k) ∙ got);
-          says = sent-append (Said Part Verdict Goes) 1 r.next.sends ((0, msg.Answered op) ∷ []) says_next (tt, tt);
+          says = sent-append (Said Part Verdict Goes) 1 r.next.sends ((0, Msg.Answered op) ∷ []) says_next (tt, tt);
           found = λ k b is. elim (op == k) as (λ t. (op == k) ≡ t → map (λ (one : ℕ × Answer). one.1) (if t then (op, a) ∷ [] else []) ≡ b ∷ [] → IsFound k b) [
             | true ↦ λ on given.
                 let it : op ≡ k = (Decides-eqb op k).0 on in
@@ -164,13 +160,13 @@ module _ (Part : ℕ → Piece → Type 0) (Verdict : ℕ → Answer → Type 0)
           ] refl is;
           own = (refl, tt);
           once = λ k first.
-              let both = sent_weight-append (once first k) n 1 r.next.sends ((0, msg.Answered op) ∷ []) in
-              let none = no_one n 1 first 0 (msg.Answered op) (λ y. refl) k in
+              let both = sent_weight-append (once first k) n 1 r.next.sends ((0, Msg.Answered op) ∷ []) in
+              let none = no_one n 1 first 0 (Msg.Answered op) (λ y. refl) k in
               let sent = spends k first 1 (spent_few r.next.phase first) in
-              let move_at_start = began_same k log (note.Answered op a ∷ []) refl in
-              let here : used (finite.get (finite.remove (finite.insert c.operations op (Move x)) op) k) (is_begun k (log ++ note.Answered op a ∷ [])) first
+              let move_at_start = began_same k log (Note.Answered op a ∷ []) refl in
+              let here : used (finite.get (finite.remove (finite.insert c.operations op (Move x)) op) k) (is_begun k (log ++ Note.Answered op a ∷ [])) first
               ≡ (if k == op then 1 else used (finite.get c.operations k) (is_begun k log) first) =
-              ap (λ o. used o (is_begun k (log ++ note.Answered op a ∷ [])) first) (gone k)
+              ap (λ o. used o (is_begun k (log ++ Note.Answered op a ∷ [])) first) (gone k)
               ∙ ap (λ b. used (cond (k == op) None (finite.get c.operations k)) b first) move_at_start
               ∙ elim (k == op) as (λ b. (k == op) ≡ b → used (cond b None (finite.get c.operations k)) (is_begun k log) first
               ≡ (if b then 1 else used (finite.get c.operations k) (is_begun k log) first)) [
@@ -205,7 +201,7 @@ module _ (Part : ℕ → Piece → Type 0) (Verdict : ℕ → Answer → Type 0)
       module _ (op : ℕ) (new : is_begun op log ≡ false) (none : finite.get c.operations op ≡ None) where
         -- before it began nothing was sent once for it
         opened_more : (o : Operation) (k : ℕ) (first b : Bool) → (k == op) ≡ b → used (finite.get c.operations k) (is_begun k log) first
-            ≤ used (cond b (Some o) (finite.get c.operations k)) (is_begun k (log ++ note.Begun op ∷ [])) first
+            ≤ used (cond b (Some o) (finite.get c.operations k)) (is_begun k (log ++ Note.Begun op ∷ [])) first
         opened_more o k first true on =
             let it : k ≡ op = (Decides-eqb k op).0 on in
             let zero : used (finite.get c.operations k) (is_begun k log) first ≡ 0 = ap (λ j. used (finite.get c.operations j) (is_begun j log) first) it
@@ -213,18 +209,18 @@ module _ (Part : ℕ → Piece → Type 0) (Verdict : ℕ → Answer → Type 0)
             omega (arith, zero)
         opened_more o k first false off =
             let turned : (op == k) ≡ false = grind (arith, nat_tests, off) in
-            let same : is_begun k (log ++ note.Begun op ∷ []) ≡ is_begun k log = began_same k log (note.Begun op ∷ []) (rw turned refl) in
+            let same : is_begun k (log ++ Note.Begun op ∷ []) ≡ is_begun k log = began_same k log (Note.Begun op ∷ []) (rw turned refl) in
             rw same (omega arith)
 
         -- where what is sent counts for none
         opens_once : (o : Operation) (sends : List (ℕ × Msg)) → ((first : Bool) → NoneOnce n 1 first sends) → (k : ℕ) (first : Bool)
             → sent_weight (once first k) n 1 sends + used (finite.get c.operations k) (is_begun k log) first
-            ≤ used (finite.get (finite.insert c.operations op o) k) (is_begun k (log ++ note.Begun op ∷ [])) first
+            ≤ used (finite.get (finite.insert c.operations op o) k) (is_begun k (log ++ Note.Begun op ∷ [])) first
         opens_once o sends none_sent k first =
             let sent = none_sent first k in
             let here : used (finite.get c.operations k) (is_begun k log) first
-            ≤ used (finite.get (finite.insert c.operations op o) k) (is_begun k (log ++ note.Begun op ∷ [])) first =
-            subst (λ q. used (finite.get c.operations k) (is_begun k log) first ≤ used q (is_begun k (log ++ note.Begun op ∷ [])) first)
+            ≤ used (finite.get (finite.insert c.operations op o) k) (is_begun k (log ++ Note.Begun op ∷ [])) first =
+            subst (λ q. used (finite.get c.operations k) (is_begun k log) first ≤ used q (is_begun k (log ++ Note.Begun op ∷ [])) first)
             (sym (got_insert c.operations op k o)) (opened_more o k first (k == op) refl) in
             omega (arith, sent, here)
 
@@ -236,8 +232,8 @@ module _ (Part : ℕ → Piece → Type 0) (Verdict : ℕ → Answer → Type 0)
               says = (tt, tt);
               found = λ k a is. cc;
               own = (refl, tt);
-              once = opens_once (Move (move_at_start plan)) ((from + 2, msg.Enable op filter action.Drop) ∷ [])
-                  (λ first k. no_one n 1 first (from + 2) (msg.Enable op filter action.Drop) (λ y. refl) k);
+              once = opens_once (Move (move_at_start plan)) ((from + 2, Msg.Enable op filter Action.Drop) ∷ [])
+                  (λ first k. no_one n 1 first (from + 2) (Msg.Enable op filter Action.Drop) (λ y. refl) k);
             }
         begun_is did (Opens_copy {filter = filter} from to e at) =
             let plan : CopyPlan = record { op = op; from = from; to = to; filter = filter } in
@@ -251,11 +247,11 @@ module _ (Part : ℕ → Piece → Type 0) (Verdict : ℕ → Answer → Type 0)
                   let most = at_most n 1 first (instance_node from) (copy.asks op filter) k in
                   let few = few_counts (copy.asks op filter) first k in
                   let here : once first k (copy.asks op filter) + used (finite.get c.operations k) (is_begun k log) first
-                  ≤ used (finite.get (finite.insert c.operations op (Copy (copy.copy_at_start plan))) k) (is_begun k (log ++ note.Begun op ∷ [])) first =
+                  ≤ used (finite.get (finite.insert c.operations op (Copy (copy.copy_at_start plan))) k) (is_begun k (log ++ Note.Begun op ∷ [])) first =
                   subst (λ o. once first k (copy.asks op filter) + used (finite.get c.operations k) (is_begun k log) first
-                  ≤ used o (is_begun k (log ++ note.Begun op ∷ [])) first) (sym (got_insert c.operations op k (Copy (copy.copy_at_start plan))))
+                  ≤ used o (is_begun k (log ++ Note.Begun op ∷ [])) first) (sym (got_insert c.operations op k (Copy (copy.copy_at_start plan))))
                   (elim (k == op) as (λ b. (k == op) ≡ b → once first k (copy.asks op filter) + used (finite.get c.operations k) (is_begun k log) first
-                  ≤ used (cond b (Some (Copy (copy.copy_at_start plan))) (finite.get c.operations k)) (is_begun k (log ++ note.Begun op ∷ [])) first) [
+                  ≤ used (cond b (Some (Copy (copy.copy_at_start plan))) (finite.get c.operations k)) (is_begun k (log ++ Note.Begun op ∷ [])) first) [
                     | true ↦ λ on.
                         let it : k ≡ op = (Decides-eqb k op).0 on in
                         let zero : used (finite.get c.operations k) (is_begun k log) first ≡ 0 =
@@ -264,7 +260,7 @@ module _ (Part : ℕ → Piece → Type 0) (Verdict : ℕ → Answer → Type 0)
                         omega (arith, zero, few)
                     | false ↦ λ off.
                         let turned : (op == k) ≡ false = grind (arith, nat_tests, off) in
-                        let same : is_begun k (log ++ note.Begun op ∷ []) ≡ is_begun k log = began_same k log (note.Begun op ∷ []) (rw turned refl) in
+                        let same : is_begun k (log ++ Note.Begun op ∷ []) ≡ is_begun k log = began_same k log (Note.Begun op ∷ []) (rw turned refl) in
                         let apart = asks_apart filter first k turned in
                         rw same (omega (arith, apart))
                   ] refl) in
@@ -287,8 +283,8 @@ module _ (Part : ℕ → Piece → Type 0) (Verdict : ℕ → Answer → Type 0)
               says = (tt, tt);
               found = λ k a is. cc;
               own = (refl, tt);
-              once = opens_once (Share (share.share_at_start plan)) ((0, msg.Install op filter home target.Controller) ∷ [])
-                  (λ first k. no_one n 1 first 0 (msg.Install op filter home target.Controller) (λ y. refl) k);
+              once = opens_once (Share (share.share_at_start plan)) ((0, Msg.Install op filter home Target.Controller) ∷ [])
+                  (λ first k. no_one n 1 first 0 (Msg.Install op filter home Target.Controller) (λ y. refl) k);
             }
 
       asked_is : (op : ℕ) (what : Order) → is_begun op log ≡ false → StepIs (on_asked c (record { op = op; what = what }))
@@ -308,8 +304,8 @@ module _ (Part : ℕ → Piece → Type 0) (Verdict : ℕ → Answer → Type 0)
             ] refl given;
         own = (refl, tt);
         once = λ k first.
-            let sent = no_one n 1 first 0 (msg.Answered op) (λ y. refl) k in
-            let same = began_same k log (note.Answered op a ∷ []) refl in
+            let sent = no_one n 1 first 0 (Msg.Answered op) (λ y. refl) k in
+            let same = began_same k log (Note.Answered op a ∷ []) refl in
             let here = ap (λ b. used (finite.get c.operations k) b first) same in
             omega (arith, sent, here);
       }) (λ did none is by. begun_is op new none did by)
@@ -320,7 +316,7 @@ module _ (Part : ℕ → Piece → Type 0) (Verdict : ℕ → Answer → Type 0)
         ended = λ said new. quiet_is _ [] refl tt (λ first op. refl);
         stopped = λ i said new. quiet_is _ [] refl tt (λ first op. refl);
         returned = λ op i cell said new.
-            quiet_is c ((0, msg.Forward i (Pass op) cell) ∷ []) refl (tt, tt) (λ first. no_one n 1 first 0 (msg.Forward i (Pass op) cell) (λ y. refl));
+            quiet_is c ((0, Msg.Forward i (Pass op) cell) ∷ []) refl (tt, tt) (λ first. no_one n 1 first 0 (Msg.Forward i (Pass op) cell) (λ y. refl));
         handed = λ op m its said new. handed_is op port m its said;
         diverted = λ cell said new. diverted_is cell;
         asked = λ k said new. asked_is k.op k.what new;

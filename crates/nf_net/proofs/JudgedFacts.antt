@@ -2,11 +2,9 @@
 use Rattle.nf_net.proofs.Words.{◌≡◌, ℕ, ◌+◌, Bool, true, false, Some, None, List, [], ◌∷◌, ◌++◌, length, refl, sym, ap, ◌∙◌, if◌then◌else◌, ◌&&◌, ◌==◌, nat_lt}
 use Rattle.nf_net.proofs.Words.{list_any, or_left, Semantics, version_number, Answer, Import, Piece, Msg, Note, instance_node, piece_refusal, Choice, Network}
 use Rattle.nf_net.proofs.Words.{run, OnLinks, Config, Node, is_begun, order_numbered, course_of, job_of, node_step, is_refusal, exported_for, before_export}
-use Rattle.nf_net.proofs.Words.{is_timed, receiver_of, IsTakenAfter, has_begun-append, Phase}
+use Rattle.nf_net.proofs.Words.{is_timed, receiver_of, IsTakenAfter, has_begun-append, Phase, Unit, Door, Done}
 use Rattle.std.specs.FinMap as finite
-use Rattle.nf_function.specs.declared.unit.Unit as units
-use Rattle.nf_msgs.specs.declared.answer.Answer.TheVariants.{Done, Old}
-use Rattle.nf_msgs.specs.declared.msg.Msg.TheVariants as msg
+use Rattle.nf_msgs.specs.declared.answer.Answer.TheVariants.{Old}
 use Rattle.instance_worker.specs.declared.instance.Instance.{Instance}
 use Rattle.actor_net.proofs.WeightLaws.{Each}
 use Rattle.proof_machines.proofs.unit.Labels as labels
@@ -15,7 +13,6 @@ use Rattle.nf_net.proofs.answers.InstallSteps.{is_moving}
 use Rattle.nf_net.proofs.JudgedInstance.{answer_by}
 use Rattle.nf_net.proofs.MoveJudged.{Said, Knows}
 use Rattle.nf_net.proofs.VerdictLemmas.{exported_kept, before_export_kept, taken_more}
-use Rattle.move_op.specs.declared.door.Door.TheVariants as door
 use Rattle.move_op.specs.Phases as phase
 
 -- an instance's answer is the verdict by what it holds, and by what the piece says
@@ -38,7 +35,7 @@ answer_is i piece timed newest =
 module _ {F R : Type 0} (f : Semantics R) (c : Config) (items : List Msg) (start : Network (Node F R) Msg Note) where
   -- a piece says how many units are given for its command, and whether one of them has a record with a time
   pub record IsPart (log : List Note) (op : ℕ) (piece : Piece) : Type 0 where
-    pub units : List units.Unit
+    pub units : List Unit
     pub units_are : exported_for op log ≡ Some units
     pub total : piece.total ≡ length units
     pub newest : piece.newest ≡ version_number (list_any (λ unit. is_timed f c items unit (before_export op log)) units)
@@ -101,11 +98,11 @@ module _ {F R : Type 0} (f : Semantics R) (c : Config) (items : List Msg) (start
 module _ (P P' : ℕ → Piece → Type 0) (V V' : ℕ → Answer → Type 0) (G : ℕ → ℕ → Type 0) (part : (op : ℕ) (piece : Piece) → P op piece → P' op piece)
     (judged : (op : ℕ) (answer : Answer) → V op answer → V' op answer) where
   pub said_kept : (s r : ℕ) (m : Msg) → Said P V G s r m → Said P' V' G s r m
-  said_kept s r (msg.Piece op piece) h = part op piece h
-  said_kept s r (msg.Put op piece true) h = (part op piece h.0, h.1)
-  said_kept s r (msg.Put op piece false) h = judged op Done h
-  said_kept s r (msg.PutOk op) h = judged op Done h
-  said_kept s r (msg.PutNo op refused) h = judged op refused.why h
+  said_kept s r (Msg.Piece op piece) h = part op piece h
+  said_kept s r (Msg.Put op piece true) h = (part op piece h.0, h.1)
+  said_kept s r (Msg.Put op piece false) h = judged op Done h
+  said_kept s r (Msg.PutOk op) h = judged op Done h
+  said_kept s r (Msg.PutNo op refused) h = judged op refused.why h
   said_kept s r m h = tt
 
   each_part : (op : ℕ) (ps : List Piece) → labels.Each (P op) ps → labels.Each (P' op) ps
@@ -113,10 +110,10 @@ module _ (P P' : ℕ → Piece → Type 0) (V V' : ℕ → Answer → Type 0) (G
   each_part op (p ∷ ps) h = (part op p h.0, each_part op ps h.1)
 
   pub knows_kept : (op : ℕ) (ph : Phase) → Knows P V G op ph → Knows P' V' G op ph
-  knows_kept op (phase.Streaming frozen free came door.Shut) h = (each_part op frozen h.0, each_part op free h.1)
-  knows_kept op (phase.Streaming frozen free came (door.Asked last)) h = tt
-  knows_kept op (phase.Streaming frozen free came door.Open) h = judged op Done h
-  knows_kept op (phase.Streaming frozen free came (door.Refused why)) h = judged op why h
+  knows_kept op (phase.Streaming frozen free came Door.Shut) h = (each_part op frozen h.0, each_part op free h.1)
+  knows_kept op (phase.Streaming frozen free came (Door.Asked last)) h = tt
+  knows_kept op (phase.Streaming frozen free came Door.Open) h = judged op Done h
+  knows_kept op (phase.Streaming frozen free came (Door.Refused why)) h = judged op why h
   knows_kept op phase.Freezing h = tt
   knows_kept op phase.Holding h = judged op Done h
   knows_kept op phase.Passing h = judged op Done h

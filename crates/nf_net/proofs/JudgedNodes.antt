@@ -1,10 +1,7 @@
 -- Each node's step keeps what is known of moves: an instance weighs the first piece that comes, by what it holds and by what the piece says.
 use Rattle.nf_net.proofs.Words.{◌≡◌, ℕ, true, false, List, [], ◌∷◌, refl, ap, arith, Filter, Semantics, Answer, Piece, Msg, Note, units_in, SwitchState}
-use Rattle.nf_net.proofs.Words.{switch_step, InstanceState, selected_chunks, EachSent, Each, Node, step_fits, Given, Label}
-use Rattle.nf_msgs.specs.declared.msg.Msg.TheVariants as msg
-use Rattle.nf_msgs.specs.declared.note.Note.TheVariants as note
+use Rattle.nf_net.proofs.Words.{switch_step, InstanceState, selected_chunks, EachSent, Each, Node, step_fits, Given, Label, Instance}
 use Rattle.instance_worker.specs.Instance.{on_stream}
-use Rattle.net_world.specs.declared.node.Node.TheVariants.{Instance}
 use Rattle.nf_net.proofs.JudgedTables.{is_own}
 use Rattle.nf_net.proofs.MoveJudged.{Said}
 use Rattle.nf_net.proofs.VerdictLemmas.{times_given}
@@ -31,18 +28,18 @@ module _ (op : ℕ) where
 
   pub own_given : (notes : List Note) → Each (λ x. is_own x ≡ true) notes → NoneGiven notes
   own_given [] h = refl
-  own_given (note.Begun j ∷ notes) h = own_given notes h.1
-  own_given (note.Answered j answer ∷ notes) h = own_given notes h.1
+  own_given (Note.Begun j ∷ notes) h = own_given notes h.1
+  own_given (Note.Answered j answer ∷ notes) h = own_given notes h.1
   own_given (n ∷ notes) h = let never = h.0 in cc
 
 -- What the switch sends, nothing is to be known of.
 module _ {R : Type 0} (f : Semantics R) (g : Given) (P : ℕ → Piece → Type 0) (V : ℕ → Answer → Type 0) (G : ℕ → ℕ → Type 0) where
   switch_said : (r : ℕ) (m : Msg) → Label f g 0 r m → Said P V G 0 r m
-  switch_said r (msg.Piece op piece) label = absurd (let never = label.0.0 in omega (arith, never))
-  switch_said r (msg.Put op piece true) label = absurd (let never = label.0.0 in omega (arith, never))
-  switch_said r (msg.Put op piece false) label = absurd (let never = label.0.0 in omega (arith, never))
-  switch_said r (msg.PutOk op) label = absurd (let never = label.0 in omega (arith, never))
-  switch_said r (msg.PutNo op refused) label = absurd (let never = label.0.0 in omega (arith, never))
+  switch_said r (Msg.Piece op piece) label = absurd (let never = label.0.0 in omega (arith, never))
+  switch_said r (Msg.Put op piece true) label = absurd (let never = label.0.0 in omega (arith, never))
+  switch_said r (Msg.Put op piece false) label = absurd (let never = label.0.0 in omega (arith, never))
+  switch_said r (Msg.PutOk op) label = absurd (let never = label.0 in omega (arith, never))
+  switch_said r (Msg.PutNo op refused) label = absurd (let never = label.0.0 in omega (arith, never))
   switch_said r m label = tt
 
   pub switch_says : (sends : List (ℕ × Msg)) → EachSent (Label f g) 0 sends → EachSent (Said P V G) 0 sends
@@ -58,6 +55,6 @@ module _ {F R : Type 0} where
   same_instance a b e = ap (instance_in a) e
 
   pub stream_notes : (f : Semantics R) (i : InstanceState F R) (op : ℕ) (filter : Filter)
-      → (on_stream f i op filter).notes ≡ note.Exported i.index op (units_in (selected_chunks f i filter)) ∷ []
+      → (on_stream f i op filter).notes ≡ Note.Exported i.index op (units_in (selected_chunks f i filter)) ∷ []
   unfolding on_stream
   stream_notes f i op filter = refl

@@ -1,19 +1,13 @@
 -- In every run each move that began is answered by its verdict, which is on what its destination held, and on what came, when it took the first
 -- piece; a copy or a share that began is done, and each other command is refused.
 use Rattle.nf_net.proofs.Words.{◌≡◌, ℕ, ◌+◌, ◌≤◌, Bool, true, false, Some, None, List, [], ◌∷◌, ◌++◌, length, refl, sym, ap, ◌∙◌, subst, arith, Global, nat_cmp}
-use Rattle.nf_net.proofs.Words.{Filter, FunctionLaws, Semantics, Answer, Order, Piece, Msg, Note, Choice, Network, Stepped, IsRun, run, world_next}
-use Rattle.nf_net.proofs.Words.{opening_on_links, opening_weight, Taking, run_induction, total, weigh, Each, Operation, opened_controller, unknown_in}
-use Rattle.nf_net.proofs.Words.{InstanceState, Config, Node, is_begun, answers_of, before_command, overlaps, IsCause, MayBegin, is_item, order_numbered}
-use Rattle.nf_net.proofs.Words.{IsInput, course_of, job_of, node_step, node_ready, first_instance, first_nodes, started_with, is_refusal, receiver_of}
-use Rattle.nf_net.proofs.Words.{its_takes, its_label, its_labels, Runs, run_beside, start_world, given, all_fit, count_at_start, all_each}
+use Rattle.nf_net.proofs.Words.{Filter, FunctionLaws, Semantics, Answer, Order, Piece, Msg, Note, Choice, Network, Stepped, IsRun, run, opening_on_links}
+use Rattle.nf_net.proofs.Words.{opening_weight, total, weigh, Each, Operation, opened_controller, unknown_in, InstanceState, Config, Node, is_begun, answers_of}
+use Rattle.nf_net.proofs.Words.{before_command, overlaps, IsCause, MayBegin, is_item, order_numbered, IsInput, course_of, job_of, node_step, node_ready}
+use Rattle.nf_net.proofs.Words.{first_instance, first_nodes, started_with, is_refusal, receiver_of, count_at_start, all_each, Instance, Verdicts}
 use Rattle.std.specs.FinMap as finite
-use Rattle.nf_msgs.specs.declared.answer.Answer.TheVariants as answer
-use Rattle.nf_msgs.specs.declared.command.Order.TheVariants as order
-use Rattle.nf_msgs.specs.declared.msg.Msg.TheVariants as msg
 use Rattle.actor_net.proofs.RunLaws.{run_splits}
-use Rattle.net_world.specs.declared.node.Node.TheVariants.{Instance}
 use Rattle.net_world.specs.Verdicts.{IsVerdict}
-use Rattle.nf_net.specs.Promises.{Verdicts}
 use Rattle.nf_net.proofs.answers.CommandPromises.{run_answers}
 use Rattle.nf_net.proofs.answers.InstallSteps.{is_moving}
 use Rattle.nf_net.proofs.JudgedTables.{used, used_few}
@@ -25,33 +19,34 @@ use Rattle.nf_net.proofs.MoveJudged.{Said}
 use Rattle.nf_net.proofs.answers.MoveOnce.{once}
 use Rattle.proof_outlines.proofs.joined.StartJoined.{instance_found}
 use Rattle.nf_net.proofs.VerdictLemmas.{once_taken, times_taken}
+use Rattle.nf_net.proofs.RunKeeps.{run_keeps}
 
 -- An input says nothing of moves.
 module _ (P : ℕ → Piece → Type 0) (V : ℕ → Answer → Type 0) (G : ℕ → ℕ → Type 0) where
   items_said : (items : List Msg) → Each (λ item. is_item item ≡ true) items → Each (Said P V G 0 0) items
   items_said [] ok = tt
-  items_said (msg.InCommand c ∷ items) ok = (tt, items_said items ok.1)
-  items_said (msg.InPacket p ∷ items) ok = (tt, items_said items ok.1)
-  items_said (msg.InSettle ∷ items) ok = (tt, items_said items ok.1)
-  items_said (msg.InEnd ∷ items) ok = (tt, items_said items ok.1)
+  items_said (Msg.InCommand c ∷ items) ok = (tt, items_said items ok.1)
+  items_said (Msg.InPacket p ∷ items) ok = (tt, items_said items ok.1)
+  items_said (Msg.InSettle ∷ items) ok = (tt, items_said items ok.1)
+  items_said (Msg.InEnd ∷ items) ok = (tt, items_said items ok.1)
   items_said (m ∷ items) ok = let never : false ≡ true = ok.0 in cc
 
 items_weigh : (first : Bool) (op : ℕ) (items : List Msg) → Each (λ item. is_item item ≡ true) items → weigh (once first op) items ≡ 0
 items_weigh first op [] ok = refl
-items_weigh first op (msg.InCommand c ∷ items) ok = let rest = items_weigh first op items ok.1 in omega (arith, rest)
-items_weigh first op (msg.InPacket p ∷ items) ok = let rest = items_weigh first op items ok.1 in omega (arith, rest)
-items_weigh first op (msg.InSettle ∷ items) ok = let rest = items_weigh first op items ok.1 in omega (arith, rest)
-items_weigh first op (msg.InEnd ∷ items) ok = let rest = items_weigh first op items ok.1 in omega (arith, rest)
+items_weigh first op (Msg.InCommand c ∷ items) ok = let rest = items_weigh first op items ok.1 in omega (arith, rest)
+items_weigh first op (Msg.InPacket p ∷ items) ok = let rest = items_weigh first op items ok.1 in omega (arith, rest)
+items_weigh first op (Msg.InSettle ∷ items) ok = let rest = items_weigh first op items ok.1 in omega (arith, rest)
+items_weigh first op (Msg.InEnd ∷ items) ok = let rest = items_weigh first op items ok.1 in omega (arith, rest)
 items_weigh first op (m ∷ items) ok = let never : false ≡ true = ok.0 in cc
 
 -- what may begin isn't refused
 not_both : (c : Config) (items : List Msg) (a : Answer) (what : Order) (log : List Note) → is_refusal a ≡ true
     → MayBegin c.names (order_numbered items) what log → IsCause a (unknown_in c.names what) (overlaps c.names (order_numbered items) what log) → ⊥
-not_both c items (answer.Unknown name) what log refusal may cause = let never = sym may.known ∙ cause in cc
-not_both c items (answer.Overlap op) what log refusal may cause = let never = sym (may.apart op) ∙ cause.1.picked in cc
-not_both c items answer.Done what log refusal may cause = cc
-not_both c items (answer.Import a b d) what log refusal may cause = cc
-not_both c items (answer.Old a b) what log refusal may cause = cc
+not_both c items (Answer.Unknown name) what log refusal may cause = let never = sym may.known ∙ cause in cc
+not_both c items (Answer.Overlap op) what log refusal may cause = let never = sym (may.apart op) ∙ cause.1.picked in cc
+not_both c items Answer.Done what log refusal may cause = cc
+not_both c items (Answer.Import a b d) what log refusal may cause = cc
+not_both c items (Answer.Old a b) what log refusal may cause = cc
 
 module _ (F : Type 0) {R : Type 0} (f : Semantics R) (laws : FunctionLaws f) (alloc : Global) (c : Config) (items : List Msg)
     (is : IsInput f.kind c items) where
@@ -101,21 +96,8 @@ module _ (F : Type 0) {R : Type 0} (f : Semantics R) (laws : FunctionLaws f) (al
 
   -- every run keeps what is known
   pub run_judging : (cs : List Choice) → IsRun node_ready step cs start → Judging F f alloc c items is cs (run step cs start) (run step cs start).log
-  run_judging cs run_is = run_induction node_ready step n (λ ds w. Judging F f alloc c items is ds w w.log) start
-      (λ ds w d next h. subst (λ v. Taking node_ready step n v d → Judging F f alloc c items is ds v v.log
-      → Judging F f alloc c items is (ds ++ d ∷ []) (world_next step v d) (world_next step v d).log)
-      (sym next.reached) (λ t x. next_judging ds next.is_run d t x) next.taking h)
-      (start_world F f laws alloc c items is) (count_at_start F f alloc c items is) start_judging cs run_is
-    where
-      next_judging : (ds : List Choice) (ds_is : IsRun node_ready step ds start) (d : Choice)
-          → Taking node_ready step n (run step ds start) d → Judging F f alloc c items is ds (run step ds start) (run step ds start).log
-          → Judging F f alloc c items is (ds ++ d ∷ []) (world_next step (run step ds start) d) (world_next step (run step ds start) d).log
-      next_judging ds ds_is d t h =
-          let r : Runs F f laws alloc c items is (run step ds start) = run_beside F f laws alloc c items is ds ds_is in
-          let fitting = all_fit f c items is in
-          judging_next F f laws alloc c items is ds ds_is h d.port t.rest d.node t.message (its_takes f laws (given f c items is) fitting n refl
-          (run step ds start) d t r.joined r.beside) (its_label f laws (given f c items is) fitting n refl (run step ds start) d t r.joined r.beside)
-          (its_labels f laws (given f c items is) fitting n refl (run step ds start) d t r.joined r.beside)
+  run_judging = run_keeps F f laws alloc c items is (λ ds w. Judging F f alloc c items is ds w w.log) start_judging (λ ds ok d s h. judging_next F f laws
+      alloc c items is ds ok s.runs h d.port s.taking.rest d.node s.taking.message s.takes s.taken.label s.labels)
 
   -- and so its answers are as is promised
   module _ (cs : List Choice) (run_is : IsRun node_ready step cs start) where
@@ -153,16 +135,16 @@ module _ (F : Type 0) {R : Type 0} (f : Semantics R) (laws : FunctionLaws f) (al
         not_both c items a what (before_command op w.log) refusal (said.begins op what known on) (said.causes op what a known e)
 
     by_found : (op : ℕ) (source destination : List ℕ) (filter : Filter) (keep : Bool) (a : Answer)
-        → order_numbered items op ≡ Some (order.Move source destination filter keep) → is_begun op w.log ≡ true → answers_of op w.log ≡ a ∷ []
+        → order_numbered items op ≡ Some (Order.Move source destination filter keep) → is_begun op w.log ≡ true → answers_of op w.log ≡ a ∷ []
         → IsFound f c items start cs w.log op a → IsVerdict (job_of f c items) (course_of start cs) op a
     by_found op source destination filter keep a known on e (Was_refused refusal) =
-        absurd (not_refused op (order.Move source destination filter keep) a known on e refusal)
+        absurd (not_refused op (Order.Move source destination filter keep) a known on e refusal)
     by_found op source destination filter keep a known on e (Was_judged begun v) = verdict_of op a v
     by_found op source destination filter keep a known on e (Was_still begun still done) = let never : true ≡ false = ap is_moving (sym known) ∙ still in cc
 
     -- a command that moves no units and began is done
     still_found : (op : ℕ) (what : Order) (a : Answer) → receiver_of c (Some what) ≡ None → order_numbered items op ≡ Some what → is_begun op w.log ≡ true
-        → answers_of op w.log ≡ a ∷ [] → IsFound f c items start cs w.log op a → a ≡ answer.Done
+        → answers_of op w.log ≡ a ∷ [] → IsFound f c items start cs w.log op a → a ≡ Answer.Done
     still_found op what a none known on e (Was_refused refusal) = absurd (not_refused op what a known on e refusal)
     still_found op what a none known on e (Was_judged begun v) =
         let never : None ≡ Some v.are_weighed.destination = sym none ∙ ap (receiver_of c) (sym known) ∙ v.are_weighed.destination_is in cc
@@ -176,8 +158,8 @@ module _ (F : Type 0) {R : Type 0} (f : Semantics R) (laws : FunctionLaws f) (al
     pub verdicts : Verdicts (job_of f c items) (course_of start cs)
     verdicts = record {
       judged = λ op source destination filter keep a known on e. by_found op source destination filter keep a known on e (h.found op a e);
-      copied = λ op source destination filter a known on e. still_found op (order.Copy source destination filter) a refl known on e (h.found op a e);
-      set_up = λ op members filter a known on e. still_found op (order.Share members filter) a refl known on e (h.found op a e);
+      copied = λ op source destination filter a known on e. still_found op (Order.Copy source destination filter) a refl known on e (h.found op a e);
+      set_up = λ op members filter a known on e. still_found op (Order.Share members filter) a refl known on e (h.found op a e);
       refused = λ op a off e. refused_by op a off (h.found op a e);
       lives_are = λ before after i unit whole. (run_lived F f laws alloc c items is before (is_front before after whole)).same i unit;
       lives_number = λ before after i whole. lives_number F f laws alloc c items is before (is_front before after whole) i;

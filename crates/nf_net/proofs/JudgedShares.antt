@@ -5,7 +5,6 @@ use Rattle.nf_net.proofs.Words.{if◌then◌else◌, ◌==◌, Decides-eqb, stor
 use Rattle.nf_net.proofs.Words.{ControllerState, hand_step, queue_step, EachSent, sent_weight, Each, is_begun, answers_of, sent-append, OpenAt, answered, noted}
 use Rattle.nf_net.proofs.Words.{ShareLeaves, handed_leaves, queued_leaves}
 use Rattle.std.specs.FinMap as finite
-use Rattle.nf_msgs.specs.declared.msg.Msg.TheVariants as msg
 use Rattle.copy_share.specs.Share.{next_phase, row}
 use Rattle.ctrl_node.specs.Controller.{Step}
 use Rattle.proof_outlines.proofs.whole.ShareLeft.{next_share}
@@ -61,11 +60,11 @@ module _ (Part : ℕ → Piece → Type 0) (Verdict : ℕ → Answer → Type 0)
   StepIs = tables.StepIs Part Verdict Goes Still log n c
 
   share_said : (r : ℕ) (m : Msg) → is_of_share m ≡ true → Said Part Verdict Goes 1 r m
-  share_said r (msg.Piece op piece) e = cc
-  share_said r (msg.Put op piece true) e = cc
-  share_said r (msg.Put op piece false) e = cc
-  share_said r (msg.PutOk op) e = cc
-  share_said r (msg.PutNo op refused) e = cc
+  share_said r (Msg.Piece op piece) e = cc
+  share_said r (Msg.Put op piece true) e = cc
+  share_said r (Msg.Put op piece false) e = cc
+  share_said r (Msg.PutOk op) e = cc
+  share_said r (Msg.PutNo op refused) e = cc
   share_said r m e = tt
 
   shares_said : (sends : List (ℕ × Msg)) → AreOfShare sends → EachSent (Said Part Verdict Goes) 1 sends
@@ -74,7 +73,7 @@ module _ (Part : ℕ → Piece → Type 0) (Verdict : ℕ → Answer → Type 0)
 
   answered_said : (op : ℕ) (a : Option Answer) (sends : List (ℕ × Msg)) → AreOfShare sends → EachSent (Said Part Verdict Goes) 1 (answered op a sends)
   answered_said op None sends h = shares_said sends h
-  answered_said op (Some why) sends h = sent-append (Said Part Verdict Goes) 1 sends ((0, msg.Answered op) ∷ []) (shares_said sends h) (tt, tt)
+  answered_said op (Some why) sends h = sent-append (Said Part Verdict Goes) 1 sends ((0, Msg.Answered op) ∷ []) (shares_said sends h) (tt, tt)
 
   own_noted : (op : ℕ) (a : Option Answer) → Each (λ x. is_own x ≡ true) (noted op a)
   own_noted op None = tt

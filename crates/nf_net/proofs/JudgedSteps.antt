@@ -3,10 +3,8 @@ use Rattle.nf_net.proofs.Words.{◌≡◌, ◌≢◌, ℕ, suc, ◌+◌, ◌<◌
 use Rattle.nf_net.proofs.Words.{if◌then◌else◌, slice_index, slice_index_or, Global, cond-same, Semantics, Answer, Piece, Msg, Note, MoveState, Move}
 use Rattle.nf_net.proofs.Words.{ControllerState, InstanceState, Choice, Network, Stepped, reaches, run, world_next, queue_at, at, Takes, Outcome, taken_outcome}
 use Rattle.nf_net.proofs.Words.{OnLinks, EachSent, on_links_after, total, total_after, sent_weight, Each, Config, Node, Controller, is_begun, answers_of}
-use Rattle.nf_net.proofs.Words.{IsInput, node_step, started_with, answers_of-append, Given, Label, given}
+use Rattle.nf_net.proofs.Words.{IsInput, node_step, started_with, answers_of-append, Given, Label, given, Instance}
 use Rattle.std.specs.FinMap as finite
-use Rattle.nf_msgs.specs.declared.msg.Msg.TheVariants as msg
-use Rattle.net_world.specs.declared.node.Node.TheVariants.{Instance}
 use Rattle.nf_net.proofs.answers.BusyLemmas.{AreOther, none_answered, other_not_answered, other_not_begun, began_same}
 use Rattle.nf_net.proofs.JudgedTables.{used}
 use Rattle.nf_net.proofs.JudgedFacts.{IsPart, IsGoing, HasVerdict, IsFound, part_kept, verdict_kept, found_kept, said_kept, knows_kept, links_kept}
@@ -26,17 +24,17 @@ one_of (x ∷ []) (y ∷ ys) a is = cc
 one_of (x ∷ z ∷ xs) ys a is = cc
 
 first_counts : (op : ℕ) (m : Msg) (rest : List Msg) → (if is_first_piece op (m ∷ rest) then 1 else 0) ≡ counts m true op
-first_counts op (msg.Put k piece true) rest = refl
-first_counts op (msg.Put k piece false) rest = refl
+first_counts op (Msg.Put k piece true) rest = refl
+first_counts op (Msg.Put k piece false) rest = refl
 first_counts op m rest = refl
 
 -- Only the controller sends what is sent once, and only an instance is asked for state.
 module _ {R : Type 0} (f : Semantics R) (g : Given) (op : ℕ) where
   no_once_from : (first : Bool) (k r : ℕ) (m : Msg) → k ≢ 1 → Label f g k r m → counts m first op ≡ 0
-  no_once_from first k r (msg.Put j piece true) other label = absurd (other label.0.0)
-  no_once_from first k r (msg.Put j piece false) other label = refl
-  no_once_from first k r (msg.Stream j filter) other label = absurd (other label.0.0)
-  no_once_from first k r (msg.Get j filter) other label = absurd (other label.0.0)
+  no_once_from first k r (Msg.Put j piece true) other label = absurd (other label.0.0)
+  no_once_from first k r (Msg.Put j piece false) other label = refl
+  no_once_from first k r (Msg.Stream j filter) other label = absurd (other label.0.0)
+  no_once_from first k r (Msg.Get j filter) other label = absurd (other label.0.0)
   no_once_from first k r m other label = refl
 
   pub none_once : (first : Bool) (n k : ℕ) (sends : List (ℕ × Msg)) → k ≢ 1 → EachSent (Label f g) k sends → sent_weight (once first op) n k sends ≡ 0
@@ -47,10 +45,10 @@ module _ {R : Type 0} (f : Semantics R) (g : Given) (op : ℕ) where
       rw (own, rest, cond-same {X = ℕ} (reaches n k x.0) 0) refl
 
   pub no_stream_to : (p k : ℕ) (m : Msg) → k ≤ 1 → Label f g p k m → counts m false op ≡ 0
-  no_stream_to p k (msg.Stream j filter) few label = let two = label.0.1 in absurd (omega (arith, two, few))
-  no_stream_to p k (msg.Get j filter) few label = let two = label.0.1 in absurd (omega (arith, two, few))
-  no_stream_to p k (msg.Put j piece true) few label = refl
-  no_stream_to p k (msg.Put j piece false) few label = refl
+  no_stream_to p k (Msg.Stream j filter) few label = let two = label.0.1 in absurd (omega (arith, two, few))
+  no_stream_to p k (Msg.Get j filter) few label = let two = label.0.1 in absurd (omega (arith, two, few))
+  no_stream_to p k (Msg.Put j piece true) few label = refl
+  no_stream_to p k (Msg.Put j piece false) few label = refl
   no_stream_to p k m few label = refl
 
 module _ (F : Type 0) {R : Type 0} (f : Semantics R) (alloc : Global) (c : Config) (items : List Msg) (is : IsInput f.kind c items) where

@@ -2,11 +2,8 @@
 use Rattle.nf_net.proofs.Words.{◌≡◌, ℕ, ◌+◌, ◌≤◌, Bool, true, false, cond, Option, Some, None, List, [], ◌∷◌, ◌++◌, refl, sym, ap, ◌∙◌, subst, arith, map}
 use Rattle.nf_net.proofs.Words.{if◌then◌else◌, ◌==◌, Decides-eqb, Answer, Piece, Msg, Note, instance_node, Keeping, CopyState, MoveState, Operation, Move, Copy}
 use Rattle.nf_net.proofs.Words.{Share, OpenOperations, ControllerState, EachSent, sent_weight, Each, is_begun, answers_of, is_refusal, got_insert, got_remove}
-use Rattle.nf_net.proofs.Words.{NotMove, CopyTurn, Idle, Hands, Hands_all, Ends, hands}
+use Rattle.nf_net.proofs.Words.{NotMove, CopyTurn, Idle, Hands, Hands_all, Ends, hands, Done}
 use Rattle.std.specs.FinMap as finite
-use Rattle.nf_msgs.specs.declared.answer.Answer.TheVariants.{Done}
-use Rattle.nf_msgs.specs.declared.msg.Msg.TheVariants as msg
-use Rattle.nf_msgs.specs.declared.note.Note.TheVariants as note
 use Rattle.ctrl_node.specs.Controller.{Step, still}
 use Rattle.nf_net.proofs.answers.ControllerActs.{other_there}
 use Rattle.proof_outlines.proofs.outline.CopyTurns.{ends}
@@ -17,8 +14,8 @@ use Rattle.nf_net.proofs.ShareAsks.{asked, asked_few}
 
 -- a note of a command's begin or answer
 abbrev pub is_own : Note → Bool
-is_own (note.Begun op) = true
-is_own (note.Answered op answer) = true
+is_own (Note.Begun op) = true
+is_own (Note.Answered op answer) = true
 is_own n = false
 
 -- how many of what is sent once were sent for a command, by its open operation, or else by whether it began
@@ -120,11 +117,11 @@ module _ (Part : ℕ → Piece → Type 0) (Verdict : ℕ → Answer → Type 0)
             ] refl is;
         own = (refl, tt);
         once = λ k first.
-            let sent = no_one n 1 first 0 (msg.Answered op) (λ j. refl) k in
-            let begun = began_same k log (note.Answered op Done ∷ []) refl in
-            let here : used (finite.get (finite.remove c.operations op) k) (is_begun k (log ++ note.Answered op Done ∷ [])) first
+            let sent = no_one n 1 first 0 (Msg.Answered op) (λ j. refl) k in
+            let begun = began_same k log (Note.Answered op Done ∷ []) refl in
+            let here : used (finite.get (finite.remove c.operations op) k) (is_begun k (log ++ Note.Answered op Done ∷ [])) first
             ≡ used (finite.get c.operations k) (is_begun k log) first =
-            ap (λ o. used o (is_begun k (log ++ note.Answered op Done ∷ [])) first) (got_remove c.operations op k)
+            ap (λ o. used o (is_begun k (log ++ Note.Answered op Done ∷ [])) first) (got_remove c.operations op k)
             ∙ ap (λ b. used (cond (k == op) None (finite.get c.operations k)) b first) begun
             ∙ elim (k == op) as (λ b. (k == op) ≡ b
             → used (cond b None (finite.get c.operations k)) (is_begun k log) first ≡ used (finite.get c.operations k) (is_begun k log) first) [
@@ -141,6 +138,6 @@ module _ (Part : ℕ → Piece → Type 0) (Verdict : ℕ → Answer → Type 0)
 
       pub copy_is : (m : Msg) (did : Step) → CopyTurn (record { controller = c; op = op; copy = y }) m did → StepIs did
       copy_is m did (Idle e) = subst StepIs (sym e) still_is
-      copy_is m did (Hands k chunks e d) = subst StepIs (sym d) (hands_is (msg.Standby y.plan.op chunks) tt (λ first j. refl))
-      copy_is m did (Hands_all k chunk e d) = subst StepIs (sym d) (hands_is (msg.PutAll y.plan.op chunk) tt (λ first j. refl))
+      copy_is m did (Hands k chunks e d) = subst StepIs (sym d) (hands_is (Msg.Standby y.plan.op chunks) tt (λ first j. refl))
+      copy_is m did (Hands_all k chunk e d) = subst StepIs (sym d) (hands_is (Msg.PutAll y.plan.op chunk) tt (λ first j. refl))
       copy_is m did (Ends d) = subst StepIs (sym d) ends_is

@@ -3,17 +3,13 @@ use Rattle.nf_net.proofs.Words.{◌≡◌, ℕ, zero, suc, ◌+◌, ◌<◌, ◌
 use Rattle.nf_net.proofs.Words.{subst, arith, if◌then◌else◌, ◌==◌, slice_get, slice_index, slice_index_or, list_any, Global, nat_tests, Decides-eqb}
 use Rattle.nf_net.proofs.Words.{slice_get-get_or, Filter, Chunk, FunctionLaws, Semantics, version_number, Answer, Piece, Msg, Note, units_in, instance_node}
 use Rattle.nf_net.proofs.Words.{MoveState, destination, CopyState, ShareState, Move, Copy, Share, controller_step, switch_step, InstanceState, piece_refusal}
-use Rattle.nf_net.proofs.Words.{selected_chunks, instance_step, pieces, whole_of, Choice, Network, Stepped, IsRun, run, world_next, at, run_world, Takes}
-use Rattle.nf_net.proofs.Words.{taken_outcome, EachSent, total_after, sent_weight, Each, Config, Node, Controller, is_begun, has_answered, IsInput, node_step}
-use Rattle.nf_net.proofs.Words.{node_ready, processed_of, live_in, before_export, is_timed, exported_for, live_number, receiver_of, Given, Label, Joined}
-use Rattle.nf_net.proofs.Words.{node_of, is_whole, run_beside, start_world, given, all_fit, count_at_start}
+use Rattle.nf_net.proofs.Words.{selected_chunks, instance_step, pieces, whole_of, Choice, Network, Stepped, IsRun, run, world_next, at, Takes, taken_outcome}
+use Rattle.nf_net.proofs.Words.{EachSent, total_after, sent_weight, Each, Config, Node, Controller, is_begun, has_answered, IsInput, node_step, node_ready}
+use Rattle.nf_net.proofs.Words.{processed_of, live_in, before_export, is_timed, exported_for, live_number, receiver_of, Given, Label, Joined, node_of, is_whole}
+use Rattle.nf_net.proofs.Words.{given, all_fit, Unit, Instance, Runs}
 use Rattle.std.specs.FinMap as finite
-use Rattle.nf_function.specs.declared.unit.Unit as units
 use Rattle.nf_function.specs.Units as filters
-use Rattle.nf_msgs.specs.declared.msg.Msg.TheVariants as msg
-use Rattle.nf_msgs.specs.declared.note.Note.TheVariants as note
 use Rattle.copy_share.specs.Copy as copy
-use Rattle.net_world.specs.declared.node.Node.TheVariants.{Instance}
 use Rattle.nf_net.proofs.answers.BusyLemmas.{or_off}
 use Rattle.nf_net.proofs.answers.BusyNodes.{switch_hands, instance_says}
 use Rattle.nf_net.proofs.answers.BusyController.{told_in}
@@ -34,9 +30,11 @@ use Rattle.nf_net.proofs.MoveJudged.{Knows}
 use Rattle.nf_net.proofs.answers.MoveOnce.{once}
 use Rattle.nf_net.proofs.VerdictLemmas.{none_exported, exported_new, before_export_new, before_own}
 use Rattle.nf_net.proofs.JudgedNodes.{switch_given, own_given, switch_says, same_instance, stream_notes}
+use Rattle.nf_net.proofs.RunKeeps.{after_world}
 
 module _ (F : Type 0) {R : Type 0} (f : Semantics R) (laws : FunctionLaws f) (alloc : Global) (c : Config) (items : List Msg) (is : IsInput f.kind c items)
-    (cs : List Choice) (run_is : IsRun node_ready (node_step f) cs (steps.start F f alloc c items is)) where
+    (cs : List Choice) (run_is : IsRun node_ready (node_step f) cs (steps.start F f alloc c items is))
+    (r : Runs F f laws alloc c items is (run (node_step f) cs (steps.start F f alloc c items is))) where
   abbrev g : Given
   g = given f c items is
 
@@ -50,7 +48,7 @@ module _ (F : Type 0) {R : Type 0} (f : Semantics R) (laws : FunctionLaws f) (al
   w = run step cs (steps.start F f alloc c items is)
 
   abbrev j : Joined f g n w
-  j = (run_beside F f laws alloc c items is cs run_is).joined
+  j = r.joined
 
   abbrev b : Busy g w
   b = (run_busy F f laws alloc c items is cs run_is).1
@@ -90,9 +88,9 @@ module _ (F : Type 0) {R : Type 0} (f : Semantics R) (laws : FunctionLaws f) (al
         )
 
     new_of : (m : Msg) (takes : Takes step n w 1 p (node_of j.nodes 1) m rest) → Label f g p 1 m → IsNew w.log m
-    new_of (msg.Asked a) takes labelled =
-        let from : told_in (msg.Asked a) ≡ (if 0 == p then told_in (msg.Asked a) else []) = (let sender = labelled.0 in rw sender refl) in
-        let same = way_at_controller told_in step n (omega arith) w p (node_of j.nodes 1) (msg.Asked a) rest takes from in
+    new_of (Msg.Asked a) takes labelled =
+        let from : told_in (Msg.Asked a) ≡ (if 0 == p then told_in (Msg.Asked a) else []) = (let sender = labelled.0 in rw sender refl) in
+        let same = way_at_controller told_in step n (omega arith) w p (node_of j.nodes 1) (Msg.Asked a) rest takes from in
         let first = subst (λ xs. IsBusy g b.controller.operations w.log xs) same b.is in
         (or_off (is_begun a.op w.log) (has_answered a.op w.log) (first.unnoted a.op first.rising.0)).0
     new_of m takes labelled = tt
@@ -157,8 +155,7 @@ module _ (F : Type 0) {R : Type 0} (f : Semantics R) (laws : FunctionLaws f) (al
 
       module _ (small : k < n) where
         counted : length w.nodes ≡ n
-        counted = (run_world node_ready step n (steps.start F f alloc c items is) (start_world F f laws alloc c items is) (count_at_start F f alloc c items is)
-            cs run_is).1
+        counted = (after_world F f laws alloc c items is cs run_is).1
 
         there : slice_get w.nodes (instance_node y) ≡ Some (Instance i)
         there =
@@ -170,8 +167,8 @@ module _ (F : Type 0) {R : Type 0} (f : Semantics R) (laws : FunctionLaws f) (al
         fixed_here = h.fixed y (omega (arith, small)) i (λ d. j.nodes_are k small d)
 
         -- whether a live record of a unit that is asked for has a time
-        timed_is : (op : ℕ) (filter : Filter) → Takes step n w k p (Instance i) (msg.Stream op filter) rest → is_whole f.kind filter ≡ true
-            → (u : units.Unit) (r : R) → filters.takes filter u ≡ true → finite.get i.table.live u ≡ Some r → f.is_timed r ≡ is_timed f c items u w.log
+        timed_is : (op : ℕ) (filter : Filter) → Takes step n w k p (Instance i) (Msg.Stream op filter) rest → is_whole f.kind filter ≡ true
+            → (u : Unit) (r : R) → filters.takes filter u ≡ true → finite.get i.table.live u ≡ Some r → f.is_timed r ≡ is_timed f c items u w.log
         timed_is op filter takes whole u r on got = record_timed f laws c items (all_fit f c items is) (processed_of f c items u w.log) r (streamed_record f c
             items is n w j counted k p (omega arith) small takes.sender op filter rest takes.waits whole u y r on got (ap (live_in u) there ∙ got))
 
@@ -189,11 +186,11 @@ module _ (F : Type 0) {R : Type 0} (f : Semantics R) (laws : FunctionLaws f) (al
         )
 
         -- the pieces of a stream say what is noted that is given
-        streamed : (op : ℕ) (filter : Filter) → Takes step n w k p (Instance i) (msg.Stream op filter) rest → is_whole f.kind filter ≡ true
-            → exported_for op w.log ≡ None → Each (Part (w.log ++ (instance_step f i (msg.Stream op filter)).notes) op) (pieces (selected_chunks f i filter))
+        streamed : (op : ℕ) (filter : Filter) → Takes step n w k p (Instance i) (Msg.Stream op filter) rest → is_whole f.kind filter ≡ true
+            → exported_for op w.log ≡ None → Each (Part (w.log ++ (instance_step f i (Msg.Stream op filter)).notes) op) (pieces (selected_chunks f i filter))
         streamed op filter takes whole none =
             let chunks = selected_chunks f i filter in
-            let notes = note.Exported i.index op (units_in chunks) ∷ [] in
+            let notes = Note.Exported i.index op (units_in chunks) ∷ [] in
             let own : (op == op) ≡ true = grind (arith, nat_tests) in
             let units_are : exported_for op (w.log ++ notes) ≡ Some (units_in chunks) = exported_new op w.log notes none ∙ rw own refl in
             let before : before_export op (w.log ++ notes) ≡ w.log = before_export_new op w.log notes none
@@ -202,10 +199,10 @@ module _ (F : Type 0) {R : Type 0} (f : Semantics R) (laws : FunctionLaws f) (al
             (taken_give filter f laws i.table.live (λ u. is_timed f c items u w.log) (timed_is op filter takes whole)) (pieces chunks) (pieces_of chunks))
 
       -- nothing was given before a stream is taken
-      none_before : (op : ℕ) (filter : Filter) (takes : Takes step n w k p (Instance i) (msg.Stream op filter) rest) → AreLabelled k (msg.Stream op filter)
+      none_before : (op : ℕ) (filter : Filter) (takes : Takes step n w k p (Instance i) (Msg.Stream op filter) rest) → AreLabelled k (Msg.Stream op filter)
           → exported_for op w.log ≡ None
       none_before op filter takes labels =
-          let m = msg.Stream op filter in
+          let m = Msg.Stream op filter in
           let weight = total_after step n w k p (Instance i) m rest takes (once false op) in
           let none = none_once f g op false n k (step (Instance i) p m).sends (λ never. absurd (omega (arith, never))) labels in
           let own : (op == op) ≡ true = grind (arith, nat_tests) in
@@ -215,7 +212,7 @@ module _ (F : Type 0) {R : Type 0} (f : Semantics R) (laws : FunctionLaws f) (al
           none_exported op w.log (omega (arith, weight, none, one, most, few))
 
       -- the verdict on a piece that is put first
-      judged_first : (op : ℕ) (piece : Piece) (takes : Takes step n w k p (Instance i) (msg.Put op piece true) rest) → Part w.log op piece → Goes op k
+      judged_first : (op : ℕ) (piece : Piece) (takes : Takes step n w k p (Instance i) (Msg.Put op piece true) rest) → Part w.log op piece → Goes op k
           → Verdict (cs ++ at k p ∷ []) op (answer_by (piece_refusal i piece))
       judged_first op piece takes part going =
           let same : going.destination ≡ y = (let at_node = going.node_is in omega (arith, at_node)) in
@@ -243,10 +240,10 @@ module _ (F : Type 0) {R : Type 0} (f : Semantics R) (laws : FunctionLaws f) (al
       ready_for : (m : Msg) (takes : Takes step n w k p (Instance i) m rest) → AreLabelled k m → Label f g p k m → steps.SaidBy F f alloc c items is cs w.log p
           k m → steps.SaidBy F f alloc c items is (cs ++ at k p ∷ []) (w.log ++ (instance_step f i m).notes) p k m
           → IsReady (Part (w.log ++ (instance_step f i m).notes)) (Verdict (cs ++ at k p ∷ [])) Goes k f i m
-      ready_for (msg.Stream op filter) takes labels labelled said later =
+      ready_for (Msg.Stream op filter) takes labels labelled said later =
           streamed takes.receiver op filter takes labelled.1 (none_before op filter takes labels)
-      ready_for (msg.Put op piece true) takes labels labelled said later = judged_first op piece takes said.0 said.1
-      ready_for (msg.Put op piece false) takes labels labelled said later = later
+      ready_for (Msg.Put op piece true) takes labels labelled said later = judged_first op piece takes said.0 said.1
+      ready_for (Msg.Put op piece false) takes labels labelled said later = later
       ready_for m takes labels labelled said later = tt
 
       at_instance : (m : Msg) (takes : Takes step n w k p (Instance i) m rest) → Label f g p k m → AreLabelled k m → Leads k m takes

@@ -1,3 +1,4 @@
+
 pub mod AnsweredNotes
 pub mod ArrivedCommands
 pub mod AtMembers

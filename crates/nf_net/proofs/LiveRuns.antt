@@ -2,18 +2,14 @@
 use Rattle.nf_net.proofs.Words.{◌≡◌, ◌≢◌, ℕ, zero, suc, ◌<◌, true, false, Option, Some, None, List, [], ◌∷◌, ◌++◌, length, refl, sym, ap, ◌∙◌, subst, arith}
 use Rattle.nf_net.proofs.Words.{if◌then◌else◌, ◌&&◌, ◌||◌, ◌==◌, not, is_some, slice_get, flat_map, Global, nat_tests, Decides-eqb, slice_get-get_or, Chunk}
 use Rattle.nf_net.proofs.Words.{FunctionLaws, Semantics, is_among, same_unit_equiv, Msg, Note, instance_node, InstanceState, instance_step, Choice, Network}
-use Rattle.nf_net.proofs.Words.{IsRun, run, world_next, queue_at, at, Taking, run_induction, run_world, run_more, Takes, Outcome, taken_outcome, Config, Node}
-use Rattle.nf_net.proofs.Words.{Switch, Controller, processed_of, IsInput, order_numbered, with_units, without_units, gained_by, is_first_of, is_shared_away}
-use Rattle.nf_net.proofs.Words.{node_step, node_ready, unit_numbered, live_in, live_at, removed_by, live_number, its_takes, its_taken, Given, node_of, IsTaken}
-use Rattle.nf_net.proofs.Words.{scene, Wants, node_leads, instance_quiet, Runs, run_beside, start_world, given, all_fit, count_at_start}
+use Rattle.nf_net.proofs.Words.{IsRun, run, world_next, queue_at, at, run_more, Takes, Outcome, taken_outcome, Config, Node, Switch, Controller, processed_of}
+use Rattle.nf_net.proofs.Words.{IsInput, order_numbered, with_units, without_units, gained_by, is_first_of, is_shared_away, node_step, node_ready}
+use Rattle.nf_net.proofs.Words.{unit_numbered, live_in, live_at, removed_by, live_number, Given, node_of, IsTaken, scene, Wants, node_leads, instance_quiet}
+use Rattle.nf_net.proofs.Words.{Runs, run_beside, given, all_fit, count_at_start, Unit, Order, Instance}
 use Rattle.std.specs.Prelude.{drop}
 use Rattle.std.specs.FinMap as finite
 use Rattle.std.proofs.Math.Seq.{drop-append_seam}
-use Rattle.nf_function.specs.declared.unit.Unit as units
-use Rattle.nf_msgs.specs.declared.command.Order.TheVariants as order
-use Rattle.nf_msgs.specs.declared.msg.Msg.TheVariants as msg
 use Rattle.instance_worker.specs.Instance.{Step}
-use Rattle.net_world.specs.declared.node.Node.TheVariants.{Instance}
 use Rattle.net_world.specs.Fold.{fold}
 use Rattle.net_world.specs.Lives.{lost_by, lives, lives_next, lives_from}
 use Rattle.net_world.specs.Verdicts.{number_live}
@@ -24,7 +20,7 @@ use Rattle.nf_net.proofs.LiveShares.{nothing_live}
 use Rattle.nf_net.proofs.LiveSteps.{away_quiet, step_lives}
 use Rattle.nf_net.proofs.LiveUnits.{AreOnce, with_in, with_once, without_in, without_once, as_many}
 use Rattle.nf_net.proofs.NumberedUnits.{units_fit}
-use Rattle.nf_net.proofs.RunKeeps.{start, count}
+use Rattle.nf_net.proofs.RunKeeps.{start, count, RunStep, run_keeps, after_world}
 use Rattle.nf_net.proofs.SharedHomes.{run_homes}
 use Rattle.nf_net.proofs.ShareOwners.{owners_stay}
 use Rattle.nf_net.proofs.StandbyFronts.{IsOfFront, lives_front}
@@ -51,22 +47,19 @@ module _ (F : Type 0) {R : Type 0} (f : Semantics R) (laws : FunctionLaws f) (al
   abbrev first : Network (Node F R) Msg Note
   first = start F f laws alloc c items is
 
-  abbrev by : ℕ → List Choice → List units.Unit
+  abbrev by : ℕ → List Choice → List Unit
   by i cs = lives f c items first i cs
 
   -- what is kept of the choices so far and the world
   pub record Lived (cs : List Choice) (w : Network (Node F R) Msg Note) : Type 0 where
-    pub same : (i : ℕ) (u : units.Unit) → is_among (by i cs) u ≡ is_some (live_at w i u)
+    pub same : (i : ℕ) (u : Unit) → is_among (by i cs) u ≡ is_some (live_at w i u)
     pub once : (i : ℕ) → AreOnce (by i cs)
 
   -- one choice more at the end
-  lives_more : (i : ℕ) (cs : List Choice) (d : Choice) (w : Network (Node F R) Msg Note) (us : List units.Unit)
+  lives_more : (i : ℕ) (cs : List Choice) (d : Choice) (w : Network (Node F R) Msg Note) (us : List Unit)
       → lives_from f c items i w (cs ++ d ∷ []) us ≡ lives_next f c items i (run (node_step f) cs w) d (lives_from f c items i w cs us)
   lives_more i [] d w us = refl
   lives_more i (x ∷ cs) d w us = lives_more i cs d (world_next (node_step f) w x) (lives_next f c items i w x us)
-
-  count_of : (cs : List Choice) → IsRun node_ready (node_step f) cs first → length (run (node_step f) cs first).nodes ≡ n
-  count_of cs runs = (run_world node_ready (node_step f) n first (start_world F f laws alloc c items is) (count_at_start F f alloc c items is) cs runs).1
 
   -- where a share has a packet's unit elsewhere, it isn't live
   away_nothing : (cs : List Choice) → IsRun node_ready (node_step f) cs first → (y k : ℕ)
@@ -75,10 +68,11 @@ module _ (F : Type 0) {R : Type 0} (f : Semantics R) (laws : FunctionLaws f) (al
   away_nothing cs runs y k away =
       let r : Runs F f laws alloc c items is (run (node_step f) cs first) = run_beside F f laws alloc c items is cs runs in
       nothing_live f c items is n refl (run (node_step f) cs first) r.joined r.beside.kept.apart (run_busy F f laws alloc c items is cs runs).1
-      (unit_numbered c items f.kind k) (units_fit f c items is k) (owners_stay F f laws alloc c items is cs runs) (count_of cs runs) y away
+      (unit_numbered c items f.kind k) (units_fit f c items is k) (owners_stay F f laws alloc c items is cs runs)
+      (after_world F f laws alloc c items is cs runs).1 y away
 
   -- nothing is live at the start
-  none_live : (i : ℕ) (u : units.Unit) → live_at first i u ≡ None
+  none_live : (i : ℕ) (u : Unit) → live_at first i u ≡ None
   none_live i u =
       let r : Runs F f laws alloc c items is first = run_beside F f laws alloc c items is [] tt in
       let h : IsOfFront f c items (processed_of f c items u []) (live_at first i u) = lives_front f c items is n first (count_at_start F f alloc c items is)
@@ -91,24 +85,24 @@ module _ (F : Type 0) {R : Type 0} (f : Semantics R) (laws : FunctionLaws f) (al
 
   -- A choice of a run
   module _ (cs : List Choice) (runs : IsRun node_ready (node_step f) cs first) (d : Choice) (more : IsRun node_ready (node_step f) (cs ++ d ∷ []) first)
-      (h : Lived cs (run (node_step f) cs first)) where
+      (h : Lived cs (run (node_step f) cs first)) (s : RunStep F f laws alloc c items is (run (node_step f) cs first) d) where
     abbrev w : Network (Node F R) Msg Note
     w = run (node_step f) cs first
 
     abbrev v : Network (Node F R) Msg Note
     v = world_next (node_step f) w d
 
-    r : Runs F f laws alloc c items is w
-    r = run_beside F f laws alloc c items is cs runs
+    abbrev r : Runs F f laws alloc c items is w
+    r = s.runs
 
     next_is : (i : ℕ) → by i (cs ++ d ∷ []) ≡ lives_next f c items i w d (by i cs)
     next_is i = lives_more i cs d first []
 
     abbrev Same : ℕ → Type 0
-    Same i = (u : units.Unit) → is_among (by i (cs ++ d ∷ [])) u ≡ is_some (live_at v i u)
+    Same i = (u : Unit) → is_among (by i (cs ++ d ∷ [])) u ≡ is_some (live_at v i u)
 
     -- of another node
-    other_same : (i : ℕ) → (d.node == instance_node i) ≡ false → ((u : units.Unit) → live_at v i u ≡ live_at w i u) → Same i
+    other_same : (i : ℕ) → (d.node == instance_node i) ≡ false → ((u : Unit) → live_at v i u ≡ live_at w i u) → Same i
     other_same i off stays u =
         let unchanged : lives_next f c items i w d (by i cs) ≡ by i cs = rw off refl in
         ap (λ us. is_among us u) (next_is i ∙ unchanged) ∙ h.same i u ∙ sym (ap is_some (stays u))
@@ -122,7 +116,7 @@ module _ (F : Type 0) {R : Type 0} (f : Semantics R) (laws : FunctionLaws f) (al
         ])
 
     module _ (p : ℕ) (m : Msg) (rest : List Msg) where
-      stays_at : (k : ℕ) (takes : Takes (node_step f) n w k p (node_of r.joined.nodes k) m rest) (i : ℕ) → instance_node i ≢ k → (u : units.Unit)
+      stays_at : (k : ℕ) (takes : Takes (node_step f) n w k p (node_of r.joined.nodes k) m rest) (i : ℕ) → instance_node i ≢ k → (u : Unit)
           → live_at (world_next (node_step f) w (at k p)) i u ≡ live_at w i u
       stays_at k takes i off u =
           let left = taken_outcome (node_step f) n w k p (node_of r.joined.nodes k) m rest takes in
@@ -159,7 +153,7 @@ module _ (F : Type 0) {R : Type 0} (f : Semantics R) (laws : FunctionLaws f) (al
         v_is : v ≡ u_at
         v_is = ap (world_next (node_step f) w) d_is
 
-        now_live : (u : units.Unit) → live_at v y u ≡ finite.get did.node.table.live u
+        now_live : (u : Unit) → live_at v y u ≡ finite.get did.node.table.live u
         now_live u = ap (λ x. live_at x y u) v_is ∙ ap (live_in u) after
 
         log_is : v.log ≡ w.log ++ did.notes
@@ -181,18 +175,17 @@ module _ (F : Type 0) {R : Type 0} (f : Semantics R) (laws : FunctionLaws f) (al
             ] refl
 
         -- a copy's chunks are of a copy's number
-        copied : (op : ℕ) (chunks : List Chunk) → m ≡ msg.Standby op chunks → is_first_of c items (order_numbered items op) y ≡ false
+        copied : (op : ℕ) (chunks : List Chunk) → m ≡ Msg.Standby op chunks → is_first_of c items (order_numbered items op) y ≡ false
         copied op chunks is_so =
             let some = takes.receiver in
             let open_so = token_open f g n w r.joined (suc (suc y)) p op chunks rest (omega (arith, some))
             (subst (λ x. Takes (node_step f) n w (suc (suc y)) p (node_of r.joined.nodes (suc (suc y))) x rest) is_so takes) r.beside.tokens in
             let its = r.joined.shown_is.controller.copies op open_so.copy open_so.there in
-            let what : order_numbered items op ≡ Some (order.Copy its.plan.source its.plan.destination open_so.copy.plan.filter) =
+            let what : order_numbered items op ≡ Some (Order.Copy its.plan.source its.plan.destination open_so.copy.plan.filter) =
             ap (order_numbered items) (sym its.op_is) ∙ its.plan.order_is in
             ap (λ o. is_first_of c items o y) what
 
         goes : Lives f laws c items is y w.log own (r.joined.shown_is.instances (suc (suc y)) (omega arith) takes.receiver).rules.at m did
-        unfolding r
         goes = step_lives f laws c items is n refl w r.joined r.beside.kept.apart (run_busy F f laws alloc c items is cs runs).1
             (run_homes F f laws alloc c items is cs runs) (owners_stay F f laws alloc c items is cs runs) p y takes.receiver m t copied free
 
@@ -236,19 +229,13 @@ module _ (F : Type 0) {R : Type 0} (f : Semantics R) (laws : FunctionLaws f) (al
           (λ u. ap (λ x. live_at x i u) (ap (world_next (node_step f) w) d_is) ∙ stays_at 1 takes i (λ e. absurd (omega (arith, e))) u)
       each_same (suc (suc y)) takes t d_is i = at_instance y takes t d_is i
 
-    lived_next : Taking node_ready (node_step f) n w d → Lived (cs ++ d ∷ []) v
-    lived_next t = record {
-      same = each_same d.port t.message t.rest d.node (its_takes f laws g (all_fit f c items is) n refl w d t r.joined r.beside)
-          (its_taken f laws g (all_fit f c items is) n refl w d t r.joined r.beside) refl;
-      once = once_next;
-    }
+    lived_next : Lived (cs ++ d ∷ []) v
+    lived_next = record { same = each_same d.port s.taking.message s.taking.rest d.node s.takes s.taken refl; once = once_next }
 
   -- every run keeps it
   pub run_lived : (cs : List Choice) → IsRun node_ready (node_step f) cs first → Lived cs (run (node_step f) cs first)
-  run_lived cs run_is = run_induction node_ready (node_step f) n (λ ds w. IsRun node_ready (node_step f) ds first → Lived ds w) first
-      (λ ds w d next h more. subst (λ v. Taking node_ready (node_step f) n v d → Lived ds v → Lived (ds ++ d ∷ []) (world_next (node_step f) v d))
-      (sym next.reached) (λ t k. lived_next ds next.is_run d more k t) next.taking (h next.is_run))
-      (start_world F f laws alloc c items is) (count_at_start F f alloc c items is) (λ _. start_lived) cs run_is run_is
+  run_lived cs run_is = run_keeps F f laws alloc c items is (λ ds w. IsRun node_ready (node_step f) ds first → Lived ds w) (λ _. start_lived)
+      (λ ds ok d s h more. lived_next ds ok d more (h ok) s) cs run_is run_is
 
   -- and so they are as many as the records
   pub lives_number : (cs : List Choice) → IsRun node_ready (node_step f) cs first → (i : ℕ) → length (by i cs) ≡ number_live (run (node_step f) cs first) i
@@ -257,7 +244,7 @@ module _ (F : Type 0) {R : Type 0} (f : Semantics R) (laws : FunctionLaws f) (al
       h : Lived cs (run (node_step f) cs first)
       h = run_lived cs run_is
 
-      none_here : (us : List units.Unit) → ((u : units.Unit) → is_among us u ≡ false) → length us ≡ 0
+      none_here : (us : List Unit) → ((u : Unit) → is_among us u ≡ false) → length us ≡ 0
       none_here [] all = refl
       none_here (u ∷ us) all =
           let same_is = same_unit_equiv.refl u in

@@ -8,11 +8,9 @@ use Rattle.nf_net.proofs.Words.{Shared_on, S_sync, same, OpenShare, WantShare, f
 use Rattle.nf_net.proofs.Words.{its_share, WhereAll, Apart_from_shares, Under_share, Config, Node, Switch, Controller, is_begun, IsInput, order_numbered}
 use Rattle.nf_net.proofs.Words.{before_begun, is_first_of, is_shared_away, has_begun, begins_in, is_at, is_home, owner, shared_among, live_in, live_at}
 use Rattle.nf_net.proofs.Words.{unit_fits, is_whole, takes_whole, is_sys, Both, RealShare, real_share, Given, place, S, A, Joined, came_by, AllApart, given}
+use Rattle.nf_net.proofs.Words.{Unit, Instance}
 use Rattle.std.specs.FinMap as finite
 use Rattle.std.proofs.lemmas.Bool.{not-true}
-use Rattle.nf_function.specs.declared.unit.Unit as units
-use Rattle.nf_msgs.specs.declared.command.Order.TheVariants as order
-use Rattle.net_world.specs.declared.node.Node.TheVariants.{Instance}
 use Rattle.proof_outlines.proofs.whole.SwitchAll.{same_node}
 use Rattle.proof_outlines.proofs.joined.Joined.{IsShare}
 use Rattle.nf_net.proofs.answers.BusyRuns.{Busy, open_began}
@@ -85,7 +83,7 @@ module _ {F R : Type 0} (f : Semantics R) (c : Config) (items : List Msg) (is : 
     its : IsShare f g op real.s
     its = j.shown_is.controller.shared op real.s real.there
 
-    ordered : order_numbered items op ≡ Some (order.Share its.plan.names real.s.plan.filter)
+    ordered : order_numbered items op ≡ Some (Order.Share its.plan.names real.s.plan.filter)
     ordered = ap (order_numbered items) (sym its.op_is) ∙ its.plan.order_is
 
     on : is_begun op w.log ≡ true
@@ -97,7 +95,7 @@ module _ {F R : Type 0} (f : Semantics R) (c : Config) (items : List Msg) (is : 
         let some : 0 < length (filter_map (place_of c.names) its.plan.names) = subst (λ v. 0 < length v) (sym its.plan.members_are)
         (let two = its.some in omega (arith, two)) in
         let known : find (λ name. not (is_some (place_of c.names name))) its.plan.names ≡ None =
-        ((b.is.answered op).begins (order.Share its.plan.names real.s.plan.filter) ordered on).known in
+        ((b.is.answered op).begins (Order.Share its.plan.names real.s.plan.filter) ordered on).known in
         let home_is : e.home ≡ instance_node (home real.s.plan) = ap (λ x. x.home) real.sees.is in
         ap (λ o. is_first_of c items o y) ordered
         ∙ home_test c.names (order_numbered items) its.plan.names some known y
@@ -106,12 +104,12 @@ module _ {F R : Type 0} (f : Semantics R) (c : Config) (items : List Msg) (is : 
         ∙ ap (λ k. instance_node y == k) (sym home_is)
 
   -- Of the units that packets may have.
-  module _ (u : units.Unit) (fits : unit_fits f.kind u ≡ true) (kept : OwnersStay f c items w.log) where
+  module _ (u : Unit) (fits : unit_fits f.kind u ≡ true) (kept : OwnersStay f c items w.log) where
     abbrev Where : Type 0
     Where = WhereAll (S f g) (A f g) (is_sys f g.site g.packet) u j.world (came_by f g w.log u)
 
     -- A share that began and whose first member owns the unit
-    module _ (op : ℕ) (ms : List (List ℕ)) (filter : Filter) (what : order_numbered items op ≡ Some (order.Share ms filter)) (takes_it : takes filter u
+    module _ (op : ℕ) (ms : List (List ℕ)) (filter : Filter) (what : order_numbered items op ≡ Some (Order.Share ms filter)) (takes_it : takes filter u
         ≡ true) (at_home : is_home c.names (order_numbered items) ms (owner c items u w.log) ≡ true) (begins_in : is_begun op w.log ≡ true) where
       abbrev own : IsOpenShare f c items is n count_is w j apart b op ms filter
       own = begun_open f c items is n count_is w j apart b op ms filter what begins_in
@@ -192,7 +190,7 @@ module _ {F R : Type 0} (f : Semantics R) (c : Config) (items : List Msg) (is : 
       abbrev share : IsShare f g x.num at.s
       share = its x.num here k.holds.share
 
-      what_is : order_numbered items x.num ≡ Some (order.Share share.plan.names at.s.plan.filter)
+      what_is : order_numbered items x.num ≡ Some (Order.Share share.plan.names at.s.plan.filter)
       what_is = ordered x.num here k.holds.share
 
       taken : takes at.s.plan.filter u ≡ true

@@ -4,16 +4,13 @@ use Rattle.nf_net.proofs.Words.{option_map_or, list_any, nat_tests, Chunk, Funct
 use Rattle.nf_net.proofs.Words.{InstanceState, instance_step, Network, queue_at, Each, New, Shared_on, S_sync, Config, Node, IsInput, order_numbered}
 use Rattle.nf_net.proofs.Words.{before_begun, is_first_of, is_shared_away, has_begun, installs_in, begins_in, first_owner, is_home, owner_after, shared_among}
 use Rattle.nf_net.proofs.Words.{unit_numbered, held_genuine, number, entries, Given, Rows, by_message, Genuine, IsInstanceAt, IsTaken, Joined, Scene, AllApart}
-use Rattle.nf_net.proofs.Words.{installed_quiet, IsQuiet, given}
-use Rattle.nf_function.specs.declared.unit.Unit as units
-use Rattle.event_filter.specs.declared.mark.Mark.TheVariants as mark
-use Rattle.nf_msgs.specs.declared.msg.Msg.TheVariants as msg
+use Rattle.nf_net.proofs.Words.{installed_quiet, IsQuiet, given, Unit, Mark}
 use Rattle.actor_net.proofs.EnabledChoices.{at as at_node}
 use Rattle.nf_net.proofs.paths.SharedOwners.{HomesOwn}
 use Rattle.proof_outlines.proofs.joined.OwnerLemmas.{begun_quiet}
 use Rattle.nf_net.proofs.answers.BusyRuns.{Busy}
-use Rattle.nf_net.proofs.LiveRows.{stays, Lives, Free, carry_lives, away_lives, fence_lives, delete_lives, put_lives, restore_lives, standby_lives}
-use Rattle.nf_net.proofs.LiveRows.{sync_lives, stream_lives, get_lives, put_all_lives}
+use Rattle.nf_net.proofs.LiveRows.{stays, Lives, Free, carry_lives, away_lives, fence_lives, delete_lives, put_lives, restore_lives, standby_lives, sync_lives}
+use Rattle.nf_net.proofs.LiveRows.{stream_lives, get_lives, put_all_lives}
 use Rattle.nf_net.proofs.LiveShares.{away_marked, first_synced}
 use Rattle.nf_net.proofs.NumberedUnits.{units_fit}
 use Rattle.nf_net.proofs.ShareOwners.{OwnersStay, installed_before}
@@ -26,7 +23,7 @@ same_begun these those same log = along (begins_in log)
     along (op ∷ ops) = ap (λ t. t || list_any these ops) (same op) ∙ ap (λ t. those op || t) (along ops)
 
 -- what an instance notes changes nothing of which share has a unit
-pub away_quiet : (c : Config) (items : List Msg) (u : units.Unit) (y k : ℕ) (xs ys : List Note) → Each (IsQuiet k) ys
+pub away_quiet : (c : Config) (items : List Msg) (u : Unit) (y k : ℕ) (xs ys : List Note) → Each (IsQuiet k) ys
     → is_shared_away c items u y (xs ++ ys) ≡ is_shared_away c items u y xs
 away_quiet c items u y k xs ys quiet =
     same_begun (covers_at (xs ++ ys)) (covers_at xs) each (xs ++ ys) ∙ begun_quiet (covers_at xs) k xs ys quiet
@@ -77,14 +74,14 @@ module _ {F R : Type 0} (f : Semantics R) (laws : FunctionLaws f) (c : Config) (
 
   -- a copy's chunks are of no share
   abbrev pub OfCopy : Msg → Type 0
-  OfCopy m = (op : ℕ) (chunks : List Chunk) → m ≡ msg.Standby op chunks → is_first_of c items (order_numbered items op) y ≡ false
+  OfCopy m = (op : ℕ) (chunks : List Chunk) → m ≡ Msg.Standby op chunks → is_first_of c items (order_numbered items op) y ≡ false
 
   abbrev Now : Msg → Type 0
   Now m = IsTakenHere m → OfCopy m → Free f laws c items is y w.log i site (instance_step f i m)
       → Lives f laws c items is y w.log i site m (instance_step f i m)
 
-  shared_lives : (op : ℕ) (home : Bool) (cell : FullCell) → Genuine f g cell → Now (msg.Carry (mark.Shared op home) cell)
-  shared_lives op true cell e t copied free = carry_lives f laws c items is y w.log i site (mark.Shared op true) cell e refl free
+  shared_lives : (op : ℕ) (home : Bool) (cell : FullCell) → Genuine f g cell → Now (Msg.Carry (Mark.Shared op home) cell)
+  shared_lives op true cell e t copied free = carry_lives f laws c items is y w.log i site (Mark.Shared op true) cell e refl free
   shared_lives op false cell e t copied free =
       let u = unit_numbered c items f.kind (number cell) in
       away_lives f laws c items is y w.log i site op cell
@@ -93,19 +90,19 @@ module _ {F R : Type 0} (f : Semantics R) (laws : FunctionLaws f) (c : Config) (
 
   rows : Rows f g Now
   rows = record {
-    carry = λ cell e t copied free. carry_lives f laws c items is y w.log i site mark.Plain cell e refl free;
-    pass = λ op cell e t copied free. carry_lives f laws c items is y w.log i site (mark.Pass op) cell e refl free;
+    carry = λ cell e t copied free. carry_lives f laws c items is y w.log i site Mark.Plain cell e refl free;
+    pass = λ op cell e t copied free. carry_lives f laws c items is y w.log i site (Mark.Pass op) cell e refl free;
     shared = shared_lives;
     fence = λ op t copied free. fence_lives f laws c items is y w.log i site op (held_genuine g.site g.packet op i.rules at.rules.held) free;
-    stop = λ t copied free. stays f laws c items is y w.log i site msg.Stop (instance_step f i msg.Stop) refl refl refl;
-    enable = λ op filter act whole ruled t copied free. stays f laws c items is y w.log i site (msg.Enable op filter act)
-        (instance_step f i (msg.Enable op filter act)) refl refl refl;
+    stop = λ t copied free. stays f laws c items is y w.log i site Msg.Stop (instance_step f i Msg.Stop) refl refl refl;
+    enable = λ op filter act whole ruled t copied free. stays f laws c items is y w.log i site (Msg.Enable op filter act)
+        (instance_step f i (Msg.Enable op filter act)) refl refl refl;
     stream = λ op filter whole t copied free. stream_lives f laws c items is y w.log i site op filter;
     delete = λ op gone t copied free. delete_lives f laws c items is y w.log i site op gone;
     put = λ op piece first good t copied free. put_lives f laws c items is y w.log i site op piece first good;
     restore = λ op chunks good t copied free. restore_lives f laws c items is y w.log i site op chunks good;
     get = λ op filter whole t copied free. get_lives f laws c items is y w.log i site op filter;
-    get_all = λ op t copied free. stays f laws c items is y w.log i site (msg.GetAll op) (instance_step f i (msg.GetAll op)) refl refl refl;
+    get_all = λ op t copied free. stays f laws c items is y w.log i site (Msg.GetAll op) (instance_step f i (Msg.GetAll op)) refl refl refl;
     standby = λ op chunks good t copied free. standby_lives f laws c items is y w.log i site op chunks good (copied op chunks refl);
     put_all = λ op chunk t copied free. put_all_lives f laws c items is y w.log i site op chunk;
     sync = λ home op chunks good t copied free. sync_lives f laws c items is y w.log i site home op chunks good

@@ -1,15 +1,14 @@
 -- Units each once: what is added and taken out, and that they are as many as the records that have them.
 use Rattle.nf_net.proofs.Words.{◌≡◌, zero, suc, ◌≤◌, Bool, true, false, cond, None, List, [], ◌∷◌, length, map, refl, sym, ap, ◌∙◌, arith, if◌then◌else◌, ◌&&◌}
 use Rattle.nf_net.proofs.Words.{◌||◌, not, is_some, get-remove, len-entries, and-false, or-false, units_total, unit_cmp, Records, same_unit, is_among}
-use Rattle.nf_net.proofs.Words.{same_unit-true, same_unit_equiv, with_units, without_units}
+use Rattle.nf_net.proofs.Words.{same_unit-true, same_unit_equiv, with_units, without_units, Unit}
 use Rattle.std.proofs.Common.{◌-◌}
 use Rattle.std.specs.FinMap as finite
 use Rattle.std.specs.FinMap.{contains_key-keys, empty_of_len, get-empty, len-remove}
-use Rattle.nf_function.specs.declared.unit.Unit as units
 
 -- no unit comes twice
-abbrev pub AreOnce : List units.Unit → Type 0
-AreOnce [] = Unit {0}
+abbrev pub AreOnce : List Unit → Type 0
+AreOnce [] = Prim.Unit {0}
 AreOnce (u ∷ us) = (is_among us u ≡ false) × AreOnce us
 
 -- one more in front, or not
@@ -23,10 +22,10 @@ turned true true x = refl
 turned true false x = refl
 turned false b x = refl
 
-among_same : (us : List units.Unit) (u q : units.Unit) → is_among us u ≡ true → same_unit q u ≡ true → is_among us q ≡ true
+among_same : (us : List Unit) (u q : Unit) → is_among us u ≡ true → same_unit q u ≡ true → is_among us q ≡ true
 among_same us u q on same = ap (is_among us) (same_unit-true q u same) ∙ on
 
-pub with_in : (us more : List units.Unit) (q : units.Unit) → is_among (with_units us more) q ≡ is_among us q || is_among more q
+pub with_in : (us more : List Unit) (q : Unit) → is_among (with_units us more) q ≡ is_among us q || is_among more q
 with_in us [] q = sym (or-false (is_among us q))
 with_in us (u ∷ more) q =
     with_in (if is_among us u then us else u ∷ us) more q
@@ -36,7 +35,7 @@ with_in us (u ∷ more) q =
       | false ↦ λ _. turned (same_unit q u) (is_among us q) (is_among more q)
     ] refl
 
-pub with_once : (us more : List units.Unit) → AreOnce us → AreOnce (with_units us more)
+pub with_once : (us more : List Unit) → AreOnce us → AreOnce (with_units us more)
 with_once us [] h = h
 with_once us (u ∷ more) h =
     with_once (if is_among us u then us else u ∷ us) more (elim (is_among us u) as (λ t. is_among us u ≡ t → AreOnce (if t then us else u ∷ us)) [
@@ -44,7 +43,7 @@ with_once us (u ∷ more) h =
       | false ↦ λ off. (off, h)
     ] refl)
 
-pub without_in : (gone us : List units.Unit) (q : units.Unit) → is_among (without_units gone us) q ≡ is_among us q && not (is_among gone q)
+pub without_in : (gone us : List Unit) (q : Unit) → is_among (without_units gone us) q ≡ is_among us q && not (is_among gone q)
 without_in gone [] q = refl
 without_in gone (u ∷ us) q = elim (is_among gone u) as (λ t. is_among gone u ≡ t
     → is_among (cond (not t) (u ∷ without_units gone us) (without_units gone us)) q ≡ (same_unit q u || is_among us q) && not (is_among gone q)) [
@@ -60,7 +59,7 @@ without_in gone (u ∷ us) q = elim (is_among gone u) as (λ t. is_among gone u 
           ] refl
     ] refl
 
-pub without_once : (gone us : List units.Unit) → AreOnce us → AreOnce (without_units gone us)
+pub without_once : (gone us : List Unit) → AreOnce us → AreOnce (without_units gone us)
 without_once gone [] h = tt
 without_once gone (u ∷ us) h = elim (is_among gone u) as (λ t. AreOnce (cond (not t) (u ∷ without_units gone us) (without_units gone us))) [
   | true ↦ without_once gone us h.1
@@ -69,17 +68,17 @@ without_once gone (u ∷ us) h = elim (is_among gone u) as (λ t. AreOnce (cond 
 
 module _ {R : Type 0} where
   -- a map with a record isn't empty
-  has_one : (m : Records R) (u : units.Unit) → finite.contains_key m u ≡ true → 1 ≤ finite.len m
+  has_one : (m : Records R) (u : Unit) → finite.contains_key m u ≡ true → 1 ≤ finite.len m
   has_one m u has = elim (finite.len m) as (λ n. finite.len m ≡ n → 1 ≤ n) [
     | zero ↦ λ none. (let never : true ≡ false = sym has ∙ ap (λ n. finite.contains_key n u) (empty_of_len m none) ∙ ap is_some (get-empty unit_cmp u) in cc)
     | suc n ↦ λ some. omega arith
   ] refl
 
   -- one without records is
-  none_in : (m : Records R) → ((u : units.Unit) → finite.contains_key m u ≡ false) → finite.len m ≡ 0
+  none_in : (m : Records R) → ((u : Unit) → finite.contains_key m u ≡ false) → finite.len m ≡ 0
   none_in m h = len-entries m ∙ by_entries (finite.entries m) refl
     where
-      by_entries : (es : List (units.Unit × R)) → finite.entries m ≡ es → length es ≡ 0
+      by_entries : (es : List (Unit × R)) → finite.entries m ≡ es → length es ≡ 0
       by_entries [] e = refl
       by_entries (x ∷ es) e =
           let self : same_unit x.0 x.0 ≡ true = same_unit_equiv.refl x.0 in
@@ -90,7 +89,7 @@ module _ {R : Type 0} where
           cc
 
   -- units each once, which are those with records, are as many
-  pub as_many : (us : List units.Unit) (m : Records R) → AreOnce us → ((u : units.Unit) → is_among us u ≡ finite.contains_key m u) → length us ≡ finite.len m
+  pub as_many : (us : List Unit) (m : Records R) → AreOnce us → ((u : Unit) → is_among us u ≡ finite.contains_key m u) → length us ≡ finite.len m
   as_many [] m h same = sym (none_in m (λ u. sym (same u)))
   as_many (u ∷ us) m h same =
       let self : same_unit u u ≡ true = same_unit_equiv.refl u in
@@ -100,7 +99,7 @@ module _ {R : Type 0} where
       let rest = as_many us (finite.remove m u) h.1 (λ q. others q) in
       omega (arith, some, less, rest)
     where
-      others : (q : units.Unit) → is_among us q ≡ finite.contains_key (finite.remove m u) q
+      others : (q : Unit) → is_among us q ≡ finite.contains_key (finite.remove m u) q
       others q = elim (same_unit q u) as (λ t. same_unit q u ≡ t → is_among us q ≡ is_some (cond t None (finite.get m q))) [
         | true ↦ λ same_is. ap (is_among us) (same_unit-true q u same_is) ∙ h.0
         | false ↦ λ off. (let all : same_unit q u || is_among us q ≡ finite.contains_key m q = same q in sym (ap (λ t. t || is_among us q) off) ∙ all)

@@ -2,10 +2,7 @@
 use Rattle.nf_net.proofs.Words.{◌≡◌, ℕ, zero, suc, ◌+◌, ◌<◌, Bool, true, false, Option, Some, None, List, [], ◌∷◌, ◌++◌, length, refl, sym, ap, ◌∙◌, subst}
 use Rattle.nf_net.proofs.Words.{arith, if◌then◌else◌, ◌&&◌, ◌||◌, not, find, is_some, slice_index, slice_index_or, filter_map, option_or, Decides-eqb}
 use Rattle.nf_net.proofs.Words.{and_parts, Filter, takes, Order, Note, place_of, times_installed, installs_in, is_at, owner_after, owner_after_order, is_home}
-use Rattle.nf_net.proofs.Words.{shared_among, members_after, times_installed-append, counted_now, Given}
-use Rattle.nf_function.specs.declared.unit.Unit as units
-use Rattle.nf_msgs.specs.declared.command.Order.TheVariants as order
-use Rattle.nf_msgs.specs.declared.note.Note.TheVariants as note
+use Rattle.nf_net.proofs.Words.{shared_among, members_after, times_installed-append, counted_now, Given, Unit}
 use Rattle.proof_outlines.proofs.joined.Given.{diverts, diverted_after}
 
 some_or : {X : Type 0} (a b : Option X) → is_some (option_or a b) ≡ is_some a || is_some b
@@ -24,7 +21,7 @@ pub is_there : {X : Type 0} (o : Option X) → is_some o ≡ true → IsThere o
 is_there (Some x) e = There x refl
 is_there None e = cc
 
-module _ (g : Given) (u : units.Unit) where
+module _ (g : Given) (u : Unit) where
   abbrev members_by : ℕ → List ℕ → Option (List (List ℕ))
   members_by i ops = members_after g.names g.orders u i ops
 
@@ -36,10 +33,10 @@ module _ (g : Given) (u : units.Unit) where
 
   -- a unit has members exactly where its packets are diverted
   sharing_diverts : (what : Option Order) (i : ℕ) → is_some (sharing what i) ≡ diverts g u what i
-  sharing_diverts (Some (order.Share members filter)) i =
+  sharing_diverts (Some (Order.Share members filter)) i =
       elim (takes filter u && is_home g.names g.orders members i) as (λ b. is_some (if b then Some members else None) ≡ b) [ true ↦ refl | false ↦ refl ]
-  sharing_diverts (Some (order.Move source destination filter keep)) i = refl
-  sharing_diverts (Some (order.Copy source destination filter)) i = refl
+  sharing_diverts (Some (Order.Move source destination filter keep)) i = refl
+  sharing_diverts (Some (Order.Copy source destination filter)) i = refl
   sharing_diverts None i = refl
 
   pub members_diverted : (i : ℕ) (ops : List ℕ) → is_some (members_by i ops) ≡ diverted_after g u i ops
@@ -61,26 +58,26 @@ module _ (g : Given) (u : units.Unit) where
   -- an order that shares the unit from this instance
   pub record SharesIt (what : Option Order) (i : ℕ) (ms : List (List ℕ)) : Type 0 where
     pub filter : Filter
-    pub order_is : what ≡ Some (order.Share ms filter)
+    pub order_is : what ≡ Some (Order.Share ms filter)
     pub takes_it : takes filter u ≡ true
     pub home : is_home g.names g.orders ms i ≡ true
 
   pub shares_it : (what : Option Order) (i : ℕ) (ms : List (List ℕ)) → sharing what i ≡ Some ms → SharesIt what i ms
-  shares_it (Some (order.Share members filter)) i ms e = by_test (takes filter u && is_home g.names g.orders members i) refl e
+  shares_it (Some (Order.Share members filter)) i ms e = by_test (takes filter u && is_home g.names g.orders members i) refl e
     where
       by_test : (b : Bool) → takes filter u && is_home g.names g.orders members i ≡ b → (if b then Some members else None) ≡ Some ms
-          → SharesIt (Some (order.Share members filter)) i ms
+          → SharesIt (Some (Order.Share members filter)) i ms
       by_test false t never = cc
       by_test true t found =
           let same : members ≡ ms = cc in
-          subst (SharesIt (Some (order.Share members filter)) i) same (record {
+          subst (SharesIt (Some (Order.Share members filter)) i) same (record {
             filter = filter;
             order_is = refl;
             takes_it = (and_parts (takes filter u) (is_home g.names g.orders members i) t).0;
             home = (and_parts (takes filter u) (is_home g.names g.orders members i) t).1;
           })
-  shares_it (Some (order.Move source destination filter keep)) i ms e = cc
-  shares_it (Some (order.Copy source destination filter)) i ms e = cc
+  shares_it (Some (Order.Move source destination filter keep)) i ms e = cc
+  shares_it (Some (Order.Copy source destination filter)) i ms e = cc
   shares_it None i ms e = cc
 
   -- which of some commands shares it: the first that does
@@ -124,7 +121,7 @@ module _ (g : Given) (u : units.Unit) where
 pub record InstalledIn (log : List Note) (front : List ℕ) (op : ℕ) : Type 0 where
   pub first : List Note
   pub rest : List Note
-  pub whole : log ≡ first ++ note.Installed op ∷ rest
+  pub whole : log ≡ first ++ Note.Installed op ∷ rest
   pub before : installs_in first ≡ front
 
 abbrev WithNote : Note → List Note → List ℕ → ℕ → Type 0
@@ -134,29 +131,29 @@ behind_note : (n : Note) (log : List Note) (front : List ℕ) (op : ℕ) → ((x
 behind_note n log front op same r = record { first = n ∷ r.first; rest = r.rest; whole = ap (λ v. n ∷ v) r.whole; before = same r.first ∙ r.before }
 
 behind_installed : (k x : ℕ) (log : List Note) (front : List ℕ) (op : ℕ) → k ≡ x → InstalledIn log front op
-    → InstalledIn (note.Installed k ∷ log) (x ∷ front) op
+    → InstalledIn (Note.Installed k ∷ log) (x ∷ front) op
 behind_installed k x log front op same r = record {
-  first = note.Installed k ∷ r.first;
+  first = Note.Installed k ∷ r.first;
   rest = r.rest;
-  whole = ap (λ v. note.Installed k ∷ v) r.whole;
+  whole = ap (λ v. Note.Installed k ∷ v) r.whole;
   before = ap (λ v. k ∷ v) r.before ∙ ap (λ q. q ∷ front) same;
 }
 
 pub installed_in : (log : List Note) (front : List ℕ) (op : ℕ) (back : List ℕ) → installs_in log ≡ front ++ op ∷ back → InstalledIn log front op
 installed_in [] [] op back e = cc
 installed_in [] (x ∷ front) op back e = cc
-installed_in (note.Installed k ∷ log) [] op back e =
-    let same : k ≡ op = cc in record { first = []; rest = log; whole = ap (λ q. note.Installed q ∷ log) same; before = refl }
-installed_in (note.Installed k ∷ log) (x ∷ front) op back e =
+installed_in (Note.Installed k ∷ log) [] op back e =
+    let same : k ≡ op = cc in record { first = []; rest = log; whole = ap (λ q. Note.Installed q ∷ log) same; before = refl }
+installed_in (Note.Installed k ∷ log) (x ∷ front) op back e =
     let same : k ≡ x = cc in
     let tail : installs_in log ≡ front ++ op ∷ back = cc in
     behind_installed k x log front op same (installed_in log front op back tail)
 installed_in (n ∷ log) front op back e = behind_note n log front op (λ xs. refl) (installed_in log front op back e)
 
 pub times_there : (op : ℕ) (first rest : List Note)
-    → times_installed op (first ++ note.Installed op ∷ rest) ≡ suc (times_installed op first + times_installed op rest)
+    → times_installed op (first ++ Note.Installed op ∷ rest) ≡ suc (times_installed op first + times_installed op rest)
 times_there op first rest =
-    let both = times_installed-append op first (note.Installed op ∷ rest) in
+    let both = times_installed-append op first (Note.Installed op ∷ rest) in
     let one = counted_now op (installs_in rest) in
     omega (arith, both, one)
 

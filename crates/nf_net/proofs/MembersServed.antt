@@ -4,12 +4,11 @@ use Rattle.nf_net.proofs.Words.{subst, arith, if◌then◌else◌, ◌&&◌, ◌
 use Rattle.nf_net.proofs.Words.{shape, to_members, Sys, IsSys, none_mine, GlobalAll, NoShare, head_none, share_expect, unit_share, share_seen, share_items}
 use Rattle.nf_net.proofs.Words.{own_at, does, heads, inst_from, Under, inst_keeps, seeing, Any, ShareMsg, olds, Sharing, IsSharing, OpenShare, WantShare}
 use Rattle.nf_net.proofs.Words.{member_step, WholeWorld, moves_of, ran_of, SeeingShare, Came, WhereAll, Apart_from_shares, Under_share, ItsShare, its_share}
-use Rattle.nf_net.proofs.Words.{ran_by, MayRun, processed_where, same_unit, Stands, In_first, In_second, stands}
+use Rattle.nf_net.proofs.Words.{ran_by, MayRun, processed_where, same_unit, Stands, In_first, In_second, stands, Unit}
 use Rattle.proof_machines.proofs.unit.Stages.{times}
 use Rattle.proof_machines.proofs.unit.Loose.{times-append}
 use Rattle.proof_machines.proofs.share.Share.{Item, Item.Carry}
-use Rattle.proof_machines.proofs.share.Stages.{Stage.Diverting}
-use Rattle.proof_machines.proofs.share.Stages.{packets}
+use Rattle.proof_machines.proofs.share.Stages.{Stage.Diverting, packets}
 use Rattle.proof_machines.proofs.share.Order.{Parts, parts}
 use Rattle.proof_machines.proofs.share.Places.{At_places}
 use Rattle.proof_machines.proofs.net.Net.{at_node}
@@ -17,7 +16,6 @@ use Rattle.proof_machines.proofs.net.UnderInst.{did_at}
 use Rattle.proof_machines.proofs.net.UnderReadings.{all_done}
 use Rattle.proof_machines.proofs.net.Shares.{Any.Old, Any.New, ShareMsg.Shared_on, ShareMsg.S_sync}
 use Rattle.proof_machines.proofs.whole.PlacesAll.{Processes, As_moves, At_member, processes_all}
-use Rattle.nf_function.specs.declared.unit.Unit as units
 
 -- A packet among some, with its node.
 pub some_times : (front back : List Ran) (p y : ℕ) → 1 ≤ times p (packets (front ++ (p, y) ∷ back))
@@ -52,7 +50,7 @@ module _ {R : Type 0} (f : UnitShare R) where
   none_to (Diverting d b l) off y it rest e = cc
   none_to s off y it rest e = cc
 
-module _ {R : Type 0} (S : Sys R) (A : Sharing S) (laws : IsSys S) (u : units.Unit) where
+module _ {R : Type 0} (S : Sys R) (A : Sharing S) (laws : IsSys S) (u : Unit) where
   -- a packet of the unit where an instance processes some
   ran_there : (y q : ℕ) → same_unit (S.packet_unit q) u ≡ true → (front back : List ℕ)
       → (before : List Ran) × (after : List Ran) × (ran_of S A u (at_node y (front ++ q ∷ back)) ≡ before ++ (q, y) ∷ after)

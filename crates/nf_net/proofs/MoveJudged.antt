@@ -1,12 +1,8 @@
 -- What a move knows of its pieces, and then of its verdict, from phase to phase; and that it sends what is known so.
 use Rattle.nf_net.proofs.Words.{◌≡◌, ℕ, Bool, true, false, Some, List, [], ◌∷◌, ◌++◌, map, ap, subst, ◌||◌, unwrap_or, FullCell, Answer, Piece, Msg, op_of}
 use Rattle.nf_net.proofs.Words.{Door, Phase, MovePlan, MoveNext, messages_of, destination, put_to, forward_to, answer_of, EachSent, Each, each-append}
-use Rattle.nf_net.proofs.Words.{sent-append}
+use Rattle.nf_net.proofs.Words.{sent-append, Target, Done}
 use Rattle.std.proofs.lemmas.Option.{same_Some}
-use Rattle.switch_rules.specs.declared.target.Target.TheVariants as target
-use Rattle.nf_msgs.specs.declared.answer.Answer.TheVariants.{Done}
-use Rattle.nf_msgs.specs.declared.msg.Msg.TheVariants as msg
-use Rattle.move_op.specs.declared.door.Door.TheVariants as door
 use Rattle.move_op.specs.Phases as phase
 use Rattle.move_op.specs.Table as table
 use Rattle.move_op.specs.Move.{row}
@@ -16,19 +12,19 @@ use Rattle.nf_net.proofs.MoveWays.{Goes as Goes_to, Pushed, Asks, Puts, Way, Beg
 module _ (Part : ℕ → Piece → Type 0) (Verdict : ℕ → Answer → Type 0) (Goes : ℕ → ℕ → Type 0) where
   -- what is known of a message, by sender and receiver
   abbrev pub Said : ℕ → ℕ → Msg → Type 0
-  Said s r (msg.Piece op piece) = Part op piece
-  Said s r (msg.Put op piece true) = Part op piece × Goes op r
-  Said s r (msg.Put op piece false) = Verdict op Done
-  Said s r (msg.PutOk op) = Verdict op Done
-  Said s r (msg.PutNo op refused) = Verdict op refused.why
+  Said s r (Msg.Piece op piece) = Part op piece
+  Said s r (Msg.Put op piece true) = Part op piece × Goes op r
+  Said s r (Msg.Put op piece false) = Verdict op Done
+  Said s r (Msg.PutOk op) = Verdict op Done
+  Said s r (Msg.PutNo op refused) = Verdict op refused.why
   Said s r message = Unit {0}
 
   -- what is known in a phase: of the pieces, until one asks; and then of the answer
   abbrev pub Knows : ℕ → Phase → Type 0
-  Knows op (phase.Streaming frozen free came door.Shut) = Each (Part op) frozen × Each (Part op) free
-  Knows op (phase.Streaming frozen free came (door.Asked last)) = Unit {0}
-  Knows op (phase.Streaming frozen free came door.Open) = Verdict op Done
-  Knows op (phase.Streaming frozen free came (door.Refused why)) = Verdict op why
+  Knows op (phase.Streaming frozen free came Door.Shut) = Each (Part op) frozen × Each (Part op) free
+  Knows op (phase.Streaming frozen free came (Door.Asked last)) = Unit {0}
+  Knows op (phase.Streaming frozen free came Door.Open) = Verdict op Done
+  Knows op (phase.Streaming frozen free came (Door.Refused why)) = Verdict op why
   Knows op phase.Freezing = Unit {0}
   Knows op phase.Holding = Verdict op Done
   Knows op phase.Passing = Verdict op Done
@@ -59,18 +55,18 @@ module _ (Part : ℕ → Piece → Type 0) (Verdict : ℕ → Answer → Type 0)
     -- the first piece that is frozen is free
     freed : (p : Piece) (frozen free : List Piece) (came : Bool) (d : Door) → Knows plan.op (phase.Streaming (p ∷ frozen) free came d)
         → Knows plan.op (phase.Streaming frozen (free ++ p ∷ []) came d)
-    freed p frozen free came door.Shut h = (h.0.1, each-append (Part plan.op) free (p ∷ []) h.1 (h.0.0, tt))
-    freed p frozen free came (door.Asked last) h = tt
-    freed p frozen free came door.Open h = h
-    freed p frozen free came (door.Refused why) h = h
+    freed p frozen free came Door.Shut h = (h.0.1, each-append (Part plan.op) free (p ∷ []) h.1 (h.0.0, tt))
+    freed p frozen free came (Door.Asked last) h = tt
+    freed p frozen free came Door.Open h = h
+    freed p frozen free came (Door.Refused why) h = h
 
     -- a piece comes
     frozen_more : (p : Piece) (frozen free : List Piece) (came since : Bool) (d : Door) → Part plan.op p
         → Knows plan.op (phase.Streaming frozen free came d) → Knows plan.op (phase.Streaming (frozen ++ p ∷ []) free since d)
-    frozen_more p frozen free came since door.Shut part h = (each-append (Part plan.op) frozen (p ∷ []) h.0 (part, tt), h.1)
-    frozen_more p frozen free came since (door.Asked last) part h = tt
-    frozen_more p frozen free came since door.Open part h = h
-    frozen_more p frozen free came since (door.Refused why) part h = h
+    frozen_more p frozen free came since Door.Shut part h = (each-append (Part plan.op) frozen (p ∷ []) h.0 (part, tt), h.1)
+    frozen_more p frozen free came since (Door.Asked last) part h = tt
+    frozen_more p frozen free came since Door.Open part h = h
+    frozen_more p frozen free came since (Door.Refused why) part h = h
 
     -- what is known of what a row says: of the piece that asks, and that pieces are put
     abbrev Tells : table.Said FullCell Piece → Type 0
@@ -89,9 +85,9 @@ module _ (Part : ℕ → Piece → Type 0) (Verdict : ℕ → Answer → Type 0)
       said_known (table.Ask p) h = ((h, there), tt)
       said_known (table.Put ps) h = puts ps h
       said_known (table.Release cells) h =
-          sent-append Said 1 (map (forward_to plan plan.to) cells) ((0, msg.Install plan.op plan.filter plan.from (target.Instance plan.to)) ∷ [])
+          sent-append Said 1 (map (forward_to plan plan.to) cells) ((0, Msg.Install plan.op plan.filter plan.from (Target.Instance plan.to)) ∷ [])
           (forwards plan.to cells) (tt, tt)
-      said_known (table.Give_back cells) h = sent-append Said 1 (map (forward_to plan plan.from) cells) ((0, msg.FenceTo plan.op plan.from) ∷ [])
+      said_known (table.Give_back cells) h = sent-append Said 1 (map (forward_to plan plan.from) cells) ((0, Msg.FenceTo plan.op plan.from) ∷ [])
           (forwards plan.from cells) (tt, tt)
       said_known says h = (tt, tt)
 

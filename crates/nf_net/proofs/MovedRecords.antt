@@ -4,12 +4,10 @@ use Rattle.nf_net.proofs.Words.{◌≡◌, ℕ, ◌<◌, ◌≤◌, Bool, true, 
 use Rattle.nf_net.proofs.Words.{is_some, filter_map, nat_tests, Filter, takes, FunctionLaws, Semantics, Records, taken_by, one_unit, Msg, Note, Network}
 use Rattle.nf_net.proofs.Words.{queue_at, at, Each, M_stream, Mv, Sys, IsSys, NothingOf, Where, Any, olds, Sharing, WholeWorld, moves_of, Came, WhereAll}
 use Rattle.nf_net.proofs.Words.{Apart_from_shares, Under_share, Config, Node, IsInput, processed_of, live_at, is_whole, takes_same, is_sys, Given, S, A, shown}
-use Rattle.nf_net.proofs.Words.{came_by, Joined, done_same, given}
+use Rattle.nf_net.proofs.Words.{came_by, Joined, done_same, given, Unit}
 use Rattle.std.specs.FinMap as finite
-use Rattle.nf_function.specs.declared.unit.Unit as units
 use Rattle.record_table.specs.Chunks.{chunks_of}
 use Rattle.record_table.proofs.RecordLookUps.{same_records}
-use Rattle.nf_msgs.specs.declared.msg.Msg.TheVariants as msg
 use Rattle.proof_machines.proofs.net.Readings as readings
 use Rattle.proof_machines.proofs.net.Shares.{Any.Old}
 use Rattle.net_world.specs.Fold.{fold}
@@ -17,7 +15,7 @@ use Rattle.nf_net.proofs.paths.RecordPromises.{record_is}
 use Rattle.nf_net.proofs.FoldLemmas.{fold_is}
 use Rattle.nf_net.proofs.StreamedUnits.{GivesState, selected_give}
 
-module _ {R : Type 0} (S : Sys R) (laws : IsSys S) (u : units.Unit) where
+module _ {R : Type 0} (S : Sys R) (laws : IsSys S) (u : Unit) where
   -- no share has a unit that is asked for
   stream_apart : (A : Sharing S) (w : WholeWorld S A) (k : Came) → WhereAll S A laws u w k → (i y n : ℕ) (g : Filter) (rest : List (Any R))
       → (i == 0) && (y == 0) ≡ false → w.link i y ≡ Old (Mv g (M_stream n)) ∷ rest → S.takes g u ≡ true → Where S laws u (moves_of S A w) k.all k.bared
@@ -34,7 +32,7 @@ module _ {F R : Type 0} (f : Semantics R) (c : Config) (items : List Msg) (is : 
   g = given f c items is
 
   module _ (count : length w.nodes ≡ n) (k p : ℕ) (two : 2 ≤ k) (few : k < n) (sends : p < n) (op : ℕ) (filter : Filter) (rest : List Msg)
-      (waits : queue_at w (at k p) ≡ msg.Stream op filter ∷ rest) (whole : is_whole f.kind filter ≡ true) where
+      (waits : queue_at w (at k p) ≡ Msg.Stream op filter ∷ rest) (whole : is_whole f.kind filter ≡ true) where
     off : (p == 0) && (k == 0) ≡ false
     off = grind (arith, nat_tests, two)
 
@@ -42,7 +40,7 @@ module _ {F R : Type 0} (f : Semantics R) (c : Config) (items : List Msg) (is : 
     shown_so = j.links p k sends few off ∙ ap (filter_map (shown f g)) waits
 
     -- a live record of a unit that it takes is that of all the unit's packets
-    pub streamed_record : (u : units.Unit) (i : ℕ) (r : R) → takes filter u ≡ true → finite.get (j.nodes.instance k).table.live u ≡ Some r
+    pub streamed_record : (u : Unit) (i : ℕ) (r : R) → takes filter u ≡ true → finite.get (j.nodes.instance k).table.live u ≡ Some r
         → live_at w i u ≡ Some r → fold f c items None (processed_of f c items u w.log) ≡ Some r
     streamed_record u i r on there live =
         let its = j.shown_is.instances k two few in
@@ -55,7 +53,7 @@ module _ {F R : Type 0} (f : Semantics R) (c : Config) (items : List Msg) (is : 
 
 -- The records that a filter takes.
 module _ {R : Type 0} (filter : Filter) where
-  got_taken : (m : Records R) (u : units.Unit) → finite.get (taken_by filter m) u ≡ cond (takes filter u) (finite.get m u) None
+  got_taken : (m : Records R) (u : Unit) → finite.get (taken_by filter m) u ≡ cond (takes filter u) (finite.get m u) None
   got_taken m u = finite.get-retain_keys m (takes filter) u (λ x same. ap (takes filter) (sym (one_unit u x same)))
 
   twice : (b : Bool) (o : Option R) → cond b (cond b o None) None ≡ cond b o None
@@ -71,8 +69,8 @@ module _ {R : Type 0} (filter : Filter) where
   both false o r e = cc
 
   -- what an instance gives of them, where a test tells which of them have a time
-  pub taken_give : (f : Semantics R) (laws : FunctionLaws f) (live : Records R) (test : units.Unit → Bool)
-      → ((u : units.Unit) (r : R) → takes filter u ≡ true → finite.get live u ≡ Some r → f.is_timed r ≡ test u)
+  pub taken_give : (f : Semantics R) (laws : FunctionLaws f) (live : Records R) (test : Unit → Bool)
+      → ((u : Unit) (r : R) → takes filter u ≡ true → finite.get live u ≡ Some r → f.is_timed r ≡ test u)
       → GivesState f laws test (chunks_of f (taken_by filter live))
   taken_give f laws live test h =
       subst (λ m. GivesState f laws test (chunks_of f m)) (taken_twice live) (selected_give f laws filter (taken_by filter live) test (λ u r there.

@@ -3,11 +3,9 @@ use Rattle.nf_net.proofs.Words.{◌≡◌, ◌≢◌, ℕ, zero, suc, ◌<◌, B
 use Rattle.nf_net.proofs.Words.{◌==◌, option_to_list, option_map_or, filter_map, flat_map, Decides-eqb, map-append, Chunk, Semantics, same_unit, spelled}
 use Rattle.nf_net.proofs.Words.{same_unit_equiv, Msg, Note, op_of, Operation, Network, on_link, EachOn, Each, each-append, record_at, seat_shape, Seeing, olds}
 use Rattle.nf_net.proofs.Words.{Node, Controller, Switch, on_links, chunks_in, kept_for, kept_by, is_chunk_of, spelled_of, chunks_on_way, entries, is_sys}
-use Rattle.nf_net.proofs.Words.{given, Given, S, shown, Label, AreGoodChunks, node_of}
+use Rattle.nf_net.proofs.Words.{given, Given, S, shown, Label, AreGoodChunks, node_of, Unit}
 use Rattle.std.specs.Prelude.{filter}
 use Rattle.std.specs.FinMap as finite
-use Rattle.nf_function.specs.declared.unit.Unit as units
-use Rattle.nf_msgs.specs.declared.msg.Msg.TheVariants as msg
 use Rattle.proof_machines.proofs.net.Holding.{Label as Seen_label}
 use Rattle.proof_machines.proofs.net.Units.{see}
 use Rattle.nf_net.proofs.paths.ChunkLemmas.{as_spelled, good_spelled}
@@ -52,10 +50,10 @@ shorter f true c cs e = cc
 shorter f false c cs e = e
 
 -- a chunk of the unit has this number
-abbrev pub IsOwn : units.Unit → ℕ → Option ℕ × Chunk → Type 0
+abbrev pub IsOwn : Unit → ℕ → Option ℕ × Chunk → Type 0
 IsOwn u own x = x.1.unit ≡ Some u → x.0 ≡ Some own
 
-module _ {R : Type 0} (f : Semantics R) (u : units.Unit) (own : ℕ) where
+module _ {R : Type 0} (f : Semantics R) (u : Unit) (own : ℕ) where
   some_spelled : (c : Chunk) (cs : List Chunk) → c.unit ≡ Some u → spelled_of f u (c ∷ cs) ≢ []
   some_spelled c cs is_unit none =
       let same : is_chunk_of u c ≡ true = ap (λ o. option_map_or (same_unit u) o false) is_unit ∙ same_unit_equiv.refl u in
@@ -80,10 +78,10 @@ module _ {R : Type 0} (f : Semantics R) (g : Given) (z : Seeing) where
   good_own n cs good none = all_own f z.unit z.op.num n cs (λ off. good_spelled f g z.unit cs good ∙ ap (λ o. as_spelled z.unit (option_to_list o)) (none off))
 
   msg_own : (s r : ℕ) (m : Msg) → Label f g s r m → MayBe f g z [] s (shown f g m) → Each (IsOwn z.unit z.op.num) (numbered_in m)
-  msg_own s r (msg.Piece op piece) l k = good_own op piece.chunks l.1.good k.1
-  msg_own s r (msg.Put op piece first) l k = good_own op piece.chunks l.1.good k.1
-  msg_own s r (msg.Restore op chunks) l k = good_own op chunks l.1 k.1
-  msg_own s r (msg.PutNo op refused) l k = good_own op refused.chunks l.1 k.1
+  msg_own s r (Msg.Piece op piece) l k = good_own op piece.chunks l.1.good k.1
+  msg_own s r (Msg.Put op piece first) l k = good_own op piece.chunks l.1.good k.1
+  msg_own s r (Msg.Restore op chunks) l k = good_own op chunks l.1 k.1
+  msg_own s r (Msg.PutNo op refused) l k = good_own op refused.chunks l.1 k.1
   msg_own s r m l k = tt
 
   pub link_own : (s r : ℕ) (ms : List Msg) → EachOn (Label f g s r) ms → Each (Seen_label (S f g) z s) (olds (filter_map (shown f g) ms))
@@ -94,7 +92,7 @@ module _ {R : Type 0} (f : Semantics R) (g : Given) (z : Seeing) where
       each-append (IsOwn z.unit z.op.num) (numbered_in m) (flat_map numbered_in ms) (msg_own s r m h.0 both.0) (link_own s r ms h.1 both.1)
 
 -- In a world.
-module _ {F R : Type 0} (here : Reached F R) (u : units.Unit) (apart : IsApart here u) (k : Seated here u) where
+module _ {F R : Type 0} (here : Reached F R) (u : Unit) (apart : IsApart here u) (k : Seated here u) where
   open here use {f, c, items, is, n, w, nodes, j, world}
 
   abbrev g : Given

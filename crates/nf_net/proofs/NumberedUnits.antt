@@ -1,12 +1,11 @@
 -- The unit of the packet with any number is one that packets may have; and what an instance notes as processed is among what ran.
 use Rattle.nf_net.proofs.Words.{◌≡◌, ℕ, Bool, true, false, Option, Some, None, List, [], ◌∷◌, ◌++◌, refl, ap, if◌then◌else◌, ◌&&◌, ◌==◌, not, find, unwrap_or}
 use Rattle.nf_net.proofs.Words.{cons_option, filter_map, Packet, Site, Flow, Output, Semantics, Msg, Note, Each, Config, packet_numbered, IsInput}
-use Rattle.nf_net.proofs.Words.{unit_numbered, flow_fits, unit_fits, all_each, ran_in, unit_is_fit}
+use Rattle.nf_net.proofs.Words.{unit_numbered, flow_fits, unit_fits, all_each, ran_in, unit_is_fit, flow_of}
 use Rattle.flow_filter.specs.declared.flow.Direction.{Direction}
 use Rattle.flow_filter.specs.declared.flow.Direction.TheVariants.{Out, In}
-use Rattle.flow_filter.specs.Flow.{flow_of, is_inside, outward, inward}
+use Rattle.flow_filter.specs.Flow.{is_inside, outward, inward}
 use Rattle.flow_filter.specs.FieldSteps.{is_outside_address, owner_of_port}
-use Rattle.nf_msgs.specs.declared.note.Note.TheVariants as note
 use Rattle.net_world.specs.Input.{packets, no_packet, IsSteered}
 use Rattle.proof_outlines.proofs.joined.InputLemmas.{fits_flow}
 
@@ -44,11 +43,11 @@ pub record RanThere (ran : List ℕ) (k : ℕ) : Type 0 where
   pub whole : ran ≡ front ++ k ∷ back
 
 pub ran_there : (front : List Note) (k instance : ℕ) (output : Output) (back : List Note)
-    → RanThere (filter_map ran_in (front ++ note.Processed k instance output ∷ back)) k
+    → RanThere (filter_map ran_in (front ++ Note.Processed k instance output ∷ back)) k
 ran_there [] k instance output back = record { front = []; back = filter_map ran_in back; whole = refl }
 ran_there (n ∷ front) k instance output back = by_note (ran_in n) (ran_there front k instance output back)
   where
-    by_note : (o : Option ℕ) → RanThere (filter_map ran_in (front ++ note.Processed k instance output ∷ back)) k
-        → RanThere (cons_option o (filter_map ran_in (front ++ note.Processed k instance output ∷ back))) k
+    by_note : (o : Option ℕ) → RanThere (filter_map ran_in (front ++ Note.Processed k instance output ∷ back)) k
+        → RanThere (cons_option o (filter_map ran_in (front ++ Note.Processed k instance output ∷ back))) k
     by_note None r = r
     by_note (Some q) r = record { front = q ∷ r.front; back = r.back; whole = ap (λ v. q ∷ v) r.whole }

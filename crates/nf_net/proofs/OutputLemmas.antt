@@ -2,11 +2,9 @@
 use Rattle.nf_net.proofs.Words.{◌≡◌, ◌≢◌, ℕ, Bool, true, false, Option, Some, None, List, [], ◌∷◌, ◌++◌, map, refl, sym, ap, ◌∙◌, subst, if◌then◌else◌}
 use Rattle.nf_net.proofs.Words.{filter_map, map-append, Site, Output, Semantics, unit_at, kept_after, is_transport, Records, same_unit, after_packet}
 use Rattle.nf_net.proofs.Words.{same_unit-true, FullCell, Msg, Note, Each, each-append, Sys, none_mine, Config, packet_numbered, dones_in, done_where, is_of}
-use Rattle.nf_net.proofs.Words.{outputs, number, ran_in, is_sys, IsGenuine}
+use Rattle.nf_net.proofs.Words.{outputs, number, ran_in, is_sys, IsGenuine, Unit}
 use Rattle.std.specs.FinMap as finite
-use Rattle.nf_function.specs.declared.unit.Unit as units
 use Rattle.nf_function.specs.Semantics.{output_for}
-use Rattle.nf_msgs.specs.declared.note.Note.TheVariants as note
 use Rattle.net_world.specs.Log.{Done}
 use Rattle.net_world.specs.Fold.{fold}
 use Rattle.proof_outlines.proofs.outline.Outline.{sys}
@@ -26,22 +24,22 @@ done_of-append mine (x ∷ xs) ys = elim (mine x.number) as (λ b. (if b then x 
 
 module _ {R : Type 0} (f : Semantics R) (c : Config) (items : List Msg) where
   -- a unit's packets among what was done, and the answers to them
-  abbrev pub numbers : units.Unit → List Done → List ℕ
+  abbrev pub numbers : Unit → List Done → List ℕ
   numbers u ds = map (λ d. d.number) (done_where (is_of f c items u) ds)
 
-  abbrev pub answers : units.Unit → List Done → List Output
+  abbrev pub answers : Unit → List Done → List Output
   answers u ds = map (λ d. d.output) (done_where (is_of f c items u) ds)
 
   -- what was done of packets of TCP and UDP is answered as by one instance with these records
-  pub record Answered (kept : units.Unit → Option R) (ds : List Done) : Type 0 where
+  pub record Answered (kept : Unit → Option R) (ds : List Done) : Type 0 where
     pub carried : Each (λ d. IsCarried items d.number) ds
-    pub same : (u : units.Unit) → answers u ds ≡ outputs f c items (kept u) (numbers u ds)
+    pub same : (u : Unit) → answers u ds ≡ outputs f c items (kept u) (numbers u ds)
 
-  pub numbers-append : (u : units.Unit) (xs ys : List Done) → numbers u (xs ++ ys) ≡ numbers u xs ++ numbers u ys
+  pub numbers-append : (u : Unit) (xs ys : List Done) → numbers u (xs ++ ys) ≡ numbers u xs ++ numbers u ys
   numbers-append u xs ys = ap (map (λ d. d.number)) (done_of-append (is_of f c items u) xs ys)
       ∙ map-append (λ d. d.number) (done_where (is_of f c items u) xs) (done_where (is_of f c items u) ys)
 
-  answers-append : (u : units.Unit) (xs ys : List Done) → answers u (xs ++ ys) ≡ answers u xs ++ answers u ys
+  answers-append : (u : Unit) (xs ys : List Done) → answers u (xs ++ ys) ≡ answers u xs ++ answers u ys
   answers-append u xs ys = ap (map (λ d. d.output)) (done_of-append (is_of f c items u) xs ys)
       ∙ map-append (λ d. d.output) (done_where (is_of f c items u) xs) (done_where (is_of f c items u) ys)
 
@@ -52,7 +50,7 @@ module _ {R : Type 0} (f : Semantics R) (c : Config) (items : List Msg) where
       ap (λ v. output_for f c.site kept (packet_numbered items p) ∷ v) (outputs-append (kept_after f c.site kept (packet_numbered items p)) ps qs)
 
   -- nothing is done
-  pub answered_nothing : (kept : units.Unit → Option R) → Answered kept []
+  pub answered_nothing : (kept : Unit → Option R) → Answered kept []
   answered_nothing kept = record { carried = tt; same = λ u. refl }
 
   -- what was done goes on
@@ -68,20 +66,20 @@ module _ {R : Type 0} (f : Semantics R) (c : Config) (items : List Msg) where
   }
 
   -- other records that are the same for each unit of which something was done
-  pub answered_by : (kept other : units.Unit → Option R) (ds : List Done) → Answered kept ds → ((u : units.Unit) → numbers u ds ≢ [] → kept u ≡ other u)
+  pub answered_by : (kept other : Unit → Option R) (ds : List Done) → Answered kept ds → ((u : Unit) → numbers u ds ≢ [] → kept u ≡ other u)
       → Answered other ds
   answered_by kept other ds a h = record { carried = a.carried; same = λ u. by_done u (done_where (is_of f c items u) ds) (h u) (a.same u) }
     where
-      by_done : (u : units.Unit) (es : List Done) → (map (λ d. d.number) es ≢ [] → kept u ≡ other u)
+      by_done : (u : Unit) (es : List Done) → (map (λ d. d.number) es ≢ [] → kept u ≡ other u)
           → map (λ d. d.output) es ≡ outputs f c items (kept u) (map (λ d. d.number) es)
           → map (λ d. d.output) es ≡ outputs f c items (other u) (map (λ d. d.number) es)
       by_done u [] some is = refl
       by_done u (e ∷ es) some is = subst (λ o. map (λ d. d.output) (e ∷ es) ≡ outputs f c items o (map (λ d. d.number) (e ∷ es))) (some (λ none. cc)) is
 
   -- one packet, and what is done after it
-  pub answered_next : (kept after : units.Unit → Option R) (d : Done) (ds : List Done) → IsCarried items d.number
-      → ((u : units.Unit) → is_of f c items u d.number ≡ true → d.output ≡ output_for f c.site (kept u) (packet_numbered items d.number))
-      → ((u : units.Unit) → after u ≡ (if is_of f c items u d.number then kept_after f c.site (kept u) (packet_numbered items d.number) else kept u))
+  pub answered_next : (kept after : Unit → Option R) (d : Done) (ds : List Done) → IsCarried items d.number
+      → ((u : Unit) → is_of f c items u d.number ≡ true → d.output ≡ output_for f c.site (kept u) (packet_numbered items d.number))
+      → ((u : Unit) → after u ≡ (if is_of f c items u d.number then kept_after f c.site (kept u) (packet_numbered items d.number) else kept u))
       → Answered after ds → Answered kept (d ∷ ds)
   answered_next kept after d ds carried output left rest = record {
     carried = (carried, rest.carried);
@@ -99,14 +97,14 @@ module _ {R : Type 0} (f : Semantics R) (c : Config) (items : List Msg) where
   abbrev net : Sys R
   net = sys f c.site (packet_numbered items)
 
-  abbrev live_in : Records R → units.Unit → Option R
+  abbrev live_in : Records R → Unit → Option R
   live_in live u = finite.get live u
 
   module _ (live : Records R) (at : Site) (cell : FullCell) (at_is : at ≡ c.site) (g : IsGenuine c.site (packet_numbered items) cell) where
     abbrev n : ℕ
     n = number cell
 
-    abbrev unit : units.Unit
+    abbrev unit : Unit
     unit = unit_at f.kind c.site (packet_numbered items n)
 
     abbrev output : Output
@@ -118,13 +116,13 @@ module _ {R : Type 0} (f : Semantics R) (c : Config) (items : List Msg) where
     carried : IsCarried items n
     carried = subst (λ p. is_transport p.proto ≡ true) g.same g.transport
 
-    output_is : (u : units.Unit) → same_unit unit u ≡ true → output ≡ output_for f c.site (finite.get live u) (packet_numbered items n)
+    output_is : (u : Unit) → same_unit unit u ≡ true → output ≡ output_for f c.site (finite.get live u) (packet_numbered items n)
     output_is u e =
         ap (λ s. output_for f s (finite.get live (unit_at f.kind s cell.packet)) cell.packet) at_is
         ∙ ap (λ p. output_for f c.site (finite.get live (unit_at f.kind c.site p)) p) g.same
         ∙ ap (λ v. output_for f c.site (finite.get live v) (packet_numbered items n)) (same_unit-true unit u e)
 
-    left : (u : units.Unit)
+    left : (u : Unit)
         → finite.get after u ≡ (if same_unit unit u then kept_after f c.site (finite.get live u) (packet_numbered items n) else finite.get live u)
     left u =
         ap (λ t. finite.get t u) (after_same f c.site (packet_numbered items) live at cell at_is g)
@@ -143,9 +141,9 @@ module _ {R : Type 0} (f : Semantics R) (c : Config) (items : List Msg) where
         answered_next (live_in live) (live_in after) (record { number = n; instance = instance; output = output }) ds carried output_is left rest
 
   -- the unit's packets among those that an instance ran
-  pub numbers_ran : (u : units.Unit) (ns : List Note) → numbers u (dones_in ns) ≡ none_mine net u (filter_map ran_in ns)
+  pub numbers_ran : (u : Unit) (ns : List Note) → numbers u (dones_in ns) ≡ none_mine net u (filter_map ran_in ns)
   numbers_ran u [] = refl
-  numbers_ran u (note.Processed n instance output ∷ ns) =
+  numbers_ran u (Note.Processed n instance output ∷ ns) =
       elim (is_of f c items u n) as (λ b. map (λ d. d.number) (if b then (record { number = n; instance = instance; output = output })
       ∷ done_where (is_of f c items u) (dones_in ns) else done_where (is_of f c items u) (dones_in ns))
       ≡ (if b then n ∷ none_mine net u (filter_map ran_in ns) else none_mine net u (filter_map ran_in ns))) [

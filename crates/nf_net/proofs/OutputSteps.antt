@@ -1,16 +1,12 @@
 -- Along a run all packets that were processed are answered as one instance that nothing moved answers them.
 use Rattle.nf_net.proofs.Words.{◌≡◌, ◌≢◌, ℕ, zero, suc, ◌+◌, ◌≤◌, Bool, true, false, Option, Some, None, List, [], ◌∷◌, length, refl, sym, ap, ◌∙◌, subst}
 use Rattle.nf_net.proofs.Words.{arith, if◌then◌else◌, ◌&&◌, ◌==◌, filter_map, Global, nat_tests, Fits, FunctionLaws, Semantics, part, FullCell, InstanceState}
-use Rattle.nf_net.proofs.Words.{instance_step, Msg, Note, Choice, Network, world_next, run, IsRun, taken_outcome, Taking, run_induction, inst_step, none_mine}
-use Rattle.nf_net.proofs.Words.{done_u, New, Shared_on, Config, Node, packet_numbered, IsInput, dones_in, node_step, node_ready, is_of, outputs, processed_of}
-use Rattle.nf_net.proofs.Words.{started_with, done-append, number, ran_in, is_sys, outline_instance, held_genuine, is_sharing, Given, place, S, A, shown}
-use Rattle.nf_net.proofs.Words.{by_node, came_by, node_of, Scene, IsInstanceAt, AreShown, IsTaken, its_takes, its_taken, Runs, runs_at_start, runs_next}
-use Rattle.nf_net.proofs.Words.{start_world, went_same, all_fit, given, count_at_start}
+use Rattle.nf_net.proofs.Words.{instance_step, Msg, Note, Choice, Network, run, IsRun, inst_step, none_mine, done_u, New, Shared_on, Config, Node}
+use Rattle.nf_net.proofs.Words.{packet_numbered, IsInput, dones_in, node_step, node_ready, is_of, outputs, processed_of, started_with, done-append, number}
+use Rattle.nf_net.proofs.Words.{ran_in, is_sys, outline_instance, held_genuine, is_sharing, Given, place, S, A, shown, by_node, came_by, node_of, Scene}
+use Rattle.nf_net.proofs.Words.{IsInstanceAt, AreShown, IsTaken, went_same, all_fit, given, Unit, Mark}
 use Rattle.std.specs.FinMap as finite
-use Rattle.nf_function.specs.declared.unit.Unit as units
-use Rattle.event_filter.specs.declared.mark.Mark.TheVariants as mark
 use Rattle.instance_worker.specs.Instance.{process_step, on_carry, on_fence}
-use Rattle.nf_msgs.specs.declared.msg.Msg.TheVariants as msg
 use Rattle.proof_machines.proofs.net.Net as net
 use Rattle.proof_machines.proofs.net.Readings as readings
 use Rattle.proof_machines.proofs.net.Shares.{Old}
@@ -20,6 +16,7 @@ use Rattle.nf_net.proofs.OutputLemmas.{numbers, Answered, answered_nothing, answ
 use Rattle.nf_net.proofs.AnsweredNotes.{live_of, kept_of, carry_answered, fence_answered, instance_none, switch_none, controller_none}
 use Rattle.nf_net.proofs.FreshRecords.{fresh_live, fresh_shared}
 use Rattle.nf_net.proofs.FoldLemmas.{fold_is}
+use Rattle.nf_net.proofs.RunKeeps.{log_keeps}
 
 module _ {R : Type 0} (f : Semantics R) (c : Config) (items : List Msg) (is : IsInput f.kind c items) where
   abbrev g : Given
@@ -30,11 +27,11 @@ module _ {R : Type 0} (f : Semantics R) (c : Config) (items : List Msg) (is : Is
   AreAnswered log = Answered f c items (λ u. None) (dones_in log)
 
   -- what is kept of a unit after what a log notes
-  abbrev so_far : List Note → units.Unit → Option R
+  abbrev so_far : List Note → Unit → Option R
   so_far log u = fold f c items None (processed_of f c items u log)
 
   -- what is kept of a unit is what the abstract network folds
-  pub fold_same : (u : units.Unit) (log : List Note) (ds : List (ℕ × ℕ)) → ds ≡ by_node f g (dones_in log)
+  pub fold_same : (u : Unit) (log : List Note) (ds : List (ℕ × ℕ)) → ds ≡ by_node f g (dones_in log)
       → fold f c items None (processed_of f c items u log) ≡ readings.fold (S f g).F None (done_u (S f g) u ds)
   fold_same u log ds at =
       fold_is f c items is None (processed_of f c items u log)
@@ -43,7 +40,7 @@ module _ {R : Type 0} (f : Semantics R) (c : Config) (items : List Msg) (is : Is
 
 -- what an instance processes of a packet of a share
 shared_ran : {F R : Type 0} (f : Semantics R) (i : InstanceState F R) (op : ℕ) (home : Bool) (cell : FullCell)
-    → filter_map ran_in (on_carry f i (mark.Shared op home) cell).notes ≡ number cell ∷ []
+    → filter_map ran_in (on_carry f i (Mark.Shared op home) cell).notes ≡ number cell ∷ []
 unfolding on_carry process_step
 shared_ran f i op home cell = refl
 
@@ -73,7 +70,7 @@ module _ {F R : Type 0} (f : Semantics R) (c : Config) (items : List Msg) (is : 
 
     -- where an instance processes packets of a unit, its record is what is kept
     kept_is : (m : Msg) → TakesIt k p m → (a : net.Msg R) (notes : List Note) → shown f (g f c items is) m ≡ Some (Old a)
-        → filter_map ran_in notes ≡ (inst_step (S f (g f c items is)) (outline_instance f c.site (packet_numbered items) i) a).ran → (u : units.Unit)
+        → filter_map ran_in notes ≡ (inst_step (S f (g f c items is)) (outline_instance f c.site (packet_numbered items) i) a).ran → (u : Unit)
         → numbers f c items u (dones_in notes) ≢ [] → live_of i u ≡ so_far f c items is x.log u
     kept_is m t a notes seen ran u some =
         let at = are.instances k two t.receiver in
@@ -92,20 +89,20 @@ module _ {F R : Type 0} (f : Semantics R) (c : Config) (items : List Msg) (is : 
     fresh_at m t a notes seen ran ok = answered_by f c items (live_of i) (so_far f c items is x.log) (dones_in notes) ok (kept_is m t a notes seen ran)
 
     -- a packet of a share, by the record in the table that its mark names
-    module _ (op : ℕ) (home : Bool) (cell : FullCell) (t : TakesIt k p (msg.Carry (mark.Shared op home) cell)) where
+    module _ (op : ℕ) (home : Bool) (cell : FullCell) (t : TakesIt k p (Msg.Carry (Mark.Shared op home) cell)) where
       abbrev at : IsInstanceAt f (g f c items is) k i x.world
       at = are.instances k two t.receiver
 
-      table_is : (u : units.Unit)
-          → kept_of i (mark.Shared op home) u ≡ (S f (g f c items is)).B.at u (if home then (x.world.inst k).live else x.world.standby k)
+      table_is : (u : Unit)
+          → kept_of i (Mark.Shared op home) u ≡ (S f (g f c items is)).B.at u (if home then (x.world.inst k).live else x.world.standby k)
       table_is u = by_home home
         where
           by_home : (b : Bool) → finite.get (part i.table b) u ≡ (S f (g f c items is)).B.at u (if b then (x.world.inst k).live else x.world.standby k)
           by_home true = ap (λ y. finite.get y.live u) at.outline_is
           by_home false = ap (λ r. finite.get r u) at.standby_is
 
-      shared_is : (u : units.Unit) → numbers f c items u (dones_in (on_carry f i (mark.Shared op home) cell).notes) ≢ []
-          → kept_of i (mark.Shared op home) u ≡ so_far f c items is x.log u
+      shared_is : (u : Unit) → numbers f c items u (dones_in (on_carry f i (Mark.Shared op home) cell).notes) ≢ []
+          → kept_of i (Mark.Shared op home) u ≡ so_far f c items is x.log u
       shared_is u some =
           table_is u
           ∙ fresh_shared (S f (g f c items is)) (A f (g f c items is)) (is_sys f c.site (packet_numbered items)) u
@@ -114,32 +111,32 @@ module _ {F R : Type 0} (f : Semantics R) (c : Config) (items : List Msg) (is : 
           ∙ sym (fold_same f c items is u x.log x.world.done are.done_is)
         where
           -- its packet alone is noted
-          one : numbers f c items u (dones_in (on_carry f i (mark.Shared op home) cell).notes)
+          one : numbers f c items u (dones_in (on_carry f i (Mark.Shared op home) cell).notes)
               ≡ (if is_of f c items u (number cell) then number cell ∷ [] else [])
-          one = numbers_ran f c items u (on_carry f i (mark.Shared op home) cell).notes ∙ ap (none_mine (S f (g f c items is)) u) (shared_ran f i op home cell)
+          one = numbers_ran f c items u (on_carry f i (Mark.Shared op home) cell).notes ∙ ap (none_mine (S f (g f c items is)) u) (shared_ran f i op home cell)
 
           mine_of : (b : Bool) → is_of f c items u (number cell) ≡ b → is_of f c items u (number cell) ≡ true
           mine_of true is_true = is_true
           mine_of false other = absurd (some (one ∙ ap (λ (b : Bool). if b then number cell ∷ [] else []) other))
 
-      shared_answers : Now (on_carry f i (mark.Shared op home) cell).notes
-      shared_answers = answered_by f c items (kept_of i (mark.Shared op home)) (so_far f c items is x.log)
-          (dones_in (on_carry f i (mark.Shared op home) cell).notes) (carry_answered f c items i (mark.Shared op home) cell at.rules.at t.label.1) shared_is
+      shared_answers : Now (on_carry f i (Mark.Shared op home) cell).notes
+      shared_answers = answered_by f c items (kept_of i (Mark.Shared op home)) (so_far f c items is x.log)
+          (dones_in (on_carry f i (Mark.Shared op home) cell).notes) (carry_answered f c items i (Mark.Shared op home) cell at.rules.at t.label.1) shared_is
 
     instance_answers : (m : Msg) → TakesIt k p m → Now (instance_step f i m).notes
-    instance_answers (msg.Carry mark.Plain cell) t =
+    instance_answers (Msg.Carry Mark.Plain cell) t =
         let at = are.instances k two t.receiver in
-        fresh_at (msg.Carry mark.Plain cell) t (net.Carry_on (number cell)) (on_carry f i mark.Plain cell).notes refl (carry_follows f c.site
-        (packet_numbered items) (place (g f c items is)) i cell at.rules t.label.1).ran (carry_answered f c items i mark.Plain cell at.rules.at t.label.1)
-    instance_answers (msg.Carry (mark.Pass op) cell) t =
+        fresh_at (Msg.Carry Mark.Plain cell) t (net.Carry_on (number cell)) (on_carry f i Mark.Plain cell).notes refl (carry_follows f c.site
+        (packet_numbered items) (place (g f c items is)) i cell at.rules t.label.1).ran (carry_answered f c items i Mark.Plain cell at.rules.at t.label.1)
+    instance_answers (Msg.Carry (Mark.Pass op) cell) t =
         let at = are.instances k two t.receiver in
-        fresh_at (msg.Carry (mark.Pass op) cell) t (net.Pass_on (number cell)) (on_carry f i (mark.Pass op) cell).notes
+        fresh_at (Msg.Carry (Mark.Pass op) cell) t (net.Pass_on (number cell)) (on_carry f i (Mark.Pass op) cell).notes
         refl (pass_follows f c.site (packet_numbered items) (place (g f c items is)) i op cell at.rules t.label.1).ran
-        (carry_answered f c items i (mark.Pass op) cell at.rules.at t.label.1)
-    instance_answers (msg.Carry (mark.Shared op home) cell) t = shared_answers op home cell t
-    instance_answers (msg.Fence op) t =
+        (carry_answered f c items i (Mark.Pass op) cell at.rules.at t.label.1)
+    instance_answers (Msg.Carry (Mark.Shared op home) cell) t = shared_answers op home cell t
+    instance_answers (Msg.Fence op) t =
         let at = are.instances k two t.receiver in
-        fresh_at (msg.Fence op) t (net.Fence_on op) (on_fence f i op).notes refl (fence_follows f c.site (packet_numbered items) (place (g f c items is)) i
+        fresh_at (Msg.Fence op) t (net.Fence_on op) (on_fence f i op).notes refl (fence_follows f c.site (packet_numbered items) (place (g f c items is)) i
         op at.rules).ran (fence_answered f c items i op at.rules.at (held_genuine c.site (packet_numbered items) op i.rules at.rules.held))
     instance_answers m t = nothing_done (instance_step f i m).notes (instance_none f i m refl)
 
@@ -160,32 +157,14 @@ module _ (F : Type 0) {R : Type 0} (f : Semantics R) (laws : FunctionLaws f) (al
   abbrev fitting : (number : ℕ) → Fits c.site (packet_numbered items number)
   fitting = all_fit f c items is
 
-  -- what is known of a world of a run
-  abbrev pub Known : Network (Node F R) Msg Note → Type 0
-  Known w = Runs F f laws alloc c items is w × AreAnswered f c items is w.log
-
-  -- a choice of a run
-  answered_after : (w : Network (Node F R) Msg Note) (k : Choice) → Taking node_ready (node_step f) nodes_count w k → Known w
-      → AreAnswered f c items is (world_next (node_step f) w k).log
-  answered_after w k t h =
-      let j = h.0.joined in
-      let takes = its_takes f laws (g f c items is) fitting nodes_count refl w k t j h.0.beside in
-      let notes = (node_step f (node_of j.nodes k.node) k.port t.message).notes in
-      let now = node_answers f c items is nodes_count _ j.shown_is h.1 k.node k.port t.message
-      (its_taken f laws (g f c items is) fitting nodes_count refl w k t j h.0.beside) in
-      let log = (taken_outcome (node_step f) nodes_count w k.node k.port (node_of j.nodes k.node) t.message t.rest takes).log in
-      subst (λ l. AreAnswered f c items is l) (sym log)
-      (subst (λ ds. Answered f c items (λ u. None) ds) (sym (done-append w.log notes)) (answered_more f c items (dones_in w.log) (dones_in notes) h.1 now))
-
   -- every run, complete or not
-  pub run_answered : (cs : List Choice) → IsRun node_ready (node_step f) cs start → Known (run (node_step f) cs start)
-  run_answered cs runs =
-      run_induction node_ready (node_step f) nodes_count (λ cs w. Known w) start (λ cs w k next h. (
-        runs_next F f laws alloc c items is w k next.taking h.0,
-        answered_after w k next.taking h,
-      )) (start_world F f laws alloc c items is) (count_at_start F f alloc c items is)
-      (runs_at_start F f laws alloc c items is, answered_nothing f c items (λ u. None)) cs runs
+  pub run_answered : (cs : List Choice) → IsRun node_ready (node_step f) cs start → AreAnswered f c items is (run (node_step f) cs start).log
+  run_answered = log_keeps F f laws alloc c items is (AreAnswered f c items is) (answered_nothing f c items (λ u. None)) (λ ds ok d s h.
+      let log = (run (node_step f) ds start).log in
+      let notes = (node_step f (node_of s.runs.joined.nodes d.node) d.port s.taking.message).notes in
+      subst (λ es. Answered f c items (λ u. None) es) (sym (done-append log notes)) (answered_more f c items (dones_in log) (dones_in notes) h
+      (node_answers f c items is nodes_count _ s.runs.joined.shown_is h d.node d.port s.taking.message s.taken)))
 
-  pub outputs_run : (cs : List Choice) → IsRun node_ready (node_step f) cs start → (unit : units.Unit)
+  pub outputs_run : (cs : List Choice) → IsRun node_ready (node_step f) cs start → (unit : Unit)
       → given_of f c items unit (run (node_step f) cs start).log ≡ outputs f c items None (processed_of f c items unit (run (node_step f) cs start).log)
-  outputs_run cs runs unit = (run_answered cs runs).1.same unit
+  outputs_run cs runs unit = (run_answered cs runs).same unit

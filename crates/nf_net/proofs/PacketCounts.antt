@@ -1,8 +1,7 @@
 -- At most as many packets are processed as came, where each is processed at most as often as it came; and as many, where it is as often.
 use Rattle.nf_net.proofs.Words.{◌≡◌, ℕ, suc, ◌+◌, ◌≤◌, Bool, true, false, List, [], ◌∷◌, map, length, refl, sym, ap, ◌∙◌, arith, if◌then◌else◌, ◌==◌, nat_tests}
 use Rattle.nf_net.proofs.Words.{Decides-eqb, length-map, Semantics, unit_at, same_unit_equiv, Msg, Note, Network, Config, Node, packet_numbered, IsInput}
-use Rattle.nf_net.proofs.Words.{arrivals_in, dones_in, done_where, is_of, arrived_of, processed_of, times_filter, given, Joined}
-use Rattle.nf_function.specs.declared.unit.Unit as units
+use Rattle.nf_net.proofs.Words.{arrivals_in, dones_in, done_where, is_of, arrived_of, processed_of, times_filter, given, Joined, Unit}
 use Rattle.net_world.specs.Log.{Done}
 use Rattle.net_world.specs.Fold.{times}
 use Rattle.net_world.proofs.NumberCounts.{done_numbers}
@@ -47,15 +46,15 @@ done_times mine p is ds = ap (times p) (done_numbers mine ds) ∙ times_filter m
 
 -- where each is processed as often as it came, for its unit, it is so among all
 pub all_done : {R : Type 0} (f : Semantics R) (c : Config) (items : List Msg) (log : List Note)
-    → ((unit : units.Unit) (p : ℕ) → times p (processed_of f c items unit log) ≡ times p (arrived_of f c items unit log))
+    → ((unit : Unit) (p : ℕ) → times p (processed_of f c items unit log) ≡ times p (arrived_of f c items unit log))
     → (p : ℕ) → times p (map (λ d. d.number) (dones_in log)) ≡ times p (arrivals_in log)
 all_done f c items log each p =
-    let u : units.Unit = unit_at f.kind c.site (packet_numbered items p) in
+    let u : Unit = unit_at f.kind c.site (packet_numbered items p) in
     let own : is_of f c items u p ≡ true = same_unit_equiv.refl u in
     sym (done_times (is_of f c items u) p own (dones_in log)) ∙ each u p ∙ times_filter (is_of f c items u) p own (arrivals_in log)
 
 pub few_came : {R : Type 0} (f : Semantics R) (c : Config) (items : List Msg) (log : List Note)
-    → ((unit : units.Unit) (p : ℕ) → times p (processed_of f c items unit log) ≡ times p (arrived_of f c items unit log))
+    → ((unit : Unit) (p : ℕ) → times p (processed_of f c items unit log) ≡ times p (arrived_of f c items unit log))
     → length (arrivals_in log) ≤ length (dones_in log)
 few_came f c items log each =
     let long = length-map (dones_in log) (λ d. d.number) in
@@ -69,7 +68,7 @@ module _ {F R : Type 0} (f : Semantics R) (c : Config) (items : List Msg) (is : 
       let numbers : List ℕ = map (λ d. d.number) (dones_in w.log) in
       let long : length numbers ≡ length (dones_in w.log) = length-map (dones_in w.log) (λ d. d.number) in
       let fewer = no_longer numbers (arrivals_in w.log) (λ p.
-      let u : units.Unit = unit_at f.kind c.site (packet_numbered items p) in
+      let u : Unit = unit_at f.kind c.site (packet_numbered items p) in
       let own : is_of f c items u p ≡ true = same_unit_equiv.refl u in
       let one : times p (processed_of f c items u w.log) ≤ times p (arrived_of f c items u w.log) = once f c items is n w j u p in
       let all : times p (arrived_of f c items u w.log) ≡ times p (arrivals_in w.log) = times_filter (is_of f c items u) p own (arrivals_in w.log) in

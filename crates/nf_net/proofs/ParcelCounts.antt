@@ -4,8 +4,8 @@ use Rattle.nf_net.proofs.Words.{refl, sym, ap, ◌∙◌, arith, if◌then◌els
 use Rattle.nf_net.proofs.Words.{Decides-ltb, length-map, slice_get_within, Semantics, unit_at, same_unit_equiv, Msg, Note, switch_node, instance_node, Network}
 use Rattle.nf_net.proofs.Words.{on_link, Config, Node, packet_numbered, arrivals_in, dones_in, is_of, arrived_of, processed_of, in_flight_of, all_but}
 use Rattle.nf_net.proofs.Words.{carried_in, held_by, on_links, passed_in, forwarded_in, stored_by, handed_over_in, queued_by, diverted_in, owner, times_filter}
+use Rattle.nf_net.proofs.Words.{Unit}
 use Rattle.std.specs.Prelude.{◌*◌}
-use Rattle.nf_function.specs.declared.unit.Unit as units
 use Rattle.net_world.specs.Fold.{times}
 use Rattle.net_world.specs.Path.{at_instance, in_flight}
 use Rattle.net_world.proofs.NumberCounts.{times-append}
@@ -63,7 +63,7 @@ module _ (p one : ℕ) (of : ℕ → List ℕ) where
   ] refl
 
 module _ {F R : Type 0} (f : Semantics R) (c : Config) (items : List Msg) (w : Network (Node F R) Msg Note) (count : length w.nodes ≡ length c.names + 2)
-    (each_in_place : (u : units.Unit) (p : ℕ)
+    (each_in_place : (u : Unit) (p : ℕ)
     → times p (processed_of f c items u w.log) + times p (in_flight_of f c items u w) ≡ times p (arrived_of f c items u w.log)) where
   abbrev instances : ℕ
   instances = length c.names
@@ -116,7 +116,7 @@ module _ {F R : Type 0} (f : Semantics R) (c : Config) (items : List Msg) (w : N
     where
       same_times : (p : ℕ) → times p (in_flight w instances one ++ map (λ d. d.number) (dones_in w.log)) ≡ times p (arrivals_in w.log)
       same_times p =
-          let u : units.Unit = unit_at f.kind c.site (packet_numbered items p) in
+          let u : Unit = unit_at f.kind c.site (packet_numbered items p) in
           let own : is_of f c items u p ≡ true = same_unit_equiv.refl u in
           let all : times p (arrived_of f c items u w.log) ≡ times p (arrivals_in w.log) = times_filter (is_of f c items u) p own (arrivals_in w.log) in
           let ran : times p (processed_of f c items u w.log) ≡ times p (map (λ d. d.number) (dones_in w.log)) = done_times (is_of f c items u) p own

@@ -5,10 +5,8 @@ use Rattle.nf_net.proofs.Words.{instance_node, FullCell, stored_of, place_of, Op
 use Rattle.nf_net.proofs.Words.{Each, Open, find_op, Any, New, OpenShare, moves_of, MayRun, ran_by, ItsShare, Config, Node, IsInput, job_of, is_at, owner}
 use Rattle.nf_net.proofs.Words.{members, unit_numbered, IsMoving, IsPlace, Owns, Is_destination, Is_member, is_whole, unit_fits, takes_whole, ran_in, is_sys}
 use Rattle.nf_net.proofs.Words.{outline_instance, Sees, but_shares, is_sharing, Given, place, S, A, Scene, IsTaken, IsInstanceAt, Joined, came_by, AllApart}
-use Rattle.nf_net.proofs.Words.{each_there, IsQuiet, instance_quiet, RanAs, Seen, Unseen, ran_as, ran_any, given, all_fit}
+use Rattle.nf_net.proofs.Words.{each_there, IsQuiet, instance_quiet, RanAs, Seen, Unseen, ran_as, ran_any, given, all_fit, Unit}
 use Rattle.std.specs.FinMap as finite
-use Rattle.nf_function.specs.declared.unit.Unit as units
-use Rattle.nf_msgs.specs.declared.note.Note.TheVariants as note
 use Rattle.actor_net.proofs.EnabledChoices.{at as at_node}
 use Rattle.proof_machines.proofs.net.Shares.{Old}
 use Rattle.proof_machines.proofs.whole.MovePlaces.{At_route, At_destination}
@@ -28,7 +26,7 @@ module _ {F R : Type 0} (f : Semantics R) (c : Config) (items : List Msg) (is : 
   abbrev gm : Given
   gm = given f c items is
 
-  module _ (u : units.Unit) where
+  module _ (u : Unit) where
     -- the open move with this number, of the unit, between two instances, as one that is under way
     pub record IsUnderWay (k : ℕ) (e : Open R) : Type 0 where
       from : ℕ
@@ -89,7 +87,7 @@ module _ {F R : Type 0} (f : Semantics R) (laws : FunctionLaws f) (c : Config) (
   node_same a b k x y = omega (arith, x, y)
 
   module _ (number i : ℕ) where
-    abbrev unit : units.Unit
+    abbrev unit : Unit
     unit = unit_numbered c items f.kind number
 
     fits : unit_fits f.kind unit ≡ true
@@ -151,9 +149,9 @@ module _ {F R : Type 0} (f : Semantics R) (laws : FunctionLaws f) (c : Config) (
     quiet = instance_quiet f own m
 
     module _ (front back : List Note) (number i : ℕ) (output : Output)
-        (e : (instance_step f own m).notes ≡ front ++ note.Processed number i output ∷ back) where
+        (e : (instance_step f own m).notes ≡ front ++ Note.Processed number i output ∷ back) where
       noted_at : i ≡ own.index
-      noted_at = each_there (IsQuiet own.index) front (note.Processed number i output) back (subst (λ ns. Each (IsQuiet own.index) ns) e quiet)
+      noted_at = each_there (IsQuiet own.index) front (Note.Processed number i output) back (subst (λ ns. Each (IsQuiet own.index) ns) e quiet)
 
       node : k ≡ instance_node i
       node = sym at.number ∙ ap instance_node (sym noted_at)
@@ -182,6 +180,6 @@ module _ {F R : Type 0} (f : Semantics R) (laws : FunctionLaws f) (c : Config) (
       pub processed_place : IsPlace (job_of f c items) number (w.log ++ front) i
       processed_place =
           place_quiet (job_of f c items) number own.index w.log front i
-          (each_front (IsQuiet own.index) front (note.Processed number i output ∷ back) (subst (λ ns. Each (IsQuiet own.index) ns) e quiet))
+          (each_front (IsQuiet own.index) front (Note.Processed number i output ∷ back) (subst (λ ns. Each (IsQuiet own.index) ns) e quiet))
           (by_one number i (subst (λ q. ProcessesOne (S f g) (A f g) (is_sys f g.site g.packet) (unit_numbered c items f.kind number) j.world q number) node
           (one (ran_as f laws g (all_fit f c items is) k own j.world (omega arith) at p y m taken.label))))

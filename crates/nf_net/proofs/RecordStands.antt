@@ -6,9 +6,8 @@ use Rattle.nf_net.proofs.Words.{Decides-eqb, Decides-ltb, slice_get_past, Functi
 use Rattle.nf_net.proofs.Words.{on_link, run, State, idle, nil_left, firsts, Kept, third_silent, seat_shape, seat_path, Seeing, node_at, side_place, fold_runs}
 use Rattle.nf_net.proofs.Words.{seat_parts, same_done, WantShare, WhereAll, Apart_from_shares, Under_share, Config, IsInput, job_of, arrivals_in, IsFront}
 use Rattle.nf_net.proofs.Words.{processed_of, owner, node_step, node_ready, started_with, live_in, live_at, given_in, removed_by, AllApart, is_sys, run_beside}
-use Rattle.nf_net.proofs.Words.{done_same, given, Given, S, A, came_by}
+use Rattle.nf_net.proofs.Words.{done_same, given, Given, S, A, came_by, Unit}
 use Rattle.std.specs.FinMap as finite
-use Rattle.nf_function.specs.declared.unit.Unit as units
 use Rattle.proof_machines.proofs.unit.Machine.{after}
 use Rattle.proof_machines.proofs.unit.Bare.{firsts_nil}
 use Rattle.proof_machines.proofs.unit.Kept.{Nowhere, Is_live, On_way, Twice, lives, on_way}
@@ -66,7 +65,7 @@ never o r none some = let bad = sym none ∙ some in cc
 not_nil : {P R : Type 0} (xs : List R) (r : R) → xs ≡ [] → xs ≡ r ∷ [] → P
 not_nil xs r none one = let bad = sym none ∙ one in cc
 
-module _ {F R : Type 0} (here : Reached F R) (in_turn : IsFront (arrivals_in here.w.log) (map (λ p. p.number) (packets here.items))) (u : units.Unit)
+module _ {F R : Type 0} (here : Reached F R) (in_turn : IsFront (arrivals_in here.w.log) (map (λ p. p.number) (packets here.items))) (u : Unit)
     (at : AsMoves here u) (apart : IsApart here u) where
   open here use {f, c, items, is, n, count, w, nodes, j}
 
@@ -223,7 +222,7 @@ module _ {F R : Type 0} (here : Reached F R) (in_turn : IsFront (arrivals_in her
 
 module _ {F R : Type 0} (here : Reached F R) (in_turn : IsFront (arrivals_in here.w.log) (map (λ p. p.number) (packets here.items)))
     (unmixed : AllApart here.j.nodes.controller.operations) (b : Busy (given here.f here.c here.items here.is) here.w)
-    (h : Installs (given here.f here.c here.items here.is) here.w) (says : SaysOfShares here.f here.c here.items here.w.log) (u : units.Unit) where
+    (h : Installs (given here.f here.c here.items here.is) here.w) (says : SaysOfShares here.f here.c here.items here.w.log) (u : Unit) where
   open here use {f, c, items, is, n, count, w, j}
 
   abbrev gr : Given
@@ -293,7 +292,7 @@ module _ {F R : Type 0} (here : Reached F R) (in_turn : IsFront (arrivals_in her
 -- Of every run.
 module _ (F : Type 0) {R : Type 0} (f : Semantics R) (laws : FunctionLaws f) (alloc : Global) (c : Config) (items : List Msg) (is : IsInput f.kind c items)
     (cs : List Choice) (runs : IsRun node_ready (node_step f) cs (started_with {F = F} {R = R} alloc c items)) where
-  pub records_stand : (u : units.Unit) → HasRecord (job_of f c items) (run (node_step f) cs (started_with {F = F} {R = R} alloc c items)) u
+  pub records_stand : (u : Unit) → HasRecord (job_of f c items) (run (node_step f) cs (started_with {F = F} {R = R} alloc c items)) u
   records_stand = record_stands (reached F f laws alloc c items is cs runs) (arrivals_run F f laws alloc c items is cs runs)
       (run_beside F f laws alloc c items is cs runs).beside.kept.apart (run_busy F f laws alloc c items is cs runs).1
       (run_installs F f laws alloc c items is cs runs) (says_of_shares F f laws alloc c items is cs runs)

@@ -2,9 +2,6 @@
 use Rattle.nf_net.proofs.Words.{◌≡◌, ℕ, true, false, Some, List, [], ◌∷◌, refl, sym, ap, ◌∙◌, subst, ◌&&◌, ◌==◌, nat_lt, Filter, Semantics, Msg, Note}
 use Rattle.nf_net.proofs.Words.{instance_node, Target, SwitchState, switch_step, on_install, Any, New, S_install, installs_in, is_whole, Given, Scene, AreShown}
 use Rattle.nf_net.proofs.Words.{IsTaken, Label, shown, is_target}
-use Rattle.nf_msgs.specs.declared.msg.Msg.TheVariants as msg
-use Rattle.nf_msgs.specs.declared.note.Note.TheVariants as note
-use Rattle.switch_rules.specs.declared.target.Target.TheVariants as target
 use Rattle.proof_machines.proofs.unit.Real as real
 use Rattle.proof_machines.proofs.net.Net as net
 use Rattle.proof_machines.proofs.net.Shares.{Old}
@@ -13,9 +10,9 @@ use Rattle.proof_outlines.proofs.joined.Joined.{count}
 use Rattle.proof_outlines.proofs.joined.RuleChanges.{Changes, Same, Installs, changes}
 
 installed_note : (s : SwitchState) (count k : ℕ) (filter : Filter) (from : ℕ) (to : Target) → s.instances ≡ count → nat_lt from count ≡ true
-    → is_target count to ≡ true → (on_install s k filter from to).notes ≡ note.Installed k ∷ []
-installed_note s count k filter from target.Controller same here there = rw (same, here) refl
-installed_note s count k filter from (target.Instance i) same here there = rw (same, here, there) refl
+    → is_target count to ≡ true → (on_install s k filter from to).notes ≡ Note.Installed k ∷ []
+installed_note s count k filter from Target.Controller same here there = rw (same, here) refl
+installed_note s count k filter from (Target.Instance i) same here there = rw (same, here, there) refl
 
 module _ {F R : Type 0} (f : Semantics R) (g : Given) (n : ℕ) (x : Scene F f g) (are : AreShown f g n x) (p : ℕ) (m : Msg)
     (it : IsTaken f g n x (record { node = 0; port = p; message = m })) where
@@ -24,17 +21,17 @@ module _ {F R : Type 0} (f : Semantics R) (g : Given) (n : ℕ) (x : Scene F f g
 
   pub data Changed : Type 0 where
     No_rule : installs_in notes ≡ [] → Changed
-    Moves_on : (k : ℕ) (filter : Filter) (from dst : ℕ) (rest : List (Any R)) → notes ≡ note.Installed k ∷ []
-        → IsInstall g k (record { filter = filter; from = from; to = target.Instance dst }) → is_whole f.kind filter ≡ true
+    Moves_on : (k : ℕ) (filter : Filter) (from dst : ℕ) (rest : List (Any R)) → notes ≡ Note.Installed k ∷ []
+        → IsInstall g k (record { filter = filter; from = from; to = Target.Instance dst }) → is_whole f.kind filter ≡ true
         → x.world.link 1 0 ≡ Old (net.Mv filter (real.M_install k (instance_node from) (instance_node dst))) ∷ rest → Changed
-    Diverts : (k : ℕ) (filter : Filter) (from : ℕ) (rest : List (Any R)) → notes ≡ note.Installed k ∷ [] → IsDivert g k filter from
+    Diverts : (k : ℕ) (filter : Filter) (from : ℕ) (rest : List (Any R)) → notes ≡ Note.Installed k ∷ [] → IsDivert g k filter from
         → is_whole f.kind filter ≡ true → x.world.link 1 0 ≡ New (S_install k filter (instance_node from)) ∷ rest → Changed
 
-  module _ (k : ℕ) (filter : Filter) (from : ℕ) (to : Target) (e : m ≡ msg.Install k filter from to) where
-    label : Label f g p 0 (msg.Install k filter from to)
+  module _ (k : ℕ) (filter : Filter) (from : ℕ) (to : Target) (e : m ≡ Msg.Install k filter from to) where
+    label : Label f g p 0 (Msg.Install k filter from to)
     label = subst (λ y. Label f g p 0 y) e it.label
 
-    noted : notes ≡ note.Installed k ∷ []
+    noted : notes ≡ Note.Installed k ∷ []
     noted = ap (λ y. (switch_step x.nodes.switch y).notes) e ∙ installed_note x.nodes.switch (count f g) k filter from to are.switch.instances label.1 label.2
 
     head : (a : Any R) → shown f g m ≡ Some a → x.world.link 1 0 ≡ a ∷ it.rest
@@ -43,13 +40,13 @@ module _ {F R : Type 0} (f : Semantics R) (g : Given) (n : ℕ) (x : Scene F f g
         let off : (p == 0) && (0 == 0) ≡ false = rw one refl in
         ap (λ q. x.world.link q 0) (sym one) ∙ it.head off a is
 
-  by_target : (k : ℕ) (filter : Filter) (from : ℕ) (to : Target) → m ≡ msg.Install k filter from to → Changed
-  by_target k filter from target.Controller e = Diverts k filter from it.rest (noted k filter from target.Controller e)
-      (label k filter from target.Controller e).4 (label k filter from target.Controller e).3
-      (head k filter from target.Controller e (New (S_install k filter (instance_node from))) (ap (shown f g) e))
-  by_target k filter from (target.Instance dst) e = Moves_on k filter from dst it.rest (noted k filter from (target.Instance dst) e)
-      (label k filter from (target.Instance dst) e).4 (label k filter from (target.Instance dst) e).3
-      (head k filter from (target.Instance dst) e (Old (net.Mv filter (real.M_install k (instance_node from) (instance_node dst)))) (ap (shown f g) e))
+  by_target : (k : ℕ) (filter : Filter) (from : ℕ) (to : Target) → m ≡ Msg.Install k filter from to → Changed
+  by_target k filter from Target.Controller e = Diverts k filter from it.rest (noted k filter from Target.Controller e)
+      (label k filter from Target.Controller e).4 (label k filter from Target.Controller e).3
+      (head k filter from Target.Controller e (New (S_install k filter (instance_node from))) (ap (shown f g) e))
+  by_target k filter from (Target.Instance dst) e = Moves_on k filter from dst it.rest (noted k filter from (Target.Instance dst) e)
+      (label k filter from (Target.Instance dst) e).4 (label k filter from (Target.Instance dst) e).3
+      (head k filter from (Target.Instance dst) e (Old (net.Mv filter (real.M_install k (instance_node from) (instance_node dst)))) (ap (shown f g) e))
 
   by_changes : Changes x.nodes.switch m → Changed
   by_changes (Same none) = No_rule none

@@ -1,6 +1,10 @@
--- What holds of a network at the start, and goes on with each choice of a run, holds of every run.
-use Rattle.nf_net.proofs.Words.{ℕ, ◌+◌, List, length, sym, subst, Global, FunctionLaws, Semantics, Msg, Note, Choice, Network, IsRun, run, world_next, Taking}
-use Rattle.nf_net.proofs.Words.{run_induction, Config, Node, IsInput, node_step, node_ready, started_with, start_world, count_at_start}
+-- What holds of a network at the start, and goes on with each step of a run, holds of every run.
+use Rattle.nf_net.proofs.Words.{◌≡◌, ℕ, ◌+◌, ◌&&◌, ◌==◌, true, List, [], ◌∷◌, ◌++◌, length, refl, sym, subst, Global, FunctionLaws, Semantics, Msg, Note}
+use Rattle.nf_net.proofs.Words.{Choice, Network, IsWorld, IsRun, run, run_world, world_next, queue_at, at, less_first, Taking, Takes, taken_outcome, EachSent}
+use Rattle.nf_net.proofs.Words.{run_induction, Config, Node, IsInput, node_step, node_ready, started_with, Given, Label, start_world, given, count_at_start}
+use Rattle.nf_net.proofs.Words.{Runs, run_beside, all_fit, node_of, IsTaken, scene, Wants, node_leads, its_takes, its_taken, its_labels, its_input, ready_at}
+use Rattle.actor_net.specs.Network.{is_input}
+use Rattle.nf_net.proofs.RunKeeps.{RunStep}
 
 module _ (F : Type 0) {R : Type 0} (f : Semantics R) (laws : FunctionLaws f) (alloc : Global) (c : Config) (items : List Msg)
     (is : IsInput f.kind c items) where
@@ -10,14 +14,57 @@ module _ (F : Type 0) {R : Type 0} (f : Semantics R) (laws : FunctionLaws f) (al
   abbrev pub count : ℕ
   count = length c.names + 2
 
-  -- what each choice keeps of the worlds of a run
-  abbrev pub Goes_on : (Network (Node F R) Msg Note → Type 0) → Type 0
-  Goes_on P = (ds : List Choice) → IsRun node_ready (node_step f) ds start → (d : Choice)
-      → Taking node_ready (node_step f) count (run (node_step f) ds start) d → P (run (node_step f) ds start)
-      → P (world_next (node_step f) (run (node_step f) ds start) d)
+  abbrev g : Given
+  g = given f c items is
 
-  pub run_keeps : (P : Network (Node F R) Msg Note → Type 0) → P start → Goes_on P → (cs : List Choice) → IsRun node_ready (node_step f) cs start
-      → P (run (node_step f) cs start)
-  run_keeps P first next cs run_is = run_induction node_ready (node_step f) count (λ _ w. P w) start
-      (λ ds w d it h. subst (λ v. Taking node_ready (node_step f) count v d → P v → P (world_next (node_step f) v d)) (sym it.reached)
-      (λ t k. next ds it.is_run d t k) it.taking h) (start_world F f laws alloc c items is) (count_at_start F f alloc c items is) first cs run_is
+  -- a step of a run: what a choice takes in one of its worlds, and what is sent and left
+  pub record RunStep (w : Network (Node F R) Msg Note) (d : Choice) : Type 0 where
+    pub runs : Runs F f laws alloc c items is w
+    pub taking : Taking node_ready (node_step f) count w d
+    pub takes : Takes (node_step f) count w d.node d.port (node_of runs.joined.nodes d.node) taking.message taking.rest
+    pub taken : IsTaken f g count (scene f g count refl (Wants f g) (node_leads f laws g (all_fit f c items is) count) w runs.joined)
+        (record { node = d.node; port = d.port; message = taking.message })
+    pub ready : is_input d ≡ true → node_ready (node_of runs.joined.nodes d.node) taking.message ≡ true
+    pub labels : EachSent (Label f g) d.node (node_step f (node_of runs.joined.nodes d.node) d.port taking.message).sends
+    pub log : (world_next (node_step f) w d).log ≡ w.log ++ (node_step f (node_of runs.joined.nodes d.node) d.port taking.message).notes
+    pub input : queue_at (world_next (node_step f) w d) (at 0 0) ≡ less_first ((0 == d.node) && (0 == d.port)) (queue_at w (at 0 0))
+
+  abbrev pub after : List Choice → Network (Node F R) Msg Note
+  after cs = run (node_step f) cs start
+
+  -- each world of a run is one, with all nodes
+  pub after_world : (cs : List Choice) → IsRun node_ready (node_step f) cs start → IsWorld (after cs) × (length (after cs).nodes ≡ count)
+  after_world = run_world node_ready (node_step f) count start (start_world F f laws alloc c items is) (count_at_start F f alloc c items is)
+
+  step_of : (ds : List Choice) → IsRun node_ready (node_step f) ds start → (d : Choice) → Taking node_ready (node_step f) count (after ds) d
+      → RunStep (after ds) d
+  step_of ds ok d t =
+      let r = run_beside F f laws alloc c items is ds ok in
+      let fits = all_fit f c items is in
+      let takes = its_takes f laws g fits count refl (after ds) d t r.joined r.beside in
+      record {
+        runs = r;
+        taking = t;
+        takes = takes;
+        taken = its_taken f laws g fits count refl (after ds) d t r.joined r.beside;
+        ready = ready_at f g count refl (Wants f g) (node_leads f laws g fits count) (after ds) d t r.joined;
+        labels = its_labels f laws g fits count refl (after ds) d t r.joined r.beside;
+        log = (taken_outcome (node_step f) count (after ds) d.node d.port (node_of r.joined.nodes d.node) t.message t.rest takes).log;
+        input = its_input f laws g fits count refl (after ds) d t r.joined r.beside;
+      }
+
+  -- what each step keeps of the choices so far and of the world
+  pub run_keeps : (P : List Choice → Network (Node F R) Msg Note → Type 0) → P [] start
+      → ((ds : List Choice) → IsRun node_ready (node_step f) ds start → (d : Choice) → RunStep (after ds) d → P ds (after ds)
+      → P (ds ++ d ∷ []) (world_next (node_step f) (after ds) d)) → (cs : List Choice) → IsRun node_ready (node_step f) cs start → P cs (after cs)
+  run_keeps P first next = run_induction node_ready (node_step f) count P start
+      (λ ds w d it h. subst (λ v. Taking node_ready (node_step f) count v d → P ds v → P (ds ++ d ∷ []) (world_next (node_step f) v d)) (sym it.reached)
+      (λ t k. next ds it.is_run d (step_of ds it.is_run d t) k) it.taking h)
+      (start_world F f laws alloc c items is) (count_at_start F f alloc c items is) first
+
+  -- and what the notes of each step keep of the log
+  pub log_keeps : (P : List Note → Type 0) → P []
+      → ((ds : List Choice) → IsRun node_ready (node_step f) ds start → (d : Choice) → (s : RunStep (after ds) d) → P (after ds).log
+      → P ((after ds).log ++ (node_step f (node_of s.runs.joined.nodes d.node) d.port s.taking.message).notes))
+      → (cs : List Choice) → IsRun node_ready (node_step f) cs start → P (after cs).log
+  log_keeps P first next = run_keeps (λ _ w. P w.log) first (λ ds ok d s h. subst P (sym s.log) (next ds ok d s h))

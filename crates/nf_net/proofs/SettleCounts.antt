@@ -2,8 +2,6 @@
 use Rattle.nf_net.proofs.Words.{◌≡◌, ℕ, suc, ◌+◌, ◌<◌, ◌≤◌, true, false, Some, List, [], ◌∷◌, ◌++◌, map, length, length-append, refl, sym, ap, ◌∙◌, arith}
 use Rattle.nf_net.proofs.Words.{if◌then◌else◌, ◌||◌, ◌==◌, find, option_map, nat_tests, Decides-eqb, or-true, or_left, Answer, Command, Order, Msg, Note, Each}
 use Rattle.nf_net.proofs.Words.{has_answered, commands, IsRising, has_answered-append}
-use Rattle.nf_msgs.specs.declared.msg.Msg.TheVariants as msg
-use Rattle.nf_msgs.specs.declared.note.Note.TheVariants as note
 use Rattle.net_world.specs.Input.{packets}
 use Rattle.nf_net.proofs.answers.BusyController.{told_in}
 use Rattle.nf_net.proofs.answers.BusyLemmas.{answered_same}
@@ -52,30 +50,30 @@ answered_in_same (c ∷ cs) log notes h =
     let own = ap flag (answered_same c.op log notes (h c.op)) in let rest = answered_in_same cs log notes h in omega (arith, own, rest)
 
 -- an answer to another command, and to one of these
-apart_answer : (op k : ℕ) (a : Answer) → (op == k) ≡ false → has_answered k (note.Answered op a ∷ []) ≡ false
+apart_answer : (op k : ℕ) (a : Answer) → (op == k) ≡ false → has_answered k (Note.Answered op a ∷ []) ≡ false
 apart_answer op k a off = rw off refl
 
 answered_other : (op : ℕ) (a : Answer) (log : List Note) (least : ℕ) (cs : List Command) → op < least → IsRising least (map (λ c. c.op) cs)
-    → answered_in cs (log ++ note.Answered op a ∷ []) ≡ answered_in cs log
+    → answered_in cs (log ++ Note.Answered op a ∷ []) ≡ answered_in cs log
 answered_other op a log least [] less h = refl
 answered_other op a log least (c ∷ cs) less h =
     let first = h.0 in
     let off : (op == c.op) ≡ false = grind (arith, nat_tests, less, first) in
-    let own = ap flag (answered_same c.op log (note.Answered op a ∷ []) (apart_answer op c.op a off)) in
+    let own = ap flag (answered_same c.op log (Note.Answered op a ∷ []) (apart_answer op c.op a off)) in
     let rest = answered_other op a log (suc c.op) cs (omega (arith, less, first)) h.1 in
     omega (arith, own, rest)
 
 pub answered_one : (op : ℕ) (a : Answer) (what : Order) (log : List Note) → has_answered op log ≡ false → (least : ℕ) (cs : List Command)
     → IsRising least (map (λ c. c.op) cs) → option_map (λ c. c.what) (find (λ c. c.op == op) cs) ≡ Some what
-    → answered_in cs (log ++ note.Answered op a ∷ []) ≡ answered_in cs log + 1
+    → answered_in cs (log ++ Note.Answered op a ∷ []) ≡ answered_in cs log + 1
 answered_one op a what log none least [] h is = cc
 answered_one op a what log none least (c ∷ cs) h is =
     elim (c.op == op) as (λ b. (c.op == op) ≡ b → option_map (λ x. x.what) (if b then Some c else find (λ x. x.op == op) cs) ≡ Some what
-    → answered_in (c ∷ cs) (log ++ note.Answered op a ∷ []) ≡ answered_in (c ∷ cs) log + 1) [
+    → answered_in (c ∷ cs) (log ++ Note.Answered op a ∷ []) ≡ answered_in (c ∷ cs) log + 1) [
       | true ↦ λ on _.
           let same : op ≡ c.op = sym ((Decides-eqb c.op op).0 on) in
           let self : (op == c.op) ≡ true = grind (arith, nat_tests, same) in
-          let new : has_answered c.op (log ++ note.Answered op a ∷ []) ≡ true = has_answered-append c.op log (note.Answered op a ∷ [])
+          let new : has_answered c.op (log ++ Note.Answered op a ∷ []) ≡ true = has_answered-append c.op log (Note.Answered op a ∷ [])
           ∙ ap (λ b. has_answered c.op log || (b || false)) self ∙ or-true (has_answered c.op log) in
           let old : has_answered c.op log ≡ false = ap (λ k. has_answered k log) (sym same) ∙ none in
           let one = ap flag new in
@@ -84,7 +82,7 @@ answered_one op a what log none least (c ∷ cs) h is =
           omega (arith, one, zero, rest)
       | false ↦ λ off found.
           let apart : (op == c.op) ≡ false = grind (arith, nat_tests, off) in
-          let own = ap flag (answered_same c.op log (note.Answered op a ∷ []) (apart_answer op c.op a apart)) in
+          let own = ap flag (answered_same c.op log (Note.Answered op a ∷ []) (apart_answer op c.op a apart)) in
           let rest = answered_one op a what log none (suc c.op) cs h.1 found in
           omega (arith, own, rest)
     ] refl is
@@ -102,18 +100,18 @@ found P op what (c ∷ cs) h is = elim (c.op == op) as (λ b. (c.op == op) ≡ b
 -- numbers of commands among messages
 pub low_commands : (P : ℕ → Type 0) (ms : List Msg) → Each P (picked told_in ms) → Each (λ c. P c.op) (commands ms)
 low_commands P [] h = tt
-low_commands P (msg.InCommand c ∷ ms) h = (h.0, low_commands P ms h.1)
-low_commands P (msg.Asked c ∷ ms) h = low_commands P ms h.1
+low_commands P (Msg.InCommand c ∷ ms) h = (h.0, low_commands P ms h.1)
+low_commands P (Msg.Asked c ∷ ms) h = low_commands P ms h.1
 low_commands P (m ∷ ms) h = low_commands P ms h
 
 pub commands-append : (xs ys : List Msg) → commands (xs ++ ys) ≡ commands xs ++ commands ys
 commands-append [] ys = refl
-commands-append (msg.InCommand c ∷ xs) ys = ap (λ v. c ∷ v) (commands-append xs ys)
+commands-append (Msg.InCommand c ∷ xs) ys = ap (λ v. c ∷ v) (commands-append xs ys)
 commands-append (m ∷ xs) ys = commands-append xs ys
 
 pub packets-append : (xs ys : List Msg) → packets (xs ++ ys) ≡ packets xs ++ packets ys
 packets-append [] ys = refl
-packets-append (msg.InPacket p ∷ xs) ys = ap (λ v. p ∷ v) (packets-append xs ys)
+packets-append (Msg.InPacket p ∷ xs) ys = ap (λ v. p ∷ v) (packets-append xs ys)
 packets-append (m ∷ xs) ys = packets-append xs ys
 
 -- Two ends of one list.

@@ -2,14 +2,10 @@
 use Rattle.nf_net.proofs.Words.{◌≡◌, ℕ, zero, suc, ◌+◌, ◌≤◌, Bool, true, false, Some, List, [], ◌∷◌, ◌++◌, map, length, length-append, append_assoc, refl, sym}
 use Rattle.nf_net.proofs.Words.{ap, ◌∙◌, subst, arith, if◌then◌else◌, ◌==◌, nat_lt, find, is_some, Global, nat_tests, Decides-ltb, Decides-eqb, map-append}
 use Rattle.nf_net.proofs.Words.{each_map, Packet, Output, FunctionLaws, Semantics, same_unit_equiv, Command, Msg, Note, Choice, Network, Stepped, IsRun, run}
-use Rattle.nf_net.proofs.Words.{world_next, queue_at, at, opening_waiting, opening_weight, Taking, Takes, taken_outcome, total, switch_step, controller_step}
-use Rattle.nf_net.proofs.Words.{Config, Node, has_answered, commands, IsInput, arrivals_in, dones_in, done_where, node_step, node_ready, unit_numbered, is_of}
-use Rattle.nf_net.proofs.Words.{processed_of, has_packet, first_nodes, first_switch, arrived-append, its_takes, its_label, its_labels, its_input, Given, Joined}
-use Rattle.nf_net.proofs.Words.{Label, node_of, Wants, node_leads, Stands, In_first, In_second, stands, switch_unprocessed, controller_uninstalled}
-use Rattle.nf_net.proofs.Words.{uninstalled_unprocessed, given, all_fit, all_labelled, count_at_start}
-use Rattle.nf_function.specs.declared.unit.Unit as units
-use Rattle.nf_msgs.specs.declared.msg.Msg.TheVariants as msg
-use Rattle.nf_msgs.specs.declared.note.Note.TheVariants as note
+use Rattle.nf_net.proofs.Words.{world_next, queue_at, at, opening_waiting, opening_weight, total, switch_step, controller_step, Config, Node, has_answered}
+use Rattle.nf_net.proofs.Words.{commands, IsInput, arrivals_in, dones_in, done_where, node_step, node_ready, unit_numbered, is_of, processed_of, has_packet}
+use Rattle.nf_net.proofs.Words.{first_nodes, first_switch, arrived-append, Given, Joined, Label, node_of, Stands, In_first, In_second, stands}
+use Rattle.nf_net.proofs.Words.{switch_unprocessed, controller_uninstalled, uninstalled_unprocessed, given, all_labelled, count_at_start, Unit, nowhere}
 use Rattle.net_world.specs.Input.{packets}
 use Rattle.net_world.specs.Fold.{times}
 use Rattle.net_world.proofs.NumberCounts.{times-append}
@@ -20,12 +16,11 @@ use Rattle.nf_net.proofs.answers.BusyLemmas.{answered_same, other_not_answered}
 use Rattle.nf_net.proofs.answers.BusyNodes.{switch_hands}
 use Rattle.nf_net.proofs.answers.BusyRuns.{Busy, busy_next}
 use Rattle.nf_net.proofs.answers.CommandPromises.{run_busy}
-use Rattle.proof_outlines.proofs.joined.JoinedSteps.{ready_at}
 use Rattle.proof_outlines.proofs.joined.RunsJoined.{once}
 use Rattle.nf_net.proofs.paths.PathPromises.{rising_once}
 use Rattle.nf_net.proofs.AtMembers.{times_those}
 use Rattle.nf_net.proofs.PlaceRuns.{processed_off}
-use Rattle.nf_net.proofs.RunKeeps.{start, count, run_keeps}
+use Rattle.nf_net.proofs.RunKeeps.{start, count, run_keeps, RunStep}
 use Rattle.nf_net.proofs.SettleCounts.{AllAnswered, answered_in, all_answered_more, packets-append, longer_end}
 use Rattle.nf_net.proofs.SettleSteps.{Counted, items_none}
 use Rattle.nf_net.proofs.CountedSteps.{counted_after}
@@ -41,11 +36,11 @@ has_times p (q ∷ qs) h = elim (q.number == p) as (λ b. (q.number == p) ≡ b 
 
 -- what was processed went
 some_went : (mine : ℕ → Bool) (p i : ℕ) (output : Output) (after : List Note) → mine p ≡ true → (before : List Note)
-    → 1 ≤ times p (map (λ d. d.number) (done_where mine (dones_in (before ++ note.Processed p i output ∷ after))))
+    → 1 ≤ times p (map (λ d. d.number) (done_where mine (dones_in (before ++ Note.Processed p i output ∷ after))))
 some_went mine p i output after own [] = let self : (p == p) ≡ true = grind (arith, nat_tests) in rw (own, self) (omega arith)
-some_went mine p i output after own (note.Processed q k o ∷ before) = elim (mine q) as (λ b. 1 ≤ times p (map (λ d. d.number)
-    (if b then record { number = q; instance = k; output = o } ∷ done_where mine (dones_in (before ++ note.Processed p i output ∷ after))
-    else done_where mine (dones_in (before ++ note.Processed p i output ∷ after))))) [
+some_went mine p i output after own (Note.Processed q k o ∷ before) = elim (mine q) as (λ b. 1 ≤ times p (map (λ d. d.number)
+    (if b then record { number = q; instance = k; output = o } ∷ done_where mine (dones_in (before ++ Note.Processed p i output ∷ after))
+    else done_where mine (dones_in (before ++ Note.Processed p i output ∷ after))))) [
       | true ↦ (let rest = some_went mine p i output after own before in omega (arith, rest))
       | false ↦ some_went mine p i output after own before
     ]
@@ -55,25 +50,25 @@ some_went mine p i output after own (n ∷ before) = some_went mine p i output a
 pub record ArrivedIn (log : List Note) (p : ℕ) : Type 0 where
   pub first : List Note
   pub rest : List Note
-  pub whole : log ≡ first ++ note.Arrived p ∷ rest
+  pub whole : log ≡ first ++ Note.Arrived p ∷ rest
 
 behind_note : (n : Note) (log : List Note) (p : ℕ) → ArrivedIn log p → ArrivedIn (n ∷ log) p
 behind_note n log p r = record { first = n ∷ r.first; rest = r.rest; whole = ap (λ v. n ∷ v) r.whole }
 
 pub arrived_in : (log : List Note) (p : ℕ) → 1 ≤ times p (arrivals_in log) → ArrivedIn log p
 arrived_in [] p some = absurd (omega (arith, some))
-arrived_in (note.Arrived k ∷ log) p some =
-    elim (p == k) as (λ b. (p == k) ≡ b → 1 ≤ (if b then 1 else 0) + times p (arrivals_in log) → ArrivedIn (note.Arrived k ∷ log) p) [
-      | true ↦ λ on _. record { first = []; rest = log; whole = ap (λ q. note.Arrived q ∷ log) (sym ((Decides-eqb p k).0 on)) }
-      | false ↦ λ _ more. behind_note (note.Arrived k) log p (arrived_in log p (omega (arith, more)))
+arrived_in (Note.Arrived k ∷ log) p some =
+    elim (p == k) as (λ b. (p == k) ≡ b → 1 ≤ (if b then 1 else 0) + times p (arrivals_in log) → ArrivedIn (Note.Arrived k ∷ log) p) [
+      | true ↦ λ on _. record { first = []; rest = log; whole = ap (λ q. Note.Arrived q ∷ log) (sym ((Decides-eqb p k).0 on)) }
+      | false ↦ λ _ more. behind_note (Note.Arrived k) log p (arrived_in log p (omega (arith, more)))
     ] refl some
 arrived_in (n ∷ log) p some = behind_note n log p (arrived_in log p some)
 
-arrived_there : (first rest : List Note) (p : ℕ) → 1 ≤ times p (arrivals_in (first ++ note.Arrived p ∷ rest))
+arrived_there : (first rest : List Note) (p : ℕ) → 1 ≤ times p (arrivals_in (first ++ Note.Arrived p ∷ rest))
 arrived_there first rest p =
     let self : (p == p) ≡ true = grind (arith, nat_tests) in
-    let all = ap (times p) (arrived-append first (note.Arrived p ∷ rest)) ∙ times-append p (arrivals_in first) (arrivals_in (note.Arrived p ∷ rest)) in
-    let one : times p (arrivals_in (note.Arrived p ∷ rest)) ≡ 1 + times p (arrivals_in rest) = rw self refl in
+    let all = ap (times p) (arrived-append first (Note.Arrived p ∷ rest)) ∙ times-append p (arrivals_in first) (arrivals_in (Note.Arrived p ∷ rest)) in
+    let one : times p (arrivals_in (Note.Arrived p ∷ rest)) ≡ 1 + times p (arrivals_in rest) = rw self refl in
     omega (arith, all, one)
 
 module _ (F : Type 0) {R : Type 0} (f : Semantics R) (laws : FunctionLaws f) (alloc : Global) (c : Config) (items : List Msg)
@@ -92,31 +87,31 @@ module _ (F : Type 0) {R : Type 0} (f : Semantics R) (laws : FunctionLaws f) (al
 
   -- what is processed came before
   abbrev pub CameFirst : List Note → Type 0
-  CameFirst log = (before after : List Note) (p i : ℕ) (output : Output) → log ≡ before ++ note.Processed p i output ∷ after → 1 ≤ times p (arrivals_in before)
+  CameFirst log = (before after : List Note) (p i : ℕ) (output : Output) → log ≡ before ++ Note.Processed p i output ∷ after → 1 ≤ times p (arrivals_in before)
 
   -- where a packet behind a settle arrives, what stands before the settle is answered
   abbrev pub AnsweredBefore : List Note → Type 0
-  AnsweredBefore log = (front behind : List Msg) → items ≡ front ++ msg.InSettle ∷ behind → (before after : List Note) (p : ℕ) → has_packet p behind ≡ true
-      → log ≡ before ++ note.Arrived p ∷ after → AllAnswered (commands front) before
+  AnsweredBefore log = (front behind : List Msg) → items ≡ front ++ Msg.InSettle ∷ behind → (before after : List Note) (p : ℕ) → has_packet p behind ≡ true
+      → log ≡ before ++ Note.Arrived p ∷ after → AllAnswered (commands front) before
 
   came_more : (log notes : List Note) → CameFirst log
-      → ((before after : List Note) (p i : ℕ) (output : Output) → notes ≡ before ++ note.Processed p i output ∷ after → 1 ≤ times p (arrivals_in log))
+      → ((before after : List Note) (p i : ℕ) (output : Output) → notes ≡ before ++ Note.Processed p i output ∷ after → 1 ≤ times p (arrivals_in log))
       → CameFirst (log ++ notes)
-  came_more log notes old new before after p i output e = by_place (stands log notes before (note.Processed p i output) after e)
+  came_more log notes old new before after p i output e = by_place (stands log notes before (Note.Processed p i output) after e)
     where
-      by_place : Stands log notes (record { before = before; item = note.Processed p i output; after = after }) → 1 ≤ times p (arrivals_in before)
+      by_place : Stands log notes (record { before = before; item = Note.Processed p i output; after = after }) → 1 ≤ times p (arrivals_in before)
       by_place (In_first cs here) = old before cs p i output here
       by_place (In_second cs from there) =
           let some = new cs after p i output there in
           let all = ap (λ l. times p (arrivals_in l)) from ∙ ap (times p) (arrived-append log cs) ∙ times-append p (arrivals_in log) (arrivals_in cs) in
           omega (arith, some, all)
 
-  answered_later : (log notes : List Note) → AnsweredBefore log → ((front behind : List Msg) → items ≡ front ++ msg.InSettle ∷ behind
-      → (before after : List Note) (p : ℕ) → has_packet p behind ≡ true → notes ≡ before ++ note.Arrived p ∷ after → AllAnswered (commands front) log)
+  answered_later : (log notes : List Note) → AnsweredBefore log → ((front behind : List Msg) → items ≡ front ++ Msg.InSettle ∷ behind
+      → (before after : List Note) (p : ℕ) → has_packet p behind ≡ true → notes ≡ before ++ Note.Arrived p ∷ after → AllAnswered (commands front) log)
       → AnsweredBefore (log ++ notes)
-  answered_later log notes old new front behind whole before after p has e = by_place (stands log notes before (note.Arrived p) after e)
+  answered_later log notes old new front behind whole before after p has e = by_place (stands log notes before (Note.Arrived p) after e)
     where
-      by_place : Stands log notes (record { before = before; item = note.Arrived p; after = after }) → AllAnswered (commands front) before
+      by_place : Stands log notes (record { before = before; item = Note.Arrived p; after = after }) → AllAnswered (commands front) before
       by_place (In_first cs here) = old front behind whole before cs p has here
       by_place (In_second cs from there) =
           subst (AllAnswered (commands front)) (sym from) (all_answered_more (commands front) log cs (new front behind whole cs after p has there))
@@ -129,15 +124,15 @@ module _ (F : Type 0) {R : Type 0} (f : Semantics R) (laws : FunctionLaws f) (al
 
   -- a packet behind a settle that arrived came after it
   taken_then : (w : Network (Node F R) Msg Note) → arrivals_in w.log ++ numbers (queue_at w (at 0 0)) ≡ numbers items → Counted items w
-      → (front behind : List Msg) (p : ℕ) → items ≡ front ++ msg.InSettle ∷ behind → has_packet p behind ≡ true → 1 ≤ times p (arrivals_in w.log)
+      → (front behind : List Msg) (p : ℕ) → items ≡ front ++ Msg.InSettle ∷ behind → has_packet p behind ≡ true → 1 ≤ times p (arrivals_in w.log)
       → length (queue_at w (at 0 0)) ≤ length behind
   taken_then w in_turn counted front behind p whole has came = elim (nat_lt (length behind) (length (queue_at w (at 0 0))))
       as (λ t. nat_lt (length behind) (length (queue_at w (at 0 0))) ≡ t → length (queue_at w (at 0 0)) ≤ length behind) [
         | true ↦ λ on.
             let more = (Decides-ltb (length behind) (length (queue_at w (at 0 0)))).0 on in
-            let ends = longer_end counted.took (queue_at w (at 0 0)) front (msg.InSettle ∷ behind) (sym counted.whole ∙ whole) (omega (arith, more)) in
+            let ends = longer_end counted.took (queue_at w (at 0 0)) front (Msg.InSettle ∷ behind) (sym counted.whole ∙ whole) (omega (arith, more)) in
             let all : times p (numbers (queue_at w (at 0 0))) ≡ times p (numbers ends.0) + times p (numbers behind) = ap (λ ms. times p (numbers ms)) ends.1
-            ∙ ap (λ ps. times p (map (λ q. q.number) ps)) (packets-append ends.0 (msg.InSettle ∷ behind))
+            ∙ ap (λ ps. times p (map (λ q. q.number) ps)) (packets-append ends.0 (Msg.InSettle ∷ behind))
             ∙ ap (times p) (map-append (λ q. q.number) (packets ends.0) (packets behind)) ∙ times-append p (numbers ends.0) (numbers behind) in
             let turn = ap (times p) (sym in_turn) ∙ times-append p (arrivals_in w.log) (numbers (queue_at w (at 0 0))) in
             let one = rising_once p 0 (numbers items) is.numbers in
@@ -147,85 +142,75 @@ module _ (F : Type 0) {R : Type 0} (f : Semantics R) (laws : FunctionLaws f) (al
       ] refl
 
   -- a choice of a run
-  module _ (w : Network (Node F R) Msg Note) (d : Choice) (t : Taking node_ready step n w d) (r : InRun F f laws alloc c items is w) (b : Busy g w)
-      (h : Keeps w) where
+  module _ (w : Network (Node F R) Msg Note) (d : Choice) (s : RunStep F f laws alloc c items is w d)
+      (turn : arrivals_in w.log ++ numbers (queue_at w (at 0 0)) ≡ numbers items) (b : Busy g w) (h : Keeps w) where
     abbrev j : Joined f g n w
-    j = r.joined
+    j = s.runs.joined
 
     abbrev v : Network (Node F R) Msg Note
     v = world_next step w d
 
-    next : InRun F f laws alloc c items is v
-    next = next_in_run F f laws alloc c items is w d t r
-
-    takes : Takes step n w d.node d.port (node_of j.nodes d.node) t.message t.rest
-    takes = its_takes f laws g (all_fit f c items is) n refl w d t j r.beside
-
     abbrev its_notes : List Note
-    its_notes = (step (node_of j.nodes d.node) d.port t.message).notes
+    its_notes = (step (node_of j.nodes d.node) d.port s.taking.message).notes
 
-    left : v.log ≡ w.log ++ its_notes
-    left = (taken_outcome step n w d.node d.port (node_of j.nodes d.node) t.message t.rest takes).log
+    next : InRun F f laws alloc c items is v
+    next = next_in_run F f laws alloc c items is w d s turn
 
     counted_next : Counted items v
-    counted_next = counted_after F f laws alloc c items is w j b h.counted d.node d.port t.message t.rest (record {
-      takes = takes;
-      ready = ready_at f g n refl (Wants f g) (node_leads f laws g (all_fit f c items is) n) w d t j;
-      label = its_label f laws g (all_fit f c items is) n refl w d t j r.beside;
-      labels = its_labels f laws g (all_fit f c items is) n refl w d t j r.beside;
-      input = its_input f laws g (all_fit f c items is) n refl w d t j r.beside;
-    }) (busy_next f g n refl w d t j b)
+    counted_next = counted_after F f laws alloc c items is w j b h.counted d.node d.port s.taking.message s.taking.rest
+        (record { takes = s.takes; ready = s.ready; label = s.taken.label; labels = s.labels; input = s.input })
+        (busy_next f g n refl w d s.taking j b)
 
     -- what an instance processes had arrived
-    came_before : (q i : ℕ) (output : Output) (before after : List Note) → its_notes ≡ before ++ note.Processed q i output ∷ after
+    came_before : (q i : ℕ) (output : Output) (before after : List Note) → its_notes ≡ before ++ Note.Processed q i output ∷ after
         → arrivals_in its_notes ≡ [] → 1 ≤ times q (arrivals_in w.log)
     came_before q i output before after e none =
-        let u : units.Unit = unit_numbered c items f.kind q in
+        let u : Unit = unit_numbered c items f.kind q in
         let own : is_of f c items u q ≡ true = same_unit_equiv.refl u in
-        let log : v.log ≡ (w.log ++ before) ++ note.Processed q i output ∷ after = left ∙ ap (λ ns. w.log ++ ns) e
-        ∙ sym (append_assoc w.log before (note.Processed q i output ∷ after)) in
+        let log : v.log ≡ (w.log ++ before) ++ Note.Processed q i output ∷ after = s.log ∙ ap (λ ns. w.log ++ ns) e
+        ∙ sym (append_assoc w.log before (Note.Processed q i output ∷ after)) in
         let went_some : 1 ≤ times q (processed_of f c items u v.log) = subst (λ l. 1 ≤ times q (processed_of f c items u l)) (sym log)
         (some_went (is_of f c items u) q i output after own (w.log ++ before)) in
-        let few = once f c items is n v next.joined u q in
+        let few = once f c items is n v next.runs.joined u q in
         let less = times_those (is_of f c items u) q (arrivals_in v.log) in
-        let same : times q (arrivals_in v.log) ≡ times q (arrivals_in w.log) + 0 = ap (λ l. times q (arrivals_in l)) left
+        let same : times q (arrivals_in v.log) ≡ times q (arrivals_in w.log) + 0 = ap (λ l. times q (arrivals_in l)) s.log
         ∙ ap (times q) (arrived-append w.log its_notes) ∙ times-append q (arrivals_in w.log) (arrivals_in its_notes)
         ∙ ap (λ ps. times q (arrivals_in w.log) + times q ps) none in
         omega (arith, went_some, few, less, same)
 
-    new_came : (k p : ℕ) (m : Msg) → d.node ≡ k → d.port ≡ p → t.message ≡ m → (before after : List Note) (q i : ℕ) (output : Output)
-        → (step (node_of j.nodes k) p m).notes ≡ before ++ note.Processed q i output ∷ after → 1 ≤ times q (arrivals_in w.log)
+    new_came : (k p : ℕ) (m : Msg) → d.node ≡ k → d.port ≡ p → s.taking.message ≡ m → (before after : List Note) (q i : ℕ) (output : Output)
+        → (step (node_of j.nodes k) p m).notes ≡ before ++ Note.Processed q i output ∷ after → 1 ≤ times q (arrivals_in w.log)
     new_came zero p m dk dp tm before after q i output e =
         absurd (processed_off before after q i output (switch_step j.nodes.switch m).notes (switch_unprocessed j.nodes.switch m) e)
     new_came (suc zero) p m dk dp tm before after q i output e = absurd (processed_off before after q i output
         (controller_step j.nodes.controller p m).notes (uninstalled_unprocessed _ (controller_uninstalled j.nodes.controller p m)) e)
     new_came (suc (suc y)) p m dk dp tm before after q i output e =
-        let same : its_notes ≡ (step (node_of j.nodes (suc (suc y))) p m).notes = ap (λ x. (step (node_of j.nodes x) d.port t.message).notes) dk
-        ∙ ap (λ x. (step (node_of j.nodes (suc (suc y))) x t.message).notes) dp ∙ ap (λ x. (step (node_of j.nodes (suc (suc y))) p x).notes) tm in
+        let same : its_notes ≡ (step (node_of j.nodes (suc (suc y))) p m).notes = ap (λ x. (step (node_of j.nodes x) d.port s.taking.message).notes) dk
+        ∙ ap (λ x. (step (node_of j.nodes (suc (suc y))) x s.taking.message).notes) dp ∙ ap (λ x. (step (node_of j.nodes (suc (suc y))) p x).notes) tm in
         came_before q i output before after (same ∙ e) (ap arrivals_in same ∙ instance_notes_none f (j.nodes.instance (suc (suc y))) m)
 
     -- a packet that arrives came behind what was taken of the input
-    answered_now : (front behind : List Msg) → items ≡ front ++ msg.InSettle ∷ behind → (before after : List Note) (p : ℕ) → has_packet p behind ≡ true
-        → its_notes ≡ before ++ note.Arrived p ∷ after → AllAnswered (commands front) v.log
+    answered_now : (front behind : List Msg) → items ≡ front ++ Msg.InSettle ∷ behind → (before after : List Note) (p : ℕ) → has_packet p behind ≡ true
+        → its_notes ≡ before ++ Note.Arrived p ∷ after → AllAnswered (commands front) v.log
     answered_now front behind whole before after p has e =
-        let log : v.log ≡ (w.log ++ before) ++ note.Arrived p ∷ after = left ∙ ap (λ ns. w.log ++ ns) e
-        ∙ sym (append_assoc w.log before (note.Arrived p ∷ after)) in
+        let log : v.log ≡ (w.log ++ before) ++ Note.Arrived p ∷ after = s.log ∙ ap (λ ns. w.log ++ ns) e
+        ∙ sym (append_assoc w.log before (Note.Arrived p ∷ after)) in
         let came : 1 ≤ times p (arrivals_in v.log) = subst (λ l. 1 ≤ times p (arrivals_in l)) (sym log) (arrived_there (w.log ++ before) after p) in
         counted_next.settled front behind whole (taken_then v next.in_turn counted_next front behind p whole has came)
 
-    none_arrives : (before after : List Note) (p : ℕ) (ns : List Note) → ns ≡ before ++ note.Arrived p ∷ after → arrivals_in ns ≡ [] → ⊥
+    none_arrives : (before after : List Note) (p : ℕ) (ns : List Note) → ns ≡ before ++ Note.Arrived p ∷ after → arrivals_in ns ≡ [] → ⊥
     none_arrives before after p ns e none =
         let some = arrived_there before after p in
         let same = ap (λ l. times p (arrivals_in l)) (sym e) in let zero = ap (times p) none in omega (arith, some, same, zero)
 
-    new_answered : (k p : ℕ) (m : Msg) → d.node ≡ k → d.port ≡ p → t.message ≡ m → Label f g p k m → (front behind : List Msg)
-        → items ≡ front ++ msg.InSettle ∷ behind → (before after : List Note) (q : ℕ) → has_packet q behind ≡ true
-        → (step (node_of j.nodes k) p m).notes ≡ before ++ note.Arrived q ∷ after → AllAnswered (commands front) w.log
+    new_answered : (k p : ℕ) (m : Msg) → d.node ≡ k → d.port ≡ p → s.taking.message ≡ m → Label f g p k m → (front behind : List Msg)
+        → items ≡ front ++ Msg.InSettle ∷ behind → (before after : List Note) (q : ℕ) → has_packet q behind ≡ true
+        → (step (node_of j.nodes k) p m).notes ≡ before ++ Note.Arrived q ∷ after → AllAnswered (commands front) w.log
     new_answered zero p m dk dp tm label front behind whole before after q has e =
         let notes : List Note = (switch_step j.nodes.switch m).notes in
-        let same : its_notes ≡ notes = ap (λ x. (step (node_of j.nodes x) d.port t.message).notes) dk
-        ∙ ap (λ x. (step (node_of j.nodes 0) x t.message).notes) dp ∙ ap (λ x. (step (node_of j.nodes 0) p x).notes) tm in
-        let all : AllAnswered (commands front) (w.log ++ notes) = subst (AllAnswered (commands front)) (left ∙ ap (λ ns. w.log ++ ns) same)
+        let same : its_notes ≡ notes = ap (λ x. (step (node_of j.nodes x) d.port s.taking.message).notes) dk
+        ∙ ap (λ x. (step (node_of j.nodes 0) x s.taking.message).notes) dp ∙ ap (λ x. (step (node_of j.nodes 0) p x).notes) tm in
+        let all : AllAnswered (commands front) (w.log ++ notes) = subst (AllAnswered (commands front)) (s.log ∙ ap (λ ns. w.log ++ ns) same)
         (answered_now front behind whole before after q has (same ∙ e)) in
         each_map {P = (λ x. has_answered x.op (w.log ++ notes) ≡ true)} {Q = (λ x. has_answered x.op w.log ≡ true)}
         (λ x on. sym (answered_same x.op w.log notes (other_not_answered x.op notes (switch_hands f g j.nodes.switch p m label).notes_are)) ∙ on)
@@ -238,14 +223,10 @@ module _ (F : Type 0) {R : Type 0} (f : Semantics R) (laws : FunctionLaws f) (al
     next_keeps : Keeps v
     next_keeps = record {
       counted = counted_next;
-      came = subst CameFirst (sym left) (came_more w.log its_notes h.came (new_came d.node d.port t.message refl refl refl));
-      answered = subst AnsweredBefore (sym left) (answered_later w.log its_notes h.answered
-          (new_answered d.node d.port t.message refl refl refl (its_label f laws g (all_fit f c items is) n refl w d t j r.beside)));
+      came = subst CameFirst (sym s.log) (came_more w.log its_notes h.came (new_came d.node d.port s.taking.message refl refl refl));
+      answered = subst AnsweredBefore (sym s.log) (answered_later w.log its_notes h.answered
+          (new_answered d.node d.port s.taking.message refl refl refl s.taken.label));
     }
-
-  nowhere : (before after : List Note) (x : Note) → [] ≡ before ++ x ∷ after → ⊥
-  nowhere [] after x e = cc
-  nowhere (y ∷ before) after x e = cc
 
   start_keeps : Keeps at_start
   start_keeps =
@@ -261,10 +242,10 @@ module _ (F : Type 0) {R : Type 0} (f : Semantics R) (laws : FunctionLaws f) (al
           whole = sym waits;
           balance = (let same = ap (λ ms. length (commands ms)) waits in let none = none_in (commands items) in omega (arith, same, none, weight));
           settled = λ front behind whole short. (let same = ap length waits in
-              let long = ap length whole ∙ length-append front (msg.InSettle ∷ behind) in absurd (omega (arith, same, long, short)));
+              let long = ap length whole ∙ length-append front (Msg.InSettle ∷ behind) in absurd (omega (arith, same, long, short)));
         };
-        came = λ before after p i output e. absurd (nowhere before after (note.Processed p i output) e);
-        answered = λ front behind whole before after p has e. absurd (nowhere before after (note.Arrived p) e);
+        came = λ before after p i output e. absurd (nowhere before after (Note.Processed p i output) e);
+        answered = λ front behind whole before after p has e. absurd (nowhere before after (Note.Arrived p) e);
       }
     where
       none_in : (cs : List Command) → answered_in cs [] ≡ 0
@@ -272,5 +253,5 @@ module _ (F : Type 0) {R : Type 0} (f : Semantics R) (laws : FunctionLaws f) (al
       none_in (x ∷ cs) = let rest = none_in cs in omega (arith, rest)
 
   pub run_settles : (cs : List Choice) → IsRun node_ready step cs at_start → Keeps (run step cs at_start)
-  run_settles cs run_is = run_keeps F f laws alloc c items is Keeps start_keeps (λ ds ok d t k. next_keeps (run step ds at_start) d t
-      (runs_joined F f laws alloc c items is ds ok) (run_busy F f laws alloc c items is ds ok).1 k) cs run_is
+  run_settles = run_keeps F f laws alloc c items is (λ _ w. Keeps w) start_keeps (λ ds ok d s. next_keeps (run step ds at_start) d s
+      (runs_joined F f laws alloc c items is ds ok).in_turn (run_busy F f laws alloc c items is ds ok).1)

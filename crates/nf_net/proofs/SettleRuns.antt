@@ -4,11 +4,7 @@ use Rattle.nf_net.proofs.Words.{option_map_or, Global, or_left, Output, Function
 use Rattle.nf_net.proofs.Words.{each-append, each_map, Config, Node, is_begun, has_answered, is_busy, times_installed, packet_numbered, commands}
 use Rattle.nf_net.proofs.Words.{order_numbered, IsInput, job_of, installs_in, node_step, node_ready, first_owner, owner_after, members_after, is_home, owner}
 use Rattle.nf_net.proofs.Words.{members, member_for, unit_numbered, IsMoving, IsPlace, Owns, Is_destination, Is_member, ArePlaces, has_packet, has_begun-append}
-use Rattle.nf_net.proofs.Words.{installed-append, all_each, Given, Stands, In_first, In_second, stands, given}
-use Rattle.nf_function.specs.declared.unit.Unit as units
-use Rattle.nf_msgs.specs.declared.command.Order.TheVariants as order
-use Rattle.nf_msgs.specs.declared.msg.Msg.TheVariants as msg
-use Rattle.nf_msgs.specs.declared.note.Note.TheVariants as note
+use Rattle.nf_net.proofs.Words.{installed-append, all_each, Given, Stands, In_first, In_second, stands, given, Unit, Order}
 use Rattle.net_world.specs.Places.{goes_to}
 use Rattle.net_world.specs.Settles.{IsAfterSettle, NoneBegan, Settles}
 use Rattle.nf_net.proofs.answers.CommandPromises.{run_answers}
@@ -37,12 +33,12 @@ module _ (F : Type 0) {R : Type 0} (f : Semantics R) (laws : FunctionLaws f) (al
 
   module _ (cs : List Choice) (run_is : IsRun node_ready (node_step f) cs at_start) (later : List Msg)
       (settle : IsAfterSettle items later) (before after : List Note) (p i : ℕ) (output : Output) (has : has_packet p later ≡ true)
-      (e : (run (node_step f) cs at_start).log ≡ before ++ note.Processed p i output ∷ after) (none : NoneBegan later before) where
-    abbrev u : units.Unit
+      (e : (run (node_step f) cs at_start).log ≡ before ++ Note.Processed p i output ∷ after) (none : NoneBegan later before) where
+    abbrev u : Unit
     u = unit_numbered c items f.kind p
 
     abbrev tail : List Note
-    tail = note.Processed p i output ∷ after
+    tail = Note.Processed p i output ∷ after
 
     abbrev log : List Note
     log = (run (node_step f) cs at_start).log
@@ -51,22 +47,22 @@ module _ (F : Type 0) {R : Type 0} (f : Semantics R) (laws : FunctionLaws f) (al
     arrival : ArrivedIn before p
     arrival = arrived_in before p ((run_settles F f laws alloc c items is cs run_is).came before after p i output e)
 
-    log_is : log ≡ arrival.first ++ note.Arrived p ∷ (arrival.rest ++ tail)
-    log_is = e ∙ ap (λ v. v ++ tail) arrival.whole ∙ append_assoc arrival.first (note.Arrived p ∷ arrival.rest) tail
+    log_is : log ≡ arrival.first ++ Note.Arrived p ∷ (arrival.rest ++ tail)
+    log_is = e ∙ ap (λ v. v ++ tail) arrival.whole ∙ append_assoc arrival.first (Note.Arrived p ∷ arrival.rest) tail
 
     answered : AllAnswered (commands settle.front) arrival.first
     answered = (run_settles F f laws alloc c items is cs run_is).answered settle.front later settle.whole arrival.first (arrival.rest ++ tail) p has log_is
 
     answered_there : AllAnswered (commands settle.front) before
     answered_there = subst (AllAnswered (commands settle.front)) (sym arrival.whole)
-        (all_answered_more (commands settle.front) arrival.first (note.Arrived p ∷ arrival.rest) answered)
+        (all_answered_more (commands settle.front) arrival.first (Note.Arrived p ∷ arrival.rest) answered)
 
     not_begun : Each (λ x. is_begun x.op before ≡ false) (commands later)
     not_begun = all_each (λ x. is_begun x.op before ≡ false) (commands later) none
 
     -- a fact of each command, by whether it stands before the settle or after it
     each_command : (P : Command → Type 0) → Each P (commands settle.front) → Each P (commands later) → Each P (commands items)
-    each_command P a b = subst (λ xs. Each P xs) (sym (ap commands settle.whole ∙ commands-append settle.front (msg.InSettle ∷ later)))
+    each_command P a b = subst (λ xs. Each P xs) (sym (ap commands settle.whole ∙ commands-append settle.front (Msg.InSettle ∷ later)))
         (each-append P (commands settle.front) (commands later) a b)
 
     -- no move is under way
@@ -79,7 +75,7 @@ module _ (F : Type 0) {R : Type 0} (f : Semantics R) (laws : FunctionLaws f) (al
 
     not_moving : IsMoving items u before → ⊥
     not_moving m =
-        let it = found (λ x. is_busy x.op before ≡ false) m.op (order.Move m.source m.destination m.filter m.keep) (commands items) none_busy m.order in
+        let it = found (λ x. is_busy x.op before ≡ false) m.op (Order.Move m.source m.destination m.filter m.keep) (commands items) none_busy m.order in
         let never : false ≡ true = sym it.2 ∙ ap (λ k. is_busy k before) it.1 ∙ m.busy in
         cc
 
@@ -100,22 +96,22 @@ module _ (F : Type 0) {R : Type 0} (f : Semantics R) (laws : FunctionLaws f) (al
       there = installed_in before by.front by.op by.back by.whole
 
       -- it was installed before
-      had_before : (xs : List Note) → arrival.first ≡ there.first ++ note.Installed by.op ∷ xs → members c items u arrival.first ≡ Some ms
+      had_before : (xs : List Note) → arrival.first ≡ there.first ++ Note.Installed by.op ∷ xs → members c items u arrival.first ≡ Some ms
       had_before xs here =
           ap (members_after c.names (order_numbered items) u (first_owner u c.routes))
-          (ap installs_in here ∙ installed-append there.first (note.Installed by.op ∷ xs) ∙ ap (λ v. v ++ by.op ∷ installs_in xs) there.before)
+          (ap installs_in here ∙ installed-append there.first (Note.Installed by.op ∷ xs) ∙ ap (λ v. v ++ by.op ∷ installs_in xs) there.before)
           ∙ still_shared g u (first_owner u c.routes) by.op by.front (installs_in xs) ms by.unshared by.its
 
       -- for after an answer it would be installed twice
       not_behind : (xs : List Note) → there.first ≡ arrival.first ++ xs → ⊥
       not_behind xs from =
-          let tail_is : log ≡ there.first ++ note.Installed by.op ∷ (there.rest ++ tail) = e ∙ ap (λ v. v ++ tail) there.whole
-          ∙ append_assoc there.first (note.Installed by.op ∷ there.rest) tail in
+          let tail_is : log ≡ there.first ++ Note.Installed by.op ∷ (there.rest ++ tail) = e ∙ ap (λ v. v ++ tail) there.whole
+          ∙ append_assoc there.first (Note.Installed by.op ∷ there.rest) tail in
           let its : IsInstalledShare f c items there.first by.op ms by.its.filter = (says_of_shares F f laws alloc c items is cs run_is).installs
           there.first (there.rest ++ tail) by.op ms by.its.filter tail_is by.its.order_is in
           let began_so : is_begun by.op before ≡ true = ap (is_begun by.op) there.whole ∙ has_begun-append (λ k. k == by.op) there.first
-          (note.Installed by.op ∷ there.rest) ∙ or_left (is_begun by.op there.first) (is_begun by.op (note.Installed by.op ∷ there.rest)) its.begun in
-          let it = found (λ x. is_begun x.op before ≡ true → has_answered x.op arrival.first ≡ true) by.op (order.Share ms by.its.filter) (commands items)
+          (Note.Installed by.op ∷ there.rest) ∙ or_left (is_begun by.op there.first) (is_begun by.op (Note.Installed by.op ∷ there.rest)) its.begun in
+          let it = found (λ x. is_begun x.op before ≡ true → has_answered x.op arrival.first ≡ true) by.op (Order.Share ms by.its.filter) (commands items)
           begun_answered by.its.order_is in
           let on : has_answered by.op arrival.first ≡ true = ap (λ k. has_answered k arrival.first) (sym it.1)
           ∙ it.2 (ap (λ k. is_begun k before) it.1 ∙ began_so) in
@@ -130,9 +126,9 @@ module _ (F : Type 0) {R : Type 0} (f : Semantics R) (laws : FunctionLaws f) (al
 
       shared_then : members c items u arrival.first ≡ Some ms
       shared_then =
-          by_place (stands arrival.first (note.Arrived p ∷ arrival.rest) there.first (note.Installed by.op) there.rest (sym arrival.whole ∙ there.whole))
+          by_place (stands arrival.first (Note.Arrived p ∷ arrival.rest) there.first (Note.Installed by.op) there.rest (sym arrival.whole ∙ there.whole))
         where
-          by_place : Stands arrival.first (note.Arrived p ∷ arrival.rest) (record { before = there.first; item = note.Installed by.op; after = there.rest })
+          by_place : Stands arrival.first (Note.Arrived p ∷ arrival.rest) (record { before = there.first; item = Note.Installed by.op; after = there.rest })
               → members c items u arrival.first ≡ Some ms
           by_place (In_first xs here) = had_before xs here
           by_place (In_second xs from at) = absurd (not_behind xs from)

@@ -3,22 +3,18 @@
 use Rattle.nf_net.proofs.Words.{◌≡◌, ◌≢◌, ℕ, suc, ◌+◌, ◌^◌, ◌<◌, ◌≤◌, true, false, List, [], ◌∷◌, ◌++◌, length, length-append, get_or, refl, ap, ◌∙◌, arith}
 use Rattle.nf_net.proofs.Words.{if◌then◌else◌, ◌&&◌, ◌||◌, ◌==◌, not, nat_lt, Decides-ltb, cond-same, Semantics, Msg, Note, Target, rules_redirected, Packet}
 use Rattle.nf_net.proofs.Words.{instance_node, MOST_WAITING, SwitchState, switch_step, takes_in, Network, reaches, queue_at, at, EachSent, weigh, total}
-use Rattle.nf_net.proofs.Words.{sent_weight, Each, each_map, Rising, Node, Switch, is_begun, has_answered, commands, Given, Label}
+use Rattle.nf_net.proofs.Words.{sent_weight, Each, each_map, Rising, Node, Switch, is_begun, has_answered, commands, Given, Label, Mark}
 use Rattle.std.proofs.Common.{◌-◌}
 use Rattle.std.specs.Prelude.{min}
-use Rattle.nf_msgs.specs.declared.msg.Msg.TheVariants as msg
-use Rattle.nf_msgs.specs.declared.note.Note.TheVariants as note
-use Rattle.switch_rules.specs.declared.target.Target.TheVariants as target
 use Rattle.packet_pool.specs.Pool.{one_more as one_more_cell}
-use Rattle.event_filter.specs.declared.mark.Mark.TheVariants as mark
 use Rattle.switch_node.specs.Switch as switches
 use Rattle.nf_net.proofs.answers.AnswerSends.{answering}
 use Rattle.nf_net.proofs.answers.BusyController.{told_in}
 use Rattle.nf_net.proofs.answers.BusyLemmas.{is_noted, or_off}
 use Rattle.nf_net.proofs.answers.BusyRuns.{Busy, waits_of}
 use Rattle.nf_net.proofs.answers.LinePicks.{picked}
-use Rattle.nf_net.proofs.SettleCounts.{answered_in, AllAnswered, answered_in-append, answered_most, all_answered, none_answered_in}
-use Rattle.nf_net.proofs.SettleCounts.{low_commands, commands-append}
+use Rattle.nf_net.proofs.SettleCounts.{answered_in, AllAnswered, answered_in-append, answered_most, all_answered, none_answered_in, low_commands}
+use Rattle.nf_net.proofs.SettleCounts.{commands-append}
 
 abbrev pub switch_in : {F R : Type 0} → SwitchState → Node F R → SwitchState
 switch_in s (Switch t) = t
@@ -26,17 +22,17 @@ switch_in s d = s
 
 -- a command of the input counts
 abbrev pub asking : Msg → ℕ
-asking (msg.InCommand c) = 1
+asking (Msg.InCommand c) = 1
 asking m = 0
 
 module _ {R : Type 0} (f : Semantics R) (g : Given) where
   -- answers go from the controller to the switch
   no_answer_from : (k r : ℕ) (m : Msg) → k ≢ 1 → Label f g k r m → answering m ≡ 0
-  no_answer_from k r (msg.Answered op) other label = absurd (other label.0)
+  no_answer_from k r (Msg.Answered op) other label = absurd (other label.0)
   no_answer_from k r m other _ = refl
 
   pub no_answer_to : (p k : ℕ) (m : Msg) → 1 ≤ k → Label f g p k m → answering m ≡ 0
-  no_answer_to p k (msg.Answered op) some label = let none = label.1 in absurd (omega (arith, some, none))
+  no_answer_to p k (Msg.Answered op) some label = let none = label.1 in absurd (omega (arith, some, none))
   no_answer_to p k m some label = refl
 
   pub none_sent : (n k : ℕ) (sends : List (ℕ × Msg)) → k ≢ 1 → EachSent (Label f g) k sends → sent_weight answering n k sends ≡ 0
@@ -52,7 +48,7 @@ module _ {R : Type 0} (f : Semantics R) (g : Given) where
 
   -- a command comes from the input
   pub asked_there : (p k : ℕ) (m : Msg) → Label f g p k m → 1 ≤ asking m → (p ≡ 0) × (k ≡ 0)
-  asked_there p k (msg.InCommand c) label h = label.0
+  asked_there p k (Msg.InCommand c) label h = label.0
   asked_there p k m label h = absurd (omega (arith, h))
 
   -- the switch counts a command more, or one less where an answer comes
@@ -60,9 +56,9 @@ module _ {R : Type 0} (f : Semantics R) (g : Given) where
   Counts s less more did = did.node.waiting + less ≡ s.waiting + more
 
   goes_counts : (s : SwitchState) (q : Packet) (t : Target) → Counts s 0 0 (switches.goes_to s q t)
-  goes_counts s q target.Controller = refl
-  goes_counts s q (target.Instance i) = elim (nat_lt i s.instances)
-      as (λ b. Counts s 0 0 (if b then switches.arrival_step s q (instance_node i) (msg.Carry mark.Plain) else switches.still s)) [ true ↦ refl | false ↦ refl ]
+  goes_counts s q Target.Controller = refl
+  goes_counts s q (Target.Instance i) = elim (nat_lt i s.instances)
+      as (λ b. Counts s 0 0 (if b then switches.arrival_step s q (instance_node i) (Msg.Carry Mark.Plain) else switches.still s)) [ true ↦ refl | false ↦ refl ]
 
   sends_counts : (s : SwitchState) (i : ℕ) (m : Msg) → Counts s 0 0 (switches.sends_to_instance s i m)
   sends_counts s i m = elim (nat_lt i s.instances) as (λ b. Counts s 0 0 (if b then switches.sends_on s (instance_node i) m else switches.still s))
@@ -73,19 +69,19 @@ module _ {R : Type 0} (f : Semantics R) (g : Given) where
 
   pub switch_counts : (s : SwitchState) (m : Msg) → (1 ≤ asking m → takes_in s m ≡ true) → answering m ≤ s.waiting
       → Counts s (answering m) (asking m) (switch_step s m)
-  switch_counts s (msg.InPacket q) ready some = elim (switches.has_room s) as (λ b. Counts s 0 0
+  switch_counts s (Msg.InPacket q) ready some = elim (switches.has_room s) as (λ b. Counts s 0 0
       (if b then switches.goes_to s q (switches.target_of s q) else switches.still s)) [ true ↦ goes_counts s q (switches.target_of s q) | false ↦ refl ]
-  switch_counts s (msg.InCommand c) ready some = one_more s.waiting (ready (omega arith))
-  switch_counts s (msg.Forward to k cell) ready some = sends_counts s to (msg.Carry k cell)
-  switch_counts s (msg.Install op filter from to) ready some =
+  switch_counts s (Msg.InCommand c) ready some = one_more s.waiting (ready (omega arith))
+  switch_counts s (Msg.Forward to k cell) ready some = sends_counts s to (Msg.Carry k cell)
+  switch_counts s (Msg.Install op filter from to) ready some =
       elim (nat_lt from s.instances && switches.is_there s to) as (λ b. Counts s 0 0 (if b then record {
-        node = record s { rules = rules_redirected (record { filter = filter; from = target.Instance from; to = to }) s.rules };
-        sends = (instance_node from, msg.Fence op) ∷ [];
-        notes = note.Installed op ∷ [];
+        node = record s { rules = rules_redirected (record { filter = filter; from = Target.Instance from; to = to }) s.rules };
+        sends = (instance_node from, Msg.Fence op) ∷ [];
+        notes = Note.Installed op ∷ [];
       } else switches.still s)) [ true ↦ refl | false ↦ refl ]
-  switch_counts s (msg.FenceTo op to) ready some = sends_counts s to (msg.Fence op)
-  switch_counts s (msg.Answered op) ready some = omega (arith, some)
-  switch_counts s (msg.Credit cell) ready some = elim ((s.flying == 0) || not (cell.pool == s.pool.name)) as (λ b. Counts s 0 0
+  switch_counts s (Msg.FenceTo op to) ready some = sends_counts s to (Msg.Fence op)
+  switch_counts s (Msg.Answered op) ready some = omega (arith, some)
+  switch_counts s (Msg.Credit cell) ready some = elim ((s.flying == 0) || not (cell.pool == s.pool.name)) as (λ b. Counts s 0 0
       (if b then switches.still s else record { node = record s { pool = one_more_cell s.pool; flying = s.flying - 1 }; sends = []; notes = [] }))
       [ true ↦ refl | false ↦ refl ]
   switch_counts s m ready some = refl
@@ -100,7 +96,7 @@ pub record Counted (items : List Msg) {F R : Type 0} (w : Network (Node F R) Msg
   -- the commands that wait for their answer, and those in the input, are those that aren't answered
   pub balance : switch.waiting + answered_in (commands items) w.log + length (commands (queue_at w (at 0 0))) ≡ length (commands items) + total answering w
   -- what stands before a settle that was taken is answered
-  pub settled : (front behind : List Msg) → items ≡ front ++ msg.InSettle ∷ behind → length (queue_at w (at 0 0)) ≤ length behind
+  pub settled : (front behind : List Msg) → items ≡ front ++ Msg.InSettle ∷ behind → length (queue_at w (at 0 0)) ≤ length behind
       → AllAnswered (commands front) w.log
 
 -- numbers that rise are none below the first bound

@@ -1,16 +1,13 @@
 -- In every run, who owns a unit when a share that takes it begins owns it for good: no move that takes the unit is under way then, and none begins.
 use Rattle.nf_net.proofs.Words.{◌≡◌, ℕ, zero, suc, ◌+◌, Bool, true, false, Some, List, [], ◌∷◌, ◌++◌, length, refl, sym, ap, ◌∙◌, subst, append-nil, ◌||◌, ◌==◌}
 use Rattle.nf_net.proofs.Words.{list_any, option_map_or, Global, Filter, FunctionLaws, Semantics, takes, Msg, Note, instance_node, switch_step, controller_step}
-use Rattle.nf_net.proofs.Words.{Choice, Network, IsRun, run, world_next, Taking, taken_outcome, Each, each_found, OpLabel, NothingOf, found_each, Any, olds}
-use Rattle.nf_net.proofs.Words.{moves_of, Where, seeing, no_change, WhereAll, Apart_from_shares, Under_share, Config, Node, is_begun, IsInput, order_numbered}
-use Rattle.nf_net.proofs.Words.{before_begun, begin_in, installs_in, node_step, node_ready, first_owner, owner_after_order, owner_after, owner}
-use Rattle.nf_net.proofs.Words.{has_begun-append, installed-append, any_picked, before_kept, before_new, unit_fits, is_whole, takes_whole, takes_same, is_sys}
-use Rattle.nf_net.proofs.Words.{Both, both, its_takes, its_taken, Given, place, owner_next, S, A, Joined, came_by, Scene, IsTaken, node_of, scene, Wants}
-use Rattle.nf_net.proofs.Words.{node_leads, AllApart, installed_quiet, installed_none, instance_quiet, controller_uninstalled, Runs, run_beside, given, all_fit}
+use Rattle.nf_net.proofs.Words.{Choice, Network, IsRun, run, world_next, Each, each_found, OpLabel, NothingOf, found_each, Any, olds, moves_of, Where, seeing}
+use Rattle.nf_net.proofs.Words.{no_change, WhereAll, Apart_from_shares, Under_share, Config, Node, is_begun, IsInput, order_numbered, before_begun, begin_in}
+use Rattle.nf_net.proofs.Words.{installs_in, node_step, node_ready, first_owner, owner_after_order, owner_after, owner, has_begun-append, installed-append}
+use Rattle.nf_net.proofs.Words.{any_picked, before_kept, before_new, unit_fits, is_whole, takes_whole, takes_same, is_sys, Both, both, Given, place, owner_next}
+use Rattle.nf_net.proofs.Words.{S, A, Joined, came_by, Scene, IsTaken, node_of, scene, Wants, node_leads, AllApart, installed_quiet, installed_none}
+use Rattle.nf_net.proofs.Words.{instance_quiet, controller_uninstalled, Runs, given, all_fit, Unit, Order}
 use Rattle.std.specs.List.{position_or_len}
-use Rattle.nf_function.specs.declared.unit.Unit as units
-use Rattle.nf_msgs.specs.declared.command.Order.TheVariants as order
-use Rattle.nf_msgs.specs.declared.note.Note.TheVariants as note
 use Rattle.proof_machines.proofs.unit.Real as real
 use Rattle.proof_machines.proofs.net.GlobalAll.{Disjoint}
 use Rattle.proof_machines.proofs.net.Net as net
@@ -21,7 +18,7 @@ use Rattle.net_world.proofs.PickedLists.{before_all, front_picked}
 use Rattle.nf_net.proofs.answers.BusyRuns.{Busy}
 use Rattle.nf_net.proofs.answers.CommandPromises.{run_busy}
 use Rattle.nf_net.proofs.RuleSteps.{Changed, No_rule, Moves_on, Diverts, changed}
-use Rattle.nf_net.proofs.RunKeeps.{start, count, run_keeps}
+use Rattle.nf_net.proofs.RunKeeps.{start, count, log_keeps}
 use Rattle.nf_net.proofs.SourceSteps.{owner_stays}
 use Rattle.nf_net.proofs.UnitShares.{IsOpenShare, open_begun}
 
@@ -56,7 +53,7 @@ or_none false e = e
 -- A share that began, in a world of a run, and a unit that it takes.
 module _ {F R : Type 0} (f : Semantics R) (c : Config) (items : List Msg) (is : IsInput f.kind c items) (n : ℕ) (count_is : n ≡ length c.names + 2)
     (w : Network (Node F R) Msg Note) (j : Joined f (given f c items is) n w) (apart : AllApart j.nodes.controller.operations)
-    (b : Busy (given f c items is) w) (op : ℕ) (ms : List (List ℕ)) (filter : Filter) (what : order_numbered items op ≡ Some (order.Share ms filter))
+    (b : Busy (given f c items is) w) (op : ℕ) (ms : List (List ℕ)) (filter : Filter) (what : order_numbered items op ≡ Some (Order.Share ms filter))
     (begun : is_begun op w.log ≡ true) where
   abbrev g : Given
   g = given f c items is
@@ -67,7 +64,7 @@ module _ {F R : Type 0} (f : Semantics R) (c : Config) (items : List Msg) (is : 
   pub begun_seen : Both f (place g) g.site j.world.shares j.nodes.controller op begun_open.state
   begun_seen = both f (place g) g.site j.world.ops j.world.shares j.nodes.controller op begun_open.state j.shown_is.controller.opens begun_open.there
 
-  module _ (u : units.Unit) (fits : unit_fits f.kind u ≡ true) (takes_it : takes filter u ≡ true) where
+  module _ (u : Unit) (fits : unit_fits f.kind u ≡ true) (takes_it : takes filter u ≡ true) where
     pub begun_takes : (S f g).takes begun_seen.e.filter u ≡ true
     begun_takes = ap (λ x. takes_whole f.kind x.filter u) begun_seen.sees.is ∙ takes_same f.kind begun_open.state.plan.filter u
         (j.shown_is.controller.shared op begun_open.state begun_open.there).whole fits ∙ ap (λ q. takes q u) begun_open.filter_is ∙ takes_it
@@ -95,10 +92,10 @@ module _ {F R : Type 0} (f : Semantics R) (c : Config) (items : List Msg) (is : 
 module _ {R : Type 0} (f : Semantics R) (c : Config) (items : List Msg) where
   -- who owned a unit that a share takes when the share began owns it still
   abbrev pub OwnersStay : List Note → Type 0
-  OwnersStay log = (op : ℕ) (ms : List (List ℕ)) (filter : Filter) (u : units.Unit) → order_numbered items op ≡ Some (order.Share ms filter)
+  OwnersStay log = (op : ℕ) (ms : List (List ℕ)) (filter : Filter) (u : Unit) → order_numbered items op ≡ Some (Order.Share ms filter)
       → is_begun op log ≡ true → unit_fits f.kind u ≡ true → takes filter u ≡ true → owner c items u (before_begun op log) ≡ owner c items u log
 
-  abbrev by : units.Unit → List ℕ → ℕ
+  abbrev by : Unit → List ℕ → ℕ
   by u ops = owner_after c.names (order_numbered items) u (first_owner u c.routes) ops
 
   quiet_owners : (log notes : List Note) → installs_in notes ≡ [] → OwnersStay log → OwnersStay (log ++ notes)
@@ -126,13 +123,13 @@ module _ (F : Type 0) {R : Type 0} (f : Semantics R) (laws : FunctionLaws f) (al
     here = scene f gr n refl (Wants f gr) (node_leads f laws gr (all_fit f c items is) n) w r.joined
 
     -- a change of the rules that leaves such units with their owner
-    change_stays : (k : ℕ) → ((op : ℕ) (ms : List (List ℕ)) (filter : Filter) (u : units.Unit)
-        → order_numbered items op ≡ Some (order.Share ms filter) → is_begun op w.log ≡ true → unit_fits f.kind u ≡ true → takes filter u ≡ true
+    change_stays : (k : ℕ) → ((op : ℕ) (ms : List (List ℕ)) (filter : Filter) (u : Unit)
+        → order_numbered items op ≡ Some (Order.Share ms filter) → is_begun op w.log ≡ true → unit_fits f.kind u ≡ true → takes filter u ≡ true
         → owner_after_order c.names (order_numbered items) u (order_numbered items k) (owner c items u w.log) ≡ owner c items u w.log)
-        → OwnersStay f c items (w.log ++ note.Installed k ∷ [])
+        → OwnersStay f c items (w.log ++ Note.Installed k ∷ [])
     change_stays k stays op ms filter u what begun fits world_next =
-        let on : is_begun op w.log ≡ true = or_none (is_begun op w.log) (sym (has_begun-append (λ q. q == op) w.log (note.Installed k ∷ [])) ∙ begun) in
-        ap (owner c items u) (before_same op w.log (note.Installed k ∷ []) on)
+        let on : is_begun op w.log ≡ true = or_none (is_begun op w.log) (sym (has_begun-append (λ q. q == op) w.log (Note.Installed k ∷ [])) ∙ begun) in
+        ap (owner c items u) (before_same op w.log (Note.Installed k ∷ []) on)
         ∙ h op ms filter u what on fits world_next
         ∙ sym (stays op ms filter u what on fits world_next)
         ∙ sym (owner_next gr u w.log k)
@@ -142,8 +139,8 @@ module _ (F : Type 0) {R : Type 0} (f : Semantics R) (laws : FunctionLaws f) (al
     switch_stays p m it (No_rule none) = quiet_owners f c items w.log (switch_step r.joined.nodes.switch m).notes none h
     switch_stays p m it (Moves_on k flt from dst rest noted its whole waits) =
         subst (λ ns. OwnersStay f c items (w.log ++ ns)) (sym noted) (change_stays k (λ op ms filter u what on fits world_next.
-        let order_is : order_numbered items k ≡ Some (order.Move its.plan_is.source its.plan_is.destination flt its.plan.keep) = its.plan_is.order_is
-        ∙ ap (λ y. Some (order.Move its.plan_is.source its.plan_is.destination y its.plan.keep)) its.filter_is in
+        let order_is : order_numbered items k ≡ Some (Order.Move its.plan_is.source its.plan_is.destination flt its.plan.keep) = its.plan_is.order_is
+        ∙ ap (λ y. Some (Order.Move its.plan_is.source its.plan_is.destination y its.plan.keep)) its.filter_is in
         let off : takes flt u ≡ false = unmoved f c items is n refl w r.joined r.beside.kept.apart b op ms filter what on u fits world_next k flt
         (instance_node from) (instance_node dst) rest whole waits in
         rw (order_is, off) refl))
@@ -158,12 +155,6 @@ module _ (F : Type 0) {R : Type 0} (f : Semantics R) (laws : FunctionLaws f) (al
     step_stays (suc (suc y)) p m it = quiet_owners f c items w.log (node_step f (node_of r.joined.nodes (suc (suc y))) p m).notes
         (installed_quiet (r.joined.nodes.instance (suc (suc y))).index _ (instance_quiet f (r.joined.nodes.instance (suc (suc y))) m)) h
 
-    next_stays : (d : Choice) → Taking node_ready (node_step f) n w d → OwnersStay f c items (world_next (node_step f) w d).log
-    next_stays d t = subst (OwnersStay f c items) (sym (taken_outcome (node_step f) n w d.node d.port (node_of r.joined.nodes d.node) t.message t.rest
-        (its_takes f laws gr (all_fit f c items is) n refl w d t r.joined r.beside)).log)
-        (step_stays d.node d.port t.message (its_taken f laws gr (all_fit f c items is) n refl w d t r.joined r.beside))
-
   pub owners_stay : (cs : List Choice) → IsRun node_ready (node_step f) cs first → OwnersStay f c items (run (node_step f) cs first).log
-  owners_stay cs run_is = run_keeps F f laws alloc c items is (λ w. OwnersStay f c items w.log) (λ op ms filter u what begun fits world_next. cc)
-      (λ ds ok d t h. next_stays (run (node_step f) ds first) (run_beside F f laws alloc c items is ds ok) (run_busy F f laws alloc c items is ds ok).1 h d
-      t) cs run_is
+  owners_stay = log_keeps F f laws alloc c items is (OwnersStay f c items) (λ op ms filter u what begun fits world_next. cc) (λ ds ok d s h. step_stays
+      (run (node_step f) ds first) s.runs (run_busy F f laws alloc c items is ds ok).1 h d.node d.port s.taking.message s.taken)

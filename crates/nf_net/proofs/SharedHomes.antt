@@ -3,8 +3,7 @@ use Rattle.nf_net.proofs.Words.{◌≡◌, ℕ, ◌+◌, Bool, true, false, Some
 use Rattle.nf_net.proofs.Words.{and_parts, FunctionLaws, Semantics, takes, same_unit-true, Msg, Note, instance_node, Choice, Network, IsRun, run, shape}
 use Rattle.nf_net.proofs.Words.{unit_share, OpenShare, WantShare, Under, seeing, ItsShare, its_share, Config, Node, is_of, packet_numbered, IsInput, node_step}
 use Rattle.nf_net.proofs.Words.{node_ready, owner, members, member_for, unit_numbered, is_whole, unit_fits, is_sys, Given, S, A, Joined, AllApart, run_beside}
-use Rattle.nf_net.proofs.Words.{given}
-use Rattle.nf_function.specs.declared.unit.Unit as units
+use Rattle.nf_net.proofs.Words.{given, Unit}
 use Rattle.net_world.specs.Places.{goes_to}
 use Rattle.nf_net.proofs.answers.BusyRuns.{Busy}
 use Rattle.nf_net.proofs.answers.CommandPromises.{run_busy}
@@ -21,7 +20,7 @@ module _ {F R : Type 0} (f : Semantics R) (c : Config) (items : List Msg) (is : 
   abbrev g : Given
   g = given f c items is
 
-  module _ (u : units.Unit) (fits : unit_fits f.kind u ≡ true) (e : OpenShare) (its : ItsShare (S f g) (A f g) (is_sys f g.site g.packet) u j.world e) where
+  module _ (u : Unit) (fits : unit_fits f.kind u ≡ true) (e : OpenShare) (its : ItsShare (S f g) (A f g) (is_sys f g.site g.packet) u j.world e) where
     pub home_owns : IsThere (members c items u w.log) → e.home ≡ instance_node (owner c items u w.log)
     home_owns (There names shared) =
         let r = share_of_unit f c items is n count_is w j apart b u fits h names shared in
@@ -39,7 +38,7 @@ module _ {F R : Type 0} (f : Semantics R) (c : Config) (items : List Msg) (is : 
         ∙ member
 
   -- A unit under a share.
-  module _ (u : units.Unit) (x : WantShare) (before since : List ℕ) (k : Under (S f g) (A f g) (seeing (S f g) (A f g) u x) j.world before since) where
+  module _ (u : Unit) (x : WantShare) (before since : List ℕ) (k : Under (S f g) (A f g) (seeing (S f g) (A f g) u x) j.world before since) where
     abbrev diverts : Bool
     diverts = (shape (unit_share (S f g) (A f g) (seeing (S f g) (A f g) u x)) k.stage).diverts
 

@@ -3,48 +3,41 @@ use Rattle.nf_net.proofs.Words.{◌≡◌, ◌≢◌, ℕ, zero, suc, ◌<◌, B
 use Rattle.nf_net.proofs.Words.{append_assoc, append-nil, refl, sym, ap, ◌∙◌, subst, arith, ◌&&◌, ◌||◌, ◌==◌, not, Global, nat_cmp, nat_tests, Decides-eqb}
 use Rattle.nf_net.proofs.Words.{Decides-ltb, and_parts, Filter, Output, FunctionLaws, Semantics, Answer, Msg, Note, instance_node, switch_step, MoveState}
 use Rattle.nf_net.proofs.Words.{Operation, Move, Copy, Share, ControllerState, controller_step, opened_controller, place_of, Choice, Network, Stepped, IsRun}
-use Rattle.nf_net.proofs.Words.{reaches, run, world_next, at, Taking, Takes, taken_outcome, Config, Node, Controller, is_begun, has_answered, is_busy}
-use Rattle.nf_net.proofs.Words.{answers_of, times_begun, IsInput, order_numbered, node_step, node_ready, owner, owner_after_order, unit_numbered, begins_in}
-use Rattle.nf_net.proofs.Words.{answers_of-append, times_begun-append, counted_now, owner_next, known, its_takes, its_taken, Given, Label, IsTaken, Joined}
-use Rattle.nf_net.proofs.Words.{node_of, scene, Wants, node_leads, installed_none, Stands, In_first, In_second, stands, each_there, switch_unprocessed}
-use Rattle.nf_net.proofs.Words.{controller_uninstalled, uninstalled_unprocessed, Runs, run_beside, given, all_fit}
+use Rattle.nf_net.proofs.Words.{reaches, run, world_next, at, Takes, taken_outcome, Config, Node, Controller, is_begun, has_answered, is_busy, answers_of}
+use Rattle.nf_net.proofs.Words.{times_begun, IsInput, order_numbered, node_step, node_ready, owner, owner_after_order, unit_numbered, begins_in}
+use Rattle.nf_net.proofs.Words.{answers_of-append, times_begun-append, counted_now, owner_next, known, Given, Label, IsTaken, Joined, node_of, scene, Wants}
+use Rattle.nf_net.proofs.Words.{node_leads, installed_none, Stands, In_first, In_second, stands, each_there, switch_unprocessed, controller_uninstalled}
+use Rattle.nf_net.proofs.Words.{uninstalled_unprocessed, Runs, given, all_fit, Order, Done, nowhere}
 use Rattle.std.specs.FinMap as finite
 use Rattle.nf_function.specs.Units.{takes as takes_unit}
-use Rattle.nf_msgs.specs.declared.answer.Answer.TheVariants.{Done}
-use Rattle.nf_msgs.specs.declared.command.Order.TheVariants as order
-use Rattle.nf_msgs.specs.declared.note.Note.TheVariants as note
 use Rattle.net_world.specs.Refused.{moves_away, StaysAtSource}
 use Rattle.nf_net.proofs.answers.BusyLemmas.{AreOther, is_other, other_not_begun}
 use Rattle.nf_net.proofs.answers.BusyNodes.{switch_hands, instance_says}
 use Rattle.nf_net.proofs.answers.BusyRuns.{Busy, same_controller, busy_next}
 use Rattle.nf_net.proofs.answers.CommandPromises.{run_busy}
-use Rattle.nf_net.proofs.answers.ControllerActs.{IsEarly, Was, Was.Was_open, Was.Begins_now, SaysSo, SaysSo.Neither}
-use Rattle.nf_net.proofs.answers.ControllerActs.{SaysSo.Begins, SaysSo.Answers, Acts, controller_acts}
+use Rattle.nf_net.proofs.answers.ControllerActs.{IsEarly, Was, Was.Was_open, Was.Begins_now, SaysSo, SaysSo.Neither, SaysSo.Begins, SaysSo.Answers, Acts}
+use Rattle.nf_net.proofs.answers.ControllerActs.{controller_acts}
 use Rattle.nf_net.proofs.answers.InstallCounts.{passed}
 use Rattle.nf_net.proofs.answers.MovesUnderWay.{AreUnderWay, moves_under_way}
 use Rattle.nf_net.proofs.InstalledShares.{Alone, Is_it, alone}
 use Rattle.nf_net.proofs.NumberedUnits.{units_fit}
 use Rattle.nf_net.proofs.RuleSteps.{Changed, No_rule, Moves_on, Diverts, changed}
 use Rattle.nf_net.proofs.RunKeeps.{start, count, run_keeps}
-use Rattle.nf_net.proofs.SourceSteps.{Stays, Leaves, AreAt, Is_at, stays_more, owner_stays, quiet_leaves}
-use Rattle.nf_net.proofs.SourceSteps.{unprocessed_at, other_change, instance_leaves, began_there}
+use Rattle.nf_net.proofs.SourceSteps.{Stays, Leaves, AreAt, Is_at, stays_more, owner_stays, quiet_leaves, unprocessed_at, other_change, instance_leaves}
+use Rattle.nf_net.proofs.SourceSteps.{began_there}
 use Rattle.nf_net.proofs.answers.ToldCommands.{some_answers}
 
 -- a note of an answer is none of other things
-answered_not_other : (front back : List Note) (op : ℕ) (a : Answer) (notes : List Note) → AreOther notes → notes ≡ front ++ note.Answered op a ∷ back → ⊥
+answered_not_other : (front back : List Note) (op : ℕ) (a : Answer) (notes : List Note) → AreOther notes → notes ≡ front ++ Note.Answered op a ∷ back → ⊥
 answered_not_other front back op a notes h e =
-    let never : false ≡ true = each_there (λ n. is_other n ≡ true) front (note.Answered op a) back (subst AreOther e h) in cc
-
-none_there : {X Y : Type 0} (y : X) (front back : List X) → [] ≡ front ++ y ∷ back → Y
-none_there y [] back e = cc
-none_there y (z ∷ front) back e = cc
+    let never : false ≡ true = each_there (λ n. is_other n ≡ true) front (Note.Answered op a) back (subst AreOther e h) in cc
 
 abbrev answer_in : ℕ → Note → ℕ
-answer_in d (note.Answered op a) = op
+answer_in d (Note.Answered op a) = op
 answer_in d n = d
 
 abbrev answer_of_note : Answer → Note → Answer
-answer_of_note d (note.Answered op a) = a
+answer_of_note d (Note.Answered op a) = a
 answer_of_note d n = d
 
 module _ (F : Type 0) {R : Type 0} (f : Semantics R) (laws : FunctionLaws f) (alloc : Global) (c : Config) (items : List Msg)
@@ -77,26 +70,26 @@ module _ (F : Type 0) {R : Type 0} (f : Semantics R) (laws : FunctionLaws f) (al
 
   -- an answer to a move is new, or it stood there
   source_more : (log notes : List Note) → At_source log → ((op : ℕ) (a : Answer) (first between cs back : List Note)
-      → a ≢ Done → first ++ note.Begun op ∷ between ≡ log ++ cs → notes ≡ cs ++ note.Answered op a ∷ back
-      → (front behind : List Note) (number i : ℕ) (output : Output) → between ≡ front ++ note.Processed number i output ∷ behind
+      → a ≢ Done → first ++ Note.Begun op ∷ between ≡ log ++ cs → notes ≡ cs ++ Note.Answered op a ∷ back
+      → (front behind : List Note) (number i : ℕ) (output : Output) → between ≡ front ++ Note.Processed number i output ∷ behind
       → moves_away c (order_numbered items op) (unit_numbered c items f.kind number) (owner c items (unit_numbered c items f.kind number) first) ≡ true
       → i ≡ owner c items (unit_numbered c items f.kind number) first)
       → At_source (log ++ notes)
   source_more log notes old new op first between front behind number i output refused e away =
-      by_place (stands log notes (first ++ note.Begun op ∷ between) (note.Answered op refused.answer) refused.after
-      (refused.whole ∙ sym (append_assoc first (note.Begun op ∷ between) (note.Answered op refused.answer ∷ refused.after))))
+      by_place (stands log notes (first ++ Note.Begun op ∷ between) (Note.Answered op refused.answer) refused.after
+      (refused.whole ∙ sym (append_assoc first (Note.Begun op ∷ between) (Note.Answered op refused.answer ∷ refused.after))))
     where
-      by_place : Stands log notes (record { before = first ++ note.Begun op ∷ between; item = note.Answered op refused.answer; after = refused.after })
+      by_place : Stands log notes (record { before = first ++ Note.Begun op ∷ between; item = Note.Answered op refused.answer; after = refused.after })
           → i ≡ owner c items (unit_numbered c items f.kind number) first
       by_place (In_first cs here) = old op first between front behind number i output (record {
         answer = refused.answer;
         refused = refused.refused;
         after = cs;
-        whole = here ∙ append_assoc first (note.Begun op ∷ between) (note.Answered op refused.answer ∷ cs);
+        whole = here ∙ append_assoc first (Note.Begun op ∷ between) (Note.Answered op refused.answer ∷ cs);
       }) e away
       by_place (In_second cs from there) = new op refused.answer first between cs refused.after refused.refused from there front behind number i output e away
 
-  module _ (w : Network (Node F R) Msg Note) (r : Runs F f laws alloc c items is w) (b : Busy g w) (under : AreUnderWay f c items is n w r.joined)
+  module _ (w : Network (Node F R) Msg Note) (r : Runs F f laws alloc c items is w) (under : AreUnderWay f c items is n w r.joined)
       (h : Keeps w) where
     abbrev j : Joined f g n w
     j = r.joined
@@ -142,7 +135,7 @@ module _ (F : Type 0) {R : Type 0} (f : Semantics R) (laws : FunctionLaws f) (al
         let off = other_change f laws c items is n w j op x there early u fits owning owned k filter (instance_node from) (instance_node dst) rest whole
         waits in
         let plan = its.plan_is in
-        let order_is = plan.order_is ∙ ap (λ y. Some (order.Move plan.source plan.destination y its.plan.keep)) its.filter_is in
+        let order_is = plan.order_is ∙ ap (λ y. Some (Order.Move plan.source plan.destination y its.plan.keep)) its.filter_is in
         let handed : owner_after_order c.names (order_numbered items) u (order_numbered items k) (owner c items u w.log) ≡ owner c items u w.log =
         rw (order_is, off) refl in (
           ap (λ ns. owner c items u (w.log ++ ns)) noted ∙ owner_next g u w.log k ∙ handed ∙ owned,
@@ -185,22 +178,22 @@ module _ (F : Type 0) {R : Type 0} (f : Semantics R) (laws : FunctionLaws f) (al
       ] refl
 
       -- what begins now has nothing behind its begin
-      begins_now : (op : ℕ) (filter : Filter) (i : ℕ) → notes ≡ note.Begun op ∷ [] → Stays f c items op filter i (w.log ++ notes)
-      begins_now op filter i e first rest u whole fits world_next owned = by_place (stands w.log notes first (note.Begun op) rest whole)
+      begins_now : (op : ℕ) (filter : Filter) (i : ℕ) → notes ≡ Note.Begun op ∷ [] → Stays f c items op filter i (w.log ++ notes)
+      begins_now op filter i e first rest u whole fits world_next owned = by_place (stands w.log notes first (Note.Begun op) rest whole)
         where
-          by_place : Stands w.log notes (record { before = first; item = note.Begun op; after = rest })
+          by_place : Stands w.log notes (record { before = first; item = Note.Begun op; after = rest })
               → (owner c items u (w.log ++ notes) ≡ i) × AreAt f c items u i rest
           by_place (In_first cs here) =
               let once = (after.is.answered op).begun_once in
               let self : (op == op) ≡ true = grind (arith, nat_tests) in
-              let log = ap (times_begun op) (left ∙ ap (λ ns. w.log ++ ns) e) ∙ times_begun-append op w.log (note.Begun op ∷ []) in
-              let new : times_begun op (note.Begun op ∷ []) ≡ 1 = rw self refl in
-              let old = ap (times_begun op) here ∙ times_begun-append op first (note.Begun op ∷ cs) in
+              let log = ap (times_begun op) (left ∙ ap (λ ns. w.log ++ ns) e) ∙ times_begun-append op w.log (Note.Begun op ∷ []) in
+              let new : times_begun op (Note.Begun op ∷ []) ≡ 1 = rw self refl in
+              let old = ap (times_begun op) here ∙ times_begun-append op first (Note.Begun op ∷ cs) in
               let some = counted_now op (begins_in cs) in
               absurd (omega (arith, once, log, new, old, some))
-          by_place (In_second cs from there) = by_alone (alone (note.Begun op) (note.Begun op) cs rest (sym e ∙ there))
+          by_place (In_second cs from there) = by_alone (alone (Note.Begun op) (Note.Begun op) cs rest (sym e ∙ there))
             where
-              by_alone : Alone (note.Begun op) (note.Begun op) cs rest → (owner c items u (w.log ++ notes) ≡ i) × AreAt f c items u i rest
+              by_alone : Alone (Note.Begun op) (Note.Begun op) cs rest → (owner c items u (w.log ++ notes) ≡ i) × AreAt f c items u i rest
               by_alone (Is_it same front back) =
                   let at_first : first ≡ w.log = from ∙ ap (λ xs. w.log ++ xs) front ∙ append-nil w.log in (
                     owner_stays f c items u w.log notes (installed_none notes (controller_uninstalled t p m)) ∙ ap (owner c items u) (sym at_first) ∙ owned,
@@ -209,18 +202,18 @@ module _ (F : Type 0) {R : Type 0} (f : Semantics R) (laws : FunctionLaws f) (al
 
       -- what was refused stayed
       refused_now : (op : ℕ) (a : Answer) (first between cs back : List Note) → a ≢ Done
-          → first ++ note.Begun op ∷ between ≡ w.log ++ cs → notes ≡ cs ++ note.Answered op a ∷ back
-          → (front behind : List Note) (number i : ℕ) (output : Output) → between ≡ front ++ note.Processed number i output ∷ behind
+          → first ++ Note.Begun op ∷ between ≡ w.log ++ cs → notes ≡ cs ++ Note.Answered op a ∷ back
+          → (front behind : List Note) (number i : ℕ) (output : Output) → between ≡ front ++ Note.Processed number i output ∷ behind
           → moves_away c (order_numbered items op) (unit_numbered c items f.kind number) (owner c items (unit_numbered c items f.kind number) first) ≡ true
           → i ≡ owner c items (unit_numbered c items f.kind number) first
       refused_now op a first between cs back refused from there front behind number i output e away = by_says acts.says
         where
           -- the move was open, and early
-          was_open : (x : MoveState) → finite.get t.operations op ≡ Some (Move x) → passed x.phase ≡ 0 → w.log ≡ first ++ note.Begun op ∷ between
+          was_open : (x : MoveState) → finite.get t.operations op ≡ Some (Move x) → passed x.phase ≡ 0 → w.log ≡ first ++ Note.Begun op ∷ between
               → i ≡ owner c items (unit_numbered c items f.kind number) first
           was_open x got early whole =
               let of = under.plan_is op x got in
-              let order_is : order_numbered items op ≡ Some (order.Move of.source of.destination x.plan.filter x.plan.keep) = of.order_is in
+              let order_is : order_numbered items op ≡ Some (Order.Move of.source of.destination x.plan.filter x.plan.keep) = of.order_is in
               let from_is : place_of c.names of.source ≡ Some x.plan.from = of.from_is in
               let both : takes_unit x.plan.filter (unit_numbered c items f.kind number)
               && (owner c items (unit_numbered c items f.kind number) first == x.plan.from) ≡ true =
@@ -229,11 +222,11 @@ module _ (F : Type 0) {R : Type 0} (f : Semantics R) (laws : FunctionLaws f) (al
               (and_parts (takes_unit x.plan.filter (unit_numbered c items f.kind number)) _ both).1 in
               let stayed = kept op x got early first between (unit_numbered c items f.kind number) whole (units_fit f c items is number)
               (and_parts (takes_unit x.plan.filter (unit_numbered c items f.kind number)) _ both).0 owned in
-              each_there (Is_at f c items (unit_numbered c items f.kind number) x.plan.from) front (note.Processed number i output) behind
+              each_there (Is_at f c items (unit_numbered c items f.kind number) x.plan.from) front (Note.Processed number i output) behind
               (subst (λ ns. AreAt f c items (unit_numbered c items f.kind number) x.plan.from ns) e stayed.1) refl ∙ sym owned
 
           -- a command that isn't open would be answered twice
-          was_closed : finite.get t.operations op ≡ None → notes ≡ note.Answered op a ∷ [] → w.log ≡ first ++ note.Begun op ∷ between
+          was_closed : finite.get t.operations op ≡ None → notes ≡ Note.Answered op a ∷ [] → w.log ≡ first ++ Note.Begun op ∷ between
               → i ≡ owner c items (unit_numbered c items f.kind number) first
           was_closed none noted whole =
               let off : is_busy op w.log ≡ false = under.closed_busy op none in
@@ -241,9 +234,9 @@ module _ (F : Type 0) {R : Type 0} (f : Semantics R) (laws : FunctionLaws f) (al
               let answered : has_answered op w.log ≡ true =
               (let both : true && not (has_answered op w.log) ≡ false = rw on at off in answered_of (has_answered op w.log) both) in
               let self : (op == op) ≡ true = grind (arith, nat_tests) in
-              let one : length (answers_of op (note.Answered op a ∷ [])) ≡ 1 = rw self refl in
+              let one : length (answers_of op (Note.Answered op a ∷ [])) ≡ 1 = rw self refl in
               let all = ap (λ l. length (answers_of op l)) (left ∙ ap (λ ns. w.log ++ ns) noted) ∙ ap length
-              (answers_of-append op w.log (note.Answered op a ∷ [])) ∙ length-append (answers_of op w.log) (answers_of op (note.Answered op a ∷ [])) in
+              (answers_of-append op w.log (Note.Answered op a ∷ [])) ∙ length-append (answers_of op w.log) (answers_of op (Note.Answered op a ∷ [])) in
               let some = some_answers op w.log answered in
               let once = (after.is.answered op).answered_once in
               absurd (omega (arith, one, all, some, once))
@@ -252,30 +245,30 @@ module _ (F : Type 0) {R : Type 0} (f : Semantics R) (laws : FunctionLaws f) (al
               answered_of true h = refl
               answered_of false h = cc
 
-          by_got : (o : Option Operation) → finite.get t.operations op ≡ o → IsEarly o → notes ≡ note.Answered op a ∷ []
-              → w.log ≡ first ++ note.Begun op ∷ between → i ≡ owner c items (unit_numbered c items f.kind number) first
+          by_got : (o : Option Operation) → finite.get t.operations op ≡ o → IsEarly o → notes ≡ Note.Answered op a ∷ []
+              → w.log ≡ first ++ Note.Begun op ∷ between → i ≡ owner c items (unit_numbered c items f.kind number) first
           by_got None got early noted whole = was_closed got noted whole
           by_got (Some (Copy y)) got early noted whole = absurd early
           by_got (Some (Share s)) got early noted whole = absurd early
           by_got (Some (Move x)) got early noted whole = was_open x got early whole
 
-          by_alone : (k : ℕ) (d : Answer) → notes ≡ note.Answered k d ∷ [] → (d ≢ Done → IsEarly (finite.get t.operations k))
-              → Alone (note.Answered k d) (note.Answered op a) cs back → i ≡ owner c items (unit_numbered c items f.kind number) first
+          by_alone : (k : ℕ) (d : Answer) → notes ≡ Note.Answered k d ∷ [] → (d ≢ Done → IsEarly (finite.get t.operations k))
+              → Alone (Note.Answered k d) (Note.Answered op a) cs back → i ≡ owner c items (unit_numbered c items f.kind number) first
           by_alone k d noted early (Is_it same front none) =
               let op_is : k ≡ op = ap (answer_in 0) same in
               let a_is : d ≡ a = ap (answer_of_note Done) same in
-              let whole : w.log ≡ first ++ note.Begun op ∷ between = sym (from ∙ ap (λ xs. w.log ++ xs) front ∙ append-nil w.log) in
+              let whole : w.log ≡ first ++ Note.Begun op ∷ between = sym (from ∙ ap (λ xs. w.log ++ xs) front ∙ append-nil w.log) in
               by_got (finite.get t.operations op) refl (subst (λ q. IsEarly (finite.get t.operations q)) op_is
               (early (λ is_done. refused (sym a_is ∙ is_done)))) (noted ∙ ap (λ y. y ∷ []) same) whole
 
           by_says : SaysSo g n reach t (controller_step t p m) → i ≡ owner c items (unit_numbered c items f.kind number) first
-          by_says (Neither noted sent) = none_there (note.Answered op a) cs back (sym noted ∙ there)
-          by_says (Begins k noted sent closed) = not_both (alone (note.Begun k) (note.Answered op a) cs back (sym noted ∙ there))
+          by_says (Neither noted sent) = absurd (nowhere cs back (Note.Answered op a) (sym noted ∙ there))
+          by_says (Begins k noted sent closed) = not_both (alone (Note.Begun k) (Note.Answered op a) cs back (sym noted ∙ there))
             where
-              not_both : Alone (note.Begun k) (note.Answered op a) cs back → i ≡ owner c items (unit_numbered c items f.kind number) first
+              not_both : Alone (Note.Begun k) (Note.Answered op a) cs back → i ≡ owner c items (unit_numbered c items f.kind number) first
               not_both (Is_it same front none) = cc
           by_says (Answers k d what noted sent known early) =
-              by_alone k d noted early (alone (note.Answered k d) (note.Answered op a) cs back (sym noted ∙ there))
+              by_alone k d noted early (alone (Note.Answered k d) (Note.Answered op a) cs back (sym noted ∙ there))
 
       controller_keeps : Keeps (world_next step w (at 1 p))
       controller_keeps = record {
@@ -298,16 +291,12 @@ module _ (F : Type 0) {R : Type 0} (f : Semantics R) (laws : FunctionLaws f) (al
     keeps (suc (suc y)) p m rest takes it after = others_keep (suc (suc y)) p m rest takes (λ e. cc) (instance_says f g (suc (suc y))
         (j.nodes.instance (suc (suc y))) m).notes_are (λ op x there early. instance_leaves f laws c items is n w j op x there early y p m it)
 
-    next_keeps : (d : Choice) → Taking node_ready step n w d → Keeps (world_next step w d)
-    next_keeps d t = keeps d.node d.port t.message t.rest (its_takes f laws g (all_fit f c items is) n refl w d t j r.beside)
-        (its_taken f laws g (all_fit f c items is) n refl w d t j r.beside) (busy_next f g n refl w d t j b)
-
   start_keeps : Keeps at_start
   start_keeps = record {
     controller = opened_controller c.names c.site;
     controller_is = λ d. refl;
     stay = λ op m there early. (let never = sym there ∙ closed op in cc);
-    at_source = λ op first between before after number i output refused e away. none_there (note.Begun op) first _ refused.whole;
+    at_source = λ op first between before after number i output refused e away. absurd (nowhere first _ (Note.Begun op) refused.whole);
   }
     where
       closed : (op : ℕ) → finite.get (finite.empty {X = Operation} {R = nat_cmp}) op ≡ None
@@ -315,6 +304,6 @@ module _ (F : Type 0) {R : Type 0} (f : Semantics R) (laws : FunctionLaws f) (al
 
   -- of every run
   pub stays_at_source : (cs : List Choice) → IsRun node_ready step cs at_start → StaysAtSource c items f.kind (run step cs at_start).log
-  stays_at_source cs run_is = (run_keeps F f laws alloc c items is Keeps start_keeps (λ ds ok d t h. (let r = run_beside F f laws alloc c items is ds ok in
-      next_keeps (run step ds at_start) r (run_busy F f laws alloc c items is ds ok).1 (moves_under_way F f laws alloc c items is ds ok r.joined) h d t))
-      cs run_is).at_source
+  stays_at_source cs run_is = (run_keeps F f laws alloc c items is (λ _ w. Keeps w) start_keeps (λ ds ok d s h. keeps (run step ds at_start) s.runs
+      (moves_under_way F f laws alloc c items is ds ok s.runs.joined) h d.node d.port s.taking.message s.taking.rest s.takes s.taken
+      (busy_next f g n refl (run step ds at_start) d s.taking s.runs.joined (run_busy F f laws alloc c items is ds ok).1)) cs run_is).at_source

@@ -7,12 +7,9 @@ use Rattle.nf_net.proofs.Words.{head_none, Config, Node, is_begun, IsInput, orde
 use Rattle.nf_net.proofs.Words.{has_begun-append, Sees, is_whole, unit_fits, takes_whole, takes_same, Given, place, S, A, Scene, IsTaken, IsInstanceAt, Joined}
 use Rattle.nf_net.proofs.Words.{came_by, outline_phase, ran_in, is_sys, installed_same, installed_quiet, Stands, In_first, In_second, stands, IsQuiet}
 use Rattle.nf_net.proofs.Words.{instance_quiet, AreUnprocessed, RanAs, Seen, Unseen, ran_as, ran_any, given, all_fit, but_shares, move_apart, WhereAll}
-use Rattle.nf_net.proofs.Words.{Apart_from_shares, Under_share}
+use Rattle.nf_net.proofs.Words.{Apart_from_shares, Under_share, Unit, Answer}
 use Rattle.std.specs.FinMap as finite
 use Rattle.std.proofs.lemmas.List.{append_cancel_left}
-use Rattle.nf_function.specs.declared.unit.Unit as units
-use Rattle.nf_msgs.specs.declared.answer.Answer.TheVariants as answer
-use Rattle.nf_msgs.specs.declared.note.Note.TheVariants as note
 use Rattle.move_op.specs.Phases as phase
 use Rattle.actor_net.proofs.EnabledChoices.{at as at_node}
 use Rattle.proof_machines.proofs.unit.Real as real
@@ -32,59 +29,59 @@ each_by : {X : Type 0} (P : X → Type 0) (front xs whole : List X) → whole �
 each_by P front [] whole e all = tt
 each_by P front (x ∷ xs) whole e all = (all front xs x e, each_by P (front ++ x ∷ []) xs whole (e ∙ sym (append_assoc front (x ∷ []) xs)) all)
 
-pub began_there : (op : ℕ) (front back : List Note) → is_begun op (front ++ note.Begun op ∷ back) ≡ true
+pub began_there : (op : ℕ) (front back : List Note) → is_begun op (front ++ Note.Begun op ∷ back) ≡ true
 began_there op front back =
     let self : (op == op) ≡ true = grind (arith, nat_tests) in
-    has_begun-append (λ k. k == op) front (note.Begun op ∷ back) ∙ ap (λ b. is_begun op front || (b || is_begun op back)) self ∙ or-true (is_begun op front)
+    has_begun-append (λ k. k == op) front (Note.Begun op ∷ back) ∙ ap (λ b. is_begun op front || (b || is_begun op back)) self ∙ or-true (is_begun op front)
 
 -- a phase before the change of the rules, as the proof of moves sees it
 early_outline : {R : Type 0} (f : Semantics R) (place : List ℕ → Option ℕ) (ph : Phase) → passed ph ≡ 0 → is_early_real (outline_phase f place ph) ≡ true
 early_outline f place phase.Passing e = cc
 early_outline f place phase.Ending e = cc
-early_outline f place (phase.Over answer.Done) e = cc
+early_outline f place (phase.Over Answer.Done) e = cc
 early_outline f place ph e = refl
 
 module _ {R : Type 0} (f : Semantics R) (c : Config) (items : List Msg) where
   -- a packet of the unit was processed at the instance
-  abbrev pub Is_at : units.Unit → ℕ → Note → Type 0
-  Is_at u i (note.Processed number k output) = unit_numbered c items f.kind number ≡ u → k ≡ i
-  Is_at u i n = Unit {0}
+  abbrev pub Is_at : Unit → ℕ → Note → Type 0
+  Is_at u i (Note.Processed number k output) = unit_numbered c items f.kind number ≡ u → k ≡ i
+  Is_at u i n = Prim.Unit {0}
 
-  abbrev pub AreAt : units.Unit → ℕ → List Note → Type 0
+  abbrev pub AreAt : Unit → ℕ → List Note → Type 0
   AreAt u i notes = Each (Is_at u i) notes
 
-  pub unprocessed_at : (u : units.Unit) (i : ℕ) (notes : List Note) → AreUnprocessed notes → AreAt u i notes
+  pub unprocessed_at : (u : Unit) (i : ℕ) (notes : List Note) → AreUnprocessed notes → AreAt u i notes
   unprocessed_at u i [] h = tt
-  unprocessed_at u i (note.Processed number k output ∷ ns) h = let never = h.0 in cc
+  unprocessed_at u i (Note.Processed number k output ∷ ns) h = let never = h.0 in cc
   unprocessed_at u i (n ∷ ns) h = (tt, unprocessed_at u i ns h.1)
 
   -- since a command began, each unit that its filter takes and that this instance owned then is still the instance's
   abbrev pub Stays : ℕ → Filter → ℕ → List Note → Type 0
-  Stays op filter i log = (first rest : List Note) (u : units.Unit) → log ≡ first ++ note.Begun op ∷ rest → unit_fits f.kind u ≡ true
+  Stays op filter i log = (first rest : List Note) (u : Unit) → log ≡ first ++ Note.Begun op ∷ rest → unit_fits f.kind u ≡ true
       → takes filter u ≡ true → owner c items u first ≡ i → (owner c items u log ≡ i) × AreAt u i rest
 
   -- notes that leave such units there
   abbrev pub Leaves : Filter → ℕ → List Note → List Note → Type 0
-  Leaves filter i log notes = (u : units.Unit) → unit_fits f.kind u ≡ true → takes filter u ≡ true → owner c items u log ≡ i
+  Leaves filter i log notes = (u : Unit) → unit_fits f.kind u ≡ true → takes filter u ≡ true → owner c items u log ≡ i
       → (owner c items u (log ++ notes) ≡ i) × AreAt u i notes
 
   pub stays_more : (op : ℕ) (filter : Filter) (i : ℕ) (log notes : List Note) → Stays op filter i log → is_begun op notes ≡ false
       → Leaves filter i log notes → Stays op filter i (log ++ notes)
-  stays_more op filter i log notes h none leaves first rest u e fits taken owned = by_place (stands log notes first (note.Begun op) rest e)
+  stays_more op filter i log notes h none leaves first rest u e fits taken owned = by_place (stands log notes first (Note.Begun op) rest e)
     where
-      by_place : Stands log notes (record { before = first; item = note.Begun op; after = rest }) → (owner c items u (log ++ notes) ≡ i) × AreAt u i rest
+      by_place : Stands log notes (record { before = first; item = Note.Begun op; after = rest }) → (owner c items u (log ++ notes) ≡ i) × AreAt u i rest
       by_place (In_first cs here) =
           let old = h first cs u here fits taken owned in
           let new = leaves u fits taken old.0 in
-          let both : first ++ (note.Begun op ∷ (cs ++ notes)) ≡ first ++ (note.Begun op ∷ rest) =
-          sym (ap (λ l. l ++ notes) here ∙ append_assoc first (note.Begun op ∷ cs) notes) ∙ e in
-          let tail = append_cancel_left first (note.Begun op ∷ (cs ++ notes)) (note.Begun op ∷ rest) both in
+          let both : first ++ (Note.Begun op ∷ (cs ++ notes)) ≡ first ++ (Note.Begun op ∷ rest) =
+          sym (ap (λ l. l ++ notes) here ∙ append_assoc first (Note.Begun op ∷ cs) notes) ∙ e in
+          let tail = append_cancel_left first (Note.Begun op ∷ (cs ++ notes)) (Note.Begun op ∷ rest) both in
           let same : cs ++ notes ≡ rest = cc in
           (new.0, subst (λ ns. AreAt u i ns) same (each-append (Is_at u i) cs notes old.1 new.1))
       by_place (In_second cs from there) = let never : true ≡ false = sym (began_there op cs rest) ∙ ap (is_begun op) (sym there) ∙ none in cc
 
   -- notes of no change of the rules leave the owner
-  pub owner_stays : (u : units.Unit) (log notes : List Note) → installs_in notes ≡ [] → owner c items u (log ++ notes) ≡ owner c items u log
+  pub owner_stays : (u : Unit) (log notes : List Note) → installs_in notes ≡ [] → owner c items u (log ++ notes) ≡ owner c items u log
   owner_stays u log notes none = ap (owner_after c.names (order_numbered items) u (first_owner u c.routes)) (installed_same log notes none)
 
   pub quiet_leaves : (filter : Filter) (i : ℕ) (log notes : List Note) → installs_in notes ≡ [] → AreUnprocessed notes → Leaves filter i log notes
@@ -119,7 +116,7 @@ module _ {F R : Type 0} (f : Semantics R) (laws : FunctionLaws f) (c : Config) (
     whole : is_whole f.kind m.plan.filter ≡ true
     whole = (j.shown_is.controller.moves op m there).whole
 
-    module _ (u : units.Unit) (fits : unit_fits f.kind u ≡ true) (taken : takes m.plan.filter u ≡ true) (owned : owner c items u w.log ≡ m.plan.from) where
+    module _ (u : Unit) (fits : unit_fits f.kind u ≡ true) (taken : takes m.plan.filter u ≡ true) (owned : owner c items u w.log ≡ m.plan.from) where
       takes_it : takes_whole f.kind is_open.e.filter u ≡ true
       takes_it = ap (λ x. takes_whole f.kind x u) is_open.sees.filter ∙ takes_same f.kind m.plan.filter u whole fits ∙ taken
 
@@ -162,7 +159,7 @@ module _ {F R : Type 0} (f : Semantics R) (laws : FunctionLaws f) (c : Config) (
         not_input : (p == 0) && (k == 0) ≡ false
         not_input = grind (arith, nat_tests)
 
-        module _ (before after : List Note) (number i : ℕ) (output : Output) (e : notes ≡ before ++ note.Processed number i output ∷ after)
+        module _ (before after : List Note) (number i : ℕ) (output : Output) (e : notes ≡ before ++ Note.Processed number i output ∷ after)
             (mine : (S f g).packet_unit number ≡ u) where
           stood : RanThere (filter_map ran_in notes) number
           stood = subst (λ ns. RanThere (filter_map ran_in ns) number) (sym e) (ran_there before number i output after)
@@ -196,7 +193,7 @@ module _ {F R : Type 0} (f : Semantics R) (laws : FunctionLaws f) (c : Config) (
               (ran ∙ ap (λ x. ran_any f g x own.table.standby a) at.outline_is ∙ ap (λ t. ran_any f g (j.world.inst k) t a) at.standby_is)
 
         one_at : (before after : List Note) (x : Note) → notes ≡ before ++ x ∷ after → Is_at f c items u m.plan.from x
-        one_at before after (note.Processed number i output) e = λ mine.
+        one_at before after (Note.Processed number i output) e = λ mine.
             let quiet = each_there_is before after number i output e in
             let node = node_is before after number i output e mine
             (ran_as f laws g (all_fit f c items is) k own j.world (omega arith) at p y message is_taken.label) in
@@ -204,11 +201,11 @@ module _ {F R : Type 0} (f : Semantics R) (laws : FunctionLaws f) (c : Config) (
             let index = at.number in
             omega (arith, quiet, node, source, index)
           where
-            each_there_is : (before after : List Note) (number i : ℕ) (output : Output) → notes ≡ before ++ note.Processed number i output ∷ after
+            each_there_is : (before after : List Note) (number i : ℕ) (output : Output) → notes ≡ before ++ Note.Processed number i output ∷ after
                 → i ≡ own.index
             each_there_is before after number i output e = quiet_there before (subst (λ ns. Each (IsQuiet own.index) ns) e (instance_quiet f own message))
               where
-                quiet_there : (xs : List Note) → Each (IsQuiet own.index) (xs ++ note.Processed number i output ∷ after) → i ≡ own.index
+                quiet_there : (xs : List Note) → Each (IsQuiet own.index) (xs ++ Note.Processed number i output ∷ after) → i ≡ own.index
                 quiet_there [] h = h.0
                 quiet_there (x ∷ xs) h = quiet_there xs h.1
         one_at before after x e = tt

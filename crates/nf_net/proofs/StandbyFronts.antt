@@ -4,15 +4,13 @@ use Rattle.nf_net.proofs.Words.{◌≡◌, ℕ, ◌<◌, ◌≤◌, true, false,
 use Rattle.nf_net.proofs.Words.{nat_lt, slice_get, nat_tests, slice_get-get_or, slice_get_past, Semantics, kept_after, is_transport, Msg, Note, instance_node}
 use Rattle.nf_net.proofs.Words.{Network, Ran, done_u, ran_of, packets_done, live_front, fold_packets, Sees_more, Config, Node, packet_numbered, IsInput}
 use Rattle.nf_net.proofs.Words.{dones_in, IsFront, processed_of, live_in, live_at, standby_in, standby_at, done-append, is_sys, Given, S, A, by_node, came_by}
-use Rattle.nf_net.proofs.Words.{Scene, AreShown, IsInstanceAt, Joined, went_same, given}
+use Rattle.nf_net.proofs.Words.{Scene, AreShown, IsInstanceAt, Joined, went_same, given, Unit, Instance}
 use Rattle.std.specs.FinMap as finite
-use Rattle.nf_function.specs.declared.unit.Unit as units
 use Rattle.proof_machines.proofs.share.Share as share
 use Rattle.proof_machines.proofs.share.Stages as stages
 use Rattle.proof_machines.proofs.share.Stages.{packets}
 use Rattle.proof_machines.proofs.whole.FrontPackets.{front_packets}
 use Rattle.proof_machines.proofs.whole.Fronts.{FrontOf}
-use Rattle.net_world.specs.declared.node.Node.TheVariants.{Instance}
 use Rattle.net_world.specs.Fold.{fold}
 use Rattle.nf_net.proofs.paths.RecordPromises.{instance_of}
 use Rattle.nf_net.proofs.FoldLemmas.{fold_is}
@@ -48,11 +46,11 @@ module _ {R : Type 0} (f : Semantics R) (c : Config) (items : List Msg) where
   sees_same all kept h = record { before = h.front; since = h.front; old_is = h.folds; new_is = h.folds; behind = front_same h.front; within = h.is_front }
 
   -- what was processed of a unit goes on with the log
-  pub went_more : (u : units.Unit) (log notes : List Note)
+  pub went_more : (u : Unit) (log notes : List Note)
       → processed_of f c items u (log ++ notes) ≡ processed_of f c items u log ++ processed_of f c items u notes
   went_more u log notes = ap (numbers f c items u) (done-append log notes) ∙ numbers-append f c items u (dones_in log) (dones_in notes)
 
-  pub later : (u : units.Unit) (log notes : List Note) (kept : Option R) → IsOfFront (processed_of f c items u log) kept
+  pub later : (u : Unit) (log notes : List Note) (kept : Option R) → IsOfFront (processed_of f c items u log) kept
       → IsOfFront (processed_of f c items u (log ++ notes)) kept
   later u log notes kept h =
       subst (λ all. IsOfFront all kept) (sym (went_more u log notes)) (of_front_more (processed_of f c items u log) (processed_of f c items u notes) kept h)
@@ -86,7 +84,7 @@ module _ {R : Type 0} (f : Semantics R) (c : Config) (items : List Msg) (is : Is
   to_kept : (seen : List Ran) (r : Option R) → r ≡ share.runs (S f g).F None seen → fold f c items None (packets seen) ≡ r
   to_kept seen r h = fold_is f c items is None (packets seen) ∙ sym (fold_packets (S f g).F None seen) ∙ sym h
 
-  module _ (u : units.Unit) (log : List Note) (ds : List (ℕ × ℕ)) (at : ds ≡ by_node f g (dones_in log)) where
+  module _ (u : Unit) (log : List Note) (ds : List (ℕ × ℕ)) (at : ds ≡ by_node f g (dones_in log)) where
     went_is : packets (ran_of (S f g) (A f g) u ds) ≡ processed_of f c items u log
     went_is = packets_done (S f g) (A f g) u ds ∙ ap (done_u (S f g) u) at ∙ went_same f c items is u (dones_in log)
 
@@ -110,14 +108,14 @@ module _ {R : Type 0} (f : Semantics R) (c : Config) (items : List Msg) (is : Is
 
   module _ {F : Type 0} (n : ℕ) where
     -- what stands by at an instance
-    pub instance_front : (x : Scene F f g) → AreShown f g n x → (k : ℕ) → IsInstanceAt f g k (x.nodes.instance k) x.world → (u : units.Unit)
+    pub instance_front : (x : Scene F f g) → AreShown f g n x → (k : ℕ) → IsInstanceAt f g k (x.nodes.instance k) x.world → (u : Unit)
         → IsOfFront f c items (processed_of f c items u x.log) (finite.get (x.nodes.instance k).table.standby u)
     instance_front x are k at u = of_front u x.log x.world.done are.done_is (finite.get (x.nodes.instance k).table.standby u)
         (subst (λ o. FrontOf (S f g) (A f g) (is_sys f g.site g.packet) u (ran_of (S f g) (A f g) u x.world.done) o)
         (sym (ap (λ t. finite.get t u) at.standby_is)) ((are.every.fronts u).standby k))
 
     -- and what is live there
-    live_front_at : (x : Scene F f g) → AreShown f g n x → (k : ℕ) → IsInstanceAt f g k (x.nodes.instance k) x.world → (u : units.Unit)
+    live_front_at : (x : Scene F f g) → AreShown f g n x → (k : ℕ) → IsInstanceAt f g k (x.nodes.instance k) x.world → (u : Unit)
         → IsOfFront f c items (processed_of f c items u x.log) (finite.get (x.nodes.instance k).table.live u)
     live_front_at x are k at u = of_front u x.log x.world.done are.done_is (finite.get (x.nodes.instance k).table.live u)
         (subst (λ o. FrontOf (S f g) (A f g) (is_sys f g.site g.packet) u (ran_of (S f g) (A f g) u x.world.done) o) (sym (ap (λ y. finite.get y.live u)
@@ -140,10 +138,10 @@ module _ {R : Type 0} (f : Semantics R) (c : Config) (items : List Msg) (is : Is
             subst P (sym (slice_get_past w.nodes (instance_node i) past)) none
       ] refl
 
-      pub stands_front : (i : ℕ) (u : units.Unit) → IsOfFront f c items (processed_of f c items u w.log) (standby_at w i u)
+      pub stands_front : (i : ℕ) (u : Unit) → IsOfFront f c items (processed_of f c items u w.log) (standby_at w i u)
       stands_front i u = at_place i (λ o. IsOfFront f c items (processed_of f c items u w.log) (standby_in u o))
           (none_of_front f c items (processed_of f c items u w.log)) (λ k two few. instance_front _ j.shown_is k (j.shown_is.instances k two few) u)
 
-      pub lives_front : (i : ℕ) (u : units.Unit) → IsOfFront f c items (processed_of f c items u w.log) (live_at w i u)
+      pub lives_front : (i : ℕ) (u : Unit) → IsOfFront f c items (processed_of f c items u w.log) (live_at w i u)
       lives_front i u = at_place i (λ o. IsOfFront f c items (processed_of f c items u w.log) (live_in u o))
           (none_of_front f c items (processed_of f c items u w.log)) (λ k two few. live_front_at _ j.shown_is k (j.shown_is.instances k two few) u)

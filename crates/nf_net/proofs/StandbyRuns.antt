@@ -1,16 +1,15 @@
 -- In every run each record that stands by is that of a front of what was processed of its unit, and the front never gets shorter.
 use Rattle.nf_net.proofs.Words.{◌≡◌, ℕ, ◌+◌, ◌≤◌, ◌⊎◌, inl, inr, List, [], ◌∷◌, ◌++◌, length, length-append, refl, sym, ap, ◌∙◌, subst, arith, Global}
-use Rattle.nf_net.proofs.Words.{FunctionLaws, Semantics, Msg, Note, Choice, Network, Stepped, IsRun, run, world_next, Taking, NextChoice, run_induction}
-use Rattle.nf_net.proofs.Words.{run_world, run_more, Takes, taken_outcome, Config, Node, most_counted, IsInput, course_of, job_of, node_step, node_ready}
-use Rattle.nf_net.proofs.Words.{IsFront, processed_of, StandsBy, started_with, its_takes, node_of, start_world, given, all_fit, count_at_start}
-use Rattle.nf_function.specs.declared.unit.Unit as units
-use Rattle.nf_net.specs.Promises.{Standbys}
+use Rattle.nf_net.proofs.Words.{FunctionLaws, Semantics, Msg, Note, Choice, Network, Stepped, IsRun, run, world_next, run_more, Config, Node, most_counted}
+use Rattle.nf_net.proofs.Words.{IsInput, course_of, job_of, node_step, node_ready, IsFront, processed_of, StandsBy, started_with, node_of, Unit, Standbys}
+use Rattle.nf_net.proofs.Words.{run_beside}
 use Rattle.nf_net.proofs.CopyRuns.{run_copying}
 use Rattle.nf_net.proofs.CountedRoom.{room}
-use Rattle.nf_net.proofs.answers.ArrivalLemmas.{InRun, next_in_run, start_in_run}
+use Rattle.nf_net.proofs.answers.ArrivalLemmas.{next_in_run, runs_joined}
 use Rattle.nf_net.proofs.FrontLemmas.{front_same, front_trans, front_more, one_front}
 use Rattle.nf_net.proofs.StandbyFronts.{went_more, stands_front, still_some}
 use Rattle.nf_net.proofs.StandbySteps.{GoesOn, goes_on}
+use Rattle.nf_net.proofs.RunKeeps.{RunStep, run_keeps, after_world}
 
 -- what begins a list with one more element: all of it, or what begins the list
 fronts_of_more : {X : Type 0} (before after xs : List X) (x : X) → before ++ after ≡ xs ++ x ∷ []
@@ -37,21 +36,21 @@ module _ (F : Type 0) {R : Type 0} (f : Semantics R) (laws : FunctionLaws f) (al
   abbrev step : Node F R → ℕ → Msg → Stepped (Node F R) Msg Note
   step = node_step f
 
-  abbrev Stood : Network (Node F R) Msg Note → ℕ → units.Unit → Type 0
+  abbrev Stood : Network (Node F R) Msg Note → ℕ → Unit → Type 0
   Stood = StandsBy (job_of f c items)
 
   -- a record stands by in this world, and its front goes on from an earlier one
-  abbrev NoShorter : Network (Node F R) Msg Note → ℕ → units.Unit → (earlier : List ℕ) → Type 0
+  abbrev NoShorter : Network (Node F R) Msg Note → ℕ → Unit → (earlier : List ℕ) → Type 0
   NoShorter w i u earlier = (now : Stood w i u) × IsFront earlier now.front
 
   abbrev NeverBack : List Choice → Network (Node F R) Msg Note → Type 0
-  NeverBack cs w = (before later : List Choice) (i : ℕ) (u : units.Unit) (earlier : Stood (run step before start) i u) → before ++ later ≡ cs
+  NeverBack cs w = (before later : List Choice) (i : ℕ) (u : Unit) (earlier : Stood (run step before start) i u) → before ++ later ≡ cs
       → NoShorter w i u earlier.front
 
   -- one choice further
   behind_next : (w v : Network (Node F R) Msg Note) (notes : List Note) → v.log ≡ w.log ++ notes
-      → ((u : units.Unit) → length (processed_of f c items u v.log) ≤ most_counted) → GoesOn F f laws c items is w v
-      → (i : ℕ) (u : units.Unit) (earlier : List ℕ) → NoShorter w i u earlier → NoShorter v i u earlier
+      → ((u : Unit) → length (processed_of f c items u v.log) ≤ most_counted) → GoesOn F f laws c items is w v
+      → (i : ℕ) (u : Unit) (earlier : List ℕ) → NoShorter w i u earlier → NoShorter v i u earlier
   behind_next w v notes log few goes i u earlier h =
       let it = goes i u in
       let all = processed_of f c items u v.log in
@@ -65,65 +64,48 @@ module _ (F : Type 0) {R : Type 0} (f : Semantics R) (laws : FunctionLaws f) (al
         front_trans earlier h.0.front it.since h.1 further,
       )
 
-  -- what holds of the choices so far and the world
-  pub record Standing (cs : List Choice) (w : Network (Node F R) Msg Note) : Type 0 where
-    pub in_run : InRun F f laws alloc c items is w
-    pub never_back : NeverBack cs w
-
-  itself : (w : Network (Node F R) Msg Note) (i : ℕ) (u : units.Unit) (earlier : Stood w i u) → NoShorter w i u earlier.front
+  itself : (w : Network (Node F R) Msg Note) (i : ℕ) (u : Unit) (earlier : Stood w i u) → NoShorter w i u earlier.front
   itself w i u earlier = (earlier, front_same earlier.front)
 
   -- also where the world is an equal one
-  still : (w : Network (Node F R) Msg Note) (i : ℕ) (u : units.Unit) (v : Network (Node F R) Msg Note) → v ≡ w → (earlier : Stood v i u)
+  still : (w : Network (Node F R) Msg Note) (i : ℕ) (u : Unit) (v : Network (Node F R) Msg Note) → v ≡ w → (earlier : Stood v i u)
       → NoShorter w i u earlier.front
   still w i u v same earlier = subst (λ x. NoShorter x i u earlier.front) same (itself v i u earlier)
 
-  start_standing : Standing [] start
-  start_standing = record { in_run = start_in_run F f laws alloc c items is; never_back = never }
+  -- a choice that is taken
+  module _ (cs : List Choice) (ok : IsRun node_ready step cs start) (d : Choice) (s : RunStep F f laws alloc c items is (run step cs start) d) where
+    abbrev w : Network (Node F R) Msg Note
+    w = run step cs start
+
+    abbrev v : Network (Node F R) Msg Note
+    v = world_next step w d
+
+    few : (u : Unit) → length (processed_of f c items u v.log) ≤ most_counted
+    few = room F f laws alloc c items is v (next_in_run F f laws alloc c items is w d s (runs_joined F f laws alloc c items is cs ok).in_turn)
+
+    next_stands : NeverBack cs w → NeverBack (cs ++ d ∷ []) v
+    next_stands h before later i u earlier whole = elim (fronts_of_more before later cs d whole) as (λ _. NoShorter v i u earlier.front) [
+      | inl all ↦ still v i u (run step before start) (ap (λ xs. run step xs start) all ∙ sym (run_more step cs d start w refl)) earlier
+      | inr part ↦ behind_next w v (step (node_of s.runs.joined.nodes d.node) d.port s.taking.message).notes s.log few
+          (goes_on F f laws c items is w d s.taking s.runs.joined s.runs.beside few) i u earlier.front (h before part.0 i u earlier part.1)
+    ]
+
+  never_back : (cs : List Choice) → IsRun node_ready step cs start → NeverBack cs (run step cs start)
+  never_back = run_keeps F f laws alloc c items is NeverBack never next_stands
     where
       never : NeverBack [] start
       never [] later i u earlier e = itself start i u earlier
       never (b ∷ before) later i u earlier e = cc
 
-  -- a choice that is taken
-  standing_next : (cs : List Choice) (w : Network (Node F R) Msg Note) (d : Choice) → NextChoice node_ready step n start cs w d → Standing cs w
-      → Standing (cs ++ d ∷ []) (world_next step w d)
-  standing_next cs w d next h = record { in_run = since; never_back = never }
-    where
-      t : Taking node_ready step n w d
-      t = next.taking
-
-      since : InRun F f laws alloc c items is (world_next step w d)
-      since = next_in_run F f laws alloc c items is w d t h.in_run
-
-      takes : Takes step n w d.node d.port (node_of h.in_run.joined.nodes d.node) t.message t.rest
-      takes = its_takes f laws (given f c items is) (all_fit f c items is) n refl w d t h.in_run.joined h.in_run.beside
-
-      goes : GoesOn F f laws c items is w (world_next step w d)
-      goes = goes_on F f laws c items is w d t h.in_run.joined h.in_run.beside (room F f laws alloc c items is (world_next step w d) since)
-
-      never : NeverBack (cs ++ d ∷ []) (world_next step w d)
-      never before later i u earlier whole = elim (fronts_of_more before later cs d whole) as (λ _. NoShorter (world_next step w d) i u earlier.front) [
-        | inl all ↦ still (world_next step w d) i u (run step before start)
-            (ap (λ xs. run step xs start) all ∙ sym (run_more step cs d start w next.reached)) earlier
-        | inr part ↦ behind_next w (world_next step w d) (step (node_of h.in_run.joined.nodes d.node) d.port t.message).notes
-            (taken_outcome step n w d.node d.port (node_of h.in_run.joined.nodes d.node) t.message t.rest takes).log
-            (room F f laws alloc c items is (world_next step w d) since) goes i u earlier.front (h.never_back before part.0 i u earlier part.1)
-      ]
-
-  run_standing : (cs : List Choice) → IsRun node_ready step cs start → Standing cs (run step cs start)
-  run_standing cs run_is = run_induction node_ready step n (λ ds w. Standing ds w) start (λ ds w d next h. standing_next ds w d next h)
-      (start_world F f laws alloc c items is) (count_at_start F f alloc c items is) start_standing cs run_is
-
   -- so every run keeps what is promised of the records that stand by
   pub standbys : (cs : List Choice) → IsRun node_ready step cs start → Standbys (job_of f c items) (course_of start cs)
   standbys cs run_is =
-      let h = run_standing cs run_is in
-      let reached = run_world node_ready step n start (start_world F f laws alloc c items is) (count_at_start F f alloc c items is) cs run_is in
+      let h = never_back cs run_is in
       record {
-        fronts = λ i u kept there. (let it = stands_front f c items is n (run step cs start) reached.1 h.in_run.joined i u in
+        fronts = λ i u kept there. (let it = stands_front f c items is n (run step cs start)
+            (after_world F f laws alloc c items is cs run_is).1 (run_beside F f laws alloc c items is cs run_is).joined i u in
             record { front = it.front; kept = kept; there = there; is_front = it.is_front; folds = it.folds ∙ there });
-        never_back = h.never_back;
+        never_back = h;
         copied = λ copy of done. (let it = (run_copying F f laws alloc c items is cs run_is).found copy of done in record {
           before = it.by.before;
           later = it.by.later;
@@ -131,7 +113,7 @@ module _ (F : Type 0) {R : Type 0} (f : Semantics R) (laws : FunctionLaws f) (al
           to_give = it.by.to_give;
           gave = it.by.gave;
           stands = λ u kept world_next live. (let stood = it.stood u kept world_next live in
-              let now = h.never_back it.until it.since copy.destination u stood.0 it.whole in
+              let now = h it.until it.since copy.destination u stood.0 it.whole in
               (now.0, front_trans _ stood.0.front now.0.front stood.1 now.1));
         });
       }

@@ -6,17 +6,13 @@ use Rattle.nf_net.proofs.Words.{instance_node, InstanceState, instance_step, Cho
 use Rattle.nf_net.proofs.Words.{EachOn, record_at, New, ShareMsg, Shared_on, S_sync, member_step, ran_of, Sees_more, Config, Node, most_counted, IsInput}
 use Rattle.nf_net.proofs.Words.{dones_in, node_step, node_ready, processed_of, standby_in, standby_at, done-append, number, entries, ran_in, is_sys, is_sharing}
 use Rattle.nf_net.proofs.Words.{standby_keeps, HasBeside, its_takes, its_taken, Given, place, chunks_good, Rows, by_message, S, A, shown, by_node, came_by}
-use Rattle.nf_net.proofs.Words.{node_of, Genuine, AreGoodChunks, Scene, IsInstanceAt, AreShown, IsTaken, Joined, by_node-append, given, all_fit}
+use Rattle.nf_net.proofs.Words.{node_of, Genuine, AreGoodChunks, Scene, IsInstanceAt, AreShown, IsTaken, Joined, by_node-append, given, all_fit, Unit, Mark}
+use Rattle.nf_net.proofs.Words.{records_of, Instance}
 use Rattle.std.specs.FinMap as finite
-use Rattle.nf_function.specs.declared.unit.Unit as units
-use Rattle.record_table.specs.Chunks.{records_of}
-use Rattle.event_filter.specs.declared.mark.Mark.TheVariants as mark
-use Rattle.nf_msgs.specs.declared.msg.Msg.TheVariants as msg
 use Rattle.instance_worker.specs.Instance.{Step, on_get}
 use Rattle.proof_machines.proofs.net.Net.{at_node}
 use Rattle.proof_machines.proofs.net.Shares.{whole_inst}
 use Rattle.proof_machines.proofs.whole.SeesMore.{inst_sees}
-use Rattle.net_world.specs.declared.node.Node.TheVariants.{Instance}
 use Rattle.net_world.specs.Fold.{fold}
 use Rattle.proof_outlines.proofs.whole.InstanceWorlds.{ShowsAt, new_steps}
 use Rattle.proof_outlines.proofs.whole.MemberOutline.{MemberFollows, shared_follows, sync_follows}
@@ -42,13 +38,13 @@ same_place {X} (x ∷ xs) ys i long same = elim (nat_lt i (length ys)) as (λ b.
 ] refl
 
 module _ {F R : Type 0} (f : Semantics R) where
-  get_leaves : (i : InstanceState F R) (op : ℕ) (filter : Filter) → (instance_step f i (msg.Get op filter)).node.table.standby ≡ i.table.standby
+  get_leaves : (i : InstanceState F R) (op : ℕ) (filter : Filter) → (instance_step f i (Msg.Get op filter)).node.table.standby ≡ i.table.standby
   unfolding on_get
   get_leaves i op filter = refl
 
 module _ {R : Type 0} (f : Semantics R) where
   -- what chunks bring of a unit
-  pub brought_is : (chunks : List Chunk) (u : units.Unit) → finite.get (records_of f chunks) u ≡ record_at u (entries f chunks)
+  pub brought_is : (chunks : List Chunk) (u : Unit) → finite.get (records_of f chunks) u ≡ record_at u (entries f chunks)
   unfolding records_of
   brought_is chunks u = finite.get-from_entries units_total (entries f chunks) u
 
@@ -80,18 +76,18 @@ module _ {F R : Type 0} (f : Semantics R) (laws : FunctionLaws f) (c : Config) (
   abbrev IsTakenHere : Msg → Type 0
   IsTakenHere m = IsTaken f g n x (record { node = k; port = p; message = m })
 
-  abbrev all_of : units.Unit → List Note → List ℕ
+  abbrev all_of : Unit → List Note → List ℕ
   all_of u notes = processed_of f c items u (x.log ++ notes)
 
   -- what the step leaves of the unit
-  abbrev Sees : units.Unit → Step F R → Type 0
+  abbrev Sees : Unit → Step F R → Type 0
   Sees u did = SeesMore f c items (all_of u did.notes) (finite.get i.table.standby u) (finite.get did.node.table.standby u)
 
   -- no more was then processed of the unit than a record counts, and a copy's chunks are of fronts
-  abbrev Room : units.Unit → Step F R → Type 0
+  abbrev Room : Unit → Step F R → Type 0
   Room u did = length (all_of u did.notes) ≤ most_counted
 
-  abbrev Now : units.Unit → Msg → Type 0
+  abbrev Now : Unit → Msg → Type 0
   Now u m = IsTakenHere m → AreFronted f g x.world (kept_of m) → Room u (instance_step f i m) → Sees u (instance_step f i m)
 
   right : IsRight f g k i
@@ -100,18 +96,18 @@ module _ {F R : Type 0} (f : Semantics R) (laws : FunctionLaws f) (c : Config) (
   shows : ShowsAt f g.site g.packet k x.world i
   shows = record { inst = at.outline_is; standby = at.standby_is }
 
-  held_front : (u : units.Unit) (notes : List Note) → IsOfFront f c items (all_of u notes) (finite.get i.table.standby u)
+  held_front : (u : Unit) (notes : List Note) → IsOfFront f c items (all_of u notes) (finite.get i.table.standby u)
   held_front u notes = later f c items u x.log notes (finite.get i.table.standby u) (instance_front f c items is n x are k at u)
 
-  same_sees : (u : units.Unit) (did : Step F R) → did.node.table.standby ≡ i.table.standby → Sees u did
+  same_sees : (u : Unit) (did : Step F R) → did.node.table.standby ≡ i.table.standby → Sees u did
   same_sees u did same = subst (λ t. SeesMore f c items (all_of u did.notes) (finite.get i.table.standby u) (finite.get t u)) (sym same)
       (sees_same f c items (all_of u did.notes) (finite.get i.table.standby u) (held_front u did.notes))
 
-  leaves : (u : units.Unit) (m : Msg) → leaves_standby m ≡ true → Now u m
+  leaves : (u : Unit) (m : Msg) → leaves_standby m ≡ true → Now u m
   leaves u m e t fronts room = same_sees u (instance_step f i m) (step_unshared f (place g) i m e).standby
 
   -- a message of a share, as the whole world takes it
-  new_sees : (u : units.Unit) (m : Msg) (seen : ShareMsg R) → shown f g m ≡ Some (New seen) → IsTakenHere m
+  new_sees : (u : Unit) (m : Msg) (seen : ShareMsg R) → shown f g m ≡ Some (New seen) → IsTakenHere m
       → MemberFollows f g.site g.packet (place g) i (instance_step f i m) (member_step (S f g) (A f g) i.table.live i.table.standby seen)
       → AreOwn k (instance_step f i m).notes → Sees u (instance_step f i m)
   new_sees u m seen shown_as t follows own =
@@ -132,20 +128,20 @@ module _ {F R : Type 0} (f : Semantics R) (laws : FunctionLaws f) (c : Config) (
       (subst (λ o. Sees_more (S f g) (A f g) (is_sys f g.site g.packet) u (ran_of (S f g) (A f g) u v.done) (finite.get (x.world.standby k) u) o)
       (sym (ap (λ r. finite.get r u) steps.shows.standby)) sees))
 
-  shared_sees : (u : units.Unit) (op : ℕ) (home : Bool) (cell : FullCell) → Genuine f g cell → Now u (msg.Carry (mark.Shared op home) cell)
+  shared_sees : (u : Unit) (op : ℕ) (home : Bool) (cell : FullCell) → Genuine f g cell → Now u (Msg.Carry (Mark.Shared op home) cell)
   shared_sees u op home cell e t fronts room =
-      new_sees u (msg.Carry (mark.Shared op home) cell) (Shared_on op home (number cell)) refl t
+      new_sees u (Msg.Carry (Mark.Shared op home) cell) (Shared_on op home (number cell)) refl t
       (shared_follows f laws g.site g.packet (place g) i op home cell right.rules e (sound_part f laws g fitting k two i home cell right at.stands.sound e))
-      (instance_leaves f laws g fitting k two i (msg.Carry (mark.Shared op home) cell) p t.label right at.stands.sound).notes
+      (instance_leaves f laws g fitting k two i (Msg.Carry (Mark.Shared op home) cell) p t.label right at.stands.sound).notes
 
-  sync_sees : (u : units.Unit) (home : Bool) (op : ℕ) (chunks : List Chunk) → AreGoodChunks f g chunks → Now u (msg.Sync home op chunks)
+  sync_sees : (u : Unit) (home : Bool) (op : ℕ) (chunks : List Chunk) → AreGoodChunks f g chunks → Now u (Msg.Sync home op chunks)
   sync_sees u home op chunks good t fronts room =
-      new_sees u (msg.Sync home op chunks) (S_sync op home (entries f chunks)) refl t
+      new_sees u (Msg.Sync home op chunks) (S_sync op home (entries f chunks)) refl t
       (sync_follows f laws g.site g.packet (place g) i home op chunks (chunks_good f laws g chunks good))
-      (instance_leaves f laws g fitting k two i (msg.Sync home op chunks) p t.label right at.stands.sound).notes
+      (instance_leaves f laws g fitting k two i (Msg.Sync home op chunks) p t.label right at.stands.sound).notes
 
   -- a copy's chunks: the newer of what stands by and what comes is that of the longer front
-  newest_sees : (u : units.Unit) (all : List ℕ) (held coming : Option R) → length all ≤ most_counted → IsOfFront f c items all held
+  newest_sees : (u : Unit) (all : List ℕ) (held coming : Option R) → length all ≤ most_counted → IsOfFront f c items all held
       → IsOfFront f c items all coming → SeesMore f c items all held (either (newest f) held coming)
   newest_sees u all held coming few h b =
       let it = longer f laws c items is all few h.front b.front h.is_front b.is_front in
@@ -158,9 +154,9 @@ module _ {F R : Type 0} (f : Semantics R) (laws : FunctionLaws f) (c : Config) (
         within = it.is_front;
       }
 
-  standby_sees : (u : units.Unit) (op : ℕ) (chunks : List Chunk) → AreGoodChunks f g chunks → Now u (msg.Standby op chunks)
+  standby_sees : (u : Unit) (op : ℕ) (chunks : List Chunk) → AreGoodChunks f g chunks → Now u (Msg.Standby op chunks)
   standby_sees u op chunks good t fronts room =
-      let did = instance_step f i (msg.Standby op chunks) in
+      let did = instance_step f i (Msg.Standby op chunks) in
       let held = finite.get i.table.standby u in
       let coming = finite.get (records_of f chunks) u in
       let new : did.node.table.standby ≡ newest_of f i.table.standby (records_of f chunks) =
@@ -172,26 +168,26 @@ module _ {F R : Type 0} (f : Semantics R) (laws : FunctionLaws f) (c : Config) (
       subst (λ o. SeesMore f c items (all_of u did.notes) held o) (sym is_new)
       (newest_sees u (all_of u did.notes) held coming room (held_front u did.notes) (later f c items u x.log did.notes coming of_chunks))
 
-  rows : (u : units.Unit) → Rows f g (Now u)
+  rows : (u : Unit) → Rows f g (Now u)
   rows u = record {
-    carry = λ cell e. leaves u (msg.Carry mark.Plain cell) refl;
-    pass = λ op cell e. leaves u (msg.Carry (mark.Pass op) cell) refl;
+    carry = λ cell e. leaves u (Msg.Carry Mark.Plain cell) refl;
+    pass = λ op cell e. leaves u (Msg.Carry (Mark.Pass op) cell) refl;
     shared = λ op home cell e. shared_sees u op home cell e;
-    fence = λ op. leaves u (msg.Fence op) refl;
-    stop = leaves u msg.Stop refl;
-    enable = λ op filter act w e. leaves u (msg.Enable op filter act) refl;
-    stream = λ op filter w. leaves u (msg.Stream op filter) refl;
-    delete = λ op gone. leaves u (msg.Delete op gone) refl;
-    put = λ op piece first e. leaves u (msg.Put op piece first) refl;
-    restore = λ op chunks e. leaves u (msg.Restore op chunks) refl;
-    get = λ op filter w t fronts room. same_sees u (instance_step f i (msg.Get op filter)) (get_leaves f i op filter);
-    get_all = λ op. leaves u (msg.GetAll op) refl;
+    fence = λ op. leaves u (Msg.Fence op) refl;
+    stop = leaves u Msg.Stop refl;
+    enable = λ op filter act w e. leaves u (Msg.Enable op filter act) refl;
+    stream = λ op filter w. leaves u (Msg.Stream op filter) refl;
+    delete = λ op gone. leaves u (Msg.Delete op gone) refl;
+    put = λ op piece first e. leaves u (Msg.Put op piece first) refl;
+    restore = λ op chunks e. leaves u (Msg.Restore op chunks) refl;
+    get = λ op filter w t fronts room. same_sees u (instance_step f i (Msg.Get op filter)) (get_leaves f i op filter);
+    get_all = λ op. leaves u (Msg.GetAll op) refl;
     standby = λ op chunks e. standby_sees u op chunks e;
-    put_all = λ op chunk. leaves u (msg.PutAll op chunk) refl;
+    put_all = λ op chunk. leaves u (Msg.PutAll op chunk) refl;
     sync = λ home op chunks e. sync_sees u home op chunks e;
   }
 
-  pub instance_sees : (u : units.Unit) (m : Msg) → Now u m
+  pub instance_sees : (u : Unit) (m : Msg) → Now u m
   instance_sees u m t = by_message f g (Now u) p y (rows u) m t.label t
 
 -- A choice of a run.
@@ -204,7 +200,7 @@ module _ (F : Type 0) {R : Type 0} (f : Semantics R) (laws : FunctionLaws f) (c 
 
   -- what stands by sees more from one world to the next
   abbrev pub GoesOn : Network (Node F R) Msg Note → Network (Node F R) Msg Note → Type 0
-  GoesOn w v = (i : ℕ) (u : units.Unit) → SeesMore f c items (processed_of f c items u v.log) (standby_at w i u) (standby_at v i u)
+  GoesOn w v = (i : ℕ) (u : Unit) → SeesMore f c items (processed_of f c items u v.log) (standby_at w i u) (standby_at v i u)
 
   module _ (w : Network (Node F R) Msg Note) (j : Joined f gn nodes_count w) (fronts : AreKeptFronts f gn nodes_count w j) (p : ℕ) (rest : List Msg) where
     abbrev x : Scene F f gn
@@ -226,7 +222,7 @@ module _ (F : Type 0) {R : Type 0} (f : Semantics R) (laws : FunctionLaws f) (c 
           (fronts.each p k (let count = takes.count in rw count takes.sender) (let count = takes.count in rw count takes.receiver))).0
 
       -- another instance
-      stays : (i : ℕ) → instance_node i ≢ k → (u : units.Unit) → SeesMore f c items (processed_of f c items u v.log) (standby_at w i u) (standby_at v i u)
+      stays : (i : ℕ) → instance_node i ≢ k → (u : Unit) → SeesMore f c items (processed_of f c items u v.log) (standby_at w i u) (standby_at v i u)
       stays i off u =
           let same : standby_at v i u ≡ standby_at w i u = ap (standby_in u)
           (same_place w.nodes v.nodes (instance_node i) (takes.count ∙ sym left.count) (λ d. left.others (instance_node i) d off)) in
@@ -237,7 +233,7 @@ module _ (F : Type 0) {R : Type 0} (f : Semantics R) (laws : FunctionLaws f) (c 
 
     module _ (y : ℕ) (m : Msg) (takes : Takes (node_step f) nodes_count w (suc (suc y)) p (node_of j.nodes (suc (suc y))) m rest)
         (t : IsTaken f gn nodes_count x (record { node = suc (suc y); port = p; message = m }))
-        (room : (u : units.Unit) → length (processed_of f c items u (world_next (node_step f) w (at (suc (suc y)) p)).log) ≤ most_counted) where
+        (room : (u : Unit) → length (processed_of f c items u (world_next (node_step f) w (at (suc (suc y)) p)).log) ≤ most_counted) where
       abbrev own : InstanceState F R
       own = j.nodes.instance (suc (suc y))
 
@@ -258,7 +254,7 @@ module _ (F : Type 0) {R : Type 0} (f : Semantics R) (laws : FunctionLaws f) (c 
           (slice_get-get_or (v (suc (suc y)) m takes).nodes (suc (suc y)) (Instance did.node) (let small = takes.receiver in
           let count = out.count in rw count small) ∙ ap Some (out.own (Instance did.node)))
 
-      own_sees : (u : units.Unit)
+      own_sees : (u : Unit)
           → SeesMore f c items (processed_of f c items u (v (suc (suc y)) m takes).log) (standby_at w y u) (standby_at (v (suc (suc y)) m takes) y u)
       own_sees u =
           let out = left (suc (suc y)) m takes in
@@ -281,7 +277,7 @@ module _ (F : Type 0) {R : Type 0} (f : Semantics R) (laws : FunctionLaws f) (c 
 
     each_goes : (k : ℕ) (m : Msg) (takes : Takes (node_step f) nodes_count w k p (node_of j.nodes k) m rest)
         → IsTaken f gn nodes_count x (record { node = k; port = p; message = m })
-        → ((u : units.Unit) → length (processed_of f c items u (world_next (node_step f) w (at k p)).log) ≤ most_counted)
+        → ((u : Unit) → length (processed_of f c items u (world_next (node_step f) w (at k p)).log) ≤ most_counted)
         → GoesOn w (world_next (node_step f) w (at k p))
     each_goes zero m takes t room = λ i u. stays 0 m takes i (λ e. absurd (omega (arith, e))) u
     each_goes (suc zero) m takes t room = λ i u. stays 1 m takes i (λ e. absurd (omega (arith, e))) u
@@ -289,7 +285,7 @@ module _ (F : Type 0) {R : Type 0} (f : Semantics R) (laws : FunctionLaws f) (c 
 
   -- after which no more was processed of a unit than a record counts
   pub goes_on : (w : Network (Node F R) Msg Note) (d : Choice) → Taking node_ready (node_step f) nodes_count w d → (j : Joined f gn nodes_count w)
-      → HasBeside f gn nodes_count w j → ((u : units.Unit) → length (processed_of f c items u (world_next (node_step f) w d).log) ≤ most_counted)
+      → HasBeside f gn nodes_count w j → ((u : Unit) → length (processed_of f c items u (world_next (node_step f) w d).log) ≤ most_counted)
       → GoesOn w (world_next (node_step f) w d)
   goes_on w d t j b room = each_goes w j b.kept.fronts d.port t.rest d.node t.message
       (its_takes f laws gn (all_fit f c items is) nodes_count refl w d t j b) (its_taken f laws gn (all_fit f c items is) nodes_count refl w d t j b) room

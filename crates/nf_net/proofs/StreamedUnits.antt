@@ -4,11 +4,9 @@ use Rattle.nf_net.proofs.Words.{◌≡◌, ℕ, zero, suc, Bool, true, false, co
 use Rattle.nf_net.proofs.Words.{subst, if◌then◌else◌, ◌&&◌, ◌||◌, nat_le, list_any, AllByRecursion, keys_of, IsDistinct-head, IsDistinct-tail, or-false, Filter}
 use Rattle.nf_net.proofs.Words.{Chunk, takes, Fits, FunctionLaws, Semantics, kept_after, version_number, record_chunk, Records, same_unit, taken_by}
 use Rattle.nf_net.proofs.Words.{distinct_entries, one_unit, same_unit_equiv, same_unit-true, Msg, Piece, units_in, WholePieces, piece_of, whole_of, pieces}
-use Rattle.nf_net.proofs.Words.{Each, each_map, Chunks, Config, packet_numbered}
+use Rattle.nf_net.proofs.Words.{Each, each_map, Chunks, Config, packet_numbered, Unit, IsDistinct}
 use Rattle.std.specs.Prelude.{max}
-use Rattle.std.specs.List.{IsDistinct}
 use Rattle.std.specs.FinMap as finite
-use Rattle.nf_function.specs.declared.unit.Unit as units
 use Rattle.nf_function.specs.Units.{has_times}
 use Rattle.nf_function.specs.Records.{is_timed_kept}
 use Rattle.record_table.specs.Chunks.{chunks_of}
@@ -51,17 +49,17 @@ module _ {R : Type 0} (f : Semantics R) (laws : FunctionLaws f) where
   newest_by false true = refl
   newest_by false false = refl
 
-  newest_is : (test : units.Unit → Bool) (es : Chunks R) → Each (λ e. f.is_timed e.1 ≡ test e.0) es
+  newest_is : (test : Unit → Bool) (es : Chunks R) → Each (λ e. f.is_timed e.1 ≡ test e.0) es
       → newest_in f es ≡ version_number (list_any test (map (λ e. e.0) es))
   newest_is test [] h = refl
   newest_is test (e ∷ es) h = let here = h.0 in let rest = newest_is test es h.1 in rw (rest, here) (newest_by (test e.0) (list_any test (map (λ x. x.0) es)))
 
   -- the state that an instance gives: how many units, and of which version
-  pub record GivesState (test : units.Unit → Bool) (chunks : List Chunk) : Type 0 where
+  pub record GivesState (test : Unit → Bool) (chunks : List Chunk) : Type 0 where
     pub number : length (units_in chunks) ≡ length chunks
     pub version : newest_version chunks ≡ version_number (list_any test (units_in chunks))
 
-  entries_give : (test : units.Unit → Bool) (es : Chunks R) → Each (λ e. f.is_timed e.1 ≡ test e.0) es → GivesState test (map (λ e. record_chunk f e.0 e.1) es)
+  entries_give : (test : Unit → Bool) (es : Chunks R) → Each (λ e. f.is_timed e.1 ≡ test e.0) es → GivesState test (map (λ e. record_chunk f e.0 e.1) es)
   entries_give test es h = record {
     number = units_length es;
     version = newest_made f laws es ∙ newest_is test es h ∙ ap (λ us. version_number (list_any test us)) (sym (units_made es));
@@ -69,7 +67,7 @@ module _ {R : Type 0} (f : Semantics R) (laws : FunctionLaws f) where
 
 -- Each entry of a map is found.
 module _ {R : Type 0} where
-  found_more : (e : units.Unit × R) (es xs : Chunks R) → AllByRecursion (λ v. same_unit e.0 v ≡ false) (keys_of xs) → Each (λ x. at es x.0 ≡ Some x.1) xs
+  found_more : (e : Unit × R) (es xs : Chunks R) → AllByRecursion (λ v. same_unit e.0 v ≡ false) (keys_of xs) → Each (λ x. at es x.0 ≡ Some x.1) xs
       → Each (λ x. at (e ∷ es) x.0 ≡ Some x.1) xs
   found_more e es [] apart h = tt
   found_more e es (x ∷ xs) apart h = (
@@ -104,8 +102,8 @@ module _ {R : Type 0} where
 
 module _ {R : Type 0} (f : Semantics R) (laws : FunctionLaws f) where
   -- what an instance gives, where a test tells which of its records have a time
-  pub selected_give : (g : Filter) (live : Records R) (test : units.Unit → Bool)
-      → ((u : units.Unit) (r : R) → finite.get live u ≡ Some r → f.is_timed r ≡ test u) → GivesState f laws test (chunks_of f (taken_by g live))
+  pub selected_give : (g : Filter) (live : Records R) (test : Unit → Bool)
+      → ((u : Unit) (r : R) → finite.get live u ≡ Some r → f.is_timed r ≡ test u) → GivesState f laws test (chunks_of f (taken_by g live))
   selected_give g live test h = entries_give f laws test (finite.entries (taken_by g live)) (each_map {P = (λ e. finite.get live e.0 ≡ Some e.1)}
       {Q = (λ e. f.is_timed e.1 ≡ test e.0)} (λ e there. h e.0 e.1 there) (finite.entries (taken_by g live)) (taken_found g live))
 

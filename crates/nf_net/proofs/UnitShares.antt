@@ -7,15 +7,10 @@ use Rattle.nf_net.proofs.Words.{Network, Stage, shape, where_two, found_each, un
 use Rattle.nf_net.proofs.Words.{WhereAll, Apart_from_shares, Under_share, Config, Node, Controller, is_begun, has_answered, is_share, answers_of}
 use Rattle.nf_net.proofs.Words.{times_installed, IsInput, order_numbered, packet_numbered, installs_in, first_owner, is_home, owner, members, member_for}
 use Rattle.nf_net.proofs.Words.{unit_fits, takes_whole, takes_same, is_sys, Both, both, RealShare, real_share, Given, place, is_diverted, S, A, Joined, came_by}
-use Rattle.nf_net.proofs.Words.{AreApart, AllApart, names_known, given}
+use Rattle.nf_net.proofs.Words.{AreApart, AllApart, names_known, given, Unit, Order, flow_of, Done}
 use Rattle.std.specs.Prelude.{◌%◌}
 use Rattle.std.specs.FinMap as finite
 use Rattle.std.proofs.lemmas.Nat.{mod_below}
-use Rattle.flow_filter.specs.Flow.{flow_of}
-use Rattle.nf_function.specs.declared.unit.Unit as units
-use Rattle.nf_msgs.specs.declared.answer.Answer.TheVariants.{Done}
-use Rattle.nf_msgs.specs.declared.command.Order.TheVariants as order
-use Rattle.copy_share.specs.declared.share_phase.SharePhase.TheVariants as phase
 use Rattle.proof_machines.proofs.share.Share as machine
 use Rattle.proof_machines.proofs.share.Stages.{Stage.Diverting}
 use Rattle.proof_outlines.proofs.outline.FiltersApart.{filters_apart}
@@ -26,8 +21,8 @@ use Rattle.nf_net.proofs.answers.BusyRuns.{Busy, same_controller, keeps_is, plan
 use Rattle.nf_net.proofs.answers.InstallRuns.{Installs, dones_still}
 use Rattle.nf_net.proofs.answers.InstallSteps.{is_moving, dones, open_in}
 use Rattle.nf_net.proofs.answers.ShareTells.{is_set_up}
-use Rattle.nf_net.proofs.MemberLemmas.{IsThere, There, is_there, IsSharedBy, shared_by, members_diverted}
-use Rattle.nf_net.proofs.MemberLemmas.{InstalledIn, installed_in, times_there, home_first, member_at}
+use Rattle.nf_net.proofs.MemberLemmas.{IsThere, There, is_there, IsSharedBy, shared_by, members_diverted, InstalledIn, installed_in, times_there, home_first}
+use Rattle.nf_net.proofs.MemberLemmas.{member_at}
 
 -- a share that is set up, as its proof sees it
 abbrev serves : machine.Phase → Bool
@@ -37,7 +32,7 @@ serves (machine.Setting left) = false
 serves ph = true
 
 serves_same : (ph : SharePhase) → serves (share_phase ph) ≡ is_set_up ph
-serves_same phase.Fencing = refl
+serves_same SharePhase.Fencing = refl
 serves_same ph = refl
 
 -- diverts the packets of its units
@@ -52,7 +47,7 @@ both_so false s b h k = cc
 
 -- Where a unit's packets go in a world of a run, by the log.
 module _ {F R : Type 0} (f : Semantics R) (c : Config) (items : List Msg) (is : IsInput f.kind c items) (n : ℕ) (w : Network (Node F R) Msg Note)
-    (j : Joined f (given f c items is) n w) (u : units.Unit) (fits : unit_fits f.kind u ≡ true) where
+    (j : Joined f (given f c items is) n w) (u : Unit) (fits : unit_fits f.kind u ≡ true) where
   abbrev gt : Given
   gt = given f c items is
 
@@ -92,28 +87,28 @@ module _ {F R : Type 0} (f : Semantics R) (c : Config) (items : List Msg) (is : 
     pub members_are : filter_map (place_of c.names) ms ≡ state.plan.members
     pub known : find (λ name. not (is_some (place_of c.names name))) ms ≡ None
 
-  same_names : {a d : List (List ℕ)} {p q : Filter} → Some (order.Share a p) ≡ Some (order.Share d q) → a ≡ d
+  same_names : {a d : List (List ℕ)} {p q : Filter} → Some (Order.Share a p) ≡ Some (Order.Share d q) → a ≡ d
   same_names e = cc
 
-  same_filter : {a d : List (List ℕ)} {p q : Filter} → Some (order.Share a p) ≡ Some (order.Share d q) → p ≡ q
+  same_filter : {a d : List (List ℕ)} {p q : Filter} → Some (Order.Share a p) ≡ Some (Order.Share d q) → p ≡ q
   same_filter e = cc
 
-  open_share : (op : ℕ) (ms : List (List ℕ)) (filter : Filter) → order_numbered items op ≡ Some (order.Share ms filter) → (s : ShareState)
+  open_share : (op : ℕ) (ms : List (List ℕ)) (filter : Filter) → order_numbered items op ≡ Some (Order.Share ms filter) → (s : ShareState)
       → finite.get j.nodes.controller.operations op ≡ Some (Share s) → IsOpenShare op ms filter
   open_share op ms filter what s there =
       let its : IsShare f g op s = j.shown_is.controller.shared op s there in
-      let own : order_numbered items op ≡ Some (order.Share its.plan.names s.plan.filter) = ap (order_numbered items) (sym its.op_is) ∙ its.plan.order_is in
+      let own : order_numbered items op ≡ Some (Order.Share its.plan.names s.plan.filter) = ap (order_numbered items) (sym its.op_is) ∙ its.plan.order_is in
       let on = open_began f g n count_is w j b op (Share s) there in
       record {
         state = s;
         there = there;
         filter_is = same_filter (sym own ∙ what);
         members_are = ap (filter_map (place_of c.names)) (same_names (sym what ∙ own)) ∙ its.plan.members_are;
-        known = ((b.is.answered op).begins (order.Share ms filter) what on).known;
+        known = ((b.is.answered op).begins (Order.Share ms filter) what on).known;
       }
 
   -- a share's command that is open has a share for its operation
-  share_open : (op : ℕ) (ms : List (List ℕ)) (filter : Filter) → order_numbered items op ≡ Some (order.Share ms filter) → (o : Option Operation)
+  share_open : (op : ℕ) (ms : List (List ℕ)) (filter : Filter) → order_numbered items op ≡ Some (Order.Share ms filter) → (o : Option Operation)
       → finite.get j.nodes.controller.operations op ≡ o → is_some o ≡ true → IsOpenShare op ms filter
   share_open op ms filter what None at e = cc
   share_open op ms filter what (Some (Share s)) at e = open_share op ms filter what s at
@@ -127,7 +122,7 @@ module _ {F R : Type 0} (f : Semantics R) (c : Config) (items : List Msg) (is : 
       cc
 
   -- it is open if the switch has installed it, and if it began
-  pub open_installed : Installs g w → (op : ℕ) (ms : List (List ℕ)) (filter : Filter) → order_numbered items op ≡ Some (order.Share ms filter)
+  pub open_installed : Installs g w → (op : ℕ) (ms : List (List ℕ)) (filter : Filter) → order_numbered items op ≡ Some (Order.Share ms filter)
       → 1 ≤ times_installed op w.log → IsOpenShare op ms filter
   open_installed h op ms filter what some = by_got (finite.get h.controller.operations op) refl
     where
@@ -146,13 +141,13 @@ module _ {F R : Type 0} (f : Semantics R) (c : Config) (items : List Msg) (is : 
           absurd (omega (arith, balance, none, zero, some))
       by_got (Some o) at = share_open op ms filter what (Some o) (ap (λ x. finite.get x.operations op) (sym same) ∙ at) refl
 
-  pub open_begun : (op : ℕ) (ms : List (List ℕ)) (filter : Filter) → order_numbered items op ≡ Some (order.Share ms filter) → is_begun op w.log ≡ true
+  pub open_begun : (op : ℕ) (ms : List (List ℕ)) (filter : Filter) → order_numbered items op ≡ Some (Order.Share ms filter) → is_begun op w.log ≡ true
       → IsOpenShare op ms filter
   open_begun op ms filter what on = share_open op ms filter what (finite.get j.nodes.controller.operations op) refl (keeps_is f g n count_is w j b op
       ∙ both_so (is_begun op w.log) (is_share (order_numbered items op)) (not (has_answered op w.log)) on (ap is_share what))
 
   -- Of the units that packets may have.
-  module _ (u : units.Unit) (fits : unit_fits f.kind u ≡ true) where
+  module _ (u : Unit) (fits : unit_fits f.kind u ≡ true) where
     -- what one open operation takes no other takes
     one_takes : (k l : ℕ) (s t : ShareState) → finite.get j.nodes.controller.operations k ≡ Some (Share s)
         → finite.get j.nodes.controller.operations l ≡ Some (Share t) → takes_whole f.kind s.plan.filter u ≡ true
@@ -243,7 +238,7 @@ module _ {F R : Type 0} (f : Semantics R) (c : Config) (items : List Msg) (is : 
         }
 
     -- A share that was answered has been installed for each unit that its home owns
-    module _ (h : Installs g w) (op : ℕ) (ms : List (List ℕ)) (filter : Filter) (what : order_numbered items op ≡ Some (order.Share ms filter))
+    module _ (h : Installs g w) (op : ℕ) (ms : List (List ℕ)) (filter : Filter) (what : order_numbered items op ≡ Some (Order.Share ms filter))
         (on : takes filter u ≡ true) (at_home : is_home c.names (order_numbered items) ms (owner c items u w.log) ≡ true)
         (answered : has_answered op w.log ≡ true) (begun : is_begun op w.log ≡ true) where
       own : IsOpenShare op ms filter

@@ -3,29 +3,26 @@
 use Rattle.nf_net.proofs.Words.{◌≡◌, ℕ, ◌+◌, ◌≤◌, Bool, true, false, Option, Some, None, List, [], ◌∷◌, ◌++◌, drop, get_or, append_assoc, refl, sym, ap, ◌∙◌}
 use Rattle.nf_net.proofs.Words.{subst, arith, if◌then◌else◌, ◌==◌, find, option_map, option_map_or, option_or, nat_tests, Semantics, Msg, Note, Choice, Network}
 use Rattle.nf_net.proofs.Words.{Stepped, run, world_next, queue_at, Node, node_step, course_of, exported_for, before_export, IsTakenAfter, any_picked}
-use Rattle.nf_net.proofs.Words.{before_kept, before_new, before_one}
+use Rattle.nf_net.proofs.Words.{before_kept, before_new, before_one, Unit}
 use Rattle.std.specs.Prelude.{filter_map}
 use Rattle.std.proofs.lemmas.List.Elements.{filter_map-append}
 use Rattle.std.proofs.lemmas.List.Folds.{find-append}
-use Rattle.nf_function.specs.declared.unit.Unit as units
-use Rattle.nf_msgs.specs.declared.msg.Msg.TheVariants as msg
-use Rattle.nf_msgs.specs.declared.note.Note.TheVariants as note
 use Rattle.net_world.specs.Verdicts.{export_in}
 use Rattle.net_world.proofs.PickedLists.{found_any, unfound_none}
 
 -- how often state was given for a command
 abbrev pub times_given : ℕ → List Note → ℕ
 times_given op [] = 0
-times_given op (note.Exported instance k us ∷ notes) = (if k == op then 1 else 0) + times_given op notes
+times_given op (Note.Exported instance k us ∷ notes) = (if k == op then 1 else 0) + times_given op notes
 times_given op (n ∷ notes) = times_given op notes
 
 module _ (op : ℕ) where
   pub times_given-append : (xs ys : List Note) → times_given op (xs ++ ys) ≡ times_given op xs + times_given op ys
   times_given-append [] ys = omega arith
-  times_given-append (note.Exported i k us ∷ xs) ys = let rest = times_given-append xs ys in omega (arith, rest)
+  times_given-append (Note.Exported i k us ∷ xs) ys = let rest = times_given-append xs ys in omega (arith, rest)
   times_given-append (n ∷ xs) ys = times_given-append xs ys
 
-  abbrev own : ℕ × List units.Unit → Bool
+  abbrev own : ℕ × List Unit → Bool
   own one = one.0 == op
 
   abbrev is_export : Note → Bool
@@ -33,7 +30,7 @@ module _ (op : ℕ) where
 
   pub none_exported : (xs : List Note) → times_given op xs ≡ 0 → exported_for op xs ≡ None
   none_exported [] h = refl
-  none_exported (note.Exported i k us ∷ xs) h =
+  none_exported (Note.Exported i k us ∷ xs) h =
       elim (k == op) as (λ b. (if b then 1 else 0) + times_given op xs ≡ 0
       → option_map (λ one. one.1) (if b then Some (k, us) else find own (filter_map export_in xs)) ≡ None) [
         | true ↦ λ e. absurd (omega (arith, e))
@@ -48,22 +45,22 @@ module _ (op : ℕ) where
       ∙ ap (option_map (λ one. one.1)) (find-append own (filter_map export_in xs) (filter_map export_in ys))
 
   -- what was given before stays
-  pub exported_kept : (xs ys : List Note) (us : List units.Unit) → exported_for op xs ≡ Some us → exported_for op (xs ++ ys) ≡ Some us
+  pub exported_kept : (xs ys : List Note) (us : List Unit) → exported_for op xs ≡ Some us → exported_for op (xs ++ ys) ≡ Some us
   exported_kept xs ys us h = exported-append xs ys ∙ first (find own (filter_map export_in xs)) h
     where
-      first : (o : Option (ℕ × List units.Unit)) → option_map (λ one. one.1) o ≡ Some us
+      first : (o : Option (ℕ × List Unit)) → option_map (λ one. one.1) o ≡ Some us
           → option_map (λ one. one.1) (option_or o (find own (filter_map export_in ys))) ≡ Some us
       first None is = cc
       first (Some one) is = is
 
-  pub before_export_kept : (xs ys : List Note) (us : List units.Unit) → exported_for op xs ≡ Some us → before_export op (xs ++ ys) ≡ before_export op xs
+  pub before_export_kept : (xs ys : List Note) (us : List Unit) → exported_for op xs ≡ Some us → before_export op (xs ++ ys) ≡ before_export op xs
   before_export_kept xs ys us h = before_kept is_export xs ys (any_picked export_in own xs ∙ found_any own (λ one. one.1) us (filter_map export_in xs) h)
 
   -- what is given first
   pub exported_new : (xs ys : List Note) → exported_for op xs ≡ None → exported_for op (xs ++ ys) ≡ exported_for op ys
   exported_new xs ys h = exported-append xs ys ∙ later (find own (filter_map export_in xs)) h
     where
-      later : (o : Option (ℕ × List units.Unit)) → option_map (λ one. one.1) o ≡ None
+      later : (o : Option (ℕ × List Unit)) → option_map (λ one. one.1) o ≡ None
           → option_map (λ one. one.1) (option_or o (find own (filter_map export_in ys))) ≡ option_map (λ one. one.1) (find own (filter_map export_in ys))
       later None is = refl
       later (Some one) is = cc
@@ -72,12 +69,12 @@ module _ (op : ℕ) where
   before_export_new xs ys h = before_new is_export xs ys (any_picked export_in own xs ∙ unfound_none own (λ one. one.1) (filter_map export_in xs) h)
 
   -- before the note that it was given
-  pub before_own : (instance : ℕ) (us : List units.Unit) → before_export op (note.Exported instance op us ∷ []) ≡ []
-  before_own instance us = let self : (op == op) ≡ true = grind (arith, nat_tests) in before_one is_export (note.Exported instance op us) [] self
+  pub before_own : (instance : ℕ) (us : List Unit) → before_export op (Note.Exported instance op us ∷ []) ≡ []
+  before_own instance us = let self : (op == op) ≡ true = grind (arith, nat_tests) in before_one is_export (Note.Exported instance op us) [] self
 
 -- whether the first message is a move's first piece
 abbrev pub is_first_piece : ℕ → List Msg → Bool
-is_first_piece op (msg.Put k piece true ∷ rest) = k == op
+is_first_piece op (Msg.Put k piece true ∷ rest) = k == op
 is_first_piece op ms = false
 
 head_is : (c d : Choice) (xs ys : List Choice) → c ∷ xs ≡ d ∷ ys → c ≡ d

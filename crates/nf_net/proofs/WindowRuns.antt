@@ -1,18 +1,17 @@
 -- Every run keeps the window, and a complete one has all cells at home.
 use Rattle.nf_net.proofs.Words.{◌≡◌, ℕ, zero, suc, ◌+◌, ◌≤◌, Bool, true, false, Some, List, [], ◌∷◌, length, length-append, get_or, refl, sym, ap, ◌∙◌, subst}
 use Rattle.nf_net.proofs.Words.{arith, ◌==◌, ◌&&◌, flat_map, Global, nat_tests, Decides-eqb, slice_get-get_or, FunctionLaws, Semantics, Msg, Note, SwitchState}
-use Rattle.nf_net.proofs.Words.{switch_step, Choice, Network, Stepped, IsRun, is_done, reaches, run, world_next, at, Takes, taken_outcome, Taking}
-use Rattle.nf_net.proofs.Words.{run_induction, run_world, opening_weight, done_node, done_weight, EachSent, weigh, total, sent_weight, total_after, Each}
-use Rattle.nf_net.proofs.Words.{Config, Node, Switch, IsInput, arrivals_in, dones_in, node_step, node_ready, node_ended, first_nodes, first_switch}
-use Rattle.nf_net.proofs.Words.{started_with, on_links, AllHome, arrived-append, done-append, given, all_fit, all_labelled, count_at_start, Given, Label}
-use Rattle.nf_net.proofs.Words.{Joined, node_of, its_takes, its_label, its_labels, Runs, runs_at_start, runs_next, run_beside, start_world}
-use Rattle.nf_msgs.specs.declared.msg.Msg.TheVariants as msg
+use Rattle.nf_net.proofs.Words.{switch_step, Choice, Network, Stepped, IsRun, is_done, reaches, run, world_next, at, Takes, taken_outcome, opening_weight}
+use Rattle.nf_net.proofs.Words.{done_node, done_weight, EachSent, weigh, total, sent_weight, total_after, Each, Config, Node, Switch, IsInput, arrivals_in}
+use Rattle.nf_net.proofs.Words.{dones_in, node_step, node_ready, node_ended, first_nodes, first_switch, started_with, on_links, AllHome, arrived-append}
+use Rattle.nf_net.proofs.Words.{done-append, given, all_labelled, Given, Label, Joined, node_of, run_beside}
 use Rattle.net_world.specs.Window.{Window, homeward, switch_in, switch_of}
 use Rattle.nf_net.proofs.answers.CreditCounts.{credit, no_credit_from, no_credit_to, none_sent, instance_is}
 use Rattle.nf_net.proofs.answers.ArrivalNotes.{controller_notes_none}
 use Rattle.nf_net.proofs.WindowSteps.{switch_counts}
 use Rattle.nf_net.proofs.PacketCounts.{few_done}
 use Rattle.nf_net.proofs.AnsweredNotes.{controller_none}
+use Rattle.nf_net.proofs.RunKeeps.{run_keeps, after_world}
 
 -- what holds of the switch and the log of each world of a run
 pub record InWindow (window : ℕ) {F R : Type 0} (w : Network (Node F R) Msg Note) : Type 0 where
@@ -57,7 +56,7 @@ module _ {F R : Type 0} (f : Semantics R) (g : Given) (n : ℕ) (window : ℕ) w
       ap (λ x. length (dones_in w.log) + x.flying) (sym same) ∙ h.balance in
       let weight = total_after step n w 0 p (Switch s) m rest takes credit in
       let did = switch_counts window s (ap (λ x. x.pool.cells) (sym same) ∙ h.cells) (ap (λ x. x.flying + x.pool.home) (sym same) ∙ h.home) m (λ cell e.
-      let comes : Label f g p 0 (msg.Credit cell) = subst (λ a. Label f g p 0 a) e labelled in
+      let comes : Label f g p 0 (Msg.Credit cell) = subst (λ a. Label f g p 0 a) e labelled in
       let one : credit m ≡ 1 = ap credit e in
       (comes.2 ∙ sym j.shown_is.switch.pool, omega (arith, few, balance, weight, sent, one))) in
       let flying = did.flying in
@@ -103,7 +102,7 @@ module _ {F R : Type 0} (f : Semantics R) (g : Given) (n : ℕ) (window : ℕ) w
 -- what messages weigh as cells that go home is how many these are
 weigh_link : (ms : List Msg) → weigh credit ms ≡ length (flat_map homeward ms)
 weigh_link [] = refl
-weigh_link (msg.Credit cell ∷ ms) = let rest = weigh_link ms in omega (arith, rest)
+weigh_link (Msg.Credit cell ∷ ms) = let rest = weigh_link ms in omega (arith, rest)
 weigh_link (m ∷ ms) = let rest = weigh_link ms in omega (arith, rest)
 
 weigh_links : (links : List (List Msg)) → weigh (weigh credit) links ≡ length (flat_map (flat_map homeward) links)
@@ -137,19 +136,10 @@ module _ (F : Type 0) {R : Type 0} (f : Semantics R) (laws : FunctionLaws f) (al
         let given_none = items_none f (given f c items is) items (all_labelled f c items is) in omega (arith, none, given_none);
   }
 
-  window_next : (w : Network (Node F R) Msg Note) (k : Choice) → Taking node_ready (node_step f) nodes w k → Runs F f laws alloc c items is w
-      → InWindow c.window w → InWindow c.window (world_next (node_step f) w k)
-  window_next w k t r h =
-      let g : Given = given f c items is in
-      let fitting = all_fit f c items is in
-      window_after f g nodes c.window w k.node k.port t.message t.rest r.joined (its_takes f laws g fitting nodes refl w k t r.joined r.beside)
-      (its_label f laws g fitting nodes refl w k t r.joined r.beside) (its_labels f laws g fitting nodes refl w k t r.joined r.beside)
-      (few_done f c items is nodes w r.joined) h
-
   pub in_window : (cs : List Choice) → IsRun node_ready (node_step f) cs start → InWindow c.window (run (node_step f) cs start)
-  in_window cs run_is = (run_induction node_ready (node_step f) nodes (λ _ w. Runs F f laws alloc c items is w × InWindow c.window w)
-      start (λ _ w k next h. (runs_next F f laws alloc c items is w k next.taking h.0, window_next w k next.taking h.0 h.1))
-      (start_world F f laws alloc c items is) (count_at_start F f alloc c items is) (runs_at_start F f laws alloc c items is, window_at_start) cs run_is).1
+  in_window = run_keeps F f laws alloc c items is (λ _ w. InWindow c.window w) window_at_start (λ ds ok d s. window_after f (given f c items is) nodes c.window
+      (run (node_step f) ds start) d.node d.port s.taking.message s.taking.rest s.runs.joined s.takes s.taken.label s.labels
+      (few_done f c items is nodes (run (node_step f) ds start) s.runs.joined))
 
   -- cells go home on links alone
   credits_are : (cs : List Choice) (run_is : IsRun node_ready (node_step f) cs start)
@@ -157,7 +147,7 @@ module _ (F : Type 0) {R : Type 0} (f : Semantics R) (laws : FunctionLaws f) (al
   credits_are cs run_is =
       let w = run (node_step f) cs start in
       let j = (run_beside F f laws alloc c items is cs run_is).joined in
-      let count = (run_world node_ready (node_step f) nodes start (start_world F f laws alloc c items is) (count_at_start F f alloc c items is) cs run_is).1 in
+      let count = (after_world F f laws alloc c items is cs run_is).1 in
       let none = items_none f (given f c items is) w.input (j.labels 0 0 (omega (arith, count)) (omega (arith, count))) in
       let links = weigh_links w.links in
       omega (arith, none, links)
@@ -166,7 +156,7 @@ module _ (F : Type 0) {R : Type 0} (f : Semantics R) (laws : FunctionLaws f) (al
       → switch_of (run (node_step f) cs start) ≡ Some (in_window cs run_is).switch
   switch_there cs run_is =
       let h = in_window cs run_is in
-      let count = (run_world node_ready (node_step f) nodes start (start_world F f laws alloc c items is) (count_at_start F f alloc c items is) cs run_is).1 in
+      let count = (after_world F f laws alloc c items is cs run_is).1 in
       ap switch_in (slice_get-get_or (run (node_step f) cs start).nodes 0 (Switch h.switch) (omega (arith, count)))
       ∙ ap (λ d. switch_in (Some d)) (h.there (Switch h.switch))
 
@@ -188,7 +178,7 @@ module _ (F : Type 0) {R : Type 0} (f : Semantics R) (laws : FunctionLaws f) (al
   all_home cs run_is complete =
       let w = run (node_step f) cs start in
       let h = in_window cs run_is in
-      let count = (run_world node_ready (node_step f) nodes start (start_world F f laws alloc c items is) (count_at_start F f alloc c items is) cs run_is).1 in
+      let count = (after_world F f laws alloc c items is cs run_is).1 in
       let ended : node_ended {F = F} {R = R} (Switch h.switch) ≡ true = ap node_ended (sym (h.there (Switch h.switch)))
       ∙ done_node node_ended w complete 0 (Switch h.switch) (omega (arith, count)) in
       let landed : h.switch.flying ≡ 0 = grounded h.switch.closed h.switch.flying ended in

@@ -15,6 +15,7 @@ pub use Rattle.std.proofs.lemmas.Option.{slice_get_within, slice_get-get_or, get
 pub use Rattle.std.specs.FinMap.{get-remove, len-entries, is_sorted, entries_sorted, get-entries}
 pub use Rattle.std.specs.FinMap.Entries.{below_all}
 pub use Rattle.std.specs.List.{filter, flat_map, filter_map, list_any, cons_option, AllByRecursion, list_all}
+unfoldable pub use Rattle.std.specs.List.{IsDistinct}
 pub use Rattle.std.specs.Map.{keys_of}
 pub use Rattle.std.specs.Option.{option_or, option_map_or}
 pub use Rattle.std.specs.Ordering.{nat_cmp, eq_by_cmp, is_lt, is_eq}
@@ -23,6 +24,7 @@ pub use Rattle.std.specs.Prelude.{slice_index_or, find, option_to_list, slice_se
 pub use Rattle.std.specs.declared.alloc.Global.{Global}
 pub use Rattle.std.specs.declared.cmp.Ordering.{Ordering}
 pub use Rattle.std.specs.declared.cmp.Ordering.TheVariants.{Less, Greater, Equal}
+pub use Rattle.flow_filter.specs.Flow.{flow_of}
 pub use Rattle.flow_filter.specs.Name.{place_of}
 pub use Rattle.flow_filter.specs.declared.filter.Filter.{Filter}
 pub use Rattle.flow_filter.specs.declared.flow.Flow.{Flow}
@@ -34,14 +36,17 @@ pub use Rattle.nf_function.specs.UnitOrder.{units_total}
 pub use Rattle.nf_function.specs.Units.{takes, unit_cmp, is_transport}
 pub use Rattle.nf_function.specs.declared.chunk.Chunk.{Chunk, Chunk as RealChunk}
 pub use Rattle.nf_function.specs.declared.output.Output.{Output}
+pub use Rattle.nf_function.specs.declared.unit.Unit.{Unit}
 pub use Rattle.state_chunk.specs.Format.{version_number, record_chunk, IsTally}
 pub use Rattle.state_chunk.specs.Reading.{tally_read}
 pub use Rattle.record_table.proofs.MadeChunks.{distinct_entries}
 pub use Rattle.record_table.proofs.RecordLookUps.{each_newest}
 pub use Rattle.record_table.proofs.UnitOrder.{same_unit_equiv, same_unit-true, one_unit}
 pub use Rattle.record_table.specs.Chunks.{spelled}
+unfoldable pub use Rattle.record_table.specs.Chunks.{records_of}
 pub use Rattle.record_table.specs.Table.{part, after_packet, same_unit, Records, taken_by, either, newest_of, is_among}
 pub use Rattle.event_filter.specs.Rules.{HaveOneEach}
+pub use Rattle.event_filter.specs.declared.action.Action.{Action}
 pub use Rattle.event_filter.specs.declared.decide.Decide.{Decide}
 pub use Rattle.event_filter.specs.declared.mark.Mark.{Mark}
 pub use Rattle.event_filter.specs.declared.rule.Rule.{Rule}
@@ -53,7 +58,7 @@ pub use Rattle.nf_msgs.specs.Exports.{units_in}
 pub use Rattle.nf_msgs.specs.MessageParts.{op_of}
 pub use Rattle.nf_msgs.specs.Nodes.{instance_node, switch_node, controller_node}
 pub use Rattle.nf_msgs.specs.declared.answer.Answer.{Answer}
-pub use Rattle.nf_msgs.specs.declared.answer.Answer.TheVariants.{Overlap, Unknown, Import}
+pub use Rattle.nf_msgs.specs.declared.answer.Answer.TheVariants.{Overlap, Unknown, Import, Done}
 pub use Rattle.nf_msgs.specs.declared.command.Command.{Command}
 pub use Rattle.nf_msgs.specs.declared.command.Order.{Order}
 pub use Rattle.nf_msgs.specs.declared.msg.Msg.{Msg}
@@ -125,7 +130,7 @@ pub use Rattle.net_world.specs.Verdicts.{exported_for, before_export, is_refusal
 pub use Rattle.net_world.specs.Window.{AllHome}
 pub use Rattle.net_world.specs.declared.config.Config.{Config}
 pub use Rattle.net_world.specs.declared.node.Node.{Node}
-pub use Rattle.net_world.specs.declared.node.Node.TheVariants.{Switch, Controller}
+pub use Rattle.net_world.specs.declared.node.Node.TheVariants.{Switch, Controller, Instance}
 pub use Rattle.proof_machines.proofs.net.AtEnd.{AtEnd}
 pub use Rattle.proof_machines.proofs.net.Ctrl.{each_found}
 pub use Rattle.proof_machines.proofs.net.Elsewhere.{where_two}
@@ -189,13 +194,13 @@ pub use Rattle.proof_outlines.proofs.joined.InstanceMessages.{Rows, by_message}
 pub use Rattle.proof_outlines.proofs.joined.Joined.{S, A, by_node, came_by, Joined, Label, AreGoodChunks, HasPieces, node_of, GenuinePacket, shown, Scene}
 pub use Rattle.proof_outlines.proofs.joined.Joined.{IsTaken, Genuine, IsGoodPiece, IsInstanceAt, AreShown, is_target, FromController, ToController, FromSwitch}
 pub use Rattle.proof_outlines.proofs.joined.Joined.{ToSwitch}
-pub use Rattle.proof_outlines.proofs.joined.JoinedSteps.{scene}
+pub use Rattle.proof_outlines.proofs.joined.JoinedSteps.{scene, ready_at}
 pub use Rattle.proof_outlines.proofs.joined.KnownOperations.{known, copy_turns}
 pub use Rattle.proof_outlines.proofs.joined.LogLemmas.{by_node-append}
 pub use Rattle.proof_outlines.proofs.joined.NodeSteps.{Wants, node_leads}
 pub use Rattle.proof_outlines.proofs.joined.OperationsApart.{AllApart, AreApart}
 pub use Rattle.proof_outlines.proofs.joined.OwnerLemmas.{In_first, In_second, installed_same, installed_quiet, installed_none, Stands, stands, unit_is_fit}
-pub use Rattle.proof_outlines.proofs.joined.OwnerLemmas.{each_there}
+pub use Rattle.proof_outlines.proofs.joined.OwnerLemmas.{each_there, nowhere}
 pub use Rattle.proof_outlines.proofs.joined.PlaceNotes.{uninstalled_unprocessed, switch_unprocessed, controller_uninstalled, instance_quiet, IsQuiet}
 pub use Rattle.proof_outlines.proofs.joined.PlaceNotes.{AreUnprocessed, is_uninstalled}
 pub use Rattle.proof_outlines.proofs.joined.RunUnits.{RanAs, Seen, Unseen, ran_as, ran_any}
@@ -219,3 +224,5 @@ pub use Rattle.proof_outlines.proofs.whole.ShareLeft.{answered, noted, OpenAt, S
 pub use Rattle.proof_outlines.proofs.whole.StandbyKept.{standby_keeps}
 pub use Rattle.proof_outlines.proofs.whole.SwitchAll.{target_node}
 pub use Rattle.proof_outlines.proofs.whole.WholeOutline.{is_sharing, asked_of, want_share_of}
+pub use Rattle.nf_net.specs.Copies.{UnitCopy, IsOrdered, IsToGive}
+pub use Rattle.nf_net.specs.Promises.{Standbys, Completed, Verdicts}

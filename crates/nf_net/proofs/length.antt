@@ -1,3 +1,4 @@
+
 -- How many choices a run of the network can have.
 pub mod BegunOperations
 pub mod Chances

@@ -1,3 +1,4 @@
+
 pub mod Words
 pub mod outline
 pub mod whole

@@ -14,6 +14,7 @@ pub use Rattle.std.proofs.lemmas.Option.{same_Some}
 pub use Rattle.std.specs.Cmp.{nat_cmp_total}
 pub use Rattle.std.specs.FinMap.{nat_cmp-IsAntisymmetric}
 pub use Rattle.std.specs.List.{filter_map, AllByRecursion, filter, list_any}
+unfoldable pub use Rattle.std.specs.List.{IsDistinct}
 pub use Rattle.std.specs.Map.{keys_of}
 pub use Rattle.std.specs.Option.{option_or, ForSome, option_and_then, option_map_or}
 pub use Rattle.std.specs.Ordering.{nat_cmp, eq_by_cmp, is_lt}
@@ -46,6 +47,7 @@ pub use Rattle.ctrl_node.specs.declared.operation.Operation.TheVariants.{Share, 
 pub use Rattle.event_filter.specs.declared.action.Action.{Action}
 pub use Rattle.event_filter.specs.declared.mark.Mark.{Mark}
 pub use Rattle.event_filter.specs.declared.mark.Mark.TheVariants.{Pass, Plain}
+pub use Rattle.event_filter.specs.declared.rule.Rule.{Rule as EventRule}
 pub use Rattle.event_store.proofs.StoreLookUps.{stored-empty, order_test, stored-with_parcels}
 pub use Rattle.event_store.specs.Store.{stored_of, with_parcels}
 pub use Rattle.flow_filter.specs.Filter.{meets, IsFilter, IsFlow, matches, meet, agrees, holds}
@@ -60,7 +62,8 @@ pub use Rattle.instance_worker.specs.Instance.{to_controller, chunk_told, table_
 pub use Rattle.instance_worker.specs.Instance.{instance_step, selected_chunks, is_live, share_message, carry_step, on_delete, with_live, with_records, and_then}
 pub use Rattle.instance_worker.specs.Instance.{on_enable, tell_step, where_good, imported, export_note, piece_put, piece_refusal, on_stop, on_get_all}
 pub use Rattle.instance_worker.specs.Pieces.{pieces, piece_of, whole_of, newest_version}
-pub use Rattle.instance_worker.specs.declared.instance.Instance.{Instance}
+unfoldable pub use Rattle.instance_worker.specs.Pieces.{pieces_from}
+pub use Rattle.instance_worker.specs.declared.instance.Instance.{Instance, Instance as InstanceState}
 pub use Rattle.instance_worker.specs.declared.pieces.WholePieces.{WholePieces}
 pub use Rattle.move_op.specs.Move.{MovePlan, MoveState, MoveRow, row, answer_of, keeps, next_phase, have_units, source, destination, MoveNext, from_source}
 pub use Rattle.move_op.specs.Move.{from_destination, put_back, words, move_at_start, chunks_of, row_in, put_to, forward_to, Store, store_after, messages_of}
@@ -80,20 +83,22 @@ pub use Rattle.net_world.specs.Start.{first_nodes, started_with, first_switch, f
 pub use Rattle.net_world.specs.declared.config.Config.{Config}
 pub use Rattle.net_world.specs.declared.node.Node.{Node}
 pub use Rattle.net_world.specs.declared.node.Node.TheVariants.{Controller, Switch}
-pub use Rattle.nf_function.specs.Records.{Fits, newest, is_newer}
+pub use Rattle.nf_function.specs.Records.{Fits, newest, is_newer, Laws as FunctionLaws}
 pub use Rattle.nf_function.specs.Semantics.{Semantics, unit_at, is_sound, kept_after}
 pub use Rattle.nf_function.specs.UnitOrder.{units_total}
 pub use Rattle.nf_function.specs.Units.{takes, has_hosts, unit_cmp, is_transport, is_unit, unit_of}
 pub use Rattle.nf_function.specs.declared.chunk.Chunk.{Chunk}
 pub use Rattle.nf_function.specs.declared.kind.Kind.{Kind}
 pub use Rattle.nf_function.specs.declared.kind.Kind.TheVariants.{Conntrack}
+pub use Rattle.nf_function.specs.declared.unit.Unit.TheVariants.{Flow as OfFlow, Host as OfHost}
+pub use Rattle.nf_function.specs.declared.unit.Unit.{Unit}
 pub use Rattle.nf_msgs.specs.MessageParts.{op_of}
 pub use Rattle.nf_msgs.specs.Nodes.{switch_node, instance_node, controller_node}
 pub use Rattle.nf_msgs.specs.declared.answer.Answer.{Answer}
 pub use Rattle.nf_msgs.specs.declared.command.Command.{Command}
 pub use Rattle.nf_msgs.specs.declared.command.Order.{Order}
 pub use Rattle.nf_msgs.specs.declared.msg.Msg.{Msg}
-pub use Rattle.nf_msgs.specs.declared.msg.Piece.{Piece}
+pub use Rattle.nf_msgs.specs.declared.msg.Piece.{Piece, Piece as APiece}
 pub use Rattle.nf_msgs.specs.declared.msg.Refused.{Refused}
 pub use Rattle.nf_msgs.specs.declared.note.Note.{Note}
 pub use Rattle.nf_msgs.specs.declared.note.Note.TheVariants.{Installed}
@@ -102,6 +107,7 @@ pub use Rattle.record_table.proofs.MadeChunks.{valid_entries, distinct_entries, 
 pub use Rattle.record_table.proofs.RecordLookUps.{sound_with_kept, sound_retain_keys, get-joined}
 pub use Rattle.record_table.proofs.UnitOrder.{same_unit_equiv, same_unit-true, one_unit}
 pub use Rattle.record_table.specs.Chunks.{spelled, are_good}
+unfoldable pub use Rattle.record_table.specs.Chunks.{records_of}
 pub use Rattle.record_table.specs.Table.{part, Records, same_unit, without, is_among, after_packet, AreSound, newest_of, taken_by, TableView, with_part, either}
 pub use Rattle.record_table.specs.Table.{union_of, replaced_by}
 pub use Rattle.state_chunk.specs.Format.{record_chunk, version_number}

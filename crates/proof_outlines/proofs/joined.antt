@@ -1,3 +1,4 @@
+
 -- Each world of a run beside the whole abstract world that shows it, through all steps.
 pub mod Words
 pub mod BesideRuns

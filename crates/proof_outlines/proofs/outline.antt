@@ -1,3 +1,4 @@
+
 -- What the proof of the network sees of each node's step and of each message.
 pub mod ControlOutline
 pub mod ControllerWays

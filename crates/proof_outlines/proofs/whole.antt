@@ -1,3 +1,4 @@
+
 -- What the proof of the network with shares sees of each node's step and of each message.
 pub mod AskedShare
 pub mod BeginsAll

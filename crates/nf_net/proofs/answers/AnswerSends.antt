@@ -1,12 +1,11 @@
 -- A row of a move sends no message that a command is answered: the controller alone adds it.
 use Rattle.nf_net.proofs.Words.{◌≡◌, ℕ, true, List, [], ◌∷◌, refl, cond-same, FullCell, Msg, Phase, MovePlan, reaches, sent_weight, Each, all_sent}
-use Rattle.nf_msgs.specs.declared.msg.Msg.TheVariants as msg
 use Rattle.move_op.specs.Move.{row}
 use Rattle.proof_outlines.proofs.outline.MoveRows.{is_of_move}
 
 -- a message that a command is answered counts
 abbrev pub answering : Msg → ℕ
-answering (msg.Answered op) = 1
+answering (Msg.Answered op) = 1
 answering m = 0
 
 abbrev pub NoAnswer : List (ℕ × Msg) → Type 0
@@ -17,7 +16,7 @@ none_weighs n k [] h = refl
 none_weighs n k (x ∷ xs) h = let own = h.0 in let rest = none_weighs n k xs h.1 in rw (own, rest, cond-same {X = ℕ} (reaches n k x.0) 0) refl
 
 of_move : (m : Msg) → is_of_move m ≡ true → answering m ≡ 0
-of_move (msg.Answered op) h = cc
+of_move (Msg.Answered op) h = cc
 of_move m h = refl
 
 pub row_quiet : (plan : MovePlan) (events : List FullCell) (ph : Phase) (port : ℕ) (message : Msg)

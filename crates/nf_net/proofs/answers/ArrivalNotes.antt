@@ -2,13 +2,11 @@
 use Rattle.nf_net.proofs.Words.{◌≡◌, ℕ, Bool, true, false, None, [], refl, step_fits, Semantics, Msg, Note, SwitchState, switch_step, ControllerState}
 use Rattle.nf_net.proofs.Words.{controller_step, InstanceState, instance_step, arrivals_in, none_picked, IsQuiet, is_uninstalled, instance_quiet}
 use Rattle.nf_net.proofs.Words.{controller_uninstalled}
-use Rattle.nf_msgs.specs.declared.msg.Msg.TheVariants as msg
-use Rattle.nf_msgs.specs.declared.note.Note.TheVariants as note
 use Rattle.net_world.specs.Log.{arrival_in}
 
 -- a packet of the input
 abbrev pub is_packet : Msg → Bool
-is_packet (msg.InPacket q) = true
+is_packet (Msg.InPacket q) = true
 is_packet m = false
 
 -- The switch, at any other message.
@@ -29,7 +27,7 @@ switch_notes_none s m = step_fits s (λ k did. is_packet k ≡ false → arrival
 
 -- The controller.
 no_arrival : (n : Note) → is_uninstalled n ≡ true → arrival_in n ≡ None
-no_arrival (note.Arrived number) h = cc
+no_arrival (Note.Arrived number) h = cc
 no_arrival n h = refl
 
 pub controller_notes_none : (s : ControllerState) (p : ℕ) (m : Msg) → arrivals_in (controller_step s p m).notes ≡ []
@@ -37,7 +35,7 @@ controller_notes_none s p m = none_picked arrival_in (λ n. is_uninstalled n ≡
 
 -- An instance.
 quiet_arrival : (k : ℕ) (n : Note) → IsQuiet k n → arrival_in n ≡ None
-quiet_arrival k (note.Arrived number) h = absurd h
+quiet_arrival k (Note.Arrived number) h = absurd h
 quiet_arrival k n h = refl
 
 pub instance_notes_none : {F R : Type 0} (f : Semantics R) (i : InstanceState F R) (m : Msg) → arrivals_in (instance_step f i m).notes ≡ []

@@ -2,13 +2,11 @@
 use Rattle.nf_net.proofs.Words.{◌≡◌, ℕ, suc, ◌<◌, ◌≤◌, Bool, true, false, cond, Some, None, List, [], ◌∷◌, ◌++◌, refl, sym, ap, ◌∙◌, subst, arith, map}
 use Rattle.nf_net.proofs.Words.{if◌then◌else◌, ◌&&◌, ◌||◌, ◌==◌, not, is_some, nat_lt, unwrap_or, nat_tests, Decides-eqb, Decides-ltb, and-false, or-true}
 use Rattle.nf_net.proofs.Words.{and-true, and_parts, Answer, Order, Note, Operation, OpenOperations, has_answered, is_begun, is_share, keeps_off, answers_of}
-use Rattle.nf_net.proofs.Words.{MayBegin, has_begun-append, has_answered-append, answers_of-append, got_insert, got_remove, Given}
+use Rattle.nf_net.proofs.Words.{MayBegin, has_begun-append, has_answered-append, answers_of-append, got_insert, got_remove, Given, Done}
 use Rattle.std.specs.FinMap as finite
-use Rattle.nf_msgs.specs.declared.answer.Answer.TheVariants.{Done}
-use Rattle.nf_msgs.specs.declared.note.Note.TheVariants as note
-use Rattle.nf_net.proofs.answers.BusyLemmas.{AreOther, is_noted, is_outcome, IsAnswered, IsCauseIn, or_off, began_same}
-use Rattle.nf_net.proofs.answers.BusyLemmas.{answered_same, keeps_same, answers_same, none_answered, unanswered, other_not_begun}
-use Rattle.nf_net.proofs.answers.BusyLemmas.{other_not_answered, stays_answered, answered_begun, answered_refused, begun_now}
+use Rattle.nf_net.proofs.answers.BusyLemmas.{AreOther, is_noted, is_outcome, IsAnswered, IsCauseIn, or_off, began_same, answered_same, keeps_same, answers_same}
+use Rattle.nf_net.proofs.answers.BusyLemmas.{none_answered, unanswered, other_not_begun, other_not_answered, stays_answered, answered_begun, answered_refused}
+use Rattle.nf_net.proofs.answers.BusyLemmas.{begun_now}
 use Rattle.nf_net.proofs.answers.BusyOperations.{IsPlanned, HasAnswer, answers_to, IsBusy}
 
 same_operation : (a b : Operation) → Some a ≡ Some b → a ≡ b
@@ -24,44 +22,44 @@ not_noted op log notes h a b =
     off_both (is_begun op (log ++ notes)) (has_answered op (log ++ notes)) (began_same op log notes a ∙ off.0) (answered_same op log notes b ∙ off.1)
 
 -- a note of one number says nothing of another
-apart_noted : (op k : ℕ) (a : Answer) → (k == op) ≡ false → has_answered k (note.Answered op a ∷ []) ≡ false
+apart_noted : (op k : ℕ) (a : Answer) → (k == op) ≡ false → has_answered k (Note.Answered op a ∷ []) ≡ false
 apart_noted op k a off = let turned : (op == k) ≡ false = grind (arith, nat_tests) in rw turned refl
 
-apart_begun : (op k : ℕ) → (k == op) ≡ false → is_begun k (note.Begun op ∷ []) ≡ false
+apart_begun : (op k : ℕ) → (k == op) ≡ false → is_begun k (Note.Begun op ∷ []) ≡ false
 apart_begun op k off = let turned : (op == k) ≡ false = grind (arith, nat_tests) in rw turned refl
 
-own_answer : (op : ℕ) (a : Answer) → answers_of op (note.Answered op a ∷ []) ≡ a ∷ []
+own_answer : (op : ℕ) (a : Answer) → answers_of op (Note.Answered op a ∷ []) ≡ a ∷ []
 own_answer op a = let own : (op == op) ≡ true = grind (arith, nat_tests) in ap (λ b. map (λ (one : ℕ × Answer). one.1) (if b then (op, a) ∷ [] else [])) own
 
-now_answered : (op : ℕ) (log : List Note) (a : Answer) → has_answered op (log ++ note.Answered op a ∷ []) ≡ true
+now_answered : (op : ℕ) (log : List Note) (a : Answer) → has_answered op (log ++ Note.Answered op a ∷ []) ≡ true
 now_answered op log a =
     let own : (op == op) ≡ true = grind (arith, nat_tests) in
-    has_answered-append op log (note.Answered op a ∷ []) ∙ ap (λ b. has_answered op log || (b || false)) own ∙ or-true (has_answered op log)
+    has_answered-append op log (Note.Answered op a ∷ []) ∙ ap (λ b. has_answered op log || (b || false)) own ∙ or-true (has_answered op log)
 
 module _ (g : Given) where
   -- an answer ends what isn't a share
-  ended : (op : ℕ) (log : List Note) (a : Answer) → is_share (g.orders op) ≡ false → keeps_off g.names g.orders op (log ++ note.Answered op a ∷ []) ≡ false
+  ended : (op : ℕ) (log : List Note) (a : Answer) → is_share (g.orders op) ≡ false → keeps_off g.names g.orders op (log ++ Note.Answered op a ∷ []) ≡ false
   ended op log a ends =
-      let log2 = log ++ note.Answered op a ∷ [] in
+      let log2 = log ++ Note.Answered op a ∷ [] in
       ap (λ b. is_begun op log2 && (b || not (has_answered op log2))) ends ∙ ap (λ b. is_begun op log2 && not b) (now_answered op log a)
       ∙ and-false (is_begun op log2)
 
   -- and a share keeps others off behind it
   lasting : (op : ℕ) (log : List Note) (a : Answer) → is_share (g.orders op) ≡ true → is_begun op log ≡ true
-      → keeps_off g.names g.orders op (log ++ note.Answered op a ∷ []) ≡ true
+      → keeps_off g.names g.orders op (log ++ Note.Answered op a ∷ []) ≡ true
   lasting op log a lasts begun =
-      let log2 = log ++ note.Answered op a ∷ [] in
-      ap (λ b. is_begun op log2 && (b || not (has_answered op log2))) lasts ∙ and-true (is_begun op log2) ∙ began_same op log (note.Answered op a ∷ []) refl
+      let log2 = log ++ Note.Answered op a ∷ [] in
+      ap (λ b. is_begun op log2 && (b || not (has_answered op log2))) lasts ∙ and-true (is_begun op log2) ∙ began_same op log (Note.Answered op a ∷ []) refl
       ∙ begun
 
-  started : (op : ℕ) (log : List Note) → has_answered op log ≡ false → keeps_off g.names g.orders op (log ++ note.Begun op ∷ []) ≡ true
+  started : (op : ℕ) (log : List Note) → has_answered op log ≡ false → keeps_off g.names g.orders op (log ++ Note.Begun op ∷ []) ≡ true
   started op log h =
       let own : (op == op) ≡ true = grind (arith, nat_tests) in
-      let log2 = log ++ note.Begun op ∷ [] in
-      let begun : is_begun op log2 ≡ true = has_begun-append (λ k. k == op) log (note.Begun op ∷ []) ∙ ap (λ b. is_begun op log || (b || false)) own
+      let log2 = log ++ Note.Begun op ∷ [] in
+      let begun : is_begun op log2 ≡ true = has_begun-append (λ k. k == op) log (Note.Begun op ∷ []) ∙ ap (λ b. is_begun op log || (b || false)) own
       ∙ or-true (is_begun op log) in
       ap (λ b. b && (is_share (g.orders op) || not (has_answered op log2))) begun
-      ∙ ap (λ b. is_share (g.orders op) || not b) (answered_same op log (note.Begun op ∷ []) refl ∙ h) ∙ or-true (is_share (g.orders op))
+      ∙ ap (λ b. is_share (g.orders op) || not b) (answered_same op log (Note.Begun op ∷ []) refl ∙ h) ∙ or-true (is_share (g.orders op))
 
   kept_begun : (op : ℕ) (log : List Note) → keeps_off g.names g.orders op log ≡ true → is_begun op log ≡ true
   kept_begun op log on = (and_parts (is_begun op log) (is_share (g.orders op) || not (has_answered op log)) on).0
@@ -98,17 +96,17 @@ module _ (g : Given) (ops : OpenOperations) (log : List Note) (waits : List ℕ)
     at_own P k on own = subst P (sym ((Decides-eqb k op).0 on)) own
 
     -- its answer
-    answered_now : (a : Answer) → is_outcome a ≡ true → answers_to m ≡ [] → (k : ℕ) → IsAnswered g.names g.orders k (log ++ note.Answered op a ∷ [])
-    answered_now a outcome none k = elim (k == op) as (λ b. (k == op) ≡ b → IsAnswered g.names g.orders k (log ++ note.Answered op a ∷ [])) [
-      | true ↦ λ on. at_own (λ j. IsAnswered g.names g.orders j (log ++ note.Answered op a ∷ [])) k on
+    answered_now : (a : Answer) → is_outcome a ≡ true → answers_to m ≡ [] → (k : ℕ) → IsAnswered g.names g.orders k (log ++ Note.Answered op a ∷ [])
+    answered_now a outcome none k = elim (k == op) as (λ b. (k == op) ≡ b → IsAnswered g.names g.orders k (log ++ Note.Answered op a ∷ [])) [
+      | true ↦ λ on. at_own (λ j. IsAnswered g.names g.orders j (log ++ Note.Answered op a ∷ [])) k on
           (answered_begun g.names g.orders op log a begun_on (unanswered op log (h.told op m there ∙ none)) outcome (h.answered op))
-      | false ↦ λ off. stays_answered g.names g.orders k log (note.Answered op a ∷ []) refl (apart_noted op k a off) (h.answered k)
+      | false ↦ λ off. stays_answered g.names g.orders k log (Note.Answered op a ∷ []) refl (apart_noted op k a off) (h.answered k)
     ] refl
 
-    unnoted_now : (a : Answer) (k : ℕ) → h.next ≤ k → is_noted k (log ++ note.Answered op a ∷ []) ≡ false
+    unnoted_now : (a : Answer) (k : ℕ) → h.next ≤ k → is_noted k (log ++ Note.Answered op a ∷ []) ≡ false
     unnoted_now a k late =
         let small = early op begun_on in
-        let off : (k == op) ≡ false = grind (arith, nat_tests) in not_noted k log (note.Answered op a ∷ []) (h.unnoted k late) refl (apart_noted op k a off)
+        let off : (k == op) ≡ false = grind (arith, nat_tests) in not_noted k log (Note.Answered op a ∷ []) (h.unnoted k late) refl (apart_noted op k a off)
 
     -- another operation stands in its place
     module _ (after : OpenOperations) (is : (k : ℕ) → finite.get after k ≡ cond (k == op) (Some n) (finite.get ops k)) where
@@ -154,18 +152,18 @@ module _ (g : Given) (ops : OpenOperations) (log : List Note) (waits : List ℕ)
 
       -- a share is set up: it is answered, and stays open
       pub set_up : is_share (g.orders op) ≡ true → answers_to m ≡ [] → answers_to n ≡ Done ∷ [] → HasAnswer n
-          → IsBusy g after (log ++ note.Answered op Done ∷ []) waits
+          → IsBusy g after (log ++ Note.Answered op Done ∷ []) waits
       set_up lasts none now outcome = record {
         busy = λ k. ap is_some (is k) ∙ elim (k == op)
-            as (λ b. (k == op) ≡ b → is_some (cond b (Some n) (finite.get ops k)) ≡ keeps_off g.names g.orders k (log ++ note.Answered op Done ∷ [])) [
-              | true ↦ λ on. at_own (λ j. true ≡ keeps_off g.names g.orders j (log ++ note.Answered op Done ∷ [])) k on
+            as (λ b. (k == op) ≡ b → is_some (cond b (Some n) (finite.get ops k)) ≡ keeps_off g.names g.orders k (log ++ Note.Answered op Done ∷ [])) [
+              | true ↦ λ on. at_own (λ j. true ≡ keeps_off g.names g.orders j (log ++ Note.Answered op Done ∷ [])) k on
                   (sym (lasting g op log Done lasts begun_on))
-              | false ↦ λ off. h.busy k ∙ sym (keeps_same g.names g.orders k log (note.Answered op Done ∷ []) refl (apart_noted op k Done off))
+              | false ↦ λ off. h.busy k ∙ sym (keeps_same g.names g.orders k log (Note.Answered op Done ∷ []) refl (apart_noted op k Done off))
             ] refl;
         plan = planned_after;
         outcome = outcome_after outcome;
-        told = told_after (note.Answered op Done ∷ []) (answers_of-append op log (note.Answered op Done ∷ [])
-            ∙ ap (λ xs. xs ++ answers_of op (note.Answered op Done ∷ [])) (h.told op m there ∙ none) ∙ own_answer op Done ∙ sym now)
+        told = told_after (Note.Answered op Done ∷ []) (answers_of-append op log (Note.Answered op Done ∷ [])
+            ∙ ap (λ xs. xs ++ answers_of op (Note.Answered op Done ∷ [])) (h.told op m there ∙ none) ∙ own_answer op Done ∙ sym now)
             (λ k off. apart_noted op k Done off);
         next = h.next;
         rising = h.rising;
@@ -175,12 +173,12 @@ module _ (g : Given) (ops : OpenOperations) (log : List Note) (waits : List ℕ)
 
     -- it is answered and closed
     pub closed : (a : Answer) → is_outcome a ≡ true → is_share (g.orders op) ≡ false → answers_to m ≡ []
-        → IsBusy g (finite.remove ops op) (log ++ note.Answered op a ∷ []) waits
+        → IsBusy g (finite.remove ops op) (log ++ Note.Answered op a ∷ []) waits
     closed a outcome ends none = record {
       busy = λ k. ap is_some (got_remove ops op k) ∙ elim (k == op)
-          as (λ b. (k == op) ≡ b → is_some (cond b None (finite.get ops k)) ≡ keeps_off g.names g.orders k (log ++ note.Answered op a ∷ [])) [
-            | true ↦ λ on. at_own (λ j. false ≡ keeps_off g.names g.orders j (log ++ note.Answered op a ∷ [])) k on (sym (ended g op log a ends))
-            | false ↦ λ off. h.busy k ∙ sym (keeps_same g.names g.orders k log (note.Answered op a ∷ []) refl (apart_noted op k a off))
+          as (λ b. (k == op) ≡ b → is_some (cond b None (finite.get ops k)) ≡ keeps_off g.names g.orders k (log ++ Note.Answered op a ∷ [])) [
+            | true ↦ λ on. at_own (λ j. false ≡ keeps_off g.names g.orders j (log ++ Note.Answered op a ∷ [])) k on (sym (ended g op log a ends))
+            | false ↦ λ off. h.busy k ∙ sym (keeps_same g.names g.orders k log (Note.Answered op a ∷ []) refl (apart_noted op k a off))
           ] refl;
       plan = λ k x is. elim (k == op) as (λ b. cond b None (finite.get ops k) ≡ Some x → IsPlanned g k x) [
         | true ↦ λ e. cc
@@ -191,9 +189,9 @@ module _ (g : Given) (ops : OpenOperations) (log : List Note) (waits : List ℕ)
         | false ↦ λ e. h.outcome k x e
       ] (sym (got_remove ops op k) ∙ is);
       told = λ k x is.
-          elim (k == op) as (λ b. (k == op) ≡ b → cond b None (finite.get ops k) ≡ Some x → answers_of k (log ++ note.Answered op a ∷ []) ≡ answers_to x) [
+          elim (k == op) as (λ b. (k == op) ≡ b → cond b None (finite.get ops k) ≡ Some x → answers_of k (log ++ Note.Answered op a ∷ []) ≡ answers_to x) [
             | true ↦ λ on e. cc
-            | false ↦ λ off e. answers_same k log (note.Answered op a ∷ []) (apart_noted op k a off) ∙ h.told k x e
+            | false ↦ λ off e. answers_same k log (Note.Answered op a ∷ []) (apart_noted op k a off) ∙ h.told k x e
           ] refl (sym (got_remove ops op k) ∙ is);
       next = h.next;
       rising = h.rising;
@@ -239,39 +237,39 @@ module _ (g : Given) (ops : OpenOperations) (log : List Note) (op : ℕ) (waits 
 
   -- it is refused
   pub refused : (what : Order) (a : Answer) → g.orders op ≡ Some what → IsCauseIn g.names g.orders a what log
-      → IsBusy g ops (log ++ note.Answered op a ∷ []) waits
+      → IsBusy g ops (log ++ Note.Answered op a ∷ []) waits
   refused what a known cause = record {
     busy = λ k. h.busy k
-        ∙ elim (k == op) as (λ b. (k == op) ≡ b → keeps_off g.names g.orders k log ≡ keeps_off g.names g.orders k (log ++ note.Answered op a ∷ [])) [
-          | true ↦ λ on. on_own (λ j. keeps_off g.names g.orders j log ≡ keeps_off g.names g.orders j (log ++ note.Answered op a ∷ [])) k on
-              (not_kept ∙ sym (ap (λ b. b && (is_share (g.orders op) || not (has_answered op (log ++ note.Answered op a ∷ []))))
-              (began_same op log (note.Answered op a ∷ []) refl ∙ still_new.0)))
-          | false ↦ λ off. sym (keeps_same g.names g.orders k log (note.Answered op a ∷ []) refl (apart_noted op k a off))
+        ∙ elim (k == op) as (λ b. (k == op) ≡ b → keeps_off g.names g.orders k log ≡ keeps_off g.names g.orders k (log ++ Note.Answered op a ∷ [])) [
+          | true ↦ λ on. on_own (λ j. keeps_off g.names g.orders j log ≡ keeps_off g.names g.orders j (log ++ Note.Answered op a ∷ [])) k on
+              (not_kept ∙ sym (ap (λ b. b && (is_share (g.orders op) || not (has_answered op (log ++ Note.Answered op a ∷ []))))
+              (began_same op log (Note.Answered op a ∷ []) refl ∙ still_new.0)))
+          | false ↦ λ off. sym (keeps_same g.names g.orders k log (Note.Answered op a ∷ []) refl (apart_noted op k a off))
         ] refl;
     plan = h.plan;
     outcome = h.outcome;
-    told = λ k x is. elim (k == op) as (λ b. (k == op) ≡ b → answers_of k (log ++ note.Answered op a ∷ []) ≡ answers_to x) [
+    told = λ k x is. elim (k == op) as (λ b. (k == op) ≡ b → answers_of k (log ++ Note.Answered op a ∷ []) ≡ answers_to x) [
       | true ↦ λ on. absurd (not_open x (ap (finite.get ops) (sym ((Decides-eqb k op).0 on)) ∙ is))
-      | false ↦ λ off. answers_same k log (note.Answered op a ∷ []) (apart_noted op k a off) ∙ h.told k x is
+      | false ↦ λ off. answers_same k log (Note.Answered op a ∷ []) (apart_noted op k a off) ∙ h.told k x is
     ] refl;
     next = suc op;
     rising = h.rising.1;
-    unnoted = λ k late. not_noted k log (note.Answered op a ∷ []) (later_new k late) refl (apart_noted op k a (later_off k late));
-    answered = λ k. elim (k == op) as (λ b. (k == op) ≡ b → IsAnswered g.names g.orders k (log ++ note.Answered op a ∷ [])) [
-      | true ↦ λ on. on_own (λ j. IsAnswered g.names g.orders j (log ++ note.Answered op a ∷ [])) k on
+    unnoted = λ k late. not_noted k log (Note.Answered op a ∷ []) (later_new k late) refl (apart_noted op k a (later_off k late));
+    answered = λ k. elim (k == op) as (λ b. (k == op) ≡ b → IsAnswered g.names g.orders k (log ++ Note.Answered op a ∷ [])) [
+      | true ↦ λ on. on_own (λ j. IsAnswered g.names g.orders j (log ++ Note.Answered op a ∷ [])) k on
           (answered_refused g.names g.orders op log a what is_new known cause)
-      | false ↦ λ off. stays_answered g.names g.orders k log (note.Answered op a ∷ []) refl (apart_noted op k a off) (h.answered k)
+      | false ↦ λ off. stays_answered g.names g.orders k log (Note.Answered op a ∷ []) refl (apart_noted op k a off) (h.answered k)
     ] refl;
   }
 
   -- it begins
   pub begun : (what : Order) (n : Operation) → g.orders op ≡ Some what → MayBegin g.names g.orders what log → IsPlanned g op n → HasAnswer n
-      → answers_to n ≡ [] → IsBusy g (finite.insert ops op n) (log ++ note.Begun op ∷ []) waits
+      → answers_to n ≡ [] → IsBusy g (finite.insert ops op n) (log ++ Note.Begun op ∷ []) waits
   begun what n known may plan outcome none = record {
     busy = λ k. ap is_some (got_insert ops op k n)
-        ∙ elim (k == op) as (λ b. (k == op) ≡ b → is_some (cond b (Some n) (finite.get ops k)) ≡ keeps_off g.names g.orders k (log ++ note.Begun op ∷ [])) [
-          | true ↦ λ on. on_own (λ j. true ≡ keeps_off g.names g.orders j (log ++ note.Begun op ∷ [])) k on (sym (started g op log still_new.1))
-          | false ↦ λ off. h.busy k ∙ sym (keeps_same g.names g.orders k log (note.Begun op ∷ []) (apart_begun op k off) refl)
+        ∙ elim (k == op) as (λ b. (k == op) ≡ b → is_some (cond b (Some n) (finite.get ops k)) ≡ keeps_off g.names g.orders k (log ++ Note.Begun op ∷ [])) [
+          | true ↦ λ on. on_own (λ j. true ≡ keeps_off g.names g.orders j (log ++ Note.Begun op ∷ [])) k on (sym (started g op log still_new.1))
+          | false ↦ λ off. h.busy k ∙ sym (keeps_same g.names g.orders k log (Note.Begun op ∷ []) (apart_begun op k off) refl)
         ] refl;
     plan = λ k x is. elim (k == op) as (λ b. (k == op) ≡ b → cond b (Some n) (finite.get ops k) ≡ Some x → IsPlanned g k x) [
       | true ↦ λ on e. on_own (λ j. IsPlanned g j x) k on (subst (IsPlanned g op) (same_operation n x e) plan)
@@ -282,16 +280,16 @@ module _ (g : Given) (ops : OpenOperations) (log : List Note) (op : ℕ) (waits 
       | false ↦ λ e. h.outcome k x e
     ] (sym (got_insert ops op k n) ∙ is);
     told = λ k x is.
-        elim (k == op) as (λ b. (k == op) ≡ b → cond b (Some n) (finite.get ops k) ≡ Some x → answers_of k (log ++ note.Begun op ∷ []) ≡ answers_to x) [
-          | true ↦ λ on e. on_own (λ j. answers_of j (log ++ note.Begun op ∷ []) ≡ answers_to x) k on
-              (answers_same op log (note.Begun op ∷ []) refl ∙ none_answered op log still_new.1 ∙ sym none ∙ ap answers_to (same_operation n x e))
-          | false ↦ λ off e. answers_same k log (note.Begun op ∷ []) refl ∙ h.told k x e
+        elim (k == op) as (λ b. (k == op) ≡ b → cond b (Some n) (finite.get ops k) ≡ Some x → answers_of k (log ++ Note.Begun op ∷ []) ≡ answers_to x) [
+          | true ↦ λ on e. on_own (λ j. answers_of j (log ++ Note.Begun op ∷ []) ≡ answers_to x) k on
+              (answers_same op log (Note.Begun op ∷ []) refl ∙ none_answered op log still_new.1 ∙ sym none ∙ ap answers_to (same_operation n x e))
+          | false ↦ λ off e. answers_same k log (Note.Begun op ∷ []) refl ∙ h.told k x e
         ] refl (sym (got_insert ops op k n) ∙ is);
     next = suc op;
     rising = h.rising.1;
-    unnoted = λ k late. not_noted k log (note.Begun op ∷ []) (later_new k late) (apart_begun op k (later_off k late)) refl;
-    answered = λ k. elim (k == op) as (λ b. (k == op) ≡ b → IsAnswered g.names g.orders k (log ++ note.Begun op ∷ [])) [
-      | true ↦ λ on. on_own (λ j. IsAnswered g.names g.orders j (log ++ note.Begun op ∷ [])) k on (begun_now g.names g.orders op log what is_new known may)
-      | false ↦ λ off. stays_answered g.names g.orders k log (note.Begun op ∷ []) (apart_begun op k off) refl (h.answered k)
+    unnoted = λ k late. not_noted k log (Note.Begun op ∷ []) (later_new k late) (apart_begun op k (later_off k late)) refl;
+    answered = λ k. elim (k == op) as (λ b. (k == op) ≡ b → IsAnswered g.names g.orders k (log ++ Note.Begun op ∷ [])) [
+      | true ↦ λ on. on_own (λ j. IsAnswered g.names g.orders j (log ++ Note.Begun op ∷ [])) k on (begun_now g.names g.orders op log what is_new known may)
+      | false ↦ λ off. stays_answered g.names g.orders k log (Note.Begun op ∷ []) (apart_begun op k off) refl (h.answered k)
     ] refl;
   }

@@ -4,16 +4,11 @@ use Rattle.nf_net.proofs.Words.{FullCell, Answer, Order, Msg, Note, switch_node,
 use Rattle.nf_net.proofs.Words.{row_in, answer_of, move_at_start, Operation, Move, Copy, Share, turn_of, turn_of_move, ControllerState, on_asked, on_diverted}
 use Rattle.nf_net.proofs.Words.{queue_step, after_turn, takes_turn, hand_step, on_final, instance_at, step_and_finish, controller_step, place_of, stored_of}
 use Rattle.nf_net.proofs.Words.{EachSent, CopyTurn, Idle, Hands, Hands_all, Ends, hands, copy_turn, got_insert, remove_insert, NotShared, Given, Label}
-use Rattle.nf_net.proofs.Words.{answered, noted, is_share, sent-append}
+use Rattle.nf_net.proofs.Words.{answered, noted, is_share, sent-append, Done}
 use Rattle.std.specs.FinMap as finite
-use Rattle.nf_msgs.specs.declared.answer.Answer.TheVariants.{Done}
-use Rattle.nf_msgs.specs.declared.msg.Msg.TheVariants as msg
-use Rattle.nf_msgs.specs.declared.note.Note.TheVariants as note
 use Rattle.copy_share.specs.Copy as copy
 use Rattle.copy_share.specs.Share as share
-use Rattle.ctrl_node.specs.Controller.{Step, still}
-use Rattle.ctrl_node.specs.Controller.{numbered, on_event}
-use Rattle.ctrl_node.specs.Controller.{row as controller_row}
+use Rattle.ctrl_node.specs.Controller.{Step, still, numbered, on_event, row as controller_row}
 use Rattle.nf_net.proofs.answers.ControllerCases.{OpensBy, Opens_move, Opens_copy, Opens_share, by_command, by_finish, by_operation, by_queue, by_sender}
 use Rattle.nf_net.proofs.answers.ControllerCases.{by_stop}
 use Rattle.nf_net.proofs.answers.BusyOperations.{HasOutcome, IsShareOf, answers_to, IsBusy, Causes, refusal_is}
@@ -23,14 +18,14 @@ use Rattle.nf_net.proofs.answers.ShareTells.{is_set_up, is_of_share, AreOfShare,
 
 -- the number of a command that a message brings
 abbrev pub told_in : Msg → List ℕ
-told_in (msg.Asked c) = c.op ∷ []
-told_in (msg.InCommand c) = c.op ∷ []
+told_in (Msg.Asked c) = c.op ∷ []
+told_in (Msg.InCommand c) = c.op ∷ []
 told_in m = []
 
 -- what a share sends says nothing of moves
 module _ (g : Given) where
   share_says : (r : ℕ) (m : Msg) → is_of_share m ≡ true → Says g 1 r m
-  share_says r (msg.PutNo op refused) e = cc
+  share_says r (Msg.PutNo op refused) e = cc
   share_says r m e = tt
 
   shares_say : (sends : List (ℕ × Msg)) → AreOfShare sends → EachSent (Says g) 1 sends
@@ -39,7 +34,7 @@ module _ (g : Given) where
 
   answer_says : (op : ℕ) (answer : Option Answer) (sends : List (ℕ × Msg)) → AreOfShare sends → EachSent (Says g) 1 (answered op answer sends)
   answer_says op None sends h = shares_say sends h
-  answer_says op (Some why) sends h = sent-append (Says g) 1 sends ((switch_node, msg.Answered op) ∷ []) (shares_say sends h) (tt, tt)
+  answer_says op (Some why) sends h = sent-append (Says g) 1 sends ((switch_node, Msg.Answered op) ∷ []) (shares_say sends h) (tt, tt)
 
 -- the answers to a share that is set up, or isn't
 set_up_answers : (s : ShareState) → is_set_up s.phase ≡ true → answers_to (Share s) ≡ Done ∷ []
@@ -56,7 +51,7 @@ module _ (g : Given) (log : List Note) (waits : List ℕ) where
   -- the finish behind all else changes nothing of it
   finished_is : (did : Step) → StepIs did → StepIs (step_and_finish did)
   finished_is did h =
-      by_finish StepIs did.node did (record { busy = h.busy; says = sent-append (Says g) 1 did.sends ((switch_node, msg.Finish) ∷ []) h.says (tt, tt) })
+      by_finish StepIs did.node did (record { busy = h.busy; says = sent-append (Says g) 1 did.sends ((switch_node, Msg.Finish) ∷ []) h.says (tt, tt) })
       (record { busy = h.busy; says = sent-append (Says g) 1 did.sends [] h.says tt })
 
   module _ (c : ControllerState) (h : IsBusy g c.operations log waits) where
@@ -80,8 +75,8 @@ module _ (g : Given) (log : List Note) (waits : List ℕ) where
 
         by_turn : (did : Step) → CopyTurn (record { controller = c; op = op; copy = y }) m did → StepIs did
         by_turn did (Idle e) = subst StepIs (sym e) still_is
-        by_turn did (Hands k chunks e d) = subst StepIs (sym d) (hands_is (msg.Standby y.plan.op chunks) tt)
-        by_turn did (Hands_all k chunk e d) = subst StepIs (sym d) (hands_is (msg.PutAll y.plan.op chunk) tt)
+        by_turn did (Hands k chunks e d) = subst StepIs (sym d) (hands_is (Msg.Standby y.plan.op chunks) tt)
+        by_turn did (Hands_all k chunk e d) = subst StepIs (sym d) (hands_is (Msg.PutAll y.plan.op chunk) tt)
         by_turn did (Ends d) = subst StepIs (sym d) (record {
           busy = op_closed g c.operations log waits h op (Copy y) (Copy y) is (h.plan op (Copy y) is) Done refl
               (ap is_share (h.plan op (Copy y) is).0.order_is) refl;
@@ -105,10 +100,10 @@ module _ (g : Given) (log : List Note) (waits : List ℕ) where
           says = says.1;
         }
         by_answer (Some a) e = record {
-          busy = subst (λ ops. IsBusy g ops (log ++ note.Answered op a ∷ []) waits) (sym (remove_insert c.operations op (Move n)))
+          busy = subst (λ ops. IsBusy g ops (log ++ Note.Answered op a ∷ []) waits) (sym (remove_insert c.operations op (Move n)))
               (op_closed g c.operations log waits h op (Move mv) (Move mv) is (h.plan op (Move mv) is) a (answer_is r.next.phase a says.0 e)
               (ap is_share (h.plan op (Move mv) is).order_is) refl);
-          says = sent-append (Says g) 1 r.next.sends ((switch_node, msg.Answered op) ∷ []) says.1 (tt, tt);
+          says = sent-append (Says g) 1 r.next.sends ((switch_node, Msg.Answered op) ∷ []) says.1 (tt, tt);
         }
 
     -- an open share
@@ -131,7 +126,7 @@ module _ (g : Given) (log : List Note) (waits : List ℕ) where
             (other_notes g did.node.operations log waits (op_turned g c.operations log waits h op (Share s) (Share now) there plan did.node.operations
             l.operations (ap (λ b. if b then Done ∷ [] else []) (sym same)) tt) [] tt)
         by_answer (Some why) notes tells =
-            subst (λ ns. IsBusy g did.node.operations (log ++ ns) waits) (sym (notes ∙ ap (λ a. note.Answered op a ∷ []) tells.0))
+            subst (λ ns. IsBusy g did.node.operations (log ++ ns) waits) (sym (notes ∙ ap (λ a. Note.Answered op a ∷ []) tells.0))
             (op_set_up g c.operations log waits h op (Share s) (Share now) there plan did.node.operations l.operations (ap is_share plan.order_is)
             (not_set_up s tells.1) (set_up_answers now tells.2) tt)
 
@@ -149,7 +144,7 @@ module _ (g : Given) (log : List Note) (waits : List ℕ) where
     numbered_is port m (Some op) label = handed_is op port m label
 
     event_is : (port op : ℕ) (cell : FullCell) (i : Option ℕ) → StepIs (on_event c port op cell i)
-    event_is port op cell i = by_sender StepIs c port op cell i still_is (handed_is op port (msg.Event op cell) tt)
+    event_is port op cell i = by_sender StepIs c port op cell i still_is (handed_is op port (Msg.Event op cell) tt)
         (λ k. record { busy = other_notes g c.operations log waits h [] tt; says = (tt, tt) })
 
     final_is : (i : Option ℕ) → StepIs (on_final c i)
@@ -210,21 +205,21 @@ module _ (g : Given) (log : List Note) (waits : List ℕ) where
 
 module _ {R : Type 0} (f : Semantics R) (g : Given) (log : List Note) (waits : List ℕ) (c : ControllerState) (names : c.names ≡ g.names) where
   row_busy : (p : ℕ) (m : Msg) → Label f g p 1 m → Says g p 1 m → IsBusy g c.operations log (told_in m ++ waits) → StepIs g log waits (controller_row c p m)
-  row_busy p (msg.Asked k) label says h = elim (p == switch_node) as (λ b. StepIs g log waits (if b then on_asked c k else still c)) [
+  row_busy p (Msg.Asked k) label says h = elim (p == switch_node) as (λ b. StepIs g log waits (if b then on_asked c k else still c)) [
     | true ↦ asked_is g log waits c k.op k.what names h label.2.known
     | false ↦ dropped_is g log waits c k.op k.what names h label.2.known
   ]
-  row_busy p (msg.Diverted cell) label says h = elim (p == switch_node) as (λ b. StepIs g log waits (if b then on_diverted c cell else still c)) [
+  row_busy p (Msg.Diverted cell) label says h = elim (p == switch_node) as (λ b. StepIs g log waits (if b then on_diverted c cell else still c)) [
     | true ↦ diverted_is g log waits c h cell
     | false ↦ still_is g log waits c h
   ]
-  row_busy p msg.End label says h = elim (p == switch_node) as (λ b. StepIs g log waits (if b then still (record c { end_came = true }) else still c)) [
+  row_busy p Msg.End label says h = elim (p == switch_node) as (λ b. StepIs g log waits (if b then still (record c { end_came = true }) else still c)) [
     | true ↦ record { busy = other_notes g c.operations log waits h [] tt; says = tt }
     | false ↦ still_is g log waits c h
   ]
-  row_busy p (msg.Event op cell) label says h = event_is g log waits c h p op cell (instance_at c p)
-  row_busy p msg.Final label says h = final_is g log waits c h (instance_at c p)
-  row_busy p (msg.InCommand k) label says h = let never = label.0.1 in cc
+  row_busy p (Msg.Event op cell) label says h = event_is g log waits c h p op cell (instance_at c p)
+  row_busy p Msg.Final label says h = final_is g log waits c h (instance_at c p)
+  row_busy p (Msg.InCommand k) label says h = let never = label.0.1 in cc
   row_busy p m label says h = numbered_is g log waits c h p m (op_of m) says
 
   pub controller_busy : (p : ℕ) (m : Msg) → Label f g p 1 m → Says g p 1 m → IsBusy g c.operations log (told_in m ++ waits)

@@ -5,8 +5,6 @@ use Rattle.nf_net.proofs.Words.{Order, Note, Each, unknown_in, has_answered, is_
 use Rattle.nf_net.proofs.Words.{MayBegin, IsCause, answers_in, begin_in, begins_in, answers_of-append, has_answered-append, has_begun-append}
 use Rattle.nf_net.proofs.Words.{times_begun-append, before_one, none_picked}
 use Rattle.std.proofs.Math.Bool.{or_assoc}
-use Rattle.nf_msgs.specs.declared.answer.Answer.TheVariants as answer
-use Rattle.nf_msgs.specs.declared.note.Note.TheVariants as note
 use Rattle.net_world.specs.Commands.{is_of_command}
 use Rattle.net_world.specs.Log.{answer_in}
 use Rattle.net_world.proofs.PickedLists as fronts
@@ -14,8 +12,8 @@ use Rattle.net_world.proofs.PickedLists.{kept_none, none_counted, none_kept}
 
 -- a note of no command's begin or answer
 abbrev pub is_other : Note → Bool
-is_other (note.Begun op) = false
-is_other (note.Answered op answer) = false
+is_other (Note.Begun op) = false
+is_other (Note.Answered op answer) = false
 is_other n = true
 
 abbrev pub AreOther : List Note → Type 0
@@ -45,8 +43,8 @@ swapped false b c = refl
 
 noted_is : (op : ℕ) (log : List Note) → list_any (is_of_command op) log ≡ is_noted op log
 noted_is op [] = refl
-noted_is op (note.Begun k ∷ log) = ap (λ b. (k == op) || b) (noted_is op log) ∙ sym (or_assoc (k == op) (is_begun op log) (has_answered op log))
-noted_is op (note.Answered k answer ∷ log) = ap (λ b. (k == op) || b) (noted_is op log) ∙ swapped (k == op) (is_begun op log) (has_answered op log)
+noted_is op (Note.Begun k ∷ log) = ap (λ b. (k == op) || b) (noted_is op log) ∙ sym (or_assoc (k == op) (is_begun op log) (has_answered op log))
+noted_is op (Note.Answered k answer ∷ log) = ap (λ b. (k == op) || b) (noted_is op log) ∙ swapped (k == op) (is_begun op log) (has_answered op log)
 noted_is op (n ∷ log) = noted_is op log
 
 -- a command that is noted keeps what stood before
@@ -59,11 +57,11 @@ before_new op xs ys h = fronts.before_new (is_of_command op) xs ys (noted_is op 
 
 -- Notes of other things.
 other_answer : (n : Note) → is_other n ≡ true → answer_in n ≡ None
-other_answer (note.Answered op answer) h = cc
+other_answer (Note.Answered op answer) h = cc
 other_answer n h = refl
 
 other_begin : (n : Note) → is_other n ≡ true → begin_in n ≡ None
-other_begin (note.Begun op) h = cc
+other_begin (Note.Begun op) h = cc
 other_begin n h = refl
 
 pub other_not_answered : (op : ℕ) (notes : List Note) → AreOther notes → has_answered op notes ≡ false
@@ -113,8 +111,8 @@ some_is a b is = ap (λ o. unwrap_or o a) is
 
 -- whether it is the answer to a command that began
 abbrev pub is_outcome : Answer → Bool
-is_outcome (answer.Unknown name) = false
-is_outcome (answer.Overlap k) = false
+is_outcome (Answer.Unknown name) = false
+is_outcome (Answer.Overlap k) = false
 is_outcome a = true
 
 module _ (names : List (List ℕ)) (orders : ℕ → Option Order) where
@@ -152,59 +150,59 @@ module _ (names : List (List ℕ)) (orders : ℕ → Option Order) where
       }
 
   no_cause : (a : Answer) (what : Order) (log : List Note) → is_outcome a ≡ true → IsCauseIn a what log
-  no_cause (answer.Unknown name) what log e = cc
-  no_cause (answer.Overlap k) what log e = cc
+  no_cause (Answer.Unknown name) what log e = cc
+  no_cause (Answer.Overlap k) what log e = cc
   no_cause a what log e = tt
 
   -- its answer, where it began before
   pub answered_begun : (op : ℕ) (log : List Note) (a : Answer) → is_begun op log ≡ true → has_answered op log ≡ false → is_outcome a ≡ true
-      → IsAnswered op log → IsAnswered op (log ++ note.Answered op a ∷ [])
+      → IsAnswered op log → IsAnswered op (log ++ Note.Answered op a ∷ [])
   answered_begun op log a begins_in open_still outcome h =
       let own : (op == op) ≡ true = grind (arith, nat_tests) in
-      let all : answers_of op (log ++ note.Answered op a ∷ []) ≡ a ∷ [] = answers_of-append op log (note.Answered op a ∷ [])
-      ∙ ap (λ v. v ++ answers_of op (note.Answered op a ∷ [])) (none_answered op log open_still)
+      let all : answers_of op (log ++ Note.Answered op a ∷ []) ≡ a ∷ [] = answers_of-append op log (Note.Answered op a ∷ [])
+      ∙ ap (λ v. v ++ answers_of op (Note.Answered op a ∷ [])) (none_answered op log open_still)
       ∙ ap (λ b. map (λ (one : ℕ × Answer). one.1) (if b then (op, a) ∷ [] else [])) own in
       record {
-        begun_once = (let times = times_begun-append op log (note.Answered op a ∷ []) in let few = h.begun_once in omega (arith, times, few));
+        begun_once = (let times = times_begun-append op log (Note.Answered op a ∷ []) in let few = h.begun_once in omega (arith, times, few));
         answered_once = rw all (omega arith);
-        causes = λ what x order is. subst (λ y. IsCauseIn y what (before_command op (log ++ note.Answered op a ∷ []))) (first_is a x (sym all ∙ is))
-            (no_cause a what (before_command op (log ++ note.Answered op a ∷ [])) outcome);
+        causes = λ what x order is. subst (λ y. IsCauseIn y what (before_command op (log ++ Note.Answered op a ∷ []))) (first_is a x (sym all ∙ is))
+            (no_cause a what (before_command op (log ++ Note.Answered op a ∷ [])) outcome);
         begins = λ what order is. subst (λ v. MayBegin names orders what v)
-            (sym (before_kept op log (note.Answered op a ∷ []) (noted_begun op log begins_in))) (h.begins what order begins_in);
+            (sym (before_kept op log (Note.Answered op a ∷ []) (noted_begun op log begins_in))) (h.begins what order begins_in);
         known = λ is. h.known (noted_begun op log begins_in);
       }
 
   -- its refusal
   pub answered_refused : (op : ℕ) (log : List Note) (a : Answer) (what : Order) → is_noted op log ≡ false → orders op ≡ Some what → IsCauseIn a what log
-      → IsAnswered op (log ++ note.Answered op a ∷ [])
+      → IsAnswered op (log ++ Note.Answered op a ∷ [])
   answered_refused op log a what new order cause =
       let own : (op == op) ≡ true = grind (arith, nat_tests) in
       let off = or_off (is_begun op log) (has_answered op log) new in
-      let all : answers_of op (log ++ note.Answered op a ∷ []) ≡ a ∷ [] = answers_of-append op log (note.Answered op a ∷ [])
-      ∙ ap (λ v. v ++ answers_of op (note.Answered op a ∷ [])) (none_answered op log off.1)
+      let all : answers_of op (log ++ Note.Answered op a ∷ []) ≡ a ∷ [] = answers_of-append op log (Note.Answered op a ∷ [])
+      ∙ ap (λ v. v ++ answers_of op (Note.Answered op a ∷ [])) (none_answered op log off.1)
       ∙ ap (λ b. map (λ (one : ℕ × Answer). one.1) (if b then (op, a) ∷ [] else [])) own in
-      let before : before_command op (log ++ note.Answered op a ∷ []) ≡ log = before_new op log (note.Answered op a ∷ []) new
-      ∙ ap (λ ns. log ++ ns) (before_one (is_of_command op) (note.Answered op a) [] own) ∙ append-nil log in
+      let before : before_command op (log ++ Note.Answered op a ∷ []) ≡ log = before_new op log (Note.Answered op a ∷ []) new
+      ∙ ap (λ ns. log ++ ns) (before_one (is_of_command op) (Note.Answered op a) [] own) ∙ append-nil log in
       record {
-        begun_once = (let times = times_begun-append op log (note.Answered op a ∷ []) in let none = never_begun op log off.0 in omega (arith, times, none));
+        begun_once = (let times = times_begun-append op log (Note.Answered op a ∷ []) in let none = never_begun op log off.0 in omega (arith, times, none));
         answered_once = rw all (omega arith);
         causes = λ other x known is. subst (λ v. IsCauseIn x other v) (sym before) (subst (λ o. IsCauseIn x o log) (some_is what other (sym order ∙ known))
             (subst (λ y. IsCauseIn y what log) (first_is a x (sym all ∙ is)) cause));
-        begins = λ other known is. (let never = sym (began_same op log (note.Answered op a ∷ []) refl ∙ off.0) ∙ is in cc);
+        begins = λ other known is. (let never = sym (began_same op log (Note.Answered op a ∷ []) refl ∙ off.0) ∙ is in cc);
         known = λ is. ap is_some order;
       }
 
   -- its begin
   pub begun_now : (op : ℕ) (log : List Note) (what : Order) → is_noted op log ≡ false → orders op ≡ Some what → MayBegin names orders what log
-      → IsAnswered op (log ++ note.Begun op ∷ [])
+      → IsAnswered op (log ++ Note.Begun op ∷ [])
   begun_now op log what new order may =
       let own : (op == op) ≡ true = grind (arith, nat_tests) in
       let off = or_off (is_begun op log) (has_answered op log) new in
-      let none : answers_of op (log ++ note.Begun op ∷ []) ≡ [] = answers_same op log (note.Begun op ∷ []) refl ∙ none_answered op log off.1 in
-      let before : before_command op (log ++ note.Begun op ∷ []) ≡ log = before_new op log (note.Begun op ∷ []) new
-      ∙ ap (λ ns. log ++ ns) (before_one (is_of_command op) (note.Begun op) [] own) ∙ append-nil log in
+      let none : answers_of op (log ++ Note.Begun op ∷ []) ≡ [] = answers_same op log (Note.Begun op ∷ []) refl ∙ none_answered op log off.1 in
+      let before : before_command op (log ++ Note.Begun op ∷ []) ≡ log = before_new op log (Note.Begun op ∷ []) new
+      ∙ ap (λ ns. log ++ ns) (before_one (is_of_command op) (Note.Begun op) [] own) ∙ append-nil log in
       record {
-        begun_once = (let times = times_begun-append op log (note.Begun op ∷ []) ∙ ap (λ b. times_begun op log + (0 + (if b then 1 else 0))) own in
+        begun_once = (let times = times_begun-append op log (Note.Begun op ∷ []) ∙ ap (λ b. times_begun op log + (0 + (if b then 1 else 0))) own in
             let zero = never_begun op log off.0 in omega (arith, times, zero));
         answered_once = rw none (omega arith);
         causes = λ other x known is. (let never = sym none ∙ is in cc);

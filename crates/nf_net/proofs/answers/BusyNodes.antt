@@ -3,13 +3,10 @@ use Rattle.nf_net.proofs.Words.{◌≡◌, ℕ, zero, suc, ◌+◌, Bool, true, 
 use Rattle.nf_net.proofs.Words.{if◌then◌else◌, ◌&&◌, ◌||◌, ◌==◌, nat_lt, option_map, Chunk, Semantics, unit_at, record_chunk, part, Mark, FullCell, Answer}
 use Rattle.nf_net.proofs.Words.{Import, Command, Msg, Note, switch_node, instance_node, Stepped, core_sent, EachSent, Each, each-append, SwitchState}
 use Rattle.nf_net.proofs.Words.{switch_step, stop_messages, InstanceState, pieces, to_controller, share_message, tell_step, tells_and_notes, instance_step}
-use Rattle.nf_net.proofs.Words.{selected_chunks, chunk_told, with_count, table_after, step_fits, refusal_of, instance_fits, Given, Label, sent-append}
+use Rattle.nf_net.proofs.Words.{selected_chunks, chunk_told, with_count, table_after, step_fits, refusal_of, instance_fits, Given, Label, sent-append, Unit}
 use Rattle.std.specs.FinMap as finite
-use Rattle.nf_function.specs.declared.unit.Unit as units
-use Rattle.event_filter.specs.declared.mark.Mark.TheVariants as mark
 use Rattle.nf_msgs.specs.declared.answer.Answer.TheVariants.{Old}
 use Rattle.nf_msgs.specs.declared.msg.Piece.{Piece as APiece}
-use Rattle.nf_msgs.specs.declared.msg.Msg.TheVariants as msg
 use Rattle.switch_node.specs.Switch as switch
 use Rattle.instance_worker.specs.Instance.{still, process_step}
 use Rattle.nf_net.proofs.answers.BusyLemmas.{AreOther, is_other, is_outcome}
@@ -41,11 +38,11 @@ module _ (g : Given) where
 
   stops_none : (i : ℕ) → NoneTold (stop_messages i)
   stops_none zero = tt
-  stops_none (suc i) = each-append (λ x. told_in x.1 ≡ []) (stop_messages i) ((instance_node i, msg.Stop) ∷ []) (stops_none i) (refl, tt)
+  stops_none (suc i) = each-append (λ x. told_in x.1 ≡ []) (stop_messages i) ((instance_node i, Msg.Stop) ∷ []) (stops_none i) (refl, tt)
 
   stops_say : (i : ℕ) → EachSent (Says g) 0 (stop_messages i)
   stops_say zero = tt
-  stops_say (suc i) = sent-append (Says g) 0 (stop_messages i) ((instance_node i, msg.Stop) ∷ []) (stops_say i) (tt, tt)
+  stops_say (suc i) = sent-append (Says g) 0 (stop_messages i) ((instance_node i, Msg.Stop) ∷ []) (stops_say i) (tt, tt)
 
   abbrev Quiet : switch.Step → Type 0
   Quiet did = SwitchIs did.sends did.notes
@@ -53,8 +50,8 @@ module _ (g : Given) where
   still_quiet : (s : SwitchState) → Quiet (switch.still s)
   still_quiet s = record { none = tt; notes_are = tt; says = tt }
 
-  switch_quiet : (s : SwitchState) (m : Msg) → ((c : Command) → m ≡ msg.InCommand c → ⊥) → Quiet (switch_step s m)
-  switch_quiet s = step_fits s (λ m did. ((c : Command) → m ≡ msg.InCommand c → ⊥) → Quiet did) (record {
+  switch_quiet : (s : SwitchState) (m : Msg) → ((c : Command) → m ≡ Msg.InCommand c → ⊥) → Quiet (switch_step s m)
+  switch_quiet s = step_fits s (λ m did. ((c : Command) → m ≡ Msg.InCommand c → ⊥) → Quiet did) (record {
     still = λ m not_it. still_quiet s;
     to_controller = λ p not_it. record { none = (refl, tt); notes_are = (refl, tt); says = (tt, tt) };
     to_instance = λ p i not_it. record { none = (refl, tt); notes_are = (refl, tt); says = (tt, tt) };
@@ -75,18 +72,18 @@ module _ (g : Given) where
     pub says : EachSent (Says g) 0 (switch_step s m).sends
 
 module _ {R : Type 0} (f : Semantics R) (g : Given) where
-  quiet_hands : (s : SwitchState) (m : Msg) → told_in m ≡ [] → ((c : Command) → m ≡ msg.InCommand c → ⊥) → SwitchHands g s m
+  quiet_hands : (s : SwitchState) (m : Msg) → told_in m ≡ [] → ((c : Command) → m ≡ Msg.InCommand c → ⊥) → SwitchHands g s m
   quiet_hands s m none not_it =
       let q = switch_quiet g s m not_it in record { hands = none_told 1 (switch_step s m).sends q.none ∙ sym none; notes_are = q.notes_are; says = q.says }
 
   pub switch_hands : (s : SwitchState) (p : ℕ) (m : Msg) → Label f g p 0 m → SwitchHands g s m
-  switch_hands s p (msg.InCommand c) label = record { hands = refl; notes_are = tt; says = (tt, tt) }
-  switch_hands s p (msg.Asked c) label = let never = label.1 in cc
+  switch_hands s p (Msg.InCommand c) label = record { hands = refl; notes_are = tt; says = (tt, tt) }
+  switch_hands s p (Msg.Asked c) label = let never = label.1 in cc
   switch_hands s p m label = quiet_hands s m refl (λ c is. cc)
 
 -- An instance.
 abbrev IsOutcome : Option Answer → Type 0
-IsOutcome None = Unit {0}
+IsOutcome None = Prim.Unit {0}
 IsOutcome (Some a) = is_outcome a ≡ true
 
 module _ (g : Given) (k : ℕ) where
@@ -94,7 +91,7 @@ module _ (g : Given) (k : ℕ) where
   chunk_says op None = tt
   chunk_says op (Some chunk) = (tt, tt)
 
-  pieces_say : (op : ℕ) (ps : List APiece) → EachSent (Says g) k (to_controller (map (msg.Piece op) ps))
+  pieces_say : (op : ℕ) (ps : List APiece) → EachSent (Says g) k (to_controller (map (Msg.Piece op) ps))
   pieces_say op [] = tt
   pieces_say op (p ∷ ps) = (tt, pieces_say op ps)
 
@@ -106,8 +103,8 @@ module _ {F R : Type 0} (f : Semantics R) (g : Given) (k : ℕ) where
   still_says : (i : InstanceState F R) → InstanceSays (still i)
   still_says i = record { notes_are = tt; says = tt }
 
-  shared_says : (i : InstanceState F R) (m : Mark) (u : units.Unit) → EachSent (Says g) k (to_controller (share_message f i m u))
-  shared_says i (mark.Shared op home) u = chunk_says g k op (option_map (record_chunk f u) (finite.get (part i.table home) u))
+  shared_says : (i : InstanceState F R) (m : Mark) (u : Unit) → EachSent (Says g) k (to_controller (share_message f i m u))
+  shared_says i (Mark.Shared op home) u = chunk_says g k op (option_map (record_chunk f u) (finite.get (part i.table home) u))
   shared_says i m u = tt
 
   processed_says : (i : InstanceState F R) (m : Mark) (cell : FullCell) → InstanceSays (process_step f i m cell)
@@ -117,7 +114,7 @@ module _ {F R : Type 0} (f : Semantics R) (g : Given) (k : ℕ) where
       let u = unit_at f.kind i.site cell.packet in
       record {
         notes_are = (refl, tt);
-        says = sent-append (Says g) k (to_controller (share_message f after m u)) ((switch_node, msg.Credit cell) ∷ []) (shared_says after m u) (tt, tt);
+        says = sent-append (Says g) k (to_controller (share_message f after m u)) ((switch_node, Msg.Credit cell) ∷ []) (shared_says after m u) (tt, tt);
       }
 
   -- a refusal is an outcome
@@ -140,29 +137,29 @@ module _ {F R : Type 0} (f : Semantics R) (g : Given) (k : ℕ) where
     still = λ i m. still_says i;
     held = λ i mk cell op. still_says _;
     processed = λ i mk cell. processed_says i mk cell;
-    released = λ i op cell. processed_says i mark.Plain cell;
+    released = λ i op cell. processed_says i Mark.Plain cell;
     both = λ i m did next w a b. record {
       notes_are = each-append (λ n. is_other n ≡ true) did.notes (next did.node).notes a.notes_are b.notes_are;
       says = sent-append (Says g) k did.sends (next did.node).sends a.says b.says;
     };
     unruled = λ i op did h. h;
-    seen = λ i mk cell op. one_says i (msg.Seen op cell.packet) tt;
-    event = λ i mk cell op. one_says i (msg.Event op cell) tt;
-    fenced = λ i op. one_says i (msg.Fenced op) tt;
-    stopped = λ i. one_says _ msg.Final tt;
-    enabled = λ i op filter action. one_says _ (msg.Enabled op) tt;
-    given = λ i op filter. noted_says i (msg.Chunks op _) _ refl tt;
+    seen = λ i mk cell op. one_says i (Msg.Seen op cell.packet) tt;
+    event = λ i mk cell op. one_says i (Msg.Event op cell) tt;
+    fenced = λ i op. one_says i (Msg.Fenced op) tt;
+    stopped = λ i. one_says _ Msg.Final tt;
+    enabled = λ i op filter action. one_says _ (Msg.Enabled op) tt;
+    given = λ i op filter. noted_says i (Msg.Chunks op _) _ refl tt;
     streamed = λ i op filter. record { notes_are = (refl, tt); says = pieces_say g k op (pieces (selected_chunks f i filter)) };
-    all_given = λ i op. one_says i (msg.AllChunk op _) tt;
-    deleted = λ i op gone. one_says _ (msg.Deleted op) tt;
-    refused = λ i op piece first why is. one_says i (msg.PutNo op (record { why = why; chunks = piece.chunks }))
+    all_given = λ i op. one_says i (Msg.AllChunk op _) tt;
+    deleted = λ i op gone. one_says _ (Msg.Deleted op) tt;
+    refused = λ i op piece first why is. one_says i (Msg.PutNo op (record { why = why; chunks = piece.chunks }))
         (subst IsOutcome is (refusal_says i piece first));
     taken = λ i op piece first is. record {
       notes_are = (refl, tt);
-      says = elim (first || piece.last) as (λ b. EachSent (Says g) k (to_controller (if b then msg.PutOk op ∷ [] else []))) [ true ↦ (tt, tt) | false ↦ tt ];
+      says = elim (first || piece.last) as (λ b. EachSent (Says g) k (to_controller (if b then Msg.PutOk op ∷ [] else []))) [ true ↦ (tt, tt) | false ↦ tt ];
     };
-    restored = λ i op chunks. noted_says _ (msg.Restored op) _ refl tt;
-    stood_by = λ i op chunks. noted_says _ (msg.Kept op) _ refl tt;
-    synced = λ i home op chunks. noted_says _ (msg.Synced op) _ refl tt;
-    merged = λ i op chunk slots is. one_says _ (msg.Kept op) tt;
+    restored = λ i op chunks. noted_says _ (Msg.Restored op) _ refl tt;
+    stood_by = λ i op chunks. noted_says _ (Msg.Kept op) _ refl tt;
+    synced = λ i home op chunks. noted_says _ (Msg.Synced op) _ refl tt;
+    merged = λ i op chunk slots is. one_says _ (Msg.Kept op) tt;
   })

@@ -2,13 +2,10 @@
 use Rattle.nf_net.proofs.Words.{◌≡◌, ℕ, ◌≤◌, true, false, Option, Some, None, List, [], ◌∷◌, refl, sym, ap, ◌∙◌, if◌then◌else◌, find, is_some, option_map}
 use Rattle.nf_net.proofs.Words.{option_or, option_map_or, Filter, Answer, Unknown, Overlap, Order, Note, Phase, SharePlan, Operation, Move, Copy, Share}
 use Rattle.nf_net.proofs.Words.{OpenOperations, ControllerState, unknown_name, overlap, refusal, unknown_in, Rising, keeps_off, answers_of, MayBegin, Given}
-use Rattle.nf_net.proofs.Words.{IsPlan, IsCopyPlan}
+use Rattle.nf_net.proofs.Words.{IsPlan, IsCopyPlan, Door, Done}
 use Rattle.std.specs.Prelude.{option_and_then}
 use Rattle.std.specs.FinMap as finite
 use Rattle.flow_filter.specs.Filter.{meets}
-use Rattle.nf_msgs.specs.declared.answer.Answer.TheVariants.{Done}
-use Rattle.nf_msgs.specs.declared.command.Order.TheVariants as order
-use Rattle.move_op.specs.declared.door.Door.TheVariants as door
 use Rattle.move_op.specs.Phases as phase
 use Rattle.copy_share.specs.Copy as copy
 use Rattle.ctrl_node.specs.Operations.{meets_operation, lowest_meeting}
@@ -20,7 +17,7 @@ use Rattle.nf_net.proofs.answers.ShareTells.{is_set_up}
 
 -- what a move that was refused, or is over, is to be answered
 abbrev pub HasOutcome : Phase → Type 0
-HasOutcome (phase.Streaming frozen free came (door.Refused why)) = is_outcome why ≡ true
+HasOutcome (phase.Streaming frozen free came (Door.Refused why)) = is_outcome why ≡ true
 HasOutcome (phase.Restoring why) = is_outcome why ≡ true
 HasOutcome (phase.Returning why) = is_outcome why ≡ true
 HasOutcome (phase.Undoing why) = is_outcome why ≡ true
@@ -31,7 +28,7 @@ HasOutcome p = Unit {0}
 pub record IsShareOf (g : Given) (op : ℕ) (plan : SharePlan) : Type 0 where
   pub op_is : plan.op ≡ op
   pub names : List (List ℕ)
-  pub order_is : g.orders op ≡ Some (order.Share names plan.filter)
+  pub order_is : g.orders op ≡ Some (Order.Share names plan.filter)
 
 -- what is known of an open operation: it is that of its number's order
 abbrev pub IsPlanned : Given → ℕ → Operation → Type 0
@@ -72,10 +69,10 @@ module _ (g : Given) (ops : OpenOperations) (log : List Note) (waits : List ℕ)
   filter_met filter op None is =
       ap (λ b. option_map_or (meets filter) (if b then option_and_then order_filter (g.orders op) else None) false) (sym (h.busy op) ∙ ap is_some is)
   filter_met filter op (Some (Move m)) is =
-      let p = h.plan op (Move m) is in met_by filter op (Move m) (order.Move p.source p.destination m.plan.filter m.plan.keep) is p.order_is
+      let p = h.plan op (Move m) is in met_by filter op (Move m) (Order.Move p.source p.destination m.plan.filter m.plan.keep) is p.order_is
   filter_met filter op (Some (Copy y)) is =
-      let p = (h.plan op (Copy y) is).0 in met_by filter op (Copy y) (order.Copy p.source p.destination y.plan.filter) is p.order_is
-  filter_met filter op (Some (Share s)) is = let p = h.plan op (Share s) is in met_by filter op (Share s) (order.Share p.names s.plan.filter) is p.order_is
+      let p = (h.plan op (Copy y) is).0 in met_by filter op (Copy y) (Order.Copy p.source p.destination y.plan.filter) is p.order_is
+  filter_met filter op (Some (Share s)) is = let p = h.plan op (Share s) is in met_by filter op (Share s) (Order.Share p.names s.plan.filter) is p.order_is
 
   -- the test of the controller is that of the log
   test_same : (fo : Option Filter) (op : ℕ) → option_map_or (λ filter. passes (meets_operation filter) (finite.get ops op)) fo false

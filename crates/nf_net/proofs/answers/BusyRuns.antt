@@ -5,7 +5,6 @@ use Rattle.nf_net.proofs.Words.{Outcome, taken_outcome, Taking, OnLinks, EachSen
 use Rattle.nf_net.proofs.Words.{ControllerState, controller_step, switch_step, Node, Controller, node_step, node_ready, has_answered, is_begun, is_busy}
 use Rattle.nf_net.proofs.Words.{is_share, keeps_off, answers_of, Given, IsPlan, Label, Joined, node_of}
 use Rattle.std.specs.FinMap as finite
-use Rattle.nf_msgs.specs.declared.msg.Msg.TheVariants as msg
 use Rattle.proof_outlines.proofs.joined.Joined.{count}
 use Rattle.nf_net.proofs.answers.BusyOperations.{IsBusy, IsShareOf, answers_to}
 use Rattle.nf_net.proofs.answers.BusyLemmas.{unanswered}
@@ -48,13 +47,13 @@ module _ {F R : Type 0} where
 module _ {R : Type 0} (f : Semantics R) (g : Given) where
   -- commands come from the input, and to the controller from the switch
   told_at_switch : (p : ℕ) (m : Msg) → Label f g p 0 m → told_in m ≡ (if 0 == p then told_in m else [])
-  told_at_switch p (msg.InCommand c) label = let from = label.0.0 in rw from refl
-  told_at_switch p (msg.Asked c) label = let never = label.1 in cc
+  told_at_switch p (Msg.InCommand c) label = let from = label.0.0 in rw from refl
+  told_at_switch p (Msg.Asked c) label = let never = label.1 in cc
   told_at_switch p m label = sym (neither (0 == p))
 
   told_at_controller : (p : ℕ) (m : Msg) → Label f g p 1 m → told_in m ≡ (if 0 == p then told_in m else [])
-  told_at_controller p (msg.Asked c) label = let from = label.0 in rw from refl
-  told_at_controller p (msg.InCommand c) label = let never = label.0.1 in cc
+  told_at_controller p (Msg.Asked c) label = let from = label.0 in rw from refl
+  told_at_controller p (Msg.InCommand c) label = let never = label.0.1 in cc
   told_at_controller p m label = sym (neither (0 == p))
 
 module _ {F R : Type 0} (f : Semantics R) (g : Given) (n : ℕ) (count_is : n ≡ count f g + 2) where

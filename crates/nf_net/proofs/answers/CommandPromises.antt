@@ -2,12 +2,10 @@
 -- by, was true then.
 use Rattle.nf_net.proofs.Words.{◌≡◌, ℕ, ◌+◌, true, false, Option, Some, None, List, [], ◌∷◌, ◌++◌, map, length, refl, sym, ap, ◌∙◌, subst, arith, is_some}
 use Rattle.nf_net.proofs.Words.{Global, nat_cmp, Filter, FunctionLaws, Semantics, Msg, Note, Choice, Network, IsRun, run, queue_at, at, opening_waiting}
-use Rattle.nf_net.proofs.Words.{opening_on_links, run_induction, Each, Rising, Operation, opened_controller, Config, Node, answers_of, is_begun, has_answered}
-use Rattle.nf_net.proofs.Words.{is_share, times_installed, is_item, commands, order_numbered, IsInput, node_step, node_ready, first_nodes, started_with}
-use Rattle.nf_net.proofs.Words.{all_each, given, count_at_start, Runs, runs_at_start, runs_next, start_world, Given, Joined}
+use Rattle.nf_net.proofs.Words.{opening_on_links, Each, Rising, Operation, opened_controller, Config, Node, answers_of, is_begun, has_answered, is_share}
+use Rattle.nf_net.proofs.Words.{times_installed, is_item, commands, order_numbered, IsInput, node_step, node_ready, first_nodes, started_with, all_each, given}
+use Rattle.nf_net.proofs.Words.{count_at_start, Given, Joined, Order, run_beside}
 use Rattle.std.specs.FinMap as finite
-use Rattle.nf_msgs.specs.declared.command.Order.TheVariants as order
-use Rattle.nf_msgs.specs.declared.msg.Msg.TheVariants as msg
 use Rattle.net_world.specs.Commands.{Answers}
 use Rattle.proof_outlines.proofs.joined.StartJoined.{rising_of}
 use Rattle.nf_net.proofs.answers.BusyLemmas.{is_noted, none_answered, or_off}
@@ -17,23 +15,24 @@ use Rattle.nf_net.proofs.answers.BusyRuns.{Busy, waits_of, busy_next}
 use Rattle.nf_net.proofs.answers.InstallRuns.{run_installs, installed_once, refused_none_installed, still_installed}
 use Rattle.nf_net.proofs.answers.InstallSteps.{is_moving}
 use Rattle.nf_net.proofs.answers.MoveSays.{Says}
+use Rattle.nf_net.proofs.RunKeeps.{run_keeps}
 
 -- the commands of an input
 numbers_in : (items : List Msg) → Each (λ item. is_item item ≡ true) items → map (λ k. k.op) (commands items) ≡ numbers items
 numbers_in [] ok = refl
-numbers_in (msg.InCommand c ∷ items) ok = ap (λ ns. c.op ∷ ns) (numbers_in items ok.1)
-numbers_in (msg.InPacket p ∷ items) ok = numbers_in items ok.1
-numbers_in (msg.InSettle ∷ items) ok = numbers_in items ok.1
-numbers_in (msg.InEnd ∷ items) ok = numbers_in items ok.1
+numbers_in (Msg.InCommand c ∷ items) ok = ap (λ ns. c.op ∷ ns) (numbers_in items ok.1)
+numbers_in (Msg.InPacket p ∷ items) ok = numbers_in items ok.1
+numbers_in (Msg.InSettle ∷ items) ok = numbers_in items ok.1
+numbers_in (Msg.InEnd ∷ items) ok = numbers_in items ok.1
 numbers_in (m ∷ items) ok = let never : false ≡ true = ok.0 in cc
 
 -- an input says nothing of moves
 says_nothing : (g : Given) (items : List Msg) → Each (λ item. is_item item ≡ true) items → Each (Says g 0 0) items
 says_nothing g [] ok = tt
-says_nothing g (msg.InCommand c ∷ items) ok = (tt, says_nothing g items ok.1)
-says_nothing g (msg.InPacket p ∷ items) ok = (tt, says_nothing g items ok.1)
-says_nothing g (msg.InSettle ∷ items) ok = (tt, says_nothing g items ok.1)
-says_nothing g (msg.InEnd ∷ items) ok = (tt, says_nothing g items ok.1)
+says_nothing g (Msg.InCommand c ∷ items) ok = (tt, says_nothing g items ok.1)
+says_nothing g (Msg.InPacket p ∷ items) ok = (tt, says_nothing g items ok.1)
+says_nothing g (Msg.InSettle ∷ items) ok = (tt, says_nothing g items ok.1)
+says_nothing g (Msg.InEnd ∷ items) ok = (tt, says_nothing g items ok.1)
 says_nothing g (m ∷ items) ok = let never : false ≡ true = ok.0 in cc
 
 -- nothing is open, and nothing is noted
@@ -78,12 +77,11 @@ module _ (F : Type 0) {R : Type 0} (f : Semantics R) (laws : FunctionLaws f) (al
   -- every run leads to a world of a run in which the open operations are the commands under way
   pub run_busy : (cs : List Choice) → IsRun node_ready (node_step f) cs first
       → Joined f g (length c.names + 2) (run (node_step f) cs first) × Busy g (run (node_step f) cs first)
-  run_busy cs run_is = (it.0.joined, it.1)
-    where
-      it : Runs F f laws alloc c items is (run (node_step f) cs first) × Busy g (run (node_step f) cs first)
-      it = run_induction node_ready (node_step f) (length c.names + 2) (λ _ w. Runs F f laws alloc c items is w × Busy g w) first
-          (λ _ w k next h. (runs_next F f laws alloc c items is w k next.taking h.0, busy_next f g (length c.names + 2) refl w k next.taking h.0.joined h.1))
-          (start_world F f laws alloc c items is) (count_at_start F f alloc c items is) (runs_at_start F f laws alloc c items is, start_busy) cs run_is
+  run_busy cs run_is = (
+    (run_beside F f laws alloc c items is cs run_is).joined,
+    run_keeps F f laws alloc c items is (λ _ w. Busy g w) start_busy
+    (λ ds ok d s h. busy_next f g (length c.names + 2) refl (run (node_step f) ds first) d s.taking s.runs.joined h) cs run_is,
+  )
 
   -- and its log says what is promised of commands
   pub run_answers : (cs : List Choice) → IsRun node_ready (node_step f) cs first → Answers c items (run (node_step f) cs first).log
@@ -119,7 +117,7 @@ module _ (F : Type 0) {R : Type 0} (f : Semantics R) (laws : FunctionLaws f) (al
 
   -- and the switch changes no rules for a copy
   pub no_rules : (cs : List Choice) → IsRun node_ready (node_step f) cs first → (op : ℕ) (source destination : List ℕ) (filter : Option Filter)
-      → order_numbered items op ≡ Some (order.Copy source destination filter) → times_installed op (run (node_step f) cs first).log ≡ 0
+      → order_numbered items op ≡ Some (Order.Copy source destination filter) → times_installed op (run (node_step f) cs first).log ≡ 0
   no_rules cs run_is op source destination filter known =
       let busy = run_busy cs run_is in
       still_installed f g (length c.names + 2) refl (run (node_step f) cs first) busy.0 busy.1 (run_installs F f laws alloc c items is cs run_is) op

@@ -5,18 +5,12 @@ use Rattle.nf_net.proofs.Words.{◌==◌, Decides-eqb, Filter, Semantics, FullCe
 use Rattle.nf_net.proofs.Words.{ShareState, MovePlan, MoveState, MoveRow, row_in, move_at_start, answer_of, Operation, Move, Copy, Share, turn_of, turn_of_move}
 use Rattle.nf_net.proofs.Words.{ControllerState, on_asked, on_diverted, queue_step, after_turn, takes_turn, hand_step, may_finish, step_and_finish}
 use Rattle.nf_net.proofs.Words.{controller_step, reaches, sent_weight, row_by, NotMove, CopyTurn, Idle, Hands, Hands_all, Ends, hands, copy_turns, got_insert}
-use Rattle.nf_net.proofs.Words.{got_remove, gone_twice, NotShared, answered, noted, Given, IsPlan, IsCopyPlan, Label}
+use Rattle.nf_net.proofs.Words.{got_remove, gone_twice, NotShared, answered, noted, Given, IsPlan, IsCopyPlan, Label, Mark, Done}
 use Rattle.std.specs.FinMap as finite
-use Rattle.event_filter.specs.declared.mark.Mark.TheVariants as mark
-use Rattle.nf_msgs.specs.declared.answer.Answer.TheVariants.{Done}
-use Rattle.nf_msgs.specs.declared.command.Order.TheVariants as order
-use Rattle.nf_msgs.specs.declared.msg.Msg.TheVariants as msg
-use Rattle.nf_msgs.specs.declared.note.Note.TheVariants as note
 use Rattle.copy_share.specs.Copy as copy
 use Rattle.copy_share.specs.Share as share
 use Rattle.ctrl_node.specs.Controller as controller
-use Rattle.ctrl_node.specs.Controller.{Step, still}
-use Rattle.ctrl_node.specs.Controller.{finish_of}
+use Rattle.ctrl_node.specs.Controller.{Step, still, finish_of}
 use Rattle.nf_net.proofs.answers.ControllerCases.{OpensBy, Opens_move, Opens_copy, Opens_share, by_command, by_operation, by_queue}
 use Rattle.nf_net.proofs.answers.AnswerSends.{answering, NoAnswer, none_weighs, row_quiet}
 use Rattle.proof_outlines.proofs.outline.CopyTurns.{ends}
@@ -36,7 +30,7 @@ move_is a b is = ap (move_in a) is
 
 -- a share sends no answer once it has begun
 share_quiet : (m : Msg) → is_of_share m ≡ true → answering m ≡ 0
-share_quiet (msg.Answered op) e = cc
+share_quiet (Msg.Answered op) e = cc
 share_quiet m e = refl
 
 shares_quiet : (sends : List (ℕ × Msg)) → AreOfShare sends → NoAnswer sends
@@ -62,13 +56,13 @@ module _ (g : Given) (n : ℕ) (reach : reaches n 1 0 ≡ true) (c : ControllerS
   -- a move that hasn't changed the rules after the step
   pub data Was (k : ℕ) (x : MoveState) (notes : List Note) : Type 0 where
     Was_open : (m : MoveState) → finite.get c.operations k ≡ Some (Move m) → passed m.phase ≡ 0 → m.plan ≡ x.plan → Was k x notes
-    Begins_now : notes ≡ note.Begun k ∷ [] → Was k x notes
+    Begins_now : notes ≡ Note.Begun k ∷ [] → Was k x notes
 
   -- what the step says
   pub data SaysSo (did : Step) : Type 0 where
     Neither : did.notes ≡ [] → sent_weight answering n 1 did.sends ≡ 0 → SaysSo did
-    Begins : (op : ℕ) → did.notes ≡ note.Begun op ∷ [] → sent_weight answering n 1 did.sends ≡ 0 → finite.get c.operations op ≡ None → SaysSo did
-    Answers : (op : ℕ) (a : Answer) (what : Order) → did.notes ≡ note.Answered op a ∷ [] → sent_weight answering n 1 did.sends ≡ 1 → g.orders op ≡ Some what
+    Begins : (op : ℕ) → did.notes ≡ Note.Begun op ∷ [] → sent_weight answering n 1 did.sends ≡ 0 → finite.get c.operations op ≡ None → SaysSo did
+    Answers : (op : ℕ) (a : Answer) (what : Order) → did.notes ≡ Note.Answered op a ∷ [] → sent_weight answering n 1 did.sends ≡ 1 → g.orders op ≡ Some what
         → (a ≢ Done → IsEarly (finite.get c.operations op)) → SaysSo did
 
   pub record Acts (did : Step) : Type 0 where
@@ -79,7 +73,7 @@ module _ (g : Given) (n : ℕ) (reach : reaches n 1 0 ≡ true) (c : ControllerS
   finished_says did h = by_says h
     where
       none : sent_weight answering n 1 (finish_of did.node) ≡ 0
-      none = elim (may_finish did.node) as (λ b. sent_weight answering n 1 (if b then (0, msg.Finish) ∷ [] else []) ≡ 0) [ true ↦ rw reach refl | false ↦ refl ]
+      none = elim (may_finish did.node) as (λ b. sent_weight answering n 1 (if b then (0, Msg.Finish) ∷ [] else []) ≡ 0) [ true ↦ rw reach refl | false ↦ refl ]
 
       same : (k : ℕ) → sent_weight answering n 1 did.sends ≡ k → sent_weight answering n 1 (step_and_finish did).sends ≡ k
       same k e = let both = sent_weight-append answering n 1 did.sends (finish_of did.node) in let last = none in omega (arith, both, last, e)
@@ -119,15 +113,15 @@ module _ (g : Given) (n : ℕ) (reach : reaches n 1 0 ≡ true) (c : ControllerS
 
     ends_acts : (op : ℕ) (y : CopyState) → finite.get c.operations op ≡ Some (Copy y) → Acts (ends c op)
     ends_acts op y is = let plan : IsCopyPlan g op y.plan = (are.copies op y is).1 in record {
-      says = Answers op Done (order.Copy plan.source plan.destination y.plan.filter) refl (rw reach refl) plan.order_is (λ other. absurd (other refl));
+      says = Answers op Done (Order.Copy plan.source plan.destination y.plan.filter) refl (rw reach refl) plan.order_is (λ other. absurd (other refl));
       early = λ k x there zero. Was_open x (other_there (k == op) None (finite.get c.operations k) x tt (sym (got_remove c.operations op k) ∙ there)) zero refl;
     }
 
     copy_acts : (op : ℕ) (y : CopyState) → finite.get c.operations op ≡ Some (Copy y) → (m : Msg) (did : Step)
         → CopyTurn (record { controller = c; op = op; copy = y }) m did → Acts did
     copy_acts op y is m did (Idle e) = subst Acts (sym e) still_acts
-    copy_acts op y is m did (Hands k chunks e d) = subst Acts (sym d) (hands_acts op y (msg.Standby y.plan.op chunks) refl)
-    copy_acts op y is m did (Hands_all k chunk e d) = subst Acts (sym d) (hands_acts op y (msg.PutAll y.plan.op chunk) refl)
+    copy_acts op y is m did (Hands k chunks e d) = subst Acts (sym d) (hands_acts op y (Msg.Standby y.plan.op chunks) refl)
+    copy_acts op y is m did (Hands_all k chunk e d) = subst Acts (sym d) (hands_acts op y (Msg.PutAll y.plan.op chunk) refl)
     copy_acts op y is m did (Ends d) = subst Acts (sym d) (ends_acts op y is)
 
     turn_acts : (op port : ℕ) (m : Msg) (o : Option Operation) → finite.get c.operations op ≡ o → NotShared o
@@ -163,13 +157,13 @@ module _ (g : Given) (n : ℕ) (reach : reaches n 1 0 ≡ true) (c : ControllerS
           ] refl (sym (got_insert c.operations op k (Move x)) ∙ there);
         }
         by_answer (Some a) e = let plan : IsPlan g op mv.plan = (are.moves op mv is).2 in record {
-          says = Answers op a (order.Move plan.source plan.destination mv.plan.filter mv.plan.keep) refl
-              (let both = sent_weight-append answering n 1 r.next.sends ((0, msg.Answered op) ∷ []) in
+          says = Answers op a (Order.Move plan.source plan.destination mv.plan.filter mv.plan.keep) refl
+              (let both = sent_weight-append answering n 1 r.next.sends ((0, Msg.Answered op) ∷ []) in
               let none = none_weighs n 1 r.next.sends quiet in
-              let one : sent_weight answering n 1 ((0, msg.Answered op) ∷ []) ≡ 1 = rw reach refl in omega (arith, both, none, one))
+              let one : sent_weight answering n 1 ((0, Msg.Answered op) ∷ []) ≡ 1 = rw reach refl in omega (arith, both, none, one))
               plan.order_is
               (λ other. subst IsEarly (sym is) (before (over_is r.next.phase a e ∙ not_done a other)));
-          early = λ k y there zero. elim (k == op) as (λ b. cond b None (finite.get c.operations k) ≡ Some (Move y) → Was k y (note.Answered op a ∷ [])) [
+          early = λ k y there zero. elim (k == op) as (λ b. cond b None (finite.get c.operations k) ≡ Some (Move y) → Was k y (Note.Answered op a ∷ [])) [
             | true ↦ λ own. cc
             | false ↦ λ other. Was_open y other zero refl
           ] (sym (got_remove (finite.insert c.operations op (Move x)) op k ∙ ap (λ o. cond (k == op) None o) (got_insert c.operations op k (Move x))
@@ -200,11 +194,11 @@ module _ (g : Given) (n : ℕ) (reach : reaches n 1 0 ≡ true) (c : ControllerS
         by_answer None notes sends same = Neither notes (weighs l.first 0 sends first_none)
         by_answer (Some why) notes sends tells =
             let plan = (are.shares op s there).1 in
-            let one : sent_weight answering n 1 ((0, msg.Answered op) ∷ []) ≡ 1 = rw reach refl in
-            let both = sent_weight-append answering n 1 l.first ((0, msg.Answered op) ∷ []) in
+            let one : sent_weight answering n 1 ((0, Msg.Answered op) ∷ []) ≡ 1 = rw reach refl in
+            let both = sent_weight-append answering n 1 l.first ((0, Msg.Answered op) ∷ []) in
             let none = first_none in
-            Answers op Done (order.Share plan.names s.plan.filter) (notes ∙ ap (λ a. note.Answered op a ∷ []) tells.0)
-            (weighs (l.first ++ (0, msg.Answered op) ∷ []) 1 sends (omega (arith, both, none, one))) plan.order_is (λ other. absurd (other refl))
+            Answers op Done (Order.Share plan.names s.plan.filter) (notes ∙ ap (λ a. Note.Answered op a ∷ []) tells.0)
+            (weighs (l.first ++ (0, Msg.Answered op) ∷ []) 1 sends (omega (arith, both, none, one))) plan.order_is (λ other. absurd (other refl))
 
     handed_acts : (op port : ℕ) (m : Msg) → Acts (hand_step c op port m)
     handed_acts op port m = by_operation Acts c op port m
@@ -222,8 +216,8 @@ module _ (g : Given) (n : ℕ) (reach : reaches n 1 0 ≡ true) (c : ControllerS
         record {
           says = Begins op refl (none_weighs n 1 (controller.move_begin c plan).sends (refl, tt)) none;
           early = λ k y there zero. elim (k == op) as (λ b. (k == op) ≡ b
-              → cond b (Some (Move (move_at_start plan))) (finite.get c.operations k) ≡ Some (Move y) → Was k y (note.Begun op ∷ [])) [
-                | true ↦ λ on own. Begins_now (ap (λ q. note.Begun q ∷ []) (sym ((Decides-eqb k op).0 on)))
+              → cond b (Some (Move (move_at_start plan))) (finite.get c.operations k) ≡ Some (Move y) → Was k y (Note.Begun op ∷ [])) [
+                | true ↦ λ on own. Begins_now (ap (λ q. Note.Begun q ∷ []) (sym ((Decides-eqb k op).0 on)))
                 | false ↦ λ off other. Was_open y other zero refl
               ] refl (sym (got_insert c.operations op k (Move (move_at_start plan))) ∙ there);
         }
@@ -257,7 +251,7 @@ module _ (g : Given) (n : ℕ) (reach : reaches n 1 0 ≡ true) (c : ControllerS
       still = λ m label. still_acts;
       ended = λ label. quiet_acts _ [] refl tt;
       stopped = λ i label. quiet_acts _ [] refl tt;
-      returned = λ op i cell label. quiet_acts c ((0, msg.Forward i (mark.Pass op) cell) ∷ []) refl (refl, tt);
+      returned = λ op i cell label. quiet_acts c ((0, Msg.Forward i (Mark.Pass op) cell) ∷ []) refl (refl, tt);
       handed = λ op m its label. handed_acts op port m;
       diverted = λ cell label. diverted_acts cell;
       asked = λ k label. asked_acts k.op k.what label.2.known;

@@ -4,22 +4,19 @@ use Rattle.nf_net.proofs.Words.{◌≡◌, ℕ, Bool, true, false, Option, Some,
 use Rattle.nf_net.proofs.Words.{filter_map, Filter, place_of, Answer, Order, Operation, may_finish, step_and_finish, refusal, move_between, copy_between}
 use Rattle.nf_net.proofs.Words.{share_begin, begin_step, decision_step, on_asked, FullCell, Msg, switch_node, ShareState, Share, turn_of, ControllerState}
 use Rattle.nf_net.proofs.Words.{on_diverted, queue_step, takes_turn, hand_step, on_final, NotShared, handed_is, shared_or_not}
-use Rattle.nf_msgs.specs.declared.command.Order.TheVariants as order
-use Rattle.ctrl_node.specs.Controller.{answers}
+use Rattle.ctrl_node.specs.Controller.{answers, Step, still, on_event}
 use Rattle.std.specs.FinMap as finite
 use Rattle.event_filter.specs.declared.mark.Mark.TheVariants.{Pass}
-use Rattle.nf_msgs.specs.declared.msg.Msg.TheVariants as msg
-use Rattle.ctrl_node.specs.Controller.{Step, still, on_event}
 use Rattle.nf_net.proofs.answers.ShareTells.{Queues, Queues_none, Queues_at, queues}
 
 -- the step in which an operation begins by its order
 pub data OpensBy (c : ControllerState) (op : ℕ) : Order → Step → Type 0 where
   Opens_move : {source destination : List ℕ} {filter : Filter} {keep : Bool} (from to : ℕ) → place_of c.names source ≡ Some from
-      → place_of c.names destination ≡ Some to → OpensBy c op (order.Move source destination filter keep) (move_between c op filter keep (Some from) (Some to))
+      → place_of c.names destination ≡ Some to → OpensBy c op (Order.Move source destination filter keep) (move_between c op filter keep (Some from) (Some to))
   Opens_copy : {source destination : List ℕ} {filter : Option Filter} (from to : ℕ) → place_of c.names source ≡ Some from
-      → place_of c.names destination ≡ Some to → OpensBy c op (order.Copy source destination filter) (copy_between c op filter (Some from) (Some to))
+      → place_of c.names destination ≡ Some to → OpensBy c op (Order.Copy source destination filter) (copy_between c op filter (Some from) (Some to))
   Opens_share : {members : List (List ℕ)} {filter : Filter} (home : ℕ) (others : List ℕ)
-      → OpensBy c op (order.Share members filter) (share_begin c op filter (home ∷ others))
+      → OpensBy c op (Order.Share members filter) (share_begin c op filter (home ∷ others))
 
 module _ (P : Step → Type 0) (c : ControllerState) where
   pub by_operation : (op port : ℕ) (m : Msg)
@@ -36,11 +33,11 @@ module _ (P : Step → Type 0) (c : ControllerState) where
       by_queues did (Queues_none e) = subst P (sym e) none
       by_queues did (Queues_at op s is e) = subst P (sym e) (share op s is)
 
-  pub by_sender : (port op : ℕ) (cell : FullCell) (i : Option ℕ) → P (still c) → P (hand_step c op port (msg.Event op cell))
-      → ((k : ℕ) → P (record { node = c; sends = (switch_node, msg.Forward k (Pass op) cell) ∷ []; notes = [] })) → P (on_event c port op cell i)
+  pub by_sender : (port op : ℕ) (cell : FullCell) (i : Option ℕ) → P (still c) → P (hand_step c op port (Msg.Event op cell))
+      → ((k : ℕ) → P (record { node = c; sends = (switch_node, Msg.Forward k (Pass op) cell) ∷ []; notes = [] })) → P (on_event c port op cell i)
   by_sender port op cell None none open_it back = none
   by_sender port op cell (Some k) none open_it back = elim (finite.contains_key c.operations op) as (λ b.
-      P (if b then hand_step c op port (msg.Event op cell) else record { node = c; sends = (switch_node, msg.Forward k (Pass op) cell) ∷ []; notes = [] })) [
+      P (if b then hand_step c op port (Msg.Event op cell) else record { node = c; sends = (switch_node, Msg.Forward k (Pass op) cell) ∷ []; notes = [] })) [
         | true ↦ open_it
         | false ↦ back k
       ]
@@ -50,19 +47,19 @@ module _ (P : Step → Type 0) (c : ControllerState) where
   by_stop (Some k) none stopped = stopped k
 
   begun : (op : ℕ) (what : Order) → P (still c) → ((did : Step) → OpensBy c op what did → P did) → P (begin_step c op what)
-  begun op (order.Move source destination filter keep) none opens = between (place_of c.names source) (place_of c.names destination) refl refl
+  begun op (Order.Move source destination filter keep) none opens = between (place_of c.names source) (place_of c.names destination) refl refl
     where
       between : (a b : Option ℕ) → place_of c.names source ≡ a → place_of c.names destination ≡ b → P (move_between c op filter keep a b)
       between (Some from) (Some to) e k = opens (move_between c op filter keep (Some from) (Some to)) (Opens_move from to e k)
       between (Some from) None e k = none
       between None b e k = none
-  begun op (order.Copy source destination filter) none opens = between (place_of c.names source) (place_of c.names destination) refl refl
+  begun op (Order.Copy source destination filter) none opens = between (place_of c.names source) (place_of c.names destination) refl refl
     where
       between : (a b : Option ℕ) → place_of c.names source ≡ a → place_of c.names destination ≡ b → P (copy_between c op filter a b)
       between (Some from) (Some to) e k = opens (copy_between c op filter (Some from) (Some to)) (Opens_copy from to e k)
       between (Some from) None e k = none
       between None b e k = none
-  begun op (order.Share members filter) none opens = among (filter_map (place_of c.names) members)
+  begun op (Order.Share members filter) none opens = among (filter_map (place_of c.names) members)
     where
       among : (places : List ℕ) → P (share_begin c op filter places)
       among [] = none
@@ -84,10 +81,10 @@ module _ (P : Step → Type 0) (c : ControllerState) where
 
   -- the finish may stand behind all else
   pub by_finish : (did : Step)
-      → P (record { node = record did.node { finish_sent = true }; sends = did.sends ++ (switch_node, msg.Finish) ∷ []; notes = did.notes })
+      → P (record { node = record did.node { finish_sent = true }; sends = did.sends ++ (switch_node, Msg.Finish) ∷ []; notes = did.notes })
       → P (record { node = did.node; sends = did.sends ++ []; notes = did.notes }) → P (step_and_finish did)
   by_finish did told untold = elim (may_finish did.node) as (λ b. P (record {
     node = if b then record did.node { finish_sent = true } else did.node;
-    sends = did.sends ++ (if b then (switch_node, msg.Finish) ∷ [] else []);
+    sends = did.sends ++ (if b then (switch_node, Msg.Finish) ∷ [] else []);
     notes = did.notes;
   })) [ true ↦ told | false ↦ untold ]

@@ -1,18 +1,14 @@
 -- How many cells a step sends home, and how many packets it notes: an instance sends one home for each packet that it processes.
 use Rattle.nf_net.proofs.Words.{◌≡◌, ℕ, ◌+◌, ◌<◌, ◌≤◌, true, false, Option, Some, None, List, [], ◌∷◌, ◌++◌, map, length, length-append, refl, sym, ap, ◌∙◌}
-use Rattle.nf_net.proofs.Words.{arith, if◌then◌else◌, ◌||◌, cond-same, Chunk, Semantics, unit_at, Mark, FullCell, Msg, Note, pieces, to_controller}
-use Rattle.nf_net.proofs.Words.{chunk_told, share_message, tell_step, tells_and_notes, and_then, selected_chunks, instance_step, reaches, EachSent, sent_weight}
-use Rattle.nf_net.proofs.Words.{arrivals_in, dones_in, arrived-append, done-append, instance_fits, Given, Label}
-use Rattle.nf_function.specs.declared.unit.Unit as units
-use Rattle.event_filter.specs.declared.mark.Mark.TheVariants as mark
-use Rattle.nf_msgs.specs.declared.msg.Msg.TheVariants as msg
+use Rattle.nf_net.proofs.Words.{arith, if◌then◌else◌, ◌||◌, cond-same, Chunk, Semantics, unit_at, Mark, FullCell, Msg, Note, pieces, to_controller, chunk_told}
+use Rattle.nf_net.proofs.Words.{share_message, tell_step, tells_and_notes, and_then, selected_chunks, instance_step, reaches, EachSent, sent_weight}
+use Rattle.nf_net.proofs.Words.{arrivals_in, dones_in, arrived-append, done-append, instance_fits, Given, Label, Unit}
 use Rattle.instance_worker.specs.declared.instance.Instance.{Instance}
-use Rattle.instance_worker.specs.Instance.{Step, still}
-use Rattle.instance_worker.specs.Instance.{process_step}
+use Rattle.instance_worker.specs.Instance.{Step, still, process_step}
 
 -- a cell that goes home counts, and nothing else
 abbrev pub credit : Msg → ℕ
-credit (msg.Credit cell) = 1
+credit (Msg.Credit cell) = 1
 credit m = 0
 
 pub sent_weight-append : {M : Type 0} (w : M → ℕ) (n k : ℕ) (xs ys : List (ℕ × M)) → sent_weight w n k (xs ++ ys) ≡ sent_weight w n k xs + sent_weight w n k ys
@@ -22,12 +18,12 @@ sent_weight-append w n k (x ∷ xs) ys = let rest = sent_weight-append w n k xs 
 -- the switch and the controller send no cell home
 module _ {R : Type 0} (f : Semantics R) (g : Given) where
   pub no_credit_from : (k r : ℕ) (m : Msg) → k < 2 → Label f g k r m → credit m ≡ 0
-  no_credit_from k r (msg.Credit cell) few label = let two = label.0 in absurd (omega (arith, few, two))
+  no_credit_from k r (Msg.Credit cell) few label = let two = label.0 in absurd (omega (arith, few, two))
   no_credit_from k r m few label = refl
 
   -- and none goes to another node than the switch
   pub no_credit_to : (p k : ℕ) (m : Msg) → 1 ≤ k → Label f g p k m → credit m ≡ 0
-  no_credit_to p k (msg.Credit cell) some label = let none = label.1 in absurd (omega (arith, some, none))
+  no_credit_to p k (Msg.Credit cell) some label = let none = label.1 in absurd (omega (arith, some, none))
   no_credit_to p k m some label = refl
 
   pub none_sent : (n k : ℕ) (sends : List (ℕ × Msg)) → k < 2 → EachSent (Label f g) k sends → sent_weight credit n k sends ≡ 0
@@ -47,7 +43,7 @@ module _ (n k : ℕ) where
 
   chunk_none : (op : ℕ) (o : Option Chunk) → sent_weight credit n k (to_controller (chunk_told op o)) ≡ 0
   chunk_none op None = refl
-  chunk_none op (Some chunk) = told_none (msg.Shared op chunk) refl
+  chunk_none op (Some chunk) = told_none (Msg.Shared op chunk) refl
 
 module _ {F R : Type 0} (f : Semantics R) (n k : ℕ) (reach : reaches n k 0 ≡ true) where
   -- a step that sends as many cells home as it notes packets that are processed
@@ -74,18 +70,18 @@ module _ {F R : Type 0} (f : Semantics R) (n k : ℕ) (reach : reaches n k 0 ≡
         even = let first = a.even in let second = b.even in omega (arith, sends, notes, long, first, second);
       }
 
-  shared_none : (i : Instance F R) (m : Mark) (u : units.Unit) → sent_weight credit n k (to_controller (share_message f i m u)) ≡ 0
-  shared_none i mark.Plain u = refl
-  shared_none i (mark.Pass op) u = refl
-  shared_none i (mark.Shared op home) u = chunk_none n k op _
+  shared_none : (i : Instance F R) (m : Mark) (u : Unit) → sent_weight credit n k (to_controller (share_message f i m u)) ≡ 0
+  shared_none i Mark.Plain u = refl
+  shared_none i (Mark.Pass op) u = refl
+  shared_none i (Mark.Shared op home) u = chunk_none n k op _
 
   processed_is : (i : Instance F R) (m : Mark) (cell : FullCell) → IsEven (process_step f i m cell)
   unfolding process_step
   processed_is i m cell =
       let after = (process_step f i m cell).node in
       let told_is = shared_none after m (unit_at f.kind i.site cell.packet) in
-      let both = sent_weight-append credit n k (to_controller (share_message f after m (unit_at f.kind i.site cell.packet))) ((0, msg.Credit cell) ∷ []) in
-      let home : sent_weight credit n k ((0, msg.Credit cell) ∷ []) ≡ 1 = rw reach refl in
+      let both = sent_weight-append credit n k (to_controller (share_message f after m (unit_at f.kind i.site cell.packet))) ((0, Msg.Credit cell) ∷ []) in
+      let home : sent_weight credit n k ((0, Msg.Credit cell) ∷ []) ≡ 1 = rw reach refl in
       record { came = refl; even = omega (arith, both, told_is, home) }
 
   -- what an instance does with any message
@@ -94,26 +90,26 @@ module _ {F R : Type 0} (f : Semantics R) (n k : ℕ) (reach : reaches n k 0 ≡
     still = λ i m. still_is i;
     held = λ i mk cell op. still_is _;
     processed = λ i mk cell. processed_is i mk cell;
-    released = λ i op cell. processed_is i mark.Plain cell;
+    released = λ i op cell. processed_is i Mark.Plain cell;
     both = λ i m did next w a b. both_are did next a b;
     unruled = λ i op did h. h;
-    seen = λ i mk cell op. tells_is i (msg.Seen op cell.packet) refl;
-    event = λ i mk cell op. tells_is i (msg.Event op cell) refl;
-    fenced = λ i op. tells_is i (msg.Fenced op) refl;
-    stopped = λ i. tells_is (record i { ended = true }) msg.Final refl;
-    enabled = λ i op filter action. tells_is _ (msg.Enabled op) refl;
-    given = λ i op filter. notes_is i (msg.Chunks op (selected_chunks f i filter)) _ refl refl refl;
-    streamed = λ i op filter. record { came = refl; even = all_told n k (msg.Piece op) (λ p. refl) (pieces (selected_chunks f i filter)) };
-    all_given = λ i op. tells_is i (msg.AllChunk op _) refl;
-    deleted = λ i op gone. tells_is _ (msg.Deleted op) refl;
-    refused = λ i op piece first why is. tells_is i (msg.PutNo op (record { why = why; chunks = piece.chunks })) refl;
+    seen = λ i mk cell op. tells_is i (Msg.Seen op cell.packet) refl;
+    event = λ i mk cell op. tells_is i (Msg.Event op cell) refl;
+    fenced = λ i op. tells_is i (Msg.Fenced op) refl;
+    stopped = λ i. tells_is (record i { ended = true }) Msg.Final refl;
+    enabled = λ i op filter action. tells_is _ (Msg.Enabled op) refl;
+    given = λ i op filter. notes_is i (Msg.Chunks op (selected_chunks f i filter)) _ refl refl refl;
+    streamed = λ i op filter. record { came = refl; even = all_told n k (Msg.Piece op) (λ p. refl) (pieces (selected_chunks f i filter)) };
+    all_given = λ i op. tells_is i (Msg.AllChunk op _) refl;
+    deleted = λ i op gone. tells_is _ (Msg.Deleted op) refl;
+    refused = λ i op piece first why is. tells_is i (Msg.PutNo op (record { why = why; chunks = piece.chunks })) refl;
     taken = λ i op piece first is. record {
       came = refl;
-      even = elim (first || piece.last) as (λ b. sent_weight credit n k (to_controller (if b then msg.PutOk op ∷ [] else [])) ≡ 0)
-          [ true ↦ told_none n k (msg.PutOk op) refl | false ↦ refl ];
+      even = elim (first || piece.last) as (λ b. sent_weight credit n k (to_controller (if b then Msg.PutOk op ∷ [] else [])) ≡ 0)
+          [ true ↦ told_none n k (Msg.PutOk op) refl | false ↦ refl ];
     };
-    restored = λ i op chunks. notes_is _ (msg.Restored op) _ refl refl refl;
-    stood_by = λ i op chunks. notes_is _ (msg.Kept op) _ refl refl refl;
-    synced = λ i home op chunks. notes_is _ (msg.Synced op) _ refl refl refl;
-    merged = λ i op chunk slots is. tells_is _ (msg.Kept op) refl;
+    restored = λ i op chunks. notes_is _ (Msg.Restored op) _ refl refl refl;
+    stood_by = λ i op chunks. notes_is _ (Msg.Kept op) _ refl refl refl;
+    synced = λ i home op chunks. notes_is _ (Msg.Synced op) _ refl refl refl;
+    merged = λ i op chunk slots is. tells_is _ (Msg.Kept op) refl;
   })

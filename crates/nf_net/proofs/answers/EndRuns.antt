@@ -2,24 +2,23 @@
 use Rattle.nf_net.proofs.Words.{◌≡◌, ◌≢◌, ℕ, zero, suc, ◌+◌, ◌<◌, Bool, true, false, None, List, [], ◌∷◌, ◌++◌, length, get_or, refl, sym, ap, ◌∙◌, subst}
 use Rattle.nf_net.proofs.Words.{arith, if◌then◌else◌, ◌&&◌, ◌==◌, not, Global, nat_tests, Decides-eqb, and_parts, FunctionLaws, Semantics, Msg, Note, Choice}
 use Rattle.nf_net.proofs.Words.{Network, Stepped, IsRun, is_done, reaches, run, world_next, queue_at, done_node, done_weight, at, opening_waiting}
-use Rattle.nf_net.proofs.Words.{opening_weight, Taking, run_induction, Takes, taken_outcome, EachSent, total, sent_weight, total_after, Each, are_quiet}
-use Rattle.nf_net.proofs.Words.{ControllerState, may_finish, controller_step, opened_controller, SwitchState, switch_step, Config, Node, Switch, Controller}
-use Rattle.nf_net.proofs.Words.{IsInput, is_item, commands, ends_last, node_step, node_ready, node_ended, first_nodes, first_switch, started_with, Given, Label}
-use Rattle.nf_net.proofs.Words.{Joined, node_of, its_takes, its_label, its_labels, known, Runs, runs_at_start, runs_next, start_world, given, all_fit}
+use Rattle.nf_net.proofs.Words.{opening_weight, Takes, taken_outcome, EachSent, total, sent_weight, total_after, Each, are_quiet, ControllerState, may_finish}
+use Rattle.nf_net.proofs.Words.{controller_step, opened_controller, SwitchState, switch_step, Config, Node, Switch, Controller, IsInput, is_item, commands}
+use Rattle.nf_net.proofs.Words.{ends_last, node_step, node_ready, node_ended, first_nodes, first_switch, Given, Label, Joined, node_of, known, given}
 use Rattle.nf_net.proofs.Words.{all_labelled, count_at_start, all_each}
 use Rattle.std.specs.FinMap as finite
-use Rattle.nf_msgs.specs.declared.msg.Msg.TheVariants as msg
 use Rattle.ctrl_node.specs.Controller as controller
 use Rattle.nf_net.proofs.answers.BusyRuns.{same_controller}
 use Rattle.nf_net.proofs.answers.CreditCounts.{sent_weight-append}
-use Rattle.nf_net.proofs.answers.EndTables.{sign_in, no_command, in_order, ordered_behind, IsSettled, quiet_settled}
-use Rattle.nf_net.proofs.answers.EndTables.{row_ends, sign_at_switch, sign_at_controller, flag, switch_closes}
+use Rattle.nf_net.proofs.answers.EndTables.{sign_in, no_command, in_order, ordered_behind, IsSettled, quiet_settled, row_ends, sign_at_switch}
+use Rattle.nf_net.proofs.answers.EndTables.{sign_at_controller, flag, switch_closes}
 use Rattle.nf_net.proofs.answers.InstallCounts.{finish}
 use Rattle.nf_net.proofs.answers.InstalledRules.{row_counts}
 use Rattle.nf_net.proofs.answers.InstallNotes.{no_install_to, none_sent, items_none}
 use Rattle.proof_outlines.proofs.joined.Joined.{count}
 use Rattle.proof_outlines.proofs.joined.KnownOperations.{AreKnown}
 use Rattle.nf_net.proofs.answers.LinePicks.{picked, on_way, at_switch, at_controller, at_instance}
+use Rattle.nf_net.proofs.RunKeeps.{run_keeps, start}
 
 -- how far the end of the input has come: on the way to the controller, at the controller, and with the finish to the switch
 pub record IsEnding (closed : ℕ) (c : ControllerState) (way : List Bool) (finishes : ℕ) : Type 0 where
@@ -44,7 +43,7 @@ module _ (n : ℕ) (reach : reaches n 1 0 ≡ true) {R : Type 0} (f : Semantics 
       r : controller.Step
       r = controller.row c p m
 
-      by_may : (b : Bool) → may_finish r.node ≡ b → after + finish m ≡ before + sent_weight finish n 1 (r.sends ++ (if b then (0, msg.Finish) ∷ [] else []))
+      by_may : (b : Bool) → may_finish r.node ≡ b → after + finish m ≡ before + sent_weight finish n 1 (r.sends ++ (if b then (0, Msg.Finish) ∷ [] else []))
           → IsEnding closed (if b then record r.node { finish_sent = true } else r.node) way after
       by_may true e weight =
           let ends = row_ends g c are way f p m label h.order h.ended in
@@ -147,35 +146,32 @@ module _ {F R : Type 0} (f : Semantics R) (g : Given) (n : ℕ) (count_is : n �
 -- an input whose end is the last
 none_signed : (items : List Msg) → Each (λ item. is_item item ≡ true) items → length (commands items) ≡ 0 → no_command (picked sign_in items) ≡ true
 none_signed [] ok h = refl
-none_signed (msg.InCommand c ∷ items) ok h = absurd (omega (arith, h))
-none_signed (msg.InPacket p ∷ items) ok h = none_signed items ok.1 h
-none_signed (msg.InSettle ∷ items) ok h = none_signed items ok.1 h
-none_signed (msg.InEnd ∷ items) ok h = none_signed items ok.1 h
+none_signed (Msg.InCommand c ∷ items) ok h = absurd (omega (arith, h))
+none_signed (Msg.InPacket p ∷ items) ok h = none_signed items ok.1 h
+none_signed (Msg.InSettle ∷ items) ok h = none_signed items ok.1 h
+none_signed (Msg.InEnd ∷ items) ok h = none_signed items ok.1 h
 none_signed (m ∷ items) ok h = let never : false ≡ true = ok.0 in cc
 
 signed : (items : List Msg) → Each (λ item. is_item item ≡ true) items → ends_last items ≡ true → in_order (picked sign_in items) ≡ true
 signed [] ok h = refl
-signed (msg.InEnd ∷ items) ok h = none_signed items ok.1 ((Decides-eqb (length (commands items)) 0).0 h)
-signed (msg.InCommand c ∷ items) ok h = signed items ok.1 h
-signed (msg.InPacket p ∷ items) ok h = signed items ok.1 h
-signed (msg.InSettle ∷ items) ok h = signed items ok.1 h
+signed (Msg.InEnd ∷ items) ok h = none_signed items ok.1 ((Decides-eqb (length (commands items)) 0).0 h)
+signed (Msg.InCommand c ∷ items) ok h = signed items ok.1 h
+signed (Msg.InPacket p ∷ items) ok h = signed items ok.1 h
+signed (Msg.InSettle ∷ items) ok h = signed items ok.1 h
 signed (m ∷ items) ok h = let never : false ≡ true = ok.0 in cc
 
 module _ (F : Type 0) {R : Type 0} (f : Semantics R) (laws : FunctionLaws f) (alloc : Global) (c : Config) (items : List Msg) (is : IsInput f.kind c items)
     (last : ends_last items ≡ true) where
-  abbrev start : Network (Node F R) Msg Note
-  start = started_with {F = F} {R = R} alloc c items
+  abbrev first : Network (Node F R) Msg Note
+  first = start F f laws alloc c items is
 
-  abbrev nodes : ℕ
-  nodes = length c.names + 2
-
-  ends_at_start : Ends start
+  ends_at_start : Ends first
   ends_at_start =
       let count = count_at_start F f alloc c items is in
       let only = all_each (λ item. is_item item ≡ true) items is.only_items in
       let waits = opening_waiting Note (first_nodes {F = F} {R = R} alloc c) items (omega (arith, count)) in
-      let way : picked sign_in items ≡ on_way sign_in start = ap (λ xs. picked sign_in xs) (sym (waits 0 0))
-      ∙ ap (λ xs. picked sign_in xs ++ picked sign_in (queue_at start (at 0 0))) (sym (waits 0 1)) in
+      let way : picked sign_in items ≡ on_way sign_in first = ap (λ xs. picked sign_in xs) (sym (waits 0 0))
+      ∙ ap (λ xs. picked sign_in xs ++ picked sign_in (queue_at first (at 0 0))) (sym (waits 0 1)) in
       record {
         switch = first_switch c;
         switch_is = λ d. refl;
@@ -190,18 +186,9 @@ module _ (F : Type 0) {R : Type 0} (f : Semantics R) (laws : FunctionLaws f) (al
         };
       }
 
-  pub run_ends : (cs : List Choice) → IsRun node_ready (node_step f) cs start → Ends (run (node_step f) cs start)
-  run_ends cs run_is = (run_induction node_ready (node_step f) nodes (λ _ w. Runs F f laws alloc c items is w × Ends w) start
-      (λ _ w k next h. (runs_next F f laws alloc c items is w k next.taking h.0, ends_next w k next.taking h.0 h.1)) (start_world F f laws alloc c items is)
-      (count_at_start F f alloc c items is) (runs_at_start F f laws alloc c items is, ends_at_start) cs run_is).1
-    where
-      ends_next : (w : Network (Node F R) Msg Note) (k : Choice) → Taking node_ready (node_step f) nodes w k → Runs F f laws alloc c items is w → Ends w
-          → Ends (world_next (node_step f) w k)
-      ends_next w k t r h =
-          let g : Given = given f c items is in
-          let fitting = all_fit f c items is in
-          ends_after f g nodes refl w k.node k.port t.message t.rest r.joined (its_takes f laws g fitting nodes refl w k t r.joined r.beside)
-          (its_label f laws g fitting nodes refl w k t r.joined r.beside) (its_labels f laws g fitting nodes refl w k t r.joined r.beside) h
+  pub run_ends : (cs : List Choice) → IsRun node_ready (node_step f) cs first → Ends (run (node_step f) cs first)
+  run_ends = run_keeps F f laws alloc c items is (λ _ w. Ends w) ends_at_start (λ ds ok d s. ends_after f (given f c items is) (length c.names + 2) refl
+      (run (node_step f) ds first) d.node d.port s.taking.message s.taking.rest s.runs.joined s.takes s.taken.label s.labels)
 
 -- where nothing is left to be done, what is open is settled
 pub all_settled : {F R : Type 0} (w : Network (Node F R) Msg Note) → 0 < length w.nodes → is_done node_ended w ≡ true → (h : Ends w) → (op : ℕ)

@@ -5,17 +5,11 @@ use Rattle.nf_net.proofs.Words.{if◌then◌else◌, ◌&&◌, ◌||◌, ◌==�
 use Rattle.nf_net.proofs.Words.{one_more, Target, rules_redirected, Answer, Msg, Note, instance_node, op_of, core_sent, neither, Each, each-append, Operation}
 use Rattle.nf_net.proofs.Words.{Move, Copy, Share, Store, stored_of, SharePhase, ShareState, is_idle, OpenOperations, turn_of, is_quiet, are_quiet}
 use Rattle.nf_net.proofs.Words.{ControllerState, on_diverted, queue_step, takes_turn, hand_step, on_final, instance_at, SwitchState, switch_step, stop_messages}
-use Rattle.nf_net.proofs.Words.{sends_to_instance, target_of, has_room, is_there, row_fits, NotShared, Given, Label}
+use Rattle.nf_net.proofs.Words.{sends_to_instance, target_of, has_room, is_there, row_fits, NotShared, Given, Label, Mark}
 use Rattle.std.proofs.Common.{◌-◌}
 use Rattle.std.specs.FinMap as finite
-use Rattle.event_filter.specs.declared.mark.Mark.TheVariants as mark
-use Rattle.switch_rules.specs.declared.target.Target.TheVariants as target
-use Rattle.nf_msgs.specs.declared.msg.Msg.TheVariants as msg
-use Rattle.nf_msgs.specs.declared.note.Note.TheVariants as note
-use Rattle.copy_share.specs.declared.share_phase.SharePhase.TheVariants as phase
 use Rattle.ctrl_node.specs.Controller as controller
-use Rattle.ctrl_node.specs.Controller.{Step, still}
-use Rattle.ctrl_node.specs.Controller.{numbered, on_event}
+use Rattle.ctrl_node.specs.Controller.{Step, still, numbered, on_event}
 use Rattle.switch_node.specs.Switch as switch
 use Rattle.switch_node.specs.Switch.{goes_to}
 use Rattle.nf_net.proofs.answers.ControllerCases.{by_operation, by_queue, by_sender, by_stop}
@@ -26,10 +20,10 @@ use Rattle.nf_net.proofs.answers.LinePicks.{picked}
 
 -- a command, or the end
 abbrev pub sign_in : Msg → List Bool
-sign_in (msg.Asked c) = true ∷ []
-sign_in (msg.InCommand c) = true ∷ []
-sign_in msg.End = false ∷ []
-sign_in msg.InEnd = false ∷ []
+sign_in (Msg.Asked c) = true ∷ []
+sign_in (Msg.InCommand c) = true ∷ []
+sign_in Msg.End = false ∷ []
+sign_in Msg.InEnd = false ∷ []
 sign_in m = []
 
 -- no command is there, and none behind an end
@@ -65,9 +59,9 @@ IsSettled (Some (Share s)) = is_set_up s.phase ≡ true
 IsSettled o = ⊥
 
 idle_set_up : (ph : SharePhase) (cells : List FullCell) → is_idle ph cells ≡ true → is_set_up ph ≡ true
-idle_set_up phase.Fencing cells e = cc
-idle_set_up phase.Getting cells e = cc
-idle_set_up (phase.Setting left) cells e = cc
+idle_set_up SharePhase.Fencing cells e = cc
+idle_set_up SharePhase.Getting cells e = cc
+idle_set_up (SharePhase.Setting left) cells e = cc
 idle_set_up ph cells e = refl
 
 quiet_found : (store : Store) (op : ℕ) (es : List (ℕ × Operation)) (o : Operation) → list_all (λ e. is_quiet store e.1) es ≡ true
@@ -152,7 +146,7 @@ module _ (g : Given) (c : ControllerState) (are : AreKnown g c) where
 
   event_rests : (port op : ℕ) (cell : FullCell) (i : Option ℕ) → Rests (on_event c port op cell i)
   event_rests port op cell i =
-      by_sender Rests c port op cell i rests (handed_rests op port (msg.Event op cell)) (λ k. record { end_same = refl; settled = λ h. h })
+      by_sender Rests c port op cell i rests (handed_rests op port (Msg.Event op cell)) (λ k. record { end_same = refl; settled = λ h. h })
 
   final_rests : (i : Option ℕ) → Rests (on_final c i)
   final_rests i = by_stop Rests c i rests (λ k. record { end_same = refl; settled = λ h. h })
@@ -166,7 +160,7 @@ module _ (g : Given) (c : ControllerState) (are : AreKnown g c) where
   SameEnd did = did.node.end_came ≡ c.end_came
 
   abbrev is_asked : Msg → Bool
-  is_asked (msg.Asked k) = true
+  is_asked (Msg.Asked k) = true
   is_asked m = false
 
   asked_end : (p : ℕ) (m : Msg) → is_asked m ≡ true → SameEnd (controller.row c p m)
@@ -195,35 +189,35 @@ module _ (g : Given) (c : ControllerState) (are : AreKnown g c) where
     module _ {R : Type 0} (f : Semantics R) where
       pub row_ends : (p : ℕ) (m : Msg) → Label f g p 1 m → in_order (sign_in m ++ way) ≡ true → (c.end_came ≡ true → no_command (sign_in m ++ way) ≡ true)
           → Ended (controller.row c p m) way
-      row_ends p (msg.Asked k) label ordered ended = record {
-        ended = λ e. (let never : false ≡ true = ended (sym (asked_end p (msg.Asked k) refl) ∙ e) in cc);
+      row_ends p (Msg.Asked k) label ordered ended = record {
+        ended = λ e. (let never : false ≡ true = ended (sym (asked_end p (Msg.Asked k) refl) ∙ e) in cc);
         settled = λ e h. absurd (let never : false ≡ true = ended e in wrong never);
       }
-      row_ends p msg.End label ordered ended = elim (p == 0) as (λ b. (p == 0) ≡ b → Ended (if b then still (record c { end_came = true }) else still c) way) [
+      row_ends p Msg.End label ordered ended = elim (p == 0) as (λ b. (p == 0) ≡ b → Ended (if b then still (record c { end_came = true }) else still c) way) [
         | true ↦ λ on. record { ended = λ e. ordered; settled = λ e h. (refl, h) }
         | false ↦ λ off. record { ended = λ e. ordered; settled = λ e h. (e, h) }
       ] refl
-      row_ends p (msg.Diverted cell) label ordered ended = by_rests _ (either_rests (p == 0) (on_diverted c cell) (diverted_rests cell)) ended
-      row_ends p (msg.InCommand k) label ordered ended = let never = label.0.1 in cc
-      row_ends p msg.InEnd label ordered ended = let never = label.1 in cc
-      row_ends p (msg.Event op cell) label ordered ended = by_rests _ (event_rests p op cell (instance_at c p)) ended
-      row_ends p msg.Final label ordered ended = by_rests _ (final_rests (instance_at c p)) ended
+      row_ends p (Msg.Diverted cell) label ordered ended = by_rests _ (either_rests (p == 0) (on_diverted c cell) (diverted_rests cell)) ended
+      row_ends p (Msg.InCommand k) label ordered ended = let never = label.0.1 in cc
+      row_ends p Msg.InEnd label ordered ended = let never = label.1 in cc
+      row_ends p (Msg.Event op cell) label ordered ended = by_rests _ (event_rests p op cell (instance_at c p)) ended
+      row_ends p Msg.Final label ordered ended = by_rests _ (final_rests (instance_at c p)) ended
       row_ends p m label ordered ended = by_rests _ (numbered_rests p m (op_of m)) ended
 
 -- where commands and ends come from
 module _ {R : Type 0} (f : Semantics R) (g : Given) where
   pub sign_at_switch : (p : ℕ) (m : Msg) → Label f g p 0 m → sign_in m ≡ (if 0 == p then sign_in m else [])
-  sign_at_switch p (msg.InCommand c) label = let from = label.0.0 in rw from refl
-  sign_at_switch p msg.InEnd label = let from = label.0 in rw from refl
-  sign_at_switch p (msg.Asked c) label = let never = label.1 in cc
-  sign_at_switch p msg.End label = let never = label.1 in cc
+  sign_at_switch p (Msg.InCommand c) label = let from = label.0.0 in rw from refl
+  sign_at_switch p Msg.InEnd label = let from = label.0 in rw from refl
+  sign_at_switch p (Msg.Asked c) label = let never = label.1 in cc
+  sign_at_switch p Msg.End label = let never = label.1 in cc
   sign_at_switch p m label = sym (neither (0 == p))
 
   pub sign_at_controller : (p : ℕ) (m : Msg) → Label f g p 1 m → sign_in m ≡ (if 0 == p then sign_in m else [])
-  sign_at_controller p (msg.Asked c) label = let from = label.0 in rw from refl
-  sign_at_controller p msg.End label = let from = label.0 in rw from refl
-  sign_at_controller p (msg.InCommand c) label = let never = label.0.1 in cc
-  sign_at_controller p msg.InEnd label = let never = label.1 in cc
+  sign_at_controller p (Msg.Asked c) label = let from = label.0 in rw from refl
+  sign_at_controller p Msg.End label = let from = label.0 in rw from refl
+  sign_at_controller p (Msg.InCommand c) label = let never = label.0.1 in cc
+  sign_at_controller p Msg.InEnd label = let never = label.1 in cc
   sign_at_controller p m label = sym (neither (0 == p))
 
 -- The switch hands on commands and the end.
@@ -260,46 +254,46 @@ module _ (s : SwitchState) where
 
   stops_none : (i : ℕ) → NoSign (stop_messages i)
   stops_none zero = tt
-  stops_none (suc i) = each-append (λ x. sign_in x.1 ≡ []) (stop_messages i) ((instance_node i, msg.Stop) ∷ []) (stops_none i) (refl, tt)
+  stops_none (suc i) = each-append (λ x. sign_in x.1 ≡ []) (stop_messages i) ((instance_node i, Msg.Stop) ∷ []) (stops_none i) (refl, tt)
 
   still_closes : (m : Msg) → sign_in m ≡ [] → finish m ≡ 0 → Closes s m (switch.still s)
   still_closes m none off = closes m none off s refl [] [] tt
 
   goes_closes : (m : Msg) → sign_in m ≡ [] → finish m ≡ 0 → (p : Packet) (t : Target) → Closes s m (goes_to s p t)
-  goes_closes m none off p target.Controller = closes m none off _ refl _ _ (refl, tt)
-  goes_closes m none off p (target.Instance i) =
-      elim (nat_lt i s.instances) as (λ b. Closes s m (if b then switch.arrival_step s p (instance_node i) (msg.Carry mark.Plain) else switch.still s))
+  goes_closes m none off p Target.Controller = closes m none off _ refl _ _ (refl, tt)
+  goes_closes m none off p (Target.Instance i) =
+      elim (nat_lt i s.instances) as (λ b. Closes s m (if b then switch.arrival_step s p (instance_node i) (Msg.Carry Mark.Plain) else switch.still s))
       [ true ↦ closes m none off _ refl _ _ (refl, tt) | false ↦ still_closes m none off ]
 
   to_closes : (m : Msg) → sign_in m ≡ [] → finish m ≡ 0 → (i : ℕ) (a : Msg) → sign_in a ≡ [] → Closes s m (sends_to_instance s i a)
   to_closes m none off i a h = elim (nat_lt i s.instances) as (λ b. Closes s m (if b then switch.sends_on s (instance_node i) a else switch.still s))
       [ true ↦ closes m none off s refl ((instance_node i, a) ∷ []) [] (h, tt) | false ↦ still_closes m none off ]
 
-  install_closes : (op : ℕ) (filter : Filter) (from : ℕ) (to : Target) → Closes s (msg.Install op filter from to) (switch.on_install s op filter from to)
-  install_closes op filter from to = elim (nat_lt from s.instances && is_there s to) as (λ b. Closes s (msg.Install op filter from to) (if b then record {
-    node = record s { rules = rules_redirected (record { filter = filter; from = target.Instance from; to = to }) s.rules };
-    sends = (instance_node from, msg.Fence op) ∷ [];
-    notes = note.Installed op ∷ [];
+  install_closes : (op : ℕ) (filter : Filter) (from : ℕ) (to : Target) → Closes s (Msg.Install op filter from to) (switch.on_install s op filter from to)
+  install_closes op filter from to = elim (nat_lt from s.instances && is_there s to) as (λ b. Closes s (Msg.Install op filter from to) (if b then record {
+    node = record s { rules = rules_redirected (record { filter = filter; from = Target.Instance from; to = to }) s.rules };
+    sends = (instance_node from, Msg.Fence op) ∷ [];
+    notes = Note.Installed op ∷ [];
   } else switch.still s)) [
-    | true ↦ closes (msg.Install op filter from to) refl refl _ refl _ _ (refl, tt)
-    | false ↦ still_closes (msg.Install op filter from to) refl refl
+    | true ↦ closes (Msg.Install op filter from to) refl refl _ refl _ _ (refl, tt)
+    | false ↦ still_closes (Msg.Install op filter from to) refl refl
   ]
 
   module _ {R : Type 0} (f : Semantics R) (g : Given) where
     pub switch_closes : (p : ℕ) (m : Msg) → Label f g p 0 m → Closes s m (switch_step s m)
-    switch_closes p (msg.InPacket q) label =
-        elim (has_room s) as (λ b. Closes s (msg.InPacket q) (if b then goes_to s q (target_of s q) else switch.still s))
-        [ true ↦ goes_closes (msg.InPacket q) refl refl q (target_of s q) | false ↦ still_closes (msg.InPacket q) refl refl ]
-    switch_closes p (msg.InCommand c) label = record { hands = refl; closed = omega arith }
-    switch_closes p msg.InEnd label = record { hands = refl; closed = omega arith }
-    switch_closes p (msg.Forward to k cell) label = to_closes (msg.Forward to k cell) refl refl to (msg.Carry k cell) refl
-    switch_closes p (msg.Install op filter from to) label = install_closes op filter from to
-    switch_closes p (msg.FenceTo op to) label = to_closes (msg.FenceTo op to) refl refl to (msg.Fence op) refl
-    switch_closes p (msg.Answered op) label = closes (msg.Answered op) refl refl _ refl [] [] tt
-    switch_closes p msg.Finish label = record { hands = no_sign 1 (stop_messages s.instances) (stops_none s.instances); closed = omega arith }
-    switch_closes p (msg.Credit cell) label = elim ((s.flying == 0) || not (cell.pool == s.pool.name)) as (λ b. Closes s (msg.Credit cell)
+    switch_closes p (Msg.InPacket q) label =
+        elim (has_room s) as (λ b. Closes s (Msg.InPacket q) (if b then goes_to s q (target_of s q) else switch.still s))
+        [ true ↦ goes_closes (Msg.InPacket q) refl refl q (target_of s q) | false ↦ still_closes (Msg.InPacket q) refl refl ]
+    switch_closes p (Msg.InCommand c) label = record { hands = refl; closed = omega arith }
+    switch_closes p Msg.InEnd label = record { hands = refl; closed = omega arith }
+    switch_closes p (Msg.Forward to k cell) label = to_closes (Msg.Forward to k cell) refl refl to (Msg.Carry k cell) refl
+    switch_closes p (Msg.Install op filter from to) label = install_closes op filter from to
+    switch_closes p (Msg.FenceTo op to) label = to_closes (Msg.FenceTo op to) refl refl to (Msg.Fence op) refl
+    switch_closes p (Msg.Answered op) label = closes (Msg.Answered op) refl refl _ refl [] [] tt
+    switch_closes p Msg.Finish label = record { hands = no_sign 1 (stop_messages s.instances) (stops_none s.instances); closed = omega arith }
+    switch_closes p (Msg.Credit cell) label = elim ((s.flying == 0) || not (cell.pool == s.pool.name)) as (λ b. Closes s (Msg.Credit cell)
         (if b then switch.still s else record { node = record s { pool = one_more s.pool; flying = s.flying - 1 }; sends = []; notes = [] }))
-        [ true ↦ still_closes (msg.Credit cell) refl refl | false ↦ closes (msg.Credit cell) refl refl _ refl [] [] tt ]
-    switch_closes p (msg.Asked c) label = let never = label.1 in cc
-    switch_closes p msg.End label = let never = label.1 in cc
+        [ true ↦ still_closes (Msg.Credit cell) refl refl | false ↦ closes (Msg.Credit cell) refl refl _ refl [] [] tt ]
+    switch_closes p (Msg.Asked c) label = let never = label.1 in cc
+    switch_closes p Msg.End label = let never = label.1 in cc
     switch_closes p m label = still_closes m refl refl

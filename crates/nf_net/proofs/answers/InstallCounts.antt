@@ -2,10 +2,7 @@
 -- says.
 use Rattle.nf_net.proofs.Words.{◌≡◌, ℕ, ◌+◌, true, false, Option, Some, None, List, [], ◌∷◌, ◌++◌, map, refl, ◌∙◌, arith, if◌then◌else◌, ◌==◌, nat_tests}
 use Rattle.nf_net.proofs.Words.{cond-same, FullCell, Answer, Piece, Msg, Phase, Nothing, Put, Release, Give_back, MovePlan, MoveNext, messages_of, forward_to}
-use Rattle.nf_net.proofs.Words.{reaches, sent_weight}
-use Rattle.switch_rules.specs.declared.target.Target.TheVariants as target
-use Rattle.nf_msgs.specs.declared.answer.Answer.TheVariants as answer
-use Rattle.nf_msgs.specs.declared.msg.Msg.TheVariants as msg
+use Rattle.nf_net.proofs.Words.{reaches, sent_weight, Target}
 use Rattle.move_op.specs.Phases as phase
 use Rattle.move_op.specs.Table.{Said}
 use Rattle.move_op.specs.Move.{row}
@@ -24,8 +21,8 @@ finishing None = 1
 finishing (Some op) = 0
 
 abbrev pub sent_of : Option ℕ → Msg → ℕ
-sent_of o (msg.Install k filter from to) = change o k
-sent_of o msg.Finish = finishing o
+sent_of o (Msg.Install k filter from to) = change o k
+sent_of o Msg.Finish = finishing o
 sent_of o m = 0
 
 -- a change of the switch's rules for the command counts, and nothing else
@@ -38,7 +35,7 @@ finish m = sent_of None m
 
 -- how many changes a move has sent that is answered so, and one in this phase
 abbrev pub done_in : Answer → ℕ
-done_in answer.Done = 1
+done_in Answer.Done = 1
 done_in a = 0
 
 abbrev pub passed : Phase → ℕ
@@ -48,7 +45,7 @@ passed (phase.Over why) = done_in why
 passed p = 0
 
 pub done_none : (a : Answer) → is_done a ≡ false → done_in a ≡ 0
-done_none answer.Done e = cc
+done_none Answer.Done e = cc
 done_none a e = refl
 
 module _ (n k : ℕ) where
@@ -87,7 +84,7 @@ module _ (n : ℕ) (reach : reaches n 1 0 ≡ true) (plan : MovePlan) where
   said_adds : (o : Option ℕ) (says : Said FullCell Piece) → sent_weight (sent_of o) n 1 (messages_of plan says) ≡ counts o says
   said_adds o Nothing = refl
   said_adds o (Release cells) =
-      let last : List (ℕ × Msg) = (0, msg.Install plan.op plan.filter plan.from (target.Instance plan.to)) ∷ [] in
+      let last : List (ℕ × Msg) = (0, Msg.Install plan.op plan.filter plan.from (Target.Instance plan.to)) ∷ [] in
       let both = sent_weight-append (sent_of o) n 1 (map (forward_to plan plan.to) cells) last in
       let none = weighs_none (sent_of o) n 1 (map (forward_to plan plan.to) cells) (each_forward (λ m. sent_of o m ≡ 0) plan plan.to (λ c. refl) cells) in
       let one : sent_weight (sent_of o) n 1 last ≡ change o plan.op = rw reach (omega arith) in

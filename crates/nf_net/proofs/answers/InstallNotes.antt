@@ -2,12 +2,9 @@
 -- any.
 use Rattle.nf_net.proofs.Words.{◌≡◌, ◌≢◌, ℕ, ◌+◌, ◌≤◌, true, false, Option, List, [], ◌∷◌, refl, ap, arith, if◌then◌else◌, ◌||◌, ◌==◌, not, nat_lt, cond-same}
 use Rattle.nf_net.proofs.Words.{Filter, Packet, Semantics, one_more, Target, Msg, Note, SwitchState, switch_step, sends_to_instance, target_of, has_room}
-use Rattle.nf_net.proofs.Words.{reaches, EachSent, weigh, sent_weight, times_installed, Each, Given, Label, is_target, IsQuiet, is_uninstalled}
+use Rattle.nf_net.proofs.Words.{reaches, EachSent, weigh, sent_weight, times_installed, Each, Given, Label, is_target, IsQuiet, is_uninstalled, Mark}
 use Rattle.std.proofs.Common.{◌-◌}
 use Rattle.std.specs.Prelude.{count_by}
-use Rattle.event_filter.specs.declared.mark.Mark.TheVariants as mark
-use Rattle.switch_rules.specs.declared.target.Target.TheVariants as target
-use Rattle.nf_msgs.specs.declared.msg.Msg.TheVariants as msg
 use Rattle.switch_node.specs.Switch as switch
 use Rattle.switch_node.specs.Switch.{goes_to}
 use Rattle.nf_net.proofs.answers.InstallCounts.{sent_of, install}
@@ -17,13 +14,13 @@ use Rattle.proof_outlines.proofs.joined.OwnerLemmas as owners
 -- Other nodes send neither a change of the rules nor the finish, and none is sent to another node than the switch.
 module _ {R : Type 0} (f : Semantics R) (g : Given) (o : Option ℕ) where
   pub no_install_from : (k r : ℕ) (m : Msg) → k ≢ 1 → Label f g k r m → sent_of o m ≡ 0
-  no_install_from k r (msg.Install j filter from to) other label = absurd (other label.0.0)
-  no_install_from k r msg.Finish other label = absurd (other label.0)
+  no_install_from k r (Msg.Install j filter from to) other label = absurd (other label.0.0)
+  no_install_from k r Msg.Finish other label = absurd (other label.0)
   no_install_from k r m other label = refl
 
   pub no_install_to : (p k : ℕ) (m : Msg) → 1 ≤ k → Label f g p k m → sent_of o m ≡ 0
-  no_install_to p k (msg.Install j filter from to) some label = let none = label.0.1 in absurd (omega (arith, some, none))
-  no_install_to p k msg.Finish some label = let none = label.1 in absurd (omega (arith, some, none))
+  no_install_to p k (Msg.Install j filter from to) some label = let none = label.0.1 in absurd (omega (arith, some, none))
+  no_install_to p k Msg.Finish some label = let none = label.1 in absurd (omega (arith, some, none))
   no_install_to p k m some label = refl
 
   pub none_sent : (n k : ℕ) (sends : List (ℕ × Msg)) → k ≢ 1 → EachSent (Label f g) k sends → sent_weight (sent_of o) n k sends ≡ 0
@@ -44,26 +41,26 @@ module _ {R : Type 0} (f : Semantics R) (g : Given) (op : ℕ) where
   Notes one did = times_installed op did.notes ≡ one
 
   goes_notes : (s : SwitchState) (p : Packet) (t : Target) → Notes 0 (goes_to s p t)
-  goes_notes s p target.Controller = refl
-  goes_notes s p (target.Instance i) = elim (nat_lt i s.instances)
-      as (λ b. Notes 0 (if b then switch.arrival_step s p (i + 2) (msg.Carry mark.Plain) else switch.still s)) [ true ↦ refl | false ↦ refl ]
+  goes_notes s p Target.Controller = refl
+  goes_notes s p (Target.Instance i) = elim (nat_lt i s.instances)
+      as (λ b. Notes 0 (if b then switch.arrival_step s p (i + 2) (Msg.Carry Mark.Plain) else switch.still s)) [ true ↦ refl | false ↦ refl ]
 
   to_instance_notes : (s : SwitchState) (i : ℕ) (m : Msg) → Notes 0 (sends_to_instance s i m)
   to_instance_notes s i m =
       elim (nat_lt i s.instances) as (λ b. Notes 0 (if b then switch.sends_on s (i + 2) m else switch.still s)) [ true ↦ refl | false ↦ refl ]
 
   install_notes : (s : SwitchState) (j : ℕ) (filter : Filter) (from : ℕ) (to : Target) → s.instances ≡ count f g → nat_lt from (count f g) ≡ true
-      → is_target (count f g) to ≡ true → Notes (install op (msg.Install j filter from to)) (switch.on_install s j filter from to)
-  install_notes s j filter from target.Controller same here there = rw (same, here) (omega arith)
-  install_notes s j filter from (target.Instance i) same here there = rw (same, here, there) (omega arith)
+      → is_target (count f g) to ≡ true → Notes (install op (Msg.Install j filter from to)) (switch.on_install s j filter from to)
+  install_notes s j filter from Target.Controller same here there = rw (same, here) (omega arith)
+  install_notes s j filter from (Target.Instance i) same here there = rw (same, here, there) (omega arith)
 
   pub switch_notes : (s : SwitchState) (p : ℕ) (m : Msg) → s.instances ≡ count f g → Label f g p 0 m → Notes (install op m) (switch_step s m)
-  switch_notes s p (msg.InPacket q) same label = elim (has_room s) as (λ b. Notes 0 (if b then goes_to s q (target_of s q) else switch.still s))
+  switch_notes s p (Msg.InPacket q) same label = elim (has_room s) as (λ b. Notes 0 (if b then goes_to s q (target_of s q) else switch.still s))
       [ true ↦ goes_notes s q (target_of s q) | false ↦ refl ]
-  switch_notes s p (msg.Forward to k cell) same label = to_instance_notes s to (msg.Carry k cell)
-  switch_notes s p (msg.Install j filter from to) same label = install_notes s j filter from to same label.1 label.2
-  switch_notes s p (msg.FenceTo j to) same label = to_instance_notes s to (msg.Fence j)
-  switch_notes s p (msg.Credit cell) same label = elim ((s.flying == 0) || not (cell.pool == s.pool.name))
+  switch_notes s p (Msg.Forward to k cell) same label = to_instance_notes s to (Msg.Carry k cell)
+  switch_notes s p (Msg.Install j filter from to) same label = install_notes s j filter from to same label.1 label.2
+  switch_notes s p (Msg.FenceTo j to) same label = to_instance_notes s to (Msg.Fence j)
+  switch_notes s p (Msg.Credit cell) same label = elim ((s.flying == 0) || not (cell.pool == s.pool.name))
       as (λ b. Notes 0 (if b then switch.still s else record { node = record s { pool = one_more s.pool; flying = s.flying - 1 }; sends = []; notes = [] }))
       [ true ↦ refl | false ↦ refl ]
   switch_notes s p m same label = refl

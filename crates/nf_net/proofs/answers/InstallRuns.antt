@@ -1,14 +1,12 @@
 -- Of every run, the switch's rules change once for each move that is done and for each share that began, and for no other command.
 use Rattle.nf_net.proofs.Words.{◌≡◌, ◌≢◌, ℕ, zero, suc, ◌+◌, ◌≤◌, Bool, true, false, Option, Some, None, List, [], ◌∷◌, length, get_or, refl, sym, ap, ◌∙◌}
 use Rattle.nf_net.proofs.Words.{subst, arith, if◌then◌else◌, Global, nat_cmp, nat_tests, FunctionLaws, Semantics, Answer, Msg, Note, Choice, Network, Stepped}
-use Rattle.nf_net.proofs.Words.{IsRun, is_done, reaches, run, world_next, done_weight, at, opening_weight, Taking, run_induction, Takes, taken_outcome}
-use Rattle.nf_net.proofs.Words.{EachSent, total, sent_weight, total_after, Phase, ShareState, Operation, Move, Copy, Share, ControllerState, controller_step}
-use Rattle.nf_net.proofs.Words.{opened_controller, switch_step, Config, Node, Controller, answers_of, times_installed, IsInput, node_step, node_ready}
-use Rattle.nf_net.proofs.Words.{node_ended, first_nodes, started_with, answers_of-append, times_installed-append, Given, Label, Joined, node_of, known}
-use Rattle.nf_net.proofs.Words.{its_takes, its_label, its_labels, instance_quiet, controller_uninstalled, Runs, runs_at_start, runs_next, start_world, given}
-use Rattle.nf_net.proofs.Words.{all_fit, all_labelled, count_at_start}
+use Rattle.nf_net.proofs.Words.{IsRun, is_done, reaches, run, world_next, done_weight, at, opening_weight, Takes, taken_outcome, EachSent, total, sent_weight}
+use Rattle.nf_net.proofs.Words.{total_after, Phase, ShareState, Operation, Move, Copy, Share, ControllerState, controller_step, opened_controller, switch_step}
+use Rattle.nf_net.proofs.Words.{Config, Node, Controller, answers_of, times_installed, IsInput, node_step, node_ready, node_ended, first_nodes}
+use Rattle.nf_net.proofs.Words.{answers_of-append, times_installed-append, Given, Label, Joined, node_of, known, instance_quiet, controller_uninstalled, given}
+use Rattle.nf_net.proofs.Words.{all_labelled}
 use Rattle.std.specs.FinMap as finite
-use Rattle.nf_msgs.specs.declared.answer.Answer.TheVariants as answer
 use Rattle.move_op.specs.Phases as phase
 use Rattle.net_world.specs.Commands.{is_share as shares_units}
 use Rattle.nf_net.proofs.answers.BusyLemmas.{AreOther, none_answered, other_not_answered}
@@ -21,6 +19,7 @@ use Rattle.nf_net.proofs.answers.InstallSteps.{is_moving, dones, dones-append, d
 use Rattle.nf_net.proofs.answers.InstalledRules.{controller_counts}
 use Rattle.nf_net.proofs.answers.InstallNotes.{no_install_to, none_sent, items_none, switch_notes, none_installed, quiet_installed}
 use Rattle.proof_outlines.proofs.joined.Joined.{count}
+use Rattle.nf_net.proofs.RunKeeps.{run_keeps, start}
 
 -- the changes that wait and those that the switch noted are those that the controller has sent
 pub record Installs {F R : Type 0} (g : Given) (w : Network (Node F R) Msg Note) : Type 0 where
@@ -112,7 +111,7 @@ module _ {F R : Type 0} (f : Semantics R) (g : Given) (n : ℕ) where
 
 -- as many as there are answers, or fewer
 one_few : (a : Answer) → done_in a ≤ 1
-one_few answer.Done = omega arith
+one_few Answer.Done = omega arith
 one_few a = omega arith
 
 dones_few : (moving : Bool) (xs : List Answer) → dones moving xs ≤ length xs
@@ -135,8 +134,8 @@ open_few (Some (Move m)) = passed_few m.phase
 open_few (Some (Copy y)) = omega arith
 open_few (Some (Share s)) = omega arith
 
-pub not_done : (a : Answer) → a ≢ answer.Done → done_in a ≡ 0
-not_done answer.Done h = absurd (h refl)
+pub not_done : (a : Answer) → a ≢ Answer.Done → done_in a ≡ 0
+not_done Answer.Done h = absurd (h refl)
 not_done a h = refl
 
 -- What the log of a world of a run then says of changes.
@@ -191,14 +190,14 @@ module _ {F R : Type 0} (f : Semantics R) (g : Given) (n : ℕ) (count_is : n �
       by_got (Some (Copy y)) e = refl
       by_got (Some (Share s)) e = absurd (other s e)
 
-  pub refused_none_installed : (a : Answer) → answers_of op w.log ≡ a ∷ [] → a ≢ answer.Done → times_installed op w.log ≡ 0
+  pub refused_none_installed : (a : Answer) → answers_of op w.log ≡ a ∷ [] → a ≢ Answer.Done → times_installed op w.log ≡ 0
   refused_none_installed a is other =
       let balance = balance_is a is unlike in
       let none = dones-none moves_units a (not_done a other) in
       omega (arith, balance, none)
     where
       -- an open share was answered that it is done
-      done_is : (b : Bool) → a ∷ [] ≡ (if b then answer.Done ∷ [] else []) → ⊥
+      done_is : (b : Bool) → a ∷ [] ≡ (if b then Answer.Done ∷ [] else []) → ⊥
       done_is true e = other (ap (λ xs. get_or xs 0 a) e)
       done_is false e = cc
 
@@ -206,11 +205,11 @@ module _ {F R : Type 0} (f : Semantics R) (g : Given) (n : ℕ) (count_is : n �
       unlike s e = done_is (is_set_up s.phase) (sym is ∙ told (Share s) e)
 
   -- and where nothing waits, each change was noted
-  pub done_installed : moves_units ≡ true → is_done node_ended w ≡ true → answers_of op w.log ≡ answer.Done ∷ [] → times_installed op w.log ≡ 1
+  pub done_installed : moves_units ≡ true → is_done node_ended w ≡ true → answers_of op w.log ≡ Answer.Done ∷ [] → times_installed op w.log ≡ 1
   done_installed moves done is =
-      let balance = balance_is answer.Done is (λ s e. let never : true ≡ false = sym moves ∙ unshared s e in cc) in
+      let balance = balance_is Answer.Done is (λ s e. let never : true ≡ false = sym moves ∙ unshared s e in cc) in
       let none = done_weight node_ended w done (install op) in
-      let one : dones moves_units (answer.Done ∷ []) ≡ 1 = rw moves refl in
+      let one : dones moves_units (Answer.Done ∷ []) ≡ 1 = rw moves refl in
       omega (arith, balance, none, one)
 
   -- a command that neither moves nor shares units changes no rules
@@ -235,13 +234,8 @@ module _ {F R : Type 0} (f : Semantics R) (g : Given) (n : ℕ) (count_is : n �
 
 module _ (F : Type 0) {R : Type 0} (f : Semantics R) (laws : FunctionLaws f) (alloc : Global) (c : Config) (items : List Msg)
     (is : IsInput f.kind c items) where
-  abbrev start : Network (Node F R) Msg Note
-  start = started_with {F = F} {R = R} alloc c items
 
-  abbrev nodes : ℕ
-  nodes = length c.names + 2
-
-  installs_at_start : Installs (given f c items is) start
+  installs_at_start : Installs (given f c items is) (start F f laws alloc c items is)
   installs_at_start = record {
     controller = opened_controller c.names c.site;
     controller_is = λ d. refl;
@@ -252,15 +246,8 @@ module _ (F : Type 0) {R : Type 0} (f : Semantics R) (laws : FunctionLaws f) (al
         omega (arith, none, given_none, closed);
   }
 
-  pub run_installs : (cs : List Choice) → IsRun node_ready (node_step f) cs start → Installs (given f c items is) (run (node_step f) cs start)
-  run_installs cs run_is = (run_induction node_ready (node_step f) nodes (λ _ w. Runs F f laws alloc c items is w × Installs (given f c items is) w) start
-      (λ _ w k next h. (runs_next F f laws alloc c items is w k next.taking h.0, installs_next w k next.taking h.0 h.1)) (start_world F f laws alloc c items
-      is) (count_at_start F f alloc c items is) (runs_at_start F f laws alloc c items is, installs_at_start) cs run_is).1
-    where
-      installs_next : (w : Network (Node F R) Msg Note) (k : Choice) → Taking node_ready (node_step f) nodes w k → Runs F f laws alloc c items is w
-          → Installs (given f c items is) w → Installs (given f c items is) (world_next (node_step f) w k)
-      installs_next w k t r h =
-          let g : Given = given f c items is in
-          let fitting = all_fit f c items is in
-          installs_after f g nodes w k.node k.port t.message t.rest r.joined (its_takes f laws g fitting nodes refl w k t r.joined r.beside)
-          (its_label f laws g fitting nodes refl w k t r.joined r.beside) (its_labels f laws g fitting nodes refl w k t r.joined r.beside) h
+  pub run_installs : (cs : List Choice) → IsRun node_ready (node_step f) cs (start F f laws alloc c items is)
+      → Installs (given f c items is) (run (node_step f) cs (start F f laws alloc c items is))
+  run_installs = run_keeps F f laws alloc c items is (λ _ w. Installs (given f c items is) w) installs_at_start (λ ds ok d s.
+      installs_after f (given f c items is) (length c.names + 2) (run (node_step f) ds (start F f laws alloc c items is)) d.node d.port s.taking.message
+      s.taking.rest s.runs.joined s.takes s.taken.label s.labels)

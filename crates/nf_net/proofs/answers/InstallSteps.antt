@@ -2,15 +2,13 @@
 -- that was done, and for each open share.
 use Rattle.nf_net.proofs.Words.{◌≡◌, ℕ, ◌+◌, Bool, true, false, Option, Some, None, List, [], ◌∷◌, ◌++◌, refl, sym, ap, ◌∙◌, arith, if◌then◌else◌, option_map}
 use Rattle.nf_net.proofs.Words.{option_or, Answer, Unknown, Overlap, Order, Msg, Phase, answer_of, Operation, Move, Share, answered}
-use Rattle.nf_msgs.specs.declared.command.Order.TheVariants as order
-use Rattle.nf_msgs.specs.declared.msg.Msg.TheVariants as msg
 use Rattle.move_op.specs.Phases as phase
 use Rattle.nf_net.proofs.answers.InstallCounts.{sent_of, done_in, passed, NoInstall, no_more, no_one, no_both}
 use Rattle.nf_net.proofs.answers.ShareTells.{is_of_share, AreOfShare}
 
 -- a command that moves units changes the rules where it is done
 abbrev pub is_moving : Option Order → Bool
-is_moving (Some (order.Move source destination filter keep)) = true
+is_moving (Some (Order.Move source destination filter keep)) = true
 is_moving o = false
 
 -- how many changes were sent for commands that are answered so, if they move units
@@ -45,8 +43,8 @@ over_is ph a is = cc
 
 -- what a share sends once it has begun has no change
 share_sent_none : (o : Option ℕ) (m : Msg) → is_of_share m ≡ true → sent_of o m ≡ 0
-share_sent_none o (msg.Install k filter from to) e = cc
-share_sent_none o msg.Finish e = cc
+share_sent_none o (Msg.Install k filter from to) e = cc
+share_sent_none o Msg.Finish e = cc
 share_sent_none o m e = refl
 
 pub shares_none : (n : ℕ) (sends : List (ℕ × Msg)) → AreOfShare sends → NoInstall n 1 sends
@@ -55,7 +53,7 @@ shares_none n (x ∷ xs) h = no_more n 1 x.0 x.1 (λ o. share_sent_none o x.1 h.
 
 pub answered_none : (n op : ℕ) (a : Option Answer) (sends : List (ℕ × Msg)) → AreOfShare sends → NoInstall n 1 (answered op a sends)
 answered_none n op None sends h = shares_none n sends h
-answered_none n op (Some why) sends h = no_both n 1 sends ((0, msg.Answered op) ∷ []) (shares_none n sends h) (no_one n 1 0 (msg.Answered op) (λ o. refl))
+answered_none n op (Some why) sends h = no_both n 1 sends ((0, Msg.Answered op) ∷ []) (shares_none n sends h) (no_one n 1 0 (Msg.Answered op) (λ o. refl))
 
 -- a refusal isn't an answer that it is done
 pub refused_none : (u : Option (List ℕ)) (q : Option ℕ) (a : Answer) → option_or (option_map Unknown u) (option_map Overlap q) ≡ Some a → done_in a ≡ 0

@@ -4,13 +4,9 @@ use Rattle.nf_net.proofs.Words.{if◌then◌else◌, ◌==◌, nat_tests, Decide
 use Rattle.nf_net.proofs.Words.{SharePlan, ShareState, MoveState, MoveRow, row_in, move_at_start, answer_of, stored_of, Operation, Move, Copy, Share, turn_of}
 use Rattle.nf_net.proofs.Words.{turn_of_move, ControllerState, on_asked, on_diverted, queue_step, after_turn, takes_turn, hand_step, unknown_name, overlap}
 use Rattle.nf_net.proofs.Words.{step_and_finish, controller_step, reaches, sent_weight, answers_of, row_by, got_insert, got_remove, gone_twice, NotShared}
-use Rattle.nf_net.proofs.Words.{CopyTurn, Idle, Hands, Hands_all, Ends, hands, copy_turns, answered, noted, Given, IsPlan, IsCopyPlan, Label}
+use Rattle.nf_net.proofs.Words.{CopyTurn, Idle, Hands, Hands_all, Ends, hands, copy_turns, answered, noted, Given, IsPlan, IsCopyPlan, Label, Action, Mark}
+use Rattle.nf_net.proofs.Words.{Note, Done}
 use Rattle.std.specs.FinMap as finite
-use Rattle.event_filter.specs.declared.action.Action.TheVariants as action
-use Rattle.event_filter.specs.declared.mark.Mark.TheVariants as mark
-use Rattle.nf_msgs.specs.declared.answer.Answer.TheVariants.{Done}
-use Rattle.nf_msgs.specs.declared.msg.Msg.TheVariants as msg
-use Rattle.nf_msgs.specs.declared.note.Note.TheVariants as note
 use Rattle.copy_share.specs.Copy as copy
 use Rattle.copy_share.specs.Share as share
 use Rattle.ctrl_node.specs.Controller as controller
@@ -43,8 +39,8 @@ module _ (n : ℕ) (reach : reaches n 1 0 ≡ true) (g : Given) (k : ℕ) (c : C
   finished_is : (did : Step) → Counts did → Sent (step_and_finish did)
   finished_is did h =
       let was = h.sent in
-      let told = sent_weight-append (install k) n 1 did.sends ((0, msg.Finish) ∷ []) in
-      let one : sent_weight (install k) n 1 ((0, msg.Finish) ∷ []) ≡ 0 = rw reach refl in
+      let told = sent_weight-append (install k) n 1 did.sends ((0, Msg.Finish) ∷ []) in
+      let one : sent_weight (install k) n 1 ((0, Msg.Finish) ∷ []) ≡ 0 = rw reach refl in
       let untold = sent_weight-append (install k) n 1 did.sends [] in
       by_finish Sent c did (omega (arith, was, told, one)) (omega (arith, was, untold))
 
@@ -76,11 +72,11 @@ module _ (n : ℕ) (reach : reaches n 1 0 ≡ true) (g : Given) (k : ℕ) (c : C
     ends_is : (op : ℕ) (y : CopyState) → finite.get c.operations op ≡ Some (Copy y) → Counts (ends c op)
     ends_is op y is =
         let plan : IsCopyPlan g op y.plan = (are.copies op y is).1 in
-        let own = no_one n 1 0 (msg.Answered op) (λ o. refl) in
+        let own = no_one n 1 0 (Msg.Answered op) (λ o. refl) in
         let weighs = own (Some k) in
         let turned : (op == k) ≡ (k == op) = grind (arith, nat_tests) in
         let gone = got_remove c.operations op k in
-        let here : open_in (finite.get (finite.remove c.operations op) k) + dones moving (answers_of k (note.Answered op Done ∷ []))
+        let here : open_in (finite.get (finite.remove c.operations op) k) + dones moving (answers_of k (Note.Answered op Done ∷ []))
         ≡ open_in (finite.get c.operations k) =
         rw (gone, turned) (elim (k == op) as (λ b. (k == op) ≡ b → open_in (cond b None (finite.get c.operations k))
         + dones moving (map (λ (one : ℕ × Answer). one.1) (if b then (op, Done) ∷ [] else [])) ≡ open_in (finite.get c.operations k)) [
@@ -96,8 +92,8 @@ module _ (n : ℕ) (reach : reaches n 1 0 ≡ true) (g : Given) (k : ℕ) (c : C
     copy_is : (op : ℕ) (y : CopyState) → finite.get c.operations op ≡ Some (Copy y) → (m : Msg) (did : Step)
         → CopyTurn (record { controller = c; op = op; copy = y }) m did → Counts did
     copy_is op y is m did (Idle e) = subst Counts (sym e) still_is
-    copy_is op y is m did (Hands j chunks e d) = subst Counts (sym d) (hands_is op y is (msg.Standby y.plan.op chunks) (λ o. refl))
-    copy_is op y is m did (Hands_all j chunk e d) = subst Counts (sym d) (hands_is op y is (msg.PutAll y.plan.op chunk) (λ o. refl))
+    copy_is op y is m did (Hands j chunks e d) = subst Counts (sym d) (hands_is op y is (Msg.Standby y.plan.op chunks) (λ o. refl))
+    copy_is op y is m did (Hands_all j chunk e d) = subst Counts (sym d) (hands_is op y is (Msg.PutAll y.plan.op chunk) (λ o. refl))
     copy_is op y is m did (Ends d) = subst Counts (sym d) (ends_is op y is)
 
     turn_is : (op port : ℕ) (m : Msg) (o : Option Operation) → finite.get c.operations op ≡ o → NotShared o
@@ -143,16 +139,16 @@ module _ (n : ℕ) (reach : reaches n 1 0 ≡ true) (g : Given) (k : ℕ) (c : C
             let sent = sends_are (passed r.next.phase) refl in
             record { sent = omega (arith, here, sent); unfinished = adds.unfinished; finish_same = refl }
         by_answer (Some a) e =
-            let sends = r.next.sends ++ (0, msg.Answered op) ∷ [] in
-            let both = sent_weight-append (install k) n 1 r.next.sends ((0, msg.Answered op) ∷ []) in
-            let none = no_one n 1 0 (msg.Answered op) (λ y. refl) (Some k) in
+            let sends = r.next.sends ++ (0, Msg.Answered op) ∷ [] in
+            let both = sent_weight-append (install k) n 1 r.next.sends ((0, Msg.Answered op) ∷ []) in
+            let none = no_one n 1 0 (Msg.Answered op) (λ y. refl) (Some k) in
             let gone : finite.get (finite.remove (finite.insert c.operations op (Move x)) op) k ≡ cond (k == op) None (finite.get c.operations k) =
             got_remove (finite.insert c.operations op (Move x)) op k ∙ ap (λ o. cond (k == op) None o) (got_insert c.operations op k (Move x))
             ∙ gone_twice (k == op) (Some (Move x)) (finite.get c.operations k) in
             let turned : (op == k) ≡ (k == op) = grind (arith, nat_tests) in
             let plan : IsPlan g op mv.plan = (are.moves op mv is).2 in
             let here : open_in (finite.get (finite.remove (finite.insert c.operations op (Move x)) op) k)
-            + dones moving (answers_of k (note.Answered op a ∷ [])) ≡ (if k == op then done_in a else open_in (finite.get c.operations k)) =
+            + dones moving (answers_of k (Note.Answered op a ∷ [])) ≡ (if k == op then done_in a else open_in (finite.get c.operations k)) =
             rw (gone, turned) (elim (k == op) as (λ b. (k == op) ≡ b
             → open_in (cond b None (finite.get c.operations k)) + dones moving (map (λ (one : ℕ × Answer). one.1) (if b then (op, a) ∷ [] else []))
             ≡ (if b then done_in a else open_in (finite.get c.operations k))) [
@@ -163,8 +159,8 @@ module _ (n : ℕ) (reach : reaches n 1 0 ≡ true) (g : Given) (k : ℕ) (c : C
             let sent = sends_are (done_in a) (sym (over_is r.next.phase a e)) in
             record {
               sent = omega (arith, both, none, here, sent);
-              unfinished = (let all = sent_weight-append finish n 1 r.next.sends ((0, msg.Answered op) ∷ []) in
-                  let first = adds.unfinished in let last = no_one n 1 0 (msg.Answered op) (λ y. refl) None in omega (arith, all, first, last));
+              unfinished = (let all = sent_weight-append finish n 1 r.next.sends ((0, Msg.Answered op) ∷ []) in
+                  let first = adds.unfinished in let last = no_one n 1 0 (Msg.Answered op) (λ y. refl) None in omega (arith, all, first, last));
               finish_same = refl;
             }
 
@@ -219,7 +215,7 @@ module _ (n : ℕ) (reach : reaches n 1 0 ≡ true) (g : Given) (k : ℕ) (c : C
     begun_is : (op : ℕ) → finite.get c.operations op ≡ None → {what : Order} (did : Step) → OpensBy c op what did → Counts did
     begun_is op none did (Opens_move {filter = filter} {keep = keep} from to e at) =
         opens_is op none (Move (move_at_start (record { op = op; from = from; to = to; filter = filter; keep = keep })))
-        ((from + 2, msg.Enable op filter action.Drop) ∷ []) refl (no_one n 1 (from + 2) (msg.Enable op filter action.Drop) (λ y. refl))
+        ((from + 2, Msg.Enable op filter Action.Drop) ∷ []) refl (no_one n 1 (from + 2) (Msg.Enable op filter Action.Drop) (λ y. refl))
     begun_is op none did (Opens_copy {filter = filter} from to e at) =
         opens_is op none (Copy (copy.copy_at_start (record { op = op; from = from; to = to; filter = filter })))
         ((instance_node from, copy.asks op filter) ∷ []) refl (no_one n 1 (instance_node from) (copy.asks op filter) (asks_quiet filter))
@@ -245,7 +241,7 @@ module _ (n : ℕ) (reach : reaches n 1 0 ≡ true) (g : Given) (k : ℕ) (c : C
     asked_is : (op : ℕ) (what : Order) → Counts (on_asked c (record { op = op; what = what }))
     asked_is op what = by_command Counts c op what still_is (λ a new is.
         let refused = refused_none (unknown_name c what) (overlap c what) a is in
-        let sent = no_one n 1 0 (msg.Answered op) (λ y. refl) in
+        let sent = no_one n 1 0 (Msg.Answered op) (λ y. refl) in
         let own = sent (Some k) in
         let noted : dones moving (map (λ (one : ℕ × Answer). one.1) (if op == k then (op, a) ∷ [] else [])) ≡ 0 = elim (op == k) as (λ b.
         dones moving (map (λ (one : ℕ × Answer). one.1) (if b then (op, a) ∷ [] else [])) ≡ 0) [ true ↦ dones-none moving a refused | false ↦ refl ] in
@@ -256,7 +252,7 @@ module _ (n : ℕ) (reach : reaches n 1 0 ≡ true) (g : Given) (k : ℕ) (c : C
       still = λ m. still_is;
       ended = none_is _ [] refl refl (λ op. refl);
       stopped = λ i. none_is _ [] refl refl (λ op. refl);
-      returned = λ op i cell. none_is c ((0, msg.Forward i (mark.Pass op) cell) ∷ []) refl refl (no_one n 1 0 (msg.Forward i (mark.Pass op) cell) (λ y. refl));
+      returned = λ op i cell. none_is c ((0, Msg.Forward i (Mark.Pass op) cell) ∷ []) refl refl (no_one n 1 0 (Msg.Forward i (Mark.Pass op) cell) (λ y. refl));
       handed = λ op m its. handed_is op port m;
       diverted = λ cell. diverted_is cell;
       asked = λ k. asked_is k.op k.what;

@@ -2,19 +2,17 @@
 use Rattle.nf_net.proofs.Words.{◌≡◌, ℕ, ◌+◌, ◌≤◌, Bool, true, false, List, [], ◌∷◌, ◌++◌, refl, arith, if◌then◌else◌, ◌||◌, ◌==◌, cond-same, FullCell, Piece}
 use Rattle.nf_net.proofs.Words.{Msg, Door, Phase, Nothing, Ask, Put, Release, Give_back, MovePlan, MoveNext, messages_of, source, destination, reaches}
 use Rattle.nf_net.proofs.Words.{sent_weight}
-use Rattle.nf_msgs.specs.declared.msg.Msg.TheVariants as msg
-use Rattle.move_op.specs.declared.door.Door.TheVariants as door
 use Rattle.move_op.specs.Phases as phase
 use Rattle.move_op.specs.Table.{Said, Stream}
 use Rattle.move_op.specs.Move.{row}
-use Rattle.nf_net.proofs.MoveWays.{Goes, Pushed, Asks, Way, Begins, Removes, Is_removed, Is_taken, Is_refused, Holds, Releases}
-use Rattle.nf_net.proofs.MoveWays.{move_fits, OfWord, each_said, weighs_none}
+use Rattle.nf_net.proofs.MoveWays.{Goes, Pushed, Asks, Way, Begins, Removes, Is_removed, Is_taken, Is_refused, Holds, Releases, move_fits, OfWord, each_said}
+use Rattle.nf_net.proofs.MoveWays.{weighs_none}
 
 -- what is sent once for a command: a piece that is put first, or the message that asks for its state
 abbrev pub counts : Msg → Bool → ℕ → ℕ
-counts (msg.Put k piece true) true op = if k == op then 1 else 0
-counts (msg.Stream k filter) false op = if k == op then 1 else 0
-counts (msg.Get k filter) false op = if k == op then 1 else 0
+counts (Msg.Put k piece true) true op = if k == op then 1 else 0
+counts (Msg.Stream k filter) false op = if k == op then 1 else 0
+counts (Msg.Get k filter) false op = if k == op then 1 else 0
 counts m first op = 0
 
 abbrev pub once : Bool → ℕ → Msg → ℕ
@@ -23,12 +21,12 @@ once first op m = counts m first op
 -- how many of these a move has sent in this phase
 abbrev pub spent : Phase → Bool → ℕ
 spent phase.Freezing first = 0
-spent (phase.Streaming frozen free came door.Shut) true = 0
+spent (phase.Streaming frozen free came Door.Shut) true = 0
 spent ph first = 1
 
 pub spent_few : (ph : Phase) (first : Bool) → spent ph first ≤ 1
 spent_few phase.Freezing first = omega arith
-spent_few (phase.Streaming frozen free came door.Shut) true = omega arith
+spent_few (phase.Streaming frozen free came Door.Shut) true = omega arith
 spent_few ph first = omega arith
 
 module _ (n k : ℕ) (first : Bool) where
@@ -51,9 +49,9 @@ one_if true = omega arith
 one_if false = omega arith
 
 pub few_counts : (m : Msg) (first : Bool) (op : ℕ) → counts m first op ≤ 1
-few_counts (msg.Put k piece true) true op = one_if (k == op)
-few_counts (msg.Stream k filter) false op = one_if (k == op)
-few_counts (msg.Get k filter) false op = one_if (k == op)
+few_counts (Msg.Put k piece true) true op = one_if (k == op)
+few_counts (Msg.Stream k filter) false op = one_if (k == op)
+few_counts (Msg.Get k filter) false op = one_if (k == op)
 few_counts m first op = omega arith
 
 module _ (n : ℕ) (first : Bool) (plan : MovePlan) where
@@ -63,32 +61,32 @@ module _ (n : ℕ) (first : Bool) (plan : MovePlan) where
     pub other : (op : ℕ) → (plan.op == op) ≡ false → sent_weight (once first op) n 1 next.sends ≡ 0
 
   first_put : (p : Piece) (frozen free : List Piece) (came : Bool) (b : Bool)
-      → counts (msg.Put plan.op p true) b plan.op + spent (phase.Streaming frozen free came door.Shut) b ≤ 1
-  first_put p frozen free came true = let few = few_counts (msg.Put plan.op p true) true plan.op in omega (arith, few)
+      → counts (Msg.Put plan.op p true) b plan.op + spent (phase.Streaming frozen free came Door.Shut) b ≤ 1
+  first_put p frozen free came true = let few = few_counts (Msg.Put plan.op p true) true plan.op in omega (arith, few)
   first_put p frozen free came false = omega arith
 
-  first_put_other : (p : Piece) (b : Bool) (op : ℕ) → (plan.op == op) ≡ false → counts (msg.Put plan.op p true) b op ≡ 0
+  first_put_other : (p : Piece) (b : Bool) (op : ℕ) → (plan.op == op) ≡ false → counts (Msg.Put plan.op p true) b op ≡ 0
   first_put_other p true op off = rw off refl
   first_put_other p false op off = refl
 
-  stream : (b : Bool) → counts (msg.Stream plan.op plan.filter) b plan.op + 0 ≤ spent (phase.Streaming [] [] false door.Shut) b
+  stream : (b : Bool) → counts (Msg.Stream plan.op plan.filter) b plan.op + 0 ≤ spent (phase.Streaming [] [] false Door.Shut) b
   stream true = omega arith
-  stream false = let few = few_counts (msg.Stream plan.op plan.filter) false plan.op in omega (arith, few)
+  stream false = let few = few_counts (Msg.Stream plan.op plan.filter) false plan.op in omega (arith, few)
 
-  stream_other : (b : Bool) (op : ℕ) → (plan.op == op) ≡ false → counts (msg.Stream plan.op plan.filter) b op ≡ 0
+  stream_other : (b : Bool) (op : ℕ) → (plan.op == op) ≡ false → counts (Msg.Stream plan.op plan.filter) b op ≡ 0
   stream_other true op off = refl
   stream_other false op off = rw off refl
 
   -- the door alone tells what was sent
   same_spent : (a b c d : List Piece) (came since : Bool) (at : Door) (first : Bool)
       → spent (phase.Streaming a b came at) first ≡ spent (phase.Streaming c d since at) first
-  same_spent a b c d came since door.Shut true = refl
+  same_spent a b c d came since Door.Shut true = refl
   same_spent a b c d came since at first = refl
 
   -- what is said counts where a piece asks, or the state is asked for
   abbrev tells : Said FullCell Piece → Bool → ℕ → ℕ
-  tells (Ask p) b op = counts (msg.Put plan.op p true) b op
-  tells Stream b op = counts (msg.Stream plan.op plan.filter) b op
+  tells (Ask p) b op = counts (Msg.Put plan.op p true) b op
+  tells Stream b op = counts (Msg.Stream plan.op plan.filter) b op
   tells says b op = 0
 
   tells_other : (says : Said FullCell Piece) (op : ℕ) → (plan.op == op) ≡ false → tells says first op ≡ 0
@@ -102,8 +100,8 @@ module _ (n : ℕ) (first : Bool) (plan : MovePlan) where
 
   said_spends : (op : ℕ) (says : Said FullCell Piece) → sent_weight (once first op) n 1 (messages_of plan says) ≤ tells says first op
   said_spends op Nothing = omega arith
-  said_spends op (Ask p) = at_most n 1 first (destination plan) (msg.Put plan.op p true) op
-  said_spends op Stream = at_most n 1 first (source plan) (msg.Stream plan.op plan.filter) op
+  said_spends op (Ask p) = at_most n 1 first (destination plan) (Msg.Put plan.op p true) op
+  said_spends op Stream = at_most n 1 first (source plan) (Msg.Stream plan.op plan.filter) op
   said_spends op (Put ps) = none_said op (Put ps) (λ p. refl)
   said_spends op (Release cells) = none_said op (Release cells) (refl, λ c. refl)
   said_spends op (Give_back cells) = none_said op (Give_back cells) (refl, λ c. refl)

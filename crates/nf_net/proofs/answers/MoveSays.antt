@@ -1,10 +1,7 @@
 -- What a move is answered is why it was refused, or that it is done.
 use Rattle.nf_net.proofs.Words.{◌≡◌, ℕ, Bool, true, false, Option, Some, None, List, [], ◌∷◌, ◌++◌, map, refl, subst, ◌||◌, FullCell, Answer, Piece, Msg, Door}
 use Rattle.nf_net.proofs.Words.{Phase, Nothing, Put, Release, Give_back, MovePlan, MoveState, MoveRow, put_to, forward_to, messages_of, answer_of, EachSent}
-use Rattle.nf_net.proofs.Words.{Given, sent-append}
-use Rattle.switch_rules.specs.declared.target.Target.TheVariants as target
-use Rattle.nf_msgs.specs.declared.msg.Msg.TheVariants as msg
-use Rattle.move_op.specs.declared.door.Door.TheVariants as door
+use Rattle.nf_net.proofs.Words.{Given, sent-append, Target}
 use Rattle.move_op.specs.Phases as phase
 use Rattle.move_op.specs.Table.{Said}
 use Rattle.move_op.specs.Move.{row}
@@ -14,7 +11,7 @@ use Rattle.nf_net.proofs.answers.BusyOperations.{HasOutcome}
 
 -- what is known of a message, by sender and receiver
 abbrev pub Says : Given → ℕ → ℕ → Msg → Type 0
-Says g s r (msg.PutNo op refused) = is_outcome refused.why ≡ true
+Says g s r (Msg.PutNo op refused) = is_outcome refused.why ≡ true
 Says g s r message = Unit {0}
 
 -- the answer of a move is an outcome
@@ -28,7 +25,7 @@ answer_is ph a h is = cc
 
 -- the door alone tells what a move is to be answered, and it is the same as pieces are pushed
 same_door : (a b c d : List Piece) (came since : Bool) (at : Door) → HasOutcome (phase.Streaming a b came at) → HasOutcome (phase.Streaming c d since at)
-same_door a b c d came since (door.Refused why) h = h
+same_door a b c d came since (Door.Refused why) h = h
 same_door a b c d came since at h = tt
 
 push_says : {ph to : Phase} {says : Said FullCell Piece} → Pushed ph to says → HasOutcome ph → HasOutcome to
@@ -54,8 +51,8 @@ module _ (g : Given) where
     said_says Nothing = tt
     said_says (Put ps) = puts ps
     said_says (Release cells) = sent-append (Says g) 1 (map (forward_to plan plan.to) cells)
-        ((0, msg.Install plan.op plan.filter plan.from (target.Instance plan.to)) ∷ []) (forwards plan.to cells) (tt, tt)
-    said_says (Give_back cells) = sent-append (Says g) 1 (map (forward_to plan plan.from) cells) ((0, msg.FenceTo plan.op plan.from) ∷ [])
+        ((0, Msg.Install plan.op plan.filter plan.from (Target.Instance plan.to)) ∷ []) (forwards plan.to cells) (tt, tt)
+    said_says (Give_back cells) = sent-append (Says g) 1 (map (forward_to plan plan.from) cells) ((0, Msg.FenceTo plan.op plan.from) ∷ [])
         (forwards plan.from cells) (tt, tt)
     said_says said = (tt, tt)
 

@@ -4,23 +4,18 @@ use Rattle.nf_net.proofs.Words.{◌≡◌, ℕ, Bool, true, false, cond, Option,
 use Rattle.nf_net.proofs.Words.{find, option_map, Flow, Chunk, FullCell, stored_of, Answer, Msg, instance_node, SharePhase, SharePlan, ShareState, ShareRow}
 use Rattle.nf_net.proofs.Words.{home, others, syncs, setting, syncing, on_fenced, on_chunks, on_shared, on_synced, service_if_idle, Operation, Move, Copy}
 use Rattle.nf_net.proofs.Words.{Share, turn_of, lasts, ControllerState, after_turn, hand_step, queue_step, on_diverted, Each, OpenAt, answered, noted}
-use Rattle.nf_net.proofs.Words.{ShareLeaves, handed_leaves, queued_leaves}
+use Rattle.nf_net.proofs.Words.{ShareLeaves, handed_leaves, queued_leaves, flow_of, Done}
 use Rattle.std.specs.FinMap as finite
-use Rattle.flow_filter.specs.Flow.{flow_of}
-use Rattle.nf_msgs.specs.declared.answer.Answer.TheVariants.{Done}
-use Rattle.nf_msgs.specs.declared.msg.Msg.TheVariants as msg
-use Rattle.copy_share.specs.declared.share_phase.SharePhase.TheVariants as phase
-use Rattle.copy_share.specs.Share.{next_phase}
-use Rattle.copy_share.specs.Share.{row}
+use Rattle.copy_share.specs.Share.{next_phase, row}
 use Rattle.ctrl_node.specs.Operations.{Turn, is_shared_by}
 use Rattle.ctrl_node.specs.Controller.{Step, still, with_turn, without_operation}
 use Rattle.nf_net.proofs.answers.FirstEntries.{passes, found_passes}
 
 -- whether a share is set up: it is from when it was answered
 abbrev pub is_set_up : SharePhase → Bool
-is_set_up phase.Fencing = false
-is_set_up phase.Getting = false
-is_set_up (phase.Setting left) = false
+is_set_up SharePhase.Fencing = false
+is_set_up SharePhase.Getting = false
+is_set_up (SharePhase.Setting left) = false
 is_set_up ph = true
 
 -- a share that was set up, or wasn't, and is now, is answered where it was not and is now
@@ -30,9 +25,9 @@ Tells was now (Some a) = (a ≡ Done) × (was ≡ false) × (now ≡ true)
 
 -- a message that a share sends once it has begun
 abbrev pub is_of_share : Msg → Bool
-is_of_share (msg.Get op filter) = true
-is_of_share (msg.Sync home op chunks) = true
-is_of_share (msg.Forward to mark cell) = true
+is_of_share (Msg.Get op filter) = true
+is_of_share (Msg.Sync home op chunks) = true
+is_of_share (Msg.Forward to mark cell) = true
 is_of_share m = false
 
 abbrev pub AreOfShare : List (ℕ × Msg) → Type 0
@@ -47,44 +42,44 @@ module _ (plan : SharePlan) where
   stays : (ph : SharePhase) → RowTells ph (next_phase ph [])
   stays ph = record { tells = refl; sends = tt }
 
-  syncs_own : (chunks : List Chunk) (ms : List ℕ) → AreOfShare (map (λ member. (instance_node member, msg.Sync (member == home plan) plan.op chunks)) ms)
+  syncs_own : (chunks : List Chunk) (ms : List ℕ) → AreOfShare (map (λ member. (instance_node member, Msg.Sync (member == home plan) plan.op chunks)) ms)
   syncs_own chunks [] = tt
   syncs_own chunks (m ∷ ms) = (refl, syncs_own chunks ms)
 
   setting_tells : (ph : SharePhase) → is_set_up ph ≡ false → (left : ℕ) (sends : List (ℕ × Msg)) → AreOfShare sends → RowTells ph (setting left sends)
   setting_tells ph off left sends own = elim (left == 0)
-      as (λ b. RowTells ph (if b then record { phase = phase.Idle; sends = sends; answer = Some Done } else next_phase (phase.Setting left) sends)) [
+      as (λ b. RowTells ph (if b then record { phase = SharePhase.Idle; sends = sends; answer = Some Done } else next_phase (SharePhase.Setting left) sends)) [
         | true ↦ record { tells = (refl, off, refl); sends = own }
         | false ↦ record { tells = off; sends = own }
       ]
 
   syncing_tells : (ph : SharePhase) → is_set_up ph ≡ true → (left : ℕ) (sends : List (ℕ × Msg)) → AreOfShare sends → RowTells ph (syncing left sends)
-  syncing_tells ph on left sends own = elim (left == 0) as (λ b. RowTells ph (next_phase (if b then phase.Idle else phase.Syncing left) sends)) [
+  syncing_tells ph on left sends own = elim (left == 0) as (λ b. RowTells ph (next_phase (if b then SharePhase.Idle else SharePhase.Syncing left) sends)) [
     | true ↦ record { tells = on; sends = own }
     | false ↦ record { tells = on; sends = own }
   ]
 
   fenced_tells : (ph : SharePhase) → RowTells ph (on_fenced plan ph)
-  fenced_tells phase.Fencing = record { tells = refl; sends = (refl, tt) }
+  fenced_tells SharePhase.Fencing = record { tells = refl; sends = (refl, tt) }
   fenced_tells ph = stays ph
 
   chunks_tells : (ph : SharePhase) (chunks : List Chunk) → RowTells ph (on_chunks plan ph chunks)
-  chunks_tells phase.Getting chunks =
-      setting_tells phase.Getting refl (length (others plan (home plan))) (syncs plan (home plan) chunks) (syncs_own chunks (others plan (home plan)))
+  chunks_tells SharePhase.Getting chunks =
+      setting_tells SharePhase.Getting refl (length (others plan (home plan))) (syncs plan (home plan) chunks) (syncs_own chunks (others plan (home plan)))
   chunks_tells ph chunks = stays ph
 
   shared_tells : (ph : SharePhase) (sender : ℕ) (chunk : Chunk) → RowTells ph (on_shared plan ph sender chunk)
-  shared_tells (phase.Out member) sender chunk = elim (sender == instance_node member) as (λ b. RowTells (phase.Out member)
-      (if b then syncing (length (others plan member)) (syncs plan member (chunk ∷ [])) else next_phase (phase.Out member) [])) [
-        | true ↦ syncing_tells (phase.Out member) refl (length (others plan member)) (syncs plan member (chunk ∷ []))
+  shared_tells (SharePhase.Out member) sender chunk = elim (sender == instance_node member) as (λ b. RowTells (SharePhase.Out member)
+      (if b then syncing (length (others plan member)) (syncs plan member (chunk ∷ [])) else next_phase (SharePhase.Out member) [])) [
+        | true ↦ syncing_tells (SharePhase.Out member) refl (length (others plan member)) (syncs plan member (chunk ∷ []))
             (syncs_own (chunk ∷ []) (others plan member))
-        | false ↦ stays (phase.Out member)
+        | false ↦ stays (SharePhase.Out member)
       ]
   shared_tells ph sender chunk = stays ph
 
   synced_tells : (ph : SharePhase) → RowTells ph (on_synced ph)
-  synced_tells (phase.Setting left) = setting_tells (phase.Setting left) refl (left - 1) [] tt
-  synced_tells (phase.Syncing left) = syncing_tells (phase.Syncing left) refl (left - 1) [] tt
+  synced_tells (SharePhase.Setting left) = setting_tells (SharePhase.Setting left) refl (left - 1) [] tt
+  synced_tells (SharePhase.Syncing left) = syncing_tells (SharePhase.Syncing left) refl (left - 1) [] tt
   synced_tells ph = stays ph
 
   either_tells : (b : Bool) (r : ShareRow) (ph : SharePhase) → RowTells ph r → RowTells ph (if b then r else next_phase ph [])
@@ -92,19 +87,19 @@ module _ (plan : SharePlan) where
   either_tells false r ph h = stays ph
 
   row_tells : (ph : SharePhase) (sender : ℕ) (m : Msg) → RowTells ph (row (record { plan = plan; phase = ph }) sender m)
-  row_tells ph sender (msg.Fenced op) = either_tells (sender == instance_node (home plan)) (on_fenced plan ph) ph (fenced_tells ph)
-  row_tells ph sender (msg.Chunks op chunks) = either_tells (sender == instance_node (home plan)) (on_chunks plan ph chunks) ph (chunks_tells ph chunks)
-  row_tells ph sender (msg.Shared op chunk) = shared_tells ph sender chunk
-  row_tells ph sender (msg.Synced op) = synced_tells ph
+  row_tells ph sender (Msg.Fenced op) = either_tells (sender == instance_node (home plan)) (on_fenced plan ph) ph (fenced_tells ph)
+  row_tells ph sender (Msg.Chunks op chunks) = either_tells (sender == instance_node (home plan)) (on_chunks plan ph chunks) ph (chunks_tells ph chunks)
+  row_tells ph sender (Msg.Shared op chunk) = shared_tells ph sender chunk
+  row_tells ph sender (Msg.Synced op) = synced_tells ph
   row_tells ph sender m = stays ph
 
   -- what is served changes nothing of it
   served_same : (ph : SharePhase) (cells : List FullCell) → is_set_up (service_if_idle plan ph cells).phase ≡ is_set_up ph
-  served_same phase.Idle (cell ∷ cells) = refl
+  served_same SharePhase.Idle (cell ∷ cells) = refl
   served_same ph cells = refl
 
   served_own : (ph : SharePhase) (cells : List FullCell) → AreOfShare (service_if_idle plan ph cells).sends
-  served_own phase.Idle (cell ∷ cells) = (refl, tt)
+  served_own SharePhase.Idle (cell ∷ cells) = (refl, tt)
   served_own ph cells = tt
 
 -- A step of the controller that leaves all but one open share as it was: what becomes of the share, what is sent and answered.

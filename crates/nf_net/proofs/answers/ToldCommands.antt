@@ -2,31 +2,28 @@
 use Rattle.nf_net.proofs.Words.{◌≡◌, ℕ, zero, suc, ◌+◌, ◌≤◌, Bool, true, false, Option, Some, None, List, [], ◌∷◌, ◌++◌, length, refl, sym, ap, ◌∙◌, subst}
 use Rattle.nf_net.proofs.Words.{arith, if◌then◌else◌, ◌&&◌, ◌||◌, ◌==◌, not, nat_lt, find, is_some, option_map, filter_map, option_or, Global, nat_tests}
 use Rattle.nf_net.proofs.Words.{Decides-eqb, Decides-ltb, and_parts, Filter, FunctionLaws, Semantics, Answer, Unknown, Overlap, Order, Msg, Note, Choice}
-use Rattle.nf_net.proofs.Words.{Network, Stepped, IsRun, is_done, reaches, run, world_next, done_weight, at, opening_weight, Taking, run_induction, run_world}
-use Rattle.nf_net.proofs.Words.{Takes, taken_outcome, weigh, total, sent_weight, total_after, Operation, Move, Copy, Share, ControllerState, refusal}
-use Rattle.nf_net.proofs.Words.{unknown_name, overlap, move_between, copy_between, share_begin, begin_step, decision_step, on_asked, controller_step, place_of}
-use Rattle.nf_net.proofs.Words.{SwitchState, switch_step, Config, Node, Controller, is_begun, has_answered, is_share, keeps_off, answers_of, IsInput, commands}
-use Rattle.nf_net.proofs.Words.{order_numbered, ends_last, node_step, node_ready, node_ended, first_nodes, started_with, answers_in, has_begun-append}
-use Rattle.nf_net.proofs.Words.{has_answered-append, is_whole, Given, Label, Joined, node_of, its_takes, its_label, Runs, runs_at_start, runs_next, start_world}
-use Rattle.nf_net.proofs.Words.{names_known, given, all_fit, count_at_start}
+use Rattle.nf_net.proofs.Words.{Network, Stepped, IsRun, is_done, reaches, run, world_next, done_weight, at, opening_weight, Takes, taken_outcome, weigh, total}
+use Rattle.nf_net.proofs.Words.{sent_weight, total_after, Operation, Move, Copy, Share, ControllerState, refusal, unknown_name, overlap, move_between}
+use Rattle.nf_net.proofs.Words.{copy_between, share_begin, begin_step, decision_step, on_asked, controller_step, place_of, SwitchState, switch_step, Config}
+use Rattle.nf_net.proofs.Words.{Node, Controller, is_begun, has_answered, is_share, keeps_off, answers_of, IsInput, commands, order_numbered, ends_last}
+use Rattle.nf_net.proofs.Words.{node_step, node_ready, node_ended, first_nodes, started_with, answers_in, has_begun-append, has_answered-append, is_whole}
+use Rattle.nf_net.proofs.Words.{Given, Label, Joined, node_of, names_known, given, Done}
 use Rattle.std.specs.FinMap as finite
-use Rattle.nf_msgs.specs.declared.answer.Answer.TheVariants.{Done}
-use Rattle.nf_msgs.specs.declared.command.Order.TheVariants as order
-use Rattle.nf_msgs.specs.declared.msg.Msg.TheVariants as msg
 use Rattle.ctrl_node.specs.Controller as controller
 use Rattle.ctrl_node.specs.Controller.{Step, still}
 use Rattle.net_world.proofs.PickedLists.{some_kept}
 use Rattle.nf_net.proofs.answers.BusyLemmas.{is_noted}
-use Rattle.nf_net.proofs.answers.BusyRuns.{Busy, same_controller, keeps_is, told_is, busy_next}
-use Rattle.nf_net.proofs.answers.CommandPromises.{start_busy, run_busy}
+use Rattle.nf_net.proofs.answers.BusyRuns.{Busy, same_controller, keeps_is, told_is}
+use Rattle.nf_net.proofs.answers.CommandPromises.{run_busy}
 use Rattle.nf_net.proofs.answers.EndRuns.{run_ends, all_settled}
 use Rattle.nf_net.proofs.answers.EndTables.{flag, IsSettled, flag_full}
 use Rattle.proof_outlines.proofs.joined.Joined.{count, is_built}
+use Rattle.nf_net.proofs.RunKeeps.{run_keeps, after_world}
 
 -- a command of this number that waits
 abbrev pub told : ℕ → Msg → ℕ
-told op (msg.Asked c) = if c.op == op then 1 else 0
-told op (msg.InCommand c) = if c.op == op then 1 else 0
+told op (Msg.Asked c) = if c.op == op then 1 else 0
+told op (Msg.InCommand c) = if c.op == op then 1 else 0
 told op m = 0
 
 -- notes stay
@@ -57,11 +54,11 @@ noted_new op xs ys h =
 
 -- a share has names
 abbrev NamesSome : Order → Type 0
-NamesSome (order.Share members filter) = 1 ≤ length members
+NamesSome (Order.Share members filter) = 1 ≤ length members
 NamesSome what = Unit {0}
 
 names_some : {R : Type 0} (f : Semantics R) (g : Given) (what : Order) → is_built f g what ≡ true → NamesSome what
-names_some f g (order.Share members filter) built =
+names_some f g (Order.Share members filter) built =
     let two = (Decides-ltb 1 (length members)).0 (and_parts (nat_lt 1 (length members)) _ (and_parts (is_whole f.kind filter) _ built).1).0 in
     omega (arith, two)
 names_some f g what built = tt
@@ -102,16 +99,16 @@ module _ (g : Given) (log : List Note) (c : ControllerState) (op : ℕ) (open_is
   shares_noted filter (home ∷ others) some = noted_new op log (share_begin c op filter (home ∷ others)).notes (let own = self in rw own refl)
 
   begins_noted : (what : Order) → NamesSome what → refusal c what ≡ None → Noted (begin_step c op what)
-  begins_noted (order.Move source destination filter keep) some none =
+  begins_noted (Order.Move source destination filter keep) some none =
       let known = both_known source destination (is_some (place_of c.names source)) (is_some (place_of c.names destination))
-      (none_of (unknown_name c (order.Move source destination filter keep)) (overlap c (order.Move source destination filter keep)) none) in
+      (none_of (unknown_name c (Order.Move source destination filter keep)) (overlap c (Order.Move source destination filter keep)) none) in
       between_noted filter keep (place_of c.names source) (place_of c.names destination) known.0 known.1
-  begins_noted (order.Copy source destination filter) some none =
+  begins_noted (Order.Copy source destination filter) some none =
       let known = both_known source destination (is_some (place_of c.names source)) (is_some (place_of c.names destination))
-      (none_of (unknown_name c (order.Copy source destination filter)) (overlap c (order.Copy source destination filter)) none) in
+      (none_of (unknown_name c (Order.Copy source destination filter)) (overlap c (Order.Copy source destination filter)) none) in
       copies_noted filter (place_of c.names source) (place_of c.names destination) known.0 known.1
-  begins_noted (order.Share members filter) some none =
-      let known = names_known c.names members (none_of (unknown_name c (order.Share members filter)) (overlap c (order.Share members filter)) none) in
+  begins_noted (Order.Share members filter) some none =
+      let known = names_known c.names members (none_of (unknown_name c (Order.Share members filter)) (overlap c (Order.Share members filter)) none) in
       let many = known.many in
       shares_noted filter (filter_map (place_of c.names) members) (omega (arith, many, some))
 
@@ -136,14 +133,14 @@ module _ (g : Given) (log : List Note) (c : ControllerState) (op : ℕ) (open_is
 module _ {R : Type 0} (f : Semantics R) (g : Given) (op : ℕ) where
   controller_told : (log : List Note) (c : ControllerState) → ((k : ℕ) → finite.contains_key c.operations k ≡ keeps_off g.names g.orders k log)
       → (p : ℕ) (m : Msg) → Label f g p 1 m → told op m ≤ flag (is_noted op (log ++ (controller_step c p m).notes))
-  controller_told log c open_is p (msg.InCommand k) label = let never = label.0.1 in cc
-  controller_told log c open_is p (msg.Asked k) label =
+  controller_told log c open_is p (Msg.InCommand k) label = let never = label.0.1 in cc
+  controller_told log c open_is p (Msg.Asked k) label =
       let noted = asked_noted g log c k.op (open_is k.op) k.what (names_some f g k.what label.2.built) in
       let from : (p == 0) ≡ true = (Decides-eqb p 0).1 label.0 in
-      let all : is_noted k.op (log ++ (controller_step c p (msg.Asked k)).notes) ≡ true =
+      let all : is_noted k.op (log ++ (controller_step c p (Msg.Asked k)).notes) ≡ true =
       ap (λ b. is_noted k.op (log ++ (if b then on_asked c k else still c).notes)) from ∙ noted in
-      elim (k.op == op) as (λ b. (k.op == op) ≡ b → (if b then 1 else 0) ≤ flag (is_noted op (log ++ (controller_step c p (msg.Asked k)).notes))) [
-        | true ↦ λ on. (let mine = subst (λ y. is_noted y (log ++ (controller_step c p (msg.Asked k)).notes) ≡ true) ((Decides-eqb k.op op).0 on) all in
+      elim (k.op == op) as (λ b. (k.op == op) ≡ b → (if b then 1 else 0) ≤ flag (is_noted op (log ++ (controller_step c p (Msg.Asked k)).notes))) [
+        | true ↦ λ on. (let mine = subst (λ y. is_noted y (log ++ (controller_step c p (Msg.Asked k)).notes) ≡ true) ((Decides-eqb k.op op).0 on) all in
             let one = ap flag mine in omega (arith, one))
         | false ↦ λ off. omega arith
       ] refl
@@ -151,13 +148,13 @@ module _ {R : Type 0} (f : Semantics R) (g : Given) (op : ℕ) where
 
   switch_told : (n : ℕ) → reaches n 0 1 ≡ true → (s : SwitchState) (p : ℕ) (m : Msg) → Label f g p 0 m
       → told op m ≤ sent_weight (told op) n 0 (switch_step s m).sends
-  switch_told n reach s p (msg.InCommand k) label = rw reach (omega arith)
-  switch_told n reach s p (msg.Asked k) label = let never = label.1 in cc
+  switch_told n reach s p (Msg.InCommand k) label = rw reach (omega arith)
+  switch_told n reach s p (Msg.Asked k) label = let never = label.1 in cc
   switch_told n reach s p m label = omega arith
 
   instance_told : (p k : ℕ) (m : Msg) → 2 ≤ k → Label f g p k m → told op m ≡ 0
-  instance_told p k (msg.Asked c) two label = let one = label.1 in absurd (omega (arith, one, two))
-  instance_told p k (msg.InCommand c) two label = let none = label.0.1 in absurd (omega (arith, none, two))
+  instance_told p k (Msg.Asked c) two label = let one = label.1 in absurd (omega (arith, one, two))
+  instance_told p k (Msg.InCommand c) two label = let none = label.0.1 in absurd (omega (arith, none, two))
   instance_told p k m two label = refl
 
 -- each command of the input waits, began or was answered
@@ -201,7 +198,7 @@ module _ {F R : Type 0} (f : Semantics R) (g : Given) (n : ℕ) (count_is : n �
 -- a command of the input
 listed : (op : ℕ) (items : List Msg) (what : Order) → order_numbered items op ≡ Some what → 1 ≤ weigh (told op) items
 listed op [] what is = cc
-listed op (msg.InCommand c ∷ items) what is = elim (c.op == op) as (λ b.
+listed op (Msg.InCommand c ∷ items) what is = elim (c.op == op) as (λ b.
     option_map (λ x. x.what) (if b then Some c else find (λ x. x.op == op) (commands items)) ≡ Some what → 1 ≤ (if b then 1 else 0) + weigh (told op) items) [
       | true ↦ λ here. omega arith
       | false ↦ λ behind. (let rest = listed op items what behind in omega (arith, rest))
@@ -234,21 +231,9 @@ module _ (F : Type 0) {R : Type 0} (f : Semantics R) (laws : FunctionLaws f) (al
   told_at_start op some = let all = opening_weight Note (first_nodes {F = F} {R = R} alloc c) items (told op) in omega (arith, all, some)
 
   pub run_told : (cs : List Choice) → IsRun node_ready (node_step f) cs start → Told items (run (node_step f) cs start)
-  run_told cs run_is = (run_induction node_ready (node_step f) nodes (λ _ w. Runs F f laws alloc c items is w × Busy g w × Told items w) start
-      (λ _ w k next h. (
-        runs_next F f laws alloc c items is w k next.taking h.0,
-        busy_next f g nodes refl w k next.taking h.0.joined h.1,
-        told_next w k next.taking h.0 h.1 h.2,
-      ))
-      (start_world F f laws alloc c items is) (count_at_start F f alloc c items is)
-      (runs_at_start F f laws alloc c items is, start_busy F f laws alloc c items is, told_at_start) cs run_is).2
-    where
-      told_next : (w : Network (Node F R) Msg Note) (k : Choice) → Taking node_ready (node_step f) nodes w k → Runs F f laws alloc c items is w → Busy g w
-          → Told items w → Told items (world_next (node_step f) w k)
-      told_next w k t r b h =
-          let fitting = all_fit f c items is in
-          told_after f g nodes refl items w k.node k.port t.message t.rest r.joined (its_takes f laws g fitting nodes refl w k t r.joined r.beside)
-          (its_label f laws g fitting nodes refl w k t r.joined r.beside) b h
+  run_told = run_keeps F f laws alloc c items is (λ _ w. Told items w) told_at_start (λ ds ok d s. told_after f g nodes refl items
+      (run (node_step f) ds start) d.node d.port s.taking.message s.taking.rest s.runs.joined s.takes s.taken.label
+      (run_busy F f laws alloc c items is ds ok).1)
 
   -- in a complete run each command is answered, if none stands behind the input's end
   pub each_answered : ends_last items ≡ true → (cs : List Choice) → IsRun node_ready (node_step f) cs start
@@ -259,8 +244,7 @@ module _ (F : Type 0) {R : Type 0} (f : Semantics R) (laws : FunctionLaws f) (al
       let busy = run_busy F f laws alloc c items is cs run_is in
       let j = busy.0 in
       let ends = run_ends F f laws alloc c items is last cs run_is in
-      let world = run_world node_ready (node_step f) nodes start (start_world F f laws alloc c items is) (count_at_start F f alloc c items is) cs run_is in
-      let count = world.1 in
+      let count = (after_world F f laws alloc c items is cs run_is).1 in
       let waits = run_told cs run_is op (listed op items what known) in
       let nothing = done_weight node_ended w done (told op) in
       let same : ends.controller ≡ j.nodes.controller = same_controller {F = F} {R = R} ends.controller j.nodes.controller

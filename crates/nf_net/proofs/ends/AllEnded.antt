@@ -4,7 +4,6 @@ use Rattle.nf_net.proofs.Words.{arith, if◌then◌else◌, ◌&&◌, ◌==◌, 
 use Rattle.nf_net.proofs.Words.{SharePhase, ShareState, is_idle, Operation, Move, Copy, Share, OpenOperations, is_quiet, are_quiet, Network, IsWorld, queue_at}
 use Rattle.nf_net.proofs.Words.{at, weigh, total, OpenShare, find_share, Node, Switch, Controller, node_ended, Given, place, Joined, silent_total}
 use Rattle.std.specs.FinMap as finite
-use Rattle.copy_share.specs.declared.share_phase.SharePhase.TheVariants as shares
 use Rattle.proof_outlines.proofs.whole.OpenShares.{share_in, SeesOne}
 use Rattle.proof_outlines.proofs.whole.ShareOutline.{Rests}
 use Rattle.proof_outlines.proofs.joined.Joined.{count}
@@ -38,9 +37,9 @@ found_pass ops q h = by_found (find (λ e. not (q e.1)) (finite.entries ops)) re
     by_found None is = none_fails q (finite.entries ops) is
     by_found (Some x) is = absurd (by_got x.0 (finite.get ops x.0) refl (found_passes ops (λ o. not (q o)) x is))
 
-idle_quiet : (ph : SharePhase) (cells : List FullCell) → ph ≡ shares.Idle → Rests ph cells → is_idle ph cells ≡ true
-idle_quiet shares.Idle [] e rests = refl
-idle_quiet shares.Idle (cell ∷ cells) e rests = absurd rests
+idle_quiet : (ph : SharePhase) (cells : List FullCell) → ph ≡ SharePhase.Idle → Rests ph cells → is_idle ph cells ≡ true
+idle_quiet SharePhase.Idle [] e rests = refl
+idle_quiet SharePhase.Idle (cell ∷ cells) e rests = absurd rests
 idle_quiet ph cells e rests = cc
 
 sent_of : (a b q : Bool) → a && not b && q ≡ false → a ≡ true → q ≡ true → b ≡ true
@@ -57,7 +56,7 @@ module _ {F R : Type 0} (f : Semantics R) (g : Given) (n : ℕ) (count_is : n �
   calm_at op = calm f g n w j enough (omega (arith, count_is)) silent op
 
   pub settled_share : (op : ℕ) (o : Operation) → finite.get j.nodes.controller.operations op ≡ Some o
-      → (s : ShareState) × ((o ≡ Share s) × (s.phase ≡ shares.Idle))
+      → (s : ShareState) × ((o ≡ Share s) × (s.phase ≡ SharePhase.Idle))
   settled_share op (Move m) there = absurd (no_move f g n count_is w j silent op m there)
   settled_share op (Copy y) there = absurd (subst IsCalm there (calm_at op))
   settled_share op (Share s) there = (s, (refl, subst IsCalm there (calm_at op)))

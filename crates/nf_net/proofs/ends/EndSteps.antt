@@ -4,15 +4,10 @@ use Rattle.nf_net.proofs.Words.{◌≡◌, ◌⊎◌, inl, inr, ℕ, zero, suc, 
 use Rattle.nf_net.proofs.Words.{refl, sym, ap, ◌∙◌, subst, arith, if◌then◌else◌, ◌&&◌, ◌||◌, ◌==◌, not, nat_lt, nat_le, nat_tests, Decides-eqb, length-set}
 use Rattle.nf_net.proofs.Words.{Packet, Semantics, one_more, Target, rules_redirected, Answer, Msg, instance_node, turn_of, lasts, are_quiet, ControllerState}
 use Rattle.nf_net.proofs.Words.{may_finish, controller_step, SwitchState, switch_step, stop_messages, reaches, sent_for, put_on_link, weigh, sent_weight}
-use Rattle.nf_net.proofs.Words.{row_fits, Given, Label}
-use Rattle.std.proofs.Common.{◌-◌}
-use Rattle.std.proofs.Common.{set}
+use Rattle.nf_net.proofs.Words.{row_fits, Given, Label, Mark, Note}
+use Rattle.std.proofs.Common.{◌-◌, set}
 use Rattle.std.specs.FinMap as finite
 use Rattle.std.proofs.lemmas.List.{get_or-set_same}
-use Rattle.event_filter.specs.declared.mark.Mark.TheVariants as mark
-use Rattle.switch_rules.specs.declared.target.Target.TheVariants as target
-use Rattle.nf_msgs.specs.declared.msg.Msg.TheVariants as msg
-use Rattle.nf_msgs.specs.declared.note.Note.TheVariants as note
 use Rattle.ctrl_node.specs.Operations.{Turn}
 use Rattle.ctrl_node.specs.Controller as ctrl
 use Rattle.ctrl_node.specs.Controller.{Step}
@@ -22,16 +17,16 @@ use Rattle.nf_net.proofs.answers.InstallCounts.{finish}
 
 -- the input's end, on its way; a stop; its answer
 abbrev pub ending : Msg → ℕ
-ending msg.InEnd = 1
-ending msg.End = 1
+ending Msg.InEnd = 1
+ending Msg.End = 1
 ending m = 0
 
 abbrev pub stop : Msg → ℕ
-stop msg.Stop = 1
+stop Msg.Stop = 1
 stop m = 0
 
 abbrev pub final : Msg → ℕ
-final msg.Final = 1
+final Msg.Final = 1
 final m = 0
 
 -- The controller
@@ -99,7 +94,7 @@ module _ (c : ControllerState) where
   stopped_at (x ∷ xs) (suc i) (suc k) e = stopped_at xs i k e
 
   module _ (long : length c.stopped ≡ length c.names) where
-    final_ends : (p : ℕ) (o : Option ℕ) → ctrl.instance_at c p ≡ o → RowEnds p msg.Final (ctrl.on_final c o).node
+    final_ends : (p : ℕ) (o : Option ℕ) → ctrl.instance_at c p ≡ o → RowEnds p Msg.Final (ctrl.on_final c o).node
     final_ends p None is = record {
       came = λ e. e;
       comes = λ some. absurd (omega (arith, some));
@@ -128,10 +123,10 @@ module _ (c : ControllerState) where
     }
 
     row_ends : {R : Type 0} (f : Semantics R) (g : Given) (p : ℕ) (m : Msg) → Label f g p 1 m → RowEnds p m (ctrl.row c p m).node
-    row_ends f g p msg.Final label = final_ends p (ctrl.instance_at c p) refl
-    row_ends f g p msg.End label =
+    row_ends f g p Msg.Final label = final_ends p (ctrl.instance_at c p) refl
+    row_ends f g p Msg.End label =
         let from : (p == 0) ≡ true = (Decides-eqb p 0).1 label.0 in
-        subst (λ b. RowEnds p msg.End (if b then ctrl.still (record c { end_came = true }) else ctrl.still c).node) (sym from) (record {
+        subst (λ b. RowEnds p Msg.End (if b then ctrl.still (record c { end_came = true }) else ctrl.still c).node) (sym from) (record {
           came = λ e. refl;
           comes = λ some. refl;
           sent = refl;
@@ -140,7 +135,7 @@ module _ (c : ControllerState) where
           stays = λ i e. e;
           stops = λ i some. absurd (omega (arith, some));
         })
-    row_ends f g p msg.InEnd label = let never = label.1 in cc
+    row_ends f g p Msg.InEnd label = let never = label.1 in cc
     row_ends f g p m label = aside_ends p m _ refl refl (row_aside p m refl refl)
 
     -- and behind the finish
@@ -163,7 +158,7 @@ module _ (c : ControllerState) where
         let row = row_ends f g p m label in
         elim (may_finish r.node) as (λ b. may_finish r.node ≡ b → ControllerEnds n p m (record {
           node = if b then record r.node { finish_sent = true } else r.node;
-          sends = r.sends ++ (if b then (0, msg.Finish) ∷ [] else []);
+          sends = r.sends ++ (if b then (0, Msg.Finish) ∷ [] else []);
           notes = r.notes;
         })) [
           | true ↦ λ on. record {
@@ -172,8 +167,8 @@ module _ (c : ControllerState) where
             stopped = refl;
             names = row.names;
             quiet = sent_once r.node.end_came (are_quiet r.node.operations r.node.store);
-            sent = λ _. inr (let both = sent_weight-append finish n 1 r.sends ((0, msg.Finish) ∷ []) in
-                let one : sent_weight finish n 1 ((0, msg.Finish) ∷ []) ≡ 1 = rw reach refl in omega (arith, both, one));
+            sent = λ _. inr (let both = sent_weight-append finish n 1 r.sends ((0, Msg.Finish) ∷ []) in
+                let one : sent_weight finish n 1 ((0, Msg.Finish) ∷ []) ≡ 1 = rw reach refl in omega (arith, both, one));
           }
           | false ↦ λ off. record { row = row; came = refl; stopped = refl; names = row.names; quiet = off; sent = λ e. inl (sym row.sent ∙ e) }
         ] refl
@@ -195,9 +190,9 @@ module _ (n : ℕ) (s : SwitchState) where
   }
 
   goes_same : (q : Packet) (t : Target) → (switches.goes_to s q t).node.closed ≡ s.closed
-  goes_same q target.Controller = refl
-  goes_same q (target.Instance i) = elim (nat_lt i s.instances)
-      as (λ b. (if b then switches.arrival_step s q (instance_node i) (msg.Carry mark.Plain) else switches.still s).node.closed ≡ s.closed)
+  goes_same q Target.Controller = refl
+  goes_same q (Target.Instance i) = elim (nat_lt i s.instances)
+      as (λ b. (if b then switches.arrival_step s q (instance_node i) (Msg.Carry Mark.Plain) else switches.still s).node.closed ≡ s.closed)
       [ true ↦ refl | false ↦ refl ]
 
   to_same : (i : ℕ) (m : Msg) → (switches.sends_to_instance s i m).node.closed ≡ s.closed
@@ -216,16 +211,16 @@ module _ (n : ℕ) (s : SwitchState) where
   stops_sent : (count i : ℕ) → i < count → 1 ≤ weigh stop (sent_for (instance_node i) (stop_messages count))
   stops_sent zero i less = absurd (omega (arith, less))
   stops_sent (suc count) i less =
-      let both = sent-append (instance_node i) stop (stop_messages count) ((instance_node count, msg.Stop) ∷ []) in
+      let both = sent-append (instance_node i) stop (stop_messages count) ((instance_node count, Msg.Stop) ∷ []) in
       elim (i == count) as (λ b. (i == count) ≡ b → 1 ≤ weigh stop (sent_for (instance_node i) (stop_messages (suc count)))) [
         | true ↦ λ on.
             let here : (instance_node count == instance_node i) ≡ true = grind (arith, nat_tests, on) in
-            let one : weigh stop (sent_for (instance_node i) ((instance_node count, msg.Stop) ∷ [])) ≡ 1 = rw here refl in
+            let one : weigh stop (sent_for (instance_node i) ((instance_node count, Msg.Stop) ∷ [])) ≡ 1 = rw here refl in
             omega (arith, both, one)
         | false ↦ λ off. (let rest = stops_sent count i (grind (arith, nat_tests, less, off)) in omega (arith, both, rest))
       ] refl
 
-  finish_ends : s.instances + 2 ≤ n → SwitchEnds msg.Finish (switch_step s msg.Finish)
+  finish_ends : s.instances + 2 ≤ n → SwitchEnds Msg.Finish (switch_step s Msg.Finish)
   finish_ends small = record {
     hands = omega arith;
     closed = λ e. refl;
@@ -241,29 +236,29 @@ module _ (n : ℕ) (s : SwitchState) where
 
   pub switch_ends : {R : Type 0} (f : Semantics R) (g : Given) (p : ℕ) (m : Msg) → reaches n 0 1 ≡ true → s.instances + 2 ≤ n → Label f g p 0 m
       → SwitchEnds m (switch_step s m)
-  switch_ends f g p (msg.InPacket q) reach small label = same_ends (msg.InPacket q) _ refl refl
+  switch_ends f g p (Msg.InPacket q) reach small label = same_ends (Msg.InPacket q) _ refl refl
       (elim (switches.has_room s) as (λ b. (if b then switches.goes_to s q (switches.target_of s q) else switches.still s).node.closed ≡ s.closed)
       [ true ↦ goes_same q (switches.target_of s q) | false ↦ refl ])
-  switch_ends f g p (msg.InCommand k) reach small label = same_ends (msg.InCommand k) _ refl refl refl
-  switch_ends f g p msg.InEnd reach small label = record {
-    hands = (let one : sent_weight ending n 0 ((1, msg.End) ∷ []) ≡ 1 = rw reach refl in omega (arith, one));
+  switch_ends f g p (Msg.InCommand k) reach small label = same_ends (Msg.InCommand k) _ refl refl refl
+  switch_ends f g p Msg.InEnd reach small label = record {
+    hands = (let one : sent_weight ending n 0 ((1, Msg.End) ∷ []) ≡ 1 = rw reach refl in omega (arith, one));
     closed = λ e. e;
     closes = λ some. absurd (omega (arith, some));
     stops = λ e. inl e;
   }
-  switch_ends f g p msg.End reach small label = let never = label.1 in cc
-  switch_ends f g p (msg.Forward to k cell) reach small label = same_ends (msg.Forward to k cell) _ refl refl (to_same to (msg.Carry k cell))
-  switch_ends f g p (msg.Install op filter from to) reach small label =
-      same_ends (msg.Install op filter from to) _ refl refl (elim (nat_lt from s.instances && switches.is_there s to) as (λ b. (if b then record {
-        node = record s { rules = rules_redirected (record { filter = filter; from = target.Instance from; to = to }) s.rules };
-        sends = (instance_node from, msg.Fence op) ∷ [];
-        notes = note.Installed op ∷ [];
+  switch_ends f g p Msg.End reach small label = let never = label.1 in cc
+  switch_ends f g p (Msg.Forward to k cell) reach small label = same_ends (Msg.Forward to k cell) _ refl refl (to_same to (Msg.Carry k cell))
+  switch_ends f g p (Msg.Install op filter from to) reach small label =
+      same_ends (Msg.Install op filter from to) _ refl refl (elim (nat_lt from s.instances && switches.is_there s to) as (λ b. (if b then record {
+        node = record s { rules = rules_redirected (record { filter = filter; from = Target.Instance from; to = to }) s.rules };
+        sends = (instance_node from, Msg.Fence op) ∷ [];
+        notes = Note.Installed op ∷ [];
       } else switches.still s).node.closed ≡ s.closed) [ true ↦ refl | false ↦ refl ])
-  switch_ends f g p (msg.FenceTo op to) reach small label = same_ends (msg.FenceTo op to) _ refl refl (to_same to (msg.Fence op))
-  switch_ends f g p (msg.Answered op) reach small label = same_ends (msg.Answered op) _ refl refl refl
-  switch_ends f g p msg.Finish reach small label = finish_ends small
-  switch_ends f g p (msg.Credit cell) reach small label =
-      same_ends (msg.Credit cell) _ refl refl (elim ((s.flying == 0) || not (cell.pool == s.pool.name)) as (λ b. (if b then switches.still s
+  switch_ends f g p (Msg.FenceTo op to) reach small label = same_ends (Msg.FenceTo op to) _ refl refl (to_same to (Msg.Fence op))
+  switch_ends f g p (Msg.Answered op) reach small label = same_ends (Msg.Answered op) _ refl refl refl
+  switch_ends f g p Msg.Finish reach small label = finish_ends small
+  switch_ends f g p (Msg.Credit cell) reach small label =
+      same_ends (Msg.Credit cell) _ refl refl (elim ((s.flying == 0) || not (cell.pool == s.pool.name)) as (λ b. (if b then switches.still s
       else record { node = record s { pool = one_more s.pool; flying = s.flying - 1 }; sends = []; notes = [] }).node.closed ≡ s.closed)
       [ true ↦ refl | false ↦ refl ])
   switch_ends f g p m reach small label = same_ends m _ refl refl refl

@@ -4,11 +4,9 @@ use Rattle.nf_net.proofs.Words.{◌≡◌, ◌≢◌, inl, inr, ℕ, zero, suc, 
 use Rattle.nf_net.proofs.Words.{sym, ap, ◌∙◌, subst, arith, if◌then◌else◌, ◌&&◌, ◌==◌, Global, nat_tests, Decides-eqb, length-map, Each, each-append, Fits}
 use Rattle.nf_net.proofs.Words.{FunctionLaws, Semantics, Msg, Note, instance_node, ControllerState, may_finish, controller_step, opened_controller, SwitchState}
 use Rattle.nf_net.proofs.Words.{switch_step, InstanceState, instance_step, Choice, Network, Stepped, IsRun, reaches, run, world_next, queue_at, at, put_on_link}
-use Rattle.nf_net.proofs.Words.{opening_weight, Taking, run_induction, Takes, taken_outcome, weigh, total, total_after, Config, Node, Switch, Controller}
-use Rattle.nf_net.proofs.Words.{IsInput, node_step, node_ready, node_ended, first_nodes, first_switch, first_instance, first_instances, started_with, Given}
-use Rattle.nf_net.proofs.Words.{Label, Joined, node_of, its_takes, its_label, Runs, runs_at_start, runs_next, start_world, given, all_fit, count_at_start}
-use Rattle.nf_msgs.specs.declared.msg.Msg.TheVariants as msg
-use Rattle.net_world.specs.declared.node.Node.TheVariants.{Instance}
+use Rattle.nf_net.proofs.Words.{opening_weight, Takes, taken_outcome, weigh, total, total_after, Config, Node, Switch, Controller, IsInput, node_step}
+use Rattle.nf_net.proofs.Words.{node_ready, node_ended, first_nodes, first_switch, first_instance, first_instances, started_with, Given, Label, Joined, node_of}
+use Rattle.nf_net.proofs.Words.{given, all_fit, Instance}
 use Rattle.nf_net.proofs.answers.BusyRuns.{same_controller}
 use Rattle.nf_net.proofs.answers.EndTables.{flag}
 use Rattle.nf_net.proofs.answers.InstallCounts.{finish}
@@ -17,8 +15,9 @@ use Rattle.proof_outlines.proofs.joined.Joined.{count}
 use Rattle.net_world.specs.Length.{ends}
 use Rattle.nf_net.proofs.ends.LinkWeights.{cell}
 use Rattle.nf_net.proofs.ends.TallySteps.{over_by, StepLeaves}
-use Rattle.nf_net.proofs.ends.TokenRuns.{each_at, HasEnough, its_leaves, enough_at_start, enough_next}
+use Rattle.nf_net.proofs.ends.TokenRuns.{each_at, HasEnough, its_leaves}
 use Rattle.nf_net.proofs.ends.EndSteps.{ending, stop, final, controller_ends, switch_ends}
+use Rattle.nf_net.proofs.RunKeeps.{run_keeps}
 
 -- how far the end has come
 pub record HasEnding {F R : Type 0} (n : ℕ) (w : Network (Node F R) Msg Note) : Type 0 where
@@ -45,21 +44,21 @@ carry_on (suc lost) before after false false comes stays less was = let never : 
 
 -- where an end goes
 no_ending_to : {R : Type 0} (f : Semantics R) (g : Given) (p i : ℕ) (m : Msg) → Label f g p (suc (suc i)) m → ending m ≡ 0
-no_ending_to f g p i msg.InEnd label = let never = label.1 in cc
-no_ending_to f g p i msg.End label = let never = label.1 in cc
+no_ending_to f g p i Msg.InEnd label = let never = label.1 in cc
+no_ending_to f g p i Msg.End label = let never = label.1 in cc
 no_ending_to f g p i m label = refl
 
 -- an instance that stops
 over_stays : (m : Msg) → over_by m true ≡ true
-over_stays msg.Stop = refl
+over_stays Msg.Stop = refl
 over_stays m = refl
 
 over_stop : (m : Msg) (b : Bool) → 1 ≤ stop m → over_by m b ≡ true
-over_stop msg.Stop b some = refl
+over_stop Msg.Stop b some = refl
 over_stop m b some = absurd (omega (arith, some))
 
-stop_over : (m : Msg) → over_by m false ≡ true → m ≡ msg.Stop
-stop_over msg.Stop e = refl
+stop_over : (m : Msg) → over_by m false ≡ true → m ≡ Msg.Stop
+stop_over Msg.Stop e = refl
 stop_over m e = cc
 
 module _ {F R : Type 0} (f : Semantics R) (laws : FunctionLaws f) (g : Given) (fitting : (number : ℕ) → Fits g.site (g.packet number)) (n : ℕ)
@@ -246,7 +245,7 @@ module _ {F R : Type 0} (f : Semantics R) (laws : FunctionLaws f) (g : Given) (f
               | false ↦ λ off. other_stops (suc (suc y)) takes i d (grind (arith, nat_tests, off)) was
             ] refl
 
-        stop_sent : (y : ℕ) (x : InstanceState F R) → suc (suc y) < n → m ≡ msg.Stop
+        stop_sent : (y : ℕ) (x : InstanceState F R) → suc (suc y) < n → m ≡ Msg.Stop
             → 1 ≤ weigh final (put_on_link n (suc (suc y)) (suc (suc y)) 1 (instance_step f x m).sends)
         stop_sent y x low is = subst (λ q. 1 ≤ weigh final (put_on_link n (suc (suc y)) (suc (suc y)) 1 (instance_step f x q).sends)) (sym is)
             (let there : (suc (suc y) == suc (suc y)) && reaches n (suc (suc y)) 1 ≡ true = grind (arith, nat_tests, low) in rw there (omega arith))
@@ -293,7 +292,7 @@ module _ {F R : Type 0} (f : Semantics R) (laws : FunctionLaws f) (g : Given) (f
 -- an input with an end
 end_weighs : (items : List Msg) → ends items ≤ weigh ending items
 end_weighs [] = omega arith
-end_weighs (msg.InEnd ∷ items) = let rest = end_weighs items in omega (arith, rest)
+end_weighs (Msg.InEnd ∷ items) = let rest = end_weighs items in omega (arith, rest)
 end_weighs (m ∷ items) = let rest = end_weighs items in omega (arith, rest)
 
 module _ (F : Type 0) {R : Type 0} (f : Semantics R) (laws : FunctionLaws f) (alloc : Global) (c : Config) (items : List Msg) (is : IsInput f.kind c items)
@@ -335,19 +334,6 @@ module _ (F : Type 0) {R : Type 0} (f : Semantics R) (laws : FunctionLaws f) (al
   }
 
   pub run_ending : (cs : List Choice) → IsRun node_ready (node_step f) cs start → HasEnding nodes (run (node_step f) cs start)
-  run_ending cs run_is = (run_induction node_ready (node_step f) nodes (λ _ w. Runs F f laws alloc c items is w × HasEnough f nodes w × HasEnding nodes w) start
-      (λ _ w k next h. (
-        runs_next F f laws alloc c items is w k next.taking h.0,
-        enough_next F f laws alloc c items is w k next.taking h.0 h.1,
-        ending_next w k next.taking h.0 h.1 h.2,
-      ))
-      (start_world F f laws alloc c items is) (count_at_start F f alloc c items is)
-      (runs_at_start F f laws alloc c items is, enough_at_start F f laws alloc c items is, ending_at_start) cs run_is).2
-    where
-      ending_next : (w : Network (Node F R) Msg Note) (k : Choice) → Taking node_ready (node_step f) nodes w k → Runs F f laws alloc c items is w
-          → HasEnough f nodes w → HasEnding nodes w → HasEnding nodes (world_next (node_step f) w k)
-      ending_next w k t r enough h =
-          let g : Given = given f c items is in
-          let fitting = all_fit f c items is in
-          ending_after f laws g fitting nodes refl w r.joined k.port t.message t.rest h k.node
-          (its_takes f laws g fitting nodes refl w k t r.joined r.beside) (its_label f laws g fitting nodes refl w k t r.joined r.beside) enough
+  run_ending = run_keeps F f laws alloc c items is (λ _ w. HasEnding nodes w) ending_at_start (λ ds ok d s h. ending_after f laws (given f c items is)
+      (all_fit f c items is) nodes refl (run (node_step f) ds start) s.runs.joined d.port s.taking.message s.taking.rest h d.node s.takes s.taken.label
+      (run_enough F f laws alloc c items is ds ok))

@@ -4,10 +4,7 @@ use Rattle.nf_net.proofs.Words.{filter-append, if◌then◌else◌, ◌&&◌, �
 use Rattle.nf_net.proofs.Words.{is_there, Network, IsWorld, queue_at, at, Each, firsts, nil_right, same_of, none_in, IsSys, AtEnd, OpenShare, moves_of, EndsAll}
 use Rattle.nf_net.proofs.Words.{At_share, ShareRests, end_all, Config, Node, Switch, packet_numbered, IsInput, arrivals_in, is_loose, is_of, arrived_of}
 use Rattle.nf_net.proofs.Words.{processed_of, is_sys, target_node, Given, Label, GenuinePacket, S, A, came_by, Joined, done_same, same_times, given, genuine}
-use Rattle.nf_net.proofs.Words.{silent_total}
-use Rattle.flow_filter.specs.Flow.{flow_of}
-use Rattle.nf_function.specs.declared.unit.Unit as units
-use Rattle.switch_rules.specs.declared.target.Target.TheVariants as target
+use Rattle.nf_net.proofs.Words.{silent_total, Unit, flow_of}
 use Rattle.actor_net.proofs.WeightLaws as weights
 use Rattle.proof_machines.proofs.unit.Stages as stages
 use Rattle.proof_machines.proofs.whole.EndAll.{As_moves}
@@ -31,7 +28,7 @@ module _ {F R : Type 0} (f : Semantics R) (c : Config) (items : List Msg) (is : 
   abbrev laws_of : IsSys (S f g)
   laws_of = is_sys f g.site g.packet
 
-  module _ (u : units.Unit) where
+  module _ (u : Unit) where
     -- a unit that a packet of the input has goes to an instance that is there, where it goes to one
     target_there : 2 ≤ j.world.target u → (qs : List Packet) → Each (GenuinePacket f g) qs → (p : ℕ) (ps : List ℕ)
         → filter (is_of f c items u) (map (λ q. q.number) qs) ≡ p ∷ ps → j.world.target u < n
@@ -49,8 +46,8 @@ module _ {F R : Type 0} (f : Semantics R) (c : Config) (items : List Msg) (is : 
         ] refl e
       where
         by_target : (t : Target) → j.world.target u ≡ target_node t → is_there j.nodes.switch t ≡ true → j.world.target u < n
-        by_target target.Controller at_node inside = absurd (omega (arith, two, at_node))
-        by_target (target.Instance i) at_node inside =
+        by_target Target.Controller at_node inside = absurd (omega (arith, two, at_node))
+        by_target (Target.Instance i) at_node inside =
             subst (λ k. k < n) (sym at_node) (there c n count i (subst (λ k. nat_lt i k ≡ true) j.shown_is.switch.instances inside))
 
     -- what came is among what was given

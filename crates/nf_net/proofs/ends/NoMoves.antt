@@ -3,14 +3,13 @@ use Rattle.nf_net.proofs.Words.{◌≡◌, ◌≢◌, ℕ, ◌+◌, ◌^◌, ◌
 use Rattle.nf_net.proofs.Words.{nat_lt, nat_eq, filter_map, nat_tests, Decides-ltb, and_parts, Filter, Flow, Semantics, stored_of, Msg, Note, instance_node}
 use Rattle.nf_net.proofs.Words.{MoveState, answer_of, Move, Network, queue_at, at, Frame, see_phase, is_over, UnitSeat, seat_shape, Sys, IsSys, Open, find_op}
 use Rattle.nf_net.proofs.Words.{World, Seeing, frame, OpLabel, each_found, RestOp, olds, moves_of, Where, move_apart, Node, is_whole, flow_fits, takes_whole}
-use Rattle.nf_net.proofs.Words.{is_sys, Sees, outline_phase, but_shares, Given, place, S, A, Joined, shown, came_by}
+use Rattle.nf_net.proofs.Words.{is_sys, Sees, outline_phase, but_shares, Given, place, S, A, Joined, shown, came_by, Unit}
 use Rattle.std.specs.FinMap as finite
 use Rattle.flow_filter.specs.declared.prefix.Prefix.{Prefix}
 use Rattle.flow_filter.specs.Filter.{agrees, holds, matches}
 use Rattle.flow_filter.proofs.PrefixLemmas.{block_own}
 use Rattle.nf_function.specs.declared.kind.Kind.{Kind}
 use Rattle.nf_function.specs.declared.kind.Kind.TheVariants.{Conntrack, Nat, Monitor}
-use Rattle.nf_function.specs.declared.unit.Unit as units
 use Rattle.nf_function.specs.declared.unit.Unit.TheVariants.{Flow as OfFlow, Host as OfHost}
 use Rattle.move_op.specs.Phases.{Phase as RealPhase}
 use Rattle.move_op.specs.Phases as phase
@@ -78,7 +77,7 @@ module _ (g : Filter) (fits : filter_fits g ≡ true) where
       rw (a, b, c, d, e) refl
 
 record SomeUnit (kind : Kind) (g : Filter) : Type 0 where
-  unit : units.Unit
+  unit : Unit
   taken : takes_whole kind g unit ≡ true
 
 some_unit : (kind : Kind) (g : Filter) → is_whole kind g ≡ true → SomeUnit kind g
@@ -99,7 +98,7 @@ some_unit Monitor g whole =
     record { unit = OfHost (bits_in g.local); taken = rw (whole, low, own) refl }
 
 -- A seat without messages
-module _ {R : Type 0} (T : Sys R) (laws : IsSys T) (u : units.Unit) (n : ℕ) (v : World T) (some : 2 ≤ n)
+module _ {R : Type 0} (T : Sys R) (laws : IsSys T) (u : Unit) (n : ℕ) (v : World T) (some : 2 ≤ n)
     (quiet : (i j : ℕ) → i < n → j < n → (i == 0) && (j == 0) ≡ false → v.link i j ≡ []) where
   -- an open move whose filter takes the unit is over
   over : (z : Seeing) (s : UnitSeat T.F) → Holds T z v (seat_shape T.F s) → z.op.src < n → z.op.dst < n → is_over (seat_shape T.F s).phase ≡ true

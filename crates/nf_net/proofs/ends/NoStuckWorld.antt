@@ -2,9 +2,8 @@
 -- waits for is under way.
 use Rattle.nf_net.proofs.Words.{◌≡◌, inl, inr, ℕ, ◌+◌, ◌≤◌, true, false, Some, List, [], length, refl, sym, ap, ◌∙◌, subst, arith, ◌&&◌, ◌==◌, slice_get}
 use Rattle.nf_net.proofs.Words.{Global, Decides-eqb, Decides-ltb, slice_get-get_or, FunctionLaws, Semantics, Msg, Note, MOST_WAITING, SwitchState, takes_in}
-use Rattle.nf_net.proofs.Words.{Choice, MOST_CHOICES, Network, IsWorld, IsRun, is_done, run, queue_at, StopsShort, at, run_world, Config, Node, Switch, IsInput}
-use Rattle.nf_net.proofs.Words.{node_step, node_ready, node_ended, started_with, Joined, start_world, given, count_at_start, IsShort}
-use Rattle.nf_msgs.specs.declared.msg.Msg.TheVariants as msg
+use Rattle.nf_net.proofs.Words.{Choice, MOST_CHOICES, Network, IsWorld, IsRun, is_done, run, queue_at, StopsShort, at, Config, Node, Switch, IsInput, node_step}
+use Rattle.nf_net.proofs.Words.{node_ready, node_ended, started_with, Joined, given, IsShort, run_beside}
 use Rattle.actor_net.specs.Schedules.{enabled_choices}
 use Rattle.actor_net.proofs.DisabledChoices.{IsUnready, stuck_links, stuck_input}
 use Rattle.nf_net.proofs.answers.ArrivalLemmas.{runs_joined}
@@ -20,12 +19,13 @@ use Rattle.nf_net.proofs.ends.EndingRuns.{run_ending}
 use Rattle.nf_net.proofs.ends.AllEnded.{nodes_ended}
 use Rattle.nf_net.proofs.ends.GroundedWorlds.{grounded}
 use Rattle.nf_net.proofs.ends.WaitingWorlds.{none_waits}
+use Rattle.nf_net.proofs.RunKeeps.{after_world}
 
 -- a switch for which nothing is under way and no command waits takes whatever is next
 takes_all : (s : SwitchState) (m : Msg) → s.flying ≡ 0 → 1 ≤ s.pool.cells → s.waiting ≡ 0 → takes_in s m ≡ true
-takes_all s (msg.InPacket p) flying cells waits = (Decides-ltb s.flying s.pool.cells).1 (omega (arith, flying, cells))
-takes_all s (msg.InCommand k) flying cells waits = (Decides-ltb s.waiting MOST_WAITING).1 (omega (arith, waits))
-takes_all s msg.InSettle flying cells waits = (Decides-eqb s.waiting 0).1 waits
+takes_all s (Msg.InPacket p) flying cells waits = (Decides-ltb s.flying s.pool.cells).1 (omega (arith, flying, cells))
+takes_all s (Msg.InCommand k) flying cells waits = (Decides-ltb s.waiting MOST_WAITING).1 (omega (arith, waits))
+takes_all s Msg.InSettle flying cells waits = (Decides-eqb s.waiting 0).1 waits
 takes_all s m flying cells waits = refl
 
 module _ (F : Type 0) {R : Type 0} (f : Semantics R) (laws : FunctionLaws f) (alloc : Global) (c : Config) (items : List Msg) (is : IsInput f.kind c items)
@@ -41,13 +41,13 @@ module _ (F : Type 0) {R : Type 0} (f : Semantics R) (laws : FunctionLaws f) (al
     w = run (node_step f) cs start
 
     reached : IsWorld w × (length w.nodes ≡ n)
-    reached = run_world node_ready (node_step f) n start (start_world F f laws alloc c items is) (count_at_start F f alloc c items is) cs run_is
+    reached = after_world F f laws alloc c items is cs run_is
 
     silent : (s r : ℕ) → (r == 0) && (s == 0) ≡ false → queue_at w (at r s) ≡ []
     silent = stuck_links node_ready w reached.0 none
 
     joined : Joined f (given f c items is) n w
-    joined = (runs_joined F f laws alloc c items is cs run_is).joined
+    joined = (run_beside F f laws alloc c items is cs run_is).joined
 
     rests : (joined.nodes.switch.flying ≡ 0) × (joined.nodes.switch.pool.cells ≡ c.window)
     rests = grounded f c items is n refl w reached.1 joined (runs_joined F f laws alloc c items is cs run_is).in_turn silent reached.0

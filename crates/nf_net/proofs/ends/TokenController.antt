@@ -3,14 +3,11 @@ use Rattle.nf_net.proofs.Words.{◌≡◌, ◌≢◌, ℕ, ◌+◌, ◌≤◌, B
 use Rattle.nf_net.proofs.Words.{arith, if◌then◌else◌, ◌&&◌, ◌==◌, nat_tests, Decides-eqb, Decides-ltb, self, Filter, FullCell, stored_of, Answer, Order, Msg}
 use Rattle.nf_net.proofs.Words.{instance_node, op_of, MoveState, MoveRow, row_in, answer_of, CopyPlan, CopyState, CopyRow, SharePlan, ShareState, home}
 use Rattle.nf_net.proofs.Words.{Operation, Move, Copy, Share, OpenOperations, turn_of, turn_of_move, turn_of_copy, ControllerState, place_of, reaches, Each}
-use Rattle.nf_net.proofs.Words.{NotShared, got_insert, got_remove, handed_is, shared_or_not, answered, ShareLeaves, handed_leaves, queued_leaves}
+use Rattle.nf_net.proofs.Words.{NotShared, got_insert, got_remove, handed_is, shared_or_not, answered, ShareLeaves, handed_leaves, queued_leaves, Target, Mark}
 use Rattle.std.specs.FinMap as finite
-use Rattle.switch_rules.specs.declared.target.Target.TheVariants as target
-use Rattle.nf_msgs.specs.declared.msg.Msg.TheVariants as msg
 use Rattle.copy_share.specs.Copy as copy
 use Rattle.copy_share.specs.Share as share
 use Rattle.ctrl_node.specs.Controller as ctrl
-use Rattle.event_filter.specs.declared.mark.Mark.TheVariants as mark
 use Rattle.ctrl_node.specs.Controller.{Step}
 use Rattle.proof_outlines.proofs.whole.OpenShares.{turned_test}
 use Rattle.proof_outlines.proofs.joined.CopyCounts.{handed_at}
@@ -42,22 +39,22 @@ and_off false b off = refl
 
 -- a message of another number
 other_number : (k p : ℕ) (o : Option Operation) (op : ℕ) (m : Msg) → op_of m ≡ Some op → (op == k) ≡ false → weight k o p 1 m ≡ 0
-other_number k p o op (msg.Chunks x chunks) its off = let same : x ≡ op = cc in and_off _ (x == k) (ap (λ y. y == k) same ∙ off)
-other_number k p o op (msg.AllChunk x chunk) its off = let same : x ≡ op = cc in and_off _ (x == k) (ap (λ y. y == k) same ∙ off)
-other_number k p o op (msg.Kept x) its off = let same : x ≡ op = cc in and_off _ (x == k) (ap (λ y. y == k) same ∙ off)
-other_number k p o op (msg.Fenced x) its off = let same : x ≡ op = cc in and_off _ (x == k) (ap (λ y. y == k) same ∙ off)
-other_number k p o op (msg.Synced x) its off = let same : x ≡ op = cc in and_off _ (x == k) (ap (λ y. y == k) same ∙ off)
-other_number k p o op (msg.Shared x chunk) its off = let same : x ≡ op = cc in and_off _ (x == k) (ap (λ y. y == k) same ∙ off)
+other_number k p o op (Msg.Chunks x chunks) its off = let same : x ≡ op = cc in and_off _ (x == k) (ap (λ y. y == k) same ∙ off)
+other_number k p o op (Msg.AllChunk x chunk) its off = let same : x ≡ op = cc in and_off _ (x == k) (ap (λ y. y == k) same ∙ off)
+other_number k p o op (Msg.Kept x) its off = let same : x ≡ op = cc in and_off _ (x == k) (ap (λ y. y == k) same ∙ off)
+other_number k p o op (Msg.Fenced x) its off = let same : x ≡ op = cc in and_off _ (x == k) (ap (λ y. y == k) same ∙ off)
+other_number k p o op (Msg.Synced x) its off = let same : x ≡ op = cc in and_off _ (x == k) (ap (λ y. y == k) same ∙ off)
+other_number k p o op (Msg.Shared x chunk) its off = let same : x ≡ op = cc in and_off _ (x == k) (ap (λ y. y == k) same ∙ off)
 other_number k p o op m its off = refl
 
 -- and one of none
 no_number : (k p : ℕ) (o : Option Operation) (m : Msg) → op_of m ≡ None → weight k o p 1 m ≡ 0
-no_number k p o (msg.Chunks x chunks) none = cc
-no_number k p o (msg.AllChunk x chunk) none = cc
-no_number k p o (msg.Kept x) none = cc
-no_number k p o (msg.Fenced x) none = cc
-no_number k p o (msg.Synced x) none = cc
-no_number k p o (msg.Shared x chunk) none = cc
+no_number k p o (Msg.Chunks x chunks) none = cc
+no_number k p o (Msg.AllChunk x chunk) none = cc
+no_number k p o (Msg.Kept x) none = cc
+no_number k p o (Msg.Fenced x) none = cc
+no_number k p o (Msg.Synced x) none = cc
+no_number k p o (Msg.Shared x chunk) none = cc
 no_number k p o m none = refl
 
 module _ (n : ℕ) (switch_there : reaches n 1 0 ≡ true) (c : ControllerState) (names : n ≡ length c.names + 2) (within : AreWithin n c.operations) (p : ℕ) where
@@ -127,7 +124,7 @@ module _ (n : ℕ) (switch_there : reaches n 1 0 ≡ true) (c : ControllerState)
       where
         by_answer : (a : Option Answer) → Grants n op p m (Some (Share s)) (Some (Share (record s { phase = r.phase }))) (answered op a r.sends)
         by_answer None = h
-        by_answer (Some why) = grants_more n op p m (Some (Share s)) (Some (Share (record s { phase = r.phase }))) r.sends ((0, msg.Answered op) ∷ []) h
+        by_answer (Some why) = grants_more n op p m (Some (Share s)) (Some (Share (record s { phase = r.phase }))) r.sends ((0, Msg.Answered op) ∷ []) h
 
     shared : (s : ShareState) → finite.get c.operations op ≡ Some (Share s) → GivenAt op m (ctrl.hand_step c op p m)
     shared s there =
@@ -152,9 +149,9 @@ module _ (n : ℕ) (switch_there : reaches n 1 0 ≡ true) (c : ControllerState)
 
   -- A packet that waits for its share
   queued_gives : (cell : FullCell) (op : ℕ) (s : ShareState) → finite.get c.operations op ≡ Some (Share s)
-      → GivesTokens (msg.Diverted cell) (ctrl.queue_step c cell (Some op))
+      → GivesTokens (Msg.Diverted cell) (ctrl.queue_step c cell (Some op))
   queued_gives cell op s there k =
-      let m = msg.Diverted cell in
+      let m = Msg.Diverted cell in
       let did = ctrl.queue_step c cell (Some op) in
       let cells = stored_of c.store op ++ cell ∷ [] in
       let l = queued_leaves c op s cell there (within.shares op s there).op_is in
@@ -166,13 +163,13 @@ module _ (n : ℕ) (switch_there : reaches n 1 0 ≡ true) (c : ControllerState)
             refl
       ] refl
 
-  diverted_gives : (cell : FullCell) → GivesTokens (msg.Diverted cell) (ctrl.on_diverted c cell)
-  diverted_gives cell = by_queue (GivesTokens (msg.Diverted cell)) c cell (still_gives (msg.Diverted cell) (λ k. refl)) (λ op s is. queued_gives cell op s is)
+  diverted_gives : (cell : FullCell) → GivesTokens (Msg.Diverted cell) (ctrl.on_diverted c cell)
+  diverted_gives cell = by_queue (GivesTokens (Msg.Diverted cell)) c cell (still_gives (Msg.Diverted cell) (λ k. refl)) (λ op s is. queued_gives cell op s is)
 
   -- A command
   module _ (op : ℕ) (what : Order) where
     abbrev asked : Msg
-    asked = msg.Asked (record { op = op; what = what })
+    asked = Msg.Asked (record { op = op; what = what })
 
     opens_gives : (o : Operation) (sends : List (ℕ × Msg)) → wanted (Some o) ≤ sends_weigh (weight op (Some o)) n 1 sends
         → GivesTokens asked (ctrl.opening_step c op o sends)
@@ -210,8 +207,8 @@ module _ (n : ℕ) (switch_there : reaches n 1 0 ≡ true) (c : ControllerState)
 
         by_filter : (filter : Option Filter)
             → 1 ≤ sends_weigh (weight op (Some (Copy (copy.copy_at_start plan)))) n 1 ((instance_node plan.from, copy.asks plan.op filter) ∷ [])
-        by_filter None = one Alls (msg.GetAll plan.op) (at_instance Alls plan.op plan.from) here
-        by_filter (Some filter) = one Gets (msg.Get plan.op filter) (at_instance Gets plan.op plan.from) here
+        by_filter None = one Alls (Msg.GetAll plan.op) (at_instance Alls plan.op plan.from) here
+        by_filter (Some filter) = one Gets (Msg.Get plan.op filter) (at_instance Gets plan.op plan.from) here
 
     begun_gives : {o : Order} (did : Step) → OpensBy c op o did → GivesTokens asked did
     begun_gives did (Opens_move from to e at) = opens_gives _ _ (omega arith)
@@ -221,11 +218,11 @@ module _ (n : ℕ) (switch_there : reaches n 1 0 ≡ true) (c : ControllerState)
         let plan : SharePlan = record { op = op; members = member ∷ others; filter = filter; site = c.site } in
         let here = self (instance_node member) in
         let mine = self op in
-        let one : weight op (Some (Share (share.share_at_start plan))) 1 0 (msg.Install op filter member target.Controller) ≡ 1 =
+        let one : weight op (Some (Share (share.share_at_start plan))) 1 0 (Msg.Install op filter member Target.Controller) ≡ 1 =
         ap (λ b. flag (b && (op == op))) here ∙ ap flag mine in
-        let all : (if reaches n 1 0 then weight op (Some (Share (share.share_at_start plan))) 1 0 (msg.Install op filter member target.Controller) else 0)
+        let all : (if reaches n 1 0 then weight op (Some (Share (share.share_at_start plan))) 1 0 (Msg.Install op filter member Target.Controller) else 0)
         ≡ 1 =
-        ap (λ b. if b then weight op (Some (Share (share.share_at_start plan))) 1 0 (msg.Install op filter member target.Controller) else 0) switch_there
+        ap (λ b. if b then weight op (Some (Share (share.share_at_start plan))) 1 0 (Msg.Install op filter member Target.Controller) else 0) switch_there
         ∙ one in
         opens_gives (Share (share.share_at_start plan)) (share.begin_sends plan) (omega (arith, all))
 
@@ -233,21 +230,21 @@ module _ (n : ℕ) (switch_there : reaches n 1 0 ≡ true) (c : ControllerState)
     asked_gives = by_command (GivesTokens asked) c op what (still_gives asked (λ k. refl)) (λ a none is k. stays k asked (ctrl.answers c op a) refl refl)
         (λ did none is by. begun_gives did by)
 
-  event_gives : (op : ℕ) (cell : FullCell) (o : Option ℕ) → GivesTokens (msg.Event op cell) (ctrl.on_event c p op cell o)
-  event_gives op cell o = by_sender (GivesTokens (msg.Event op cell)) c p op cell o (still_gives (msg.Event op cell) (λ k. refl))
-      (handed_gives op (msg.Event op cell) refl) (λ i k. stays k (msg.Event op cell)
-      (record { node = c; sends = (0, msg.Forward i (mark.Pass op) cell) ∷ []; notes = [] }) refl refl)
+  event_gives : (op : ℕ) (cell : FullCell) (o : Option ℕ) → GivesTokens (Msg.Event op cell) (ctrl.on_event c p op cell o)
+  event_gives op cell o = by_sender (GivesTokens (Msg.Event op cell)) c p op cell o (still_gives (Msg.Event op cell) (λ k. refl))
+      (handed_gives op (Msg.Event op cell) refl) (λ i k. stays k (Msg.Event op cell)
+      (record { node = c; sends = (0, Msg.Forward i (Mark.Pass op) cell) ∷ []; notes = [] }) refl refl)
 
   row_gives : (m : Msg) → GivesTokens m (ctrl.row c p m)
-  row_gives (msg.Asked x) = elim (p == 0) as (λ b. GivesTokens (msg.Asked x) (if b then ctrl.on_asked c x else ctrl.still c))
-      [ true ↦ asked_gives x.op x.what | false ↦ still_gives (msg.Asked x) (λ k. refl) ]
-  row_gives (msg.Diverted cell) = elim (p == 0) as (λ b. GivesTokens (msg.Diverted cell) (if b then ctrl.on_diverted c cell else ctrl.still c))
-      [ true ↦ diverted_gives cell | false ↦ still_gives (msg.Diverted cell) (λ k. refl) ]
-  row_gives msg.End = elim (p == 0) as (λ b. GivesTokens msg.End (if b then ctrl.still (record c { end_came = true }) else ctrl.still c))
-      [ true ↦ (λ k. stays k msg.End (ctrl.still (record c { end_came = true })) refl refl) | false ↦ still_gives msg.End (λ k. refl) ]
-  row_gives (msg.Event op cell) = event_gives op cell (ctrl.instance_at c p)
-  row_gives msg.Final = by_stop (GivesTokens msg.Final) c (ctrl.instance_at c p) (still_gives msg.Final (λ k. refl))
-      (λ i k. stays k msg.Final (ctrl.on_final c (Some i)) refl refl)
+  row_gives (Msg.Asked x) = elim (p == 0) as (λ b. GivesTokens (Msg.Asked x) (if b then ctrl.on_asked c x else ctrl.still c))
+      [ true ↦ asked_gives x.op x.what | false ↦ still_gives (Msg.Asked x) (λ k. refl) ]
+  row_gives (Msg.Diverted cell) = elim (p == 0) as (λ b. GivesTokens (Msg.Diverted cell) (if b then ctrl.on_diverted c cell else ctrl.still c))
+      [ true ↦ diverted_gives cell | false ↦ still_gives (Msg.Diverted cell) (λ k. refl) ]
+  row_gives Msg.End = elim (p == 0) as (λ b. GivesTokens Msg.End (if b then ctrl.still (record c { end_came = true }) else ctrl.still c))
+      [ true ↦ (λ k. stays k Msg.End (ctrl.still (record c { end_came = true })) refl refl) | false ↦ still_gives Msg.End (λ k. refl) ]
+  row_gives (Msg.Event op cell) = event_gives op cell (ctrl.instance_at c p)
+  row_gives Msg.Final = by_stop (GivesTokens Msg.Final) c (ctrl.instance_at c p) (still_gives Msg.Final (λ k. refl))
+      (λ i k. stays k Msg.Final (ctrl.on_final c (Some i)) refl refl)
   row_gives m = numbered_gives m (op_of m) refl
 
   -- the finish changes nothing of it
@@ -256,7 +253,7 @@ module _ (n : ℕ) (switch_there : reaches n 1 0 ≡ true) (c : ControllerState)
       let did = ctrl.row c p m in
       let own = row_gives m k in
       elim (ctrl.may_finish did.node) as (λ b. Grants n k p m (finite.get c.operations k)
-      (finite.get (if b then record did.node { finish_sent = true } else did.node).operations k) (did.sends ++ (if b then (0, msg.Finish) ∷ [] else []))) [
-        | true ↦ grants_more n k p m (finite.get c.operations k) (finite.get did.node.operations k) did.sends ((0, msg.Finish) ∷ []) own
+      (finite.get (if b then record did.node { finish_sent = true } else did.node).operations k) (did.sends ++ (if b then (0, Msg.Finish) ∷ [] else []))) [
+        | true ↦ grants_more n k p m (finite.get c.operations k) (finite.get did.node.operations k) did.sends ((0, Msg.Finish) ∷ []) own
         | false ↦ grants_more n k p m (finite.get c.operations k) (finite.get did.node.operations k) did.sends [] own
       ]

@@ -1,19 +1,14 @@
 -- A copy's and a share's row send what their next phase waits for, or stay as they are on a message that they don't wait for.
 use Rattle.nf_net.proofs.Words.{◌≡◌, ◌≢◌, ℕ, zero, suc, ◌+◌, ◌≤◌, true, false, Option, Some, None, List, [], ◌∷◌, ◌++◌, map, length, refl, ap, ◌∙◌, arith}
 use Rattle.nf_net.proofs.Words.{if◌then◌else◌, ◌&&◌, ◌==◌, not, nat_tests, Decides-eqb, Chunk, FullCell, Msg, instance_node, CopyPhase, SharePhase, CopyPlan}
-use Rattle.nf_net.proofs.Words.{CopyRow, SharePlan, ShareRow, home, others, syncs, Operation, Copy, Share, reaches, Each}
+use Rattle.nf_net.proofs.Words.{CopyRow, SharePlan, ShareRow, home, others, syncs, Operation, Copy, Share, reaches, Each, Mark, Done}
 use Rattle.std.proofs.Common.{◌-◌}
-use Rattle.event_filter.specs.declared.mark.Mark.TheVariants as mark
-use Rattle.nf_msgs.specs.declared.answer.Answer.TheVariants.{Done}
-use Rattle.nf_msgs.specs.declared.msg.Msg.TheVariants as msg
-use Rattle.copy_share.specs.declared.copy_phase.CopyPhase.TheVariants as copies
-use Rattle.copy_share.specs.declared.share_phase.SharePhase.TheVariants as shares
 use Rattle.copy_share.specs.Copy as copy
 use Rattle.copy_share.specs.Share as share
 use Rattle.nf_net.proofs.answers.EndTables.{flag, flag_most}
 use Rattle.nf_net.proofs.ends.LinkWeights.{sends_weigh, sends_weigh-append}
-use Rattle.nf_net.proofs.ends.Tokens.{Leg, Gets, Alls, Keeps, Syncs, Serves, Token, token, token_of}
-use Rattle.nf_net.proofs.ends.Tokens.{at_instance, in_copy, in_share, awaits, counts, weight, some_left, wanted}
+use Rattle.nf_net.proofs.ends.Tokens.{Leg, Gets, Alls, Keeps, Syncs, Serves, Token, token, token_of, at_instance, in_copy, in_share, awaits, counts, weight}
+use Rattle.nf_net.proofs.ends.Tokens.{some_left, wanted}
 
 -- of n nodes, what the controller's step on a message from node p does to the operation of number k: it sends what is waited for from now on, or the
 -- operation waits on, for what is still there
@@ -39,14 +34,14 @@ module _ (n k p : ℕ) (plan : CopyPlan) (own : plan.op ≡ k) (to_there : reach
   still_copy ph m none = Waits (λ leg node. refl) (omega (arith, none))
 
   hands_on : (m a : Msg) → token_of 1 (instance_node plan.to) a ≡ token Keeps plan.op (instance_node plan.to)
-      → CopyGrants copies.Getting m (copy.next_phase copies.Keeping ((instance_node plan.to, a) ∷ []))
+      → CopyGrants CopyPhase.Getting m (copy.next_phase CopyPhase.Keeping ((instance_node plan.to, a) ∷ []))
   hands_on m a same =
       let self : (instance_node plan.to == instance_node plan.to) ≡ true = grind (arith, nat_tests) in
       let its : (plan.op == k) ≡ true = (Decides-eqb plan.op k).1 own in
-      let one : weight k (copy_at copies.Keeping) 1 (instance_node plan.to) a ≡ 1 = ap (counts k (copy_at copies.Keeping)) same
+      let one : weight k (copy_at CopyPhase.Keeping) 1 (instance_node plan.to) a ≡ 1 = ap (counts k (copy_at CopyPhase.Keeping)) same
       ∙ ap (λ b. flag (b && (plan.op == k))) self ∙ ap flag its in
-      let all : (if reaches n 1 (instance_node plan.to) then weight k (copy_at copies.Keeping) 1 (instance_node plan.to) a else 0) ≡ 1 =
-      ap (λ b. if b then weight k (copy_at copies.Keeping) 1 (instance_node plan.to) a else 0) to_there ∙ one in
+      let all : (if reaches n 1 (instance_node plan.to) then weight k (copy_at CopyPhase.Keeping) 1 (instance_node plan.to) a else 0) ≡ 1 =
+      ap (λ b. if b then weight k (copy_at CopyPhase.Keeping) 1 (instance_node plan.to) a else 0) to_there ∙ one in
       Fresh (omega (arith, all))
 
   -- where a message comes from
@@ -62,39 +57,39 @@ module _ (n k p : ℕ) (plan : CopyPlan) (own : plan.op ≡ k) (to_there : reach
             [ true ↦ λ on. destination off on | false ↦ λ off_to. neither off off_to ] refl
       ] refl
 
-  over_none : (t : Option Token) → counts k (copy_at copies.Over) t ≡ 0
+  over_none : (t : Option Token) → counts k (copy_at CopyPhase.Over) t ≡ 0
   over_none None = refl
   over_none (Some t) = ap (λ b. flag (b && (t.op == k))) (none t.leg)
     where
-      none : (leg : Leg) → in_copy plan leg copies.Over t.node ≡ false
+      none : (leg : Leg) → in_copy plan leg CopyPhase.Over t.node ≡ false
       none Gets = refl
       none Alls = refl
       none Keeps = refl
       none leg = refl
 
   pub copy_row : (ph : CopyPhase) (m : Msg) → CopyGrants ph m (copy.row (record { plan = plan; phase = ph }) p m)
-  copy_row copies.Getting (msg.Chunks op chunks) =
-      let none : (p == instance_node plan.from) ≡ false → weight k (copy_at copies.Getting) p 1 (msg.Chunks op chunks) ≡ 0 =
+  copy_row CopyPhase.Getting (Msg.Chunks op chunks) =
+      let none : (p == instance_node plan.from) ≡ false → weight k (copy_at CopyPhase.Getting) p 1 (Msg.Chunks op chunks) ≡ 0 =
       (λ off. ap (λ b. flag (b && (op == k))) off) in
-      by_sender copies.Getting (msg.Chunks op chunks)
-      (λ on. hands_on (msg.Chunks op chunks) (msg.Standby plan.op chunks) (at_instance Keeps plan.op plan.to))
-      (λ off on. still_copy copies.Getting (msg.Chunks op chunks) (none off)) (λ off off_to. still_copy copies.Getting (msg.Chunks op chunks) (none off))
-  copy_row copies.Getting (msg.AllChunk op chunk) =
-      let none : (p == instance_node plan.from) ≡ false → weight k (copy_at copies.Getting) p 1 (msg.AllChunk op chunk) ≡ 0 =
+      by_sender CopyPhase.Getting (Msg.Chunks op chunks)
+      (λ on. hands_on (Msg.Chunks op chunks) (Msg.Standby plan.op chunks) (at_instance Keeps plan.op plan.to))
+      (λ off on. still_copy CopyPhase.Getting (Msg.Chunks op chunks) (none off)) (λ off off_to. still_copy CopyPhase.Getting (Msg.Chunks op chunks) (none off))
+  copy_row CopyPhase.Getting (Msg.AllChunk op chunk) =
+      let none : (p == instance_node plan.from) ≡ false → weight k (copy_at CopyPhase.Getting) p 1 (Msg.AllChunk op chunk) ≡ 0 =
       (λ off. ap (λ b. flag (b && (op == k))) off) in
-      by_sender copies.Getting (msg.AllChunk op chunk)
-      (λ on. hands_on (msg.AllChunk op chunk) (msg.PutAll plan.op chunk) (at_instance Keeps plan.op plan.to))
-      (λ off on. still_copy copies.Getting (msg.AllChunk op chunk) (none off)) (λ off off_to. still_copy copies.Getting (msg.AllChunk op chunk) (none off))
-  copy_row copies.Keeping (msg.Kept op) =
-      let none : (p == instance_node plan.to) ≡ false → weight k (copy_at copies.Keeping) p 1 (msg.Kept op) ≡ 0 =
+      by_sender CopyPhase.Getting (Msg.AllChunk op chunk)
+      (λ on. hands_on (Msg.AllChunk op chunk) (Msg.PutAll plan.op chunk) (at_instance Keeps plan.op plan.to))
+      (λ off on. still_copy CopyPhase.Getting (Msg.AllChunk op chunk) (none off)) (λ off off_to. still_copy CopyPhase.Getting (Msg.AllChunk op chunk) (none off))
+  copy_row CopyPhase.Keeping (Msg.Kept op) =
+      let none : (p == instance_node plan.to) ≡ false → weight k (copy_at CopyPhase.Keeping) p 1 (Msg.Kept op) ≡ 0 =
       (λ off. ap (λ b. flag (b && (op == k))) off) in
-      by_sender copies.Keeping (msg.Kept op) (λ on. still_copy copies.Keeping (msg.Kept op) (none (apart on))) (λ off on. Fresh (omega arith))
-      (λ off off_to. still_copy copies.Keeping (msg.Kept op) (none off_to))
+      by_sender CopyPhase.Keeping (Msg.Kept op) (λ on. still_copy CopyPhase.Keeping (Msg.Kept op) (none (apart on))) (λ off on. Fresh (omega arith))
+      (λ off off_to. still_copy CopyPhase.Keeping (Msg.Kept op) (none off_to))
     where
       apart : (p == instance_node plan.from) ≡ true → (p == instance_node plan.to) ≡ false
       apart on = grind (arith, nat_tests, on, other)
-  copy_row copies.Over m = by_sender copies.Over m (λ on. still_copy copies.Over m (over_none (token_of p 1 m)))
-      (λ off on. still_copy copies.Over m (over_none (token_of p 1 m))) (λ off off_to. still_copy copies.Over m (over_none (token_of p 1 m)))
+  copy_row CopyPhase.Over m = by_sender CopyPhase.Over m (λ on. still_copy CopyPhase.Over m (over_none (token_of p 1 m)))
+      (λ off on. still_copy CopyPhase.Over m (over_none (token_of p 1 m))) (λ off off_to. still_copy CopyPhase.Over m (over_none (token_of p 1 m)))
   copy_row ph m = by_sender ph m (λ on. still_copy ph m refl) (λ off on. still_copy ph m refl) (λ off off_to. still_copy ph m refl)
 
 some_is : (left : ℕ) → (left == 0) ≡ false → some_left left ≡ left
@@ -126,10 +121,10 @@ module _ (n k p : ℕ) (plan : SharePlan) (own : plan.op ≡ k) (few : Each (λ 
 
   syncs_weigh : (ph : SharePhase) → ((node : ℕ) → in_share plan Syncs ph node ≡ true) → (chunks : List Chunk) (members : List ℕ)
       → Each (λ member. reaches n 1 (instance_node member) ≡ true) members → sends_weigh (weight k (share_at ph)) n 1
-      (map (λ member. (instance_node member, msg.Sync (member == home plan) plan.op chunks)) members) ≡ length members
+      (map (λ member. (instance_node member, Msg.Sync (member == home plan) plan.op chunks)) members) ≡ length members
   syncs_weigh ph waits chunks [] h = refl
   syncs_weigh ph waits chunks (member ∷ members) h =
-      let one = one_sent ph Syncs (instance_node member) (instance_node member) (msg.Sync (member == home plan) plan.op chunks) h.0
+      let one = one_sent ph Syncs (instance_node member) (instance_node member) (Msg.Sync (member == home plan) plan.op chunks) h.0
       (at_instance Syncs plan.op member) (waits (instance_node member)) in
       let rest = syncs_weigh ph waits chunks members h.1 in
       omega (arith, one, rest)
@@ -148,65 +143,65 @@ module _ (n k p : ℕ) (plan : SharePlan) (own : plan.op ≡ k) (few : Each (λ 
   sync_all ph waits one chunks = syncs_weigh ph waits chunks (others plan one) (few_others one plan.members few)
 
   setting_grants : (ph : SharePhase) (m : Msg) (left : ℕ) (sends : List (ℕ × Msg))
-      → left ≤ sends_weigh (weight k (share_at (shares.Setting left))) n 1 sends → ShareGrants ph m (share.setting left sends)
+      → left ≤ sends_weigh (weight k (share_at (SharePhase.Setting left))) n 1 sends → ShareGrants ph m (share.setting left sends)
   setting_grants ph m left sends h = elim (left == 0) as (λ b. (left == 0) ≡ b
-      → ShareGrants ph m (if b then record { phase = shares.Idle; sends = sends; answer = Some Done } else share.next_phase (shares.Setting left) sends)) [
+      → ShareGrants ph m (if b then record { phase = SharePhase.Idle; sends = sends; answer = Some Done } else share.next_phase (SharePhase.Setting left) sends)) [
         | true ↦ λ on. Fresh (omega arith)
         | false ↦ λ off. (let is = some_is left off in Fresh (omega (arith, is, h)))
       ] refl
 
   syncing_grants : (ph : SharePhase) (m : Msg) (left : ℕ) (sends : List (ℕ × Msg))
-      → left ≤ sends_weigh (weight k (share_at (shares.Syncing left))) n 1 sends → ShareGrants ph m (share.syncing left sends)
+      → left ≤ sends_weigh (weight k (share_at (SharePhase.Syncing left))) n 1 sends → ShareGrants ph m (share.syncing left sends)
   syncing_grants ph m left sends h =
-      elim (left == 0) as (λ b. (left == 0) ≡ b → ShareGrants ph m (share.next_phase (if b then shares.Idle else shares.Syncing left) sends)) [
+      elim (left == 0) as (λ b. (left == 0) ≡ b → ShareGrants ph m (share.next_phase (if b then SharePhase.Idle else SharePhase.Syncing left) sends)) [
         | true ↦ λ on. Fresh (omega arith)
         | false ↦ λ off. (let is = some_is left off in Fresh (omega (arith, is, h)))
       ] refl
 
-  fenced_row : (ph : SharePhase) (op : ℕ) → ShareGrants ph (msg.Fenced op) (share.row (record { plan = plan; phase = ph }) p (msg.Fenced op))
-  fenced_row shares.Fencing op = elim (p == instance_node (home plan)) as (λ b. (p == instance_node (home plan)) ≡ b
-      → ShareGrants shares.Fencing (msg.Fenced op) (if b then share.on_fenced plan shares.Fencing else share.next_phase shares.Fencing [])) [
+  fenced_row : (ph : SharePhase) (op : ℕ) → ShareGrants ph (Msg.Fenced op) (share.row (record { plan = plan; phase = ph }) p (Msg.Fenced op))
+  fenced_row SharePhase.Fencing op = elim (p == instance_node (home plan)) as (λ b. (p == instance_node (home plan)) ≡ b
+      → ShareGrants SharePhase.Fencing (Msg.Fenced op) (if b then share.on_fenced plan SharePhase.Fencing else share.next_phase SharePhase.Fencing [])) [
         | true ↦ λ on.
             let self : (instance_node (home plan) == instance_node (home plan)) ≡ true = grind (arith, nat_tests) in
-            let one = one_sent shares.Getting Gets (instance_node (home plan)) (instance_node (home plan)) (msg.Get plan.op plan.filter) home_there
+            let one = one_sent SharePhase.Getting Gets (instance_node (home plan)) (instance_node (home plan)) (Msg.Get plan.op plan.filter) home_there
             (at_instance Gets plan.op (home plan)) self in
             Fresh (omega (arith, one))
-        | false ↦ λ off. still_share shares.Fencing (msg.Fenced op) (ap (λ b. flag (b && (op == k))) off)
+        | false ↦ λ off. still_share SharePhase.Fencing (Msg.Fenced op) (ap (λ b. flag (b && (op == k))) off)
       ] refl
   fenced_row ph op =
-      elim (p == instance_node (home plan)) as (λ b. ShareGrants ph (msg.Fenced op) (if b then share.on_fenced plan ph else share.next_phase ph []))
-      [ true ↦ still_share ph (msg.Fenced op) refl | false ↦ still_share ph (msg.Fenced op) refl ]
+      elim (p == instance_node (home plan)) as (λ b. ShareGrants ph (Msg.Fenced op) (if b then share.on_fenced plan ph else share.next_phase ph []))
+      [ true ↦ still_share ph (Msg.Fenced op) refl | false ↦ still_share ph (Msg.Fenced op) refl ]
 
   chunks_row : (ph : SharePhase) (op : ℕ) (chunks : List Chunk)
-      → ShareGrants ph (msg.Chunks op chunks) (share.row (record { plan = plan; phase = ph }) p (msg.Chunks op chunks))
-  chunks_row shares.Getting op chunks = elim (p == instance_node (home plan)) as (λ b. (p == instance_node (home plan)) ≡ b
-      → ShareGrants shares.Getting (msg.Chunks op chunks) (if b then share.on_chunks plan shares.Getting chunks else share.next_phase shares.Getting [])) [
+      → ShareGrants ph (Msg.Chunks op chunks) (share.row (record { plan = plan; phase = ph }) p (Msg.Chunks op chunks))
+  chunks_row SharePhase.Getting op chunks = elim (p == instance_node (home plan)) as (λ b. (p == instance_node (home plan)) ≡ b
+      → ShareGrants SharePhase.Getting (Msg.Chunks op chunks) (if b then share.on_chunks plan SharePhase.Getting chunks else share.next_phase SharePhase.Getting [])) [
         | true ↦ λ on. (let left = length (others plan (home plan)) in
-            let all = sync_all (shares.Setting left) (λ node. refl) (home plan) chunks in
-            setting_grants shares.Getting (msg.Chunks op chunks) left (syncs plan (home plan) chunks) (omega (arith, all)))
-        | false ↦ λ off. still_share shares.Getting (msg.Chunks op chunks) (ap (λ b. flag (b && (op == k))) off)
+            let all = sync_all (SharePhase.Setting left) (λ node. refl) (home plan) chunks in
+            setting_grants SharePhase.Getting (Msg.Chunks op chunks) left (syncs plan (home plan) chunks) (omega (arith, all)))
+        | false ↦ λ off. still_share SharePhase.Getting (Msg.Chunks op chunks) (ap (λ b. flag (b && (op == k))) off)
       ] refl
   chunks_row ph op chunks = elim (p == instance_node (home plan))
-      as (λ b. ShareGrants ph (msg.Chunks op chunks) (if b then share.on_chunks plan ph chunks else share.next_phase ph []))
-      [ true ↦ still_share ph (msg.Chunks op chunks) refl | false ↦ still_share ph (msg.Chunks op chunks) refl ]
+      as (λ b. ShareGrants ph (Msg.Chunks op chunks) (if b then share.on_chunks plan ph chunks else share.next_phase ph []))
+      [ true ↦ still_share ph (Msg.Chunks op chunks) refl | false ↦ still_share ph (Msg.Chunks op chunks) refl ]
 
   shared_row : (ph : SharePhase) (op : ℕ) (chunk : Chunk)
-      → ShareGrants ph (msg.Shared op chunk) (share.row (record { plan = plan; phase = ph }) p (msg.Shared op chunk))
-  shared_row (shares.Out member) op chunk =
-      elim (p == instance_node member) as (λ b. (p == instance_node member) ≡ b → ShareGrants (shares.Out member) (msg.Shared op chunk)
-      (if b then share.syncing (length (others plan member)) (syncs plan member (chunk ∷ [])) else share.next_phase (shares.Out member) [])) [
+      → ShareGrants ph (Msg.Shared op chunk) (share.row (record { plan = plan; phase = ph }) p (Msg.Shared op chunk))
+  shared_row (SharePhase.Out member) op chunk =
+      elim (p == instance_node member) as (λ b. (p == instance_node member) ≡ b → ShareGrants (SharePhase.Out member) (Msg.Shared op chunk)
+      (if b then share.syncing (length (others plan member)) (syncs plan member (chunk ∷ [])) else share.next_phase (SharePhase.Out member) [])) [
         | true ↦ λ on. (let left = length (others plan member) in
-            let all = sync_all (shares.Syncing left) (λ node. refl) member (chunk ∷ []) in
-            syncing_grants (shares.Out member) (msg.Shared op chunk) left (syncs plan member (chunk ∷ [])) (omega (arith, all)))
-        | false ↦ λ off. still_share (shares.Out member) (msg.Shared op chunk) (ap (λ b. flag (b && (op == k))) off)
+            let all = sync_all (SharePhase.Syncing left) (λ node. refl) member (chunk ∷ []) in
+            syncing_grants (SharePhase.Out member) (Msg.Shared op chunk) left (syncs plan member (chunk ∷ [])) (omega (arith, all)))
+        | false ↦ λ off. still_share (SharePhase.Out member) (Msg.Shared op chunk) (ap (λ b. flag (b && (op == k))) off)
       ] refl
-  shared_row ph op chunk = still_share ph (msg.Shared op chunk) refl
+  shared_row ph op chunk = still_share ph (Msg.Shared op chunk) refl
 
-  same_setting : (leg : Leg) (a b node : ℕ) → in_share plan leg (shares.Setting a) node ≡ in_share plan leg (shares.Setting b) node
+  same_setting : (leg : Leg) (a b node : ℕ) → in_share plan leg (SharePhase.Setting a) node ≡ in_share plan leg (SharePhase.Setting b) node
   same_setting Syncs a b node = refl
   same_setting leg a b node = refl
 
-  same_syncing : (leg : Leg) (a b node : ℕ) → in_share plan leg (shares.Syncing a) node ≡ in_share plan leg (shares.Syncing b) node
+  same_syncing : (leg : Leg) (a b node : ℕ) → in_share plan leg (SharePhase.Syncing a) node ≡ in_share plan leg (SharePhase.Syncing b) node
   same_syncing Syncs a b node = refl
   same_syncing leg a b node = refl
 
@@ -218,38 +213,38 @@ module _ (n k p : ℕ) (plan : SharePlan) (own : plan.op ≡ k) (few : Each (λ 
       let some : 1 ≤ left = grind (arith, nat_tests, more) in
       omega (arith, first, second, some)
 
-  synced_row : (ph : SharePhase) (op : ℕ) → ShareGrants ph (msg.Synced op) (share.row (record { plan = plan; phase = ph }) p (msg.Synced op))
-  synced_row (shares.Setting left) op = elim (left - 1 == 0) as (λ b. (left - 1 == 0) ≡ b → ShareGrants (shares.Setting left) (msg.Synced op)
-      (if b then record { phase = shares.Idle; sends = []; answer = Some Done } else share.next_phase (shares.Setting (left - 1)) [])) [
+  synced_row : (ph : SharePhase) (op : ℕ) → ShareGrants ph (Msg.Synced op) (share.row (record { plan = plan; phase = ph }) p (Msg.Synced op))
+  synced_row (SharePhase.Setting left) op = elim (left - 1 == 0) as (λ b. (left - 1 == 0) ≡ b → ShareGrants (SharePhase.Setting left) (Msg.Synced op)
+      (if b then record { phase = SharePhase.Idle; sends = []; answer = Some Done } else share.next_phase (SharePhase.Setting (left - 1)) [])) [
         | true ↦ λ on. Fresh (omega arith)
         | false ↦ λ off. (let less = one_less left off in
             let most = flag_most (true && (op == k)) in Waits (λ leg node. same_setting leg (left - 1) left node) (omega (arith, less, most)))
       ] refl
-  synced_row (shares.Syncing left) op = elim (left - 1 == 0) as (λ b. (left - 1 == 0) ≡ b
-      → ShareGrants (shares.Syncing left) (msg.Synced op) (share.next_phase (if b then shares.Idle else shares.Syncing (left - 1)) [])) [
+  synced_row (SharePhase.Syncing left) op = elim (left - 1 == 0) as (λ b. (left - 1 == 0) ≡ b
+      → ShareGrants (SharePhase.Syncing left) (Msg.Synced op) (share.next_phase (if b then SharePhase.Idle else SharePhase.Syncing (left - 1)) [])) [
         | true ↦ λ on. Fresh (omega arith)
         | false ↦ λ off. (let less = one_less left off in
             let most = flag_most (true && (op == k)) in Waits (λ leg node. same_syncing leg (left - 1) left node) (omega (arith, less, most)))
       ] refl
-  synced_row ph op = still_share ph (msg.Synced op) refl
+  synced_row ph op = still_share ph (Msg.Synced op) refl
 
   pub share_row : (ph : SharePhase) (m : Msg) → ShareGrants ph m (share.row (record { plan = plan; phase = ph }) p m)
-  share_row ph (msg.Fenced op) = fenced_row ph op
-  share_row ph (msg.Chunks op chunks) = chunks_row ph op chunks
-  share_row ph (msg.Shared op chunk) = shared_row ph op chunk
-  share_row ph (msg.Synced op) = synced_row ph op
+  share_row ph (Msg.Fenced op) = fenced_row ph op
+  share_row ph (Msg.Chunks op chunks) = chunks_row ph op chunks
+  share_row ph (Msg.Shared op chunk) = shared_row ph op chunk
+  share_row ph (Msg.Synced op) = synced_row ph op
   share_row ph m = still_share ph m refl
 
   -- what is then served
   pub served_grants : (was ph : SharePhase) (m : Msg) (cells : List FullCell) (first : List (ℕ × Msg)) → Grants n k p m (share_at was) (share_at ph) first
       → Grants n k p m (share_at was) (share_at (share.service_if_idle plan ph cells).phase) (first ++ (share.service_if_idle plan ph cells).sends)
-  served_grants was shares.Idle m (cell ∷ cells) first h =
+  served_grants was SharePhase.Idle m (cell ∷ cells) first h =
       let member = share.member_of plan cell in
       let self : (instance_node member == instance_node member) ≡ true = grind (arith, nat_tests) in
-      let one = one_sent (shares.Out member) Serves (instance_node member) 0 (msg.Forward member (mark.Shared plan.op (member == home plan)) cell)
+      let one = one_sent (SharePhase.Out member) Serves (instance_node member) 0 (Msg.Forward member (Mark.Shared plan.op (member == home plan)) cell)
       switch_there refl self in
-      let both = sends_weigh-append (weight k (share_at (shares.Out member))) n 1 first
-      ((0, msg.Forward member (mark.Shared plan.op (member == home plan)) cell) ∷ []) in
+      let both = sends_weigh-append (weight k (share_at (SharePhase.Out member))) n 1 first
+      ((0, Msg.Forward member (Mark.Shared plan.op (member == home plan)) cell) ∷ []) in
       Fresh (omega (arith, one, both))
-  served_grants was shares.Idle m [] first h = grants_more n k p m (share_at was) (share_at shares.Idle) first [] h
+  served_grants was SharePhase.Idle m [] first h = grants_more n k p m (share_at was) (share_at SharePhase.Idle) first [] h
   served_grants was ph m cells first h = grants_more n k p m (share_at was) (share_at ph) first [] h

@@ -3,18 +3,14 @@ use Rattle.nf_net.proofs.Words.{◌≡◌, ◌≢◌, ℕ, zero, suc, ◌+◌, �
 use Rattle.nf_net.proofs.Words.{subst, arith, ◌&&◌, ◌==◌, nat_lt, Global, nat_cmp, nat_tests, Decides-ltb, Chunk, Fits, FunctionLaws, Semantics, IsTally, Msg}
 use Rattle.nf_net.proofs.Words.{Note, instance_node, CopyPhase, SharePhase, Operation, Move, Copy, Share, ControllerState, controller_step, opened_controller}
 use Rattle.nf_net.proofs.Words.{switch_step, instance_step, Choice, Network, Stepped, IsRun, reaches, run, world_next, queue_at, at, opening_on_links, Taking}
-use Rattle.nf_net.proofs.Words.{run_induction, Takes, taken_outcome, OnLinks, EachSent, on_links_after, Each, each-append, each_map, Config, Node, Controller}
-use Rattle.nf_net.proofs.Words.{IsInput, node_step, node_ready, first_instance, first_instances, first_nodes, started_with, is_uncopied, TurnSo, Given, Label}
-use Rattle.nf_net.proofs.Words.{Joined, node_of, its_takes, its_label, Runs, runs_at_start, runs_next, start_world, given, all_fit, count_at_start}
+use Rattle.nf_net.proofs.Words.{Takes, taken_outcome, OnLinks, EachSent, on_links_after, Each, each-append, each_map, Config, Node, Controller, IsInput}
+use Rattle.nf_net.proofs.Words.{node_step, node_ready, first_instance, first_instances, first_nodes, started_with, is_uncopied, TurnSo, Given, Label, Joined}
+use Rattle.nf_net.proofs.Words.{node_of, its_takes, its_label, Runs, given, all_fit, count_at_start, Instance}
 use Rattle.std.proofs.Common.{replicate, slice_index}
 use Rattle.std.specs.FinMap as finite
 use Rattle.std.proofs.lemmas.List.{length-replicate}
-use Rattle.nf_msgs.specs.declared.msg.Msg.TheVariants as msg
-use Rattle.copy_share.specs.declared.copy_phase.CopyPhase.TheVariants as copies
-use Rattle.copy_share.specs.declared.share_phase.SharePhase.TheVariants as shares
 use Rattle.copy_share.specs.Copy as copy
 use Rattle.actor_net.proofs.WeightLaws as weights
-use Rattle.net_world.specs.declared.node.Node.TheVariants.{Instance}
 use Rattle.nf_net.proofs.answers.BusyRuns.{same_controller}
 use Rattle.proof_outlines.proofs.joined.CopySends.{BeginSo, controller_sent}
 use Rattle.proof_outlines.proofs.joined.Joined.{count}
@@ -25,6 +21,7 @@ use Rattle.nf_net.proofs.ends.TokenNodes.{CanRead, instance_passes, switch_passe
 use Rattle.nf_net.proofs.ends.TokenRows.{Grants, Fresh, Waits}
 use Rattle.nf_net.proofs.ends.TokenController.{AreWithin, controller_gives}
 use Rattle.nf_net.proofs.ends.TallySteps.{IsTallyChunk, reads, GivesTally, MergesTally, over_by, StepLeaves, instance_leaves}
+use Rattle.nf_net.proofs.RunKeeps.{run_keeps}
 
 counts_same : (k : ℕ) (a b : Option Operation) → ((leg : _) (node : ℕ) → awaits b leg node ≡ awaits a leg node) → (t : Option Token)
     → counts k b t ≡ counts k a t
@@ -40,8 +37,8 @@ grants_keep n k p m a b sends (Waits alike h) before after lost is law least was
 
 -- tallies on their way: from an instance, and from the controller
 abbrev pub TallyLabel : {R : Type 0} → Semantics R → ℕ → ℕ → Msg → Type 0
-TallyLabel f s r (msg.AllChunk op chunk) = 2 ≤ s → IsTallyChunk f chunk
-TallyLabel f s r (msg.PutAll op chunk) = s ≡ 1 → IsTallyChunk f chunk
+TallyLabel f s r (Msg.AllChunk op chunk) = 2 ≤ s → IsTallyChunk f chunk
+TallyLabel f s r (Msg.PutAll op chunk) = s ≡ 1 → IsTallyChunk f chunk
 TallyLabel f s r m = Unit {0}
 
 -- an instance has a tally
@@ -51,8 +48,8 @@ HasTally node = Unit {0}
 
 module _ {R : Type 0} (f : Semantics R) where
   from_switch : (r : ℕ) (m : Msg) → TallyLabel f 0 r m
-  from_switch r (msg.AllChunk op chunk) = λ low. absurd (omega (arith, low))
-  from_switch r (msg.PutAll op chunk) = λ one. cc
+  from_switch r (Msg.AllChunk op chunk) = λ low. absurd (omega (arith, low))
+  from_switch r (Msg.PutAll op chunk) = λ one. cc
   from_switch r m = tt
 
   switch_sent : (sends : List (ℕ × Msg)) → EachSent (TallyLabel f) 0 sends
@@ -60,8 +57,8 @@ module _ {R : Type 0} (f : Semantics R) where
   switch_sent (x ∷ xs) = (from_switch x.0 x.1, switch_sent xs)
 
   from_controller : (r : ℕ) (m : Msg) → MergesTally f m → TallyLabel f 1 r m
-  from_controller r (msg.AllChunk op chunk) h = λ low. absurd (omega (arith, low))
-  from_controller r (msg.PutAll op chunk) h = λ _. h
+  from_controller r (Msg.AllChunk op chunk) h = λ low. absurd (omega (arith, low))
+  from_controller r (Msg.PutAll op chunk) h = λ _. h
   from_controller r m h = tt
 
   controller_sent_so : (sends : List (ℕ × Msg)) → Each (λ x. MergesTally f x.1) sends → EachSent (TallyLabel f) 1 sends
@@ -69,8 +66,8 @@ module _ {R : Type 0} (f : Semantics R) where
   controller_sent_so (x ∷ xs) h = (from_controller x.0 x.1 h.0, controller_sent_so xs h.1)
 
   from_instance : (i r : ℕ) (m : Msg) → GivesTally f m → TallyLabel f (suc (suc i)) r m
-  from_instance i r (msg.AllChunk op chunk) h = λ _. h
-  from_instance i r (msg.PutAll op chunk) h = λ one. absurd (omega (arith, one))
+  from_instance i r (Msg.AllChunk op chunk) h = λ _. h
+  from_instance i r (Msg.PutAll op chunk) h = λ one. absurd (omega (arith, one))
   from_instance i r m h = tt
 
   instance_sent : (i : ℕ) (sends : List (ℕ × Msg)) → Each (λ x. GivesTally f x.1) sends → EachSent (TallyLabel f) (suc (suc i)) sends
@@ -78,12 +75,12 @@ module _ {R : Type 0} (f : Semantics R) where
   instance_sent i (x ∷ xs) h = (from_instance i x.0 x.1 h.0, instance_sent i xs h.1)
 
   merged_others : (m : Msg) → is_uncopied m ≡ true → MergesTally f m
-  merged_others (msg.PutAll op chunk) e = cc
+  merged_others (Msg.PutAll op chunk) e = cc
   merged_others m e = tt
 
   module _ (g : Given) (c : ControllerState) (p : ℕ) (m : Msg) (label : Label f g p 1 m) (tally : TallyLabel f p 1 m) where
     -- the controller hands on what it was given
-    hands_tally : (k : ℕ) (chunk : Chunk) → m ≡ msg.AllChunk k chunk → IsTallyChunk f chunk
+    hands_tally : (k : ℕ) (chunk : Chunk) → m ≡ Msg.AllChunk k chunk → IsTallyChunk f chunk
     hands_tally k chunk e = (subst (TallyLabel f p 1) e tally) (subst (Label f g p 1) e label).0
 
     turn_tally : (o : Option Operation) → TurnSo (MergesTally f) merged_others o m
@@ -169,11 +166,11 @@ module _ {F R : Type 0} (f : Semantics R) (laws : FunctionLaws f) (g : Given) (f
     can_read i label tally = by_message m label tally
       where
         by_message : (x : Msg) → Label f g p (suc (suc i)) x → TallyLabel f p (suc (suc i)) x → MergesTally f x
-        by_message (msg.PutAll op chunk) label tally = tally label.0
+        by_message (Msg.PutAll op chunk) label tally = tally label.0
         by_message x label tally = tt
 
     reads_it : (x : Msg) → MergesTally f x → CanRead f x
-    reads_it (msg.PutAll op chunk) h = (h.slots, reads f chunk h)
+    reads_it (Msg.PutAll op chunk) h = (h.slots, reads f chunk h)
     reads_it x h = tt
 
     -- what an instance's step leaves
@@ -225,7 +222,7 @@ module _ {F R : Type 0} (f : Semantics R) (laws : FunctionLaws f) (g : Given) (f
 
 -- nothing of a copy or a share stands in an input
 none_in : (m : Msg) → token_of 0 0 m ≡ None
-none_in (msg.Install op filter from to) = refl
+none_in (Msg.Install op filter from to) = refl
 none_in m = refl
 
 input_light : (k : ℕ) (o : Option Operation) (ms : List Msg) → weights.weigh (weight k o 0 0) ms ≡ 0
@@ -285,14 +282,13 @@ module _ (F : Type 0) {R : Type 0} (f : Semantics R) (laws : FunctionLaws f) (al
       (its_label f laws g fitting nodes refl w k t r.joined r.beside) h
 
   pub run_enough : (cs : List Choice) → IsRun node_ready (node_step f) cs start → HasEnough f nodes (run (node_step f) cs start)
-  run_enough cs run_is = (run_induction node_ready (node_step f) nodes (λ _ w. Runs F f laws alloc c items is w × HasEnough f nodes w) start
-      (λ _ w k next h. (runs_next F f laws alloc c items is w k next.taking h.0, enough_next w k next.taking h.0 h.1))
-      (start_world F f laws alloc c items is) (count_at_start F f alloc c items is) (runs_at_start F f laws alloc c items is, enough_at_start) cs run_is).1
+  run_enough = run_keeps F f laws alloc c items is (λ _ w. HasEnough f nodes w) enough_at_start
+      (λ ds ok d s. enough_next (run (node_step f) ds start) d s.taking s.runs)
 
 -- what is open where no message is on a link: no copy, and no share but idle ones
 abbrev pub IsCalm : Option Operation → Type 0
 IsCalm (Some (Copy y)) = ⊥
-IsCalm (Some (Share s)) = s.phase ≡ shares.Idle
+IsCalm (Some (Share s)) = s.phase ≡ SharePhase.Idle
 IsCalm o = Unit {0}
 
 some_more : (left : ℕ) → some_left left ≡ 0 → ⊥
@@ -323,17 +319,17 @@ module _ {F R : Type 0} (f : Semantics R) (g : Given) (n : ℕ) (w : Network (No
           subst (λ y. wanted (finite.get y.operations k) ≡ 0) same (omega (arith, all, enough))
 
       by_copy : (ph : CopyPhase) → copy.answer_of ph ≡ None → copy_wants ph ≡ 0 → ⊥
-      by_copy copies.Getting going e = absurd (omega (arith, e))
-      by_copy copies.Keeping going e = absurd (omega (arith, e))
-      by_copy copies.Over going e = cc
+      by_copy CopyPhase.Getting going e = absurd (omega (arith, e))
+      by_copy CopyPhase.Keeping going e = absurd (omega (arith, e))
+      by_copy CopyPhase.Over going e = cc
 
-      by_share : (ph : SharePhase) → share_wants ph ≡ 0 → ph ≡ shares.Idle
-      by_share shares.Fencing e = absurd (omega (arith, e))
-      by_share shares.Getting e = absurd (omega (arith, e))
-      by_share (shares.Setting left) e = absurd (some_more left e)
-      by_share shares.Idle e = refl
-      by_share (shares.Out member) e = absurd (omega (arith, e))
-      by_share (shares.Syncing left) e = absurd (some_more left e)
+      by_share : (ph : SharePhase) → share_wants ph ≡ 0 → ph ≡ SharePhase.Idle
+      by_share SharePhase.Fencing e = absurd (omega (arith, e))
+      by_share SharePhase.Getting e = absurd (omega (arith, e))
+      by_share (SharePhase.Setting left) e = absurd (some_more left e)
+      by_share SharePhase.Idle e = refl
+      by_share (SharePhase.Out member) e = absurd (omega (arith, e))
+      by_share (SharePhase.Syncing left) e = absurd (some_more left e)
 
       by_got : (o : Option Operation) → finite.get j.nodes.controller.operations k ≡ o → wanted o ≡ 0 → IsCalm o
       by_got None there e = tt

@@ -3,11 +3,6 @@
 use Rattle.nf_net.proofs.Words.{◌≡◌, ℕ, zero, suc, ◌+◌, ◌≤◌, ◌⊎◌, inl, inr, Bool, true, false, Option, Some, None, List, ◌∷◌, ◌++◌, refl, ap, arith}
 use Rattle.nf_net.proofs.Words.{if◌then◌else◌, ◌&&◌, ◌==◌, Mark, Target, Msg, instance_node, CopyPhase, SharePhase, CopyPlan, SharePlan, home, Operation, Copy}
 use Rattle.nf_net.proofs.Words.{Share, reaches}
-use Rattle.event_filter.specs.declared.mark.Mark.TheVariants as mark
-use Rattle.switch_rules.specs.declared.target.Target.TheVariants as target
-use Rattle.nf_msgs.specs.declared.msg.Msg.TheVariants as msg
-use Rattle.copy_share.specs.declared.copy_phase.CopyPhase.TheVariants as copies
-use Rattle.copy_share.specs.declared.share_phase.SharePhase.TheVariants as shares
 use Rattle.nf_net.proofs.answers.EndTables.{flag}
 use Rattle.nf_net.proofs.ends.LinkWeights.{sends_weigh, sends_weigh-append}
 
@@ -40,55 +35,55 @@ to_controller leg op s (suc zero) = token leg op s
 to_controller leg op s r = None
 
 abbrev pub carried : ℕ → Mark → Option Token
-carried (suc (suc i)) (mark.Shared op home) = token Serves op (suc (suc i))
+carried (suc (suc i)) (Mark.Shared op home) = token Serves op (suc (suc i))
 carried r m = None
 
 abbrev pub forwarded : ℕ → ℕ → Mark → ℕ → Option Token
-forwarded zero (suc zero) (mark.Shared op home) i = token Serves op (instance_node i)
+forwarded zero (suc zero) (Mark.Shared op home) i = token Serves op (instance_node i)
 forwarded r s m i = None
 
 abbrev pub installed : ℕ → ℕ → Target → ℕ → ℕ → Option Token
-installed zero (suc zero) target.Controller op i = token Fences op (instance_node i)
+installed zero (suc zero) Target.Controller op i = token Fences op (instance_node i)
 installed r s t op i = None
 
 -- of a message from a node to another
 abbrev pub token_of : ℕ → ℕ → Msg → Option Token
-token_of s r (msg.Get op filter) = to_instance Gets op r
-token_of s r (msg.Chunks op chunks) = to_controller Gets op s r
-token_of s r (msg.GetAll op) = to_instance Alls op r
-token_of s r (msg.AllChunk op chunk) = to_controller Alls op s r
-token_of s r (msg.Standby op chunks) = to_instance Keeps op r
-token_of s r (msg.PutAll op chunk) = to_instance Keeps op r
-token_of s r (msg.Kept op) = to_controller Keeps op s r
-token_of s r (msg.Install op filter from to) = installed r s to op from
-token_of s r (msg.Fence op) = to_instance Fences op r
-token_of s r (msg.Fenced op) = to_controller Fences op s r
-token_of s r (msg.Sync home op chunks) = to_instance Syncs op r
-token_of s r (msg.Synced op) = to_controller Syncs op s r
-token_of s r (msg.Forward to mark cell) = forwarded r s mark to
-token_of s r (msg.Carry mark cell) = carried r mark
-token_of s r (msg.Shared op chunk) = to_controller Serves op s r
+token_of s r (Msg.Get op filter) = to_instance Gets op r
+token_of s r (Msg.Chunks op chunks) = to_controller Gets op s r
+token_of s r (Msg.GetAll op) = to_instance Alls op r
+token_of s r (Msg.AllChunk op chunk) = to_controller Alls op s r
+token_of s r (Msg.Standby op chunks) = to_instance Keeps op r
+token_of s r (Msg.PutAll op chunk) = to_instance Keeps op r
+token_of s r (Msg.Kept op) = to_controller Keeps op s r
+token_of s r (Msg.Install op filter from to) = installed r s to op from
+token_of s r (Msg.Fence op) = to_instance Fences op r
+token_of s r (Msg.Fenced op) = to_controller Fences op s r
+token_of s r (Msg.Sync home op chunks) = to_instance Syncs op r
+token_of s r (Msg.Synced op) = to_controller Syncs op s r
+token_of s r (Msg.Forward to mark cell) = forwarded r s mark to
+token_of s r (Msg.Carry mark cell) = carried r mark
+token_of s r (Msg.Shared op chunk) = to_controller Serves op s r
 token_of s r m = None
 
 pub at_instance : (leg : Leg) (op i : ℕ) → to_instance leg op (instance_node i) ≡ token leg op (instance_node i)
 at_instance leg op i = let two : i + 2 ≡ suc (suc i) = omega arith in rw two refl
 
-pub at_member : (op i : ℕ) (home : Bool) → carried (instance_node i) (mark.Shared op home) ≡ token Serves op (instance_node i)
+pub at_member : (op i : ℕ) (home : Bool) → carried (instance_node i) (Mark.Shared op home) ≡ token Serves op (instance_node i)
 at_member op i home = let two : i + 2 ≡ suc (suc i) = omega arith in rw two refl
 
 -- whether an operation waits for a leg's message at a node
 abbrev pub in_copy : CopyPlan → Leg → CopyPhase → ℕ → Bool
-in_copy plan Gets copies.Getting node = node == instance_node plan.from
-in_copy plan Alls copies.Getting node = node == instance_node plan.from
-in_copy plan Keeps copies.Keeping node = node == instance_node plan.to
+in_copy plan Gets CopyPhase.Getting node = node == instance_node plan.from
+in_copy plan Alls CopyPhase.Getting node = node == instance_node plan.from
+in_copy plan Keeps CopyPhase.Keeping node = node == instance_node plan.to
 in_copy plan leg phase node = false
 
 abbrev pub in_share : SharePlan → Leg → SharePhase → ℕ → Bool
-in_share plan Fences shares.Fencing node = node == instance_node (home plan)
-in_share plan Gets shares.Getting node = node == instance_node (home plan)
-in_share plan Syncs (shares.Setting left) node = true
-in_share plan Syncs (shares.Syncing left) node = true
-in_share plan Serves (shares.Out member) node = node == instance_node member
+in_share plan Fences SharePhase.Fencing node = node == instance_node (home plan)
+in_share plan Gets SharePhase.Getting node = node == instance_node (home plan)
+in_share plan Syncs (SharePhase.Setting left) node = true
+in_share plan Syncs (SharePhase.Syncing left) node = true
+in_share plan Serves (SharePhase.Out member) node = node == instance_node member
 in_share plan leg phase node = false
 
 abbrev pub awaits : Option Operation → Leg → ℕ → Bool
@@ -106,21 +101,21 @@ weight n o s r m = counts n o (token_of s r m)
 
 -- how many messages an operation waits for
 abbrev pub copy_wants : CopyPhase → ℕ
-copy_wants copies.Getting = 1
-copy_wants copies.Keeping = 1
-copy_wants copies.Over = 0
+copy_wants CopyPhase.Getting = 1
+copy_wants CopyPhase.Keeping = 1
+copy_wants CopyPhase.Over = 0
 
 abbrev pub some_left : ℕ → ℕ
 some_left zero = 1
 some_left (suc left) = suc left
 
 abbrev pub share_wants : SharePhase → ℕ
-share_wants shares.Fencing = 1
-share_wants shares.Getting = 1
-share_wants (shares.Setting left) = some_left left
-share_wants shares.Idle = 0
-share_wants (shares.Out member) = 1
-share_wants (shares.Syncing left) = some_left left
+share_wants SharePhase.Fencing = 1
+share_wants SharePhase.Getting = 1
+share_wants (SharePhase.Setting left) = some_left left
+share_wants SharePhase.Idle = 0
+share_wants (SharePhase.Out member) = 1
+share_wants (SharePhase.Syncing left) = some_left left
 
 abbrev pub wanted : Option Operation → ℕ
 wanted (Some (Copy y)) = copy_wants y.phase

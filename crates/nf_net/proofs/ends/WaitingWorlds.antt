@@ -4,7 +4,6 @@ use Rattle.nf_net.proofs.Words.{◌∙◌, subst, arith, if◌then◌else◌, �
 use Rattle.nf_net.proofs.Words.{IsWorld, queue_at, at, weigh, weigh-append, total, Each, each_map, Config, Node, Switch, is_begun, has_answered, is_share}
 use Rattle.nf_net.proofs.Words.{keeps_off, answers_of, IsInput, IsRising, is_item, commands, all_each, Given, Label, Joined, given, silent_total}
 use Rattle.std.specs.FinMap as finite
-use Rattle.nf_msgs.specs.declared.msg.Msg.TheVariants as msg
 use Rattle.net_world.specs.Log as log
 use Rattle.nf_net.proofs.answers.AnswerSends.{answering}
 use Rattle.nf_net.proofs.answers.BusyLemmas.{is_noted}
@@ -21,15 +20,15 @@ use Rattle.nf_net.proofs.ends.AllEnded.{settled_share}
 low_told : (op least : ℕ) (ms : List Msg) → Each (λ item. is_item item ≡ true) ms → IsRising least (map (λ k. k.op) (commands ms)) → op < least
     → weigh (told op) ms ≡ 0
 low_told op least [] ok up low = refl
-low_told op least (msg.InCommand k ∷ ms) ok up low =
+low_told op least (Msg.InCommand k ∷ ms) ok up low =
     let first = up.0 in
     let off : (k.op == op) ≡ false = grind (arith, nat_tests, first, low) in
     let none : ◌≡◌ {A = ℕ} (if k.op == op then 1 else 0) 0 = ap (λ b. if b then 1 else 0) off in
     let rest = low_told op (suc k.op) ms ok.1 up.1 (omega (arith, first, low)) in
     omega (arith, none, rest)
-low_told op least (msg.InPacket p ∷ ms) ok up low = let rest = low_told op least ms ok.1 up low in omega (arith, rest)
-low_told op least (msg.InSettle ∷ ms) ok up low = let rest = low_told op least ms ok.1 up low in omega (arith, rest)
-low_told op least (msg.InEnd ∷ ms) ok up low = let rest = low_told op least ms ok.1 up low in omega (arith, rest)
+low_told op least (Msg.InPacket p ∷ ms) ok up low = let rest = low_told op least ms ok.1 up low in omega (arith, rest)
+low_told op least (Msg.InSettle ∷ ms) ok up low = let rest = low_told op least ms ok.1 up low in omega (arith, rest)
+low_told op least (Msg.InEnd ∷ ms) ok up low = let rest = low_told op least ms ok.1 up low in omega (arith, rest)
 low_told op least (m ∷ ms) ok up low = let never : false ≡ true = ok.0 in cc
 
 -- it isn't among those that are left, and is among all
@@ -41,7 +40,7 @@ taken_each : (left whole : List Msg) (least : ℕ) (ms : List Msg) → Each (λ 
     → IsRising least (map (λ k. k.op) (commands (ms ++ left))) → ((op : ℕ) → weigh (told op) (ms ++ left) ≤ weigh (told op) whole)
     → Each (IsTaken left whole) (commands ms)
 taken_each left whole least [] ok up more = tt
-taken_each left whole least (msg.InCommand k ∷ ms) ok up more =
+taken_each left whole least (Msg.InCommand k ∷ ms) ok up more =
     let none = low_told k.op (suc k.op) (ms ++ left) ok.1 up.1 (omega arith) in
     let parts = weigh-append (told k.op) ms left in
     let self : (k.op == k.op) ≡ true = grind (arith, nat_tests) in
@@ -50,9 +49,9 @@ taken_each left whole least (msg.InCommand k ∷ ms) ok up more =
       record { gone = omega (arith, none, parts); there = omega (arith, one, all) },
       taken_each left whole (suc k.op) ms ok.1 up.1 (λ op. (let whole_so = more op in omega (arith, whole_so))),
     )
-taken_each left whole least (msg.InPacket p ∷ ms) ok up more = taken_each left whole least ms ok.1 up (λ op. (let all = more op in omega (arith, all)))
-taken_each left whole least (msg.InSettle ∷ ms) ok up more = taken_each left whole least ms ok.1 up (λ op. (let all = more op in omega (arith, all)))
-taken_each left whole least (msg.InEnd ∷ ms) ok up more = taken_each left whole least ms ok.1 up (λ op. (let all = more op in omega (arith, all)))
+taken_each left whole least (Msg.InPacket p ∷ ms) ok up more = taken_each left whole least ms ok.1 up (λ op. (let all = more op in omega (arith, all)))
+taken_each left whole least (Msg.InSettle ∷ ms) ok up more = taken_each left whole least ms ok.1 up (λ op. (let all = more op in omega (arith, all)))
+taken_each left whole least (Msg.InEnd ∷ ms) ok up more = taken_each left whole least ms ok.1 up (λ op. (let all = more op in omega (arith, all)))
 taken_each left whole least (m ∷ ms) ok up more = let never : false ≡ true = ok.0 in cc
 
 -- an answer that stands in the log

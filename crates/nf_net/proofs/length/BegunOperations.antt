@@ -3,7 +3,6 @@
 use Rattle.nf_net.proofs.Words.{◌≡◌, ℕ, true, Option, Some, List, [], ◌∷◌, refl, slice_set, row_fits, Filter, FullCell, Answer, Command, Msg, switch_node}
 use Rattle.nf_net.proofs.Words.{MovePlan, move_at_start, CopyPlan, SharePlan, Operation, Move, Copy, Share, ControllerState}
 use Rattle.event_filter.specs.declared.mark.Mark.TheVariants.{Pass}
-use Rattle.nf_msgs.specs.declared.msg.Msg.TheVariants as msg
 use Rattle.move_op.specs.Move.{begin_sends}
 use Rattle.copy_share.specs.Copy as copy
 use Rattle.copy_share.specs.Share as share
@@ -21,14 +20,14 @@ module _ (c : ControllerState) (Allows : Msg → Step → Type 0) where
   -- those of `ControllerWays`, with one for every operation that begins
   pub record Openings : Type 0 where
     pub still : (m : Msg) → Allows m (ctrl.still c)
-    pub ended : Allows msg.End (ctrl.still (record c { end_came = true }))
-    pub stopped : (i : ℕ) → Allows msg.Final (ctrl.still (record c { stopped = slice_set c.stopped i true }))
+    pub ended : Allows Msg.End (ctrl.still (record c { end_came = true }))
+    pub stopped : (i : ℕ) → Allows Msg.Final (ctrl.still (record c { stopped = slice_set c.stopped i true }))
     pub returned : (op i : ℕ) (cell : FullCell)
-        → Allows (msg.Event op cell) (record { node = c; sends = (switch_node, msg.Forward i (Pass op) cell) ∷ []; notes = [] })
+        → Allows (Msg.Event op cell) (record { node = c; sends = (switch_node, Msg.Forward i (Pass op) cell) ∷ []; notes = [] })
     pub handed : (op port : ℕ) (m : Msg) → Allows m (ctrl.hand_step c op port m)
-    pub queued : (op : ℕ) (cell : FullCell) → Allows (msg.Diverted cell) (ctrl.queue_step c cell (Some op))
-    pub answers : (k : Command) (op : ℕ) (answer : Answer) → Allows (msg.Asked k) (ctrl.answers c op answer)
-    pub opens : (k : Command) (op : ℕ) (x : Operation) (sends : List (ℕ × Msg)) → IsBegun x sends → Allows (msg.Asked k) (ctrl.opening_step c op x sends)
+    pub queued : (op : ℕ) (cell : FullCell) → Allows (Msg.Diverted cell) (ctrl.queue_step c cell (Some op))
+    pub answers : (k : Command) (op : ℕ) (answer : Answer) → Allows (Msg.Asked k) (ctrl.answers c op answer)
+    pub opens : (k : Command) (op : ℕ) (x : Operation) (sends : List (ℕ × Msg)) → IsBegun x sends → Allows (Msg.Asked k) (ctrl.opening_step c op x sends)
 
   pub row_opens : Openings → (port : ℕ) (m : Msg) → Allows m (ctrl.row c port m)
   row_opens ways = row_fits c Allows (record {

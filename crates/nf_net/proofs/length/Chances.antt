@@ -2,8 +2,6 @@
 -- packet of the input, `k` that of a move whose source hasn't been asked for its chunks.
 use Rattle.nf_net.proofs.Words.{◌≡◌, ℕ, ◌+◌, List, [], ◌∷◌, ◌++◌, length, arith, Msg, Note, Phase, Operation, Move, ControllerState, Stepped, weigh}
 use Rattle.nf_net.proofs.Words.{arrivals_in, pieces_among}
-use Rattle.nf_msgs.specs.declared.msg.Msg.TheVariants as msg
-use Rattle.nf_msgs.specs.declared.note.Note.TheVariants as note
 use Rattle.move_op.specs.Phases.{Freezing}
 use Rattle.net_world.specs.Length.{one_piece}
 use Rattle.nf_net.proofs.length.MapWeights.{in_all}
@@ -12,10 +10,10 @@ use Rattle.nf_net.proofs.length.SentWeights.{sent_cost}
 module _ (a k : ℕ) where
   -- a message that waits: a packet of the input, or a command until its move's source is to send the chunks
   abbrev pub chance : Msg → ℕ
-  chance (msg.InPacket packet) = a
-  chance (msg.InCommand command) = k
-  chance (msg.Asked command) = k
-  chance (msg.Stream op filter) = k
+  chance (Msg.InPacket packet) = a
+  chance (Msg.InCommand command) = k
+  chance (Msg.Asked command) = k
+  chance (Msg.Stream op filter) = k
   chance message = 0
 
   -- what is sent, without its pieces
@@ -37,7 +35,7 @@ module _ (a k : ℕ) where
 
   -- a note: a packet that arrived
   abbrev pub arrival : Note → ℕ
-  arrival (note.Arrived number) = a
+  arrival (Note.Arrived number) = a
   arrival n = 0
 
   -- what a step sends and notes
@@ -59,5 +57,5 @@ module _ (a k : ℕ) where
 -- a log weighs what arrived
 pub arrivals_weigh : (k : ℕ) (notes : List Note) → weigh (arrival 1 k) notes ≡ length (arrivals_in notes)
 arrivals_weigh k [] = omega arith
-arrivals_weigh k (note.Arrived number ∷ notes) = let rest = arrivals_weigh k notes in omega (arith, rest)
+arrivals_weigh k (Note.Arrived number ∷ notes) = let rest = arrivals_weigh k notes in omega (arith, rest)
 arrivals_weigh k (n ∷ notes) = let rest = arrivals_weigh k notes in omega (arith, rest)

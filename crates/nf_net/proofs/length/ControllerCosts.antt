@@ -4,18 +4,15 @@ use Rattle.nf_net.proofs.Words.{not, is_some, unwrap_or, stored_of, with_parcels
 use Rattle.nf_net.proofs.Words.{Store, row_in, answer_of, CopyPhase, SharePhase, CopyState, ShareState, home, others, Operation, Move, Copy, Share, turn_of}
 use Rattle.nf_net.proofs.Words.{serving_of, are_quiet, ControllerState, controller_step, weigh-append}
 use Rattle.std.specs.FinMap as finite
-use Rattle.nf_msgs.specs.declared.msg.Msg.TheVariants as msg
 use Rattle.move_op.specs.Phases as phase
-use Rattle.copy_share.specs.declared.copy_phase.CopyPhase.TheVariants as copies
-use Rattle.copy_share.specs.declared.share_phase.SharePhase.TheVariants as shares
 use Rattle.copy_share.specs.Copy as copy
 use Rattle.copy_share.specs.Share as share
 use Rattle.ctrl_node.specs.Operations.{Turn}
 use Rattle.ctrl_node.specs.Controller as ctrl
 use Rattle.ctrl_node.specs.Controller.{Step}
 use Rattle.nf_net.proofs.length.MapWeights.{in_all, if_found, insert_weighs, remove_weighs}
-use Rattle.nf_net.proofs.length.Weights.{one_if, of_move, of_copy, of_share, of_operation, kept, weight}
-use Rattle.nf_net.proofs.length.Weights.{some, cost, cost-append, of_controller, unfinished, finish}
+use Rattle.nf_net.proofs.length.Weights.{one_if, of_move, of_copy, of_share, of_operation, kept, weight, some, cost, cost-append, of_controller, unfinished}
+use Rattle.nf_net.proofs.length.Weights.{finish}
 use Rattle.nf_net.proofs.length.BegunOperations.{IsBegun, Is_move, Is_copy, Is_share, row_opens}
 use Rattle.nf_net.proofs.length.OperationWeights.{ops_weigh, closed_weigh}
 use Rattle.nf_net.proofs.length.MoveCosts.{move_falls}
@@ -25,7 +22,7 @@ module _ (o : ℕ) where
   -- a share has few members besides the home, and besides the one that has the packet
   pub record HasFew (s : ShareState) : Type 0 where
     pub at_home : length (others s.plan (home s.plan)) ≤ o
-    pub at_member : (member : ℕ) → s.phase ≡ shares.Out member → length (others s.plan member) ≤ o
+    pub at_member : (member : ℕ) → s.phase ≡ SharePhase.Out member → length (others s.plan member) ≤ o
 
   -- what a step sends and leaves, and the message and what there was
   abbrev pub step_costs : Step → ℕ
@@ -71,8 +68,8 @@ module _ (o : ℕ) where
     after_costs None = let less = ops_weigh (of_operation o) c.operations op old new there in omega (arith, less)
     after_costs (Some answer) = by_kind new refl
       where
-        both : cost o (sends ++ (switch_node, msg.Answered op) ∷ []) ≡ cost o sends + 1
-        both = let all = cost-append o sends ((switch_node, msg.Answered op) ∷ []) in omega (arith, all)
+        both : cost o (sends ++ (switch_node, Msg.Answered op) ∷ []) ≡ cost o sends + 1
+        both = let all = cost-append o sends ((switch_node, Msg.Answered op) ∷ []) in omega (arith, all)
 
         by_kind : (x : Operation) → new ≡ x
             → step_costs (ctrl.after_turn c op (record { operation = Some x; store = store; sends = sends; answer = Some answer }) (Some answer))
@@ -86,7 +83,7 @@ module _ (o : ℕ) where
   closing_move m ph = omega arith
 
   closing_copy : (y : CopyState) (ph : CopyPhase) → closing (Copy (record y { phase = ph })) (copy.answer_of ph) ≤ of_copy ph
-  closing_copy y copies.Over = omega arith
+  closing_copy y CopyPhase.Over = omega arith
   closing_copy y ph = omega arith
 
   closing_share : (s : ShareState) (ph : SharePhase) (answer : Option Answer)
@@ -146,10 +143,10 @@ module _ (o : ℕ) where
   finish_costs : (step : Step) → step_costs (ctrl.step_and_finish step) ≤ step_costs step
   finish_costs step =
       let s = step.node in
-      elim (ctrl.may_finish s) as (λ b. ctrl.may_finish s ≡ b → cost o (step.sends ++ (if b then (switch_node, msg.Finish) ∷ [] else []))
+      elim (ctrl.may_finish s) as (λ b. ctrl.may_finish s ≡ b → cost o (step.sends ++ (if b then (switch_node, Msg.Finish) ∷ [] else []))
       + of_controller o (if b then record s { finish_sent = true } else s) ≤ step_costs step) [
         | true ↦ λ is.
-            let both = cost-append o step.sends ((switch_node, msg.Finish) ∷ []) in
+            let both = cost-append o step.sends ((switch_node, Msg.Finish) ∷ []) in
             let before = untold s.end_came s.finish_sent (are_quiet s.operations s.store) is in
             omega (arith, both, before)
         | false ↦ λ is. let both = cost-append o step.sends [] in omega (arith, both)
@@ -168,7 +165,7 @@ module _ (o : ℕ) where
         omega (arith, falls, later, both)
 
     -- A packet that came for a share
-    queued_falls : (op : ℕ) (cell : FullCell) → Falls c (msg.Diverted cell) (ctrl.queue_step c cell (Some op))
+    queued_falls : (op : ℕ) (cell : FullCell) → Falls c (Msg.Diverted cell) (ctrl.queue_step c cell (Some op))
     queued_falls op cell =
         let more = parcels_weigh c.store op (stored_of c.store op ++ cell ∷ []) in
         let both = weigh-append (λ x. 4 + 2 * o) (stored_of c.store op) (cell ∷ []) in
@@ -177,7 +174,7 @@ module _ (o : ℕ) where
 
     -- A command
     opens_falls : (k : Command) (op : ℕ) (x : Operation) (sends : List (ℕ × Msg)) → cost o sends + of_operation o x ≤ 14 + 2 * o
-        → Falls c (msg.Asked k) (ctrl.opening_step c op x sends)
+        → Falls c (Msg.Asked k) (ctrl.opening_step c op x sends)
     opens_falls k op x sends low = let more = insert_weighs (of_operation o) c.operations op x in omega (arith, more, low)
 
     begun_weighs : (x : Operation) (sends : List (ℕ × Msg)) → IsBegun x sends → cost o sends + of_operation o x ≤ 14 + 2 * o

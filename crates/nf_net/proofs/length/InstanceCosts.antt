@@ -3,20 +3,14 @@ use Rattle.nf_net.proofs.Words.{◌≡◌, ℕ, zero, suc, ◌+◌, ◌*◌, ◌
 use Rattle.nf_net.proofs.Words.{drop, refl, sym, ap, ◌∙◌, subst, arith, if◌then◌else◌, ◌||◌, ◌==◌, not, nat_le, is_some, nat_eq, option_map, AllByRecursion}
 use Rattle.nf_net.proofs.Words.{option_map_or, nat_tests, Decides-eqb, Filter, Chunk, Semantics, unit_at, record_chunk, part, Mark, Decide, Rule, HaveOneEach}
 use Rattle.nf_net.proofs.Words.{FullCell, Answer, Piece, Msg, switch_node, WholePieces, piece_of, whole_of, to_controller, chunk_told, share_message}
-use Rattle.nf_net.proofs.Words.{selected_chunks, tell_step, carry_step, instance_step, instance_fits, may_process, refusal_of, weigh-append, pieces_among}
+use Rattle.nf_net.proofs.Words.{selected_chunks, tell_step, carry_step, instance_step, instance_fits, may_process, refusal_of, weigh-append, pieces_among, Unit}
+use Rattle.nf_net.proofs.Words.{IsDistinct, Action}
 use Rattle.std.specs.Prelude.{filter}
 use Rattle.std.specs.FinMap as finite
-use Rattle.std.specs.List.{IsDistinct}
-use Rattle.nf_function.specs.declared.unit.Unit as units
-use Rattle.event_filter.specs.declared.action.Action.{Action}
-use Rattle.event_filter.specs.declared.mark.Mark.TheVariants as mark
-use Rattle.event_filter.specs.declared.decide.Decide.TheVariants as decide
 use Rattle.event_filter.specs.Rules as rules
-use Rattle.nf_msgs.specs.declared.msg.Msg.TheVariants as msg
 use Rattle.instance_worker.specs.declared.instance.Instance.{Instance}
 use Rattle.instance_worker.specs.Pieces.{pieces_from}
-use Rattle.instance_worker.specs.Instance.{Step, still, process_step}
-use Rattle.instance_worker.specs.Instance.{all_processed, on_carry, on_fence}
+use Rattle.instance_worker.specs.Instance.{Step, still, process_step, all_processed, on_carry, on_fence}
 use Rattle.nf_net.proofs.length.Weights.{one_if, of_rules, of_instance, weight, some, processing, cost, cost-append}
 use Rattle.nf_net.proofs.length.Weights as weights
 
@@ -87,14 +81,14 @@ module _ (op : ℕ) where
 
 -- The pieces of a stream
 module _ (o op : ℕ) where
-  cut_costs : (whole : WholePieces) (n : ℕ) (chunks : List Chunk) → cost o (to_controller (map (msg.Piece op) (pieces_from whole n chunks)))
-      ≤ 1 + 4 * pieces_among (to_controller (map (msg.Piece op) (pieces_from whole n chunks)))
+  cut_costs : (whole : WholePieces) (n : ℕ) (chunks : List Chunk) → cost o (to_controller (map (Msg.Piece op) (pieces_from whole n chunks)))
+      ≤ 1 + 4 * pieces_among (to_controller (map (Msg.Piece op) (pieces_from whole n chunks)))
   unfolding pieces_from
   cut_costs whole zero chunks = omega arith
   cut_costs whole (suc n) chunks =
-      elim (nat_le (length chunks) 64) as (λ b. cost o (to_controller (map (msg.Piece op)
+      elim (nat_le (length chunks) 64) as (λ b. cost o (to_controller (map (Msg.Piece op)
       (if b then piece_of whole true chunks ∷ [] else piece_of whole false (take 64 chunks) ∷ pieces_from whole n (drop 64 chunks))))
-      ≤ 1 + 4 * pieces_among (to_controller (map (msg.Piece op)
+      ≤ 1 + 4 * pieces_among (to_controller (map (Msg.Piece op)
       (if b then piece_of whole true chunks ∷ [] else piece_of whole false (take 64 chunks) ∷ pieces_from whole n (drop 64 chunks))))) [
         | true ↦ omega arith
         | false ↦ let rest = cut_costs whole n (drop 64 chunks) in omega (arith, rest)
@@ -114,17 +108,17 @@ module _ {F R : Type 0} (f : Semantics R) (o : ℕ) where
   still_falls i m = let one = some o m in omega (arith, one)
 
   -- what a packet's processing sends
-  shared_costs : (i : Instance F R) (mk : Mark) (u : units.Unit) → cost o (to_controller (share_message f i mk u)) + 1 ≤ processing o mk
-  shared_costs i mark.Plain u = omega arith
-  shared_costs i (mark.Pass op) u = omega arith
-  shared_costs i (mark.Shared op home) u = let less = chunk_costs o op (option_map (record_chunk f u) (finite.get (part i.table home) u)) in omega (arith, less)
+  shared_costs : (i : Instance F R) (mk : Mark) (u : Unit) → cost o (to_controller (share_message f i mk u)) + 1 ≤ processing o mk
+  shared_costs i Mark.Plain u = omega arith
+  shared_costs i (Mark.Pass op) u = omega arith
+  shared_costs i (Mark.Shared op home) u = let less = chunk_costs o op (option_map (record_chunk f u) (finite.get (part i.table home) u)) in omega (arith, less)
 
   processed_costs : (i : Instance F R) (mk : Mark) (cell : FullCell) → cost o (process_step f i mk cell).sends ≤ processing o mk
   unfolding process_step
   processed_costs i mk cell =
       let after = (process_step f i mk cell).node in
       let u = unit_at f.kind i.site cell.packet in
-      let both = cost-append o (to_controller (share_message f after mk u)) ((switch_node, msg.Credit cell) ∷ []) in
+      let both = cost-append o (to_controller (share_message f after mk u)) ((switch_node, Msg.Credit cell) ∷ []) in
       let less = shared_costs after mk u in
       omega (arith, both, less)
 
@@ -136,45 +130,45 @@ module _ {F R : Type 0} (f : Semantics R) (o : ℕ) where
   unfolding all_processed
   all_costs i [] = omega arith
   all_costs i (cell ∷ cells) =
-      let first = process_step f i mark.Plain cell in
+      let first = process_step f i Mark.Plain cell in
       let both = cost-append o first.sends (all_processed f first.node cells).sends in
-      let one = processed_costs i mark.Plain cell in
+      let one = processed_costs i Mark.Plain cell in
       let rest = all_costs first.node cells in
       omega (arith, both, one, rest)
 
   all_hold : (i : Instance F R) (cells : List FullCell) → of_instance (all_processed f i cells).node ≡ of_instance i
   unfolding all_processed
   all_hold i [] = refl
-  all_hold i (cell ∷ cells) = all_hold (process_step f i mark.Plain cell).node cells ∙ processed_holds i mark.Plain cell
+  all_hold i (cell ∷ cells) = all_hold (process_step f i Mark.Plain cell).node cells ∙ processed_holds i Mark.Plain cell
 
   -- A packet
   run_falls : (i : Instance F R) (mk : Mark) (cell : FullCell) → processing o mk + 1 ≤ weights.carried o mk
-      → Falls i (msg.Carry mk cell) (process_step f i mk cell)
+      → Falls i (Msg.Carry mk cell) (process_step f i mk cell)
   run_falls i mk cell low =
       let costs = processed_costs i mk cell in
       let holds = processed_holds i mk cell in
       omega (arith, costs, holds, low)
 
   plain_falls : (i : Instance F R) → HaveOneEach i.rules → (cell : FullCell) (d : Decide)
-      → Falls i (msg.Carry mark.Plain cell) (carry_step f i mark.Plain cell d)
-  plain_falls i each cell decide.Process = run_falls i mark.Plain cell (omega arith)
-  plain_falls i each cell (decide.ProcessAndEvent op) =
-      let first = process_step f i mark.Plain cell in
-      let costs = processed_costs i mark.Plain cell in
-      let holds = processed_holds i mark.Plain cell in
-      let both = cost-append o first.sends (to_controller (msg.Seen op cell.packet ∷ [])) in
+      → Falls i (Msg.Carry Mark.Plain cell) (carry_step f i Mark.Plain cell d)
+  plain_falls i each cell Decide.Process = run_falls i Mark.Plain cell (omega arith)
+  plain_falls i each cell (Decide.ProcessAndEvent op) =
+      let first = process_step f i Mark.Plain cell in
+      let costs = processed_costs i Mark.Plain cell in
+      let holds = processed_holds i Mark.Plain cell in
+      let both = cost-append o first.sends (to_controller (Msg.Seen op cell.packet ∷ [])) in
       omega (arith, costs, holds, both)
-  plain_falls i each cell (decide.Event op) = omega arith
-  plain_falls i each cell (decide.Buffer op) = let more = held_weighs op cell i.rules each in omega (arith, more)
+  plain_falls i each cell (Decide.Event op) = omega arith
+  plain_falls i each cell (Decide.Buffer op) = let more = held_weighs op cell i.rules each in omega (arith, more)
 
-  carry_falls : (i : Instance F R) → HaveOneEach i.rules → (mk : Mark) (cell : FullCell) → Falls i (msg.Carry mk cell) (on_carry f i mk cell)
+  carry_falls : (i : Instance F R) → HaveOneEach i.rules → (mk : Mark) (cell : FullCell) → Falls i (Msg.Carry mk cell) (on_carry f i mk cell)
   unfolding on_carry
-  carry_falls i each mark.Plain cell = plain_falls i each cell _
-  carry_falls i each (mark.Pass op) cell = run_falls i (mark.Pass op) cell (omega arith)
-  carry_falls i each (mark.Shared op home) cell = run_falls i (mark.Shared op home) cell (omega arith)
+  carry_falls i each Mark.Plain cell = plain_falls i each cell _
+  carry_falls i each (Mark.Pass op) cell = run_falls i (Mark.Pass op) cell (omega arith)
+  carry_falls i each (Mark.Shared op home) cell = run_falls i (Mark.Shared op home) cell (omega arith)
 
   -- A fence
-  fence_falls : (i : Instance F R) (op : ℕ) → Falls i (msg.Fence op) (on_fence f i op)
+  fence_falls : (i : Instance F R) (op : ℕ) → Falls i (Msg.Fence op) (on_fence f i op)
   unfolding on_fence
   fence_falls i op =
       let from : Instance F R = record i { rules = rules.without_rule i.rules op } in
@@ -182,12 +176,12 @@ module _ {F R : Type 0} (f : Semantics R) (o : ℕ) where
       let costs = all_costs from (rules.held_at i.rules op) in
       let holds = all_hold from (rules.held_at i.rules op) in
       let less = without_weighs op i.rules in
-      let both = cost-append o all.sends (to_controller (msg.Fenced op ∷ [])) in
+      let both = cost-append o all.sends (to_controller (Msg.Fenced op ∷ [])) in
       omega (arith, costs, holds, less, both)
 
   -- State, and what else processes no packet: a piece is refused only where it is put first
   refused_falls : (i : Instance F R) (op : ℕ) (piece : Piece) (first : Bool) (why : Answer) → refusal_of i piece first ≡ Some why
-      → Falls i (msg.Put op piece first) (tell_step i (msg.PutNo op (record { why = why; chunks = piece.chunks })))
+      → Falls i (Msg.Put op piece first) (tell_step i (Msg.PutNo op (record { why = why; chunks = piece.chunks })))
   refused_falls i op piece true why is = omega arith
   refused_falls i op piece false why is = cc
 
@@ -210,8 +204,8 @@ module _ {F R : Type 0} (f : Semantics R) (o : ℕ) where
     all_given = λ i op e. omega arith;
     deleted = λ i op gone e. omega arith;
     refused = λ i op piece first why is e. refused_falls i op piece first why is;
-    taken = λ i op piece first is e. elim (first || piece.last) as (λ b. cost o (to_controller (if b then msg.PutOk op ∷ [] else [])) + of_instance i + 1
-        ≤ of_instance i + (1 + one_if b) + 4 * pieces_among (to_controller (if b then msg.PutOk op ∷ [] else []))) [ true ↦ omega arith | false ↦ omega arith ];
+    taken = λ i op piece first is e. elim (first || piece.last) as (λ b. cost o (to_controller (if b then Msg.PutOk op ∷ [] else [])) + of_instance i + 1
+        ≤ of_instance i + (1 + one_if b) + 4 * pieces_among (to_controller (if b then Msg.PutOk op ∷ [] else []))) [ true ↦ omega arith | false ↦ omega arith ];
     restored = λ i op chunks e. omega arith;
     stood_by = λ i op chunks e. omega arith;
     synced = λ i home op chunks e. omega arith;
@@ -220,6 +214,6 @@ module _ {F R : Type 0} (f : Semantics R) (o : ℕ) where
 
   -- each step of an instance, whose rules are of different operations
   pub instance_falls : (i : Instance F R) → HaveOneEach i.rules → (m : Msg) → Falls i m (instance_step f i m)
-  instance_falls i each (msg.Carry mk cell) = carry_falls i each mk cell
-  instance_falls i each (msg.Fence op) = fence_falls i op
+  instance_falls i each (Msg.Carry mk cell) = carry_falls i each mk cell
+  instance_falls i each (Msg.Fence op) = fence_falls i op
   instance_falls i each m = other_falls i m refl

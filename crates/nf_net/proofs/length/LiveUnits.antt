@@ -3,19 +3,19 @@ use Rattle.nf_net.proofs.Words.{◌≡◌, ℕ, ◌+◌, ◌<◌, ◌≤◌, tru
 use Rattle.nf_net.proofs.Words.{if◌then◌else◌, ◌||◌, ◌==◌, filter, get-entries, len-entries, keys_of, nat_tests, length-map, Semantics, unit_at, unit_cmp, Msg}
 use Rattle.nf_net.proofs.Words.{Note, Records, same_unit, distinct_entries, same_unit_equiv, Network, Ran, done_u, ran_of, packets_done, live_front, Config}
 use Rattle.nf_net.proofs.Words.{Node, arrived_of, processed_of, IsInput, packet_numbered, arrivals_in, is_sys, Given, S, A, came_by, Joined, done_same, given}
+use Rattle.nf_net.proofs.Words.{Unit}
 use Rattle.std.specs.FinMap as finite
 use Rattle.std.specs.FinMap.{find}
 use Rattle.std.specs.Set.{is_member}
 use Rattle.std.proofs.lemmas.Map.Entries.{length-keys_of}
 use Rattle.std.proofs.lemmas.Map.Made.{length-le_from_is_member}
-use Rattle.nf_function.specs.declared.unit.Unit as units
 use Rattle.proof_machines.proofs.share.Share.{runs}
 use Rattle.proof_machines.proofs.share.Stages.{packets}
 use Rattle.net_world.specs.Fold.{times}
 use Rattle.proof_outlines.proofs.joined.RunsJoined.{once}
 
 -- a key of entries is found
-found_key : {R : Type 0} (q : units.Unit) (es : List (units.Unit × R)) → is_member same_unit (keys_of es) q ≡ true → find unit_cmp q es ≡ None → ⊥
+found_key : {R : Type 0} (q : Unit) (es : List (Unit × R)) → is_member same_unit (keys_of es) q ≡ true → find unit_cmp q es ≡ None → ⊥
 found_key q [] h none = cc
 found_key q (e ∷ es) h none =
     elim (same_unit q e.0) as (λ b. b || is_member same_unit (keys_of es) q ≡ true → cond b (Some e.1) (find unit_cmp q es) ≡ None → ⊥) [
@@ -24,7 +24,7 @@ found_key q (e ∷ es) h none =
     ] h none
 
 -- of a unit that isn't among the packets' units there is no packet
-none_of : (unit : ℕ → units.Unit) (q : units.Unit) (ps : List ℕ) → is_member same_unit (map unit ps) q ≡ false → filter (λ p. same_unit (unit p) q) ps ≡ []
+none_of : (unit : ℕ → Unit) (q : Unit) (ps : List ℕ) → is_member same_unit (map unit ps) q ≡ false → filter (λ p. same_unit (unit p) q) ps ≡ []
 none_of unit q [] h = refl
 none_of unit q (p ∷ ps) h =
     elim (same_unit q (unit p)) as (λ b. same_unit q (unit p) ≡ b → b || is_member same_unit (map unit ps) q ≡ false
@@ -55,7 +55,7 @@ module _ {F R : Type 0} (f : Semantics R) (c : Config) (items : List Msg) (is : 
   g = given f c items is
 
   -- a unit of which nothing came
-  module _ (u : units.Unit) (none : arrived_of f c items u w.log ≡ []) where
+  module _ (u : Unit) (none : arrived_of f c items u w.log ≡ []) where
     none_done : done_u (S f g) u j.world.done ≡ []
     none_done = done_same f c items is n w j u ∙ none_in (processed_of f c items u w.log)
         (λ p. subst (λ ps. times p (processed_of f c items u w.log) ≤ times p ps) none (once f c items is n w j u p))
@@ -70,14 +70,14 @@ module _ {F R : Type 0} (f : Semantics R) (c : Config) (items : List Msg) (is : 
         let nothing = no_front (ran_of (S f g) (A f g) u j.world.done) front.seen front.front.0 none_ran front.front.1 in
         ap (λ x. finite.get x.live u) (j.shown_is.instances k two few).outline_is ∙ front.fold ∙ ap (runs (S f g).F None) nothing
 
-  abbrev unit : ℕ → units.Unit
+  abbrev unit : ℕ → Unit
   unit p = unit_at f.kind c.site (packet_numbered items p)
 
   module _ (k : ℕ) (two : 2 ≤ k) (few : k < n) where
     abbrev live : Records R
     live = (j.nodes.instance k).table.live
 
-    has_packet : (q : units.Unit) → is_member same_unit (keys_of (finite.entries live)) q ≡ true → is_member same_unit (map unit (arrivals_in w.log)) q ≡ true
+    has_packet : (q : Unit) → is_member same_unit (keys_of (finite.entries live)) q ≡ true → is_member same_unit (map unit (arrivals_in w.log)) q ≡ true
     has_packet q h = elim (is_member same_unit (map unit (arrivals_in w.log)) q) as (λ b. is_member same_unit (map unit (arrivals_in w.log)) q ≡ b → b ≡ true) [
       | true ↦ λ _. refl
       | false ↦ λ off. absurd (found_key q (finite.entries live) h (sym (get-entries live q) ∙ none_live q (none_of unit q (arrivals_in w.log) off) k two few))

@@ -4,8 +4,7 @@ use Rattle.nf_net.proofs.Words.{nat_cmp, eq_by_cmp, is_lt, is_eq, Ordering, Less
 use Rattle.nf_net.proofs.Words.{len-entries, below_all, and_yes, weigh}
 use Rattle.std.specs.Cmp.{nat_cmp_total}
 use Rattle.std.specs.FinMap as finite
-use Rattle.std.specs.FinMap.{find, put, same_map, nat_cmp-IsAntisymmetric, entries-insert}
-use Rattle.std.specs.FinMap.{entries-from_sorted, get-from_sorted, len-empty}
+use Rattle.std.specs.FinMap.{find, put, same_map, nat_cmp-IsAntisymmetric, entries-insert, entries-from_sorted, get-from_sorted, len-empty}
 use Rattle.std.specs.FinMap.Entries.{by_order, where_key, is_sorted-where_key, find-where_key}
 use Rattle.std.proofs.Math.Facts.{yes_and}
 use Rattle.std.proofs.lemmas.Cmp.{eq_by_cmp_equiv, nat_cmp_total}

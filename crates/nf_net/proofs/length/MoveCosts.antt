@@ -2,8 +2,6 @@
 use Rattle.nf_net.proofs.Words.{◌≡◌, ℕ, ◌+◌, ◌*◌, ◌≤◌, false, List, [], ◌∷◌, ◌++◌, map, refl, arith, unwrap_or, FullCell, Piece, Msg, switch_node, Door, Phase}
 use Rattle.nf_net.proofs.Words.{Put, Release, Give_back, MovePlan, MoveNext, MoveRow, messages_of, put_to, forward_to, weigh, weigh-append}
 use Rattle.switch_rules.specs.declared.target.Target.TheVariants.{Instance}
-use Rattle.nf_msgs.specs.declared.msg.Msg.TheVariants as msg
-use Rattle.move_op.specs.declared.door.Door.TheVariants as door
 use Rattle.move_op.specs.Table.{Said}
 use Rattle.move_op.specs.Move.{row}
 use Rattle.nf_net.proofs.MoveWays.{Goes, Pushed, Puts, Way, Stays, Stores, Removes, Is_removed, Is_taken, Is_refused, Holds, Releases, Is_last, Is_open}
@@ -20,16 +18,16 @@ module _ (o : ℕ) (plan : MovePlan) where
 
   -- a phase with less to put
   streaming_more : (d : Door) (few many : ℕ) → few ≤ many → streaming d few ≤ streaming d many
-  streaming_more door.Shut few many h = omega (arith, h)
-  streaming_more (door.Asked last) few many h = omega (arith, h)
-  streaming_more door.Open few many h = omega (arith, h)
-  streaming_more (door.Refused why) few many h = omega arith
+  streaming_more Door.Shut few many h = omega (arith, h)
+  streaming_more (Door.Asked last) few many h = omega (arith, h)
+  streaming_more Door.Open few many h = omega (arith, h)
+  streaming_more (Door.Refused why) few many h = omega arith
 
   streaming_one : (d : Door) (one few : ℕ) → streaming d (one + few) ≤ one + streaming d few
-  streaming_one door.Shut one few = omega arith
-  streaming_one (door.Asked last) one few = omega arith
-  streaming_one door.Open one few = omega arith
-  streaming_one (door.Refused why) one few = omega arith
+  streaming_one Door.Shut one few = omega arith
+  streaming_one (Door.Asked last) one few = omega arith
+  streaming_one Door.Open one few = omega arith
+  streaming_one (Door.Refused why) one few = omega arith
 
   puts : (ps : List Piece) → cost o (map (put_to plan false) ps) ≡ weigh of_piece ps
   puts [] = refl
@@ -48,8 +46,8 @@ module _ (o : ℕ) (plan : MovePlan) where
 
   said_costs : (says : Said FullCell Piece) → cost o (messages_of plan says) ≤ says_costs says
   said_costs (Put ps) = let all = puts ps in omega (arith, all)
-  said_costs (Release cells) = forwards plan.to cells ((switch_node, msg.Install plan.op plan.filter plan.from (Instance plan.to)) ∷ [])
-  said_costs (Give_back cells) = forwards plan.from cells ((switch_node, msg.FenceTo plan.op plan.from) ∷ [])
+  said_costs (Release cells) = forwards plan.to cells ((switch_node, Msg.Install plan.op plan.filter plan.from (Instance plan.to)) ∷ [])
+  said_costs (Give_back cells) = forwards plan.from cells ((switch_node, Msg.FenceTo plan.op plan.from) ∷ [])
   said_costs says = omega arith
 
   push_costs : {ph to : Phase} {says : Said FullCell Piece} → Pushed ph to says → says_costs says + of_move to ≤ of_move ph

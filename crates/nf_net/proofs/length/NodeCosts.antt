@@ -1,7 +1,6 @@
 -- Each node's step of a run makes the world lighter, but for the pieces that it sends.
 use Rattle.nf_net.proofs.Words.{◌≡◌, ℕ, zero, suc, ◌+◌, ◌*◌, ◌<◌, ◌≤◌, List, arith, Semantics, Msg, Note, Network, Stepped, world_next, at, Takes, weigh, total}
-use Rattle.nf_net.proofs.Words.{total_after, nodes_after, Node, Switch, Controller, node_step, Given, Joined, node_of, pieces_among}
-use Rattle.net_world.specs.declared.node.Node.TheVariants.{Instance}
+use Rattle.nf_net.proofs.Words.{total_after, nodes_after, Node, Switch, Controller, node_step, Given, Joined, node_of, pieces_among, Instance}
 use Rattle.proof_outlines.proofs.joined.Joined.{count}
 use Rattle.nf_net.proofs.length.Weights.{of_instance, of_controller, weight, cost}
 use Rattle.nf_net.proofs.length.SentWeights.{few_sent}

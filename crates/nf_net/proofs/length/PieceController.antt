@@ -3,7 +3,6 @@ use Rattle.nf_net.proofs.Words.{◌≡◌, ℕ, ◌+◌, ◌≤◌, true, false,
 use Rattle.nf_net.proofs.Words.{store_after, FullCell, Answer, Command, Msg, switch_node, Store, row_in, answer_of, Operation, Move, Copy, Share, turn_of}
 use Rattle.nf_net.proofs.Words.{serving_of, ControllerState, controller_step, weigh}
 use Rattle.std.specs.FinMap as finite
-use Rattle.nf_msgs.specs.declared.msg.Msg.TheVariants as msg
 use Rattle.copy_share.specs.Copy as copy
 use Rattle.copy_share.specs.Share as share
 use Rattle.ctrl_node.specs.Controller as ctrl
@@ -28,8 +27,8 @@ module _ (a k : ℕ) where
     turn_costs new None = let less = ops_weigh (of_operation a k) c.operations op old new there in omega (arith, less)
     turn_costs new (Some answer) = by_kind new
       where
-        both : spent a k (sends ++ (switch_node, msg.Answered op) ∷ []) ≡ spent a k sends
-        both = let all = spent-append a k sends ((switch_node, msg.Answered op) ∷ []) in omega (arith, all)
+        both : spent a k (sends ++ (switch_node, Msg.Answered op) ∷ []) ≡ spent a k sends
+        both = let all = spent-append a k sends ((switch_node, Msg.Answered op) ∷ []) in omega (arith, all)
 
         by_kind : (x : Operation) → uses a k (after x (Some answer)) + of_controller a k (after x (Some answer)).node + of_operation a k old
             ≤ of_controller a k c + spent a k sends + of_operation a k x
@@ -78,9 +77,9 @@ module _ (a k : ℕ) where
       → uses a k (ctrl.step_and_finish step) + of_controller a k (ctrl.step_and_finish step).node ≡ uses a k step + of_controller a k step.node
   finish_costs step =
       let s = step.node in
-      elim (ctrl.may_finish s) as (λ b. spent a k (step.sends ++ (if b then (switch_node, msg.Finish) ∷ [] else [])) + weigh (arrival a k) step.notes
+      elim (ctrl.may_finish s) as (λ b. spent a k (step.sends ++ (if b then (switch_node, Msg.Finish) ∷ [] else [])) + weigh (arrival a k) step.notes
       + of_controller a k (if b then record s { finish_sent = true } else s) ≡ uses a k step + of_controller a k s) [
-        | true ↦ let both = spent-append a k step.sends ((switch_node, msg.Finish) ∷ []) in omega (arith, both)
+        | true ↦ let both = spent-append a k step.sends ((switch_node, Msg.Finish) ∷ []) in omega (arith, both)
         | false ↦ let both = spent-append a k step.sends [] in omega (arith, both)
       ]
 
@@ -94,14 +93,14 @@ module _ (a k : ℕ) where
         omega (arith, falls, later, both)
 
     -- A packet
-    queued_falls : (op : ℕ) (cell : FullCell) → UsesNoMore c (msg.Diverted cell) (ctrl.queue_step c cell (Some op))
+    queued_falls : (op : ℕ) (cell : FullCell) → UsesNoMore c (Msg.Diverted cell) (ctrl.queue_step c cell (Some op))
     queued_falls op cell =
         let later = serves_costs (record c { store = with_parcels c.store op (stored_of c.store op ++ cell ∷ []) }) op in
         omega (arith, later)
 
     -- A command
     opens_falls : (x : Command) (op : ℕ) (new : Operation) (sends : List (ℕ × Msg)) → spent a k sends + of_operation a k new ≤ k
-        → UsesNoMore c (msg.Asked x) (ctrl.opening_step c op new sends)
+        → UsesNoMore c (Msg.Asked x) (ctrl.opening_step c op new sends)
     opens_falls x op new sends low = let more = insert_weighs (of_operation a k) c.operations op new in omega (arith, more, low)
 
     begun_uses : (x : Operation) (sends : List (ℕ × Msg)) → IsBegun x sends → spent a k sends + of_operation a k x ≤ k

@@ -2,17 +2,13 @@
 use Rattle.nf_net.proofs.Words.{◌≡◌, ℕ, zero, suc, ◌+◌, ◌*◌, ◌<◌, ◌≤◌, Bool, true, false, Option, None, Some, List, [], ◌∷◌, map, length, drop, take, refl}
 use Rattle.nf_net.proofs.Words.{arith, if◌then◌else◌, ◌||◌, nat_le, option_map, ◌/◌, nat_tests, Filter, Chunk, Semantics, unit_at, record_chunk, part, Mark}
 use Rattle.nf_net.proofs.Words.{FullCell, Piece, Msg, switch_node, WholePieces, piece_of, pieces, whole_of, to_controller, chunk_told, share_message, and_then}
-use Rattle.nf_net.proofs.Words.{selected_chunks, instance_step, weigh-append, pieces_among, instance_fits}
+use Rattle.nf_net.proofs.Words.{selected_chunks, instance_step, weigh-append, pieces_among, instance_fits, Unit}
 use Rattle.std.proofs.Common.{length-drop}
 use Rattle.std.specs.FinMap as finite
 use Rattle.std.proofs.lemmas.Nat.{le-div}
-use Rattle.nf_function.specs.declared.unit.Unit as units
-use Rattle.event_filter.specs.declared.mark.Mark.TheVariants as mark
-use Rattle.nf_msgs.specs.declared.msg.Msg.TheVariants as msg
 use Rattle.instance_worker.specs.declared.instance.Instance.{Instance}
 use Rattle.instance_worker.specs.Pieces.{pieces_from}
-use Rattle.instance_worker.specs.Instance.{Step, process_step}
-use Rattle.instance_worker.specs.Instance.{on_stream}
+use Rattle.instance_worker.specs.Instance.{Step, process_step, on_stream}
 use Rattle.nf_net.proofs.length.Chances.{chance, spent, spent-append, spent_parts, arrival, uses}
 
 more_than : (x : ℕ) → nat_le x 64 ≡ false → 64 < x
@@ -52,17 +48,17 @@ module _ (a k op : ℕ) where
 
   -- pieces, and how many
   told_pieces : (ps : List Piece)
-      → (spent a k (to_controller (map (msg.Piece op) ps)) ≡ length ps) × (pieces_among (to_controller (map (msg.Piece op) ps)) ≡ length ps)
+      → (spent a k (to_controller (map (Msg.Piece op) ps)) ≡ length ps) × (pieces_among (to_controller (map (Msg.Piece op) ps)) ≡ length ps)
   told_pieces [] = (omega arith, omega arith)
   told_pieces (p ∷ ps) = let rest = told_pieces ps in let all = rest.0 in let its = rest.1 in (omega (arith, all), omega (arith, its))
 
 abbrev is_stream : Msg → Bool
-is_stream (msg.Stream op filter) = true
+is_stream (Msg.Stream op filter) = true
 is_stream m = false
 
 -- as many pieces as an instance is asked for
 abbrev pub streamed : {F R : Type 0} → Semantics R → Instance F R → Msg → ℕ
-streamed f i (msg.Stream op filter) = length (pieces (selected_chunks f i filter))
+streamed f i (Msg.Stream op filter) = length (pieces (selected_chunks f i filter))
 streamed f i m = 0
 
 module _ (a k : ℕ) {F R : Type 0} (f : Semantics R) where
@@ -77,17 +73,17 @@ module _ (a k : ℕ) {F R : Type 0} (f : Semantics R) where
       omega (arith, first, second, sends, notes)
 
   -- a packet
-  shared_none : (i : Instance F R) (mk : Mark) (u : units.Unit) → spent a k (to_controller (share_message f i mk u)) ≡ 0
-  shared_none i mark.Plain u = omega arith
-  shared_none i (mark.Pass op) u = omega arith
-  shared_none i (mark.Shared op home) u = chunk_none a k op (option_map (record_chunk f u) (finite.get (part i.table home) u))
+  shared_none : (i : Instance F R) (mk : Mark) (u : Unit) → spent a k (to_controller (share_message f i mk u)) ≡ 0
+  shared_none i Mark.Plain u = omega arith
+  shared_none i (Mark.Pass op) u = omega arith
+  shared_none i (Mark.Shared op home) u = chunk_none a k op (option_map (record_chunk f u) (finite.get (part i.table home) u))
 
   processed_none : (i : Instance F R) (mk : Mark) (cell : FullCell) → UsesNone (process_step f i mk cell)
   unfolding process_step
   processed_none i mk cell =
       let after = (process_step f i mk cell).node in
       let u = unit_at f.kind i.site cell.packet in
-      let both = spent-append a k (to_controller (share_message f after mk u)) ((switch_node, msg.Credit cell) ∷ []) in
+      let both = spent-append a k (to_controller (share_message f after mk u)) ((switch_node, Msg.Credit cell) ∷ []) in
       let none = shared_none after mk u in
       omega (arith, both, none)
 
@@ -97,7 +93,7 @@ module _ (a k : ℕ) {F R : Type 0} (f : Semantics R) where
     still = λ i m e. omega arith;
     held = λ i mk cell op e. omega arith;
     processed = λ i mk cell e. processed_none i mk cell;
-    released = λ i op cell e. processed_none i mark.Plain cell;
+    released = λ i op cell e. processed_none i Mark.Plain cell;
     both = λ i m did next w first second e. then_none did next (first e) (second e);
     unruled = λ i op did h. h;
     seen = λ i mk cell op e. omega arith;
@@ -111,7 +107,7 @@ module _ (a k : ℕ) {F R : Type 0} (f : Semantics R) where
     deleted = λ i op gone e. omega arith;
     refused = λ i op piece first why is e. omega arith;
     taken = λ i op piece first is e. elim (first || piece.last)
-        as (λ b. spent a k (to_controller (if b then msg.PutOk op ∷ [] else [])) + 0 ≡ 0) [ true ↦ omega arith | false ↦ omega arith ];
+        as (λ b. spent a k (to_controller (if b then Msg.PutOk op ∷ [] else [])) + 0 ≡ 0) [ true ↦ omega arith | false ↦ omega arith ];
     restored = λ i op chunks e. omega arith;
     stood_by = λ i op chunks e. omega arith;
     synced = λ i home op chunks e. omega arith;
@@ -121,7 +117,7 @@ module _ (a k : ℕ) {F R : Type 0} (f : Semantics R) where
   abbrev pub Streams : Instance F R → Msg → Step F R → Type 0
   Streams i m step = (uses a k step ≡ streamed f i m) × (pieces_among step.sends ≡ streamed f i m)
 
-  stream_uses : (i : Instance F R) (op : ℕ) (filter : Filter) → Streams i (msg.Stream op filter) (on_stream f i op filter)
+  stream_uses : (i : Instance F R) (op : ℕ) (filter : Filter) → Streams i (Msg.Stream op filter) (on_stream f i op filter)
   unfolding on_stream
   stream_uses i op filter = let both = told_pieces a k op (pieces (selected_chunks f i filter)) in let all = both.0 in (omega (arith, all), both.1)
 
@@ -130,10 +126,10 @@ module _ (a k : ℕ) {F R : Type 0} (f : Semantics R) where
 
   -- each step of an instance
   pub instance_uses : (i : Instance F R) (m : Msg) → Streams i m (instance_step f i m)
-  instance_uses i (msg.Stream op filter) = stream_uses i op filter
+  instance_uses i (Msg.Stream op filter) = stream_uses i op filter
   instance_uses i m = no_pieces (instance_step f i m) (none_used i m refl)
 
   -- a message allows them, where the instance has few records
   pub streamed_few : (i : Instance F R) → ((filter : Filter) → length (pieces (selected_chunks f i filter)) ≤ k) → (m : Msg) → streamed f i m ≤ chance a k m
-  streamed_few i few (msg.Stream op filter) = few filter
+  streamed_few i few (Msg.Stream op filter) = few filter
   streamed_few i few m = omega arith

@@ -2,15 +2,11 @@
 use Rattle.nf_net.proofs.Words.{◌≡◌, ℕ, ◌+◌, ◌≤◌, true, false, Some, List, [], ◌∷◌, ◌++◌, map, length, arith, if◌then◌else◌, ◌-◌, ◌==◌, Chunk, FullCell, Piece}
 use Rattle.nf_net.proofs.Words.{Msg, switch_node, instance_node, Phase, Put, Release, Give_back, MovePlan, MoveRow, messages_of, put_to, forward_to, CopyPhase}
 use Rattle.nf_net.proofs.Words.{SharePhase, CopyPlan, CopyRow, SharePlan, ShareRow, home, others, syncs, setting, syncing, on_fenced, on_chunks, on_shared}
-use Rattle.nf_net.proofs.Words.{on_synced, service_if_idle}
+use Rattle.nf_net.proofs.Words.{on_synced, service_if_idle, Done}
 use Rattle.switch_rules.specs.declared.target.Target.TheVariants.{Instance}
-use Rattle.nf_msgs.specs.declared.answer.Answer.TheVariants.{Done}
-use Rattle.nf_msgs.specs.declared.msg.Msg.TheVariants as msg
 use Rattle.move_op.specs.Table.{Said, Stream}
 use Rattle.move_op.specs.Move.{row}
 use Rattle.nf_net.proofs.MoveWays.{Goes, Pushed, Puts, Way, Is_removed, Is_taken, Is_refused, move_fits}
-use Rattle.copy_share.specs.declared.copy_phase.CopyPhase.TheVariants as copies
-use Rattle.copy_share.specs.declared.share_phase.SharePhase.TheVariants as shares
 use Rattle.copy_share.specs.Copy as copy
 use Rattle.copy_share.specs.Share as share
 use Rattle.nf_net.proofs.length.Chances.{spent, of_phase}
@@ -36,8 +32,8 @@ module _ (a k : ℕ) (plan : MovePlan) where
   said_asks : (says : Said FullCell Piece) → spent a k (messages_of plan says) ≡ asks says
   said_asks (Put ps) = puts_none ps
   said_asks (Release cells) =
-      let sent = forwards_none plan.to cells ((switch_node, msg.Install plan.op plan.filter plan.from (Instance plan.to)) ∷ []) in omega (arith, sent)
-  said_asks (Give_back cells) = let sent = forwards_none plan.from cells ((switch_node, msg.FenceTo plan.op plan.from) ∷ []) in omega (arith, sent)
+      let sent = forwards_none plan.to cells ((switch_node, Msg.Install plan.op plan.filter plan.from (Instance plan.to)) ∷ []) in omega (arith, sent)
+  said_asks (Give_back cells) = let sent = forwards_none plan.from cells ((switch_node, Msg.FenceTo plan.op plan.from) ∷ []) in omega (arith, sent)
   said_asks says = omega arith
 
   push_uses : {ph to : Phase} {says : Said FullCell Piece} → Pushed ph to says → asks says + of_phase a k to ≤ of_phase a k ph
@@ -62,12 +58,12 @@ module _ (a k : ℕ) (plan : CopyPlan) where
   CopyNone r = spent a k r.sends ≡ 0
 
   copy_source_none : (ph : CopyPhase) (m : Msg) → CopyNone (copy.from_source plan ph m)
-  copy_source_none copies.Getting (msg.Chunks op chunks) = omega arith
-  copy_source_none copies.Getting (msg.AllChunk op chunk) = omega arith
+  copy_source_none CopyPhase.Getting (Msg.Chunks op chunks) = omega arith
+  copy_source_none CopyPhase.Getting (Msg.AllChunk op chunk) = omega arith
   copy_source_none ph m = omega arith
 
   copy_destination_none : (ph : CopyPhase) (m : Msg) → CopyNone (copy.from_destination plan ph m)
-  copy_destination_none copies.Keeping (msg.Kept op) = omega arith
+  copy_destination_none CopyPhase.Keeping (Msg.Kept op) = omega arith
   copy_destination_none ph m = omega arith
 
   pub copy_none : (ph : CopyPhase) (port : ℕ) (m : Msg) → CopyNone (copy.row (record { plan = plan; phase = ph }) port m)
@@ -85,7 +81,7 @@ module _ (a k : ℕ) (plan : SharePlan) where
   ShareNone r = spent a k r.sends ≡ 0
 
   told_none : (home_is : ℕ) (chunks : List Chunk) (members : List ℕ)
-      → spent a k (map (λ member. (instance_node member, msg.Sync (member == home_is) plan.op chunks)) members) ≡ 0
+      → spent a k (map (λ member. (instance_node member, Msg.Sync (member == home_is) plan.op chunks)) members) ≡ 0
   told_none home_is chunks [] = omega arith
   told_none home_is chunks (member ∷ members) = let rest = told_none home_is chunks members in omega (arith, rest)
 
@@ -93,42 +89,42 @@ module _ (a k : ℕ) (plan : SharePlan) where
   syncs_none one chunks = told_none (home plan) chunks (others plan one)
 
   fenced_none : (ph : SharePhase) → ShareNone (on_fenced plan ph)
-  fenced_none shares.Fencing = omega arith
+  fenced_none SharePhase.Fencing = omega arith
   fenced_none ph = omega arith
 
   setting_none : (left : ℕ) (sends : List (ℕ × Msg)) → spent a k sends ≡ 0 → ShareNone (setting left sends)
   setting_none left sends none = elim (left == 0)
-      as (λ b. ShareNone (if b then record { phase = shares.Idle; sends = sends; answer = Some Done } else share.next_phase (shares.Setting left) sends))
+      as (λ b. ShareNone (if b then record { phase = SharePhase.Idle; sends = sends; answer = Some Done } else share.next_phase (SharePhase.Setting left) sends))
       [ true ↦ none | false ↦ none ]
 
   chunks_none : (ph : SharePhase) (chunks : List Chunk) → ShareNone (on_chunks plan ph chunks)
-  chunks_none shares.Getting chunks = setting_none (length (others plan (home plan))) (syncs plan (home plan) chunks) (syncs_none (home plan) chunks)
+  chunks_none SharePhase.Getting chunks = setting_none (length (others plan (home plan))) (syncs plan (home plan) chunks) (syncs_none (home plan) chunks)
   chunks_none ph chunks = omega arith
 
   shared_none : (ph : SharePhase) (port : ℕ) (chunk : Chunk) → ShareNone (on_shared plan ph port chunk)
-  shared_none (shares.Out member) port chunk = elim (port == instance_node member)
-      as (λ b. ShareNone (if b then syncing (length (others plan member)) (syncs plan member (chunk ∷ [])) else share.next_phase (shares.Out member) [])) [
+  shared_none (SharePhase.Out member) port chunk = elim (port == instance_node member)
+      as (λ b. ShareNone (if b then syncing (length (others plan member)) (syncs plan member (chunk ∷ [])) else share.next_phase (SharePhase.Out member) [])) [
         | true ↦ syncs_none member (chunk ∷ [])
         | false ↦ omega arith
       ]
   shared_none ph port chunk = omega arith
 
   synced_none : (ph : SharePhase) → ShareNone (on_synced ph)
-  synced_none (shares.Setting left) = setting_none (left - 1) [] (omega arith)
-  synced_none (shares.Syncing left) = omega arith
+  synced_none (SharePhase.Setting left) = setting_none (left - 1) [] (omega arith)
+  synced_none (SharePhase.Syncing left) = omega arith
   synced_none ph = omega arith
 
   pub share_none : (ph : SharePhase) (port : ℕ) (m : Msg) → ShareNone (share.row (record { plan = plan; phase = ph }) port m)
-  share_none ph port (msg.Fenced op) = elim (port == instance_node (home plan))
+  share_none ph port (Msg.Fenced op) = elim (port == instance_node (home plan))
       as (λ b. ShareNone (if b then on_fenced plan ph else share.next_phase ph [])) [ true ↦ fenced_none ph | false ↦ omega arith ]
-  share_none ph port (msg.Chunks op chunks) = elim (port == instance_node (home plan))
+  share_none ph port (Msg.Chunks op chunks) = elim (port == instance_node (home plan))
       as (λ b. ShareNone (if b then on_chunks plan ph chunks else share.next_phase ph [])) [ true ↦ chunks_none ph chunks | false ↦ omega arith ]
-  share_none ph port (msg.Shared op chunk) = shared_none ph port chunk
-  share_none ph port (msg.Synced op) = synced_none ph
+  share_none ph port (Msg.Shared op chunk) = shared_none ph port chunk
+  share_none ph port (Msg.Synced op) = synced_none ph
   share_none ph port m = omega arith
 
   -- what a share serves
   pub served_none : (ph : SharePhase) (cells : List FullCell) → spent a k (service_if_idle plan ph cells).sends ≡ 0
-  served_none shares.Idle (cell ∷ cells) = omega arith
-  served_none shares.Idle [] = omega arith
+  served_none SharePhase.Idle (cell ∷ cells) = omega arith
+  served_none SharePhase.Idle [] = omega arith
   served_none ph cells = omega arith

@@ -1,11 +1,9 @@
 -- The moves of a run send few pieces: each command streams at most once, and then at most the chunks of as many units as there are packets.
-use Rattle.nf_net.proofs.Words.{◌≡◌, ℕ, zero, suc, ◌+◌, ◌*◌, ◌<◌, ◌≤◌, true, false, List, [], ◌∷◌, ◌++◌, length, refl, subst, arith, ◌/◌, Global, mul-suc}
-use Rattle.nf_net.proofs.Words.{Filter, FunctionLaws, Semantics, Msg, Note, Choice, Network, Stepped, IsRun, run, world_next, at, NextChoice, run_induction}
-use Rattle.nf_net.proofs.Words.{Takes, weigh, total, total_after, nodes_after, pieces, selected_chunks, Config, Node, Controller, IsInput, is_item, commands}
-use Rattle.nf_net.proofs.Words.{node_step, node_ready, started_with, all_each, Each, Given, Joined, node_of, given, count_at_start, Runs, runs_at_start}
-use Rattle.nf_net.proofs.Words.{runs_next, start_world, pieces_among, pieces_sent, most_pieces}
+use Rattle.nf_net.proofs.Words.{◌≡◌, ℕ, zero, suc, ◌+◌, ◌*◌, ◌<◌, ◌≤◌, true, false, List, [], ◌∷◌, ◌++◌, length, refl, arith, ◌/◌, Global, mul-suc, Filter}
+use Rattle.nf_net.proofs.Words.{FunctionLaws, Semantics, Msg, Note, Choice, Network, Stepped, IsRun, run, world_next, at, Takes, weigh, total, total_after}
+use Rattle.nf_net.proofs.Words.{nodes_after, pieces, selected_chunks, Config, Node, Controller, IsInput, is_item, commands, node_step, node_ready, started_with}
+use Rattle.nf_net.proofs.Words.{all_each, Each, Given, Joined, node_of, given, pieces_among, pieces_sent, most_pieces}
 use Rattle.std.proofs.Math.Nat.{mul_comm}
-use Rattle.nf_msgs.specs.declared.msg.Msg.TheVariants as msg
 use Rattle.actor_net.proofs.WeightLaws.{log_after}
 use Rattle.instance_worker.proofs.PieceLemmas.{few_selected}
 use Rattle.net_world.specs.Input.{packets}
@@ -16,7 +14,8 @@ use Rattle.nf_net.proofs.length.PieceSwitch.{switch_uses}
 use Rattle.nf_net.proofs.length.PieceController.{controller_uses}
 use Rattle.nf_net.proofs.length.PieceInstances.{few_pieces, instance_uses, streamed_few}
 use Rattle.nf_net.proofs.length.LiveUnits.{live_few}
-use Rattle.nf_net.proofs.length.RunLength.{start, nodes, node_is, pieces_next}
+use Rattle.nf_net.proofs.length.RunLength.{start, nodes, pieces_next}
+use Rattle.nf_net.proofs.RunKeeps.{RunStep, run_keeps, count}
 
 module _ {F R : Type 0} (a k : ℕ) where
   -- a node, and a world with its log
@@ -71,12 +70,12 @@ module _ {F R : Type 0} (f : Semantics R) (a k : ℕ) (g : Given) (n : ℕ) (w :
 input_chances : (a k : ℕ) (items : List Msg) → Each (λ item. is_item item ≡ true) items
     → weigh (chance a k) items ≡ a * length (packets items) + k * length (commands items)
 input_chances a k [] h = omega arith
-input_chances a k (msg.InPacket packet ∷ items) h =
+input_chances a k (Msg.InPacket packet ∷ items) h =
     let rest = input_chances a k items h.1 in let one = mul-suc a (length (packets items)) in omega (arith, rest, one)
-input_chances a k (msg.InCommand command ∷ items) h =
+input_chances a k (Msg.InCommand command ∷ items) h =
     let rest = input_chances a k items h.1 in let one = mul-suc k (length (commands items)) in omega (arith, rest, one)
-input_chances a k (msg.InSettle ∷ items) h = let rest = input_chances a k items h.1 in omega (arith, rest)
-input_chances a k (msg.InEnd ∷ items) h = let rest = input_chances a k items h.1 in omega (arith, rest)
+input_chances a k (Msg.InSettle ∷ items) h = let rest = input_chances a k items h.1 in omega (arith, rest)
+input_chances a k (Msg.InEnd ∷ items) h = let rest = input_chances a k items h.1 in omega (arith, rest)
 input_chances a k (m ∷ items) h = let never : false ≡ true = h.0 in cc
 
 module _ (F R : Type 0) (a k : ℕ) (alloc : Global) (c : Config) where
@@ -95,7 +94,7 @@ module _ (F : Type 0) {R : Type 0} (f : Semantics R) (laws : FunctionLaws f) (al
   begin = start F f laws alloc c items is
 
   abbrev n : ℕ
-  n = nodes F f laws alloc c items is
+  n = count F f laws alloc c items is
 
   -- the most pieces of one move
   abbrev most : ℕ
@@ -103,7 +102,6 @@ module _ (F : Type 0) {R : Type 0} (f : Semantics R) (laws : FunctionLaws f) (al
 
   -- so far: what arrived, and what was sent
   record AreFew (cs : List Choice) (w : Network (Node F R) Msg Note) : Type 0 where
-    runs : Runs F f laws alloc c items is w
     came : world_chances {F = F} {R = R} 1 0 w ≤ length (packets items)
     sent : pieces_sent f begin cs + world_chances {F = F} {R = R} 0 most w ≤ most * length (commands items)
 
@@ -112,41 +110,35 @@ module _ (F : Type 0) {R : Type 0} (f : Semantics R) (laws : FunctionLaws f) (al
       let each = all_each (λ item. is_item item ≡ true) items is.only_items in
       let one = start_chances F R 1 0 alloc c items each in
       let other = start_chances F R 0 most alloc c items each in
-      record { runs = runs_at_start F f laws alloc c items is; came = omega (arith, one); sent = omega (arith, other) }
+      record { came = omega (arith, one); sent = omega (arith, other) }
 
   -- each instance has few records
-  few_made : (cs : List Choice) (w : Network (Node F R) Msg Note) (h : AreFew cs w) (i : ℕ) → 2 ≤ i → i < n → (filter : Filter)
-      → length (pieces (selected_chunks f (h.runs.joined.nodes.instance i) filter)) ≤ most
-  few_made cs w h i two there filter =
-      let live = (h.runs.joined.nodes.instance i).table.live in
-      let chunks = few_selected f filter live in
-      let units = live_few f c items is n w h.runs.joined i two there in
+  few_made : (cs : List Choice) (w : Network (Node F R) Msg Note) (j : Joined f (given f c items is) n w) (h : AreFew cs w) (i : ℕ) → 2 ≤ i → i < n
+      → (filter : Filter) → length (pieces (selected_chunks f (j.nodes.instance i) filter)) ≤ most
+  few_made cs w j h i two there filter =
+      let chunks = few_selected f filter (j.nodes.instance i).table.live in
+      let units = live_few f c items is n w j i two there in
       let log = arrivals_weigh 0 w.log in
       let came = h.came in
-      few_pieces (selected_chunks f (h.runs.joined.nodes.instance i) filter) (length (packets items)) (omega (arith, chunks, units, log, came))
+      few_pieces (selected_chunks f (j.nodes.instance i) filter) (length (packets items)) (omega (arith, chunks, units, log, came))
 
-  few_next : (cs : List Choice) (w : Network (Node F R) Msg Note) (x : Choice) → NextChoice node_ready (node_step f) n begin cs w x → AreFew cs w
-      → AreFew (cs ++ x ∷ []) (world_next (node_step f) w x)
-  few_next cs w x next h =
-      let j = h.runs.joined in
-      let t = next.taking in
+  few_next : (cs : List Choice) (x : Choice) (s : RunStep F f laws alloc c items is (run (node_step f) cs begin) x) → AreFew cs (run (node_step f) cs begin)
+      → AreFew (cs ++ x ∷ []) (world_next (node_step f) (run (node_step f) cs begin) x)
+  few_next cs x s h =
+      let w = run (node_step f) cs begin in
+      let j = s.runs.joined in
+      let m = s.taking.message in
       let g = given f c items is in
-      let takes = subst (λ y. Takes (node_step f) n w x.node x.port y t.message t.rest) (node_is F f laws alloc c items is w x t h.runs) t.takes in
-      let more = pieces_next F f laws alloc c items is cs w x next h.runs in
-      let arrives = chances_after f 1 0 g n w j x.node x.port t.message t.rest _ takes (sends f 1 0 g n w j x.node x.port t.message) in
-      let falls = chances_after f 0 most g n w j x.node x.port t.message t.rest 0 takes
-      (streams f 0 most g n w j (few_made cs w h) x.node x.port t.message takes.receiver) in
+      let more = pieces_next F f laws alloc c items is cs x s in
+      let arrives = chances_after f 1 0 g n w j x.node x.port m s.taking.rest _ s.takes (sends f 1 0 g n w j x.node x.port m) in
+      let falls = chances_after f 0 most g n w j x.node x.port m s.taking.rest 0 s.takes
+      (streams f 0 most g n w j (few_made cs w j h) x.node x.port m s.takes.receiver) in
       let came = h.came in
       let sent = h.sent in
-      record {
-        runs = runs_next F f laws alloc c items is w x t h.runs;
-        came = omega (arith, arrives, came);
-        sent = omega (arith, falls, more, sent);
-      }
+      record { came = omega (arith, arrives, came); sent = omega (arith, falls, more, sent) }
 
   run_few : (cs : List Choice) → IsRun node_ready (node_step f) cs begin → AreFew cs (run (node_step f) cs begin)
-  run_few cs run_is = run_induction node_ready (node_step f) n AreFew begin few_next (start_world F f laws alloc c items is)
-      (count_at_start F f alloc c items is) few_begin cs run_is
+  run_few = run_keeps F f laws alloc c items is AreFew few_begin (λ ds _ d s. few_next ds d s)
 
   -- a run's moves send at most so many pieces
   pub pieces_few : (cs : List Choice) → IsRun node_ready (node_step f) cs begin → pieces_sent f begin cs ≤ most_pieces items

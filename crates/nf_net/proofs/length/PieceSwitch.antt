@@ -1,6 +1,5 @@
 -- What the switch sends and notes as it takes a message weighs no more than the message: a command goes on, and a packet of the input arrives once.
 use Rattle.nf_net.proofs.Words.{◌≡◌, ℕ, zero, suc, ◌≤◌, [], ◌∷◌, arith, step_fits, Msg, instance_node, SwitchState, switch_step}
-use Rattle.nf_msgs.specs.declared.msg.Msg.TheVariants as msg
 use Rattle.switch_node.specs.Switch as switch
 use Rattle.switch_node.specs.Switch.{Step, still}
 use Rattle.nf_net.proofs.length.Chances.{chance, spent, spent-append, uses}
@@ -13,7 +12,7 @@ module _ (a k : ℕ) (s : SwitchState) where
   stops_none zero = omega arith
   stops_none (suc n) =
       let rest = stops_none n in
-      let both = spent-append a k (switch.stop_messages n) ((instance_node n, msg.Stop) ∷ []) in
+      let both = spent-append a k (switch.stop_messages n) ((instance_node n, Msg.Stop) ∷ []) in
       omega (arith, rest, both)
 
   -- each step of the switch

@@ -1,27 +1,26 @@
 -- No run has more choices than its instances, its packets, the lines of its script and the pieces of its moves allow.
-use Rattle.nf_net.proofs.Words.{◌≡◌, ℕ, zero, suc, ◌+◌, ◌*◌, ◌≤◌, true, false, Some, List, [], ◌∷◌, ◌++◌, length, length-append, refl, sym, ap, subst, ◌∙◌}
-use Rattle.nf_net.proofs.Words.{arith, ◌-◌, slice_get, Global, mul-suc, Decides-eqb, slice_get-get_or, FunctionLaws, Semantics, Msg, Note, Choice, Network}
-use Rattle.nf_net.proofs.Words.{IsRun, queue_at, run, world_next, Taking, NextChoice, run_induction, Takes, weigh, Config, Node, IsInput, is_item, node_step}
-use Rattle.nf_net.proofs.Words.{node_ready, started_with, all_each, Each, node_of, given, count_at_start, Runs, runs_at_start, runs_next, start_world, lines}
-use Rattle.nf_net.proofs.Words.{pieces_among, pieces_sent, most_choices}
-use Rattle.nf_msgs.specs.declared.msg.Msg.TheVariants as msg
+use Rattle.nf_net.proofs.Words.{◌≡◌, ℕ, zero, suc, ◌+◌, ◌*◌, ◌≤◌, true, false, Some, List, [], ◌∷◌, ◌++◌, length, length-append, refl, ap, ◌∙◌, arith, ◌-◌}
+use Rattle.nf_net.proofs.Words.{slice_get, Global, mul-suc, Decides-eqb, slice_get-get_or, FunctionLaws, Semantics, Msg, Note, Choice, Network, IsRun, queue_at}
+use Rattle.nf_net.proofs.Words.{run, world_next, weigh, Config, Node, IsInput, is_item, node_step, node_ready, started_with, all_each, Each, node_of, given}
+use Rattle.nf_net.proofs.Words.{lines, pieces_among, pieces_sent, most_choices}
 use Rattle.net_world.specs.Input.{packets}
 use Rattle.net_world.specs.Length.{ends, has_end, pieces_of}
 use Rattle.nf_net.proofs.length.MapWeights.{empty_weighs}
 use Rattle.nf_net.proofs.length.SentWeights.{start_weight}
 use Rattle.nf_net.proofs.length.Weights.{kept, weight, of_operation}
 use Rattle.nf_net.proofs.length.NodeCosts.{of_node, of_world, world_falls}
+use Rattle.nf_net.proofs.RunKeeps.{RunStep, run_keeps, start}
 
 -- what an input weighs
 input_weighs : (o : ℕ) (items : List Msg) → Each (λ item. is_item item ≡ true) items
     → weigh (weight o) items ≤ (7 + 2 * o) * length (packets items) + (16 + 2 * o) * lines items + 2 * ends items
 input_weighs o [] h = omega arith
-input_weighs o (msg.InPacket packet ∷ items) h =
+input_weighs o (Msg.InPacket packet ∷ items) h =
     let rest = input_weighs o items h.1 in let one = mul-suc (7 + 2 * o) (length (packets items)) in omega (arith, rest, one)
-input_weighs o (msg.InCommand command ∷ items) h =
+input_weighs o (Msg.InCommand command ∷ items) h =
     let rest = input_weighs o items h.1 in let one = mul-suc (16 + 2 * o) (lines items) in omega (arith, rest, one)
-input_weighs o (msg.InSettle ∷ items) h = let rest = input_weighs o items h.1 in let one = mul-suc (16 + 2 * o) (lines items) in omega (arith, rest, one)
-input_weighs o (msg.InEnd ∷ items) h = let rest = input_weighs o items h.1 in omega (arith, rest)
+input_weighs o (Msg.InSettle ∷ items) h = let rest = input_weighs o items h.1 in let one = mul-suc (16 + 2 * o) (lines items) in omega (arith, rest, one)
+input_weighs o (Msg.InEnd ∷ items) h = let rest = input_weighs o items h.1 in omega (arith, rest)
 input_weighs o (m ∷ items) h = let never : false ≡ true = h.0 in cc
 
 -- at the start no instance holds anything
@@ -42,11 +41,8 @@ module _ {F R : Type 0} (f : Semantics R) where
 
 module _ (F : Type 0) {R : Type 0} (f : Semantics R) (laws : FunctionLaws f) (alloc : Global) (c : Config) (items : List Msg)
     (is : IsInput f.kind c items) where
-  abbrev pub start : Network (Node F R) Msg Note
-  start = started_with {F = F} {R = R} alloc c items
-
-  abbrev pub nodes : ℕ
-  nodes = length c.names + 2
+  abbrev first : Network (Node F R) Msg Note
+  first = start F f laws alloc c items is
 
   -- the members of a share besides one are at most so many
   abbrev besides : ℕ
@@ -56,57 +52,42 @@ module _ (F : Type 0) {R : Type 0} (f : Semantics R) (laws : FunctionLaws f) (al
   besides_is = let some = is.is_config.some in omega (arith, some)
 
   -- so far the choices, and what is still to come
-  record IsLighter (cs : List Choice) (w : Network (Node F R) Msg Note) : Type 0 where
-    runs : Runs F f laws alloc c items is w
-    lighter : length cs + of_world {F = F} {R = R} besides w ≤ of_world {F = F} {R = R} besides start + 4 * pieces_sent f start cs
+  abbrev IsLighter : List Choice → Network (Node F R) Msg Note → Type 0
+  IsLighter cs w = length cs + of_world {F = F} {R = R} besides w ≤ of_world {F = F} {R = R} besides first + 4 * pieces_sent f first cs
 
-  -- the node that takes a choice, and the pieces that it sends
-  pub node_is : (w : Network (Node F R) Msg Note) (k : Choice) (t : Taking node_ready (node_step f) nodes w k) (h : Runs F f laws alloc c items is w)
-      → t.node ≡ node_of h.joined.nodes k.node
-  node_is w k t h = sym (t.takes.node_is t.node) ∙ h.joined.nodes_are k.node t.takes.receiver t.node
-
-  pub pieces_next : (cs : List Choice) (w : Network (Node F R) Msg Note) (k : Choice) (next : NextChoice node_ready (node_step f) nodes start cs w k)
-      (h : Runs F f laws alloc c items is w)
-      → pieces_sent f start (cs ++ k ∷ [])
-      ≡ pieces_sent f start cs + pieces_among (node_step f (node_of h.joined.nodes k.node) k.port next.taking.message).sends
-  pieces_next cs w k next h =
-      let t = next.taking in
-      let count = t.takes.count in
-      let more = pieces_more f cs k start in
-      let sent : pieces_of f k (slice_get (run (node_step f) cs start).nodes k.node) (queue_at (run (node_step f) cs start) k)
-      ≡ pieces_among (node_step f (node_of h.joined.nodes k.node) k.port t.message).sends =
-      ap (λ v. pieces_of f k (slice_get v.nodes k.node) (queue_at v k)) (sym next.reached)
-      ∙ ap (λ x. pieces_of f k x (queue_at w k)) (slice_get-get_or w.nodes k.node t.node (rw count t.takes.receiver) ∙ ap Some (t.takes.node_is t.node))
-      ∙ ap (pieces_of f k (Some t.node)) t.takes.waits
-      ∙ ap (λ y. pieces_among (node_step f y k.port t.message).sends) (node_is w k t h) in
+  -- the pieces that a step sends
+  pub pieces_next : (cs : List Choice) (k : Choice) (s : RunStep F f laws alloc c items is (run (node_step f) cs first) k)
+      → pieces_sent f first (cs ++ k ∷ [])
+      ≡ pieces_sent f first cs + pieces_among (node_step f (node_of s.runs.joined.nodes k.node) k.port s.taking.message).sends
+  pieces_next cs k s =
+      let w = run (node_step f) cs first in
+      let node = node_of s.runs.joined.nodes k.node in
+      let count = s.takes.count in
+      let more = pieces_more f cs k first in
+      let sent : pieces_of f k (slice_get w.nodes k.node) (queue_at w k) ≡ pieces_among (node_step f node k.port s.taking.message).sends =
+      ap (λ x. pieces_of f k x (queue_at w k)) (slice_get-get_or w.nodes k.node node (rw count s.takes.receiver) ∙ ap Some (s.takes.node_is node))
+      ∙ ap (pieces_of f k (Some node)) s.takes.waits in
       omega (arith, more, sent)
 
-  next_lighter : (cs : List Choice) (w : Network (Node F R) Msg Note) (k : Choice) → NextChoice node_ready (node_step f) nodes start cs w k → IsLighter cs w
-      → IsLighter (cs ++ k ∷ []) (world_next (node_step f) w k)
-  next_lighter cs w k next h =
-      let j = h.runs.joined in
-      let t = next.taking in
-      let takes = subst (λ y. Takes (node_step f) nodes w k.node k.port y t.message t.rest) (node_is w k t h.runs) t.takes in
-      let falls = world_falls f (given f c items is) nodes besides (let few = besides_is in omega (arith, few)) refl w j k.node k.port t.message t.rest takes in
-      let more = pieces_next cs w k next h.runs in
+  next_lighter : (cs : List Choice) (k : Choice) (s : RunStep F f laws alloc c items is (run (node_step f) cs first) k)
+      → IsLighter cs (run (node_step f) cs first) → IsLighter (cs ++ k ∷ []) (world_next (node_step f) (run (node_step f) cs first) k)
+  next_lighter cs k s so_far =
+      let falls = world_falls f (given f c items is) (length c.names + 2) besides (let few = besides_is in omega (arith, few)) refl
+      (run (node_step f) cs first) s.runs.joined k.node k.port s.taking.message s.taking.rest s.takes in
+      let more = pieces_next cs k s in
       let long = length-append cs (k ∷ []) in
-      let so_far = h.lighter in
-      record {
-        runs = runs_next F f laws alloc c items is w k t h.runs;
-        lighter = omega (arith, falls, more, long, so_far);
-      }
+      omega (arith, falls, more, long, so_far)
 
-  run_lighter : (cs : List Choice) → IsRun node_ready (node_step f) cs start → IsLighter cs (run (node_step f) cs start)
-  run_lighter cs run_is = run_induction node_ready (node_step f) nodes IsLighter start next_lighter (start_world F f laws alloc c items is)
-      (count_at_start F f alloc c items is) (record { runs = runs_at_start F f laws alloc c items is; lighter = omega arith }) cs run_is
+  run_lighter : (cs : List Choice) → IsRun node_ready (node_step f) cs first → IsLighter cs (run (node_step f) cs first)
+  run_lighter = run_keeps F f laws alloc c items is IsLighter (omega arith) (λ ds _ d s. next_lighter ds d s)
 
   -- a run has at most so many choices
-  pub run_length : has_end items ≡ true → (cs : List Choice) → IsRun node_ready (node_step f) cs start
-      → length cs ≤ most_choices (length c.names) items (pieces_sent f start cs)
+  pub run_length : has_end items ≡ true → (cs : List Choice) → IsRun node_ready (node_step f) cs first
+      → length cs ≤ most_choices (length c.names) items (pieces_sent f first cs)
   run_length ended cs run_is =
       let o = besides in
       let few = besides_is in
-      let lighter = (run_lighter cs run_is).lighter in
+      let lighter = run_lighter cs run_is in
       let begins = start_weighs F R o alloc c items in
       let input = input_weighs o items (all_each (λ item. is_item item ≡ true) items is.only_items) in
       let once : ends items ≡ 1 = (Decides-eqb (ends items) 1).0 ended in

@@ -1,9 +1,8 @@
 -- What is sent weighs together, and what the nodes and the input of a network weigh at its start.
 use Rattle.nf_net.proofs.Words.{◌≡◌, ℕ, zero, suc, ◌+◌, ◌≤◌, Bool, true, false, List, [], ◌∷◌, length, arith, if◌then◌else◌, Global, Msg, Note, reaches}
 use Rattle.nf_net.proofs.Words.{opening_weight, weigh, weigh-append, total, sent_weight, Config, Node, Switch, Controller, first_switch, first_instance}
-use Rattle.nf_net.proofs.Words.{first_instances, first_nodes, started_with}
+use Rattle.nf_net.proofs.Words.{first_instances, first_nodes, started_with, Instance}
 use Rattle.ctrl_node.specs.Controller as controller
-use Rattle.net_world.specs.declared.node.Node.TheVariants.{Instance}
 
 module _ (f : Msg → ℕ) where
   -- messages, each with its receiver

@@ -1,11 +1,7 @@
 -- What a copy's row and a share's row send and leave to do weighs less than the message that they take and what there was to do.
 use Rattle.nf_net.proofs.Words.{◌≡◌, ℕ, ◌+◌, ◌*◌, ◌≤◌, true, false, Some, List, [], ◌∷◌, map, length, refl, arith, if◌then◌else◌, ◌-◌, ◌==◌, is_some, unwrap_or}
 use Rattle.nf_net.proofs.Words.{Chunk, FullCell, Msg, instance_node, CopyPhase, SharePhase, CopyPlan, CopyRow, SharePlan, ShareRow, home, others, syncs}
-use Rattle.nf_net.proofs.Words.{syncing, on_fenced, on_chunks, on_shared, on_synced, service_if_idle}
-use Rattle.nf_msgs.specs.declared.answer.Answer.TheVariants.{Done}
-use Rattle.nf_msgs.specs.declared.msg.Msg.TheVariants as msg
-use Rattle.copy_share.specs.declared.copy_phase.CopyPhase.TheVariants as copies
-use Rattle.copy_share.specs.declared.share_phase.SharePhase.TheVariants as shares
+use Rattle.nf_net.proofs.Words.{syncing, on_fenced, on_chunks, on_shared, on_synced, service_if_idle, Done}
 use Rattle.copy_share.specs.Copy as copy
 use Rattle.copy_share.specs.Share as share
 use Rattle.nf_net.proofs.length.Weights.{one_if, of_copy, of_share, kept, weight, some, cost}
@@ -19,12 +15,12 @@ module _ (o : ℕ) (plan : CopyPlan) where
   copy_stays ph m = let one = some o m in omega (arith, one)
 
   copy_source_falls : (ph : CopyPhase) (m : Msg) → CopyFalls ph m (copy.from_source plan ph m)
-  copy_source_falls copies.Getting (msg.Chunks op chunks) = omega arith
-  copy_source_falls copies.Getting (msg.AllChunk op chunk) = omega arith
+  copy_source_falls CopyPhase.Getting (Msg.Chunks op chunks) = omega arith
+  copy_source_falls CopyPhase.Getting (Msg.AllChunk op chunk) = omega arith
   copy_source_falls ph m = copy_stays ph m
 
   copy_destination_falls : (ph : CopyPhase) (m : Msg) → CopyFalls ph m (copy.from_destination plan ph m)
-  copy_destination_falls copies.Keeping (msg.Kept op) = omega arith
+  copy_destination_falls CopyPhase.Keeping (Msg.Kept op) = omega arith
   copy_destination_falls ph m = copy_stays ph m
 
   -- each row of a copy
@@ -46,71 +42,71 @@ module _ (o : ℕ) (plan : SharePlan) where
   share_stays ph m = let one = some o m in omega (arith, one)
 
   told : (home_is : ℕ) (chunks : List Chunk) (members : List ℕ)
-      → cost o (map (λ member. (instance_node member, msg.Sync (member == home_is) plan.op chunks)) members) ≡ 2 * length members
+      → cost o (map (λ member. (instance_node member, Msg.Sync (member == home_is) plan.op chunks)) members) ≡ 2 * length members
   told home_is chunks [] = omega arith
   told home_is chunks (member ∷ members) = let rest = told home_is chunks members in omega (arith, rest)
 
   sync_costs : (one : ℕ) (chunks : List Chunk) → cost o (syncs plan one chunks) ≡ 2 * length (others plan one)
   sync_costs one chunks = told (home plan) chunks (others plan one)
 
-  fenced_falls : (ph : SharePhase) (op : ℕ) → ShareFalls ph (msg.Fenced op) (on_fenced plan ph)
-  fenced_falls shares.Fencing op = omega arith
+  fenced_falls : (ph : SharePhase) (op : ℕ) → ShareFalls ph (Msg.Fenced op) (on_fenced plan ph)
+  fenced_falls SharePhase.Fencing op = omega arith
   fenced_falls ph op = omega arith
 
   chunks_falls : length (others plan (home plan)) ≤ o → (ph : SharePhase) (op : ℕ) (chunks : List Chunk)
-      → ShareFalls ph (msg.Chunks op chunks) (on_chunks plan ph chunks)
-  chunks_falls few shares.Getting op chunks =
+      → ShareFalls ph (Msg.Chunks op chunks) (on_chunks plan ph chunks)
+  chunks_falls few SharePhase.Getting op chunks =
       let sends = syncs plan (home plan) chunks in
       let all = sync_costs (home plan) chunks in
       elim (length (others plan (home plan)) == 0)
-      as (λ b. ShareFalls shares.Getting (msg.Chunks op chunks) (if b then record { phase = shares.Idle; sends = sends; answer = Some Done }
-      else share.next_phase (shares.Setting (length (others plan (home plan)))) sends)) [
+      as (λ b. ShareFalls SharePhase.Getting (Msg.Chunks op chunks) (if b then record { phase = SharePhase.Idle; sends = sends; answer = Some Done }
+      else share.next_phase (SharePhase.Setting (length (others plan (home plan)))) sends)) [
         | true ↦ omega (arith, all, few)
         | false ↦ omega (arith, all, few)
       ]
   chunks_falls few ph op chunks = omega arith
 
-  shared_falls : (ph : SharePhase) → ((member : ℕ) → ph ≡ shares.Out member → length (others plan member) ≤ o) → (port op : ℕ) (chunk : Chunk)
-      → ShareFalls ph (msg.Shared op chunk) (on_shared plan ph port chunk)
-  shared_falls (shares.Out member) few port op chunk =
+  shared_falls : (ph : SharePhase) → ((member : ℕ) → ph ≡ SharePhase.Out member → length (others plan member) ≤ o) → (port op : ℕ) (chunk : Chunk)
+      → ShareFalls ph (Msg.Shared op chunk) (on_shared plan ph port chunk)
+  shared_falls (SharePhase.Out member) few port op chunk =
       let less = few member refl in
       let sends = syncs plan member (chunk ∷ []) in
       let all = sync_costs member (chunk ∷ []) in
-      elim (port == instance_node member) as (λ b. ShareFalls (shares.Out member) (msg.Shared op chunk)
-      (if b then syncing (length (others plan member)) sends else share.next_phase (shares.Out member) [])) [
+      elim (port == instance_node member) as (λ b. ShareFalls (SharePhase.Out member) (Msg.Shared op chunk)
+      (if b then syncing (length (others plan member)) sends else share.next_phase (SharePhase.Out member) [])) [
         | true ↦ elim (length (others plan member) == 0)
-            as (λ b. cost o sends + of_share o (if b then shares.Idle else shares.Syncing (length (others plan member))) + 0 + 1 ≤ 0 + (1 + 2 * o))
+            as (λ b. cost o sends + of_share o (if b then SharePhase.Idle else SharePhase.Syncing (length (others plan member))) + 0 + 1 ≤ 0 + (1 + 2 * o))
             [ true ↦ omega (arith, all, less) | false ↦ omega (arith, all, less) ]
         | false ↦ omega arith
       ]
   shared_falls ph few port op chunk = omega arith
 
-  synced_falls : (ph : SharePhase) (op : ℕ) → ShareFalls ph (msg.Synced op) (on_synced ph)
-  synced_falls (shares.Setting left) op =
-      elim (left - 1 == 0) as (λ b. ShareFalls (shares.Setting left) (msg.Synced op)
-      (if b then record { phase = shares.Idle; sends = []; answer = Some Done } else share.next_phase (shares.Setting (left - 1)) []))
+  synced_falls : (ph : SharePhase) (op : ℕ) → ShareFalls ph (Msg.Synced op) (on_synced ph)
+  synced_falls (SharePhase.Setting left) op =
+      elim (left - 1 == 0) as (λ b. ShareFalls (SharePhase.Setting left) (Msg.Synced op)
+      (if b then record { phase = SharePhase.Idle; sends = []; answer = Some Done } else share.next_phase (SharePhase.Setting (left - 1)) []))
       [ true ↦ omega arith | false ↦ omega arith ]
-  synced_falls (shares.Syncing left) op =
-      elim (left - 1 == 0) as (λ b. 0 + of_share o (if b then shares.Idle else shares.Syncing (left - 1)) + 0 + 1 ≤ 0 + 1)
+  synced_falls (SharePhase.Syncing left) op =
+      elim (left - 1 == 0) as (λ b. 0 + of_share o (if b then SharePhase.Idle else SharePhase.Syncing (left - 1)) + 0 + 1 ≤ 0 + 1)
       [ true ↦ omega arith | false ↦ omega arith ]
   synced_falls ph op = omega arith
 
   -- each row of a share
-  pub share_falls : length (others plan (home plan)) ≤ o → (ph : SharePhase) → ((member : ℕ) → ph ≡ shares.Out member → length (others plan member) ≤ o)
+  pub share_falls : length (others plan (home plan)) ≤ o → (ph : SharePhase) → ((member : ℕ) → ph ≡ SharePhase.Out member → length (others plan member) ≤ o)
       → (port : ℕ) (m : Msg) → ShareFalls ph m (share.row (record { plan = plan; phase = ph }) port m)
-  share_falls few ph out port (msg.Fenced op) =
-      elim (port == instance_node (home plan)) as (λ b. ShareFalls ph (msg.Fenced op) (if b then on_fenced plan ph else share.next_phase ph []))
-      [ true ↦ fenced_falls ph op | false ↦ share_stays ph (msg.Fenced op) ]
-  share_falls few ph out port (msg.Chunks op chunks) = elim (port == instance_node (home plan))
-      as (λ b. ShareFalls ph (msg.Chunks op chunks) (if b then on_chunks plan ph chunks else share.next_phase ph []))
-      [ true ↦ chunks_falls few ph op chunks | false ↦ share_stays ph (msg.Chunks op chunks) ]
-  share_falls few ph out port (msg.Shared op chunk) = shared_falls ph out port op chunk
-  share_falls few ph out port (msg.Synced op) = synced_falls ph op
+  share_falls few ph out port (Msg.Fenced op) =
+      elim (port == instance_node (home plan)) as (λ b. ShareFalls ph (Msg.Fenced op) (if b then on_fenced plan ph else share.next_phase ph []))
+      [ true ↦ fenced_falls ph op | false ↦ share_stays ph (Msg.Fenced op) ]
+  share_falls few ph out port (Msg.Chunks op chunks) = elim (port == instance_node (home plan))
+      as (λ b. ShareFalls ph (Msg.Chunks op chunks) (if b then on_chunks plan ph chunks else share.next_phase ph []))
+      [ true ↦ chunks_falls few ph op chunks | false ↦ share_stays ph (Msg.Chunks op chunks) ]
+  share_falls few ph out port (Msg.Shared op chunk) = shared_falls ph out port op chunk
+  share_falls few ph out port (Msg.Synced op) = synced_falls ph op
   share_falls few ph out port m = share_stays ph m
 
   -- what a share serves was kept before
   pub served_costs : (ph : SharePhase) (cells : List FullCell) → cost o (service_if_idle plan ph cells).sends
       + of_share o (service_if_idle plan ph cells).phase + kept o (unwrap_or (service_if_idle plan ph cells).stored cells) ≤ of_share o ph + kept o cells
-  served_costs shares.Idle (cell ∷ cells) = omega arith
-  served_costs shares.Idle [] = omega arith
+  served_costs SharePhase.Idle (cell ∷ cells) = omega arith
+  served_costs SharePhase.Idle [] = omega arith
   served_costs ph cells = omega arith

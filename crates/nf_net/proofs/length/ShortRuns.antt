@@ -2,7 +2,6 @@
 use Rattle.nf_net.proofs.Words.{ℕ, ◌+◌, ◌*◌, ◌<◌, ◌≤◌, List, [], ◌∷◌, length, arith, ◌/◌, Global, FunctionLaws, Semantics, Msg, Choice, MOST_CHOICES, IsRun}
 use Rattle.nf_net.proofs.Words.{Config, IsInput, commands, node_step, node_ready, started_with, lines, pieces_sent, most_pieces, most_choices, IsShort}
 use Rattle.std.proofs.Math.Nat.{mul-le-mul, div-le_of_le-mul}
-use Rattle.nf_msgs.specs.declared.msg.Msg.TheVariants as msg
 use Rattle.net_world.specs.Input.{packets}
 use Rattle.nf_net.proofs.length.PieceRuns.{pieces_few}
 use Rattle.nf_net.proofs.length.RunLength.{run_length}
@@ -10,8 +9,8 @@ use Rattle.nf_net.proofs.length.RunLength.{run_length}
 -- each command is a line
 commands_few : (items : List Msg) → length (commands items) ≤ lines items
 commands_few [] = omega arith
-commands_few (msg.InCommand command ∷ items) = let rest = commands_few items in omega (arith, rest)
-commands_few (msg.InSettle ∷ items) = let rest = commands_few items in omega (arith, rest)
+commands_few (Msg.InCommand command ∷ items) = let rest = commands_few items in omega (arith, rest)
+commands_few (Msg.InSettle ∷ items) = let rest = commands_few items in omega (arith, rest)
 commands_few (m ∷ items) = commands_few items
 
 -- few pieces, and few choices

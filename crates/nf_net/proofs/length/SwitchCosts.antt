@@ -1,6 +1,5 @@
 -- What the switch sends as it takes a message weighs less than the message.
 use Rattle.nf_net.proofs.Words.{◌≡◌, ℕ, zero, suc, ◌+◌, ◌*◌, ◌≤◌, [], ◌∷◌, arith, step_fits, Msg, instance_node, SwitchState, switch_step}
-use Rattle.nf_msgs.specs.declared.msg.Msg.TheVariants as msg
 use Rattle.switch_node.specs.Switch as switch
 use Rattle.switch_node.specs.Switch.{Step, still}
 use Rattle.nf_net.proofs.length.Weights.{weight, some, cost, cost-append}
@@ -16,7 +15,7 @@ module _ (o : ℕ) (s : SwitchState) (few : s.instances ≤ 1 + o) where
   stops_cost zero = omega arith
   stops_cost (suc n) =
       let rest = stops_cost n in
-      let both = cost-append o (switch.stop_messages n) ((instance_node n, msg.Stop) ∷ []) in
+      let both = cost-append o (switch.stop_messages n) ((instance_node n, Msg.Stop) ∷ []) in
       omega (arith, rest, both)
 
   -- each step of the switch

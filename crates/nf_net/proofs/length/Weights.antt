@@ -2,12 +2,7 @@
 -- greatest number of members that a share has besides one.
 use Rattle.nf_net.proofs.Words.{◌≡◌, ℕ, ◌+◌, ◌*◌, ◌≤◌, Bool, true, false, List, ◌++◌, length, arith, ◌||◌, Mark, Rule, FullCell, Piece, Msg, Door, Phase}
 use Rattle.nf_net.proofs.Words.{CopyPhase, SharePhase, Operation, Move, Copy, Share, ControllerState, InstanceState, weigh, weigh-append}
-use Rattle.event_filter.specs.declared.mark.Mark.TheVariants as mark
-use Rattle.nf_msgs.specs.declared.msg.Msg.TheVariants as msg
-use Rattle.move_op.specs.declared.door.Door.TheVariants as door
 use Rattle.move_op.specs.Phases as phase
-use Rattle.copy_share.specs.declared.copy_phase.CopyPhase.TheVariants as copies
-use Rattle.copy_share.specs.declared.share_phase.SharePhase.TheVariants as shares
 use Rattle.nf_net.proofs.length.MapWeights.{in_all}
 use Rattle.nf_net.proofs.length.SentWeights.{sent_cost}
 
@@ -21,10 +16,10 @@ of_piece piece = 1 + one_if piece.last
 
 -- a move behind its door
 abbrev pub streaming : Door → ℕ → ℕ
-streaming door.Shut pieces = 10 + pieces
-streaming (door.Asked last) pieces = 9 + pieces
-streaming door.Open pieces = 9 + pieces
-streaming (door.Refused why) pieces = 8
+streaming Door.Shut pieces = 10 + pieces
+streaming (Door.Asked last) pieces = 9 + pieces
+streaming Door.Open pieces = 9 + pieces
+streaming (Door.Refused why) pieces = 8
 
 -- a move
 abbrev pub of_move : Phase → ℕ
@@ -40,9 +35,9 @@ of_move (phase.Over why) = 1
 
 -- a copy
 abbrev pub of_copy : CopyPhase → ℕ
-of_copy copies.Getting = 3
-of_copy copies.Keeping = 1
-of_copy copies.Over = 1
+of_copy CopyPhase.Getting = 3
+of_copy CopyPhase.Keeping = 1
+of_copy CopyPhase.Over = 1
 
 -- an instance: its held parcels are still to go home
 abbrev pub of_rules : List (Rule FullCell) → ℕ
@@ -62,55 +57,55 @@ module _ (o : ℕ) where
 
   -- a packet on its way to an instance. A plain one may become an event
   abbrev pub carried : Mark → ℕ
-  carried mark.Plain = 6 + 2 * o
-  carried (mark.Pass op) = 2
-  carried (mark.Shared op home) = 3 + 2 * o
+  carried Mark.Plain = 6 + 2 * o
+  carried (Mark.Pass op) = 2
+  carried (Mark.Shared op home) = 3 + 2 * o
 
   -- a packet that an instance processes
   abbrev pub processing : Mark → ℕ
-  processing mark.Plain = 1
-  processing (mark.Pass op) = 1
-  processing (mark.Shared op home) = 2 + 2 * o
+  processing Mark.Plain = 1
+  processing (Mark.Pass op) = 1
+  processing (Mark.Shared op home) = 2 + 2 * o
 
   abbrev pub finish : ℕ
   finish = 3 + 2 * o
 
   abbrev pub weight : Msg → ℕ
-  weight (msg.InPacket packet) = 7 + 2 * o
-  weight (msg.InCommand command) = 16 + 2 * o
-  weight msg.InEnd = 2
-  weight (msg.Asked command) = 15 + 2 * o
-  weight (msg.Diverted cell) = 5 + 2 * o
-  weight (msg.Forward to mark cell) = 1 + carried mark
-  weight (msg.Install op filter from to) = 3
-  weight (msg.FenceTo op to) = 3
-  weight msg.Finish = finish
-  weight (msg.Carry mark cell) = carried mark
-  weight (msg.Fence op) = 2
-  weight msg.Stop = 2
-  weight (msg.Enable op filter action) = 2
-  weight (msg.Get op filter) = 2
-  weight (msg.Stream op filter) = 2
-  weight (msg.GetAll op) = 2
-  weight (msg.Delete op gone) = 2
-  weight (msg.Put op piece first) = 1 + one_if (first || piece.last)
-  weight (msg.Restore op chunks) = 2
-  weight (msg.Standby op chunks) = 2
-  weight (msg.PutAll op chunk) = 2
-  weight (msg.Sync home op chunks) = 2
-  weight (msg.Piece op piece) = 4 + one_if piece.last
-  weight (msg.Event op cell) = 5 + 2 * o
-  weight (msg.Shared op chunk) = 1 + 2 * o
+  weight (Msg.InPacket packet) = 7 + 2 * o
+  weight (Msg.InCommand command) = 16 + 2 * o
+  weight Msg.InEnd = 2
+  weight (Msg.Asked command) = 15 + 2 * o
+  weight (Msg.Diverted cell) = 5 + 2 * o
+  weight (Msg.Forward to mark cell) = 1 + carried mark
+  weight (Msg.Install op filter from to) = 3
+  weight (Msg.FenceTo op to) = 3
+  weight Msg.Finish = finish
+  weight (Msg.Carry mark cell) = carried mark
+  weight (Msg.Fence op) = 2
+  weight Msg.Stop = 2
+  weight (Msg.Enable op filter action) = 2
+  weight (Msg.Get op filter) = 2
+  weight (Msg.Stream op filter) = 2
+  weight (Msg.GetAll op) = 2
+  weight (Msg.Delete op gone) = 2
+  weight (Msg.Put op piece first) = 1 + one_if (first || piece.last)
+  weight (Msg.Restore op chunks) = 2
+  weight (Msg.Standby op chunks) = 2
+  weight (Msg.PutAll op chunk) = 2
+  weight (Msg.Sync home op chunks) = 2
+  weight (Msg.Piece op piece) = 4 + one_if piece.last
+  weight (Msg.Event op cell) = 5 + 2 * o
+  weight (Msg.Shared op chunk) = 1 + 2 * o
   weight message = 1
 
   mark_some : (m : Mark) → 1 ≤ carried m
-  mark_some mark.Plain = omega arith
-  mark_some (mark.Pass op) = omega arith
-  mark_some (mark.Shared op home) = omega arith
+  mark_some Mark.Plain = omega arith
+  mark_some (Mark.Pass op) = omega arith
+  mark_some (Mark.Shared op home) = omega arith
 
   -- each message weighs something: it is still to be taken
   pub some : (m : Msg) → 1 ≤ weight m
-  some (msg.Carry mark cell) = mark_some mark
+  some (Msg.Carry mark cell) = mark_some mark
   some m = omega arith
 
   -- what is sent weighs together
@@ -122,9 +117,9 @@ module _ (o : ℕ) where
 
   -- a share
   abbrev pub of_share : SharePhase → ℕ
-  of_share shares.Fencing = 3 + 2 * o
-  of_share shares.Getting = 1 + 2 * o
-  of_share (shares.Setting left) = 1
+  of_share SharePhase.Fencing = 3 + 2 * o
+  of_share SharePhase.Getting = 1 + 2 * o
+  of_share (SharePhase.Setting left) = 1
   of_share phase = 0
 
   abbrev pub of_operation : Operation → ℕ

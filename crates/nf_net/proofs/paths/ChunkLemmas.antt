@@ -2,9 +2,8 @@
 use Rattle.nf_net.proofs.Words.{◌≡◌, ℕ, ◌+◌, ◌≤◌, true, false, cond, Option, Some, List, [], ◌∷◌, ◌++◌, map, refl, sym, ap, ◌∙◌, subst, arith, if◌then◌else◌}
 use Rattle.nf_net.proofs.Words.{is_some, option_to_list, flat_map, option_map_or, map-append, filter-append, Chunk, Semantics, Piece, units_in, same_unit}
 use Rattle.nf_net.proofs.Words.{is_among, spelled, same_unit-true, records, records_one, Each, each_map, Frame, record_at, is_chunk_of, spelled_of, IsChunk}
-use Rattle.nf_net.proofs.Words.{units_same, entries, outline_piece, Given, place, AreGoodChunks}
+use Rattle.nf_net.proofs.Words.{units_same, entries, outline_piece, Given, place, AreGoodChunks, Unit}
 use Rattle.std.specs.Prelude.{filter}
-use Rattle.nf_function.specs.declared.unit.Unit as units
 use Rattle.move_op.specs.Move.{chunks_of}
 use Rattle.proof_machines.proofs.unit.Real.{see}
 use Rattle.proof_machines.proofs.unit.Seen.{is_among-units}
@@ -12,10 +11,10 @@ use Rattle.proof_outlines.proofs.joined.UnitCounts.{times, times_from_distinct}
 use Rattle.proof_outlines.proofs.joined.Joined.{IsGoodChunk}
 
 -- records, as the unit's chunks spell them
-abbrev pub as_spelled : {R : Type 0} → units.Unit → List R → List (Option (units.Unit × R))
+abbrev pub as_spelled : {R : Type 0} → Unit → List R → List (Option (Unit × R))
 as_spelled u rs = map (λ r. Some (u, r)) rs
 
-module _ {R : Type 0} (f : Semantics R) (u : units.Unit) where
+module _ {R : Type 0} (f : Semantics R) (u : Unit) where
   pub spelled-append : (xs ys : List Chunk) → spelled_of f u (xs ++ ys) ≡ spelled_of f u xs ++ spelled_of f u ys
   spelled-append xs ys =
       ap (map (spelled f)) (filter-append (is_chunk_of u) xs ys) ∙ map-append (spelled f) (filter (is_chunk_of u) xs) (filter (is_chunk_of u) ys)
@@ -64,7 +63,7 @@ module _ {R : Type 0} (f : Semantics R) (u : units.Unit) where
 pub all_chunks : {R : Type 0} (f : Semantics R) (g : Given) (cs : List Chunk) → AreGoodChunks f g cs → Each (IsChunk f (place g)) cs
 all_chunks f g cs h = each_map {P = (IsGoodChunk f g)} {Q = (IsChunk f (place g))} (λ y k. k.chunk) cs h.each
 
-module _ {R : Type 0} (f : Semantics R) (g : Given) (u : units.Unit) where
+module _ {R : Type 0} (f : Semantics R) (g : Given) (u : Unit) where
   -- good chunks spell the unit's record where they have it
   pub good_spelled : (cs : List Chunk) → AreGoodChunks f g cs → spelled_of f u cs ≡ as_spelled u (option_to_list (record_at u (entries f cs)))
   good_spelled cs h = one_spelled f u (place g) cs (all_chunks f g cs h) (times_from_distinct (entries f cs) h.distinct u)

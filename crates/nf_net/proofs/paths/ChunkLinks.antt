@@ -4,20 +4,15 @@ use Rattle.nf_net.proofs.Words.{◌||◌, is_some, option_map, option_to_list, c
 use Rattle.nf_net.proofs.Words.{same_unit, is_among, spelled, Command, Order, Msg, At_a, At_b, Carry, Event, Fence_to, Install, Stray, records_on, record_at}
 use Rattle.nf_net.proofs.Words.{M_stream, M_fenced, M_install, M_fence_to, Frame, where_true, sends_to, add, Mv, seen, MoveAsked, Seeing, frame, Any, New}
 use Rattle.nf_net.proofs.Words.{WantShare, S_asked, S_shared, olds, OpenShare, chunks_in, given_in, removed_by, spelled_of, want_of, asked_of, want_share_of}
-use Rattle.nf_net.proofs.Words.{Given, place, S, shown, Label, FromController, ToController}
-use Rattle.nf_function.specs.declared.unit.Unit as units
-use Rattle.event_filter.specs.declared.mark.Mark.TheVariants as mark
-use Rattle.switch_rules.specs.declared.target.Target.TheVariants as target
-use Rattle.nf_msgs.specs.declared.command.Order.TheVariants as order
-use Rattle.nf_msgs.specs.declared.msg.Msg.TheVariants as msg
+use Rattle.nf_net.proofs.Words.{Given, place, S, shown, Label, FromController, ToController, Unit, Mark, Target}
 use Rattle.actor_net.proofs.WeightLaws.{Each}
-use Rattle.proof_machines.proofs.unit.Machine.{Where, Item, Pass, Fence, Enable, Stream, Delete, Put, Restore, Enabled}
-use Rattle.proof_machines.proofs.unit.Machine.{Piece, Deleted, Put_ok, Put_no, Restored, Fenced, Forward}
+use Rattle.proof_machines.proofs.unit.Machine.{Where, Item, Pass, Fence, Enable, Stream, Delete, Put, Restore, Enabled, Piece, Deleted, Put_ok, Put_no}
+use Rattle.proof_machines.proofs.unit.Machine.{Restored, Fenced, Forward}
 use Rattle.proof_machines.proofs.unit.Kept.{record_in}
 use Rattle.proof_machines.proofs.unit.ToRemove.{gives, deletes}
 use Rattle.proof_machines.proofs.unit.Labels as labels
-use Rattle.proof_machines.proofs.unit.Real.{M_enable, M_delete, M_put, M_restore, M_enabled, M_event, M_piece, M_deleted, M_put_ok}
-use Rattle.proof_machines.proofs.unit.Real.{M_put_no, M_restored, M_forward, see}
+use Rattle.proof_machines.proofs.unit.Real.{M_enable, M_delete, M_put, M_restore, M_enabled, M_event, M_piece, M_deleted, M_put_ok, M_put_no, M_restored}
+use Rattle.proof_machines.proofs.unit.Real.{M_forward, see}
 use Rattle.proof_machines.proofs.net.Net as net
 use Rattle.proof_machines.proofs.net.Net.{In_packet, Asked, Carry_on, Pass_on, Fence_on}
 use Rattle.proof_machines.proofs.net.Holding as holding
@@ -74,7 +69,7 @@ module _ {R : Type 0} (f : Semantics R) (g : Given) (z : Seeing) (es : List Open
   abbrev its : Frame
   its = frame (S f g) z
 
-  abbrev u : units.Unit
+  abbrev u : Unit
   u = z.unit
 
   -- what a message brings of the unit, by its chunks
@@ -136,46 +131,46 @@ module _ {R : Type 0} (f : Semantics R) (g : Given) (z : Seeing) (es : List Open
     given : is_among (given_in m) u ≡ v.given
     removed : is_among (removed_by m) u ≡ v.removed
 
-  asked_spells : (k : Command) (what : Order) → Spells (msg.Asked k) (read_shown (asked_of f (place g) k.op what))
-  asked_spells k (order.Move src dst filter keep) = by_want (want_of (place g) k.op (order.Move src dst filter keep))
+  asked_spells : (k : Command) (what : Order) → Spells (Msg.Asked k) (read_shown (asked_of f (place g) k.op what))
+  asked_spells k (Order.Move src dst filter keep) = by_want (want_of (place g) k.op (Order.Move src dst filter keep))
     where
-      by_want : (o : Option MoveAsked) → Spells (msg.Asked k) (read_shown (option_map (λ want. Old (net.Asked want)) o))
+      by_want : (o : Option MoveAsked) → Spells (Msg.Asked k) (read_shown (option_map (λ want. Old (net.Asked want)) o))
       by_want None = record { chunks = refl; given = refl; removed = refl }
       by_want (Some x) = record { chunks = refl; given = refl; removed = refl }
-  asked_spells k (order.Copy src dst filter) = record { chunks = refl; given = refl; removed = refl }
-  asked_spells k (order.Share members filter) = by_want (want_share_of (place g) k.op (order.Share members filter))
+  asked_spells k (Order.Copy src dst filter) = record { chunks = refl; given = refl; removed = refl }
+  asked_spells k (Order.Share members filter) = by_want (want_share_of (place g) k.op (Order.Share members filter))
     where
-      by_want : (o : Option WantShare) → Spells (msg.Asked k) (read_shown (option_map (λ want. New (S_asked want)) o))
+      by_want : (o : Option WantShare) → Spells (Msg.Asked k) (read_shown (option_map (λ want. New (S_asked want)) o))
       by_want None = record { chunks = refl; given = refl; removed = refl }
       by_want (Some x) = record { chunks = refl; given = refl; removed = refl }
 
   msg_spells : (s r : ℕ) (m : Msg) → Label f g s r m → Spells m (read_shown (shown f g m))
-  msg_spells s r (msg.Piece op piece) l =
+  msg_spells s r (Msg.Piece op piece) l =
       record { chunks = good_spelled f g u piece.chunks l.1.good; given = good_units f g u piece.chunks l.1.good; removed = refl }
-  msg_spells s r (msg.Put op piece first) l = record { chunks = good_spelled f g u piece.chunks l.1.good; given = refl; removed = refl }
-  msg_spells s r (msg.Restore op chunks) l = record { chunks = good_spelled f g u chunks l.1; given = refl; removed = refl }
-  msg_spells s r (msg.PutNo op refused) l = record { chunks = good_spelled f g u refused.chunks l.1; given = refl; removed = refl }
-  msg_spells s r (msg.Asked c) l = asked_spells c c.what
-  msg_spells s r (msg.Shared op chunk) l = by_entry (spelled f chunk)
+  msg_spells s r (Msg.Put op piece first) l = record { chunks = good_spelled f g u piece.chunks l.1.good; given = refl; removed = refl }
+  msg_spells s r (Msg.Restore op chunks) l = record { chunks = good_spelled f g u chunks l.1; given = refl; removed = refl }
+  msg_spells s r (Msg.PutNo op refused) l = record { chunks = good_spelled f g u refused.chunks l.1; given = refl; removed = refl }
+  msg_spells s r (Msg.Asked c) l = asked_spells c c.what
+  msg_spells s r (Msg.Shared op chunk) l = by_entry (spelled f chunk)
     where
-      by_entry : (o : Option (units.Unit × R)) → Spells (msg.Shared op chunk) (read_shown (option_map (λ entry. New (S_shared op entry)) o))
+      by_entry : (o : Option (Unit × R)) → Spells (Msg.Shared op chunk) (read_shown (option_map (λ entry. New (S_shared op entry)) o))
       by_entry None = record { chunks = refl; given = refl; removed = refl }
       by_entry (Some x) = record { chunks = refl; given = refl; removed = refl }
-  msg_spells s r (msg.Carry mark.Plain cell) l = record { chunks = refl; given = refl; removed = refl }
-  msg_spells s r (msg.Carry (mark.Pass op) cell) l = record { chunks = refl; given = refl; removed = refl }
-  msg_spells s r (msg.Carry (mark.Shared op home) cell) l = record { chunks = refl; given = refl; removed = refl }
-  msg_spells s r (msg.Forward to mark.Plain cell) l = record { chunks = refl; given = refl; removed = refl }
-  msg_spells s r (msg.Forward to (mark.Pass op) cell) l = record { chunks = refl; given = refl; removed = refl }
-  msg_spells s r (msg.Forward to (mark.Shared op home) cell) l = record { chunks = refl; given = refl; removed = refl }
-  msg_spells s r (msg.Install op filter from (target.Instance to)) l = record { chunks = refl; given = refl; removed = refl }
-  msg_spells s r (msg.Install op filter from target.Controller) l = record { chunks = refl; given = refl; removed = refl }
+  msg_spells s r (Msg.Carry Mark.Plain cell) l = record { chunks = refl; given = refl; removed = refl }
+  msg_spells s r (Msg.Carry (Mark.Pass op) cell) l = record { chunks = refl; given = refl; removed = refl }
+  msg_spells s r (Msg.Carry (Mark.Shared op home) cell) l = record { chunks = refl; given = refl; removed = refl }
+  msg_spells s r (Msg.Forward to Mark.Plain cell) l = record { chunks = refl; given = refl; removed = refl }
+  msg_spells s r (Msg.Forward to (Mark.Pass op) cell) l = record { chunks = refl; given = refl; removed = refl }
+  msg_spells s r (Msg.Forward to (Mark.Shared op home) cell) l = record { chunks = refl; given = refl; removed = refl }
+  msg_spells s r (Msg.Install op filter from (Target.Instance to)) l = record { chunks = refl; given = refl; removed = refl }
+  msg_spells s r (Msg.Install op filter from Target.Controller) l = record { chunks = refl; given = refl; removed = refl }
   msg_spells s r m l = record { chunks = refl; given = refl; removed = refl }
 
   -- a message, as the unit sees it
   abbrev pub MayBe : ℕ → Option (Any R) → Type 0
-  MayBe s None = Unit {0}
+  MayBe s None = Prim.Unit {0}
   MayBe s (Some (Old a)) = holding.Label (S f g) z s a
-  MayBe s (Some (New a)) = Unit {0}
+  MayBe s (Some (New a)) = Prim.Unit {0}
 
   shown_read : (s : ℕ) (o : Option (Any R)) → MayBe s o → read_shown o ≡ read (add (see_of f g z es o) [])
   shown_read s None l = refl
@@ -222,10 +217,10 @@ module _ {R : Type 0} (f : Semantics R) (g : Given) (z : Seeing) (es : List Open
 -- On other links there are no chunks.
 module _ {R : Type 0} (f : Semantics R) (g : Given) (s r : ℕ) where
   no_chunk : (m : Msg) → Label f g s r m → (FromController s r → ⊥) → (ToController s r → ⊥) → chunks_in m ≡ []
-  no_chunk (msg.Piece op piece) l from to = absurd (to l.0)
-  no_chunk (msg.Put op piece first) l from to = absurd (from l.0)
-  no_chunk (msg.Restore op chunks) l from to = absurd (from l.0)
-  no_chunk (msg.PutNo op refused) l from to = absurd (to l.0)
+  no_chunk (Msg.Piece op piece) l from to = absurd (to l.0)
+  no_chunk (Msg.Put op piece first) l from to = absurd (from l.0)
+  no_chunk (Msg.Restore op chunks) l from to = absurd (from l.0)
+  no_chunk (Msg.PutNo op refused) l from to = absurd (to l.0)
   no_chunk m l from to = refl
 
   pub no_chunks : (ms : List Msg) → Each (Label f g s r) ms → (FromController s r → ⊥) → (ToController s r → ⊥) → flat_map chunks_in ms ≡ []

@@ -5,10 +5,8 @@ use Rattle.nf_net.proofs.Words.{arith, if◌then◌else◌, ◌==◌, ◌&&◌, 
 use Rattle.nf_net.proofs.Words.{stored_of, Piece, Door, Phase, Operation, Move, Copy, Share, on_link, State, records, records_on, records_one, Each, each_map}
 use Rattle.nf_net.proofs.Words.{expect, is_over, Op, Frame, see_phase, Open, find_op, each_found, Seeing, frame, OpLabel, olds, Node, Switch, on_links}
 use Rattle.nf_net.proofs.Words.{chunks_in, kept_in, kept_for, kept_by, spelled_of, Sees, but_shares, outline_phase, outline_piece, is_sys, given, Given, place}
-use Rattle.nf_net.proofs.Words.{S, AreGoodChunks, IsGoodPiece, HasPieces, node_of, FromController, ToController}
+use Rattle.nf_net.proofs.Words.{S, AreGoodChunks, IsGoodPiece, HasPieces, node_of, FromController, ToController, Unit}
 use Rattle.std.specs.FinMap as finite
-use Rattle.nf_function.specs.declared.unit.Unit as units
-use Rattle.move_op.specs.declared.door.Door.TheVariants as door
 use Rattle.move_op.specs.Phases as phase
 use Rattle.move_op.specs.Move.{chunks_of}
 use Rattle.proof_machines.proofs.unit.Machine as machine
@@ -34,13 +32,13 @@ module _ {R : Type 0} (f : Semantics R) (g : Given) where
   good_pieces ps h = each_map {P = (IsGoodPiece f g)} {Q = (λ p. AreGoodChunks f g p.chunks)} (λ p k. k.good) ps h
 
   pub free_pieces : (d : Door) (ps : List Piece) → AreFree f g d ps → Each (λ p. AreGoodChunks f g p.chunks) ps
-  free_pieces (door.Refused why) ps h = h
-  free_pieces door.Shut ps h = good_pieces ps h
-  free_pieces (door.Asked last) ps h = good_pieces ps h
-  free_pieces door.Open ps h = good_pieces ps h
+  free_pieces (Door.Refused why) ps h = h
+  free_pieces Door.Shut ps h = good_pieces ps h
+  free_pieces (Door.Asked last) ps h = good_pieces ps h
+  free_pieces Door.Open ps h = good_pieces ps h
 
 module _ {R : Type 0} (f : Semantics R) (g : Given) (v : Frame) where
-  abbrev u : units.Unit
+  abbrev u : Unit
   u = v.unit
 
   -- these pieces spell what the unit sees of them
@@ -67,7 +65,7 @@ over_keeps : {R : Type 0} (ph : machine.Phase R) → is_over ph ≡ true → kep
 over_keeps (machine.Streaming fz fr came d) e = cc
 over_keeps ph e = refl
 
-module _ {F R : Type 0} (here : Reached F R) (u : units.Unit) (apart : IsApart here u) (op : Op) (third : ℕ) (x : State R)
+module _ {F R : Type 0} (here : Reached F R) (u : Unit) (apart : IsApart here u) (op : Op) (third : ℕ) (x : State R)
     (holds : HoldsAt here u op third x) where
   open here use {f, c, items, is, n, count, w, nodes, j, world}
 
@@ -90,7 +88,7 @@ module _ {F R : Type 0} (here : Reached F R) (u : units.Unit) (apart : IsApart h
       (are_spelled f g z j.world.shares s r (on_link w s r) (labels here s r hs hr off)
       (subst (λ ms. Each (Label (S f g) z s) (olds ms)) (link_shown here s r hs hr off) (holds.labels s r off)))
 
-  abbrev on : ℕ → ℕ → List (Option (units.Unit × R))
+  abbrev on : ℕ → ℕ → List (Option (Unit × R))
   on s r = spelled_of f u (flat_map chunks_in (on_link w s r))
 
   none_else : (s r : ℕ) → s < n → r < n → (FromController s r → ⊥) → (ToController s r → ⊥) → on s r ≡ []
@@ -205,7 +203,7 @@ module _ {F R : Type 0} (here : Reached F R) (u : units.Unit) (apart : IsApart h
         ] refl
 
   -- What the controller keeps.
-  abbrev kept_at : Option Operation → List (Option (units.Unit × R))
+  abbrev kept_at : Option Operation → List (Option (Unit × R))
   kept_at None = []
   kept_at (Some o) = spelled_of f u (kept_for o)
 

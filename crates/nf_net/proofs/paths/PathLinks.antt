@@ -5,12 +5,7 @@ use Rattle.nf_net.proofs.Words.{◌&&◌, option_map, cons_option, filter, filte
 use Rattle.nf_net.proofs.Words.{Order, Msg, instance_node, Carry, Event, Fence_to, Install, Stray, At_a, At_b, Frame, where_true, sends_to, add, passes_in}
 use Rattle.nf_net.proofs.Words.{events_in, is_known, seen, MoveAsked, Seeing, frame, Any, New, WantShare, S_asked, S_shared, EachNew, olds, OpenShare, NoShare}
 use Rattle.nf_net.proofs.Words.{passed_in, carried_in, forwarded_in, handed_over_in, diverted_in, number, want_of, asked_of, want_share_of, Given, place, S}
-use Rattle.nf_net.proofs.Words.{shown, Label, FromSwitch, ToSwitch, ToController}
-use Rattle.nf_function.specs.declared.unit.Unit as units
-use Rattle.event_filter.specs.declared.mark.Mark.TheVariants as mark
-use Rattle.switch_rules.specs.declared.target.Target.TheVariants as target
-use Rattle.nf_msgs.specs.declared.command.Order.TheVariants as order
-use Rattle.nf_msgs.specs.declared.msg.Msg.TheVariants as msg
+use Rattle.nf_net.proofs.Words.{shown, Label, FromSwitch, ToSwitch, ToController, Unit}
 use Rattle.proof_machines.proofs.unit.Machine.{Item, Pass, Fence, Forward}
 use Rattle.actor_net.proofs.WeightLaws.{Each}
 use Rattle.proof_machines.proofs.unit.NetViews.{items}
@@ -61,7 +56,7 @@ module _ {R : Type 0} (f : Semantics R) (g : Given) (z : Seeing) (es : List Open
 
   -- which has nothing of the unit
   abbrev pub NotShared : Option (Any R) → Type 0
-  NotShared None = Unit {0}
+  NotShared None = Prim.Unit {0}
   NotShared (Some a) = OnNew (NoShare (S f g) z.unit es) a
 
   -- a message has the packets of the unit that are seen of it
@@ -76,14 +71,14 @@ module _ {R : Type 0} (f : Semantics R) (g : Given) (z : Seeing) (es : List Open
   either m x without with_it false = without
 
   forward_read : (to : ℕ) (m : Mark) (cell : FullCell)
-      → IsRead (msg.Forward to m cell) (where_true (mine (number cell)) (sends_to its (instance_node to) (λ w. Forward w (number cell))))
+      → IsRead (Msg.Forward to m cell) (where_true (mine (number cell)) (sends_to its (instance_node to) (λ w. Forward w (number cell))))
   forward_read to m cell =
       elim (mine (number cell))
-      as (λ b. mine (number cell) ≡ b → IsRead (msg.Forward to m cell) (where_true b (sends_to its (instance_node to) (λ w. Forward w (number cell))))) [
-        | true ↦ λ is. elim (instance_node to == its.from) as (λ a. IsRead (msg.Forward to m cell)
+      as (λ b. mine (number cell) ≡ b → IsRead (Msg.Forward to m cell) (where_true b (sends_to its (instance_node to) (λ w. Forward w (number cell))))) [
+        | true ↦ λ is. elim (instance_node to == its.from) as (λ a. IsRead (Msg.Forward to m cell)
             (Some (if a then Forward At_a (number cell) else if instance_node to == its.to then Forward At_b (number cell) else Stray))) [
               | true ↦ record { pass = refl; carry = refl; event = refl; forward = λ _. rw is refl }
-              | false ↦ elim (instance_node to == its.to) as (λ b. IsRead (msg.Forward to m cell) (Some (if b then Forward At_b (number cell) else Stray))) [
+              | false ↦ elim (instance_node to == its.to) as (λ b. IsRead (Msg.Forward to m cell) (Some (if b then Forward At_b (number cell) else Stray))) [
                 | true ↦ record { pass = refl; carry = refl; event = refl; forward = λ _. rw is refl }
                 | false ↦ record { pass = refl; carry = refl; event = refl; forward = λ e. cc }
               ]
@@ -91,113 +86,113 @@ module _ {R : Type 0} (f : Semantics R) (g : Given) (z : Seeing) (es : List Open
         | false ↦ λ off. record { pass = refl; carry = refl; event = refl; forward = λ _. rw off refl }
       ] refl
 
-  carry_read : (cell : FullCell) → IsRead (msg.Carry mark.Plain cell) (where_true (mine (number cell)) (Carry (number cell)))
-  carry_read cell = elim (mine (number cell)) as (λ b. mine (number cell) ≡ b → IsRead (msg.Carry mark.Plain cell) (where_true b (Carry (number cell)))) [
+  carry_read : (cell : FullCell) → IsRead (Msg.Carry Mark.Plain cell) (where_true (mine (number cell)) (Carry (number cell)))
+  carry_read cell = elim (mine (number cell)) as (λ b. mine (number cell) ≡ b → IsRead (Msg.Carry Mark.Plain cell) (where_true b (Carry (number cell)))) [
     | true ↦ λ is. record { pass = refl; carry = rw is refl; event = refl; forward = λ _. refl }
     | false ↦ λ off. record { pass = refl; carry = rw off refl; event = refl; forward = λ _. refl }
   ] refl
 
-  pass_read : (op : ℕ) (cell : FullCell) → IsRead (msg.Carry (mark.Pass op) cell) (where_true (mine (number cell)) (Pass (number cell)))
-  pass_read op cell = elim (mine (number cell)) as (λ b. mine (number cell) ≡ b → IsRead (msg.Carry (mark.Pass op) cell) (where_true b (Pass (number cell)))) [
+  pass_read : (op : ℕ) (cell : FullCell) → IsRead (Msg.Carry (Mark.Pass op) cell) (where_true (mine (number cell)) (Pass (number cell)))
+  pass_read op cell = elim (mine (number cell)) as (λ b. mine (number cell) ≡ b → IsRead (Msg.Carry (Mark.Pass op) cell) (where_true b (Pass (number cell)))) [
     | true ↦ λ is. record { pass = rw is refl; carry = refl; event = refl; forward = λ _. refl }
     | false ↦ λ off. record { pass = rw off refl; carry = refl; event = refl; forward = λ _. refl }
   ] refl
 
-  event_read : (op : ℕ) (cell : FullCell) → IsRead (msg.Event op cell) (where_true (mine (number cell)) (Event (number cell)))
-  event_read op cell = elim (mine (number cell)) as (λ b. mine (number cell) ≡ b → IsRead (msg.Event op cell) (where_true b (Event (number cell)))) [
+  event_read : (op : ℕ) (cell : FullCell) → IsRead (Msg.Event op cell) (where_true (mine (number cell)) (Event (number cell)))
+  event_read op cell = elim (mine (number cell)) as (λ b. mine (number cell) ≡ b → IsRead (Msg.Event op cell) (where_true b (Event (number cell)))) [
     | true ↦ λ is. record { pass = refl; carry = refl; event = rw is refl; forward = λ _. refl }
     | false ↦ λ off. record { pass = refl; carry = refl; event = rw off refl; forward = λ _. refl }
   ] refl
 
-  fence_read : (op to : ℕ) → IsRead (msg.FenceTo op to) (Some (sends_to its (instance_node to) (λ w. Fence_to w)))
+  fence_read : (op to : ℕ) → IsRead (Msg.FenceTo op to) (Some (sends_to its (instance_node to) (λ w. Fence_to w)))
   fence_read op to = elim (instance_node to == its.from)
-      as (λ a. IsRead (msg.FenceTo op to) (Some (if a then Fence_to At_a else if instance_node to == its.to then Fence_to At_b else Stray))) [
+      as (λ a. IsRead (Msg.FenceTo op to) (Some (if a then Fence_to At_a else if instance_node to == its.to then Fence_to At_b else Stray))) [
         | true ↦ record { pass = refl; carry = refl; event = refl; forward = λ _. refl }
-        | false ↦ elim (instance_node to == its.to) as (λ b. IsRead (msg.FenceTo op to) (Some (if b then Fence_to At_b else Stray))) [
+        | false ↦ elim (instance_node to == its.to) as (λ b. IsRead (Msg.FenceTo op to) (Some (if b then Fence_to At_b else Stray))) [
           | true ↦ record { pass = refl; carry = refl; event = refl; forward = λ _. refl }
           | false ↦ record { pass = refl; carry = refl; event = refl; forward = λ _. refl }
         ]
       ]
 
   install_read : (op : ℕ) (filter : Filter) (from : ℕ) (to : Target)
-      → IsRead (msg.Install op filter from to) (see_of (shown f g (msg.Install op filter from to)))
-  install_read op filter from target.Controller = record { pass = refl; carry = refl; event = refl; forward = λ _. refl }
-  install_read op filter from (target.Instance to) =
-      either (msg.Install op filter from (target.Instance to)) (if (instance_node from == its.from) && (instance_node to == its.to) then Install else Stray)
+      → IsRead (Msg.Install op filter from to) (see_of (shown f g (Msg.Install op filter from to)))
+  install_read op filter from Target.Controller = record { pass = refl; carry = refl; event = refl; forward = λ _. refl }
+  install_read op filter from (Target.Instance to) =
+      either (Msg.Install op filter from (Target.Instance to)) (if (instance_node from == its.from) && (instance_node to == its.to) then Install else Stray)
       (record { pass = refl; carry = refl; event = refl; forward = λ _. refl })
       (elim ((instance_node from == its.from) && (instance_node to == its.to))
-      as (λ b. IsRead (msg.Install op filter from (target.Instance to)) (Some (if b then Install else Stray))) [
+      as (λ b. IsRead (Msg.Install op filter from (Target.Instance to)) (Some (if b then Install else Stray))) [
         | true ↦ record { pass = refl; carry = refl; event = refl; forward = λ _. refl }
         | false ↦ record { pass = refl; carry = refl; event = refl; forward = λ _. refl }
       ]) (op == its.move)
 
-  asked_read : (k : Command) (what : Order) → IsRead (msg.Asked k) (see_of (asked_of f (place g) k.op what))
-  asked_read k (order.Move src dst filter keep) = by_want (want_of (place g) k.op (order.Move src dst filter keep))
+  asked_read : (k : Command) (what : Order) → IsRead (Msg.Asked k) (see_of (asked_of f (place g) k.op what))
+  asked_read k (Order.Move src dst filter keep) = by_want (want_of (place g) k.op (Order.Move src dst filter keep))
     where
-      by_want : (o : Option MoveAsked) → IsRead (msg.Asked k) (see_of (option_map (λ want. Old (net.Asked want)) o))
+      by_want : (o : Option MoveAsked) → IsRead (Msg.Asked k) (see_of (option_map (λ want. Old (net.Asked want)) o))
       by_want None = record { pass = refl; carry = refl; event = refl; forward = λ _. refl }
       by_want (Some x) = record { pass = refl; carry = refl; event = refl; forward = λ _. refl }
-  asked_read k (order.Copy src dst filter) = record { pass = refl; carry = refl; event = refl; forward = λ _. refl }
-  asked_read k (order.Share members filter) = by_want (want_share_of (place g) k.op (order.Share members filter))
+  asked_read k (Order.Copy src dst filter) = record { pass = refl; carry = refl; event = refl; forward = λ _. refl }
+  asked_read k (Order.Share members filter) = by_want (want_share_of (place g) k.op (Order.Share members filter))
     where
-      by_want : (o : Option WantShare) → IsRead (msg.Asked k) (see_of (option_map (λ want. New (S_asked want)) o))
+      by_want : (o : Option WantShare) → IsRead (Msg.Asked k) (see_of (option_map (λ want. New (S_asked want)) o))
       by_want None = record { pass = refl; carry = refl; event = refl; forward = λ _. refl }
       by_want (Some x) = record { pass = refl; carry = refl; event = refl; forward = λ _. refl }
 
-  chunk_read : (op : ℕ) (chunk : Chunk) → IsRead (msg.Shared op chunk) (see_of (shown f g (msg.Shared op chunk)))
+  chunk_read : (op : ℕ) (chunk : Chunk) → IsRead (Msg.Shared op chunk) (see_of (shown f g (Msg.Shared op chunk)))
   chunk_read op chunk = by_entry (spelled f chunk)
     where
-      by_entry : (o : Option (units.Unit × R)) → IsRead (msg.Shared op chunk) (see_of (option_map (λ entry. New (S_shared op entry)) o))
+      by_entry : (o : Option (Unit × R)) → IsRead (Msg.Shared op chunk) (see_of (option_map (λ entry. New (S_shared op entry)) o))
       by_entry None = record { pass = refl; carry = refl; event = refl; forward = λ _. refl }
       by_entry (Some x) = record { pass = refl; carry = refl; event = refl; forward = λ _. refl }
 
   -- of a message of a run
   msg_read : (s r : ℕ) (m : Msg) → Label f g s r m → NotShared (shown f g m) → IsRead m (see_of (shown f g m))
-  msg_read s r (msg.Carry mark.Plain cell) l k = carry_read cell
-  msg_read s r (msg.Carry (mark.Pass op) cell) l k = pass_read op cell
-  msg_read s r (msg.Carry (mark.Shared op home) cell) l k =
+  msg_read s r (Msg.Carry Mark.Plain cell) l k = carry_read cell
+  msg_read s r (Msg.Carry (Mark.Pass op) cell) l k = pass_read op cell
+  msg_read s r (Msg.Carry (Mark.Shared op home) cell) l k =
       let off : mine (number cell) ≡ false = k in record { pass = rw off refl; carry = refl; event = refl; forward = λ _. refl }
-  msg_read s r (msg.Forward to mark.Plain cell) l k = forward_read to mark.Plain cell
-  msg_read s r (msg.Forward to (mark.Pass op) cell) l k = forward_read to (mark.Pass op) cell
-  msg_read s r (msg.Forward to (mark.Shared op home) cell) l k =
+  msg_read s r (Msg.Forward to Mark.Plain cell) l k = forward_read to Mark.Plain cell
+  msg_read s r (Msg.Forward to (Mark.Pass op) cell) l k = forward_read to (Mark.Pass op) cell
+  msg_read s r (Msg.Forward to (Mark.Shared op home) cell) l k =
       let off : mine (number cell) ≡ false = k in record { pass = refl; carry = refl; event = refl; forward = λ _. rw off refl }
-  msg_read s r (msg.Event op cell) l k = event_read op cell
-  msg_read s r (msg.FenceTo op to) l k = either (msg.FenceTo op to) (sends_to its (instance_node to) (λ w. Fence_to w))
+  msg_read s r (Msg.Event op cell) l k = event_read op cell
+  msg_read s r (Msg.FenceTo op to) l k = either (Msg.FenceTo op to) (sends_to its (instance_node to) (λ w. Fence_to w))
       (record { pass = refl; carry = refl; event = refl; forward = λ _. refl }) (fence_read op to) (op == its.move)
-  msg_read s r (msg.Install op filter from to) l k = install_read op filter from to
-  msg_read s r (msg.Asked c) l k = asked_read c c.what
-  msg_read s r (msg.Shared op chunk) l k = chunk_read op chunk
-  msg_read s r (msg.Fence op) l k = either (msg.Fence op) Fence (record { pass = refl; carry = refl; event = refl; forward = λ _. refl })
+  msg_read s r (Msg.Install op filter from to) l k = install_read op filter from to
+  msg_read s r (Msg.Asked c) l k = asked_read c c.what
+  msg_read s r (Msg.Shared op chunk) l k = chunk_read op chunk
+  msg_read s r (Msg.Fence op) l k = either (Msg.Fence op) Fence (record { pass = refl; carry = refl; event = refl; forward = λ _. refl })
       (record { pass = refl; carry = refl; event = refl; forward = λ _. refl }) (op == its.move)
-  msg_read s r (msg.Enable op filter action) l k = either _ _ (record { pass = refl; carry = refl; event = refl; forward = λ _. refl })
+  msg_read s r (Msg.Enable op filter action) l k = either _ _ (record { pass = refl; carry = refl; event = refl; forward = λ _. refl })
       (record { pass = refl; carry = refl; event = refl; forward = λ _. refl }) (op == its.move)
-  msg_read s r (msg.Stream op filter) l k = either _ _ (record { pass = refl; carry = refl; event = refl; forward = λ _. refl })
+  msg_read s r (Msg.Stream op filter) l k = either _ _ (record { pass = refl; carry = refl; event = refl; forward = λ _. refl })
       (record { pass = refl; carry = refl; event = refl; forward = λ _. refl }) (op == its.move)
-  msg_read s r (msg.Delete op gone) l k = either _ _ (record { pass = refl; carry = refl; event = refl; forward = λ _. refl })
+  msg_read s r (Msg.Delete op gone) l k = either _ _ (record { pass = refl; carry = refl; event = refl; forward = λ _. refl })
       (record { pass = refl; carry = refl; event = refl; forward = λ _. refl }) (op == its.move)
-  msg_read s r (msg.Put op piece first) l k = either _ _ (record { pass = refl; carry = refl; event = refl; forward = λ _. refl })
+  msg_read s r (Msg.Put op piece first) l k = either _ _ (record { pass = refl; carry = refl; event = refl; forward = λ _. refl })
       (record { pass = refl; carry = refl; event = refl; forward = λ _. refl }) (op == its.move)
-  msg_read s r (msg.Restore op chunks) l k = either _ _ (record { pass = refl; carry = refl; event = refl; forward = λ _. refl })
+  msg_read s r (Msg.Restore op chunks) l k = either _ _ (record { pass = refl; carry = refl; event = refl; forward = λ _. refl })
       (record { pass = refl; carry = refl; event = refl; forward = λ _. refl }) (op == its.move)
-  msg_read s r (msg.Enabled op) l k = either _ _ (record { pass = refl; carry = refl; event = refl; forward = λ _. refl })
+  msg_read s r (Msg.Enabled op) l k = either _ _ (record { pass = refl; carry = refl; event = refl; forward = λ _. refl })
       (record { pass = refl; carry = refl; event = refl; forward = λ _. refl }) (op == its.move)
-  msg_read s r (msg.Piece op piece) l k = either _ _ (record { pass = refl; carry = refl; event = refl; forward = λ _. refl })
+  msg_read s r (Msg.Piece op piece) l k = either _ _ (record { pass = refl; carry = refl; event = refl; forward = λ _. refl })
       (record { pass = refl; carry = refl; event = refl; forward = λ _. refl }) (op == its.move)
-  msg_read s r (msg.Deleted op) l k = either _ _ (record { pass = refl; carry = refl; event = refl; forward = λ _. refl })
+  msg_read s r (Msg.Deleted op) l k = either _ _ (record { pass = refl; carry = refl; event = refl; forward = λ _. refl })
       (record { pass = refl; carry = refl; event = refl; forward = λ _. refl }) (op == its.move)
-  msg_read s r (msg.PutOk op) l k = either _ _ (record { pass = refl; carry = refl; event = refl; forward = λ _. refl })
+  msg_read s r (Msg.PutOk op) l k = either _ _ (record { pass = refl; carry = refl; event = refl; forward = λ _. refl })
       (record { pass = refl; carry = refl; event = refl; forward = λ _. refl }) (op == its.move)
-  msg_read s r (msg.PutNo op refused) l k = either _ _ (record { pass = refl; carry = refl; event = refl; forward = λ _. refl })
+  msg_read s r (Msg.PutNo op refused) l k = either _ _ (record { pass = refl; carry = refl; event = refl; forward = λ _. refl })
       (record { pass = refl; carry = refl; event = refl; forward = λ _. refl }) (op == its.move)
-  msg_read s r (msg.Restored op) l k = either _ _ (record { pass = refl; carry = refl; event = refl; forward = λ _. refl })
+  msg_read s r (Msg.Restored op) l k = either _ _ (record { pass = refl; carry = refl; event = refl; forward = λ _. refl })
       (record { pass = refl; carry = refl; event = refl; forward = λ _. refl }) (op == its.move)
-  msg_read s r (msg.Fenced op) l k = either _ _ (record { pass = refl; carry = refl; event = refl; forward = λ _. refl })
+  msg_read s r (Msg.Fenced op) l k = either _ _ (record { pass = refl; carry = refl; event = refl; forward = λ _. refl })
       (record { pass = refl; carry = refl; event = refl; forward = λ _. refl }) (op == its.move)
   msg_read s r m l k = record { pass = refl; carry = refl; event = refl; forward = λ _. refl }
 
   -- no packet of it goes to the controller
   msg_diverts : (m : Msg) → NotShared (shown f g m) → filter mine (diverted_in m) ≡ []
-  msg_diverts (msg.Diverted cell) k = let off : mine (number cell) ≡ false = k in rw off refl
+  msg_diverts (Msg.Diverted cell) k = let off : mine (number cell) ≡ false = k in rw off refl
   msg_diverts m k = refl
 
   -- and so has a link
@@ -253,17 +248,17 @@ module _ {R : Type 0} (f : Semantics R) (g : Given) (z : Seeing) (es : List Open
 -- On other links there are no such messages.
 module _ {R : Type 0} (f : Semantics R) (g : Given) (s r : ℕ) where
   no_pass : (m : Msg) → Label f g s r m → (FromSwitch s r → ⊥) → passed_in m ≡ []
-  no_pass (msg.Carry (mark.Pass op) cell) l off = absurd (off l.0)
-  no_pass (msg.Carry mark.Plain cell) l off = refl
-  no_pass (msg.Carry (mark.Shared op home) cell) l off = absurd (off l.0)
+  no_pass (Msg.Carry (Mark.Pass op) cell) l off = absurd (off l.0)
+  no_pass (Msg.Carry Mark.Plain cell) l off = refl
+  no_pass (Msg.Carry (Mark.Shared op home) cell) l off = absurd (off l.0)
   no_pass m l off = refl
 
   no_event : (m : Msg) → Label f g s r m → (ToController s r → ⊥) → handed_over_in m ≡ []
-  no_event (msg.Event op cell) l off = absurd (off l.0)
+  no_event (Msg.Event op cell) l off = absurd (off l.0)
   no_event m l off = refl
 
   no_forward : (m : Msg) → Label f g s r m → (ToSwitch s r → ⊥) → forwarded_in m ≡ []
-  no_forward (msg.Forward to mark cell) l off = absurd (off l.0)
+  no_forward (Msg.Forward to mark cell) l off = absurd (off l.0)
   no_forward m l off = refl
 
   pub no_passes : (ms : List Msg) → Each (Label f g s r) ms → (FromSwitch s r → ⊥) → flat_map passed_in ms ≡ []
@@ -279,7 +274,7 @@ module _ {R : Type 0} (f : Semantics R) (g : Given) (s r : ℕ) where
   no_forwards (m ∷ ms) h off = rw (no_forward m h.0 off, no_forwards ms h.1 off) refl
 
   no_divert : (m : Msg) → Label f g s r m → (s ≡ 0 → r ≡ 1 → ⊥) → diverted_in m ≡ []
-  no_divert (msg.Diverted cell) l off = absurd (off l.0 l.1)
+  no_divert (Msg.Diverted cell) l off = absurd (off l.0 l.1)
   no_divert m l off = refl
 
   pub no_diverts : (ms : List Msg) → Each (Label f g s r) ms → (s ≡ 0 → r ≡ 1 → ⊥) → flat_map diverted_in ms ≡ []

@@ -3,12 +3,11 @@ use Rattle.nf_net.proofs.Words.{◌≡◌, ◌≢◌, ℕ, Bool, true, false, co
 use Rattle.nf_net.proofs.Words.{nat_eq, if◌then◌else◌, unwrap_or, filter, flat_map, nat_cmp, eq_by_cmp, is_lt, is_eq, Ordering, Less, Equal, Greater, is_sorted}
 use Rattle.nf_net.proofs.Words.{entries_sorted, get-entries, below_all, nat_tests, Decides-eqb, IsDistinct-head, IsDistinct-tail, and_yes, Semantics, same_unit}
 use Rattle.nf_net.proofs.Words.{HaveOneEach, stored_of, FullCell, Each, each-append, only_mine, find_rule, held_of, Seeing, frame, RuleLabel, none_mine}
-use Rattle.nf_net.proofs.Words.{RestRule, Given, S}
+use Rattle.nf_net.proofs.Words.{RestRule, Given, S, Unit}
 use Rattle.std.proofs.Common.{eqb}
 use Rattle.std.specs.FinMap as finite
 use Rattle.std.specs.FinMap.{find}
 use Rattle.std.proofs.lemmas.Bool.{eqb-true}
-use Rattle.nf_function.specs.declared.unit.Unit as units
 use Rattle.event_filter.specs.declared.rule.Rule.{Rule as EventRule}
 use Rattle.event_filter.proofs.RulePlaces.{HasNone, none_behind}
 use Rattle.event_store.proofs.StoreLookUps.{order_test}
@@ -114,7 +113,7 @@ module _ {R : Type 0} (f : Semantics R) (g : Given) (z : Seeing) where
       ] refl
 
 -- Of a unit that no move has, rules hold nothing.
-module _ {R : Type 0} (f : Semantics R) (g : Given) (u : units.Unit) where
+module _ {R : Type 0} (f : Semantics R) (g : Given) (u : Unit) where
   abbrev its : ℕ → Bool
   its p = same_unit ((S f g).packet_unit p) u
 

@@ -2,12 +2,12 @@
 use Rattle.nf_net.proofs.Words.{◌≡◌, ◌≢◌, ℕ, ◌<◌, ◌≤◌, Bool, true, false, List, [], ◌++◌, refl, sym, ap, ◌∙◌, subst, append-nil, arith, if◌then◌else◌, ◌==◌}
 use Rattle.nf_net.proofs.Words.{◌&&◌, nat_lt, filter, flat_map, ltb-false, nat_tests, Decides-eqb, Decides-ltb, Msg, on_link, State, Op, expect, passes_in}
 use Rattle.nf_net.proofs.Words.{events_in, is_known, Seeing, frame, passed_in, forwarded_in, handed_over_in, diverted_in, on_links, is_sys, Given, S, given}
-use Rattle.nf_function.specs.declared.unit.Unit as units
+use Rattle.nf_net.proofs.Words.{Unit}
 use Rattle.proof_machines.proofs.unit.Path.{forwards}
 use Rattle.proof_machines.proofs.unit.Sides.{OneOf, First, Second}
 use Rattle.proof_machines.proofs.net.Units.{see}
-use Rattle.nf_net.proofs.paths.PathSeats.{There, Is_there, Has_none, passed_from, passed_else, events_to}
-use Rattle.nf_net.proofs.paths.PathSeats.{events_else, forwarded_to, forwarded_else, diverted_none}
+use Rattle.nf_net.proofs.paths.PathSeats.{There, Is_there, Has_none, passed_from, passed_else, events_to, events_else, forwarded_to, forwarded_else}
+use Rattle.nf_net.proofs.paths.PathSeats.{diverted_none}
 use Rattle.nf_net.proofs.paths.PathSums.{those-all, no_link, one_link}
 use Rattle.nf_net.proofs.paths.Reached.{Reached, IsApart, HoldsAt}
 
@@ -15,7 +15,7 @@ if_nil : (b : Bool) (xs : List ℕ) → xs ≡ [] → (if b then xs else []) ≡
 if_nil true xs e = e
 if_nil false xs e = refl
 
-module _ {F R : Type 0} (here : Reached F R) (u : units.Unit) (apart : IsApart here u) (op : Op) (third : ℕ) (x : State R)
+module _ {F R : Type 0} (here : Reached F R) (u : Unit) (apart : IsApart here u) (op : Op) (third : ℕ) (x : State R)
     (holds : HoldsAt here u op third x) where
   open here use {f, c, items, is, n, count, w, nodes, world}
 

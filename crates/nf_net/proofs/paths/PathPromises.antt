@@ -2,8 +2,7 @@
 use Rattle.nf_net.proofs.Words.{◌≡◌, ℕ, suc, ◌+◌, ◌<◌, ◌≤◌, Bool, true, false, List, [], ◌∷◌, ◌++◌, map, refl, sym, ap, ◌∙◌, subst, arith, if◌then◌else◌, ◌==◌}
 use Rattle.nf_net.proofs.Words.{nat_tests, Decides-eqb, Semantics, Msg, Note, Network, same_of, IsOrderedAs, exactly, not_both, WhereAll, Apart_from_shares}
 use Rattle.nf_net.proofs.Words.{Under_share, Config, Node, IsRising, IsInput, arrivals_in, is_loose, IsFront, arrived_of, processed_of, in_flight_of, is_sys}
-use Rattle.nf_net.proofs.Words.{Given, S, A, came_by, same_times, given}
-use Rattle.nf_function.specs.declared.unit.Unit as units
+use Rattle.nf_net.proofs.Words.{Given, S, A, came_by, same_times, given, Unit}
 use Rattle.net_world.specs.Input.{packets}
 use Rattle.net_world.specs.Fold.{times}
 use Rattle.net_world.proofs.NumberCounts.{times-append}
@@ -37,7 +36,7 @@ came_once f c items is w in_turn p =
     omega (arith, one, whole, both)
 
 module _ {F R : Type 0} (here : Reached F R) (in_turn : IsFront (arrivals_in here.w.log) (map (λ p. p.number) (packets here.items))) (told : HomesTold here)
-    (u : units.Unit) where
+    (u : Unit) where
   open here use {f, c, items, is, w, j}
 
   abbrev g : Given

@@ -6,16 +6,15 @@ use Rattle.nf_net.proofs.Words.{slice_get-get_or, filter-append, Semantics, stor
 use Rattle.nf_net.proofs.Words.{queue_at, at, EachOn, At_a, At_b, State, IsOrderedAs, Each, Op, only_mine, expect, passes_in, events_in, UnitSeat, seat_shape}
 use Rattle.nf_net.proofs.Words.{seat_all, is_known, Open, find_op, find_rule, held_of, seen, Seeing, frame, node_at, RuleLabel, EachNew, olds, OpenShare}
 use Rattle.nf_net.proofs.Words.{moves_of, NoShare, Config, Node, IsInput, is_loose, passed_in, carried_in, forwarded_in, handed_over_in, diverted_in, held_by}
-use Rattle.nf_net.proofs.Words.{arrived_of, Sees, but_shares, is_sys, Given, place, S, A, Label, FromSwitch, ToSwitch, ToController, shown, Joined, given}
+use Rattle.nf_net.proofs.Words.{arrived_of, Sees, but_shares, is_sys, Given, place, S, A, Label, FromSwitch, ToSwitch, ToController, shown, Joined, given, Unit}
+use Rattle.nf_net.proofs.Words.{Instance}
 use Rattle.std.specs.FinMap as finite
-use Rattle.nf_function.specs.declared.unit.Unit as units
 use Rattle.proof_machines.proofs.unit.Kept.{on_way}
 use Rattle.proof_machines.proofs.unit.Path.{carries, forwards, no_passes}
 use Rattle.proof_machines.proofs.unit.Between.{seat_at}
 use Rattle.proof_machines.proofs.unit.NetViews.{items as items_of}
 use Rattle.proof_machines.proofs.net.Holding.{IsController, Holds}
 use Rattle.proof_machines.proofs.net.Units.{Where.At_rest, Where.In_move, see, shown_rest}
-use Rattle.net_world.specs.declared.node.Node.TheVariants.{Instance}
 use Rattle.net_world.specs.Path.{numbers}
 use Rattle.nf_net.proofs.paths.PathLinks.{view, AreRead, are_read, no_passes as no_passed, no_events, no_forwards, no_diverts}
 use Rattle.nf_net.proofs.paths.PathNodes.{held_is}
@@ -75,7 +74,7 @@ module _ {F R : Type 0} (here : Reached F R) where
     Rests : on_way x ≡ [] → x.b.live ≡ None → x.target ≡ At_a → HasSides op x
 
   -- The seat of a unit that no share has.
-  pub record Seated (u : units.Unit) : Type 0 where
+  pub record Seated (u : Unit) : Type 0 where
     pub op : Op
     pub third : ℕ
     pub seat : UnitSeat (S f g).F
@@ -89,7 +88,7 @@ module _ {F R : Type 0} (here : Reached F R) where
     pub source : (seat_shape (S f g).F seat).target ≡ At_b → op.src < n
     pub ends : HasSides op (seat_shape (S f g).F seat)
 
-  pub seated : (u : units.Unit) → AsMoves here u → Seated u
+  pub seated : (u : Unit) → AsMoves here u → Seated u
   seated u at = by_where at
     where
       by_where : AsMoves here u → Seated u
@@ -178,7 +177,7 @@ module _ {F R : Type 0} (here : Reached F R) where
   diverted_else mine s r hs hr other = none_else mine s r diverted_in (λ off. no_diverts f g s r (on_link w s r) (labels s r hs hr off) other)
 
   -- as the seat has them
-  module _ (u : units.Unit) (apart : IsApart here u) (op : Op) (third : ℕ) (x : State R) (holds : HoldsAt here u op third x) where
+  module _ (u : Unit) (apart : IsApart here u) (op : Op) (third : ℕ) (x : State R) (holds : HoldsAt here u op third x) where
     abbrev z : Seeing
     z = see (S f g) (is_sys f g.site g.packet) u op third
 

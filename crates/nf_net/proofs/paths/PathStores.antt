@@ -2,9 +2,8 @@
 use Rattle.nf_net.proofs.Words.{◌≡◌, ◌≢◌, ℕ, zero, suc, ◌<◌, Bool, true, false, Option, Some, None, List, [], get_or, refl, sym, ap, ◌∙◌, subst, arith}
 use Rattle.nf_net.proofs.Words.{if◌then◌else◌, ◌==◌, filter, flat_map, nat_tests, Decides-eqb, FullCell, stored_of, Operation, Move, Copy, Share, State, Op}
 use Rattle.nf_net.proofs.Words.{only_mine, Open, find_op, each_found, Seeing, frame, OpLabel, none_mine, found_each, Node, Switch, Controller, lasts, stored_by}
-use Rattle.nf_net.proofs.Words.{queued_by, Sees, is_sys, but_shares, both, Given, place, S, node_of, given}
+use Rattle.nf_net.proofs.Words.{queued_by, Sees, is_sys, but_shares, both, Given, place, S, node_of, given, Unit}
 use Rattle.std.specs.FinMap as finite
-use Rattle.nf_function.specs.declared.unit.Unit as units
 use Rattle.proof_machines.proofs.unit.Sides.{is_released, over_released}
 use Rattle.proof_machines.proofs.net.Holding.{IsController}
 use Rattle.proof_machines.proofs.net.Units.{see}
@@ -87,7 +86,7 @@ module _ {F R : Type 0} (here : Reached F R) where
     unseen_store k e = none_seen k (got k) refl (subst (λ o. Sees f (place g) o (but_shares (got k)) (cells k)) e (j.shown_is.controller.opens k).move)
 
   -- A unit that no share has.
-  module _ (u : units.Unit) (apart : IsApart here u) (op : Op) (third : ℕ) (x : State R) (holds : HoldsAt here u op third x) where
+  module _ (u : Unit) (apart : IsApart here u) (op : Op) (third : ℕ) (x : State R) (holds : HoldsAt here u op third x) where
     abbrev z : Seeing
     z = see (S f g) (is_sys f g.site g.packet) u op third
 

@@ -1,8 +1,7 @@
 -- A world of a run as the lemmas on the path of a unit take it: its nodes are there, and a whole world of the abstract network shows it.
 use Rattle.nf_net.proofs.Words.{◌≡◌, ℕ, ◌+◌, List, length, refl, Global, FunctionLaws, Semantics, Msg, Note, Choice, Network, IsWorld, IsRun, run, run_world}
 use Rattle.nf_net.proofs.Words.{State, Op, WantShare, moves_of, Under, seeing, Where, Untaken, Config, Node, IsInput, node_step, node_ready, started_with}
-use Rattle.nf_net.proofs.Words.{is_loose, arrived_of, is_sys, Given, S, A, Joined, run_beside, start_world, given, count_at_start}
-use Rattle.nf_function.specs.declared.unit.Unit as units
+use Rattle.nf_net.proofs.Words.{is_loose, arrived_of, is_sys, Given, S, A, Joined, run_beside, start_world, given, count_at_start, Unit}
 use Rattle.proof_machines.proofs.net.Holding.{Holds}
 use Rattle.proof_machines.proofs.net.Units.{see}
 use Rattle.nf_net.proofs.paths.SharedOwners.{HomesOwn}
@@ -26,19 +25,19 @@ module _ {F R : Type 0} (here : Reached F R) where
   g = given f c items is
 
   -- no share has a unit
-  abbrev pub IsApart : units.Unit → Type 0
+  abbrev pub IsApart : Unit → Type 0
   IsApart u = Untaken (S f g) u (A f g) j.world
 
   -- and moves know where it is
-  abbrev pub AsMoves : units.Unit → Type 0
+  abbrev pub AsMoves : Unit → Type 0
   AsMoves u = Where (S f g) (is_sys f g.site g.packet) u (moves_of (S f g) (A f g) j.world) (arrived_of f c items u w.log) (is_loose c items u w.log)
 
   -- what a move, and any third node, have of it
-  abbrev pub HoldsAt : units.Unit → Op → ℕ → State R → Type 0
+  abbrev pub HoldsAt : Unit → Op → ℕ → State R → Type 0
   HoldsAt u op third x = Holds (S f g) (see (S f g) (is_sys f g.site g.packet) u op third) (moves_of (S f g) (A f g) j.world) x
 
   -- or a share has it
-  abbrev pub IsUnder : units.Unit → WantShare → List ℕ → List ℕ → Type 0
+  abbrev pub IsUnder : Unit → WantShare → List ℕ → List ℕ → Type 0
   IsUnder u x before since = Under (S f g) (A f g) (seeing (S f g) (A f g) u x) j.world before since
 
   -- whose home owns it

@@ -3,12 +3,10 @@ use Rattle.nf_net.proofs.Words.{◌≡◌, ℕ, zero, suc, ◌<◌, ◌≤◌, t
 use Rattle.nf_net.proofs.Words.{if◌then◌else◌, ◌==◌, slice_get, option_to_list, Decides-eqb, slice_get_within, get_or_from_slice_get, Semantics, Msg, Note}
 use Rattle.nf_net.proofs.Words.{instance_node, Network, State, idle, Kept, Sys, World, Seeing, node_at, done_u, moves_of, Where, Config, Node, Switch}
 use Rattle.nf_net.proofs.Words.{Controller, IsInput, is_loose, arrived_of, live_in, live_at, is_sys, given, Given, WhereAll, Apart_from_shares, Under_share, S}
-use Rattle.nf_net.proofs.Words.{A, came_by, node_of, Joined}
+use Rattle.nf_net.proofs.Words.{A, came_by, node_of, Joined, Unit, Instance}
 use Rattle.std.specs.FinMap as finite
-use Rattle.nf_function.specs.declared.unit.Unit as units
 use Rattle.proof_machines.proofs.unit.Kept.{Kept.Nowhere, Kept.Is_live, Kept.On_way, Kept.Twice, lives, on_way}
 use Rattle.proof_machines.proofs.net.Readings.{fold, RecordOf, record_of}
-use Rattle.net_world.specs.declared.node.Node.TheVariants.{Instance}
 use Rattle.proof_outlines.proofs.joined.Joined.{Nodes}
 
 -- where the machine has a record of the unit
@@ -66,7 +64,7 @@ instance_of x (suc zero) two = absurd (omega (arith, two))
 instance_of x (suc (suc i)) two = refl
 
 module _ {F R : Type 0} (f : Semantics R) (c : Config) (items : List Msg) (is : IsInput f.kind c items) (n : ℕ) (w : Network (Node F R) Msg Note)
-    (count : length w.nodes ≡ n) (j : Joined f (given f c items is) n w) (u : units.Unit) where
+    (count : length w.nodes ≡ n) (j : Joined f (given f c items is) n w) (u : Unit) where
   -- what is live at an instance is so in the world that shows it
   live_in_world : (i : ℕ) (r : R) → live_at w i u ≡ Some r → finite.get (j.world.inst (instance_node i)).live u ≡ Some r
   live_in_world i r h = by_node (slice_get w.nodes (instance_node i)) refl h
@@ -85,7 +83,7 @@ module _ {F R : Type 0} (f : Semantics R) (c : Config) (items : List Msg) (is : 
           ∙ ap (λ x. finite.get x.table.live u) same ∙ k
 
 module _ {F R : Type 0} (f : Semantics R) (c : Config) (items : List Msg) (is : IsInput f.kind c items) (n : ℕ)
-    (w : Network (Node F R) Msg Note) (count : length w.nodes ≡ n) (j : Joined f (given f c items is) n w) (u : units.Unit)
+    (w : Network (Node F R) Msg Note) (count : length w.nodes ≡ n) (j : Joined f (given f c items is) n w) (u : Unit)
     (at : Where (S f (given f c items is)) (is_sys f (given f c items is).site (given f c items is).packet) u
     (moves_of (S f (given f c items is)) (A f (given f c items is)) j.world) (arrived_of f c items u w.log) (is_loose c items u w.log)) where
   abbrev gr : Given
@@ -140,7 +138,7 @@ module _ {F R : Type 0} (f : Semantics R) (c : Config) (items : List Msg) (is : 
 
 -- No unit has two live records.
 module _ {F R : Type 0} (f : Semantics R) (c : Config) (items : List Msg) (is : IsInput f.kind c items) (n : ℕ) (w : Network (Node F R) Msg Note)
-    (count : length w.nodes ≡ n) (j : Joined f (given f c items is) n w) (u : units.Unit) where
+    (count : length w.nodes ≡ n) (j : Joined f (given f c items is) n w) (u : Unit) where
   abbrev g : Given
   g = given f c items is
 

@@ -5,11 +5,8 @@ use Rattle.nf_net.proofs.Words.{filter-append, Packet, unit_at, same_unit-true, 
 use Rattle.nf_net.proofs.Words.{passes_in, events_in, expect, seat_shape, seat_all, seat_path, none_in, Seeing, node_at, side_place, same_done, seat_parts}
 use Rattle.nf_net.proofs.Words.{where_two, moves_of, packet_numbered, arrivals_in, installs_in, all_but, passed_in, forwarded_in, handed_over_in, diverted_in}
 use Rattle.nf_net.proofs.Words.{stored_by, queued_by, on_links, owner, is_loose, IsFront, is_of, arrived_of, processed_of, in_flight_of, unit_fits, target_node}
-use Rattle.nf_net.proofs.Words.{is_sys, unit_is_fit, Given, GenuinePacket, S, A, done_same, given, genuine}
+use Rattle.nf_net.proofs.Words.{is_sys, unit_is_fit, Given, GenuinePacket, S, A, done_same, given, genuine, Unit, flow_of}
 use Rattle.std.specs.Prelude.{None}
-use Rattle.flow_filter.specs.Flow.{flow_of}
-use Rattle.nf_function.specs.declared.unit.Unit as units
-use Rattle.switch_rules.specs.declared.target.Target.TheVariants as target
 use Rattle.proof_machines.proofs.unit.Stages as stages
 use Rattle.proof_machines.proofs.unit.Path.{carries, forwards}
 use Rattle.proof_machines.proofs.unit.Sides.{at_side, places, Last, At_source, At_destination, At_third, SidesStand, seat_stands, Empty, empty_of}
@@ -43,7 +40,7 @@ those-places mine p q r s t v x y =
     ∙ ap (λ l. filter mine t ++ l) (filter-append mine v (x ++ y)
     ∙ ap (λ l. filter mine v ++ l) (filter-append mine x y))))))
 
-module _ {F R : Type 0} (here : Reached F R) (in_turn : IsFront (arrivals_in here.w.log) (map (λ p. p.number) (packets here.items))) (u : units.Unit)
+module _ {F R : Type 0} (here : Reached F R) (in_turn : IsFront (arrivals_in here.w.log) (map (λ p. p.number) (packets here.items))) (u : Unit)
     (at : AsMoves here u) (apart : IsApart here u) where
   open here use {f, c, items, is, n, count, w, nodes, j}
 
@@ -81,8 +78,8 @@ module _ {F R : Type 0} (here : Reached F R) (in_turn : IsFront (arrivals_in her
 
   -- by its target, and the log
   owned_by : (t : Target) → j.world.target u ≡ target_node t → is_there j.nodes.switch t ≡ true → unit_fits f.kind u ≡ true → IsOwned
-  owned_by target.Controller node there fits = absurd (omega (arith, two, node))
-  owned_by (target.Instance i) node there fits =
+  owned_by Target.Controller node there fits = absurd (omega (arith, two, node))
+  owned_by (Target.Instance i) node there fits =
       let small : nat_lt i (length c.names) ≡ true = subst (λ m. nat_lt i m ≡ true) j.shown_is.switch.instances there in
       let less = (Decides-ltb i (length c.names)).0 small in
       let few : instance_node i < n = omega (arith, less, count) in

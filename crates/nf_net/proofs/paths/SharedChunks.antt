@@ -6,19 +6,13 @@ use Rattle.nf_net.proofs.Words.{RealChunk, Semantics, same_unit, is_among, store
 use Rattle.nf_net.proofs.Words.{Frame, record_at, where_true, add, M_fenced, M_install, M_fence_to, see_phase, View, Open, MoveAsked, find_op, each_found}
 use Rattle.nf_net.proofs.Words.{frame, RestOp, share_seen, share_expect, Any, New, WantShare, ShareMsg, Shared_on, S_asked, S_install, S_sync, S_shared}
 use Rattle.nf_net.proofs.Words.{SeeingShare, seeing, Node, Switch, on_links, chunks_in, kept_for, kept_by, spelled_of, Sees, units_same, entries, want_of}
-use Rattle.nf_net.proofs.Words.{but_shares, asked_of, want_share_of, Given, place, S, A, shown, Label, node_of, given}
+use Rattle.nf_net.proofs.Words.{but_shares, asked_of, want_share_of, Given, place, S, A, shown, Label, node_of, given, Unit, Mark, Target}
 use Rattle.std.specs.FinMap as finite
-use Rattle.nf_function.specs.declared.unit.Unit as units
-use Rattle.event_filter.specs.declared.mark.Mark.TheVariants as mark
-use Rattle.switch_rules.specs.declared.target.Target.TheVariants as target
-use Rattle.nf_msgs.specs.declared.command.Order.TheVariants as order
-use Rattle.nf_msgs.specs.declared.msg.Msg.TheVariants as msg
 use Rattle.proof_machines.proofs.unit.Real.{chunk_unit}
-use Rattle.proof_machines.proofs.share.Share.{Item, Item.Carry, Item.Fence, Item.Shared, Item.Diverted, Item.Install, Item.Forward}
-use Rattle.proof_machines.proofs.share.Share.{Item.Get, Item.Sync, Item.Fenced, Item.Chunks, Item.Chunk, Item.Synced, Item.Stray}
+use Rattle.proof_machines.proofs.share.Share.{Item, Item.Carry, Item.Fence, Item.Shared, Item.Diverted, Item.Install, Item.Forward, Item.Get, Item.Sync}
+use Rattle.proof_machines.proofs.share.Share.{Item.Fenced, Item.Chunks, Item.Chunk, Item.Synced, Item.Stray}
 use Rattle.proof_machines.proofs.net.Net as net
-use Rattle.proof_machines.proofs.net.Shares.{Old, Diverted_on}
-use Rattle.proof_machines.proofs.net.Shares.{S_forward, S_get, S_chunks, S_synced}
+use Rattle.proof_machines.proofs.net.Shares.{Old, Diverted_on, S_forward, S_get, S_chunks, S_synced}
 use Rattle.net_world.specs.Records as records
 use Rattle.nf_net.proofs.paths.ChunkLemmas.{as_spelled, spelled-append, spelled-all, good_spelled, good_units}
 use Rattle.nf_net.proofs.paths.ChunkPlaces.{phase_spelled, none_kept}
@@ -31,7 +25,7 @@ use Rattle.nf_net.proofs.paths.SharedPlaces.{v, link_known, link_view}
 use Rattle.nf_net.proofs.paths.Reached.{Reached, IsUnder}
 
 module _ {R : Type 0} (f : Semantics R) (g : Given) (z : SeeingShare) where
-  abbrev u : units.Unit
+  abbrev u : Unit
   u = z.unit
 
   -- a message has no chunk of the unit
@@ -40,16 +34,16 @@ module _ {R : Type 0} (f : Semantics R) (g : Given) (z : SeeingShare) where
   none_spelled cs is none = is ∙ ap (λ o. as_spelled u (option_to_list o)) none
 
   msg_nothing : (s r : ℕ) (m : Msg) → Label f g s r m → IsKnown f g z s r (shown f g m) → spelled_of f u (chunks_in m) ≡ []
-  msg_nothing s r (msg.Piece op piece) l k = none_spelled piece.chunks (good_spelled f g u piece.chunks l.1.good) k.1
-  msg_nothing s r (msg.Put op piece first) l k = none_spelled piece.chunks (good_spelled f g u piece.chunks l.1.good) k.1
-  msg_nothing s r (msg.Restore op chunks) l k = none_spelled chunks (good_spelled f g u chunks l.1) k.1
-  msg_nothing s r (msg.PutNo op refused) l k = none_spelled refused.chunks (good_spelled f g u refused.chunks l.1) k.1
+  msg_nothing s r (Msg.Piece op piece) l k = none_spelled piece.chunks (good_spelled f g u piece.chunks l.1.good) k.1
+  msg_nothing s r (Msg.Put op piece first) l k = none_spelled piece.chunks (good_spelled f g u piece.chunks l.1.good) k.1
+  msg_nothing s r (Msg.Restore op chunks) l k = none_spelled chunks (good_spelled f g u chunks l.1) k.1
+  msg_nothing s r (Msg.PutNo op refused) l k = none_spelled refused.chunks (good_spelled f g u refused.chunks l.1) k.1
   msg_nothing s r m l k = refl
 
   -- What is seen as a record: one that a member gives, or one to take.
   data IsSource (a : Any R) (it : Item R) : Type 0 where
-    Gives : (n : ℕ) (entry : units.Unit × R) → a ≡ New (S_shared n entry) → it ≡ Chunk (record_at u (entry ∷ [])) → IsSource a it
-    Takes : (n : ℕ) (home : Bool) (cs : List (units.Unit × R)) → a ≡ New (S_sync n home cs) → it ≡ Sync (record_at u cs) → IsSource a it
+    Gives : (n : ℕ) (entry : Unit × R) → a ≡ New (S_shared n entry) → it ≡ Chunk (record_at u (entry ∷ [])) → IsSource a it
+    Takes : (n : ℕ) (home : Bool) (cs : List (Unit × R)) → a ≡ New (S_sync n home cs) → it ≡ Sync (record_at u cs) → IsSource a it
 
   abbrev is_record : Item R → Bool
   is_record (Chunk o) = true
@@ -102,23 +96,23 @@ module _ {R : Type 0} (f : Semantics R) (g : Given) (z : SeeingShare) where
   -- The messages that are seen so.
   asked_none : (op : ℕ) (what : Order) (a : ShareMsg R) (kept : (want : WantShare) → New a ≡ New (S_asked want) → ⊥)
       → asked_of f (place g) op what ≡ Some (New a) → ⊥
-  asked_none op (order.Move src dst filter keep) a kept e = by_want (want_of (place g) op (order.Move src dst filter keep)) e
+  asked_none op (Order.Move src dst filter keep) a kept e = by_want (want_of (place g) op (Order.Move src dst filter keep)) e
     where
       by_want : (o : Option MoveAsked) → option_map (λ want. Old (net.Asked want)) o ≡ Some (New a) → ⊥
       by_want None q = cc
       by_want (Some x) q = cc
-  asked_none op (order.Copy src dst filter) a kept e = cc
-  asked_none op (order.Share members filter) a kept e = by_want (want_share_of (place g) op (order.Share members filter)) e
+  asked_none op (Order.Copy src dst filter) a kept e = cc
+  asked_none op (Order.Share members filter) a kept e = by_want (want_share_of (place g) op (Order.Share members filter)) e
     where
       by_want : (o : Option WantShare) → option_map (λ want. New (S_asked want)) o ≡ Some (New a) → ⊥
       by_want None q = cc
       by_want (Some x) q = kept x (let same_message : New (S_asked x) ≡ New a = cc in sym same_message)
 
-  real_gives : (s r : ℕ) (m : Msg) → Label f g s r m → (n : ℕ) (entry : units.Unit × R) (kept : R) → shown f g m ≡ Some (New (S_shared n entry))
+  real_gives : (s r : ℕ) (m : Msg) → Label f g s r m → (n : ℕ) (entry : Unit × R) (kept : R) → shown f g m ≡ Some (New (S_shared n entry))
       → record_at u (entry ∷ []) ≡ Some kept → is_among (records.shared_in m) u ≡ true
-  real_gives s r (msg.Shared op chunk) l n entry kept e own =
+  real_gives s r (Msg.Shared op chunk) l n entry kept e own =
       let good = l.1.chunk in
-      let seen : shown f g (msg.Shared op chunk) ≡ Some (New (S_shared op good.entry)) = ap (option_map (λ y. New (S_shared op y))) good.spells in
+      let seen : shown f g (Msg.Shared op chunk) ≡ Some (New (S_shared op good.entry)) = ap (option_map (λ y. New (S_shared op y))) good.spells in
       let both : Some (New (S_shared op good.entry)) ≡ Some (New (S_shared n entry)) = sym seen ∙ e in
       let same_entry : good.entry ≡ entry = cc in
       let spells = good.spells in
@@ -130,39 +124,39 @@ module _ {R : Type 0} (f : Semantics R) (g : Given) (z : SeeingShare) where
       by_test : (b : Bool) → (if b then Some entry.1 else None) ≡ Some kept → b || false ≡ true
       by_test true q = refl
       by_test false q = cc
-  real_gives s r (msg.Asked c) l n entry kept e own = absurd (asked_none c.op c.what (S_shared n entry) (λ want q. cc) e)
-  real_gives s r (msg.Carry mark.Plain cell) l n entry kept e own = cc
-  real_gives s r (msg.Carry (mark.Pass op) cell) l n entry kept e own = cc
-  real_gives s r (msg.Carry (mark.Shared op home) cell) l n entry kept e own = cc
-  real_gives s r (msg.Forward to mark.Plain cell) l n entry kept e own = cc
-  real_gives s r (msg.Forward to (mark.Pass op) cell) l n entry kept e own = cc
-  real_gives s r (msg.Forward to (mark.Shared op home) cell) l n entry kept e own = cc
-  real_gives s r (msg.Install op filter from target.Controller) l n entry kept e own = cc
-  real_gives s r (msg.Install op filter from (target.Instance to)) l n entry kept e own = cc
+  real_gives s r (Msg.Asked c) l n entry kept e own = absurd (asked_none c.op c.what (S_shared n entry) (λ want q. cc) e)
+  real_gives s r (Msg.Carry Mark.Plain cell) l n entry kept e own = cc
+  real_gives s r (Msg.Carry (Mark.Pass op) cell) l n entry kept e own = cc
+  real_gives s r (Msg.Carry (Mark.Shared op home) cell) l n entry kept e own = cc
+  real_gives s r (Msg.Forward to Mark.Plain cell) l n entry kept e own = cc
+  real_gives s r (Msg.Forward to (Mark.Pass op) cell) l n entry kept e own = cc
+  real_gives s r (Msg.Forward to (Mark.Shared op home) cell) l n entry kept e own = cc
+  real_gives s r (Msg.Install op filter from Target.Controller) l n entry kept e own = cc
+  real_gives s r (Msg.Install op filter from (Target.Instance to)) l n entry kept e own = cc
   real_gives s r m l n entry kept e own = cc
 
-  real_takes : (s r : ℕ) (m : Msg) → Label f g s r m → (n : ℕ) (home : Bool) (cs : List (units.Unit × R)) (kept : R)
+  real_takes : (s r : ℕ) (m : Msg) → Label f g s r m → (n : ℕ) (home : Bool) (cs : List (Unit × R)) (kept : R)
       → shown f g m ≡ Some (New (S_sync n home cs)) → record_at u cs ≡ Some kept → is_among (records.synced_in m) u ≡ true
-  real_takes s r (msg.Sync home op chunks) l n flag cs kept e own =
+  real_takes s r (Msg.Sync home op chunks) l n flag cs kept e own =
       let same_chunks : entries f chunks ≡ cs = cc in
       good_units f g u chunks l.1 ∙ ap is_some (ap (record_at u) same_chunks ∙ own)
-  real_takes s r (msg.Shared op chunk) l n flag cs kept e own =
-      let seen : shown f g (msg.Shared op chunk) ≡ Some (New (S_shared op l.1.chunk.entry)) = ap (option_map (λ y. New (S_shared op y))) l.1.chunk.spells in
+  real_takes s r (Msg.Shared op chunk) l n flag cs kept e own =
+      let seen : shown f g (Msg.Shared op chunk) ≡ Some (New (S_shared op l.1.chunk.entry)) = ap (option_map (λ y. New (S_shared op y))) l.1.chunk.spells in
       let both : Some (New (S_shared op l.1.chunk.entry)) ≡ Some (New (S_sync n flag cs)) = sym seen ∙ e in
       cc
-  real_takes s r (msg.Asked c) l n flag cs kept e own = absurd (asked_none c.op c.what (S_sync n flag cs) (λ want q. cc) e)
-  real_takes s r (msg.Carry mark.Plain cell) l n flag cs kept e own = cc
-  real_takes s r (msg.Carry (mark.Pass op) cell) l n flag cs kept e own = cc
-  real_takes s r (msg.Carry (mark.Shared op home) cell) l n flag cs kept e own = cc
-  real_takes s r (msg.Forward to mark.Plain cell) l n flag cs kept e own = cc
-  real_takes s r (msg.Forward to (mark.Pass op) cell) l n flag cs kept e own = cc
-  real_takes s r (msg.Forward to (mark.Shared op home) cell) l n flag cs kept e own = cc
-  real_takes s r (msg.Install op filter from target.Controller) l n flag cs kept e own = cc
-  real_takes s r (msg.Install op filter from (target.Instance to)) l n flag cs kept e own = cc
+  real_takes s r (Msg.Asked c) l n flag cs kept e own = absurd (asked_none c.op c.what (S_sync n flag cs) (λ want q. cc) e)
+  real_takes s r (Msg.Carry Mark.Plain cell) l n flag cs kept e own = cc
+  real_takes s r (Msg.Carry (Mark.Pass op) cell) l n flag cs kept e own = cc
+  real_takes s r (Msg.Carry (Mark.Shared op home) cell) l n flag cs kept e own = cc
+  real_takes s r (Msg.Forward to Mark.Plain cell) l n flag cs kept e own = cc
+  real_takes s r (Msg.Forward to (Mark.Pass op) cell) l n flag cs kept e own = cc
+  real_takes s r (Msg.Forward to (Mark.Shared op home) cell) l n flag cs kept e own = cc
+  real_takes s r (Msg.Install op filter from Target.Controller) l n flag cs kept e own = cc
+  real_takes s r (Msg.Install op filter from (Target.Instance to)) l n flag cs kept e own = cc
   real_takes s r m l n flag cs kept e own = cc
 
   -- The unit is among those of a link on which the unit sees such an item alone.
-  module _ (covered : (S f g).takes z.filter z.unit ≡ true) (s r : ℕ) (of : Msg → List units.Unit) (it : Item R)
+  module _ (covered : (S f g).takes z.filter z.unit ≡ true) (s r : ℕ) (of : Msg → List Unit) (it : Item R)
       (tells : (m : Msg) → Label f g s r m → item_of f g z r (shown f g m) ≡ Some it → is_among (of m) u ≡ true) where
     pub among : (ms : List Msg) → EachOn (Label f g s r) ms → view f g z covered r ms ≡ it ∷ [] → is_among (flat_map of ms) u ≡ true
     among [] h e = cc
@@ -200,7 +194,7 @@ module _ {R : Type 0} (f : Semantics R) (g : Given) (z : SeeingShare) where
           by_source (Takes n home cs same own) = real_takes s r m l n home cs kept (is ∙ ap Some same) cc
 
 -- In a world.
-module _ {F R : Type 0} (here : Reached F R) (u : units.Unit) (x : WantShare) (before since : List ℕ) (k : IsUnder here u x before since) where
+module _ {F R : Type 0} (here : Reached F R) (u : Unit) (x : WantShare) (before since : List ℕ) (k : IsUnder here u x before since) where
   open here use {f, c, items, is, n, count, w, nodes, j, world}
 
   abbrev g : Given
@@ -245,7 +239,7 @@ module _ {F R : Type 0} (here : Reached F R) (u : units.Unit) (x : WantShare) (b
   abbrev got : ℕ → Option Operation
   got q = finite.get j.nodes.controller.operations q
 
-  abbrev kept_at : Option Operation → List (Option (units.Unit × R))
+  abbrev kept_at : Option Operation → List (Option (Unit × R))
   kept_at None = []
   kept_at (Some o) = spelled_of f u (kept_for o)
 

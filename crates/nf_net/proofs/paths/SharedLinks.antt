@@ -5,16 +5,11 @@ use Rattle.nf_net.proofs.Words.{if◌then◌else◌, ◌==◌, option_map, cons_
 use Rattle.nf_net.proofs.Words.{same_unit-true, FullCell, Target, Command, Order, Msg, instance_node, record_at, where_true, add, UnitShare, forwarded}
 use Rattle.nf_net.proofs.Words.{diverted, MoveAsked, NothingOf, ShareLabel, unit_share, share_seen, share_items, Any, New, WantShare, S_asked, S_shared}
 use Rattle.nf_net.proofs.Words.{EachNew, olds, same, SeeingShare, passed_in, carried_in, handed_over_in, number, entries, want_of, asked_of, want_share_of}
-use Rattle.nf_net.proofs.Words.{Given, place, S, A, shown, Label}
-use Rattle.nf_function.specs.declared.unit.Unit as units
-use Rattle.event_filter.specs.declared.mark.Mark.TheVariants as mark
-use Rattle.switch_rules.specs.declared.target.Target.TheVariants as target
-use Rattle.nf_msgs.specs.declared.command.Order.TheVariants as order
-use Rattle.nf_msgs.specs.declared.msg.Msg.TheVariants as msg
+use Rattle.nf_net.proofs.Words.{Given, place, S, A, shown, Label, Unit, Mark}
 use Rattle.actor_net.proofs.WeightLaws.{Each}
 use Rattle.proof_machines.proofs.unit.Labels as labels
-use Rattle.proof_machines.proofs.share.Share.{Item, Item.Carry, Item.Fence, Item.Shared, Item.Diverted, Item.Install, Item.Forward, Item.Get}
-use Rattle.proof_machines.proofs.share.Share.{Item.Sync, Item.Fenced, Item.Chunks, Item.Chunk, Item.Synced, Item.Stray, if_mine}
+use Rattle.proof_machines.proofs.share.Share.{Item, Item.Carry, Item.Fence, Item.Shared, Item.Diverted, Item.Install, Item.Forward, Item.Get, Item.Sync}
+use Rattle.proof_machines.proofs.share.Share.{Item.Fenced, Item.Chunks, Item.Chunk, Item.Synced, Item.Stray, if_mine}
 use Rattle.proof_machines.proofs.share.Path.{carries, shared_in}
 use Rattle.proof_machines.proofs.net.Net as net
 use Rattle.proof_machines.proofs.net.Shares.{Old}
@@ -77,7 +72,7 @@ module _ {R : Type 0} (f : Semantics R) (g : Given) (z : SeeingShare) where
 
   -- what the unit knows of it
   abbrev pub IsKnown : (s r : ℕ) → Option (Any R) → Type 0
-  IsKnown s r None = Unit {0}
+  IsKnown s r None = Prim.Unit {0}
   IsKnown s r (Some (Old a)) = NothingOf (S f g) z.unit s a
   IsKnown s r (Some (New a)) = ShareLabel (S f g) (A f g) z r a
 
@@ -94,19 +89,19 @@ module _ {R : Type 0} (f : Semantics R) (g : Given) (z : SeeingShare) where
   fit_bare true x none = none
   fit_bare false x none = refl
 
-  plain_read : (cell : FullCell) → IsRead (msg.Carry mark.Plain cell) (where_true (mine (number cell)) (Carry (number cell)))
+  plain_read : (cell : FullCell) → IsRead (Msg.Carry Mark.Plain cell) (where_true (mine (number cell)) (Carry (number cell)))
   plain_read cell = elim (mine (number cell)) as (λ b. ◌≡◌ {A = Reading}
       (record { shared = []; carry = if b then number cell ∷ [] else []; forward = []; divert = [] }) (read (add (where_true b (Carry (number cell))) [])))
       [ true ↦ refl | false ↦ refl ]
 
-  pass_read : (op : ℕ) (cell : FullCell) → mine (number cell) ≡ false → IsRead (msg.Carry (mark.Pass op) cell) (where_true (mine (number cell)) Stray)
+  pass_read : (op : ℕ) (cell : FullCell) → mine (number cell) ≡ false → IsRead (Msg.Carry (Mark.Pass op) cell) (where_true (mine (number cell)) Stray)
   pass_read op cell off = rw off refl
 
   -- the share's packet, at its number
   shared_read : (op : ℕ) (home : Bool) (cell : FullCell) (right : Bool) → ((op == z.num) ≡ true → right ≡ true)
-      → ((op == z.num) ≡ false → mine (number cell) ≡ false) → IsRead (msg.Carry (mark.Shared op home) cell)
+      → ((op == z.num) ≡ false → mine (number cell) ≡ false) → IsRead (Msg.Carry (Mark.Shared op home) cell)
       (if op == z.num then Some (if right then Shared (number cell) else Stray) else where_true (mine (number cell)) Stray)
-  shared_read op home cell right own other = elim (op == z.num) as (λ b. (op == z.num) ≡ b → IsRead (msg.Carry (mark.Shared op home) cell)
+  shared_read op home cell right own other = elim (op == z.num) as (λ b. (op == z.num) ≡ b → IsRead (Msg.Carry (Mark.Shared op home) cell)
       (if b then Some (if right then Shared (number cell) else Stray) else where_true (mine (number cell)) Stray)) [
         | true ↦ λ on. let ok = own on in
             rw ok (elim (mine (number cell))
@@ -116,9 +111,9 @@ module _ {R : Type 0} (f : Semantics R) (g : Given) (z : SeeingShare) where
       ] refl
 
   forward_read : (to op : ℕ) (home : Bool) (cell : FullCell) (right : Bool) → ((op == z.num) ≡ true → right ≡ true)
-      → ((op == z.num) ≡ false → mine (number cell) ≡ false) → IsRead (msg.Forward to (mark.Shared op home) cell)
+      → ((op == z.num) ≡ false → mine (number cell) ≡ false) → IsRead (Msg.Forward to (Mark.Shared op home) cell)
       (if op == z.num then Some (if right then Forward (number cell) (instance_node to) else Stray) else where_true (mine (number cell)) Stray)
-  forward_read to op home cell right own other = elim (op == z.num) as (λ b. (op == z.num) ≡ b → IsRead (msg.Forward to (mark.Shared op home) cell)
+  forward_read to op home cell right own other = elim (op == z.num) as (λ b. (op == z.num) ≡ b → IsRead (Msg.Forward to (Mark.Shared op home) cell)
       (if b then Some (if right then Forward (number cell) (instance_node to) else Stray) else where_true (mine (number cell)) Stray)) [
         | true ↦ λ on. let ok = own on in
             rw ok (elim (mine (number cell))
@@ -136,67 +131,67 @@ module _ {R : Type 0} (f : Semantics R) (g : Given) (z : SeeingShare) where
       | false ↦ λ _. refl
     ] refl
 
-    diverted_read : (cell : FullCell) → IsRead (msg.Diverted cell)
+    diverted_read : (cell : FullCell) → IsRead (Msg.Diverted cell)
         (if (S f g).takes z.filter ((S f g).packet_unit (number cell)) then Some (Diverted (number cell)) else where_true (mine (number cell)) Stray)
     diverted_read cell =
         elim ((S f g).takes z.filter ((S f g).packet_unit (number cell))) as (λ b. (S f g).takes z.filter ((S f g).packet_unit (number cell)) ≡ b
-        → IsRead (msg.Diverted cell) (if b then Some (Diverted (number cell)) else where_true (mine (number cell)) Stray)) [
+        → IsRead (Msg.Diverted cell) (if b then Some (Diverted (number cell)) else where_true (mine (number cell)) Stray)) [
           | true ↦ λ _. elim (mine (number cell))
               as (λ b. ◌≡◌ {A = Reading} (record { shared = []; carry = []; forward = []; divert = if b then number cell ∷ [] else [] })
               (record { shared = []; carry = []; forward = []; divert = (if b then number cell ∷ [] else []) ++ [] })) [ true ↦ refl | false ↦ refl ]
           | false ↦ λ out. let no = not_taken (number cell) out in rw no refl
         ] refl
 
-    asked_read : (k : Command) (r : ℕ) (what : Order) → IsRead (msg.Asked k) (item_of r (asked_of f (place g) k.op what))
-    asked_read k r (order.Move src dst filter keep) = by_want (want_of (place g) k.op (order.Move src dst filter keep))
+    asked_read : (k : Command) (r : ℕ) (what : Order) → IsRead (Msg.Asked k) (item_of r (asked_of f (place g) k.op what))
+    asked_read k r (Order.Move src dst filter keep) = by_want (want_of (place g) k.op (Order.Move src dst filter keep))
       where
-        by_want : (o : Option MoveAsked) → IsRead (msg.Asked k) (item_of r (option_map (λ want. Old (net.Asked want)) o))
+        by_want : (o : Option MoveAsked) → IsRead (Msg.Asked k) (item_of r (option_map (λ want. Old (net.Asked want)) o))
         by_want None = refl
         by_want (Some x) = refl
-    asked_read k r (order.Copy src dst filter) = refl
-    asked_read k r (order.Share members filter) = by_want (want_share_of (place g) k.op (order.Share members filter))
+    asked_read k r (Order.Copy src dst filter) = refl
+    asked_read k r (Order.Share members filter) = by_want (want_share_of (place g) k.op (Order.Share members filter))
       where
-        by_want : (o : Option WantShare) → IsRead (msg.Asked k) (item_of r (option_map (λ want. New (S_asked want)) o))
+        by_want : (o : Option WantShare) → IsRead (Msg.Asked k) (item_of r (option_map (λ want. New (S_asked want)) o))
         by_want None = refl
         by_want (Some x) = refl
 
-    chunk_read : (op r : ℕ) (chunk : RealChunk) → IsRead (msg.Shared op chunk) (item_of r (shown f g (msg.Shared op chunk)))
+    chunk_read : (op r : ℕ) (chunk : RealChunk) → IsRead (Msg.Shared op chunk) (item_of r (shown f g (Msg.Shared op chunk)))
     chunk_read op r chunk = by_entry (spelled f chunk)
       where
-        by_entry : (o : Option (units.Unit × R)) → IsRead (msg.Shared op chunk) (item_of r (option_map (λ entry. New (S_shared op entry)) o))
+        by_entry : (o : Option (Unit × R)) → IsRead (Msg.Shared op chunk) (item_of r (option_map (λ entry. New (S_shared op entry)) o))
         by_entry None = refl
         by_entry (Some x) = bare (op == z.num) (Chunk (record_at z.unit (x ∷ []))) refl
 
     install_read : (op : ℕ) (filter : Filter) (from r : ℕ) (to : Target)
-        → IsRead (msg.Install op filter from to) (item_of r (shown f g (msg.Install op filter from to)))
-    install_read op filter from r target.Controller =
+        → IsRead (Msg.Install op filter from to) (item_of r (shown f g (Msg.Install op filter from to)))
+    install_read op filter from r Target.Controller =
         bare (op == z.num) (if instance_node from == z.home then Install else Stray) (fit_bare (instance_node from == z.home) Install refl)
-    install_read op filter from r (target.Instance to) = bare (op == z.num) Stray refl
+    install_read op filter from r (Target.Instance to) = bare (op == z.num) Stray refl
 
     msg_read : (s r : ℕ) (m : Msg) → Label f g s r m → IsKnown s r (shown f g m) → IsRead m (item_of r (shown f g m))
-    msg_read s r (msg.Carry mark.Plain cell) l k = plain_read cell
-    msg_read s r (msg.Carry (mark.Pass op) cell) l k = pass_read op cell k
-    msg_read s r (msg.Carry (mark.Shared op home) cell) l k = shared_read op home cell (same home (r == z.home)) k.0 k.1
-    msg_read s r (msg.Forward to mark.Plain cell) l k = let never = l.2 in cc
-    msg_read s r (msg.Forward to (mark.Pass op) cell) l k = let off : mine (number cell) ≡ false = k.1 in rw off refl
-    msg_read s r (msg.Forward to (mark.Shared op home) cell) l k = forward_read to op home cell (same home (instance_node to == z.home)) (λ on. (k.0 on).0) k.1
-    msg_read s r (msg.Diverted cell) l k = diverted_read cell
-    msg_read s r (msg.Asked c) l k = asked_read c r c.what
-    msg_read s r (msg.Shared op chunk) l k = chunk_read op r chunk
-    msg_read s r (msg.Install op filter from to) l k = install_read op filter from r to
-    msg_read s r (msg.FenceTo op to) l k = bare (op == z.num) Stray refl
-    msg_read s r (msg.Fence op) l k = bare (op == z.num) Fence refl
-    msg_read s r (msg.Fenced op) l k = bare (op == z.num) Fenced refl
-    msg_read s r (msg.Get op filter) l k = bare (op == z.num) Get refl
-    msg_read s r (msg.Sync home op chunks) l k = bare (op == z.num) (if same home (r == z.home) then Sync (record_at z.unit (entries f chunks)) else Stray)
+    msg_read s r (Msg.Carry Mark.Plain cell) l k = plain_read cell
+    msg_read s r (Msg.Carry (Mark.Pass op) cell) l k = pass_read op cell k
+    msg_read s r (Msg.Carry (Mark.Shared op home) cell) l k = shared_read op home cell (same home (r == z.home)) k.0 k.1
+    msg_read s r (Msg.Forward to Mark.Plain cell) l k = let never = l.2 in cc
+    msg_read s r (Msg.Forward to (Mark.Pass op) cell) l k = let off : mine (number cell) ≡ false = k.1 in rw off refl
+    msg_read s r (Msg.Forward to (Mark.Shared op home) cell) l k = forward_read to op home cell (same home (instance_node to == z.home)) (λ on. (k.0 on).0) k.1
+    msg_read s r (Msg.Diverted cell) l k = diverted_read cell
+    msg_read s r (Msg.Asked c) l k = asked_read c r c.what
+    msg_read s r (Msg.Shared op chunk) l k = chunk_read op r chunk
+    msg_read s r (Msg.Install op filter from to) l k = install_read op filter from r to
+    msg_read s r (Msg.FenceTo op to) l k = bare (op == z.num) Stray refl
+    msg_read s r (Msg.Fence op) l k = bare (op == z.num) Fence refl
+    msg_read s r (Msg.Fenced op) l k = bare (op == z.num) Fenced refl
+    msg_read s r (Msg.Get op filter) l k = bare (op == z.num) Get refl
+    msg_read s r (Msg.Sync home op chunks) l k = bare (op == z.num) (if same home (r == z.home) then Sync (record_at z.unit (entries f chunks)) else Stray)
         (fit_bare (same home (r == z.home)) (Sync (record_at z.unit (entries f chunks))) refl)
-    msg_read s r (msg.Chunks op chunks) l k = bare (op == z.num) (Chunks (record_at z.unit (entries f chunks))) refl
-    msg_read s r (msg.Synced op) l k = bare (op == z.num) Synced refl
+    msg_read s r (Msg.Chunks op chunks) l k = bare (op == z.num) (Chunks (record_at z.unit (entries f chunks))) refl
+    msg_read s r (Msg.Synced op) l k = bare (op == z.num) Synced refl
     msg_read s r m l k = refl
 
     -- an event has none
     msg_event : (s r : ℕ) (m : Msg) → IsKnown s r (shown f g m) → filter mine (handed_over_in m) ≡ []
-    msg_event s r (msg.Event op cell) k = let off : mine (number cell) ≡ false = k.1 in rw off refl
+    msg_event s r (Msg.Event op cell) k = let off : mine (number cell) ≡ false = k.1 in rw off refl
     msg_event s r m k = refl
 
     -- And so has a link.

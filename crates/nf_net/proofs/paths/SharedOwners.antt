@@ -3,8 +3,7 @@
 use Rattle.nf_net.proofs.Words.{◌≡◌, ℕ, ◌+◌, ◌<◌, true, false, Some, List, [], ◌∷◌, map, length, refl, sym, ap, ◌∙◌, arith, if◌then◌else◌, ◌==◌, nat_lt}
 use Rattle.nf_net.proofs.Words.{Decides-eqb, Decides-ltb, Semantics, Msg, Note, instance_node, Network, Each, View, has, shape, unit_share, as_share, WantShare}
 use Rattle.nf_net.proofs.Words.{OpenShare, find_share, SeeingShare, Under, seeing, Config, Node, IsInput, owner, real_share, RealShare, Given, place, S, A}
-use Rattle.nf_net.proofs.Words.{Joined, given}
-use Rattle.nf_function.specs.declared.unit.Unit as units
+use Rattle.nf_net.proofs.Words.{Joined, given, Unit}
 
 -- members of a share are instances that are there
 few_nodes : (count : ℕ) (xs : List ℕ) → Each (λ x. nat_lt x count ≡ true) xs → (k : ℕ) → has (map instance_node xs) k ≡ true → k < count + 2
@@ -29,7 +28,7 @@ module _ {F R : Type 0} (f : Semantics R) (c : Config) (items : List Msg) (is : 
       let low : k < length c.names + 2 = few_nodes (length c.names) r.s.plan.members few k (ap (λ y. has y.members k) (sym r.sees.is) ∙ inside) in
       omega (arith, low, count)
 
-  module _ (u : units.Unit) (x : WantShare) (before since : List ℕ) (k : Under (S f g) (A f g) (seeing (S f g) (A f g) u x) j.world before since) where
+  module _ (u : Unit) (x : WantShare) (before since : List ℕ) (k : Under (S f g) (A f g) (seeing (S f g) (A f g) u x) j.world before since) where
     abbrev z : SeeingShare
     z = seeing (S f g) (A f g) u x
 
@@ -45,5 +44,5 @@ module _ {F R : Type 0} (f : Semantics R) (c : Config) (items : List Msg) (is : 
 
   -- the home of the share that a unit is under owns it, by the log
   abbrev pub HomesOwn : Type 0
-  HomesOwn = (u : units.Unit) (x : WantShare) (before since : List ℕ) → Under (S f g) (A f g) (seeing (S f g) (A f g) u x) j.world before since
+  HomesOwn = (u : Unit) (x : WantShare) (before since : List ℕ) → Under (S f g) (A f g) (seeing (S f g) (A f g) u x) j.world before since
       → instance_node (owner c items u w.log) ≡ x.home

@@ -1,8 +1,7 @@
 -- What is under way of a unit under a share is what waits at its stage, in the order of the stage.
 use Rattle.nf_net.proofs.Words.{◌≡◌, ℕ, ◌<◌, Bool, List, [], ◌++◌, length, refl, sym, ap, ◌∙◌, subst, arith, filter, flat_map, instance_node, done_u, as_share}
 use Rattle.nf_net.proofs.Words.{WantShare, seeing, all_but, passed_in, forwarded_in, handed_over_in, diverted_in, stored_by, queued_by, on_links, owner}
-use Rattle.nf_net.proofs.Words.{processed_of, in_flight_of, Given, S, A, done_same, given}
-use Rattle.nf_function.specs.declared.unit.Unit as units
+use Rattle.nf_net.proofs.Words.{processed_of, in_flight_of, Given, S, A, done_same, given, Unit}
 use Rattle.proof_machines.proofs.share.Stages.{path as stage_path}
 use Rattle.proof_machines.proofs.share.Path.{carries}
 use Rattle.proof_machines.proofs.net.UnderReadings.{under_order}
@@ -13,7 +12,7 @@ use Rattle.nf_net.proofs.paths.SharedOwners.{members_few}
 use Rattle.nf_net.proofs.paths.SharedPlaces.{fr, v, its_places, passed_are, forwards_are, diverts_are, events_are, store_is, queue_is, stands_is}
 use Rattle.nf_net.proofs.paths.Reached.{Reached, IsUnder, HomesTold}
 
-module _ {F R : Type 0} (here : Reached F R) (told : HomesTold here) (u : units.Unit) (x : WantShare) (before since : List ℕ)
+module _ {F R : Type 0} (here : Reached F R) (told : HomesTold here) (u : Unit) (x : WantShare) (before since : List ℕ)
     (k : IsUnder here u x before since) where
   open here use {f, c, items, is, n, count, w, nodes, j, world}
 

@@ -4,8 +4,7 @@ use Rattle.nf_net.proofs.Words.{◌==◌, ◌&&◌, nat_lt, slice_get, filter, f
 use Rattle.nf_net.proofs.Words.{on_link, Each, UnitShare, View, mine_in, shape, OfShare, Open, find_op, RestRule, NothingOf, none_mine, ShareLabel, label_of}
 use Rattle.nf_net.proofs.Words.{unit_share, share_expect, share_items, as_share, WantShare, OpenShare, EachNew, olds, SeeingShare, seeing, lasts, passed_in}
 use Rattle.nf_net.proofs.Words.{carried_in, forwarded_in, handed_over_in, diverted_in, stored_by, queued_by, held_by, on_links, Sees, but_shares, both, Given}
-use Rattle.nf_net.proofs.Words.{place, S, A, shown, given}
-use Rattle.nf_function.specs.declared.unit.Unit as units
+use Rattle.nf_net.proofs.Words.{place, S, A, shown, given, Unit}
 use Rattle.proof_machines.proofs.share.Path.{carries, shared_in, forwarded as forwards, diverted as diverts}
 use Rattle.proof_machines.proofs.net.NewMessages.{each_new_map}
 use Rattle.proof_machines.proofs.net.ShareLabels.{queue_other}
@@ -21,7 +20,7 @@ use Rattle.nf_net.proofs.paths.SharedOwners.{real, members_few}
 use Rattle.nf_net.proofs.paths.SharedStages.{Places, places}
 use Rattle.nf_net.proofs.paths.Reached.{Reached, IsUnder}
 
-module _ {F R : Type 0} (here : Reached F R) (u : units.Unit) (x : WantShare) (before since : List ℕ) (k : IsUnder here u x before since) where
+module _ {F R : Type 0} (here : Reached F R) (u : Unit) (x : WantShare) (before since : List ℕ) (k : IsUnder here u x before since) where
   open here use {f, c, items, is, n, count, w, nodes, j, world}
 
   abbrev g : Given

@@ -4,9 +4,8 @@ use Rattle.nf_net.proofs.Words.{◌≡◌, ◌≢◌, ℕ, ◌<◌, ◌≤◌, t
 use Rattle.nf_net.proofs.Words.{nat_lt, slice_get, flat_map, ltb-false, or_left, or_right, nat_tests, Decides-ltb, slice_get_past, Semantics, same_unit}
 use Rattle.nf_net.proofs.Words.{is_among, controller_node, instance_node, on_link, Ran, UnitShare, View, has, processed, shape, self, unit_share, as_share}
 use Rattle.nf_net.proofs.Words.{WantShare, SeeingShare, ran_of, seeing, packets_done, fold_packets, owner, is_of, processed_of, live_in, live_at, standby_in}
-use Rattle.nf_net.proofs.Words.{standby_at, Given, S, A, done_same, given}
+use Rattle.nf_net.proofs.Words.{standby_at, Given, S, A, done_same, given, Unit}
 use Rattle.std.specs.FinMap as finite
-use Rattle.nf_function.specs.declared.unit.Unit as units
 use Rattle.proof_machines.proofs.share.Share.{runs}
 use Rattle.proof_machines.proofs.share.Stages.{packets}
 use Rattle.proof_machines.proofs.share.Lists.{packets-append}
@@ -20,7 +19,7 @@ use Rattle.nf_net.proofs.paths.SharedStages.{Comes, From_member, To_home, Ahead,
 use Rattle.nf_net.proofs.paths.Reached.{Reached, IsUnder, HomesTold}
 
 -- the last of those that were done of a unit is the unit's
-last_mine : {R : Type 0} (f : Semantics R) (g : Given) (u : units.Unit) (ds xs : List Ran) (d : Ran) → ran_of (S f g) (A f g) u ds ≡ xs ++ d ∷ []
+last_mine : {R : Type 0} (f : Semantics R) (g : Given) (u : Unit) (ds xs : List Ran) (d : Ran) → ran_of (S f g) (A f g) u ds ≡ xs ++ d ∷ []
     → same_unit ((S f g).packet_unit d.0) u ≡ true
 last_mine f g u [] [] d e = cc
 last_mine f g u [] (y ∷ ys) d e = cc
@@ -36,7 +35,7 @@ last_mine f g u (x ∷ ds) xs d e = elim (same_unit ((S f g).packet_unit x.0) u)
     by_front on later [] q = let same_one : x ≡ d = cc in ap (λ y. same_unit ((S f g).packet_unit y.0) u) (sym same_one) ∙ on
     by_front on later (y ∷ ys) q = let rest : ran_of (S f g) (A f g) u ds ≡ ys ++ d ∷ [] = cc in later ys rest
 
-module _ {F R : Type 0} (here : Reached F R) (told : HomesTold here) (u : units.Unit) (x : WantShare) (before since : List ℕ)
+module _ {F R : Type 0} (here : Reached F R) (told : HomesTold here) (u : Unit) (x : WantShare) (before since : List ℕ)
     (k : IsUnder here u x before since) where
   open here use {f, c, items, is, n, count, w, nodes, j}
 

@@ -4,11 +4,10 @@ use Rattle.nf_net.proofs.Words.{◌≡◌, ◌≢◌, ℕ, Bool, true, false, co
 use Rattle.nf_net.proofs.Words.{append-nil, arith, nat_tests, Decides-eqb, Ran, UnitShare, has, mine_in, served, Stage, processed, shape, self, cond-same}
 use Rattle.nf_net.proofs.Words.{forwarded, diverted}
 use Rattle.std.proofs.Common.{◌==◌}
-use Rattle.proof_machines.proofs.share.Share.{Item, Item.Carry, Item.Fence, Item.Shared, Item.Sync}
-use Rattle.proof_machines.proofs.share.Share.{Item.Chunk, after, over, only, nowhere}
-use Rattle.proof_machines.proofs.share.Stages.{Turn, Turn.Going, Turn.Coming, Turn.Quiet, is_going, is_pending, goes_to, Stage.Diverting}
-use Rattle.proof_machines.proofs.share.Stages.{Stage.Fence_goes, Stage.Fenced_comes, Stage.Get_goes, Stage.Chunks_come, Stage.Spreads, Stage.Resting}
-use Rattle.proof_machines.proofs.share.Stages.{Stage.Forwards, Stage.Carries, Stage.Chunk_comes, path, IsShare, Behind, FitsStage}
+use Rattle.proof_machines.proofs.share.Share.{Item, Item.Carry, Item.Fence, Item.Shared, Item.Sync, Item.Chunk, after, over, only, nowhere}
+use Rattle.proof_machines.proofs.share.Stages.{Turn, Turn.Going, Turn.Coming, Turn.Quiet, is_going, is_pending, goes_to, Stage.Diverting, Stage.Fence_goes}
+use Rattle.proof_machines.proofs.share.Stages.{Stage.Fenced_comes, Stage.Get_goes, Stage.Chunks_come, Stage.Spreads, Stage.Resting, Stage.Forwards}
+use Rattle.proof_machines.proofs.share.Stages.{Stage.Carries, Stage.Chunk_comes, path, IsShare, Behind, FitsStage}
 use Rattle.proof_machines.proofs.share.Lists.{runs-append, served-append}
 use Rattle.proof_machines.proofs.share.Path as paths
 use Rattle.proof_machines.proofs.share.Path.{gather, gather_none, gather_only, carries, shared_in}

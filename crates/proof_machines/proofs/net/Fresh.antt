@@ -2,15 +2,12 @@
 use Rattle.proof_machines.proofs.net.Words.{◌≡◌, ◌≢◌, ℕ, true, false, Option, Some, None, List, [], ◌∷◌, refl, sym, ap, ◌∙◌, subst, ◌==◌, At_a, At_b, Part}
 use Rattle.proof_machines.proofs.net.Words.{Inst, Did, inst_does, Item, State, firsts, ShownBy, By_sa, By_sb, By_sc, By_ca, By_cb, By_ac, By_bc, By_cc, By_cs}
 use Rattle.proof_machines.proofs.net.Words.{shown_by, UnitSeat, seat_shape, items, Msg, Sys, IsSys, InstanceTurn, World, inst_step, seen, Seeing, sides_of}
-use Rattle.proof_machines.proofs.net.Words.{frame, SeesNode, node_at, Holds, none_mine, Answer, Side, did_sends}
+use Rattle.proof_machines.proofs.net.Words.{frame, SeesNode, node_at, Holds, none_mine, Answer, Side, did_sends, never_true}
 use Rattle.proof_machines.proofs.unit.Fresh.{still_ca, still_cb, still_ran}
 use Rattle.proof_machines.proofs.net.Insts.{InstanceGoes, does}
 use Rattle.proof_machines.proofs.net.InstMoves.{MovesInstance, Any, Streams_out, Puts_in}
-use Rattle.proof_machines.proofs.net.InstWorld.{num, label, step_at, here, is_src, is_dst, shown}
+use Rattle.proof_machines.proofs.net.InstWorld.{num, label, step_at, here, is_src, is_dst, is_third, shown}
 use Rattle.proof_machines.proofs.net.RestingSeats.{same_mine}
-
-falsely : false ≡ true → ⊥
-falsely e = cc
 
 module _ {R : Type 0} (S : Sys R) (laws : IsSys S) (z : Seeing) where
   module _ (w : World S) (s : UnitSeat S.F) (h : Holds S z w (seat_shape S.F s)) (p y : ℕ) (m : Msg R) (rest : List (Msg R)) (y0 : (y == 0) ≡ false)
@@ -53,41 +50,46 @@ module _ {R : Type 0} (S : Sys R) (laws : IsSys S) (z : Seeing) where
         | Some it ↦ λ is. (it, is)
       ] refl
 
-      module _ (it : Item R) (is : seen (frame S z) m ≡ Some it) where
-        abbrev v : List (Item R)
-        v = items (seen (frame S z)) rest
+      -- the machine's instance processes something, with the flags that it takes
+      pub record RanSo (wh : Side) (k : Inst R) (it : Item R) : Type 0 where
+        pub parts : List (Part R)
+        pub refuse : Option Answer
+        pub runs : (inst_does S.F wh parts refuse k it).ran ≢ []
 
-        its_ran : (wh : Side) (k : Inst R) → node_at S z x y ≡ k
-            → (parts : List (Part R)) × (refuse : Option Answer) × ((inst_does S.F wh parts refuse k it).ran ≢ [])
-        its_ran wh k at =
-            let g = ran wh k at in (
-              g.parts,
-              g.refuse,
-              some_ran (inst_does S.F wh g.parts g.refuse k it)
-                  (subst (λ o. InstanceGoes S laws z own did (does S laws z own wh g.parts g.refuse k o)) is g.goes),
-            )
+      its_ran : (it : Item R) → seen (frame S z) m ≡ Some it → (wh : Side) (k : Inst R) → node_at S z x y ≡ k → RanSo wh k it
+      its_ran it is wh k at =
+          let g = ran wh k at in
+          record {
+            parts = g.parts;
+            refuse = g.refuse;
+            runs = some_ran (inst_does S.F wh g.parts g.refuse k it)
+                (subst (λ o. InstanceGoes S laws z own did (does S laws z own wh g.parts g.refuse k o)) is g.goes);
+          }
 
       -- the link that the message comes from is one from the switch
       pub data From_switch : Type 0 where
-        From_sa : y ≡ z.op.src → From_switch
-        From_sb : y ≡ z.op.dst → (it : Item R) (v : List (Item R)) → x.sb ≡ it ∷ v → From_switch
-        From_sc : y ≡ z.third → (it : Item R) (v : List (Item R)) → x.sc ≡ it ∷ v → From_switch
+        From_sa : y ≡ z.op.src → (it : Item R) (v : List (Item R)) → x.sa ≡ it ∷ v → node_at S z x y ≡ x.a → RanSo At_a x.a it → From_switch
+        From_sb : y ≡ z.op.dst → (it : Item R) (v : List (Item R)) → x.sb ≡ it ∷ v → node_at S z x y ≡ x.b → RanSo At_b x.b it → From_switch
+        From_sc : y ≡ z.third → (it : Item R) (v : List (Item R)) → x.sc ≡ it ∷ v → node_at S z x y ≡ x.c → From_switch
 
       from_switch : (it : Item R) (is : seen (frame S z) m ≡ Some it)
           → ShownBy (sides_of z) x (record { from = p; to = y; items = it ∷ items (seen (frame S z)) rest }) → From_switch
-      from_switch it is (By_sa ya p0 e) = From_sa ya
-      from_switch it is (By_sb yb p0 e) = From_sb yb it (items (seen (frame S z)) rest) e
-      from_switch it is (By_sc yc p0 e) = From_sc yc it (items (seen (frame S z)) rest) e
+      from_switch it is (By_sa ya p0 e) =
+          let at = is_src S laws z w s h p y m rest y0 y1 waits it is ya in From_sa ya it (items (seen (frame S z)) rest) e at (its_ran it is At_a x.a at)
+      from_switch it is (By_sb yb p0 e) =
+          let at = is_dst S laws z w s h p y m rest y0 y1 waits it is yb in From_sb yb it (items (seen (frame S z)) rest) e at (its_ran it is At_b x.b at)
+      from_switch it is (By_sc yc p0 e) =
+          From_sc yc it (items (seen (frame S z)) rest) e (is_third S laws z w s h p y m rest y0 y1 waits it is yc)
       from_switch it is (By_ca ya p1 e) =
           let g = its_ran it is At_a x.a (is_src S laws z w s h p y m rest y0 y1 waits it is ya) in
-          absurd (g.2 (still_ran S.F At_a g.0 g.1 x.a it (still_ca S.F s it (items (seen (frame S z)) rest) e)))
+          absurd (g.runs (still_ran S.F At_a g.parts g.refuse x.a it (still_ca S.F s it (items (seen (frame S z)) rest) e)))
       from_switch it is (By_cb yb p1 e) =
           let g = its_ran it is At_b x.b (is_dst S laws z w s h p y m rest y0 y1 waits it is yb) in
-          absurd (g.2 (still_ran S.F At_b g.0 g.1 x.b it (still_cb S.F s it (items (seen (frame S z)) rest) e)))
-      from_switch it is (By_ac e _ _) = absurd (falsely (sym y1 ∙ ap (λ q. q == 1) e))
-      from_switch it is (By_bc e _ _) = absurd (falsely (sym y1 ∙ ap (λ q. q == 1) e))
-      from_switch it is (By_cc e _ _) = absurd (falsely (sym y1 ∙ ap (λ q. q == 1) e))
-      from_switch it is (By_cs e _ _) = absurd (falsely (sym y0 ∙ ap (λ q. q == 0) e))
+          absurd (g.runs (still_ran S.F At_b g.parts g.refuse x.b it (still_cb S.F s it (items (seen (frame S z)) rest) e)))
+      from_switch it is (By_ac e _ _) = never_true (sym y1 ∙ ap (λ q. q == 1) e)
+      from_switch it is (By_bc e _ _) = never_true (sym y1 ∙ ap (λ q. q == 1) e)
+      from_switch it is (By_cc e _ _) = never_true (sym y1 ∙ ap (λ q. q == 1) e)
+      from_switch it is (By_cs e _ _) = never_true (sym y0 ∙ ap (λ q. q == 0) e)
 
       pub comes_from_switch : From_switch
       comes_from_switch =

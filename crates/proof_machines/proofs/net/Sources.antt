@@ -111,9 +111,9 @@ module _ {R : Type 0} (S : Sys R) (laws : IsSys S) (w : World S) (n : ℕ) (e : 
         by_link (comes_from_switch S laws (see S laws u e.op seated.third) w (Covered seated.stage) seated.holds p y m rest y0 y1 waits some)
       where
         by_link : From_switch S laws (see S laws u e.op seated.third) w (Covered seated.stage) seated.holds p y m rest y0 y1 waits some → y ≡ e.op.src
-        by_link (From_sa at) = at
-        by_link (From_sb at it v is) = cons_nil (sym (sym seated.is.sb ∙ is))
-        by_link (From_sc at it v is) = cons_nil (sym (sym seated.is.sc ∙ is))
+        by_link (From_sa at it v is k r) = at
+        by_link (From_sb at it v is k r) = cons_nil (sym (sym seated.is.sb ∙ is))
+        by_link (From_sc at it v is k) = cons_nil (sym (sym seated.is.sc ∙ is))
 
     -- and a change of the rules that the switch takes next doesn't take the unit
     pub untaken : (g : Filter) (k from to : ℕ) (rest : List (Msg R)) → w.link 1 0 ≡ Mv g (M_install k from to) ∷ rest → S.takes g u ≡ false

@@ -3,8 +3,7 @@
 use Rattle.proof_outlines.proofs.Words.{◌≡◌, ℕ, ◌+◌, ◌<◌, false, List, [], ◌∷◌, length, refl, ◌∙◌, subst, arith, ◌&&◌, ◌==◌, Global, nat_tests, Chunk, Fits}
 use Rattle.proof_outlines.proofs.Words.{Semantics, Msg, Note, Choice, Network, queue_at, world_next, at, opening_waiting, opening_weight, Taking, Takes}
 use Rattle.proof_outlines.proofs.Words.{less_first, Each, EachSent, weigh, Config, Node, IsInput, node_step, node_ready, first_nodes, started_with}
-use Rattle.nf_function.specs.Records.{Laws as FunctionLaws}
-use Rattle.nf_msgs.specs.declared.msg.Msg.TheVariants as msg
+use Rattle.proof_outlines.proofs.Words.{FunctionLaws}
 use Rattle.ctrl_node.specs.Controller.{controller_at_start as opened_controller}
 use Rattle.proof_outlines.proofs.joined.Words.{Given, count, Label, Joined, node_of, IsTaken, Leads}
 use Rattle.proof_outlines.proofs.joined.JoinedSteps.{scene, is_taken, input_after, step_leads, takes_at, ready_at, joined_next}
@@ -30,7 +29,7 @@ module _ {F R : Type 0} (f : Semantics R) (laws : FunctionLaws f) (g : Given) (f
   pub its_takes : Takes (node_step f) n w k.node k.port (node_of j.nodes k.node) t.message t.rest
   its_takes = takes_at f g n count_is (Wants f g) (node_leads f laws g fitting n) w k t j
 
-  stand : (op : ℕ) (chunks : List Chunk) → t.message ≡ msg.Standby op chunks → MayStandBy f g j.world chunks
+  stand : (op : ℕ) (chunks : List Chunk) → t.message ≡ Msg.Standby op chunks → MayStandBy f g j.world chunks
   stand op chunks is =
       let open_so = token_open f g n w j k.node k.port op chunks t.rest (omega (arith, count_is))
       (subst (λ m. Takes (node_step f) n w k.node k.port (node_of j.nodes k.node) m t.rest) is its_takes) b.tokens in

@@ -3,10 +3,7 @@ use Rattle.proof_outlines.proofs.Words.{◌≡◌, ℕ, Bool, true, false, Some,
 use Rattle.proof_outlines.proofs.Words.{Chunk, Semantics, FullCell, Answer, Msg, Piece, Door, Phase, MovePlan, MoveState, MoveRow, row, answer_of, keeps}
 use Rattle.proof_outlines.proofs.Words.{next_phase, have_units, source, destination, MoveNext, from_source, from_destination, put_back, words, is_nil, push_on}
 use Rattle.proof_outlines.proofs.Words.{all_put, on_event, on_source_enabled, on_piece, on_deleted, on_restored, on_source_fenced, on_put_ok, on_put_no}
-use Rattle.proof_outlines.proofs.Words.{on_destination_enabled, on_destination_fenced, Open, find_op, WholeWorld, ends, Came, EveryAll, by_if}
-use Rattle.nf_function.specs.declared.unit.Unit as units
-use Rattle.nf_msgs.specs.declared.msg.Msg.TheVariants as msg
-use Rattle.move_op.specs.declared.door.Door.TheVariants as door
+use Rattle.proof_outlines.proofs.Words.{on_destination_enabled, on_destination_fenced, Open, find_op, WholeWorld, ends, Came, EveryAll, by_if, Unit}
 use Rattle.move_op.specs.Phases as phase
 use Rattle.proof_machines.proofs.net.Stores.{nothing}
 use Rattle.proof_outlines.proofs.joined.Words.{number, is_sys, outline_phase, SeesMove, Given, place, S, A}
@@ -25,9 +22,9 @@ record Closes (ph : Phase) (r : MoveRow) : Type 0 where
 
 module _ (plan : MovePlan) (events : List FullCell) where
   push_goes : (frozen free : List Piece) (came : Bool) (d : Door) → answer_of (push_on (words plan) frozen free came d).phase ≡ None
-  push_goes frozen [] came door.Shut = refl
-  push_goes frozen (p ∷ free) came door.Shut = refl
-  push_goes frozen free came (door.Refused why) = by_if (λ (r : MoveNext). answer_of r.phase ≡ None) (came && is_nil frozen) refl refl
+  push_goes frozen [] came Door.Shut = refl
+  push_goes frozen (p ∷ free) came Door.Shut = refl
+  push_goes frozen free came (Door.Refused why) = by_if (λ (r : MoveNext). answer_of r.phase ≡ None) (came && is_nil frozen) refl refl
   push_goes frozen free came d = refl
 
   put_goes : (keep : Bool) → answer_of (all_put (words plan) events keep).next.phase ≡ None
@@ -57,16 +54,16 @@ module _ (plan : MovePlan) (events : List FullCell) where
   restored_goes ph h = h
 
   put_ok_goes : (ph : Phase) → answer_of ph ≡ None → answer_of (on_put_ok (words plan) ph events).next.phase ≡ None
-  put_ok_goes (phase.Streaming frozen free came (door.Asked last)) h =
+  put_ok_goes (phase.Streaming frozen free came (Door.Asked last)) h =
       by_if (λ (r : MoveRow). answer_of r.next.phase ≡ None) last (put_goes plan.keep) refl
-  put_ok_goes (phase.Streaming frozen free came door.Open) h = put_goes plan.keep
-  put_ok_goes (phase.Streaming frozen free came door.Shut) h = refl
+  put_ok_goes (phase.Streaming frozen free came Door.Open) h = put_goes plan.keep
+  put_ok_goes (phase.Streaming frozen free came Door.Shut) h = refl
   put_ok_goes ph h = h
 
   put_no_goes : (ph : Phase) (why : Answer) (chunks : List Chunk) → answer_of ph ≡ None
       → answer_of (on_put_no (words plan) ph why (put_back chunks)).phase ≡ None
-  put_no_goes (phase.Streaming frozen free came (door.Asked last)) why chunks h = push_goes frozen (put_back chunks last ∷ free) came (door.Refused why)
-  put_no_goes (phase.Streaming frozen free came door.Shut) why chunks h = refl
+  put_no_goes (phase.Streaming frozen free came (Door.Asked last)) why chunks h = push_goes frozen (put_back chunks last ∷ free) came (Door.Refused why)
+  put_no_goes (phase.Streaming frozen free came Door.Shut) why chunks h = refl
   put_no_goes ph why chunks h = h
 
   destination_enabled_goes : (ph : Phase) → answer_of ph ≡ None → answer_of (on_destination_enabled (words plan) ph events).next.phase ≡ None
@@ -89,20 +86,20 @@ module _ (plan : MovePlan) (events : List FullCell) where
 
   source_closes : (ph : Phase) (m : Msg) (why : Answer) → answer_of ph ≡ None → answer_of (from_source plan ph events m).next.phase ≡ Some why
       → Closes ph (from_source plan ph events m)
-  source_closes ph (msg.Event op cell) why h over = goes_on ph _ why (event_goes ph cell h) over
-  source_closes ph (msg.Enabled op) why h over = goes_on ph _ why (enabled_goes ph h) over
-  source_closes ph (msg.Piece op p) why h over = goes_on ph _ why (piece_goes ph p h) over
-  source_closes ph (msg.Deleted op) why h over = goes_on ph _ why (deleted_goes ph h) over
-  source_closes ph (msg.Restored op) why h over = goes_on ph _ why (restored_goes ph h) over
-  source_closes ph (msg.Fenced op) why h over = source_fenced ph why h over
+  source_closes ph (Msg.Event op cell) why h over = goes_on ph _ why (event_goes ph cell h) over
+  source_closes ph (Msg.Enabled op) why h over = goes_on ph _ why (enabled_goes ph h) over
+  source_closes ph (Msg.Piece op p) why h over = goes_on ph _ why (piece_goes ph p h) over
+  source_closes ph (Msg.Deleted op) why h over = goes_on ph _ why (deleted_goes ph h) over
+  source_closes ph (Msg.Restored op) why h over = goes_on ph _ why (restored_goes ph h) over
+  source_closes ph (Msg.Fenced op) why h over = source_fenced ph why h over
   source_closes ph m why h over = goes_on ph _ why h over
 
   destination_closes : (ph : Phase) (m : Msg) (why : Answer) → answer_of ph ≡ None → answer_of (from_destination plan ph events m).next.phase ≡ Some why
       → Closes ph (from_destination plan ph events m)
-  destination_closes ph (msg.PutOk op) why h over = goes_on ph _ why (put_ok_goes ph h) over
-  destination_closes ph (msg.PutNo op refused) why h over = goes_on ph _ why (put_no_goes ph refused.why refused.chunks h) over
-  destination_closes ph (msg.Enabled op) why h over = goes_on ph _ why (destination_enabled_goes ph h) over
-  destination_closes ph (msg.Fenced op) why h over = destination_fenced ph why h over
+  destination_closes ph (Msg.PutOk op) why h over = goes_on ph _ why (put_ok_goes ph h) over
+  destination_closes ph (Msg.PutNo op refused) why h over = goes_on ph _ why (put_no_goes ph refused.why refused.chunks h) over
+  destination_closes ph (Msg.Enabled op) why h over = goes_on ph _ why (destination_enabled_goes ph h) over
+  destination_closes ph (Msg.Fenced op) why h over = destination_fenced ph why h over
   destination_closes ph m why h over = goes_on ph _ why h over
 
   closes : (ph : Phase) (port : ℕ) (m : Msg) (why : Answer) → answer_of ph ≡ None
@@ -128,7 +125,7 @@ module _ {R : Type 0} (f : Semantics R) (g : Given) where
   ends_at (phase.Undoing why) e = refl
   ends_at ph e = cc
 
-  pub closed_empty : (w : WholeWorld (S f g) (A f g)) (came : units.Unit → Came) → EveryAll (S f g) (A f g) (is_sys f g.site g.packet) w came
+  pub closed_empty : (w : WholeWorld (S f g) (A f g)) (came : Unit → Came) → EveryAll (S f g) (A f g) (is_sys f g.site g.packet) w came
       → (n : ℕ) (e : Open R) (mv : MoveState) (events : List FullCell) → find_op w.ops n ≡ Some e → SeesMove f (place g) e mv events
       → answer_of mv.phase ≡ None → (port : ℕ) (m : Msg) (why : Answer) → answer_of (row mv events port m).next.phase ≡ Some why
       → unwrap_or (row mv events port m).stored events ≡ []

@@ -4,11 +4,8 @@ use Rattle.proof_outlines.proofs.Words.{arith, if◌then◌else◌, ◌&&◌, �
 use Rattle.proof_outlines.proofs.Words.{Filter, Semantics, Answer, Command, Order, switch_node, instance_node, SharePlan, Operation, Share, lowest_meeting}
 use Rattle.proof_outlines.proofs.Words.{ControllerState, Step, still, refusal, move_between, copy_between, share_begin, begin_step, decision_step, on_asked}
 use Rattle.proof_outlines.proofs.Words.{has_twice, place_of, sent_for, Each, behind, Rising, Any, New, S_asked, S_install, WantShare, new_share, WholeWorld}
-use Rattle.proof_outlines.proofs.Words.{whole_ctrl, begin_share, MayShare, ctrl_every_all, share_every_all, by_if}
-use Rattle.std.specs.List.{IsDistinct}
+use Rattle.proof_outlines.proofs.Words.{whole_ctrl, begin_share, MayShare, ctrl_every_all, share_every_all, by_if, Msg, IsDistinct}
 use Rattle.std.specs.FinMap as finite
-use Rattle.nf_msgs.specs.declared.command.Order.TheVariants as order
-use Rattle.nf_msgs.specs.declared.msg.Msg.TheVariants as msg
 use Rattle.copy_share.specs.Share as share
 use Rattle.proof_outlines.proofs.joined.Words.{is_whole, is_sys, outline_all, asked_of, with_member, members_of, share_between, want_share_of, is_sharing}
 use Rattle.proof_outlines.proofs.joined.Words.{members_long, members_are, members_apart, StepFollows, Given, place, Scene, AreShown, IsTaken, IsController}
@@ -16,11 +13,11 @@ use Rattle.proof_outlines.proofs.joined.Words.{IsShare, S, A, count, shown, is_b
 use Rattle.proof_outlines.proofs.whole.BeginsAll.{share_begun}
 use Rattle.proof_outlines.proofs.joined.ShareBegins.{place_tells, names_distinct, few_placed, all_apart, FirstKnown, first_known, unknown}
 use Rattle.proof_outlines.proofs.joined.ControllerScenes.{links_by, waits}
-use Rattle.proof_outlines.proofs.joined.ControllerBegins.{no_overlap, none_unknown, controller_begun, listed_begun, OrderNext, Leads_to, stays_still}
-use Rattle.proof_outlines.proofs.joined.ControllerBegins.{answered, shares_apart, moves_apart, rises, link_left, link_same, move_begins, copy_begins}
+use Rattle.proof_outlines.proofs.joined.ControllerBegins.{no_overlap, none_unknown, controller_begun, listed_begun, OrderNext, Leads_to, stays_still, answered}
+use Rattle.proof_outlines.proofs.joined.ControllerBegins.{shares_apart, moves_apart, rises, link_left, link_same, move_begins, copy_begins}
 
 module _ {F R : Type 0} (f : Semantics R) (g : Given) (n : ℕ) (x : Scene F f g) (p : ℕ) (cmd : Command) (are : AreShown f g n x)
-    (is : IsTaken f g n x (record { node = 1; port = p; message = msg.Asked cmd })) where
+    (is : IsTaken f g n x (record { node = 1; port = p; message = Msg.Asked cmd })) where
   abbrev c : ControllerState
   c = x.nodes.controller
 
@@ -28,14 +25,14 @@ module _ {F R : Type 0} (f : Semantics R) (g : Given) (n : ℕ) (x : Scene F f g
   Leads did = Leads_to f g n x p cmd are is did
 
   -- A share begins between the instances with these names.
-  module _ (name : List ℕ) (others : List (List ℕ)) (filter : Filter) (what : cmd.what ≡ order.Share (name ∷ others) filter)
-      (none : finite.get c.operations cmd.op ≡ None) (fine : refusal c (order.Share (name ∷ others) filter) ≡ None) where
+  module _ (name : List ℕ) (others : List (List ℕ)) (filter : Filter) (what : cmd.what ≡ Order.Share (name ∷ others) filter)
+      (none : finite.get c.operations cmd.op ≡ None) (fine : refusal c (Order.Share (name ∷ others) filter) ≡ None) where
     apart : lowest_meeting c.operations filter ≡ None
-    apart = no_overlap c (order.Share (name ∷ others) filter) fine
+    apart = no_overlap c (Order.Share (name ∷ others) filter) fine
 
     known : FirstKnown g.names name others
     known = first_known g.names name others
-        (subst (λ names. unknown names (name ∷ others) ≡ None) are.controller.names (none_unknown c (order.Share (name ∷ others) filter) fine))
+        (subst (λ names. unknown names (name ∷ others) ≡ None) are.controller.names (none_unknown c (Order.Share (name ∷ others) filter) fine))
 
     its_built : is_whole f.kind filter && (nat_lt 1 (length (name ∷ others)) && not (has_twice (name ∷ others))) ≡ true
     its_built = ap (is_built f g) (sym what) ∙ is.label.2.built
@@ -58,10 +55,10 @@ module _ {F R : Type 0} (f : Semantics R) (g : Given) (n : ℕ) (x : Scene F f g
     nodes_are : members_of (place g) (name ∷ others) ≡ Some its.members
     nodes_are = ap (λ o. with_member o (members_of (place g) others)) known.at ∙ ap (with_member (Some known.home)) known.members
 
-    wanted : want_share_of (place g) cmd.op (order.Share (name ∷ others) filter) ≡ Some its
+    wanted : want_share_of (place g) cmd.op (Order.Share (name ∷ others) filter) ≡ Some its
     wanted = ap (share_between cmd.op filter) nodes_are
 
-    seen : shown f g (msg.Asked cmd) ≡ Some its_message
+    seen : shown f g (Msg.Asked cmd) ≡ Some its_message
     seen = ap (asked_of f (place g) cmd.op) what ∙ ap (option_map (λ w. New (S_asked w))) wanted
 
     -- the plan, and the step by which it begins
@@ -74,7 +71,7 @@ module _ {F R : Type 0} (f : Semantics R) (g : Given) (n : ℕ) (x : Scene F f g
     abbrev did : Step
     did = share_begin c cmd.op filter members
 
-    did_is : begin_step c cmd.op (order.Share (name ∷ others) filter) ≡ did
+    did_is : begin_step c cmd.op (Order.Share (name ∷ others) filter) ≡ did
     did_is = ap (share_begin c cmd.op filter) (ap (λ names. filter_map (place_of names) (name ∷ others)) are.controller.names ∙ known.instances)
 
     share_is : IsShare f g cmd.op (share.share_at_start plan)
@@ -154,33 +151,33 @@ module _ {F R : Type 0} (f : Semantics R) (g : Given) (n : ℕ) (x : Scene F f g
       quiet = record { arrived_is = refl; done_is = refl; installed_is = refl };
       every = share_every_all (S f g) (A f g) (is_sys f g.site g.packet) (is_sharing f g.site g.packet) asked (came_by f g x.log)
           (ctrl_every_all (S f g) (A f g) (is_sys f g.site g.packet) (is_sharing f g.site g.packet) x.world (came_by f g x.log) are.every p its_message
-          is.rest (waits f g n x p (msg.Asked cmd) are is its_message seen)) its may;
+          is.rest (waits f g n x p (Msg.Asked cmd) are is its_message seen)) its may;
       rising = subst (λ l. Rising (suc cmd.op) (asked_nums l ++ commands f g x.input)) (sym (link_left f g n x p cmd are is its_message seen))
           (rises f g n x p cmd are is its_message seen).1;
     }
 
-    share_begins : Leads (begin_step c cmd.op (order.Share (name ∷ others) filter))
+    share_begins : Leads (begin_step c cmd.op (Order.Share (name ∷ others) filter))
     share_begins = subst Leads (sym did_is) begins_well
 
   -- a command that isn't refused
   begins_row : (what : Order) → cmd.what ≡ what → OrderNext f g x cmd what → finite.get c.operations cmd.op ≡ None → refusal c what ≡ None
       → Leads (begin_step c cmd.op what)
-  begins_row (order.Share [] filter) e next none fine =
-      let bad : is_built f g (order.Share [] filter) ≡ true = ap (is_built f g) (sym e) ∙ is.label.2.built in
+  begins_row (Order.Share [] filter) e next none fine =
+      let bad : is_built f g (Order.Share [] filter) ≡ true = ap (is_built f g) (sym e) ∙ is.label.2.built in
       let never : false ≡ true = (and_parts (is_whole f.kind filter) false bad).1 in
       cc
-  begins_row (order.Share (name ∷ others) filter) e next none fine = share_begins name others filter e none fine
-  begins_row (order.Copy src dst filter) e next none fine = by_places (place_of c.names src) (place_of c.names dst) refl refl
+  begins_row (Order.Share (name ∷ others) filter) e next none fine = share_begins name others filter e none fine
+  begins_row (Order.Copy src dst filter) e next none fine = by_places (place_of c.names src) (place_of c.names dst) refl refl
     where
       by_places : (a b : Option ℕ) → place_of c.names src ≡ a → place_of c.names dst ≡ b → Leads (copy_between c cmd.op filter a b)
       by_places (Some from) (Some to) from_is to_is = copy_begins f g n x p cmd are is src dst filter from to e none from_is to_is next
       by_places (Some from) None from_is to_is = stays_still f g n x p cmd are is
       by_places None b from_is to_is = stays_still f g n x p cmd are is
-  begins_row (order.Move src dst filter keep) e next none fine = by_places (place_of c.names src) (place_of c.names dst) refl refl
+  begins_row (Order.Move src dst filter keep) e next none fine = by_places (place_of c.names src) (place_of c.names dst) refl refl
     where
       by_places : (a b : Option ℕ) → place_of c.names src ≡ a → place_of c.names dst ≡ b → Leads (move_between c cmd.op filter keep a b)
       by_places (Some from) (Some to) from_is to_is =
-          move_begins f g n x p cmd are is src dst filter keep from to e none (no_overlap c (order.Move src dst filter keep) fine) from_is to_is
+          move_begins f g n x p cmd are is src dst filter keep from to e none (no_overlap c (Order.Move src dst filter keep) fine) from_is to_is
       by_places (Some from) None from_is to_is = stays_still f g n x p cmd are is
       by_places None b from_is to_is = stays_still f g n x p cmd are is
 

@@ -8,9 +8,6 @@ use Rattle.proof_outlines.proofs.Words.{Open, new_op, begin_sends, meets_any, be
 use Rattle.proof_outlines.proofs.Words.{WantShare, OpenShare, find_share, WholeWorld, moves_of, as_old, whole_ctrl, begin_move, puts_get, meets_shares}
 use Rattle.proof_outlines.proofs.Words.{ctrl_every_all, move_every_all, get_every_all, split}
 use Rattle.std.specs.FinMap as finite
-use Rattle.nf_msgs.specs.declared.answer.Answer.TheVariants as answer
-use Rattle.nf_msgs.specs.declared.command.Order.TheVariants as order
-use Rattle.nf_msgs.specs.declared.msg.Msg.TheVariants as msg
 use Rattle.copy_share.specs.Copy as copy
 use Rattle.proof_machines.proofs.net.Net as net
 use Rattle.proof_machines.proofs.net.Units.{May}
@@ -42,11 +39,11 @@ or_none (Some x) b e = cc
 -- where an order isn't refused, its names are known, and no open operation's filter meets its own
 pub no_overlap : (c : ControllerState) (what : Order) → refusal c what ≡ None → overlap c what ≡ None
 no_overlap c what e =
-    map_none answer.Overlap (overlap c what) (or_none (option_map answer.Unknown (unknown_name c what)) (option_map answer.Overlap (overlap c what)) e).1
+    map_none Answer.Overlap (overlap c what) (or_none (option_map Answer.Unknown (unknown_name c what)) (option_map Answer.Overlap (overlap c what)) e).1
 
 pub none_unknown : (c : ControllerState) (what : Order) → refusal c what ≡ None → unknown_name c what ≡ None
-none_unknown c what e = map_none answer.Unknown (unknown_name c what)
-    (or_none (option_map answer.Unknown (unknown_name c what)) (option_map answer.Overlap (overlap c what)) e).0
+none_unknown c what e = map_none Answer.Unknown (unknown_name c what)
+    (or_none (option_map Answer.Unknown (unknown_name c what)) (option_map Answer.Overlap (overlap c what)) e).0
 
 pub none_meets : (c : ControllerState) (filter : Filter) (k : ℕ) (o : Operation) → lowest_meeting c.operations filter ≡ None
     → finite.get c.operations k ≡ Some o → meets_operation filter o ≡ false
@@ -121,24 +118,24 @@ pub record IsNext {F R : Type 0} (f : Semantics R) (g : Given) (x : Scene F f g)
 
 -- what the step on a message needs beside the world: where a copy is asked for, that its number and those behind it are new
 abbrev pub OrderNext : {F R : Type 0} (f : Semantics R) (g : Given) → Scene F f g → Command → Order → Type 0
-OrderNext f g x cmd (order.Copy src dst filter) = IsNext f g x cmd
+OrderNext f g x cmd (Order.Copy src dst filter) = IsNext f g x cmd
 OrderNext f g x cmd what = Unit {0}
 
 abbrev pub CopiesNext : {F R : Type 0} (f : Semantics R) (g : Given) → Scene F f g → Msg → Type 0
-CopiesNext f g x (msg.Asked cmd) = OrderNext f g x cmd cmd.what
+CopiesNext f g x (Msg.Asked cmd) = OrderNext f g x cmd cmd.what
 CopiesNext f g x m = Unit {0}
 
 -- The step on a command.
 module _ {F R : Type 0} (f : Semantics R) (g : Given) (n : ℕ) (x : Scene F f g) (p : ℕ) (cmd : Command) (are : AreShown f g n x)
-    (is : IsTaken f g n x (record { node = 1; port = p; message = msg.Asked cmd })) where
+    (is : IsTaken f g n x (record { node = 1; port = p; message = Msg.Asked cmd })) where
   abbrev c : ControllerState
   c = x.nodes.controller
 
   abbrev pub Leads_to : Step → Type 0
-  Leads_to did = RowLeads f g x p (msg.Asked cmd) did
+  Leads_to did = RowLeads f g x p (Msg.Asked cmd) did
 
   abbrev Stays : Any R → Type 0
-  Stays a = Idles f g n x p (msg.Asked cmd) are is a
+  Stays a = Idles f g n x p (Msg.Asked cmd) are is a
 
   -- what the abstract controller does with it: nothing yet
   old_idle : (o : Option MoveAsked) (a : Any R) → option_map (λ w. Old (net.Asked w)) o ≡ Some a → Stays a
@@ -150,15 +147,15 @@ module _ {F R : Type 0} (f : Semantics R) (g : Given) (n : ℕ) (x : Scene F f g
   new_idle (Some w) a e = let same : New (S_asked w) ≡ a = cc in subst Stays same refl
 
   asked_idle : (what : Order) (a : Any R) → asked_of f (place g) cmd.op what ≡ Some a → Stays a
-  asked_idle (order.Share members filter) a e = new_idle (want_share_of (place g) cmd.op (order.Share members filter)) a e
+  asked_idle (Order.Share members filter) a e = new_idle (want_share_of (place g) cmd.op (Order.Share members filter)) a e
   asked_idle what a e = old_idle (want_of (place g) cmd.op what) a e
 
   pub stays_still : Leads_to (still c)
-  stays_still = stays f g n x p (msg.Asked cmd) are is (still c) refl refl refl refl refl tt
+  stays_still = stays f g n x p (Msg.Asked cmd) are is (still c) refl refl refl refl refl tt
       (record { arrived_is = refl; done_is = refl; installed_is = refl }) (asked_idle cmd.what)
 
   pub answered : (why : Answer) → Leads_to (answers c cmd.op why)
-  answered why = stays f g n x p (msg.Asked cmd) are is (answers c cmd.op why) refl refl refl refl refl ((refl, refl), tt)
+  answered why = stays f g n x p (Msg.Asked cmd) are is (answers c cmd.op why) refl refl refl refl refl ((refl, refl), tt)
       (record { arrived_is = refl; done_is = refl; installed_is = refl }) (asked_idle cmd.what)
 
   -- the place of a name at the controller is that in a run
@@ -174,14 +171,14 @@ module _ {F R : Type 0} (f : Semantics R) (g : Given) (n : ℕ) (x : Scene F f g
   moves_apart filter none = any_meets f g c filter x.world.ops are.controller.listed none
 
   -- it is taken from the link
-  pub comes : (a : Any R) → shown f g (msg.Asked cmd) ≡ Some a → x.world.link 0 1 ≡ a ∷ is.rest
-  comes a seen = ap (λ k. x.world.link k 1) (sym is.label.0) ∙ waits f g n x p (msg.Asked cmd) are is a seen
+  pub comes : (a : Any R) → shown f g (Msg.Asked cmd) ≡ Some a → x.world.link 0 1 ≡ a ∷ is.rest
+  comes a seen = ap (λ k. x.world.link k 1) (sym is.label.0) ∙ waits f g n x p (Msg.Asked cmd) are is a seen
 
-  pub rises : (a : Any R) → shown f g (msg.Asked cmd) ≡ Some a → Rising x.world.next (asked_nums (a ∷ is.rest) ++ commands f g x.input)
+  pub rises : (a : Any R) → shown f g (Msg.Asked cmd) ≡ Some a → Rising x.world.next (asked_nums (a ∷ is.rest) ++ commands f g x.input)
   rises a seen = subst (λ l. Rising x.world.next (asked_nums l ++ commands f g x.input)) (comes a seen) are.rising
 
   -- the link behind it, where nothing is sent to the controller
-  pub link_left : (a : Any R) → shown f g (msg.Asked cmd) ≡ Some a → links_after x.world.link p 1 [] 0 1 ++ [] ≡ is.rest
+  pub link_left : (a : Any R) → shown f g (Msg.Asked cmd) ≡ Some a → links_after x.world.link p 1 [] 0 1 ++ [] ≡ is.rest
   link_left a seen =
       let port : p ≡ 0 = is.label.0 in
       let on : (0 == p) && (1 == 1) ≡ true = grind (arith, nat_tests, port) in
@@ -193,7 +190,7 @@ module _ {F R : Type 0} (f : Semantics R) (g : Given) (n : ℕ) (x : Scene F f g
   link_same false xs ys = ap (λ zs. zs ++ ys) (append-nil xs)
 
   -- A move begins.
-  module _ (src dst : List ℕ) (filter : Filter) (keep : Bool) (from to : ℕ) (what : cmd.what ≡ order.Move src dst filter keep)
+  module _ (src dst : List ℕ) (filter : Filter) (keep : Bool) (from to : ℕ) (what : cmd.what ≡ Order.Move src dst filter keep)
       (none : finite.get c.operations cmd.op ≡ None) (apart : lowest_meeting c.operations filter ≡ None) (from_is : place_of c.names src ≡ Some from)
       (to_is : place_of c.names dst ≡ Some to) where
     abbrev plan : MovePlan
@@ -217,7 +214,7 @@ module _ {F R : Type 0} (f : Semantics R) (g : Given) (n : ℕ) (x : Scene F f g
     differ : from ≢ to
     differ = places_apart g.names src dst from to from_at to_at (and_parts (is_whole f.kind filter) _ is_moved).1
 
-    seen : shown f g (msg.Asked cmd) ≡ Some its_message
+    seen : shown f g (Msg.Asked cmd) ≡ Some its_message
     seen = ap (asked_of f (place g) cmd.op) what ∙ ap (λ o. option_map (λ w. Old (net.Asked w)) (want_at cmd.op filter keep o (place g dst))) from_at
         ∙ ap (λ o. option_map (λ w. Old (net.Asked w)) (want_at cmd.op filter keep (Some from) o)) to_at
 
@@ -277,12 +274,12 @@ module _ {F R : Type 0} (f : Semantics R) (g : Given) (n : ℕ) (x : Scene F f g
       quiet = record { arrived_is = refl; done_is = refl; installed_is = refl };
       every = move_every_all (S f g) (A f g) (is_sys f g.site g.packet) asked (came_by f g x.log)
           (ctrl_every_all (S f g) (A f g) (is_sys f g.site g.packet) (is_sharing f g.site g.packet) x.world (came_by f g x.log) are.every p its_message
-          is.rest (waits f g n x p (msg.Asked cmd) are is its_message seen)) its may (shares_apart filter apart);
+          is.rest (waits f g n x p (Msg.Asked cmd) are is its_message seen)) its may (shares_apart filter apart);
       rising = subst (λ l. Rising (suc cmd.op) (asked_nums l ++ commands f g x.input)) (sym (link_left its_message seen)) (rises its_message seen).1;
     }
 
   -- A copy begins: of what a filter takes, or of all.
-  module _ (src dst : List ℕ) (filter : Option Filter) (from to : ℕ) (what : cmd.what ≡ order.Copy src dst filter) (none : finite.get c.operations cmd.op
+  module _ (src dst : List ℕ) (filter : Option Filter) (from to : ℕ) (what : cmd.what ≡ Order.Copy src dst filter) (none : finite.get c.operations cmd.op
       ≡ None) (from_is : place_of c.names src ≡ Some from) (to_is : place_of c.names dst ≡ Some to) (next : IsNext f g x cmd) where
     abbrev copy_plan : CopyPlan
     copy_plan = record { op = cmd.op; from = from; to = to; filter = filter }
@@ -296,7 +293,7 @@ module _ {F R : Type 0} (f : Semantics R) (g : Given) (n : ℕ) (x : Scene F f g
     is_copied : is_whole_if f g filter && not (bytes_eq src dst) ≡ true
     is_copied = ap (is_built f g) (sym what) ∙ is.label.2.built
 
-    hidden : shown f g (msg.Asked cmd) ≡ None
+    hidden : shown f g (Msg.Asked cmd) ≡ None
     hidden = ap (asked_of f (place g) cmd.op) what
 
     copy_is : IsCopy f g cmd.op (copy.copy_at_start copy_plan)
@@ -323,7 +320,7 @@ module _ {F R : Type 0} (f : Semantics R) (g : Given) (n : ℕ) (x : Scene F f g
     quiet = record { arrived_is = refl; done_is = refl; installed_is = refl }
 
     all_begins : filter ≡ None → Leads_to (copy_begin c copy_plan)
-    all_begins e = unseen f g n x p (msg.Asked cmd) are is (copy_begin c copy_plan) hidden (controller_copies x.world.next (omega arith)) sends label quiet
+    all_begins e = unseen f g n x p (Msg.Asked cmd) are is (copy_begin c copy_plan) hidden (controller_copies x.world.next (omega arith)) sends label quiet
       where
         sends : outline_all f (place g) (copy_begin c copy_plan).sends ≡ []
         sends = rw e refl

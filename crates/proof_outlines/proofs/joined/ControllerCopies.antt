@@ -5,7 +5,6 @@ use Rattle.proof_outlines.proofs.Words.{same_Some, Chunk, Semantics, stored_of, 
 use Rattle.proof_outlines.proofs.Words.{Share, turn_of, ControllerState, Step, still, takes_turn, hand_step, Any, New, S_chunks, find_share, Has_chunks}
 use Rattle.proof_outlines.proofs.Words.{by_share}
 use Rattle.std.specs.FinMap as finite
-use Rattle.nf_msgs.specs.declared.msg.Msg.TheVariants as msg
 use Rattle.proof_outlines.proofs.joined.Words.{entries, CopyTurn, Idle, Hands, Hands_all, Ends, hands, ends, is_copied, copy_turn, move_idle, got_insert}
 use Rattle.proof_outlines.proofs.joined.Words.{got_remove, NotShared, handed_is, joins, StepFollows, Given, place, Label, Scene, AreShown, IsTaken, IsCopy}
 use Rattle.proof_outlines.proofs.joined.Words.{AreGoodChunks, S, A, shown}
@@ -23,7 +22,7 @@ module _ {R : Type 0} (f : Semantics R) (g : Given) where
 
   -- what a message sends on is such as comes in a run
   abbrev pub Good : Msg → Type 0
-  Good (msg.Chunks k chunks) = AreGoodChunks f g chunks
+  Good (Msg.Chunks k chunks) = AreGoodChunks f g chunks
   Good message = Unit {0}
 
 module _ {F R : Type 0} (f : Semantics R) (g : Given) (n : ℕ) (x : Scene F f g) (p : ℕ) (m : Msg) (are : AreShown f g n x)
@@ -104,8 +103,8 @@ module _ {F R : Type 0} (f : Semantics R) (g : Given) (n : ℕ) (x : Scene F f g
 
     by_turn : (did : Step) → CopyTurn (record { controller = c; op = op; copy = y }) m did → CopyDid op did
     by_turn did (Idle e) = subst (CopyDid op) (sym e) it_stays
-    by_turn did (Hands k chunks e d) = subst (CopyDid op) (sym d) (hands_on (msg.Standby y.plan.op chunks) ((refl, omega arith), subst (Good f g) e good))
-    by_turn did (Hands_all k chunk e d) = subst (CopyDid op) (sym d) (hands_on (msg.PutAll y.plan.op chunk) (refl, omega arith))
+    by_turn did (Hands k chunks e d) = subst (CopyDid op) (sym d) (hands_on (Msg.Standby y.plan.op chunks) ((refl, omega arith), subst (Good f g) e good))
+    by_turn did (Hands_all k chunk e d) = subst (CopyDid op) (sym d) (hands_on (Msg.PutAll y.plan.op chunk) (refl, omega arith))
     by_turn did (Ends d) = subst (CopyDid op) (sym d) it_ends
 
     pub copy_turns : ((a : Any R) → shown f g m ≡ Some a → Idles f g n x p m are is a) → RowLeads f g x p m (hand_step c op p m)
@@ -152,10 +151,10 @@ module _ {F R : Type 0} (f : Semantics R) (g : Given) (n : ℕ) (x : Scene F f g
   abbrev IsTakenHere : Msg → Type 0
   IsTakenHere m = IsTaken f g n x (record { node = 1; port = p; message = m })
 
-  pub chunks_leads : (chunks : List Chunk) → IsTakenHere (msg.Chunks op chunks)
-      → RowLeads f g x p (msg.Chunks op chunks) (hand_step C op p (msg.Chunks op chunks))
+  pub chunks_leads : (chunks : List Chunk) → IsTakenHere (Msg.Chunks op chunks)
+      → RowLeads f g x p (Msg.Chunks op chunks) (hand_step C op p (Msg.Chunks op chunks))
   chunks_leads chunks is =
-      let m = msg.Chunks op chunks in
+      let m = Msg.Chunks op chunks in
       let a : Any R = New (S_chunks op (entries f chunks)) in
       copied_leads f g n x p m are is op refl is.label.1
       (λ none b e. subst (Idles f g n x p m are is) (same_Some _ _ e) (ap (λ o. joins f g.site g.packet (place g) (record { ops = x.world.ops; sends = [] })
@@ -163,11 +162,11 @@ module _ {F R : Type 0} (f : Semantics R) (g : Given) (n : ℕ) (x : Scene F f g
       (λ s there. share_leads f g n x p m are is op s there a refl (chunks_follows f g.site g.packet (place g) C x.world.ops x.world.shares
       are.controller.opens op p chunks (are.controller.genuine op) (λ mv got. are.controller.going op mv got)) refl)
 
-  pub all_chunk_leads : (chunk : Chunk) → IsTakenHere (msg.AllChunk op chunk)
-      → RowLeads f g x p (msg.AllChunk op chunk) (hand_step C op p (msg.AllChunk op chunk))
-  all_chunk_leads chunk is = hidden_leads f g n x p (msg.AllChunk op chunk) are is op refl tt refl (all_chunk_follows f g.site g.packet (place g) C
+  pub all_chunk_leads : (chunk : Chunk) → IsTakenHere (Msg.AllChunk op chunk)
+      → RowLeads f g x p (Msg.AllChunk op chunk) (hand_step C op p (Msg.AllChunk op chunk))
+  all_chunk_leads chunk is = hidden_leads f g n x p (Msg.AllChunk op chunk) are is op refl tt refl (all_chunk_follows f g.site g.packet (place g) C
       x.world.ops x.world.shares are.controller.opens op p chunk (λ mv got. are.controller.going op mv got))
 
-  pub kept_leads : IsTakenHere (msg.Kept op) → RowLeads f g x p (msg.Kept op) (hand_step C op p (msg.Kept op))
-  kept_leads is = hidden_leads f g n x p (msg.Kept op) are is op refl tt refl
+  pub kept_leads : IsTakenHere (Msg.Kept op) → RowLeads f g x p (Msg.Kept op) (hand_step C op p (Msg.Kept op))
+  kept_leads is = hidden_leads f g n x p (Msg.Kept op) are is op refl tt refl
       (kept_follows f g.site g.packet (place g) C x.world.ops x.world.shares are.controller.opens op p (λ mv got. are.controller.going op mv got))

@@ -3,11 +3,8 @@ use Rattle.proof_outlines.proofs.Words.{◌≡◌, ℕ, ◌+◌, ◌<◌, ◌≤
 use Rattle.proof_outlines.proofs.Words.{if◌then◌else◌, ◌==◌, unwrap_or, nat_tests, Decides-eqb, Semantics, stored_of, Answer, Piece, switch_node, Door, Phase}
 use Rattle.proof_outlines.proofs.Words.{MoveState, MoveRow, answer_of, chunks_of, Move, Turn, turn_of_move, ControllerState, Step, after_turn, RPhase, Each}
 use Rattle.proof_outlines.proofs.Words.{each_map, EachSent, Open, close_op, set_op, write_op, OpenShare, each_set, have, copies, spelled, sent-append}
-use Rattle.proof_outlines.proofs.Words.{either_way, split}
+use Rattle.proof_outlines.proofs.Words.{either_way, split, Unit, Msg}
 use Rattle.std.specs.FinMap as finite
-use Rattle.nf_function.specs.declared.unit.Unit as units
-use Rattle.nf_msgs.specs.declared.msg.Msg.TheVariants as msg
-use Rattle.move_op.specs.declared.door.Door.TheVariants as door
 use Rattle.move_op.specs.Phases as phase
 use Rattle.proof_outlines.proofs.joined.Words.{entries, outline_piece, filter_map-put, outline_phase, stored_after, got_insert, got_remove, OpensAll, Given}
 use Rattle.proof_outlines.proofs.joined.Words.{place, Genuine, Label, IsController, IsListed, HasPieces, AreFree, AreGoodChunks, IsGoodPiece}
@@ -134,11 +131,11 @@ module _ {R : Type 0} (f : Semantics R) (g : Given) where
   good_chunks ps h = each_map {P = (IsGoodPiece f g)} {Q = (λ p. AreGoodChunks f g p.chunks)} (λ p k. k.good) ps h
 
   free_chunks : (d : Door) (ps : List Piece) → AreFree f g d ps → Each (λ p. AreGoodChunks f g p.chunks) ps
-  free_chunks (door.Refused why) ps h = h
+  free_chunks (Door.Refused why) ps h = h
   free_chunks d ps h = good_chunks ps h
 
   -- how often a unit stands among the chunks that a move keeps
-  pub kept_count : (ph : Phase) → HasPieces f g ph → (u : units.Unit) → times u (entries f (kept_in ph)) ≡ copies u (outline_phase f (place g) ph)
+  pub kept_count : (ph : Phase) → HasPieces f g ph → (u : Unit) → times u (entries f (kept_in ph)) ≡ copies u (outline_phase f (place g) ph)
   kept_count (phase.Streaming fz fr came d) h u = ap (times u) (filter_map-put (spelled f) (chunks_of fz) (chunks_of fr)) ∙ times-append u
       (entries f (chunks_of fz)) (entries f (chunks_of fr)) ∙ ap (λ k. k + times u (entries f (chunks_of fr))) (times_chunks f g fz (good_chunks fz h.0) u)
       ∙ ap (λ k. have u (map (outline_piece f) fz) + k) (times_chunks f g fr (free_chunks d fr h.1) u)
@@ -147,7 +144,7 @@ module _ {R : Type 0} (f : Semantics R) (g : Given) where
   pub turn_labels : (c : ControllerState) (n : ℕ) (t : Turn) (a : Option Answer) → EachSent (Label f g) 1 t.sends
       → EachSent (Label f g) 1 (after_turn c n t a).sends
   turn_labels c n t None h = h
-  turn_labels c n t (Some why) h = sent-append (Label f g) 1 t.sends ((switch_node, msg.Answered n) ∷ []) h ((refl, refl), tt)
+  turn_labels c n t (Some why) h = sent-append (Label f g) 1 t.sends ((switch_node, Msg.Answered n) ∷ []) h ((refl, refl), tt)
 
 pub turn_quiet : (c : ControllerState) (n : ℕ) (t : Turn) (a : Option Answer) → AreQuiet (after_turn c n t a).notes
 turn_quiet c n t None = record { arrived_is = refl; done_is = refl; installed_is = refl }

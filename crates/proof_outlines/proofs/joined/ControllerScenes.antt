@@ -6,13 +6,11 @@ use Rattle.proof_outlines.proofs.Words.{step_and_finish, may_finish, EachSent, s
 use Rattle.proof_outlines.proofs.Words.{find_share, WholeWorld, Rising, rising_less, EveryAll, ctrl_every_all, as_node, Controller, arrivals_in, dones_in}
 use Rattle.proof_outlines.proofs.Words.{installs_in, sent-append, done-append}
 use Rattle.std.specs.FinMap as finite
-use Rattle.nf_msgs.specs.declared.msg.Msg.TheVariants as msg
 use Rattle.proof_machines.proofs.net.Net as net
 use Rattle.proof_outlines.proofs.joined.Words.{is_sys, filter_map-put, outline_each, outline_all, is_sharing, SeesAny, AllStep, all_step, Given, place, Genuine}
 use Rattle.proof_outlines.proofs.joined.Words.{Label, Scene, Nodes, AreShown, IsTaken, IsController, IsListed, Leads, node_of, shown, S, A, by_node, commands}
-use Rattle.proof_outlines.proofs.joined.Words.{links_next, came_by, asked_nums, Grows}
+use Rattle.proof_outlines.proofs.joined.Words.{links_next, came_by, asked_nums, Grows, same_grows}
 use Rattle.proof_outlines.proofs.joined.LogLemmas.{every_same, owners_on, came_on}
-use Rattle.proof_outlines.proofs.joined.NextNumbers.{same_grows}
 
 -- a message is taken from the switch's link, or from another: the numbers of waiting commands rise as before
 rising_drop : {R : Type 0} (b : ℕ) (a : Any R) (rest : List (Any R)) (ks : List ℕ) → Rising b (asked_nums (a ∷ rest) ++ ks) → Rising b (asked_nums rest ++ ks)
@@ -137,10 +135,10 @@ module _ {F R : Type 0} (f : Semantics R) (g : Given) where
     pub lead : Leads f g n x (record { node = 1; port = p; message = m }) (as_node Controller (step_and_finish did))
     lead = elim (may_finish did.node) as (λ b. Leads f g n x (record { node = 1; port = p; message = m }) (record {
       node = Controller (if b then record did.node { finish_sent = true } else did.node);
-      sends = did.sends ++ (if b then (0, msg.Finish) ∷ [] else []);
+      sends = did.sends ++ (if b then (0, Msg.Finish) ∷ [] else []);
       notes = did.notes;
     })) [
-      | true ↦ with_tail (record did.node { finish_sent = true }) ((0, msg.Finish) ∷ []) (controller_same f g did.node
+      | true ↦ with_tail (record did.node { finish_sent = true }) ((0, Msg.Finish) ∷ []) (controller_same f g did.node
           (record did.node { finish_sent = true }) l.ops l.shares l.next refl refl refl refl l.controller) refl ((refl, refl), tt)
       | false ↦ with_tail did.node [] l.controller refl tt
     ]

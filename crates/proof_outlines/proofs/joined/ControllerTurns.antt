@@ -5,11 +5,8 @@ use Rattle.proof_outlines.proofs.Words.{Semantics, FullCell, stored_of, Answer, 
 use Rattle.proof_outlines.proofs.Words.{destination, from_source, from_destination, keeps, next_phase, CopyState, ShareState, Operation, Move, Copy, Share}
 use Rattle.proof_outlines.proofs.Words.{turn_of, turn_of_move, ControllerState, Step, still, after_turn, takes_turn, hand_step, instance_at, Each, Open}
 use Rattle.proof_outlines.proofs.Words.{find_op, num_of, found, numbered, each_found, Any, Old, find_share, told_by, by_share, as_old, found_num, found_each}
-use Rattle.proof_outlines.proofs.Words.{copies, either_way}
+use Rattle.proof_outlines.proofs.Words.{copies, either_way, Unit, Mark}
 use Rattle.std.specs.FinMap as finite
-use Rattle.nf_function.specs.declared.unit.Unit as units
-use Rattle.event_filter.specs.declared.mark.Mark.TheVariants as mark
-use Rattle.nf_msgs.specs.declared.msg.Msg.TheVariants as msg
 use Rattle.copy_share.specs.Share as share
 use Rattle.ctrl_node.specs.Controller.{on_event}
 use Rattle.proof_machines.proofs.unit.Real as real
@@ -203,7 +200,7 @@ module _ {F R : Type 0} (f : Semantics R) (g : Given) (n : ℕ) (x : Scene F f g
         cases (Some (Share s)) e = share_leads op s e a seen step (moves_same (no_open op (Some (Share s)) e tt))
 
   -- a unit stands at most once among what a move keeps
-  kept_once : (op : ℕ) (mv : MoveState) → finite.get c.operations op ≡ Some (Move mv) → (u : units.Unit) → times u (entries f (kept_in mv.phase)) ≤ 1
+  kept_once : (op : ℕ) (mv : MoveState) → finite.get c.operations op ≡ Some (Move mv) → (u : Unit) → times u (entries f (kept_in mv.phase)) ≤ 1
   kept_once op mv has u =
       let b = both op mv has in
       let one : copies u b.e.phase ≤ 1 = one_copy_all (S f g) (A f g) (is_sys f g.site g.packet) x.world (came_by f g x.log) are.every op b.e b.there u in
@@ -212,7 +209,7 @@ module _ {F R : Type 0} (f : Semantics R) (g : Given) (n : ℕ) (x : Scene F f g
       omega (arith, one, counted)
 
   abbrev Once : MoveState → Msg → Type 0
-  Once mv message = (u : units.Unit) → times u (entries f (brought message)) + times u (entries f (kept_in mv.phase)) ≤ 1
+  Once mv message = (u : Unit) → times u (entries f (brought message)) + times u (entries f (kept_in mv.phase)) ≤ 1
 
   nothing_brought : (op : ℕ) (mv : MoveState) (message : Msg) → finite.get c.operations op ≡ Some (Move mv) → brought message ≡ [] → Once mv message
   nothing_brought op mv message has none u = let kept = kept_once op mv has u in rw none (omega (arith, kept))
@@ -241,18 +238,18 @@ module _ {F R : Type 0} (f : Semantics R) (g : Given) (n : ℕ) (x : Scene F f g
 
 -- What was refused comes back: from the destination, or else it isn't looked at.
 module _ {F R : Type 0} (f : Semantics R) (g : Given) (n : ℕ) (x : Scene F f g) (p op : ℕ) (refused : Refused) (are : AreShown f g n x)
-    (is : IsTaken f g n x (record { node = 1; port = p; message = msg.PutNo op refused })) where
+    (is : IsTaken f g n x (record { node = 1; port = p; message = Msg.PutNo op refused })) where
   abbrev its_store : List FullCell
   its_store = stored_of x.nodes.controller.store op
 
-  back_once : (mv : MoveState) → finite.get x.nodes.controller.operations op ≡ Some (Move mv) → (p == destination mv.plan) ≡ true → (u : units.Unit)
+  back_once : (mv : MoveState) → finite.get x.nodes.controller.operations op ≡ Some (Move mv) → (p == destination mv.plan) ≡ true → (u : Unit)
       → times u (entries f refused.chunks) + times u (entries f (kept_in mv.phase)) ≤ 1
   back_once mv got at u =
-      let b = both f g n x p (msg.PutNo op refused) are is op mv got in
+      let b = both f g n x p (Msg.PutNo op refused) are is op mv got in
       let same : b.e.op.dst ≡ p = ap (λ o. o.dst) b.sees.op ∙ sym ((Decides-eqb p (destination mv.plan)).0 at) in
       let comes : x.world.link b.e.op.dst 1 ≡ Old (net.Mv net.everything (real.M_put_no op refused.why (entries f refused.chunks))) ∷ is.rest =
       ap (λ k. x.world.link k 1) same
-      ∙ waits f g n x p (msg.PutNo op refused) are is (Old (net.Mv net.everything (real.M_put_no op refused.why (entries f refused.chunks)))) refl in
+      ∙ waits f g n x p (Msg.PutNo op refused) are is (Old (net.Mv net.everything (real.M_put_no op refused.why (entries f refused.chunks)))) refl in
       let one : has u (entries f refused.chunks) + copies u b.e.phase ≤ 1 = one_copy_back_all (S f g) (A f g) (is_sys f g.site g.packet) x.world
       (came_by f g x.log) are.every op b.e b.there u net.everything refused.why (entries f refused.chunks) is.rest comes in
       let brought_is : times u (entries f refused.chunks) ≡ has u (entries f refused.chunks) = times_is_has (entries f refused.chunks) is.label.1.distinct u in
@@ -261,36 +258,36 @@ module _ {F R : Type 0} (f : Semantics R) (g : Given) (n : ℕ) (x : Scene F f g
       omega (arith, one, counted, brought_is)
 
   -- elsewhere it does what a message does that isn't looked at
-  as_put_ok : (mv : MoveState) → (p == destination mv.plan) ≡ false → row mv its_store p (msg.PutOk op) ≡ row mv its_store p (msg.PutNo op refused)
-  as_put_ok mv off = elim (p == source mv.plan) as (λ a. (if a then from_source mv.plan mv.phase its_store (msg.PutOk op) else if p == destination mv.plan
-      then from_destination mv.plan mv.phase its_store (msg.PutOk op) else keeps (next_phase mv.phase []))
-      ≡ (if a then from_source mv.plan mv.phase its_store (msg.PutNo op refused) else if p == destination mv.plan
-      then from_destination mv.plan mv.phase its_store (msg.PutNo op refused) else keeps (next_phase mv.phase []))) [
+  as_put_ok : (mv : MoveState) → (p == destination mv.plan) ≡ false → row mv its_store p (Msg.PutOk op) ≡ row mv its_store p (Msg.PutNo op refused)
+  as_put_ok mv off = elim (p == source mv.plan) as (λ a. (if a then from_source mv.plan mv.phase its_store (Msg.PutOk op) else if p == destination mv.plan
+      then from_destination mv.plan mv.phase its_store (Msg.PutOk op) else keeps (next_phase mv.phase []))
+      ≡ (if a then from_source mv.plan mv.phase its_store (Msg.PutNo op refused) else if p == destination mv.plan
+      then from_destination mv.plan mv.phase its_store (Msg.PutNo op refused) else keeps (next_phase mv.phase []))) [
         | true ↦ refl
         | false ↦ rw off refl
       ]
 
   back_keeps : (mv : MoveState) → finite.get x.nodes.controller.operations op ≡ Some (Move mv)
-      → RowKeeps f g op mv its_store (row mv its_store p (msg.PutNo op refused))
+      → RowKeeps f g op mv its_store (row mv its_store p (Msg.PutNo op refused))
   back_keeps mv got =
       either_way (p == destination mv.plan)
-      (λ at. keeps_row f g n x p (msg.PutNo op refused) are is op mv (msg.PutNo op refused) got is.label (back_once mv got at))
-      (λ off. subst (RowKeeps f g op mv its_store) (as_put_ok mv off) (keeps_row f g n x p (msg.PutNo op refused) are is op mv (msg.PutOk op) got
-      is.label.0 (nothing_brought f g n x p (msg.PutNo op refused) are is op mv (msg.PutOk op) got refl)))
+      (λ at. keeps_row f g n x p (Msg.PutNo op refused) are is op mv (Msg.PutNo op refused) got is.label (back_once mv got at))
+      (λ off. subst (RowKeeps f g op mv its_store) (as_put_ok mv off) (keeps_row f g n x p (Msg.PutNo op refused) are is op mv (Msg.PutOk op) got
+      is.label.0 (nothing_brought f g n x p (Msg.PutNo op refused) are is op mv (Msg.PutOk op) got refl)))
 
-  pub put_no_leads : RowLeads f g x p (msg.PutNo op refused) (hand_step x.nodes.controller op p (msg.PutNo op refused))
+  pub put_no_leads : RowLeads f g x p (Msg.PutNo op refused) (hand_step x.nodes.controller op p (Msg.PutNo op refused))
   put_no_leads =
       let pm = real.M_put_no op refused.why (entries f refused.chunks) in
-      let step = old_follows f g.site g.packet (place g) x.nodes.controller x.world.ops x.world.shares are.controller.opens op p (msg.PutNo op refused) pm
+      let step = old_follows f g.site g.packet (place g) x.nodes.controller x.world.ops x.world.shares are.controller.opens op p (Msg.PutNo op refused) pm
       refl refl (λ mv got. put_no_row f (place g) mv.plan mv.phase its_store p op refused) (λ s. refl) in
-      by_operation f g n x p (msg.PutNo op refused) are is op pm refl refl (λ _. refl) refl step (λ mv got. opened f g n x p (msg.PutNo op refused) are is
+      by_operation f g n x p (Msg.PutNo op refused) are is op pm refl refl (λ _. refl) refl step (λ mv got. opened f g n x p (Msg.PutNo op refused) are is
       op pm refl refl (λ _. refl) mv got step (put_no_row f (place g) mv.plan mv.phase its_store p op refused) (back_keeps mv got))
 
 -- An event: its move is open.
 module _ {F R : Type 0} (f : Semantics R) (g : Given) (n : ℕ) (x : Scene F f g) (p op : ℕ) (cell : FullCell) (are : AreShown f g n x)
-    (is : IsTaken f g n x (record { node = 1; port = p; message = msg.Event op cell })) where
+    (is : IsTaken f g n x (record { node = 1; port = p; message = Msg.Event op cell })) where
   abbrev event : Msg
-  event = msg.Event op cell
+  event = Msg.Event op cell
 
   abbrev seen_event : real.Msg R
   seen_event = real.M_event op (number cell)
@@ -319,6 +316,6 @@ module _ {F R : Type 0} (f : Semantics R) (g : Given) (n : ℕ) (x : Scene F f g
       cases (Some (Copy y)) e = absurd (never (no_open f g n x p event are is op (Some (Copy y)) e tt))
       cases (Some (Share s)) e = absurd (never (no_open f g n x p event are is op (Some (Share s)) e tt))
       cases (Some (Move mv)) e = subst (λ b. RowLeads f g x p event (if b then hand_step x.nodes.controller op p event
-          else record { node = x.nodes.controller; sends = (switch_node, msg.Forward (p - 2) (mark.Pass op) cell) ∷ []; notes = [] })) (sym (ap is_some e))
+          else record { node = x.nodes.controller; sends = (switch_node, Msg.Forward (p - 2) (Mark.Pass op) cell) ∷ []; notes = [] })) (sym (ap is_some e))
           (numbered_leads f g n x p event are is op seen_event refl refl refl refl refl (λ s. refl)
           (λ y h. event_row f (place g) y.plan y.phase (stored_of x.nodes.controller.store op) p op cell))

@@ -1,9 +1,8 @@
 -- No share takes a unit that an open copy's filter takes; so of chunks of such units none is a share's.
 use Rattle.proof_outlines.proofs.Words.{◌≡◌, ℕ, true, false, inl, inr, Some, None, List, sym, ap, ◌∙◌, subst, ◌==◌, Decides-eqb, Filter, Chunk, Semantics}
 use Rattle.proof_outlines.proofs.Words.{CopyState, ShareState, Copy, Share, ControllerState, each_any, record_at, TakesSome, taking_each, taking_found}
-use Rattle.proof_outlines.proofs.Words.{false_from_ne_true}
+use Rattle.proof_outlines.proofs.Words.{false_from_ne_true, Unit}
 use Rattle.std.specs.FinMap as finite
-use Rattle.nf_function.specs.declared.unit.Unit as units
 use Rattle.proof_outlines.proofs.joined.Words.{entries, is_sys, real_share, Given, place, S, A, Scene, AreShown}
 use Rattle.proof_outlines.proofs.joined.OperationsApart.{AreApart, AllApart}
 use Rattle.proof_outlines.proofs.joined.StandbyChunks.{AreUnshared}
@@ -11,10 +10,10 @@ use Rattle.proof_outlines.proofs.joined.StandbyChunks.{AreUnshared}
 module _ {R : Type 0} (f : Semantics R) (g : Given) where
   -- chunks of no unit but of those that a filter takes
   abbrev pub AreWithin : Filter → List Chunk → Type 0
-  AreWithin filter chunks = (u : units.Unit) → (S f g).takes filter u ≡ false → record_at u (entries f chunks) ≡ None
+  AreWithin filter chunks = (u : Unit) → (S f g).takes filter u ≡ false → record_at u (entries f chunks) ≡ None
 
   -- what one of two filters that don't meet takes, the other doesn't
-  other_out : (a b : Filter) (u : units.Unit) → AreApart (Some a) (Some b) → (S f g).takes b u ≡ true → (S f g).takes a u ≡ false
+  other_out : (a b : Filter) (u : Unit) → AreApart (Some a) (Some b) → (S f g).takes b u ≡ true → (S f g).takes a u ≡ false
   other_out a b u (inl off) on = false_from_ne_true ((S f g).takes a u)
       (λ both. let never : true ≡ false = sym on ∙ (is_sys f g.site g.packet).apart a b u off both in cc)
   other_out a b u (inr off) on = (is_sys f g.site g.packet).apart b a u off on
@@ -24,13 +23,13 @@ module _ {F R : Type 0} (f : Semantics R) (g : Given) (n : ℕ) (x : Scene F f g
   c = x.nodes.controller
 
   -- a unit that a share takes isn't one of an open copy's
-  pub copy_out : (op : ℕ) (y : CopyState) (filter : Filter) → finite.get c.operations op ≡ Some (Copy y) → y.plan.filter ≡ Some filter → (u : units.Unit)
+  pub copy_out : (op : ℕ) (y : CopyState) (filter : Filter) → finite.get c.operations op ≡ Some (Copy y) → y.plan.filter ≡ Some filter → (u : Unit)
       → TakesSome (S f g) x.world.shares u → (S f g).takes filter u ≡ false
   copy_out op y filter there is u takes =
       let e = takes.0 in
       let found = taking_found (S f g) (A f g) x.world.shares u e are.every.global.nums_apart takes.1 in
       let real = real_share f (place g) g.site x.world.ops x.world.shares c e.num e are.controller.opens found in
-      let on : (S f g).takes e.filter u ≡ true = (taking_each (S f g) (A f g) (λ _. Unit {0}) x.world.shares u e (each_any x.world.shares) takes.1).1 in
+      let on : (S f g).takes e.filter u ≡ true = (taking_each (S f g) (A f g) (λ _. Prim.Unit {0}) x.world.shares u e (each_any x.world.shares) takes.1).1 in
       let filter_is : e.filter ≡ real.s.plan.filter = ap (λ y. y.filter) real.sees.is in
       let other = numbers_differ op e.num y real.s there real.there in
       let off : AreApart (Some filter) (Some real.s.plan.filter) = subst (λ p. AreApart p (Some real.s.plan.filter)) is

@@ -4,9 +4,6 @@ use Rattle.proof_outlines.proofs.Words.{◌≡◌, ℕ, ◌+◌, ◌≤◌, true
 use Rattle.proof_outlines.proofs.Words.{filter_map, nat_tests, Chunk, Answer, Order, Msg, instance_node, op_of, CopyPhase, CopyPlan, CopyRow, Operation, Copy}
 use Rattle.proof_outlines.proofs.Words.{OpenOperations, Turn, turn_of, serving_of, lasts, with_operation, place_of, ControllerState, Each, by_if}
 use Rattle.std.specs.FinMap as finite
-use Rattle.nf_msgs.specs.declared.command.Order.TheVariants as order
-use Rattle.nf_msgs.specs.declared.msg.Msg.TheVariants as msg
-use Rattle.copy_share.specs.declared.copy_phase.CopyPhase.TheVariants as copies
 use Rattle.copy_share.specs.Copy as copy
 use Rattle.ctrl_node.specs.Controller as ctrl
 use Rattle.proof_outlines.proofs.outline.OperationTables.{got_insert, got_remove}
@@ -14,14 +11,14 @@ use Rattle.proof_outlines.proofs.joined.CopyAnswers.{is_uncopied}
 
 -- whether a message is to be kept for the copy of a number, or says that it was
 abbrev pub keeps_of : ℕ → Msg → ℕ
-keeps_of n (msg.Standby op chunks) = if op == n then 1 else 0
-keeps_of n (msg.PutAll op chunk) = if op == n then 1 else 0
-keeps_of n (msg.Kept op) = if op == n then 1 else 0
+keeps_of n (Msg.Standby op chunks) = if op == n then 1 else 0
+keeps_of n (Msg.PutAll op chunk) = if op == n then 1 else 0
+keeps_of n (Msg.Kept op) = if op == n then 1 else 0
 keeps_of n m = 0
 
 -- how many of these there are at most, by the phase
 abbrev pub in_phase : CopyPhase → ℕ
-in_phase copies.Keeping = 1
+in_phase CopyPhase.Keeping = 1
 in_phase phase = 0
 
 abbrev pub keeping : Option Operation → ℕ
@@ -41,9 +38,9 @@ abbrev pub IsLight : ℕ → Msg → Type 0
 IsLight n m = keeps_of n m ≡ 0
 
 pub light_others : (n : ℕ) (m : Msg) → is_uncopied m ≡ true → IsLight n m
-light_others n (msg.Standby op chunks) e = cc
-light_others n (msg.PutAll op chunk) e = cc
-light_others n (msg.Kept op) e = cc
+light_others n (Msg.Standby op chunks) e = cc
+light_others n (Msg.PutAll op chunk) e = cc
+light_others n (Msg.Kept op) e = cc
 light_others n m e = refl
 
 pub none_light : (n : ℕ) (sends : List (ℕ × Msg)) → Each (λ x. IsLight n x.1) sends → keeps_sent n sends ≡ 0
@@ -51,7 +48,7 @@ none_light n [] h = refl
 none_light n (x ∷ xs) h = let one = h.0 in let rest = none_light n xs h.1 in omega (arith, one, rest)
 
 -- what a copy of another number hands on
-pub other_light : (n op : ℕ) → (op == n) ≡ false → (chunks : List Chunk) → IsLight n (msg.Standby op chunks)
+pub other_light : (n op : ℕ) → (op == n) ≡ false → (chunks : List Chunk) → IsLight n (Msg.Standby op chunks)
 other_light n op off chunks = ap (λ b. if b then 1 else 0) off
 
 -- A table at a number, after a change at another.
@@ -76,19 +73,19 @@ module _ (n op : ℕ) (off : (n == op) ≡ false) where
   handed_at c port m = let t = turn_of (finite.get c.operations op) c.store port m in serves_at (ctrl.takes_turn c op t).node ∙ after_at c t t.answer
 
   begins_at : (c : ControllerState) (what : Order) → finite.get (ctrl.begin_step c op what).node.operations n ≡ finite.get c.operations n
-  begins_at c (order.Move source destination filter keep) = between (place_of c.names source) (place_of c.names destination)
+  begins_at c (Order.Move source destination filter keep) = between (place_of c.names source) (place_of c.names destination)
     where
       between : (from to : Option ℕ) → finite.get (ctrl.move_between c op filter keep from to).node.operations n ≡ finite.get c.operations n
       between (Some from) (Some to) = with_at c.operations (Some _)
       between (Some from) None = refl
       between None to = refl
-  begins_at c (order.Copy source destination filter) = between (place_of c.names source) (place_of c.names destination)
+  begins_at c (Order.Copy source destination filter) = between (place_of c.names source) (place_of c.names destination)
     where
       between : (from to : Option ℕ) → finite.get (ctrl.copy_between c op filter from to).node.operations n ≡ finite.get c.operations n
       between (Some from) (Some to) = with_at c.operations (Some _)
       between (Some from) None = refl
       between None to = refl
-  begins_at c (order.Share members filter) = among (filter_map (place_of c.names) members)
+  begins_at c (Order.Share members filter) = among (filter_map (place_of c.names) members)
     where
       among : (places : List ℕ) → finite.get (ctrl.share_begin c op filter places).node.operations n ≡ finite.get c.operations n
       among [] = refl
@@ -108,12 +105,12 @@ module _ (n : ℕ) (plan : CopyPlan) (own : plan.op ≡ n) where
   one_sent = let same : (plan.op == n) ≡ true = grind (arith, nat_tests, own) in ap (λ b. if b then 1 else 0) same
 
   source_falls : (ph : CopyPhase) (m : Msg) → RowFalls ph m (copy.from_source plan ph m)
-  source_falls copies.Getting (msg.Chunks op chunks) = let one = one_sent in omega (arith, one)
-  source_falls copies.Getting (msg.AllChunk op chunk) = let one = one_sent in omega (arith, one)
+  source_falls CopyPhase.Getting (Msg.Chunks op chunks) = let one = one_sent in omega (arith, one)
+  source_falls CopyPhase.Getting (Msg.AllChunk op chunk) = let one = one_sent in omega (arith, one)
   source_falls ph m = omega arith
 
   destination_falls : (ph : CopyPhase) (m : Msg) → op_of m ≡ Some n → RowFalls ph m (copy.from_destination plan ph m)
-  destination_falls copies.Keeping (msg.Kept op) e =
+  destination_falls CopyPhase.Keeping (Msg.Kept op) e =
       let at : op ≡ n = cc in
       let same : (op == n) ≡ true = grind (arith, nat_tests, at) in
       let one : ◌≡◌ {A = ℕ} (if op == n then 1 else 0) 1 = ap (λ b. if b then 1 else 0) same in omega (arith, one)

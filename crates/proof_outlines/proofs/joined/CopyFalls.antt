@@ -4,13 +4,11 @@ use Rattle.proof_outlines.proofs.Words.{if◌then◌else◌, ◌==◌, nat_tests
 use Rattle.proof_outlines.proofs.Words.{op_of, CopyPhase, CopyState, CopyRow, Operation, Move, Copy, Share, turn_of, share_of, turn_of_copy, ControllerState}
 use Rattle.proof_outlines.proofs.Words.{Step}
 use Rattle.std.specs.FinMap as finite
-use Rattle.nf_msgs.specs.declared.msg.Msg.TheVariants as msg
-use Rattle.copy_share.specs.declared.copy_phase.CopyPhase.TheVariants as copies
 use Rattle.copy_share.specs.Copy as copy
 use Rattle.ctrl_node.specs.Controller as ctrl
 use Rattle.proof_outlines.proofs.joined.Words.{row_by, got_insert, got_remove, handed_is, NotShared}
-use Rattle.proof_outlines.proofs.joined.CopyCounts.{keeps_of, in_phase, keeping, keeps_sent, keeps_sent-append, IsLight, light_others}
-use Rattle.proof_outlines.proofs.joined.CopyCounts.{none_light, other_light, serves_at, handed_at, decided_at, row_falls}
+use Rattle.proof_outlines.proofs.joined.CopyCounts.{keeps_of, in_phase, keeping, keeps_sent, keeps_sent-append, IsLight, light_others, none_light, other_light}
+use Rattle.proof_outlines.proofs.joined.CopyCounts.{serves_at, handed_at, decided_at, row_falls}
 use Rattle.proof_outlines.proofs.joined.CopySends.{EachIs, TurnSo, BeginSo, handed_sent, asked_sent, queued_sent}
 
 -- the copies that are open have the numbers that they stand under
@@ -62,12 +60,12 @@ module _ (n : ℕ) (c : ControllerState) (port : ℕ) (numbered : AreNumbered c)
             subst (λ o. Falls m (ctrl.after_turn c n (turn_of_copy y c.store r) o)) (sym (ap copy.answer_of is ∙ going)) (omega (arith, left, before))
 
         by_phase : (ph : CopyPhase) → r.phase ≡ ph → Falls m (ctrl.takes_turn c n (turn_of_copy y c.store r))
-        by_phase copies.Over is =
+        by_phase CopyPhase.Over is =
             let gone : keeping (finite.get (finite.remove (finite.insert c.operations n (Copy (record y { phase = r.phase }))) n) n) ≡ 0 = ap keeping
             (got_remove (finite.insert c.operations n (Copy (record y { phase = r.phase }))) n n
             ∙ ap (λ b. cond b None (finite.get (finite.insert c.operations n (Copy (record y { phase = r.phase }))) n)) self) in
             let none : in_phase r.phase ≡ 0 = ap in_phase is in
-            let sent = keeps_sent-append n r.sends ((switch_node, msg.Answered n) ∷ []) in
+            let sent = keeps_sent-append n r.sends ((switch_node, Msg.Answered n) ∷ []) in
             subst (λ o. Falls m (ctrl.after_turn c n (turn_of_copy y c.store r) o)) (sym (ap copy.answer_of is)) (omega (arith, gone, none, sent, low, before))
         by_phase ph is = goes_on ph is refl
 
@@ -101,22 +99,22 @@ module _ (n : ℕ) (c : ControllerState) (port : ℕ) (numbered : AreNumbered c)
               by_got (Some (Share s)) e = none_kept (subst (λ o. TurnSo (IsLight n) (light_others n) o m) (sym e) refl) (ap keeping e)
               by_got (Some (Copy y)) e = own_turn y e m its
 
-  asked_falls : (k : Command) → Falls (msg.Asked k) (ctrl.on_asked c k)
+  asked_falls : (k : Command) → Falls (Msg.Asked k) (ctrl.on_asked c k)
   asked_falls k = by_test (k.op == n) refl
     where
       light : EachIs (IsLight n) (light_others n) (ctrl.on_asked c k).sends
-      light = asked_sent (IsLight n) (light_others n) c port k (begin_light (msg.Asked k))
+      light = asked_sent (IsLight n) (light_others n) c port k (begin_light (Msg.Asked k))
 
-      by_test : (b : Bool) → (k.op == n) ≡ b → Falls (msg.Asked k) (ctrl.on_asked c k)
-      by_test false off = stays (msg.Asked k) (ctrl.on_asked c k) (elim (finite.contains_key c.operations k.op) as (λ b.
+      by_test : (b : Bool) → (k.op == n) ≡ b → Falls (Msg.Asked k) (ctrl.on_asked c k)
+      by_test false off = stays (Msg.Asked k) (ctrl.on_asked c k) (elim (finite.contains_key c.operations k.op) as (λ b.
           finite.get (if b then ctrl.still c else ctrl.decision_step c k.op k.what (ctrl.refusal c k.what)).node.operations n ≡ finite.get c.operations n) [
             | true ↦ refl
             | false ↦ decided_at n k.op (let back : (n == k.op) ≡ false = grind (arith, nat_tests, off) in back) c k.what (ctrl.refusal c k.what)
           ]) light
       by_test true on = by_got (finite.get c.operations k.op) refl
         where
-          by_got : (o : Option Operation) → finite.get c.operations k.op ≡ o → Falls (msg.Asked k) (ctrl.on_asked c k)
-          by_got (Some a) e = stays (msg.Asked k) (ctrl.on_asked c k) (rw (known a e) refl) light
+          by_got : (o : Option Operation) → finite.get c.operations k.op ≡ o → Falls (Msg.Asked k) (ctrl.on_asked c k)
+          by_got (Some a) e = stays (Msg.Asked k) (ctrl.on_asked c k) (rw (known a e) refl) light
             where
               known : (x : Operation) → finite.get c.operations k.op ≡ Some x → finite.contains_key c.operations k.op ≡ true
               known x is = rw is refl
@@ -124,7 +122,7 @@ module _ (n : ℕ) (c : ControllerState) (port : ℕ) (numbered : AreNumbered c)
               let none : keeping (finite.get c.operations n) ≡ 0 = ap keeping (ap (finite.get c.operations) (sym ((Decides-eqb k.op n).0 on)) ∙ e) in
               let sent = none_light n (ctrl.on_asked c k).sends light in omega (arith, none, sent)
 
-  queued_falls : (cell : FullCell) (o : Option ℕ) → Falls (msg.Diverted cell) (ctrl.queue_step c cell o)
+  queued_falls : (cell : FullCell) (o : Option ℕ) → Falls (Msg.Diverted cell) (ctrl.queue_step c cell o)
   queued_falls cell None = omega arith
   queued_falls cell (Some op) = by_test (op == n) refl
     where
@@ -134,22 +132,22 @@ module _ (n : ℕ) (c : ControllerState) (port : ℕ) (numbered : AreNumbered c)
       light : EachIs (IsLight n) (light_others n) (ctrl.serve_step d op).sends
       light = queued_sent (IsLight n) (light_others n) c port cell (Some op)
 
-      by_test : (b : Bool) → (op == n) ≡ b → Falls (msg.Diverted cell) (ctrl.serve_step d op)
+      by_test : (b : Bool) → (op == n) ≡ b → Falls (Msg.Diverted cell) (ctrl.serve_step d op)
       by_test false off =
-          stays (msg.Diverted cell) (ctrl.serve_step d op) (serves_at n op (let back : (n == op) ≡ false = grind (arith, nat_tests, off) in back) d) light
+          stays (Msg.Diverted cell) (ctrl.serve_step d op) (serves_at n op (let back : (n == op) ≡ false = grind (arith, nat_tests, off) in back) d) light
       by_test true on = let same : op ≡ n = (Decides-eqb op n).0 on in by_got (finite.get c.operations op) refl
         where
-          quiet_at : (o : Option Operation) → finite.get c.operations op ≡ o → (keeping o ≡ 0) → Falls (msg.Diverted cell) (ctrl.serve_step d op)
+          quiet_at : (o : Option Operation) → finite.get c.operations op ≡ o → (keeping o ≡ 0) → Falls (Msg.Diverted cell) (ctrl.serve_step d op)
           quiet_at o e none =
               let at : keeping (finite.get c.operations n) ≡ 0 = ap (λ k. keeping (finite.get c.operations k)) (sym ((Decides-eqb op n).0 on))
               ∙ ap keeping e ∙ none in
               let sent = none_light n (ctrl.serve_step d op).sends light in omega (arith, at, sent)
 
-          by_got : (o : Option Operation) → finite.get c.operations op ≡ o → Falls (msg.Diverted cell) (ctrl.serve_step d op)
+          by_got : (o : Option Operation) → finite.get c.operations op ≡ o → Falls (Msg.Diverted cell) (ctrl.serve_step d op)
           by_got None e = quiet_at None e refl
           by_got (Some (Move mv)) e = quiet_at (Some (Move mv)) e refl
           by_got (Some (Share s)) e = quiet_at (Some (Share s)) e refl
-          by_got (Some (Copy y)) e = stays (msg.Diverted cell) (ctrl.serve_step d op) (rw e refl) light
+          by_got (Some (Copy y)) e = stays (Msg.Diverted cell) (ctrl.serve_step d op) (rw e refl) light
 
   row_falls_all : (m : Msg) → Falls m (ctrl.row c port m)
   row_falls_all = row_by c port Falls (record {
@@ -169,9 +167,9 @@ module _ (n : ℕ) (c : ControllerState) (port : ℕ) (numbered : AreNumbered c)
       let sent = keeps_sent-append n did.sends (ctrl.finish_of did.node) in
       elim (ctrl.may_finish did.node) as (λ b. Falls m (record {
         node = if b then record did.node { finish_sent = true } else did.node;
-        sends = did.sends ++ (if b then (switch_node, msg.Finish) ∷ [] else []);
+        sends = did.sends ++ (if b then (switch_node, Msg.Finish) ∷ [] else []);
         notes = did.notes;
       })) [
-        | true ↦ (let more = keeps_sent-append n did.sends ((switch_node, msg.Finish) ∷ []) in omega (arith, low, more))
+        | true ↦ (let more = keeps_sent-append n did.sends ((switch_node, Msg.Finish) ∷ []) in omega (arith, low, more))
         | false ↦ (let more = keeps_sent-append n did.sends [] in omega (arith, low, more))
       ]

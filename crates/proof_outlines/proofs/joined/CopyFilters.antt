@@ -3,13 +3,9 @@
 use Rattle.proof_outlines.proofs.Words.{◌≡◌, ℕ, zero, suc, true, Option, Some, None, List, [], ◌∷◌, inl, inr, refl, sym, ap, ◌∙◌, subst, arith, if◌then◌else◌}
 use Rattle.proof_outlines.proofs.Words.{option_to_list, Filter, Chunk, Semantics, Command, Msg, op_of, CopyState, Operation, Move, Copy, Share, ControllerState}
 use Rattle.proof_outlines.proofs.Words.{controller_step, selected_chunks, instance_step, EachSent, Each, Chunks, record_at, Any, New, S_chunks, OpenShare}
-use Rattle.proof_outlines.proofs.Words.{node_step}
+use Rattle.proof_outlines.proofs.Words.{node_step, Order, FunctionLaws, InstanceState}
 use Rattle.std.specs.FinMap as finite
-use Rattle.nf_function.specs.Records.{Laws as FunctionLaws}
-use Rattle.nf_msgs.specs.declared.command.Order.TheVariants as order
-use Rattle.nf_msgs.specs.declared.msg.Msg.TheVariants as msg
 use Rattle.copy_share.specs.Copy as copy
-use Rattle.instance_worker.specs.declared.instance.Instance.{Instance as InstanceState}
 use Rattle.proof_machines.proofs.unit.Cuts.{record_first}
 use Rattle.proof_machines.proofs.unit.UnitPieces.{first}
 use Rattle.proof_machines.proofs.net.Net as net
@@ -29,17 +25,17 @@ module _ {R : Type 0} (f : Semantics R) (g : Given) where
 
   -- a message of a copy is as its order's filter has it
   abbrev pub IsFiltered : Msg → Type 0
-  IsFiltered (msg.Get op filter) = (source destination : List ℕ) (o : Option Filter) → g.orders op ≡ Some (order.Copy source destination o) → o ≡ Some filter
-  IsFiltered (msg.Chunks op chunks) =
-      (source destination : List ℕ) (o : Option Filter) → g.orders op ≡ Some (order.Copy source destination o) → AreWithinIf o chunks
-  IsFiltered (msg.Standby op chunks) =
-      (source destination : List ℕ) (o : Option Filter) → g.orders op ≡ Some (order.Copy source destination o) → AreWithinIf o chunks
+  IsFiltered (Msg.Get op filter) = (source destination : List ℕ) (o : Option Filter) → g.orders op ≡ Some (Order.Copy source destination o) → o ≡ Some filter
+  IsFiltered (Msg.Chunks op chunks) =
+      (source destination : List ℕ) (o : Option Filter) → g.orders op ≡ Some (Order.Copy source destination o) → AreWithinIf o chunks
+  IsFiltered (Msg.Standby op chunks) =
+      (source destination : List ℕ) (o : Option Filter) → g.orders op ≡ Some (Order.Copy source destination o) → AreWithinIf o chunks
   IsFiltered m = Unit {0}
 
   others : (m : Msg) → is_uncopied m ≡ true → IsFiltered m
-  others (msg.Get op filter) e = cc
-  others (msg.Chunks op chunks) e = cc
-  others (msg.Standby op chunks) e = cc
+  others (Msg.Get op filter) e = cc
+  others (Msg.Chunks op chunks) e = cc
+  others (Msg.Standby op chunks) e = cc
   others m e = tt
 
   all_others : (sends : List (ℕ × Msg)) → AreUncopied sends → Each (λ x. IsFiltered x.1) sends
@@ -48,9 +44,9 @@ module _ {R : Type 0} (f : Semantics R) (g : Given) where
 
   -- the switch and the input have none of them
   no_copies : (r : ℕ) (m : Msg) → Label f g 0 r m → IsFiltered m
-  no_copies r (msg.Get op filter) label = let never = label.0.0 in absurd (omega (arith, never))
-  no_copies r (msg.Chunks op chunks) label = let never = label.0.0 in absurd (omega (arith, never))
-  no_copies r (msg.Standby op chunks) label = let never = label.0.0 in absurd (omega (arith, never))
+  no_copies r (Msg.Get op filter) label = let never = label.0.0 in absurd (omega (arith, never))
+  no_copies r (Msg.Chunks op chunks) label = let never = label.0.0 in absurd (omega (arith, never))
+  no_copies r (Msg.Standby op chunks) label = let never = label.0.0 in absurd (omega (arith, never))
   no_copies r m label = tt
 
   pub of_input : (r : ℕ) (ms : List Msg) → Each (Label f g 0 r) ms → Each IsFiltered ms
@@ -62,18 +58,18 @@ module _ {R : Type 0} (f : Semantics R) (g : Given) where
   switch_filtered (x ∷ xs) h = (no_copies x.0 x.1 h.0, switch_filtered xs h.1)
 
   -- An order is one thing.
-  copy_filter : (op : ℕ) (source destination a b : List ℕ) (o p : Option Filter) → g.orders op ≡ Some (order.Copy source destination o)
-      → g.orders op ≡ Some (order.Copy a b p) → o ≡ p
-  copy_filter op source destination a b o p x y = let both : Some (order.Copy source destination o) ≡ Some (order.Copy a b p) = sym x ∙ y in cc
+  copy_filter : (op : ℕ) (source destination a b : List ℕ) (o p : Option Filter) → g.orders op ≡ Some (Order.Copy source destination o)
+      → g.orders op ≡ Some (Order.Copy a b p) → o ≡ p
+  copy_filter op source destination a b o p x y = let both : Some (Order.Copy source destination o) ≡ Some (Order.Copy a b p) = sym x ∙ y in cc
 
   not_share : (op : ℕ) (source destination : List ℕ) (o : Option Filter) (names : List (List ℕ)) (filter : Filter)
-      → g.orders op ≡ Some (order.Copy source destination o) → g.orders op ≡ Some (order.Share names filter) → ⊥
-  not_share op source destination o names filter x y = let both : Some (order.Copy source destination o) ≡ Some (order.Share names filter) = sym x ∙ y in cc
+      → g.orders op ≡ Some (Order.Copy source destination o) → g.orders op ≡ Some (Order.Share names filter) → ⊥
+  not_share op source destination o names filter x y = let both : Some (Order.Copy source destination o) ≡ Some (Order.Share names filter) = sym x ∙ y in cc
 
   -- What the controller sends.
   module _ (c : ControllerState) (ops : List (net.Open R)) (shares : List OpenShare) (next p : ℕ) (is : IsController f g c ops shares next) where
     handed_on : (op k : ℕ) (y : CopyState) (m : Msg) → finite.get c.operations op ≡ Some (Copy y) → op_of m ≡ Some op → IsFiltered m → (chunks : List Chunk)
-        → m ≡ msg.Chunks k chunks → IsFiltered (msg.Standby y.plan.op chunks)
+        → m ≡ Msg.Chunks k chunks → IsFiltered (Msg.Standby y.plan.op chunks)
     handed_on op k y m there number its chunks e source destination o known =
         let same : y.plan.op ≡ op = (is.copies op y there).op_is in
         let numbered : Some k ≡ Some op = sym (ap op_of e) ∙ number in
@@ -87,12 +83,12 @@ module _ {R : Type 0} (f : Semantics R) (g : Given) where
     turns op m number its (Some (Share s)) there =
         λ source destination o known. absurd (not_share s.plan.op source destination o _ s.plan.filter known (is.shared op s there).plan.order_is)
 
-    begins : (m : Msg) → Label f g p 1 m → (k : Command) (source destination : List ℕ) (filter : Option Filter) → m ≡ msg.Asked k
-        → k.what ≡ order.Copy source destination filter → IsFiltered (copy.asks k.op filter)
+    begins : (m : Msg) → Label f g p 1 m → (k : Command) (source destination : List ℕ) (filter : Option Filter) → m ≡ Msg.Asked k
+        → k.what ≡ Order.Copy source destination filter → IsFiltered (copy.asks k.op filter)
     begins m label k source destination None e is_copy = tt
     begins m label k source destination (Some filter) e is_copy = λ a b o known.
         let asked : IsCommand f g k = (subst (Label f g p 1) e label).2 in
-        let order_is : g.orders k.op ≡ Some (order.Copy source destination (Some filter)) = asked.known ∙ ap Some is_copy in
+        let order_is : g.orders k.op ≡ Some (Order.Copy source destination (Some filter)) = asked.known ∙ ap Some is_copy in
         copy_filter k.op a b source destination o (Some filter) known order_is
 
     pub controller_filtered : (m : Msg) → Label f g p 1 m → IsFiltered m → Each (λ x. IsFiltered x.1) (controller_step c p m).sends
@@ -121,18 +117,18 @@ module _ {F R : Type 0} (f : Semantics R) (laws : FunctionLaws f) (g : Given) (i
   answer_filtered op sends (inl none) = subst (λ xs. Each (λ x. IsFiltered f g x.1) xs) (sym none) tt
   answer_filtered op sends (inr one) = subst (λ xs. Each (λ x. IsFiltered f g x.1) xs) (sym one) (tt, tt)
 
-  get_filtered : (op : ℕ) (filter : Filter) → is_whole f.kind filter ≡ true → IsFiltered f g (msg.Get op filter)
-      → IsFiltered f g (msg.Chunks op (selected_chunks f i filter))
+  get_filtered : (op : ℕ) (filter : Filter) → is_whole f.kind filter ≡ true → IsFiltered f g (Msg.Get op filter)
+      → IsFiltered f g (Msg.Chunks op (selected_chunks f i filter))
   get_filtered op filter whole its source destination o known =
       subst (λ q. AreWithinIf f g q (selected_chunks f i filter)) (sym (its source destination o known)) (selected_within op filter whole)
 
   pub instance_filtered : (s r : ℕ) (m : Msg) → Label f g s r m → IsFiltered f g m → Each (λ x. IsFiltered f g x.1) (instance_step f i m).sends
-  instance_filtered s r (msg.Get op filter) label its =
+  instance_filtered s r (Msg.Get op filter) label its =
       subst (λ xs. Each (λ x. IsFiltered f g x.1) xs) (sym (get_sent f i op filter)) (get_filtered op filter label.1 its, tt)
-  instance_filtered s r (msg.Standby op chunks) label its = answer_filtered op (instance_step f i (msg.Standby op chunks)).sends (standby_sent f i op chunks)
-  instance_filtered s r (msg.PutAll op chunk) label its = answer_filtered op (instance_step f i (msg.PutAll op chunk)).sends (put_all_sent f i op chunk)
-  instance_filtered s r (msg.Chunks op chunks) label its = tt
-  instance_filtered s r (msg.Kept op) label its = tt
+  instance_filtered s r (Msg.Standby op chunks) label its = answer_filtered op (instance_step f i (Msg.Standby op chunks)).sends (standby_sent f i op chunks)
+  instance_filtered s r (Msg.PutAll op chunk) label its = answer_filtered op (instance_step f i (Msg.PutAll op chunk)).sends (put_all_sent f i op chunk)
+  instance_filtered s r (Msg.Chunks op chunks) label its = tt
+  instance_filtered s r (Msg.Kept op) label its = tt
   instance_filtered s r m label its = all_others f g (instance_step f i m).sends (other_sent f i m refl)
 
 -- What any node sends.

@@ -5,10 +5,6 @@ use Rattle.proof_outlines.proofs.Words.{stored_of, with_parcels, source, destina
 use Rattle.proof_outlines.proofs.Words.{ShareState, home, Move, Copy, Share, Turn, turn_of, serving_of, share_of, place_of, ControllerState, Each, each-append}
 use Rattle.proof_outlines.proofs.Words.{by_if}
 use Rattle.std.specs.FinMap as finite
-use Rattle.nf_msgs.specs.declared.command.Order.TheVariants as order
-use Rattle.nf_msgs.specs.declared.msg.Msg.TheVariants as msg
-use Rattle.copy_share.specs.declared.copy_phase.CopyPhase.TheVariants as copies
-use Rattle.copy_share.specs.declared.share_phase.SharePhase.TheVariants as shares
 use Rattle.copy_share.specs.Copy as copy
 use Rattle.copy_share.specs.Share.{others as members_but}
 use Rattle.copy_share.specs.Share as share
@@ -31,18 +27,18 @@ module _ (P : Msg → Type 0) (others : (m : Msg) → is_uncopied m ≡ true →
 
   -- What a copy sends.
   abbrev HandsSo : ℕ → Msg → Type 0
-  HandsSo op m = (k : ℕ) (chunks : List Chunk) → m ≡ msg.Chunks k chunks → P (msg.Standby op chunks)
+  HandsSo op m = (k : ℕ) (chunks : List Chunk) → m ≡ Msg.Chunks k chunks → P (Msg.Standby op chunks)
 
   abbrev HandsAllSo : ℕ → Msg → Type 0
-  HandsAllSo op m = (k : ℕ) (chunk : Chunk) → m ≡ msg.AllChunk k chunk → P (msg.PutAll op chunk)
+  HandsAllSo op m = (k : ℕ) (chunk : Chunk) → m ≡ Msg.AllChunk k chunk → P (Msg.PutAll op chunk)
 
   source_hands : (plan : CopyPlan) (ph : CopyPhase) (m : Msg) → HandsSo plan.op m → HandsAllSo plan.op m → EachIs (copy.from_source plan ph m).sends
-  source_hands plan copies.Getting (msg.Chunks op chunks) a b = (a op chunks refl, tt)
-  source_hands plan copies.Getting (msg.AllChunk op chunk) a b = (b op chunk refl, tt)
+  source_hands plan CopyPhase.Getting (Msg.Chunks op chunks) a b = (a op chunks refl, tt)
+  source_hands plan CopyPhase.Getting (Msg.AllChunk op chunk) a b = (b op chunk refl, tt)
   source_hands plan ph m a b = tt
 
   destination_hands : (plan : CopyPlan) (ph : CopyPhase) (m : Msg) → EachIs (copy.from_destination plan ph m).sends
-  destination_hands plan copies.Keeping (msg.Kept op) = tt
+  destination_hands plan CopyPhase.Keeping (Msg.Kept op) = tt
   destination_hands plan ph m = tt
 
   copy_hands : (y : CopyState) (port : ℕ) (m : Msg) → HandsSo y.plan.op m → HandsAllSo y.plan.op m → EachIs (copy.row y port m).sends
@@ -52,47 +48,47 @@ module _ (P : Msg → Type 0) (others : (m : Msg) → is_uncopied m ≡ true →
 
   -- What a share sends.
   syncs_sent : (plan : SharePlan) (members : List ℕ) (chunks : List Chunk)
-      → EachIs (map (λ member. (instance_node member, msg.Sync (member == home plan) plan.op chunks)) members)
+      → EachIs (map (λ member. (instance_node member, Msg.Sync (member == home plan) plan.op chunks)) members)
   syncs_sent plan [] chunks = tt
-  syncs_sent plan (member ∷ members) chunks = (others (msg.Sync (member == home plan) plan.op chunks) refl, syncs_sent plan members chunks)
+  syncs_sent plan (member ∷ members) chunks = (others (Msg.Sync (member == home plan) plan.op chunks) refl, syncs_sent plan members chunks)
 
   setting_sent : (left : ℕ) (sends : List (ℕ × Msg)) → EachIs sends → EachIs (share.setting left sends).sends
   setting_sent left sends h = by_if (λ (r : share.ShareRow). EachIs r.sends) (left == 0) h h
 
-  fenced_sent : (plan : SharePlan) (ph : SharePhase) → P (msg.Get plan.op plan.filter) → EachIs (share.on_fenced plan ph).sends
-  fenced_sent plan shares.Fencing its = (its, tt)
+  fenced_sent : (plan : SharePlan) (ph : SharePhase) → P (Msg.Get plan.op plan.filter) → EachIs (share.on_fenced plan ph).sends
+  fenced_sent plan SharePhase.Fencing its = (its, tt)
   fenced_sent plan ph its = tt
 
   first_sent : (plan : SharePlan) (ph : SharePhase) (chunks : List Chunk) → EachIs (share.on_chunks plan ph chunks).sends
-  first_sent plan shares.Getting chunks =
+  first_sent plan SharePhase.Getting chunks =
       setting_sent (length (members_but plan (home plan))) (share.syncs plan (home plan) chunks) (syncs_sent plan (members_but plan (home plan)) chunks)
   first_sent plan ph chunks = tt
 
   shared_sent : (plan : SharePlan) (ph : SharePhase) (port : ℕ) (chunk : Chunk) → EachIs (share.on_shared plan ph port chunk).sends
-  shared_sent plan (shares.Out member) port chunk = by_if (λ (r : share.ShareRow). EachIs r.sends) (port == instance_node member)
+  shared_sent plan (SharePhase.Out member) port chunk = by_if (λ (r : share.ShareRow). EachIs r.sends) (port == instance_node member)
       (syncs_sent plan (members_but plan member) (chunk ∷ []))
       tt
   shared_sent plan ph port chunk = tt
 
   synced_sent : (ph : SharePhase) → EachIs (share.on_synced ph).sends
-  synced_sent (shares.Setting left) = setting_sent (left - 1) [] tt
-  synced_sent (shares.Syncing left) = tt
+  synced_sent (SharePhase.Setting left) = setting_sent (left - 1) [] tt
+  synced_sent (SharePhase.Syncing left) = tt
   synced_sent ph = tt
 
-  share_sent : (y : ShareState) (port : ℕ) (m : Msg) → P (msg.Get y.plan.op y.plan.filter) → EachIs (share.row y port m).sends
-  share_sent y port (msg.Fenced op) its =
+  share_sent : (y : ShareState) (port : ℕ) (m : Msg) → P (Msg.Get y.plan.op y.plan.filter) → EachIs (share.row y port m).sends
+  share_sent y port (Msg.Fenced op) its =
       elim (port == instance_node (home y.plan)) as (λ b. EachIs (if b then share.on_fenced y.plan y.phase else share.next_phase y.phase []).sends)
       [ true ↦ fenced_sent y.plan y.phase its | false ↦ tt ]
-  share_sent y port (msg.Chunks op chunks) its =
+  share_sent y port (Msg.Chunks op chunks) its =
       elim (port == instance_node (home y.plan)) as (λ b. EachIs (if b then share.on_chunks y.plan y.phase chunks else share.next_phase y.phase []).sends)
       [ true ↦ first_sent y.plan y.phase chunks | false ↦ tt ]
-  share_sent y port (msg.Shared op chunk) its = shared_sent y.plan y.phase port chunk
-  share_sent y port (msg.Synced op) its = synced_sent y.phase
+  share_sent y port (Msg.Shared op chunk) its = shared_sent y.plan y.phase port chunk
+  share_sent y port (Msg.Synced op) its = synced_sent y.phase
   share_sent y port m its = tt
 
   served_sent : (plan : SharePlan) (ph : SharePhase) (cells : List FullCell) → EachIs (share.service_if_idle plan ph cells).sends
-  served_sent plan shares.Idle (cell ∷ cells) = (others _ refl, tt)
-  served_sent plan shares.Idle [] = tt
+  served_sent plan SharePhase.Idle (cell ∷ cells) = (others _ refl, tt)
+  served_sent plan SharePhase.Idle [] = tt
   served_sent plan ph cells = tt
 
   serving_sent : (s : ControllerState) (o : Option Operation) → EachIs (serving_of o s.store).sends
@@ -107,12 +103,12 @@ module _ (P : Msg → Type 0) (others : (m : Msg) → is_uncopied m ≡ true →
   -- what an open operation is to send for a message
   abbrev pub TurnSo : Option Operation → Msg → Type 0
   TurnSo (Some (Copy y)) m = HandsSo y.plan.op m × HandsAllSo y.plan.op m
-  TurnSo (Some (Share y)) m = P (msg.Get y.plan.op y.plan.filter)
+  TurnSo (Some (Share y)) m = P (Msg.Get y.plan.op y.plan.filter)
   TurnSo o m = Unit {0}
 
   -- and a command, as it begins
   abbrev pub BeginSo : Msg → Type 0
-  BeginSo m = (k : Command) (source destination : List ℕ) (filter : Option Filter) → m ≡ msg.Asked k → k.what ≡ order.Copy source destination filter
+  BeginSo m = (k : Command) (source destination : List ℕ) (filter : Option Filter) → m ≡ Msg.Asked k → k.what ≡ Order.Copy source destination filter
       → P (copy.asks k.op filter)
 
   module _ (s : ControllerState) (port : ℕ) where
@@ -125,7 +121,7 @@ module _ (P : Msg → Type 0) (others : (m : Msg) → is_uncopied m ≡ true →
 
     after_sent : (op : ℕ) (t : Turn) (o : Option Answer) → EachIs t.sends → EachIs (ctrl.after_turn s op t o).sends
     after_sent op t None h = h
-    after_sent op t (Some a) h = each-both t.sends ((switch_node, msg.Answered op) ∷ []) h (others (msg.Answered op) refl, tt)
+    after_sent op t (Some a) h = each-both t.sends ((switch_node, Msg.Answered op) ∷ []) h (others (Msg.Answered op) refl, tt)
 
     pub handed_sent : (op : ℕ) (m : Msg) → TurnSo (finite.get s.operations op) m → EachIs (ctrl.hand_step s op port m).sends
     handed_sent op m its =
@@ -156,17 +152,17 @@ module _ (P : Msg → Type 0) (others : (m : Msg) → is_uncopied m ≡ true →
     shares_sent op filter [] = tt
     shares_sent op filter (member ∷ members) = (others _ refl, tt)
 
-    begins_sent : (k : Command) (what : Order) → k.what ≡ what → BeginSo (msg.Asked k) → EachIs (ctrl.begin_step s k.op what).sends
-    begins_sent k (order.Move source destination filter keep) e its = moves_sent k.op filter keep (place_of s.names source) (place_of s.names destination)
-    begins_sent k (order.Copy source destination filter) e its =
+    begins_sent : (k : Command) (what : Order) → k.what ≡ what → BeginSo (Msg.Asked k) → EachIs (ctrl.begin_step s k.op what).sends
+    begins_sent k (Order.Move source destination filter keep) e its = moves_sent k.op filter keep (place_of s.names source) (place_of s.names destination)
+    begins_sent k (Order.Copy source destination filter) e its =
         copies_sent k.op filter (place_of s.names source) (place_of s.names destination) (its k source destination filter refl e)
-    begins_sent k (order.Share members filter) e its = shares_sent k.op filter (filter_map (place_of s.names) members)
+    begins_sent k (Order.Share members filter) e its = shares_sent k.op filter (filter_map (place_of s.names) members)
 
-    decided_sent : (k : Command) (o : Option Answer) → BeginSo (msg.Asked k) → EachIs (ctrl.decision_step s k.op k.what o).sends
-    decided_sent k (Some a) its = (others (msg.Answered k.op) refl, tt)
+    decided_sent : (k : Command) (o : Option Answer) → BeginSo (Msg.Asked k) → EachIs (ctrl.decision_step s k.op k.what o).sends
+    decided_sent k (Some a) its = (others (Msg.Answered k.op) refl, tt)
     decided_sent k None its = begins_sent k k.what refl its
 
-    pub asked_sent : (k : Command) → BeginSo (msg.Asked k) → EachIs (ctrl.on_asked s k).sends
+    pub asked_sent : (k : Command) → BeginSo (Msg.Asked k) → EachIs (ctrl.on_asked s k).sends
     asked_sent k its = by_if (λ (r : ctrl.Step). EachIs r.sends) (finite.contains_key s.operations k.op) tt (decided_sent k (ctrl.refusal s k.what) its)
 
     row_sent : (m : Msg) → TurnsSo m → BeginSo m → EachIs (ctrl.row s port m).sends
@@ -174,7 +170,7 @@ module _ (P : Msg → Type 0) (others : (m : Msg) → is_uncopied m ≡ true →
       still = λ m its begins. tt;
       ended = λ its begins. tt;
       stopped = λ i its begins. tt;
-      returned = λ op i cell its begins. (others (msg.Forward i (Pass op) cell) refl, tt);
+      returned = λ op i cell its begins. (others (Msg.Forward i (Pass op) cell) refl, tt);
       handed = λ op m e its begins. handed_sent op m (its op e);
       diverted = λ cell its begins. queued_sent cell (share_of s.operations (flow_of s.site cell.packet).0);
       asked = λ k its begins. asked_sent k begins;
@@ -183,4 +179,4 @@ module _ (P : Msg → Type 0) (others : (m : Msg) → is_uncopied m ≡ true →
     pub controller_sent : (m : Msg) → TurnsSo m → BeginSo m → EachIs (ctrl.controller_step s port m).sends
     controller_sent m its begins =
         let did = ctrl.row s port m in
-        each-both did.sends (ctrl.finish_of did.node) (row_sent m its begins) (by_if EachIs (ctrl.may_finish did.node) (others msg.Finish refl, tt) tt)
+        each-both did.sends (ctrl.finish_of did.node) (row_sent m its begins) (by_if EachIs (ctrl.may_finish did.node) (others Msg.Finish refl, tt) tt)

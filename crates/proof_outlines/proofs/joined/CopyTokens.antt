@@ -2,10 +2,8 @@
 use Rattle.proof_outlines.proofs.Words.{◌≡◌, ℕ, zero, suc, ◌+◌, ◌<◌, ◌≤◌, true, inl, inr, Option, Some, None, List, [], ◌∷◌, get_or, refl, sym, ap, ◌∙◌, subst}
 use Rattle.proof_outlines.proofs.Words.{arith, if◌then◌else◌, ◌==◌, nat_tests, Chunk, Semantics, Msg, Note, CopyState, Operation, Move, Copy, Share}
 use Rattle.proof_outlines.proofs.Words.{ControllerState, controller_step, instance_step, switch_step, Network, Stepped, reaches, world_next, at, Takes}
-use Rattle.proof_outlines.proofs.Words.{taken_outcome, EachSent, total, sent_weight, total_after, Node, Controller, node_step, by_if}
+use Rattle.proof_outlines.proofs.Words.{taken_outcome, EachSent, total, sent_weight, total_after, Node, Controller, node_step, by_if, InstanceState}
 use Rattle.std.specs.FinMap as finite
-use Rattle.nf_msgs.specs.declared.msg.Msg.TheVariants as msg
-use Rattle.instance_worker.specs.declared.instance.Instance.{Instance as InstanceState}
 use Rattle.proof_outlines.proofs.joined.Words.{Given, Label, Joined, node_of}
 use Rattle.proof_outlines.proofs.joined.CopyAnswers.{is_uncopied, AreUncopied, IsAnswer, get_sent, standby_sent, put_all_sent, other_sent}
 use Rattle.proof_outlines.proofs.joined.CopyCounts.{keeps_of, keeping, keeps_sent, light_others}
@@ -32,19 +30,19 @@ module _ {F R : Type 0} (f : Semantics R) (n : ℕ) where
   uncopied_falls i m e = let sent = uncopied_sent n (instance_step f i m).sends (other_sent f i m e) in omega (arith, sent)
 
   pub instance_falls : (i : InstanceState F R) (m : Msg) → keeps_sent n (instance_step f i m).sends ≤ keeps_of n m
-  instance_falls i (msg.Get op filter) = let sent = ap (keeps_sent n) (get_sent f i op filter) in omega (arith, sent)
-  instance_falls i (msg.Standby op chunks) = answer_falls n op (instance_step f i (msg.Standby op chunks)).sends (standby_sent f i op chunks)
-  instance_falls i (msg.PutAll op chunk) = answer_falls n op (instance_step f i (msg.PutAll op chunk)).sends (put_all_sent f i op chunk)
-  instance_falls i (msg.Chunks op chunks) = omega arith
-  instance_falls i (msg.Kept op) = omega arith
+  instance_falls i (Msg.Get op filter) = let sent = ap (keeps_sent n) (get_sent f i op filter) in omega (arith, sent)
+  instance_falls i (Msg.Standby op chunks) = answer_falls n op (instance_step f i (Msg.Standby op chunks)).sends (standby_sent f i op chunks)
+  instance_falls i (Msg.PutAll op chunk) = answer_falls n op (instance_step f i (Msg.PutAll op chunk)).sends (put_all_sent f i op chunk)
+  instance_falls i (Msg.Chunks op chunks) = omega arith
+  instance_falls i (Msg.Kept op) = omega arith
   instance_falls i m = uncopied_falls i m refl
 
 -- The switch sends none.
 module _ {R : Type 0} (f : Semantics R) (g : Given) (n : ℕ) where
   pub switch_light : (r : ℕ) (m : Msg) → Label f g 0 r m → keeps_of n m ≡ 0
-  switch_light r (msg.Standby op chunks) label = let never = label.0.0 in cc
-  switch_light r (msg.PutAll op chunk) label = let never = label.0 in cc
-  switch_light r (msg.Kept op) label = let never = label.0 in absurd (omega (arith, never))
+  switch_light r (Msg.Standby op chunks) label = let never = label.0.0 in cc
+  switch_light r (Msg.PutAll op chunk) label = let never = label.0 in cc
+  switch_light r (Msg.Kept op) label = let never = label.0 in absurd (omega (arith, never))
   switch_light r m label = refl
 
   pub switch_sends_none : (sends : List (ℕ × Msg)) → EachSent (Label f g) 0 sends → keeps_sent n sends ≡ 0
@@ -123,12 +121,12 @@ module _ {F R : Type 0} (f : Semantics R) (g : Given) (count : ℕ) (w : Network
   open_copy op (Some (Share s)) e some = absurd (omega (arith, some))
 
   pub token_open : (k p op : ℕ) (chunks : List Chunk) (rest : List Msg) → 1 < count
-      → Takes (node_step f) count w k p (node_of j.nodes k) (msg.Standby op chunks) rest → HasTokens w → IsOpenCopy op
+      → Takes (node_step f) count w k p (node_of j.nodes k) (Msg.Standby op chunks) rest → HasTokens w → IsOpenCopy op
   token_open k p op chunks rest some takes h =
       let c = j.nodes.controller in
       let same : h.controller ≡ c = token_controller some h in
       let idle : Node F R → ℕ → Msg → Stepped (Node F R) Msg Note = λ node port m. record { node = node; sends = []; notes = [] } in
-      let idly : Takes idle count w k p (node_of j.nodes k) (msg.Standby op chunks) rest = record {
+      let idly : Takes idle count w k p (node_of j.nodes k) (Msg.Standby op chunks) rest = record {
         count = takes.count;
         some = takes.some;
         square = takes.square;
@@ -137,7 +135,7 @@ module _ {F R : Type 0} (f : Semantics R) (g : Given) (count : ℕ) (w : Network
         node_is = takes.node_is;
         waits = takes.waits;
       } in
-      let weight = total_after idle count w k p (node_of j.nodes k) (msg.Standby op chunks) rest idly (keeps_of op) in
+      let weight = total_after idle count w k p (node_of j.nodes k) (Msg.Standby op chunks) rest idly (keeps_of op) in
       let self : (op == op) ≡ true = grind (arith, nat_tests) in
       let one : ◌≡◌ {A = ℕ} (if op == op then 1 else 0) 1 = ap (λ b. if b then 1 else 0) self in
       let before : total (keeps_of op) w ≤ keeping (finite.get c.operations op) = subst (λ x. total (keeps_of op) w ≤ keeping (finite.get x.operations op))

@@ -2,12 +2,8 @@
 use Rattle.proof_outlines.proofs.Words.{◌≡◌, ℕ, Bool, true, false, Option, Some, None, List, [], ◌∷◌, ◌++◌, refl, sym, ap, ◌∙◌, subst, arith, if◌then◌else◌}
 use Rattle.proof_outlines.proofs.Words.{◌&&◌, ◌||◌, ◌==◌, nat_tests, or-true, Filter, Semantics, takes, stored_of, MovePlan, Operation, Move, Copy, Share}
 use Rattle.proof_outlines.proofs.Words.{ControllerState, place_of, Note, instance_node, Open, find_op, sw_target, OpenShare, S_install, share_target}
-use Rattle.proof_outlines.proofs.Words.{installs_in, owner_after_order, hands_on_plain, installed-append}
+use Rattle.proof_outlines.proofs.Words.{installs_in, owner_after_order, hands_on_plain, installed-append, Unit, Target, Order}
 use Rattle.std.specs.FinMap as finite
-use Rattle.nf_function.specs.declared.unit.Unit as units
-use Rattle.switch_rules.specs.declared.target.Target.TheVariants as target
-use Rattle.nf_msgs.specs.declared.command.Order.TheVariants as order
-use Rattle.nf_msgs.specs.declared.note.Note.TheVariants as note
 use Rattle.proof_machines.proofs.unit.Real as real
 use Rattle.proof_machines.proofs.net.Net as net
 use Rattle.proof_outlines.proofs.joined.Words.{Sees, is_whole, unit_fits, takes_same, takes_whole, Given, place, IsPlan, IsInstall, IsDivert, owner_by}
@@ -16,43 +12,43 @@ use Rattle.proof_outlines.proofs.joined.OwnerLemmas.{owner_after-append, loose_a
 use Rattle.proof_outlines.proofs.joined.LogLemmas.{diverted_after-append}
 
 -- a change of the rules more
-module _ (g : Given) (u : units.Unit) (log : List Note) (op : ℕ) where
-  pub owner_next : owner_by g u (installs_in (log ++ note.Installed op ∷ []))
+module _ (g : Given) (u : Unit) (log : List Note) (op : ℕ) where
+  pub owner_next : owner_by g u (installs_in (log ++ Note.Installed op ∷ []))
       ≡ owner_after_order g.names g.orders u (g.orders op) (owner_by g u (installs_in log))
-  owner_next = ap (owner_by g u) (installed-append log (note.Installed op ∷ [])) ∙ owner_after-append g.names g.orders u (g.first u) (installs_in log) (op ∷ [])
+  owner_next = ap (owner_by g u) (installed-append log (Note.Installed op ∷ [])) ∙ owner_after-append g.names g.orders u (g.first u) (installs_in log) (op ∷ [])
 
-  loose_next : loose_by g u (installs_in (log ++ note.Installed op ∷ []))
+  loose_next : loose_by g u (installs_in (log ++ Note.Installed op ∷ []))
       ≡ loose_by g u (installs_in log) || (hands_on_plain g.names g.orders u (g.orders op) (owner_by g u (installs_in log)) || false)
-  loose_next = ap (loose_by g u) (installed-append log (note.Installed op ∷ [])) ∙ loose_after-append g.names g.orders u (g.first u) (installs_in log) (op ∷ [])
+  loose_next = ap (loose_by g u) (installed-append log (Note.Installed op ∷ [])) ∙ loose_after-append g.names g.orders u (g.first u) (installs_in log) (op ∷ [])
 
-  pub diverted_next : is_diverted g u (installs_in (log ++ note.Installed op ∷ []))
+  pub diverted_next : is_diverted g u (installs_in (log ++ Note.Installed op ∷ []))
       ≡ is_diverted g u (installs_in log) || (diverts g u (g.orders op) (owner_by g u (installs_in log)) || false)
-  diverted_next = ap (is_diverted g u) (installed-append log (note.Installed op ∷ [])) ∙ diverted_after-append g u (g.first u) (installs_in log) (op ∷ [])
+  diverted_next = ap (is_diverted g u) (installed-append log (Note.Installed op ∷ [])) ∙ diverted_after-append g u (g.first u) (installs_in log) (op ∷ [])
 
-  pub loose_stays : loose_by g u (installs_in log) ≡ true → loose_by g u (installs_in (log ++ note.Installed op ∷ [])) ≡ true
+  pub loose_stays : loose_by g u (installs_in log) ≡ true → loose_by g u (installs_in (log ++ Note.Installed op ∷ [])) ≡ true
   loose_stays e = loose_next ∙ ap (λ b. b || (hands_on_plain g.names g.orders u (g.orders op) (owner_by g u (installs_in log)) || false)) e
 
   pub loose_begins : hands_on_plain g.names g.orders u (g.orders op) (owner_by g u (installs_in log)) ≡ true
-      → loose_by g u (installs_in (log ++ note.Installed op ∷ [])) ≡ true
+      → loose_by g u (installs_in (log ++ Note.Installed op ∷ [])) ≡ true
   loose_begins e = loose_next ∙ ap (λ b. loose_by g u (installs_in log) || (b || false)) e ∙ or-true (loose_by g u (installs_in log))
 
   -- where its packets go then
-  pub target_next : target_by g u (installs_in (log ++ note.Installed op ∷ []))
+  pub target_next : target_by g u (installs_in (log ++ Note.Installed op ∷ []))
       ≡ (if is_diverted g u (installs_in log) || (diverts g u (g.orders op) (owner_by g u (installs_in log)) || false) then 1
       else instance_node (owner_after_order g.names g.orders u (g.orders op) (owner_by g u (installs_in log))))
-  target_next = ap (λ b. if b then 1 else instance_node (owner_by g u (installs_in (log ++ note.Installed op ∷ [])))) diverted_next
+  target_next = ap (λ b. if b then 1 else instance_node (owner_by g u (installs_in (log ++ Note.Installed op ∷ [])))) diverted_next
       ∙ ap (λ i. if is_diverted g u (installs_in log) || (diverts g u (g.orders op) (owner_by g u (installs_in log)) || false) then 1 else instance_node i)
       owner_next
 
 -- packets that go to an instance: the unit isn't diverted, and that instance owns it
-pub owner_at : (g : Given) (u : units.Unit) (ops : List ℕ) (i : ℕ) → target_by g u ops ≡ instance_node i → owner_by g u ops ≡ i
+pub owner_at : (g : Given) (u : Unit) (ops : List ℕ) (i : ℕ) → target_by g u ops ≡ instance_node i → owner_by g u ops ≡ i
 owner_at g u ops i = by_test (is_diverted g u ops)
   where
     by_test : (b : Bool) → (if b then 1 else instance_node (owner_by g u ops)) ≡ instance_node i → owner_by g u ops ≡ i
     by_test true e = absurd (omega (arith, e))
     by_test false e = omega (arith, e)
 
-same_keep : {a b c d : List ℕ} {p q : Filter} {k l : Bool} → Some (order.Move a b p k) ≡ Some (order.Move c d q l) → k ≡ l
+same_keep : {a b c d : List ℕ} {p q : Filter} {k l : Bool} → Some (Order.Move a b p k) ≡ Some (Order.Move c d q l) → k ≡ l
 same_keep e = cc
 
 -- A target that a change of the rules leaves: by whether a share has the unit, and who owns it.
@@ -88,9 +84,9 @@ module _ (from i : ℕ) where
 
 module _ {R : Type 0} (f : Semantics R) (g : Given) where
   -- the order of a change of the rules is a move between its two instances
-  module _ (op : ℕ) (filter : Filter) (from dst : ℕ) (h : IsInstall g op (record { filter = filter; from = from; to = target.Instance dst })) where
-    order_is : g.orders op ≡ Some (order.Move h.plan_is.source h.plan_is.destination filter h.plan.keep)
-    order_is = h.plan_is.order_is ∙ ap (λ k. Some (order.Move h.plan_is.source h.plan_is.destination k h.plan.keep)) h.filter_is
+  module _ (op : ℕ) (filter : Filter) (from dst : ℕ) (h : IsInstall g op (record { filter = filter; from = from; to = Target.Instance dst })) where
+    order_is : g.orders op ≡ Some (Order.Move h.plan_is.source h.plan_is.destination filter h.plan.keep)
+    order_is = h.plan_is.order_is ∙ ap (λ k. Some (Order.Move h.plan_is.source h.plan_is.destination k h.plan.keep)) h.filter_is
 
     source_is : place_of g.names h.plan_is.source ≡ Some from
     source_is = h.plan_is.from_is ∙ ap Some h.from_is
@@ -99,9 +95,9 @@ module _ {R : Type 0} (f : Semantics R) (g : Given) where
     destination_is = let to_is = h.to_is in let same : h.plan.to ≡ dst = cc in h.plan_is.to_is ∙ ap Some same
 
     -- where a unit's packets go after it is where its route then leads
-    pub handed : (to : units.Unit → ℕ) (u : units.Unit) → unit_fits f.kind u ≡ true → (log : List Note) → is_whole f.kind filter ≡ true
+    pub handed : (to : Unit → ℕ) (u : Unit) → unit_fits f.kind u ≡ true → (log : List Note) → is_whole f.kind filter ≡ true
         → to u ≡ target_by g u (installs_in log) → sw_target (S f g) to (net.Mv filter (real.M_install op (instance_node from) (instance_node dst))) u
-        ≡ target_by g u (installs_in (log ++ note.Installed op ∷ []))
+        ≡ target_by g u (installs_in (log ++ Note.Installed op ∷ []))
     handed to u fits log whole at =
         let i : ℕ = owner_by g u (installs_in log) in
         let d : Bool = is_diverted g u (installs_in log) in
@@ -116,7 +112,7 @@ module _ {R : Type 0} (f : Semantics R) (g : Given) where
         ∙ sym (target_next g u log op ∙ after)
 
     -- and a plain one hands on what it takes from its source
-    pub plain_hands : (u : units.Unit) (i : ℕ) → takes filter u ≡ true → i ≡ from → h.plan.keep ≡ false
+    pub plain_hands : (u : Unit) (i : ℕ) → takes filter u ≡ true → i ≡ from → h.plan.keep ≡ false
         → hands_on_plain g.names g.orders u (g.orders op) i ≡ true
     plain_hands u i taken at plain =
         let what = order_is in let source = source_is in
@@ -124,9 +120,9 @@ module _ {R : Type 0} (f : Semantics R) (g : Given) where
         rw (what, source, taken, plain, on) refl
 
   -- a share takes a unit's packets from its home
-  pub handed_to_share : (op : ℕ) (filter : Filter) (from : ℕ) → IsDivert g op filter from → (to : units.Unit → ℕ) (u : units.Unit)
+  pub handed_to_share : (op : ℕ) (filter : Filter) (from : ℕ) → IsDivert g op filter from → (to : Unit → ℕ) (u : Unit)
       → unit_fits f.kind u ≡ true → (log : List Note) → is_whole f.kind filter ≡ true → to u ≡ target_by g u (installs_in log)
-      → share_target (S f g) (A f g) to (S_install op filter (instance_node from)) u ≡ target_by g u (installs_in (log ++ note.Installed op ∷ []))
+      → share_target (S f g) (A f g) to (S_install op filter (instance_node from)) u ≡ target_by g u (installs_in (log ++ Note.Installed op ∷ []))
   handed_to_share op filter from h to u fits log whole at =
       let i : ℕ = owner_by g u (installs_in log) in
       let d : Bool = is_diverted g u (installs_in log) in
@@ -152,6 +148,6 @@ module _ {R : Type 0} (f : Semantics R) (g : Given) where
       by_got (Some (Share s)) got sees = absurd sees
       by_got (Some (Move m)) got sees =
           let move = is.moves op m got in
-          let same : g.orders op ≡ Some (order.Move move.plan.source move.plan.destination m.plan.filter m.plan.keep) = ap g.orders (sym move.op_is)
+          let same : g.orders op ≡ Some (Order.Move move.plan.source move.plan.destination m.plan.filter m.plan.keep) = ap g.orders (sym move.op_is)
           ∙ move.plan.order_is in
           same_keep (sym its.order_is ∙ same) ∙ ap (λ o. o.keep) (sym sees.op) ∙ plain

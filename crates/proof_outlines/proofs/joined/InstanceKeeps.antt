@@ -2,13 +2,9 @@
 use Rattle.proof_outlines.proofs.Words.{◌≡◌, ℕ, suc, ◌+◌, ◌^◌, Bool, true, false, cond, Option, Some, None, List, [], ◌∷◌, length, refl, ap, ◌∙◌, is_some}
 use Rattle.proof_outlines.proofs.Words.{arith, add-one, ◌&&◌, not, nat_lt, AllByRecursion, keys_of, nat_tests, IsDistinct-head, IsDistinct-tail, Packet, Site}
 use Rattle.proof_outlines.proofs.Words.{Chunk, Kind, unit_cmp, has_hosts, is_transport, is_unit, units_total, Fits, Semantics, is_sound, kept_after, unit_at}
-use Rattle.proof_outlines.proofs.Words.{Records, same_unit, without, is_among, after_packet, AreSound, are_good, sound_with_kept, sound_retain_keys, Each}
-use Rattle.std.specs.List.{IsDistinct}
+use Rattle.proof_outlines.proofs.Words.{Records, same_unit, without, is_among, after_packet, AreSound, are_good, sound_with_kept, sound_retain_keys, Each, Unit}
+use Rattle.proof_outlines.proofs.Words.{IsDistinct, OfFlow, OfHost, FunctionLaws, records_of}
 use Rattle.std.specs.FinMap as finite
-use Rattle.nf_function.specs.declared.unit.Unit as units
-use Rattle.nf_function.specs.declared.unit.Unit.TheVariants.{Flow as OfFlow, Host as OfHost}
-use Rattle.nf_function.specs.Records.{Laws as FunctionLaws}
-use Rattle.record_table.specs.Chunks.{records_of}
 use Rattle.record_table.proofs.ChunkFronts.{equal_to}
 use Rattle.record_table.proofs.RecordLookUps.{at}
 use Rattle.proof_outlines.proofs.joined.Words.{unit_fits, entries, HasRecords, AreValid, Given, IsGoodChunk, AreGoodChunks}
@@ -27,13 +23,13 @@ with_first true true to true true false e tells h = cc
 with_first true true to true true true false tells h = cc
 with_first true true to true true true true tells h = rw (tells refl) refl
 
-pub unit_is_fit : (kind : Kind) (u : units.Unit) → is_unit kind u ≡ true → unit_fits kind u ≡ true
+pub unit_is_fit : (kind : Kind) (u : Unit) → is_unit kind u ≡ true → unit_fits kind u ≡ true
 unit_is_fit kind (OfFlow flow) e = with_first (not (has_hosts kind)) (is_transport flow.proto) (nat_lt flow.proto (2 ^ 8)) (nat_lt flow.local (2 ^ 32))
     (nat_lt flow.lport (2 ^ 16)) (nat_lt flow.remote (2 ^ 32)) (nat_lt flow.rport (2 ^ 16)) (proto_fits flow.proto) e
 unit_is_fit kind (OfHost host) e = e
 
 module _ {R : Type 0} (f : Semantics R) (laws : FunctionLaws f) where
-  sound_is_fit : (u : units.Unit) (o : Option R) → is_sound f u o ≡ true → is_some o ≡ true → unit_fits f.kind u ≡ true
+  sound_is_fit : (u : Unit) (o : Option R) → is_sound f u o ≡ true → is_some o ≡ true → unit_fits f.kind u ≡ true
   sound_is_fit u None sound e = cc
   sound_is_fit u (Some r) sound e = unit_is_fit f.kind u (laws.unit u r sound)
 
@@ -51,16 +47,16 @@ module _ {R : Type 0} (f : Semantics R) (laws : FunctionLaws f) where
       let u = unit_at f.kind site p in
       sound_with_kept f live u (kept_after f site (finite.get live u) p) sound (stepped_sound site p (finite.get live u) fits (sound u))
 
-  pub sound_without : (us : List units.Unit) (live : Records R) → AreSound f live → AreSound f (without us live)
+  pub sound_without : (us : List Unit) (live : Records R) → AreSound f live → AreSound f (without us live)
   sound_without us live sound = sound_retain_keys f live (λ unit. not (is_among us unit)) sound
 
 module _ {R : Type 0} where
-  absent : (u : units.Unit) (es : List (units.Unit × R)) → AllByRecursion (λ v. same_unit u v ≡ false) (keys_of es) → at es u ≡ None
+  absent : (u : Unit) (es : List (Unit × R)) → AllByRecursion (λ v. same_unit u v ≡ false) (keys_of es) → at es u ≡ None
   absent u [] apart = refl
   absent u (e ∷ es) apart = rw apart.0 (absent u es apart.1)
 
   -- a map from entries of different units has as many
-  pub as_many : (es : List (units.Unit × R)) → IsDistinct same_unit (keys_of es) → finite.len (finite.from_entries {R = unit_cmp} es) ≡ length es
+  pub as_many : (es : List (Unit × R)) → IsDistinct same_unit (keys_of es) → finite.len (finite.from_entries {R = unit_cmp} es) ≡ length es
   as_many [] d = finite.len-empty unit_cmp R
   as_many (e ∷ es) d =
       let none = finite.get-from_entries units_total es e.0 ∙ absent e.0 es (IsDistinct-head same_unit e.0 (keys_of es) d) in

@@ -3,17 +3,11 @@ use Rattle.proof_outlines.proofs.Words.{◌≡◌, ℕ, ◌+◌, ◌≤◌, Bool
 use Rattle.proof_outlines.proofs.Words.{◌&&◌, ◌||◌, ◌==◌, not, find, nat_lt, is_some, Ok, Filter, matches, flow_of, Chunk, Fits, Semantics, unit_at, part}
 use Rattle.proof_outlines.proofs.Words.{after_packet, AreSound, Action, Mark, FullCell, Answer, Piece, Msg, switch_node, instance_node, Instance, to_controller}
 use Rattle.proof_outlines.proofs.Words.{is_live, with_count, table_after, share_message, carry_step, on_delete, with_live, with_standby, with_records}
-use Rattle.proof_outlines.proofs.Words.{tally_put, instance_step, EachSent, Each, each-append, is_free, sent-append, split, by_if}
+use Rattle.proof_outlines.proofs.Words.{tally_put, instance_step, EachSent, Each, each-append, is_free, sent-append, split, by_if, Unit, FunctionLaws}
+use Rattle.proof_outlines.proofs.Words.{EventRule}
 use Rattle.std.specs.FinMap as finite
-use Rattle.nf_function.specs.declared.unit.Unit as units
-use Rattle.nf_function.specs.Records.{Laws as FunctionLaws}
-use Rattle.event_filter.specs.declared.action.Action.TheVariants as action
-use Rattle.event_filter.specs.declared.mark.Mark.TheVariants as mark
-use Rattle.event_filter.specs.declared.rule.Rule.{Rule as EventRule}
 use Rattle.event_filter.specs.Rules as rules
 use Rattle.event_filter.proofs.RulePlaces.{HasNone, one_each-changed, one_each-push, one_each-without}
-use Rattle.nf_msgs.specs.declared.answer.Answer.TheVariants as answer
-use Rattle.nf_msgs.specs.declared.msg.Msg.TheVariants as msg
 use Rattle.instance_worker.specs.Instance.{Step, process_step, all_processed, on_carry, on_fence}
 use Rattle.proof_outlines.proofs.joined.Words.{is_whole, number, rule_of, is_done, IsInstance, held_genuine, may_process, refusal_of, WaysOfInstance}
 use Rattle.proof_outlines.proofs.joined.Words.{instance_fits, Given, place, Genuine, AreGoodChunks, Label}
@@ -105,9 +99,9 @@ module _ {F R : Type 0} (f : Semantics R) (laws : FunctionLaws f) (g : Given) (f
   sound_part i home cell h stands genuine = sound_after f laws i.site (part i.table home) cell.packet (fits_at i cell h genuine)
       (part_sound f i.table home (record { live = h.sound; standby = stands }))
 
-  told_sends : (j : Instance F R) (mk : Mark) (u : units.Unit) (cell : FullCell) → AreBothSound f j.table → cell.pool ≡ 0
-      → EachSent (Label f g) k (to_controller (share_message f j mk u) ++ (switch_node, msg.Credit cell) ∷ [])
-  told_sends j (mark.Shared op home) u cell both pool =
+  told_sends : (j : Instance F R) (mk : Mark) (u : Unit) (cell : FullCell) → AreBothSound f j.table → cell.pool ≡ 0
+      → EachSent (Label f g) k (to_controller (share_message f j mk u) ++ (switch_node, Msg.Credit cell) ∷ [])
+  told_sends j (Mark.Shared op home) u cell both pool =
       shared_sends f laws g k op u (finite.get (part j.table home) u) cell two pool (part_sound f j.table home both u)
   told_sends j mk u cell both pool = ((two, refl, pool), tt)
 
@@ -130,13 +124,13 @@ module _ {F R : Type 0} (f : Semantics R) (laws : FunctionLaws f) (g : Given) (f
   unfolding all_processed
   all_leave i [] h stands all = record { node = h; stands = stands; notes = tt; sends = tt }
   all_leave i (cell ∷ cells) h stands all =
-      let one = processed_leaves i mark.Plain cell h stands all.0 in
-      let rest = all_leave (process_step f i mark.Plain cell).node cells one.node one.stands all.1 in
+      let one = processed_leaves i Mark.Plain cell h stands all.0 in
+      let rest = all_leave (process_step f i Mark.Plain cell).node cells one.node one.stands all.1 in
       record {
         node = rest.node;
         stands = rest.stands;
-        notes = each-append (IsOwn k) (process_step f i mark.Plain cell).notes _ one.notes rest.notes;
-        sends = sent-append (Label f g) k (process_step f i mark.Plain cell).sends _ one.sends rest.sends;
+        notes = each-append (IsOwn k) (process_step f i Mark.Plain cell).notes _ one.notes rest.notes;
+        sends = sent-append (Label f g) k (process_step f i Mark.Plain cell).sends _ one.sends rest.sends;
       }
 
   -- an instance with other rules
@@ -148,14 +142,14 @@ module _ {F R : Type 0} (f : Semantics R) (laws : FunctionLaws f) (g : Given) (f
 
   carried_leaves : (i : Instance F R) (cell : FullCell) (o : Option (EventRule FullCell))
       → ((r : EventRule FullCell) → o ≡ Some r → is_free (rule_of r.action) ≡ false) → Right i → AreSound f i.table.standby → Genuine f g cell
-      → Leaves f g k (carry_step f i mark.Plain cell (rules.decided_by o))
-  carried_leaves i cell None ruled h stands genuine = processed_leaves i mark.Plain cell h stands genuine
+      → Leaves f g k (carry_step f i Mark.Plain cell (rules.decided_by o))
+  carried_leaves i cell None ruled h stands genuine = processed_leaves i Mark.Plain cell h stands genuine
   carried_leaves i cell (Some r) ruled h stands genuine = by_action r.action refl
     where
-      by_action : (a : Action) → r.action ≡ a → Leaves f g k (carry_step f i mark.Plain cell (rules.decided r.op r.action))
-      by_action action.Process e = let off : true ≡ false = rw e at (ruled r refl) in cc
-      by_action action.Drop e = rw e (record { node = h; stands = stands; notes = tt; sends = (((two, refl), genuine), tt) })
-      by_action action.Buffer e = rw e (record {
+      by_action : (a : Action) → r.action ≡ a → Leaves f g k (carry_step f i Mark.Plain cell (rules.decided r.op r.action))
+      by_action Action.Process e = let off : true ≡ false = rw e at (ruled r refl) in cc
+      by_action Action.Drop e = rw e (record { node = h; stands = stands; notes = tt; sends = (((two, refl), genuine), tt) })
+      by_action Action.Buffer e = rw e (record {
         node = with_rules i (rules.with_held i.rules r.op cell) h
             (rules_changed (λ x. is_whole f.kind x.filter ≡ true) r.op (rules.holding cell) (λ x t. t) i.rules h.rules.whole)
             (rules_changed (λ x. Each (Genuine f g) x.held) r.op (rules.holding cell) (λ x t. each-append (Genuine f g) x.held (cell ∷ []) t (genuine, tt))
@@ -167,7 +161,7 @@ module _ {F R : Type 0} (f : Semantics R) (laws : FunctionLaws f) (g : Given) (f
         sends = tt;
       })
 
-  carry_leaves : (i : Instance F R) (cell : FullCell) → Right i → AreSound f i.table.standby → Genuine f g cell → Leaves f g k (on_carry f i mark.Plain cell)
+  carry_leaves : (i : Instance F R) (cell : FullCell) → Right i → AreSound f i.table.standby → Genuine f g cell → Leaves f g k (on_carry f i Mark.Plain cell)
   unfolding on_carry
   carry_leaves i cell h stands genuine = carried_leaves i cell (rules.first_rule i.rules (flow_of i.site cell.packet).0)
       (λ r e. found_has (λ x. is_free (rule_of x.action) ≡ false) (λ x. matches x.filter (flow_of i.site cell.packet).0) i.rules r h.held e) h stands genuine
@@ -196,11 +190,11 @@ module _ {F R : Type 0} (f : Semantics R) (laws : FunctionLaws f) (g : Given) (f
   refused_is i piece true why e =
       by_tests (nat_lt i.limit (finite.len i.table.live + piece.total)) (i.marked && nat_lt 1 piece.newest) e
     where
-      by_tests : (a b : Bool) → (if a then Some (answer.Import (finite.len i.table.live) piece.total i.limit) else if b
-          then Some (answer.Old piece.newest 1) else None) ≡ Some why
+      by_tests : (a b : Bool) → (if a then Some (Answer.Import (finite.len i.table.live) piece.total i.limit) else if b
+          then Some (Answer.Old piece.newest 1) else None) ≡ Some why
           → is_done why ≡ false
-      by_tests true b is = subst (λ w. is_done w ≡ false) (let same : answer.Import (finite.len i.table.live) piece.total i.limit ≡ why = cc in same) refl
-      by_tests false true is = subst (λ w. is_done w ≡ false) (let same : answer.Old piece.newest 1 ≡ why = cc in same) refl
+      by_tests true b is = subst (λ w. is_done w ≡ false) (let same : Answer.Import (finite.len i.table.live) piece.total i.limit ≡ why = cc in same) refl
+      by_tests false true is = subst (λ w. is_done w ≡ false) (let same : Answer.Old piece.newest 1 ≡ why = cc in same) refl
       by_tests false false is = cc
 
   with_chunks : (i : Instance F R) (chunks : List Chunk) → Right i → AreGoodChunks f g chunks → Right (with_live f i chunks)
@@ -272,8 +266,8 @@ module _ {F R : Type 0} (f : Semantics R) (laws : FunctionLaws f) (g : Given) (f
   -- what the step on any message of a run leaves
   pub instance_leaves : (i : Instance F R) (m : Msg) (p : ℕ) → Label f g p k m → Right i → AreSound f i.table.standby → Leaves f g k (instance_step f i m)
   unfolding on_carry
-  instance_leaves i (msg.Carry mark.Plain cell) p l h s = carry_leaves i cell h s l.1
-  instance_leaves i (msg.Carry (mark.Pass op) cell) p l h s = processed_leaves i (mark.Pass op) cell h s l.1
-  instance_leaves i (msg.Carry (mark.Shared op home) cell) p l h s = processed_leaves i (mark.Shared op home) cell h s l.1
-  instance_leaves i (msg.Fence op) p l h s = fence_leaves i op h s
+  instance_leaves i (Msg.Carry Mark.Plain cell) p l h s = carry_leaves i cell h s l.1
+  instance_leaves i (Msg.Carry (Mark.Pass op) cell) p l h s = processed_leaves i (Mark.Pass op) cell h s l.1
+  instance_leaves i (Msg.Carry (Mark.Shared op home) cell) p l h s = processed_leaves i (Mark.Shared op home) cell h s l.1
+  instance_leaves i (Msg.Fence op) p l h s = fence_leaves i op h s
   instance_leaves i m p l h s = instance_fits f Allows ways i m refl p l h s

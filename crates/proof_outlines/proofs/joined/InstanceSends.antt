@@ -3,21 +3,16 @@ use Rattle.proof_outlines.proofs.Words.{◌≡◌, ℕ, zero, suc, ◌≤◌, Bo
 use Rattle.proof_outlines.proofs.Words.{arith, nat_lt, nat_le, option_map, AllByRecursion, keys_of, nat_tests, length-map, length-drop, Filter, takes}
 use Rattle.proof_outlines.proofs.Words.{Semantics, is_sound, record_chunk, Records, same_unit, taken_by, AreSound, sound_retain_keys, valid_entries}
 use Rattle.proof_outlines.proofs.Words.{distinct_entries, spelled-record_chunk, FullCell, Piece, switch_node, WholePieces, piece_of, whole_of, pieces}
-use Rattle.proof_outlines.proofs.Words.{to_controller, chunk_told, EachSent, Each, Chunks, by_if}
-use Rattle.std.specs.List.{IsDistinct}
+use Rattle.proof_outlines.proofs.Words.{to_controller, chunk_told, EachSent, Each, Chunks, by_if, Unit, Msg, IsDistinct, FunctionLaws, pieces_from}
 use Rattle.std.specs.FinMap as finite
-use Rattle.nf_function.specs.declared.unit.Unit as units
-use Rattle.nf_function.specs.Records.{Laws as FunctionLaws}
 use Rattle.record_table.specs.Chunks.{chunks_of}
-use Rattle.nf_msgs.specs.declared.msg.Msg.TheVariants as msg
-use Rattle.instance_worker.specs.Pieces.{pieces_from}
 use Rattle.proof_outlines.proofs.joined.Words.{chunk_of, AreValid, entries_made, valid_take, valid_drop, map-take, map-drop, all_each, Given, IsGoodChunk}
 use Rattle.proof_outlines.proofs.joined.Words.{AreGoodChunks, IsGoodPiece, Label}
 use Rattle.proof_outlines.proofs.joined.InstanceKeeps.{unit_is_fit}
 
 -- a front and a rest of distinct units
 module _ {R : Type 0} where
-  apart_take : (u : units.Unit) (n : ℕ) (es : Chunks R) → AllByRecursion (λ v. same_unit u v ≡ false) (keys_of es)
+  apart_take : (u : Unit) (n : ℕ) (es : Chunks R) → AllByRecursion (λ v. same_unit u v ≡ false) (keys_of es)
       → AllByRecursion (λ v. same_unit u v ≡ false) (keys_of (take n es))
   apart_take u zero es h = tt
   apart_take u (suc n) [] h = tt
@@ -45,7 +40,7 @@ front_few (suc n) (x ∷ xs) = let rest = front_few n xs in omega (arith, rest)
 
 module _ {R : Type 0} (f : Semantics R) (laws : FunctionLaws f) (g : Given) where
   -- a chunk that was made of a valid record is good
-  made_good : (u : units.Unit) (r : R) → f.is_valid u r ≡ true → IsGoodChunk f g (chunk_of f laws (u, r))
+  made_good : (u : Unit) (r : R) → f.is_valid u r ≡ true → IsGoodChunk f g (chunk_of f laws (u, r))
   made_good u r valid = record {
     chunk = record { entry = (u, r); spells = spelled-record_chunk f laws u r valid; unit = refl };
     valid = valid;
@@ -85,25 +80,25 @@ module _ {R : Type 0} (f : Semantics R) (laws : FunctionLaws f) (g : Given) wher
       cut_good (whole_of (map (chunk_of f laws) es)) (length (map (chunk_of f laws) es)) es
       (let long = length-map es (chunk_of f laws) in omega (arith, long)) valid (distinct_entries (taken_by g' live))
 
-  pieces_sent : (k op : ℕ) → 2 ≤ k → (ps : List Piece) → Each (IsGoodPiece f g) ps → EachSent (Label f g) k (to_controller (map (msg.Piece op) ps))
+  pieces_sent : (k op : ℕ) → 2 ≤ k → (ps : List Piece) → Each (IsGoodPiece f g) ps → EachSent (Label f g) k (to_controller (map (Msg.Piece op) ps))
   pieces_sent k op two [] h = tt
   pieces_sent k op two (p ∷ ps) h = (((two, refl), h.0), pieces_sent k op two ps h.1)
 
   -- what a stream sends
   pub stream_sends : (k op : ℕ) (g' : Filter) (live : Records R) → 2 ≤ k → AreSound f live
-      → EachSent (Label f g) k (to_controller (map (msg.Piece op) (pieces (chunks_of f (taken_by g' live)))))
+      → EachSent (Label f g) k (to_controller (map (Msg.Piece op) (pieces (chunks_of f (taken_by g' live)))))
   stream_sends k op g' live two sound = pieces_sent k op two (pieces (chunks_of f (taken_by g' live))) (taken_good g' live sound)
 
   -- what a copy is given
   pub get_sends : (k op : ℕ) (g' : Filter) (live : Records R) → 2 ≤ k → AreSound f live
-      → EachSent (Label f g) k (to_controller (msg.Chunks op (chunks_of f (taken_by g' live)) ∷ []))
+      → EachSent (Label f g) k (to_controller (Msg.Chunks op (chunks_of f (taken_by g' live)) ∷ []))
   get_sends k op g' live two sound =
       let es = finite.entries (taken_by g' live) in
       let valid = all_each (λ e. f.is_valid e.0 e.1 ≡ true) es (valid_entries f (taken_by g' live) (sound_retain_keys f live (takes g') sound)) in
       (((two, refl), all_good es valid (distinct_entries (taken_by g' live))), tt)
 
   -- what a share is told of a packet's unit, and the packet's cell
-  pub shared_sends : (k op : ℕ) (u : units.Unit) (o : Option R) (cell : FullCell) → 2 ≤ k → cell.pool ≡ 0 → is_sound f u o ≡ true
-      → EachSent (Label f g) k (to_controller (chunk_told op (option_map (record_chunk f u) o)) ++ (switch_node, msg.Credit cell) ∷ [])
+  pub shared_sends : (k op : ℕ) (u : Unit) (o : Option R) (cell : FullCell) → 2 ≤ k → cell.pool ≡ 0 → is_sound f u o ≡ true
+      → EachSent (Label f g) k (to_controller (chunk_told op (option_map (record_chunk f u) o)) ++ (switch_node, Msg.Credit cell) ∷ [])
   shared_sends k op u None cell two pool sound = ((two, refl, pool), tt)
   shared_sends k op u (Some r) cell two pool sound = (((two, refl), made_good u r sound), ((two, refl, pool), tt))

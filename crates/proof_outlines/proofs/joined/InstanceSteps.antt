@@ -3,22 +3,17 @@ use Rattle.proof_outlines.proofs.Words.{◌≡◌, ◌≢◌, ℕ, zero, suc, �
 use Rattle.proof_outlines.proofs.Words.{if◌then◌else◌, ◌&&◌, ◌==◌, filter_map, nat_tests, Decides-eqb, and-false, Semantics, Records, Msg, Note, instance_step}
 use Rattle.proof_outlines.proofs.Words.{less_first, sent_for, inst_step, links_after, at_node, put, behind, Rising, Any, Old, New, as_old, WholeWorld}
 use Rattle.proof_outlines.proofs.Words.{member_step, whole_inst, EveryAll, inst_every_all, MayKeep, keeps_every_all, as_node, dones_in, installs_in}
-use Rattle.proof_outlines.proofs.Words.{done-append, split}
-use Rattle.nf_function.specs.declared.unit.Unit as units
-use Rattle.nf_function.specs.Records.{Laws as FunctionLaws}
-use Rattle.instance_worker.specs.declared.instance.Instance.{Instance as InstanceState}
+use Rattle.proof_outlines.proofs.Words.{done-append, split, Unit, FunctionLaws, InstanceState}
 use Rattle.instance_worker.specs.Instance.{Step}
 use Rattle.proof_machines.proofs.net.Shares.{keeps}
-use Rattle.net_world.specs.declared.node.Node.TheVariants.{Instance}
 use Rattle.proof_outlines.proofs.joined.Words.{unit_fits, ran_in, is_sys, is_sharing, Given, place, target_by, Nodes, Took, Scene, S, A, shown, commands}
 use Rattle.proof_outlines.proofs.joined.Words.{asked_nums, came_by, by_node, links_next, IsSwitch, IsController, IsInstanceAt, AreShown, IsTaken, Leads}
-use Rattle.proof_outlines.proofs.joined.Words.{node_of, Grows}
+use Rattle.proof_outlines.proofs.joined.Words.{node_of, Grows, Instance, same_grows}
 use Rattle.proof_outlines.proofs.whole.InstanceWorlds.{ShowsAt, StepsTo, KeepsTo}
 use Rattle.proof_outlines.proofs.joined.LogLemmas.{by_node-append, every_same, owners_on, came_on}
 use Rattle.proof_outlines.proofs.joined.InstanceNotes.{AreOwn, none_arrived, none_installed, done_own}
 use Rattle.proof_outlines.proofs.joined.InstanceKeeps.{has_records}
 use Rattle.proof_outlines.proofs.joined.InstanceRows.{Leaves}
-use Rattle.proof_outlines.proofs.joined.NextNumbers.{same_grows}
 
 module _ {F R : Type 0} (f : Semantics R) (laws : FunctionLaws f) (g : Given) (n : ℕ) (x : Scene F f g) (p : ℕ) (j : ℕ) where
   -- the instance's node, and the instance there
@@ -62,7 +57,7 @@ module _ {F R : Type 0} (f : Semantics R) (laws : FunctionLaws f) (g : Given) (n
 
   -- what is read off the log with the notes of the instance
   module _ (are : AreShown f g n x) (notes : List Note) (its_own : AreOwn own_node notes) where
-    owners_after : (u : units.Unit) → unit_fits f.kind u ≡ true → x.world.target u ≡ target_by g u (installs_in (x.log ++ notes))
+    owners_after : (u : Unit) → unit_fits f.kind u ≡ true → x.world.target u ≡ target_by g u (installs_in (x.log ++ notes))
     owners_after u fits = owners_on f g n x are notes (none_installed own_node notes its_own) u fits
 
     every_after : (w : WholeWorld (S f g) (A f g)) → EveryAll (S f g) (A f g) (is_sys f g.site g.packet) w (came_by f g x.log)

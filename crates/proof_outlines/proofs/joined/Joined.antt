@@ -6,19 +6,11 @@ use Rattle.proof_outlines.proofs.Words.{unit_at, same_unit, Mark, stored_of, Ful
 use Rattle.proof_outlines.proofs.Words.{Door, Phase, MoveState, answer_of, CopyState, ShareState, home, SharePhase, SwitchState, takes_in, Move, Copy, Share}
 use Rattle.proof_outlines.proofs.Words.{ControllerState, Network, Stepped, queue_at, at, less_first, OnLinks, EachSent, Each, Open, is_free, links_after}
 use Rattle.proof_outlines.proofs.Words.{Rising, Any, Old, New, S_asked, Sharing, OpenShare, WholeWorld, has, EveryAll, Came, sent_for, Node, Switch, Controller}
-use Rattle.proof_outlines.proofs.Words.{has_twice, Done, arrivals_in, dones_in, installs_in}
-use Rattle.std.specs.List.{IsDistinct}
+use Rattle.proof_outlines.proofs.Words.{has_twice, Done, arrivals_in, dones_in, installs_in, Unit, IsDistinct, InstanceState}
 use Rattle.std.specs.FinMap as finite
-use Rattle.nf_function.specs.declared.unit.Unit as units
-use Rattle.event_filter.specs.declared.mark.Mark.TheVariants as mark
-use Rattle.switch_rules.specs.declared.target.Target.TheVariants as target
-use Rattle.nf_msgs.specs.declared.command.Order.TheVariants as order
-use Rattle.nf_msgs.specs.declared.msg.Msg.TheVariants as msg
-use Rattle.move_op.specs.declared.door.Door.TheVariants as door
 use Rattle.move_op.specs.Phases as phase
 use Rattle.copy_share.specs.Copy as copy
 use Rattle.copy_share.specs.declared.share_phase.SharePhase.TheVariants.{Out}
-use Rattle.instance_worker.specs.declared.instance.Instance.{Instance as InstanceState}
 use Rattle.proof_machines.proofs.net.Net as net
 use Rattle.net_world.specs.declared.node.Node.TheVariants.{Instance}
 use Rattle.proof_outlines.proofs.joined.Given.{Given, place, IsPlan, IsCopyPlan, IsSharePlan, IsChange, target_by, diverted_in, loose_by}
@@ -49,13 +41,13 @@ Input s r = (s ≡ 0) × (r ≡ 0)
 
 -- a packet is marked as one that the controller handed on, for a move or a share
 abbrev pub is_handed : Mark → Bool
-is_handed mark.Plain = false
+is_handed Mark.Plain = false
 is_handed m = true
 
 -- a target is the controller, or one of the first instances
 abbrev pub is_target : ℕ → Target → Bool
-is_target count (target.Instance i) = nat_lt i count
-is_target count target.Controller = true
+is_target count (Target.Instance i) = nat_lt i count
+is_target count Target.Controller = true
 
 module _ {R : Type 0} (f : Semantics R) (g : Given) where
   abbrev pub Genuine : FullCell → Type 0
@@ -74,9 +66,9 @@ module _ {R : Type 0} (f : Semantics R) (g : Given) where
 
   -- an order to move or copy between two names, or to share between two or more, with such a filter
   abbrev pub is_built : Order → Bool
-  is_built (order.Move src dst filter keep) = is_whole f.kind filter && not (bytes_eq src dst)
-  is_built (order.Copy src dst filter) = is_whole_if filter && not (bytes_eq src dst)
-  is_built (order.Share members filter) = is_whole f.kind filter && (nat_lt 1 (length members) && not (has_twice members))
+  is_built (Order.Move src dst filter keep) = is_whole f.kind filter && not (bytes_eq src dst)
+  is_built (Order.Copy src dst filter) = is_whole_if filter && not (bytes_eq src dst)
+  is_built (Order.Share members filter) = is_whole f.kind filter && (nat_lt 1 (length members) && not (has_twice members))
 
   pub record IsCommand (c : Command) : Type 0 where
     pub known : g.orders c.op ≡ Some c.what
@@ -100,12 +92,12 @@ module _ {R : Type 0} (f : Semantics R) (g : Given) where
 
   -- the pieces of a phase may be put, or, behind a refusal, given back
   abbrev pub AreFree : Door → List Piece → Type 0
-  AreFree (door.Refused why) ps = Each (λ p. AreGoodChunks p.chunks) ps
+  AreFree (Door.Refused why) ps = Each (λ p. AreGoodChunks p.chunks) ps
   AreFree d ps = Each IsGoodPiece ps
 
   abbrev pub HasPieces : Phase → Type 0
   HasPieces (phase.Streaming frozen free came d) = Each IsGoodPiece frozen × AreFree d free
-  HasPieces p = Unit {0}
+  HasPieces p = Prim.Unit {0}
 
   -- an open move of a number
   pub record IsMove (op : ℕ) (m : MoveState) : Type 0 where
@@ -131,7 +123,7 @@ module _ {R : Type 0} (f : Semantics R) (g : Given) where
   -- the member that a packet is out at is one of the share's
   abbrev pub IsOutAt : List ℕ → SharePhase → Type 0
   IsOutAt members (Out member) = has members member ≡ true
-  IsOutAt members phase = Unit {0}
+  IsOutAt members phase = Prim.Unit {0}
 
   -- an open share of a number
   pub record IsShare (op : ℕ) (s : ShareState) : Type 0 where
@@ -145,47 +137,47 @@ module _ {R : Type 0} (f : Semantics R) (g : Given) where
 
   -- the messages that come in a run, by sender and receiver
   abbrev pub Label : ℕ → ℕ → Msg → Type 0
-  Label s r (msg.InPacket p) = Input s r × GenuinePacket p
-  Label s r (msg.InCommand c) = Input s r × IsCommand c
-  Label s r msg.InSettle = Input s r
-  Label s r msg.InEnd = Input s r
-  Label s r (msg.Asked c) = (s ≡ 0) × (r ≡ 1) × IsCommand c
-  Label s r msg.End = (s ≡ 0) × (r ≡ 1)
-  Label s r (msg.Diverted cell) = (s ≡ 0) × (r ≡ 1) × Genuine cell
-  Label s r (msg.Forward to mark cell) = ToSwitch s r × (nat_lt to count ≡ true) × (is_handed mark ≡ true) × Genuine cell
-  Label s r (msg.Install op filter from to) = ToSwitch s r × (nat_lt from count ≡ true) × (is_target count to ≡ true) × (is_whole f.kind filter ≡ true)
+  Label s r (Msg.InPacket p) = Input s r × GenuinePacket p
+  Label s r (Msg.InCommand c) = Input s r × IsCommand c
+  Label s r Msg.InSettle = Input s r
+  Label s r Msg.InEnd = Input s r
+  Label s r (Msg.Asked c) = (s ≡ 0) × (r ≡ 1) × IsCommand c
+  Label s r Msg.End = (s ≡ 0) × (r ≡ 1)
+  Label s r (Msg.Diverted cell) = (s ≡ 0) × (r ≡ 1) × Genuine cell
+  Label s r (Msg.Forward to mark cell) = ToSwitch s r × (nat_lt to count ≡ true) × (is_handed mark ≡ true) × Genuine cell
+  Label s r (Msg.Install op filter from to) = ToSwitch s r × (nat_lt from count ≡ true) × (is_target count to ≡ true) × (is_whole f.kind filter ≡ true)
       × IsChange g op (record { filter = filter; from = from; to = to })
-  Label s r (msg.FenceTo op to) = ToSwitch s r × (nat_lt to count ≡ true)
-  Label s r (msg.Answered op) = ToSwitch s r
-  Label s r msg.Finish = ToSwitch s r
-  Label s r (msg.Carry mark cell) = FromSwitch s r × Genuine cell
-  Label s r (msg.Fence op) = FromSwitch s r
-  Label s r msg.Stop = FromSwitch s r
-  Label s r (msg.Enable op filter action) = FromController s r × (is_whole f.kind filter ≡ true) × (is_free (rule_of action) ≡ false)
-  Label s r (msg.Stream op filter) = FromController s r × (is_whole f.kind filter ≡ true)
-  Label s r (msg.Delete op gone) = FromController s r
-  Label s r (msg.Put op piece first) = FromController s r × IsGoodPiece piece
-  Label s r (msg.Restore op chunks) = FromController s r × AreGoodChunks chunks
-  Label s r (msg.Get op filter) = FromController s r × (is_whole f.kind filter ≡ true)
-  Label s r (msg.GetAll op) = FromController s r
-  Label s r (msg.Standby op chunks) = FromController s r × AreGoodChunks chunks
-  Label s r (msg.PutAll op chunk) = FromController s r
-  Label s r (msg.Sync home op chunks) = FromController s r × AreGoodChunks chunks
-  Label s r (msg.Enabled op) = ToController s r
-  Label s r (msg.Piece op piece) = ToController s r × IsGoodPiece piece
-  Label s r (msg.Deleted op) = ToController s r
-  Label s r (msg.PutOk op) = ToController s r
-  Label s r (msg.PutNo op refused) = ToController s r × AreGoodChunks refused.chunks × (is_done refused.why ≡ false)
-  Label s r (msg.Restored op) = ToController s r
-  Label s r (msg.Event op cell) = ToController s r × Genuine cell
-  Label s r (msg.Fenced op) = ToController s r
-  Label s r (msg.Chunks op chunks) = ToController s r × AreGoodChunks chunks
-  Label s r (msg.AllChunk op chunk) = ToController s r
-  Label s r (msg.Kept op) = ToController s r
-  Label s r (msg.Shared op chunk) = ToController s r × IsGoodChunk chunk
-  Label s r (msg.Synced op) = ToController s r
-  Label s r msg.Final = ToController s r
-  Label s r (msg.Credit cell) = (2 ≤ s) × (r ≡ 0) × (cell.pool ≡ 0)
+  Label s r (Msg.FenceTo op to) = ToSwitch s r × (nat_lt to count ≡ true)
+  Label s r (Msg.Answered op) = ToSwitch s r
+  Label s r Msg.Finish = ToSwitch s r
+  Label s r (Msg.Carry mark cell) = FromSwitch s r × Genuine cell
+  Label s r (Msg.Fence op) = FromSwitch s r
+  Label s r Msg.Stop = FromSwitch s r
+  Label s r (Msg.Enable op filter action) = FromController s r × (is_whole f.kind filter ≡ true) × (is_free (rule_of action) ≡ false)
+  Label s r (Msg.Stream op filter) = FromController s r × (is_whole f.kind filter ≡ true)
+  Label s r (Msg.Delete op gone) = FromController s r
+  Label s r (Msg.Put op piece first) = FromController s r × IsGoodPiece piece
+  Label s r (Msg.Restore op chunks) = FromController s r × AreGoodChunks chunks
+  Label s r (Msg.Get op filter) = FromController s r × (is_whole f.kind filter ≡ true)
+  Label s r (Msg.GetAll op) = FromController s r
+  Label s r (Msg.Standby op chunks) = FromController s r × AreGoodChunks chunks
+  Label s r (Msg.PutAll op chunk) = FromController s r
+  Label s r (Msg.Sync home op chunks) = FromController s r × AreGoodChunks chunks
+  Label s r (Msg.Enabled op) = ToController s r
+  Label s r (Msg.Piece op piece) = ToController s r × IsGoodPiece piece
+  Label s r (Msg.Deleted op) = ToController s r
+  Label s r (Msg.PutOk op) = ToController s r
+  Label s r (Msg.PutNo op refused) = ToController s r × AreGoodChunks refused.chunks × (is_done refused.why ≡ false)
+  Label s r (Msg.Restored op) = ToController s r
+  Label s r (Msg.Event op cell) = ToController s r × Genuine cell
+  Label s r (Msg.Fenced op) = ToController s r
+  Label s r (Msg.Chunks op chunks) = ToController s r × AreGoodChunks chunks
+  Label s r (Msg.AllChunk op chunk) = ToController s r
+  Label s r (Msg.Kept op) = ToController s r
+  Label s r (Msg.Shared op chunk) = ToController s r × IsGoodChunk chunk
+  Label s r (Msg.Synced op) = ToController s r
+  Label s r Msg.Final = ToController s r
+  Label s r (Msg.Credit cell) = (2 ≤ s) × (r ≡ 0) × (cell.pool ≡ 0)
   Label s r message = ⊥
 
   abbrev pub shown : Msg → Option (Any R)
@@ -200,15 +192,15 @@ module _ {R : Type 0} (f : Semantics R) (g : Given) where
   -- the numbers of commands that wait in the input
   abbrev pub commands : List Msg → List ℕ
   commands [] = []
-  commands (msg.InCommand c ∷ ms) = c.op ∷ commands ms
+  commands (Msg.InCommand c ∷ ms) = c.op ∷ commands ms
   commands (m ∷ ms) = commands ms
 
   -- whether a packet is of a unit
-  abbrev pub is_of : units.Unit → ℕ → Bool
+  abbrev pub is_of : Unit → ℕ → Bool
   is_of u p = same_unit (unit_at f.kind g.site (g.packet p)) u
 
   -- the switch of a world
-  pub record IsSwitch (s : SwitchState) (to : units.Unit → ℕ) : Type 0 where
+  pub record IsSwitch (s : SwitchState) (to : Unit → ℕ) : Type 0 where
     pub site : s.site ≡ g.site
     pub instances : s.instances ≡ count
     pub filters : AreFilters s.rules
@@ -253,7 +245,7 @@ node_of x (suc (suc i)) = Instance (x.instance (suc (suc i)))
 
 -- how the next number may grow by a step: at most to behind that of a command that the controller takes
 abbrev pub Grows : Msg → ℕ → ℕ → Type 0
-Grows (msg.Asked c) b a = b ≤ suc c.op → a ≤ suc c.op
+Grows (Msg.Asked c) b a = b ≤ suc c.op → a ≤ suc c.op
 Grows m b a = a ≤ b
 
 -- which node took which message, from where
@@ -272,7 +264,7 @@ module _ {R : Type 0} (f : Semantics R) (g : Given) where
       by_shown None = l i j ++ (if i == t.node then sent_for j (outline_all f (place g) sends) else [])
 
   -- what has come of a unit by a log
-  abbrev pub came_by : List Note → units.Unit → Came
+  abbrev pub came_by : List Note → Unit → Came
   came_by log u =
       record { all = filter (is_of f g u) (arrivals_in log); diverted = diverted_in g (is_of f g u) u [] log; bared = loose_by g u (installs_in log) }
 
@@ -309,7 +301,7 @@ module _ {F R : Type 0} (f : Semantics R) (g : Given) where
   pub record AreShown (n : ℕ) (x : Scene F f g) : Type 0 where
     pub switch : IsSwitch f g x.nodes.switch x.world.target
     pub controller : IsController f g x.nodes.controller x.world.ops x.world.shares x.world.next
-    pub owners : (u : units.Unit) → unit_fits f.kind u ≡ true → x.world.target u ≡ target_by g u (installs_in x.log)
+    pub owners : (u : Unit) → unit_fits f.kind u ≡ true → x.world.target u ≡ target_by g u (installs_in x.log)
     pub instances : (k : ℕ) → 2 ≤ k → k < n → IsInstanceAt k (x.nodes.instance k) x.world
     pub every : EveryAll (S f g) (A f g) (is_sys f g.site g.packet) x.world (came_by f g x.log)
     pub done_is : x.world.done ≡ by_node f g (dones_in x.log)

@@ -3,16 +3,15 @@
 use Rattle.proof_outlines.proofs.Words.{◌≡◌, ℕ, ◌+◌, ◌≤◌, true, false, Some, None, List, [], ◌∷◌, sym, ap, ◌∙◌, arith, Filter, Answer, same_unit}
 use Rattle.proof_outlines.proofs.Words.{same_unit_equiv, Chunks, M_event, M_put_no, Mv, Sys, IsSys, Open, find_op, Any, Old, olds, Sharing, WholeWorld}
 use Rattle.proof_outlines.proofs.Words.{moves_of, copies, one_copy, one_copy_back, event_open, none_mine, ends, Came, WhereAll, Apart_from_shares, Under_share}
-use Rattle.proof_outlines.proofs.Words.{EveryAll}
-use Rattle.nf_function.specs.declared.unit.Unit as units
+use Rattle.proof_outlines.proofs.Words.{EveryAll, Unit}
 use Rattle.proof_machines.proofs.net.UnderStarts.{seeing}
 use Rattle.proof_machines.proofs.net.Copies.{has}
 use Rattle.proof_machines.proofs.net.Stores.{none_left}
 use Rattle.proof_machines.proofs.whole.UnderMoves.{no_copies, none_stored, none_back, no_event}
 
-module _ {R : Type 0} (S : Sys R) (A : Sharing S) (laws : IsSys S) (w : WholeWorld S A) (came : units.Unit → Came) (every : EveryAll S A laws w came) where
+module _ {R : Type 0} (S : Sys R) (A : Sharing S) (laws : IsSys S) (w : WholeWorld S A) (came : Unit → Came) (every : EveryAll S A laws w came) where
   -- of an open move
-  module _ (n : ℕ) (e : Open R) (there : find_op w.ops n ≡ Some e) (u : units.Unit) where
+  module _ (n : ℕ) (e : Open R) (there : find_op w.ops n ≡ Some e) (u : Unit) where
     pub none_left_all : ends e.phase ≡ true → none_mine S u e.store ≡ []
     none_left_all late = by_where (came u) (every.unit u)
       where

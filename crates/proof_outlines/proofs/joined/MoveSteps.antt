@@ -4,11 +4,7 @@ use Rattle.proof_outlines.proofs.Words.{unwrap_or, Chunk, Semantics, spelled, Fu
 use Rattle.proof_outlines.proofs.Words.{keeps, next_phase, chunks_of, have_units, put_back, source, destination, put_to, forward_to, from_source}
 use Rattle.proof_outlines.proofs.Words.{from_destination, row, words, is_nil, push_on, release_row, return_of, all_put, on_event, on_source_enabled, on_piece}
 use Rattle.proof_outlines.proofs.Words.{on_deleted, on_restored, on_source_fenced, on_put_ok, on_put_no, on_destination_enabled, on_destination_fenced}
-use Rattle.proof_outlines.proofs.Words.{EachSent, Each, each-append, sent-append, by_if}
-use Rattle.nf_function.specs.declared.unit.Unit as units
-use Rattle.switch_rules.specs.declared.target.Target.TheVariants as target
-use Rattle.nf_msgs.specs.declared.msg.Msg.TheVariants as msg
-use Rattle.move_op.specs.declared.door.Door.TheVariants as door
+use Rattle.proof_outlines.proofs.Words.{EachSent, Each, each-append, sent-append, by_if, Unit, Target}
 use Rattle.move_op.specs.Phases as phase
 use Rattle.proof_outlines.proofs.joined.Words.{is_whole, entries, filter_map-put, IsRefusing, is_done, Given, IsPlan, Genuine, IsMove, IsGoodChunk}
 use Rattle.proof_outlines.proofs.joined.Words.{AreGoodChunks, IsGoodPiece, AreFree, HasPieces, Label, count}
@@ -16,7 +12,7 @@ use Rattle.proof_outlines.proofs.joined.UnitCounts.{times, times-append, distinc
 
 -- the chunks that a message brings back
 abbrev pub brought : Msg → List Chunk
-brought (msg.PutNo op refused) = refused.chunks
+brought (Msg.PutNo op refused) = refused.chunks
 brought m = []
 
 -- the chunks that a move keeps
@@ -29,14 +25,14 @@ module _ {R : Type 0} (f : Semantics R) (g : Given) where
   IsGood p = AreGoodChunks f g p.chunks
 
   abbrev Once : List Chunk → Type 0
-  Once cs = (u : units.Unit) → times u (entries f cs) ≤ 1
+  Once cs = (u : Unit) → times u (entries f cs) ≤ 1
 
   weaker : (ps : List Piece) → Each (IsGoodPiece f g) ps → Each IsGood ps
   weaker [] h = tt
   weaker (p ∷ ps) h = (h.0.good, weaker ps h.1)
 
   free_more : (d : Door) (ps : List Piece) (p : Piece) → AreFree f g d ps → IsGoodPiece f g p → AreFree f g d (ps ++ p ∷ [])
-  free_more (door.Refused why) ps p h one = each-append IsGood ps (p ∷ []) h (one.good, tt)
+  free_more (Door.Refused why) ps p h one = each-append IsGood ps (p ∷ []) h (one.good, tt)
   free_more d ps p h one = each-append (IsGoodPiece f g) ps (p ∷ []) h (one, tt)
 
   each_chunk : (ps : List Piece) → Each IsGood ps → Each (IsGoodChunk f g) (chunks_of ps)
@@ -47,11 +43,11 @@ module _ {R : Type 0} (f : Semantics R) (g : Given) where
   good_chunks ps h once = record { each = each_chunk ps h; distinct = distinct_from_times (entries f (chunks_of ps)) once }
 
   -- how often a unit stands in two lists of chunks
-  times_both : (u : units.Unit) (xs ys : List Chunk) → times u (entries f (xs ++ ys)) ≡ times u (entries f xs) + times u (entries f ys)
+  times_both : (u : Unit) (xs ys : List Chunk) → times u (entries f (xs ++ ys)) ≡ times u (entries f xs) + times u (entries f ys)
   times_both u xs ys = ap (times u) (filter_map-put (spelled f) xs ys) ∙ times-append u (entries f xs) (entries f ys)
 
   -- the same of a piece at the end
-  times_end : (u : units.Unit) (ps : List Piece) (p : Piece)
+  times_end : (u : Unit) (ps : List Piece) (p : Piece)
       → times u (entries f (chunks_of (ps ++ p ∷ []))) ≡ times u (entries f (chunks_of ps)) + times u (entries f p.chunks)
   times_end u [] p = let both = times_both u p.chunks [] in omega (arith, both)
   times_end u (q ∷ ps) p =
@@ -62,7 +58,7 @@ module _ {R : Type 0} (f : Semantics R) (g : Given) where
 
   -- whether a refusal is one, the door alone tells
   same_door : (a b c d : List Piece) (came since : Bool) (at : Door) → IsRefusing (phase.Streaming a c came at) → IsRefusing (phase.Streaming b d since at)
-  same_door a b c d came since (door.Refused why) h = h
+  same_door a b c d came since (Door.Refused why) h = h
   same_door a b c d came since at h = tt
 
   -- what is next
@@ -87,11 +83,11 @@ module _ {R : Type 0} (f : Semantics R) (g : Given) where
 
     push_is : (frozen free : List Piece) (came : Bool) (d : Door) → IsRefusing (phase.Streaming frozen free came d) → Each (IsGoodPiece f g) frozen
         → AreFree f g d free → Once (chunks_of free) → NextIs (push_on (words plan) frozen free came d)
-    push_is frozen [] came door.Shut refusing a b once = record { refusing = tt; pieces = (a, tt); labels = tt }
-    push_is frozen (p ∷ free) came door.Shut refusing a b once = record { refusing = tt; pieces = (a, b.1); labels = (((refl, omega arith), b.0), tt) }
-    push_is frozen free came (door.Asked last) refusing a b once = record { refusing = tt; pieces = (a, b); labels = tt }
-    push_is frozen free came door.Open refusing a b once = record { refusing = tt; pieces = (a, tt); labels = puts free b }
-    push_is frozen free came (door.Refused why) refusing a b once =
+    push_is frozen [] came Door.Shut refusing a b once = record { refusing = tt; pieces = (a, tt); labels = tt }
+    push_is frozen (p ∷ free) came Door.Shut refusing a b once = record { refusing = tt; pieces = (a, b.1); labels = (((refl, omega arith), b.0), tt) }
+    push_is frozen free came (Door.Asked last) refusing a b once = record { refusing = tt; pieces = (a, b); labels = tt }
+    push_is frozen free came Door.Open refusing a b once = record { refusing = tt; pieces = (a, tt); labels = puts free b }
+    push_is frozen free came (Door.Refused why) refusing a b once =
         by_if NextIs (came && is_nil frozen) (record { refusing = refusing; pieces = tt; labels = (((refl, omega arith), good_chunks free b once), tt) })
         (record { refusing = refusing; pieces = (a, b); labels = tt })
 
@@ -113,7 +109,7 @@ module _ {R : Type 0} (f : Semantics R) (g : Given) where
           refusing = tt;
           pieces = tt;
           labels = sent-append (Label f g) 1 (map (forward_to plan plan.to) events)
-              ((0, msg.Install plan.op plan.filter plan.from (target.Instance plan.to)) ∷ []) (forwards plan.to to events genuine)
+              ((0, Msg.Install plan.op plan.filter plan.from (Target.Instance plan.to)) ∷ []) (forwards plan.to to events genuine)
               (((refl, refl), from, to, whole, record { plan = plan; plan_is = its; filter_is = refl; from_is = refl; to_is = refl }), tt);
         };
         genuine = tt;
@@ -124,7 +120,7 @@ module _ {R : Type 0} (f : Semantics R) (g : Given) where
         next = record {
           refusing = refused;
           pieces = tt;
-          labels = sent-append (Label f g) 1 (map (forward_to plan plan.from) events) ((0, msg.FenceTo plan.op plan.from) ∷ [])
+          labels = sent-append (Label f g) 1 (map (forward_to plan plan.from) events) ((0, Msg.FenceTo plan.op plan.from) ∷ [])
               (forwards plan.from from events genuine) (((refl, refl), from), tt);
         };
         genuine = tt;
@@ -188,19 +184,19 @@ module _ {R : Type 0} (f : Semantics R) (g : Given) where
       destination_fenced_is ph refusing pieces = stays ph refusing pieces
 
       put_ok_is : (ph : Phase) → IsRefusing ph → HasPieces f g ph → Once (kept_in ph) → RowIs events (on_put_ok (words plan) ph events)
-      put_ok_is (phase.Streaming frozen free came (door.Asked last)) refusing pieces once =
+      put_ok_is (phase.Streaming frozen free came (Door.Asked last)) refusing pieces once =
           by_if (RowIs events) last (all_put_is plan.keep)
-          (kept (push_on (words plan) frozen free came door.Open) (push_is frozen free came door.Open tt pieces.0 pieces.1 (λ u.
+          (kept (push_on (words plan) frozen free came Door.Open) (push_is frozen free came Door.Open tt pieces.0 pieces.1 (λ u.
           let all = once u in
           let both = times_both u (chunks_of frozen) (chunks_of free) in
           omega (arith, all, both))))
-      put_ok_is (phase.Streaming frozen free came door.Open) refusing pieces once = all_put_is plan.keep
+      put_ok_is (phase.Streaming frozen free came Door.Open) refusing pieces once = all_put_is plan.keep
       put_ok_is ph refusing pieces once = rests ph refusing pieces
 
       put_no_is : (ph : Phase) (why : Answer) (chunks : List Chunk) → IsRefusing ph → HasPieces f g ph → AreGoodChunks f g chunks → is_done why ≡ false
-          → ((u : units.Unit) → times u (entries f chunks) + times u (entries f (kept_in ph)) ≤ 1) → NextIs (on_put_no (words plan) ph why (put_back chunks))
-      put_no_is (phase.Streaming frozen free came (door.Asked last)) why chunks refusing pieces good refused once =
-          push_is frozen (put_back chunks last ∷ free) came (door.Refused why) refused pieces.0 (good, weaker free pieces.1) (λ u.
+          → ((u : Unit) → times u (entries f chunks) + times u (entries f (kept_in ph)) ≤ 1) → NextIs (on_put_no (words plan) ph why (put_back chunks))
+      put_no_is (phase.Streaming frozen free came (Door.Asked last)) why chunks refusing pieces good refused once =
+          push_is frozen (put_back chunks last ∷ free) came (Door.Refused why) refused pieces.0 (good, weaker free pieces.1) (λ u.
           let all = once u in
           let both = times_both u (chunks_of frozen) (chunks_of free) in
           let back = times_both u chunks (chunks_of free) in
@@ -210,27 +206,27 @@ module _ {R : Type 0} (f : Semantics R) (g : Given) where
       -- by the message
       source_is : (ph : Phase) (port : ℕ) (message : Msg) → IsRefusing ph → HasPieces f g ph → Label f g port 1 message → Once (kept_in ph)
           → RowIs events (from_source plan ph events message)
-      source_is ph port (msg.Event op cell) refusing pieces label once = event_is ph cell refusing pieces label.1
-      source_is ph port (msg.Enabled op) refusing pieces label once = source_enabled_is ph refusing pieces
-      source_is ph port (msg.Piece op p) refusing pieces label once = kept (on_piece (words plan) ph p) (piece_is ph p refusing pieces label.1)
-      source_is ph port (msg.Deleted op) refusing pieces label once = kept (on_deleted (words plan) ph) (deleted_is ph refusing pieces once)
-      source_is ph port (msg.Restored op) refusing pieces label once = kept (on_restored (words plan) ph) (restored_is ph refusing pieces)
-      source_is ph port (msg.Fenced op) refusing pieces label once = kept (on_source_fenced (words plan) ph) (source_fenced_is ph refusing pieces)
+      source_is ph port (Msg.Event op cell) refusing pieces label once = event_is ph cell refusing pieces label.1
+      source_is ph port (Msg.Enabled op) refusing pieces label once = source_enabled_is ph refusing pieces
+      source_is ph port (Msg.Piece op p) refusing pieces label once = kept (on_piece (words plan) ph p) (piece_is ph p refusing pieces label.1)
+      source_is ph port (Msg.Deleted op) refusing pieces label once = kept (on_deleted (words plan) ph) (deleted_is ph refusing pieces once)
+      source_is ph port (Msg.Restored op) refusing pieces label once = kept (on_restored (words plan) ph) (restored_is ph refusing pieces)
+      source_is ph port (Msg.Fenced op) refusing pieces label once = kept (on_source_fenced (words plan) ph) (source_fenced_is ph refusing pieces)
       source_is ph port message refusing pieces label once = rests ph refusing pieces
 
       destination_is : (ph : Phase) (port : ℕ) (message : Msg) → IsRefusing ph → HasPieces f g ph → Label f g port 1 message
-          → ((u : units.Unit) → times u (entries f (brought message)) + times u (entries f (kept_in ph)) ≤ 1)
+          → ((u : Unit) → times u (entries f (brought message)) + times u (entries f (kept_in ph)) ≤ 1)
           → RowIs events (from_destination plan ph events message)
-      destination_is ph port (msg.PutOk op) refusing pieces label once = put_ok_is ph refusing pieces (λ u. let all = once u in omega (arith, all))
-      destination_is ph port (msg.PutNo op refused) refusing pieces label once =
+      destination_is ph port (Msg.PutOk op) refusing pieces label once = put_ok_is ph refusing pieces (λ u. let all = once u in omega (arith, all))
+      destination_is ph port (Msg.PutNo op refused) refusing pieces label once =
           kept (on_put_no (words plan) ph refused.why (put_back refused.chunks)) (put_no_is ph refused.why refused.chunks refusing pieces label.1 label.2 once)
-      destination_is ph port (msg.Enabled op) refusing pieces label once = destination_enabled_is ph refusing pieces
-      destination_is ph port (msg.Fenced op) refusing pieces label once =
+      destination_is ph port (Msg.Enabled op) refusing pieces label once = destination_enabled_is ph refusing pieces
+      destination_is ph port (Msg.Fenced op) refusing pieces label once =
           kept (on_destination_fenced (words plan) ph) (destination_fenced_is ph refusing pieces)
       destination_is ph port message refusing pieces label once = rests ph refusing pieces
 
       row_is : (ph : Phase) (port : ℕ) (message : Msg) → IsRefusing ph → HasPieces f g ph → Label f g port 1 message
-          → ((u : units.Unit) → times u (entries f (brought message)) + times u (entries f (kept_in ph)) ≤ 1)
+          → ((u : Unit) → times u (entries f (brought message)) + times u (entries f (kept_in ph)) ≤ 1)
           → RowIs events (row (record { plan = plan; phase = ph }) events port message)
       row_is ph port message refusing pieces label once =
           by_if (RowIs events) (port == source plan) (source_is ph port message refusing pieces label (λ u. let all = once u in omega (arith, all)))
@@ -243,7 +239,7 @@ module _ {R : Type 0} (f : Semantics R) (g : Given) where
     pub genuine : Each (Genuine f g) (unwrap_or r.stored events)
 
   pub row_keeps : (op : ℕ) (m : MoveState) (events : List FullCell) (port : ℕ) (message : Msg) → IsMove f g op m → Each (Genuine f g) events
-      → Label f g port 1 message → ((u : units.Unit) → times u (entries f (brought message)) + times u (entries f (kept_in m.phase)) ≤ 1)
+      → Label f g port 1 message → ((u : Unit) → times u (entries f (brought message)) + times u (entries f (kept_in m.phase)) ≤ 1)
       → RowKeeps op m events (row m events port message)
   row_keeps op m events port message is genuine label once =
       let it = row_is m.plan is.from is.to is.whole is.plan events genuine m.phase port message is.refusing is.pieces label once in

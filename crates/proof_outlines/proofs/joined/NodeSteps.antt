@@ -1,7 +1,5 @@
 -- Each node's step leads from a world of a run to one, where what the step wants beside the world is so.
-use Rattle.proof_outlines.proofs.Words.{◌≡◌, ℕ, zero, suc, List, arith, Chunk, Fits, Semantics, Msg}
-use Rattle.nf_function.specs.Records.{Laws as FunctionLaws}
-use Rattle.nf_msgs.specs.declared.msg.Msg.TheVariants as msg
+use Rattle.proof_outlines.proofs.Words.{◌≡◌, ℕ, zero, suc, List, arith, Chunk, Fits, Semantics, Msg, FunctionLaws}
 use Rattle.proof_outlines.proofs.joined.StandbyChunks.{MayStandBy}
 use Rattle.proof_outlines.proofs.joined.ControllerBegins.{CopiesNext}
 use Rattle.proof_outlines.proofs.joined.SwitchSteps.{switch_leads}
@@ -12,7 +10,7 @@ use Rattle.proof_outlines.proofs.joined.Words.{Given, Scene}
 
 -- chunks of a copy that an instance is to keep may stand by, and the number of a copy that is asked for is new
 pub record Wants {F R : Type 0} (f : Semantics R) (g : Given) (x : Scene F f g) (m : Msg) : Type 0 where
-  pub stand : (op : ℕ) (chunks : List Chunk) → m ≡ msg.Standby op chunks → MayStandBy f g x.world chunks
+  pub stand : (op : ℕ) (chunks : List Chunk) → m ≡ Msg.Standby op chunks → MayStandBy f g x.world chunks
   pub next : CopiesNext f g x m
 
 module _ {F R : Type 0} (f : Semantics R) (laws : FunctionLaws f) (g : Given) (fitting : (number : ℕ) → Fits g.site (g.packet number)) (n : ℕ) where

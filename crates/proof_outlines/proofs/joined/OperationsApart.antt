@@ -5,7 +5,6 @@ use Rattle.proof_outlines.proofs.Words.{Store, Answer, Command, Order, Msg, Oper
 use Rattle.proof_outlines.proofs.Words.{meets_operation, lasts, Turn, turn_of, serving_of, share_of, with_operation, place_of, ControllerState, controller_step}
 use Rattle.proof_outlines.proofs.Words.{split, by_if}
 use Rattle.std.specs.FinMap as finite
-use Rattle.nf_msgs.specs.declared.command.Order.TheVariants as order
 use Rattle.ctrl_node.specs.Controller as ctrl
 use Rattle.proof_outlines.proofs.joined.Words.{row_by, got_insert, got_remove}
 use Rattle.proof_outlines.proofs.joined.ControllerBegins.{no_overlap, none_meets}
@@ -163,10 +162,10 @@ module _ (c : ControllerState) (port : ℕ) where
   shares_apart op filter (member ∷ members) free none apart = begun_apart op _ free none apart
 
   begins_apart : (op : ℕ) (what : Order) → finite.get c.operations op ≡ None → ctrl.overlap c what ≡ None → KeepsSo (ctrl.begin_step c op what).node
-  begins_apart op (order.Move source destination filter keep) free none =
+  begins_apart op (Order.Move source destination filter keep) free none =
       moves_apart op filter keep (place_of c.names source) (place_of c.names destination) free none
-  begins_apart op (order.Copy source destination filter) free none = copies_apart op filter (place_of c.names source) (place_of c.names destination) free none
-  begins_apart op (order.Share members filter) free none = shares_apart op filter (filter_map (place_of c.names) members) free none
+  begins_apart op (Order.Copy source destination filter) free none = copies_apart op filter (place_of c.names source) (place_of c.names destination) free none
+  begins_apart op (Order.Share members filter) free none = shares_apart op filter (filter_map (place_of c.names) members) free none
 
   decided_apart : (op : ℕ) (what : Order) (o : Option Answer) → ctrl.refusal c what ≡ o → finite.get c.operations op ≡ None
       → KeepsSo (ctrl.decision_step c op what o).node

@@ -4,9 +4,7 @@ use Rattle.proof_outlines.proofs.Words.{option_map_or, list_any, or-false, or_as
 use Rattle.proof_outlines.proofs.Words.{Each, Config, order_numbered, packet_numbered, answer_in, begin_in, change_in, has_begun, installs_in, first_owner}
 use Rattle.proof_outlines.proofs.Words.{owner_after_order, owner_after, hands_on_plain, loose_after, members_after, member_for, unit_numbered, unit_in, is_at}
 use Rattle.proof_outlines.proofs.Words.{IsMoving, IsPlace, Owns, Is_destination, Is_member, has_answered-append, has_begun-append, installed-append}
-use Rattle.proof_outlines.proofs.Words.{none_picked}
-use Rattle.nf_function.specs.declared.unit.Unit as units
-use Rattle.nf_msgs.specs.declared.note.Note.TheVariants as note
+use Rattle.proof_outlines.proofs.Words.{none_picked, Unit}
 use Rattle.net_world.specs.Jobs.{Job}
 use Rattle.net_world.specs.Commands.{has_answered, is_busy}
 use Rattle.net_world.specs.Places.{goes_to}
@@ -19,12 +17,12 @@ unit_is_fit Conntrack flow e = e
 unit_is_fit kind flow e = (and_parts _ _ (and_parts _ _ e).1).0
 
 module _ (names : List (List ℕ)) (orders : ℕ → Option Order) where
-  pub owner_after-append : (u : units.Unit) (i : ℕ) (xs ys : List ℕ)
+  pub owner_after-append : (u : Unit) (i : ℕ) (xs ys : List ℕ)
       → owner_after names orders u i (xs ++ ys) ≡ owner_after names orders u (owner_after names orders u i xs) ys
   owner_after-append u i [] ys = refl
   owner_after-append u i (op ∷ xs) ys = owner_after-append u (owner_after_order names orders u (orders op) i) xs ys
 
-  pub loose_after-append : (u : units.Unit) (i : ℕ) (xs ys : List ℕ)
+  pub loose_after-append : (u : Unit) (i : ℕ) (xs ys : List ℕ)
       → loose_after names orders u i (xs ++ ys) ≡ loose_after names orders u i xs || loose_after names orders u (owner_after names orders u i xs) ys
   loose_after-append u i [] ys = refl
   loose_after-append u i (op ∷ xs) ys = ap (λ b. hands_on_plain names orders u (orders op) i || b)
@@ -35,15 +33,15 @@ installed_same log notes none = installed-append log notes ∙ ap (λ v. install
 
 -- a note of an instance is of no change of the rules, and of no command that begins or is answered
 quiet_change : (k : ℕ) (n : Note) → IsQuiet k n → change_in n ≡ None
-quiet_change k (note.Installed op) h = absurd h
+quiet_change k (Note.Installed op) h = absurd h
 quiet_change k n h = refl
 
 quiet_begin : (k : ℕ) (n : Note) → IsQuiet k n → begin_in n ≡ None
-quiet_begin k (note.Begun op) h = absurd h
+quiet_begin k (Note.Begun op) h = absurd h
 quiet_begin k n h = refl
 
 quiet_answer : (k : ℕ) (n : Note) → IsQuiet k n → answer_in n ≡ None
-quiet_answer k (note.Answered op answer) h = absurd h
+quiet_answer k (Note.Answered op answer) h = absurd h
 quiet_answer k n h = refl
 
 pub installed_quiet : (k : ℕ) (ys : List Note) → Each (IsQuiet k) ys → installs_in ys ≡ []
@@ -62,7 +60,7 @@ answered_quiet k op xs ys h =
 
 -- the controller notes no change of the rules
 uninstalled_change : (n : Note) → is_uninstalled n ≡ true → change_in n ≡ None
-uninstalled_change (note.Installed op) h = cc
+uninstalled_change (Note.Installed op) h = cc
 uninstalled_change n h = refl
 
 pub installed_none : (ys : List Note) → Each (λ n. is_uninstalled n ≡ true) ys → installs_in ys ≡ []
@@ -72,7 +70,7 @@ pub busy_quiet : (k : ℕ) (op : ℕ) (xs ys : List Note) → Each (IsQuiet k) y
 busy_quiet k op xs ys h = ap (λ b. b && not (has_answered op (xs ++ ys))) (begun_quiet (λ other. other == op) k xs ys h)
     ∙ ap (λ b. has_begun (λ other. other == op) xs && not b) (answered_quiet k op xs ys h)
 
-moving_quiet : (items : List Msg) (u : units.Unit) (k : ℕ) (xs ys : List Note) → Each (IsQuiet k) ys → IsMoving items u xs → IsMoving items u (xs ++ ys)
+moving_quiet : (items : List Msg) (u : Unit) (k : ℕ) (xs ys : List Note) → Each (IsQuiet k) ys → IsMoving items u xs → IsMoving items u (xs ++ ys)
 moving_quiet items u k xs ys h m = record {
   op = m.op;
   source = m.source;
@@ -137,6 +135,11 @@ stands (x ∷ xs) ys (a ∷ zs) z bs e =
     by_rest : x ≡ a → Stands xs ys (record { before = zs; item = z; after = bs }) → Stands (x ∷ xs) ys (record { before = a ∷ zs; item = z; after = bs })
     by_rest same (In_first cs is) = In_first cs (ap (λ v. v ∷ xs) same ∙ ap (λ v. a ∷ v) is)
     by_rest same (In_second cs is at) = In_second cs (ap (λ v. v ∷ zs) (sym same) ∙ ap (λ v. x ∷ v) is) at
+
+-- nothing stands in an empty list
+pub nowhere : {X : Type 0} (before after : List X) (x : X) → [] ≡ before ++ x ∷ after → ⊥
+nowhere [] after x e = cc
+nowhere (y ∷ before) after x e = cc
 
 pub each_front : {X : Type 0} (P : X → Type 0) (xs ys : List X) → Each P (xs ++ ys) → Each P xs
 each_front P [] ys h = tt

@@ -4,29 +4,27 @@ use Rattle.proof_outlines.proofs.Words.{Note, SwitchState, switch_step, Controll
 use Rattle.proof_outlines.proofs.Words.{Each, each-append, dones_in, done_in, none_picked}
 use Rattle.std.specs.FinMap as finite
 use Rattle.proof_outlines.proofs.joined.Words.{row_fits, step_fits, instance_fits}
-use Rattle.event_filter.specs.declared.mark.Mark.TheVariants as mark
-use Rattle.nf_msgs.specs.declared.note.Note.TheVariants as note
 use Rattle.ctrl_node.specs.Controller as controllers
 use Rattle.instance_worker.specs.Instance.{Step, process_step}
 
 -- a note of instance k, of nothing but packets and records
 abbrev pub IsQuiet : ℕ → Note → Type 0
-IsQuiet k (note.Processed number instance output) = instance ≡ k
-IsQuiet k (note.Exported instance op us) = Unit {0}
-IsQuiet k (note.Imported instance op us) = Unit {0}
-IsQuiet k (note.Kept instance op us) = Unit {0}
+IsQuiet k (Note.Processed number instance output) = instance ≡ k
+IsQuiet k (Note.Exported instance op us) = Unit {0}
+IsQuiet k (Note.Imported instance op us) = Unit {0}
+IsQuiet k (Note.Kept instance op us) = Unit {0}
 IsQuiet k n = ⊥
 
 -- a note of nothing that was processed
 abbrev pub is_unprocessed : Note → Bool
-is_unprocessed (note.Processed number instance output) = false
+is_unprocessed (Note.Processed number instance output) = false
 is_unprocessed n = true
 
 abbrev pub AreUnprocessed : List Note → Type 0
 AreUnprocessed notes = Each (λ n. is_unprocessed n ≡ true) notes
 
 unprocessed_done : (n : Note) → is_unprocessed n ≡ true → done_in n ≡ None
-unprocessed_done (note.Processed number instance output) h = cc
+unprocessed_done (Note.Processed number instance output) h = cc
 unprocessed_done n h = refl
 
 pub none_done : (notes : List Note) → AreUnprocessed notes → dones_in notes ≡ []
@@ -34,16 +32,16 @@ none_done notes h = none_picked done_in (λ n. is_unprocessed n ≡ true) unproc
 
 -- and nothing came or was installed
 abbrev pub is_uninstalled : Note → Bool
-is_uninstalled (note.Processed number instance output) = false
-is_uninstalled (note.Arrived number) = false
-is_uninstalled (note.Installed op) = false
+is_uninstalled (Note.Processed number instance output) = false
+is_uninstalled (Note.Arrived number) = false
+is_uninstalled (Note.Installed op) = false
 is_uninstalled n = true
 
 pub uninstalled_unprocessed : (notes : List Note) → Each (λ n. is_uninstalled n ≡ true) notes → AreUnprocessed notes
 uninstalled_unprocessed [] h = tt
-uninstalled_unprocessed (note.Processed number i output ∷ ns) h = let never = h.0 in cc
-uninstalled_unprocessed (note.Arrived number ∷ ns) h = let never = h.0 in cc
-uninstalled_unprocessed (note.Installed op ∷ ns) h = let never = h.0 in cc
+uninstalled_unprocessed (Note.Processed number i output ∷ ns) h = let never = h.0 in cc
+uninstalled_unprocessed (Note.Arrived number ∷ ns) h = let never = h.0 in cc
+uninstalled_unprocessed (Note.Installed op ∷ ns) h = let never = h.0 in cc
 uninstalled_unprocessed (n ∷ ns) h = (refl, uninstalled_unprocessed ns h.1)
 
 -- An instance.
@@ -67,7 +65,7 @@ module _ {F R : Type 0} (f : Semantics R) where
     still = λ j m. (refl, tt);
     held = λ j mk cell op. (refl, tt);
     processed = λ j mk cell. processed_quiet j mk cell;
-    released = λ j op cell. processed_quiet j mark.Plain cell;
+    released = λ j op cell. processed_quiet j Mark.Plain cell;
     both = λ j m did next w a b. both_quiet j did next a b;
     unruled = λ j op did h. h;
     seen = λ j mk cell op. (refl, tt);

@@ -4,12 +4,7 @@ use Rattle.proof_outlines.proofs.Words.{◌≡◌, ℕ, zero, suc, ◌≤◌, Bo
 use Rattle.proof_outlines.proofs.Words.{append_assoc, arith, if◌then◌else◌, ◌&&◌, ◌||◌, ◌==◌, not, nat_lt, option_map, filter_map, Decides-eqb, Semantics}
 use Rattle.proof_outlines.proofs.Words.{Target, spelled, Packet, Command, Order, Msg, instance_node, SwitchState, sends_to_instance, goes_to, stop_messages}
 use Rattle.proof_outlines.proofs.Words.{switch_step, has_room, is_there, target_of, at, MoveAsked, Rising, rising_less, Any, Old, New, WantShare, S_asked}
-use Rattle.proof_outlines.proofs.Words.{S_shared}
-use Rattle.event_filter.specs.declared.mark.Mark.TheVariants as mark
-use Rattle.switch_rules.specs.declared.target.Target.TheVariants as target
-use Rattle.nf_function.specs.declared.unit.Unit as units
-use Rattle.nf_msgs.specs.declared.command.Order.TheVariants as order
-use Rattle.nf_msgs.specs.declared.msg.Msg.TheVariants as msg
+use Rattle.proof_outlines.proofs.Words.{S_shared, Mark, Unit}
 use Rattle.switch_node.specs.Switch.{Step, still}
 use Rattle.actor_net.specs.Histories.{sent_for}
 use Rattle.proof_machines.proofs.net.Net as net
@@ -20,7 +15,7 @@ use Rattle.proof_outlines.proofs.joined.JoinedSteps.{label}
 -- the numbers of commands that wait for the controller
 abbrev pub numbers : List Msg → List ℕ
 numbers [] = []
-numbers (msg.Asked c ∷ ms) = c.op ∷ numbers ms
+numbers (Msg.Asked c ∷ ms) = c.op ∷ numbers ms
 numbers (m ∷ ms) = numbers ms
 
 abbrev pub IsUnasked : Msg → Type 0
@@ -28,7 +23,7 @@ IsUnasked m = numbers (m ∷ []) ≡ []
 
 pub numbers-append : (xs ys : List Msg) → numbers (xs ++ ys) ≡ numbers xs ++ numbers ys
 numbers-append [] ys = refl
-numbers-append (msg.Asked c ∷ xs) ys = ap (λ v. c.op ∷ v) (numbers-append xs ys)
+numbers-append (Msg.Asked c ∷ xs) ys = ap (λ v. c.op ∷ v) (numbers-append xs ys)
 numbers-append (m ∷ xs) ys = numbers-append xs ys
 
 -- What the switch sends to the controller has the number of the command that it takes.
@@ -37,9 +32,9 @@ one_unasked to m e = elim (to == 1) as (λ b. numbers ((if b then m ∷ [] else 
 
 none_stopped : (i : ℕ) → numbers (sent_for 1 (stop_messages i)) ≡ []
 none_stopped zero = refl
-none_stopped (suc i) = ap numbers (sent_put (stop_messages i) ((instance_node i, msg.Stop) ∷ []))
-    ∙ numbers-append (sent_for 1 (stop_messages i)) (sent_for 1 ((instance_node i, msg.Stop) ∷ []))
-    ∙ ap (λ v. v ++ numbers (sent_for 1 ((instance_node i, msg.Stop) ∷ []))) (none_stopped i) ∙ one_unasked (instance_node i) msg.Stop refl
+none_stopped (suc i) = ap numbers (sent_put (stop_messages i) ((instance_node i, Msg.Stop) ∷ []))
+    ∙ numbers-append (sent_for 1 (stop_messages i)) (sent_for 1 ((instance_node i, Msg.Stop) ∷ []))
+    ∙ ap (λ v. v ++ numbers (sent_for 1 ((instance_node i, Msg.Stop) ∷ []))) (none_stopped i) ∙ one_unasked (instance_node i) Msg.Stop refl
   where
     sent_put : (xs ys : List (ℕ × Msg)) → sent_for 1 (xs ++ ys) ≡ sent_for 1 xs ++ sent_for 1 ys
     sent_put [] ys = refl
@@ -58,8 +53,8 @@ module _ (s : SwitchState) where
   to_instance_quiet i m e = either_quiet (nat_lt i s.instances) _ (one_unasked (instance_node i) m e)
 
   goes_quiet : (p : Packet) (t : Target) → Quiet (goes_to s p t)
-  goes_quiet p target.Controller = refl
-  goes_quiet p (target.Instance i) = either_quiet (nat_lt i s.instances) _ (one_unasked (instance_node i) _ refl)
+  goes_quiet p Target.Controller = refl
+  goes_quiet p (Target.Instance i) = either_quiet (nat_lt i s.instances) _ (one_unasked (instance_node i) _ refl)
 
   credit_quiet : (b : Bool) (step : Step) → Quiet step → Quiet (if b then still s else step)
   credit_quiet true step h = refl
@@ -67,35 +62,35 @@ module _ (s : SwitchState) where
 
 module _ {R : Type 0} (f : Semantics R) (g : Given) where
   pub switch_numbers : (s : SwitchState) (m : Msg) → numbers (sent_for 1 (switch_step s m).sends) ≡ commands f g (m ∷ [])
-  switch_numbers s (msg.InPacket p) = either_quiet s (has_room s) (goes_to s p (target_of s p)) (goes_quiet s p (target_of s p))
-  switch_numbers s (msg.InCommand c) = refl
-  switch_numbers s msg.InEnd = refl
-  switch_numbers s (msg.Forward to mark cell) = to_instance_quiet s to (msg.Carry mark cell) refl
-  switch_numbers s (msg.Install op filter from to) =
-      either_quiet s (nat_lt from s.instances && is_there s to) _ (one_unasked (instance_node from) (msg.Fence op) refl)
-  switch_numbers s (msg.FenceTo op to) = to_instance_quiet s to (msg.Fence op) refl
-  switch_numbers s (msg.Answered op) = refl
-  switch_numbers s msg.Finish = none_stopped s.instances
-  switch_numbers s (msg.Credit cell) = credit_quiet s ((s.flying == 0) || not (cell.pool == s.pool.name)) _ refl
+  switch_numbers s (Msg.InPacket p) = either_quiet s (has_room s) (goes_to s p (target_of s p)) (goes_quiet s p (target_of s p))
+  switch_numbers s (Msg.InCommand c) = refl
+  switch_numbers s Msg.InEnd = refl
+  switch_numbers s (Msg.Forward to mark cell) = to_instance_quiet s to (Msg.Carry mark cell) refl
+  switch_numbers s (Msg.Install op filter from to) =
+      either_quiet s (nat_lt from s.instances && is_there s to) _ (one_unasked (instance_node from) (Msg.Fence op) refl)
+  switch_numbers s (Msg.FenceTo op to) = to_instance_quiet s to (Msg.Fence op) refl
+  switch_numbers s (Msg.Answered op) = refl
+  switch_numbers s Msg.Finish = none_stopped s.instances
+  switch_numbers s (Msg.Credit cell) = credit_quiet s ((s.flying == 0) || not (cell.pool == s.pool.name)) _ refl
   switch_numbers s m = refl
 
   pub commands_behind : (m : Msg) (ms : List Msg) → commands f g (m ∷ ms) ≡ commands f g (m ∷ []) ++ commands f g ms
-  commands_behind (msg.InCommand c) ms = refl
+  commands_behind (Msg.InCommand c) ms = refl
   commands_behind m ms = refl
 
   -- a command comes to the controller from the switch alone, and the input to the switch alone
   pub unasked_by : (s r : ℕ) (m : Msg) → Label f g s r m → (s == 0) && (r == 1) ≡ false → IsUnasked m
-  unasked_by s r (msg.Asked c) label off =
+  unasked_by s r (Msg.Asked c) label off =
       let here : (s == 0) && (r == 1) ≡ true = rw ((Decides-eqb s 0).1 label.0, (Decides-eqb r 1).1 label.1) refl in
       let never : true ≡ false = sym here ∙ off in cc
   unasked_by s r m label off = refl
 
   pub no_command : (s r : ℕ) (m : Msg) → Label f g s r m → (s == 0) ≡ false → commands f g (m ∷ []) ≡ []
-  no_command s r (msg.InCommand c) label off = let never : true ≡ false = sym ((Decides-eqb s 0).1 label.0.0) ∙ off in cc
+  no_command s r (Msg.InCommand c) label off = let never : true ≡ false = sym ((Decides-eqb s 0).1 label.0.0) ∙ off in cc
   no_command s r m label off = refl
 
   pub grows_low : (m : Msg) (b a : ℕ) → IsUnasked m → Grows m b a → a ≤ b
-  grows_low (msg.Asked c) b a e h = cc
+  grows_low (Msg.Asked c) b a e h = cc
   grows_low m b a e h = h
 
   -- Numbers as the abstract network sees them.
@@ -114,43 +109,43 @@ module _ {R : Type 0} (f : Semantics R) (g : Given) where
   asked_behind a rest e = refl
 
   unasked_shown : (m : Msg) → IsUnasked m → is_asked_in (shown f g m) ≡ false
-  unasked_shown (msg.Asked c) e = cc
-  unasked_shown (msg.Carry mark.Plain cell) e = refl
-  unasked_shown (msg.Carry (mark.Pass op) cell) e = refl
-  unasked_shown (msg.Carry (mark.Shared op home) cell) e = refl
-  unasked_shown (msg.Install op filter from target.Controller) e = refl
-  unasked_shown (msg.Install op filter from (target.Instance to)) e = refl
-  unasked_shown (msg.Forward to mark.Plain cell) e = refl
-  unasked_shown (msg.Forward to (mark.Pass op) cell) e = refl
-  unasked_shown (msg.Forward to (mark.Shared op home) cell) e = refl
-  unasked_shown (msg.Shared op chunk) e = by_entry (spelled f chunk)
+  unasked_shown (Msg.Asked c) e = cc
+  unasked_shown (Msg.Carry Mark.Plain cell) e = refl
+  unasked_shown (Msg.Carry (Mark.Pass op) cell) e = refl
+  unasked_shown (Msg.Carry (Mark.Shared op home) cell) e = refl
+  unasked_shown (Msg.Install op filter from Target.Controller) e = refl
+  unasked_shown (Msg.Install op filter from (Target.Instance to)) e = refl
+  unasked_shown (Msg.Forward to Mark.Plain cell) e = refl
+  unasked_shown (Msg.Forward to (Mark.Pass op) cell) e = refl
+  unasked_shown (Msg.Forward to (Mark.Shared op home) cell) e = refl
+  unasked_shown (Msg.Shared op chunk) e = by_entry (spelled f chunk)
     where
-      by_entry : (o : Option (units.Unit × R)) → is_asked_in (option_map (λ entry. New (S_shared op entry)) o) ≡ false
+      by_entry : (o : Option (Unit × R)) → is_asked_in (option_map (λ entry. New (S_shared op entry)) o) ≡ false
       by_entry None = refl
       by_entry (Some entry) = refl
   unasked_shown m e = refl
 
   asked_number : (op : ℕ) (what : Order) (a : Any R) → asked_of f (place g) op what ≡ Some a → (rest : List (Any R))
       → asked_nums (a ∷ rest) ≡ op ∷ asked_nums rest
-  asked_number op (order.Move src dst filter keep) a e rest = by_want (want_of (place g) op (order.Move src dst filter keep)) refl e
+  asked_number op (Order.Move src dst filter keep) a e rest = by_want (want_of (place g) op (Order.Move src dst filter keep)) refl e
     where
-      by_want : (o : Option MoveAsked) → want_of (place g) op (order.Move src dst filter keep) ≡ o → option_map (λ w. Old (net.Asked w)) o ≡ Some a
+      by_want : (o : Option MoveAsked) → want_of (place g) op (Order.Move src dst filter keep) ≡ o → option_map (λ w. Old (net.Asked w)) o ≡ Some a
           → asked_nums (a ∷ rest) ≡ op ∷ asked_nums rest
       by_want None at is = cc
       by_want (Some w) at is =
           let same : Old (net.Asked w) ≡ a = cc in
           subst (λ b. asked_nums (b ∷ rest) ≡ op ∷ asked_nums rest) same
-          (ap (λ k. k ∷ asked_nums rest) (want_num op (order.Move src dst filter keep) (place g) w at))
-  asked_number op (order.Copy src dst filter) a e rest = cc
-  asked_number op (order.Share members filter) a e rest = by_want (want_share_of (place g) op (order.Share members filter)) refl e
+          (ap (λ k. k ∷ asked_nums rest) (want_num op (Order.Move src dst filter keep) (place g) w at))
+  asked_number op (Order.Copy src dst filter) a e rest = cc
+  asked_number op (Order.Share members filter) a e rest = by_want (want_share_of (place g) op (Order.Share members filter)) refl e
     where
-      by_want : (o : Option WantShare) → want_share_of (place g) op (order.Share members filter) ≡ o → option_map (λ w. New (S_asked w)) o ≡ Some a
+      by_want : (o : Option WantShare) → want_share_of (place g) op (Order.Share members filter) ≡ o → option_map (λ w. New (S_asked w)) o ≡ Some a
           → asked_nums (a ∷ rest) ≡ op ∷ asked_nums rest
       by_want None at is = cc
       by_want (Some w) at is =
           let same : New (S_asked w) ≡ a = cc in
           subst (λ b. asked_nums (b ∷ rest) ≡ op ∷ asked_nums rest) same
-          (ap (λ k. k ∷ asked_nums rest) (is_wanted (place g) op (order.Share members filter) w at).num)
+          (ap (λ k. k ∷ asked_nums rest) (is_wanted (place g) op (Order.Share members filter) w at).num)
 
   -- where all numbers rise, those that the abstract network sees do
   pub rising_shown : (b : ℕ) (ms : List Msg) (ks : List ℕ) → Rising b (numbers ms ++ ks) → Rising b (asked_nums (filter_map (shown f g) ms) ++ ks)
@@ -163,11 +158,11 @@ module _ {R : Type 0} (f : Semantics R) (g : Given) where
       by_shown (Some a) y e off rest = rw e (subst (λ v. Rising b (v ++ ks)) (sym (asked_behind a (filter_map (shown f g) ms) off)) rest)
 
       by_asked : (c : Command) (o : Option (Any R)) → asked_of f (place g) c.op c.what ≡ o → (b ≤ c.op)
-          → Rising (suc c.op) (asked_nums (filter_map (shown f g) ms) ++ ks) → Rising b (asked_nums (filter_map (shown f g) (msg.Asked c ∷ ms)) ++ ks)
+          → Rising (suc c.op) (asked_nums (filter_map (shown f g) ms) ++ ks) → Rising b (asked_nums (filter_map (shown f g) (Msg.Asked c ∷ ms)) ++ ks)
       by_asked c None e low rest = rw e (rising_less b (suc c.op) (asked_nums (filter_map (shown f g) ms) ++ ks) (omega (arith, low)) rest)
       by_asked c (Some a) e low rest = rw e (subst (λ v. Rising b (v ++ ks)) (sym (asked_number c.op c.what a e (filter_map (shown f g) ms))) (low, rest))
 
       by_message : (y : Msg) → ((d : ℕ) → Rising d (numbers ms ++ ks) → Rising d (asked_nums (filter_map (shown f g) ms) ++ ks))
           → Rising b (numbers (y ∷ ms) ++ ks) → Rising b (asked_nums (filter_map (shown f g) (y ∷ ms)) ++ ks)
-      by_message (msg.Asked c) more r = by_asked c (asked_of f (place g) c.op c.what) refl r.0 (more (suc c.op) r.1)
+      by_message (Msg.Asked c) more r = by_asked c (asked_of f (place g) c.op c.what) refl r.0 (more (suc c.op) r.1)
       by_message y more r = by_shown (shown f g y) y refl (unasked_shown y refl) (more b r)

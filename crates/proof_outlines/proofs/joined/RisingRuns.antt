@@ -4,14 +4,12 @@ use Rattle.proof_outlines.proofs.Words.{◌≡◌, ℕ, suc, ◌+◌, ◌<◌, t
 use Rattle.proof_outlines.proofs.Words.{append-nil, arith, ◌&&◌, ◌==◌, nat_lt, filter_map, nat_tests, Decides-eqb, and-false, Semantics, Order, Msg, Note}
 use Rattle.proof_outlines.proofs.Words.{Choice, Network, is_input, queue_at, world_next, at, put_on_link, less_first, Takes, taken_outcome, Taking, Rising}
 use Rattle.proof_outlines.proofs.Words.{rising_less, Node, node_step, node_ready, either_way}
-use Rattle.nf_msgs.specs.declared.command.Order.TheVariants as order
-use Rattle.nf_msgs.specs.declared.msg.Msg.TheVariants as msg
 use Rattle.proof_outlines.proofs.joined.Words.{asked_of, Given, place, Label, count, shown, commands, asked_nums, node_of, Grows, Scene, Joined}
 use Rattle.proof_outlines.proofs.joined.ControllerBegins.{OrderNext, CopiesNext}
-use Rattle.proof_outlines.proofs.joined.RisingNumbers.{numbers, IsUnasked, numbers-append, switch_numbers}
-use Rattle.proof_outlines.proofs.joined.RisingNumbers.{commands_behind, unasked_by, no_command, grows_low, rising_shown}
-use Rattle.proof_outlines.proofs.joined.JoinedSteps.{NodeLeads, scene, label, input_after, step_leads, joined_after}
-use Rattle.proof_outlines.proofs.joined.JoinedSteps.{after_world, takes_at, ready_at, joined_next, next_is}
+use Rattle.proof_outlines.proofs.joined.RisingNumbers.{numbers, IsUnasked, numbers-append, switch_numbers, commands_behind, unasked_by, no_command, grows_low}
+use Rattle.proof_outlines.proofs.joined.RisingNumbers.{rising_shown}
+use Rattle.proof_outlines.proofs.joined.JoinedSteps.{NodeLeads, scene, label, input_after, step_leads, joined_after, after_world, takes_at, ready_at}
+use Rattle.proof_outlines.proofs.joined.JoinedSteps.{joined_next, next_is}
 
 module _ {F R : Type 0} (f : Semantics R) (g : Given) where
   -- all numbers that wait
@@ -94,7 +92,7 @@ module _ {F R : Type 0} (f : Semantics R) (g : Given) where
         where
           by_message : (y : Msg) → Grows y j.world.next next → Rising j.world.next (numbers (y ∷ rest) ++ commands f g (queue_at w (at 0 0)))
               → Rising next (numbers rest ++ commands f g (queue_at w (at 0 0)))
-          by_message (msg.Asked c) low r =
+          by_message (Msg.Asked c) low r =
               let first = r.0 in rising_less next (suc c.op) (numbers rest ++ commands f g (queue_at w (at 0 0))) (low (omega (arith, first))) r.1
           by_message y low r = rising_less next j.world.next (numbers rest ++ commands f g (queue_at w (at 0 0))) low r
 
@@ -138,17 +136,17 @@ module _ {F R : Type 0} (f : Semantics R) (g : Given) where
 
       -- a copy that is asked for
       copy_next : NumbersRise n w j → (y : Msg) → m ≡ y → CopiesNext f g (scene f g n count_is May leads w j) y
-      copy_next h (msg.Asked cmd) e = by_order cmd.what refl
+      copy_next h (Msg.Asked cmd) e = by_order cmd.what refl
         where
           by_order : (what : Order) → cmd.what ≡ what → OrderNext f g (scene f g n count_is May leads w j) cmd what
-          by_order (order.Copy src dst filter) is =
-              let own : Label f g p k (msg.Asked cmd) = subst (Label f g p k) e its_label in
-              let here : queue_at w (at 1 0) ≡ msg.Asked cmd ∷ rest = ap (λ x. queue_at w (at x 0)) (sym own.1) ∙ ap (λ x. queue_at w (at k x)) (sym own.0)
+          by_order (Order.Copy src dst filter) is =
+              let own : Label f g p k (Msg.Asked cmd) = subst (Label f g p k) e its_label in
+              let here : queue_at w (at 1 0) ≡ Msg.Asked cmd ∷ rest = ap (λ x. queue_at w (at x 0)) (sym own.1) ∙ ap (λ x. queue_at w (at k x)) (sym own.0)
               ∙ takes.waits ∙ ap (λ y. y ∷ rest) e in
               let all : Rising j.world.next (cmd.op ∷ (numbers rest ++ commands f g (queue_at w (at 0 0)))) =
               subst (λ ms. Rising j.world.next (numbers ms ++ commands f g (queue_at w (at 0 0)))) here h.rising in
               let hidden : asked_of f (place g) cmd.op cmd.what ≡ None = ap (asked_of f (place g) cmd.op) is in
-              let left : filter_map (shown f g) (msg.Asked cmd ∷ rest) ≡ filter_map (shown f g) rest = rw hidden refl in
+              let left : filter_map (shown f g) (Msg.Asked cmd ∷ rest) ≡ filter_map (shown f g) rest = rw hidden refl in
               let low : 1 < n = omega (arith, count_is) in
               let seen : j.world.link 0 1 ≡ filter_map (shown f g) rest = j.links 0 1 (omega (arith, low)) low refl ∙ ap (filter_map (shown f g)) here ∙ left in
               record {

@@ -1,8 +1,6 @@
 -- What an instance notes as processed ran in the network with shares.
 use Rattle.proof_outlines.proofs.Words.{◌≡◌, ℕ, suc, ◌≤◌, Some, List, [], refl, filter_map, Fits, Semantics, Msg, instance_step, Records, NumberedInstance}
-use Rattle.proof_outlines.proofs.Words.{inst_step, everything, Any, Old, New, Shared_on, S_get, S_sync, WholeWorld, member_step}
-use Rattle.nf_function.specs.Records.{Laws as FunctionLaws}
-use Rattle.instance_worker.specs.declared.instance.Instance.{Instance as InstanceState}
+use Rattle.proof_outlines.proofs.Words.{inst_step, everything, Any, Old, New, Shared_on, S_get, S_sync, WholeWorld, member_step, FunctionLaws, InstanceState}
 use Rattle.proof_machines.proofs.unit.Real as real
 use Rattle.proof_machines.proofs.net.Net as net
 use Rattle.proof_outlines.proofs.joined.Words.{number, rule_of, entries, outline_piece, ran_in, outline_instance, carry_follows, pass_follows, fence_follows}

@@ -1,9 +1,8 @@
 -- Every run of a network leads to a world of a run; what is then read off the log of a unit.
 use Rattle.proof_outlines.proofs.Words.{◌≡◌, ℕ, ◌+◌, ◌≤◌, true, false, List, [], ◌∷◌, ◌++◌, map, length, refl, sym, ap, ◌∙◌, arith, if◌then◌else◌, ◌==◌, Global}
 use Rattle.proof_outlines.proofs.Words.{Semantics, Msg, Note, Choice, Network, IsWorld, IsRun, run, world_next, opening_world, Taking, run_induction, done_u}
-use Rattle.proof_outlines.proofs.Words.{Config, Node, IsInput, Done, dones_in, done_where, is_loose, node_step, node_ready, first_nodes, started_with}
-use Rattle.nf_function.specs.declared.unit.Unit as units
-use Rattle.nf_function.specs.Records.{Laws as FunctionLaws}
+use Rattle.proof_outlines.proofs.Words.{Config, Node, IsInput, Done, dones_in, done_where, is_loose, node_step, node_ready, first_nodes, started_with, Unit}
+use Rattle.proof_outlines.proofs.Words.{FunctionLaws}
 use Rattle.proof_machines.proofs.unit.Stages as stages
 use Rattle.proof_machines.proofs.net.Readings.{In_order}
 use Rattle.proof_machines.proofs.whole.Readings.{order_all}
@@ -49,7 +48,7 @@ module _ {R : Type 0} (f : Semantics R) (c : Config) (items : List Msg) (is : Is
   gi = given f c items is
 
   -- what was done of a unit
-  pub went_same : (u : units.Unit) (ds : List Done) → done_u (S f gi) u (by_node f gi ds) ≡ map (λ d. d.number) (done_where (is_of f c items u) ds)
+  pub went_same : (u : Unit) (ds : List Done) → done_u (S f gi) u (by_node f gi ds) ≡ map (λ d. d.number) (done_where (is_of f c items u) ds)
   went_same u [] = refl
   went_same u (d ∷ ds) =
       elim (is_of f c items u d.number) as (λ b. (if b then d.number ∷ done_u (S f gi) u (by_node f gi ds) else done_u (S f gi) u (by_node f gi ds))
@@ -67,17 +66,17 @@ module _ {F R : Type 0} (f : Semantics R) (c : Config) (items : List Msg) (is : 
   abbrev gj : Given
   gj = given f c items is
 
-  pub done_same : (u : units.Unit) → done_u (S f gj) u j.world.done ≡ processed_of f c items u w.log
+  pub done_same : (u : Unit) → done_u (S f gj) u j.world.done ≡ processed_of f c items u w.log
   done_same u = ap (done_u (S f gj) u) j.shown_is.done_is ∙ went_same f c items is u (dones_in w.log)
 
-  ordered : (u : units.Unit)
+  ordered : (u : Unit)
       → In_order (S f gj) (is_sys f gj.site gj.packet) u (done_u (S f gj) u j.world.done) (arrived_of f c items u w.log) (is_loose c items u w.log)
   ordered u = order_all (S f gj) (A f gj) (is_sys f gj.site gj.packet) u j.world (came_by f gj w.log u) (j.shown_is.every.unit u)
 
-  pub in_order : (u : units.Unit) → is_loose c items u w.log ≡ false → IsFront (processed_of f c items u w.log) (arrived_of f c items u w.log)
+  pub in_order : (u : Unit) → is_loose c items u w.log ≡ false → IsFront (processed_of f c items u w.log) (arrived_of f c items u w.log)
   in_order u off = record { rest = (ordered u).waits; whole = ap (λ xs. xs ++ (ordered u).waits) (sym (done_same u)) ∙ (ordered u).exact off }
 
-  pub once : (u : units.Unit) (p : ℕ) → times p (processed_of f c items u w.log) ≤ times p (arrived_of f c items u w.log)
+  pub once : (u : Unit) (p : ℕ) → times p (processed_of f c items u w.log) ≤ times p (arrived_of f c items u w.log)
   once u p =
       let whole = times-append p (processed_of f c items u w.log) (ordered u).waits in
       let same : times p (processed_of f c items u w.log ++ (ordered u).waits) ≡ times p (arrived_of f c items u w.log) =

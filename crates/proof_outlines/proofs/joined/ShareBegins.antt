@@ -1,8 +1,7 @@
 -- A share that may begin: its members have different places, the names of its order are known, and it is one that the abstract network begins.
 use Rattle.proof_outlines.proofs.Words.{◌≡◌, ◌≢◌, ℕ, suc, true, false, Option, Some, None, List, [], ◌∷◌, length, get_or, refl, sym, ap, ◌∙◌, subst, arith}
 use Rattle.proof_outlines.proofs.Words.{true≢false, Bool, if◌then◌else◌, ◌==◌, not, nat_lt, find, is_some, filter_map, list_any, AllByRecursion, bytes_eq}
-use Rattle.proof_outlines.proofs.Words.{nat_tests, Decides-ltb, or_parts, false_from_ne_true, instance_node, has_twice, place_of, Each}
-use Rattle.std.specs.List.{IsDistinct}
+use Rattle.proof_outlines.proofs.Words.{nat_tests, Decides-ltb, or_parts, false_from_ne_true, instance_node, has_twice, place_of, Each, IsDistinct}
 use Rattle.std.proofs.lemmas.List.Quantifiers.{position-Some}
 use Rattle.std.proofs.lemmas.Slice.Eq.{bytes_eq-Decides}
 use Rattle.proof_outlines.proofs.whole.WholeOutline.{with_member, members_of}

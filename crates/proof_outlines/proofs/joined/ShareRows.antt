@@ -3,11 +3,7 @@
 use Rattle.proof_outlines.proofs.Words.{◌≡◌, ℕ, ◌<◌, Bool, true, false, None, List, [], ◌∷◌, map, length, refl, sym, subst, arith, if◌then◌else◌, ◌==◌, ◌-◌}
 use Rattle.proof_outlines.proofs.Words.{nat_lt, unwrap_or, keys_of, Decides-eqb, Chunk, Semantics, same_unit, FullCell, Msg, instance_node, SharePhase}
 use Rattle.proof_outlines.proofs.Words.{SharePlan, ShareState, ShareRow, Served, home, others, syncs, setting, syncing, on_fenced, on_chunks, on_shared}
-use Rattle.proof_outlines.proofs.Words.{on_synced, member_of, service_if_idle, EachSent, Each, has, split, by_if}
-use Rattle.std.specs.List.{IsDistinct}
-use Rattle.nf_function.specs.declared.unit.Unit as units
-use Rattle.nf_msgs.specs.declared.msg.Msg.TheVariants as msg
-use Rattle.copy_share.specs.declared.share_phase.SharePhase.TheVariants as phase
+use Rattle.proof_outlines.proofs.Words.{on_synced, member_of, service_if_idle, EachSent, Each, has, split, by_if, Unit, IsDistinct}
 use Rattle.copy_share.specs.Share.{next_phase, row}
 use Rattle.proof_outlines.proofs.joined.Words.{is_whole, entries, is_sharing, Given, Genuine, IsShare, IsOutAt, IsGoodChunk, AreGoodChunks, Label, count}
 
@@ -26,7 +22,7 @@ module _ {R : Type 0} (f : Semantics R) (g : Given) where
       one : entries f (chunk ∷ []) ≡ good.chunk.entry ∷ []
       one = let spells = good.chunk.spells in rw spells refl
 
-      alone : (e : units.Unit × R) → IsDistinct same_unit (keys_of (e ∷ []))
+      alone : (e : Unit × R) → IsDistinct same_unit (keys_of (e ∷ []))
       alone e = (tt, tt)
 
   -- what a row leaves of a share's phase, and sends
@@ -39,7 +35,7 @@ module _ {R : Type 0} (f : Semantics R) (g : Given) where
     Rows r = RowIs plan.members r
 
     syncs_each : (chunks : List Chunk) → AreGoodChunks f g chunks → (ms : List ℕ)
-        → EachSent (Label f g) 1 (map (λ member. (instance_node member, msg.Sync (member == home plan) plan.op chunks)) ms)
+        → EachSent (Label f g) 1 (map (λ member. (instance_node member, Msg.Sync (member == home plan) plan.op chunks)) ms)
     syncs_each chunks good [] = tt
     syncs_each chunks good (m ∷ ms) = (((refl, omega arith), good), syncs_each chunks good ms)
 
@@ -54,24 +50,24 @@ module _ {R : Type 0} (f : Semantics R) (g : Given) where
         (record { out = tt; labels = labels })
 
     fenced_is : (ph : SharePhase) → IsOutAt f g plan.members ph → Rows (on_fenced plan ph)
-    fenced_is phase.Fencing out = record { out = tt; labels = (((refl, omega arith), whole), tt) }
+    fenced_is SharePhase.Fencing out = record { out = tt; labels = (((refl, omega arith), whole), tt) }
     fenced_is ph out = rests ph out
 
     chunks_is : (ph : SharePhase) (chunks : List Chunk) → IsOutAt f g plan.members ph → AreGoodChunks f g chunks → Rows (on_chunks plan ph chunks)
-    chunks_is phase.Getting chunks out good =
+    chunks_is SharePhase.Getting chunks out good =
         setting_is (length (others plan (home plan))) (syncs plan (home plan) chunks) (syncs_each chunks good (others plan (home plan)))
     chunks_is ph chunks out good = rests ph out
 
     shared_is : (ph : SharePhase) (sender : ℕ) (chunk : Chunk) → IsOutAt f g plan.members ph → IsGoodChunk f g chunk → Rows (on_shared plan ph sender chunk)
-    shared_is (phase.Out member) sender chunk out good = by_if Rows (sender == instance_node member)
+    shared_is (SharePhase.Out member) sender chunk out good = by_if Rows (sender == instance_node member)
         (syncing_is (length (others plan member)) (syncs plan member (chunk ∷ []))
         (syncs_each (chunk ∷ []) (one_chunk chunk good) (others plan member)))
-        (rests (phase.Out member) out)
+        (rests (SharePhase.Out member) out)
     shared_is ph sender chunk out good = rests ph out
 
     synced_is : (ph : SharePhase) → IsOutAt f g plan.members ph → Rows (on_synced ph)
-    synced_is (phase.Setting left) out = setting_is (left - 1) [] tt
-    synced_is (phase.Syncing left) out = syncing_is (left - 1) [] tt
+    synced_is (SharePhase.Setting left) out = setting_is (left - 1) [] tt
+    synced_is (SharePhase.Syncing left) out = syncing_is (left - 1) [] tt
     synced_is ph out = rests ph out
 
     either_is : (b : Bool) (r : ShareRow) (ph : SharePhase) → IsOutAt f g plan.members ph → Rows r → Rows (if b then r else next_phase ph [])
@@ -80,11 +76,11 @@ module _ {R : Type 0} (f : Semantics R) (g : Given) where
 
     row_is : (ph : SharePhase) (sender : ℕ) (m : Msg) → IsOutAt f g plan.members ph → Label f g sender 1 m
         → Rows (row (record { plan = plan; phase = ph }) sender m)
-    row_is ph sender (msg.Fenced op) out label = either_is (sender == instance_node (home plan)) (on_fenced plan ph) ph out (fenced_is ph out)
-    row_is ph sender (msg.Chunks op chunks) out label =
+    row_is ph sender (Msg.Fenced op) out label = either_is (sender == instance_node (home plan)) (on_fenced plan ph) ph out (fenced_is ph out)
+    row_is ph sender (Msg.Chunks op chunks) out label =
         either_is (sender == instance_node (home plan)) (on_chunks plan ph chunks) ph out (chunks_is ph chunks out label.1)
-    row_is ph sender (msg.Shared op chunk) out label = shared_is ph sender chunk out label.1
-    row_is ph sender (msg.Synced op) out label = synced_is ph out
+    row_is ph sender (Msg.Shared op chunk) out label = shared_is ph sender chunk out label.1
+    row_is ph sender (Msg.Synced op) out label = synced_is ph out
     row_is ph sender m out label = rests ph out
 
   -- what is served
@@ -103,7 +99,7 @@ module _ {R : Type 0} (f : Semantics R) (g : Given) where
 
     served_is : (ph : SharePhase) (cells : List FullCell) → IsOutAt f g plan.members ph → Each (Genuine f g) cells
         → ServedIs plan.members cells (service_if_idle plan ph cells)
-    served_is phase.Idle (cell ∷ cells) out genuine = record {
+    served_is SharePhase.Idle (cell ∷ cells) out genuine = record {
       out = member_in cell;
       labels = (
         ((refl, refl), each_has (λ member. nat_lt member (count f g) ≡ true) plan.members (member_of plan cell) few (member_in cell), refl, genuine.0),
@@ -111,12 +107,12 @@ module _ {R : Type 0} (f : Semantics R) (g : Given) where
       );
       genuine = genuine.1;
     }
-    served_is phase.Idle [] out genuine = none_served phase.Idle [] out genuine refl
-    served_is phase.Fencing cells out genuine = none_served phase.Fencing cells out genuine refl
-    served_is phase.Getting cells out genuine = none_served phase.Getting cells out genuine refl
-    served_is (phase.Setting left) cells out genuine = none_served (phase.Setting left) cells out genuine refl
-    served_is (phase.Out member) cells out genuine = none_served (phase.Out member) cells out genuine refl
-    served_is (phase.Syncing left) cells out genuine = none_served (phase.Syncing left) cells out genuine refl
+    served_is SharePhase.Idle [] out genuine = none_served SharePhase.Idle [] out genuine refl
+    served_is SharePhase.Fencing cells out genuine = none_served SharePhase.Fencing cells out genuine refl
+    served_is SharePhase.Getting cells out genuine = none_served SharePhase.Getting cells out genuine refl
+    served_is (SharePhase.Setting left) cells out genuine = none_served (SharePhase.Setting left) cells out genuine refl
+    served_is (SharePhase.Out member) cells out genuine = none_served (SharePhase.Out member) cells out genuine refl
+    served_is (SharePhase.Syncing left) cells out genuine = none_served (SharePhase.Syncing left) cells out genuine refl
 
   -- an open share in another phase
   moved_on : (op : ℕ) (s : ShareState) (ph : SharePhase) → IsShare f g op s → IsOutAt f g s.plan.members ph → IsShare f g op (record s { phase = ph })

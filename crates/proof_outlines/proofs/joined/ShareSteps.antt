@@ -4,10 +4,8 @@ use Rattle.proof_outlines.proofs.Words.{◌≡◌, ℕ, true, false, Option, Som
 use Rattle.proof_outlines.proofs.Words.{Decides-eqb, same_Some, Chunk, Semantics, stored_of, FullCell, Msg, switch_node, MoveState, ShareState, Operation, Move}
 use Rattle.proof_outlines.proofs.Words.{Copy, Share, ControllerState, still, hand_step, queue_step, on_diverted, Any, New, S_shared, S_synced, Diverted_on}
 use Rattle.proof_outlines.proofs.Words.{OpenShare, find_share, share_taking, Told, Is_fenced, Has_chunk, Is_synced, Has_packet, by_share, taking_found}
-use Rattle.proof_outlines.proofs.Words.{either_way}
+use Rattle.proof_outlines.proofs.Words.{either_way, Unit}
 use Rattle.std.specs.FinMap as finite
-use Rattle.nf_function.specs.declared.unit.Unit as units
-use Rattle.nf_msgs.specs.declared.msg.Msg.TheVariants as msg
 use Rattle.proof_machines.proofs.unit.Real as real
 use Rattle.proof_outlines.proofs.joined.Words.{number, fenced_row, is_copied, joins, real_share, StepFollows, Given, place, Scene, AreShown, IsTaken, S, A}
 use Rattle.proof_outlines.proofs.joined.Words.{shown}
@@ -33,8 +31,8 @@ module _ {F R : Type 0} (f : Semantics R) (g : Given) (n : ℕ) (x : Scene F f g
   untold op t none = ap (λ o. joins f g.site g.packet (place g) (record { ops = x.world.ops; sends = [] })
       (by_share (S f g) (A f g) x.world.shares p (option_map (λ e. (e, t)) o))) none
 
-  pub fenced_leads : (op : ℕ) → IsTakenHere (msg.Fenced op) → RowLeads f g x p (msg.Fenced op) (hand_step c op p (msg.Fenced op))
-  fenced_leads op is = told_leads f g n x p (msg.Fenced op) are is op (real.M_fenced op) refl refl refl refl
+  pub fenced_leads : (op : ℕ) → IsTakenHere (Msg.Fenced op) → RowLeads f g x p (Msg.Fenced op) (hand_step c op p (Msg.Fenced op))
+  fenced_leads op is = told_leads f g n x p (Msg.Fenced op) are is op (real.M_fenced op) refl refl refl refl
       (λ none. ap (option_map (λ e. (e, Is_fenced))) none)
       (λ mv h. fenced_row f (place g) mv.plan mv.phase (stored_of c.store op) p op h.refusing)
       (fenced_follows f g.site g.packet (place g) c x.world.ops x.world.shares are.controller.opens op p (are.controller.genuine op)
@@ -58,10 +56,10 @@ module _ {F R : Type 0} (f : Semantics R) (g : Given) (n : ℕ) (x : Scene F f g
         by_got (Some (Copy y)) e = copy_leads f g n x p m are is op y e other (stays_idle (no_share_open f g n x p m are is op (Some (Copy y)) e refl))
         by_got (Some (Share s)) e = of_share s e
 
-  pub shared_leads : (op : ℕ) (chunk : Chunk) → IsTakenHere (msg.Shared op chunk)
-      → RowLeads f g x p (msg.Shared op chunk) (hand_step c op p (msg.Shared op chunk))
+  pub shared_leads : (op : ℕ) (chunk : Chunk) → IsTakenHere (Msg.Shared op chunk)
+      → RowLeads f g x p (Msg.Shared op chunk) (hand_step c op p (Msg.Shared op chunk))
   shared_leads op chunk is =
-      let m = msg.Shared op chunk in
+      let m = Msg.Shared op chunk in
       let good = is.label.1.chunk in
       let a : Any R = New (S_shared op good.entry) in
       let seen : shown f g m ≡ Some a = ap (option_map (λ e. New (S_shared op e))) good.spells in
@@ -70,17 +68,17 @@ module _ {F R : Type 0} (f : Semantics R) (g : Given) (n : ℕ) (x : Scene F f g
       (λ s there. share_leads f g n x p m are is op s there a seen (shared_follows f g.site g.packet (place g) c x.world.ops x.world.shares
       are.controller.opens op p chunk good.entry good.spells (are.controller.genuine op) (λ mv has. are.controller.going op mv has)) refl)
 
-  pub synced_leads : (op : ℕ) → IsTakenHere (msg.Synced op) → RowLeads f g x p (msg.Synced op) (hand_step c op p (msg.Synced op))
+  pub synced_leads : (op : ℕ) → IsTakenHere (Msg.Synced op) → RowLeads f g x p (Msg.Synced op) (hand_step c op p (Msg.Synced op))
   synced_leads op is =
-      let m = msg.Synced op in
+      let m = Msg.Synced op in
       by_share_alone m is op (New (S_synced op)) refl refl (untold op Is_synced)
       (λ mv there. move_still c op mv p m (are.controller.going op mv there) there (unlooked mv (stored_of c.store mv.plan.op) p m refl refl))
       (λ s there. share_leads f g n x p m are is op s there (New (S_synced op)) refl (synced_follows f g.site g.packet (place g) c x.world.ops
       x.world.shares are.controller.opens op p (are.controller.genuine op) (λ mv has. are.controller.going op mv has)) refl)
 
   -- A packet whose target is the controller.
-  module _ (cell : FullCell) (is : IsTakenHere (msg.Diverted cell)) where
-    abbrev its_unit : units.Unit
+  module _ (cell : FullCell) (is : IsTakenHere (Msg.Diverted cell)) where
+    abbrev its_unit : Unit
     its_unit = (S f g).packet_unit (number cell)
 
     one_share : (j k : ℕ) (d e : OpenShare) → find_share x.world.shares j ≡ Some d → find_share x.world.shares k ≡ Some e
@@ -91,34 +89,34 @@ module _ {F R : Type 0} (f : Semantics R) (g : Given) (n : ℕ) (x : Scene F f g
     apart : AreApart f g.site g.packet (place g) c x.world.ops x.world.shares are.controller.opens its_unit
     apart = record { nums = are.every.global.nums_apart; whole = λ k s there. (are.controller.shared k s there).whole; one = one_share }
 
-    follows : StepFollows f g.site g.packet (place g) (on_diverted c cell) (step_on f g n x p (msg.Diverted cell) are is (New (Diverted_on (number cell))))
+    follows : StepFollows f g.site g.packet (place g) (on_diverted c cell) (step_on f g n x p (Msg.Diverted cell) are is (New (Diverted_on (number cell))))
     follows = diverted_follows f g.site g.packet (place g) c x.world.ops x.world.shares are.controller.opens cell are.controller.site is.label.2 apart p
         are.controller.genuine
 
-    taken_leads : (e : OpenShare) → share_taking (S f g) x.world.shares its_unit ≡ Some e → RowLeads f g x p (msg.Diverted cell) (on_diverted c cell)
+    taken_leads : (e : OpenShare) → share_taking (S f g) x.world.shares its_unit ≡ Some e → RowLeads f g x p (Msg.Diverted cell) (on_diverted c cell)
     taken_leads e taking =
         let own = taken_is f g.site g.packet (place g) c x.world.ops x.world.shares are.controller.opens cell are.controller.site is.label.2 apart e taking in
         let r = real_share f (place g) g.site x.world.ops x.world.shares c e.num e are.controller.opens
         (taking_found (S f g) (A f g) x.world.shares its_unit e are.every.global.nums_apart taking) in
-        let below = share_below f g n x p (msg.Diverted cell) are is e.num r.s r.there in
+        let below = share_below f g n x p (Msg.Diverted cell) are is e.num r.s r.there in
         let well : DidWell f g c e.num (on_diverted c cell) = subst (DidWell f g c e.num) (sym (ap (queue_step c cell) own))
         (share_queued_well f g c e.num r.s r.there (are.controller.shared e.num r.s r.there) (are.controller.genuine e.num) cell is.label.2) in
-        well_leads f g n x p (msg.Diverted cell) are is e.num (on_diverted c cell) (New (Diverted_on (number cell))) refl follows refl
+        well_leads f g n x p (Msg.Diverted cell) are is e.num (on_diverted c cell) (New (Diverted_on (number cell))) refl follows refl
         (subst NotMove (sym r.there) tt) (λ least. (let never : ⊥ = omega (arith, below, least) in absurd never)) well
 
-    free_leads : share_taking (S f g) x.world.shares its_unit ≡ None → RowLeads f g x p (msg.Diverted cell) (on_diverted c cell)
+    free_leads : share_taking (S f g) x.world.shares its_unit ≡ None → RowLeads f g x p (Msg.Diverted cell) (on_diverted c cell)
     free_leads free =
         let none = none_is f g.site g.packet (place g) c x.world.ops x.world.shares are.controller.opens cell are.controller.site is.label.2 apart free in
-        still_leads f g n x p (msg.Diverted cell) are is (on_diverted c cell) (ap (queue_step c cell) none)
-        (λ a e. subst (Idles f g n x p (msg.Diverted cell) are is) (same_Some _ _ e) (ap (λ o. joins f g.site g.packet (place g)
+        still_leads f g n x p (Msg.Diverted cell) are is (on_diverted c cell) (ap (queue_step c cell) none)
+        (λ a e. subst (Idles f g n x p (Msg.Diverted cell) are is) (same_Some _ _ e) (ap (λ o. joins f g.site g.packet (place g)
         (record { ops = x.world.ops; sends = [] }) (by_share (S f g) (A f g) x.world.shares p (option_map (λ y. (y, Has_packet (number cell))) o))) free))
 
-    pub diverted_leads : RowLeads f g x p (msg.Diverted cell) (if p == switch_node then on_diverted c cell else still c)
+    pub diverted_leads : RowLeads f g x p (Msg.Diverted cell) (if p == switch_node then on_diverted c cell else still c)
     diverted_leads =
         let on : (p == switch_node) ≡ true = (Decides-eqb p switch_node).1 is.label.0 in
-        subst (λ b. RowLeads f g x p (msg.Diverted cell) (if b then on_diverted c cell else still c)) (sym on)
+        subst (λ b. RowLeads f g x p (Msg.Diverted cell) (if b then on_diverted c cell else still c)) (sym on)
         (by_taking (share_taking (S f g) x.world.shares its_unit) refl)
       where
-        by_taking : (o : Option OpenShare) → share_taking (S f g) x.world.shares its_unit ≡ o → RowLeads f g x p (msg.Diverted cell) (on_diverted c cell)
+        by_taking : (o : Option OpenShare) → share_taking (S f g) x.world.shares its_unit ≡ o → RowLeads f g x p (Msg.Diverted cell) (on_diverted c cell)
         by_taking (Some e) taking = taken_leads e taking
         by_taking None free = free_leads free

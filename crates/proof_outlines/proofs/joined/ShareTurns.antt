@@ -4,7 +4,6 @@ use Rattle.proof_outlines.proofs.Words.{◌≡◌, ℕ, cond, Option, Some, None
 use Rattle.proof_outlines.proofs.Words.{Answer, Msg, switch_node, ShareState, ShareRow, service_if_idle, Share, ControllerState, Step, hand_step, queue_step}
 use Rattle.proof_outlines.proofs.Words.{EachSent, Each, each-append, sent-append}
 use Rattle.std.specs.FinMap as finite
-use Rattle.nf_msgs.specs.declared.msg.Msg.TheVariants as msg
 use Rattle.copy_share.specs.Share.{next_phase, row}
 use Rattle.proof_outlines.proofs.whole.ShareLeft.{OpenAt, answered, noted, next_share, still_waits, ShareLeaves, handed_leaves, queued_leaves}
 use Rattle.proof_outlines.proofs.joined.Words.{Given, Genuine, IsShare, Label}
@@ -26,7 +25,7 @@ module _ {R : Type 0} (f : Semantics R) (g : Given) where
 
   answered_labels : (n : ℕ) (a : Option Answer) (sends : List (ℕ × Msg)) → EachSent (Label f g) 1 sends → EachSent (Label f g) 1 (answered n a sends)
   answered_labels n None sends h = h
-  answered_labels n (Some why) sends h = sent-append (Label f g) 1 sends ((switch_node, msg.Answered n) ∷ []) h ((refl, refl), tt)
+  answered_labels n (Some why) sends h = sent-append (Label f g) 1 sends ((switch_node, Msg.Answered n) ∷ []) h ((refl, refl), tt)
 
   -- A row of a share, and what is served behind it.
   left_well : (x : OpenAt) (r : ShareRow) (step : Step) → ShareLeaves x r step → IsShare f g x.num x.share → RowIs f g x.share.plan.members r

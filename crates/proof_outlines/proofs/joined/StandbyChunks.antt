@@ -1,10 +1,8 @@
 -- The chunks of a copy that an instance is to keep: their records are folds of fronts of what was done, and no share takes their units. So
 -- what stands by after them may be kept.
 use Rattle.proof_outlines.proofs.Words.{◌≡◌, ℕ, None, List, [], ◌++◌, refl, sym, ap, ◌∙◌, subst, Chunk, Semantics, Records, newest_of, record_at, TakesSome}
-use Rattle.proof_outlines.proofs.Words.{WholeWorld, ran_of, Came, EveryAll, MayKeep}
+use Rattle.proof_outlines.proofs.Words.{WholeWorld, ran_of, Came, EveryAll, MayKeep, Unit, records_of}
 use Rattle.std.specs.FinMap as finite
-use Rattle.nf_function.specs.declared.unit.Unit as units
-use Rattle.record_table.specs.Chunks.{records_of}
 use Rattle.proof_machines.proofs.whole.Fronts.{FrontOf, front_none, front_more, ran_more}
 use Rattle.proof_outlines.proofs.joined.Words.{entries, is_sys, Given, S, A}
 use Rattle.proof_outlines.proofs.whole.MemberTables.{kept_has, kept_same}
@@ -13,11 +11,11 @@ module _ {R : Type 0} (f : Semantics R) (g : Given) where
   -- their records are such folds
   abbrev pub AreFronted : WholeWorld (S f g) (A f g) → List Chunk → Type 0
   AreFronted w chunks =
-      (u : units.Unit) → FrontOf (S f g) (A f g) (is_sys f g.site g.packet) u (ran_of (S f g) (A f g) u w.done) (record_at u (entries f chunks))
+      (u : Unit) → FrontOf (S f g) (A f g) (is_sys f g.site g.packet) u (ran_of (S f g) (A f g) u w.done) (record_at u (entries f chunks))
 
   -- none is of a unit that a share takes
   abbrev pub AreUnshared : WholeWorld (S f g) (A f g) → List Chunk → Type 0
-  AreUnshared w chunks = (u : units.Unit) → TakesSome (S f g) w.shares u → record_at u (entries f chunks) ≡ None
+  AreUnshared w chunks = (u : Unit) → TakesSome (S f g) w.shares u → record_at u (entries f chunks) ≡ None
 
   pub record MayStandBy (w : WholeWorld (S f g) (A f g)) (chunks : List Chunk) : Type 0 where
     pub fronts : AreFronted w chunks
@@ -34,12 +32,12 @@ module _ {R : Type 0} (f : Semantics R) (g : Given) where
       (sym (ap (ran_of (S f g) (A f g) u) done ∙ ran_more (S f g) (A f g) (is_sys f g.site g.packet) u w.done more)) (front_more (S f g) (A f g)
       (is_sys f g.site g.packet) u (ran_of (S f g) (A f g) u w.done) (ran_of (S f g) (A f g) u more) (record_at u (entries f chunks)) (fronts u))
 
-  module _ (w : WholeWorld (S f g) (A f g)) (came : units.Unit → Came) (every : EveryAll (S f g) (A f g) (is_sys f g.site g.packet) w came) (k : ℕ)
+  module _ (w : WholeWorld (S f g) (A f g)) (came : Unit → Came) (every : EveryAll (S f g) (A f g) (is_sys f g.site g.packet) w came) (k : ℕ)
       (t : Records R) (shows : t ≡ w.standby k) where
-    at_same : (u : units.Unit) → finite.get t u ≡ finite.get (w.standby k) u
+    at_same : (u : Unit) → finite.get t u ≡ finite.get (w.standby k) u
     at_same u = ap (λ v. finite.get v u) shows
 
-    front_at : (u : units.Unit) → FrontOf (S f g) (A f g) (is_sys f g.site g.packet) u (ran_of (S f g) (A f g) u w.done) (finite.get t u)
+    front_at : (u : Unit) → FrontOf (S f g) (A f g) (is_sys f g.site g.packet) u (ran_of (S f g) (A f g) u w.done) (finite.get t u)
     front_at u =
         subst (λ o. FrontOf (S f g) (A f g) (is_sys f g.site g.packet) u (ran_of (S f g) (A f g) u w.done) o) (sym (at_same u)) ((every.fronts u).standby k)
 

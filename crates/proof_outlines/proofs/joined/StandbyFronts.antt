@@ -4,10 +4,8 @@ use Rattle.proof_outlines.proofs.Words.{◌≡◌, ℕ, zero, suc, ◌+◌, ◌<
 use Rattle.proof_outlines.proofs.Words.{arith, ◌&&◌, ◌==◌, nat_tests, each_map, Filter, Chunk, Semantics, Msg, Note, Operation, Move, Copy, Share}
 use Rattle.proof_outlines.proofs.Words.{controller_step, Choice, Network, Stepped, is_input, queue_at, world_next, at, Takes, Taking, Each, OnLinks, EachSent}
 use Rattle.proof_outlines.proofs.Words.{on_links_after, New, ShareMsg, S_chunks, EachNew, ran_of, Node, node_step, node_ready, dones_in, done-append}
-use Rattle.proof_outlines.proofs.Words.{either_way}
+use Rattle.proof_outlines.proofs.Words.{either_way, Unit}
 use Rattle.std.specs.FinMap as finite
-use Rattle.nf_function.specs.declared.unit.Unit as units
-use Rattle.nf_msgs.specs.declared.msg.Msg.TheVariants as msg
 use Rattle.copy_share.specs.Copy as copy
 use Rattle.proof_machines.proofs.whole.Fronts.{MsgFront}
 use Rattle.proof_outlines.proofs.joined.Words.{entries, is_sys, Given, S, A, by_node, count, shown, node_of, Label, Scene, AreShown, IsTaken, Leads, Joined}
@@ -15,12 +13,12 @@ use Rattle.proof_outlines.proofs.joined.LogLemmas.{by_node-append}
 use Rattle.proof_outlines.proofs.joined.CopyAnswers.{is_uncopied}
 use Rattle.proof_outlines.proofs.joined.CopySends.{TurnSo, controller_sent}
 use Rattle.proof_outlines.proofs.joined.StandbyChunks.{AreFronted, AreUnshared, MayStandBy, none_fronted, fronted_later}
-use Rattle.proof_outlines.proofs.joined.JoinedSteps.{NodeLeads, scene, is_taken, step_leads, joined_after}
-use Rattle.proof_outlines.proofs.joined.JoinedSteps.{after_world, takes_at, ready_at, joined_next, next_is}
+use Rattle.proof_outlines.proofs.joined.JoinedSteps.{NodeLeads, scene, is_taken, step_leads, joined_after, after_world, takes_at, ready_at, joined_next}
+use Rattle.proof_outlines.proofs.joined.JoinedSteps.{next_is}
 
 -- the chunks that a message brings to stand by
 abbrev pub kept_of : Msg → List Chunk
-kept_of (msg.Standby op chunks) = chunks
+kept_of (Msg.Standby op chunks) = chunks
 kept_of message = []
 
 -- what holds of each message that is sent holds of each that a node sends
@@ -41,7 +39,7 @@ module _ {F R : Type 0} (f : Semantics R) (g : Given) (n : ℕ) (x : Scene F f g
   still_fronted did l chunks h = fronted_later f g x.world l.world chunks (by_node f g (dones_in did.notes)) (done_more did l) h
 
   -- of a message of a share
-  head_front : (p == 0) && (k == 0) ≡ false → (a : ShareMsg R) → shown f g m ≡ Some (New a) → (u : units.Unit)
+  head_front : (p == 0) && (k == 0) ≡ false → (a : ShareMsg R) → shown f g m ≡ Some (New a) → (u : Unit)
       → MsgFront (S f g) (A f g) (is_sys f g.site g.packet) u (ran_of (S f g) (A f g) u x.world.done) a
   head_front off a shown_as u = (subst (λ ms. EachNew (MsgFront (S f g) (A f g) (is_sys f g.site g.packet) u (ran_of (S f g) (A f g) u x.world.done)) ms)
       (is.head off (New a) shown_as) ((are.every.fronts u).links p k off)).0
@@ -49,7 +47,7 @@ module _ {F R : Type 0} (f : Semantics R) (g : Given) (n : ℕ) (x : Scene F f g
 -- nothing but the controller sends chunks that are to stand by
 module _ {R : Type 0} (f : Semantics R) (g : Given) where
   none_kept : (P : List Chunk → Type 0) → P [] → (s r : ℕ) → (s == 1) ≡ false → (m : Msg) → Label f g s r m → P (kept_of m)
-  none_kept P nothing s r off (msg.Standby op chunks) label =
+  none_kept P nothing s r off (Msg.Standby op chunks) label =
       let one = label.0.0 in let never : (s == 1) ≡ true = grind (arith, nat_tests, one) in let bad : true ≡ false = sym never ∙ off in cc
   none_kept P nothing s r off m label = nothing
 
@@ -66,8 +64,8 @@ module _ {F R : Type 0} (f : Semantics R) (g : Given) (n : ℕ) (x : Scene F f g
   no_input : (p == 0) && (1 == 0) ≡ false
   no_input = elim (p == 0) as (λ b. b && false ≡ false) [ true ↦ refl | false ↦ refl ]
 
-  comes_fronted : (op : ℕ) (chunks : List Chunk) → IsTakenHere (msg.Chunks op chunks) → AreFronted f g x.world chunks
-  comes_fronted op chunks is u = head_front f g n x 1 p (msg.Chunks op chunks) are is no_input (S_chunks op (entries f chunks)) refl u
+  comes_fronted : (op : ℕ) (chunks : List Chunk) → IsTakenHere (Msg.Chunks op chunks) → AreFronted f g x.world chunks
+  comes_fronted op chunks is u = head_front f g n x 1 p (Msg.Chunks op chunks) are is no_input (S_chunks op (entries f chunks)) refl u
 
   -- and so is what it sends on
   module _ (m : Msg) (is : IsTakenHere m) (l : Leads f g n x (record { node = 1; port = p; message = m }) (node_step f (node_of x.nodes 1) p m)) where
@@ -75,10 +73,10 @@ module _ {F R : Type 0} (f : Semantics R) (g : Given) (n : ℕ) (x : Scene F f g
     P y = AreFronted f g l.world (kept_of y)
 
     others : (y : Msg) → is_uncopied y ≡ true → P y
-    others (msg.Standby op chunks) e = cc
+    others (Msg.Standby op chunks) e = cc
     others y e = none_fronted f g l.world
 
-    handed_on : (op k : ℕ) (chunks : List Chunk) → m ≡ msg.Chunks k chunks → P (msg.Standby op chunks)
+    handed_on : (op k : ℕ) (chunks : List Chunk) → m ≡ Msg.Chunks k chunks → P (Msg.Standby op chunks)
     handed_on op k chunks e =
         still_fronted f g n x 1 p m are is (node_step f (node_of x.nodes 1) p m) l chunks (comes_fronted k chunks (subst IsTakenHere e is))
 
@@ -155,7 +153,7 @@ module _ {F R : Type 0} (f : Semantics R) (g : Given) (n : ℕ) (count_is : n �
         (kept_fronts_after w c.node c.port t.message t.rest j (takes_at f g n count_is May leads w c t j) (ready_at f g n count_is May leads w c t j) h may)
 
     -- chunks of no unit that a share takes may then stand by
-    pub may_stand_by : AreKeptFronts f g n w j → (op : ℕ) (chunks : List Chunk) → t.message ≡ msg.Standby op chunks → AreUnshared f g j.world chunks
+    pub may_stand_by : AreKeptFronts f g n w j → (op : ℕ) (chunks : List Chunk) → t.message ≡ Msg.Standby op chunks → AreUnshared f g j.world chunks
         → MayStandBy f g j.world chunks
     may_stand_by h op chunks is unshared = record {
       fronts = subst (λ m. AreFronted f g j.world (kept_of m)) is

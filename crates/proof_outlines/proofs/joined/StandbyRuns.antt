@@ -2,10 +2,8 @@
 -- open operations have filters that meet. So where the copy is open, its chunks may stand by.
 use Rattle.proof_outlines.proofs.Words.{◌≡◌, ℕ, zero, suc, ◌+◌, ◌<◌, true, false, Option, Some, None, List, [], length, refl, sym, ap, ◌∙◌, subst, arith, ◌&&◌}
 use Rattle.proof_outlines.proofs.Words.{◌==◌, nat_tests, Filter, Chunk, Semantics, Msg, Note, CopyState, Copy, controller_step, Choice, Network, is_input}
-use Rattle.proof_outlines.proofs.Words.{queue_at, world_next, at, Takes, Taking, Each, OnLinks, on_links_after, Node, node_step, node_ready}
+use Rattle.proof_outlines.proofs.Words.{queue_at, world_next, at, Takes, Taking, Each, OnLinks, on_links_after, Node, node_step, node_ready, FunctionLaws}
 use Rattle.std.specs.FinMap as finite
-use Rattle.nf_function.specs.Records.{Laws as FunctionLaws}
-use Rattle.nf_msgs.specs.declared.msg.Msg.TheVariants as msg
 use Rattle.proof_outlines.proofs.joined.StandbyChunks.{AreUnshared, MayStandBy}
 use Rattle.proof_outlines.proofs.joined.StandbyFronts.{AreKeptFronts, no_kept_fronts, kept_fronts_next, may_stand_by}
 use Rattle.proof_outlines.proofs.joined.OperationsApart.{AllApart, controller_apart}
@@ -13,8 +11,8 @@ use Rattle.proof_outlines.proofs.joined.CopiesUnshared.{copy_unshared}
 use Rattle.proof_outlines.proofs.joined.CopyTokens.{same_controller}
 use Rattle.proof_outlines.proofs.joined.CopyFilters.{AreWithinIf, IsFiltered, of_input, node_filtered}
 use Rattle.proof_outlines.proofs.joined.Words.{Given, count, Nodes, node_of, Scene, AreShown, Leads, Joined}
-use Rattle.proof_outlines.proofs.joined.JoinedSteps.{NodeLeads, scene, is_taken, step_leads, joined_after}
-use Rattle.proof_outlines.proofs.joined.JoinedSteps.{after_nodes, takes_at, ready_at, joined_next, next_is}
+use Rattle.proof_outlines.proofs.joined.JoinedSteps.{NodeLeads, scene, is_taken, step_leads, joined_after, after_nodes, takes_at, ready_at, joined_next}
+use Rattle.proof_outlines.proofs.joined.JoinedSteps.{next_is}
 
 module _ {F R : Type 0} (f : Semantics R) (g : Given) (n : ℕ) where
   pub record AreKept (w : Network (Node F R) Msg Note) (j : Joined f g n w) : Type 0 where
@@ -42,7 +40,7 @@ module _ {F R : Type 0} (f : Semantics R) (g : Given) (n : ℕ) where
 
   -- a copy that is open in a world has chunks of no unit of a share
   pub filtered_unshared : (x : Scene F f g) → AreShown f g n x → AllApart x.nodes.controller.operations → (op : ℕ) (chunks : List Chunk) (y : CopyState)
-      → finite.get x.nodes.controller.operations op ≡ Some (Copy y) → IsFiltered f g (msg.Standby op chunks) → AreUnshared f g x.world chunks
+      → finite.get x.nodes.controller.operations op ≡ Some (Copy y) → IsFiltered f g (Msg.Standby op chunks) → AreUnshared f g x.world chunks
   filtered_unshared x are apart op chunks y there its =
       let is = are.controller.copies op y there in
       by_filter y.plan.filter refl (its is.plan.source is.plan.destination y.plan.filter (ap g.orders (sym is.op_is) ∙ is.plan.order_is))
@@ -100,7 +98,7 @@ module _ {F R : Type 0} (f : Semantics R) (laws : FunctionLaws f) (g : Given) (n
     }
 
     -- the chunks of an open copy may stand by
-    pub open_may_stand : (op : ℕ) (chunks : List Chunk) → t.message ≡ msg.Standby op chunks → (y : CopyState)
+    pub open_may_stand : (op : ℕ) (chunks : List Chunk) → t.message ≡ Msg.Standby op chunks → (y : CopyState)
         → finite.get j.nodes.controller.operations op ≡ Some (Copy y) → MayStandBy f g j.world chunks
     open_may_stand op chunks is y there = may_stand_by f g n count_is May leads w c t j h.fronts op chunks is
         (filtered_unshared f g n (scene f g n count_is May leads w j) j.shown_is h.apart op chunks y there (subst (IsFiltered f g) is

@@ -6,22 +6,16 @@ use Rattle.proof_outlines.proofs.Words.{WholeWorld, moves_of, Rising, Filter, Fl
 use Rattle.proof_outlines.proofs.Words.{Semantics, AreFilters, any, first_match, opened, FullCell, Command, Order, Msg, instance_node, Each, each_both, Config}
 use Rattle.proof_outlines.proofs.Words.{is_item, packets, commands, no_packet, packet_numbered, order_numbered, IsRising, IsSteered, IsWhole, IsProper, IsInput}
 use Rattle.proof_outlines.proofs.Words.{Node, Note, queue_at, at, opening_waiting, opening_on_links, first_owner, first_switch, first_instance, first_instances}
-use Rattle.proof_outlines.proofs.Words.{first_nodes, started_with, either_way, by_if}
+use Rattle.proof_outlines.proofs.Words.{first_nodes, started_with, either_way, by_if, Unit, Target, InstanceState}
 use Rattle.std.specs.FinMap as finite
 use Rattle.std.proofs.Math.Seq.{get_or-append_seam}
 use Rattle.event_filter.proofs.RulePlaces.{one_each-none}
 use Rattle.ctrl_node.specs.Controller.{controller_at_start as opened_controller}
-use Rattle.instance_worker.specs.declared.instance.Instance.{Instance as InstanceState}
 use Rattle.proof_machines.proofs.whole.Starts.{starts}
 use Rattle.proof_machines.proofs.net.Units.{Where, Where.At_rest}
 use Rattle.proof_outlines.proofs.joined.Words.{is_sys, outline_instance, is_whole, flow_fits, unit_fits, takes_whole, takes_same, whole_takes, HasRecords}
 use Rattle.proof_outlines.proofs.joined.Words.{all_each, SeesAny, Given, place, GenuinePacket, is_built, IsCommand, Label, S, A, IsSwitch, IsController, Nodes}
-use Rattle.proof_outlines.proofs.joined.Words.{node_of, Scene, Joined, IsInstanceAt, AreShown}
-use Rattle.nf_function.specs.declared.unit.Unit as units
-use Rattle.switch_rules.specs.declared.target.Target.TheVariants as target
-use Rattle.nf_msgs.specs.declared.command.Order.TheVariants as order
-use Rattle.nf_msgs.specs.declared.msg.Msg.TheVariants as msg
-use Rattle.net_world.specs.declared.node.Node.TheVariants.{Instance}
+use Rattle.proof_outlines.proofs.joined.Words.{node_of, Scene, Joined, IsInstanceAt, AreShown, Instance}
 use Rattle.net_world.proofs.StartingLemmas.{length-first_instances}
 use Rattle.proof_outlines.proofs.joined.InputLemmas.{found_each, fits_flow, whole_is}
 use Rattle.proof_outlines.proofs.joined.Joined.{commands as numbers_of}
@@ -29,29 +23,29 @@ use Rattle.proof_outlines.proofs.joined.Joined.{commands as numbers_of}
 -- Routes.
 module _ (kind : Kind) where
   -- where the routes send a unit
-  abbrev pub route : List (Filter × ℕ) → units.Unit → ℕ
+  abbrev pub route : List (Filter × ℕ) → Unit → ℕ
   route [] u = 0
   route (r ∷ rs) u = if takes_whole kind r.0 u then r.1 else route rs u
 
   route_first : (rs : List (Filter × ℕ)) (flow : Flow) → Each (λ r. is_whole kind r.0 ≡ true) rs → flow_fits flow ≡ true
-      → first_match (opened rs) flow ≡ Some (target.Instance (route rs (unit_of kind flow)))
+      → first_match (opened rs) flow ≡ Some (Target.Instance (route rs (unit_of kind flow)))
   route_first [] flow whole fits = refl
   route_first (r ∷ rs) flow whole fits =
       let same = whole_takes kind r.0 flow whole.0 fits in
       rw same
-      (elim (matches r.0 flow) as (λ b. option_map (λ x. x.1) (if b then Some (r.0, target.Instance r.1) else find (λ x. matches x.0 flow) (opened rs))
-      ≡ Some (target.Instance (if b then r.1 else route rs (unit_of kind flow)))) [
+      (elim (matches r.0 flow) as (λ b. option_map (λ x. x.1) (if b then Some (r.0, Target.Instance r.1) else find (λ x. matches x.0 flow) (opened rs))
+      ≡ Some (Target.Instance (if b then r.1 else route rs (unit_of kind flow)))) [
         | true ↦ refl
         | false ↦ route_first rs flow whole.1 fits
       ])
 
-  route_there : (count : ℕ) → 0 < count → (rs : List (Filter × ℕ)) (u : units.Unit) → Each (λ r. r.1 < count) rs → nat_lt (route rs u) count ≡ true
+  route_there : (count : ℕ) → 0 < count → (rs : List (Filter × ℕ)) (u : Unit) → Each (λ r. r.1 < count) rs → nat_lt (route rs u) count ≡ true
   route_there count some [] u few = (Decides-ltb 0 count).1 some
   route_there count some (r ∷ rs) u few = by_if (λ r. nat_lt r count ≡ true) (takes_whole kind r.0 u) ((Decides-ltb r.1 count).1 few.0)
       (route_there count some rs u few.1)
 
   -- for a unit that packets may have it is the first route whose filter takes it
-  route_is : (u : units.Unit) → unit_fits kind u ≡ true → (rs : List (Filter × ℕ)) → Each (λ r. is_whole kind r.0 ≡ true) rs → route rs u ≡ first_owner u rs
+  route_is : (u : Unit) → unit_fits kind u ≡ true → (rs : List (Filter × ℕ)) → Each (λ r. is_whole kind r.0 ≡ true) rs → route rs u ≡ first_owner u rs
   route_is u fits [] h = refl
   route_is u fits (r ∷ rs) h = ap (λ b. if b then r.1 else route rs u) (takes_same kind r.0 u h.0 fits)
       ∙ elim (takes r.0 u) as (λ b. (if b then r.1 else route rs u) ≡ option_map_or (λ x. x.1) (if b then Some r else find (λ x. takes x.0 u) rs) 0) [
@@ -90,11 +84,11 @@ module _ {R : Type 0} (f : Semantics R) (c : Config) (items : List Msg) (is : Is
   found_command k found ok = record { known = ap (option_map (λ q. q.what)) found; built = order_is k.what ok }
     where
       order_is : (o : Order) → IsProper f.kind o → is_built f given o ≡ true
-      order_is (order.Move source destination filter keep) h = let apart = h.0 in let whole = whole_is f.kind filter h.1 in rw (whole, apart) refl
-      order_is (order.Copy source destination None) h = let apart = h.0 in rw apart refl
-      order_is (order.Copy source destination (Some filter)) h =
+      order_is (Order.Move source destination filter keep) h = let apart = h.0 in let whole = whole_is f.kind filter h.1 in rw (whole, apart) refl
+      order_is (Order.Copy source destination None) h = let apart = h.0 in rw apart refl
+      order_is (Order.Copy source destination (Some filter)) h =
           let apart = h.0 in let whole = whole_is f.kind filter (h.1 filter refl) in rw (whole, apart) refl
-      order_is (order.Share members filter) h =
+      order_is (Order.Share members filter) h =
           let some = (Decides-ltb 1 (length members)).1 h.0.some in
           let once = h.0.once in let whole = whole_is f.kind filter h.1 in rw (whole, some, once) refl
 
@@ -105,17 +99,17 @@ module _ {R : Type 0} (f : Semantics R) (c : Config) (items : List Msg) (is : Is
   labelled : (xs : List Msg) → Each (λ item. is_item item ≡ true) xs → Each (GenuinePacket f given) (packets xs) → Each (IsCommand f given) (commands xs)
       → Each (Label f given 0 0) xs
   labelled [] ok ps cs = tt
-  labelled (msg.InPacket p ∷ xs) ok ps cs = (((refl, refl), ps.0), labelled xs ok.1 ps.1 cs)
-  labelled (msg.InCommand k ∷ xs) ok ps cs = (((refl, refl), cs.0), labelled xs ok.1 ps cs.1)
-  labelled (msg.InSettle ∷ xs) ok ps cs = ((refl, refl), labelled xs ok.1 ps cs)
-  labelled (msg.InEnd ∷ xs) ok ps cs = ((refl, refl), labelled xs ok.1 ps cs)
+  labelled (Msg.InPacket p ∷ xs) ok ps cs = (((refl, refl), ps.0), labelled xs ok.1 ps.1 cs)
+  labelled (Msg.InCommand k ∷ xs) ok ps cs = (((refl, refl), cs.0), labelled xs ok.1 ps cs.1)
+  labelled (Msg.InSettle ∷ xs) ok ps cs = ((refl, refl), labelled xs ok.1 ps cs)
+  labelled (Msg.InEnd ∷ xs) ok ps cs = ((refl, refl), labelled xs ok.1 ps cs)
   labelled (m ∷ xs) ok ps cs = let never : false ≡ true = ok.0 in cc
 
   pub all_labelled : Each (Label f given 0 0) items
   all_labelled = labelled items (all_each (λ item. is_item item ≡ true) items is.only_items) genuine listed
 
   -- The switch.
-  abbrev pub routed : units.Unit → ℕ
+  abbrev pub routed : Unit → ℕ
   routed u = instance_node (route f.kind c.routes u)
 
   whole_routes : (rs : List (Filter × ℕ)) → Each (λ r. IsWhole f.kind r.0) rs → Each (λ r. is_whole f.kind r.0 ≡ true) rs
@@ -123,19 +117,19 @@ module _ {R : Type 0} (f : Semantics R) (c : Config) (items : List Msg) (is : Is
   whole_routes (r ∷ rs) h = (whole_is f.kind r.0 h.0, whole_routes rs h.1)
 
   filters_of : (rs : List (Filter × ℕ)) → Each (λ r. IsWhole f.kind r.0) rs → AreFilters (opened rs)
-  filters_of [] h = All-cons (λ r. IsFilter r.0) (any, target.Instance 0) []
+  filters_of [] h = All-cons (λ r. IsFilter r.0) (any, Target.Instance 0) []
       (record { proto = λ n is. cc; local = λ n is. cc; lport = λ n is. cc; remote = λ n is. cc; rport = λ n is. cc }) (All-nil (λ r. IsFilter r.0))
-  filters_of (r ∷ rs) h = All-cons (λ x. IsFilter x.0) (r.0, target.Instance r.1) (opened rs) h.0.numbers (filters_of rs h.1)
+  filters_of (r ∷ rs) h = All-cons (λ x. IsFilter x.0) (r.0, Target.Instance r.1) (opened rs) h.0.numbers (filters_of rs h.1)
 
   abbrev each_whole : Each (λ r. IsWhole f.kind r.0) c.routes
   each_whole = all_each (λ r. IsWhole f.kind r.0) c.routes is.routes
 
-  route_is_there : (u : units.Unit) → nat_lt (route f.kind c.routes u) (length c.names) ≡ true
+  route_is_there : (u : Unit) → nat_lt (route f.kind c.routes u) (length c.names) ≡ true
   route_is_there u =
       let some = is.is_config.some in
       route_there f.kind (length c.names) (omega (arith, some)) c.routes u (all_each (λ r. r.1 < length c.names) c.routes is.is_config.routes)
 
-  pub owners_are : (u : units.Unit) → unit_fits f.kind u ≡ true → routed u ≡ instance_node (first_owner u c.routes)
+  pub owners_are : (u : Unit) → unit_fits f.kind u ≡ true → routed u ≡ instance_node (first_owner u c.routes)
   owners_are u fits = ap instance_node (route_is f.kind u fits c.routes (whole_routes c.routes each_whole))
 
   pub switch_is : IsSwitch f given (first_switch c) routed
@@ -144,7 +138,7 @@ module _ {R : Type 0} (f : Semantics R) (c : Config) (items : List Msg) (is : Is
     instances = refl;
     filters = filters_of c.routes each_whole;
     routes = λ flow fits. record {
-      target = target.Instance (route f.kind c.routes (unit_of f.kind flow));
+      target = Target.Instance (route f.kind c.routes (unit_of f.kind flow));
       first = route_first f.kind c.routes flow (whole_routes c.routes each_whole) fits;
       node = refl;
       there = route_is_there (unit_of f.kind flow);
@@ -187,8 +181,8 @@ rising_of least (n ∷ ns) h = (h.0, rising_of (suc n) ns h.1)
 
 same_numbers : {R : Type 0} (f : Semantics R) (g : Given) (xs : List Msg) → map (λ k. k.op) (commands xs) ≡ numbers_of f g xs
 same_numbers f g [] = refl
-same_numbers f g (msg.InCommand k ∷ xs) = ap (λ ns. k.op ∷ ns) (same_numbers f g xs)
-same_numbers f g (msg.InPacket p ∷ xs) = same_numbers f g xs
+same_numbers f g (Msg.InCommand k ∷ xs) = ap (λ ns. k.op ∷ ns) (same_numbers f g xs)
+same_numbers f g (Msg.InPacket p ∷ xs) = same_numbers f g xs
 same_numbers f g (m ∷ xs) = same_numbers f g xs
 
 module _ (F : Type 0) {R : Type 0} (f : Semantics R) (alloc : Global) (c : Config) (items : List Msg) (is : IsInput f.kind c items) where
@@ -241,17 +235,17 @@ module _ (F : Type 0) {R : Type 0} (f : Semantics R) (alloc : Global) (c : Confi
   no_rules (suc zero) P = tt
   no_rules (suc (suc i)) P = tt
 
-  no_live : (k : ℕ) (u : units.Unit) → finite.get (world.inst k).live u ≡ None
+  no_live : (k : ℕ) (u : Unit) → finite.get (world.inst k).live u ≡ None
   no_live zero u = finite.get-empty unit_cmp u
   no_live (suc zero) u = finite.get-empty unit_cmp u
   no_live (suc (suc i)) u = finite.get-empty unit_cmp u
 
-  no_standby : (u : units.Unit) (k : ℕ) → finite.get (world.standby k) u ≡ None
+  no_standby : (u : Unit) (k : ℕ) → finite.get (world.standby k) u ≡ None
   no_standby u zero = finite.get-empty unit_cmp u
   no_standby u (suc zero) = finite.get-empty unit_cmp u
   no_standby u (suc (suc i)) = finite.get-empty unit_cmp u
 
-  at_rest : (u : units.Unit) → Where (S f g) (is_sys f c.site (packet_numbered items)) u (moves_of (S f g) (A f g) world) [] false
+  at_rest : (u : Unit) → Where (S f g) (is_sys f c.site (packet_numbered items)) u (moves_of (S f g) (A f g) world) [] false
   at_rest u = At_rest (world.target u) [] [] false (record {
     two = omega arith;
     links = λ i j off. nothing_carried ((i == 0) && (j == world.target u));

@@ -2,16 +2,12 @@
 use Rattle.proof_outlines.proofs.Words.{◌≡◌, ◌≢◌, ℕ, zero, suc, true, false, Option, Some, None, List, [], ◌∷◌, ◌++◌, refl, sym, ap, ◌∙◌, subst, append-nil}
 use Rattle.proof_outlines.proofs.Words.{arith, if◌then◌else◌, ◌&&◌, ◌==◌, Semantics, AreFilters, Order, Msg, Note, instance_node, SwitchState, stop_messages}
 use Rattle.proof_outlines.proofs.Words.{less_first, EachSent, sent_for, MoveAsked, Rising, rising_less, Any, Old, New, WholeWorld, EveryAll, Switch, dones_in}
-use Rattle.proof_outlines.proofs.Words.{installs_in, sent-append, done-append}
-use Rattle.nf_function.specs.declared.unit.Unit as units
-use Rattle.nf_msgs.specs.declared.command.Order.TheVariants as order
-use Rattle.nf_msgs.specs.declared.msg.Msg.TheVariants as msg
+use Rattle.proof_outlines.proofs.Words.{installs_in, sent-append, done-append, Unit}
 use Rattle.proof_machines.proofs.net.Net as net
 use Rattle.proof_machines.proofs.net.Shares as shares
 use Rattle.proof_outlines.proofs.joined.Words.{unit_fits, want_at, want_of, is_sys, outline_all, routes_same, Given, place, target_by, Nodes, node_of, Label}
-use Rattle.proof_outlines.proofs.joined.Words.{shown, S, A, asked_nums, came_by, commands, by_node, IsSwitch, Scene, AreShown, Leads}
+use Rattle.proof_outlines.proofs.joined.Words.{shown, S, A, asked_nums, came_by, commands, by_node, IsSwitch, Scene, AreShown, Leads, same_grows}
 use Rattle.proof_outlines.proofs.joined.LogLemmas.{came_on, every_same, owners_on}
-use Rattle.proof_outlines.proofs.joined.NextNumbers.{same_grows}
 
 pub asked_nums-append : {R : Type 0} (xs ys : List (Any R)) → asked_nums (xs ++ ys) ≡ asked_nums xs ++ asked_nums ys
 asked_nums-append [] ys = refl
@@ -21,7 +17,7 @@ asked_nums-append (m ∷ xs) ys = asked_nums-append xs ys
 
 -- no command among what is sent
 abbrev pub NoneAsked : {R : Type 0} → List (ℕ × Any R) → Type 0
-NoneAsked [] = Unit {0}
+NoneAsked [] = Prim.Unit {0}
 NoneAsked (x ∷ xs) = (asked_nums (x.1 ∷ []) ≡ []) × NoneAsked xs
 
 -- the numbers of commands among what is sent to one node
@@ -43,7 +39,7 @@ rising_without b k (x ∷ xs) ys h = (h.0, rising_without (suc x) k xs ys h.1)
 
 -- what is asked for has the command's number
 pub want_num : (op : ℕ) (what : Order) (place : List ℕ → Option ℕ) (w : MoveAsked) → want_of place op what ≡ Some w → w.num ≡ op
-want_num op (order.Move src dst filter keep) place w e = at_places (place src) (place dst) e
+want_num op (Order.Move src dst filter keep) place w e = at_places (place src) (place dst) e
   where
     at_places : (from to : Option ℕ) → want_at op filter keep from to ≡ Some w → w.num ≡ op
     at_places (Some i) (Some j) is = let same : op ≡ w.num = cc in sym same
@@ -59,7 +55,7 @@ others_same x s (suc (suc i)) off = refl
 
 module _ {R : Type 0} (f : Semantics R) (g : Given) where
   -- a switch that differs in what no route looks at
-  pub same_switch : (s t : SwitchState) (to : units.Unit → ℕ) → t.rules ≡ s.rules → t.instances ≡ s.instances → t.site ≡ s.site → t.pool.name ≡ s.pool.name
+  pub same_switch : (s t : SwitchState) (to : Unit → ℕ) → t.rules ≡ s.rules → t.instances ≡ s.instances → t.site ≡ s.site → t.pool.name ≡ s.pool.name
       → IsSwitch f g s to → IsSwitch f g t to
   same_switch s t to rules instances site pool is = record {
     site = site ∙ is.site;
@@ -71,7 +67,7 @@ module _ {R : Type 0} (f : Semantics R) (g : Given) where
 
   pub stops_labels : (k : ℕ) → EachSent (Label f g) 0 (stop_messages k)
   stops_labels zero = tt
-  stops_labels (suc k) = sent-append (Label f g) 0 (stop_messages k) ((instance_node k, msg.Stop) ∷ []) (stops_labels k) ((refl, omega arith), tt)
+  stops_labels (suc k) = sent-append (Label f g) 0 (stop_messages k) ((instance_node k, Msg.Stop) ∷ []) (stops_labels k) ((refl, omega arith), tt)
 
 module _ {F R : Type 0} (f : Semantics R) (g : Given) (n : ℕ) (x : Scene F f g) (are : AreShown f g n x) where
   -- where each unit is, by a log to which nothing is added
@@ -80,9 +76,9 @@ module _ {F R : Type 0} (f : Semantics R) (g : Given) (n : ℕ) (x : Scene F f g
   every_on w h = every_same (S f g) (A f g) (is_sys f g.site g.packet) w _ _ (came_on f g n x are [] refl refl) h
 
   -- what holds after a step of the switch, by what it changes
-  pub after : (s : SwitchState) (to : units.Unit → ℕ) (l : ℕ → ℕ → List (Any R)) (notes : List Note) (input : List Msg) → IsSwitch f g s to
+  pub after : (s : SwitchState) (to : Unit → ℕ) (l : ℕ → ℕ → List (Any R)) (notes : List Note) (input : List Msg) → IsSwitch f g s to
       → EveryAll (S f g) (A f g) (is_sys f g.site g.packet) (record x.world { target = to; link = l }) (came_by f g (x.log ++ notes))
-      → ((u : units.Unit) → unit_fits f.kind u ≡ true → to u ≡ target_by g u (installs_in (x.log ++ notes)))
+      → ((u : Unit) → unit_fits f.kind u ≡ true → to u ≡ target_by g u (installs_in (x.log ++ notes)))
       → dones_in notes ≡ [] → Rising x.world.next (asked_nums (l 0 1) ++ commands f g input) → AreShown f g n
       (record { nodes = record x.nodes { switch = s }; world = record x.world { target = to; link = l }; log = x.log ++ notes; input = input })
   after s to l notes input switch every owners none rising = record {

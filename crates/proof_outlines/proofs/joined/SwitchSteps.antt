@@ -3,45 +3,38 @@ use Rattle.proof_outlines.proofs.Words.{◌≡◌, ℕ, ◌-◌, Bool, true, Som
 use Rattle.proof_outlines.proofs.Words.{Semantics, FullCell, Target, rules_redirected, Command, Msg, Note, instance_node, SwitchState, on_install}
 use Rattle.proof_outlines.proofs.Words.{sends_to_instance, is_there, stop_messages, EachSent, everything, find_op, links_after, sw_target, Any, Old, New}
 use Rattle.proof_outlines.proofs.Words.{S_forward, S_install, WholeWorld, whole_switch, share_target, EveryAll, switch_every_all, as_node, node_step, Switch}
-use Rattle.proof_outlines.proofs.Words.{arrivals_in, dones_in, installs_in}
-use Rattle.nf_function.specs.declared.unit.Unit as units
-use Rattle.nf_function.specs.Records.{Laws as FunctionLaws}
-use Rattle.event_filter.specs.declared.mark.Mark.TheVariants as mark
-use Rattle.switch_rules.specs.declared.target.Target.TheVariants as target
+use Rattle.proof_outlines.proofs.Words.{arrivals_in, dones_in, installs_in, Unit, Mark, FunctionLaws}
 use Rattle.switch_rules.proofs.RedirectLaws.{AreFilters-redirected}
-use Rattle.nf_msgs.specs.declared.msg.Msg.TheVariants as msg
-use Rattle.nf_msgs.specs.declared.note.Note.TheVariants as note
 use Rattle.proof_machines.proofs.unit.Real as real
 use Rattle.proof_machines.proofs.net.Net as net
 use Rattle.proof_machines.proofs.net.UntakenSwitch.{HandsAny}
 use Rattle.proof_outlines.proofs.joined.Words.{filter_fits, filter_is, is_whole, takes_whole, unit_fits, number, is_sys, outline_all, is_sharing, RoutesAll}
 use Rattle.proof_outlines.proofs.joined.Words.{stops_all, Given, place, IsInstall, IsDivert, loose_by, owner_by, target_by, Scene, AreShown, IsTaken, Leads}
-use Rattle.proof_outlines.proofs.joined.Words.{IsSwitch, Label, Genuine, S, A, asked_nums, came_by, count, node_of, shown}
+use Rattle.proof_outlines.proofs.joined.Words.{IsSwitch, Label, Genuine, S, A, asked_nums, came_by, count, node_of, shown, same_grows}
 use Rattle.proof_outlines.proofs.whole.SwitchWorlds.{move_installs, share_installs}
 use Rattle.proof_outlines.proofs.joined.HandedUnits.{handed, handed_to_share, loose_begins, loose_stays, owner_at, plain_hands, plain_is}
 use Rattle.proof_outlines.proofs.joined.LogLemmas.{came_more, every_same, loose_on, owners_on}
 use Rattle.proof_outlines.proofs.joined.SwitchLemmas.{NoneAsked, after, nums_put, others_same, quiet, same_switch, stops_labels}
 use Rattle.proof_outlines.proofs.joined.SwitchArrivals.{command_leads, credit_leads, item_leads, packet_leads}
-use Rattle.proof_outlines.proofs.joined.NextNumbers.{same_grows}
 
 module _ {F R : Type 0} (f : Semantics R) (g : Given) (n : ℕ) (x : Scene F f g) (are : AreShown f g n x) where
   abbrev s : SwitchState
   s = x.nodes.switch
 
   -- what the log tells after a message of the controller that the abstract network sees, which leaves these targets
-  record Told (a : Any R) (to : units.Unit → ℕ) (notes : List Note) : Type 0 where
+  record Told (a : Any R) (to : Unit → ℕ) (notes : List Note) : Type 0 where
     still : arrivals_in notes ≡ []
     none : dones_in notes ≡ []
-    owners : (u : units.Unit) → unit_fits f.kind u ≡ true → to u ≡ target_by g u (installs_in (x.log ++ notes))
-    stays : (u : units.Unit) → loose_by g u (installs_in x.log) ≡ true → loose_by g u (installs_in (x.log ++ notes)) ≡ true
-    hands : (u : units.Unit) → HandsAny (S f g) (A f g) (is_sys f g.site g.packet) u x.world a (loose_by g u (installs_in (x.log ++ notes)))
+    owners : (u : Unit) → unit_fits f.kind u ≡ true → to u ≡ target_by g u (installs_in (x.log ++ notes))
+    stays : (u : Unit) → loose_by g u (installs_in x.log) ≡ true → loose_by g u (installs_in (x.log ++ notes)) ≡ true
+    hands : (u : Unit) → HandsAny (S f g) (A f g) (is_sys f g.site g.packet) u x.world a (loose_by g u (installs_in (x.log ++ notes)))
 
   -- the world after it
-  abbrev sent_world : (units.Unit → ℕ) → List (ℕ × Any R) → WholeWorld (S f g) (A f g)
+  abbrev sent_world : (Unit → ℕ) → List (ℕ × Any R) → WholeWorld (S f g) (A f g)
   sent_world to outs = record x.world { target = to; link = λ i j. links_after x.world.link 1 0 outs i j }
 
   -- such a message
-  seen_step : (m : Msg) (a : Any R) (rest : List (Any R)) (t : SwitchState) (sends : List (ℕ × Msg)) (notes : List Note) (to : units.Unit → ℕ)
+  seen_step : (m : Msg) (a : Any R) (rest : List (Any R)) (t : SwitchState) (sends : List (ℕ × Msg)) (notes : List Note) (to : Unit → ℕ)
       → shown f g m ≡ Some a → x.world.link 1 0 ≡ a ∷ rest → whole_switch (S f g) (A f g) x.world 1 a ≡ sent_world to (outline_all f (place g) sends)
       → NoneAsked (outline_all f (place g) sends) → EachSent (Label f g) 0 sends → IsSwitch f g t to → Told a to notes
       → Leads f g n x (record { node = 0; port = 1; message = m }) (record { node = Switch t; sends = sends; notes = notes })
@@ -67,7 +60,7 @@ module _ {F R : Type 0} (f : Semantics R) (g : Given) (n : ℕ) (x : Scene F f g
 
   -- a message that changes no rule
   told_nothing : (a : Any R)
-      → ((u : units.Unit) → HandsAny (S f g) (A f g) (is_sys f g.site g.packet) u x.world a (loose_by g u (installs_in (x.log ++ []))))
+      → ((u : Unit) → HandsAny (S f g) (A f g) (is_sys f g.site g.packet) u x.world a (loose_by g u (installs_in (x.log ++ []))))
       → Told a x.world.target []
   told_nothing a hands = record {
     still = refl;
@@ -82,53 +75,53 @@ module _ {F R : Type 0} (f : Semantics R) (g : Given) (n : ℕ) (x : Scene F f g
 
   passed_leads : (to op : ℕ) (cell : FullCell) (rest : List (Any R)) → nat_lt to (count f g) ≡ true → Genuine f g cell
       → x.world.link 1 0 ≡ Old (net.Mv everything (real.M_forward (number cell) (instance_node to))) ∷ rest
-      → Leads f g n x (record { node = 0; port = 1; message = msg.Forward to (mark.Pass op) cell })
-      (as_node Switch (sends_to_instance s to (msg.Carry (mark.Pass op) cell)))
+      → Leads f g n x (record { node = 0; port = 1; message = Msg.Forward to (Mark.Pass op) cell })
+      (as_node Switch (sends_to_instance s to (Msg.Carry (Mark.Pass op) cell)))
   passed_leads to op cell rest e genuine waits =
       let is_there = there to e in
-      rw is_there (seen_step (msg.Forward to (mark.Pass op) cell) _ rest s ((instance_node to, msg.Carry (mark.Pass op) cell) ∷ []) [] x.world.target refl
+      rw is_there (seen_step (Msg.Forward to (Mark.Pass op) cell) _ rest s ((instance_node to, Msg.Carry (Mark.Pass op) cell) ∷ []) [] x.world.target refl
       waits refl (refl, tt) (((refl, omega arith), genuine), tt) are.switch (told_nothing _ (λ u h k from to e is _ _ _ _. cc)))
 
   shared_leads : (to op : ℕ) (home : Bool) (cell : FullCell) (rest : List (Any R)) → nat_lt to (count f g) ≡ true
       → Genuine f g cell → x.world.link 1 0 ≡ New (S_forward op home (number cell) (instance_node to)) ∷ rest
-      → Leads f g n x (record { node = 0; port = 1; message = msg.Forward to (mark.Shared op home) cell })
-      (as_node Switch (sends_to_instance s to (msg.Carry (mark.Shared op home) cell)))
+      → Leads f g n x (record { node = 0; port = 1; message = Msg.Forward to (Mark.Shared op home) cell })
+      (as_node Switch (sends_to_instance s to (Msg.Carry (Mark.Shared op home) cell)))
   shared_leads to op home cell rest e genuine waits =
       let is_there = there to e in
-      rw is_there (seen_step (msg.Forward to (mark.Shared op home) cell) _ rest s ((instance_node to, msg.Carry (mark.Shared op home) cell) ∷ []) []
+      rw is_there (seen_step (Msg.Forward to (Mark.Shared op home) cell) _ rest s ((instance_node to, Msg.Carry (Mark.Shared op home) cell) ∷ []) []
       x.world.target refl waits refl (refl, tt) (((refl, omega arith), genuine), tt) are.switch (told_nothing _ (λ u. tt)))
 
   fence_leads : (op to : ℕ) (rest : List (Any R)) → nat_lt to (count f g) ≡ true
       → x.world.link 1 0 ≡ Old (net.Mv everything (real.M_fence_to op (instance_node to))) ∷ rest
-      → Leads f g n x (record { node = 0; port = 1; message = msg.FenceTo op to }) (as_node Switch (sends_to_instance s to (msg.Fence op)))
+      → Leads f g n x (record { node = 0; port = 1; message = Msg.FenceTo op to }) (as_node Switch (sends_to_instance s to (Msg.Fence op)))
   fence_leads op to rest e waits =
       let is_there = there to e in
-      rw is_there (seen_step (msg.FenceTo op to) _ rest s ((instance_node to, msg.Fence op) ∷ []) [] x.world.target refl waits refl (refl, tt)
+      rw is_there (seen_step (Msg.FenceTo op to) _ rest s ((instance_node to, Msg.Fence op) ∷ []) [] x.world.target refl waits refl (refl, tt)
       ((refl, omega arith), tt) are.switch (told_nothing _ (λ u h k from to e is _ _ _ _. cc)))
 
   -- A change of the rules
   abbrev changed : Filter → ℕ → Target → SwitchState
-  changed filter from to = record s { rules = rules_redirected (record { filter = filter; from = target.Instance from; to = to }) s.rules }
+  changed filter from to = record s { rules = rules_redirected (record { filter = filter; from = Target.Instance from; to = to }) s.rules }
 
   install_is : (op : ℕ) (filter : Filter) (from : ℕ) (to : Target) → nat_lt from s.instances ≡ true → is_there s to ≡ true → on_install s op filter from to
-      ≡ record { node = changed filter from to; sends = (instance_node from, msg.Fence op) ∷ []; notes = note.Installed op ∷ [] }
+      ≡ record { node = changed filter from to; sends = (instance_node from, Msg.Fence op) ∷ []; notes = Note.Installed op ∷ [] }
   install_is op filter from to a b = rw (a, b) refl
 
-  changed_switch : (op : ℕ) (filter : Filter) (from : ℕ) (to : Target) (next : units.Unit → ℕ) → nat_lt from s.instances ≡ true → is_there s to ≡ true
+  changed_switch : (op : ℕ) (filter : Filter) (from : ℕ) (to : Target) (next : Unit → ℕ) → nat_lt from s.instances ≡ true → is_there s to ≡ true
       → is_whole f.kind filter ≡ true → RoutesAll f.kind (on_install s op filter from to).node next → IsSwitch f g (changed filter from to) next
   changed_switch op filter from to next a b whole routes = record {
     site = are.switch.site;
     instances = are.switch.instances;
-    filters = AreFilters-redirected (record { filter = filter; from = target.Instance from; to = to }) s.rules are.switch.filters
+    filters = AreFilters-redirected (record { filter = filter; from = Target.Instance from; to = to }) s.rules are.switch.filters
         (filter_is filter (and_parts (filter_fits filter) _ whole).0);
     routes = subst (λ st. RoutesAll f.kind st.node next) (install_is op filter from to a b) routes;
     pool = are.switch.pool;
   }
 
   told_install : (op : ℕ) (filter : Filter) (from to : ℕ) → is_whole f.kind filter ≡ true
-      → IsInstall g op (record { filter = filter; from = from; to = target.Instance to })
+      → IsInstall g op (record { filter = filter; from = from; to = Target.Instance to })
       → Told (Old (net.Mv filter (real.M_install op (instance_node from) (instance_node to))))
-      (λ v. sw_target (S f g) x.world.target (net.Mv filter (real.M_install op (instance_node from) (instance_node to))) v) (note.Installed op ∷ [])
+      (λ v. sw_target (S f g) x.world.target (net.Mv filter (real.M_install op (instance_node from) (instance_node to))) v) (Note.Installed op ∷ [])
   told_install op filter from to whole its = record {
     still = refl;
     none = refl;
@@ -146,23 +139,23 @@ module _ {F R : Type 0} (f : Semantics R) (g : Given) (n : ℕ) (x : Scene F f g
   }
 
   install_leads : (op : ℕ) (filter : Filter) (from to : ℕ) (rest : List (Any R)) → nat_lt from (count f g) ≡ true → nat_lt to (count f g) ≡ true
-      → is_whole f.kind filter ≡ true → IsInstall g op (record { filter = filter; from = from; to = target.Instance to })
+      → is_whole f.kind filter ≡ true → IsInstall g op (record { filter = filter; from = from; to = Target.Instance to })
       → x.world.link 1 0 ≡ Old (net.Mv filter (real.M_install op (instance_node from) (instance_node to))) ∷ rest
-      → Leads f g n x (record { node = 0; port = 1; message = msg.Install op filter from (target.Instance to) })
-      (as_node Switch (on_install s op filter from (target.Instance to)))
+      → Leads f g n x (record { node = 0; port = 1; message = Msg.Install op filter from (Target.Instance to) })
+      (as_node Switch (on_install s op filter from (Target.Instance to)))
   install_leads op filter from to rest a b whole its waits =
       let goes = move_installs f g.site g.packet (place g) x.world s are.switch.routes 1 op filter from to are.switch.filters whole (there from a)
       (there to b) in
-      subst (λ st. Leads f g n x (record { node = 0; port = 1; message = msg.Install op filter from (target.Instance to) }) (as_node Switch st))
-      (sym (install_is op filter from (target.Instance to) (there from a) (there to b)))
-      (seen_step (msg.Install op filter from (target.Instance to)) _ rest (changed filter from (target.Instance to))
-      ((instance_node from, msg.Fence op) ∷ []) (note.Installed op ∷ []) _ refl waits refl (refl, tt) ((refl, omega arith), tt)
-      (changed_switch op filter from (target.Instance to) _ (there from a) (there to b) whole goes.routes) (told_install op filter from to whole its))
+      subst (λ st. Leads f g n x (record { node = 0; port = 1; message = Msg.Install op filter from (Target.Instance to) }) (as_node Switch st))
+      (sym (install_is op filter from (Target.Instance to) (there from a) (there to b)))
+      (seen_step (Msg.Install op filter from (Target.Instance to)) _ rest (changed filter from (Target.Instance to))
+      ((instance_node from, Msg.Fence op) ∷ []) (Note.Installed op ∷ []) _ refl waits refl (refl, tt) ((refl, omega arith), tt)
+      (changed_switch op filter from (Target.Instance to) _ (there from a) (there to b) whole goes.routes) (told_install op filter from to whole its))
 
   -- to the controller, for a share
   told_divert : (op : ℕ) (filter : Filter) (from : ℕ) → is_whole f.kind filter ≡ true → IsDivert g op filter from
       → Told (New (S_install op filter (instance_node from)))
-      (λ v. share_target (S f g) (A f g) x.world.target (S_install op filter (instance_node from)) v) (note.Installed op ∷ [])
+      (λ v. share_target (S f g) (A f g) x.world.target (S_install op filter (instance_node from)) v) (Note.Installed op ∷ [])
   told_divert op filter from whole its = record {
     still = refl;
     none = refl;
@@ -173,47 +166,47 @@ module _ {F R : Type 0} (f : Semantics R) (g : Given) (n : ℕ) (x : Scene F f g
 
   divert_leads : (op : ℕ) (filter : Filter) (from : ℕ) (rest : List (Any R)) → nat_lt from (count f g) ≡ true
       → is_whole f.kind filter ≡ true → IsDivert g op filter from → x.world.link 1 0 ≡ New (S_install op filter (instance_node from)) ∷ rest
-      → Leads f g n x (record { node = 0; port = 1; message = msg.Install op filter from target.Controller })
-      (as_node Switch (on_install s op filter from target.Controller))
+      → Leads f g n x (record { node = 0; port = 1; message = Msg.Install op filter from Target.Controller })
+      (as_node Switch (on_install s op filter from Target.Controller))
   divert_leads op filter from rest a whole its waits =
       let goes = share_installs f g.site g.packet (place g) x.world s are.switch.routes 1 op filter from are.switch.filters whole (there from a) in
-      subst (λ st. Leads f g n x (record { node = 0; port = 1; message = msg.Install op filter from target.Controller }) (as_node Switch st))
-      (sym (install_is op filter from target.Controller (there from a) refl))
-      (seen_step (msg.Install op filter from target.Controller) _ rest (changed filter from target.Controller)
-      ((instance_node from, msg.Fence op) ∷ []) (note.Installed op ∷ []) _ refl waits refl (refl, tt) ((refl, omega arith), tt)
-      (changed_switch op filter from target.Controller _ (there from a) refl whole goes.routes) (told_divert op filter from whole its))
+      subst (λ st. Leads f g n x (record { node = 0; port = 1; message = Msg.Install op filter from Target.Controller }) (as_node Switch st))
+      (sym (install_is op filter from Target.Controller (there from a) refl))
+      (seen_step (Msg.Install op filter from Target.Controller) _ rest (changed filter from Target.Controller)
+      ((instance_node from, Msg.Fence op) ∷ []) (Note.Installed op ∷ []) _ refl waits refl (refl, tt) ((refl, omega arith), tt)
+      (changed_switch op filter from Target.Controller _ (there from a) refl whole goes.routes) (told_divert op filter from whole its))
 
 -- the messages that come to the switch in a run
 data Comes (m : Msg) : Type 0 where
-  Packet_in : (q : Packet) → m ≡ msg.InPacket q → Comes m
-  Command_in : (c : Command) → m ≡ msg.InCommand c → Comes m
-  Settle_in : m ≡ msg.InSettle → Comes m
-  End_in : m ≡ msg.InEnd → Comes m
-  Passes : (to op : ℕ) (cell : FullCell) → m ≡ msg.Forward to (mark.Pass op) cell → Comes m
-  Shares_out : (to op : ℕ) (home : Bool) (cell : FullCell) → m ≡ msg.Forward to (mark.Shared op home) cell → Comes m
-  Installs : (op : ℕ) (filter : Filter) (from to : ℕ) → m ≡ msg.Install op filter from (target.Instance to) → Comes m
-  Diverts : (op : ℕ) (filter : Filter) (from : ℕ) → m ≡ msg.Install op filter from target.Controller → Comes m
-  Fences : (op to : ℕ) → m ≡ msg.FenceTo op to → Comes m
-  Answers : (op : ℕ) → m ≡ msg.Answered op → Comes m
-  Finishes : m ≡ msg.Finish → Comes m
-  Credits : (cell : FullCell) → m ≡ msg.Credit cell → Comes m
+  Packet_in : (q : Packet) → m ≡ Msg.InPacket q → Comes m
+  Command_in : (c : Command) → m ≡ Msg.InCommand c → Comes m
+  Settle_in : m ≡ Msg.InSettle → Comes m
+  End_in : m ≡ Msg.InEnd → Comes m
+  Passes : (to op : ℕ) (cell : FullCell) → m ≡ Msg.Forward to (Mark.Pass op) cell → Comes m
+  Shares_out : (to op : ℕ) (home : Bool) (cell : FullCell) → m ≡ Msg.Forward to (Mark.Shared op home) cell → Comes m
+  Installs : (op : ℕ) (filter : Filter) (from to : ℕ) → m ≡ Msg.Install op filter from (Target.Instance to) → Comes m
+  Diverts : (op : ℕ) (filter : Filter) (from : ℕ) → m ≡ Msg.Install op filter from Target.Controller → Comes m
+  Fences : (op to : ℕ) → m ≡ Msg.FenceTo op to → Comes m
+  Answers : (op : ℕ) → m ≡ Msg.Answered op → Comes m
+  Finishes : m ≡ Msg.Finish → Comes m
+  Credits : (cell : FullCell) → m ≡ Msg.Credit cell → Comes m
 
 module _ {R : Type 0} (f : Semantics R) (g : Given) where
   -- by the labels no other comes
   comes : (p : ℕ) (m : Msg) → Label f g p 0 m → Comes m
-  comes p (msg.InPacket q) e = Packet_in q refl
-  comes p (msg.InCommand c) e = Command_in c refl
-  comes p msg.InSettle e = Settle_in refl
-  comes p msg.InEnd e = End_in refl
-  comes p (msg.Forward to mark.Plain cell) e = let never = e.2 in cc
-  comes p (msg.Forward to (mark.Pass op) cell) e = Passes to op cell refl
-  comes p (msg.Forward to (mark.Shared op home) cell) e = Shares_out to op home cell refl
-  comes p (msg.Install op filter from (target.Instance to)) e = Installs op filter from to refl
-  comes p (msg.Install op filter from target.Controller) e = Diverts op filter from refl
-  comes p (msg.FenceTo op to) e = Fences op to refl
-  comes p (msg.Answered op) e = Answers op refl
-  comes p msg.Finish e = Finishes refl
-  comes p (msg.Credit cell) e = Credits cell refl
+  comes p (Msg.InPacket q) e = Packet_in q refl
+  comes p (Msg.InCommand c) e = Command_in c refl
+  comes p Msg.InSettle e = Settle_in refl
+  comes p Msg.InEnd e = End_in refl
+  comes p (Msg.Forward to Mark.Plain cell) e = let never = e.2 in cc
+  comes p (Msg.Forward to (Mark.Pass op) cell) e = Passes to op cell refl
+  comes p (Msg.Forward to (Mark.Shared op home) cell) e = Shares_out to op home cell refl
+  comes p (Msg.Install op filter from (Target.Instance to)) e = Installs op filter from to refl
+  comes p (Msg.Install op filter from Target.Controller) e = Diverts op filter from refl
+  comes p (Msg.FenceTo op to) e = Fences op to refl
+  comes p (Msg.Answered op) e = Answers op refl
+  comes p Msg.Finish e = Finishes refl
+  comes p (Msg.Credit cell) e = Credits cell refl
   comes p m e = absurd (first_of (assumption, omega arith))
 
 module _ {F R : Type 0} (f : Semantics R) (g : Given) (n : ℕ) (x : Scene F f g) where
@@ -233,29 +226,29 @@ module _ {F R : Type 0} (f : Semantics R) (g : Given) (n : ℕ) (x : Scene F f g
     closed = record x.nodes.switch { closed = true }
 
     does : (p : ℕ) (m : Msg) → Comes m → Does p m
-    does p m (Packet_in q e) = at_port m (msg.InPacket q) p 0 e (λ l. l.0.0)
+    does p m (Packet_in q e) = at_port m (Msg.InPacket q) p 0 e (λ l. l.0.0)
         (λ t. packet_leads f g n x are q t.items t.label.1 (t.ready refl refl) (t.item refl refl))
-    does p m (Command_in c e) = at_port m (msg.InCommand c) p 0 e (λ l. l.0.0) (λ t. command_leads f g n x are c t.items t.label.1 (t.item refl refl))
-    does p m (Settle_in e) = at_port m msg.InSettle p 0 e (λ l. l.0)
-        (λ t. item_leads f g n x are msg.InSettle t.items [] (t.item refl refl) refl refl refl tt)
-    does p m (End_in e) = at_port m msg.InEnd p 0 e (λ l. l.0)
-        (λ t. item_leads f g n x are msg.InEnd t.items ((1, msg.End) ∷ []) (t.item refl refl) refl refl refl ((refl, refl), tt))
-    does p m (Passes to op cell e) = at_port m (msg.Forward to (mark.Pass op) cell) p 1 e (λ l. l.0.0)
+    does p m (Command_in c e) = at_port m (Msg.InCommand c) p 0 e (λ l. l.0.0) (λ t. command_leads f g n x are c t.items t.label.1 (t.item refl refl))
+    does p m (Settle_in e) = at_port m Msg.InSettle p 0 e (λ l. l.0)
+        (λ t. item_leads f g n x are Msg.InSettle t.items [] (t.item refl refl) refl refl refl tt)
+    does p m (End_in e) = at_port m Msg.InEnd p 0 e (λ l. l.0)
+        (λ t. item_leads f g n x are Msg.InEnd t.items ((1, Msg.End) ∷ []) (t.item refl refl) refl refl refl ((refl, refl), tt))
+    does p m (Passes to op cell e) = at_port m (Msg.Forward to (Mark.Pass op) cell) p 1 e (λ l. l.0.0)
         (λ t. passed_leads f g n x are to op cell t.rest t.label.1 t.label.3 (t.head refl _ refl))
-    does p m (Shares_out to op home cell e) = at_port m (msg.Forward to (mark.Shared op home) cell) p 1 e (λ l. l.0.0)
+    does p m (Shares_out to op home cell e) = at_port m (Msg.Forward to (Mark.Shared op home) cell) p 1 e (λ l. l.0.0)
         (λ t. shared_leads f g n x are to op home cell t.rest t.label.1 t.label.3 (t.head refl _ refl))
-    does p m (Installs op filter from to e) = at_port m (msg.Install op filter from (target.Instance to)) p 1 e (λ l. l.0.0)
+    does p m (Installs op filter from to e) = at_port m (Msg.Install op filter from (Target.Instance to)) p 1 e (λ l. l.0.0)
         (λ t. install_leads f g n x are op filter from to t.rest t.label.1 t.label.2 t.label.3 t.label.4 (t.head refl _ refl))
-    does p m (Diverts op filter from e) = at_port m (msg.Install op filter from target.Controller) p 1 e (λ l. l.0.0)
+    does p m (Diverts op filter from e) = at_port m (Msg.Install op filter from Target.Controller) p 1 e (λ l. l.0.0)
         (λ t. divert_leads f g n x are op filter from t.rest t.label.1 t.label.3 t.label.4 (t.head refl _ refl))
-    does p m (Fences op to e) = at_port m (msg.FenceTo op to) p 1 e (λ l. l.0.0)
+    does p m (Fences op to e) = at_port m (Msg.FenceTo op to) p 1 e (λ l. l.0.0)
         (λ t. fence_leads f g n x are op to t.rest t.label.1 (t.head refl _ refl))
-    does p m (Answers op e) = at_port m (msg.Answered op) p 1 e (λ l. l.0) (λ _. quiet f g n x are 1 (msg.Answered op) waiting_less [] refl refl tt
+    does p m (Answers op e) = at_port m (Msg.Answered op) p 1 e (λ l. l.0) (λ _. quiet f g n x are 1 (Msg.Answered op) waiting_less [] refl refl tt
         (same_switch f g x.nodes.switch waiting_less x.world.target refl refl refl refl are.switch) are.rising)
-    does p m (Finishes e) = at_port m msg.Finish p 1 e (λ l. l.0) (λ _. quiet f g n x are 1 msg.Finish closed (stop_messages x.nodes.switch.instances)
+    does p m (Finishes e) = at_port m Msg.Finish p 1 e (λ l. l.0) (λ _. quiet f g n x are 1 Msg.Finish closed (stop_messages x.nodes.switch.instances)
         refl (stops_all f g.site g.packet (place g) x.nodes.switch.instances) (stops_labels f g x.nodes.switch.instances)
         (same_switch f g x.nodes.switch closed x.world.target refl refl refl refl are.switch) are.rising)
-    does p m (Credits cell e) = at_port m (msg.Credit cell) p p e (λ _. refl) (λ t. credit_leads f g n x are p cell t.label.0)
+    does p m (Credits cell e) = at_port m (Msg.Credit cell) p p e (λ _. refl) (λ t. credit_leads f g n x are p cell t.label.0)
 
 module _ {F R : Type 0} (f : Semantics R) (laws : FunctionLaws f) (g : Given) where
   pub switch_leads : (n : ℕ) (x : Scene F f g) (p : ℕ) (m : Msg) → AreShown f g n x → IsTaken f g n x (record { node = 0; port = p; message = m })

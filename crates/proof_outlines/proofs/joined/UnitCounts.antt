@@ -1,35 +1,33 @@
 -- How often a unit stands among chunks; chunks in which none stands twice are of distinct units.
 use Rattle.proof_outlines.proofs.Words.{◌≡◌, ℕ, ◌+◌, ◌≤◌, false, Some, List, [], ◌∷◌, ◌++◌, map, refl, sym, ap, ◌∙◌, subst, arith, if◌then◌else◌, is_some}
 use Rattle.proof_outlines.proofs.Words.{AllByRecursion, keys_of, Semantics, same_unit, spelled, same_unit_equiv, same_unit-true, Piece, chunks_of, Each, Chunks}
-use Rattle.proof_outlines.proofs.Words.{record_at, have, split}
-use Rattle.std.specs.List.{IsDistinct}
-use Rattle.nf_function.specs.declared.unit.Unit as units
+use Rattle.proof_outlines.proofs.Words.{record_at, have, split, Unit, IsDistinct}
 use Rattle.proof_outlines.proofs.joined.Words.{entries, outline_piece, filter_map-put, Given, AreGoodChunks}
 use Rattle.proof_machines.proofs.net.Copies.{has}
 
 module _ {R : Type 0} where
   -- how many entries are the unit's
-  abbrev pub times : units.Unit → Chunks R → ℕ
+  abbrev pub times : Unit → Chunks R → ℕ
   times u [] = 0
   times u (e ∷ es) = (if same_unit u e.0 then 1 else 0) + times u es
 
-  pub times-append : (u : units.Unit) (xs ys : Chunks R) → times u (xs ++ ys) ≡ times u xs + times u ys
+  pub times-append : (u : Unit) (xs ys : Chunks R) → times u (xs ++ ys) ≡ times u xs + times u ys
   times-append u [] ys = omega arith
   times-append u (e ∷ xs) ys = let rest = times-append u xs ys in omega (arith, rest)
 
   -- none of the entries is the unit's
-  none_same : (u : units.Unit) (es : Chunks R) → times u es ≡ 0 → AllByRecursion (λ y. same_unit u y ≡ false) (keys_of es)
+  none_same : (u : Unit) (es : Chunks R) → times u es ≡ 0 → AllByRecursion (λ y. same_unit u y ≡ false) (keys_of es)
   none_same u [] h = tt
   none_same u (e ∷ es) h =
       split (same_unit u e.0) (λ b. (if b then 1 else 0) + times u es ≡ 0 → AllByRecursion (λ y. same_unit u y ≡ false) (keys_of (e ∷ es)))
       (λ is more. absurd (omega (arith, more)))
       (λ is more. (is, none_same u es (omega (arith, more)))) h
 
-  same_none : (u : units.Unit) (es : Chunks R) → AllByRecursion (λ y. same_unit u y ≡ false) (keys_of es) → times u es ≡ 0
+  same_none : (u : Unit) (es : Chunks R) → AllByRecursion (λ y. same_unit u y ≡ false) (keys_of es) → times u es ≡ 0
   same_none u [] h = refl
   same_none u (e ∷ es) h = let other = h.0 in let rest = same_none u es h.1 in rw (other, rest) refl
 
-  pub distinct_from_times : (es : Chunks R) → ((u : units.Unit) → times u es ≤ 1) → IsDistinct same_unit (keys_of es)
+  pub distinct_from_times : (es : Chunks R) → ((u : Unit) → times u es ≤ 1) → IsDistinct same_unit (keys_of es)
   unfolding IsDistinct
   distinct_from_times [] h = tt
   distinct_from_times (e ∷ es) h =
@@ -37,7 +35,7 @@ module _ {R : Type 0} where
       let one : 1 + times e.0 es ≤ 1 = subst (λ b. (if b then 1 else 0) + times e.0 es ≤ 1) own (h e.0) in
       (none_same e.0 es (omega (arith, one)), distinct_from_times es (λ u. let both = h u in omega (arith, both)))
 
-  pub times_from_distinct : (es : Chunks R) → IsDistinct same_unit (keys_of es) → (u : units.Unit) → times u es ≤ 1
+  pub times_from_distinct : (es : Chunks R) → IsDistinct same_unit (keys_of es) → (u : Unit) → times u es ≤ 1
   unfolding IsDistinct
   times_from_distinct [] h u = omega arith
   times_from_distinct (e ∷ es) h u =
@@ -46,7 +44,7 @@ module _ {R : Type 0} where
       (λ is. let rest = times_from_distinct es h.1 u in omega (arith, rest))
 
   -- where no unit stands twice, one stands once where it has a record
-  pub times_is_has : (es : Chunks R) → IsDistinct same_unit (keys_of es) → (u : units.Unit) → times u es ≡ has u es
+  pub times_is_has : (es : Chunks R) → IsDistinct same_unit (keys_of es) → (u : Unit) → times u es ≡ has u es
   unfolding IsDistinct
   times_is_has [] h u = refl
   times_is_has (e ∷ es) h u =
@@ -56,7 +54,7 @@ module _ {R : Type 0} where
 
 module _ {R : Type 0} (f : Semantics R) (g : Given) where
   -- of pieces of such chunks, as many have the unit as it stands in them
-  pub times_chunks : (ps : List Piece) → Each (λ p. AreGoodChunks f g p.chunks) ps → (u : units.Unit)
+  pub times_chunks : (ps : List Piece) → Each (λ p. AreGoodChunks f g p.chunks) ps → (u : Unit)
       → times u (entries f (chunks_of ps)) ≡ have u (map (outline_piece f) ps)
   times_chunks [] h u = refl
   times_chunks (p ∷ ps) h u =

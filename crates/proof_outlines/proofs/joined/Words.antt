@@ -5,6 +5,7 @@ pub use Rattle.proof_outlines.proofs.joined.Joined.{count, Label, Joined, node_o
 pub use Rattle.proof_outlines.proofs.joined.Joined.{is_built, commands, came_by, asked_nums, IsListed, IsMove, IsCopy, is_whole_if, Genuine, AreGoodChunks}
 pub use Rattle.proof_outlines.proofs.joined.Joined.{HasPieces, AreFree, IsGoodPiece, Nodes, by_node, links_next, Grows, IsGoodChunk, IsCommand, IsInstanceAt}
 pub use Rattle.proof_outlines.proofs.joined.Joined.{Took, IsSwitch, Shows, is_of, IsOutAt, GenuinePacket}
+pub use Rattle.proof_outlines.proofs.joined.NextNumbers.{same_grows}
 pub use Rattle.proof_outlines.proofs.outline.ControlOutline.{SeesMove, stored_after, Sees}
 pub use Rattle.proof_outlines.proofs.outline.ControllerWays.{row_by, row_fits}
 pub use Rattle.proof_outlines.proofs.outline.CopyTurns.{CopyTurn, Idle, Hands, Hands_all, Ends, hands, ends, is_copied, copy_turn, move_idle, quiet_turn}
@@ -25,3 +26,8 @@ pub use Rattle.proof_outlines.proofs.whole.OpenShares.{StepFollows, OpensAll, re
 pub use Rattle.proof_outlines.proofs.whole.OpenShares.{no_op, no_open_share}
 pub use Rattle.proof_outlines.proofs.whole.SwitchAll.{target_node, GoesToTarget, routes_same, RoutesAll, stops_all}
 pub use Rattle.proof_outlines.proofs.whole.WholeOutline.{outline_all, asked_of, with_member, members_of, share_between, want_share_of, is_sharing, outline_each}
+pub use Rattle.instance_worker.specs.declared.instance.Instance.{Instance as InstanceState}
+pub use Rattle.net_world.specs.declared.node.Node.TheVariants.{Instance}
+pub use Rattle.nf_function.specs.Records.{Laws as FunctionLaws}
+unfoldable pub use Rattle.record_table.specs.Chunks.{records_of}
+unfoldable pub use Rattle.std.specs.List.{IsDistinct}

@@ -5,7 +5,6 @@ use Rattle.proof_outlines.proofs.Words.{stored-with_parcels, Answer, Msg, Phase,
 use Rattle.proof_outlines.proofs.Words.{OpenOperations, Turn, turn_of, turn_of_move, switch_node, ControllerState, Step, after_turn, takes_turn, RPhase, Open}
 use Rattle.proof_outlines.proofs.Words.{ControllerMove, find_op, write_op, found, wrap, find_close, find_set, find_write_other, either_way}
 use Rattle.std.specs.FinMap as finite
-use Rattle.nf_msgs.specs.declared.msg.Msg.TheVariants as msg
 use Rattle.move_op.specs.Phases as phase
 use Rattle.proof_machines.proofs.unit.Real as real
 use Rattle.proof_machines.proofs.net.Net as net
@@ -144,7 +143,7 @@ module _ {R : Type 0} (f : Semantics R) (place : List ℕ → Option ℕ) where
   -- what is sent after a turn: an answer isn't looked at
   turn_sends : (s : ControllerState) (n : ℕ) (t : Turn) (a : Option Answer) → outline_sends f place (after_turn s n t a).sends ≡ outline_sends f place t.sends
   turn_sends s n t None = refl
-  turn_sends s n t (Some why) = filter_map-put (outline_sent f place) t.sends ((switch_node, msg.Answered n) ∷ []) ∙ append-nil (outline_sends f place t.sends)
+  turn_sends s n t (Some why) = filter_map-put (outline_sent f place) t.sends ((switch_node, Msg.Answered n) ∷ []) ∙ append-nil (outline_sends f place t.sends)
 
   -- A message of an open operation's number.
   pub turn_same : (s : ControllerState) (ops : List (Open R)) (n port : ℕ) (m : Msg) (pm : real.Msg R) (e : Open R) (mv : MoveState)

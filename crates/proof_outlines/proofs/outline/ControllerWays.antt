@@ -3,8 +3,6 @@ use Rattle.proof_outlines.proofs.Words.{◌≡◌, ℕ, Bool, true, Option, Some
 use Rattle.proof_outlines.proofs.Words.{FullCell, Answer, Command, Order, Msg, switch_node, op_of, SharePlan, Share, share_of, place_of, ControllerState, Step}
 use Rattle.proof_outlines.proofs.Words.{by_if}
 use Rattle.std.specs.FinMap as finite
-use Rattle.nf_msgs.specs.declared.command.Order.TheVariants as order
-use Rattle.nf_msgs.specs.declared.msg.Msg.TheVariants as msg
 use Rattle.copy_share.specs.Share as share
 use Rattle.ctrl_node.specs.Controller as ctrl
 
@@ -13,34 +11,34 @@ use Rattle.ctrl_node.specs.Controller as ctrl
 module _ (c : ControllerState) (port : ℕ) (Allows : Msg → Step → Type 0) where
   pub record WaysOfRow : Type 0 where
     pub still : (m : Msg) → Allows m (ctrl.still c)
-    pub ended : Allows msg.End (ctrl.still (record c { end_came = true }))
-    pub stopped : (i : ℕ) → Allows msg.Final (ctrl.still (record c { stopped = slice_set c.stopped i true }))
+    pub ended : Allows Msg.End (ctrl.still (record c { end_came = true }))
+    pub stopped : (i : ℕ) → Allows Msg.Final (ctrl.still (record c { stopped = slice_set c.stopped i true }))
     pub returned : (op i : ℕ) (cell : FullCell)
-        → Allows (msg.Event op cell) (record { node = c; sends = (switch_node, msg.Forward i (Pass op) cell) ∷ []; notes = [] })
+        → Allows (Msg.Event op cell) (record { node = c; sends = (switch_node, Msg.Forward i (Pass op) cell) ∷ []; notes = [] })
     pub handed : (op : ℕ) (m : Msg) → op_of m ≡ Some op → Allows m (ctrl.hand_step c op port m)
-    pub diverted : (cell : FullCell) → Allows (msg.Diverted cell) (ctrl.on_diverted c cell)
-    pub asked : (k : Command) → Allows (msg.Asked k) (ctrl.on_asked c k)
+    pub diverted : (cell : FullCell) → Allows (Msg.Diverted cell) (ctrl.on_diverted c cell)
+    pub asked : (k : Command) → Allows (Msg.Asked k) (ctrl.on_asked c k)
 
   module _ (ways : WaysOfRow) where
     by_number : (m : Msg) (o : Option ℕ) → op_of m ≡ o → Allows m (ctrl.numbered c port m o)
     by_number m None is = ways.still m
     by_number m (Some op) is = ways.handed op m is
 
-    by_event : (op : ℕ) (cell : FullCell) (o : Option ℕ) → Allows (msg.Event op cell) (ctrl.on_event c port op cell o)
-    by_event op cell None = ways.still (msg.Event op cell)
-    by_event op cell (Some i) = by_if (Allows (msg.Event op cell)) (finite.contains_key c.operations op) (ways.handed op (msg.Event op cell) refl)
+    by_event : (op : ℕ) (cell : FullCell) (o : Option ℕ) → Allows (Msg.Event op cell) (ctrl.on_event c port op cell o)
+    by_event op cell None = ways.still (Msg.Event op cell)
+    by_event op cell (Some i) = by_if (Allows (Msg.Event op cell)) (finite.contains_key c.operations op) (ways.handed op (Msg.Event op cell) refl)
         (ways.returned op i cell)
 
-    by_final : (o : Option ℕ) → Allows msg.Final (ctrl.on_final c o)
-    by_final None = ways.still msg.Final
+    by_final : (o : Option ℕ) → Allows Msg.Final (ctrl.on_final c o)
+    by_final None = ways.still Msg.Final
     by_final (Some i) = ways.stopped i
 
     pub row_by : (m : Msg) → Allows m (ctrl.row c port m)
-    row_by (msg.Asked k) = by_if (Allows (msg.Asked k)) (port == switch_node) (ways.asked k) (ways.still (msg.Asked k))
-    row_by (msg.Diverted cell) = by_if (Allows (msg.Diverted cell)) (port == switch_node) (ways.diverted cell) (ways.still (msg.Diverted cell))
-    row_by msg.End = by_if (Allows msg.End) (port == switch_node) ways.ended (ways.still msg.End)
-    row_by (msg.Event op cell) = by_event op cell (ctrl.instance_at c port)
-    row_by msg.Final = by_final (ctrl.instance_at c port)
+    row_by (Msg.Asked k) = by_if (Allows (Msg.Asked k)) (port == switch_node) (ways.asked k) (ways.still (Msg.Asked k))
+    row_by (Msg.Diverted cell) = by_if (Allows (Msg.Diverted cell)) (port == switch_node) (ways.diverted cell) (ways.still (Msg.Diverted cell))
+    row_by Msg.End = by_if (Allows Msg.End) (port == switch_node) ways.ended (ways.still Msg.End)
+    row_by (Msg.Event op cell) = by_event op cell (ctrl.instance_at c port)
+    row_by Msg.Final = by_final (ctrl.instance_at c port)
     row_by m = by_number m (op_of m) refl
 
 module _ (c : ControllerState) (Allows : Msg → Step → Type 0) where
@@ -50,50 +48,50 @@ module _ (c : ControllerState) (Allows : Msg → Step → Type 0) where
   -- nothing, the end, a final message, an event that goes back, a message or a packet of an open operation, and a command that is answered or begins
   pub record WaysOfController : Type 0 where
     pub still : (m : Msg) → Allows m (ctrl.still c)
-    pub ended : Allows msg.End (ctrl.still (record c { end_came = true }))
-    pub stopped : (i : ℕ) → Allows msg.Final (ctrl.still (record c { stopped = slice_set c.stopped i true }))
+    pub ended : Allows Msg.End (ctrl.still (record c { end_came = true }))
+    pub stopped : (i : ℕ) → Allows Msg.Final (ctrl.still (record c { stopped = slice_set c.stopped i true }))
     pub returned : (op i : ℕ) (cell : FullCell)
-        → Allows (msg.Event op cell) (record { node = c; sends = (switch_node, msg.Forward i (Pass op) cell) ∷ []; notes = [] })
+        → Allows (Msg.Event op cell) (record { node = c; sends = (switch_node, Msg.Forward i (Pass op) cell) ∷ []; notes = [] })
     pub handed : (op port : ℕ) (m : Msg) → Allows m (ctrl.hand_step c op port m)
-    pub queued : (op : ℕ) (cell : FullCell) → Allows (msg.Diverted cell) (ctrl.queue_step c cell (Some op))
-    pub answers : (k : Command) (op : ℕ) (answer : Answer) → Allows (msg.Asked k) (ctrl.answers c op answer)
+    pub queued : (op : ℕ) (cell : FullCell) → Allows (Msg.Diverted cell) (ctrl.queue_step c cell (Some op))
+    pub answers : (k : Command) (op : ℕ) (answer : Answer) → Allows (Msg.Asked k) (ctrl.answers c op answer)
     pub moves : (k : Command) (op from to : ℕ) (filter : Filter) (keep : Bool)
-        → Allows (msg.Asked k) (ctrl.move_begin c (record { op = op; from = from; to = to; filter = filter; keep = keep }))
+        → Allows (Msg.Asked k) (ctrl.move_begin c (record { op = op; from = from; to = to; filter = filter; keep = keep }))
     pub copies : (k : Command) (op from to : ℕ) (filter : Option Filter)
-        → Allows (msg.Asked k) (ctrl.copy_begin c (record { op = op; from = from; to = to; filter = filter }))
-    pub shares : (k : Command) (op : ℕ) (filter : Filter) (home : ℕ) (others : List ℕ) → Allows (msg.Asked k)
+        → Allows (Msg.Asked k) (ctrl.copy_begin c (record { op = op; from = from; to = to; filter = filter }))
+    pub shares : (k : Command) (op : ℕ) (filter : Filter) (home : ℕ) (others : List ℕ) → Allows (Msg.Asked k)
         (ctrl.opening_step c op (Share (share.share_at_start (share_plan op filter home others))) (share.begin_sends (share_plan op filter home others)))
 
   module _ (ways : WaysOfController) where
-    by_share : (cell : FullCell) (o : Option ℕ) → Allows (msg.Diverted cell) (ctrl.queue_step c cell o)
-    by_share cell None = ways.still (msg.Diverted cell)
+    by_share : (cell : FullCell) (o : Option ℕ) → Allows (Msg.Diverted cell) (ctrl.queue_step c cell o)
+    by_share cell None = ways.still (Msg.Diverted cell)
     by_share cell (Some op) = ways.queued op cell
 
-    by_order : (k : Command) (op : ℕ) (what : Order) → Allows (msg.Asked k) (ctrl.begin_step c op what)
-    by_order k op (order.Move source destination filter keep) = between (place_of c.names source) (place_of c.names destination)
+    by_order : (k : Command) (op : ℕ) (what : Order) → Allows (Msg.Asked k) (ctrl.begin_step c op what)
+    by_order k op (Order.Move source destination filter keep) = between (place_of c.names source) (place_of c.names destination)
       where
-        between : (from to : Option ℕ) → Allows (msg.Asked k) (ctrl.move_between c op filter keep from to)
+        between : (from to : Option ℕ) → Allows (Msg.Asked k) (ctrl.move_between c op filter keep from to)
         between (Some from) (Some to) = ways.moves k op from to filter keep
-        between (Some from) None = ways.still (msg.Asked k)
-        between None to = ways.still (msg.Asked k)
-    by_order k op (order.Copy source destination filter) = between (place_of c.names source) (place_of c.names destination)
+        between (Some from) None = ways.still (Msg.Asked k)
+        between None to = ways.still (Msg.Asked k)
+    by_order k op (Order.Copy source destination filter) = between (place_of c.names source) (place_of c.names destination)
       where
-        between : (from to : Option ℕ) → Allows (msg.Asked k) (ctrl.copy_between c op filter from to)
+        between : (from to : Option ℕ) → Allows (Msg.Asked k) (ctrl.copy_between c op filter from to)
         between (Some from) (Some to) = ways.copies k op from to filter
-        between (Some from) None = ways.still (msg.Asked k)
-        between None to = ways.still (msg.Asked k)
-    by_order k op (order.Share members filter) = among (filter_map (place_of c.names) members)
+        between (Some from) None = ways.still (Msg.Asked k)
+        between None to = ways.still (Msg.Asked k)
+    by_order k op (Order.Share members filter) = among (filter_map (place_of c.names) members)
       where
-        among : (places : List ℕ) → Allows (msg.Asked k) (ctrl.share_begin c op filter places)
-        among [] = ways.still (msg.Asked k)
+        among : (places : List ℕ) → Allows (Msg.Asked k) (ctrl.share_begin c op filter places)
+        among [] = ways.still (Msg.Asked k)
         among (home ∷ others) = ways.shares k op filter home others
 
-    by_refusal : (k : Command) (op : ℕ) (what : Order) (o : Option Answer) → Allows (msg.Asked k) (ctrl.decision_step c op what o)
+    by_refusal : (k : Command) (op : ℕ) (what : Order) (o : Option Answer) → Allows (Msg.Asked k) (ctrl.decision_step c op what o)
     by_refusal k op what (Some answer) = ways.answers k op answer
     by_refusal k op what None = by_order k op what
 
-    by_command : (k : Command) → Allows (msg.Asked k) (ctrl.on_asked c k)
-    by_command k = by_if (Allows (msg.Asked k)) (finite.contains_key c.operations k.op) (ways.still (msg.Asked k))
+    by_command : (k : Command) → Allows (Msg.Asked k) (ctrl.on_asked c k)
+    by_command k = by_if (Allows (Msg.Asked k)) (finite.contains_key c.operations k.op) (ways.still (Msg.Asked k))
         (by_refusal k k.op k.what (ctrl.refusal c k.what))
 
     pub row_fits : (port : ℕ) (m : Msg) → Allows m (ctrl.row c port m)

@@ -1,11 +1,9 @@
 -- Filters of moves: which units a filter takes, where it splits none, and that two filters that don't meet take no unit both.
 use Rattle.proof_outlines.proofs.Words.{◌≡◌, ℕ, ◌<◌, ◌^◌, Bool, true, false, Option, Some, None, refl, sym, ◌∙◌, subst, lit<, ◌&&◌, ◌||◌, not, nat_lt, is_some}
 use Rattle.proof_outlines.proofs.Words.{ForSome, Decides-ltb, not-true, and_parts, false_from_ne_true, Filter, Flow, Prefix, matches, meet, meets, agrees}
-use Rattle.proof_outlines.proofs.Words.{holds, IsFlow, IsFilter, Kind, Conntrack, has_hosts, takes, unit_of}
+use Rattle.proof_outlines.proofs.Words.{holds, IsFlow, IsFilter, Kind, Conntrack, has_hosts, takes, unit_of, Unit, OfFlow, OfHost}
 use Rattle.flow_filter.proofs.FilterLemmas.{meet_clauses}
 use Rattle.flow_filter.proofs.FilterMeets.{some-meet}
-use Rattle.nf_function.specs.declared.unit.Unit as units
-use Rattle.nf_function.specs.declared.unit.Unit.TheVariants.{Flow as OfFlow, Host as OfHost}
 use Rattle.proof_machines.proofs.unit.Lists.{none_is}
 
 abbrev pub number_fits : ℕ → Option ℕ → Bool
@@ -31,12 +29,12 @@ abbrev pub flow_fits : Flow → Bool
 flow_fits f = nat_lt f.proto (2 ^ 8) && (nat_lt f.local (2 ^ 32) && (nat_lt f.lport (2 ^ 16) && (nat_lt f.remote (2 ^ 32) && nat_lt f.rport (2 ^ 16))))
 
 -- a unit that packets may have
-abbrev pub unit_fits : Kind → units.Unit → Bool
+abbrev pub unit_fits : Kind → Unit → Bool
 unit_fits kind (OfFlow f) = not (has_hosts kind) && flow_fits f
 unit_fits kind (OfHost host) = has_hosts kind && nat_lt host (2 ^ 32)
 
 -- a filter that splits no unit takes this unit
-abbrev pub takes_whole : Kind → Filter → units.Unit → Bool
+abbrev pub takes_whole : Kind → Filter → Unit → Bool
 takes_whole kind g u = is_whole kind g && (unit_fits kind u && takes g u)
 
 number_is : (top : ℕ) (o : Option ℕ) → number_fits top o ≡ true → ForSome o (λ n. n < top)
@@ -74,11 +72,11 @@ flow_is f e =
     }
 
 -- a flow of a unit
-abbrev pub flow_in : units.Unit → Flow
+abbrev pub flow_in : Unit → Flow
 flow_in (OfFlow f) = f
 flow_in (OfHost host) = record { proto = 6; local = host; lport = 0; remote = 0; rport = 0 }
 
-flow_in_is : (kind : Kind) (u : units.Unit) → unit_fits kind u ≡ true → IsFlow (flow_in u)
+flow_in_is : (kind : Kind) (u : Unit) → unit_fits kind u ≡ true → IsFlow (flow_in u)
 flow_in_is kind (OfFlow f) e = flow_is f (and_parts (not (has_hosts kind)) _ e).1
 flow_in_is kind (OfHost host) e =
     record { proto = lit< tt; local = (Decides-ltb host (2 ^ 32)).0 (and_parts (has_hosts kind) _ e).1; lport = lit< tt; remote = lit< tt; rport = lit< tt }
@@ -109,7 +107,7 @@ local_takes g flow e =
 whole_hosts : (kind : Kind) (g : Filter) → has_hosts kind ≡ true → not (has_hosts kind) || local_alone g ≡ true → local_alone g ≡ true
 whole_hosts kind g hosts e = rw hosts at e
 
-takes_matches : (kind : Kind) (g : Filter) (u : units.Unit) → is_whole kind g ≡ true → unit_fits kind u ≡ true → takes g u ≡ matches g (flow_in u)
+takes_matches : (kind : Kind) (g : Filter) (u : Unit) → is_whole kind g ≡ true → unit_fits kind u ≡ true → takes g u ≡ matches g (flow_in u)
 takes_matches kind g (OfFlow f) w e = refl
 takes_matches kind g (OfHost host) w e =
     local_takes g (flow_in (OfHost host)) (whole_hosts kind g (and_parts (has_hosts kind) _ e).0 (and_parts (filter_fits g) _ w).1)
@@ -118,11 +116,11 @@ meet_none : (g h : Filter) → is_some (meet g h) ≡ false → meet g h ≡ Non
 meet_none g h e = none_is (meet g h) e
 
 -- a filter that splits no unit takes a unit that packets may have, or doesn't
-pub takes_same : (kind : Kind) (g : Filter) (u : units.Unit) → is_whole kind g ≡ true → unit_fits kind u ≡ true → takes_whole kind g u ≡ takes g u
+pub takes_same : (kind : Kind) (g : Filter) (u : Unit) → is_whole kind g ≡ true → unit_fits kind u ≡ true → takes_whole kind g u ≡ takes g u
 takes_same kind g u whole fits = rw (whole, fits) refl
 
 -- two filters that don't meet
-pub filters_apart : (kind : Kind) (g h : Filter) (u : units.Unit) → meets g h ≡ false → takes_whole kind g u ≡ true → takes_whole kind h u ≡ false
+pub filters_apart : (kind : Kind) (g h : Filter) (u : Unit) → meets g h ≡ false → takes_whole kind g u ≡ true → takes_whole kind h u ≡ false
 filters_apart kind g h u off on =
     false_from_ne_true (takes_whole kind h u) (λ both. absurd (never both))
   where

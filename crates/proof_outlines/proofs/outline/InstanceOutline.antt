@@ -3,15 +3,11 @@ use Rattle.proof_outlines.proofs.Words.{◌≡◌, ℕ, true, false, Option, Som
 use Rattle.proof_outlines.proofs.Words.{◌==◌, not, is_some, option_map, option_map_or, filter_map, map-append, Filter, Flow, Packet, Site, matches, flow_of}
 use Rattle.proof_outlines.proofs.Words.{is_transport, unit_of, Semantics, unit_at, Records, after_packet, Action, FullCell, Instance, carry_step, on_enable}
 use Rattle.proof_outlines.proofs.Words.{controller_node, M_enable, M_fenced, Each, Ruling, InstanceTurn, find_rule, drop_rule, change_rules, has_rule, set_rule}
-use Rattle.proof_outlines.proofs.Words.{ruled_by, holding, held_of, process, process_all, runs_it, by_rule, inst_step, everything, split}
+use Rattle.proof_outlines.proofs.Words.{ruled_by, holding, held_of, process, process_all, runs_it, by_rule, inst_step, everything, split, Mark, Msg, EventRule}
 use Rattle.std.proofs.Common.{filter}
 use Rattle.std.specs.FinMap as finite
-use Rattle.event_filter.specs.declared.action.Action.TheVariants as action
-use Rattle.event_filter.specs.declared.mark.Mark.TheVariants as mark
-use Rattle.event_filter.specs.declared.rule.Rule.{Rule as EventRule}
 use Rattle.event_filter.specs.Rules as rules
 use Rattle.instance_worker.specs.Instance.{Step, process_step, all_processed, on_carry, on_fence}
-use Rattle.nf_msgs.specs.declared.msg.Msg.TheVariants as msg
 use Rattle.proof_machines.proofs.net.Net as net
 use Rattle.proof_outlines.proofs.outline.FiltersApart.{is_whole, flow_fits, takes_whole, whole_takes}
 use Rattle.proof_outlines.proofs.outline.Outline.{number, rule_of, outline_rule, outline_sent, outline_sends, ran_in, sys, outline_instance}
@@ -101,7 +97,7 @@ module _ {F R : Type 0} (f : Semantics R) (site : Site) (packet : ℕ → Packet
     pub ran : filter_map ran_in step.notes ≡ did.ran
 
   runs_plain : (i : Instance F R) (cell : FullCell) → i.site ≡ site → IsGenuine site packet cell
-      → Follows (process_step f i mark.Plain cell) (runs_it (sys f site packet) (outline_instance f site packet i) (number cell))
+      → Follows (process_step f i Mark.Plain cell) (runs_it (sys f site packet) (outline_instance f site packet i) (number cell))
   unfolding process_step
   runs_plain i cell at g = record {
     node = ap (λ live. record (outline_instance f site packet i) { live = live }) (after_same f site packet i.table.live i.site cell at g);
@@ -110,7 +106,7 @@ module _ {F R : Type 0} (f : Semantics R) (site : Site) (packet : ℕ → Packet
   }
 
   runs_passed : (i : Instance F R) (op : ℕ) (cell : FullCell) → i.site ≡ site → IsGenuine site packet cell
-      → Follows (process_step f i (mark.Pass op) cell) (runs_it (sys f site packet) (outline_instance f site packet i) (number cell))
+      → Follows (process_step f i (Mark.Pass op) cell) (runs_it (sys f site packet) (outline_instance f site packet i) (number cell))
   unfolding process_step
   runs_passed i op cell at g = record {
     node = ap (λ live. record (outline_instance f site packet i) { live = live }) (after_same f site packet i.table.live i.site cell at g);
@@ -127,7 +123,7 @@ module _ {F R : Type 0} (f : Semantics R) (site : Site) (packet : ℕ → Packet
   all_run i [] at h = record { node = refl; sends = refl; ran = refl }
   all_run i (cell ∷ cells) at h =
       let one = runs_plain i cell at h.0 in
-      let next = (process_step f i mark.Plain cell).node in
+      let next = (process_step f i Mark.Plain cell).node in
       let rest = all_run next cells at h.1 in
       record {
         node = rest.node ∙ ap (λ live. record (outline_instance f site packet i) { live = process_all (sys f site packet) live (map number cells) })
@@ -176,21 +172,21 @@ module _ {F R : Type 0} (f : Semantics R) (site : Site) (packet : ℕ → Packet
     pub one_each : rules.HaveOneEach i.rules
 
   carried_same : (i : Instance F R) (cell : FullCell) (o : Option (EventRule FullCell)) → IsInstance i → IsGenuine site packet cell
-      → Follows f site packet place (carry_step f i mark.Plain cell (rules.decided_by o))
+      → Follows f site packet place (carry_step f i Mark.Plain cell (rules.decided_by o))
       (by_rule (sys f site packet) (outline_instance f site packet i) (number cell) (option_map outline_rule o))
   unfolding process_step
   carried_same i cell None ok g = runs_plain f site packet place i cell ok.at g
   carried_same i cell (Some r) ok g = by_action r.action refl
     where
-      by_action : (a : Action) → r.action ≡ a → Follows f site packet place (carry_step f i mark.Plain cell (rules.decided r.op r.action))
+      by_action : (a : Action) → r.action ≡ a → Follows f site packet place (carry_step f i Mark.Plain cell (rules.decided r.op r.action))
           (net.by_kind (sys f site packet) (outline_instance f site packet i) (number cell) r.op (rule_of r.action))
-      by_action action.Process e = rw e (let one = runs_plain f site packet place i cell ok.at g in record { node = one.node; sends = refl; ran = refl })
-      by_action action.Drop e = rw e (record { node = refl; sends = refl; ran = refl })
-      by_action action.Buffer e = rw e
+      by_action Action.Process e = rw e (let one = runs_plain f site packet place i cell ok.at g in record { node = one.node; sends = refl; ran = refl })
+      by_action Action.Drop e = rw e (record { node = refl; sends = refl; ran = refl })
+      by_action Action.Buffer e = rw e
           (record { node = ap (λ rs. record (outline_instance f site packet i) { rules = rs }) (hold_same r.op cell i.rules); sends = refl; ran = refl })
 
   pub carry_follows : (i : Instance F R) (cell : FullCell) → IsInstance i → IsGenuine site packet cell → Follows f site packet place
-      (on_carry f i mark.Plain cell) (inst_step (sys f site packet) (outline_instance f site packet i) (net.Carry_on (number cell)))
+      (on_carry f i Mark.Plain cell) (inst_step (sys f site packet) (outline_instance f site packet i) (net.Carry_on (number cell)))
   unfolding on_carry
   carry_follows i cell ok g =
       let flow = (flow_of i.site cell.packet).0 in
@@ -200,11 +196,11 @@ module _ {F R : Type 0} (f : Semantics R) (site : Site) (packet : ℕ → Packet
       let found : option_map outline_rule (rules.first_rule i.rules flow)
       ≡ net.first_rule (sys f site packet) (unit_at f.kind site (packet (number cell))) (map outline_rule i.rules) =
       first_same f site packet flow fits i.rules ok.whole ∙ ap (λ u. net.first_rule (sys f site packet) u (map outline_rule i.rules)) unit_is in
-      subst (λ o. Follows f site packet place (carry_step f i mark.Plain cell (rules.decided_by (rules.first_rule i.rules flow)))
+      subst (λ o. Follows f site packet place (carry_step f i Mark.Plain cell (rules.decided_by (rules.first_rule i.rules flow)))
       (by_rule (sys f site packet) (outline_instance f site packet i) (number cell) o)) found (carried_same i cell (rules.first_rule i.rules flow) ok g)
 
   pub pass_follows : (i : Instance F R) (op : ℕ) (cell : FullCell) → IsInstance i → IsGenuine site packet cell → Follows f site packet place
-      (on_carry f i (mark.Pass op) cell) (inst_step (sys f site packet) (outline_instance f site packet i) (net.Pass_on (number cell)))
+      (on_carry f i (Mark.Pass op) cell) (inst_step (sys f site packet) (outline_instance f site packet i) (net.Pass_on (number cell)))
   unfolding on_carry
   pass_follows i op cell ok g = runs_passed f site packet place i op cell ok.at g
 
@@ -221,7 +217,7 @@ module _ {F R : Type 0} (f : Semantics R) (site : Site) (packet : ℕ → Packet
             (without_same op i.rules)
             ∙ ap (λ h. record (outline_instance f site packet
             i) { live = process_all (sys f site packet) i.table.live h; rules = drop_rule op (map outline_rule i.rules) }) (held_same op i.rules);
-        sends = filter_map-put (outline_sent f place) (all_processed f without cells).sends ((controller_node, msg.Fenced op) ∷ [])
+        sends = filter_map-put (outline_sent f place) (all_processed f without cells).sends ((controller_node, Msg.Fenced op) ∷ [])
             ∙ ap (λ xs. xs ++ (controller_node, net.Mv everything (M_fenced op)) ∷ []) all.sends;
         ran = filter_map-put ran_in (all_processed f without cells).notes [] ∙ append-nil (filter_map ran_in (all_processed f without cells).notes)
             ∙ all.ran ∙ held_same op i.rules;

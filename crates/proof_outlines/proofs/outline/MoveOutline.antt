@@ -3,25 +3,20 @@ use Rattle.proof_outlines.proofs.Words.{◌≡◌, ℕ, Bool, true, false, Optio
 use Rattle.proof_outlines.proofs.Words.{unwrap_or, Chunk, Semantics, spelled, FullCell, Answer, Refused, Msg, instance_node, Phase, MovePlan, MoveNext, MoveRow}
 use Rattle.proof_outlines.proofs.Words.{keeps, next_phase, have_units, chunks_of, put_back, source, destination, put_to, forward_to, words, from_source}
 use Rattle.proof_outlines.proofs.Words.{from_destination, row, on_event, on_piece, on_source_fenced, RPhase, Op, OperationTurn, r_words, Each, wrap, row_of}
-use Rattle.nf_function.specs.declared.unit.Unit as units
-use Rattle.switch_rules.specs.declared.target.Target.TheVariants as target
-use Rattle.nf_msgs.specs.declared.answer.Answer.TheVariants as answer
-use Rattle.nf_msgs.specs.declared.msg.Piece.{Piece as APiece}
-use Rattle.nf_msgs.specs.declared.msg.Msg.TheVariants as msg
+use Rattle.proof_outlines.proofs.Words.{Unit, Target, Door, APiece}
 use Rattle.nf_msgs.specs.Exports.{units_in}
-use Rattle.move_op.specs.declared.door.Door.TheVariants as door
 use Rattle.move_op.specs.Phases as phase
 use Rattle.proof_machines.proofs.unit.Real as real
-use Rattle.proof_machines.proofs.unit.TableViews.{map_phase, Follow, event_follows, source_enabled_follows, piece_follows, deleted_follows}
-use Rattle.proof_machines.proofs.unit.TableViews.{restored_follows, source_fenced_follows, put_ok_follows, put_no_follows}
-use Rattle.proof_machines.proofs.unit.TableViews.{destination_enabled_follows, destination_fenced_follows}
+use Rattle.proof_machines.proofs.unit.TableViews.{map_phase, Follow, event_follows, source_enabled_follows, piece_follows, deleted_follows, restored_follows}
+use Rattle.proof_machines.proofs.unit.TableViews.{source_fenced_follows, put_ok_follows, put_no_follows, destination_enabled_follows}
+use Rattle.proof_machines.proofs.unit.TableViews.{destination_fenced_follows}
 use Rattle.proof_machines.proofs.net.Net as net
 use Rattle.proof_outlines.proofs.outline.Outline.{number, entries, outline_piece, outline_sent, outline_sends}
 use Rattle.proof_outlines.proofs.outline.InstanceOutline.{filter_map-put}
 
 -- why a move is over: nothing, where it is done
 abbrev pub refused_by : Answer → Option Answer
-refused_by answer.Done = None
+refused_by Answer.Done = None
 refused_by why = Some why
 
 abbrev pub outline_plan : MovePlan → Op
@@ -29,16 +24,16 @@ outline_plan p = record { num = p.op; src = source p; dst = destination p; keep 
 
 -- an answer that is no refusal
 abbrev pub is_done : Answer → Bool
-is_done answer.Done = true
+is_done Answer.Done = true
 is_done why = false
 
 -- what a refused move keeps is a refusal
 abbrev pub IsRefusing : Phase → Type 0
-IsRefusing (phase.Streaming frozen free came (door.Refused why)) = is_done why ≡ false
+IsRefusing (phase.Streaming frozen free came (Door.Refused why)) = is_done why ≡ false
 IsRefusing (phase.Restoring why) = is_done why ≡ false
 IsRefusing (phase.Returning why) = is_done why ≡ false
 IsRefusing (phase.Undoing why) = is_done why ≡ false
-IsRefusing p = Unit {0}
+IsRefusing p = Prim.Unit {0}
 
 module _ {R : Type 0} (f : Semantics R) (place : List ℕ → Option ℕ) where
   abbrev pub outline_phase : Phase → RPhase R
@@ -46,7 +41,7 @@ module _ {R : Type 0} (f : Semantics R) (place : List ℕ → Option ℕ) where
 
   -- a chunk whose bytes spell a record of its unit
   pub record IsChunk (c : Chunk) : Type 0 where
-    pub entry : units.Unit × R
+    pub entry : Unit × R
     pub spells : spelled f c ≡ Some entry
     pub unit : c.unit ≡ Some entry.0
 
@@ -120,13 +115,13 @@ module _ {R : Type 0} (f : Semantics R) (place : List ℕ → Option ℕ) where
     release = record {
       phase = refl;
       store = refl;
-      sends = sent_on plan plan.to events (msg.Install plan.op plan.filter plan.from (target.Instance plan.to))
+      sends = sent_on plan plan.to events (Msg.Install plan.op plan.filter plan.from (Target.Instance plan.to))
           (real.M_install plan.op (source plan) (destination plan)) refl;
     };
     give_back = λ why. record {
       phase = refl;
       store = refl;
-      sends = sent_on plan plan.from events (msg.FenceTo plan.op plan.from) (real.M_fence_to plan.op (source plan)) refl;
+      sends = sent_on plan plan.from events (Msg.FenceTo plan.op plan.from) (real.M_fence_to plan.op (source plan)) refl;
     };
     fence = record { phase = refl; store = refl; sends = refl };
     keeps = λ same. same;
@@ -155,7 +150,7 @@ module _ {R : Type 0} (f : Semantics R) (place : List ℕ → Option ℕ) where
   }) ph
 
   refused_is : (why : Answer) → is_done why ≡ false → refused_by why ≡ Some why
-  refused_is answer.Done e = cc
+  refused_is Answer.Done e = cc
   refused_is why e = refl
 
   source_fenced_same : (plan : MovePlan) (ph : Phase) (events : List FullCell) → IsRefusing ph → NextFollows plan events
@@ -188,29 +183,29 @@ module _ {R : Type 0} (f : Semantics R) (place : List ℕ → Option ℕ) where
               ]
         ]
 
-    pub event_row : (op : ℕ) (cell : FullCell) → Rows (msg.Event op cell) (real.M_event op (number cell))
-    event_row op cell = by_sender (msg.Event op cell) (real.M_event op (number cell)) (event_same plan ph events cell) (stays plan ph events)
+    pub event_row : (op : ℕ) (cell : FullCell) → Rows (Msg.Event op cell) (real.M_event op (number cell))
+    event_row op cell = by_sender (Msg.Event op cell) (real.M_event op (number cell)) (event_same plan ph events cell) (stays plan ph events)
 
-    pub enabled_row : (op : ℕ) → Rows (msg.Enabled op) (real.M_enabled op)
-    enabled_row op = by_sender (msg.Enabled op) (real.M_enabled op) (source_enabled_follows (follows plan events) ph)
+    pub enabled_row : (op : ℕ) → Rows (Msg.Enabled op) (real.M_enabled op)
+    enabled_row op = by_sender (Msg.Enabled op) (real.M_enabled op) (source_enabled_follows (follows plan events) ph)
         (destination_enabled_follows (follows plan events) ph)
 
-    pub piece_row : (op : ℕ) (p : APiece) → Each IsChunk p.chunks → Rows (msg.Piece op p) (real.M_piece op (outline_piece f p))
-    piece_row op p h = by_sender (msg.Piece op p) (real.M_piece op (outline_piece f p)) (piece_same plan ph events p h) (stays plan ph events)
+    pub piece_row : (op : ℕ) (p : APiece) → Each IsChunk p.chunks → Rows (Msg.Piece op p) (real.M_piece op (outline_piece f p))
+    piece_row op p h = by_sender (Msg.Piece op p) (real.M_piece op (outline_piece f p)) (piece_same plan ph events p h) (stays plan ph events)
 
-    pub deleted_row : (op : ℕ) → Rows (msg.Deleted op) (real.M_deleted op)
-    deleted_row op = by_sender (msg.Deleted op) (real.M_deleted op) (deleted_follows (follows plan events) ph) (stays plan ph events)
+    pub deleted_row : (op : ℕ) → Rows (Msg.Deleted op) (real.M_deleted op)
+    deleted_row op = by_sender (Msg.Deleted op) (real.M_deleted op) (deleted_follows (follows plan events) ph) (stays plan ph events)
 
-    pub put_ok_row : (op : ℕ) → Rows (msg.PutOk op) (real.M_put_ok op)
-    put_ok_row op = by_sender (msg.PutOk op) (real.M_put_ok op) (stays plan ph events) (put_ok_follows (follows plan events) refl ph)
+    pub put_ok_row : (op : ℕ) → Rows (Msg.PutOk op) (real.M_put_ok op)
+    put_ok_row op = by_sender (Msg.PutOk op) (real.M_put_ok op) (stays plan ph events) (put_ok_follows (follows plan events) refl ph)
 
-    pub put_no_row : (op : ℕ) (refused : Refused) → Rows (msg.PutNo op refused) (real.M_put_no op refused.why (entries f refused.chunks))
-    put_no_row op refused = by_sender (msg.PutNo op refused) (real.M_put_no op refused.why (entries f refused.chunks)) (stays plan ph events)
+    pub put_no_row : (op : ℕ) (refused : Refused) → Rows (Msg.PutNo op refused) (real.M_put_no op refused.why (entries f refused.chunks))
+    put_no_row op refused = by_sender (Msg.PutNo op refused) (real.M_put_no op refused.why (entries f refused.chunks)) (stays plan ph events)
         (put_no_follows (follows plan events) refused.why (put_back refused.chunks) (real.put_back (entries f refused.chunks)) (λ last. refl) ph)
 
-    pub restored_row : (op : ℕ) → Rows (msg.Restored op) (real.M_restored op)
-    restored_row op = by_sender (msg.Restored op) (real.M_restored op) (restored_follows (follows plan events) ph) (stays plan ph events)
+    pub restored_row : (op : ℕ) → Rows (Msg.Restored op) (real.M_restored op)
+    restored_row op = by_sender (Msg.Restored op) (real.M_restored op) (restored_follows (follows plan events) ph) (stays plan ph events)
 
-    pub fenced_row : (op : ℕ) → IsRefusing ph → Rows (msg.Fenced op) (real.M_fenced op)
-    fenced_row op refusing = by_sender (msg.Fenced op) (real.M_fenced op) (source_fenced_same plan ph events refusing)
+    pub fenced_row : (op : ℕ) → IsRefusing ph → Rows (Msg.Fenced op) (real.M_fenced op)
+    fenced_row op refusing = by_sender (Msg.Fenced op) (real.M_fenced op) (source_fenced_same plan ph events refusing)
         (destination_fenced_follows (follows plan events) ph)

@@ -2,40 +2,38 @@
 -- all that it sends.
 use Rattle.proof_outlines.proofs.Words.{◌≡◌, ℕ, Bool, true, false, List, [], ◌∷◌, ◌++◌, map, refl, ◌==◌, Each, FullCell, Answer, Piece, Msg, Phase, Said}
 use Rattle.proof_outlines.proofs.Words.{Nothing, Put, Release, Give_back, MovePlan, MoveNext, MoveRow, put_back, source, destination, put_to, forward_to}
-use Rattle.proof_outlines.proofs.Words.{messages_of, words, from_source, from_destination, row, by_if}
-use Rattle.switch_rules.specs.declared.target.Target.TheVariants as target
-use Rattle.nf_msgs.specs.declared.msg.Msg.TheVariants as msg
+use Rattle.proof_outlines.proofs.Words.{messages_of, words, from_source, from_destination, row, by_if, Target}
 use Rattle.proof_machines.proofs.unit.TableRows.{PhaseHas, Hold, stays, event_holds, source_enabled_holds, piece_holds, deleted_holds, restored_holds}
-use Rattle.proof_machines.proofs.unit.TableRows.{source_fenced_holds, put_ok_holds, put_no_holds, destination_enabled_holds, destination_fenced_holds}
-use Rattle.proof_machines.proofs.unit.TableRows.{Any, any_each, any_phase}
+use Rattle.proof_machines.proofs.unit.TableRows.{source_fenced_holds, put_ok_holds, put_no_holds, destination_enabled_holds, destination_fenced_holds, Any}
+use Rattle.proof_machines.proofs.unit.TableRows.{any_each, any_phase}
 
 -- what a message of the source brings, and one of the destination
 abbrev pub Brings : (FullCell → Type 0) → (Piece → Type 0) → Msg → Type 0
-Brings Is Fits (msg.Event op cell) = Is cell
-Brings Is Fits (msg.Piece op p) = Fits p
+Brings Is Fits (Msg.Event op cell) = Is cell
+Brings Is Fits (Msg.Piece op p) = Fits p
 Brings Is Fits m = Unit {0}
 
 abbrev pub BringsBack : (Piece → Type 0) → (Answer → Type 0) → Msg → Type 0
-BringsBack Fits Why (msg.PutNo op refused) = Why refused.why × ((last : Bool) → Fits (put_back refused.chunks last))
+BringsBack Fits Why (Msg.PutNo op refused) = Why refused.why × ((last : Bool) → Fits (put_back refused.chunks last))
 BringsBack Fits Why m = Unit {0}
 
 module _ {plan : MovePlan} {Is : FullCell → Type 0} {Fits : Piece → Type 0} {Why : Answer → Type 0} {End : Answer → Type 0}
     {Leads : MoveNext → Type 0} {Gives : MoveRow → Type 0} (h : Hold (words plan) Is Fits Why End Leads Gives)
     (events : List FullCell) (all : Each Is events) (ph : Phase) (has : PhaseHas Fits Why End ph) where
   from_source_holds : (m : Msg) → Brings Is Fits m → Gives (from_source plan ph events m)
-  from_source_holds (msg.Event op cell) is = event_holds h events all cell is ph has
-  from_source_holds (msg.Enabled op) is = source_enabled_holds h events all ph has
-  from_source_holds (msg.Piece op p) is = h.keeps (piece_holds h p is ph has)
-  from_source_holds (msg.Deleted op) is = h.keeps (deleted_holds h ph has)
-  from_source_holds (msg.Restored op) is = h.keeps (restored_holds h ph has)
-  from_source_holds (msg.Fenced op) is = h.keeps (source_fenced_holds h ph has)
+  from_source_holds (Msg.Event op cell) is = event_holds h events all cell is ph has
+  from_source_holds (Msg.Enabled op) is = source_enabled_holds h events all ph has
+  from_source_holds (Msg.Piece op p) is = h.keeps (piece_holds h p is ph has)
+  from_source_holds (Msg.Deleted op) is = h.keeps (deleted_holds h ph has)
+  from_source_holds (Msg.Restored op) is = h.keeps (restored_holds h ph has)
+  from_source_holds (Msg.Fenced op) is = h.keeps (source_fenced_holds h ph has)
   from_source_holds m is = h.keeps (stays h ph has)
 
   from_destination_holds : (m : Msg) → BringsBack Fits Why m → Gives (from_destination plan ph events m)
-  from_destination_holds (msg.PutOk op) is = put_ok_holds h events all ph has
-  from_destination_holds (msg.PutNo op refused) is = h.keeps (put_no_holds h refused.why (put_back refused.chunks) is.0 is.1 ph has)
-  from_destination_holds (msg.Enabled op) is = destination_enabled_holds h events all ph has
-  from_destination_holds (msg.Fenced op) is = h.keeps (destination_fenced_holds h ph has)
+  from_destination_holds (Msg.PutOk op) is = put_ok_holds h events all ph has
+  from_destination_holds (Msg.PutNo op refused) is = h.keeps (put_no_holds h refused.why (put_back refused.chunks) is.0 is.1 ph has)
+  from_destination_holds (Msg.Enabled op) is = destination_enabled_holds h events all ph has
+  from_destination_holds (Msg.Fenced op) is = h.keeps (destination_fenced_holds h ph has)
   from_destination_holds m is = h.keeps (stays h ph has)
 
   pub row_holds : (port : ℕ) (m : Msg) → Brings Is Fits m → BringsBack Fits Why m → Gives (row (record { plan = plan; phase = ph }) events port m)
@@ -44,12 +42,12 @@ module _ {plan : MovePlan} {Is : FullCell → Type 0} {Fits : Piece → Type 0} 
       (by_if Gives (port == destination plan) (from_destination_holds m back) (h.keeps (stays h ph has)))
 
 brings_any : (m : Msg) → Brings (Any FullCell) (Any Piece) m
-brings_any (msg.Event op cell) = tt
-brings_any (msg.Piece op p) = tt
+brings_any (Msg.Event op cell) = tt
+brings_any (Msg.Piece op p) = tt
 brings_any m = tt
 
 brings_back_any : (m : Msg) → BringsBack (Any Piece) (Any Answer) m
-brings_back_any (msg.PutNo op refused) = (tt, λ last. tt)
+brings_back_any (Msg.PutNo op refused) = (tt, λ last. tt)
 brings_back_any m = tt
 
 -- what holds of the messages of each word
@@ -64,14 +62,14 @@ row_sends Sent plan sent ph events port m =
 
 -- a message that a move may send
 abbrev pub is_of_move : Msg → Bool
-is_of_move (msg.Enable op filter action) = true
-is_of_move (msg.Stream op filter) = true
-is_of_move (msg.Delete op units) = true
-is_of_move (msg.Put op piece first) = true
-is_of_move (msg.Restore op chunks) = true
-is_of_move (msg.Forward to mark parcel) = true
-is_of_move (msg.Install op filter from to) = true
-is_of_move (msg.FenceTo op to) = true
+is_of_move (Msg.Enable op filter action) = true
+is_of_move (Msg.Stream op filter) = true
+is_of_move (Msg.Delete op units) = true
+is_of_move (Msg.Put op piece first) = true
+is_of_move (Msg.Restore op chunks) = true
+is_of_move (Msg.Forward to mark parcel) = true
+is_of_move (Msg.Install op filter from to) = true
+is_of_move (Msg.FenceTo op to) = true
 is_of_move m = false
 
 module _ (Is : Msg → Type 0) (of_move : (m : Msg) → is_of_move m ≡ true → Is m) (plan : MovePlan) where
@@ -80,7 +78,7 @@ module _ (Is : Msg → Type 0) (of_move : (m : Msg) → is_of_move m ≡ true �
 
   puts_sent : (ps : List Piece) → AreSent (map (put_to plan false) ps)
   puts_sent [] = tt
-  puts_sent (p ∷ ps) = (of_move (msg.Put plan.op p false) refl, puts_sent ps)
+  puts_sent (p ∷ ps) = (of_move (Msg.Put plan.op p false) refl, puts_sent ps)
 
   forwards_sent : (to : ℕ) (cells : List FullCell) (m : Msg) → is_of_move m ≡ true → AreSent (map (forward_to plan to) cells ++ (0, m) ∷ [])
   forwards_sent to [] m is = (of_move m is, tt)
@@ -89,8 +87,8 @@ module _ (Is : Msg → Type 0) (of_move : (m : Msg) → is_of_move m ≡ true �
   said_sent : (says : Said FullCell Piece) → AreSent (messages_of plan says)
   said_sent Nothing = tt
   said_sent (Put ps) = puts_sent ps
-  said_sent (Release cells) = forwards_sent plan.to cells (msg.Install plan.op plan.filter plan.from (target.Instance plan.to)) refl
-  said_sent (Give_back cells) = forwards_sent plan.from cells (msg.FenceTo plan.op plan.from) refl
+  said_sent (Release cells) = forwards_sent plan.to cells (Msg.Install plan.op plan.filter plan.from (Target.Instance plan.to)) refl
+  said_sent (Give_back cells) = forwards_sent plan.from cells (Msg.FenceTo plan.op plan.from) refl
   said_sent says = (of_move _ refl, tt)
 
   pub all_sent : (ph : Phase) (events : List FullCell) (port : ℕ) (m : Msg) → AreSent (row (record { plan = plan; phase = ph }) events port m).next.sends

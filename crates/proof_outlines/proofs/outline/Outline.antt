@@ -3,17 +3,9 @@
 use Rattle.proof_outlines.proofs.Words.{◌≡◌, ℕ, Bool, Option, Some, None, List, [], ◌∷◌, map, refl, ap, ◌∙◌, if◌then◌else◌, ◌&&◌, ◌+◌, max, nat_lt, option_map}
 use Rattle.proof_outlines.proofs.Words.{filter_map, Filter, Packet, Site, meets, Chunk, unit_cmp, units_total, newest, Semantics, unit_at, version_number}
 use Rattle.proof_outlines.proofs.Words.{Records, same_unit, spelled, same_unit_equiv, Action, FullCell, Target, Answer, Order, Piece, Msg, Note, instance_node}
-use Rattle.proof_outlines.proofs.Words.{Instance, Chunks, RPiece, live_table, Sys, IsSys, Ruling, Room, MoveAsked, NumberedInstance, everything}
+use Rattle.proof_outlines.proofs.Words.{Instance, Chunks, RPiece, live_table, Sys, IsSys, Ruling, Room, MoveAsked, NumberedInstance, everything, Unit, Mark}
+use Rattle.proof_outlines.proofs.Words.{EventRule}
 use Rattle.std.specs.FinMap as finite
-use Rattle.nf_function.specs.declared.unit.Unit as units
-use Rattle.event_filter.specs.declared.action.Action.TheVariants as action
-use Rattle.event_filter.specs.declared.mark.Mark.TheVariants as mark
-use Rattle.event_filter.specs.declared.rule.Rule.{Rule as EventRule}
-use Rattle.switch_rules.specs.declared.target.Target.TheVariants as target
-use Rattle.nf_msgs.specs.declared.answer.Answer.TheVariants as answer
-use Rattle.nf_msgs.specs.declared.command.Order.TheVariants as order
-use Rattle.nf_msgs.specs.declared.msg.Msg.TheVariants as msg
-use Rattle.nf_msgs.specs.declared.note.Note.TheVariants as note
 use Rattle.proof_machines.proofs.unit.Machine as machine
 use Rattle.proof_machines.proofs.unit.Real as real
 use Rattle.proof_machines.proofs.unit.RecordTables.{live_laws}
@@ -25,9 +17,9 @@ abbrev pub number : FullCell → ℕ
 number cell = cell.packet.number
 
 abbrev pub rule_of : Action → machine.Rule
-rule_of action.Process = machine.Free
-rule_of action.Buffer = machine.Buffers
-rule_of action.Drop = machine.Drops
+rule_of Action.Process = machine.Free
+rule_of Action.Buffer = machine.Buffers
+rule_of Action.Drop = machine.Drops
 
 abbrev pub outline_rule : EventRule FullCell → Ruling
 outline_rule r = record { num = r.op; filter = r.filter; rule = rule_of r.action; held = map number r.held }
@@ -39,7 +31,7 @@ want_at op filter keep from to = None
 
 -- what a command asks for, by the places of instances' names
 abbrev pub want_of : (List ℕ → Option ℕ) → ℕ → Order → Option MoveAsked
-want_of place op (order.Move src dst filter keep) = want_at op filter keep (place src) (place dst)
+want_of place op (Order.Move src dst filter keep) = want_at op filter keep (place src) (place dst)
 want_of place op what = None
 
 module _ {R : Type 0} (f : Semantics R) where
@@ -57,31 +49,31 @@ module _ {R : Type 0} (f : Semantics R) where
 
   -- a change of the rules between two instances
   abbrev pub outline_install : ℕ → Filter → ℕ → Target → Option (net.Msg R)
-  outline_install op filter from (target.Instance to) = Some (net.Mv filter (real.M_install op (instance_node from) (instance_node to)))
-  outline_install op filter from target.Controller = None
+  outline_install op filter from (Target.Instance to) = Some (net.Mv filter (real.M_install op (instance_node from) (instance_node to)))
+  outline_install op filter from Target.Controller = None
 
   -- a message; nothing of those that no move looks at
   abbrev pub outline : (List ℕ → Option ℕ) → Msg → Option (net.Msg R)
-  outline place (msg.Asked c) = option_map net.Asked (want_of place c.op c.what)
-  outline place (msg.Carry mark.Plain cell) = Some (net.Carry_on (number cell))
-  outline place (msg.Carry (mark.Pass op) cell) = Some (net.Pass_on (number cell))
-  outline place (msg.Fence op) = Some (net.Fence_on op)
-  outline place (msg.Forward to mark cell) = Some (net.Mv everything (real.M_forward (number cell) (instance_node to)))
-  outline place (msg.Install op filter from to) = outline_install op filter from to
-  outline place (msg.FenceTo op to) = Some (net.Mv everything (real.M_fence_to op (instance_node to)))
-  outline place (msg.Enable op filter action) = Some (net.Mv filter (real.M_enable op (rule_of action)))
-  outline place (msg.Stream op filter) = Some (net.Mv filter (real.M_stream op))
-  outline place (msg.Delete op gone) = Some (net.Mv everything (real.M_delete op gone))
-  outline place (msg.Put op piece first) = Some (net.Mv everything (real.M_put op (outline_piece piece) first))
-  outline place (msg.Restore op chunks) = Some (net.Mv everything (real.M_restore op (entries chunks)))
-  outline place (msg.Enabled op) = Some (net.Mv everything (real.M_enabled op))
-  outline place (msg.Event op cell) = Some (net.Mv everything (real.M_event op (number cell)))
-  outline place (msg.Piece op piece) = Some (net.Mv everything (real.M_piece op (outline_piece piece)))
-  outline place (msg.Deleted op) = Some (net.Mv everything (real.M_deleted op))
-  outline place (msg.PutOk op) = Some (net.Mv everything (real.M_put_ok op))
-  outline place (msg.PutNo op refused) = Some (net.Mv everything (real.M_put_no op refused.why (entries refused.chunks)))
-  outline place (msg.Restored op) = Some (net.Mv everything (real.M_restored op))
-  outline place (msg.Fenced op) = Some (net.Mv everything (real.M_fenced op))
+  outline place (Msg.Asked c) = option_map net.Asked (want_of place c.op c.what)
+  outline place (Msg.Carry Mark.Plain cell) = Some (net.Carry_on (number cell))
+  outline place (Msg.Carry (Mark.Pass op) cell) = Some (net.Pass_on (number cell))
+  outline place (Msg.Fence op) = Some (net.Fence_on op)
+  outline place (Msg.Forward to mark cell) = Some (net.Mv everything (real.M_forward (number cell) (instance_node to)))
+  outline place (Msg.Install op filter from to) = outline_install op filter from to
+  outline place (Msg.FenceTo op to) = Some (net.Mv everything (real.M_fence_to op (instance_node to)))
+  outline place (Msg.Enable op filter action) = Some (net.Mv filter (real.M_enable op (rule_of action)))
+  outline place (Msg.Stream op filter) = Some (net.Mv filter (real.M_stream op))
+  outline place (Msg.Delete op gone) = Some (net.Mv everything (real.M_delete op gone))
+  outline place (Msg.Put op piece first) = Some (net.Mv everything (real.M_put op (outline_piece piece) first))
+  outline place (Msg.Restore op chunks) = Some (net.Mv everything (real.M_restore op (entries chunks)))
+  outline place (Msg.Enabled op) = Some (net.Mv everything (real.M_enabled op))
+  outline place (Msg.Event op cell) = Some (net.Mv everything (real.M_event op (number cell)))
+  outline place (Msg.Piece op piece) = Some (net.Mv everything (real.M_piece op (outline_piece piece)))
+  outline place (Msg.Deleted op) = Some (net.Mv everything (real.M_deleted op))
+  outline place (Msg.PutOk op) = Some (net.Mv everything (real.M_put_ok op))
+  outline place (Msg.PutNo op refused) = Some (net.Mv everything (real.M_put_no op refused.why (entries refused.chunks)))
+  outline place (Msg.Restored op) = Some (net.Mv everything (real.M_restored op))
+  outline place (Msg.Fenced op) = Some (net.Mv everything (real.M_fenced op))
   outline place message = None
 
   -- what is sent, each with its receiver
@@ -93,15 +85,15 @@ module _ {R : Type 0} (f : Semantics R) where
 
 -- the number of a packet that was processed
 abbrev pub ran_in : Note → Option ℕ
-ran_in (note.Processed number instance output) = Some number
+ran_in (Note.Processed number instance output) = Some number
 ran_in n = None
 
 module _ {R : Type 0} (f : Semantics R) (site : Site) (packet : ℕ → Packet) where
   -- why a piece that is put first is refused, if it is
   abbrev pub refuses : Room → Records R → RPiece R → Option Answer
   refuses room t p =
-      if nat_lt room.limit (finite.len t + p.total) then Some (answer.Import (finite.len t) p.total room.limit)
-      else if room.marked && nat_lt 1 p.newest then Some (answer.Old p.newest 1)
+      if nat_lt room.limit (finite.len t + p.total) then Some (Answer.Import (finite.len t) p.total room.limit)
+      else if room.marked && nat_lt 1 p.newest then Some (Answer.Old p.newest 1)
       else None
 
   -- the network that the proof of moves is about
@@ -118,7 +110,7 @@ module _ {R : Type 0} (f : Semantics R) (site : Site) (packet : ℕ → Packet) 
     empty = finite.empty;
   }
 
-  written : (u v : units.Unit) (r : R) (t : Records R) → finite.get (finite.insert t v r) u ≡ (if same_unit v u then Some r else finite.get t u)
+  written : (u v : Unit) (r : R) (t : Records R) → finite.get (finite.insert t v r) u ≡ (if same_unit v u then Some r else finite.get t u)
   written u v r t = finite.get-insert units_total t v r u ∙ ap (λ b. if b then Some r else finite.get t u) (same_unit_equiv.symm u v)
 
   pub is_sys : IsSys sys

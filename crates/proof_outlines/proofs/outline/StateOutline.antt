@@ -4,15 +4,10 @@ use Rattle.proof_outlines.proofs.Words.{if◌then◌else◌, cond, max, nat_le, 
 use Rattle.proof_outlines.proofs.Words.{takes, units_total, Semantics, record_chunk, version_number, Records, AreSound, taken_by, are_good, one_unit}
 use Rattle.proof_outlines.proofs.Words.{sound_retain_keys, valid_entries, spelled-record_chunk, Answer, Instance, WholePieces, newest_version, piece_of}
 use Rattle.proof_outlines.proofs.Words.{whole_of, pieces, to_controller, on_delete, piece_refusal, piece_put, Chunks, is_nil, Each, live_table, inst_step}
-use Rattle.proof_outlines.proofs.Words.{everything, to_ctrl}
+use Rattle.proof_outlines.proofs.Words.{everything, to_ctrl, Unit, Msg, FunctionLaws, records_of, APiece, pieces_from}
 use Rattle.std.specs.FinMap as finite
-use Rattle.nf_function.specs.declared.unit.Unit as units
-use Rattle.nf_function.specs.Records.{Laws as FunctionLaws}
 use Rattle.state_chunk.specs.Format.{record_bytes}
-use Rattle.record_table.specs.Chunks.{records_of, chunks_of}
-use Rattle.nf_msgs.specs.declared.msg.Piece.{Piece as APiece}
-use Rattle.nf_msgs.specs.declared.msg.Msg.TheVariants as msg
-use Rattle.instance_worker.specs.Pieces.{pieces_from}
+use Rattle.record_table.specs.Chunks.{chunks_of}
 use Rattle.instance_worker.specs.Instance.{on_stream, on_put, on_restore}
 use Rattle.proof_machines.proofs.unit.Real as real
 use Rattle.proof_machines.proofs.unit.Cuts.{marks, chop, is_nil-chop}
@@ -24,7 +19,7 @@ use Rattle.proof_outlines.proofs.outline.InstanceOutline.{Follows}
 
 module _ {R : Type 0} (f : Semantics R) (laws : FunctionLaws f) where
   -- the chunk of an entry
-  abbrev pub chunk_of : units.Unit × R → Chunk
+  abbrev pub chunk_of : Unit × R → Chunk
   chunk_of e = record_chunk f e.0 e.1
 
   abbrev pub AreValid : Chunks R → Type 0
@@ -93,9 +88,9 @@ module _ {R : Type 0} (f : Semantics R) where
   -- what holds of the live records of each instance in a run: they are valid, and for units that packets have
   pub record HasRecords (live : Records R) : Type 0 where
     pub sound : AreSound f live
-    pub fits : (u : units.Unit) → is_some (finite.get live u) ≡ true → unit_fits f.kind u ≡ true
+    pub fits : (u : Unit) → is_some (finite.get live u) ≡ true → unit_fits f.kind u ≡ true
 
-  taken_at : (g : Filter) (u : units.Unit) (o : Option R) → is_whole f.kind g ≡ true → (is_some o ≡ true → unit_fits f.kind u ≡ true)
+  taken_at : (g : Filter) (u : Unit) (o : Option R) → is_whole f.kind g ≡ true → (is_some o ≡ true → unit_fits f.kind u ≡ true)
       → cond (takes g u) o None ≡ cond (takes_whole f.kind g u) o None
   taken_at g u None w fits = none_both (takes g u) (takes_whole f.kind g u)
     where
@@ -116,7 +111,7 @@ module _ {R : Type 0} (f : Semantics R) where
       ∙ sym (finite.get-retain_keys live (takes_whole f.kind g) u (λ x same. ap (takes_whole f.kind g) (sym (one_unit u x same)))))
 
 sends_pieces : {R : Type 0} (f : Semantics R) (place : List ℕ → Option ℕ) (op : ℕ) (ps : List APiece)
-    → outline_sends f place (to_controller (map (msg.Piece op) ps)) ≡ map to_ctrl (map (λ p. real.M_piece op p) (map (outline_piece f) ps))
+    → outline_sends f place (to_controller (map (Msg.Piece op) ps)) ≡ map to_ctrl (map (λ p. real.M_piece op p) (map (outline_piece f) ps))
 sends_pieces f place op [] = refl
 sends_pieces f place op (p ∷ ps) = ap (λ xs. to_ctrl (real.M_piece op (outline_piece f p)) ∷ xs) (sends_pieces f place op ps)
 
@@ -139,7 +134,7 @@ module _ {F R : Type 0} (f : Semantics R) (laws : FunctionLaws f) (site : Site) 
         ran = refl;
       }
 
-  pub delete_follows : (i : Instance F R) (op : ℕ) (gone : List units.Unit) → Follows f site packet place (on_delete i op gone)
+  pub delete_follows : (i : Instance F R) (op : ℕ) (gone : List Unit) → Follows f site packet place (on_delete i op gone)
       (inst_step (sys f site packet) (outline_instance f site packet i) (net.Mv everything (real.M_delete op gone)))
   delete_follows i op gone = record { node = refl; sends = refl; ran = refl }
 
@@ -160,6 +155,6 @@ module _ {F R : Type 0} (f : Semantics R) (laws : FunctionLaws f) (site : Site) 
       by_refusal None = rw good (record { node = refl; sends = refl; ran = refl })
   put_follows i op piece false good all = rw (all, good) (record { node = refl; sends = by_last piece.last; ran = refl })
     where
-      by_last : (b : Bool) → outline_sends f place (to_controller (if b then msg.PutOk op ∷ [] else [])) ≡ map to_ctrl (if b then real.M_put_ok op ∷ [] else [])
+      by_last : (b : Bool) → outline_sends f place (to_controller (if b then Msg.PutOk op ∷ [] else [])) ≡ map to_ctrl (if b then real.M_put_ok op ∷ [] else [])
       by_last true = refl
       by_last false = refl

@@ -2,9 +2,7 @@
 use Rattle.proof_outlines.proofs.Words.{◌≡◌, ℕ, suc, ◌≤◌, Bool, true, false, Option, Some, None, List, [], ◌∷◌, length, refl, sym, ap, ◌∙◌, subst, arith}
 use Rattle.proof_outlines.proofs.Words.{if◌then◌else◌, ◌==◌, option_map, AllByRecursion, bytes_eq, nat_tests, Decides-eqb, IsDistinct-head, IsDistinct-tail}
 use Rattle.proof_outlines.proofs.Words.{Semantics, Command, Order, controller_node, instance_node, SwitchState, on_command, has, MoveAsked, Any, Old, New}
-use Rattle.proof_outlines.proofs.Words.{WantShare, S_asked}
-use Rattle.std.specs.List.{IsDistinct}
-use Rattle.nf_msgs.specs.declared.command.Order.TheVariants as order
+use Rattle.proof_outlines.proofs.Words.{WantShare, S_asked, IsDistinct}
 use Rattle.proof_machines.proofs.share.Stages.{distinct}
 use Rattle.proof_machines.proofs.net.Net as net
 use Rattle.proof_outlines.proofs.outline.Outline.{want_of}
@@ -13,17 +11,17 @@ use Rattle.proof_outlines.proofs.whole.WholeOutline.{with_member, members_of, sh
 module _ {R : Type 0} (f : Semantics R) (place : List ℕ → Option ℕ) where
   -- what a command asks for is a move, or a share, or else it isn't seen
   pub asked_move : (op : ℕ) (what : Order) (want : MoveAsked) → want_of place op what ≡ Some want → asked_of f place op what ≡ Some (Old (net.Asked want))
-  asked_move op (order.Move src dst filter keep) want e = ap (option_map (λ w. Old (net.Asked w))) e
+  asked_move op (Order.Move src dst filter keep) want e = ap (option_map (λ w. Old (net.Asked w))) e
   asked_move op what want e = cc
 
   pub asked_share : (op : ℕ) (what : Order) (want : WantShare) → want_share_of place op what ≡ Some want → asked_of f place op what ≡ Some (New (S_asked want))
-  asked_share op (order.Share members filter) want e = ap (option_map (λ w. New (S_asked w))) e
+  asked_share op (Order.Share members filter) want e = ap (option_map (λ w. New (S_asked w))) e
   asked_share op what want e = cc
 
   pub asked_none : (op : ℕ) (what : Order) → want_of place op what ≡ None → want_share_of place op what ≡ None → asked_of f place op what ≡ None
-  asked_none op (order.Move src dst filter keep) a b = ap (option_map (λ w. Old (net.Asked w))) a
-  asked_none op (order.Copy src dst filter) a b = refl
-  asked_none op (order.Share members filter) a b = ap (option_map (λ w. New (S_asked w))) b
+  asked_none op (Order.Move src dst filter keep) a b = ap (option_map (λ w. Old (net.Asked w))) a
+  asked_none op (Order.Copy src dst filter) a b = refl
+  asked_none op (Order.Share members filter) a b = ap (option_map (λ w. New (S_asked w))) b
 
   -- the switch hands it on
   pub command_all : (s : SwitchState) (c : Command) (m : Any R) → asked_of f place c.op c.what ≡ Some m
@@ -98,20 +96,20 @@ module _ (place : List ℕ → Option ℕ) where
 -- a share that is asked for has the number of its command and its filter, and its members are those of the order; the first is its home
 pub record IsWanted (place : List ℕ → Option ℕ) (op : ℕ) (what : Order) (want : WantShare) : Type 0 where
   pub names : List (List ℕ)
-  pub order_is : what ≡ order.Share names want.filter
+  pub order_is : what ≡ Order.Share names want.filter
   pub num : want.num ≡ op
   pub members : members_of place names ≡ Some want.members
   pub home : has want.members want.home ≡ true
 
 pub is_wanted : (place : List ℕ → Option ℕ) (op : ℕ) (what : Order) (want : WantShare) → want_share_of place op what ≡ Some want → IsWanted place op what want
-is_wanted place op (order.Share names filter) want e = by_nodes (members_of place names) refl e
+is_wanted place op (Order.Share names filter) want e = by_nodes (members_of place names) refl e
   where
-    by_nodes : (o : Option (List ℕ)) → members_of place names ≡ o → share_between op filter o ≡ Some want → IsWanted place op (order.Share names filter) want
+    by_nodes : (o : Option (List ℕ)) → members_of place names ≡ o → share_between op filter o ≡ Some want → IsWanted place op (Order.Share names filter) want
     by_nodes None at is = cc
     by_nodes (Some []) at is = cc
     by_nodes (Some (home ∷ others)) at is =
         let same : record { num = op; home = home; members = home ∷ others; filter = filter } ≡ want = cc in
-        subst (IsWanted place op (order.Share names filter)) same (record {
+        subst (IsWanted place op (Order.Share names filter)) same (record {
           names = names;
           order_is = refl;
           num = refl;

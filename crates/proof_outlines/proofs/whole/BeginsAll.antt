@@ -3,9 +3,8 @@ use Rattle.proof_outlines.proofs.Words.{◌≡◌, ℕ, true, false, cond, Optio
 use Rattle.proof_outlines.proofs.Words.{if◌then◌else◌, ◌==◌, filter_map, self, Filter, Packet, Site, Semantics, stored_of, instance_node, MovePlan}
 use Rattle.proof_outlines.proofs.Words.{move_at_start, CopyPlan, SharePlan, Operation, Move, Copy, Share, ControllerState, move_begin, copy_begin, share_begin}
 use Rattle.proof_outlines.proofs.Words.{begin_step, place_of, Open, MoveAsked, find_op, new_op, begin_sends, find_old, find_new, Any, New, WantShare, S_install}
-use Rattle.proof_outlines.proofs.Words.{S_get, OpenShare, find_share, new_share, as_old}
+use Rattle.proof_outlines.proofs.Words.{S_get, OpenShare, find_share, new_share, as_old, Order}
 use Rattle.std.specs.FinMap as finite
-use Rattle.nf_msgs.specs.declared.command.Order.TheVariants as order
 use Rattle.copy_share.specs.Copy as copy
 use Rattle.copy_share.specs.Share as share
 use Rattle.proof_machines.proofs.net.GlobalShares.{ops_old}
@@ -152,7 +151,7 @@ module _ {R : Type 0} (f : Semantics R) (at : Site) (packet : ℕ → Packet) (p
 
   -- A share begins.
   pub share_begun : (names : List (List ℕ)) (filter : Filter) (want : WantShare) → place_of c.names ≡ place → c.site ≡ at
-      → want_share_of place n (order.Share names filter) ≡ Some want → StepFollows f at packet place (begin_step c n (order.Share names filter))
+      → want_share_of place n (Order.Share names filter) ≡ Some want → StepFollows f at packet place (begin_step c n (Order.Share names filter))
       (record { ops = ops; shares = shares ++ new_share want ∷ []; sends = (0, New (S_install want.num want.filter want.home)) ∷ [] })
   share_begun names filter want placed site is = by_nodes (members_of place names) refl is
     where

@@ -4,10 +4,8 @@ use Rattle.proof_outlines.proofs.Words.{◌≡◌, ℕ, ◌<◌, Option, Some, N
 use Rattle.proof_outlines.proofs.Words.{Site, Chunk, Semantics, spelled, FullCell, stored_of, Msg, MoveState, ShareState, Operation, Move, Copy, Share}
 use Rattle.proof_outlines.proofs.Words.{ControllerState, hand_step, Sys, Open, ControllerMove, everything, find_op, found, num_of, numbered, Any, ShareMsg, Old}
 use Rattle.proof_outlines.proofs.Words.{New, S_chunks, S_shared, S_synced, Sharing, OpenShare, find_share, Told, Is_fenced, Has_chunks, Has_chunk, Is_synced}
-use Rattle.proof_outlines.proofs.Words.{share_row, as_old, told_by, by_share, old_step, Each, by_if}
+use Rattle.proof_outlines.proofs.Words.{share_row, as_old, told_by, by_share, old_step, Each, by_if, Unit}
 use Rattle.std.specs.FinMap as finite
-use Rattle.nf_function.specs.declared.unit.Unit as units
-use Rattle.nf_msgs.specs.declared.msg.Msg.TheVariants as msg
 use Rattle.move_op.specs.Move as move
 use Rattle.copy_share.specs.Share as share
 use Rattle.proof_machines.proofs.unit.Real as real
@@ -17,8 +15,7 @@ use Rattle.proof_outlines.proofs.outline.InstanceOutline.{IsGenuine}
 use Rattle.proof_outlines.proofs.outline.MoveOutline.{outline_plan, outline_phase, RowFollows}
 use Rattle.proof_outlines.proofs.whole.WholeOutline.{sharing}
 use Rattle.proof_outlines.proofs.whole.ShareOutline.{outline_share, ShareFollows, fenced_rows, chunks_rows, shared_rows, synced_rows}
-use Rattle.proof_outlines.proofs.whole.OpenShares.{but_shares, share_in, IsUnseen, SeesAny, OpensAll, no_op}
-use Rattle.proof_outlines.proofs.whole.OpenShares.{no_open_share, both, joins, all_step, StepFollows}
+use Rattle.proof_outlines.proofs.whole.OpenShares.{but_shares, share_in, IsUnseen, SeesAny, OpensAll, no_op, no_open_share, both, joins, all_step, StepFollows}
 use Rattle.proof_outlines.proofs.whole.ShareTurns.{share_handed, share_quiet}
 use Rattle.proof_outlines.proofs.whole.OtherTurns.{Same, none_handed, copy_handed, move_quiet, move_handed}
 
@@ -151,17 +148,17 @@ module _ {R : Type 0} (f : Semantics R) (at : Site) (packet : ℕ → Packet) (p
   })
 
   -- A fence's answer, at which both may look.
-  pub fenced_follows : (port : ℕ) → Each (IsGenuine at packet) cells → MoveRows port (msg.Fenced n) (real.M_fenced n)
-      → Follows port (msg.Fenced n) (Old (net.Mv everything (real.M_fenced n)))
-  fenced_follows port genuine rows = handled port (msg.Fenced n) (Old (net.Mv everything (real.M_fenced n))) (record {
+  pub fenced_follows : (port : ℕ) → Each (IsGenuine at packet) cells → MoveRows port (Msg.Fenced n) (real.M_fenced n)
+      → Follows port (Msg.Fenced n) (Old (net.Mv everything (real.M_fenced n)))
+  fenced_follows port genuine rows = handled port (Msg.Fenced n) (Old (net.Mv everything (real.M_fenced n))) (record {
     moved = λ o. found ops n port (real.M_fenced n) o;
     told = λ o. option_map (λ e. (e, Is_fenced)) o;
     moved_none = refl;
     told_none = refl;
     old_is = refl;
     told_is = refl;
-    of_move = λ mv there. move_handed f at packet place c ops shares h n mv there port (msg.Fenced n) (real.M_fenced n) (rows mv there);
-    of_share = λ s there. told_share port (msg.Fenced n) Is_fenced s there (λ is some. fenced_rows f at packet place s cells port is some genuine n);
+    of_move = λ mv there. move_handed f at packet place c ops shares h n mv there port (Msg.Fenced n) (real.M_fenced n) (rows mv there);
+    of_share = λ s there. told_share port (Msg.Fenced n) Is_fenced s there (λ is some. fenced_rows f at packet place s cells port is some genuine n);
   })
 
   -- open moves aren't over
@@ -192,22 +189,22 @@ module _ {R : Type 0} (f : Semantics R) (at : Site) (packet : ℕ → Packet) (p
   })
 
   pub chunks_follows : (port : ℕ) (chunks : List Chunk) → Each (IsGenuine at packet) cells → Going
-      → Follows port (msg.Chunks n chunks) (New (S_chunks n (entries f chunks)))
+      → Follows port (Msg.Chunks n chunks) (New (S_chunks n (entries f chunks)))
   chunks_follows port chunks genuine going =
-      told_follows port (msg.Chunks n chunks) (S_chunks n (entries f chunks)) (Has_chunks (entries f chunks)) refl going
-      (λ mv events. unlooked mv events port (msg.Chunks n chunks) refl refl)
+      told_follows port (Msg.Chunks n chunks) (S_chunks n (entries f chunks)) (Has_chunks (entries f chunks)) refl going
+      (λ mv events. unlooked mv events port (Msg.Chunks n chunks) refl refl)
       (λ s is some. chunks_rows f at packet place s cells port is some genuine n chunks)
 
-  pub shared_follows : (port : ℕ) (chunk : Chunk) (entry : units.Unit × R) → spelled f chunk ≡ Some entry → Each (IsGenuine at packet) cells → Going
-      → Follows port (msg.Shared n chunk) (New (S_shared n entry))
+  pub shared_follows : (port : ℕ) (chunk : Chunk) (entry : Unit × R) → spelled f chunk ≡ Some entry → Each (IsGenuine at packet) cells → Going
+      → Follows port (Msg.Shared n chunk) (New (S_shared n entry))
   shared_follows port chunk entry spells genuine going =
-      told_follows port (msg.Shared n chunk) (S_shared n entry) (Has_chunk entry) refl going
-      (λ mv events. unlooked mv events port (msg.Shared n chunk) refl refl)
+      told_follows port (Msg.Shared n chunk) (S_shared n entry) (Has_chunk entry) refl going
+      (λ mv events. unlooked mv events port (Msg.Shared n chunk) refl refl)
       (λ s is some. shared_rows f at packet place s cells port is some genuine n chunk entry spells)
 
-  pub synced_follows : (port : ℕ) → Each (IsGenuine at packet) cells → Going → Follows port (msg.Synced n) (New (S_synced n))
-  synced_follows port genuine going = told_follows port (msg.Synced n) (S_synced n) Is_synced refl going
-      (λ mv events. unlooked mv events port (msg.Synced n) refl refl)
+  pub synced_follows : (port : ℕ) → Each (IsGenuine at packet) cells → Going → Follows port (Msg.Synced n) (New (S_synced n))
+  synced_follows port genuine going = told_follows port (Msg.Synced n) (S_synced n) Is_synced refl going
+      (λ mv events. unlooked mv events port (Msg.Synced n) refl refl)
       (λ s is some. synced_rows f at packet place s cells port is some genuine n)
 
   -- A message that neither looks at: of a copy, which neither sees.
@@ -222,9 +219,9 @@ module _ {R : Type 0} (f : Semantics R) (at : Site) (packet : ℕ → Packet) (p
       by_got (Some (Move mv)) there = unmoved port m mv going there (unmoves mv)
       by_got (Some (Share s)) there = quiet_share port m s there (unshares s)
 
-  pub all_chunk_follows : (port : ℕ) (chunk : Chunk) → Going → Same f at packet place c ops shares h n (hand_step c n port (msg.AllChunk n chunk))
+  pub all_chunk_follows : (port : ℕ) (chunk : Chunk) → Going → Same f at packet place c ops shares h n (hand_step c n port (Msg.AllChunk n chunk))
   all_chunk_follows port chunk going =
-      hidden_follows port (msg.AllChunk n chunk) going (λ mv events. unlooked mv events port (msg.AllChunk n chunk) refl refl) (λ s. refl)
+      hidden_follows port (Msg.AllChunk n chunk) going (λ mv events. unlooked mv events port (Msg.AllChunk n chunk) refl refl) (λ s. refl)
 
-  pub kept_follows : (port : ℕ) → Going → Same f at packet place c ops shares h n (hand_step c n port (msg.Kept n))
-  kept_follows port going = hidden_follows port (msg.Kept n) going (λ mv events. unlooked mv events port (msg.Kept n) refl refl) (λ s. refl)
+  pub kept_follows : (port : ℕ) → Going → Same f at packet place c ops shares h n (hand_step c n port (Msg.Kept n))
+  kept_follows port going = hidden_follows port (Msg.Kept n) going (λ mv events. unlooked mv events port (Msg.Kept n) refl refl) (λ s. refl)

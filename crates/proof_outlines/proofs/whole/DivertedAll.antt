@@ -3,11 +3,10 @@ use Rattle.proof_outlines.proofs.Words.{◌≡◌, ℕ, ◌<◌, Bool, true, fal
 use Rattle.proof_outlines.proofs.Words.{if◌then◌else◌, ◌==◌, find, option_map, unwrap_or, nat_cmp, eq_by_cmp, is_lt, nat_tests, Filter, Flow, Packet, Site}
 use Rattle.proof_outlines.proofs.Words.{matches, flow_of, Semantics, unit_at, FullCell, stored_of, ShareState, Operation, Share, is_shared_by, share_of}
 use Rattle.proof_outlines.proofs.Words.{ControllerState, queue_step, on_diverted, Each, each_any, Sys, Open, AreNumbersApart, taking_each, taking_found, New}
-use Rattle.proof_outlines.proofs.Words.{Diverted_on, Sharing, OpenShare, find_share, share_taking, Has_packet, share_row, by_share, split}
+use Rattle.proof_outlines.proofs.Words.{Diverted_on, Sharing, OpenShare, find_share, share_taking, Has_packet, share_row, by_share, split, Unit}
 use Rattle.std.specs.FinMap as finite
 use Rattle.std.specs.FinMap.Entries.{below_all}
 use Rattle.std.proofs.Math.Facts.{and_yes}
-use Rattle.nf_function.specs.declared.unit.Unit as units
 use Rattle.copy_share.specs.Share as real
 use Rattle.proof_outlines.proofs.outline.FiltersApart.{is_whole, takes_whole, whole_takes}
 use Rattle.proof_outlines.proofs.outline.Outline.{number, sys}
@@ -57,7 +56,7 @@ module _ (test : Operation → Bool) where
       ] there) none
 
 -- a share whose filter takes a unit is among those that do
-takes_some : {R : Type 0} (S : Sys R) (es : List OpenShare) (n : ℕ) (e : OpenShare) (v : units.Unit) → find_share es n ≡ Some e → S.takes e.filter v ≡ true
+takes_some : {R : Type 0} (S : Sys R) (es : List OpenShare) (n : ℕ) (e : OpenShare) (v : Unit) → find_share es n ≡ Some e → S.takes e.filter v ≡ true
     → share_taking S es v ≡ None → ⊥
 takes_some S [] n e v is on none = cc
 takes_some S (x ∷ es) n e v is on none = split (S.takes x.filter v) (λ b. (if b then Some x else share_taking S es v) ≡ None → ⊥) (λ _ bad. cc)
@@ -75,14 +74,14 @@ module _ {R : Type 0} (f : Semantics R) (at : Site) (packet : ℕ → Packet) (p
   A = sharing f at packet
 
   -- open shares of whole units, of which at most one takes a unit
-  pub record AreApart (u : units.Unit) : Type 0 where
+  pub record AreApart (u : Unit) : Type 0 where
     pub nums : AreNumbersApart shares
     pub whole : (k : ℕ) (s : ShareState) → finite.get c.operations k ≡ Some (Share s) → is_whole f.kind s.plan.filter ≡ true
     pub one : (j k : ℕ) (d e : OpenShare) → find_share shares j ≡ Some d → find_share shares k ≡ Some e → S.takes d.filter u ≡ true
         → S.takes e.filter u ≡ true → j ≡ k
 
   module _ (cell : FullCell) (site : c.site ≡ at) (genuine : IsGenuine at packet cell) (apart : AreApart (S.packet_unit (number cell))) where
-    abbrev u : units.Unit
+    abbrev u : Unit
     u = S.packet_unit (number cell)
 
     abbrev flow : Flow
@@ -124,7 +123,7 @@ module _ {R : Type 0} (f : Semantics R) (at : Site) (packet : ℕ → Packet) (p
     taken_is e taking = by_first real_first refl
       where
         on : S.takes e.filter u ≡ true
-        on = (taking_each S A (λ d. Unit {0}) shares u e (each_any shares) taking).1
+        on = (taking_each S A (λ d. Prim.Unit {0}) shares u e (each_any shares) taking).1
 
         found : find_share shares e.num ≡ Some e
         found = taking_found S A shares u e apart.nums taking

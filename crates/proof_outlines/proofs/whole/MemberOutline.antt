@@ -3,13 +3,9 @@ use Rattle.proof_outlines.proofs.Words.{◌≡◌, ℕ, Bool, true, false, Optio
 use Rattle.proof_outlines.proofs.Words.{filter_map, Filter, Packet, Site, Chunk, takes, Semantics, is_sound, unit_at, record_chunk, Records, AreSound, part}
 use Rattle.proof_outlines.proofs.Words.{after_packet, taken_by, are_good, sound_retain_keys, valid_entries, spelled-record_chunk, FullCell, switch_node}
 use Rattle.proof_outlines.proofs.Words.{controller_node, Instance, to_controller, chunk_told, process, New, ShareMsg, MemberTurn, member_step, shared_chunk}
-use Rattle.proof_outlines.proofs.Words.{Shared_on, S_get, S_sync, S_chunks, S_shared}
+use Rattle.proof_outlines.proofs.Words.{Shared_on, S_get, S_sync, S_chunks, S_shared, Unit, Mark, Msg, FunctionLaws, records_of}
 use Rattle.std.specs.FinMap as finite
-use Rattle.nf_function.specs.declared.unit.Unit as units
-use Rattle.nf_function.specs.Records.{Laws as FunctionLaws}
-use Rattle.record_table.specs.Chunks.{records_of, chunks_of}
-use Rattle.event_filter.specs.declared.mark.Mark.TheVariants as mark
-use Rattle.nf_msgs.specs.declared.msg.Msg.TheVariants as msg
+use Rattle.record_table.specs.Chunks.{chunks_of}
 use Rattle.instance_worker.specs.Instance.{Step, process_step, on_carry, on_get, on_sync}
 use Rattle.proof_outlines.proofs.outline.FiltersApart.{is_whole, takes_whole}
 use Rattle.proof_outlines.proofs.outline.Outline.{number, entries, ran_in, sys, outline_instance}
@@ -27,8 +23,8 @@ module _ {F R : Type 0} (f : Semantics R) (site : Site) (packet : ℕ → Packet
 
 module _ {R : Type 0} (f : Semantics R) (laws : FunctionLaws f) where
   -- the chunk of a record that a packet left; that the packet's cell goes back isn't seen
-  chunk_sent : (place : List ℕ → Option ℕ) (op : ℕ) (cell : FullCell) (u : units.Unit) (o : Option R) → is_sound f u o ≡ true
-      → outline_all f place (to_controller (chunk_told op (option_map (record_chunk f u) o)) ++ (switch_node, msg.Credit cell) ∷ [])
+  chunk_sent : (place : List ℕ → Option ℕ) (op : ℕ) (cell : FullCell) (u : Unit) (o : Option R) → is_sound f u o ≡ true
+      → outline_all f place (to_controller (chunk_told op (option_map (record_chunk f u) o)) ++ (switch_node, Msg.Credit cell) ∷ [])
       ≡ option_map_or (λ r. (controller_node, New (S_shared op (u, r))) ∷ []) o []
   chunk_sent place op cell u None sound = refl
   chunk_sent place op cell u (Some r) sound = let spells = spelled-record_chunk f laws u r sound in rw spells refl
@@ -49,7 +45,7 @@ module _ {F R : Type 0} (f : Semantics R) (laws : FunctionLaws f) (site : Site) 
   told_after : (i : Instance F R) (op : ℕ) (cell : FullCell) (t : Records R) → IsInstance f site packet place i
       → IsGenuine site packet cell → AreSound f (after_packet f i.site t cell.packet)
       → outline_all f place (to_controller (chunk_told op (option_map (record_chunk f (unit_at f.kind i.site cell.packet))
-      (finite.get (after_packet f i.site t cell.packet) (unit_at f.kind i.site cell.packet)))) ++ (switch_node, msg.Credit cell) ∷ [])
+      (finite.get (after_packet f i.site t cell.packet) (unit_at f.kind i.site cell.packet)))) ++ (switch_node, Msg.Credit cell) ∷ [])
       ≡ shared_chunk (sys f site packet) (sharing f site packet) op (number cell) (process (sys f site packet) t (number cell))
   told_after i op cell t ok g sound =
       let u = unit_at f.kind i.site cell.packet in
@@ -62,7 +58,7 @@ module _ {F R : Type 0} (f : Semantics R) (laws : FunctionLaws f) (site : Site) 
   -- A packet of a share: no event rule takes it.
   pub shared_follows : (i : Instance F R) (op : ℕ) (home : Bool) (cell : FullCell) → IsInstance f site packet place i
       → IsGenuine site packet cell → AreSound f (after_packet f i.site (part i.table home) cell.packet)
-      → Member i (on_carry f i (mark.Shared op home) cell) (Shared_on op home (number cell))
+      → Member i (on_carry f i (Mark.Shared op home) cell) (Shared_on op home (number cell))
   unfolding on_carry process_step
   shared_follows i op true cell ok g sound = record {
     node = ap (λ live. record (outline_instance f site packet i) { live = live }) (after_same f site packet i.table.live i.site cell ok.at g);

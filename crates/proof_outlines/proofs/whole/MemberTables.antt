@@ -2,11 +2,8 @@
 -- those that stand by.
 use Rattle.proof_outlines.proofs.Words.{◌≡◌, Bool, true, false, cond, Option, Some, None, List, [], ◌∷◌, refl, sym, ap, ◌∙◌, subst, Chunk, units_total}
 use Rattle.proof_outlines.proofs.Words.{is_newer, newest, Semantics, is_sound, Records, TableView, same_unit, AreSound, part, with_part, either, union_of}
-use Rattle.proof_outlines.proofs.Words.{newest_of, replaced_by, same_unit-true, get-joined, Chunks, record_at, split}
+use Rattle.proof_outlines.proofs.Words.{newest_of, replaced_by, same_unit-true, get-joined, Chunks, record_at, split, Unit, FunctionLaws, records_of}
 use Rattle.std.specs.FinMap as finite
-use Rattle.nf_function.specs.declared.unit.Unit as units
-use Rattle.nf_function.specs.Records.{Laws as FunctionLaws}
-use Rattle.record_table.specs.Chunks.{records_of}
 use Rattle.proof_outlines.proofs.outline.Outline.{entries}
 use Rattle.proof_outlines.proofs.outline.StateOutline.{AreValid}
 
@@ -37,20 +34,20 @@ joined_sound f choose one held coming a b u = subst (λ o. is_sound f u o ≡ tr
 
 module _ {R : Type 0} (f : Semantics R) where
   -- what stands by of a unit where a copy's chunks came
-  kept_at : (t : Records R) (chunks : List Chunk) (u : units.Unit)
+  kept_at : (t : Records R) (chunks : List Chunk) (u : Unit)
       → finite.get (newest_of f t (records_of f chunks)) u ≡ either (newest f) (finite.get t u) (record_at u (entries f chunks))
   unfolding records_of
   kept_at t chunks u = get-joined (newest f) t (finite.from_entries (entries f chunks)) u
       ∙ ap (either (newest f) (finite.get t u)) (finite.get-from_entries units_total (entries f chunks) u)
 
   -- it is what stood there or what came, and so all that holds of both
-  pub kept_has : (P : Option R → Type 0) (t : Records R) (chunks : List Chunk) (u : units.Unit) → P (finite.get t u) → P (record_at u (entries f chunks))
+  pub kept_has : (P : Option R → Type 0) (t : Records R) (chunks : List Chunk) (u : Unit) → P (finite.get t u) → P (record_at u (entries f chunks))
       → P (finite.get (newest_of f t (records_of f chunks)) u)
   kept_has P t chunks u a b =
       subst P (sym (kept_at t chunks u)) (either_has (newest f) (chooses_newest f) P (finite.get t u) (record_at u (entries f chunks)) a b)
 
   -- and what stood there, where nothing came
-  pub kept_same : (t : Records R) (chunks : List Chunk) (u : units.Unit) → record_at u (entries f chunks) ≡ None
+  pub kept_same : (t : Records R) (chunks : List Chunk) (u : Unit) → record_at u (entries f chunks) ≡ None
       → finite.get (newest_of f t (records_of f chunks)) u ≡ finite.get t u
   kept_same t chunks u none = kept_at t chunks u ∙ ap (either (newest f) (finite.get t u)) none ∙ same (finite.get t u)
     where
@@ -72,7 +69,7 @@ module _ {R : Type 0} (f : Semantics R) where
   part_sound t false h = h.standby
 
 module _ {R : Type 0} (f : Semantics R) (laws : FunctionLaws f) where
-  valid_at : (es : Chunks R) → AreValid f laws es → (u : units.Unit) → is_sound f u (record_at u es) ≡ true
+  valid_at : (es : Chunks R) → AreValid f laws es → (u : Unit) → is_sound f u (record_at u es) ≡ true
   valid_at [] h u = refl
   valid_at (e ∷ es) h u = split (same_unit u e.0) (λ b. is_sound f u (cond b (Some e.1) (record_at u es)) ≡ true) (λ same. rw (same_unit-true u e.0 same) h.0)
       (λ _. valid_at es h.1 u)

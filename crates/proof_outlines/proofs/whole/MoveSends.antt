@@ -1,8 +1,6 @@
 -- What a move sends is of moves alone: the network with shares sees of it what the one of moves does.
 use Rattle.proof_outlines.proofs.Words.{◌≡◌, ℕ, false, Option, List, [], ◌∷◌, ◌++◌, map, refl, sym, ap, ◌∙◌, Semantics, FullCell, Piece, Msg, Said, Put}
-use Rattle.proof_outlines.proofs.Words.{Release, Give_back, MovePlan, MoveState, put_to, forward_to, messages_of, row, Old, as_old}
-use Rattle.switch_rules.specs.declared.target.Target.TheVariants as target
-use Rattle.nf_msgs.specs.declared.msg.Msg.TheVariants as msg
+use Rattle.proof_outlines.proofs.Words.{Release, Give_back, MovePlan, MoveState, put_to, forward_to, messages_of, row, Old, as_old, Target}
 use Rattle.proof_machines.proofs.net.Net as net
 use Rattle.proof_outlines.proofs.outline.Outline.{outline_sent, outline_sends}
 use Rattle.proof_outlines.proofs.outline.InstanceOutline.{filter_map-put}
@@ -40,8 +38,8 @@ module _ {R : Type 0} (f : Semantics R) (place : List ℕ → Option ℕ) where
     said_old : (says : Said FullCell Piece) → AreOld (messages_of plan says)
     said_old (Put ps) = puts_old ps
     said_old (Release cells) = old-put (map (forward_to plan plan.to) cells)
-        ((0, msg.Install plan.op plan.filter plan.from (target.Instance plan.to)) ∷ []) (forwards_old plan.to cells) refl
-    said_old (Give_back cells) = old-put (map (forward_to plan plan.from) cells) ((0, msg.FenceTo plan.op plan.from) ∷ [])
+        ((0, Msg.Install plan.op plan.filter plan.from (Target.Instance plan.to)) ∷ []) (forwards_old plan.to cells) refl
+    said_old (Give_back cells) = old-put (map (forward_to plan plan.from) cells) ((0, Msg.FenceTo plan.op plan.from) ∷ [])
         (forwards_old plan.from cells) refl
     said_old says = refl
 

@@ -6,7 +6,6 @@ use Rattle.proof_outlines.proofs.Words.{MoveState, Store, row_in, CopyPhase, Get
 use Rattle.proof_outlines.proofs.Words.{turn_of, turn_of_move, turn_of_copy, ControllerState, Step, still, after_turn, takes_turn, hand_step, Open, find_op}
 use Rattle.proof_outlines.proofs.Words.{found, find_write_other, OpenShare, find_share, as_old, split, by_if}
 use Rattle.std.specs.FinMap as finite
-use Rattle.nf_msgs.specs.declared.msg.Msg.TheVariants as msg
 use Rattle.move_op.specs.Move as move
 use Rattle.copy_share.specs.Copy as copy
 use Rattle.proof_machines.proofs.unit.Real as real
@@ -17,8 +16,8 @@ use Rattle.proof_outlines.proofs.outline.ControlOutline.{Sees, SeesMove, Opens, 
 use Rattle.proof_outlines.proofs.outline.OperationTables.{got_insert, got_remove, gone_twice, insert_same, NotShared, handed_is}
 use Rattle.proof_outlines.proofs.whole.WholeOutline.{outline_all}
 use Rattle.proof_outlines.proofs.whole.MoveSends.{AreOld, old-put, row_old}
-use Rattle.proof_outlines.proofs.whole.OpenShares.{turned_test, but_shares, share_in, IsUnseen, Table, SeesOne, SeesAny, OpensAll}
-use Rattle.proof_outlines.proofs.whole.OpenShares.{opens_at, unseen_at, no_open_share, without_shares, got_moves, opens_moves, StepFollows}
+use Rattle.proof_outlines.proofs.whole.OpenShares.{turned_test, but_shares, share_in, IsUnseen, Table, SeesOne, SeesAny, OpensAll, opens_at, unseen_at}
+use Rattle.proof_outlines.proofs.whole.OpenShares.{no_open_share, without_shares, got_moves, opens_moves, StepFollows}
 use Rattle.proof_outlines.proofs.whole.ShareTurns.{answer_unseen}
 
 -- found by its own number
@@ -41,12 +40,12 @@ move_still c op mv p m going there quiet =
 module _ {R : Type 0} (f : Semantics R) (at : Site) (packet : ℕ → Packet) (place : List ℕ → Option ℕ) where
   -- what a copy sends isn't seen
   source_unseen : (plan : CopyPlan) (ph : CopyPhase) (m : Msg) → outline_all f place (copy.from_source plan ph m).sends ≡ []
-  source_unseen plan Getting (msg.Chunks op chunks) = refl
-  source_unseen plan Getting (msg.AllChunk op chunk) = refl
+  source_unseen plan Getting (Msg.Chunks op chunks) = refl
+  source_unseen plan Getting (Msg.AllChunk op chunk) = refl
   source_unseen plan ph m = refl
 
   destination_unseen : (plan : CopyPlan) (ph : CopyPhase) (m : Msg) → outline_all f place (copy.from_destination plan ph m).sends ≡ []
-  destination_unseen plan Keeping (msg.Kept op) = refl
+  destination_unseen plan Keeping (Msg.Kept op) = refl
   destination_unseen plan ph m = refl
 
   copy_unseen : (y : CopyState) (p : ℕ) (m : Msg) → outline_all f place (copy.row y p m).sends ≡ []
@@ -177,7 +176,7 @@ module _ {R : Type 0} (f : Semantics R) (at : Site) (packet : ℕ → Packet) (p
 
         old_sends : (a : Option Answer) → AreOld f place sends → AreOld f place (after_turn c n turn a).sends
         old_sends None old = old
-        old_sends (Some why) old = old-put f place sends ((switch_node, msg.Answered n) ∷ []) old refl
+        old_sends (Some why) old = old-put f place sends ((switch_node, Msg.Answered n) ∷ []) old refl
 
         no_share_after : (a : Option Answer) → but_shares (after_at a) ≡ after_at a
         no_share_after None = refl

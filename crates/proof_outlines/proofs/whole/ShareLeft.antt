@@ -6,9 +6,6 @@ use Rattle.proof_outlines.proofs.Words.{SharePlan, ShareState, ShareRow, service
 use Rattle.proof_outlines.proofs.Words.{Step, with_turn, after_turn, takes_turn, serve_step, and_serves, hand_step, queue_step, Each, split}
 use Rattle.std.specs.FinMap as finite
 use Rattle.event_store.specs.Store.{store_after}
-use Rattle.nf_msgs.specs.declared.msg.Msg.TheVariants as msg
-use Rattle.nf_msgs.specs.declared.note.Note.TheVariants as note
-use Rattle.copy_share.specs.declared.share_phase.SharePhase.TheVariants as phase
 use Rattle.copy_share.specs.Share.{next_phase, row}
 use Rattle.proof_outlines.proofs.outline.OperationTables.{got_insert}
 
@@ -22,11 +19,11 @@ pub record OpenAt : Type 0 where
 -- with its answer
 abbrev pub answered : ℕ → Option Answer → List (ℕ × Msg) → List (ℕ × Msg)
 answered n None sends = sends
-answered n (Some why) sends = sends ++ (switch_node, msg.Answered n) ∷ []
+answered n (Some why) sends = sends ++ (switch_node, Msg.Answered n) ∷ []
 
 abbrev pub noted : ℕ → Option Answer → List Note
 noted n None = []
-noted n (Some why) = note.Answered n why ∷ []
+noted n (Some why) = Note.Answered n why ∷ []
 
 -- the share in its next phase
 abbrev pub next_share : OpenAt → ShareRow → Operation
@@ -48,8 +45,8 @@ pub record ShareLeaves (x : OpenAt) (r : ShareRow) (step : Step) : Type 0 where
 -- what still waits is of what waited
 pub waits_each : (P : FullCell → Type 0) (plan : SharePlan) (ph : SharePhase) (cells : List FullCell) → Each P cells
     → Each P (unwrap_or (service_if_idle plan ph cells).stored cells)
-waits_each P plan phase.Idle (cell ∷ cells) h = h.1
-waits_each P plan phase.Idle [] h = tt
+waits_each P plan SharePhase.Idle (cell ∷ cells) h = h.1
+waits_each P plan SharePhase.Idle [] h = tt
 waits_each P plan ph cells h = h
 
 -- a share serves what it may of these cells

@@ -4,13 +4,8 @@ use Rattle.proof_outlines.proofs.Words.{◌∙◌, subst, append-nil, arith, if�
 use Rattle.proof_outlines.proofs.Words.{map-append, nat_tests, Flow, Packet, Site, flow_of, Chunk, Semantics, spelled, FullCell, Msg, instance_node, SharePhase}
 use Rattle.proof_outlines.proofs.Words.{SharePlan, ShareState, ShareRow, home, others, setting, syncing, on_fenced, on_chunks, member_of, service_if_idle, Each}
 use Rattle.proof_outlines.proofs.Words.{each-append, without_number, Sys, Any, New, S_forward, S_get, S_sync, Sharing, OpenShare, Told, Is_fenced, Has_chunks}
-use Rattle.proof_outlines.proofs.Words.{Has_chunk, Is_synced, Has_packet, ShareTurn, s_left, s_row, s_served, share_row}
+use Rattle.proof_outlines.proofs.Words.{Has_chunk, Is_synced, Has_packet, ShareTurn, s_left, s_row, s_served, share_row, Unit, Mark, Answer}
 use Rattle.std.specs.Prelude.{filter}
-use Rattle.nf_function.specs.declared.unit.Unit as units
-use Rattle.event_filter.specs.declared.mark.Mark.TheVariants as mark
-use Rattle.nf_msgs.specs.declared.answer.Answer.TheVariants as answer
-use Rattle.nf_msgs.specs.declared.msg.Msg.TheVariants as msg
-use Rattle.copy_share.specs.declared.share_phase.SharePhase.TheVariants as phase
 use Rattle.copy_share.specs.Share.{next_phase, row}
 use Rattle.copy_share.specs.Share as shares
 use Rattle.proof_machines.proofs.share.Share as machine
@@ -20,12 +15,12 @@ use Rattle.proof_outlines.proofs.outline.InstanceOutline.{IsGenuine, filter_map-
 use Rattle.proof_outlines.proofs.whole.WholeOutline.{outline_each, outline_all, member_for, sharing}
 
 abbrev pub share_phase : SharePhase → machine.Phase
-share_phase phase.Fencing = machine.Fencing
-share_phase phase.Getting = machine.Getting
-share_phase (phase.Setting left) = machine.Setting left
-share_phase phase.Idle = machine.Idle
-share_phase (phase.Out member) = machine.Out (instance_node member)
-share_phase (phase.Syncing left) = machine.Syncing left
+share_phase SharePhase.Fencing = machine.Fencing
+share_phase SharePhase.Getting = machine.Getting
+share_phase (SharePhase.Setting left) = machine.Setting left
+share_phase SharePhase.Idle = machine.Idle
+share_phase (SharePhase.Out member) = machine.Out (instance_node member)
+share_phase (SharePhase.Syncing left) = machine.Syncing left
 
 abbrev pub outline_share : ShareState → List FullCell → OpenShare
 outline_share s cells = record {
@@ -39,8 +34,8 @@ outline_share s cells = record {
 
 -- no packet waits where none is out
 abbrev pub Rests : SharePhase → List FullCell → Type 0
-Rests phase.Idle (cell ∷ cells) = ⊥
-Rests ph cells = Unit {0}
+Rests SharePhase.Idle (cell ∷ cells) = ⊥
+Rests ph cells = Prim.Unit {0}
 
 -- an open share of a network at a site, as the proof of shares sees it
 pub record SeesShare (at : Site) (e : OpenShare) (s : ShareState) (cells : List FullCell) : Type 0 where
@@ -96,7 +91,7 @@ module _ {R : Type 0} (f : Semantics R) (at : Site) (packet : ℕ → Packet) (p
 
   -- what is sent to each member but for one
   syncs_same : (plan : SharePlan) (one : ℕ) (chunks : List Chunk) (ms : List ℕ) → outline_all f place
-      (map (λ member. (instance_node member, msg.Sync (member == home plan) plan.op chunks)) (filter (λ member. not (member == one)) ms))
+      (map (λ member. (instance_node member, Msg.Sync (member == home plan) plan.op chunks)) (filter (λ member. not (member == one)) ms))
       ≡ syncs plan.op (instance_node (home plan)) (instance_node one) (entries f chunks) (map instance_node ms)
   syncs_same plan one chunks [] = refl
   syncs_same plan one chunks (m ∷ ms) =
@@ -104,12 +99,12 @@ module _ {R : Type 0} (f : Semantics R) (at : Site) (packet : ℕ → Packet) (p
       let own : (m == one) ≡ (instance_node m == instance_node one) = sym (same_node m one) in
       let flag : (m == home plan) ≡ (instance_node m == instance_node (home plan)) = sym (same_node m (home plan)) in
       elim (m == one) as (λ b. b ≡ (instance_node m == instance_node one)
-      → outline_all f place (map (λ member. (instance_node member, msg.Sync (member == home plan) plan.op chunks))
+      → outline_all f place (map (λ member. (instance_node member, Msg.Sync (member == home plan) plan.op chunks))
       (if not b then m ∷ filter (λ member. not (member == one)) ms else filter (λ member. not (member == one)) ms))
       ≡ syncs plan.op (instance_node (home plan)) (instance_node one) (entries f chunks) (map instance_node (m ∷ ms))) [
         | true ↦ λ on. rw (← on) rest
         | false ↦ λ off. rw (← off) (ap (λ b. (instance_node m, New (S_sync plan.op b (entries f chunks))) ∷ outline_all f place
-            (map (λ member. (instance_node member, msg.Sync (member == home plan) plan.op chunks)) (filter (λ member. not (member == one)) ms))) flag
+            (map (λ member. (instance_node member, Msg.Sync (member == home plan) plan.op chunks)) (filter (λ member. not (member == one)) ms))) flag
             ∙ ap (λ xs. (instance_node m, New (S_sync plan.op (instance_node m == instance_node (home plan)) (entries f chunks))) ∷ xs) rest)
       ] own
 
@@ -122,7 +117,7 @@ module _ {R : Type 0} (f : Semantics R) (at : Site) (packet : ℕ → Packet) (p
   setting_same : (left : ℕ) (cells : List FullCell) (sends : List (ℕ × Msg)) (xs : List (ℕ × Any R)) → outline_all f place sends ≡ xs
       → RowIs cells (setting left sends) (s_left S A machine.Setting left (map number cells) xs)
   setting_same left cells sends xs e = elim (left == 0) as (λ b. RowIs cells
-      (if b then record { phase = phase.Idle; sends = sends; answer = Some answer.Done } else next_phase (phase.Setting left) sends)
+      (if b then record { phase = SharePhase.Idle; sends = sends; answer = Some Answer.Done } else next_phase (SharePhase.Setting left) sends)
       (record { phase = if b then machine.Idle else machine.Setting left; queue = map number cells; sends = xs })) [
         | true ↦ record { phase = refl; queue = refl; sends = sym e }
         | false ↦ record { phase = refl; queue = refl; sends = sym e }
@@ -130,7 +125,7 @@ module _ {R : Type 0} (f : Semantics R) (at : Site) (packet : ℕ → Packet) (p
 
   syncing_same : (left : ℕ) (cells : List FullCell) (sends : List (ℕ × Msg)) (xs : List (ℕ × Any R)) → outline_all f place sends ≡ xs
       → RowIs cells (syncing left sends) (s_left S A machine.Syncing left (map number cells) xs)
-  syncing_same left cells sends xs e = elim (left == 0) as (λ b. RowIs cells (next_phase (if b then phase.Idle else phase.Syncing left) sends)
+  syncing_same left cells sends xs e = elim (left == 0) as (λ b. RowIs cells (next_phase (if b then SharePhase.Idle else SharePhase.Syncing left) sends)
       (record { phase = if b then machine.Idle else machine.Syncing left; queue = map number cells; sends = xs })) [
         | true ↦ record { phase = refl; queue = refl; sends = sym e }
         | false ↦ record { phase = refl; queue = refl; sends = sym e }
@@ -155,50 +150,50 @@ module _ {R : Type 0} (f : Semantics R) (at : Site) (packet : ℕ → Packet) (p
     either_same true ph = same_row cells ph
     either_same false ph = same_row cells ph
 
-    fenced_same : (op : ℕ) (ph : SharePhase) → RowAgrees ph (row (of ph) sender (msg.Fenced op)) Is_fenced
-    fenced_same op phase.Fencing =
-        elim (sender == instance_node (home plan)) as (λ b. RowIs cells (if b then on_fenced plan phase.Fencing else next_phase phase.Fencing [])
+    fenced_same : (op : ℕ) (ph : SharePhase) → RowAgrees ph (row (of ph) sender (Msg.Fenced op)) Is_fenced
+    fenced_same op SharePhase.Fencing =
+        elim (sender == instance_node (home plan)) as (λ b. RowIs cells (if b then on_fenced plan SharePhase.Fencing else next_phase SharePhase.Fencing [])
         (if b then record { phase = machine.Getting; queue = map number cells; sends = (instance_node (home plan), New (S_get plan.op plan.filter)) ∷ [] }
-        else still phase.Fencing)) [
+        else still SharePhase.Fencing)) [
           | true ↦ record { phase = refl; queue = refl; sends = refl }
-          | false ↦ same_row cells phase.Fencing
+          | false ↦ same_row cells SharePhase.Fencing
         ]
     fenced_same op ph = either_same (sender == instance_node (home plan)) ph
 
-    chunks_same : (op : ℕ) (chunks : List Chunk) (ph : SharePhase) → RowAgrees ph (row (of ph) sender (msg.Chunks op chunks)) (Has_chunks (entries f chunks))
-    chunks_same op chunks phase.Getting =
+    chunks_same : (op : ℕ) (chunks : List Chunk) (ph : SharePhase) → RowAgrees ph (row (of ph) sender (Msg.Chunks op chunks)) (Has_chunks (entries f chunks))
+    chunks_same op chunks SharePhase.Getting =
         let xs = syncs plan.op (instance_node (home plan)) (instance_node (home plan)) (entries f chunks) (map instance_node plan.members) in
-        elim (sender == instance_node (home plan)) as (λ b. RowIs cells (if b then on_chunks plan phase.Getting chunks else next_phase phase.Getting [])
+        elim (sender == instance_node (home plan)) as (λ b. RowIs cells (if b then on_chunks plan SharePhase.Getting chunks else next_phase SharePhase.Getting [])
         (if b then s_left S A machine.Setting (length (without_number (map instance_node plan.members) (instance_node (home plan)))) (map number cells) xs
-        else still phase.Getting)) [
-          | true ↦ subst (λ n. RowIs cells (on_chunks plan phase.Getting chunks) (s_left S A machine.Setting n (map number cells) xs))
+        else still SharePhase.Getting)) [
+          | true ↦ subst (λ n. RowIs cells (on_chunks plan SharePhase.Getting chunks) (s_left S A machine.Setting n (map number cells) xs))
               (sym (count_same plan (home plan))) (setting_same (length (others plan (home plan))) cells (shares.syncs plan (home plan) chunks) xs
               (syncs_same plan (home plan) chunks plan.members))
-          | false ↦ same_row cells phase.Getting
+          | false ↦ same_row cells SharePhase.Getting
         ]
     chunks_same op chunks ph = either_same (sender == instance_node (home plan)) ph
 
-    chunk_same : (op : ℕ) (chunk : Chunk) (entry : units.Unit × R) (ph : SharePhase) → spelled f chunk ≡ Some entry
-        → RowAgrees ph (row (of ph) sender (msg.Shared op chunk)) (Has_chunk entry)
-    chunk_same op chunk entry (phase.Out member) spells =
+    chunk_same : (op : ℕ) (chunk : Chunk) (entry : Unit × R) (ph : SharePhase) → spelled f chunk ≡ Some entry
+        → RowAgrees ph (row (of ph) sender (Msg.Shared op chunk)) (Has_chunk entry)
+    chunk_same op chunk entry (SharePhase.Out member) spells =
         let xs = syncs plan.op (instance_node (home plan)) (instance_node member) (entry ∷ []) (map instance_node plan.members) in
         let told : entries f (chunk ∷ []) ≡ entry ∷ [] = rw spells refl in
         let sent : outline_all f place (shares.syncs plan member (chunk ∷ [])) ≡ xs = syncs_same plan member (chunk ∷ []) plan.members
         ∙ ap (λ cs. syncs plan.op (instance_node (home plan)) (instance_node member) cs (map instance_node plan.members)) told in
         elim (sender == instance_node member)
-        as (λ b. RowIs cells (if b then syncing (length (others plan member)) (shares.syncs plan member (chunk ∷ [])) else next_phase (phase.Out member) [])
+        as (λ b. RowIs cells (if b then syncing (length (others plan member)) (shares.syncs plan member (chunk ∷ [])) else next_phase (SharePhase.Out member) [])
         (if b then s_left S A machine.Syncing (length (without_number (map instance_node plan.members) (instance_node member))) (map number cells) xs
-        else still (phase.Out member))) [
+        else still (SharePhase.Out member))) [
           | true ↦ subst (λ n. RowIs cells (syncing (length (others plan member)) (shares.syncs plan member (chunk ∷ [])))
               (s_left S A machine.Syncing n (map number cells) xs))
               (sym (count_same plan member)) (syncing_same (length (others plan member)) cells (shares.syncs plan member (chunk ∷ [])) xs sent)
-          | false ↦ same_row cells (phase.Out member)
+          | false ↦ same_row cells (SharePhase.Out member)
         ]
     chunk_same op chunk entry ph spells = same_row cells ph
 
-    synced_same : (op : ℕ) (ph : SharePhase) → RowAgrees ph (row (of ph) sender (msg.Synced op)) Is_synced
-    synced_same op (phase.Setting left) = setting_same (left - 1) cells [] [] refl
-    synced_same op (phase.Syncing left) = syncing_same (left - 1) cells [] [] refl
+    synced_same : (op : ℕ) (ph : SharePhase) → RowAgrees ph (row (of ph) sender (Msg.Synced op)) Is_synced
+    synced_same op (SharePhase.Setting left) = setting_same (left - 1) cells [] [] refl
+    synced_same op (SharePhase.Syncing left) = syncing_same (left - 1) cells [] [] refl
     synced_same op ph = same_row cells ph
 
   -- A share's row and what it then serves.
@@ -229,14 +224,14 @@ module _ {R : Type 0} (f : Semantics R) (at : Site) (packet : ℕ → Packet) (p
 
   -- the next packet goes to its member
   one_served : (s : ShareState) (k cells : List FullCell) (cell : FullCell) (r : ShareRow)
-      → s.plan.site ≡ at → 0 < length s.plan.members → IsGenuine at packet cell → r.phase ≡ phase.Idle
+      → s.plan.site ≡ at → 0 < length s.plan.members → IsGenuine at packet cell → r.phase ≡ SharePhase.Idle
       → ShareFollows s.plan (cell ∷ cells) r (s_served S A (outline_share s k) machine.Idle (map number (cell ∷ cells)) (outline_all f place r.sends))
   one_served s k cells cell r is some genuine idle =
       let member = member_of s.plan cell in
       let node = A.member (map instance_node s.plan.members) (number cell) in
       let same : node ≡ instance_node member = member_same f at packet s.plan cell is some genuine in
       let sent : ℕ → Bool → List (ℕ × Any R) = λ to flag. outline_all f place r.sends ++ (0, New (S_forward s.plan.op flag (number cell) to)) ∷ [] in
-      let forward : List (ℕ × Msg) = (0, msg.Forward member (mark.Shared s.plan.op (member == home s.plan)) cell) ∷ [] in
+      let forward : List (ℕ × Msg) = (0, Msg.Forward member (Mark.Shared s.plan.op (member == home s.plan)) cell) ∷ [] in
       record {
         phase = ap machine.Out same ∙ ap (λ ph. share_phase (service_if_idle s.plan ph (cell ∷ cells)).phase) (sym idle);
         queue = ap (λ ph. map number (unwrap_or (service_if_idle s.plan ph (cell ∷ cells)).stored (cell ∷ cells))) (sym idle);
@@ -249,8 +244,8 @@ module _ {R : Type 0} (f : Semantics R) (at : Site) (packet : ℕ → Packet) (p
   served_same : (s : ShareState) (k cells : List FullCell) (r : ShareRow) (ph : SharePhase)
       → s.plan.site ≡ at → 0 < length s.plan.members → Each (IsGenuine at packet) cells → r.phase ≡ ph
       → ShareFollows s.plan cells r (s_served S A (outline_share s k) (share_phase ph) (map number cells) (outline_all f place r.sends))
-  served_same s k (cell ∷ cells) r phase.Idle is some genuine e = one_served s k cells cell r is some genuine.0 e
-  served_same s k [] r phase.Idle is some genuine e = quietly s [] r phase.Idle e refl
+  served_same s k (cell ∷ cells) r SharePhase.Idle is some genuine e = one_served s k cells cell r is some genuine.0 e
+  served_same s k [] r SharePhase.Idle is some genuine e = quietly s [] r SharePhase.Idle e refl
   served_same s k cells r ph is some genuine e = quietly s cells r ph e refl
 
   -- A share that is told something, and serves.
@@ -271,19 +266,19 @@ module _ {R : Type 0} (f : Semantics R) (at : Site) (packet : ℕ → Packet) (p
     abbrev pub ShareRows : Msg → Told R → Type 0
     ShareRows m told = ShareFollows s.plan cells (row s sender m) (share_row S A (outline_share s cells) sender told)
 
-    pub fenced_rows : (op : ℕ) → ShareRows (msg.Fenced op) Is_fenced
-    fenced_rows op = share_follows s cells cells (row s sender (msg.Fenced op)) sender Is_fenced is some genuine (fenced_same s.plan cells sender op s.phase)
+    pub fenced_rows : (op : ℕ) → ShareRows (Msg.Fenced op) Is_fenced
+    fenced_rows op = share_follows s cells cells (row s sender (Msg.Fenced op)) sender Is_fenced is some genuine (fenced_same s.plan cells sender op s.phase)
 
-    pub chunks_rows : (op : ℕ) (chunks : List Chunk) → ShareRows (msg.Chunks op chunks) (Has_chunks (entries f chunks))
-    chunks_rows op chunks = share_follows s cells cells (row s sender (msg.Chunks op chunks)) sender (Has_chunks (entries f chunks)) is some genuine
+    pub chunks_rows : (op : ℕ) (chunks : List Chunk) → ShareRows (Msg.Chunks op chunks) (Has_chunks (entries f chunks))
+    chunks_rows op chunks = share_follows s cells cells (row s sender (Msg.Chunks op chunks)) sender (Has_chunks (entries f chunks)) is some genuine
         (chunks_same s.plan cells sender op chunks s.phase)
 
-    pub shared_rows : (op : ℕ) (chunk : Chunk) (entry : units.Unit × R) → spelled f chunk ≡ Some entry → ShareRows (msg.Shared op chunk) (Has_chunk entry)
-    shared_rows op chunk entry spells = share_follows s cells cells (row s sender (msg.Shared op chunk)) sender (Has_chunk entry) is some genuine
+    pub shared_rows : (op : ℕ) (chunk : Chunk) (entry : Unit × R) → spelled f chunk ≡ Some entry → ShareRows (Msg.Shared op chunk) (Has_chunk entry)
+    shared_rows op chunk entry spells = share_follows s cells cells (row s sender (Msg.Shared op chunk)) sender (Has_chunk entry) is some genuine
         (chunk_same s.plan cells sender op chunk entry s.phase spells)
 
-    pub synced_rows : (op : ℕ) → ShareRows (msg.Synced op) Is_synced
-    synced_rows op = share_follows s cells cells (row s sender (msg.Synced op)) sender Is_synced is some genuine (synced_same s.plan cells sender op s.phase)
+    pub synced_rows : (op : ℕ) → ShareRows (Msg.Synced op) Is_synced
+    synced_rows op = share_follows s cells cells (row s sender (Msg.Synced op)) sender Is_synced is some genuine (synced_same s.plan cells sender op s.phase)
 
     pub packet_rows : (cell : FullCell) → IsGenuine at packet cell
         → ShareFollows s.plan (cells ++ cell ∷ []) (next_phase s.phase []) (share_row S A (outline_share s cells) sender (Has_packet (number cell)))
@@ -294,15 +289,15 @@ module _ {R : Type 0} (f : Semantics R) (at : Site) (packet : ℕ → Packet) (p
 -- what was served leaves nothing that waits
 pub rests_after : (plan : SharePlan) (ph : SharePhase) (cells : List FullCell)
     → Rests (service_if_idle plan ph cells).phase (unwrap_or (service_if_idle plan ph cells).stored cells)
-rests_after plan phase.Idle (cell ∷ cells) = tt
-rests_after plan phase.Idle [] = tt
+rests_after plan SharePhase.Idle (cell ∷ cells) = tt
+rests_after plan SharePhase.Idle [] = tt
 rests_after plan ph cells = tt
 
 -- where nothing waits nothing is served
 pub rests_served : (plan : SharePlan) (ph : SharePhase) (cells : List FullCell) → Rests ph cells
     → service_if_idle plan ph cells ≡ record { phase = ph; sends = []; stored = None }
-rests_served plan phase.Idle (cell ∷ cells) h = absurd h
-rests_served plan phase.Idle [] h = refl
+rests_served plan SharePhase.Idle (cell ∷ cells) h = absurd h
+rests_served plan SharePhase.Idle [] h = refl
 rests_served plan ph cells h = refl
 
 abbrev with_both : machine.Phase → List ℕ → OpenShare → OpenShare

@@ -5,7 +5,6 @@ use Rattle.proof_outlines.proofs.Words.{unwrap_or, Decides-eqb, self, Packet, Si
 use Rattle.proof_outlines.proofs.Words.{ShareRow, Share, ControllerState, Step, hand_step, queue_step, Sys, Open, find_op, Sharing, OpenShare, find_share}
 use Rattle.proof_outlines.proofs.Words.{set_share, Told, Has_packet, ShareTurn, share_row, by_share, found_num}
 use Rattle.std.specs.FinMap as finite
-use Rattle.nf_msgs.specs.declared.msg.Msg.TheVariants as msg
 use Rattle.copy_share.specs.Share as real
 use Rattle.proof_machines.proofs.net.ShareSees.{found_set, found_set_other}
 use Rattle.proof_outlines.proofs.outline.Outline.{number, sys}
@@ -24,8 +23,8 @@ module _ {R : Type 0} (f : Semantics R) (at : Site) (packet : ℕ → Packet) (p
   A = sharing f at packet
 
   -- an answer isn't looked at
-  pub answer_unseen : (n : ℕ) (xs : List (ℕ × Msg)) → outline_all f place (xs ++ (switch_node, msg.Answered n) ∷ []) ≡ outline_all f place xs
-  answer_unseen n xs = filter_map-put (outline_each f place) xs ((switch_node, msg.Answered n) ∷ []) ∙ append-nil (outline_all f place xs)
+  pub answer_unseen : (n : ℕ) (xs : List (ℕ × Msg)) → outline_all f place (xs ++ (switch_node, Msg.Answered n) ∷ []) ≡ outline_all f place xs
+  answer_unseen n xs = filter_map-put (outline_each f place) xs ((switch_node, Msg.Answered n) ∷ []) ∙ append-nil (outline_all f place xs)
 
   module _ (c : ControllerState) (ops : List (Open R)) (shares : List OpenShare) (h : OpensAll f place at ops shares c) (n : ℕ)
       (s : ShareState) (there : finite.get c.operations n ≡ Some (Share s)) (e : OpenShare) (found : find_share shares n ≡ Some e)

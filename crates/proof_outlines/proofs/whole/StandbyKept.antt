@@ -3,11 +3,7 @@
 use Rattle.proof_outlines.proofs.Words.{◌≡◌, ℕ, Bool, true, false, Option, List, [], ◌∷◌, map, refl, ap, ◌∙◌, if◌then◌else◌, ◌||◌, Result, Ok, Err, filter_map}
 use Rattle.proof_outlines.proofs.Words.{Packet, Site, Chunk, Semantics, ChunkFault, tally_read, Records, newest_of, are_good, Mark, FullCell, Msg, Instance}
 use Rattle.proof_outlines.proofs.Words.{pieces, and_then, to_controller, on_stop, on_get_all, tally_put, selected_chunks, instance_step, each-append}
-use Rattle.proof_outlines.proofs.Words.{InstanceTurn, as_old}
-use Rattle.record_table.specs.Chunks.{records_of}
-use Rattle.event_filter.specs.declared.mark.Mark.TheVariants as mark
-use Rattle.nf_msgs.specs.declared.msg.Piece.{Piece as APiece}
-use Rattle.nf_msgs.specs.declared.msg.Msg.TheVariants as msg
+use Rattle.proof_outlines.proofs.Words.{InstanceTurn, as_old, records_of, APiece}
 use Rattle.instance_worker.specs.Instance.{Step, still, process_step, on_standby, on_put_all}
 use Rattle.proof_outlines.proofs.outline.InstanceWays.{instance_fits}
 use Rattle.proof_outlines.proofs.outline.Outline.{ran_in, sys, outline_instance}
@@ -16,25 +12,25 @@ use Rattle.proof_outlines.proofs.whole.WholeOutline.{outline_all, IsUnshared, Ar
 
 -- the messages that an instance takes and that aren't of shares, nor bring records that stand by
 abbrev pub leaves_standby : Msg → Bool
-leaves_standby (msg.Carry mark.Plain cell) = true
-leaves_standby (msg.Carry (mark.Pass op) cell) = true
-leaves_standby (msg.Fence op) = true
-leaves_standby msg.Stop = true
-leaves_standby (msg.Enable op filter action) = true
-leaves_standby (msg.Stream op filter) = true
-leaves_standby (msg.GetAll op) = true
-leaves_standby (msg.Delete op gone) = true
-leaves_standby (msg.Put op piece first) = true
-leaves_standby (msg.Restore op chunks) = true
-leaves_standby (msg.PutAll op chunk) = true
+leaves_standby (Msg.Carry Mark.Plain cell) = true
+leaves_standby (Msg.Carry (Mark.Pass op) cell) = true
+leaves_standby (Msg.Fence op) = true
+leaves_standby Msg.Stop = true
+leaves_standby (Msg.Enable op filter action) = true
+leaves_standby (Msg.Stream op filter) = true
+leaves_standby (Msg.GetAll op) = true
+leaves_standby (Msg.Delete op gone) = true
+leaves_standby (Msg.Put op piece first) = true
+leaves_standby (Msg.Restore op chunks) = true
+leaves_standby (Msg.PutAll op chunk) = true
 leaves_standby m = false
 
 module _ {R : Type 0} (f : Semantics R) (place : List ℕ → Option ℕ) where
-  pieces_unshared : (op : ℕ) (ps : List APiece) → AreUnshared f place (to_controller (map (msg.Piece op) ps))
+  pieces_unshared : (op : ℕ) (ps : List APiece) → AreUnshared f place (to_controller (map (Msg.Piece op) ps))
   pieces_unshared op [] = tt
   pieces_unshared op (p ∷ ps) = (refl, pieces_unshared op ps)
 
-  answered_unshared : (op : ℕ) (b : Bool) → AreUnshared f place (to_controller (if b then msg.PutOk op ∷ [] else []))
+  answered_unshared : (op : ℕ) (b : Bool) → AreUnshared f place (to_controller (if b then Msg.PutOk op ∷ [] else []))
   answered_unshared op true = (refl, tt)
   answered_unshared op false = tt
 
@@ -53,18 +49,18 @@ module _ {F R : Type 0} (f : Semantics R) (place : List ℕ → Option ℕ) wher
   still_unshared i = record { standby = refl; sends = tt }
 
   -- packets
-  plain_unshared : (i : Instance F R) (cell : FullCell) → SharesNothing i (process_step f i mark.Plain cell)
+  plain_unshared : (i : Instance F R) (cell : FullCell) → SharesNothing i (process_step f i Mark.Plain cell)
   unfolding process_step
   plain_unshared i cell = record { standby = refl; sends = (refl, tt) }
 
-  passed_unshared : (i : Instance F R) (op : ℕ) (cell : FullCell) → SharesNothing i (process_step f i (mark.Pass op) cell)
+  passed_unshared : (i : Instance F R) (op : ℕ) (cell : FullCell) → SharesNothing i (process_step f i (Mark.Pass op) cell)
   unfolding process_step
   passed_unshared i op cell = record { standby = refl; sends = (refl, tt) }
 
-  carried_unshared : (i : Instance F R) (m : Mark) (cell : FullCell) → leaves_standby (msg.Carry m cell) ≡ true → SharesNothing i (process_step f i m cell)
-  carried_unshared i mark.Plain cell e = plain_unshared i cell
-  carried_unshared i (mark.Pass op) cell e = passed_unshared i op cell
-  carried_unshared i (mark.Shared op home) cell e = cc
+  carried_unshared : (i : Instance F R) (m : Mark) (cell : FullCell) → leaves_standby (Msg.Carry m cell) ≡ true → SharesNothing i (process_step f i m cell)
+  carried_unshared i Mark.Plain cell e = plain_unshared i cell
+  carried_unshared i (Mark.Pass op) cell e = passed_unshared i op cell
+  carried_unshared i (Mark.Shared op home) cell e = cc
 
   -- each of them leaves what stands by as it is
   pub step_unshared : (i : Instance F R) (m : Msg) → leaves_standby m ≡ true → SharesNothing i (instance_step f i m)

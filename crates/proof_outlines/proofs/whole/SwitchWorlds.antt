@@ -2,18 +2,15 @@
 use Rattle.proof_outlines.proofs.Words.{◌≡◌, ℕ, Bool, true, false, Option, Some, List, [], ◌++◌, refl, sym, ap, if◌then◌else◌, ◌==◌, nat_lt, Filter, Packet}
 use Rattle.proof_outlines.proofs.Words.{Site, flow_of, Semantics, Target, AreFilters, FullCell, Command, instance_node, SwitchState, arrival_step, goes_to}
 use Rattle.proof_outlines.proofs.Words.{has_room, target_of, on_packet, on_command, on_install, sends_to_instance, sent_for, links_after, everything, Any, Old}
-use Rattle.proof_outlines.proofs.Words.{New, WholeWorld, S_install, S_forward, whole_switch, whole_input, asks}
-use Rattle.event_filter.specs.declared.mark.Mark.TheVariants as mark
-use Rattle.switch_rules.specs.declared.target.Target.TheVariants as target
-use Rattle.nf_msgs.specs.declared.msg.Msg.TheVariants as msg
+use Rattle.proof_outlines.proofs.Words.{New, WholeWorld, S_install, S_forward, whole_switch, whole_input, asks, Mark, Msg}
 use Rattle.switch_node.specs.Switch.{Step, still}
 use Rattle.proof_machines.proofs.unit.Real as real
 use Rattle.proof_machines.proofs.net.Net as net
 use Rattle.proof_outlines.proofs.outline.FiltersApart.{flow_fits, is_whole}
 use Rattle.proof_outlines.proofs.outline.Outline.{number}
 use Rattle.proof_outlines.proofs.whole.AskedShare.{command_all}
-use Rattle.proof_outlines.proofs.whole.SwitchAll.{RoutesAll, routes_same, arrive_all, forward_shared}
-use Rattle.proof_outlines.proofs.whole.SwitchAll.{fence_all, install_moved, install_shared, routes_moved, routes_shared}
+use Rattle.proof_outlines.proofs.whole.SwitchAll.{RoutesAll, routes_same, arrive_all, forward_shared, fence_all, install_moved, install_shared, routes_moved}
+use Rattle.proof_outlines.proofs.whole.SwitchAll.{routes_shared}
 use Rattle.proof_outlines.proofs.whole.WholeOutline.{asked_of, outline_all, S, A}
 
 -- what a packet leaves of the switch's rules
@@ -22,9 +19,9 @@ record SameRules (s t : SwitchState) : Type 0 where
   instances : t.instances ≡ s.instances
 
 goes_same : (s : SwitchState) (p : Packet) (t : Target) → SameRules s (goes_to s p t).node
-goes_same s p target.Controller = record { rules = refl; instances = refl }
-goes_same s p (target.Instance i) =
-    elim (nat_lt i s.instances) as (λ b. SameRules s (if b then arrival_step s p (instance_node i) (msg.Carry mark.Plain) else still s).node)
+goes_same s p Target.Controller = record { rules = refl; instances = refl }
+goes_same s p (Target.Instance i) =
+    elim (nat_lt i s.instances) as (λ b. SameRules s (if b then arrival_step s p (instance_node i) (Msg.Carry Mark.Plain) else still s).node)
     [ true ↦ record { rules = refl; instances = refl } | false ↦ record { rules = refl; instances = refl } ]
 
 packet_same : (s : SwitchState) (p : Packet) → SameRules s (on_packet s p).node
@@ -67,25 +64,25 @@ module _ {R : Type 0} (f : Semantics R) (site : Site) (packet : ℕ → Packet) 
 
       pub shared_goes : (i op : ℕ) (home : Bool) (cell : FullCell) → nat_lt i s.instances ≡ true
           → SwitchesTo p (whole_switch (S f site packet) (A f site packet) w p (New (S_forward op home (number cell) (instance_node i))))
-          (sends_to_instance s i (msg.Carry (mark.Shared op home) cell))
+          (sends_to_instance s i (Msg.Carry (Mark.Shared op home) cell))
       shared_goes i op home cell there =
           record { routes = rw there routes; links = λ a b. ap (λ xs. sent_as xs a b) (sym (forward_shared f site packet place s i op home cell there)) }
 
       pub fence_goes : (i op : ℕ) → nat_lt i s.instances ≡ true → SwitchesTo p (whole_switch (S f site packet) (A f site packet) w p
-          (Old (net.Mv everything (real.M_fence_to op (instance_node i))))) (sends_to_instance s i (msg.Fence op))
+          (Old (net.Mv everything (real.M_fence_to op (instance_node i))))) (sends_to_instance s i (Msg.Fence op))
       fence_goes i op there = record { routes = rw there routes; links = λ a b. ap (λ xs. sent_as xs a b) (sym (fence_all f site packet place s i op there)) }
 
       pub move_installs : (op : ℕ) (g : Filter) (from to : ℕ) → AreFilters s.rules
           → is_whole f.kind g ≡ true → nat_lt from s.instances ≡ true → nat_lt to s.instances ≡ true
           → SwitchesTo p (whole_switch (S f site packet) (A f site packet) w p (Old (net.Mv g (real.M_install op (instance_node from) (instance_node to)))))
-          (on_install s op g from (target.Instance to))
+          (on_install s op g from (Target.Instance to))
       move_installs op g from to filters whole a b = record {
         routes = routes_moved f site packet place s w.target op g from to filters whole a b routes;
         links = λ i j. ap (λ xs. sent_as xs i j) (sym (install_moved f site packet place s op g from to a b));
       }
 
       pub share_installs : (op : ℕ) (g : Filter) (from : ℕ) → AreFilters s.rules → is_whole f.kind g ≡ true → nat_lt from s.instances ≡ true → SwitchesTo p
-          (whole_switch (S f site packet) (A f site packet) w p (New (S_install op g (instance_node from)))) (on_install s op g from target.Controller)
+          (whole_switch (S f site packet) (A f site packet) w p (New (S_install op g (instance_node from)))) (on_install s op g from Target.Controller)
       share_installs op g from filters whole a = record {
         routes = routes_shared f site packet place s w.target op g from filters whole a routes;
         links = λ i j. ap (λ xs. sent_as xs i j) (sym (install_shared f site packet place s op g from a));

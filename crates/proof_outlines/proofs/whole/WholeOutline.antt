@@ -4,12 +4,8 @@ use Rattle.proof_outlines.proofs.Words.{◌≡◌, ℕ, zero, suc, ◌<◌, true
 use Rattle.proof_outlines.proofs.Words.{slice_index, filter_map, mod_below, nat_tests, Filter, Flow, Packet, Site, flow_of, place_among, units_total, Semantics}
 use Rattle.proof_outlines.proofs.Words.{either, replaced_by, spelled, get-joined, Order, Msg, instance_node, Each, record_at, has, over, Any, Old, New}
 use Rattle.proof_outlines.proofs.Words.{WantShare, Sharing, IsSharing, olds, as_old, Shared_on, Diverted_on, S_asked, S_install, S_forward, S_get, S_sync}
-use Rattle.proof_outlines.proofs.Words.{S_chunks, S_shared, S_synced, by_if}
+use Rattle.proof_outlines.proofs.Words.{S_chunks, S_shared, S_synced, by_if, Mark, Target}
 use Rattle.std.specs.FinMap as finite
-use Rattle.event_filter.specs.declared.mark.Mark.TheVariants as mark
-use Rattle.switch_rules.specs.declared.target.Target.TheVariants as target
-use Rattle.nf_msgs.specs.declared.command.Order.TheVariants as order
-use Rattle.nf_msgs.specs.declared.msg.Msg.TheVariants as msg
 use Rattle.proof_machines.proofs.net.Net as net
 use Rattle.proof_outlines.proofs.outline.Outline.{number, want_of, entries, outline, outline_sends, sys}
 
@@ -30,27 +26,27 @@ share_between op filter nodes = None
 
 -- the share that a command asks for, by the places of instances' names
 abbrev pub want_share_of : (List ℕ → Option ℕ) → ℕ → Order → Option WantShare
-want_share_of place op (order.Share members filter) = share_between op filter (members_of place members)
+want_share_of place op (Order.Share members filter) = share_between op filter (members_of place members)
 want_share_of place op what = None
 
 module _ {R : Type 0} (f : Semantics R) where
   -- what a command asks for: a move, or a share
   abbrev pub asked_of : (List ℕ → Option ℕ) → ℕ → Order → Option (Any R)
-  asked_of place op (order.Share members filter) = option_map (λ want. New (S_asked want)) (want_share_of place op (order.Share members filter))
+  asked_of place op (Order.Share members filter) = option_map (λ want. New (S_asked want)) (want_share_of place op (Order.Share members filter))
   asked_of place op what = option_map (λ want. Old (net.Asked want)) (want_of place op what)
 
   -- a message, of a move or of a share; nothing of those that neither looks at
   abbrev pub outline_any : (List ℕ → Option ℕ) → Msg → Option (Any R)
-  outline_any place (msg.Asked c) = asked_of place c.op c.what
-  outline_any place (msg.Carry (mark.Shared op home) cell) = Some (New (Shared_on op home (number cell)))
-  outline_any place (msg.Diverted cell) = Some (New (Diverted_on (number cell)))
-  outline_any place (msg.Install op filter from target.Controller) = Some (New (S_install op filter (instance_node from)))
-  outline_any place (msg.Forward to (mark.Shared op home) cell) = Some (New (S_forward op home (number cell) (instance_node to)))
-  outline_any place (msg.Get op filter) = Some (New (S_get op filter))
-  outline_any place (msg.Sync home op chunks) = Some (New (S_sync op home (entries f chunks)))
-  outline_any place (msg.Chunks op chunks) = Some (New (S_chunks op (entries f chunks)))
-  outline_any place (msg.Shared op chunk) = option_map (λ entry. New (S_shared op entry)) (spelled f chunk)
-  outline_any place (msg.Synced op) = Some (New (S_synced op))
+  outline_any place (Msg.Asked c) = asked_of place c.op c.what
+  outline_any place (Msg.Carry (Mark.Shared op home) cell) = Some (New (Shared_on op home (number cell)))
+  outline_any place (Msg.Diverted cell) = Some (New (Diverted_on (number cell)))
+  outline_any place (Msg.Install op filter from Target.Controller) = Some (New (S_install op filter (instance_node from)))
+  outline_any place (Msg.Forward to (Mark.Shared op home) cell) = Some (New (S_forward op home (number cell) (instance_node to)))
+  outline_any place (Msg.Get op filter) = Some (New (S_get op filter))
+  outline_any place (Msg.Sync home op chunks) = Some (New (S_sync op home (entries f chunks)))
+  outline_any place (Msg.Chunks op chunks) = Some (New (S_chunks op (entries f chunks)))
+  outline_any place (Msg.Shared op chunk) = option_map (λ entry. New (S_shared op entry)) (spelled f chunk)
+  outline_any place (Msg.Synced op) = Some (New (S_synced op))
   outline_any place message = option_map Old (outline f place message)
 
   -- what is sent, each with its receiver
@@ -62,7 +58,7 @@ module _ {R : Type 0} (f : Semantics R) where
 
   -- what moves see of a message: nothing of a packet that a share forwards
   abbrev pub outline_move : (List ℕ → Option ℕ) → Msg → Option (net.Msg R)
-  outline_move place (msg.Forward to (mark.Shared op home) cell) = None
+  outline_move place (Msg.Forward to (Mark.Shared op home) cell) = None
   outline_move place message = outline f place message
 
   -- of a message of either the one of a move
@@ -79,31 +75,31 @@ module _ {R : Type 0} (f : Semantics R) where
   new_is to new (Some x) = new x
 
   asked_same : (place : List ℕ → Option ℕ) (op : ℕ) (what : Order) → old_of (asked_of place op what) ≡ option_map net.Asked (want_of place op what)
-  asked_same place op (order.Move src dst filter keep) = mapped (want_of place op (order.Move src dst filter keep))
+  asked_same place op (Order.Move src dst filter keep) = mapped (want_of place op (Order.Move src dst filter keep))
     where
       mapped : (o : Option net.MoveAsked) → old_of (option_map (λ want. Old (net.Asked want)) o) ≡ option_map net.Asked o
       mapped None = refl
       mapped (Some want) = refl
-  asked_same place op (order.Copy src dst filter) = refl
-  asked_same place op (order.Share members filter) = new_is (λ want. New (S_asked want)) (λ want. refl) (want_share_of place op (order.Share members filter))
+  asked_same place op (Order.Copy src dst filter) = refl
+  asked_same place op (Order.Share members filter) = new_is (λ want. New (S_asked want)) (λ want. refl) (want_share_of place op (Order.Share members filter))
 
   -- what moves see of a message of either
   pub old_same : (place : List ℕ → Option ℕ) (m : Msg) → old_of (outline_any place m) ≡ outline_move place m
-  old_same place (msg.Asked c) = asked_same place c.op c.what
-  old_same place (msg.Carry mark.Plain cell) = refl
-  old_same place (msg.Carry (mark.Pass op) cell) = refl
-  old_same place (msg.Carry (mark.Shared op home) cell) = refl
-  old_same place (msg.Diverted cell) = refl
-  old_same place (msg.Install op filter from target.Controller) = refl
-  old_same place (msg.Install op filter from (target.Instance to)) = refl
-  old_same place (msg.Forward to mark.Plain cell) = refl
-  old_same place (msg.Forward to (mark.Pass op) cell) = refl
-  old_same place (msg.Forward to (mark.Shared op home) cell) = refl
-  old_same place (msg.Get op filter) = refl
-  old_same place (msg.Sync home op chunks) = refl
-  old_same place (msg.Chunks op chunks) = refl
-  old_same place (msg.Shared op chunk) = new_is (λ entry. New (S_shared op entry)) (λ entry. refl) (spelled f chunk)
-  old_same place (msg.Synced op) = refl
+  old_same place (Msg.Asked c) = asked_same place c.op c.what
+  old_same place (Msg.Carry Mark.Plain cell) = refl
+  old_same place (Msg.Carry (Mark.Pass op) cell) = refl
+  old_same place (Msg.Carry (Mark.Shared op home) cell) = refl
+  old_same place (Msg.Diverted cell) = refl
+  old_same place (Msg.Install op filter from Target.Controller) = refl
+  old_same place (Msg.Install op filter from (Target.Instance to)) = refl
+  old_same place (Msg.Forward to Mark.Plain cell) = refl
+  old_same place (Msg.Forward to (Mark.Pass op) cell) = refl
+  old_same place (Msg.Forward to (Mark.Shared op home) cell) = refl
+  old_same place (Msg.Get op filter) = refl
+  old_same place (Msg.Sync home op chunks) = refl
+  old_same place (Msg.Chunks op chunks) = refl
+  old_same place (Msg.Shared op chunk) = new_is (λ entry. New (S_shared op entry)) (λ entry. refl) (spelled f chunk)
+  old_same place (Msg.Synced op) = refl
   old_same place m = old_is (outline f place m)
 
   -- what moves see of a link
