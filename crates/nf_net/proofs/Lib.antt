@@ -1,4 +1,3 @@
-
 pub mod AnsweredNotes
 pub mod ArrivedCommands
 pub mod AtMembers

@@ -1,4 +1,3 @@
-
 -- When commands begin, are answered and change the rules, and how packets arrive, along a run.
 pub mod AnswerSends
 pub mod ArrivalLemmas

@@ -1,4 +1,3 @@
-
 -- A world of a run in which no choice is enabled is at its end.
 pub mod AllEnded
 pub mod EndSteps

@@ -1,4 +1,3 @@
-
 -- How many choices a run of the network can have.
 pub mod BegunOperations
 pub mod Chances

@@ -1,4 +1,3 @@
-
 -- Where the packets and the records of a unit are in a world of a run.
 pub mod ChunkLemmas
 pub mod ChunkLinks

@@ -1,4 +1,3 @@
-
 pub mod Words
 pub mod outline
 pub mod whole

@@ -1,4 +1,3 @@
-
 -- Each world of a run beside the whole abstract world that shows it, through all steps.
 pub mod Words
 pub mod BesideRuns

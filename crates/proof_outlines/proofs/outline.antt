@@ -1,4 +1,3 @@
-
 -- What the proof of the network sees of each node's step and of each message.
 pub mod ControlOutline
 pub mod ControllerWays

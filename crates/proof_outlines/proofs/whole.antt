@@ -1,4 +1,3 @@
-
 -- What the proof of the network with shares sees of each node's step and of each message.
 pub mod AskedShare
 pub mod BeginsAll

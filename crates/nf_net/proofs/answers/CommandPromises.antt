@@ -80,7 +80,7 @@ module _ (F : Type 0) {R : Type 0} (f : Semantics R) (laws : FunctionLaws f) (al
   run_busy cs run_is = (
     (run_beside F f laws alloc c items is cs run_is).joined,
     run_keeps F f laws alloc c items is (λ _ w. Busy g w) start_busy
-    (λ ds ok d s h. busy_next f g (length c.names + 2) refl (run (node_step f) ds first) d s.taking s.runs.joined h) cs run_is,
+        (λ ds ok d s h. busy_next f g (length c.names + 2) refl (run (node_step f) ds first) d s.taking s.runs.joined h) cs run_is,
   )
 
   -- and its log says what is promised of commands

@@ -234,7 +234,6 @@ module _ {F R : Type 0} (f : Semantics R) (g : Given) (n : â„•) (count_is : n â‰
 
 module _ (F : Type 0) {R : Type 0} (f : Semantics R) (laws : FunctionLaws f) (alloc : Global) (c : Config) (items : List Msg)
     (is : IsInput f.kind c items) where
-
   installs_at_start : Installs (given f c items is) (start F f laws alloc c items is)
   installs_at_start = record {
     controller = opened_controller c.names c.site;
