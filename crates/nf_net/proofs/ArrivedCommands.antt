@@ -1,7 +1,7 @@
 -- Of every run: where a command has begun, the packets that stand before it in the input have come.
-use Rattle.nf_net.proofs.Words.{◌≡◌, ℕ, ◌+◌, ◌<◌, ◌≤◌, true, false, List, [], ◌∷◌, ◌++◌, length, length-append, refl, sym, ap, ◌∙◌, subst, arith, nat_lt}
-use Rattle.nf_net.proofs.Words.{Global, nat_tests, length-map, FunctionLaws, Semantics, Command, Msg, Note, Choice, Network, IsRun, run, queue_at, at, Each}
-use Rattle.nf_net.proofs.Words.{Config, Node, is_begun, has_answered, commands, IsInput, arrivals_in, node_step, node_ready, given}
+use Rattle.nf_net.proofs.Words.{◌≡◌, ℕ, ◌+◌, ◌<◌, ◌≤◌, true, false, List, [], ◌∷◌, ◌++◌, length, length-append, sym, ap, ◌∙◌, subst, arith, nat_lt, Global}
+use Rattle.nf_net.proofs.Words.{nat_tests, length-map, FunctionLaws, Semantics, Command, Msg, Note, Choice, Network, IsRun, run, queue_at, at, Each, Config}
+use Rattle.nf_net.proofs.Words.{Node, is_begun, has_answered, commands, IsInput, arrivals_in, node_step, node_ready, given, split}
 use Rattle.net_world.specs.Input.{packets}
 use Rattle.nf_net.proofs.answers.ArrivalLemmas.{numbers, runs_joined}
 use Rattle.nf_net.proofs.answers.BusyLemmas.{is_noted, or_off}
@@ -47,21 +47,20 @@ module _ (F : Type 0) {R : Type 0} (f : Semantics R) (laws : FunctionLaws f) (al
   pub came_before : (op : ℕ) → is_begun op w.log ≡ true → (front behind : List Msg) (command : Command) → items ≡ front ++ Msg.InCommand command ∷ behind
       → command.op ≡ op → length (packets front) ≤ length (arrivals_in w.log)
   came_before op begun front behind command whole same =
-      elim (nat_lt (length behind) (length left)) as (λ b. nat_lt (length behind) (length left) ≡ b → length (packets front) ≤ length (arrivals_in w.log)) [
-        | true ↦ λ on.
-            let more : length behind < length left = grind (arith, nat_tests, on) in
-            let ends = longer_end counted.took left front (Msg.InCommand command ∷ behind) (sym counted.whole ∙ whole) (omega (arith, more)) in
-            let never : true ≡ false = sym begun ∙ ap (λ k. is_begun k w.log) (sym same) ∙ waits_on ends.0 behind command ends.1 in
-            cc
-        | false ↦ λ off.
-            let few : length left ≤ length behind = grind (arith, nat_tests, off) in
-            let ends = longer_end front (Msg.InCommand command ∷ behind) counted.took left (sym whole ∙ counted.whole) (omega (arith, few)) in
-            let all : length (packets items) ≡ length (packets front) + (length (packets ends.0) + length (packets left)) =
-            ap (λ xs. length (packets xs)) (whole ∙ ap (λ xs. front ++ xs) ends.1) ∙ counts front (ends.0 ++ left)
-            ∙ ap (λ k. length (packets front) + k) (counts ends.0 left) in
-            let own = turn in
-            omega (arith, all, own)
-      ] refl
+      split (nat_lt (length behind) (length left)) (λ _. length (packets front) ≤ length (arrivals_in w.log))
+      (λ on.
+      let more : length behind < length left = grind (arith, nat_tests, on) in
+      let ends = longer_end counted.took left front (Msg.InCommand command ∷ behind) (sym counted.whole ∙ whole) (omega (arith, more)) in
+      let never : true ≡ false = sym begun ∙ ap (λ k. is_begun k w.log) (sym same) ∙ waits_on ends.0 behind command ends.1 in
+      cc)
+      (λ off.
+      let few : length left ≤ length behind = grind (arith, nat_tests, off) in
+      let ends = longer_end front (Msg.InCommand command ∷ behind) counted.took left (sym whole ∙ counted.whole) (omega (arith, few)) in
+      let all : length (packets items) ≡ length (packets front) + (length (packets ends.0) + length (packets left)) =
+      ap (λ xs. length (packets xs)) (whole ∙ ap (λ xs. front ++ xs) ends.1) ∙ counts front (ends.0 ++ left)
+      ∙ ap (λ k. length (packets front) + k) (counts ends.0 left) in
+      let own = turn in
+      omega (arith, all, own))
     where
       counted : Counted items w
       counted = (run_settles F f laws alloc c items is cs run_is).counted

@@ -3,7 +3,7 @@ use Rattle.nf_net.proofs.Words.{◌≡◌, ℕ, ◌+◌, ◌≤◌, Bool, true, 
 use Rattle.nf_net.proofs.Words.{◌==◌, is_some, filter, Global, nat_tests, Output, FunctionLaws, Semantics, same_unit_equiv, Msg, Note, instance_node, Choice}
 use Rattle.nf_net.proofs.Words.{Network, IsRun, run, Ran, ran_of, Config, Node, times_installed, is_of, IsInput, packet_numbered, arrivals_in, dones_in}
 use Rattle.nf_net.proofs.Words.{installs_in, node_step, node_ready, first_owner, members, member_for, unit_numbered, done-append, is_sys, Given, is_diverted, S}
-use Rattle.nf_net.proofs.Words.{A, by_node, came_by, Joined, by_node-append, AllApart, Runs, run_beside, same_times, given, Unit}
+use Rattle.nf_net.proofs.Words.{A, by_node, came_by, Joined, by_node-append, AllApart, Runs, run_beside, same_times, given, Unit, split}
 use Rattle.proof_machines.proofs.unit.Stages as stages
 use Rattle.net_world.specs.Fold.{times}
 use Rattle.net_world.specs.Places.{AreAtMembers}

@@ -7,7 +7,7 @@ use Rattle.nf_net.proofs.Words.{fold_runs, not_both, AtEnd, OpenShare, find_shar
 use Rattle.nf_net.proofs.Words.{Apart_from_shares, Under_share, Config, Node, order_numbered, ends_last, IsInput, answers_of, times_installed, arrivals_in}
 use Rattle.nf_net.proofs.Words.{is_loose, owner, unit_numbered, node_step, node_ready, node_ended, is_of, arrived_of, processed_of, live_in, live_at}
 use Rattle.nf_net.proofs.Words.{started_with, unit_fits, is_sys, real_share, target_node, Given, place, GenuinePacket, S, A, shown, came_by, Joined, done_same}
-use Rattle.nf_net.proofs.Words.{same_times, run_beside, given, genuine, Unit, flow_of, Done, Instance, Completed}
+use Rattle.nf_net.proofs.Words.{same_times, run_beside, given, genuine, Unit, flow_of, Done, Instance, Completed, split}
 use Rattle.std.proofs.Common.{◌-◌}
 use Rattle.std.specs.FinMap as finite
 use Rattle.actor_net.proofs.CompleteWorlds.{done_waiting}
@@ -101,19 +101,17 @@ module _ {R : Type 0} (f : Semantics R) (c : Config) (items : List Msg) (is : Is
           → Has_packet
       has_packet [] h p ps e = cc
       has_packet (q ∷ qs) h p ps e =
-          elim (is_of f c items u q.number) as (λ b. is_of f c items u q.number ≡ b
-          → (if b then q.number ∷ filter (is_of f c items u) (map (λ x. x.number) qs) else filter (is_of f c items u) (map (λ x. x.number) qs)) ≡ p ∷ ps
-          → Has_packet) [
-            | true ↦ λ mine _.
-                let way = j.shown_is.switch.routes (flow_of c.site q).0 h.0.fits in
-                let same : unit_numbered c items f.kind q.number ≡ u = same_unit-true (unit_numbered c items f.kind q.number) u mine in
-                let unit : unit_at f.kind c.site q ≡ u = ap (unit_at f.kind c.site) h.0.same ∙ same in
-                record {
-                  fits = ap (unit_fits f.kind) (sym same) ∙ units_fit f c items is q.number;
-                  few = λ two. by_target two way.target (ap j.world.target (sym unit) ∙ way.node) way.there;
-                }
-            | false ↦ λ _ rest. has_packet qs h.1 p ps rest
-          ] refl e
+          split (is_of f c items u q.number)
+          (λ b. (if b then q.number ∷ filter (is_of f c items u) (map (λ x. x.number) qs) else filter (is_of f c items u) (map (λ x. x.number) qs))
+          ≡ p ∷ ps → Has_packet)
+          (λ mine _.
+          let way = j.shown_is.switch.routes (flow_of c.site q).0 h.0.fits in
+          let same : unit_numbered c items f.kind q.number ≡ u = same_unit-true (unit_numbered c items f.kind q.number) u mine in
+          let unit : unit_at f.kind c.site q ≡ u = ap (unit_at f.kind c.site) h.0.same ∙ same in
+          record {
+            fits = ap (unit_fits f.kind) (sym same) ∙ units_fit f c items is q.number;
+            few = λ two. by_target two way.target (ap j.world.target (sym unit) ∙ way.node) way.there;
+          }) (λ _ rest. has_packet qs h.1 p ps rest) e
         where
           by_target : 2 ≤ j.world.target u → (t : Target) → j.world.target u ≡ target_node t → is_there j.nodes.switch t ≡ true → j.world.target u < n
           by_target two Target.Controller at inside = absurd (omega (arith, two, at))
@@ -219,16 +217,15 @@ module _ {R : Type 0} (f : Semantics R) (c : Config) (items : List Msg) (is : Is
           by_where (Apart_from_shares h none) =
               moves_own (at_end (S f g) laws_of u n (moves_of (S f g) (A f g) j.world) (omega (arith, count)) (λ a b x y off. ap olds (quiet a b x y off))
               (sides f c items is n count w j) (arrived_of f c items u w.log) (is_loose c items u w.log) h.is) i r (live_is i r live) live
-          by_where (Under_share x before b h o t) = elim (instance_node i == x.home) as (λ q. (instance_node i == x.home) ≡ q → i ≡ owner c items u w.log) [
-            | true ↦ λ on. (let home : instance_node i ≡ x.home = (Decides-eqb (instance_node i) x.home).0 on in
-                let own : instance_node (owner c items u w.log) ≡ x.home = told u x before (came_by f g w.log u).diverted h in omega (arith, home, own))
-            | false ↦ λ off.
-                let number : instance_node i - 2 ≡ i = omega arith in
-                let none : live_at w i u ≡ None = ap (λ k. live_at w k u) (sym number)
-                ∙ live_same (instance_node i) (omega arith) (few_live i r live) None (h.away (instance_node i) off) in
-                let never : None ≡ Some r = sym none ∙ live in
-                cc
-          ] refl
+          by_where (Under_share x before b h o t) = split (instance_node i == x.home) (λ _. i ≡ owner c items u w.log)
+              (λ on. (let home : instance_node i ≡ x.home = (Decides-eqb (instance_node i) x.home).0 on in
+              let own : instance_node (owner c items u w.log) ≡ x.home = told u x before (came_by f g w.log u).diverted h in omega (arith, home, own)))
+              (λ off.
+              let number : instance_node i - 2 ≡ i = omega arith in
+              let none : live_at w i u ≡ None = ap (λ k. live_at w k u) (sym number)
+              ∙ live_same (instance_node i) (omega arith) (few_live i r live) None (h.away (instance_node i) off) in
+              let never : None ≡ Some r = sym none ∙ live in
+              cc)
 
     pub completed : (ends_last items ≡ true → (op : ℕ) (what : Order) → order_numbered items op ≡ Some what → length (answers_of op w.log) ≡ 1)
         → ((op : ℕ) (source destination : List ℕ) (filter : Filter) (keep : Bool)

@@ -5,7 +5,7 @@ use Rattle.nf_net.proofs.Words.{◌==◌, slice_get, is_some, Decides-eqb, slice
 use Rattle.nf_net.proofs.Words.{CopyState, Copy, Move, Network, queue_at, self, shape, each_map, Open, fold_runs, unit_share, as_share, moves_of, seeing, Where}
 use Rattle.nf_net.proofs.Words.{WhereAll, Apart_from_shares, Under_share, Config, Node, is_of, processed_of, IsInput, dones_in, done_where, owner}
 use Rattle.nf_net.proofs.Words.{unit_numbered, live_at, live_in, is_whole, takes_same, unit_fits, is_sys, Given, S, A, came_by, Joined, Scene, AreApart}
-use Rattle.nf_net.proofs.Words.{AllApart, done_same, given, Unit, Instance}
+use Rattle.nf_net.proofs.Words.{AllApart, done_same, given, Unit, Instance, split}
 use Rattle.std.specs.Prelude.{map}
 use Rattle.std.specs.FinMap as finite
 use Rattle.actor_net.proofs.EnabledChoices.{at as at_node}
@@ -27,12 +27,10 @@ use Rattle.nf_net.proofs.UnitShares.{owner_goes}
 module _ {R : Type 0} (f : Semantics R) (c : Config) (items : List Msg) (is : IsInput f.kind c items) (u : Unit) where
   done_fits : (d : Done) (ds rest : List Done) → done_where (is_of f c items u) ds ≡ d ∷ rest → unit_fits f.kind u ≡ true
   done_fits d [] rest e = cc
-  done_fits d (x ∷ ds) rest e = elim (is_of f c items u x.number) as (λ b. is_of f c items u x.number ≡ b
-      → (if b then x ∷ done_where (is_of f c items u) ds else done_where (is_of f c items u) ds) ≡ d ∷ rest → unit_fits f.kind u ≡ true) [
-        | true ↦ λ mine _. subst (λ v. unit_fits f.kind v ≡ true) (same_unit-true (unit_numbered c items f.kind x.number) u mine)
-            (units_fit f c items is x.number)
-        | false ↦ λ _ more. done_fits d ds rest more
-      ] refl e
+  done_fits d (x ∷ ds) rest e = split (is_of f c items u x.number)
+      (λ b. (if b then x ∷ done_where (is_of f c items u) ds else done_where (is_of f c items u) ds) ≡ d ∷ rest → unit_fits f.kind u ≡ true)
+      (λ mine _. subst (λ v. unit_fits f.kind v ≡ true) (same_unit-true (unit_numbered c items f.kind x.number) u mine)
+      (units_fit f c items is x.number)) (λ _ more. done_fits d ds rest more) e
 
   folded_fits : (ds : List Done) (kept : R) → fold f c items None (map (λ d. d.number) (done_where (is_of f c items u) ds)) ≡ Some kept
       → unit_fits f.kind u ≡ true
@@ -71,22 +69,18 @@ module _ {F R : Type 0} (f : Semantics R) (c : Config) (items : List Msg) (is : 
     move_out e listed = ap (λ q. (S f g).takes q u) listed.filter ∙ out
       where
         other : (op == e.op.num) ≡ false
-        other = elim (op == e.op.num) as (λ b. (op == e.op.num) ≡ b → b ≡ false) [
-          | true ↦ λ same. let both : Some (Copy y) ≡ Some (Move listed.move) = sym there
-              ∙ ap (finite.get j.nodes.controller.operations) ((Decides-eqb op e.op.num).0 same) ∙ listed.there in
-              cc
-          | false ↦ λ _. refl
-        ] refl
+        other = split (op == e.op.num) (λ b. b ≡ false)
+            (λ same. let both : Some (Copy y) ≡ Some (Move listed.move) = sym there
+            ∙ ap (finite.get j.nodes.controller.operations) ((Decides-eqb op e.op.num).0 same) ∙ listed.there in
+            cc) (λ _. refl)
 
         off : AreApart (Some filter) (Some listed.move.plan.filter)
         off = subst (λ q. AreApart q (Some listed.move.plan.filter)) filter_is (apart op e.op.num (Copy y) (Move listed.move) other there listed.there)
 
         by_apart : AreApart (Some filter) (Some listed.move.plan.filter) → (S f g).takes listed.move.plan.filter u ≡ false
         by_apart (inl none) = (is_sys f g.site g.packet).apart filter listed.move.plan.filter u none on
-        by_apart (inr none) = elim ((S f g).takes listed.move.plan.filter u) as (λ b. (S f g).takes listed.move.plan.filter u ≡ b → b ≡ false) [
-          | true ↦ λ both. let never : true ≡ false = sym on ∙ (is_sys f g.site g.packet).apart listed.move.plan.filter filter u none both in cc
-          | false ↦ λ _. refl
-        ] refl
+        by_apart (inr none) = split ((S f g).takes listed.move.plan.filter u) (λ b. b ≡ false)
+            (λ both. let never : true ≡ false = sym on ∙ (is_sys f g.site g.packet).apart listed.move.plan.filter filter u none both in cc) (λ _. refl)
 
         out : (S f g).takes listed.move.plan.filter u ≡ false
         out = by_apart off

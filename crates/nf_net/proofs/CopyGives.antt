@@ -126,8 +126,10 @@ module _ (F : Type 0) {R : Type 0} (f : Semantics R) (laws : FunctionLaws f) (al
           record {
             has_begun = on;
             came = came_before F f laws alloc c items is cs run_is copy.op on;
-            had = λ u kept taken live. had f c items is n w nodes j r.beside.kept.apart copy.op o.state copy.filter o.there o.filter_is u whole taken
+            had = λ u kept taken live. had f c items is n w nodes j
+                (run_beside F f laws alloc c items is cs run_is).beside.kept.apart copy.op o.state copy.filter o.there o.filter_is u whole taken
                 copy.source kept (omega arith) few live;
-            owned = λ u kept taken own folds. owned f c items is n w nodes j r.beside.kept.apart copy.op o.state copy.filter o.there o.filter_is u whole
+            owned = λ u kept taken own folds. owned f c items is n w nodes j
+                (run_beside F f laws alloc c items is cs run_is).beside.kept.apart copy.op o.state copy.filter o.there o.filter_is u whole
                 taken copy.source kept few own folds;
           }

@@ -28,6 +28,7 @@ use Rattle.nf_net.proofs.JudgedTables.{used_few}
 use Rattle.nf_net.proofs.RunKeeps.{start, run_keeps}
 use Rattle.nf_net.proofs.StandbyFronts.{went_more}
 use Rattle.nf_net.proofs.VerdictLemmas.{none_exported, exported_new, before_export_new}
+use Rattle.nf_net.proofs.WeightlessMessages.{each_item, each_sent}
 
 get_notes : {F R : Type 0} (f : Semantics R) (i : InstanceState F R) (op : ℕ) (filter : Filter)
     → (instance_step f i (Msg.Get op filter)).notes ≡ Note.Exported i.index op (units_in (selected_chunks f i filter)) ∷ []
@@ -48,16 +49,10 @@ module _ {F R : Type 0} (f : Semantics R) (c : Config) (items : List Msg) (g : G
   switch_told r m label = tt
 
   switch_tells : (sends : List (ℕ × Msg)) → EachSent (Label f g) 0 sends → EachSent (Told f c items first cs log) 0 sends
-  switch_tells [] h = tt
-  switch_tells (x ∷ xs) h = (switch_told x.0 x.1 h.0, switch_tells xs h.1)
+  switch_tells = each_sent (Label f g) (Told f c items first cs log) 0 switch_told
 
   items_told : (ms : List Msg) → labels.Each (λ item. is_item item ≡ true) ms → Each (Told f c items first cs log 0 0) ms
-  items_told [] h = tt
-  items_told (Msg.InCommand k ∷ ms) h = (tt, items_told ms h.1)
-  items_told (Msg.InPacket p ∷ ms) h = (tt, items_told ms h.1)
-  items_told (Msg.InSettle ∷ ms) h = (tt, items_told ms h.1)
-  items_told (Msg.InEnd ∷ ms) h = (tt, items_told ms h.1)
-  items_told (m ∷ ms) h = let never : false ≡ true = h.0 in cc
+  items_told = each_item (Told f c items first cs log 0 0) (λ p. tt) (λ k. tt) tt tt
 
 module _ (F : Type 0) {R : Type 0} (f : Semantics R) (laws : FunctionLaws f) (alloc : Global) (c : Config) (items : List Msg)
     (is : IsInput f.kind c items) where

@@ -4,7 +4,7 @@ use Rattle.nf_net.proofs.Words.{◌||◌, or-true, Decides-eqb, nat_tests, Filte
 use Rattle.nf_net.proofs.Words.{instance_node, MoveState, MoveRow, row_in, CopyState, ShareState, Operation, Move, Copy, Share, turn_of, turn_of_move}
 use Rattle.nf_net.proofs.Words.{turn_of_copy, ControllerState, Choice, Network, EachSent, Each, Open, OpenShare, Config, Node, is_begun, answers_of, IsInput}
 use Rattle.nf_net.proofs.Words.{has_begun-append, sent-append, row_by, CopyTurn, Idle, Hands, Hands_all, Ends, hands, copy_turn, NotShared, noted, is_uncopied}
-use Rattle.nf_net.proofs.Words.{all_sent, TurnSo, Given, IsCopyPlan, Label, given, Done, UnitCopy, IsOrdered}
+use Rattle.nf_net.proofs.Words.{all_sent, TurnSo, Given, IsCopyPlan, Label, given, Done, UnitCopy, IsOrdered, split}
 use Rattle.std.specs.FinMap as finite
 use Rattle.copy_share.specs.Copy as copying
 use Rattle.ctrl_node.specs.Controller as ctrl
@@ -103,12 +103,10 @@ module _ {F R : Type 0} (f : Semantics R) (c : Config) (items : List Msg) (is : 
     told_did op None did notes never says = quiet did notes says
     told_did op (Some a) did notes never says = record {
       says = says;
-      found = λ copy of e. elim (op == copy.op)
-          as (λ b. (op == copy.op) ≡ b → map (λ (one : ℕ × Answer). one.1) (if b then (op, a) ∷ [] else []) ≡ Done ∷ []
-          → WasKept f c items start (cs ++ d ∷ []) (log ++ did.notes) copy) [
-            | true ↦ λ on same. absurd (never a refl copy (sym ((Decides-eqb op copy.op).0 on)) of (first_is a Done same))
-            | false ↦ λ _ none. cc
-          ] refl (sym (ap (answers_of copy.op) notes) ∙ e);
+      found = λ copy of e. split (op == copy.op)
+          (λ b. map (λ (one : ℕ × Answer). one.1) (if b then (op, a) ∷ [] else []) ≡ Done ∷ [] → WasKept f c items start (cs ++ d ∷ []) (log ++ did.notes) copy)
+          (λ on same. absurd (never a refl copy (sym ((Decides-eqb op copy.op).0 on)) of (first_is a Done same))) (λ _ none. cc)
+          (sym (ap (answers_of copy.op) notes) ∙ e);
     }
 
     -- An open share.
@@ -177,16 +175,14 @@ module _ {F R : Type 0} (f : Semantics R) (c : Config) (items : List Msg) (is : 
       ends_did : (k : ℕ) → m ≡ Msg.Kept k → Did (ends s op)
       ends_did k e = record {
         says = (tt, tt);
-        found = λ copy of done. elim (op == copy.op)
-            as (λ b. (op == copy.op) ≡ b → map (λ (one : ℕ × Answer). one.1) (if b then (op, Done) ∷ [] else []) ≡ Done ∷ []
-            → WasKept f c items start (cs ++ d ∷ []) (log ++ Note.Answered op Done ∷ []) copy) [
-              | true ↦ λ on _.
-                  let from : k ≡ op = number_of k (ap op_of e) in
-                  let it = subst (λ z. Told f c items start (cs ++ d ∷ []) (log ++ Note.Answered op Done ∷ []) p 1 z) e
-                  (told_still f c items start cs d log (Note.Answered op Done ∷ []) p 1 m was) in
-                  it copy (sym ((Decides-eqb op copy.op).0 on) ∙ sym from) of
-              | false ↦ λ _ never. cc
-            ] refl done;
+        found = λ copy of done. split (op == copy.op)
+            (λ b. map (λ (one : ℕ × Answer). one.1) (if b then (op, Done) ∷ [] else []) ≡ Done ∷ [] → WasKept f c items start (cs ++ d ∷ [])
+            (log ++ Note.Answered op Done ∷ []) copy)
+            (λ on _.
+            let from : k ≡ op = number_of k (ap op_of e) in
+            let it = subst (λ z. Told f c items start (cs ++ d ∷ []) (log ++ Note.Answered op Done ∷ []) p 1 z) e
+            (told_still f c items start cs d log (Note.Answered op Done ∷ []) p 1 m was) in
+            it copy (sym ((Decides-eqb op copy.op).0 on) ∙ sym from) of) (λ _ never. cc) done;
       }
 
       by_turn : (a : Option Answer) → copying.answer_of (copying.row y p m).phase ≡ a → (did : Step)

@@ -17,14 +17,11 @@ few_of mine (d ∷ ds) =
 
 module _ (F : Type 0) {R : Type 0} (f : Semantics R) (laws : FunctionLaws f) (alloc : Global) (c : Config) (items : List Msg)
     (is : IsInput f.kind c items) where
-  abbrev n : ℕ
-  n = length c.names + 2
-
   pub room : (w : Network (Node F R) Msg Note) → InRun F f laws alloc c items is w → (u : Unit) → length (processed_of f c items u w.log) ≤ most_counted
   room w h u =
       let own = length-map (done_where (is_of f c items u) (dones_in w.log)) (λ d. d.number) in
       let some = few_of (is_of f c items u) (dones_in w.log) in
-      let came = few_done f c items is n w h.runs.joined in
+      let came = few_done f c items is (length c.names + 2) w h.runs.joined in
       let turn = front_length (arrivals_in w.log) (numbers items) (record { rest = _; whole = h.in_turn }) in
       let all = length-map (packets items) (λ p. p.number) in
       let few = is.few in

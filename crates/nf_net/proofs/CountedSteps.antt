@@ -3,7 +3,7 @@ use Rattle.nf_net.proofs.Words.{◌≡◌, ◌≢◌, ℕ, zero, suc, ◌+◌, �
 use Rattle.nf_net.proofs.Words.{sym, ap, ◌∙◌, subst, arith, ◌&&◌, ◌==◌, nat_lt, Global, nat_tests, Decides-eqb, Decides-ltb, FunctionLaws, Semantics, Answer}
 use Rattle.nf_net.proofs.Words.{Msg, Note, SwitchState, switch_step, takes_in, controller_step, Network, Stepped, reaches, world_next, queue_at, at, Takes}
 use Rattle.nf_net.proofs.Words.{taken_outcome, less_first, EachSent, total, sent_weight, total_after, Config, Node, Switch, has_answered, answers_of, commands}
-use Rattle.nf_net.proofs.Words.{IsInput, node_step, node_ready, answers_of-append, known, Given, Label, Joined, node_of, given}
+use Rattle.nf_net.proofs.Words.{IsInput, node_step, node_ready, answers_of-append, known, Given, Label, Joined, node_of, given, split}
 use Rattle.actor_net.specs.Network.{is_input}
 use Rattle.nf_net.proofs.answers.AnswerSends.{answering}
 use Rattle.nf_net.proofs.answers.BusyLemmas.{other_not_answered}
@@ -52,17 +52,16 @@ module _ (F : Type 0) {R : Type 0} (f : Semantics R) (laws : FunctionLaws f) (al
       Is_ready = (k ≡ 0) × (takes_in j.nodes.switch m ≡ true)
 
       input_goes : InputGoes m (queue_at w (at 0 0)) (queue_at v (at 0 0)) Is_ready
-      input_goes = elim ((0 == k) && (0 == p)) as (λ t. (0 == k) && (0 == p) ≡ t → queue_at v (at 0 0) ≡ less_first t (queue_at w (at 0 0))
-          → InputGoes m (queue_at w (at 0 0)) (queue_at v (at 0 0)) Is_ready) [
-            | true ↦ λ on e.
-                let k0 : 0 ≡ k = grind (arith, nat_tests, on) in
-                let p0 : 0 ≡ p = grind (arith, nat_tests, on) in
-                let waits : queue_at w (at 0 0) ≡ m ∷ rest = ap (λ x. queue_at w (at x 0)) k0 ∙ ap (λ x. queue_at w (at k x)) p0 ∙ takes.waits in
-                let behind : queue_at v (at 0 0) ≡ rest = e ∙ ap (λ xs. drop 1 xs) waits in
-                Loses (waits ∙ ap (λ xs. m ∷ xs) (sym behind))
-                (sym k0, subst (λ x. node_ready (node_of j.nodes x) m ≡ true) (sym k0) (it.ready (rw (← k0, ← p0) refl)))
-            | false ↦ λ off e. Stays e (by_asking (asking m) refl off)
-          ] refl it.input
+      input_goes = split ((0 == k) && (0 == p))
+          (λ t. queue_at v (at 0 0) ≡ less_first t (queue_at w (at 0 0)) → InputGoes m (queue_at w (at 0 0)) (queue_at v (at 0 0)) Is_ready)
+          (λ on e.
+          let k0 : 0 ≡ k = grind (arith, nat_tests, on) in
+          let p0 : 0 ≡ p = grind (arith, nat_tests, on) in
+          let waits : queue_at w (at 0 0) ≡ m ∷ rest = ap (λ x. queue_at w (at x 0)) k0 ∙ ap (λ x. queue_at w (at k x)) p0 ∙ takes.waits in
+          let behind : queue_at v (at 0 0) ≡ rest = e ∙ ap (λ xs. drop 1 xs) waits in
+          Loses (waits ∙ ap (λ xs. m ∷ xs) (sym behind))
+          (sym k0, subst (λ x. node_ready (node_of j.nodes x) m ≡ true) (sym k0) (it.ready (rw (← k0, ← p0) refl))))
+          (λ off e. Stays e (by_asking (asking m) refl off)) it.input
         where
           by_asking : (a : ℕ) → asking m ≡ a → (0 == k) && (0 == p) ≡ false → asking m ≡ 0
           by_asking zero e off = e
@@ -111,15 +110,13 @@ module _ (F : Type 0) {R : Type 0} (f : Semantics R) (laws : FunctionLaws f) (al
 
           by_goes : InputGoes m (queue_at w (at 0 0)) (queue_at v (at 0 0)) Is_ready → AllAnswered (commands front) w.log
           by_goes (Stays e none) = h.settled front behind whole (let less = ap length e in omega (arith, less, short))
-          by_goes (Loses e r) = elim (nat_lt (length behind) (length (queue_at w (at 0 0))))
-              as (λ t. nat_lt (length behind) (length (queue_at w (at 0 0))) ≡ t → AllAnswered (commands front) w.log) [
-                | true ↦ λ on.
-                    let more = (Decides-ltb (length behind) (length (queue_at w (at 0 0)))).0 on in
-                    let one = ap length e in
-                    let ends = same_ends h.took (queue_at w (at 0 0)) front (Msg.InSettle ∷ behind) (sym h.whole ∙ whole) (omega (arith, more, one, short)) in
-                    subst (λ xs. AllAnswered (commands xs) w.log) ends.0 (none_waits g w b items h (taken_now (sym e ∙ ends.1) r.1))
-                | false ↦ λ off. (let few : length (queue_at w (at 0 0)) ≤ length behind = grind (arith, nat_tests, off) in h.settled front behind whole few)
-              ] refl
+          by_goes (Loses e r) = split (nat_lt (length behind) (length (queue_at w (at 0 0)))) (λ _. AllAnswered (commands front) w.log)
+              (λ on.
+              let more = (Decides-ltb (length behind) (length (queue_at w (at 0 0)))).0 on in
+              let one = ap length e in
+              let ends = same_ends h.took (queue_at w (at 0 0)) front (Msg.InSettle ∷ behind) (sym h.whole ∙ whole) (omega (arith, more, one, short)) in
+              subst (λ xs. AllAnswered (commands xs) w.log) ends.0 (none_waits g w b items h (taken_now (sym e ∙ ends.1) r.1)))
+              (λ off. (let few : length (queue_at w (at 0 0)) ≤ length behind = grind (arith, nat_tests, off) in h.settled front behind whole few))
 
     switch_same : 0 < n → h.switch ≡ j.nodes.switch
     switch_same some = ap (switch_in h.switch) (sym (h.switch_is (Switch h.switch)) ∙ j.nodes_are 0 some (Switch h.switch))

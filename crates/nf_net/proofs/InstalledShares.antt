@@ -179,20 +179,18 @@ module _ {F R : Type 0} (f : Semantics R) (c : Config) (items : List Msg) (is : 
 
 module _ (F : Type 0) {R : Type 0} (f : Semantics R) (laws : FunctionLaws f) (alloc : Global) (c : Config) (items : List Msg)
     (is : IsInput f.kind c items) where
-  abbrev gr : Given
-  gr = given f c items is
-
-  abbrev n : ℕ
-  n = count F f laws alloc c items is
-
   abbrev first : Network (Node F R) Msg Note
   first = start F f laws alloc c items is
 
-  module _ (w : Network (Node F R) Msg Note) (r : Runs F f laws alloc c items is w) (b : Busy gr w) (i : Installs gr w) (h : SaysOfShares f c items w.log) where
-    step_says : (k p : ℕ) (m : Msg) → IsTaken f gr n (scene f gr n refl (Wants f gr) (node_leads f laws gr (all_fit f c items is) n) w r.joined)
+  module _ (w : Network (Node F R) Msg Note) (r : Runs F f laws alloc c items is w) (b : Busy (given f c items is) w) (i : Installs (given f c items is) w)
+      (h : SaysOfShares f c items w.log) where
+    step_says : (k p : ℕ) (m : Msg) → IsTaken f (given f c items is) (length c.names + 2)
+        (scene f (given f c items is) (length c.names + 2) refl (Wants f (given f c items is))
+        (node_leads f laws (given f c items is) (all_fit f c items is) (length c.names + 2)) w r.joined)
         (record { node = k; port = p; message = m })
         → SaysOfShares f c items (w.log ++ (node_step f (node_of r.joined.nodes k) p m).notes)
-    step_says zero p m it = says_after f c items is n refl w r.joined r.beside.kept.apart b i h p m it (changed f gr n _ r.joined.shown_is p m it)
+    step_says zero p m it = says_after f c items is (length c.names + 2) refl w r.joined r.beside.kept.apart b i h p m it
+        (changed f (given f c items is) (length c.names + 2) _ r.joined.shown_is p m it)
     step_says (suc zero) p m it = quiet_says f c items w.log (controller_step r.joined.nodes.controller p m).notes
         (installed_none _ (controller_uninstalled r.joined.nodes.controller p m)) h
     step_says (suc (suc y)) p m it = quiet_says f c items w.log (node_step f (node_of r.joined.nodes (suc (suc y))) p m).notes

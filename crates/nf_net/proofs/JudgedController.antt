@@ -5,7 +5,7 @@ use Rattle.nf_net.proofs.Words.{Order, Piece, Msg, Note, instance_node, op_of, C
 use Rattle.nf_net.proofs.Words.{move_at_start, answer_of, destination, stored_of, Operation, Move, Copy, Share, OpenOperations, turn_of, turn_of_move}
 use Rattle.nf_net.proofs.Words.{ControllerState, on_asked, on_diverted, after_turn, takes_turn, hand_step, unknown_name, overlap, step_and_finish}
 use Rattle.nf_net.proofs.Words.{controller_step, EachSent, sent_weight, is_begun, is_refusal, sent-append, row_by, got_insert, got_remove, gone_twice}
-use Rattle.nf_net.proofs.Words.{NotShared, copy_turn, Action, Target}
+use Rattle.nf_net.proofs.Words.{NotShared, copy_turn, Action, Target, split}
 use Rattle.std.specs.FinMap as finite
 use Rattle.event_filter.specs.declared.mark.Mark.TheVariants.{Pass}
 use Rattle.copy_share.specs.Copy as copy
@@ -76,11 +76,9 @@ module _ (Part : ℕ → Piece → Type 0) (Verdict : ℕ → Answer → Type 0)
     -- an operation in place of one, or a new one
     knows_insert : (op : ℕ) (m : MoveState) → Knows Part Verdict Goes op m.phase → AllKnow (finite.insert c.operations op (Move m))
     knows_insert op m h k x there =
-        elim (k == op) as (λ b. (k == op) ≡ b → cond b (Some (Move m)) (finite.get c.operations k) ≡ Some (Move x) → Knows Part Verdict Goes k x.phase) [
-          | true ↦ λ on e. subst (λ j. Knows Part Verdict Goes j x.phase) (sym ((Decides-eqb k op).0 on))
-              (subst (λ y. Knows Part Verdict Goes op y.phase) (ap (move_in m) e) h)
-          | false ↦ λ off e. knows k x e
-        ] refl (sym (got_insert c.operations op k (Move m)) ∙ there)
+        split (k == op) (λ b. cond b (Some (Move m)) (finite.get c.operations k) ≡ Some (Move x) → Knows Part Verdict Goes k x.phase)
+        (λ on e. subst (λ j. Knows Part Verdict Goes j x.phase) (sym ((Decides-eqb k op).0 on))
+        (subst (λ y. Knows Part Verdict Goes op y.phase) (ap (move_in m) e) h)) (λ off e. knows k x e) (sym (got_insert c.operations op k (Move m)) ∙ there)
 
     module _ (moves : (op : ℕ) (m : MoveState) → finite.get c.operations op ≡ Some (Move m) → (m.plan.op ≡ op) × Goes op (destination m.plan))
         (copies : (op : ℕ) (y : CopyState) → finite.get c.operations op ≡ Some (Copy y) → (copy.answer_of y.phase ≡ None) × Still op)
@@ -110,20 +108,20 @@ module _ (Part : ℕ → Piece → Type 0) (Verdict : ℕ → Answer → Type 0)
         -- what is sent once, where the operation then counts for so many
         spends : (k : ℕ) (first : Bool) (after : ℕ) → spent r.next.phase first ≤ after → sent_weight (once first k) n 1 r.next.sends
             + used (finite.get c.operations k) (is_begun k log) first ≤ (if k == op then after else used (finite.get c.operations k) (is_begun k log) first)
-        spends k first after few = elim (k == op) as (λ b. (k == op) ≡ b → sent_weight (once first k) n 1 r.next.sends
-            + used (finite.get c.operations k) (is_begun k log) first ≤ (if b then after else used (finite.get c.operations k) (is_begun k log) first)) [
-              | true ↦ λ on.
-                  let it : mv.plan.op ≡ k = same ∙ sym ((Decides-eqb k op).0 on) in
-                  let sent = subst (λ y. sent_weight (once first y) n 1 r.next.sends + spent mv.phase first ≤ spent r.next.phase first) it
-                  (row_spends n first mv.plan (stored_of c.store mv.plan.op) mv.phase port m).own in
-                  let before : used (finite.get c.operations k) (is_begun k log) first ≡ spent mv.phase first =
-                  ap (λ y. used (finite.get c.operations y) (is_begun k log) first) ((Decides-eqb k op).0 on) ∙ ap (λ o. used o (is_begun k log) first) there in
-                  omega (arith, few, sent, before)
-              | false ↦ λ off.
-                  let apart : (mv.plan.op == k) ≡ false = grind (arith, nat_tests, off, same) in
-                  let none = (row_spends n first mv.plan (stored_of c.store mv.plan.op) mv.phase port m).other k apart in
-                  omega (arith, none)
-            ] refl
+        spends k first after few = split (k == op)
+            (λ b. sent_weight (once first k) n 1 r.next.sends + used (finite.get c.operations k) (is_begun k log) first ≤
+            (if b then after else used (finite.get c.operations k) (is_begun k log) first))
+            (λ on.
+            let it : mv.plan.op ≡ k = same ∙ sym ((Decides-eqb k op).0 on) in
+            let sent = subst (λ y. sent_weight (once first y) n 1 r.next.sends + spent mv.phase first ≤ spent r.next.phase first) it
+            (row_spends n first mv.plan (stored_of c.store mv.plan.op) mv.phase port m).own in
+            let before : used (finite.get c.operations k) (is_begun k log) first ≡ spent mv.phase first =
+            ap (λ y. used (finite.get c.operations y) (is_begun k log) first) ((Decides-eqb k op).0 on) ∙ ap (λ o. used o (is_begun k log) first) there in
+            omega (arith, few, sent, before))
+            (λ off.
+            let apart : (mv.plan.op == k) ≡ false = grind (arith, nat_tests, off, same) in
+            let none = (row_spends n first mv.plan (stored_of c.store mv.plan.op) mv.phase port m).other k apart in
+            omega (arith, none))
 
         turn_by : (a : Option Answer) → answer_of r.next.phase ≡ a → StepIs (after_turn c op (turn_of_move mv c.store r) a)
         turn_by None e = record {
@@ -148,16 +146,14 @@ module _ (Part : ℕ → Piece → Type 0) (Verdict : ℕ → Answer → Type 0)
             | false ↦ λ was. knows k y was
           ] (sym (gone k) ∙ got);
           says = sent-append (Said Part Verdict Goes) 1 r.next.sends ((0, Msg.Answered op) ∷ []) says_next (tt, tt);
-          found = λ k b is. elim (op == k) as (λ t. (op == k) ≡ t → map (λ (one : ℕ × Answer). one.1) (if t then (op, a) ∷ [] else []) ≡ b ∷ [] → IsFound k b) [
-            | true ↦ λ on given.
-                let it : op ≡ k = (Decides-eqb op k).0 on in
-                let its : a ≡ b = first_is a b given in
-                subst (λ j. IsFound j b) it (subst (λ z. IsFound op z) its (record {
-                  known = λ _. By_verdict (answer_known Part Verdict Goes op r.next.phase a knows_next e);
-                  refused = λ never. (let on = sym (busy op (Move mv) there) ∙ never in cc);
-                }))
-            | false ↦ λ off never. cc
-          ] refl is;
+          found = λ k b is. split (op == k) (λ t. map (λ (one : ℕ × Answer). one.1) (if t then (op, a) ∷ [] else []) ≡ b ∷ [] → IsFound k b)
+              (λ on given.
+              let it : op ≡ k = (Decides-eqb op k).0 on in
+              let its : a ≡ b = first_is a b given in
+              subst (λ j. IsFound j b) it (subst (λ z. IsFound op z) its (record {
+                known = λ _. By_verdict (answer_known Part Verdict Goes op r.next.phase a knows_next e);
+                refused = λ never. (let on = sym (busy op (Move mv) there) ∙ never in cc);
+              }))) (λ off never. cc) is;
           own = (refl, tt);
           once = λ k first.
               let both = sent_weight-append (once first k) n 1 r.next.sends ((0, Msg.Answered op) ∷ []) in
@@ -168,11 +164,10 @@ module _ (Part : ℕ → Piece → Type 0) (Verdict : ℕ → Answer → Type 0)
               ≡ (if k == op then 1 else used (finite.get c.operations k) (is_begun k log) first) =
               ap (λ o. used o (is_begun k (log ++ Note.Answered op a ∷ [])) first) (gone k)
               ∙ ap (λ b. used (cond (k == op) None (finite.get c.operations k)) b first) move_at_start
-              ∙ elim (k == op) as (λ b. (k == op) ≡ b → used (cond b None (finite.get c.operations k)) (is_begun k log) first
-              ≡ (if b then 1 else used (finite.get c.operations k) (is_begun k log) first)) [
-                | true ↦ λ on. (let has : is_begun k log ≡ true = ap (λ j. is_begun j log) ((Decides-eqb k op).0 on) ∙ busy op (Move mv) there in rw has refl)
-                | false ↦ λ off. refl
-              ] refl in
+              ∙ split (k == op) (λ b. used (cond b None (finite.get c.operations k)) (is_begun k log) first ≡
+              (if b then 1 else used (finite.get c.operations k) (is_begun k log) first))
+              (λ on. (let has : is_begun k log ≡ true = ap (λ j. is_begun j log) ((Decides-eqb k op).0 on) ∙ busy op (Move mv) there in rw has refl))
+              (λ off. refl) in
               omega (arith, both, none, sent, here);
         }
           where
@@ -250,20 +245,19 @@ module _ (Part : ℕ → Piece → Type 0) (Verdict : ℕ → Answer → Type 0)
                   ≤ used (finite.get (finite.insert c.operations op (Copy (copy.copy_at_start plan))) k) (is_begun k (log ++ Note.Begun op ∷ [])) first =
                   subst (λ o. once first k (copy.asks op filter) + used (finite.get c.operations k) (is_begun k log) first
                   ≤ used o (is_begun k (log ++ Note.Begun op ∷ [])) first) (sym (got_insert c.operations op k (Copy (copy.copy_at_start plan))))
-                  (elim (k == op) as (λ b. (k == op) ≡ b → once first k (copy.asks op filter) + used (finite.get c.operations k) (is_begun k log) first
-                  ≤ used (cond b (Some (Copy (copy.copy_at_start plan))) (finite.get c.operations k)) (is_begun k (log ++ Note.Begun op ∷ [])) first) [
-                    | true ↦ λ on.
-                        let it : k ≡ op = (Decides-eqb k op).0 on in
-                        let zero : used (finite.get c.operations k) (is_begun k log) first ≡ 0 =
-                        ap (λ j. used (finite.get c.operations j) (is_begun j log) first) it ∙ ap (λ o. used o (is_begun op log) first) none
-                        ∙ ap (λ b. if b then 1 else 0) new in
-                        omega (arith, zero, few)
-                    | false ↦ λ off.
-                        let turned : (op == k) ≡ false = grind (arith, nat_tests, off) in
-                        let same : is_begun k (log ++ Note.Begun op ∷ []) ≡ is_begun k log = began_same k log (Note.Begun op ∷ []) (rw turned refl) in
-                        let apart = asks_apart filter first k turned in
-                        rw same (omega (arith, apart))
-                  ] refl) in
+                  (split (k == op) (λ b. once first k (copy.asks op filter) + used (finite.get c.operations k) (is_begun k log) first ≤ used
+                  (cond b (Some (Copy (copy.copy_at_start plan))) (finite.get c.operations k)) (is_begun k (log ++ Note.Begun op ∷ [])) first)
+                  (λ on.
+                  let it : k ≡ op = (Decides-eqb k op).0 on in
+                  let zero : used (finite.get c.operations k) (is_begun k log) first ≡ 0 =
+                  ap (λ j. used (finite.get c.operations j) (is_begun j log) first) it ∙ ap (λ o. used o (is_begun op log) first) none
+                  ∙ ap (λ b. if b then 1 else 0) new in
+                  omega (arith, zero, few))
+                  (λ off.
+                  let turned : (op == k) ≡ false = grind (arith, nat_tests, off) in
+                  let same : is_begun k (log ++ Note.Begun op ∷ []) ≡ is_begun k log = began_same k log (Note.Begun op ∷ []) (rw turned refl) in
+                  let apart = asks_apart filter first k turned in
+                  rw same (omega (arith, apart)))) in
                   omega (arith, most, here);
             }
           where
@@ -292,16 +286,14 @@ module _ (Part : ℕ → Piece → Type 0) (Verdict : ℕ → Answer → Type 0)
         knows = knows;
         says = (tt, tt);
         found = λ k b given.
-            elim (op == k) as (λ t. (op == k) ≡ t → map (λ (one : ℕ × Answer). one.1) (if t then (op, a) ∷ [] else []) ≡ b ∷ [] → IsFound k b) [
-              | true ↦ λ on e.
-                  let it : op ≡ k = (Decides-eqb op k).0 on in
-                  let its : a ≡ b = first_is a b e in
-                  subst (λ j. IsFound j b) it (subst (λ z. IsFound op z) its (record {
-                    known = λ never. (let on = sym new ∙ never in cc);
-                    refused = λ _. refused_is (unknown_name c what) (overlap c what) a is;
-                  }))
-              | false ↦ λ off never. cc
-            ] refl given;
+            split (op == k) (λ t. map (λ (one : ℕ × Answer). one.1) (if t then (op, a) ∷ [] else []) ≡ b ∷ [] → IsFound k b)
+            (λ on e.
+            let it : op ≡ k = (Decides-eqb op k).0 on in
+            let its : a ≡ b = first_is a b e in
+            subst (λ j. IsFound j b) it (subst (λ z. IsFound op z) its (record {
+              known = λ never. (let on = sym new ∙ never in cc);
+              refused = λ _. refused_is (unknown_name c what) (overlap c what) a is;
+            }))) (λ off never. cc) given;
         own = (refl, tt);
         once = λ k first.
             let sent = no_one n 1 first 0 (Msg.Answered op) (λ y. refl) k in

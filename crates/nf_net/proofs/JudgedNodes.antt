@@ -5,6 +5,7 @@ use Rattle.instance_worker.specs.Instance.{on_stream}
 use Rattle.nf_net.proofs.JudgedTables.{is_own}
 use Rattle.nf_net.proofs.MoveJudged.{Said}
 use Rattle.nf_net.proofs.VerdictLemmas.{times_given}
+use Rattle.nf_net.proofs.WeightlessMessages.{each_sent}
 
 -- The switch and the controller note nothing of state that is given.
 module _ (op : ℕ) where
@@ -43,8 +44,7 @@ module _ {R : Type 0} (f : Semantics R) (g : Given) (P : ℕ → Piece → Type 
   switch_said r m label = tt
 
   pub switch_says : (sends : List (ℕ × Msg)) → EachSent (Label f g) 0 sends → EachSent (Said P V G) 0 sends
-  switch_says [] h = tt
-  switch_says (x ∷ xs) h = (switch_said x.0 x.1 h.0, switch_says xs h.1)
+  switch_says = each_sent (Label f g) (Said P V G) 0 switch_said
 
 module _ {F R : Type 0} where
   abbrev instance_in : InstanceState F R → Node F R → InstanceState F R

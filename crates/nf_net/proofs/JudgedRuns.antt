@@ -1,10 +1,10 @@
 -- In every run each move that began is answered by its verdict, which is on what its destination held, and on what came, when it took the first
 -- piece; a copy or a share that began is done, and each other command is refused.
 use Rattle.nf_net.proofs.Words.{◌≡◌, ℕ, ◌+◌, ◌≤◌, Bool, true, false, Some, None, List, [], ◌∷◌, ◌++◌, length, refl, sym, ap, ◌∙◌, subst, arith, Global, nat_cmp}
-use Rattle.nf_net.proofs.Words.{Filter, FunctionLaws, Semantics, Answer, Order, Piece, Msg, Note, Choice, Network, Stepped, IsRun, run, opening_on_links}
-use Rattle.nf_net.proofs.Words.{opening_weight, total, weigh, Each, Operation, opened_controller, unknown_in, InstanceState, Config, Node, is_begun, answers_of}
-use Rattle.nf_net.proofs.Words.{before_command, overlaps, IsCause, MayBegin, is_item, order_numbered, IsInput, course_of, job_of, node_step, node_ready}
-use Rattle.nf_net.proofs.Words.{first_instance, first_nodes, started_with, is_refusal, receiver_of, count_at_start, all_each, Instance, Verdicts}
+use Rattle.nf_net.proofs.Words.{Filter, FunctionLaws, Semantics, Answer, Order, Piece, Msg, Note, Choice, Network, IsRun, run, opening_on_links, opening_weight}
+use Rattle.nf_net.proofs.Words.{total, weigh, Each, Operation, opened_controller, unknown_in, InstanceState, Config, Node, is_begun, answers_of, before_command}
+use Rattle.nf_net.proofs.Words.{overlaps, IsCause, MayBegin, is_item, order_numbered, IsInput, course_of, job_of, node_step, node_ready, first_instance}
+use Rattle.nf_net.proofs.Words.{first_nodes, started_with, is_refusal, receiver_of, count_at_start, all_each, Instance, Verdicts}
 use Rattle.std.specs.FinMap as finite
 use Rattle.actor_net.proofs.RunLaws.{run_splits}
 use Rattle.net_world.specs.Verdicts.{IsVerdict}
@@ -20,24 +20,16 @@ use Rattle.nf_net.proofs.answers.MoveOnce.{once}
 use Rattle.proof_outlines.proofs.joined.StartJoined.{instance_found}
 use Rattle.nf_net.proofs.VerdictLemmas.{once_taken, times_taken}
 use Rattle.nf_net.proofs.RunKeeps.{run_keeps}
+use Rattle.nf_net.proofs.WeightlessMessages.{each_item, weighs_nothing}
 
 -- An input says nothing of moves.
-module _ (P : ℕ → Piece → Type 0) (V : ℕ → Answer → Type 0) (G : ℕ → ℕ → Type 0) where
-  items_said : (items : List Msg) → Each (λ item. is_item item ≡ true) items → Each (Said P V G 0 0) items
-  items_said [] ok = tt
-  items_said (Msg.InCommand c ∷ items) ok = (tt, items_said items ok.1)
-  items_said (Msg.InPacket p ∷ items) ok = (tt, items_said items ok.1)
-  items_said (Msg.InSettle ∷ items) ok = (tt, items_said items ok.1)
-  items_said (Msg.InEnd ∷ items) ok = (tt, items_said items ok.1)
-  items_said (m ∷ items) ok = let never : false ≡ true = ok.0 in cc
+items_said : (P : ℕ → Piece → Type 0) (V : ℕ → Answer → Type 0) (G : ℕ → ℕ → Type 0) (items : List Msg) → Each (λ item. is_item item ≡ true) items
+    → Each (Said P V G 0 0) items
+items_said P V G = each_item (Said P V G 0 0) (λ p. tt) (λ c. tt) tt tt
 
 items_weigh : (first : Bool) (op : ℕ) (items : List Msg) → Each (λ item. is_item item ≡ true) items → weigh (once first op) items ≡ 0
-items_weigh first op [] ok = refl
-items_weigh first op (Msg.InCommand c ∷ items) ok = let rest = items_weigh first op items ok.1 in omega (arith, rest)
-items_weigh first op (Msg.InPacket p ∷ items) ok = let rest = items_weigh first op items ok.1 in omega (arith, rest)
-items_weigh first op (Msg.InSettle ∷ items) ok = let rest = items_weigh first op items ok.1 in omega (arith, rest)
-items_weigh first op (Msg.InEnd ∷ items) ok = let rest = items_weigh first op items ok.1 in omega (arith, rest)
-items_weigh first op (m ∷ items) ok = let never : false ≡ true = ok.0 in cc
+items_weigh first op items ok = weighs_nothing (λ m. once first op m ≡ 0) (once first op) (λ m e. e) items
+    (each_item (λ m. once first op m ≡ 0) (λ p. refl) (λ c. refl) refl refl items ok)
 
 -- what may begin isn't refused
 not_both : (c : Config) (items : List Msg) (a : Answer) (what : Order) (log : List Note) → is_refusal a ≡ true
@@ -52,12 +44,6 @@ module _ (F : Type 0) {R : Type 0} (f : Semantics R) (laws : FunctionLaws f) (al
     (is : IsInput f.kind c items) where
   abbrev start : Network (Node F R) Msg Note
   start = started_with alloc c items
-
-  abbrev n : ℕ
-  n = length c.names + 2
-
-  abbrev step : Node F R → ℕ → Msg → Stepped (Node F R) Msg Note
-  step = node_step f
 
   same_instance : (a b : InstanceState F R) → ◌≡◌ {A = Node F R} (Instance a) (Instance b) → a ≡ b
   same_instance a b e = ap (instance_in a) e
@@ -95,21 +81,23 @@ module _ (F : Type 0) {R : Type 0} (f : Semantics R) (laws : FunctionLaws f) (al
       by_first false op none = omega (arith, none)
 
   -- every run keeps what is known
-  pub run_judging : (cs : List Choice) → IsRun node_ready step cs start → Judging F f alloc c items is cs (run step cs start) (run step cs start).log
+  pub run_judging : (cs : List Choice) → IsRun node_ready (node_step f) cs start → Judging F f alloc c items is cs (run (node_step f) cs start)
+      (run (node_step f) cs start).log
   run_judging = run_keeps F f laws alloc c items is (λ ds w. Judging F f alloc c items is ds w w.log) start_judging (λ ds ok d s h. judging_next F f laws
       alloc c items is ds ok s.runs h d.port s.taking.rest d.node s.taking.message s.takes s.taken.label s.labels)
 
   -- and so its answers are as is promised
-  module _ (cs : List Choice) (run_is : IsRun node_ready step cs start) where
+  module _ (cs : List Choice) (run_is : IsRun node_ready (node_step f) cs start) where
     abbrev w : Network (Node F R) Msg Note
-    w = run step cs start
+    w = run (node_step f) cs start
 
     h : Judging F f alloc c items is cs w w.log
     h = run_judging cs run_is
 
     -- what begins a run is one
-    is_front : (before after : List Choice) → before ++ after ≡ cs → IsRun node_ready step before start
-    is_front before after whole = (run_splits node_ready step before after start (subst (λ xs. IsRun node_ready step xs start) (sym whole) run_is)).0
+    is_front : (before after : List Choice) → before ++ after ≡ cs → IsRun node_ready (node_step f) before start
+    is_front before after whole =
+        (run_splits node_ready (node_step f) before after start (subst (λ xs. IsRun node_ready (node_step f) xs start) (sym whole) run_is)).0
 
     verdict_of : (op : ℕ) (a : Answer) → HasVerdict f c items start cs op a → IsVerdict (job_of f c items) (course_of start cs) op a
     verdict_of op a v = record {

@@ -3,7 +3,7 @@
 use Rattle.nf_net.proofs.Words.{◌≡◌, ℕ, ◌+◌, ◌≤◌, Bool, true, false, cond, Option, Some, None, List, [], ◌∷◌, ◌++◌, refl, sym, ap, ◌∙◌, subst, arith, map}
 use Rattle.nf_net.proofs.Words.{if◌then◌else◌, ◌==◌, Decides-eqb, stored_of, FullCell, Answer, Piece, Msg, Note, ShareState, ShareRow, service_if_idle, Share}
 use Rattle.nf_net.proofs.Words.{ControllerState, hand_step, queue_step, EachSent, sent_weight, Each, is_begun, answers_of, sent-append, OpenAt, answered, noted}
-use Rattle.nf_net.proofs.Words.{ShareLeaves, handed_leaves, queued_leaves}
+use Rattle.nf_net.proofs.Words.{ShareLeaves, handed_leaves, queued_leaves, split}
 use Rattle.std.specs.FinMap as finite
 use Rattle.copy_share.specs.Share.{next_phase, row}
 use Rattle.ctrl_node.specs.Controller.{Step}
@@ -85,13 +85,11 @@ module _ (Part : ℕ → Piece → Type 0) (Verdict : ℕ → Answer → Type 0)
     found_by : (now : Bool) (a : Option Answer) → Tells (is_set_up s.phase) now a → (k : ℕ) (b : Answer) → answers_of k (noted op a) ≡ b ∷ [] → IsFound k b
     found_by now None tells k b is = cc
     found_by now (Some why) tells k b is =
-        elim (op == k) as (λ t. (op == k) ≡ t → map (λ (one : ℕ × Answer). one.1) (if t then (op, why) ∷ [] else []) ≡ b ∷ [] → IsFound k b) [
-          | true ↦ λ on given. subst (λ j. IsFound j b) ((Decides-eqb op k).0 on) (record {
-            known = λ _. By_still its (sym (first_is why b given) ∙ tells.0);
-            refused = λ never. (let on = sym begun_is ∙ never in cc);
-          })
-          | false ↦ λ off never. cc
-        ] refl is
+        split (op == k) (λ t. map (λ (one : ℕ × Answer). one.1) (if t then (op, why) ∷ [] else []) ≡ b ∷ [] → IsFound k b)
+        (λ on given. subst (λ j. IsFound j b) ((Decides-eqb op k).0 on) (record {
+          known = λ _. By_still its (sym (first_is why b given) ∙ tells.0);
+          refused = λ never. (let on = sym begun_is ∙ never in cc);
+        })) (λ off never. cc) is
 
     share_is : (did : Step) → ShareStep c op s did → ((k : ℕ) (first : Bool) → sent_weight (once first k) n 1 did.sends
         + used (finite.get c.operations k) (is_begun k log) first ≤ used (finite.get did.node.operations k) (is_begun k (log ++ did.notes)) first)

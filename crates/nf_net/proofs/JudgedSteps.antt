@@ -1,9 +1,9 @@
 -- What each node's step keeps of what is known of moves: their pieces, what was sent once for them, and their answers.
 use Rattle.nf_net.proofs.Words.{◌≡◌, ◌≢◌, ℕ, suc, ◌+◌, ◌<◌, ◌≤◌, Bool, true, false, Some, List, [], ◌∷◌, ◌++◌, length, get_or, refl, sym, ap, ◌∙◌, subst, arith}
-use Rattle.nf_net.proofs.Words.{if◌then◌else◌, slice_index, slice_index_or, Global, cond-same, Semantics, Answer, Piece, Msg, Note, MoveState, Move}
-use Rattle.nf_net.proofs.Words.{ControllerState, InstanceState, Choice, Network, Stepped, reaches, run, world_next, queue_at, at, Takes, Outcome, taken_outcome}
-use Rattle.nf_net.proofs.Words.{OnLinks, EachSent, on_links_after, total, total_after, sent_weight, Each, Config, Node, Controller, is_begun, answers_of}
-use Rattle.nf_net.proofs.Words.{IsInput, node_step, started_with, answers_of-append, Given, Label, given, Instance}
+use Rattle.nf_net.proofs.Words.{if◌then◌else◌, slice_index, slice_index_or, Global, Semantics, Answer, Piece, Msg, Note, MoveState, Move, ControllerState}
+use Rattle.nf_net.proofs.Words.{InstanceState, Choice, Network, Stepped, run, world_next, queue_at, at, Takes, Outcome, taken_outcome, OnLinks, EachSent}
+use Rattle.nf_net.proofs.Words.{on_links_after, total, total_after, sent_weight, Each, Config, Node, Controller, is_begun, answers_of, IsInput, node_step}
+use Rattle.nf_net.proofs.Words.{started_with, answers_of-append, Given, Label, given, Instance}
 use Rattle.std.specs.FinMap as finite
 use Rattle.nf_net.proofs.answers.BusyLemmas.{AreOther, none_answered, other_not_answered, other_not_begun, began_same}
 use Rattle.nf_net.proofs.JudgedTables.{used}
@@ -11,6 +11,7 @@ use Rattle.nf_net.proofs.JudgedFacts.{IsPart, IsGoing, HasVerdict, IsFound, part
 use Rattle.nf_net.proofs.MoveJudged.{Said, Knows}
 use Rattle.nf_net.proofs.answers.MoveOnce.{once, counts}
 use Rattle.nf_net.proofs.VerdictLemmas.{times_given, times_given-append, is_first_piece, times_taken, times_taken-append}
+use Rattle.nf_net.proofs.WeightlessMessages.{sends_nothing}
 
 -- a list that is two has its one element in the first or in the second
 pub data OneOf (xs ys : List Answer) (a : Answer) : Type 0 where
@@ -38,11 +39,7 @@ module _ {R : Type 0} (f : Semantics R) (g : Given) (op : ℕ) where
   no_once_from first k r m other label = refl
 
   pub none_once : (first : Bool) (n k : ℕ) (sends : List (ℕ × Msg)) → k ≢ 1 → EachSent (Label f g) k sends → sent_weight (once first op) n k sends ≡ 0
-  none_once first n k [] other h = refl
-  none_once first n k (x ∷ xs) other h =
-      let own = no_once_from first k x.0 x.1 other h.0 in
-      let rest = none_once first n k xs other h.1 in
-      rw (own, rest, cond-same {X = ℕ} (reaches n k x.0) 0) refl
+  none_once first n k sends other = sends_nothing (Label f g) (once first op) k (λ r m. no_once_from first k r m other) n sends
 
   pub no_stream_to : (p k : ℕ) (m : Msg) → k ≤ 1 → Label f g p k m → counts m false op ≡ 0
   no_stream_to p k (Msg.Stream j filter) few label = let two = label.0.1 in absurd (omega (arith, two, few))

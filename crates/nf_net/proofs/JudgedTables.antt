@@ -2,7 +2,7 @@
 use Rattle.nf_net.proofs.Words.{◌≡◌, ℕ, ◌+◌, ◌≤◌, Bool, true, false, cond, Option, Some, None, List, [], ◌∷◌, ◌++◌, refl, sym, ap, ◌∙◌, subst, arith, map}
 use Rattle.nf_net.proofs.Words.{if◌then◌else◌, ◌==◌, Decides-eqb, Answer, Piece, Msg, Note, instance_node, Keeping, CopyState, MoveState, Operation, Move, Copy}
 use Rattle.nf_net.proofs.Words.{Share, OpenOperations, ControllerState, EachSent, sent_weight, Each, is_begun, answers_of, is_refusal, got_insert, got_remove}
-use Rattle.nf_net.proofs.Words.{NotMove, CopyTurn, Idle, Hands, Hands_all, Ends, hands, Done}
+use Rattle.nf_net.proofs.Words.{NotMove, CopyTurn, Idle, Hands, Hands_all, Ends, hands, Done, split}
 use Rattle.std.specs.FinMap as finite
 use Rattle.ctrl_node.specs.Controller.{Step, still}
 use Rattle.nf_net.proofs.answers.ControllerActs.{other_there}
@@ -94,12 +94,10 @@ module _ (Part : ℕ → Piece → Type 0) (Verdict : ℕ → Answer → Type 0)
             ≡ used (finite.get c.operations k) (is_begun k log) first =
             ap (λ o. used o (is_begun k (log ++ [])) first) (got_insert c.operations op k (Copy (record y { phase = Keeping })))
             ∙ ap (λ b. used (cond (k == op) (Some (Copy (record y { phase = Keeping }))) (finite.get c.operations k)) b first) begun
-            ∙ elim (k == op) as (λ b. (k == op) ≡ b → used (cond b (Some (Copy (record y { phase = Keeping }))) (finite.get c.operations k))
-            (is_begun k log) first ≡ used (finite.get c.operations k) (is_begun k log) first) [
-              | true ↦ λ on. sym (ap (λ j. used (finite.get c.operations j) (is_begun k log) first) ((Decides-eqb k op).0 on)
-                  ∙ ap (λ o. used o (is_begun k log) first) there)
-              | false ↦ λ off. refl
-            ] refl in
+            ∙ split (k == op) (λ b. used (cond b (Some (Copy (record y { phase = Keeping }))) (finite.get c.operations k)) (is_begun k log) first ≡ used
+            (finite.get c.operations k) (is_begun k log) first)
+            (λ on. sym (ap (λ j. used (finite.get c.operations j) (is_begun k log) first) ((Decides-eqb k op).0 on)
+            ∙ ap (λ o. used o (is_begun k log) first) there)) (λ off. refl) in
             omega (arith, sent, here);
       }
 
@@ -108,13 +106,11 @@ module _ (Part : ℕ → Piece → Type 0) (Verdict : ℕ → Answer → Type 0)
         knows = λ k x e. knows_other None tt k x (sym (got_remove c.operations op k) ∙ e);
         says = (tt, tt);
         found = λ k b is.
-            elim (op == k) as (λ t. (op == k) ≡ t → map (λ (one : ℕ × Answer). one.1) (if t then (op, Done) ∷ [] else []) ≡ b ∷ [] → IsFound k b) [
-              | true ↦ λ on given. subst (λ j. IsFound j b) ((Decides-eqb op k).0 on) (record {
-                known = λ _. By_still its (sym (first_is Done b given));
-                refused = λ never. (let on = sym (begun_is) ∙ never in cc);
-              })
-              | false ↦ λ off never. cc
-            ] refl is;
+            split (op == k) (λ t. map (λ (one : ℕ × Answer). one.1) (if t then (op, Done) ∷ [] else []) ≡ b ∷ [] → IsFound k b)
+            (λ on given. subst (λ j. IsFound j b) ((Decides-eqb op k).0 on) (record {
+              known = λ _. By_still its (sym (first_is Done b given));
+              refused = λ never. (let on = sym (begun_is) ∙ never in cc);
+            })) (λ off never. cc) is;
         own = (refl, tt);
         once = λ k first.
             let sent = no_one n 1 first 0 (Msg.Answered op) (λ j. refl) k in
@@ -123,16 +119,14 @@ module _ (Part : ℕ → Piece → Type 0) (Verdict : ℕ → Answer → Type 0)
             ≡ used (finite.get c.operations k) (is_begun k log) first =
             ap (λ o. used o (is_begun k (log ++ Note.Answered op Done ∷ [])) first) (got_remove c.operations op k)
             ∙ ap (λ b. used (cond (k == op) None (finite.get c.operations k)) b first) begun
-            ∙ elim (k == op) as (λ b. (k == op) ≡ b
-            → used (cond b None (finite.get c.operations k)) (is_begun k log) first ≡ used (finite.get c.operations k) (is_begun k log) first) [
-              | true ↦ λ on.
-                  let it : k ≡ op = (Decides-eqb k op).0 on in
-                  let has : is_begun k log ≡ true = ap (λ j. is_begun j log) it ∙ begun_is in
-                  let one : used (finite.get c.operations k) (is_begun k log) first ≡ 1 =
-                  ap (λ j. used (finite.get c.operations j) (is_begun k log) first) it ∙ ap (λ o. used o (is_begun k log) first) there in
-                  ap (λ b. used None b first) has ∙ sym one
-              | false ↦ λ off. refl
-            ] refl in
+            ∙ split (k == op) (λ b. used (cond b None (finite.get c.operations k)) (is_begun k log) first ≡ used (finite.get c.operations k)
+            (is_begun k log) first)
+            (λ on.
+            let it : k ≡ op = (Decides-eqb k op).0 on in
+            let has : is_begun k log ≡ true = ap (λ j. is_begun j log) it ∙ begun_is in
+            let one : used (finite.get c.operations k) (is_begun k log) first ≡ 1 =
+            ap (λ j. used (finite.get c.operations j) (is_begun k log) first) it ∙ ap (λ o. used o (is_begun k log) first) there in
+            ap (λ b. used None b first) has ∙ sym one) (λ off. refl) in
             omega (arith, sent, here);
       }
 

@@ -4,9 +4,9 @@ use Rattle.nf_net.proofs.Words.{subst, arith, if◌then◌else◌, ◌==◌, sli
 use Rattle.nf_net.proofs.Words.{slice_get-get_or, Filter, Chunk, FunctionLaws, Semantics, version_number, Answer, Piece, Msg, Note, units_in, instance_node}
 use Rattle.nf_net.proofs.Words.{MoveState, destination, CopyState, ShareState, Move, Copy, Share, controller_step, switch_step, InstanceState, piece_refusal}
 use Rattle.nf_net.proofs.Words.{selected_chunks, instance_step, pieces, whole_of, Choice, Network, Stepped, IsRun, run, world_next, at, Takes, taken_outcome}
-use Rattle.nf_net.proofs.Words.{EachSent, total_after, sent_weight, Each, Config, Node, Controller, is_begun, has_answered, IsInput, node_step, node_ready}
-use Rattle.nf_net.proofs.Words.{processed_of, live_in, before_export, is_timed, exported_for, live_number, receiver_of, Given, Label, Joined, node_of, is_whole}
-use Rattle.nf_net.proofs.Words.{given, all_fit, Unit, Instance, Runs}
+use Rattle.nf_net.proofs.Words.{EachSent, total_after, sent_weight, Each, Config, Node, is_begun, has_answered, IsInput, node_step, node_ready, processed_of}
+use Rattle.nf_net.proofs.Words.{live_in, before_export, is_timed, exported_for, live_number, receiver_of, Given, Label, Joined, node_of, is_whole, given}
+use Rattle.nf_net.proofs.Words.{all_fit, Unit, Instance, Runs, split}
 use Rattle.std.specs.FinMap as finite
 use Rattle.nf_function.specs.Units as filters
 use Rattle.copy_share.specs.Copy as copy
@@ -14,7 +14,7 @@ use Rattle.nf_net.proofs.answers.BusyLemmas.{or_off}
 use Rattle.nf_net.proofs.answers.BusyNodes.{switch_hands, instance_says}
 use Rattle.nf_net.proofs.answers.BusyController.{told_in}
 use Rattle.nf_net.proofs.answers.BusyOperations.{IsBusy}
-use Rattle.nf_net.proofs.answers.BusyRuns.{Busy, same_controller, open_began, plan_is}
+use Rattle.nf_net.proofs.answers.BusyRuns.{Busy, own_controller, open_began, plan_is}
 use Rattle.nf_net.proofs.answers.InstallSteps.{is_moving}
 use Rattle.nf_net.proofs.answers.CommandPromises.{run_busy}
 use Rattle.nf_net.proofs.StreamedUnits.{IsOf, pieces_of, GivesState, record_timed}
@@ -118,8 +118,7 @@ module _ (F : Type 0) {R : Type 0} (f : Semantics R) (laws : FunctionLaws f) (al
         let s = j.nodes.controller in
         let log = w.log ++ (controller_step s p m).notes in
         let later = cs ++ at 1 p ∷ [] in
-        let same : h.controller ≡ s = same_controller {F = F} {R = R} h.controller s
-        (sym (h.controller_is (Controller h.controller)) ∙ j.nodes_are 1 takes.receiver (Controller h.controller)) in
+        let same : h.controller ≡ s = own_controller j takes.receiver h.controller h.controller_is in
         let part = steps.part F f alloc c items is cs w refl h 1 p (node_of j.nodes 1) m rest takes in
         let judged = steps.judged F f alloc c items is cs w refl h 1 p (node_of j.nodes 1) m rest takes in
         let known : (op : ℕ) (x : MoveState) → finite.get s.operations op ≡ Some (Move x) → Knows (Part log) (Verdict later) Goes op x.phase = λ op x there.
@@ -132,11 +131,9 @@ module _ (F : Type 0) {R : Type 0} (f : Semantics R) (laws : FunctionLaws f) (al
           controller_is = (taken_outcome step n w 1 p (node_of j.nodes 1) m rest takes).own;
           knows = did.knows;
           says = did.says;
-          found = λ op a e. elim (is_begun op w.log) as (λ t. is_begun op w.log ≡ t → IsFound f c items (steps.start F f alloc c items is) later log op a) [
-            | true ↦ λ on. due_found later log op a (began_kept f c items (steps.start F f alloc c items is) op w.log (controller_step s p m).notes on)
-                ((did.found op a e).known on)
-            | false ↦ λ off. Was_refused ((did.found op a e).refused off)
-          ] refl;
+          found = λ op a e. split (is_begun op w.log) (λ _. IsFound f c items (steps.start F f alloc c items is) later log op a)
+              (λ on. due_found later log op a (began_kept f c items (steps.start F f alloc c items is) op w.log (controller_step s p m).notes on)
+              ((did.found op a e).known on)) (λ off. Was_refused ((did.found op a e).refused off));
           spends = λ op first.
               subst (λ y. sent_weight (once first op) n 1 (controller_step s p m).sends + used (finite.get y.operations op) (is_begun op w.log) first
               ≤ used (finite.get (controller_step s p m).node.operations op) (is_begun op log) first) (sym same) (did.once op first);
@@ -256,18 +253,17 @@ module _ (F : Type 0) {R : Type 0} (f : Semantics R) (laws : FunctionLaws f) (al
           let fixed = fixed_here takes.receiver in
           steps.leaves_other F f alloc c items is cs w refl h k p (Instance i) m rest takes (λ never. absurd (omega (arith, never)))
           (instance_says f g k i m).notes_are labels does.says does.given
-          (λ z small x e. elim (z == y) as (λ t. (z == y) ≡ t → IsFixed F f alloc c items is z x) [
-            | true ↦ λ on.
-                let same : z ≡ y = (Decides-eqb z y).0 on in
-                let own : (instance_step f i m).node ≡ x = same_instance (instance_step f i m).node x (sym (left.own (Instance x))
-                ∙ subst (λ q. get_or (world_next step w (at k p)).nodes (suc (suc q)) (Instance x) ≡ Instance x) same (e (Instance x))) in
-                record {
-                  limit = ap (λ q. q.limit) (sym own) ∙ does.limit ∙ fixed.limit ∙ ap (λ q. slice_index c.limits q) (sym same);
-                  marked = ap (λ q. q.marked) (sym own) ∙ does.marked ∙ fixed.marked ∙ ap (λ q. slice_index_or c.marked q false) (sym same);
-                }
-            | false ↦ λ off. steps.fixed_other F f alloc c items is cs w refl h k p (Instance i) m rest takes z
-                (λ e'. (let bad : z ≡ y = omega (arith, e') in let never : true ≡ false = sym ((Decides-eqb z y).1 bad) ∙ off in cc)) small x e
-          ] refl)
+          (λ z small x e. split (z == y) (λ _. IsFixed F f alloc c items is z x)
+          (λ on.
+          let same : z ≡ y = (Decides-eqb z y).0 on in
+          let own : (instance_step f i m).node ≡ x = same_instance (instance_step f i m).node x (sym (left.own (Instance x))
+          ∙ subst (λ q. get_or (world_next step w (at k p)).nodes (suc (suc q)) (Instance x) ≡ Instance x) same (e (Instance x))) in
+          record {
+            limit = ap (λ q. q.limit) (sym own) ∙ does.limit ∙ fixed.limit ∙ ap (λ q. slice_index c.limits q) (sym same);
+            marked = ap (λ q. q.marked) (sym own) ∙ does.marked ∙ fixed.marked ∙ ap (λ q. slice_index_or c.marked q false) (sym same);
+          })
+          (λ off. steps.fixed_other F f alloc c items is cs w refl h k p (Instance i) m rest takes z
+          (λ e'. (let bad : z ≡ y = omega (arith, e') in let never : true ≡ false = sym ((Decides-eqb z y).1 bad) ∙ off in cc)) small x e))
 
     -- a choice that is taken
     pub judging_next : (k : ℕ) (m : Msg) (takes : Takes step n w k p (node_of j.nodes k) m rest) → Label f g p k m → AreLabelled k m

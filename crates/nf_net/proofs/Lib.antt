@@ -69,3 +69,4 @@ pub mod paths
 pub mod length
 pub mod ends
 mod Words
+mod WeightlessMessages

@@ -5,7 +5,7 @@ use Rattle.nf_net.proofs.Words.{FunctionLaws, Semantics, is_among, same_unit_equ
 use Rattle.nf_net.proofs.Words.{IsRun, run, world_next, queue_at, at, run_more, Takes, Outcome, taken_outcome, Config, Node, Switch, Controller, processed_of}
 use Rattle.nf_net.proofs.Words.{IsInput, order_numbered, with_units, without_units, gained_by, is_first_of, is_shared_away, node_step, node_ready}
 use Rattle.nf_net.proofs.Words.{unit_numbered, live_in, live_at, removed_by, live_number, Given, node_of, IsTaken, scene, Wants, node_leads, instance_quiet}
-use Rattle.nf_net.proofs.Words.{Runs, run_beside, given, all_fit, count_at_start, Unit, Order, Instance}
+use Rattle.nf_net.proofs.Words.{Runs, run_beside, given, all_fit, count_at_start, Unit, Order, Instance, split}
 use Rattle.std.specs.Prelude.{drop}
 use Rattle.std.specs.FinMap as finite
 use Rattle.std.proofs.Math.Seq.{drop-append_seam}
@@ -21,7 +21,7 @@ use Rattle.nf_net.proofs.LiveSteps.{away_quiet, step_lives}
 use Rattle.nf_net.proofs.LiveUnits.{AreOnce, with_in, with_once, without_in, without_once, as_many}
 use Rattle.nf_net.proofs.NumberedUnits.{units_fit}
 use Rattle.nf_net.proofs.RunKeeps.{start, count, RunStep, run_keeps, after_world}
-use Rattle.nf_net.proofs.SharedHomes.{run_homes}
+use Rattle.nf_net.proofs.SharedHomes.{homes_of}
 use Rattle.nf_net.proofs.ShareOwners.{owners_stay}
 use Rattle.nf_net.proofs.StandbyFronts.{IsOfFront, lives_front}
 use Rattle.nf_net.proofs.StandbySteps.{same_place}
@@ -161,18 +161,15 @@ module _ (F : Type 0) {R : Type 0} (f : Semantics R) (laws : FunctionLaws f) (al
 
         -- what is live then of a packet's unit no share has elsewhere
         free : Free f laws c items is y w.log own (r.joined.shown_is.instances (suc (suc y)) (omega arith) takes.receiver).rules.at did
-        free k on = elim (is_shared_away c items (unit_numbered c items f.kind k) y w.log)
-            as (λ b. is_shared_away c items (unit_numbered c items f.kind k) y w.log ≡ b → b ≡ false) [
-              | true ↦ λ away.
-                  let u = unit_numbered c items f.kind k in
-                  let reached : v ≡ run (node_step f) (cs ++ d ∷ []) first = run_more (node_step f) cs d first w refl in
-                  let still : is_shared_away c items u y (run (node_step f) (cs ++ d ∷ []) first).log ≡ true = ap (λ x. is_shared_away c items u y x.log)
-                  (sym reached) ∙ ap (is_shared_away c items u y) log_is ∙ away_quiet c items u y own.index w.log did.notes (instance_quiet f own m) ∙ away in
-                  let none : live_at v y u ≡ None = ap (λ x. live_at x y u) reached ∙ away_nothing (cs ++ d ∷ []) more y k still in
-                  let never : true ≡ false = sym on ∙ ap is_some (sym (now_live u) ∙ none) in
-                  cc
-              | false ↦ λ _. refl
-            ] refl
+        free k on = split (is_shared_away c items (unit_numbered c items f.kind k) y w.log) (λ b. b ≡ false)
+            (λ away.
+            let u = unit_numbered c items f.kind k in
+            let reached : v ≡ run (node_step f) (cs ++ d ∷ []) first = run_more (node_step f) cs d first w refl in
+            let still : is_shared_away c items u y (run (node_step f) (cs ++ d ∷ []) first).log ≡ true = ap (λ x. is_shared_away c items u y x.log)
+            (sym reached) ∙ ap (is_shared_away c items u y) log_is ∙ away_quiet c items u y own.index w.log did.notes (instance_quiet f own m) ∙ away in
+            let none : live_at v y u ≡ None = ap (λ x. live_at x y u) reached ∙ away_nothing (cs ++ d ∷ []) more y k still in
+            let never : true ≡ false = sym on ∙ ap is_some (sym (now_live u) ∙ none) in
+            cc) (λ _. refl)
 
         -- a copy's chunks are of a copy's number
         copied : (op : ℕ) (chunks : List Chunk) → m ≡ Msg.Standby op chunks → is_first_of c items (order_numbered items op) y ≡ false
@@ -187,7 +184,7 @@ module _ (F : Type 0) {R : Type 0} (f : Semantics R) (laws : FunctionLaws f) (al
 
         goes : Lives f laws c items is y w.log own (r.joined.shown_is.instances (suc (suc y)) (omega arith) takes.receiver).rules.at m did
         goes = step_lives f laws c items is n refl w r.joined r.beside.kept.apart (run_busy F f laws alloc c items is cs runs).1
-            (run_homes F f laws alloc c items is cs runs) (owners_stay F f laws alloc c items is cs runs) p y takes.receiver m t copied free
+            (homes_of F f laws alloc c items is cs runs r) (owners_stay F f laws alloc c items is cs runs) p y takes.receiver m t copied free
 
         own_same : Same y
         own_same u =
@@ -211,14 +208,12 @@ module _ (F : Type 0) {R : Type 0} (f : Semantics R) (laws : FunctionLaws f) (al
             ∙ sym (ap is_some (now_live u))
 
         at_instance : (i : ℕ) → Same i
-        at_instance i = elim (i == y) as (λ b. (i == y) ≡ b → Same i) [
-          | true ↦ λ on. subst Same (sym ((Decides-eqb i y).0 on)) own_same
-          | false ↦ λ off.
-              let apart : instance_node i ≢ suc (suc y) =
-              λ e. (let bad : i ≡ y = omega (arith, e) in let never : true ≡ false = sym ((Decides-eqb i y).1 bad) ∙ off in cc) in
-              let other : (d.node == instance_node i) ≡ false = ap (λ x. x.node == instance_node i) d_is ∙ other_node i y off in
-              other_same i other (λ u. ap (λ x. live_at x i u) v_is ∙ stays_at (suc (suc y)) takes i apart u)
-        ] refl
+        at_instance i = split (i == y) (λ _. Same i) (λ on. subst Same (sym ((Decides-eqb i y).0 on)) own_same)
+            (λ off.
+            let apart : instance_node i ≢ suc (suc y) =
+            λ e. (let bad : i ≡ y = omega (arith, e) in let never : true ≡ false = sym ((Decides-eqb i y).1 bad) ∙ off in cc) in
+            let other : (d.node == instance_node i) ≡ false = ap (λ x. x.node == instance_node i) d_is ∙ other_node i y off in
+            other_same i other (λ u. ap (λ x. live_at x i u) v_is ∙ stays_at (suc (suc y)) takes i apart u))
 
       each_same : (k : ℕ) → Takes (node_step f) n w k p (node_of r.joined.nodes k) m rest → IsTaken f g n
           (scene f g n refl (Wants f g) (node_leads f laws g (all_fit f c items is) n) w r.joined) (record { node = k; port = p; message = m })

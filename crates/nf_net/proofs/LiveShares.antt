@@ -8,7 +8,7 @@ use Rattle.nf_net.proofs.Words.{Shared_on, S_sync, same, OpenShare, WantShare, f
 use Rattle.nf_net.proofs.Words.{its_share, WhereAll, Apart_from_shares, Under_share, Config, Node, Switch, Controller, is_begun, IsInput, order_numbered}
 use Rattle.nf_net.proofs.Words.{before_begun, is_first_of, is_shared_away, has_begun, begins_in, is_at, is_home, owner, shared_among, live_in, live_at}
 use Rattle.nf_net.proofs.Words.{unit_fits, is_whole, takes_whole, is_sys, Both, RealShare, real_share, Given, place, S, A, Joined, came_by, AllApart, given}
-use Rattle.nf_net.proofs.Words.{Unit, Instance}
+use Rattle.nf_net.proofs.Words.{Unit, Instance, split}
 use Rattle.std.specs.FinMap as finite
 use Rattle.std.proofs.lemmas.Bool.{not-true}
 use Rattle.proof_outlines.proofs.whole.SwitchAll.{same_node}
@@ -28,21 +28,19 @@ pub record BegunOne (these : ℕ → Bool) (ops : List ℕ) : Type 0 where
 
 one_among : (these : ℕ → Bool) (ops : List ℕ) → list_any these ops ≡ true → BegunOne these ops
 one_among these [] e = cc
-one_among these (op ∷ ops) e = elim (these op) as (λ t. these op ≡ t → t || list_any these ops ≡ true → BegunOne these (op ∷ ops)) [
-  | true ↦ λ on _. record { op = op; begun = (let self : (op == op) ≡ true = grind (arith, nat_tests) in rw self refl); such = on }
-  | false ↦ λ _ rest.
-      (let r = one_among these ops rest in record { op = r.op; begun = or_right (op == r.op) (list_any (λ k. k == r.op) ops) r.begun; such = r.such })
-] refl e
+one_among these (op ∷ ops) e = split (these op) (λ t. t || list_any these ops ≡ true → BegunOne these (op ∷ ops))
+    (λ on _. record { op = op; begun = (let self : (op == op) ≡ true = grind (arith, nat_tests) in rw self refl); such = on })
+    (λ _ rest.
+    (let r = one_among these ops rest in record { op = r.op; begun = or_right (op == r.op) (list_any (λ k. k == r.op) ops) r.begun; such = r.such })) e
 
 pub begun_one : (these : ℕ → Bool) (log : List Note) → has_begun these log ≡ true → BegunOne these (begins_in log)
 begun_one these log e = one_among these (begins_in log) e
 
 among_one : (these : ℕ → Bool) (ops : List ℕ) (op : ℕ) → list_any (λ k. k == op) ops ≡ true → these op ≡ true → list_any these ops ≡ true
 among_one these [] op e on = cc
-among_one these (k ∷ ops) op e on = elim (k == op) as (λ t. (k == op) ≡ t → t || list_any (λ j. j == op) ops ≡ true → these k || list_any these ops ≡ true) [
-  | true ↦ λ same _. (let at : k ≡ op = (Decides-eqb k op).0 same in let here : these k ≡ true = ap these at ∙ on in rw here refl)
-  | false ↦ λ _ rest. or_right (these k) (list_any these ops) (among_one these ops op rest on)
-] refl e
+among_one these (k ∷ ops) op e on = split (k == op) (λ t. t || list_any (λ j. j == op) ops ≡ true → these k || list_any these ops ≡ true)
+    (λ same _. (let at : k ≡ op = (Decides-eqb k op).0 same in let here : these k ≡ true = ap these at ∙ on in rw here refl))
+    (λ _ rest. or_right (these k) (list_any these ops) (among_one these ops op rest on)) e
 
 pub has_one : (these : ℕ → Bool) (log : List Note) (op : ℕ) → is_begun op log ≡ true → these op ≡ true → has_begun these log ≡ true
 has_one these log op e on = among_one these (begins_in log) op e on
@@ -231,11 +229,9 @@ module _ {F R : Type 0} (f : Semantics R) (c : Config) (items : List Msg) (is : 
             (Shared_on op false q) rest off waits in
             let label = label_of (S f g) (A f g) z j.world j.shown_is.every.global h.covered v.phase v.queue h.holds.share (instance_node y)
             (Shared_on op false q) of in
-            elim (op == x.num) as (λ t. (op == x.num) ≡ t → is_shared_away c items u y w.log ≡ true) [
-              | true ↦ λ its_own. away_there told x before (came_by f g w.log u).diverted h y
-                  (sym (same_is false (instance_node y == x.home) (label.0 its_own)))
-              | false ↦ λ other. (let never : true ≡ false = sym mine ∙ label.1 other in cc)
-            ] refl
+            split (op == x.num) (λ _. is_shared_away c items u y w.log ≡ true)
+            (λ its_own. away_there told x before (came_by f g w.log u).diverted h y
+            (sym (same_is false (instance_node y == x.home) (label.0 its_own)))) (λ other. (let never : true ≡ false = sym mine ∙ label.1 other in cc))
 
   -- records of a share that come to an instance say whether it is the first member
   pub first_synced : (p y : ℕ) (op : ℕ) (at_home : Bool) (cs : Chunks R) (rest : List (Any R)) → (p == 0) && (instance_node y == 0) ≡ false

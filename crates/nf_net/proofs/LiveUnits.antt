@@ -1,7 +1,7 @@
 -- Units each once: what is added and taken out, and that they are as many as the records that have them.
 use Rattle.nf_net.proofs.Words.{◌≡◌, zero, suc, ◌≤◌, Bool, true, false, cond, None, List, [], ◌∷◌, length, map, refl, sym, ap, ◌∙◌, arith, if◌then◌else◌, ◌&&◌}
 use Rattle.nf_net.proofs.Words.{◌||◌, not, is_some, get-remove, len-entries, and-false, or-false, units_total, unit_cmp, Records, same_unit, is_among}
-use Rattle.nf_net.proofs.Words.{same_unit-true, same_unit_equiv, with_units, without_units, Unit}
+use Rattle.nf_net.proofs.Words.{same_unit-true, same_unit_equiv, with_units, without_units, Unit, split}
 use Rattle.std.proofs.Common.{◌-◌}
 use Rattle.std.specs.FinMap as finite
 use Rattle.std.specs.FinMap.{contains_key-keys, empty_of_len, get-empty, len-remove}
@@ -29,35 +29,24 @@ pub with_in : (us more : List Unit) (q : Unit) → is_among (with_units us more)
 with_in us [] q = sym (or-false (is_among us q))
 with_in us (u ∷ more) q =
     with_in (if is_among us u then us else u ∷ us) more q
-    ∙ elim (is_among us u)
-    as (λ t. is_among us u ≡ t → is_among (if t then us else u ∷ us) q || is_among more q ≡ is_among us q || (same_unit q u || is_among more q)) [
-      | true ↦ λ on. found (same_unit q u) (is_among us q) (is_among more q) (among_same us u q on)
-      | false ↦ λ _. turned (same_unit q u) (is_among us q) (is_among more q)
-    ] refl
+    ∙ split (is_among us u) (λ t. is_among (if t then us else u ∷ us) q || is_among more q ≡ is_among us q || (same_unit q u || is_among more q))
+    (λ on. found (same_unit q u) (is_among us q) (is_among more q) (among_same us u q on)) (λ _. turned (same_unit q u) (is_among us q) (is_among more q))
 
 pub with_once : (us more : List Unit) → AreOnce us → AreOnce (with_units us more)
 with_once us [] h = h
 with_once us (u ∷ more) h =
-    with_once (if is_among us u then us else u ∷ us) more (elim (is_among us u) as (λ t. is_among us u ≡ t → AreOnce (if t then us else u ∷ us)) [
-      | true ↦ λ _. h
-      | false ↦ λ off. (off, h)
-    ] refl)
+    with_once (if is_among us u then us else u ∷ us) more (split (is_among us u) (λ t. AreOnce (if t then us else u ∷ us)) (λ _. h) (λ off. (off, h)))
 
 pub without_in : (gone us : List Unit) (q : Unit) → is_among (without_units gone us) q ≡ is_among us q && not (is_among gone q)
 without_in gone [] q = refl
-without_in gone (u ∷ us) q = elim (is_among gone u) as (λ t. is_among gone u ≡ t
-    → is_among (cond (not t) (u ∷ without_units gone us) (without_units gone us)) q ≡ (same_unit q u || is_among us q) && not (is_among gone q)) [
-      | true ↦ λ on. without_in gone us q
-          ∙ elim (same_unit q u) as (λ t. same_unit q u ≡ t → is_among us q && not (is_among gone q) ≡ (t || is_among us q) && not (is_among gone q)) [
-            | true ↦ λ same. (let there : is_among gone q ≡ true = among_same gone u q on same in rw there (and-false (is_among us q)))
-            | false ↦ λ _. refl
-          ] refl
-      | false ↦ λ off. ap (λ b. same_unit q u || b) (without_in gone us q)
-          ∙ elim (same_unit q u) as (λ t. same_unit q u ≡ t → t || (is_among us q && not (is_among gone q)) ≡ (t || is_among us q) && not (is_among gone q)) [
-            | true ↦ λ same. (let there : is_among gone q ≡ false = ap (is_among gone) (same_unit-true q u same) ∙ off in rw there refl)
-            | false ↦ λ _. refl
-          ] refl
-    ] refl
+without_in gone (u ∷ us) q = split (is_among gone u)
+    (λ t. is_among (cond (not t) (u ∷ without_units gone us) (without_units gone us)) q ≡ (same_unit q u || is_among us q) && not (is_among gone q))
+    (λ on. without_in gone us q
+    ∙ split (same_unit q u) (λ t. is_among us q && not (is_among gone q) ≡ (t || is_among us q) && not (is_among gone q))
+    (λ same. (let there : is_among gone q ≡ true = among_same gone u q on same in rw there (and-false (is_among us q)))) (λ _. refl))
+    (λ off. ap (λ b. same_unit q u || b) (without_in gone us q)
+    ∙ split (same_unit q u) (λ t. t || (is_among us q && not (is_among gone q)) ≡ (t || is_among us q) && not (is_among gone q))
+    (λ same. (let there : is_among gone q ≡ false = ap (is_among gone) (same_unit-true q u same) ∙ off in rw there refl)) (λ _. refl))
 
 pub without_once : (gone us : List Unit) → AreOnce us → AreOnce (without_units gone us)
 without_once gone [] h = tt
@@ -100,7 +89,7 @@ module _ {R : Type 0} where
       omega (arith, some, less, rest)
     where
       others : (q : Unit) → is_among us q ≡ finite.contains_key (finite.remove m u) q
-      others q = elim (same_unit q u) as (λ t. same_unit q u ≡ t → is_among us q ≡ is_some (cond t None (finite.get m q))) [
-        | true ↦ λ same_is. ap (is_among us) (same_unit-true q u same_is) ∙ h.0
-        | false ↦ λ off. (let all : same_unit q u || is_among us q ≡ finite.contains_key m q = same q in sym (ap (λ t. t || is_among us q) off) ∙ all)
-      ] refl ∙ sym (ap is_some (get-remove units_total m u q))
+      others q = split (same_unit q u) (λ t. is_among us q ≡ is_some (cond t None (finite.get m q)))
+          (λ same_is. ap (is_among us) (same_unit-true q u same_is) ∙ h.0)
+          (λ off. (let all : same_unit q u || is_among us q ≡ finite.contains_key m q = same q in sym (ap (λ t. t || is_among us q) off) ∙ all)) ∙ sym
+          (ap is_some (get-remove units_total m u q))

@@ -4,7 +4,7 @@ use Rattle.nf_net.proofs.Words.{subst, arith, if◌then◌else◌, ◌&&◌, ◌
 use Rattle.nf_net.proofs.Words.{shape, to_members, Sys, IsSys, none_mine, GlobalAll, NoShare, head_none, share_expect, unit_share, share_seen, share_items}
 use Rattle.nf_net.proofs.Words.{own_at, does, heads, inst_from, Under, inst_keeps, seeing, Any, ShareMsg, olds, Sharing, IsSharing, OpenShare, WantShare}
 use Rattle.nf_net.proofs.Words.{member_step, WholeWorld, moves_of, ran_of, SeeingShare, Came, WhereAll, Apart_from_shares, Under_share, ItsShare, its_share}
-use Rattle.nf_net.proofs.Words.{ran_by, MayRun, processed_where, same_unit, Stands, In_first, In_second, stands, Unit}
+use Rattle.nf_net.proofs.Words.{ran_by, MayRun, processed_where, same_unit, Stands, In_first, In_second, stands, Unit, split}
 use Rattle.proof_machines.proofs.unit.Stages.{times}
 use Rattle.proof_machines.proofs.unit.Loose.{times-append}
 use Rattle.proof_machines.proofs.share.Share.{Item, Item.Carry}
@@ -40,10 +40,8 @@ module _ {R : Type 0} (f : UnitShare R) where
 
   -- before the switch diverts, what stands on a link to an instance stands on the one to home
   home_head : (s : Stage R) → (shape f s).diverts ≡ false → (y : ℕ) (it : Item R) (rest : List (Item R)) → (shape f s).sw y ≡ it ∷ rest → y ≡ f.home
-  home_head (Diverting d b l) off y it rest e = elim (y == f.home) as (λ t. (y == f.home) ≡ t → cond t (map Carry l) [] ≡ it ∷ rest → y ≡ f.home) [
-    | true ↦ λ on _. (Decides-eqb y f.home).0 on
-    | false ↦ λ _ never. cc
-  ] refl e
+  home_head (Diverting d b l) off y it rest e = split (y == f.home) (λ t. cond t (map Carry l) [] ≡ it ∷ rest → y ≡ f.home)
+      (λ on _. (Decides-eqb y f.home).0 on) (λ _ never. cc) e
   home_head s off y it rest e = cc
 
   none_to : (s : Stage R) → (shape f s).diverts ≡ false → (y : ℕ) (it : Item R) (rest : List (Item R)) → (shape f s).to y ≡ it ∷ rest → y ≡ f.home

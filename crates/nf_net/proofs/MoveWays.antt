@@ -1,7 +1,7 @@
 -- The ways in which a move goes on: each of its rows says something, and goes to a phase. What holds of each way holds of the row on any message.
-use Rattle.nf_net.proofs.Words.{◌≡◌, ℕ, Bool, true, false, Option, Some, None, List, [], ◌∷◌, ◌++◌, map, refl, if◌then◌else◌, ◌&&◌, ◌||◌, ◌==◌, reaches}
-use Rattle.nf_net.proofs.Words.{sent_weight, FullCell, Answer, Piece, Msg, units_in, Door, Phase, Nothing, Ask, Put, Release, Give_back, MovePlan, MoveRow}
-use Rattle.nf_net.proofs.Words.{source, destination, put_to, forward_to, messages_of, cond-same, Target, Done}
+use Rattle.nf_net.proofs.Words.{ℕ, Bool, true, false, Option, Some, None, List, [], ◌∷◌, ◌++◌, map, if◌then◌else◌, ◌&&◌, ◌||◌, ◌==◌, FullCell, Answer, Piece}
+use Rattle.nf_net.proofs.Words.{Msg, units_in, Door, Phase, Nothing, Ask, Put, Release, Give_back, MovePlan, MoveRow, source, destination, put_to, forward_to}
+use Rattle.nf_net.proofs.Words.{messages_of, Target, Done}
 use Rattle.actor_net.proofs.WeightLaws.{Each, each-append}
 use Rattle.nf_msgs.specs.declared.msg.Refused.{Refused}
 use Rattle.move_op.specs.Phases as phase
@@ -199,9 +199,3 @@ module _ (Is : Msg → Type 0) (plan : MovePlan) where
   each_said (Give_back cells) h = each-append (λ x. Is x.1) (map (forward_to plan plan.from) cells) ((0, Msg.FenceTo plan.op plan.from) ∷ [])
       (each_forward plan.from h.1 cells) (h.0, tt)
   each_said says h = h
-
--- messages that weigh nothing weigh nothing together
-pub weighs_none : {M : Type 0} (weight : M → ℕ) (n k : ℕ) (sends : List (ℕ × M)) → Each (λ x. weight x.1 ≡ 0) sends → sent_weight weight n k sends ≡ 0
-weighs_none weight n k [] h = refl
-weighs_none weight n k (x ∷ xs) h =
-    let own = h.0 in let rest = weighs_none weight n k xs h.1 in rw (own, rest, cond-same {X = ℕ} (reaches n k x.0) 0) refl

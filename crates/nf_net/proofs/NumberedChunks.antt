@@ -3,7 +3,7 @@ use Rattle.nf_net.proofs.Words.{◌≡◌, ◌≢◌, ℕ, zero, suc, ◌<◌, B
 use Rattle.nf_net.proofs.Words.{◌==◌, option_to_list, option_map_or, filter_map, flat_map, Decides-eqb, map-append, Chunk, Semantics, same_unit, spelled}
 use Rattle.nf_net.proofs.Words.{same_unit_equiv, Msg, Note, op_of, Operation, Network, on_link, EachOn, Each, each-append, record_at, seat_shape, Seeing, olds}
 use Rattle.nf_net.proofs.Words.{Node, Controller, Switch, on_links, chunks_in, kept_for, kept_by, is_chunk_of, spelled_of, chunks_on_way, entries, is_sys}
-use Rattle.nf_net.proofs.Words.{given, Given, S, shown, Label, AreGoodChunks, node_of, Unit}
+use Rattle.nf_net.proofs.Words.{given, Given, S, shown, Label, AreGoodChunks, node_of, Unit, split}
 use Rattle.std.specs.Prelude.{filter}
 use Rattle.std.specs.FinMap as finite
 use Rattle.proof_machines.proofs.net.Holding.{Label as Seen_label}
@@ -64,10 +64,8 @@ module _ {R : Type 0} (f : Semantics R) (u : Unit) (own : ℕ) where
   pub all_own : (n : ℕ) (cs : List Chunk) → ((n == own) ≡ false → spelled_of f u cs ≡ []) → Each (IsOwn u own) (numbered (Some n) cs)
   all_own n [] none = tt
   all_own n (c ∷ cs) none = (
-    λ is_unit. elim (n == own) as (λ b. (n == own) ≡ b → ◌≡◌ {A = Option ℕ} (Some n) (Some own)) [
-      | true ↦ λ on. ap Some ((Decides-eqb n own).0 on)
-      | false ↦ λ off. absurd (some_spelled c cs is_unit (none off))
-    ] refl,
+    λ is_unit. split (n == own) (λ _. ◌≡◌ {A = Option ℕ} (Some n) (Some own)) (λ on. ap Some ((Decides-eqb n own).0 on))
+        (λ off. absurd (some_spelled c cs is_unit (none off))),
     all_own n cs (λ off. shorter f (is_chunk_of u c) c (filter (is_chunk_of u) cs) (none off)),
   )
 

@@ -2,7 +2,7 @@
 use Rattle.nf_net.proofs.Words.{◌≡◌, ◌≢◌, ℕ, Bool, true, false, Option, Some, None, List, [], ◌∷◌, ◌++◌, map, refl, sym, ap, ◌∙◌, subst, if◌then◌else◌}
 use Rattle.nf_net.proofs.Words.{filter_map, map-append, Site, Output, Semantics, unit_at, kept_after, is_transport, Records, same_unit, after_packet}
 use Rattle.nf_net.proofs.Words.{same_unit-true, FullCell, Msg, Note, Each, each-append, Sys, none_mine, Config, packet_numbered, dones_in, done_where, is_of}
-use Rattle.nf_net.proofs.Words.{outputs, number, ran_in, is_sys, IsGenuine, Unit}
+use Rattle.nf_net.proofs.Words.{outputs, number, ran_in, is_sys, IsGenuine, Unit, split}
 use Rattle.std.specs.FinMap as finite
 use Rattle.nf_function.specs.Semantics.{output_for}
 use Rattle.net_world.specs.Log.{Done}
@@ -84,14 +84,13 @@ module _ {R : Type 0} (f : Semantics R) (c : Config) (items : List Msg) where
   answered_next kept after d ds carried output left rest = record {
     carried = (carried, rest.carried);
     same = λ u.
-        elim (is_of f c items u d.number)
-        as (λ b. is_of f c items u d.number ≡ b → after u ≡ (if b then kept_after f c.site (kept u) (packet_numbered items d.number) else kept u)
-        → map (λ e. e.output) (if b then d ∷ done_where (is_of f c items u) ds else done_where (is_of f c items u) ds)
-        ≡ outputs f c items (kept u) (map (λ e. e.number) (if b then d ∷ done_where (is_of f c items u) ds else done_where (is_of f c items u) ds))) [
-          | true ↦ λ e k. ap (λ o. o ∷ answers u ds) (output u e)
-              ∙ ap (λ v. output_for f c.site (kept u) (packet_numbered items d.number) ∷ v) (rest.same u ∙ ap (λ o. outputs f c items o (numbers u ds)) k)
-          | false ↦ λ e k. rest.same u ∙ ap (λ o. outputs f c items o (numbers u ds)) k
-        ] refl (left u);
+        split (is_of f c items u d.number)
+        (λ b. after u ≡ (if b then kept_after f c.site (kept u) (packet_numbered items d.number) else kept u) → map (λ e. e.output)
+        (if b then d ∷ done_where (is_of f c items u) ds else done_where (is_of f c items u) ds) ≡ outputs f c items (kept u)
+        (map (λ e. e.number) (if b then d ∷ done_where (is_of f c items u) ds else done_where (is_of f c items u) ds)))
+        (λ e k. ap (λ o. o ∷ answers u ds) (output u e)
+        ∙ ap (λ v. output_for f c.site (kept u) (packet_numbered items d.number) ∷ v) (rest.same u ∙ ap (λ o. outputs f c items o (numbers u ds)) k))
+        (λ e k. rest.same u ∙ ap (λ o. outputs f c items o (numbers u ds)) k) (left u);
   }
 
   abbrev net : Sys R
@@ -127,12 +126,11 @@ module _ {R : Type 0} (f : Semantics R) (c : Config) (items : List Msg) where
     left u =
         ap (λ t. finite.get t u) (after_same f c.site (packet_numbered items) live at cell at_is g)
         ∙ (is_sys f c.site (packet_numbered items)).written u unit (f.stepped c.site (finite.get live unit) (packet_numbered items n)).kept live
-        ∙ elim (same_unit unit u) as (λ b. same_unit unit u ≡ b → (if b then Some (f.stepped c.site (finite.get live unit) (packet_numbered items n)).kept
-        else finite.get live u) ≡ (if b then kept_after f c.site (finite.get live u) (packet_numbered items n) else finite.get live u)) [
-          | true ↦ λ e. let transport = carried in
-              rw transport (ap (λ v. Some (f.stepped c.site (finite.get live v) (packet_numbered items n)).kept) (same_unit-true unit u e))
-          | false ↦ λ e. refl
-        ] refl
+        ∙ split (same_unit unit u)
+        (λ b. (if b then Some (f.stepped c.site (finite.get live unit) (packet_numbered items n)).kept else finite.get live u) ≡
+        (if b then kept_after f c.site (finite.get live u) (packet_numbered items n) else finite.get live u))
+        (λ e. let transport = carried in
+        rw transport (ap (λ v. Some (f.stepped c.site (finite.get live v) (packet_numbered items n)).kept) (same_unit-true unit u e))) (λ e. refl)
 
     -- one packet that an instance with these records processes, and what is done after it
     pub answered_packet : (instance : ℕ) (ds : List Done) → Answered (live_in after) ds

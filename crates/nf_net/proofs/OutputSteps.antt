@@ -1,10 +1,10 @@
 -- Along a run all packets that were processed are answered as one instance that nothing moved answers them.
 use Rattle.nf_net.proofs.Words.{◌≡◌, ◌≢◌, ℕ, zero, suc, ◌+◌, ◌≤◌, Bool, true, false, Option, Some, None, List, [], ◌∷◌, length, refl, sym, ap, ◌∙◌, subst}
-use Rattle.nf_net.proofs.Words.{arith, if◌then◌else◌, ◌&&◌, ◌==◌, filter_map, Global, nat_tests, Fits, FunctionLaws, Semantics, part, FullCell, InstanceState}
+use Rattle.nf_net.proofs.Words.{arith, if◌then◌else◌, ◌&&◌, ◌==◌, filter_map, Global, nat_tests, FunctionLaws, Semantics, part, FullCell, InstanceState}
 use Rattle.nf_net.proofs.Words.{instance_step, Msg, Note, Choice, Network, run, IsRun, inst_step, none_mine, done_u, New, Shared_on, Config, Node}
 use Rattle.nf_net.proofs.Words.{packet_numbered, IsInput, dones_in, node_step, node_ready, is_of, outputs, processed_of, started_with, done-append, number}
 use Rattle.nf_net.proofs.Words.{ran_in, is_sys, outline_instance, held_genuine, is_sharing, Given, place, S, A, shown, by_node, came_by, node_of, Scene}
-use Rattle.nf_net.proofs.Words.{IsInstanceAt, AreShown, IsTaken, went_same, all_fit, given, Unit, Mark}
+use Rattle.nf_net.proofs.Words.{IsInstanceAt, AreShown, IsTaken, went_same, given, Unit, Mark}
 use Rattle.std.specs.FinMap as finite
 use Rattle.instance_worker.specs.Instance.{process_step, on_carry, on_fence}
 use Rattle.proof_machines.proofs.net.Net as net
@@ -151,19 +151,13 @@ module _ (F : Type 0) {R : Type 0} (f : Semantics R) (laws : FunctionLaws f) (al
   abbrev start : Network (Node F R) Msg Note
   start = started_with alloc c items
 
-  abbrev nodes_count : ℕ
-  nodes_count = length c.names + 2
-
-  abbrev fitting : (number : ℕ) → Fits c.site (packet_numbered items number)
-  fitting = all_fit f c items is
-
   -- every run, complete or not
   pub run_answered : (cs : List Choice) → IsRun node_ready (node_step f) cs start → AreAnswered f c items is (run (node_step f) cs start).log
   run_answered = log_keeps F f laws alloc c items is (AreAnswered f c items is) (answered_nothing f c items (λ u. None)) (λ ds ok d s h.
       let log = (run (node_step f) ds start).log in
       let notes = (node_step f (node_of s.runs.joined.nodes d.node) d.port s.taking.message).notes in
       subst (λ es. Answered f c items (λ u. None) es) (sym (done-append log notes)) (answered_more f c items (dones_in log) (dones_in notes) h
-      (node_answers f c items is nodes_count _ s.runs.joined.shown_is h d.node d.port s.taking.message s.taken)))
+      (node_answers f c items is (length c.names + 2) _ s.runs.joined.shown_is h d.node d.port s.taking.message s.taken)))
 
   pub outputs_run : (cs : List Choice) → IsRun node_ready (node_step f) cs start → (unit : Unit)
       → given_of f c items unit (run (node_step f) cs start).log ≡ outputs f c items None (processed_of f c items unit (run (node_step f) cs start).log)

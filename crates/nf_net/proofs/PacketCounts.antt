@@ -1,7 +1,7 @@
 -- At most as many packets are processed as came, where each is processed at most as often as it came; and as many, where it is as often.
 use Rattle.nf_net.proofs.Words.{◌≡◌, ℕ, suc, ◌+◌, ◌≤◌, Bool, true, false, List, [], ◌∷◌, map, length, refl, sym, ap, ◌∙◌, arith, if◌then◌else◌, ◌==◌, nat_tests}
 use Rattle.nf_net.proofs.Words.{Decides-eqb, length-map, Semantics, unit_at, same_unit_equiv, Msg, Note, Network, Config, Node, packet_numbered, IsInput}
-use Rattle.nf_net.proofs.Words.{arrivals_in, dones_in, done_where, is_of, arrived_of, processed_of, times_filter, given, Joined, Unit}
+use Rattle.nf_net.proofs.Words.{arrivals_in, dones_in, done_where, is_of, arrived_of, processed_of, times_filter, given, Joined, Unit, split}
 use Rattle.net_world.specs.Log.{Done}
 use Rattle.net_world.specs.Fold.{times}
 use Rattle.net_world.proofs.NumberCounts.{done_numbers}
@@ -22,11 +22,11 @@ without_long p (x ∷ xs) some =
 
 without_times : (p q : ℕ) (xs : List ℕ) → 1 ≤ times p xs → times q xs ≡ (if q == p then 1 else 0) + times q (without p xs)
 without_times p q [] some = absurd (omega (arith, some))
-without_times p q (x ∷ xs) some = elim (p == x) as (λ b. (p == x) ≡ b → 1 ≤ (if b then 1 else 0) + times p xs
-    → (if q == x then 1 else 0) + times q xs ≡ (if q == p then 1 else 0) + times q (if b then xs else x ∷ without p xs)) [
-      | true ↦ λ e _. let same : p ≡ x = (Decides-eqb p x).0 e in ap (λ y. (if q == y then 1 else 0) + times q xs) (sym same)
-      | false ↦ λ _ more. let rest = without_times p q xs (omega (arith, more)) in omega (arith, rest)
-    ] refl some
+without_times p q (x ∷ xs) some = split (p == x)
+    (λ b. 1 ≤ (if b then 1 else 0) + times p xs → (if q == x then 1 else 0) + times q xs ≡ (if q == p then 1 else 0) + times q
+    (if b then xs else x ∷ without p xs))
+    (λ e _. let same : p ≡ x = (Decides-eqb p x).0 e in ap (λ y. (if q == y then 1 else 0) + times q xs) (sym same))
+    (λ _ more. let rest = without_times p q xs (omega (arith, more)) in omega (arith, rest)) some
 
 -- a list in which nothing stands oftener is no longer
 pub no_longer : (xs ys : List ℕ) → ((p : ℕ) → times p xs ≤ times p ys) → length xs ≤ length ys

@@ -4,7 +4,7 @@ use Rattle.nf_net.proofs.Words.{refl, sym, ap, ◌∙◌, arith, if◌then◌els
 use Rattle.nf_net.proofs.Words.{Decides-ltb, length-map, slice_get_within, Semantics, unit_at, same_unit_equiv, Msg, Note, switch_node, instance_node, Network}
 use Rattle.nf_net.proofs.Words.{on_link, Config, Node, packet_numbered, arrivals_in, dones_in, is_of, arrived_of, processed_of, in_flight_of, all_but}
 use Rattle.nf_net.proofs.Words.{carried_in, held_by, on_links, passed_in, forwarded_in, stored_by, handed_over_in, queued_by, diverted_in, owner, times_filter}
-use Rattle.nf_net.proofs.Words.{Unit}
+use Rattle.nf_net.proofs.Words.{Unit, split}
 use Rattle.std.specs.Prelude.{◌*◌}
 use Rattle.net_world.specs.Fold.{times}
 use Rattle.net_world.specs.Path.{at_instance, in_flight}
@@ -36,31 +36,29 @@ module _ (p one : ℕ) (of : ℕ → List ℕ) where
   but_one_of : (n : ℕ) → one < n → times p (all_but one of n) + times p (of one) ≡ times p (every of n)
   but_one_of zero low = absurd (omega (arith, low))
   but_one_of (suc i) low =
-      elim (i == one) as (λ b. (i == one) ≡ b → times p (all_but one of i ++ (if b then [] else of i)) + times p (of one) ≡ times p (every of i ++ of i)) [
-        | true ↦ λ on.
-            let same : i ≡ one = (Decides-eqb i one).0 on in
-            let none = but_none_of i (omega (arith, same)) in
-            let own = ap (λ k. times p (of k)) same in
-            let left = ap (times p) (append-nil (all_but one of i)) in
-            let all = times-append p (every of i) (of i) in
-            omega (arith, none, own, left, all)
-        | false ↦ λ off.
-            let below : one < i = grind (arith, nat_tests, low, off) in
-            let rest = but_one_of i below in
-            let both = times-append p (all_but one of i) (of i) in
-            let all = times-append p (every of i) (of i) in
-            omega (arith, rest, both, all)
-      ] refl
+      split (i == one) (λ b. times p (all_but one of i ++ (if b then [] else of i)) + times p (of one) ≡ times p (every of i ++ of i))
+      (λ on.
+      let same : i ≡ one = (Decides-eqb i one).0 on in
+      let none = but_none_of i (omega (arith, same)) in
+      let own = ap (λ k. times p (of k)) same in
+      let left = ap (times p) (append-nil (all_but one of i)) in
+      let all = times-append p (every of i) (of i) in
+      omega (arith, none, own, left, all))
+      (λ off.
+      let below : one < i = grind (arith, nat_tests, low, off) in
+      let rest = but_one_of i below in
+      let both = times-append p (all_but one of i) (of i) in
+      let all = times-append p (every of i) (of i) in
+      omega (arith, rest, both, all))
 
   all_have : (n : ℕ) → (n ≤ one → of one ≡ []) → times p (all_but one of n) + times p (of one) ≡ times p (every of n)
-  all_have n none = elim (nat_lt one n) as (λ b. nat_lt one n ≡ b → times p (all_but one of n) + times p (of one) ≡ times p (every of n)) [
-    | true ↦ λ low. but_one_of n ((Decides-ltb one n).0 low)
-    | false ↦ λ high.
-        let above : n ≤ one = grind (arith, nat_tests, high) in
-        let empty = ap (times p) (none above) in
-        let rest = but_none_of n above in
-        omega (arith, empty, rest)
-  ] refl
+  all_have n none = split (nat_lt one n) (λ _. times p (all_but one of n) + times p (of one) ≡ times p (every of n))
+      (λ low. but_one_of n ((Decides-ltb one n).0 low))
+      (λ high.
+      let above : n ≤ one = grind (arith, nat_tests, high) in
+      let empty = ap (times p) (none above) in
+      let rest = but_none_of n above in
+      omega (arith, empty, rest))
 
 module _ {F R : Type 0} (f : Semantics R) (c : Config) (items : List Msg) (w : Network (Node F R) Msg Note) (count : length w.nodes ≡ length c.names + 2)
     (each_in_place : (u : Unit) (p : ℕ)

@@ -1,8 +1,8 @@
 -- In every run packets are processed at places of their units.
 use Rattle.nf_net.proofs.Words.{◌≡◌, ℕ, zero, suc, true, false, List, [], ◌∷◌, ◌++◌, refl, sym, subst, Global, FunctionLaws, Semantics, Output, switch_step}
-use Rattle.nf_net.proofs.Words.{controller_step, Msg, Note, Choice, Network, Stepped, IsRun, run, Config, Node, IsInput, job_of, node_step, node_ready, IsPlace}
+use Rattle.nf_net.proofs.Words.{controller_step, Msg, Note, Choice, Network, IsRun, run, Config, Node, IsInput, job_of, node_step, node_ready, IsPlace}
 use Rattle.nf_net.proofs.Words.{ArePlaces, Given, IsTaken, node_of, scene, Wants, node_leads, Stands, In_first, In_second, stands, each_there, AreUnprocessed}
-use Rattle.nf_net.proofs.Words.{switch_unprocessed, controller_uninstalled, uninstalled_unprocessed, Runs, given, all_fit}
+use Rattle.nf_net.proofs.Words.{switch_unprocessed, controller_uninstalled, uninstalled_unprocessed, Runs, given, all_fit, length, ◌+◌}
 use Rattle.proof_outlines.proofs.joined.PlaceNotes.{is_unprocessed}
 use Rattle.nf_net.proofs.answers.BusyRuns.{Busy}
 use Rattle.nf_net.proofs.answers.CommandPromises.{run_busy}
@@ -10,7 +10,7 @@ use Rattle.nf_net.proofs.answers.InstallRuns.{Installs, run_installs}
 use Rattle.nf_net.proofs.answers.MovesUnderWay.{AreUnderWay, moves_under_way}
 use Rattle.nf_net.proofs.InstalledShares.{SaysOfShares, says_of_shares}
 use Rattle.nf_net.proofs.PlaceSteps.{processed_place}
-use Rattle.nf_net.proofs.RunKeeps.{start, count, log_keeps}
+use Rattle.nf_net.proofs.RunKeeps.{start, log_keeps}
 
 pub processed_off : (front back : List Note) (number i : ℕ) (output : Output) (notes : List Note) → AreUnprocessed notes
     → notes ≡ front ++ Note.Processed number i output ∷ back → ⊥
@@ -22,14 +22,8 @@ module _ (F : Type 0) {R : Type 0} (f : Semantics R) (laws : FunctionLaws f) (al
   abbrev g : Given
   g = given f c items is
 
-  abbrev n : ℕ
-  n = count F f laws alloc c items is
-
   abbrev first : Network (Node F R) Msg Note
   first = start F f laws alloc c items is
-
-  abbrev step : Node F R → ℕ → Msg → Stepped (Node F R) Msg Note
-  step = node_step f
 
   -- notes of what was processed at places
   abbrev AtPlaces : List Note → List Note → Type 0
@@ -45,24 +39,25 @@ module _ (F : Type 0) {R : Type 0} (f : Semantics R) (laws : FunctionLaws f) (al
       by_place (In_second cs from there) = subst (λ b. IsPlace (job_of f c items) number b i) (sym from) (new cs after number i output there)
 
   module _ (w : Network (Node F R) Msg Note) (r : Runs F f laws alloc c items is w) (b : Busy g w) (h : Installs g w)
-      (busy : AreUnderWay f c items is n w r.joined) (says : SaysOfShares f c items w.log) where
-    at_places : (k p : ℕ) (m : Msg) → IsTaken f g n (scene f g n refl (Wants f g) (node_leads f laws g (all_fit f c items is) n) w r.joined)
+      (busy : AreUnderWay f c items is (length c.names + 2) w r.joined) (says : SaysOfShares f c items w.log) where
+    at_places : (k p : ℕ) (m : Msg) → IsTaken f g (length c.names + 2)
+        (scene f g (length c.names + 2) refl (Wants f g) (node_leads f laws g (all_fit f c items is) (length c.names + 2)) w r.joined)
         (record { node = k; port = p; message = m })
-        → AtPlaces w.log (step (node_of r.joined.nodes k) p m).notes
+        → AtPlaces w.log (node_step f (node_of r.joined.nodes k) p m).notes
     at_places zero p m it front back number i output e =
         absurd (processed_off front back number i output (switch_step r.joined.nodes.switch m).notes (switch_unprocessed r.joined.nodes.switch m) e)
     at_places (suc zero) p m it front back number i output e = absurd (processed_off front back number i output
         (controller_step r.joined.nodes.controller p m).notes (uninstalled_unprocessed _ (controller_uninstalled r.joined.nodes.controller p m)) e)
     at_places (suc (suc y)) p m it front back number i output e =
-        processed_place f laws c items is n refl w r.joined r.beside.kept.apart b h busy says y p m it front back number i output e
+        processed_place f laws c items is (length c.names + 2) refl w r.joined r.beside.kept.apart b h busy says y p m it front back number i output e
 
   none_at_start : ArePlaces (job_of f c items) []
   none_at_start [] after number i output e = cc
   none_at_start (x ∷ before) after number i output e = cc
 
   -- every run keeps it
-  pub places : (cs : List Choice) → IsRun node_ready step cs first → ArePlaces (job_of f c items) (run step cs first).log
-  places = log_keeps F f laws alloc c items is (ArePlaces (job_of f c items)) none_at_start (λ ds ok d s old. places_more (run step ds first).log _ old
-      (at_places (run step ds first) s.runs (run_busy F f laws alloc c items is ds ok).1 (run_installs F f laws alloc c items is ds ok)
+  pub places : (cs : List Choice) → IsRun node_ready (node_step f) cs first → ArePlaces (job_of f c items) (run (node_step f) cs first).log
+  places = log_keeps F f laws alloc c items is (ArePlaces (job_of f c items)) none_at_start (λ ds ok d s old. places_more (run (node_step f) ds first).log _ old
+      (at_places (run (node_step f) ds first) s.runs (run_busy F f laws alloc c items is ds ok).1 (run_installs F f laws alloc c items is ds ok)
       (moves_under_way F f laws alloc c items is ds ok s.runs.joined) (says_of_shares F f laws alloc c items is ds ok) d.node d.port s.taking.message
       s.taken))

@@ -6,7 +6,7 @@ use Rattle.nf_net.proofs.Words.{Decides-eqb, Decides-ltb, slice_get_past, Functi
 use Rattle.nf_net.proofs.Words.{on_link, run, State, idle, nil_left, firsts, Kept, third_silent, seat_shape, seat_path, Seeing, node_at, side_place, fold_runs}
 use Rattle.nf_net.proofs.Words.{seat_parts, same_done, WantShare, WhereAll, Apart_from_shares, Under_share, Config, IsInput, job_of, arrivals_in, IsFront}
 use Rattle.nf_net.proofs.Words.{processed_of, owner, node_step, node_ready, started_with, live_in, live_at, given_in, removed_by, AllApart, is_sys, run_beside}
-use Rattle.nf_net.proofs.Words.{done_same, given, Given, S, A, came_by, Unit}
+use Rattle.nf_net.proofs.Words.{done_same, given, Given, S, A, came_by, Unit, split}
 use Rattle.std.specs.FinMap as finite
 use Rattle.proof_machines.proofs.unit.Machine.{after}
 use Rattle.proof_machines.proofs.unit.Bare.{firsts_nil}
@@ -93,10 +93,9 @@ module _ {F R : Type 0} (here : Reached F R) (in_turn : IsFront (arrivals_in her
   nowhere : lives x ≡ [] → IsNowhereLive w u
   nowhere none i =
       let three = are_none x.a.live x.b.live x.c.live none in
-      elim (nat_lt (instance_node i) n) as (λ t. nat_lt (instance_node i) n ≡ t → live_at w i u ≡ None) [
-        | true ↦ λ e. live_there (instance_node i) (omega arith) ((Decides-ltb (instance_node i) n).0 e) ∙ none_at three (instance_node i)
-        | false ↦ λ e. ap (live_in u) (slice_get_past w.nodes (instance_node i) (rw nodes (ltb-false (instance_node i) n e)))
-      ] refl
+      split (nat_lt (instance_node i) n) (λ _. live_at w i u ≡ None)
+      (λ e. live_there (instance_node i) (omega arith) ((Decides-ltb (instance_node i) n).0 e) ∙ none_at three (instance_node i))
+      (λ e. ap (live_in u) (slice_get_past w.nodes (instance_node i) (rw nodes (ltb-false (instance_node i) n e))))
     where
       none_at : AreNone x.a.live x.b.live x.c.live → (m : ℕ) → (node_at (S f g) z x m).live ≡ None
       none_at three m = elim (m == k.op.src) as (λ t. (if t then x.a else if m == k.op.dst then x.b else if m == k.third then x.c else idle None).live ≡ None) [
@@ -251,18 +250,14 @@ module _ {F R : Type 0} (here : Reached F R) (in_turn : IsFront (arrivals_in her
     one_there None e = records.Has_none refl nowhere_live (none_shared here u x before since k)
       where
         nowhere_live : IsNowhereLive w u
-        nowhere_live i = elim (i == home) as (λ t. (i == home) ≡ t → live_at w i u ≡ None) [
-          | true ↦ λ on. ap (λ q. live_at w q u) ((Decides-eqb i home).0 on) ∙ e
-          | false ↦ λ off. only_home i (λ same. (let never : true ≡ false = sym ((Decides-eqb i home).1 same) ∙ off in cc))
-        ] refl
+        nowhere_live i = split (i == home) (λ _. live_at w i u ≡ None) (λ on. ap (λ q. live_at w q u) ((Decides-eqb i home).0 on) ∙ e)
+            (λ off. only_home i (λ same. (let never : true ≡ false = sym ((Decides-eqb i home).1 same) ∙ off in cc)))
     one_there (Some r) e =
         records.Is_live home r refl (record { there = e; alone = at_home }) (none_shared here u x before since k)
       where
         at_home : (i : ℕ) (s : R) → live_at w i u ≡ Some s → i ≡ home
-        at_home i s live = elim (i == home) as (λ t. (i == home) ≡ t → i ≡ home) [
-          | true ↦ λ on. (Decides-eqb i home).0 on
-          | false ↦ λ off. never (live_at w i u) s (only_home i (λ same. (let bad : true ≡ false = sym ((Decides-eqb i home).1 same) ∙ off in cc))) live
-        ] refl
+        at_home i s live = split (i == home) (λ _. i ≡ home) (λ on. (Decides-eqb i home).0 on)
+            (λ off. never (live_at w i u) s (only_home i (λ same. (let bad : true ≡ false = sym ((Decides-eqb i home).1 same) ∙ off in cc))) live)
 
     shared_stands : HasShared here told u x before since k → HasRecord (job_of f c items) w u
     shared_stands (Saw_all live) = record { seen = all; has_seen = Sees_all refl; one = one_there (fold f c items None all) (live ∙ sym (folded all)) }

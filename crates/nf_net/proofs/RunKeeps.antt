@@ -4,7 +4,6 @@ use Rattle.nf_net.proofs.Words.{Choice, Network, IsWorld, IsRun, run, run_world,
 use Rattle.nf_net.proofs.Words.{run_induction, Config, Node, IsInput, node_step, node_ready, started_with, Given, Label, start_world, given, count_at_start}
 use Rattle.nf_net.proofs.Words.{Runs, run_beside, all_fit, node_of, IsTaken, scene, Wants, node_leads, its_takes, its_taken, its_labels, its_input, ready_at}
 use Rattle.actor_net.specs.Network.{is_input}
-use Rattle.nf_net.proofs.RunKeeps.{RunStep}
 
 module _ (F : Type 0) {R : Type 0} (f : Semantics R) (laws : FunctionLaws f) (alloc : Global) (c : Config) (items : List Msg)
     (is : IsInput f.kind c items) where

@@ -1,7 +1,7 @@
 -- How many commands of an input are answered, by the log; and two ends of one list, by their lengths.
 use Rattle.nf_net.proofs.Words.{◌≡◌, ℕ, suc, ◌+◌, ◌<◌, ◌≤◌, true, false, Some, List, [], ◌∷◌, ◌++◌, map, length, length-append, refl, sym, ap, ◌∙◌, arith}
 use Rattle.nf_net.proofs.Words.{if◌then◌else◌, ◌||◌, ◌==◌, find, option_map, nat_tests, Decides-eqb, or-true, or_left, Answer, Command, Order, Msg, Note, Each}
-use Rattle.nf_net.proofs.Words.{has_answered, commands, IsRising, has_answered-append}
+use Rattle.nf_net.proofs.Words.{has_answered, commands, IsRising, has_answered-append, split}
 use Rattle.net_world.specs.Input.{packets}
 use Rattle.nf_net.proofs.answers.BusyController.{told_in}
 use Rattle.nf_net.proofs.answers.BusyLemmas.{answered_same}
@@ -68,34 +68,31 @@ pub answered_one : (op : ℕ) (a : Answer) (what : Order) (log : List Note) → 
     → answered_in cs (log ++ Note.Answered op a ∷ []) ≡ answered_in cs log + 1
 answered_one op a what log none least [] h is = cc
 answered_one op a what log none least (c ∷ cs) h is =
-    elim (c.op == op) as (λ b. (c.op == op) ≡ b → option_map (λ x. x.what) (if b then Some c else find (λ x. x.op == op) cs) ≡ Some what
-    → answered_in (c ∷ cs) (log ++ Note.Answered op a ∷ []) ≡ answered_in (c ∷ cs) log + 1) [
-      | true ↦ λ on _.
-          let same : op ≡ c.op = sym ((Decides-eqb c.op op).0 on) in
-          let self : (op == c.op) ≡ true = grind (arith, nat_tests, same) in
-          let new : has_answered c.op (log ++ Note.Answered op a ∷ []) ≡ true = has_answered-append c.op log (Note.Answered op a ∷ [])
-          ∙ ap (λ b. has_answered c.op log || (b || false)) self ∙ or-true (has_answered c.op log) in
-          let old : has_answered c.op log ≡ false = ap (λ k. has_answered k log) (sym same) ∙ none in
-          let one = ap flag new in
-          let zero = ap flag old in
-          let rest = answered_other op a log (suc c.op) cs (omega (arith, same)) h.1 in
-          omega (arith, one, zero, rest)
-      | false ↦ λ off found.
-          let apart : (op == c.op) ≡ false = grind (arith, nat_tests, off) in
-          let own = ap flag (answered_same c.op log (Note.Answered op a ∷ []) (apart_answer op c.op a apart)) in
-          let rest = answered_one op a what log none (suc c.op) cs h.1 found in
-          omega (arith, own, rest)
-    ] refl is
+    split (c.op == op) (λ b. option_map (λ x. x.what) (if b then Some c else find (λ x. x.op == op) cs) ≡ Some what → answered_in (c ∷ cs)
+    (log ++ Note.Answered op a ∷ []) ≡ answered_in (c ∷ cs) log + 1)
+    (λ on _.
+    let same : op ≡ c.op = sym ((Decides-eqb c.op op).0 on) in
+    let self : (op == c.op) ≡ true = grind (arith, nat_tests, same) in
+    let new : has_answered c.op (log ++ Note.Answered op a ∷ []) ≡ true = has_answered-append c.op log (Note.Answered op a ∷ [])
+    ∙ ap (λ b. has_answered c.op log || (b || false)) self ∙ or-true (has_answered c.op log) in
+    let old : has_answered c.op log ≡ false = ap (λ k. has_answered k log) (sym same) ∙ none in
+    let one = ap flag new in
+    let zero = ap flag old in
+    let rest = answered_other op a log (suc c.op) cs (omega (arith, same)) h.1 in
+    omega (arith, one, zero, rest))
+    (λ off found.
+    let apart : (op == c.op) ≡ false = grind (arith, nat_tests, off) in
+    let own = ap flag (answered_same c.op log (Note.Answered op a ∷ []) (apart_answer op c.op a apart)) in
+    let rest = answered_one op a what log none (suc c.op) cs h.1 found in
+    omega (arith, own, rest)) is
 
 -- an order that is found is that of one of them
 pub found : (P : Command → Type 0) (op : ℕ) (what : Order) (cs : List Command) → Each P cs
     → option_map (λ c. c.what) (find (λ c. c.op == op) cs) ≡ Some what → (c : Command) × (c.op ≡ op) × P c
 found P op what [] h is = cc
-found P op what (c ∷ cs) h is = elim (c.op == op) as (λ b. (c.op == op) ≡ b
-    → option_map (λ x. x.what) (if b then Some c else find (λ x. x.op == op) cs) ≡ Some what → (x : Command) × (x.op ≡ op) × P x) [
-      | true ↦ λ on _. (c, (Decides-eqb c.op op).0 on, h.0)
-      | false ↦ λ _ behind. found P op what cs h.1 behind
-    ] refl is
+found P op what (c ∷ cs) h is = split (c.op == op)
+    (λ b. option_map (λ x. x.what) (if b then Some c else find (λ x. x.op == op) cs) ≡ Some what → (x : Command) × (x.op ≡ op) × P x)
+    (λ on _. (c, (Decides-eqb c.op op).0 on, h.0)) (λ _ behind. found P op what cs h.1 behind) is
 
 -- numbers of commands among messages
 pub low_commands : (P : ℕ → Type 0) (ms : List Msg) → Each P (picked told_in ms) → Each (λ c. P c.op) (commands ms)

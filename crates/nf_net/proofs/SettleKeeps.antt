@@ -4,8 +4,8 @@ use Rattle.nf_net.proofs.Words.{ap, ◌∙◌, subst, arith, if◌then◌else◌
 use Rattle.nf_net.proofs.Words.{each_map, Packet, Output, FunctionLaws, Semantics, same_unit_equiv, Command, Msg, Note, Choice, Network, Stepped, IsRun, run}
 use Rattle.nf_net.proofs.Words.{world_next, queue_at, at, opening_waiting, opening_weight, total, switch_step, controller_step, Config, Node, has_answered}
 use Rattle.nf_net.proofs.Words.{commands, IsInput, arrivals_in, dones_in, done_where, node_step, node_ready, unit_numbered, is_of, processed_of, has_packet}
-use Rattle.nf_net.proofs.Words.{first_nodes, first_switch, arrived-append, Given, Joined, Label, node_of, Stands, In_first, In_second, stands}
-use Rattle.nf_net.proofs.Words.{switch_unprocessed, controller_uninstalled, uninstalled_unprocessed, given, all_labelled, count_at_start, Unit, nowhere}
+use Rattle.nf_net.proofs.Words.{first_nodes, first_switch, arrived-append, Joined, Label, node_of, Stands, In_first, In_second, stands, switch_unprocessed}
+use Rattle.nf_net.proofs.Words.{controller_uninstalled, uninstalled_unprocessed, given, all_labelled, count_at_start, Unit, nowhere, split, either_way}
 use Rattle.net_world.specs.Input.{packets}
 use Rattle.net_world.specs.Fold.{times}
 use Rattle.net_world.proofs.NumberCounts.{times-append}
@@ -28,11 +28,10 @@ use Rattle.nf_net.proofs.CountedSteps.{counted_after}
 -- a packet among items is one of their numbers
 has_times : (p : ℕ) (qs : List Packet) → is_some (find (λ q. q.number == p) qs) ≡ true → 1 ≤ times p (map (λ q. q.number) qs)
 has_times p [] h = cc
-has_times p (q ∷ qs) h = elim (q.number == p) as (λ b. (q.number == p) ≡ b → is_some (if b then Some q else find (λ x. x.number == p) qs) ≡ true
-    → 1 ≤ (if p == q.number then 1 else 0) + times p (map (λ x. x.number) qs)) [
-      | true ↦ λ on _. (let self : (p == q.number) ≡ true = grind (arith, nat_tests, on) in rw self (omega arith))
-      | false ↦ λ _ behind. (let rest = has_times p qs behind in omega (arith, rest))
-    ] refl h
+has_times p (q ∷ qs) h = split (q.number == p)
+    (λ b. is_some (if b then Some q else find (λ x. x.number == p) qs) ≡ true → 1 ≤ (if p == q.number then 1 else 0) + times p (map (λ x. x.number) qs))
+    (λ on _. (let self : (p == q.number) ≡ true = grind (arith, nat_tests, on) in rw self (omega arith)))
+    (λ _ behind. (let rest = has_times p qs behind in omega (arith, rest))) h
 
 -- what was processed went
 some_went : (mine : ℕ → Bool) (p i : ℕ) (output : Output) (after : List Note) → mine p ≡ true → (before : List Note)
@@ -58,10 +57,9 @@ behind_note n log p r = record { first = n ∷ r.first; rest = r.rest; whole = a
 pub arrived_in : (log : List Note) (p : ℕ) → 1 ≤ times p (arrivals_in log) → ArrivedIn log p
 arrived_in [] p some = absurd (omega (arith, some))
 arrived_in (Note.Arrived k ∷ log) p some =
-    elim (p == k) as (λ b. (p == k) ≡ b → 1 ≤ (if b then 1 else 0) + times p (arrivals_in log) → ArrivedIn (Note.Arrived k ∷ log) p) [
-      | true ↦ λ on _. record { first = []; rest = log; whole = ap (λ q. Note.Arrived q ∷ log) (sym ((Decides-eqb p k).0 on)) }
-      | false ↦ λ _ more. behind_note (Note.Arrived k) log p (arrived_in log p (omega (arith, more)))
-    ] refl some
+    split (p == k) (λ b. 1 ≤ (if b then 1 else 0) + times p (arrivals_in log) → ArrivedIn (Note.Arrived k ∷ log) p)
+    (λ on _. record { first = []; rest = log; whole = ap (λ q. Note.Arrived q ∷ log) (sym ((Decides-eqb p k).0 on)) })
+    (λ _ more. behind_note (Note.Arrived k) log p (arrived_in log p (omega (arith, more)))) some
 arrived_in (n ∷ log) p some = behind_note n log p (arrived_in log p some)
 
 arrived_there : (first rest : List Note) (p : ℕ) → 1 ≤ times p (arrivals_in (first ++ Note.Arrived p ∷ rest))
@@ -73,12 +71,6 @@ arrived_there first rest p =
 
 module _ (F : Type 0) {R : Type 0} (f : Semantics R) (laws : FunctionLaws f) (alloc : Global) (c : Config) (items : List Msg)
     (is : IsInput f.kind c items) where
-  abbrev g : Given
-  g = given f c items is
-
-  abbrev n : ℕ
-  n = count F f laws alloc c items is
-
   abbrev step : Node F R → ℕ → Msg → Stepped (Node F R) Msg Note
   step = node_step f
 
@@ -126,25 +118,22 @@ module _ (F : Type 0) {R : Type 0} (f : Semantics R) (laws : FunctionLaws f) (al
   taken_then : (w : Network (Node F R) Msg Note) → arrivals_in w.log ++ numbers (queue_at w (at 0 0)) ≡ numbers items → Counted items w
       → (front behind : List Msg) (p : ℕ) → items ≡ front ++ Msg.InSettle ∷ behind → has_packet p behind ≡ true → 1 ≤ times p (arrivals_in w.log)
       → length (queue_at w (at 0 0)) ≤ length behind
-  taken_then w in_turn counted front behind p whole has came = elim (nat_lt (length behind) (length (queue_at w (at 0 0))))
-      as (λ t. nat_lt (length behind) (length (queue_at w (at 0 0))) ≡ t → length (queue_at w (at 0 0)) ≤ length behind) [
-        | true ↦ λ on.
-            let more = (Decides-ltb (length behind) (length (queue_at w (at 0 0)))).0 on in
-            let ends = longer_end counted.took (queue_at w (at 0 0)) front (Msg.InSettle ∷ behind) (sym counted.whole ∙ whole) (omega (arith, more)) in
-            let all : times p (numbers (queue_at w (at 0 0))) ≡ times p (numbers ends.0) + times p (numbers behind) = ap (λ ms. times p (numbers ms)) ends.1
-            ∙ ap (λ ps. times p (map (λ q. q.number) ps)) (packets-append ends.0 (Msg.InSettle ∷ behind))
-            ∙ ap (times p) (map-append (λ q. q.number) (packets ends.0) (packets behind)) ∙ times-append p (numbers ends.0) (numbers behind) in
-            let turn = ap (times p) (sym in_turn) ∙ times-append p (arrivals_in w.log) (numbers (queue_at w (at 0 0))) in
-            let one = rising_once p 0 (numbers items) is.numbers in
-            let some = has_times p (packets behind) has in
-            absurd (omega (arith, all, turn, one, some, came))
-        | false ↦ λ off. grind (arith, nat_tests, off)
-      ] refl
+  taken_then w in_turn counted front behind p whole has came = either_way (nat_lt (length behind) (length (queue_at w (at 0 0))))
+      (λ on.
+      let more = (Decides-ltb (length behind) (length (queue_at w (at 0 0)))).0 on in
+      let ends = longer_end counted.took (queue_at w (at 0 0)) front (Msg.InSettle ∷ behind) (sym counted.whole ∙ whole) (omega (arith, more)) in
+      let all : times p (numbers (queue_at w (at 0 0))) ≡ times p (numbers ends.0) + times p (numbers behind) = ap (λ ms. times p (numbers ms)) ends.1
+      ∙ ap (λ ps. times p (map (λ q. q.number) ps)) (packets-append ends.0 (Msg.InSettle ∷ behind))
+      ∙ ap (times p) (map-append (λ q. q.number) (packets ends.0) (packets behind)) ∙ times-append p (numbers ends.0) (numbers behind) in
+      let turn = ap (times p) (sym in_turn) ∙ times-append p (arrivals_in w.log) (numbers (queue_at w (at 0 0))) in
+      let one = rising_once p 0 (numbers items) is.numbers in
+      let some = has_times p (packets behind) has in
+      absurd (omega (arith, all, turn, one, some, came))) (λ off. grind (arith, nat_tests, off))
 
   -- a choice of a run
   module _ (w : Network (Node F R) Msg Note) (d : Choice) (s : RunStep F f laws alloc c items is w d)
-      (turn : arrivals_in w.log ++ numbers (queue_at w (at 0 0)) ≡ numbers items) (b : Busy g w) (h : Keeps w) where
-    abbrev j : Joined f g n w
+      (turn : arrivals_in w.log ++ numbers (queue_at w (at 0 0)) ≡ numbers items) (b : Busy (given f c items is) w) (h : Keeps w) where
+    abbrev j : Joined f (given f c items is) (length c.names + 2) w
     j = s.runs.joined
 
     abbrev v : Network (Node F R) Msg Note
@@ -159,7 +148,7 @@ module _ (F : Type 0) {R : Type 0} (f : Semantics R) (laws : FunctionLaws f) (al
     counted_next : Counted items v
     counted_next = counted_after F f laws alloc c items is w j b h.counted d.node d.port s.taking.message s.taking.rest
         (record { takes = s.takes; ready = s.ready; label = s.taken.label; labels = s.labels; input = s.input })
-        (busy_next f g n refl w d s.taking j b)
+        (busy_next f (given f c items is) (length c.names + 2) refl w d s.taking j b)
 
     -- what an instance processes had arrived
     came_before : (q i : ℕ) (output : Output) (before after : List Note) → its_notes ≡ before ++ Note.Processed q i output ∷ after
@@ -171,7 +160,7 @@ module _ (F : Type 0) {R : Type 0} (f : Semantics R) (laws : FunctionLaws f) (al
         ∙ sym (append_assoc w.log before (Note.Processed q i output ∷ after)) in
         let went_some : 1 ≤ times q (processed_of f c items u v.log) = subst (λ l. 1 ≤ times q (processed_of f c items u l)) (sym log)
         (some_went (is_of f c items u) q i output after own (w.log ++ before)) in
-        let few = once f c items is n v next.runs.joined u q in
+        let few = once f c items is (length c.names + 2) v next.runs.joined u q in
         let less = times_those (is_of f c items u) q (arrivals_in v.log) in
         let same : times q (arrivals_in v.log) ≡ times q (arrivals_in w.log) + 0 = ap (λ l. times q (arrivals_in l)) s.log
         ∙ ap (times q) (arrived-append w.log its_notes) ∙ times-append q (arrivals_in w.log) (arrivals_in its_notes)
@@ -203,7 +192,7 @@ module _ (F : Type 0) {R : Type 0} (f : Semantics R) (laws : FunctionLaws f) (al
         let some = arrived_there before after p in
         let same = ap (λ l. times p (arrivals_in l)) (sym e) in let zero = ap (times p) none in omega (arith, some, same, zero)
 
-    new_answered : (k p : ℕ) (m : Msg) → d.node ≡ k → d.port ≡ p → s.taking.message ≡ m → Label f g p k m → (front behind : List Msg)
+    new_answered : (k p : ℕ) (m : Msg) → d.node ≡ k → d.port ≡ p → s.taking.message ≡ m → Label f (given f c items is) p k m → (front behind : List Msg)
         → items ≡ front ++ Msg.InSettle ∷ behind → (before after : List Note) (q : ℕ) → has_packet q behind ≡ true
         → (step (node_of j.nodes k) p m).notes ≡ before ++ Note.Arrived q ∷ after → AllAnswered (commands front) w.log
     new_answered zero p m dk dp tm label front behind whole before after q has e =
@@ -213,7 +202,8 @@ module _ (F : Type 0) {R : Type 0} (f : Semantics R) (laws : FunctionLaws f) (al
         let all : AllAnswered (commands front) (w.log ++ notes) = subst (AllAnswered (commands front)) (s.log ∙ ap (λ ns. w.log ++ ns) same)
         (answered_now front behind whole before after q has (same ∙ e)) in
         each_map {P = (λ x. has_answered x.op (w.log ++ notes) ≡ true)} {Q = (λ x. has_answered x.op w.log ≡ true)}
-        (λ x on. sym (answered_same x.op w.log notes (other_not_answered x.op notes (switch_hands f g j.nodes.switch p m label).notes_are)) ∙ on)
+        (λ x on. sym (answered_same x.op w.log notes (other_not_answered x.op notes (switch_hands f (given f c items is) j.nodes.switch p m label).notes_are))
+        ∙ on)
         (commands front) all
     new_answered (suc zero) p m dk dp tm label front behind whole before after q has e =
         absurd (none_arrives before after q (controller_step j.nodes.controller p m).notes e (controller_notes_none j.nodes.controller p m))
@@ -233,7 +223,7 @@ module _ (F : Type 0) {R : Type 0} (f : Semantics R) (laws : FunctionLaws f) (al
       let count = count_at_start F f alloc c items is in
       let waits : queue_at at_start (at 0 0) ≡ items = opening_waiting Note (first_nodes {F = F} {R = R} alloc c) items (omega (arith, count)) 0 0 in
       let weight : total answering at_start ≡ 0 = opening_weight Note (first_nodes {F = F} {R = R} alloc c) items answering
-      ∙ items_none f g items (all_labelled f c items is) in
+      ∙ items_none f (given f c items is) items (all_labelled f c items is) in
       record {
         counted = record {
           switch = first_switch c;

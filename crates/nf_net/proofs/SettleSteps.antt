@@ -1,9 +1,9 @@
 -- Each choice of a run keeps that the switch counts the commands that wait for their answer, and so that what stands before a settle that
 -- it has taken is answered.
 use Rattle.nf_net.proofs.Words.{◌≡◌, ◌≢◌, ℕ, suc, ◌+◌, ◌^◌, ◌<◌, ◌≤◌, true, false, List, [], ◌∷◌, ◌++◌, length, length-append, get_or, refl, ap, ◌∙◌, arith}
-use Rattle.nf_net.proofs.Words.{if◌then◌else◌, ◌&&◌, ◌||◌, ◌==◌, not, nat_lt, Decides-ltb, cond-same, Semantics, Msg, Note, Target, rules_redirected, Packet}
-use Rattle.nf_net.proofs.Words.{instance_node, MOST_WAITING, SwitchState, switch_step, takes_in, Network, reaches, queue_at, at, EachSent, weigh, total}
-use Rattle.nf_net.proofs.Words.{sent_weight, Each, each_map, Rising, Node, Switch, is_begun, has_answered, commands, Given, Label, Mark}
+use Rattle.nf_net.proofs.Words.{if◌then◌else◌, ◌&&◌, ◌||◌, ◌==◌, not, nat_lt, Decides-ltb, Semantics, Msg, Note, Target, rules_redirected, Packet}
+use Rattle.nf_net.proofs.Words.{instance_node, MOST_WAITING, SwitchState, switch_step, takes_in, Network, queue_at, at, EachSent, weigh, total, sent_weight}
+use Rattle.nf_net.proofs.Words.{Each, each_map, Rising, Node, Switch, is_begun, has_answered, commands, Given, Label, Mark}
 use Rattle.std.proofs.Common.{◌-◌}
 use Rattle.std.specs.Prelude.{min}
 use Rattle.packet_pool.specs.Pool.{one_more as one_more_cell}
@@ -15,6 +15,7 @@ use Rattle.nf_net.proofs.answers.BusyRuns.{Busy, waits_of}
 use Rattle.nf_net.proofs.answers.LinePicks.{picked}
 use Rattle.nf_net.proofs.SettleCounts.{answered_in, AllAnswered, answered_in-append, answered_most, all_answered, none_answered_in, low_commands}
 use Rattle.nf_net.proofs.SettleCounts.{commands-append}
+use Rattle.nf_net.proofs.WeightlessMessages.{weighs_nothing, sends_nothing}
 
 abbrev pub switch_in : {F R : Type 0} → SwitchState → Node F R → SwitchState
 switch_in s (Switch t) = t
@@ -36,15 +37,10 @@ module _ {R : Type 0} (f : Semantics R) (g : Given) where
   no_answer_to p k m some label = refl
 
   pub none_sent : (n k : ℕ) (sends : List (ℕ × Msg)) → k ≢ 1 → EachSent (Label f g) k sends → sent_weight answering n k sends ≡ 0
-  none_sent n k [] other h = refl
-  none_sent n k (x ∷ xs) other h =
-      let own = no_answer_from k x.0 x.1 other h.0 in
-      let rest = none_sent n k xs other h.1 in
-      rw (own, rest, cond-same {X = ℕ} (reaches n k x.0) 0) refl
+  none_sent n k sends other = sends_nothing (Label f g) answering k (λ r m. no_answer_from k r m other) n sends
 
   pub items_none : (items : List Msg) → Each (Label f g 0 0) items → weigh answering items ≡ 0
-  items_none [] h = refl
-  items_none (m ∷ ms) h = let own = no_answer_from 0 0 m (λ never. cc) h.0 in let rest = items_none ms h.1 in omega (arith, own, rest)
+  items_none = weighs_nothing (Label f g 0 0) answering (λ m. no_answer_from 0 0 m (λ never. cc))
 
   -- a command comes from the input
   pub asked_there : (p k : ℕ) (m : Msg) → Label f g p k m → 1 ≤ asking m → (p ≡ 0) × (k ≡ 0)

@@ -70,7 +70,8 @@ module _ (n : ℕ) (first : Bool) (plan : SharePlan) where
   shared_asks : (ph : SharePhase) (sender : ℕ) (chunk : Chunk) → Asks ph (on_shared plan ph sender chunk)
   shared_asks (SharePhase.Out member) sender chunk = elim (sender == instance_node member) as (λ b. Asks (SharePhase.Out member)
       (if b then syncing (length (others plan member)) (syncs plan member (chunk ∷ [])) else next_phase (SharePhase.Out member) [])) [
-        | true ↦ syncing_asks (SharePhase.Out member) (length (others plan member)) (syncs plan member (chunk ∷ [])) (syncs_none (chunk ∷ []) (others plan member))
+        | true ↦ syncing_asks (SharePhase.Out member) (length (others plan member)) (syncs plan member (chunk ∷ []))
+            (syncs_none (chunk ∷ []) (others plan member))
         | false ↦ stays (SharePhase.Out member)
       ]
   shared_asks ph sender chunk = stays ph

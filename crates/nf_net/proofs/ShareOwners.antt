@@ -6,7 +6,7 @@ use Rattle.nf_net.proofs.Words.{no_change, WhereAll, Apart_from_shares, Under_sh
 use Rattle.nf_net.proofs.Words.{installs_in, node_step, node_ready, first_owner, owner_after_order, owner_after, owner, has_begun-append, installed-append}
 use Rattle.nf_net.proofs.Words.{any_picked, before_kept, before_new, unit_fits, is_whole, takes_whole, takes_same, is_sys, Both, both, Given, place, owner_next}
 use Rattle.nf_net.proofs.Words.{S, A, Joined, came_by, Scene, IsTaken, node_of, scene, Wants, node_leads, AllApart, installed_quiet, installed_none}
-use Rattle.nf_net.proofs.Words.{instance_quiet, controller_uninstalled, Runs, given, all_fit, Unit, Order}
+use Rattle.nf_net.proofs.Words.{instance_quiet, controller_uninstalled, Runs, given, all_fit, Unit, Order, split}
 use Rattle.std.specs.List.{position_or_len}
 use Rattle.proof_machines.proofs.unit.Real as real
 use Rattle.proof_machines.proofs.net.GlobalAll.{Disjoint}
@@ -38,13 +38,12 @@ all_before op xs e = ap installs_in (before_all (is_begin op) xs (begin_is op fa
 
 -- notes of no change of the rules change nothing of what was installed before
 pub installed_before : (op : ℕ) (xs ys : List Note) → installs_in ys ≡ [] → installs_in (before_begun op (xs ++ ys)) ≡ installs_in (before_begun op xs)
-installed_before op xs ys e = elim (is_begun op xs) as (λ t. is_begun op xs ≡ t → installs_in (before_begun op (xs ++ ys)) ≡ installs_in (before_begun op xs)) [
-  | true ↦ λ on. ap installs_in (before_same op xs ys on)
-  | false ↦ λ off.
-      ap installs_in (before_new (is_begin op) xs ys (begin_is op false xs off)) ∙ installed-append xs (before_begun op ys)
-      ∙ ap (λ ops. installs_in xs ++ ops) (front_picked change_in (position_or_len (is_begin op) ys) ys e) ∙ append-nil (installs_in xs)
-      ∙ sym (all_before op xs off)
-] refl
+installed_before op xs ys e = split (is_begun op xs) (λ _. installs_in (before_begun op (xs ++ ys)) ≡ installs_in (before_begun op xs))
+    (λ on. ap installs_in (before_same op xs ys on))
+    (λ off.
+    ap installs_in (before_new (is_begin op) xs ys (begin_is op false xs off)) ∙ installed-append xs (before_begun op ys)
+    ∙ ap (λ ops. installs_in xs ++ ops) (front_picked change_in (position_or_len (is_begin op) ys) ys e) ∙ append-nil (installs_in xs)
+    ∙ sym (all_before op xs off))
 
 or_none : (a : Bool) → a || false ≡ true → a ≡ true
 or_none true e = refl
@@ -101,10 +100,8 @@ module _ {R : Type 0} (f : Semantics R) (c : Config) (items : List Msg) where
   quiet_owners : (log notes : List Note) → installs_in notes ≡ [] → OwnersStay log → OwnersStay (log ++ notes)
   quiet_owners log notes none h op ms filter u what begun fits world_next =
       ap (by u) (installed_before op log notes none)
-      ∙ elim (is_begun op log) as (λ t. is_begun op log ≡ t → by u (installs_in (before_begun op log)) ≡ owner c items u log) [
-        | true ↦ λ on. h op ms filter u what on fits world_next
-        | false ↦ λ off. ap (by u) (all_before op log off)
-      ] refl
+      ∙ split (is_begun op log) (λ _. by u (installs_in (before_begun op log)) ≡ owner c items u log) (λ on. h op ms filter u what on fits world_next)
+      (λ off. ap (by u) (all_before op log off))
       ∙ sym (owner_stays f c items u log notes none)
 
 module _ (F : Type 0) {R : Type 0} (f : Semantics R) (laws : FunctionLaws f) (alloc : Global) (c : Config) (items : List Msg)
@@ -112,15 +109,12 @@ module _ (F : Type 0) {R : Type 0} (f : Semantics R) (laws : FunctionLaws f) (al
   abbrev gr : Given
   gr = given f c items is
 
-  abbrev n : ℕ
-  n = count F f laws alloc c items is
-
   abbrev first : Network (Node F R) Msg Note
   first = start F f laws alloc c items is
 
   module _ (w : Network (Node F R) Msg Note) (r : Runs F f laws alloc c items is w) (b : Busy gr w) (h : OwnersStay f c items w.log) where
     abbrev here : Scene F f gr
-    here = scene f gr n refl (Wants f gr) (node_leads f laws gr (all_fit f c items is) n) w r.joined
+    here = scene f gr (length c.names + 2) refl (Wants f gr) (node_leads f laws gr (all_fit f c items is) (length c.names + 2)) w r.joined
 
     -- a change of the rules that leaves such units with their owner
     change_stays : (k : ℕ) → ((op : ℕ) (ms : List (List ℕ)) (filter : Filter) (u : Unit)
@@ -134,22 +128,24 @@ module _ (F : Type 0) {R : Type 0} (f : Semantics R) (laws : FunctionLaws f) (al
         ∙ sym (stays op ms filter u what on fits world_next)
         ∙ sym (owner_next gr u w.log k)
 
-    switch_stays : (p : ℕ) (m : Msg) (it : IsTaken f gr n here (record { node = 0; port = p; message = m })) → Changed f gr n here r.joined.shown_is p m it
+    switch_stays : (p : ℕ) (m : Msg) (it : IsTaken f gr (length c.names + 2) here (record { node = 0; port = p; message = m })) → Changed f gr
+        (length c.names + 2) here r.joined.shown_is p m it
         → OwnersStay f c items (w.log ++ (switch_step r.joined.nodes.switch m).notes)
     switch_stays p m it (No_rule none) = quiet_owners f c items w.log (switch_step r.joined.nodes.switch m).notes none h
     switch_stays p m it (Moves_on k flt from dst rest noted its whole waits) =
         subst (λ ns. OwnersStay f c items (w.log ++ ns)) (sym noted) (change_stays k (λ op ms filter u what on fits world_next.
         let order_is : order_numbered items k ≡ Some (Order.Move its.plan_is.source its.plan_is.destination flt its.plan.keep) = its.plan_is.order_is
         ∙ ap (λ y. Some (Order.Move its.plan_is.source its.plan_is.destination y its.plan.keep)) its.filter_is in
-        let off : takes flt u ≡ false = unmoved f c items is n refl w r.joined r.beside.kept.apart b op ms filter what on u fits world_next k flt
+        let off : takes flt u ≡ false = unmoved f c items is
+        (length c.names + 2) refl w r.joined r.beside.kept.apart b op ms filter what on u fits world_next k flt
         (instance_node from) (instance_node dst) rest whole waits in
         rw (order_is, off) refl))
     switch_stays p m it (Diverts k flt from rest noted its whole waits) = subst (λ ns. OwnersStay f c items (w.log ++ ns)) (sym noted)
         (change_stays k (λ op ms filter u what on fits world_next. (let order_is = its.order_is in rw order_is refl)))
 
-    step_stays : (k p : ℕ) (m : Msg) → IsTaken f gr n here (record { node = k; port = p; message = m })
+    step_stays : (k p : ℕ) (m : Msg) → IsTaken f gr (length c.names + 2) here (record { node = k; port = p; message = m })
         → OwnersStay f c items (w.log ++ (node_step f (node_of r.joined.nodes k) p m).notes)
-    step_stays zero p m it = switch_stays p m it (changed f gr n _ r.joined.shown_is p m it)
+    step_stays zero p m it = switch_stays p m it (changed f gr (length c.names + 2) _ r.joined.shown_is p m it)
     step_stays (suc zero) p m it = quiet_owners f c items w.log (controller_step r.joined.nodes.controller p m).notes
         (installed_none _ (controller_uninstalled r.joined.nodes.controller p m)) h
     step_stays (suc (suc y)) p m it = quiet_owners f c items w.log (node_step f (node_of r.joined.nodes (suc (suc y))) p m).notes

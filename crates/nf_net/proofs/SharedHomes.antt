@@ -3,7 +3,7 @@ use Rattle.nf_net.proofs.Words.{◌≡◌, ℕ, ◌+◌, Bool, true, false, Some
 use Rattle.nf_net.proofs.Words.{and_parts, FunctionLaws, Semantics, takes, same_unit-true, Msg, Note, instance_node, Choice, Network, IsRun, run, shape}
 use Rattle.nf_net.proofs.Words.{unit_share, OpenShare, WantShare, Under, seeing, ItsShare, its_share, Config, Node, is_of, packet_numbered, IsInput, node_step}
 use Rattle.nf_net.proofs.Words.{node_ready, owner, members, member_for, unit_numbered, is_whole, unit_fits, is_sys, Given, S, A, Joined, AllApart, run_beside}
-use Rattle.nf_net.proofs.Words.{given, Unit}
+use Rattle.nf_net.proofs.Words.{given, Unit, either_way, Runs}
 use Rattle.net_world.specs.Places.{goes_to}
 use Rattle.nf_net.proofs.answers.BusyRuns.{Busy}
 use Rattle.nf_net.proofs.answers.CommandPromises.{run_busy}
@@ -56,11 +56,9 @@ module _ {F R : Type 0} (f : Semantics R) (c : Config) (items : List Msg) (is : 
     target d is_so = k.holds.target ∙ ap (λ t. if t then 1 else x.home) is_so
 
     home_owner : instance_node (owner c items u w.log) ≡ x.home
-    home_owner = elim diverts as (λ t. diverts ≡ t → instance_node (owner c items u w.log) ≡ x.home) [
-      | true ↦ λ on. sym (home_owns u fits_here e_here its_here (diverted_members f c items is n w j u fits_here (target true on)))
-      | false ↦ λ off. (let at = target false off in
-          let two = k.insts x.home k.is.home_in in sym (owner_goes f c items is n w j u fits_here (omega (arith, at, two))) ∙ at)
-    ] refl
+    home_owner = either_way diverts (λ on. sym (home_owns u fits_here e_here its_here (diverted_members f c items is n w j u fits_here (target true on))))
+        (λ off. (let at = target false off in
+        let two = k.insts x.home k.is.home_in in sym (owner_goes f c items is n w j u fits_here (omega (arith, at, two))) ∙ at))
 
     -- a packet of it goes to its member, while the switch diverts them
     pub goes_so : diverts ≡ true → (p : ℕ) → is_of f c items u p ≡ true → (i : ℕ) → (A f g).member x.members p ≡ instance_node i
@@ -73,9 +71,14 @@ module _ {F R : Type 0} (f : Semantics R) (c : Config) (items : List Msg) (is : 
 
 module _ (F : Type 0) {R : Type 0} (f : Semantics R) (laws : FunctionLaws f) (alloc : Global) (c : Config) (items : List Msg)
     (is : IsInput f.kind c items) where
-  pub run_homes : (cs : List Choice) (runs : IsRun node_ready (node_step f) cs (start F f laws alloc c items is)) → HomesOwn f c items is
-      (count F f laws alloc c items is) refl (run (node_step f) cs (start F f laws alloc c items is)) (run_beside F f laws alloc c items is cs runs).joined
-  run_homes cs runs =
-      let r = run_beside F f laws alloc c items is cs runs in
-      homes_own f c items is (count F f laws alloc c items is) refl (run (node_step f) cs (start F f laws alloc c items is)) r.joined r.beside.kept.apart
+  abbrev after : List Choice → Network (Node F R) Msg Note
+  after cs = run (node_step f) cs (start F f laws alloc c items is)
+
+  pub homes_of : (cs : List Choice) → IsRun node_ready (node_step f) cs (start F f laws alloc c items is) → (r : Runs F f laws alloc c items is (after cs))
+      → HomesOwn f c items is (count F f laws alloc c items is) refl (after cs) r.joined
+  homes_of cs runs r = homes_own f c items is (count F f laws alloc c items is) refl (after cs) r.joined r.beside.kept.apart
       (run_busy F f laws alloc c items is cs runs).1 (run_installs F f laws alloc c items is cs runs) (says_of_shares F f laws alloc c items is cs runs)
+
+  pub run_homes : (cs : List Choice) (runs : IsRun node_ready (node_step f) cs (start F f laws alloc c items is))
+      → HomesOwn f c items is (count F f laws alloc c items is) refl (after cs) (run_beside F f laws alloc c items is cs runs).joined
+  run_homes cs runs = homes_of cs runs (run_beside F f laws alloc c items is cs runs)

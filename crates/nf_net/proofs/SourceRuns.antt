@@ -2,18 +2,18 @@
 use Rattle.nf_net.proofs.Words.{◌≡◌, ◌≢◌, ℕ, zero, suc, ◌<◌, Bool, true, false, Option, Some, None, List, [], ◌∷◌, ◌++◌, length, length-append, get_or}
 use Rattle.nf_net.proofs.Words.{append_assoc, append-nil, refl, sym, ap, ◌∙◌, subst, arith, ◌&&◌, ◌||◌, ◌==◌, not, Global, nat_cmp, nat_tests, Decides-eqb}
 use Rattle.nf_net.proofs.Words.{Decides-ltb, and_parts, Filter, Output, FunctionLaws, Semantics, Answer, Msg, Note, instance_node, switch_step, MoveState}
-use Rattle.nf_net.proofs.Words.{Operation, Move, Copy, Share, ControllerState, controller_step, opened_controller, place_of, Choice, Network, Stepped, IsRun}
-use Rattle.nf_net.proofs.Words.{reaches, run, world_next, at, Takes, taken_outcome, Config, Node, Controller, is_begun, has_answered, is_busy, answers_of}
-use Rattle.nf_net.proofs.Words.{times_begun, IsInput, order_numbered, node_step, node_ready, owner, owner_after_order, unit_numbered, begins_in}
-use Rattle.nf_net.proofs.Words.{answers_of-append, times_begun-append, counted_now, owner_next, known, Given, Label, IsTaken, Joined, node_of, scene, Wants}
-use Rattle.nf_net.proofs.Words.{node_leads, installed_none, Stands, In_first, In_second, stands, each_there, switch_unprocessed, controller_uninstalled}
-use Rattle.nf_net.proofs.Words.{uninstalled_unprocessed, Runs, given, all_fit, Order, Done, nowhere}
+use Rattle.nf_net.proofs.Words.{Operation, Move, Copy, Share, ControllerState, controller_step, opened_controller, place_of, Choice, Network, IsRun, reaches}
+use Rattle.nf_net.proofs.Words.{run, world_next, at, Takes, taken_outcome, Config, Node, Controller, is_begun, has_answered, is_busy, answers_of, times_begun}
+use Rattle.nf_net.proofs.Words.{IsInput, order_numbered, node_step, node_ready, owner, owner_after_order, unit_numbered, begins_in, answers_of-append}
+use Rattle.nf_net.proofs.Words.{times_begun-append, counted_now, owner_next, known, Given, Label, IsTaken, Joined, node_of, scene, Wants, node_leads}
+use Rattle.nf_net.proofs.Words.{installed_none, Stands, In_first, In_second, stands, each_there, switch_unprocessed, controller_uninstalled}
+use Rattle.nf_net.proofs.Words.{uninstalled_unprocessed, Runs, given, all_fit, Order, Done, nowhere, split}
 use Rattle.std.specs.FinMap as finite
 use Rattle.nf_function.specs.Units.{takes as takes_unit}
 use Rattle.net_world.specs.Refused.{moves_away, StaysAtSource}
 use Rattle.nf_net.proofs.answers.BusyLemmas.{AreOther, is_other, other_not_begun}
 use Rattle.nf_net.proofs.answers.BusyNodes.{switch_hands, instance_says}
-use Rattle.nf_net.proofs.answers.BusyRuns.{Busy, same_controller, busy_next}
+use Rattle.nf_net.proofs.answers.BusyRuns.{Busy, own_controller, busy_next}
 use Rattle.nf_net.proofs.answers.CommandPromises.{run_busy}
 use Rattle.nf_net.proofs.answers.ControllerActs.{IsEarly, Was, Was.Was_open, Was.Begins_now, SaysSo, SaysSo.Neither, SaysSo.Begins, SaysSo.Answers, Acts}
 use Rattle.nf_net.proofs.answers.ControllerActs.{controller_acts}
@@ -47,9 +47,6 @@ module _ (F : Type 0) {R : Type 0} (f : Semantics R) (laws : FunctionLaws f) (al
 
   abbrev n : ℕ
   n = count F f laws alloc c items is
-
-  abbrev step : Node F R → ℕ → Msg → Stepped (Node F R) Msg Note
-  step = node_step f
 
   abbrev at_start : Network (Node F R) Msg Note
   at_start = start F f laws alloc c items is
@@ -100,22 +97,21 @@ module _ (F : Type 0) {R : Type 0} (f : Semantics R) (laws : FunctionLaws f) (al
         IsTaken f g n (scene f g n refl (Wants f g) (node_leads f laws g (all_fit f c items is) n) w r.joined) (record { node = k; port = p; message = m })
 
     same_one : 1 < n → h.controller ≡ j.nodes.controller
-    same_one there = same_controller {F = F} {R = R} h.controller j.nodes.controller
-        (sym (h.controller_is (Controller h.controller)) ∙ j.nodes_are 1 there (Controller h.controller))
+    same_one there = own_controller j there h.controller h.controller_is
 
     kept : (op : ℕ) (m : MoveState) → finite.get j.nodes.controller.operations op ≡ Some (Move m) → passed m.phase ≡ 0
         → Stays f c items op m.plan.filter m.plan.from w.log
     kept op m there early = h.stay op m (ap (λ x. finite.get x.operations op) (same_one (omega arith)) ∙ there) early
 
-    -- a step of the switch or of an instance
-    module _ (k p : ℕ) (m : Msg) (rest : List Msg) (takes : Takes step n w k p (node_of j.nodes k) m rest)
-        (other : 1 ≢ k) (notes_are : AreOther (step (node_of j.nodes k) p m).notes)
+    -- a (node_step f) of the switch or of an instance
+    module _ (k p : ℕ) (m : Msg) (rest : List Msg) (takes : Takes (node_step f) n w k p (node_of j.nodes k) m rest)
+        (other : 1 ≢ k) (notes_are : AreOther (node_step f (node_of j.nodes k) p m).notes)
         (leaves : (op : ℕ) (x : MoveState) → finite.get j.nodes.controller.operations op ≡ Some (Move x) → passed x.phase ≡ 0
-        → Leaves f c items x.plan.filter x.plan.from w.log (step (node_of j.nodes k) p m).notes) where
-      others_keep : Keeps (world_next step w (at k p))
+        → Leaves f c items x.plan.filter x.plan.from w.log (node_step f (node_of j.nodes k) p m).notes) where
+      others_keep : Keeps (world_next (node_step f) w (at k p))
       others_keep =
-          let left = taken_outcome step n w k p (node_of j.nodes k) m rest takes in
-          let notes = (step (node_of j.nodes k) p m).notes in
+          let left = taken_outcome (node_step f) n w k p (node_of j.nodes k) m rest takes in
+          let notes = (node_step f (node_of j.nodes k) p m).notes in
           record {
             controller = j.nodes.controller;
             controller_is = λ d. left.others 1 d other ∙ j.nodes_are 1 (omega arith) d;
@@ -150,16 +146,16 @@ module _ (F : Type 0) {R : Type 0} (f : Semantics R) (laws : FunctionLaws f) (al
         )
 
     -- the controller
-    module _ (p : ℕ) (m : Msg) (rest : List Msg) (takes : Takes step n w 1 p (node_of j.nodes 1) m rest) (labelled : Label f g p 1 m)
-        (after : Busy g (world_next step w (at 1 p))) where
+    module _ (p : ℕ) (m : Msg) (rest : List Msg) (takes : Takes (node_step f) n w 1 p (node_of j.nodes 1) m rest) (labelled : Label f g p 1 m)
+        (after : Busy g (world_next (node_step f) w (at 1 p))) where
       abbrev t : ControllerState
       t = j.nodes.controller
 
       abbrev notes : List Note
       notes = (controller_step t p m).notes
 
-      left : (world_next step w (at 1 p)).log ≡ w.log ++ notes
-      left = (taken_outcome step n w 1 p (node_of j.nodes 1) m rest takes).log
+      left : (world_next (node_step f) w (at 1 p)).log ≡ w.log ++ notes
+      left = (taken_outcome (node_step f) n w 1 p (node_of j.nodes 1) m rest takes).log
 
       acts : Acts g n reach t (controller_step t p m)
       acts = controller_acts g n reach t (known f g t j.world.ops j.world.shares j.world.next j.shown_is.controller) f p m labelled
@@ -172,10 +168,9 @@ module _ (F : Type 0) {R : Type 0} (f : Semantics R) (laws : FunctionLaws f) (al
       not_begun : (op : ℕ) (x : MoveState) → finite.get t.operations op ≡ Some (Move x) → SaysSo g n reach t (controller_step t p m) → is_begun op notes ≡ false
       not_begun op x there (Neither e sent) = ap (is_begun op) e
       not_begun op x there (Answers k a what e sent known early) = ap (is_begun op) e
-      not_begun op x there (Begins k e sent closed) = ap (is_begun op) e ∙ elim (k == op) as (λ q. (k == op) ≡ q → q || false ≡ false) [
-        | true ↦ λ on. (let same = (Decides-eqb k op).0 on in let never : None ≡ Some (Move x) = sym closed ∙ ap (finite.get t.operations) same ∙ there in cc)
-        | false ↦ λ off. refl
-      ] refl
+      not_begun op x there (Begins k e sent closed) = ap (is_begun op) e ∙ split (k == op) (λ q. q || false ≡ false)
+          (λ on. (let same = (Decides-eqb k op).0 on in let never : None ≡ Some (Move x) = sym closed ∙ ap (finite.get t.operations) same ∙ there in cc))
+          (λ off. refl)
 
       -- what begins now has nothing behind its begin
       begins_now : (op : ℕ) (filter : Filter) (i : ℕ) → notes ≡ Note.Begun op ∷ [] → Stays f c items op filter i (w.log ++ notes)
@@ -270,10 +265,10 @@ module _ (F : Type 0) {R : Type 0} (f : Semantics R) (laws : FunctionLaws f) (al
           by_says (Answers k d what noted sent known early) =
               by_alone k d noted early (alone (Note.Answered k d) (Note.Answered op a) cs back (sym noted ∙ there))
 
-      controller_keeps : Keeps (world_next step w (at 1 p))
+      controller_keeps : Keeps (world_next (node_step f) w (at 1 p))
       controller_keeps = record {
         controller = (controller_step t p m).node;
-        controller_is = (taken_outcome step n w 1 p (node_of j.nodes 1) m rest takes).own;
+        controller_is = (taken_outcome (node_step f) n w 1 p (node_of j.nodes 1) m rest takes).own;
         stay = λ op x there early. subst (λ l. Stays f c items op x.plan.filter x.plan.from l) (sym left) (by_was op x (acts.early op x there early));
         at_source = subst At_source (sym left) (source_more w.log notes h.at_source refused_now);
       }
@@ -283,8 +278,9 @@ module _ (F : Type 0) {R : Type 0} (f : Semantics R) (laws : FunctionLaws f) (al
               y.plan.filter y.plan.from w.log notes (kept op y got early) (not_begun op y got acts.says) (leaves y.plan.filter y.plan.from))
           by_was op x (Begins_now e) = begins_now op x.plan.filter x.plan.from e
 
-    keeps : (k p : ℕ) (m : Msg) (rest : List Msg) → Takes step n w k p (node_of j.nodes k) m rest → In_run k p m → Busy g (world_next step w (at k p))
-        → Keeps (world_next step w (at k p))
+    keeps : (k p : ℕ) (m : Msg) (rest : List Msg) → Takes (node_step f) n w k p (node_of j.nodes k) m rest → In_run k p m → Busy g
+        (world_next (node_step f) w (at k p))
+        → Keeps (world_next (node_step f) w (at k p))
     keeps zero p m rest takes it after = others_keep 0 p m rest takes (λ e. cc) (switch_hands f g j.nodes.switch p m it.label).notes_are
         (switch_leaves p m it (changed f g n _ j.shown_is p m it))
     keeps (suc zero) p m rest takes it after = controller_keeps p m rest takes it.label after
@@ -303,7 +299,7 @@ module _ (F : Type 0) {R : Type 0} (f : Semantics R) (laws : FunctionLaws f) (al
       closed op = finite.get-empty nat_cmp op
 
   -- of every run
-  pub stays_at_source : (cs : List Choice) → IsRun node_ready step cs at_start → StaysAtSource c items f.kind (run step cs at_start).log
-  stays_at_source cs run_is = (run_keeps F f laws alloc c items is (λ _ w. Keeps w) start_keeps (λ ds ok d s h. keeps (run step ds at_start) s.runs
+  pub stays_at_source : (cs : List Choice) → IsRun node_ready (node_step f) cs at_start → StaysAtSource c items f.kind (run (node_step f) cs at_start).log
+  stays_at_source cs run_is = (run_keeps F f laws alloc c items is (λ _ w. Keeps w) start_keeps (λ ds ok d s h. keeps (run (node_step f) ds at_start) s.runs
       (moves_under_way F f laws alloc c items is ds ok s.runs.joined) h d.node d.port s.taking.message s.taking.rest s.takes s.taken
-      (busy_next f g n refl (run step ds at_start) d s.taking s.runs.joined (run_busy F f laws alloc c items is ds ok).1)) cs run_is).at_source
+      (busy_next f g n refl (run (node_step f) ds at_start) d s.taking s.runs.joined (run_busy F f laws alloc c items is ds ok).1)) cs run_is).at_source

@@ -4,7 +4,7 @@ use Rattle.nf_net.proofs.Words.{◌≡◌, ℕ, ◌<◌, ◌≤◌, true, false,
 use Rattle.nf_net.proofs.Words.{nat_lt, slice_get, nat_tests, slice_get-get_or, slice_get_past, Semantics, kept_after, is_transport, Msg, Note, instance_node}
 use Rattle.nf_net.proofs.Words.{Network, Ran, done_u, ran_of, packets_done, live_front, fold_packets, Sees_more, Config, Node, packet_numbered, IsInput}
 use Rattle.nf_net.proofs.Words.{dones_in, IsFront, processed_of, live_in, live_at, standby_in, standby_at, done-append, is_sys, Given, S, A, by_node, came_by}
-use Rattle.nf_net.proofs.Words.{Scene, AreShown, IsInstanceAt, Joined, went_same, given, Unit, Instance}
+use Rattle.nf_net.proofs.Words.{Scene, AreShown, IsInstanceAt, Joined, went_same, given, Unit, Instance, split}
 use Rattle.std.specs.FinMap as finite
 use Rattle.proof_machines.proofs.share.Share as share
 use Rattle.proof_machines.proofs.share.Stages as stages
@@ -126,17 +126,16 @@ module _ {R : Type 0} (f : Semantics R) (c : Config) (items : List Msg) (is : Is
       -- what holds of each instance and of none holds of what is at a place
       at_place : (i : ℕ) (P : Option (Node F R) → Type 0) → P None → ((k : ℕ) → 2 ≤ k → k < n → P (Some (Instance (j.nodes.instance k))))
           → P (slice_get w.nodes (instance_node i))
-      at_place i P none some = elim (nat_lt (instance_node i) n) as (λ b. nat_lt (instance_node i) n ≡ b → P (slice_get w.nodes (instance_node i))) [
-        | true ↦ λ on.
-            let few : instance_node i < n = grind (arith, nat_tests, on) in
-            let node = Instance (j.nodes.instance (instance_node i)) in
-            let there : slice_get w.nodes (instance_node i) ≡ Some node = slice_get-get_or w.nodes (instance_node i) node (rw count few)
-            ∙ ap Some (j.nodes_are (instance_node i) few node ∙ instance_of j.nodes (instance_node i) (omega arith)) in
-            subst P (sym there) (some (instance_node i) (omega arith) few)
-        | false ↦ λ off.
-            let past : length w.nodes ≤ instance_node i = grind (arith, nat_tests, off, count) in
-            subst P (sym (slice_get_past w.nodes (instance_node i) past)) none
-      ] refl
+      at_place i P none some = split (nat_lt (instance_node i) n) (λ _. P (slice_get w.nodes (instance_node i)))
+          (λ on.
+          let few : instance_node i < n = grind (arith, nat_tests, on) in
+          let node = Instance (j.nodes.instance (instance_node i)) in
+          let there : slice_get w.nodes (instance_node i) ≡ Some node = slice_get-get_or w.nodes (instance_node i) node (rw count few)
+          ∙ ap Some (j.nodes_are (instance_node i) few node ∙ instance_of j.nodes (instance_node i) (omega arith)) in
+          subst P (sym there) (some (instance_node i) (omega arith) few))
+          (λ off.
+          let past : length w.nodes ≤ instance_node i = grind (arith, nat_tests, off, count) in
+          subst P (sym (slice_get_past w.nodes (instance_node i) past)) none)
 
       pub stands_front : (i : ℕ) (u : Unit) → IsOfFront f c items (processed_of f c items u w.log) (standby_at w i u)
       stands_front i u = at_place i (λ o. IsOfFront f c items (processed_of f c items u w.log) (standby_in u o))

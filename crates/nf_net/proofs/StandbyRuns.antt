@@ -30,9 +30,6 @@ module _ (F : Type 0) {R : Type 0} (f : Semantics R) (laws : FunctionLaws f) (al
   abbrev start : Network (Node F R) Msg Note
   start = started_with alloc c items
 
-  abbrev n : ℕ
-  n = length c.names + 2
-
   abbrev step : Node F R → ℕ → Msg → Stepped (Node F R) Msg Note
   step = node_step f
 
@@ -102,7 +99,7 @@ module _ (F : Type 0) {R : Type 0} (f : Semantics R) (laws : FunctionLaws f) (al
   standbys cs run_is =
       let h = never_back cs run_is in
       record {
-        fronts = λ i u kept there. (let it = stands_front f c items is n (run step cs start)
+        fronts = λ i u kept there. (let it = stands_front f c items is (length c.names + 2) (run step cs start)
             (after_world F f laws alloc c items is cs run_is).1 (run_beside F f laws alloc c items is cs run_is).joined i u in
             record { front = it.front; kept = kept; there = there; is_front = it.is_front; folds = it.folds ∙ there });
         never_back = h;

@@ -7,7 +7,7 @@ use Rattle.nf_net.proofs.Words.{EachOn, record_at, New, ShareMsg, Shared_on, S_s
 use Rattle.nf_net.proofs.Words.{dones_in, node_step, node_ready, processed_of, standby_in, standby_at, done-append, number, entries, ran_in, is_sys, is_sharing}
 use Rattle.nf_net.proofs.Words.{standby_keeps, HasBeside, its_takes, its_taken, Given, place, chunks_good, Rows, by_message, S, A, shown, by_node, came_by}
 use Rattle.nf_net.proofs.Words.{node_of, Genuine, AreGoodChunks, Scene, IsInstanceAt, AreShown, IsTaken, Joined, by_node-append, given, all_fit, Unit, Mark}
-use Rattle.nf_net.proofs.Words.{records_of, Instance}
+use Rattle.nf_net.proofs.Words.{records_of, Instance, split}
 use Rattle.std.specs.FinMap as finite
 use Rattle.instance_worker.specs.Instance.{Step, on_get}
 use Rattle.proof_machines.proofs.net.Net.{at_node}
@@ -28,14 +28,13 @@ use Rattle.nf_net.proofs.StandbyFronts.{IsOfFront, SeesMore, sees_same, later, o
 pub same_place : {X : Type 0} (xs ys : List X) (i : ℕ) → length xs ≡ length ys → ((d : X) → get_or ys i d ≡ get_or xs i d) → slice_get ys i ≡ slice_get xs i
 same_place [] [] i long same = refl
 same_place [] (y ∷ ys) i long same = absurd (omega (arith, long))
-same_place {X} (x ∷ xs) ys i long same = elim (nat_lt i (length ys)) as (λ b. nat_lt i (length ys) ≡ b → slice_get ys i ≡ slice_get (x ∷ xs) i) [
-  | true ↦ λ on.
-      let within : i < length ys = grind (arith, nat_tests, on) in
-      slice_get-get_or ys i x within ∙ ap Some (same x) ∙ sym (slice_get-get_or (x ∷ xs) i x (rw long within))
-  | false ↦ λ off.
-      let past : length ys ≤ i = grind (arith, nat_tests, off) in
-      slice_get_past ys i past ∙ sym (slice_get_past (x ∷ xs) i (rw long past))
-] refl
+same_place {X} (x ∷ xs) ys i long same = split (nat_lt i (length ys)) (λ _. slice_get ys i ≡ slice_get (x ∷ xs) i)
+    (λ on.
+    let within : i < length ys = grind (arith, nat_tests, on) in
+    slice_get-get_or ys i x within ∙ ap Some (same x) ∙ sym (slice_get-get_or (x ∷ xs) i x (rw long within)))
+    (λ off.
+    let past : length ys ≤ i = grind (arith, nat_tests, off) in
+    slice_get_past ys i past ∙ sym (slice_get_past (x ∷ xs) i (rw long past)))
 
 module _ {F R : Type 0} (f : Semantics R) where
   get_leaves : (i : InstanceState F R) (op : ℕ) (filter : Filter) → (instance_step f i (Msg.Get op filter)).node.table.standby ≡ i.table.standby
@@ -267,13 +266,12 @@ module _ (F : Type 0) {R : Type 0} (f : Semantics R) (laws : FunctionLaws f) (c 
           (sym (ap (standby_in u) after)) sees))
 
       at_instance : GoesOn w (v (suc (suc y)) m takes)
-      at_instance i u = elim (i == y) as (λ b. (i == y) ≡ b
-          → SeesMore f c items (processed_of f c items u (v (suc (suc y)) m takes).log) (standby_at w i u) (standby_at (v (suc (suc y)) m takes) i u)) [
-            | true ↦ λ on. subst (λ z. SeesMore f c items (processed_of f c items u (v (suc (suc y)) m takes).log) (standby_at w z u)
-                (standby_at (v (suc (suc y)) m takes) z u)) (sym ((Decides-eqb i y).0 on)) (own_sees u)
-            | false ↦ λ off. stays (suc (suc y)) m takes i
-                (λ e. (let bad : i ≡ y = omega (arith, e) in let never : true ≡ false = sym ((Decides-eqb i y).1 bad) ∙ off in cc)) u
-          ] refl
+      at_instance i u = split (i == y)
+          (λ _. SeesMore f c items (processed_of f c items u (v (suc (suc y)) m takes).log) (standby_at w i u) (standby_at (v (suc (suc y)) m takes) i u))
+          (λ on. subst (λ z. SeesMore f c items (processed_of f c items u (v (suc (suc y)) m takes).log) (standby_at w z u)
+          (standby_at (v (suc (suc y)) m takes) z u)) (sym ((Decides-eqb i y).0 on)) (own_sees u))
+          (λ off. stays (suc (suc y)) m takes i
+          (λ e. (let bad : i ≡ y = omega (arith, e) in let never : true ≡ false = sym ((Decides-eqb i y).1 bad) ∙ off in cc)) u)
 
     each_goes : (k : ℕ) (m : Msg) (takes : Takes (node_step f) nodes_count w k p (node_of j.nodes k) m rest)
         → IsTaken f gn nodes_count x (record { node = k; port = p; message = m })

@@ -4,7 +4,7 @@ use Rattle.nf_net.proofs.Words.{◌≡◌, ℕ, zero, suc, Bool, true, false, co
 use Rattle.nf_net.proofs.Words.{subst, if◌then◌else◌, ◌&&◌, ◌||◌, nat_le, list_any, AllByRecursion, keys_of, IsDistinct-head, IsDistinct-tail, or-false, Filter}
 use Rattle.nf_net.proofs.Words.{Chunk, takes, Fits, FunctionLaws, Semantics, kept_after, version_number, record_chunk, Records, same_unit, taken_by}
 use Rattle.nf_net.proofs.Words.{distinct_entries, one_unit, same_unit_equiv, same_unit-true, Msg, Piece, units_in, WholePieces, piece_of, whole_of, pieces}
-use Rattle.nf_net.proofs.Words.{Each, each_map, Chunks, Config, packet_numbered, Unit, IsDistinct}
+use Rattle.nf_net.proofs.Words.{Each, each_map, Chunks, Config, packet_numbered, Unit, IsDistinct, split}
 use Rattle.std.specs.Prelude.{max}
 use Rattle.std.specs.FinMap as finite
 use Rattle.nf_function.specs.Units.{has_times}
@@ -71,11 +71,9 @@ module _ {R : Type 0} where
       → Each (λ x. at (e ∷ es) x.0 ≡ Some x.1) xs
   found_more e es [] apart h = tt
   found_more e es (x ∷ xs) apart h = (
-    elim (same_unit x.0 e.0) as (λ b. same_unit x.0 e.0 ≡ b → cond b (Some e.1) (at es x.0) ≡ Some x.1) [
-      | true ↦ λ same. let off : same_unit e.0 e.0 ≡ false = subst (λ v. same_unit e.0 v ≡ false) (same_unit-true x.0 e.0 same) apart.0 in
-          let never : true ≡ false = sym (same_unit_equiv.refl e.0) ∙ off in cc
-      | false ↦ λ _. h.0
-    ] refl,
+    split (same_unit x.0 e.0) (λ b. cond b (Some e.1) (at es x.0) ≡ Some x.1)
+        (λ same. let off : same_unit e.0 e.0 ≡ false = subst (λ v. same_unit e.0 v ≡ false) (same_unit-true x.0 e.0 same) apart.0 in
+        let never : true ≡ false = sym (same_unit_equiv.refl e.0) ∙ off in cc) (λ _. h.0),
     found_more e es xs apart.1 h.1,
   )
 

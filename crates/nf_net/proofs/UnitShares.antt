@@ -4,10 +4,10 @@ use Rattle.nf_net.proofs.Words.{◌≡◌, ℕ, ◌+◌, ◌<◌, ◌≤◌, inl
 use Rattle.nf_net.proofs.Words.{arith, if◌then◌else◌, ◌&&◌, ◌||◌, ◌==◌, not, find, is_some, slice_index, slice_index_or, filter_map, length-map, Decides-eqb}
 use Rattle.nf_net.proofs.Words.{Filter, Flow, Semantics, takes, Msg, Note, instance_node, ShareState, home, SharePhase, Operation, Move, Copy, Share, place_of}
 use Rattle.nf_net.proofs.Words.{Network, Stage, shape, where_two, found_each, unit_share, OpenShare, moves_of, ElsewhereHome, seeing, ItsShare, its_share}
-use Rattle.nf_net.proofs.Words.{WhereAll, Apart_from_shares, Under_share, Config, Node, Controller, is_begun, has_answered, is_share, answers_of}
-use Rattle.nf_net.proofs.Words.{times_installed, IsInput, order_numbered, packet_numbered, installs_in, first_owner, is_home, owner, members, member_for}
-use Rattle.nf_net.proofs.Words.{unit_fits, takes_whole, takes_same, is_sys, Both, both, RealShare, real_share, Given, place, is_diverted, S, A, Joined, came_by}
-use Rattle.nf_net.proofs.Words.{AreApart, AllApart, names_known, given, Unit, Order, flow_of, Done}
+use Rattle.nf_net.proofs.Words.{WhereAll, Apart_from_shares, Under_share, Config, Node, is_begun, has_answered, is_share, answers_of, times_installed, IsInput}
+use Rattle.nf_net.proofs.Words.{order_numbered, packet_numbered, installs_in, first_owner, is_home, owner, members, member_for, unit_fits, takes_whole}
+use Rattle.nf_net.proofs.Words.{takes_same, is_sys, Both, both, RealShare, real_share, Given, place, is_diverted, S, A, Joined, came_by, AreApart, AllApart}
+use Rattle.nf_net.proofs.Words.{names_known, given, Unit, Order, flow_of, Done, split}
 use Rattle.std.specs.Prelude.{◌%◌}
 use Rattle.std.specs.FinMap as finite
 use Rattle.std.proofs.lemmas.Nat.{mod_below}
@@ -17,7 +17,7 @@ use Rattle.proof_outlines.proofs.outline.FiltersApart.{filters_apart}
 use Rattle.proof_outlines.proofs.whole.ShareOutline.{share_phase, index_same}
 use Rattle.proof_outlines.proofs.joined.Joined.{IsShare}
 use Rattle.nf_net.proofs.answers.BusyLemmas.{unanswered}
-use Rattle.nf_net.proofs.answers.BusyRuns.{Busy, same_controller, keeps_is, plan_is, told_is, open_began}
+use Rattle.nf_net.proofs.answers.BusyRuns.{Busy, own_controller, keeps_is, plan_is, told_is, open_began}
 use Rattle.nf_net.proofs.answers.InstallRuns.{Installs, dones_still}
 use Rattle.nf_net.proofs.answers.InstallSteps.{is_moving, dones, open_in}
 use Rattle.nf_net.proofs.answers.ShareTells.{is_set_up}
@@ -127,8 +127,7 @@ module _ {F R : Type 0} (f : Semantics R) (c : Config) (items : List Msg) (is : 
   open_installed h op ms filter what some = by_got (finite.get h.controller.operations op) refl
     where
       same : h.controller ≡ j.nodes.controller
-      same = same_controller {F = F} {R = R} h.controller j.nodes.controller
-          (sym (h.controller_is (Controller h.controller)) ∙ j.nodes_are 1 (omega (arith, count_is)) (Controller h.controller))
+      same = own_controller j (omega (arith, count_is)) h.controller h.controller_is
 
       none_done : dones (is_moving (order_numbered items op)) (answers_of op w.log) ≡ 0
       none_done = ap (λ o. dones (is_moving o) (answers_of op w.log)) what ∙ dones_still (answers_of op w.log)
@@ -152,10 +151,8 @@ module _ {F R : Type 0} (f : Semantics R) (c : Config) (items : List Msg) (is : 
     one_takes : (k l : ℕ) (s t : ShareState) → finite.get j.nodes.controller.operations k ≡ Some (Share s)
         → finite.get j.nodes.controller.operations l ≡ Some (Share t) → takes_whole f.kind s.plan.filter u ≡ true
         → takes_whole f.kind t.plan.filter u ≡ true → k ≡ l
-    one_takes k l s t at_k at_l on_k on_l = elim (k == l) as (λ e. (k == l) ≡ e → k ≡ l) [
-      | true ↦ λ same. (Decides-eqb k l).0 same
-      | false ↦ λ off. absurd (not_both (apart k l (Share s) (Share t) off at_k at_l))
-    ] refl
+    one_takes k l s t at_k at_l on_k on_l = split (k == l) (λ _. k ≡ l) (λ same. (Decides-eqb k l).0 same)
+        (λ off. absurd (not_both (apart k l (Share s) (Share t) off at_k at_l)))
       where
         not_both : AreApart (Some s.plan.filter) (Some t.plan.filter) → ⊥
         not_both (inl off) = let never : true ≡ false = sym on_l ∙ filters_apart f.kind s.plan.filter t.plan.filter u off on_k in cc

@@ -12,6 +12,7 @@ use Rattle.nf_net.proofs.WindowSteps.{switch_counts}
 use Rattle.nf_net.proofs.PacketCounts.{few_done}
 use Rattle.nf_net.proofs.AnsweredNotes.{controller_none}
 use Rattle.nf_net.proofs.RunKeeps.{run_keeps, after_world}
+use Rattle.nf_net.proofs.WeightlessMessages.{weighs_nothing}
 
 -- what holds of the switch and the log of each world of a run
 pub record InWindow (window : ℕ) {F R : Type 0} (w : Network (Node F R) Msg Note) : Type 0 where
@@ -115,16 +116,12 @@ weigh_links (ms ∷ links) =
 
 -- an input has no credits
 pub items_none : {R : Type 0} (f : Semantics R) (g : Given) (items : List Msg) → Each (Label f g 0 0) items → weigh credit items ≡ 0
-items_none f g [] h = refl
-items_none f g (m ∷ ms) h = let own = no_credit_from f g 0 0 m (omega arith) h.0 in let rest = items_none f g ms h.1 in omega (arith, own, rest)
+items_none f g = weighs_nothing (Label f g 0 0) credit (λ m. no_credit_from f g 0 0 m (omega arith))
 
 module _ (F : Type 0) {R : Type 0} (f : Semantics R) (laws : FunctionLaws f) (alloc : Global) (c : Config) (items : List Msg)
     (is : IsInput f.kind c items) where
   abbrev start : Network (Node F R) Msg Note
   start = started_with {F = F} {R = R} alloc c items
-
-  abbrev nodes : ℕ
-  nodes = length c.names + 2
 
   window_at_start : InWindow c.window start
   window_at_start = record {
@@ -137,9 +134,10 @@ module _ (F : Type 0) {R : Type 0} (f : Semantics R) (laws : FunctionLaws f) (al
   }
 
   pub in_window : (cs : List Choice) → IsRun node_ready (node_step f) cs start → InWindow c.window (run (node_step f) cs start)
-  in_window = run_keeps F f laws alloc c items is (λ _ w. InWindow c.window w) window_at_start (λ ds ok d s. window_after f (given f c items is) nodes c.window
+  in_window = run_keeps F f laws alloc c items is (λ _ w. InWindow c.window w) window_at_start
+      (λ ds ok d s. window_after f (given f c items is) (length c.names + 2) c.window
       (run (node_step f) ds start) d.node d.port s.taking.message s.taking.rest s.runs.joined s.takes s.taken.label s.labels
-      (few_done f c items is nodes (run (node_step f) ds start) s.runs.joined))
+      (few_done f c items is (length c.names + 2) (run (node_step f) ds start) s.runs.joined))
 
   -- cells go home on links alone
   credits_are : (cs : List Choice) (run_is : IsRun node_ready (node_step f) cs start)

@@ -2,7 +2,7 @@
 -- home; a cell that goes home is still counted until the switch has it.
 use Rattle.nf_net.proofs.Words.{◌≡◌, ℕ, ◌+◌, ◌<◌, ◌≤◌, true, false, List, [], ◌∷◌, length, refl, ap, ◌∙◌, arith, if◌then◌else◌, ◌==◌, ◌&&◌, nat_lt, nat_tests}
 use Rattle.nf_net.proofs.Words.{Decides-eqb, Filter, Packet, FullCell, Target, rules_redirected, Msg, Note, instance_node, SwitchState, switch_step}
-use Rattle.nf_net.proofs.Words.{sends_to_instance, target_of, has_room, is_there, arrivals_in, dones_in, Mark}
+use Rattle.nf_net.proofs.Words.{sends_to_instance, target_of, has_room, is_there, arrivals_in, dones_in, Mark, split}
 use Rattle.switch_node.specs.Switch as switch
 use Rattle.switch_node.specs.Switch.{still, goes_to}
 use Rattle.nf_net.proofs.answers.CreditCounts.{credit}
@@ -45,10 +45,9 @@ module _ (window : ℕ) (s : SwitchState) (cells : s.pool.cells ≡ window) (hom
       [ true ↦ arrives_is q (instance_node i) (Msg.Carry Mark.Plain) room | false ↦ still_is (Msg.InPacket q) refl ]
 
   packet_is : (q : Packet) → Counts window s (Msg.InPacket q) (switch.on_packet s q)
-  packet_is q = elim (has_room s) as (λ b. has_room s ≡ b → Counts window s (Msg.InPacket q) (if b then goes_to s q (target_of s q) else still s)) [
-    | true ↦ λ e. let room : s.flying < window = (rw (← cells) (grind (arith, nat_tests, e))) in goes_is q (target_of s q) room
-    | false ↦ λ e. still_is (Msg.InPacket q) refl
-  ] refl
+  packet_is q = split (has_room s) (λ b. Counts window s (Msg.InPacket q) (if b then goes_to s q (target_of s q) else still s))
+      (λ e. let room : s.flying < window = (rw (← cells) (grind (arith, nat_tests, e))) in goes_is q (target_of s q) room)
+      (λ e. still_is (Msg.InPacket q) refl)
 
   to_instance_is : (m : Msg) → credit m ≡ 0 → (i : ℕ) (a : Msg) → Counts window s m (sends_to_instance s i a)
   to_instance_is m none i a = elim (nat_lt i s.instances) as (λ b. Counts window s m (if b then switch.sends_on s (instance_node i) a else still s))

@@ -24,7 +24,7 @@ pub use Rattle.std.specs.Prelude.{slice_index_or, find, option_to_list, slice_se
 pub use Rattle.std.specs.declared.alloc.Global.{Global}
 pub use Rattle.std.specs.declared.cmp.Ordering.{Ordering}
 pub use Rattle.std.specs.declared.cmp.Ordering.TheVariants.{Less, Greater, Equal}
-pub use Rattle.flow_filter.specs.Flow.{flow_of}
+unfoldable pub use Rattle.flow_filter.specs.Flow.{flow_of}
 pub use Rattle.flow_filter.specs.Name.{place_of}
 pub use Rattle.flow_filter.specs.declared.filter.Filter.{Filter}
 pub use Rattle.flow_filter.specs.declared.flow.Flow.{Flow}
@@ -161,6 +161,7 @@ pub use Rattle.proof_machines.proofs.share.Share.{Ran, UnitShare, View, has, min
 pub use Rattle.proof_machines.proofs.share.Stages.{shape, Stage, served, processed}
 pub use Rattle.proof_machines.proofs.unit.Ends.{same_of}
 pub use Rattle.proof_machines.proofs.unit.Kept.{Kept, records_one, records_on}
+pub use Rattle.proof_machines.proofs.Tests.{split, either_way}
 pub use Rattle.proof_machines.proofs.unit.Labels.{Each, each-append, each_map}
 pub use Rattle.proof_machines.proofs.unit.Lists.{firsts}
 pub use Rattle.proof_machines.proofs.unit.Loose.{none_in}

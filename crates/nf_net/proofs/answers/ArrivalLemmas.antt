@@ -4,7 +4,7 @@ use Rattle.nf_net.proofs.Words.{◌≡◌, ℕ, zero, suc, ◌+◌, true, false,
 use Rattle.nf_net.proofs.Words.{if◌then◌else◌, ◌&&◌, ◌==◌, unwrap_or, Global, nat_tests, Packet, FunctionLaws, Semantics, Target, Msg, Note, SwitchState}
 use Rattle.nf_net.proofs.Words.{has_room, is_there, target_of, Choice, Network, IsRun, run, world_next, queue_at, at, opening_waiting, less_first, Config, Node}
 use Rattle.nf_net.proofs.Words.{IsInput, arrivals_in, node_step, node_ready, IsFront, first_nodes, Given, node_of, Scene, AreShown, IsTaken, given}
-use Rattle.nf_net.proofs.Words.{arrived-append, flow_of, Runs, run_beside, runs_next}
+use Rattle.nf_net.proofs.Words.{arrived-append, flow_of, Runs, run_beside, runs_next, split}
 use Rattle.switch_rules.specs.Rules.{first_match}
 use Rattle.switch_node.specs.Switch.{still, goes_to, on_packet}
 use Rattle.net_world.specs.Input.{packets}
@@ -49,11 +49,9 @@ module _ {F R : Type 0} (f : Semantics R) (g : Given) (n : ℕ) (x : Scene F f g
   other_turn : (m : Msg) (p : ℕ) → is_packet m ≡ false → IsTaken f g n x (record { node = 0; port = p; message = m }) → Turns 0 p m
   other_turn m p off is =
       ap (λ v. v ++ numbers (less_first (0 == p) x.input)) (switch_notes_none x.nodes.switch m off)
-      ∙ elim (0 == p) as (λ b. (0 == p) ≡ b → numbers (less_first b x.input) ≡ numbers x.input) [
-        | true ↦ λ e. let waits : x.input ≡ m ∷ is.items = is.item (grind (arith, nat_tests, e)) refl in
-            ap (λ xs. numbers (drop 1 xs)) waits ∙ not_packet m is.items off ∙ sym (ap numbers waits)
-        | false ↦ λ _. refl
-      ] refl
+      ∙ split (0 == p) (λ b. numbers (less_first b x.input) ≡ numbers x.input)
+      (λ e. let waits : x.input ≡ m ∷ is.items = is.item (grind (arith, nat_tests, e)) refl in
+      ap (λ xs. numbers (drop 1 xs)) waits ∙ not_packet m is.items off ∙ sym (ap numbers waits)) (λ _. refl)
 
   switch_turn : (m : Msg) (p : ℕ) → AreShown f g n x → IsTaken f g n x (record { node = 0; port = p; message = m }) → Turns 0 p m
   switch_turn (Msg.InPacket q) p are is = packet_turn q p is.label.0.0 are is
@@ -100,11 +98,10 @@ module _ (F : Type 0) {R : Type 0} (f : Semantics R) (laws : FunctionLaws f) (al
   runs_joined cs ok = record {
     runs = run_beside F f laws alloc c items is cs ok;
     in_turn = run_keeps F f laws alloc c items is (λ _ w. InTurn w)
-        (ap numbers (opening_waiting Note (first_nodes {F = F} {R = R} alloc c) items few.0 0 0)) (λ ds so d s. turn_after (run (node_step f) ds first) d s)
+        (ap numbers (opening_waiting Note (first_nodes {F = F} {R = R} alloc c) items
+        (few_nodes {F = F} {R = R} alloc c (first_nodes alloc c) is.is_config refl).0 0 0)) (λ ds so d s. turn_after (run (node_step f) ds first) d s)
         cs ok;
   }
-    where
-      few = few_nodes {F = F} {R = R} alloc c (first_nodes alloc c) is.is_config refl
 
   -- the switch takes the packets of the input in their order
   pub arrivals_run : (cs : List Choice) → IsRun node_ready (node_step f) cs first → IsFront (arrivals_in (run (node_step f) cs first).log) (numbers items)

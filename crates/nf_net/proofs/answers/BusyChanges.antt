@@ -2,7 +2,7 @@
 use Rattle.nf_net.proofs.Words.{◌≡◌, ℕ, suc, ◌<◌, ◌≤◌, Bool, true, false, cond, Some, None, List, [], ◌∷◌, ◌++◌, refl, sym, ap, ◌∙◌, subst, arith, map}
 use Rattle.nf_net.proofs.Words.{if◌then◌else◌, ◌&&◌, ◌||◌, ◌==◌, not, is_some, nat_lt, unwrap_or, nat_tests, Decides-eqb, Decides-ltb, and-false, or-true}
 use Rattle.nf_net.proofs.Words.{and-true, and_parts, Answer, Order, Note, Operation, OpenOperations, has_answered, is_begun, is_share, keeps_off, answers_of}
-use Rattle.nf_net.proofs.Words.{MayBegin, has_begun-append, has_answered-append, answers_of-append, got_insert, got_remove, Given, Done}
+use Rattle.nf_net.proofs.Words.{MayBegin, has_begun-append, has_answered-append, answers_of-append, got_insert, got_remove, Given, Done, split}
 use Rattle.std.specs.FinMap as finite
 use Rattle.nf_net.proofs.answers.BusyLemmas.{AreOther, is_noted, is_outcome, IsAnswered, IsCauseIn, or_off, began_same, answered_same, keeps_same, answers_same}
 use Rattle.nf_net.proofs.answers.BusyLemmas.{none_answered, unanswered, other_not_begun, other_not_answered, stays_answered, answered_begun, answered_refused}
@@ -80,13 +80,11 @@ module _ (g : Given) (ops : OpenOperations) (log : List Note) (waits : List ℕ)
 
   -- what is noted isn't ahead
   early : (op : ℕ) → is_begun op log ≡ true → op < h.next
-  early op on = elim (nat_lt op h.next) as (λ b. nat_lt op h.next ≡ b → op < h.next) [
-    | true ↦ λ small. (Decides-ltb op h.next).0 small
-    | false ↦ λ late.
-        let none = or_off (is_begun op log) (has_answered op log) (h.unnoted op (let up : h.next ≤ op = grind (arith, nat_tests) in up)) in
-        let never : true ≡ false = sym on ∙ none.0 in
-        cc
-  ] refl
+  early op on = split (nat_lt op h.next) (λ _. op < h.next) (λ small. (Decides-ltb op h.next).0 small)
+      (λ late.
+      let none = or_off (is_begun op log) (has_answered op log) (h.unnoted op (let up : h.next ≤ op = grind (arith, nat_tests) in up)) in
+      let never : true ≡ false = sym on ∙ none.0 in
+      cc)
 
   module _ (op : ℕ) (m n : Operation) (there : finite.get ops op ≡ Some m) (planned : IsPlanned g op n) where
     begun_on : is_begun op log ≡ true
@@ -97,11 +95,10 @@ module _ (g : Given) (ops : OpenOperations) (log : List Note) (waits : List ℕ)
 
     -- its answer
     answered_now : (a : Answer) → is_outcome a ≡ true → answers_to m ≡ [] → (k : ℕ) → IsAnswered g.names g.orders k (log ++ Note.Answered op a ∷ [])
-    answered_now a outcome none k = elim (k == op) as (λ b. (k == op) ≡ b → IsAnswered g.names g.orders k (log ++ Note.Answered op a ∷ [])) [
-      | true ↦ λ on. at_own (λ j. IsAnswered g.names g.orders j (log ++ Note.Answered op a ∷ [])) k on
-          (answered_begun g.names g.orders op log a begun_on (unanswered op log (h.told op m there ∙ none)) outcome (h.answered op))
-      | false ↦ λ off. stays_answered g.names g.orders k log (Note.Answered op a ∷ []) refl (apart_noted op k a off) (h.answered k)
-    ] refl
+    answered_now a outcome none k = split (k == op) (λ _. IsAnswered g.names g.orders k (log ++ Note.Answered op a ∷ []))
+        (λ on. at_own (λ j. IsAnswered g.names g.orders j (log ++ Note.Answered op a ∷ [])) k on
+        (answered_begun g.names g.orders op log a begun_on (unanswered op log (h.told op m there ∙ none)) outcome (h.answered op)))
+        (λ off. stays_answered g.names g.orders k log (Note.Answered op a ∷ []) refl (apart_noted op k a off) (h.answered k))
 
     unnoted_now : (a : Answer) (k : ℕ) → h.next ≤ k → is_noted k (log ++ Note.Answered op a ∷ []) ≡ false
     unnoted_now a k late =
@@ -111,10 +108,8 @@ module _ (g : Given) (ops : OpenOperations) (log : List Note) (waits : List ℕ)
     -- another operation stands in its place
     module _ (after : OpenOperations) (is : (k : ℕ) → finite.get after k ≡ cond (k == op) (Some n) (finite.get ops k)) where
       planned_after : (k : ℕ) (x : Operation) → finite.get after k ≡ Some x → IsPlanned g k x
-      planned_after k x there_too = elim (k == op) as (λ b. (k == op) ≡ b → cond b (Some n) (finite.get ops k) ≡ Some x → IsPlanned g k x) [
-        | true ↦ λ on e. at_own (λ j. IsPlanned g j x) k on (subst (IsPlanned g op) (same_operation n x e) planned)
-        | false ↦ λ off e. h.plan k x e
-      ] refl (sym (is k) ∙ there_too)
+      planned_after k x there_too = split (k == op) (λ b. cond b (Some n) (finite.get ops k) ≡ Some x → IsPlanned g k x)
+          (λ on e. at_own (λ j. IsPlanned g j x) k on (subst (IsPlanned g op) (same_operation n x e) planned)) (λ off e. h.plan k x e) (sym (is k) ∙ there_too)
 
       outcome_after : HasAnswer n → (k : ℕ) (x : Operation) → finite.get after k ≡ Some x → HasAnswer x
       outcome_after outcome k x there_too = elim (k == op) as (λ b. cond b (Some n) (finite.get ops k) ≡ Some x → HasAnswer x) [
@@ -125,25 +120,21 @@ module _ (g : Given) (ops : OpenOperations) (log : List Note) (waits : List ℕ)
       told_after : (notes : List Note) → answers_of op (log ++ notes) ≡ answers_to n → ((k : ℕ) → (k == op) ≡ false → has_answered k notes ≡ false)
           → (k : ℕ) (x : Operation) → finite.get after k ≡ Some x → answers_of k (log ++ notes) ≡ answers_to x
       told_after notes own others k x there_too =
-          elim (k == op) as (λ b. (k == op) ≡ b → cond b (Some n) (finite.get ops k) ≡ Some x → answers_of k (log ++ notes) ≡ answers_to x) [
-            | true ↦ λ on e. at_own (λ j. answers_of j (log ++ notes) ≡ answers_to x) k on (own ∙ ap answers_to (same_operation n x e))
-            | false ↦ λ off e. answers_same k log notes (others k off) ∙ h.told k x e
-          ] refl (sym (is k) ∙ there_too)
+          split (k == op) (λ b. cond b (Some n) (finite.get ops k) ≡ Some x → answers_of k (log ++ notes) ≡ answers_to x)
+          (λ on e. at_own (λ j. answers_of j (log ++ notes) ≡ answers_to x) k on (own ∙ ap answers_to (same_operation n x e)))
+          (λ off e. answers_same k log notes (others k off) ∙ h.told k x e) (sym (is k) ∙ there_too)
 
       -- it has taken a message
       pub turned : answers_to n ≡ answers_to m → HasAnswer n → IsBusy g after log waits
       turned same outcome = record {
         busy = λ k. ap is_some (is k)
-            ∙ elim (k == op) as (λ b. (k == op) ≡ b → is_some (cond b (Some n) (finite.get ops k)) ≡ keeps_off g.names g.orders k log) [
-              | true ↦ λ on. at_own (λ j. true ≡ keeps_off g.names g.orders j log) k on (sym (sym (h.busy op) ∙ ap is_some there))
-              | false ↦ λ off. h.busy k
-            ] refl;
+            ∙ split (k == op) (λ b. is_some (cond b (Some n) (finite.get ops k)) ≡ keeps_off g.names g.orders k log)
+            (λ on. at_own (λ j. true ≡ keeps_off g.names g.orders j log) k on (sym (sym (h.busy op) ∙ ap is_some there))) (λ off. h.busy k);
         plan = planned_after;
         outcome = outcome_after outcome;
-        told = λ k x there_too. elim (k == op) as (λ b. (k == op) ≡ b → cond b (Some n) (finite.get ops k) ≡ Some x → answers_of k log ≡ answers_to x) [
-          | true ↦ λ on e. at_own (λ j. answers_of j log ≡ answers_to x) k on (h.told op m there ∙ sym same ∙ ap answers_to (same_operation n x e))
-          | false ↦ λ off e. h.told k x e
-        ] refl (sym (is k) ∙ there_too);
+        told = λ k x there_too. split (k == op) (λ b. cond b (Some n) (finite.get ops k) ≡ Some x → answers_of k log ≡ answers_to x)
+            (λ on e. at_own (λ j. answers_of j log ≡ answers_to x) k on (h.told op m there ∙ sym same ∙ ap answers_to (same_operation n x e)))
+            (λ off e. h.told k x e) (sym (is k) ∙ there_too);
         next = h.next;
         rising = h.rising;
         unnoted = h.unnoted;
@@ -154,12 +145,11 @@ module _ (g : Given) (ops : OpenOperations) (log : List Note) (waits : List ℕ)
       pub set_up : is_share (g.orders op) ≡ true → answers_to m ≡ [] → answers_to n ≡ Done ∷ [] → HasAnswer n
           → IsBusy g after (log ++ Note.Answered op Done ∷ []) waits
       set_up lasts none now outcome = record {
-        busy = λ k. ap is_some (is k) ∙ elim (k == op)
-            as (λ b. (k == op) ≡ b → is_some (cond b (Some n) (finite.get ops k)) ≡ keeps_off g.names g.orders k (log ++ Note.Answered op Done ∷ [])) [
-              | true ↦ λ on. at_own (λ j. true ≡ keeps_off g.names g.orders j (log ++ Note.Answered op Done ∷ [])) k on
-                  (sym (lasting g op log Done lasts begun_on))
-              | false ↦ λ off. h.busy k ∙ sym (keeps_same g.names g.orders k log (Note.Answered op Done ∷ []) refl (apart_noted op k Done off))
-            ] refl;
+        busy = λ k. ap is_some (is k) ∙ split (k == op)
+            (λ b. is_some (cond b (Some n) (finite.get ops k)) ≡ keeps_off g.names g.orders k (log ++ Note.Answered op Done ∷ []))
+            (λ on. at_own (λ j. true ≡ keeps_off g.names g.orders j (log ++ Note.Answered op Done ∷ [])) k on
+            (sym (lasting g op log Done lasts begun_on)))
+            (λ off. h.busy k ∙ sym (keeps_same g.names g.orders k log (Note.Answered op Done ∷ []) refl (apart_noted op k Done off)));
         plan = planned_after;
         outcome = outcome_after outcome;
         told = told_after (Note.Answered op Done ∷ []) (answers_of-append op log (Note.Answered op Done ∷ [])
@@ -175,11 +165,10 @@ module _ (g : Given) (ops : OpenOperations) (log : List Note) (waits : List ℕ)
     pub closed : (a : Answer) → is_outcome a ≡ true → is_share (g.orders op) ≡ false → answers_to m ≡ []
         → IsBusy g (finite.remove ops op) (log ++ Note.Answered op a ∷ []) waits
     closed a outcome ends none = record {
-      busy = λ k. ap is_some (got_remove ops op k) ∙ elim (k == op)
-          as (λ b. (k == op) ≡ b → is_some (cond b None (finite.get ops k)) ≡ keeps_off g.names g.orders k (log ++ Note.Answered op a ∷ [])) [
-            | true ↦ λ on. at_own (λ j. false ≡ keeps_off g.names g.orders j (log ++ Note.Answered op a ∷ [])) k on (sym (ended g op log a ends))
-            | false ↦ λ off. h.busy k ∙ sym (keeps_same g.names g.orders k log (Note.Answered op a ∷ []) refl (apart_noted op k a off))
-          ] refl;
+      busy = λ k. ap is_some (got_remove ops op k) ∙ split (k == op)
+          (λ b. is_some (cond b None (finite.get ops k)) ≡ keeps_off g.names g.orders k (log ++ Note.Answered op a ∷ []))
+          (λ on. at_own (λ j. false ≡ keeps_off g.names g.orders j (log ++ Note.Answered op a ∷ [])) k on (sym (ended g op log a ends)))
+          (λ off. h.busy k ∙ sym (keeps_same g.names g.orders k log (Note.Answered op a ∷ []) refl (apart_noted op k a off)));
       plan = λ k x is. elim (k == op) as (λ b. cond b None (finite.get ops k) ≡ Some x → IsPlanned g k x) [
         | true ↦ λ e. cc
         | false ↦ λ e. h.plan k x e
@@ -189,10 +178,8 @@ module _ (g : Given) (ops : OpenOperations) (log : List Note) (waits : List ℕ)
         | false ↦ λ e. h.outcome k x e
       ] (sym (got_remove ops op k) ∙ is);
       told = λ k x is.
-          elim (k == op) as (λ b. (k == op) ≡ b → cond b None (finite.get ops k) ≡ Some x → answers_of k (log ++ Note.Answered op a ∷ []) ≡ answers_to x) [
-            | true ↦ λ on e. cc
-            | false ↦ λ off e. answers_same k log (Note.Answered op a ∷ []) (apart_noted op k a off) ∙ h.told k x e
-          ] refl (sym (got_remove ops op k) ∙ is);
+          split (k == op) (λ b. cond b None (finite.get ops k) ≡ Some x → answers_of k (log ++ Note.Answered op a ∷ []) ≡ answers_to x) (λ on e. cc)
+          (λ off e. answers_same k log (Note.Answered op a ∷ []) (apart_noted op k a off) ∙ h.told k x e) (sym (got_remove ops op k) ∙ is);
       next = h.next;
       rising = h.rising;
       unnoted = unnoted_now a;
@@ -240,26 +227,23 @@ module _ (g : Given) (ops : OpenOperations) (log : List Note) (op : ℕ) (waits 
       → IsBusy g ops (log ++ Note.Answered op a ∷ []) waits
   refused what a known cause = record {
     busy = λ k. h.busy k
-        ∙ elim (k == op) as (λ b. (k == op) ≡ b → keeps_off g.names g.orders k log ≡ keeps_off g.names g.orders k (log ++ Note.Answered op a ∷ [])) [
-          | true ↦ λ on. on_own (λ j. keeps_off g.names g.orders j log ≡ keeps_off g.names g.orders j (log ++ Note.Answered op a ∷ [])) k on
-              (not_kept ∙ sym (ap (λ b. b && (is_share (g.orders op) || not (has_answered op (log ++ Note.Answered op a ∷ []))))
-              (began_same op log (Note.Answered op a ∷ []) refl ∙ still_new.0)))
-          | false ↦ λ off. sym (keeps_same g.names g.orders k log (Note.Answered op a ∷ []) refl (apart_noted op k a off))
-        ] refl;
+        ∙ split (k == op) (λ _. keeps_off g.names g.orders k log ≡ keeps_off g.names g.orders k (log ++ Note.Answered op a ∷ []))
+        (λ on. on_own (λ j. keeps_off g.names g.orders j log ≡ keeps_off g.names g.orders j (log ++ Note.Answered op a ∷ [])) k on
+        (not_kept ∙ sym (ap (λ b. b && (is_share (g.orders op) || not (has_answered op (log ++ Note.Answered op a ∷ []))))
+        (began_same op log (Note.Answered op a ∷ []) refl ∙ still_new.0))))
+        (λ off. sym (keeps_same g.names g.orders k log (Note.Answered op a ∷ []) refl (apart_noted op k a off)));
     plan = h.plan;
     outcome = h.outcome;
-    told = λ k x is. elim (k == op) as (λ b. (k == op) ≡ b → answers_of k (log ++ Note.Answered op a ∷ []) ≡ answers_to x) [
-      | true ↦ λ on. absurd (not_open x (ap (finite.get ops) (sym ((Decides-eqb k op).0 on)) ∙ is))
-      | false ↦ λ off. answers_same k log (Note.Answered op a ∷ []) (apart_noted op k a off) ∙ h.told k x is
-    ] refl;
+    told = λ k x is. split (k == op) (λ _. answers_of k (log ++ Note.Answered op a ∷ []) ≡ answers_to x)
+        (λ on. absurd (not_open x (ap (finite.get ops) (sym ((Decides-eqb k op).0 on)) ∙ is)))
+        (λ off. answers_same k log (Note.Answered op a ∷ []) (apart_noted op k a off) ∙ h.told k x is);
     next = suc op;
     rising = h.rising.1;
     unnoted = λ k late. not_noted k log (Note.Answered op a ∷ []) (later_new k late) refl (apart_noted op k a (later_off k late));
-    answered = λ k. elim (k == op) as (λ b. (k == op) ≡ b → IsAnswered g.names g.orders k (log ++ Note.Answered op a ∷ [])) [
-      | true ↦ λ on. on_own (λ j. IsAnswered g.names g.orders j (log ++ Note.Answered op a ∷ [])) k on
-          (answered_refused g.names g.orders op log a what is_new known cause)
-      | false ↦ λ off. stays_answered g.names g.orders k log (Note.Answered op a ∷ []) refl (apart_noted op k a off) (h.answered k)
-    ] refl;
+    answered = λ k. split (k == op) (λ _. IsAnswered g.names g.orders k (log ++ Note.Answered op a ∷ []))
+        (λ on. on_own (λ j. IsAnswered g.names g.orders j (log ++ Note.Answered op a ∷ [])) k on
+        (answered_refused g.names g.orders op log a what is_new known cause))
+        (λ off. stays_answered g.names g.orders k log (Note.Answered op a ∷ []) refl (apart_noted op k a off) (h.answered k));
   }
 
   -- it begins
@@ -267,29 +251,25 @@ module _ (g : Given) (ops : OpenOperations) (log : List Note) (op : ℕ) (waits 
       → answers_to n ≡ [] → IsBusy g (finite.insert ops op n) (log ++ Note.Begun op ∷ []) waits
   begun what n known may plan outcome none = record {
     busy = λ k. ap is_some (got_insert ops op k n)
-        ∙ elim (k == op) as (λ b. (k == op) ≡ b → is_some (cond b (Some n) (finite.get ops k)) ≡ keeps_off g.names g.orders k (log ++ Note.Begun op ∷ [])) [
-          | true ↦ λ on. on_own (λ j. true ≡ keeps_off g.names g.orders j (log ++ Note.Begun op ∷ [])) k on (sym (started g op log still_new.1))
-          | false ↦ λ off. h.busy k ∙ sym (keeps_same g.names g.orders k log (Note.Begun op ∷ []) (apart_begun op k off) refl)
-        ] refl;
-    plan = λ k x is. elim (k == op) as (λ b. (k == op) ≡ b → cond b (Some n) (finite.get ops k) ≡ Some x → IsPlanned g k x) [
-      | true ↦ λ on e. on_own (λ j. IsPlanned g j x) k on (subst (IsPlanned g op) (same_operation n x e) plan)
-      | false ↦ λ off e. h.plan k x e
-    ] refl (sym (got_insert ops op k n) ∙ is);
+        ∙ split (k == op) (λ b. is_some (cond b (Some n) (finite.get ops k)) ≡ keeps_off g.names g.orders k (log ++ Note.Begun op ∷ []))
+        (λ on. on_own (λ j. true ≡ keeps_off g.names g.orders j (log ++ Note.Begun op ∷ [])) k on (sym (started g op log still_new.1)))
+        (λ off. h.busy k ∙ sym (keeps_same g.names g.orders k log (Note.Begun op ∷ []) (apart_begun op k off) refl));
+    plan = λ k x is. split (k == op) (λ b. cond b (Some n) (finite.get ops k) ≡ Some x → IsPlanned g k x)
+        (λ on e. on_own (λ j. IsPlanned g j x) k on (subst (IsPlanned g op) (same_operation n x e) plan)) (λ off e. h.plan k x e)
+        (sym (got_insert ops op k n) ∙ is);
     outcome = λ k x is. elim (k == op) as (λ b. cond b (Some n) (finite.get ops k) ≡ Some x → HasAnswer x) [
       | true ↦ λ e. subst HasAnswer (same_operation n x e) outcome
       | false ↦ λ e. h.outcome k x e
     ] (sym (got_insert ops op k n) ∙ is);
     told = λ k x is.
-        elim (k == op) as (λ b. (k == op) ≡ b → cond b (Some n) (finite.get ops k) ≡ Some x → answers_of k (log ++ Note.Begun op ∷ []) ≡ answers_to x) [
-          | true ↦ λ on e. on_own (λ j. answers_of j (log ++ Note.Begun op ∷ []) ≡ answers_to x) k on
-              (answers_same op log (Note.Begun op ∷ []) refl ∙ none_answered op log still_new.1 ∙ sym none ∙ ap answers_to (same_operation n x e))
-          | false ↦ λ off e. answers_same k log (Note.Begun op ∷ []) refl ∙ h.told k x e
-        ] refl (sym (got_insert ops op k n) ∙ is);
+        split (k == op) (λ b. cond b (Some n) (finite.get ops k) ≡ Some x → answers_of k (log ++ Note.Begun op ∷ []) ≡ answers_to x)
+        (λ on e. on_own (λ j. answers_of j (log ++ Note.Begun op ∷ []) ≡ answers_to x) k on
+        (answers_same op log (Note.Begun op ∷ []) refl ∙ none_answered op log still_new.1 ∙ sym none ∙ ap answers_to (same_operation n x e)))
+        (λ off e. answers_same k log (Note.Begun op ∷ []) refl ∙ h.told k x e) (sym (got_insert ops op k n) ∙ is);
     next = suc op;
     rising = h.rising.1;
     unnoted = λ k late. not_noted k log (Note.Begun op ∷ []) (later_new k late) (apart_begun op k (later_off k late)) refl;
-    answered = λ k. elim (k == op) as (λ b. (k == op) ≡ b → IsAnswered g.names g.orders k (log ++ Note.Begun op ∷ [])) [
-      | true ↦ λ on. on_own (λ j. IsAnswered g.names g.orders j (log ++ Note.Begun op ∷ [])) k on (begun_now g.names g.orders op log what is_new known may)
-      | false ↦ λ off. stays_answered g.names g.orders k log (Note.Begun op ∷ []) (apart_begun op k off) refl (h.answered k)
-    ] refl;
+    answered = λ k. split (k == op) (λ _. IsAnswered g.names g.orders k (log ++ Note.Begun op ∷ []))
+        (λ on. on_own (λ j. IsAnswered g.names g.orders j (log ++ Note.Begun op ∷ [])) k on (begun_now g.names g.orders op log what is_new known may))
+        (λ off. stays_answered g.names g.orders k log (Note.Begun op ∷ []) (apart_begun op k off) refl (h.answered k));
   }

@@ -3,7 +3,7 @@ use Rattle.nf_net.proofs.Words.{◌≡◌, ℕ, ◌+◌, ◌≤◌, Bool, true, 
 use Rattle.nf_net.proofs.Words.{append-nil, arith, if◌then◌else◌, ◌&&◌, ◌||◌, ◌==◌, not, is_some, unwrap_or, list_any, nat_tests, or-true, or-false, Answer}
 use Rattle.nf_net.proofs.Words.{Order, Note, Each, unknown_in, has_answered, is_begun, is_share, keeps_off, answers_of, before_command, times_begun, overlaps}
 use Rattle.nf_net.proofs.Words.{MayBegin, IsCause, answers_in, begin_in, begins_in, answers_of-append, has_answered-append, has_begun-append}
-use Rattle.nf_net.proofs.Words.{times_begun-append, before_one, none_picked}
+use Rattle.nf_net.proofs.Words.{times_begun-append, before_one, none_picked, split}
 use Rattle.std.proofs.Math.Bool.{or_assoc}
 use Rattle.net_world.specs.Commands.{is_of_command}
 use Rattle.net_world.specs.Log.{answer_in}
@@ -92,10 +92,7 @@ unanswered op log is = kept_none (λ one. one.0 == op) (λ one. one.1) (answers_
 
 -- an answer was noted
 pub some_answered : (op : ℕ) (log : List Note) (a : Answer) (more : List Answer) → answers_of op log ≡ a ∷ more → has_answered op log ≡ true
-some_answered op log a more is = elim (has_answered op log) as (λ b. has_answered op log ≡ b → b ≡ true) [
-  | true ↦ λ _. refl
-  | false ↦ λ e. let none = sym is ∙ none_answered op log e in cc
-] refl
+some_answered op log a more is = split (has_answered op log) (λ b. b ≡ true) (λ _. refl) (λ e. let none = sym is ∙ none_answered op log e in cc)
 
 noted_answered : (op : ℕ) (log : List Note) → has_answered op log ≡ true → is_noted op log ≡ true
 noted_answered op log h = rw h (or-true (is_begun op log))

@@ -33,6 +33,11 @@ module _ {F R : Type 0} where
   pub same_controller : (a b : ControllerState) → ◌≡◌ {A = Node F R} (Controller a) (Controller b) → a ≡ b
   same_controller a b is = ap (controller_in a) is
 
+  -- what stands at the controller's node is the controller
+  pub own_controller : {f : Semantics R} {g : Given} {n : ℕ} {w : Network (Node F R) Msg Note} (j : Joined f g n w) → 1 < n → (c : ControllerState)
+      → ((d : Node F R) → get_or w.nodes 1 d ≡ Controller c) → c ≡ j.nodes.controller
+  own_controller j one c is = same_controller c j.nodes.controller (sym (is (Controller c)) ∙ j.nodes_are 1 one (Controller c))
+
   -- the numbers of the commands that wait: on the link to the controller, and in the input
   abbrev pub waits_of : Network (Node F R) Msg Note → List ℕ
   waits_of w = on_way told_in w
@@ -65,7 +70,7 @@ module _ {F R : Type 0} (f : Semantics R) (g : Given) (n : ℕ) (count_is : n �
     one = omega (arith, count_is)
 
     same_one : b.controller ≡ j.nodes.controller
-    same_one = same_controller b.controller j.nodes.controller (sym (b.controller_is (Controller b.controller)) ∙ j.nodes_are 1 one (Controller b.controller))
+    same_one = own_controller j one b.controller b.controller_is
 
     is_busy_one : IsBusy g j.nodes.controller.operations w.log (waits_of w)
     is_busy_one = subst (λ c. IsBusy g c.operations w.log (waits_of w)) same_one b.is

@@ -4,7 +4,7 @@ use Rattle.nf_net.proofs.Words.{◌≡◌, ℕ, ◌+◌, true, false, Option, So
 use Rattle.nf_net.proofs.Words.{Global, nat_cmp, Filter, FunctionLaws, Semantics, Msg, Note, Choice, Network, IsRun, run, queue_at, at, opening_waiting}
 use Rattle.nf_net.proofs.Words.{opening_on_links, Each, Rising, Operation, opened_controller, Config, Node, answers_of, is_begun, has_answered, is_share}
 use Rattle.nf_net.proofs.Words.{times_installed, is_item, commands, order_numbered, IsInput, node_step, node_ready, first_nodes, started_with, all_each, given}
-use Rattle.nf_net.proofs.Words.{count_at_start, Given, Joined, Order, run_beside}
+use Rattle.nf_net.proofs.Words.{count_at_start, Given, Joined, Order, run_beside, split}
 use Rattle.std.specs.FinMap as finite
 use Rattle.net_world.specs.Commands.{Answers}
 use Rattle.proof_outlines.proofs.joined.StartJoined.{rising_of}
@@ -16,6 +16,7 @@ use Rattle.nf_net.proofs.answers.InstallRuns.{run_installs, installed_once, refu
 use Rattle.nf_net.proofs.answers.InstallSteps.{is_moving}
 use Rattle.nf_net.proofs.answers.MoveSays.{Says}
 use Rattle.nf_net.proofs.RunKeeps.{run_keeps}
+use Rattle.nf_net.proofs.WeightlessMessages.{each_item}
 
 -- the commands of an input
 numbers_in : (items : List Msg) → Each (λ item. is_item item ≡ true) items → map (λ k. k.op) (commands items) ≡ numbers items
@@ -28,12 +29,7 @@ numbers_in (m ∷ items) ok = let never : false ≡ true = ok.0 in cc
 
 -- an input says nothing of moves
 says_nothing : (g : Given) (items : List Msg) → Each (λ item. is_item item ≡ true) items → Each (Says g 0 0) items
-says_nothing g [] ok = tt
-says_nothing g (Msg.InCommand c ∷ items) ok = (tt, says_nothing g items ok.1)
-says_nothing g (Msg.InPacket p ∷ items) ok = (tt, says_nothing g items ok.1)
-says_nothing g (Msg.InSettle ∷ items) ok = (tt, says_nothing g items ok.1)
-says_nothing g (Msg.InEnd ∷ items) ok = (tt, says_nothing g items ok.1)
-says_nothing g (m ∷ items) ok = let never : false ≡ true = ok.0 in cc
+says_nothing g = each_item (Says g 0 0) (λ p. tt) (λ c. tt) tt tt
 
 -- nothing is open, and nothing is noted
 busy_at_start : (g : Given) (waits : List ℕ) → Rising 0 waits → IsBusy g finite.empty [] waits
@@ -108,10 +104,8 @@ module _ (F : Type 0) {R : Type 0} (f : Semantics R) (laws : FunctionLaws f) (al
       let busy = run_busy cs run_is in
       let b = busy.1 in
       let known = (b.is.answered op).known in
-      let off : is_noted op w.log ≡ false = elim (is_noted op w.log) as (λ x. is_noted op w.log ≡ x → x ≡ false) [
-        | true ↦ λ is. (let never : false ≡ true = sym (ap is_some none) ∙ known is in cc)
-        | false ↦ λ is. refl
-      ] refl in
+      let off : is_noted op w.log ≡ false = split (is_noted op w.log) (λ x. x ≡ false)
+      (λ is. (let never : false ≡ true = sym (ap is_some none) ∙ known is in cc)) (λ is. refl) in
       let both = or_off (is_begun op w.log) (has_answered op w.log) off in
       (both.0, none_answered op w.log both.1)
 

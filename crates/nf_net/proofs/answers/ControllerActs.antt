@@ -5,7 +5,7 @@ use Rattle.nf_net.proofs.Words.{◌==◌, Decides-eqb, Filter, Semantics, FullCe
 use Rattle.nf_net.proofs.Words.{ShareState, MovePlan, MoveState, MoveRow, row_in, move_at_start, answer_of, Operation, Move, Copy, Share, turn_of, turn_of_move}
 use Rattle.nf_net.proofs.Words.{ControllerState, on_asked, on_diverted, queue_step, after_turn, takes_turn, hand_step, may_finish, step_and_finish}
 use Rattle.nf_net.proofs.Words.{controller_step, reaches, sent_weight, row_by, NotMove, CopyTurn, Idle, Hands, Hands_all, Ends, hands, copy_turns, got_insert}
-use Rattle.nf_net.proofs.Words.{got_remove, gone_twice, NotShared, answered, noted, Given, IsPlan, IsCopyPlan, Label, Mark, Done}
+use Rattle.nf_net.proofs.Words.{got_remove, gone_twice, NotShared, answered, noted, Given, IsPlan, IsCopyPlan, Label, Mark, Done, split}
 use Rattle.std.specs.FinMap as finite
 use Rattle.copy_share.specs.Copy as copy
 use Rattle.copy_share.specs.Share as share
@@ -148,13 +148,12 @@ module _ (g : Given) (n : ℕ) (reach : reaches n 1 0 ≡ true) (c : ControllerS
         by_answer : (a : Option Answer) → answer_of r.next.phase ≡ a → Acts (after_turn c op (turn_of_move mv c.store r) a)
         by_answer None e = record {
           says = Neither refl (none_weighs n 1 r.next.sends quiet);
-          early = λ k y there zero. elim (k == op) as (λ b. (k == op) ≡ b → cond b (Some (Move x)) (finite.get c.operations k) ≡ Some (Move y) → Was k y []) [
-            | true ↦ λ on own.
-                let same : x ≡ y = move_is x y own in
-                let at : k ≡ op = (Decides-eqb k op).0 on in
-                Was_open mv (ap (finite.get c.operations) at ∙ is) (before (ap (λ z. passed z.phase) same ∙ zero)) (ap (λ z. z.plan) same)
-            | false ↦ λ off other. Was_open y other zero refl
-          ] refl (sym (got_insert c.operations op k (Move x)) ∙ there);
+          early = λ k y there zero. split (k == op) (λ b. cond b (Some (Move x)) (finite.get c.operations k) ≡ Some (Move y) → Was k y [])
+              (λ on own.
+              let same : x ≡ y = move_is x y own in
+              let at : k ≡ op = (Decides-eqb k op).0 on in
+              Was_open mv (ap (finite.get c.operations) at ∙ is) (before (ap (λ z. passed z.phase) same ∙ zero)) (ap (λ z. z.plan) same))
+              (λ off other. Was_open y other zero refl) (sym (got_insert c.operations op k (Move x)) ∙ there);
         }
         by_answer (Some a) e = let plan : IsPlan g op mv.plan = (are.moves op mv is).2 in record {
           says = Answers op a (Order.Move plan.source plan.destination mv.plan.filter mv.plan.keep) refl
@@ -215,11 +214,10 @@ module _ (g : Given) (n : ℕ) (reach : reaches n 1 0 ≡ true) (c : ControllerS
         let plan : MovePlan = record { op = op; from = from; to = to; filter = filter; keep = keep } in
         record {
           says = Begins op refl (none_weighs n 1 (controller.move_begin c plan).sends (refl, tt)) none;
-          early = λ k y there zero. elim (k == op) as (λ b. (k == op) ≡ b
-              → cond b (Some (Move (move_at_start plan))) (finite.get c.operations k) ≡ Some (Move y) → Was k y (Note.Begun op ∷ [])) [
-                | true ↦ λ on own. Begins_now (ap (λ q. Note.Begun q ∷ []) (sym ((Decides-eqb k op).0 on)))
-                | false ↦ λ off other. Was_open y other zero refl
-              ] refl (sym (got_insert c.operations op k (Move (move_at_start plan))) ∙ there);
+          early = λ k y there zero. split (k == op)
+              (λ b. cond b (Some (Move (move_at_start plan))) (finite.get c.operations k) ≡ Some (Move y) → Was k y (Note.Begun op ∷ []))
+              (λ on own. Begins_now (ap (λ q. Note.Begun q ∷ []) (sym ((Decides-eqb k op).0 on)))) (λ off other. Was_open y other zero refl)
+              (sym (got_insert c.operations op k (Move (move_at_start plan))) ∙ there);
         }
     begun_acts op none did (Opens_copy {filter = filter} from to e at) =
         let plan : CopyPlan = record { op = op; from = from; to = to; filter = filter } in

@@ -5,6 +5,7 @@ use Rattle.nf_net.proofs.Words.{share_message, tell_step, tells_and_notes, and_t
 use Rattle.nf_net.proofs.Words.{arrivals_in, dones_in, arrived-append, done-append, instance_fits, Given, Label, Unit}
 use Rattle.instance_worker.specs.declared.instance.Instance.{Instance}
 use Rattle.instance_worker.specs.Instance.{Step, still, process_step}
+use Rattle.nf_net.proofs.WeightlessMessages.{sends_nothing}
 
 -- a cell that goes home counts, and nothing else
 abbrev pub credit : Msg → ℕ
@@ -27,11 +28,7 @@ module _ {R : Type 0} (f : Semantics R) (g : Given) where
   no_credit_to p k m some label = refl
 
   pub none_sent : (n k : ℕ) (sends : List (ℕ × Msg)) → k < 2 → EachSent (Label f g) k sends → sent_weight credit n k sends ≡ 0
-  none_sent n k [] few h = refl
-  none_sent n k (x ∷ xs) few h =
-      let own = no_credit_from k x.0 x.1 few h.0 in
-      let rest = none_sent n k xs few h.1 in
-      rw (own, rest, cond-same {X = ℕ} (reaches n k x.0) 0) refl
+  none_sent n k sends few = sends_nothing (Label f g) credit k (λ r m. no_credit_from k r m few) n sends
 
 module _ (n k : ℕ) where
   told_none : (m : Msg) → credit m ≡ 0 → sent_weight credit n k (to_controller (m ∷ [])) ≡ 0

@@ -8,7 +8,7 @@ use Rattle.nf_net.proofs.Words.{ends_last, node_step, node_ready, node_ended, fi
 use Rattle.nf_net.proofs.Words.{all_labelled, count_at_start, all_each}
 use Rattle.std.specs.FinMap as finite
 use Rattle.ctrl_node.specs.Controller as controller
-use Rattle.nf_net.proofs.answers.BusyRuns.{same_controller}
+use Rattle.nf_net.proofs.answers.BusyRuns.{own_controller}
 use Rattle.nf_net.proofs.answers.CreditCounts.{sent_weight-append}
 use Rattle.nf_net.proofs.answers.EndTables.{sign_in, no_command, in_order, ordered_behind, IsSettled, quiet_settled, row_ends, sign_at_switch}
 use Rattle.nf_net.proofs.answers.EndTables.{sign_at_controller, flag, switch_closes}
@@ -106,8 +106,7 @@ module _ {F R : Type 0} (f : Semantics R) (g : Given) (n : ℕ) (count_is : n �
   ends_after w (suc zero) p m rest j takes labelled labels h =
       let c = j.nodes.controller in
       let left = taken_outcome step n w 1 p (node_of j.nodes 1) m rest takes in
-      let same : h.controller ≡ c = same_controller {F = F} {R = R} h.controller c
-      (sym (h.controller_is (Controller h.controller)) ∙ j.nodes_are 1 takes.receiver (Controller h.controller)) in
+      let same : h.controller ≡ c = own_controller j takes.receiver h.controller h.controller_is in
       let some = takes.some in
       let reach : reaches n 1 0 ≡ true = grind (arith, nat_tests, some) in
       let way = at_controller sign_in step n (omega (arith, count_is)) w p (node_of j.nodes 1) m rest takes (sign_at_controller f g p m labelled) in

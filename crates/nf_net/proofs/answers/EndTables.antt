@@ -5,7 +5,7 @@ use Rattle.nf_net.proofs.Words.{if◌then◌else◌, ◌&&◌, ◌||◌, ◌==�
 use Rattle.nf_net.proofs.Words.{one_more, Target, rules_redirected, Answer, Msg, Note, instance_node, op_of, core_sent, neither, Each, each-append, Operation}
 use Rattle.nf_net.proofs.Words.{Move, Copy, Share, Store, stored_of, SharePhase, ShareState, is_idle, OpenOperations, turn_of, is_quiet, are_quiet}
 use Rattle.nf_net.proofs.Words.{ControllerState, on_diverted, queue_step, takes_turn, hand_step, on_final, instance_at, SwitchState, switch_step, stop_messages}
-use Rattle.nf_net.proofs.Words.{sends_to_instance, target_of, has_room, is_there, row_fits, NotShared, Given, Label, Mark}
+use Rattle.nf_net.proofs.Words.{sends_to_instance, target_of, has_room, is_there, row_fits, NotShared, Given, Label, Mark, split}
 use Rattle.std.proofs.Common.{◌-◌}
 use Rattle.std.specs.FinMap as finite
 use Rattle.ctrl_node.specs.Controller as controller
@@ -193,10 +193,8 @@ module _ (g : Given) (c : ControllerState) (are : AreKnown g c) where
         ended = λ e. (let never : false ≡ true = ended (sym (asked_end p (Msg.Asked k) refl) ∙ e) in cc);
         settled = λ e h. absurd (let never : false ≡ true = ended e in wrong never);
       }
-      row_ends p Msg.End label ordered ended = elim (p == 0) as (λ b. (p == 0) ≡ b → Ended (if b then still (record c { end_came = true }) else still c) way) [
-        | true ↦ λ on. record { ended = λ e. ordered; settled = λ e h. (refl, h) }
-        | false ↦ λ off. record { ended = λ e. ordered; settled = λ e h. (e, h) }
-      ] refl
+      row_ends p Msg.End label ordered ended = split (p == 0) (λ b. Ended (if b then still (record c { end_came = true }) else still c) way)
+          (λ on. record { ended = λ e. ordered; settled = λ e h. (refl, h) }) (λ off. record { ended = λ e. ordered; settled = λ e h. (e, h) })
       row_ends p (Msg.Diverted cell) label ordered ended = by_rests _ (either_rests (p == 0) (on_diverted c cell) (diverted_rests cell)) ended
       row_ends p (Msg.InCommand k) label ordered ended = let never = label.0.1 in cc
       row_ends p Msg.InEnd label ordered ended = let never = label.1 in cc

@@ -1,6 +1,7 @@
 -- The first entry of open operations that passes a test has the lowest number of those that do.
 use Rattle.nf_net.proofs.Words.{◌≡◌, ℕ, ◌<◌, ◌≤◌, Bool, true, false, cond, Option, Some, None, List, [], ◌∷◌, refl, ap, ◌∙◌, subst, arith, T, if◌then◌else◌}
 use Rattle.nf_net.proofs.Words.{find, option_map, unwrap_or, option_map_or, nat_cmp, eq_by_cmp, is_lt, below_all, nat_tests, and_yes, Operation, OpenOperations}
+use Rattle.nf_net.proofs.Words.{split}
 use Rattle.std.specs.FinMap as finite
 use Rattle.proof_outlines.proofs.whole.DivertedAll.{is_less}
 
@@ -21,14 +22,13 @@ none_below k j (e ∷ es) small below =
 module _ (test : Operation → Bool) where
   none_passes : (es : Entries) → find (λ e. test e.1) es ≡ None → (k : ℕ) → passes test (finite.find nat_cmp k es) ≡ false
   none_passes [] is k = refl
-  none_passes (e ∷ es) is k = elim (test e.1) as (λ b. test e.1 ≡ b → (if b then Some e else find (λ x. test x.1) es) ≡ None
-      → passes test (cond (eq_by_cmp nat_cmp k e.0) (Some e.1) (finite.find nat_cmp k es)) ≡ false) [
-        | true ↦ λ on never. cc
-        | false ↦ λ off rest. elim (eq_by_cmp nat_cmp k e.0) as (λ b. passes test (cond b (Some e.1) (finite.find nat_cmp k es)) ≡ false) [
-          | true ↦ off
-          | false ↦ none_passes es rest k
-        ]
-      ] refl is
+  none_passes (e ∷ es) is k = split (test e.1)
+      (λ b. (if b then Some e else find (λ x. test x.1) es) ≡ None → passes test (cond (eq_by_cmp nat_cmp k e.0) (Some e.1) (finite.find nat_cmp k es)) ≡ false)
+      (λ on never. cc)
+      (λ off rest. elim (eq_by_cmp nat_cmp k e.0) as (λ b. passes test (cond b (Some e.1) (finite.find nat_cmp k es)) ≡ false) [
+        | true ↦ off
+        | false ↦ none_passes es rest k
+      ]) is
 
   found_above : (j : ℕ) (es : Entries) (x : ℕ × Operation) → T (below_all nat_cmp j es) → find (λ e. test e.1) es ≡ Some x → j < x.0
   found_above j [] x below is = cc
@@ -44,28 +44,27 @@ module _ (test : Operation → Bool) where
 
   first_passes : (es : Entries) (x : ℕ × Operation) → T (finite.is_sorted nat_cmp es) → find (λ e. test e.1) es ≡ Some x → IsFirst es x.0
   first_passes [] x sorted is = cc
-  first_passes (e ∷ es) x sorted is = elim (test e.1) as (λ b. test e.1 ≡ b → (if b then Some e else find (λ y. test y.1) es) ≡ Some x → IsFirst (e ∷ es) x.0) [
-    | true ↦ λ on here.
-        let same : e ≡ x = ap (λ o. unwrap_or o e) here in
-        let self : eq_by_cmp nat_cmp e.0 e.0 ≡ true = grind (arith, nat_tests) in
-        subst (λ y. IsFirst (e ∷ es) y.0) same (record {
-          here = rw (self, on) refl;
-          none = λ j small. (let off : eq_by_cmp nat_cmp j e.0 ≡ false = grind (arith, nat_tests) in
-              let rest = none_below j e.0 es (omega (arith, small)) below in rw (off, rest) refl);
-        })
-    | false ↦ λ off rest.
-        let first = first_passes es x (and_yes (below_all nat_cmp e.0 es) (finite.is_sorted nat_cmp es) sorted).1 rest in
-        let above = found_above e.0 es x below rest in
-        let other : eq_by_cmp nat_cmp x.0 e.0 ≡ false = grind (arith, nat_tests) in
-        let there = first.here in
-        record {
-          here = rw other there;
-          none = λ j small. elim (eq_by_cmp nat_cmp j e.0) as (λ b. passes test (cond b (Some e.1) (finite.find nat_cmp j es)) ≡ false) [
-            | true ↦ off
-            | false ↦ first.none j small
-          ];
-        }
-  ] refl is
+  first_passes (e ∷ es) x sorted is = split (test e.1) (λ b. (if b then Some e else find (λ y. test y.1) es) ≡ Some x → IsFirst (e ∷ es) x.0)
+      (λ on here.
+      let same : e ≡ x = ap (λ o. unwrap_or o e) here in
+      let self : eq_by_cmp nat_cmp e.0 e.0 ≡ true = grind (arith, nat_tests) in
+      subst (λ y. IsFirst (e ∷ es) y.0) same (record {
+        here = rw (self, on) refl;
+        none = λ j small. (let off : eq_by_cmp nat_cmp j e.0 ≡ false = grind (arith, nat_tests) in
+            let rest = none_below j e.0 es (omega (arith, small)) below in rw (off, rest) refl);
+      }))
+      (λ off rest.
+      let first = first_passes es x (and_yes (below_all nat_cmp e.0 es) (finite.is_sorted nat_cmp es) sorted).1 rest in
+      let above = found_above e.0 es x below rest in
+      let other : eq_by_cmp nat_cmp x.0 e.0 ≡ false = grind (arith, nat_tests) in
+      let there = first.here in
+      record {
+        here = rw other there;
+        none = λ j small. elim (eq_by_cmp nat_cmp j e.0) as (λ b. passes test (cond b (Some e.1) (finite.find nat_cmp j es)) ≡ false) [
+          | true ↦ off
+          | false ↦ first.none j small
+        ];
+      }) is
     where
       below : T (below_all nat_cmp e.0 es)
       below = (and_yes (below_all nat_cmp e.0 es) (finite.is_sorted nat_cmp es) sorted).0

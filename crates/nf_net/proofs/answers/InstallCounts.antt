@@ -7,7 +7,7 @@ use Rattle.move_op.specs.Phases as phase
 use Rattle.move_op.specs.Table.{Said}
 use Rattle.move_op.specs.Move.{row}
 use Rattle.nf_net.proofs.MoveWays.{Goes, Pushed, Asks, Way, Is_removed, Is_taken, Is_refused, Is_undone, move_fits, OfWord, each_forward, each_said}
-use Rattle.nf_net.proofs.MoveWays.{weighs_none}
+use Rattle.nf_net.proofs.WeightlessMessages.{weighs_none}
 use Rattle.nf_net.proofs.answers.CreditCounts.{sent_weight-append}
 use Rattle.proof_outlines.proofs.outline.MoveOutline.{IsRefusing, is_done}
 

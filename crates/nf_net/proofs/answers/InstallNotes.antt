@@ -1,8 +1,8 @@
 -- What the other nodes' steps keep of the changes of the switch's rules: the switch notes each that it takes, and no other node sends or notes
 -- any.
-use Rattle.nf_net.proofs.Words.{◌≡◌, ◌≢◌, ℕ, ◌+◌, ◌≤◌, true, false, Option, List, [], ◌∷◌, refl, ap, arith, if◌then◌else◌, ◌||◌, ◌==◌, not, nat_lt, cond-same}
-use Rattle.nf_net.proofs.Words.{Filter, Packet, Semantics, one_more, Target, Msg, Note, SwitchState, switch_step, sends_to_instance, target_of, has_room}
-use Rattle.nf_net.proofs.Words.{reaches, EachSent, weigh, sent_weight, times_installed, Each, Given, Label, is_target, IsQuiet, is_uninstalled, Mark}
+use Rattle.nf_net.proofs.Words.{◌≡◌, ◌≢◌, ℕ, ◌+◌, ◌≤◌, true, false, Option, List, [], refl, ap, arith, if◌then◌else◌, ◌||◌, ◌==◌, not, nat_lt, Filter, Packet}
+use Rattle.nf_net.proofs.Words.{Semantics, one_more, Target, Msg, Note, SwitchState, switch_step, sends_to_instance, target_of, has_room, EachSent, weigh}
+use Rattle.nf_net.proofs.Words.{sent_weight, times_installed, Each, Given, Label, is_target, IsQuiet, is_uninstalled, Mark}
 use Rattle.std.proofs.Common.{◌-◌}
 use Rattle.std.specs.Prelude.{count_by}
 use Rattle.switch_node.specs.Switch as switch
@@ -10,6 +10,7 @@ use Rattle.switch_node.specs.Switch.{goes_to}
 use Rattle.nf_net.proofs.answers.InstallCounts.{sent_of, install}
 use Rattle.proof_outlines.proofs.joined.Joined.{count}
 use Rattle.proof_outlines.proofs.joined.OwnerLemmas as owners
+use Rattle.nf_net.proofs.WeightlessMessages.{weighs_nothing, sends_nothing}
 
 -- Other nodes send neither a change of the rules nor the finish, and none is sent to another node than the switch.
 module _ {R : Type 0} (f : Semantics R) (g : Given) (o : Option ℕ) where
@@ -24,16 +25,11 @@ module _ {R : Type 0} (f : Semantics R) (g : Given) (o : Option ℕ) where
   no_install_to p k m some label = refl
 
   pub none_sent : (n k : ℕ) (sends : List (ℕ × Msg)) → k ≢ 1 → EachSent (Label f g) k sends → sent_weight (sent_of o) n k sends ≡ 0
-  none_sent n k [] other h = refl
-  none_sent n k (x ∷ xs) other h =
-      let own = no_install_from k x.0 x.1 other h.0 in
-      let rest = none_sent n k xs other h.1 in
-      rw (own, rest, cond-same {X = ℕ} (reaches n k x.0) 0) refl
+  none_sent n k sends other = sends_nothing (Label f g) (sent_of o) k (λ r m. no_install_from k r m other) n sends
 
   -- an input has none
   pub items_none : (items : List Msg) → Each (Label f g 0 0) items → weigh (sent_of o) items ≡ 0
-  items_none [] h = refl
-  items_none (m ∷ ms) h = let own = no_install_from 0 0 m (λ never. cc) h.0 in let rest = items_none ms h.1 in omega (arith, own, rest)
+  items_none = weighs_nothing (Label f g 0 0) (sent_of o) (λ m. no_install_from 0 0 m (λ never. cc))
 
 module _ {R : Type 0} (f : Semantics R) (g : Given) (op : ℕ) where
   -- The switch notes each change that it takes.

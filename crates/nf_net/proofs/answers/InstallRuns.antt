@@ -13,7 +13,7 @@ use Rattle.nf_net.proofs.answers.BusyLemmas.{AreOther, none_answered, other_not_
 use Rattle.nf_net.proofs.answers.BusyOperations.{answers_to}
 use Rattle.nf_net.proofs.answers.ShareTells.{is_set_up}
 use Rattle.nf_net.proofs.answers.BusyNodes.{switch_hands, instance_says}
-use Rattle.nf_net.proofs.answers.BusyRuns.{Busy, same_controller, plan_is, share_is, told_is}
+use Rattle.nf_net.proofs.answers.BusyRuns.{Busy, own_controller, plan_is, share_is, told_is}
 use Rattle.nf_net.proofs.answers.InstallCounts.{install, done_in, passed}
 use Rattle.nf_net.proofs.answers.InstallSteps.{is_moving, dones, dones-append, dones-none, open_in}
 use Rattle.nf_net.proofs.answers.InstalledRules.{controller_counts}
@@ -75,8 +75,7 @@ module _ {F R : Type 0} (f : Semantics R) (g : Given) (n : ℕ) where
   installs_after w (suc zero) p m rest j takes labelled labels h =
       let c = j.nodes.controller in
       let left = taken_outcome step n w 1 p (node_of j.nodes 1) m rest takes in
-      let same : h.controller ≡ c = same_controller {F = F} {R = R} h.controller c
-      (sym (h.controller_is (Controller h.controller)) ∙ j.nodes_are 1 takes.receiver (Controller h.controller)) in
+      let same : h.controller ≡ c = own_controller j takes.receiver h.controller h.controller_is in
       let some = takes.some in
       let reach : reaches n 1 0 ≡ true = grind (arith, nat_tests, some) in
       record {
@@ -148,8 +147,7 @@ module _ {F R : Type 0} (f : Semantics R) (g : Given) (n : ℕ) (count_is : n �
   there = finite.get h.controller.operations op
 
   same : h.controller ≡ j.nodes.controller
-  same = same_controller {F = F} {R = R} h.controller j.nodes.controller
-      (sym (h.controller_is (Controller h.controller)) ∙ j.nodes_are 1 (omega (arith, count_is)) (Controller h.controller))
+  same = own_controller j (omega (arith, count_is)) h.controller h.controller_is
 
   at_controller : (o : Option Operation) → there ≡ o → finite.get j.nodes.controller.operations op ≡ o
   at_controller o e = sym (ap (λ x. finite.get x.operations op) same) ∙ e

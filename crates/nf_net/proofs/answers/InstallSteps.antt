@@ -1,7 +1,7 @@
 -- What the controller's step keeps of the changes of the switch's rules: it has sent one for each open move that passes packets on, for each
 -- that was done, and for each open share.
 use Rattle.nf_net.proofs.Words.{◌≡◌, ℕ, ◌+◌, Bool, true, false, Option, Some, None, List, [], ◌∷◌, ◌++◌, refl, sym, ap, ◌∙◌, arith, if◌then◌else◌, option_map}
-use Rattle.nf_net.proofs.Words.{option_or, Answer, Unknown, Overlap, Order, Msg, Phase, answer_of, Operation, Move, Share, answered}
+use Rattle.nf_net.proofs.Words.{option_or, Answer, Unknown, Overlap, Order, Msg, Phase, answer_of, Operation, Move, Share, answered, option_map_or}
 use Rattle.move_op.specs.Phases as phase
 use Rattle.nf_net.proofs.answers.InstallCounts.{sent_of, done_in, passed, NoInstall, no_more, no_one, no_both}
 use Rattle.nf_net.proofs.answers.ShareTells.{is_of_share, AreOfShare}
@@ -55,22 +55,11 @@ pub answered_none : (n op : ℕ) (a : Option Answer) (sends : List (ℕ × Msg))
 answered_none n op None sends h = shares_none n sends h
 answered_none n op (Some why) sends h = no_both n 1 sends ((0, Msg.Answered op) ∷ []) (shares_none n sends h) (no_one n 1 0 (Msg.Answered op) (λ o. refl))
 
+same_answer : (b c : Answer) → Some b ≡ Some c → done_in b ≡ 0 → done_in c ≡ 0
+same_answer b c e h = sym (ap (λ o. option_map_or done_in o 0) e) ∙ h
+
 -- a refusal isn't an answer that it is done
 pub refused_none : (u : Option (List ℕ)) (q : Option ℕ) (a : Answer) → option_or (option_map Unknown u) (option_map Overlap q) ≡ Some a → done_in a ≡ 0
-refused_none (Some name) q a is = by_answer (Unknown name) a is refl
-  where
-    done_of : Option Answer → ℕ
-    done_of (Some x) = done_in x
-    done_of None = 0
-
-    by_answer : (b c : Answer) → Some b ≡ Some c → done_in b ≡ 0 → done_in c ≡ 0
-    by_answer b c e h = sym (ap done_of e) ∙ h
-refused_none None (Some k) a is = by_answer (Overlap k) a is refl
-  where
-    done_of : Option Answer → ℕ
-    done_of (Some x) = done_in x
-    done_of None = 0
-
-    by_answer : (b c : Answer) → Some b ≡ Some c → done_in b ≡ 0 → done_in c ≡ 0
-    by_answer b c e h = sym (ap done_of e) ∙ h
+refused_none (Some name) q a is = same_answer (Unknown name) a is refl
+refused_none None (Some k) a is = same_answer (Overlap k) a is refl
 refused_none None None a is = cc

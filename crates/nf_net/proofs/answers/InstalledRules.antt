@@ -5,7 +5,7 @@ use Rattle.nf_net.proofs.Words.{SharePlan, ShareState, MoveState, MoveRow, row_i
 use Rattle.nf_net.proofs.Words.{turn_of_move, ControllerState, on_asked, on_diverted, queue_step, after_turn, takes_turn, hand_step, unknown_name, overlap}
 use Rattle.nf_net.proofs.Words.{step_and_finish, controller_step, reaches, sent_weight, answers_of, row_by, got_insert, got_remove, gone_twice, NotShared}
 use Rattle.nf_net.proofs.Words.{CopyTurn, Idle, Hands, Hands_all, Ends, hands, copy_turns, answered, noted, Given, IsPlan, IsCopyPlan, Label, Action, Mark}
-use Rattle.nf_net.proofs.Words.{Note, Done}
+use Rattle.nf_net.proofs.Words.{Note, Done, split}
 use Rattle.std.specs.FinMap as finite
 use Rattle.copy_share.specs.Copy as copy
 use Rattle.copy_share.specs.Share as share
@@ -62,11 +62,9 @@ module _ (n : ℕ) (reach : reaches n 1 0 ≡ true) (g : Given) (k : ℕ) (c : C
         let own = no_one n 1 (instance_node y.plan.to) m none in
         let weighs = own (Some k) in
         let here : open_in (finite.get (hands c op y m).node.operations k) ≡ open_in (finite.get c.operations k) =
-        ap open_in (got_insert c.operations op k (Copy (record y { phase = Keeping }))) ∙ elim (k == op) as (λ b. (k == op) ≡ b
-        → open_in (cond b (Some (Copy (record y { phase = Keeping }))) (finite.get c.operations k)) ≡ open_in (finite.get c.operations k)) [
-          | true ↦ λ on. sym (ap (λ j. open_in (finite.get c.operations j)) ((Decides-eqb k op).0 on) ∙ ap open_in is)
-          | false ↦ λ off. refl
-        ] refl in
+        ap open_in (got_insert c.operations op k (Copy (record y { phase = Keeping }))) ∙ split (k == op)
+        (λ b. open_in (cond b (Some (Copy (record y { phase = Keeping }))) (finite.get c.operations k)) ≡ open_in (finite.get c.operations k))
+        (λ on. sym (ap (λ j. open_in (finite.get c.operations j)) ((Decides-eqb k op).0 on) ∙ ap open_in is)) (λ off. refl) in
         record { sent = omega (arith, here, weighs); unfinished = own None; finish_same = refl }
 
     ends_is : (op : ℕ) (y : CopyState) → finite.get c.operations op ≡ Some (Copy y) → Counts (ends c op)
@@ -78,15 +76,14 @@ module _ (n : ℕ) (reach : reaches n 1 0 ≡ true) (g : Given) (k : ℕ) (c : C
         let gone = got_remove c.operations op k in
         let here : open_in (finite.get (finite.remove c.operations op) k) + dones moving (answers_of k (Note.Answered op Done ∷ []))
         ≡ open_in (finite.get c.operations k) =
-        rw (gone, turned) (elim (k == op) as (λ b. (k == op) ≡ b → open_in (cond b None (finite.get c.operations k))
-        + dones moving (map (λ (one : ℕ × Answer). one.1) (if b then (op, Done) ∷ [] else [])) ≡ open_in (finite.get c.operations k)) [
-          | true ↦ λ on.
-              let same : k ≡ op = (Decides-eqb k op).0 on in
-              let still : moving ≡ false = ap (λ j. is_moving (g.orders j)) same ∙ ap is_moving plan.order_is in
-              let none : open_in (finite.get c.operations k) ≡ 0 = ap (λ j. open_in (finite.get c.operations j)) same ∙ ap open_in is in
-              rw still (sym none)
-          | false ↦ λ off. omega arith
-        ] refl) in
+        rw (gone, turned) (split (k == op)
+        (λ b. open_in (cond b None (finite.get c.operations k)) + dones moving (map (λ (one : ℕ × Answer). one.1) (if b then (op, Done) ∷ [] else []))
+        ≡ open_in (finite.get c.operations k))
+        (λ on.
+        let same : k ≡ op = (Decides-eqb k op).0 on in
+        let still : moving ≡ false = ap (λ j. is_moving (g.orders j)) same ∙ ap is_moving plan.order_is in
+        let none : open_in (finite.get c.operations k) ≡ 0 = ap (λ j. open_in (finite.get c.operations j)) same ∙ ap open_in is in
+        rw still (sym none)) (λ off. omega arith)) in
         record { sent = omega (arith, here, weighs); unfinished = own None; finish_same = refl }
 
     copy_is : (op : ℕ) (y : CopyState) → finite.get c.operations op ≡ Some (Copy y) → (m : Msg) (did : Step)
@@ -115,20 +112,19 @@ module _ (n : ℕ) (reach : reaches n 1 0 ≡ true) (g : Given) (k : ℕ) (c : C
         -- what it sends, by whether the command is the move's
         sends_are : (after : ℕ) → after ≡ passed r.next.phase
             → (if k == op then after else open_in (finite.get c.operations k)) ≡ open_in (finite.get c.operations k) + sent_weight (install k) n 1 r.next.sends
-        sends_are after e = elim (k == op) as (λ b. (k == op) ≡ b
-            → (if b then after else open_in (finite.get c.operations k)) ≡ open_in (finite.get c.operations k) + sent_weight (install k) n 1 r.next.sends) [
-              | true ↦ λ on.
-                  let own : mv.plan.op ≡ k = (are.moves op mv is).0 ∙ sym ((Decides-eqb k op).0 on) in
-                  let sent = subst (λ y. sent_weight (install y) n 1 r.next.sends + passed mv.phase ≡ passed r.next.phase) own adds.own in
-                  let before : open_in (finite.get c.operations k) ≡ passed mv.phase = ap (λ y. open_in (finite.get c.operations y)) ((Decides-eqb k op).0 on)
-                  ∙ ap open_in is in
-                  omega (arith, e, sent, before)
-              | false ↦ λ off.
-                  let same = (are.moves op mv is).0 in
-                  let apart : (mv.plan.op == k) ≡ false = grind (arith, nat_tests, off, same) in
-                  let none = adds.other k apart in
-                  omega (arith, none)
-            ] refl
+        sends_are after e = split (k == op)
+            (λ b. (if b then after else open_in (finite.get c.operations k)) ≡ open_in (finite.get c.operations k) + sent_weight (install k) n 1 r.next.sends)
+            (λ on.
+            let own : mv.plan.op ≡ k = (are.moves op mv is).0 ∙ sym ((Decides-eqb k op).0 on) in
+            let sent = subst (λ y. sent_weight (install y) n 1 r.next.sends + passed mv.phase ≡ passed r.next.phase) own adds.own in
+            let before : open_in (finite.get c.operations k) ≡ passed mv.phase = ap (λ y. open_in (finite.get c.operations y)) ((Decides-eqb k op).0 on)
+            ∙ ap open_in is in
+            omega (arith, e, sent, before))
+            (λ off.
+            let same = (are.moves op mv is).0 in
+            let apart : (mv.plan.op == k) ≡ false = grind (arith, nat_tests, off, same) in
+            let none = adds.other k apart in
+            omega (arith, none))
 
         by_answer : (a : Option Answer) → answer_of r.next.phase ≡ a → Counts (after_turn c op (turn_of_move mv c.store r) a)
         by_answer None e =
@@ -149,13 +145,12 @@ module _ (n : ℕ) (reach : reaches n 1 0 ≡ true) (g : Given) (k : ℕ) (c : C
             let plan : IsPlan g op mv.plan = (are.moves op mv is).2 in
             let here : open_in (finite.get (finite.remove (finite.insert c.operations op (Move x)) op) k)
             + dones moving (answers_of k (Note.Answered op a ∷ [])) ≡ (if k == op then done_in a else open_in (finite.get c.operations k)) =
-            rw (gone, turned) (elim (k == op) as (λ b. (k == op) ≡ b
-            → open_in (cond b None (finite.get c.operations k)) + dones moving (map (λ (one : ℕ × Answer). one.1) (if b then (op, a) ∷ [] else []))
-            ≡ (if b then done_in a else open_in (finite.get c.operations k))) [
-              | true ↦ λ on.
-                  (let does : moving ≡ true = ap (λ j. is_moving (g.orders j)) ((Decides-eqb k op).0 on) ∙ ap is_moving plan.order_is in rw does (omega arith))
-              | false ↦ λ off. omega arith
-            ] refl) in
+            rw (gone, turned) (split (k == op)
+            (λ b. open_in (cond b None (finite.get c.operations k)) + dones moving (map (λ (one : ℕ × Answer). one.1) (if b then (op, a) ∷ [] else [])) ≡
+            (if b then done_in a else open_in (finite.get c.operations k)))
+            (λ on.
+            (let does : moving ≡ true = ap (λ j. is_moving (g.orders j)) ((Decides-eqb k op).0 on) ∙ ap is_moving plan.order_is in rw does (omega arith)))
+            (λ off. omega arith)) in
             let sent = sends_are (done_in a) (sym (over_is r.next.phase a e)) in
             record {
               sent = omega (arith, both, none, here, sent);
@@ -175,20 +170,16 @@ module _ (n : ℕ) (reach : reaches n 1 0 ≡ true) (g : Given) (k : ℕ) (c : C
         let turned : (op == k) ≡ (k == op) = grind (arith, nat_tests) in
         let noted_none : dones moving (answers_of k did.notes) ≡ 0 = ap (λ ns. dones moving (answers_of k ns)) l.notes_are
         ∙ by_answer op l.answer turned still in
-        let same : open_in (finite.get did.node.operations k) ≡ open_in (finite.get c.operations k) = ap open_in (l.operations k) ∙ elim (k == op) as (λ b.
-        (k == op) ≡ b → open_in (cond b (Some (Share (record s { phase = l.after }))) (finite.get c.operations k)) ≡ open_in (finite.get c.operations k)) [
-          | true ↦ λ on. sym (ap (λ j. open_in (finite.get c.operations j)) ((Decides-eqb k op).0 on) ∙ ap open_in there)
-          | false ↦ λ off. refl
-        ] refl in
+        let same : open_in (finite.get did.node.operations k) ≡ open_in (finite.get c.operations k) = ap open_in (l.operations k) ∙ split (k == op)
+        (λ b. open_in (cond b (Some (Share (record s { phase = l.after }))) (finite.get c.operations k)) ≡ open_in (finite.get c.operations k))
+        (λ on. sym (ap (λ j. open_in (finite.get c.operations j)) ((Decides-eqb k op).0 on) ∙ ap open_in there)) (λ off. refl) in
         record { sent = omega (arith, none, noted_none, same); unfinished = quiet None; finish_same = l.finish_same }
       where
         by_answer : (op : ℕ) (a : Option Answer) → (op == k) ≡ (k == op) → ((k == op) ≡ true → moving ≡ false) → dones moving (answers_of k (noted op a)) ≡ 0
         by_answer op None turned still = refl
         by_answer op (Some why) turned still = ap (λ b. dones moving (map (λ (one : ℕ × Answer). one.1) (if b then (op, why) ∷ [] else []))) turned
-            ∙ elim (k == op) as (λ b. (k == op) ≡ b → dones moving (map (λ (one : ℕ × Answer). one.1) (if b then (op, why) ∷ [] else [])) ≡ 0) [
-              | true ↦ λ on. ap (λ b. dones b (why ∷ [])) (still on)
-              | false ↦ λ off. refl
-            ] refl
+            ∙ split (k == op) (λ b. dones moving (map (λ (one : ℕ × Answer). one.1) (if b then (op, why) ∷ [] else [])) ≡ 0)
+            (λ on. ap (λ b. dones b (why ∷ [])) (still on)) (λ off. refl)
 
     handed_is : (op port : ℕ) (m : Msg) → Counts (hand_step c op port m)
     handed_is op port m = by_operation Counts c op port m
@@ -206,10 +197,8 @@ module _ (n : ℕ) (reach : reaches n 1 0 ≡ true) (g : Given) (k : ℕ) (c : C
         let own = quiet (Some k) in
         let here : open_in (finite.get (finite.insert c.operations op o) k) ≡ open_in (finite.get c.operations k) =
         ap open_in (got_insert c.operations op k o)
-        ∙ elim (k == op) as (λ b. (k == op) ≡ b → open_in (cond b (Some o) (finite.get c.operations k)) ≡ open_in (finite.get c.operations k)) [
-          | true ↦ λ on. zero ∙ sym (ap (λ y. open_in (finite.get c.operations y)) ((Decides-eqb k op).0 on) ∙ ap open_in none)
-          | false ↦ λ off. refl
-        ] refl in
+        ∙ split (k == op) (λ b. open_in (cond b (Some o) (finite.get c.operations k)) ≡ open_in (finite.get c.operations k))
+        (λ on. zero ∙ sym (ap (λ y. open_in (finite.get c.operations y)) ((Decides-eqb k op).0 on) ∙ ap open_in none)) (λ off. refl) in
         record { sent = omega (arith, here, own); unfinished = quiet None; finish_same = refl }
 
     begun_is : (op : ℕ) → finite.get c.operations op ≡ None → {what : Order} (did : Step) → OpensBy c op what did → Counts did
@@ -229,13 +218,12 @@ module _ (n : ℕ) (reach : reaches n 1 0 ≡ true) (g : Given) (k : ℕ) (c : C
         let sent : sent_weight (install k) n 1 (share.begin_sends plan) ≡ (if k == op then 1 else 0) = rw (reach, turned) (omega arith) in
         let here : open_in (finite.get (finite.insert c.operations op (Share (share.share_at_start plan))) k)
         ≡ open_in (finite.get c.operations k) + (if k == op then 1 else 0) =
-        ap open_in (got_insert c.operations op k (Share (share.share_at_start plan))) ∙ elim (k == op) as (λ b. (k == op) ≡ b → open_in (cond b
-        (Some (Share (share.share_at_start plan))) (finite.get c.operations k)) ≡ open_in (finite.get c.operations k) + (if b then 1 else 0)) [
-          | true ↦ λ on. (let was : open_in (finite.get c.operations k) ≡ 0 = ap (λ y. open_in (finite.get c.operations y)) ((Decides-eqb k op).0 on)
-              ∙ ap open_in none in
-              omega (arith, was))
-          | false ↦ λ off. omega arith
-        ] refl in
+        ap open_in (got_insert c.operations op k (Share (share.share_at_start plan))) ∙ split (k == op)
+        (λ b. open_in (cond b (Some (Share (share.share_at_start plan))) (finite.get c.operations k)) ≡ open_in (finite.get c.operations k) +
+        (if b then 1 else 0))
+        (λ on. (let was : open_in (finite.get c.operations k) ≡ 0 = ap (λ y. open_in (finite.get c.operations y)) ((Decides-eqb k op).0 on)
+        ∙ ap open_in none in
+        omega (arith, was))) (λ off. omega arith) in
         record { sent = omega (arith, sent, here); unfinished = rw reach refl; finish_same = refl }
 
     asked_is : (op : ℕ) (what : Order) → Counts (on_asked c (record { op = op; what = what }))

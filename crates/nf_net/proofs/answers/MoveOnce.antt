@@ -6,7 +6,7 @@ use Rattle.move_op.specs.Phases as phase
 use Rattle.move_op.specs.Table.{Said, Stream}
 use Rattle.move_op.specs.Move.{row}
 use Rattle.nf_net.proofs.MoveWays.{Goes, Pushed, Asks, Way, Begins, Removes, Is_removed, Is_taken, Is_refused, Holds, Releases, move_fits, OfWord, each_said}
-use Rattle.nf_net.proofs.MoveWays.{weighs_none}
+use Rattle.nf_net.proofs.WeightlessMessages.{weighs_none}
 
 -- what is sent once for a command: a piece that is put first, or the message that asks for its state
 abbrev pub counts : Msg → Bool → ℕ → ℕ

@@ -21,17 +21,15 @@ module _ (F : Type 0) {R : Type 0} (f : Semantics R) (laws : FunctionLaws f) (al
   abbrev first : Network (Node F R) Msg Note
   first = started_with {F = F} {R = R} alloc c items
 
-  abbrev n : ℕ
-  n = length c.names + 2
-
-  pub moves_under_way : (cs : List Choice) → IsRun node_ready (node_step f) cs first → (j : Joined f (given f c items is) n (run (node_step f) cs first))
-      → AreUnderWay f c items is n (run (node_step f) cs first) j
+  pub moves_under_way : (cs : List Choice) → IsRun node_ready (node_step f) cs first →
+      (j : Joined f (given f c items is) (length c.names + 2) (run (node_step f) cs first))
+      → AreUnderWay f c items is (length c.names + 2) (run (node_step f) cs first) j
   moves_under_way cs run_is j =
       let w = run (node_step f) cs first in
       let b = (run_busy F f laws alloc c items is cs run_is).1 in
       record {
-        keeps_is = keeps_is f (given f c items is) n refl w j b;
-        open_busy = λ op m there. open_busy f (given f c items is) n refl w j b op (Move m) there refl;
-        closed_busy = closed_busy f (given f c items is) n refl w j b;
-        plan_is = plan_is f (given f c items is) n refl w j b;
+        keeps_is = keeps_is f (given f c items is) (length c.names + 2) refl w j b;
+        open_busy = λ op m there. open_busy f (given f c items is) (length c.names + 2) refl w j b op (Move m) there refl;
+        closed_busy = closed_busy f (given f c items is) (length c.names + 2) refl w j b;
+        plan_is = plan_is f (given f c items is) (length c.names + 2) refl w j b;
       }

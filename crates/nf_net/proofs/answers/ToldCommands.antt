@@ -7,13 +7,13 @@ use Rattle.nf_net.proofs.Words.{sent_weight, total_after, Operation, Move, Copy,
 use Rattle.nf_net.proofs.Words.{copy_between, share_begin, begin_step, decision_step, on_asked, controller_step, place_of, SwitchState, switch_step, Config}
 use Rattle.nf_net.proofs.Words.{Node, Controller, is_begun, has_answered, is_share, keeps_off, answers_of, IsInput, commands, order_numbered, ends_last}
 use Rattle.nf_net.proofs.Words.{node_step, node_ready, node_ended, first_nodes, started_with, answers_in, has_begun-append, has_answered-append, is_whole}
-use Rattle.nf_net.proofs.Words.{Given, Label, Joined, node_of, names_known, given, Done}
+use Rattle.nf_net.proofs.Words.{Given, Label, Joined, node_of, names_known, given, Done, split}
 use Rattle.std.specs.FinMap as finite
 use Rattle.ctrl_node.specs.Controller as controller
 use Rattle.ctrl_node.specs.Controller.{Step, still}
 use Rattle.net_world.proofs.PickedLists.{some_kept}
 use Rattle.nf_net.proofs.answers.BusyLemmas.{is_noted}
-use Rattle.nf_net.proofs.answers.BusyRuns.{Busy, same_controller, keeps_is, told_is}
+use Rattle.nf_net.proofs.answers.BusyRuns.{Busy, own_controller, keeps_is, told_is}
 use Rattle.nf_net.proofs.answers.CommandPromises.{run_busy}
 use Rattle.nf_net.proofs.answers.EndRuns.{run_ends, all_settled}
 use Rattle.nf_net.proofs.answers.EndTables.{flag, IsSettled, flag_full}
@@ -117,13 +117,10 @@ module _ (g : Given) (log : List Note) (c : ControllerState) (op : ℕ) (open_is
   decided_noted what some None is = begins_noted what some is
 
   asked_noted : (what : Order) → NamesSome what → Noted (on_asked c (record { op = op; what = what }))
-  asked_noted what some = elim (finite.contains_key c.operations op)
-      as (λ b. finite.contains_key c.operations op ≡ b → Noted (if b then still c else decision_step c op what (refusal c what))) [
-        | true ↦ λ on. (let more = noted_more op log [] in
-            let was = kept_noted (is_begun op log) (is_share (g.orders op)) (has_answered op log) (sym open_is ∙ on) in
-            flag_full (is_noted op (log ++ [])) (omega (arith, more, ap flag was)))
-        | false ↦ λ off. decided_noted what some (refusal c what) refl
-      ] refl
+  asked_noted what some = split (finite.contains_key c.operations op) (λ b. Noted (if b then still c else decision_step c op what (refusal c what)))
+      (λ on. (let more = noted_more op log [] in
+      let was = kept_noted (is_begun op log) (is_share (g.orders op)) (has_answered op log) (sym open_is ∙ on) in
+      flag_full (is_noted op (log ++ [])) (omega (arith, more, ap flag was)))) (λ off. decided_noted what some (refusal c what) refl)
     where
       kept_noted : (a s b : Bool) → a && (s || not b) ≡ true → a || b ≡ true
       kept_noted true s b e = refl
@@ -139,11 +136,9 @@ module _ {R : Type 0} (f : Semantics R) (g : Given) (op : ℕ) where
       let from : (p == 0) ≡ true = (Decides-eqb p 0).1 label.0 in
       let all : is_noted k.op (log ++ (controller_step c p (Msg.Asked k)).notes) ≡ true =
       ap (λ b. is_noted k.op (log ++ (if b then on_asked c k else still c).notes)) from ∙ noted in
-      elim (k.op == op) as (λ b. (k.op == op) ≡ b → (if b then 1 else 0) ≤ flag (is_noted op (log ++ (controller_step c p (Msg.Asked k)).notes))) [
-        | true ↦ λ on. (let mine = subst (λ y. is_noted y (log ++ (controller_step c p (Msg.Asked k)).notes) ≡ true) ((Decides-eqb k.op op).0 on) all in
-            let one = ap flag mine in omega (arith, one))
-        | false ↦ λ off. omega arith
-      ] refl
+      split (k.op == op) (λ b. (if b then 1 else 0) ≤ flag (is_noted op (log ++ (controller_step c p (Msg.Asked k)).notes)))
+      (λ on. (let mine = subst (λ y. is_noted y (log ++ (controller_step c p (Msg.Asked k)).notes) ≡ true) ((Decides-eqb k.op op).0 on) all in
+      let one = ap flag mine in omega (arith, one))) (λ off. omega arith)
   controller_told log c open_is p m label = omega arith
 
   switch_told : (n : ℕ) → reaches n 0 1 ≡ true → (s : SwitchState) (p : ℕ) (m : Msg) → Label f g p 0 m
@@ -221,9 +216,6 @@ module _ (F : Type 0) {R : Type 0} (f : Semantics R) (laws : FunctionLaws f) (al
   abbrev start : Network (Node F R) Msg Note
   start = started_with {F = F} {R = R} alloc c items
 
-  abbrev nodes : ℕ
-  nodes = length c.names + 2
-
   abbrev g : Given
   g = given f c items is
 
@@ -231,7 +223,7 @@ module _ (F : Type 0) {R : Type 0} (f : Semantics R) (laws : FunctionLaws f) (al
   told_at_start op some = let all = opening_weight Note (first_nodes {F = F} {R = R} alloc c) items (told op) in omega (arith, all, some)
 
   pub run_told : (cs : List Choice) → IsRun node_ready (node_step f) cs start → Told items (run (node_step f) cs start)
-  run_told = run_keeps F f laws alloc c items is (λ _ w. Told items w) told_at_start (λ ds ok d s. told_after f g nodes refl items
+  run_told = run_keeps F f laws alloc c items is (λ _ w. Told items w) told_at_start (λ ds ok d s. told_after f g (length c.names + 2) refl items
       (run (node_step f) ds start) d.node d.port s.taking.message s.taking.rest s.runs.joined s.takes s.taken.label
       (run_busy F f laws alloc c items is ds ok).1)
 
@@ -247,21 +239,21 @@ module _ (F : Type 0) {R : Type 0} (f : Semantics R) (laws : FunctionLaws f) (al
       let count = (after_world F f laws alloc c items is cs run_is).1 in
       let waits = run_told cs run_is op (listed op items what known) in
       let nothing = done_weight node_ended w done (told op) in
-      let same : ends.controller ≡ j.nodes.controller = same_controller {F = F} {R = R} ends.controller j.nodes.controller
-      (sym (ends.controller_is (Controller ends.controller)) ∙ j.nodes_are 1 (omega arith) (Controller ends.controller)) in
+      let same : ends.controller ≡ j.nodes.controller = own_controller j (omega arith) ends.controller ends.controller_is in
       let settled : IsSettled (finite.get j.nodes.controller.operations op) = subst (λ x. IsSettled (finite.get x.operations op)) same
       (all_settled w (omega (arith, count)) done ends op) in
       by_settled w j busy.1 (omega (arith, waits, nothing)) (finite.get j.nodes.controller.operations op) refl settled
     where
       -- a command whose operation isn't open was answered, and so was a share that is set up
-      by_settled : (w : Network (Node F R) Msg Note) (j : Joined f g nodes w) (b : Busy g w) → 1 ≤ flag (is_noted op w.log) → (o : Option Operation)
+      by_settled : (w : Network (Node F R) Msg Note) (j : Joined f g (length c.names + 2) w) (b : Busy g w) → 1 ≤ flag (is_noted op w.log) →
+          (o : Option Operation)
           → finite.get j.nodes.controller.operations op ≡ o → IsSettled o → length (answers_of op w.log) ≡ 1
       by_settled w j b noted None is settled =
           let few = (b.is.answered op).answered_once in
-          let off : keeps_off g.names g.orders op w.log ≡ false = sym (keeps_is f g nodes refl w j b op) ∙ ap is_some is in
+          let off : keeps_off g.names g.orders op w.log ≡ false = sym (keeps_is f g (length c.names + 2) refl w j b op) ∙ ap is_some is in
           let some = some_answers op w.log (closed_answered (is_begun op w.log) (is_share (g.orders op)) (has_answered op w.log) off noted) in
           omega (arith, few, some)
       by_settled w j b noted (Some (Share s)) is settled =
-          ap length (told_is f g nodes refl w j b op (Share s) is ∙ ap (λ v. if v then Done ∷ [] else []) settled)
+          ap length (told_is f g (length c.names + 2) refl w j b op (Share s) is ∙ ap (λ v. if v then Done ∷ [] else []) settled)
       by_settled w j b noted (Some (Move m)) is settled = absurd settled
       by_settled w j b noted (Some (Copy y)) is settled = absurd settled

@@ -2,12 +2,12 @@
 use Rattle.nf_net.proofs.Words.{◌≡◌, ℕ, zero, suc, ◌+◌, ◌<◌, Bool, true, false, Option, Some, None, List, [], ◌∷◌, length, get_or, refl, sym, ap, ◌∙◌, subst}
 use Rattle.nf_net.proofs.Words.{arith, if◌then◌else◌, ◌&&◌, ◌==◌, not, find, list_all, nat_tests, Decides-eqb, Semantics, stored_of, FullCell, Msg, Note}
 use Rattle.nf_net.proofs.Words.{SharePhase, ShareState, is_idle, Operation, Move, Copy, Share, OpenOperations, is_quiet, are_quiet, Network, IsWorld, queue_at}
-use Rattle.nf_net.proofs.Words.{at, weigh, total, OpenShare, find_share, Node, Switch, Controller, node_ended, Given, place, Joined, silent_total}
+use Rattle.nf_net.proofs.Words.{at, weigh, total, OpenShare, find_share, Node, Switch, node_ended, Given, place, Joined, silent_total}
 use Rattle.std.specs.FinMap as finite
 use Rattle.proof_outlines.proofs.whole.OpenShares.{share_in, SeesOne}
 use Rattle.proof_outlines.proofs.whole.ShareOutline.{Rests}
 use Rattle.proof_outlines.proofs.joined.Joined.{count}
-use Rattle.nf_net.proofs.answers.BusyRuns.{same_controller}
+use Rattle.nf_net.proofs.answers.BusyRuns.{own_controller}
 use Rattle.nf_net.proofs.answers.FirstEntries.{passes, found_passes}
 use Rattle.nf_net.proofs.answers.InstallCounts.{finish}
 use Rattle.nf_net.proofs.answers.EndTables.{flag_full}
@@ -87,8 +87,7 @@ module _ {F R : Type 0} (f : Semantics R) (g : Given) (n : ℕ) (count_is : n �
     one = omega (arith, count_is)
 
     same_one : h.controller ≡ j.nodes.controller
-    same_one = same_controller {F = F} {R = R} h.controller j.nodes.controller
-        (sym (h.controller_is (Controller h.controller)) ∙ j.nodes_are 1 one (Controller h.controller))
+    same_one = own_controller j one h.controller h.controller_is
 
     ended_came : h.controller.end_came ≡ true
     ended_came = let some = h.came in let none = nothing ending in flag_full h.controller.end_came (omega (arith, some, none))

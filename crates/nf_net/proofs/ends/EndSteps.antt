@@ -4,7 +4,7 @@ use Rattle.nf_net.proofs.Words.{◌≡◌, ◌⊎◌, inl, inr, ℕ, zero, suc, 
 use Rattle.nf_net.proofs.Words.{refl, sym, ap, ◌∙◌, subst, arith, if◌then◌else◌, ◌&&◌, ◌||◌, ◌==◌, not, nat_lt, nat_le, nat_tests, Decides-eqb, length-set}
 use Rattle.nf_net.proofs.Words.{Packet, Semantics, one_more, Target, rules_redirected, Answer, Msg, instance_node, turn_of, lasts, are_quiet, ControllerState}
 use Rattle.nf_net.proofs.Words.{may_finish, controller_step, SwitchState, switch_step, stop_messages, reaches, sent_for, put_on_link, weigh, sent_weight}
-use Rattle.nf_net.proofs.Words.{row_fits, Given, Label, Mark, Note}
+use Rattle.nf_net.proofs.Words.{row_fits, Given, Label, Mark, Note, split}
 use Rattle.std.proofs.Common.{◌-◌, set}
 use Rattle.std.specs.FinMap as finite
 use Rattle.std.proofs.lemmas.List.{get_or-set_same}
@@ -156,22 +156,23 @@ module _ (c : ControllerState) where
     controller_ends f g n p m reach label =
         let r = ctrl.row c p m in
         let row = row_ends f g p m label in
-        elim (may_finish r.node) as (λ b. may_finish r.node ≡ b → ControllerEnds n p m (record {
+        split (may_finish r.node)
+        (λ b. ControllerEnds n p m
+        (record {
           node = if b then record r.node { finish_sent = true } else r.node;
-          sends = r.sends ++ (if b then (0, Msg.Finish) ∷ [] else []);
+          sends = r.sends ++
+              (if b then (0, Msg.Finish) ∷ [] else []);
           notes = r.notes;
-        })) [
-          | true ↦ λ on. record {
-            row = row;
-            came = refl;
-            stopped = refl;
-            names = row.names;
-            quiet = sent_once r.node.end_came (are_quiet r.node.operations r.node.store);
-            sent = λ _. inr (let both = sent_weight-append finish n 1 r.sends ((0, Msg.Finish) ∷ []) in
-                let one : sent_weight finish n 1 ((0, Msg.Finish) ∷ []) ≡ 1 = rw reach refl in omega (arith, both, one));
-          }
-          | false ↦ λ off. record { row = row; came = refl; stopped = refl; names = row.names; quiet = off; sent = λ e. inl (sym row.sent ∙ e) }
-        ] refl
+        }))
+        (λ on. record {
+          row = row;
+          came = refl;
+          stopped = refl;
+          names = row.names;
+          quiet = sent_once r.node.end_came (are_quiet r.node.operations r.node.store);
+          sent = λ _. inr (let both = sent_weight-append finish n 1 r.sends ((0, Msg.Finish) ∷ []) in
+              let one : sent_weight finish n 1 ((0, Msg.Finish) ∷ []) ≡ 1 = rw reach refl in omega (arith, both, one));
+        }) (λ off. record { row = row; came = refl; stopped = refl; names = row.names; quiet = off; sent = λ e. inl (sym row.sent ∙ e) })
 
 -- The switch
 module _ (n : ℕ) (s : SwitchState) where
@@ -212,13 +213,11 @@ module _ (n : ℕ) (s : SwitchState) where
   stops_sent zero i less = absurd (omega (arith, less))
   stops_sent (suc count) i less =
       let both = sent-append (instance_node i) stop (stop_messages count) ((instance_node count, Msg.Stop) ∷ []) in
-      elim (i == count) as (λ b. (i == count) ≡ b → 1 ≤ weigh stop (sent_for (instance_node i) (stop_messages (suc count)))) [
-        | true ↦ λ on.
-            let here : (instance_node count == instance_node i) ≡ true = grind (arith, nat_tests, on) in
-            let one : weigh stop (sent_for (instance_node i) ((instance_node count, Msg.Stop) ∷ [])) ≡ 1 = rw here refl in
-            omega (arith, both, one)
-        | false ↦ λ off. (let rest = stops_sent count i (grind (arith, nat_tests, less, off)) in omega (arith, both, rest))
-      ] refl
+      split (i == count) (λ _. 1 ≤ weigh stop (sent_for (instance_node i) (stop_messages (suc count))))
+      (λ on.
+      let here : (instance_node count == instance_node i) ≡ true = grind (arith, nat_tests, on) in
+      let one : weigh stop (sent_for (instance_node i) ((instance_node count, Msg.Stop) ∷ [])) ≡ 1 = rw here refl in
+      omega (arith, both, one)) (λ off. (let rest = stops_sent count i (grind (arith, nat_tests, less, off)) in omega (arith, both, rest)))
 
   finish_ends : s.instances + 2 ≤ n → SwitchEnds Msg.Finish (switch_step s Msg.Finish)
   finish_ends small = record {

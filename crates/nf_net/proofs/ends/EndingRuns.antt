@@ -5,9 +5,9 @@ use Rattle.nf_net.proofs.Words.{sym, ap, ◌∙◌, subst, arith, if◌then◌el
 use Rattle.nf_net.proofs.Words.{FunctionLaws, Semantics, Msg, Note, instance_node, ControllerState, may_finish, controller_step, opened_controller, SwitchState}
 use Rattle.nf_net.proofs.Words.{switch_step, InstanceState, instance_step, Choice, Network, Stepped, IsRun, reaches, run, world_next, queue_at, at, put_on_link}
 use Rattle.nf_net.proofs.Words.{opening_weight, Takes, taken_outcome, weigh, total, total_after, Config, Node, Switch, Controller, IsInput, node_step}
-use Rattle.nf_net.proofs.Words.{node_ready, node_ended, first_nodes, first_switch, first_instance, first_instances, started_with, Given, Label, Joined, node_of}
-use Rattle.nf_net.proofs.Words.{given, all_fit, Instance}
-use Rattle.nf_net.proofs.answers.BusyRuns.{same_controller}
+use Rattle.nf_net.proofs.Words.{node_ready, node_ended, first_nodes, first_switch, first_instance, first_instances, Given, Label, Joined, node_of, given}
+use Rattle.nf_net.proofs.Words.{all_fit, Instance, split}
+use Rattle.nf_net.proofs.answers.BusyRuns.{own_controller}
 use Rattle.nf_net.proofs.answers.EndTables.{flag}
 use Rattle.nf_net.proofs.answers.InstallCounts.{finish}
 use Rattle.nf_net.proofs.answers.InstallNotes.{no_install_to}
@@ -15,9 +15,9 @@ use Rattle.proof_outlines.proofs.joined.Joined.{count}
 use Rattle.net_world.specs.Length.{ends}
 use Rattle.nf_net.proofs.ends.LinkWeights.{cell}
 use Rattle.nf_net.proofs.ends.TallySteps.{over_by, StepLeaves}
-use Rattle.nf_net.proofs.ends.TokenRuns.{each_at, HasEnough, its_leaves}
+use Rattle.nf_net.proofs.ends.TokenRuns.{each_at, HasEnough, its_leaves, run_enough}
 use Rattle.nf_net.proofs.ends.EndSteps.{ending, stop, final, controller_ends, switch_ends}
-use Rattle.nf_net.proofs.RunKeeps.{run_keeps}
+use Rattle.nf_net.proofs.RunKeeps.{run_keeps, start}
 
 -- how far the end has come
 pub record HasEnding {F R : Type 0} (n : ℕ) (w : Network (Node F R) Msg Note) : Type 0 where
@@ -88,10 +88,8 @@ module _ {F R : Type 0} (f : Semantics R) (laws : FunctionLaws f) (g : Given) (f
     link_keeps q s r off = let less = link_less q s r in let none = none_lost q s r off in omega (arith, less, none)
 
     lost_some : (q : Msg → ℕ) (s r : ℕ) → 1 ≤ lost q s r → (1 ≤ q m) × (s ≡ p)
-    lost_some q s r = elim ((s == p) && (r == k)) as (λ b. (s == p) && (r == k) ≡ b → 1 ≤ (if b then q m else 0) → (1 ≤ q m) × (s ≡ p)) [
-      | true ↦ λ on some. (some, grind (arith, nat_tests, on))
-      | false ↦ λ _ some. absurd (omega (arith, some))
-    ] refl
+    lost_some q s r = split ((s == p) && (r == k)) (λ b. 1 ≤ (if b then q m else 0) → (1 ≤ q m) × (s ≡ p)) (λ on some. (some, grind (arith, nat_tests, on)))
+        (λ _ some. absurd (omega (arith, some)))
 
     -- an instance that isn't the one that took the message
     other_node : (i : ℕ) (d : Node F R) → suc (suc i) ≢ k → node_ended (get_or v.nodes (suc (suc i)) d) ≡ node_ended (get_or w.nodes (suc (suc i)) d)
@@ -114,8 +112,7 @@ module _ {F R : Type 0} (f : Semantics R) (laws : FunctionLaws f) (g : Given) (f
         cc
 
     same_one : 1 < n → h.controller ≡ j.nodes.controller
-    same_one few = same_controller {F = F} {R = R} h.controller j.nodes.controller
-        (sym (h.controller_is (Controller h.controller)) ∙ j.nodes_are 1 few (Controller h.controller))
+    same_one few = own_controller j few h.controller h.controller_is
 
     at_switch : (takes : Takes step n w 0 p (node_of j.nodes 0) m rest) → Label f g p 0 m → HasEnding n (world_next step w (at 0 p))
     at_switch takes label =
@@ -225,25 +222,23 @@ module _ {F R : Type 0} (f : Semantics R) (laws : FunctionLaws f) (g : Given) (f
             → suc (suc i) < n → (d : Node F R) → 1 ≤ weigh stop (queue_at w (at (suc (suc i)) 0)) + flag (node_ended (get_or w.nodes (suc (suc i)) d))
             → 1 ≤ weigh stop (queue_at (world_next step w (at (suc (suc y)) p)) (at (suc (suc i)) 0))
             + flag (node_ended (get_or (world_next step w (at (suc (suc y)) p)).nodes (suc (suc i)) d))
-        its_stops y takes leaves i low d was = elim (suc (suc i) == suc (suc y))
-            as (λ b. (suc (suc i) == suc (suc y)) ≡ b → 1 ≤ weigh stop (queue_at (world_next step w (at (suc (suc y)) p)) (at (suc (suc i)) 0))
-            + flag (node_ended (get_or (world_next step w (at (suc (suc y)) p)).nodes (suc (suc i)) d))) [
-              | true ↦ λ on.
-                  let same : suc (suc i) ≡ suc (suc y) = (Decides-eqb (suc (suc i)) (suc (suc y))).0 on in
-                  let x = j.nodes.instance (suc (suc y)) in
-                  let before : node_ended (get_or w.nodes (suc (suc i)) d) ≡ x.ended = ap (λ q. node_ended (get_or w.nodes q d)) same
-                  ∙ ap node_ended (j.nodes_are (suc (suc y)) takes.receiver d) in
-                  let after : node_ended (get_or (world_next step w (at (suc (suc y)) p)).nodes (suc (suc i)) d) ≡ over_by m x.ended =
-                  ap (λ q. node_ended (get_or (world_next step w (at (suc (suc y)) p)).nodes q d)) same
-                  ∙ ap node_ended ((taken_outcome step n w (suc (suc y)) p (node_of j.nodes (suc (suc y))) m rest takes).own d) ∙ leaves.ended in
-                  carry_on (lost (suc (suc y)) takes stop 0 (suc (suc i))) (weigh stop (queue_at w (at (suc (suc i)) 0)))
-                  (weigh stop (queue_at (world_next step w (at (suc (suc y)) p)) (at (suc (suc i)) 0))) (node_ended (get_or w.nodes (suc (suc i)) d))
-                  (node_ended (get_or (world_next step w (at (suc (suc y)) p)).nodes (suc (suc i)) d))
-                  (λ one. after ∙ over_stop m x.ended (lost_some (suc (suc y)) takes stop 0 (suc (suc i)) one).0)
-                  (λ e. after ∙ ap (over_by m) (sym before ∙ e) ∙ over_stays m)
-                  (link_less (suc (suc y)) takes stop 0 (suc (suc i))) was
-              | false ↦ λ off. other_stops (suc (suc y)) takes i d (grind (arith, nat_tests, off)) was
-            ] refl
+        its_stops y takes leaves i low d was = split (suc (suc i) == suc (suc y))
+            (λ _. 1 ≤ weigh stop (queue_at (world_next step w (at (suc (suc y)) p)) (at (suc (suc i)) 0)) + flag
+            (node_ended (get_or (world_next step w (at (suc (suc y)) p)).nodes (suc (suc i)) d)))
+            (λ on.
+            let same : suc (suc i) ≡ suc (suc y) = (Decides-eqb (suc (suc i)) (suc (suc y))).0 on in
+            let x = j.nodes.instance (suc (suc y)) in
+            let before : node_ended (get_or w.nodes (suc (suc i)) d) ≡ x.ended = ap (λ q. node_ended (get_or w.nodes q d)) same
+            ∙ ap node_ended (j.nodes_are (suc (suc y)) takes.receiver d) in
+            let after : node_ended (get_or (world_next step w (at (suc (suc y)) p)).nodes (suc (suc i)) d) ≡ over_by m x.ended =
+            ap (λ q. node_ended (get_or (world_next step w (at (suc (suc y)) p)).nodes q d)) same
+            ∙ ap node_ended ((taken_outcome step n w (suc (suc y)) p (node_of j.nodes (suc (suc y))) m rest takes).own d) ∙ leaves.ended in
+            carry_on (lost (suc (suc y)) takes stop 0 (suc (suc i))) (weigh stop (queue_at w (at (suc (suc i)) 0)))
+            (weigh stop (queue_at (world_next step w (at (suc (suc y)) p)) (at (suc (suc i)) 0))) (node_ended (get_or w.nodes (suc (suc i)) d))
+            (node_ended (get_or (world_next step w (at (suc (suc y)) p)).nodes (suc (suc i)) d))
+            (λ one. after ∙ over_stop m x.ended (lost_some (suc (suc y)) takes stop 0 (suc (suc i)) one).0)
+            (λ e. after ∙ ap (over_by m) (sym before ∙ e) ∙ over_stays m)
+            (link_less (suc (suc y)) takes stop 0 (suc (suc i))) was) (λ off. other_stops (suc (suc y)) takes i d (grind (arith, nat_tests, off)) was)
 
         stop_sent : (y : ℕ) (x : InstanceState F R) → suc (suc y) < n → m ≡ Msg.Stop
             → 1 ≤ weigh final (put_on_link n (suc (suc y)) (suc (suc y)) 1 (instance_step f x m).sends)
@@ -254,12 +249,11 @@ module _ {F R : Type 0} (f : Semantics R) (laws : FunctionLaws f) (g : Given) (f
             → StepLeaves f (over_by m (j.nodes.instance (suc (suc y))).ended) (instance_step f (j.nodes.instance (suc (suc y))) m) → (i : ℕ)
             → suc (suc i) < n → (d : Node F R) → node_ended (get_or (world_next step w (at (suc (suc y)) p)).nodes (suc (suc i)) d) ≡ true
             → 1 ≤ weigh final (queue_at (world_next step w (at (suc (suc y)) p)) (at 1 (suc (suc i)))) + flag (get_or h.controller.stopped i false)
-        its_finals y takes leaves i low d over = elim (suc (suc i) == suc (suc y)) as (λ b. (suc (suc i) == suc (suc y)) ≡ b
-            → 1 ≤ weigh final (queue_at (world_next step w (at (suc (suc y)) p)) (at 1 (suc (suc i)))) + flag (get_or h.controller.stopped i false)) [
-              | true ↦ λ on. own ((Decides-eqb (suc (suc i)) (suc (suc y))).0 on) (j.nodes.instance (suc (suc y))).ended refl
-              | false ↦ λ off.
-                  (let apart : suc (suc i) ≢ suc (suc y) = grind (arith, nat_tests, off) in kept (sym (other_node (suc (suc y)) takes i d apart) ∙ over))
-            ] refl
+        its_finals y takes leaves i low d over = split (suc (suc i) == suc (suc y))
+            (λ _. 1 ≤ weigh final (queue_at (world_next step w (at (suc (suc y)) p)) (at 1 (suc (suc i)))) + flag (get_or h.controller.stopped i false))
+            (λ on. own ((Decides-eqb (suc (suc i)) (suc (suc y))).0 on) (j.nodes.instance (suc (suc y))).ended refl)
+            (λ off.
+            (let apart : suc (suc i) ≢ suc (suc y) = grind (arith, nat_tests, off) in kept (sym (other_node (suc (suc y)) takes i d apart) ∙ over)))
           where
             -- where it had ended before
             kept : node_ended (get_or w.nodes (suc (suc i)) d) ≡ true
@@ -297,13 +291,10 @@ end_weighs (m ∷ items) = let rest = end_weighs items in omega (arith, rest)
 
 module _ (F : Type 0) {R : Type 0} (f : Semantics R) (laws : FunctionLaws f) (alloc : Global) (c : Config) (items : List Msg) (is : IsInput f.kind c items)
     (some_end : 1 ≤ ends items) where
-  abbrev start : Network (Node F R) Msg Note
-  start = started_with {F = F} {R = R} alloc c items
-
   abbrev nodes : ℕ
   nodes = length c.names + 2
 
-  -- no instance has ended at the start
+  -- no instance has ended at the (start F f laws alloc c items is)
   none_ended : (i k : ℕ) → k < i → (d : Node F R) → node_ended (get_or (first_instances {F = F} {R = R} alloc c i) k d) ≡ false
   none_ended i k less d = each_at (λ x. node_ended x ≡ false) (first_instances {F = F} {R = R} alloc c i) (all_of i) k (omega (arith, less, length-first i)) d
     where
@@ -318,7 +309,7 @@ module _ (F : Type 0) {R : Type 0} (f : Semantics R) (laws : FunctionLaws f) (al
           let rest = length-first i in
           let both = length-append (first_instances {F = F} {R = R} alloc c i) (Instance (first_instance alloc c i) ∷ []) in omega (arith, rest, both)
 
-  ending_at_start : HasEnding nodes start
+  ending_at_start : HasEnding nodes (start F f laws alloc c items is)
   ending_at_start = record {
     switch = first_switch c;
     switch_is = λ d. refl;
@@ -333,7 +324,9 @@ module _ (F : Type 0) {R : Type 0} (f : Semantics R) (laws : FunctionLaws f) (al
     finals = λ i low d over. (let none = none_ended (length c.names) i (omega (arith, low)) d in let never : false ≡ true = sym none ∙ over in cc);
   }
 
-  pub run_ending : (cs : List Choice) → IsRun node_ready (node_step f) cs start → HasEnding nodes (run (node_step f) cs start)
+  pub run_ending : (cs : List Choice) → IsRun node_ready (node_step f) cs (start F f laws alloc c items is) → HasEnding nodes
+      (run (node_step f) cs (start F f laws alloc c items is))
   run_ending = run_keeps F f laws alloc c items is (λ _ w. HasEnding nodes w) ending_at_start (λ ds ok d s h. ending_after f laws (given f c items is)
-      (all_fit f c items is) nodes refl (run (node_step f) ds start) s.runs.joined d.port s.taking.message s.taking.rest h d.node s.takes s.taken.label
+      (all_fit f c items is) nodes refl
+      (run (node_step f) ds (start F f laws alloc c items is)) s.runs.joined d.port s.taking.message s.taking.rest h d.node s.takes s.taken.label
       (run_enough F f laws alloc c items is ds ok))

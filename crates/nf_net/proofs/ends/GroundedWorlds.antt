@@ -4,7 +4,7 @@ use Rattle.nf_net.proofs.Words.{filter-append, if◌then◌else◌, ◌&&◌, �
 use Rattle.nf_net.proofs.Words.{is_there, Network, IsWorld, queue_at, at, Each, firsts, nil_right, same_of, none_in, IsSys, AtEnd, OpenShare, moves_of, EndsAll}
 use Rattle.nf_net.proofs.Words.{At_share, ShareRests, end_all, Config, Node, Switch, packet_numbered, IsInput, arrivals_in, is_loose, is_of, arrived_of}
 use Rattle.nf_net.proofs.Words.{processed_of, is_sys, target_node, Given, Label, GenuinePacket, S, A, came_by, Joined, done_same, same_times, given, genuine}
-use Rattle.nf_net.proofs.Words.{silent_total, Unit, flow_of}
+use Rattle.nf_net.proofs.Words.{silent_total, Unit, flow_of, split}
 use Rattle.actor_net.proofs.WeightLaws as weights
 use Rattle.proof_machines.proofs.unit.Stages as stages
 use Rattle.proof_machines.proofs.whole.EndAll.{As_moves}
@@ -34,16 +34,14 @@ module _ {F R : Type 0} (f : Semantics R) (c : Config) (items : List Msg) (is : 
         → filter (is_of f c items u) (map (λ q. q.number) qs) ≡ p ∷ ps → j.world.target u < n
     target_there two [] h p ps e = cc
     target_there two (q ∷ qs) h p ps e =
-        elim (is_of f c items u q.number) as (λ b. is_of f c items u q.number ≡ b
-        → (if b then q.number ∷ filter (is_of f c items u) (map (λ x. x.number) qs) else filter (is_of f c items u) (map (λ x. x.number) qs)) ≡ p ∷ ps
-        → j.world.target u < n) [
-          | true ↦ λ mine _.
-              let way = j.shown_is.switch.routes (flow_of c.site q).0 h.0.fits in
-              let unit : unit_at f.kind c.site q ≡ u = ap (unit_at f.kind c.site) h.0.same
-              ∙ same_unit-true (unit_at f.kind c.site (packet_numbered items q.number)) u mine in
-              by_target way.target (ap j.world.target (sym unit) ∙ way.node) way.there
-          | false ↦ λ _ rest. target_there two qs h.1 p ps rest
-        ] refl e
+        split (is_of f c items u q.number)
+        (λ b. (if b then q.number ∷ filter (is_of f c items u) (map (λ x. x.number) qs) else filter (is_of f c items u) (map (λ x. x.number) qs)) ≡ p ∷ ps
+        → j.world.target u < n)
+        (λ mine _.
+        let way = j.shown_is.switch.routes (flow_of c.site q).0 h.0.fits in
+        let unit : unit_at f.kind c.site q ≡ u = ap (unit_at f.kind c.site) h.0.same
+        ∙ same_unit-true (unit_at f.kind c.site (packet_numbered items q.number)) u mine in
+        by_target way.target (ap j.world.target (sym unit) ∙ way.node) way.there) (λ _ rest. target_there two qs h.1 p ps rest) e
       where
         by_target : (t : Target) → j.world.target u ≡ target_node t → is_there j.nodes.switch t ≡ true → j.world.target u < n
         by_target Target.Controller at_node inside = absurd (omega (arith, two, at_node))

@@ -2,7 +2,7 @@
 -- in the actor.
 use Rattle.nf_net.proofs.Words.{◌≡◌, ℕ, zero, suc, ◌+◌, ◌<◌, ◌≤◌, true, false, List, [], ◌∷◌, ◌++◌, refl, ap, subst, ◌∙◌, arith, if◌then◌else◌, ◌==◌, ◌&&◌}
 use Rattle.nf_net.proofs.Words.{nat_tests, Decides-eqb, Network, Stepped, queue_at, world_next, reaches, sent_for, at, put_on_link, less_first, Takes}
-use Rattle.nf_net.proofs.Words.{taken_outcome, weigh, weigh-append}
+use Rattle.nf_net.proofs.Words.{taken_outcome, weigh, weigh-append, split, either_way}
 use Rattle.actor_net.proofs.LinkLemmas.{within}
 use Rattle.actor_net.proofs.WeightLaws.{weigh_same}
 
@@ -27,17 +27,16 @@ upto_none g (suc n) h =
 
 upto_only : (g : ℕ → ℕ) (k n : ℕ) → k < n → ((i : ℕ) → (i == k) ≡ false → g i ≡ 0) → upto g n ≡ g k
 upto_only g k zero less h = absurd (omega (arith, less))
-upto_only g k (suc n) less h = elim (n == k) as (λ b. (n == k) ≡ b → upto g n + g n ≡ g k) [
-  | true ↦ λ on.
-      let same : n ≡ k = (Decides-eqb n k).0 on in
-      let rest = upto_none g n (λ i low. h i (grind (arith, nat_tests, low, same))) in
-      let own = ap g same in
-      omega (arith, rest, own)
-  | false ↦ λ off.
-      let rest = upto_only g k n (grind (arith, nat_tests, less, off)) h in
-      let own = h n off in
-      omega (arith, rest, own)
-] refl
+upto_only g k (suc n) less h = split (n == k) (λ _. upto g n + g n ≡ g k)
+    (λ on.
+    let same : n ≡ k = (Decides-eqb n k).0 on in
+    let rest = upto_none g n (λ i low. h i (grind (arith, nat_tests, low, same))) in
+    let own = ap g same in
+    omega (arith, rest, own))
+    (λ off.
+    let rest = upto_only g k n (grind (arith, nat_tests, less, off)) h in
+    let own = h n off in
+    omega (arith, rest, own))
 
 upto_same : (g h : ℕ → ℕ) (n : ℕ) → ((i : ℕ) → g i ≡ h i) → upto g n ≡ upto h n
 upto_same g h zero e = refl
@@ -49,10 +48,8 @@ upto_sum g h (suc n) = let rest = upto_sum g h n in omega (arith, rest)
 
 pub upto_least : (g : ℕ → ℕ) (k n : ℕ) → k < n → g k ≤ upto g n
 upto_least g k zero less = absurd (omega (arith, less))
-upto_least g k (suc n) less = elim (n == k) as (λ b. (n == k) ≡ b → g k ≤ upto g n + g n) [
-  | true ↦ λ on. (let own = ap g ((Decides-eqb n k).0 on) in omega (arith, own))
-  | false ↦ λ off. (let rest = upto_least g k n (grind (arith, nat_tests, less, off)) in omega (arith, rest))
-] refl
+upto_least g k (suc n) less = either_way (n == k) (λ on. (let own = ap g ((Decides-eqb n k).0 on) in omega (arith, own)))
+    (λ off. (let rest = upto_least g k n (grind (arith, nat_tests, less, off)) in omega (arith, rest)))
 
 -- all that stands anywhere between n nodes; the input counts as the link of node 0 to itself
 abbrev pub at_links : {A M N : Type 0} → (ℕ → ℕ → M → ℕ) → ℕ → Network A M N → ℕ
@@ -102,12 +99,10 @@ module _ {M : Type 0} (f : ℕ → ℕ → M → ℕ) (n k : ℕ) where
       ])
 
   first_sum : (x : ℕ × M) → upto (first_gains x) n ≡ (if reaches n k x.0 then f k x.0 x.1 else 0)
-  first_sum x = elim (reaches n k x.0) as (λ b. reaches n k x.0 ≡ b → upto (first_gains x) n ≡ (if b then f k x.0 x.1 else 0)) [
-    | true ↦ λ on.
-        let self : (x.0 == x.0) ≡ true = grind (arith, nat_tests) in
-        upto_only (first_gains x) x.0 n (within n k x.0 on) elsewhere ∙ rw (on, self) refl
-    | false ↦ λ off. upto_none (first_gains x) n (λ r less. nothing off r)
-  ] refl
+  first_sum x = split (reaches n k x.0) (λ b. upto (first_gains x) n ≡ (if b then f k x.0 x.1 else 0))
+      (λ on.
+      let self : (x.0 == x.0) ≡ true = grind (arith, nat_tests) in
+      upto_only (first_gains x) x.0 n (within n k x.0 on) elsewhere ∙ rw (on, self) refl) (λ off. upto_none (first_gains x) n (λ r less. nothing off r))
     where
       elsewhere : (r : ℕ) → (r == x.0) ≡ false → first_gains x r ≡ 0
       elsewhere r off =
@@ -115,10 +110,9 @@ module _ {M : Type 0} (f : ℕ → ℕ → M → ℕ) (n k : ℕ) where
           rw turned (elim (reaches n k r) as (λ b. ◌≡◌ {A = ℕ} (if b then 0 else 0) 0) [ true ↦ refl | false ↦ refl ])
 
       nothing : reaches n k x.0 ≡ false → (r : ℕ) → first_gains x r ≡ 0
-      nothing off r = elim (x.0 == r) as (λ b. (x.0 == r) ≡ b → (if reaches n k r then (if b then f k r x.1 else 0) else 0) ≡ 0) [
-        | true ↦ λ on. (let same : reaches n k r ≡ false = subst (λ y. reaches n k y ≡ false) ((Decides-eqb x.0 r).0 on) off in rw same refl)
-        | false ↦ λ _. elim (reaches n k r) as (λ b. ◌≡◌ {A = ℕ} (if b then 0 else 0) 0) [ true ↦ refl | false ↦ refl ]
-      ] refl
+      nothing off r = split (x.0 == r) (λ b. (if reaches n k r then (if b then f k r x.1 else 0) else 0) ≡ 0)
+          (λ on. (let same : reaches n k r ≡ false = subst (λ y. reaches n k y ≡ false) ((Decides-eqb x.0 r).0 on) off in rw same refl))
+          (λ _. elim (reaches n k r) as (λ b. ◌≡◌ {A = ℕ} (if b then 0 else 0) 0) [ true ↦ refl | false ↦ refl ])
 
   gains_sum : (sends : List (ℕ × M)) → upto (gains sends k) n ≡ sends_weigh f n k sends
   gains_sum [] = upto_none (gains [] k) n (λ r less. gains_nothing k r)
@@ -152,11 +146,9 @@ module _ {A M N : Type 0} (step : A → ℕ → M → Stepped A M N) (n : ℕ) (
   cell s r =
       let is = ap (weigh (f s r)) ((taken_outcome step n w k p node m rest takes).waits s r) in
       let both = weigh-append (f s r) (less_first ((s == p) && (r == k)) (queue_at w (at r s))) (put_on_link n k s r sends) in
-      let less = elim ((s == p) && (r == k)) as (λ b. (s == p) && (r == k) ≡ b
-      → weigh (f s r) (less_first b (queue_at w (at r s))) + (if b then f s r m else 0) ≡ weigh (f s r) (queue_at w (at r s))) [
-        | true ↦ λ on. (let e = there s r on in rw e (omega arith))
-        | false ↦ λ _. omega arith
-      ] refl in
+      let less = split ((s == p) && (r == k))
+      (λ b. weigh (f s r) (less_first b (queue_at w (at r s))) + (if b then f s r m else 0) ≡ weigh (f s r) (queue_at w (at r s)))
+      (λ on. (let e = there s r on in rw e (omega arith))) (λ _. omega arith) in
       omega (arith, is, both, less)
 
   loses_sum : upto (λ s. upto (loses s) n) n ≡ f p k m

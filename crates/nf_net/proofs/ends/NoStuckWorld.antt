@@ -33,28 +33,26 @@ module _ (F : Type 0) {R : Type 0} (f : Semantics R) (laws : FunctionLaws f) (al
   abbrev start : Network (Node F R) Msg Note
   start = started_with {F = F} {R = R} alloc c items
 
-  abbrev n : ℕ
-  n = length c.names + 2
-
   module _ (cs : List Choice) (run_is : IsRun node_ready (node_step f) cs start) (none : enabled_choices node_ready (run (node_step f) cs start) ≡ []) where
     abbrev w : Network (Node F R) Msg Note
     w = run (node_step f) cs start
 
-    reached : IsWorld w × (length w.nodes ≡ n)
+    reached : IsWorld w × (length w.nodes ≡ (length c.names + 2))
     reached = after_world F f laws alloc c items is cs run_is
 
     silent : (s r : ℕ) → (r == 0) && (s == 0) ≡ false → queue_at w (at r s) ≡ []
     silent = stuck_links node_ready w reached.0 none
 
-    joined : Joined f (given f c items is) n w
+    joined : Joined f (given f c items is) (length c.names + 2) w
     joined = (run_beside F f laws alloc c items is cs run_is).joined
 
     rests : (joined.nodes.switch.flying ≡ 0) × (joined.nodes.switch.pool.cells ≡ c.window)
-    rests = grounded f c items is n refl w reached.1 joined (runs_joined F f laws alloc c items is cs run_is).in_turn silent reached.0
+    rests = grounded f c items is (length c.names + 2) refl w reached.1 joined (runs_joined F f laws alloc c items is cs run_is).in_turn silent reached.0
         (in_window F f laws alloc c items is cs run_is)
 
     nothing_waits : joined.nodes.switch.waiting ≡ 0
-    nothing_waits = none_waits f c items is n refl w reached.0 reached.1 joined (run_busy F f laws alloc c items is cs run_is).1 (run_enough F f laws alloc
+    nothing_waits = none_waits f c items is (length c.names + 2) refl w reached.0 reached.1 joined (run_busy F f laws alloc c items is cs run_is).1
+        (run_enough F f laws alloc
         c items is cs run_is) (run_settles F f laws alloc c items is cs run_is).counted (run_told F f laws alloc c items is cs run_is) silent
 
     -- so nothing is in the input
@@ -81,7 +79,8 @@ module _ (F : Type 0) {R : Type 0} (f : Semantics R) (laws : FunctionLaws f) (al
             cc
 
     pub no_stuck_world : is_done node_ended w ≡ true
-    no_stuck_world = all_done w reached.0 silent node_ended input_empty (nodes_ended f (given f c items is) n refl w reached.0 reached.1 joined
+    no_stuck_world = all_done w reached.0 silent node_ended input_empty
+        (nodes_ended f (given f c items is) (length c.names + 2) refl w reached.0 reached.1 joined
         (run_enough F f laws alloc c items is cs run_is) silent (run_ending F f laws alloc c items is some_end cs run_is) input_empty rests.0)
 
   -- a schedule that stops short took all choices that it may take

@@ -4,6 +4,7 @@ use Rattle.nf_net.proofs.Words.{arith, if◌then◌else◌, ◌&&◌, ◌==◌, 
 use Rattle.nf_net.proofs.Words.{instance_node, op_of, MoveState, MoveRow, row_in, answer_of, CopyPlan, CopyState, CopyRow, SharePlan, ShareState, home}
 use Rattle.nf_net.proofs.Words.{Operation, Move, Copy, Share, OpenOperations, turn_of, turn_of_move, turn_of_copy, ControllerState, place_of, reaches, Each}
 use Rattle.nf_net.proofs.Words.{NotShared, got_insert, got_remove, handed_is, shared_or_not, answered, ShareLeaves, handed_leaves, queued_leaves, Target, Mark}
+use Rattle.nf_net.proofs.Words.{split}
 use Rattle.std.specs.FinMap as finite
 use Rattle.copy_share.specs.Copy as copy
 use Rattle.copy_share.specs.Share as share
@@ -134,11 +135,10 @@ module _ (n : ℕ) (switch_there : reaches n 1 0 ≡ true) (c : ControllerState)
         (share_row n op p s.plan w.op_is w.few w.home_there switch_there s.phase m)
 
     handed_gives : op_of m ≡ Some op → GivesTokens m (ctrl.hand_step c op p m)
-    handed_gives its k = elim (op == k) as (λ b. (op == k) ≡ b → GivenAt k m (ctrl.hand_step c op p m)) [
-      | true ↦ λ on. subst (λ x. GivenAt x m (ctrl.hand_step c op p m)) ((Decides-eqb op k).0 on) (shared_or_not (finite.get c.operations op) not_shared shared)
-      | false ↦ λ off. stays k m (ctrl.hand_step c op p m) (handed_at k op (turned_test op k off) c p m)
-          (other_number k p (finite.get c.operations k) op m its off)
-    ] refl
+    handed_gives its k = split (op == k) (λ _. GivenAt k m (ctrl.hand_step c op p m))
+        (λ on. subst (λ x. GivenAt x m (ctrl.hand_step c op p m)) ((Decides-eqb op k).0 on) (shared_or_not (finite.get c.operations op) not_shared shared))
+        (λ off. stays k m (ctrl.hand_step c op p m) (handed_at k op (turned_test op k off) c p m)
+        (other_number k p (finite.get c.operations k) op m its off))
 
   still_gives : (m : Msg) → ((k : ℕ) → weight k (finite.get c.operations k) p 1 m ≡ 0) → GivesTokens m (ctrl.still c)
   still_gives m none k = stays k m (ctrl.still c) refl (none k)
@@ -155,13 +155,12 @@ module _ (n : ℕ) (switch_there : reaches n 1 0 ≡ true) (c : ControllerState)
       let did = ctrl.queue_step c cell (Some op) in
       let cells = stored_of c.store op ++ cell ∷ [] in
       let l = queued_leaves c op s cell there (within.shares op s there).op_is in
-      elim (op == k) as (λ b. (op == k) ≡ b → GivenAt k m did) [
-        | true ↦ λ on. subst (λ x. GivenAt x m did) ((Decides-eqb op k).0 on)
-            (share_leaves op m s cells (share.next_phase s.phase []) did there l (Waits (λ leg node. refl) (omega arith)))
-        | false ↦ λ off. stays k m did (l.operations k ∙ ap (λ b. cond b
-            (Some (Share (record s { phase = (share.service_if_idle s.plan s.phase cells).phase }))) (finite.get c.operations k)) (turned_test op k off))
-            refl
-      ] refl
+      split (op == k) (λ _. GivenAt k m did)
+      (λ on. subst (λ x. GivenAt x m did) ((Decides-eqb op k).0 on)
+      (share_leaves op m s cells (share.next_phase s.phase []) did there l (Waits (λ leg node. refl) (omega arith))))
+      (λ off. stays k m did (l.operations k ∙ ap (λ b. cond b
+      (Some (Share (record s { phase = (share.service_if_idle s.plan s.phase cells).phase }))) (finite.get c.operations k)) (turned_test op k off))
+      refl)
 
   diverted_gives : (cell : FullCell) → GivesTokens (Msg.Diverted cell) (ctrl.on_diverted c cell)
   diverted_gives cell = by_queue (GivesTokens (Msg.Diverted cell)) c cell (still_gives (Msg.Diverted cell) (λ k. refl)) (λ op s is. queued_gives cell op s is)
@@ -173,12 +172,11 @@ module _ (n : ℕ) (switch_there : reaches n 1 0 ≡ true) (c : ControllerState)
 
     opens_gives : (o : Operation) (sends : List (ℕ × Msg)) → wanted (Some o) ≤ sends_weigh (weight op (Some o)) n 1 sends
         → GivesTokens asked (ctrl.opening_step c op o sends)
-    opens_gives o sends h k = elim (op == k) as (λ b. (op == k) ≡ b → GivenAt k asked (ctrl.opening_step c op o sends)) [
-      | true ↦ λ on. subst (λ x. GivenAt x asked (ctrl.opening_step c op o sends)) ((Decides-eqb op k).0 on)
-          (subst (λ x. Grants n op p asked (finite.get c.operations op) x sends) (sym (written op asked o)) (Fresh h))
-      | false ↦ λ off. stays k asked (ctrl.opening_step c op o sends)
-          (got_insert c.operations op k o ∙ ap (λ b. cond b (Some o) (finite.get c.operations k)) (turned_test op k off)) refl
-    ] refl
+    opens_gives o sends h k = split (op == k) (λ _. GivenAt k asked (ctrl.opening_step c op o sends))
+        (λ on. subst (λ x. GivenAt x asked (ctrl.opening_step c op o sends)) ((Decides-eqb op k).0 on)
+        (subst (λ x. Grants n op p asked (finite.get c.operations op) x sends) (sym (written op asked o)) (Fresh h)))
+        (λ off. stays k asked (ctrl.opening_step c op o sends)
+        (got_insert c.operations op k o ∙ ap (λ b. cond b (Some o) (finite.get c.operations k)) (turned_test op k off)) refl)
 
     reach_at : (name : List ℕ) (i : ℕ) → place_of c.names name ≡ Some i → reaches n 1 (instance_node i) ≡ true
     reach_at name i at = let low = (Decides-ltb i (length c.names)).0 (place_below c.names name i at) in grind (arith, nat_tests, low, names)

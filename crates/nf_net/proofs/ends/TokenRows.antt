@@ -1,7 +1,7 @@
 -- A copy's and a share's row send what their next phase waits for, or stay as they are on a message that they don't wait for.
 use Rattle.nf_net.proofs.Words.{◌≡◌, ◌≢◌, ℕ, zero, suc, ◌+◌, ◌≤◌, true, false, Option, Some, None, List, [], ◌∷◌, ◌++◌, map, length, refl, ap, ◌∙◌, arith}
 use Rattle.nf_net.proofs.Words.{if◌then◌else◌, ◌&&◌, ◌==◌, not, nat_tests, Decides-eqb, Chunk, FullCell, Msg, instance_node, CopyPhase, SharePhase, CopyPlan}
-use Rattle.nf_net.proofs.Words.{CopyRow, SharePlan, ShareRow, home, others, syncs, Operation, Copy, Share, reaches, Each, Mark, Done}
+use Rattle.nf_net.proofs.Words.{CopyRow, SharePlan, ShareRow, home, others, syncs, Operation, Copy, Share, reaches, Each, Mark, Done, split}
 use Rattle.std.proofs.Common.{◌-◌}
 use Rattle.copy_share.specs.Copy as copy
 use Rattle.copy_share.specs.Share as share
@@ -49,13 +49,12 @@ module _ (n k p : ℕ) (plan : CopyPlan) (own : plan.op ≡ k) (to_there : reach
       → ((p == instance_node plan.from) ≡ false → (p == instance_node plan.to) ≡ true → CopyGrants ph m (copy.from_destination plan ph m))
       → ((p == instance_node plan.from) ≡ false → (p == instance_node plan.to) ≡ false → CopyGrants ph m (copy.next_phase ph []))
       → CopyGrants ph m (copy.row (record { plan = plan; phase = ph }) p m)
-  by_sender ph m source destination neither = elim (p == instance_node plan.from) as (λ a. (p == instance_node plan.from) ≡ a → CopyGrants ph m
-      (if a then copy.from_source plan ph m else if p == instance_node plan.to then copy.from_destination plan ph m else copy.next_phase ph [])) [
-        | true ↦ λ on. source on
-        | false ↦ λ off. elim (p == instance_node plan.to)
-            as (λ b. (p == instance_node plan.to) ≡ b → CopyGrants ph m (if b then copy.from_destination plan ph m else copy.next_phase ph []))
-            [ true ↦ λ on. destination off on | false ↦ λ off_to. neither off off_to ] refl
-      ] refl
+  by_sender ph m source destination neither = split (p == instance_node plan.from)
+      (λ a. CopyGrants ph m
+      (if a then copy.from_source plan ph m else if p == instance_node plan.to then copy.from_destination plan ph m else copy.next_phase ph []))
+      (λ on. source on)
+      (λ off. split (p == instance_node plan.to) (λ b. CopyGrants ph m (if b then copy.from_destination plan ph m else copy.next_phase ph []))
+      (λ on. destination off on) (λ off_to. neither off off_to))
 
   over_none : (t : Option Token) → counts k (copy_at CopyPhase.Over) t ≡ 0
   over_none None = refl
@@ -79,7 +78,8 @@ module _ (n k p : ℕ) (plan : CopyPlan) (own : plan.op ≡ k) (to_there : reach
       (λ off. ap (λ b. flag (b && (op == k))) off) in
       by_sender CopyPhase.Getting (Msg.AllChunk op chunk)
       (λ on. hands_on (Msg.AllChunk op chunk) (Msg.PutAll plan.op chunk) (at_instance Keeps plan.op plan.to))
-      (λ off on. still_copy CopyPhase.Getting (Msg.AllChunk op chunk) (none off)) (λ off off_to. still_copy CopyPhase.Getting (Msg.AllChunk op chunk) (none off))
+      (λ off on. still_copy CopyPhase.Getting (Msg.AllChunk op chunk) (none off))
+      (λ off off_to. still_copy CopyPhase.Getting (Msg.AllChunk op chunk) (none off))
   copy_row CopyPhase.Keeping (Msg.Kept op) =
       let none : (p == instance_node plan.to) ≡ false → weight k (copy_at CopyPhase.Keeping) p 1 (Msg.Kept op) ≡ 0 =
       (λ off. ap (λ b. flag (b && (op == k))) off) in
@@ -144,43 +144,38 @@ module _ (n k p : ℕ) (plan : SharePlan) (own : plan.op ≡ k) (few : Each (λ 
 
   setting_grants : (ph : SharePhase) (m : Msg) (left : ℕ) (sends : List (ℕ × Msg))
       → left ≤ sends_weigh (weight k (share_at (SharePhase.Setting left))) n 1 sends → ShareGrants ph m (share.setting left sends)
-  setting_grants ph m left sends h = elim (left == 0) as (λ b. (left == 0) ≡ b
-      → ShareGrants ph m (if b then record { phase = SharePhase.Idle; sends = sends; answer = Some Done } else share.next_phase (SharePhase.Setting left) sends)) [
-        | true ↦ λ on. Fresh (omega arith)
-        | false ↦ λ off. (let is = some_is left off in Fresh (omega (arith, is, h)))
-      ] refl
+  setting_grants ph m left sends h = split (left == 0)
+      (λ b. ShareGrants ph m
+      (if b then record { phase = SharePhase.Idle; sends = sends; answer = Some Done } else share.next_phase (SharePhase.Setting left) sends))
+      (λ on. Fresh (omega arith)) (λ off. (let is = some_is left off in Fresh (omega (arith, is, h))))
 
   syncing_grants : (ph : SharePhase) (m : Msg) (left : ℕ) (sends : List (ℕ × Msg))
       → left ≤ sends_weigh (weight k (share_at (SharePhase.Syncing left))) n 1 sends → ShareGrants ph m (share.syncing left sends)
   syncing_grants ph m left sends h =
-      elim (left == 0) as (λ b. (left == 0) ≡ b → ShareGrants ph m (share.next_phase (if b then SharePhase.Idle else SharePhase.Syncing left) sends)) [
-        | true ↦ λ on. Fresh (omega arith)
-        | false ↦ λ off. (let is = some_is left off in Fresh (omega (arith, is, h)))
-      ] refl
+      split (left == 0) (λ b. ShareGrants ph m (share.next_phase (if b then SharePhase.Idle else SharePhase.Syncing left) sends)) (λ on. Fresh (omega arith))
+      (λ off. (let is = some_is left off in Fresh (omega (arith, is, h))))
 
   fenced_row : (ph : SharePhase) (op : ℕ) → ShareGrants ph (Msg.Fenced op) (share.row (record { plan = plan; phase = ph }) p (Msg.Fenced op))
-  fenced_row SharePhase.Fencing op = elim (p == instance_node (home plan)) as (λ b. (p == instance_node (home plan)) ≡ b
-      → ShareGrants SharePhase.Fencing (Msg.Fenced op) (if b then share.on_fenced plan SharePhase.Fencing else share.next_phase SharePhase.Fencing [])) [
-        | true ↦ λ on.
-            let self : (instance_node (home plan) == instance_node (home plan)) ≡ true = grind (arith, nat_tests) in
-            let one = one_sent SharePhase.Getting Gets (instance_node (home plan)) (instance_node (home plan)) (Msg.Get plan.op plan.filter) home_there
-            (at_instance Gets plan.op (home plan)) self in
-            Fresh (omega (arith, one))
-        | false ↦ λ off. still_share SharePhase.Fencing (Msg.Fenced op) (ap (λ b. flag (b && (op == k))) off)
-      ] refl
+  fenced_row SharePhase.Fencing op = split (p == instance_node (home plan))
+      (λ b. ShareGrants SharePhase.Fencing (Msg.Fenced op) (if b then share.on_fenced plan SharePhase.Fencing else share.next_phase SharePhase.Fencing []))
+      (λ on.
+      let self : (instance_node (home plan) == instance_node (home plan)) ≡ true = grind (arith, nat_tests) in
+      let one = one_sent SharePhase.Getting Gets (instance_node (home plan)) (instance_node (home plan)) (Msg.Get plan.op plan.filter) home_there
+      (at_instance Gets plan.op (home plan)) self in
+      Fresh (omega (arith, one))) (λ off. still_share SharePhase.Fencing (Msg.Fenced op) (ap (λ b. flag (b && (op == k))) off))
   fenced_row ph op =
       elim (p == instance_node (home plan)) as (λ b. ShareGrants ph (Msg.Fenced op) (if b then share.on_fenced plan ph else share.next_phase ph []))
       [ true ↦ still_share ph (Msg.Fenced op) refl | false ↦ still_share ph (Msg.Fenced op) refl ]
 
   chunks_row : (ph : SharePhase) (op : ℕ) (chunks : List Chunk)
       → ShareGrants ph (Msg.Chunks op chunks) (share.row (record { plan = plan; phase = ph }) p (Msg.Chunks op chunks))
-  chunks_row SharePhase.Getting op chunks = elim (p == instance_node (home plan)) as (λ b. (p == instance_node (home plan)) ≡ b
-      → ShareGrants SharePhase.Getting (Msg.Chunks op chunks) (if b then share.on_chunks plan SharePhase.Getting chunks else share.next_phase SharePhase.Getting [])) [
-        | true ↦ λ on. (let left = length (others plan (home plan)) in
-            let all = sync_all (SharePhase.Setting left) (λ node. refl) (home plan) chunks in
-            setting_grants SharePhase.Getting (Msg.Chunks op chunks) left (syncs plan (home plan) chunks) (omega (arith, all)))
-        | false ↦ λ off. still_share SharePhase.Getting (Msg.Chunks op chunks) (ap (λ b. flag (b && (op == k))) off)
-      ] refl
+  chunks_row SharePhase.Getting op chunks = split (p == instance_node (home plan))
+      (λ b. ShareGrants SharePhase.Getting (Msg.Chunks op chunks)
+      (if b then share.on_chunks plan SharePhase.Getting chunks else share.next_phase SharePhase.Getting []))
+      (λ on. (let left = length (others plan (home plan)) in
+      let all = sync_all (SharePhase.Setting left) (λ node. refl) (home plan) chunks in
+      setting_grants SharePhase.Getting (Msg.Chunks op chunks) left (syncs plan (home plan) chunks) (omega (arith, all))))
+      (λ off. still_share SharePhase.Getting (Msg.Chunks op chunks) (ap (λ b. flag (b && (op == k))) off))
   chunks_row ph op chunks = elim (p == instance_node (home plan))
       as (λ b. ShareGrants ph (Msg.Chunks op chunks) (if b then share.on_chunks plan ph chunks else share.next_phase ph []))
       [ true ↦ still_share ph (Msg.Chunks op chunks) refl | false ↦ still_share ph (Msg.Chunks op chunks) refl ]
@@ -188,13 +183,13 @@ module _ (n k p : ℕ) (plan : SharePlan) (own : plan.op ≡ k) (few : Each (λ 
   shared_row : (ph : SharePhase) (op : ℕ) (chunk : Chunk)
       → ShareGrants ph (Msg.Shared op chunk) (share.row (record { plan = plan; phase = ph }) p (Msg.Shared op chunk))
   shared_row (SharePhase.Out member) op chunk =
-      elim (p == instance_node member) as (λ b. (p == instance_node member) ≡ b → ShareGrants (SharePhase.Out member) (Msg.Shared op chunk)
-      (if b then share.syncing (length (others plan member)) (syncs plan member (chunk ∷ [])) else share.next_phase (SharePhase.Out member) [])) [
-        | true ↦ λ on. (let left = length (others plan member) in
-            let all = sync_all (SharePhase.Syncing left) (λ node. refl) member (chunk ∷ []) in
-            syncing_grants (SharePhase.Out member) (Msg.Shared op chunk) left (syncs plan member (chunk ∷ [])) (omega (arith, all)))
-        | false ↦ λ off. still_share (SharePhase.Out member) (Msg.Shared op chunk) (ap (λ b. flag (b && (op == k))) off)
-      ] refl
+      split (p == instance_node member)
+      (λ b. ShareGrants (SharePhase.Out member) (Msg.Shared op chunk)
+      (if b then share.syncing (length (others plan member)) (syncs plan member (chunk ∷ [])) else share.next_phase (SharePhase.Out member) []))
+      (λ on. (let left = length (others plan member) in
+      let all = sync_all (SharePhase.Syncing left) (λ node. refl) member (chunk ∷ []) in
+      syncing_grants (SharePhase.Out member) (Msg.Shared op chunk) left (syncs plan member (chunk ∷ [])) (omega (arith, all))))
+      (λ off. still_share (SharePhase.Out member) (Msg.Shared op chunk) (ap (λ b. flag (b && (op == k))) off))
   shared_row ph op chunk = still_share ph (Msg.Shared op chunk) refl
 
   same_setting : (leg : Leg) (a b node : ℕ) → in_share plan leg (SharePhase.Setting a) node ≡ in_share plan leg (SharePhase.Setting b) node
@@ -214,18 +209,17 @@ module _ (n k p : ℕ) (plan : SharePlan) (own : plan.op ≡ k) (few : Each (λ 
       omega (arith, first, second, some)
 
   synced_row : (ph : SharePhase) (op : ℕ) → ShareGrants ph (Msg.Synced op) (share.row (record { plan = plan; phase = ph }) p (Msg.Synced op))
-  synced_row (SharePhase.Setting left) op = elim (left - 1 == 0) as (λ b. (left - 1 == 0) ≡ b → ShareGrants (SharePhase.Setting left) (Msg.Synced op)
-      (if b then record { phase = SharePhase.Idle; sends = []; answer = Some Done } else share.next_phase (SharePhase.Setting (left - 1)) [])) [
-        | true ↦ λ on. Fresh (omega arith)
-        | false ↦ λ off. (let less = one_less left off in
-            let most = flag_most (true && (op == k)) in Waits (λ leg node. same_setting leg (left - 1) left node) (omega (arith, less, most)))
-      ] refl
-  synced_row (SharePhase.Syncing left) op = elim (left - 1 == 0) as (λ b. (left - 1 == 0) ≡ b
-      → ShareGrants (SharePhase.Syncing left) (Msg.Synced op) (share.next_phase (if b then SharePhase.Idle else SharePhase.Syncing (left - 1)) [])) [
-        | true ↦ λ on. Fresh (omega arith)
-        | false ↦ λ off. (let less = one_less left off in
-            let most = flag_most (true && (op == k)) in Waits (λ leg node. same_syncing leg (left - 1) left node) (omega (arith, less, most)))
-      ] refl
+  synced_row (SharePhase.Setting left) op = split (left - 1 == 0)
+      (λ b. ShareGrants (SharePhase.Setting left) (Msg.Synced op)
+      (if b then record { phase = SharePhase.Idle; sends = []; answer = Some Done } else share.next_phase (SharePhase.Setting (left - 1)) []))
+      (λ on. Fresh (omega arith))
+      (λ off. (let less = one_less left off in
+      let most = flag_most (true && (op == k)) in Waits (λ leg node. same_setting leg (left - 1) left node) (omega (arith, less, most))))
+  synced_row (SharePhase.Syncing left) op = split (left - 1 == 0)
+      (λ b. ShareGrants (SharePhase.Syncing left) (Msg.Synced op) (share.next_phase (if b then SharePhase.Idle else SharePhase.Syncing (left - 1)) []))
+      (λ on. Fresh (omega arith))
+      (λ off. (let less = one_less left off in
+      let most = flag_most (true && (op == k)) in Waits (λ leg node. same_syncing leg (left - 1) left node) (omega (arith, less, most))))
   synced_row ph op = still_share ph (Msg.Synced op) refl
 
   pub share_row : (ph : SharePhase) (m : Msg) → ShareGrants ph m (share.row (record { plan = plan; phase = ph }) p m)

@@ -4,14 +4,14 @@ use Rattle.nf_net.proofs.Words.{subst, arith, ◌&&◌, ◌==◌, nat_lt, Global
 use Rattle.nf_net.proofs.Words.{Note, instance_node, CopyPhase, SharePhase, Operation, Move, Copy, Share, ControllerState, controller_step, opened_controller}
 use Rattle.nf_net.proofs.Words.{switch_step, instance_step, Choice, Network, Stepped, IsRun, reaches, run, world_next, queue_at, at, opening_on_links, Taking}
 use Rattle.nf_net.proofs.Words.{Takes, taken_outcome, OnLinks, EachSent, on_links_after, Each, each-append, each_map, Config, Node, Controller, IsInput}
-use Rattle.nf_net.proofs.Words.{node_step, node_ready, first_instance, first_instances, first_nodes, started_with, is_uncopied, TurnSo, Given, Label, Joined}
-use Rattle.nf_net.proofs.Words.{node_of, its_takes, its_label, Runs, given, all_fit, count_at_start, Instance}
+use Rattle.nf_net.proofs.Words.{node_step, node_ready, first_instance, first_instances, first_nodes, is_uncopied, TurnSo, Given, Label, Joined, node_of}
+use Rattle.nf_net.proofs.Words.{its_takes, its_label, Runs, given, all_fit, count_at_start, Instance, split}
 use Rattle.std.proofs.Common.{replicate, slice_index}
 use Rattle.std.specs.FinMap as finite
 use Rattle.std.proofs.lemmas.List.{length-replicate}
 use Rattle.copy_share.specs.Copy as copy
 use Rattle.actor_net.proofs.WeightLaws as weights
-use Rattle.nf_net.proofs.answers.BusyRuns.{same_controller}
+use Rattle.nf_net.proofs.answers.BusyRuns.{own_controller}
 use Rattle.proof_outlines.proofs.joined.CopySends.{BeginSo, controller_sent}
 use Rattle.proof_outlines.proofs.joined.Joined.{count}
 use Rattle.nf_net.proofs.answers.EndTables.{flag}
@@ -21,7 +21,7 @@ use Rattle.nf_net.proofs.ends.TokenNodes.{CanRead, instance_passes, switch_passe
 use Rattle.nf_net.proofs.ends.TokenRows.{Grants, Fresh, Waits}
 use Rattle.nf_net.proofs.ends.TokenController.{AreWithin, controller_gives}
 use Rattle.nf_net.proofs.ends.TallySteps.{IsTallyChunk, reads, GivesTally, MergesTally, over_by, StepLeaves, instance_leaves}
-use Rattle.nf_net.proofs.RunKeeps.{run_keeps}
+use Rattle.nf_net.proofs.RunKeeps.{run_keeps, start}
 
 counts_same : (k : ℕ) (a b : Option Operation) → ((leg : _) (node : ℕ) → awaits b leg node ≡ awaits a leg node) → (t : Option Token)
     → counts k b t ≡ counts k a t
@@ -131,11 +131,10 @@ module _ {F R : Type 0} (f : Semantics R) (laws : FunctionLaws f) (g : Given) (f
         → HasEnough f n w → HasTally (get_or (world_next step w (at k p)).nodes i d)
     tally_at k i low d takes tally h =
         let left = taken_outcome step n w k p (node_of j.nodes k) m rest takes in
-        elim (i == k) as (λ b. (i == k) ≡ b → HasTally (get_or (world_next step w (at k p)).nodes i d)) [
-          | true ↦ λ on. (let same : i ≡ k = grind (arith, nat_tests, on) in
-              subst (λ y. HasTally (get_or (world_next step w (at k p)).nodes y d)) (sym same) (subst HasTally (sym (left.own d)) tally))
-          | false ↦ λ off. (let apart : i ≢ k = grind (arith, nat_tests, off) in subst HasTally (sym (left.others i d apart)) (h.tallies i low d))
-        ] refl
+        split (i == k) (λ _. HasTally (get_or (world_next step w (at k p)).nodes i d))
+        (λ on. (let same : i ≡ k = grind (arith, nat_tests, on) in
+        subst (λ y. HasTally (get_or (world_next step w (at k p)).nodes y d)) (sym same) (subst HasTally (sym (left.own d)) tally)))
+        (λ off. (let apart : i ≢ k = grind (arith, nat_tests, off) in subst HasTally (sym (left.others i d apart)) (h.tallies i low d)))
 
     -- where another node than the controller took the message, and passes it on
     others_keep : (k : ℕ) → k ≢ 1 → (takes : Takes step n w k p (node_of j.nodes k) m rest)
@@ -189,8 +188,7 @@ module _ {F R : Type 0} (f : Semantics R) (laws : FunctionLaws f) (g : Given) (f
     enough_after (suc zero) takes label h =
         let c = j.nodes.controller in
         let left = taken_outcome step n w 1 p (node_of j.nodes 1) m rest takes in
-        let same : h.controller ≡ c = same_controller {F = F} {R = R} h.controller c
-        (sym (h.controller_is (Controller h.controller)) ∙ j.nodes_are 1 takes.receiver (Controller h.controller)) in
+        let same : h.controller ≡ c = own_controller j takes.receiver h.controller h.controller_is in
         let some = takes.some in
         let there : reaches n 1 0 ≡ true = grind (arith, nat_tests, some) in
         let names : n ≡ length c.names + 2 = count_is ∙ ap (λ v. length v + 2) (sym j.shown_is.controller.names) in
@@ -245,9 +243,6 @@ each_at P (x ∷ xs) h (suc i) less d = each_at P xs h.1 i (omega (arith, less))
 
 module _ (F : Type 0) {R : Type 0} (f : Semantics R) (laws : FunctionLaws f) (alloc : Global) (c : Config) (items : List Msg)
     (is : IsInput f.kind c items) where
-  abbrev start : Network (Node F R) Msg Note
-  start = started_with {F = F} {R = R} alloc c items
-
   abbrev nodes : ℕ
   nodes = length c.names + 2
 
@@ -260,7 +255,7 @@ module _ (F : Type 0) {R : Type 0} (f : Semantics R) (laws : FunctionLaws f) (al
   items_way [] = tt
   items_way (m ∷ ms) = (from_switch f 0 m, items_way ms)
 
-  pub enough_at_start : HasEnough f nodes start
+  pub enough_at_start : HasEnough f nodes (start F f laws alloc c items is)
   enough_at_start =
       let count = count_at_start F f alloc c items is in
       record {
@@ -281,9 +276,10 @@ module _ (F : Type 0) {R : Type 0} (f : Semantics R) (laws : FunctionLaws f) (al
       enough_after f laws g fitting nodes refl w r.joined k.port t.message t.rest k.node (its_takes f laws g fitting nodes refl w k t r.joined r.beside)
       (its_label f laws g fitting nodes refl w k t r.joined r.beside) h
 
-  pub run_enough : (cs : List Choice) → IsRun node_ready (node_step f) cs start → HasEnough f nodes (run (node_step f) cs start)
+  pub run_enough : (cs : List Choice) → IsRun node_ready (node_step f) cs (start F f laws alloc c items is) → HasEnough f nodes
+      (run (node_step f) cs (start F f laws alloc c items is))
   run_enough = run_keeps F f laws alloc c items is (λ _ w. HasEnough f nodes w) enough_at_start
-      (λ ds ok d s. enough_next (run (node_step f) ds start) d s.taking s.runs)
+      (λ ds ok d s. enough_next (run (node_step f) ds (start F f laws alloc c items is)) d s.taking s.runs)
 
 -- what is open where no message is on a link: no copy, and no share but idle ones
 abbrev pub IsCalm : Option Operation → Type 0
@@ -299,21 +295,18 @@ module _ {F R : Type 0} (f : Semantics R) (g : Given) (n : ℕ) (w : Network (No
     (silent : (s r : ℕ) → (r == 0) && (s == 0) ≡ false → queue_at w (at r s) ≡ []) where
   no_links : (k : ℕ) (o : Option Operation) → at_links (weight k o) n w ≡ 0
   no_links k o = at_links_none (weight k o) n w
-      (λ s r hs hr. elim ((r == 0) && (s == 0)) as (λ b. (r == 0) && (s == 0) ≡ b → weights.weigh (weight k o s r) (queue_at w (at r s)) ≡ 0) [
-        | true ↦ λ on.
-            let s_zero : s ≡ 0 = grind (arith, nat_tests) in
-            let r_zero : r ≡ 0 = grind (arith, nat_tests) in
-            rw (s_zero, r_zero) (input_light k o (queue_at w (at 0 0)))
-        | false ↦ λ off. ap (weights.weigh (weight k o s r)) (silent s r off)
-      ] refl)
+      (λ s r hs hr. split ((r == 0) && (s == 0)) (λ _. weights.weigh (weight k o s r) (queue_at w (at r s)) ≡ 0)
+      (λ on.
+      let s_zero : s ≡ 0 = grind (arith, nat_tests) in
+      let r_zero : r ≡ 0 = grind (arith, nat_tests) in
+      rw (s_zero, r_zero) (input_light k o (queue_at w (at 0 0)))) (λ off. ap (weights.weigh (weight k o s r)) (silent s r off)))
 
   pub calm : (k : ℕ) → IsCalm (finite.get j.nodes.controller.operations k)
   calm k = by_got (finite.get j.nodes.controller.operations k) refl none
     where
       none : wanted (finite.get j.nodes.controller.operations k) ≡ 0
       none =
-          let same : h.controller ≡ j.nodes.controller = same_controller {F = F} {R = R} h.controller j.nodes.controller
-          (sym (h.controller_is (Controller h.controller)) ∙ j.nodes_are 1 some (Controller h.controller)) in
+          let same : h.controller ≡ j.nodes.controller = own_controller j some h.controller h.controller_is in
           let all = no_links k (finite.get h.controller.operations k) in
           let enough = h.enough k in
           subst (λ y. wanted (finite.get y.operations k) ≡ 0) same (omega (arith, all, enough))

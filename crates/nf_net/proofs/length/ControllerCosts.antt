@@ -2,7 +2,7 @@
 use Rattle.nf_net.proofs.Words.{◌≡◌, ℕ, ◌+◌, ◌*◌, ◌≤◌, Bool, true, false, Option, None, Some, List, [], ◌∷◌, ◌++◌, length, refl, arith, if◌then◌else◌, ◌&&◌}
 use Rattle.nf_net.proofs.Words.{not, is_some, unwrap_or, stored_of, with_parcels, store_after, FullCell, Answer, Command, Msg, switch_node, Phase, MoveState}
 use Rattle.nf_net.proofs.Words.{Store, row_in, answer_of, CopyPhase, SharePhase, CopyState, ShareState, home, others, Operation, Move, Copy, Share, turn_of}
-use Rattle.nf_net.proofs.Words.{serving_of, are_quiet, ControllerState, controller_step, weigh-append}
+use Rattle.nf_net.proofs.Words.{serving_of, are_quiet, ControllerState, controller_step, weigh-append, split}
 use Rattle.std.specs.FinMap as finite
 use Rattle.move_op.specs.Phases as phase
 use Rattle.copy_share.specs.Copy as copy
@@ -143,14 +143,13 @@ module _ (o : ℕ) where
   finish_costs : (step : Step) → step_costs (ctrl.step_and_finish step) ≤ step_costs step
   finish_costs step =
       let s = step.node in
-      elim (ctrl.may_finish s) as (λ b. ctrl.may_finish s ≡ b → cost o (step.sends ++ (if b then (switch_node, Msg.Finish) ∷ [] else []))
-      + of_controller o (if b then record s { finish_sent = true } else s) ≤ step_costs step) [
-        | true ↦ λ is.
-            let both = cost-append o step.sends ((switch_node, Msg.Finish) ∷ []) in
-            let before = untold s.end_came s.finish_sent (are_quiet s.operations s.store) is in
-            omega (arith, both, before)
-        | false ↦ λ is. let both = cost-append o step.sends [] in omega (arith, both)
-      ] refl
+      split (ctrl.may_finish s)
+      (λ b. cost o (step.sends ++ (if b then (switch_node, Msg.Finish) ∷ [] else [])) + of_controller o
+      (if b then record s { finish_sent = true } else s) ≤ step_costs step)
+      (λ is.
+      let both = cost-append o step.sends ((switch_node, Msg.Finish) ∷ []) in
+      let before = untold s.end_came s.finish_sent (are_quiet s.operations s.store) is in
+      omega (arith, both, before)) (λ is. let both = cost-append o step.sends [] in omega (arith, both))
 
   module _ (c : ControllerState) (few : (op : ℕ) (s : ShareState) → finite.get c.operations op ≡ Some (Share s) → HasFew s) where
     still_falls : (m : Msg) → Falls c m (ctrl.still c)

@@ -1,6 +1,6 @@
 -- A share of some of n instances has at most n - 1 members besides one.
-use Rattle.nf_net.proofs.Words.{◌≡◌, ℕ, suc, ◌+◌, ◌<◌, ◌≤◌, true, false, List, [], ◌∷◌, length, refl, sym, ap, ◌∙◌, subst, arith, if◌then◌else◌, ◌||◌, ◌==◌}
-use Rattle.nf_net.proofs.Words.{not, nat_lt, slice_index, list_any, nat_tests, Decides-eqb, Semantics, ShareState, home, others, Each, has, Given}
+use Rattle.nf_net.proofs.Words.{◌≡◌, ℕ, suc, ◌+◌, ◌<◌, ◌≤◌, true, false, List, [], ◌∷◌, length, sym, ap, ◌∙◌, subst, arith, if◌then◌else◌, ◌||◌, ◌==◌, not}
+use Rattle.nf_net.proofs.Words.{nat_lt, slice_index, list_any, nat_tests, Decides-eqb, Semantics, ShareState, home, others, Each, has, Given, split}
 use Rattle.std.specs.Prelude.{filter}
 use Rattle.std.proofs.lemmas.Map.Steps.{length-le_from_distinct_below}
 use Rattle.proof_outlines.proofs.joined.Joined.{count, IsShare, IsOutAt}
@@ -21,23 +21,21 @@ but_fewer one (m ∷ ms) =
 but_one : (one : ℕ) (members : List ℕ) → has members one ≡ true → length (but one members) + 1 ≤ length members
 but_one one [] h = cc
 but_one one (m ∷ ms) h =
-    elim (m == one) as (λ b. (m == one) ≡ b → length (if not b then m ∷ but one ms else but one ms) + 1 ≤ suc (length ms)) [
-      | true ↦ λ e. let rest = but_fewer one ms in omega (arith, rest)
-      | false ↦ λ e.
-          let off : (one == m) ≡ false = grind (arith, nat_tests, e) in
-          let later : has ms one ≡ true = ap (λ b. if b then true else has ms one) (sym off) ∙ h in
-          let rest = but_one one ms later in
-          omega (arith, rest)
-    ] refl
+    split (m == one) (λ b. length (if not b then m ∷ but one ms else but one ms) + 1 ≤ suc (length ms))
+    (λ e. let rest = but_fewer one ms in omega (arith, rest))
+    (λ e.
+    let off : (one == m) ≡ false = grind (arith, nat_tests, e) in
+    let later : has ms one ≡ true = ap (λ b. if b then true else has ms one) (sym off) ∙ h in
+    let rest = but_one one ms later in
+    omega (arith, rest))
 
 each_below : (n : ℕ) (members : List ℕ) → Each (λ member. nat_lt member n ≡ true) members → (q : ℕ) → list_any (λ k. q == k) members ≡ true → q < n
 each_below n [] h q e = cc
 each_below n (m ∷ ms) h q e =
-    elim (q == m) as (λ b. (q == m) ≡ b → b || list_any (λ k. q == k) ms ≡ true → q < n) [
-      | true ↦ λ is _. let same : q ≡ m = (Decides-eqb q m).0 is in
-          let below : nat_lt m n ≡ true = h.0 in let low : m < n = grind (arith, nat_tests, below) in omega (arith, same, low)
-      | false ↦ λ _ rest. each_below n ms h.1 q rest
-    ] refl e
+    split (q == m) (λ b. b || list_any (λ k. q == k) ms ≡ true → q < n)
+    (λ is _. let same : q ≡ m = (Decides-eqb q m).0 is in
+    let below : nat_lt m n ≡ true = h.0 in let low : m < n = grind (arith, nat_tests, below) in omega (arith, same, low))
+    (λ _ rest. each_below n ms h.1 q rest) e
 
 module _ {R : Type 0} (f : Semantics R) (g : Given) (o : ℕ) (count_is : count f g ≡ 1 + o) (op : ℕ) (s : ShareState) (is : IsShare f g op s) where
   few : length s.plan.members ≤ 1 + o

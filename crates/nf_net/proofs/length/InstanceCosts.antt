@@ -4,7 +4,7 @@ use Rattle.nf_net.proofs.Words.{drop, refl, sym, ap, ◌∙◌, subst, arith, if
 use Rattle.nf_net.proofs.Words.{option_map_or, nat_tests, Decides-eqb, Filter, Chunk, Semantics, unit_at, record_chunk, part, Mark, Decide, Rule, HaveOneEach}
 use Rattle.nf_net.proofs.Words.{FullCell, Answer, Piece, Msg, switch_node, WholePieces, piece_of, whole_of, to_controller, chunk_told, share_message}
 use Rattle.nf_net.proofs.Words.{selected_chunks, tell_step, carry_step, instance_step, instance_fits, may_process, refusal_of, weigh-append, pieces_among, Unit}
-use Rattle.nf_net.proofs.Words.{IsDistinct, Action}
+use Rattle.nf_net.proofs.Words.{IsDistinct, Action, split}
 use Rattle.std.specs.Prelude.{filter}
 use Rattle.std.specs.FinMap as finite
 use Rattle.event_filter.specs.Rules as rules
@@ -52,15 +52,12 @@ module _ (op : ℕ) where
   unfolding IsDistinct
   held_weighs cell [] h = omega arith
   held_weighs cell (r ∷ rs) h =
-      elim (r.op == op) as (λ b. (r.op == op) ≡ b
-      → length (if b then rules.holding cell r else r).held + of_rules (rules.with_held rs op cell) ≤ 1 + (length r.held + of_rules rs)) [
-        | true ↦ λ e.
-            let same : r.op ≡ op = (Decides-eqb r.op op).0 e in
-            let rest = others_weigh cell rs (subst (λ k. AllByRecursion (λ j. nat_eq k j ≡ false) (map (λ (r : Rule FullCell). r.op) rs)) same h.0) in
-            let long = length-append r.held (cell ∷ []) in
-            omega (arith, rest, long)
-        | false ↦ λ e. let rest = held_weighs cell rs h.1 in omega (arith, rest)
-      ] refl
+      split (r.op == op) (λ b. length (if b then rules.holding cell r else r).held + of_rules (rules.with_held rs op cell) ≤ 1 + (length r.held + of_rules rs))
+      (λ e.
+      let same : r.op ≡ op = (Decides-eqb r.op op).0 e in
+      let rest = others_weigh cell rs (subst (λ k. AllByRecursion (λ j. nat_eq k j ≡ false) (map (λ (r : Rule FullCell). r.op) rs)) same h.0) in
+      let long = length-append r.held (cell ∷ []) in
+      omega (arith, rest, long)) (λ e. let rest = held_weighs cell rs h.1 in omega (arith, rest))
 
   -- what is taken away was held
   without_less : (rs : List (Rule FullCell)) → of_rules (rules.without_rule rs op) ≤ of_rules rs

@@ -3,7 +3,7 @@ use Rattle.nf_net.proofs.Words.{◌≡◌, ℕ, ◌+◌, ◌<◌, ◌≤◌, tru
 use Rattle.nf_net.proofs.Words.{if◌then◌else◌, ◌||◌, ◌==◌, filter, get-entries, len-entries, keys_of, nat_tests, length-map, Semantics, unit_at, unit_cmp, Msg}
 use Rattle.nf_net.proofs.Words.{Note, Records, same_unit, distinct_entries, same_unit_equiv, Network, Ran, done_u, ran_of, packets_done, live_front, Config}
 use Rattle.nf_net.proofs.Words.{Node, arrived_of, processed_of, IsInput, packet_numbered, arrivals_in, is_sys, Given, S, A, came_by, Joined, done_same, given}
-use Rattle.nf_net.proofs.Words.{Unit}
+use Rattle.nf_net.proofs.Words.{Unit, split}
 use Rattle.std.specs.FinMap as finite
 use Rattle.std.specs.FinMap.{find}
 use Rattle.std.specs.Set.{is_member}
@@ -27,11 +27,10 @@ found_key q (e ∷ es) h none =
 none_of : (unit : ℕ → Unit) (q : Unit) (ps : List ℕ) → is_member same_unit (map unit ps) q ≡ false → filter (λ p. same_unit (unit p) q) ps ≡ []
 none_of unit q [] h = refl
 none_of unit q (p ∷ ps) h =
-    elim (same_unit q (unit p)) as (λ b. same_unit q (unit p) ≡ b → b || is_member same_unit (map unit ps) q ≡ false
-    → (if same_unit (unit p) q then p ∷ filter (λ x. same_unit (unit x) q) ps else filter (λ x. same_unit (unit x) q) ps) ≡ []) [
-      | true ↦ λ _ never. cc
-      | false ↦ λ off rest. let apart : same_unit (unit p) q ≡ false = same_unit_equiv.symm (unit p) q ∙ off in rw apart (none_of unit q ps rest)
-    ] refl h
+    split (same_unit q (unit p))
+    (λ b. b || is_member same_unit (map unit ps) q ≡ false →
+    (if same_unit (unit p) q then p ∷ filter (λ x. same_unit (unit x) q) ps else filter (λ x. same_unit (unit x) q) ps) ≡ [])
+    (λ _ never. cc) (λ off rest. let apart : same_unit (unit p) q ≡ false = same_unit_equiv.symm (unit p) q ∙ off in rw apart (none_of unit q ps rest)) h
 
 none_in : (xs : List ℕ) → ((p : ℕ) → times p xs ≤ 0) → xs ≡ []
 none_in [] h = refl
@@ -78,10 +77,8 @@ module _ {F R : Type 0} (f : Semantics R) (c : Config) (items : List Msg) (is : 
     live = (j.nodes.instance k).table.live
 
     has_packet : (q : Unit) → is_member same_unit (keys_of (finite.entries live)) q ≡ true → is_member same_unit (map unit (arrivals_in w.log)) q ≡ true
-    has_packet q h = elim (is_member same_unit (map unit (arrivals_in w.log)) q) as (λ b. is_member same_unit (map unit (arrivals_in w.log)) q ≡ b → b ≡ true) [
-      | true ↦ λ _. refl
-      | false ↦ λ off. absurd (found_key q (finite.entries live) h (sym (get-entries live q) ∙ none_live q (none_of unit q (arrivals_in w.log) off) k two few))
-    ] refl
+    has_packet q h = split (is_member same_unit (map unit (arrivals_in w.log)) q) (λ b. b ≡ true) (λ _. refl)
+        (λ off. absurd (found_key q (finite.entries live) h (sym (get-entries live q) ∙ none_live q (none_of unit q (arrivals_in w.log) off) k two few)))
 
     -- so live records are few
     pub live_few : finite.len (j.nodes.instance k).table.live ≤ length (arrivals_in w.log)

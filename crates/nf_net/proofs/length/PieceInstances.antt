@@ -2,7 +2,7 @@
 use Rattle.nf_net.proofs.Words.{◌≡◌, ℕ, zero, suc, ◌+◌, ◌*◌, ◌<◌, ◌≤◌, Bool, true, false, Option, None, Some, List, [], ◌∷◌, map, length, drop, take, refl}
 use Rattle.nf_net.proofs.Words.{arith, if◌then◌else◌, ◌||◌, nat_le, option_map, ◌/◌, nat_tests, Filter, Chunk, Semantics, unit_at, record_chunk, part, Mark}
 use Rattle.nf_net.proofs.Words.{FullCell, Piece, Msg, switch_node, WholePieces, piece_of, pieces, whole_of, to_controller, chunk_told, share_message, and_then}
-use Rattle.nf_net.proofs.Words.{selected_chunks, instance_step, weigh-append, pieces_among, instance_fits, Unit}
+use Rattle.nf_net.proofs.Words.{selected_chunks, instance_step, weigh-append, pieces_among, instance_fits, Unit, split}
 use Rattle.std.proofs.Common.{length-drop}
 use Rattle.std.specs.FinMap as finite
 use Rattle.std.proofs.lemmas.Nat.{le-div}
@@ -19,16 +19,15 @@ few_cut : (whole : WholePieces) (n : ℕ) (chunks : List Chunk) → length chunk
 unfolding pieces_from
 few_cut whole zero chunks enough = omega arith
 few_cut whole (suc n) chunks enough =
-    elim (nat_le (length chunks) 64) as (λ b. nat_le (length chunks) 64 ≡ b
-    → 64 * length (if b then piece_of whole true chunks ∷ [] else piece_of whole false (take 64 chunks) ∷ pieces_from whole n (drop 64 chunks))
-    ≤ length chunks + 64) [
-      | true ↦ λ _. omega arith
-      | false ↦ λ more.
-          let long = more_than (length chunks) more in
-          let dropped = length-drop 64 chunks in
-          let rest = few_cut whole n (drop 64 chunks) (omega (arith, long, dropped, enough)) in
-          omega (arith, long, dropped, rest)
-    ] refl
+    split (nat_le (length chunks) 64)
+    (λ b. 64 * length (if b then piece_of whole true chunks ∷ [] else piece_of whole false (take 64 chunks) ∷ pieces_from whole n
+    (drop 64 chunks)) ≤ length chunks + 64)
+    (λ _. omega arith)
+    (λ more.
+    let long = more_than (length chunks) more in
+    let dropped = length-drop 64 chunks in
+    let rest = few_cut whole n (drop 64 chunks) (omega (arith, long, dropped, enough)) in
+    omega (arith, long, dropped, rest))
 
 -- so many pieces
 pub few_pieces : (chunks : List Chunk) (most : ℕ) → length chunks ≤ most → length (pieces chunks) ≤ most / 64 + 1

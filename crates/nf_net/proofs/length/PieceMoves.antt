@@ -94,7 +94,8 @@ module _ (a k : ℕ) (plan : SharePlan) where
 
   setting_none : (left : ℕ) (sends : List (ℕ × Msg)) → spent a k sends ≡ 0 → ShareNone (setting left sends)
   setting_none left sends none = elim (left == 0)
-      as (λ b. ShareNone (if b then record { phase = SharePhase.Idle; sends = sends; answer = Some Done } else share.next_phase (SharePhase.Setting left) sends))
+      as (λ b. ShareNone (if b then record { phase = SharePhase.Idle; sends = sends; answer = Some Done } else share.next_phase
+      (SharePhase.Setting left) sends))
       [ true ↦ none | false ↦ none ]
 
   chunks_none : (ph : SharePhase) (chunks : List Chunk) → ShareNone (on_chunks plan ph chunks)

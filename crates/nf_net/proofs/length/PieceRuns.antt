@@ -14,8 +14,8 @@ use Rattle.nf_net.proofs.length.PieceSwitch.{switch_uses}
 use Rattle.nf_net.proofs.length.PieceController.{controller_uses}
 use Rattle.nf_net.proofs.length.PieceInstances.{few_pieces, instance_uses, streamed_few}
 use Rattle.nf_net.proofs.length.LiveUnits.{live_few}
-use Rattle.nf_net.proofs.length.RunLength.{start, nodes, pieces_next}
-use Rattle.nf_net.proofs.RunKeeps.{RunStep, run_keeps, count}
+use Rattle.nf_net.proofs.length.RunLength.{pieces_next}
+use Rattle.nf_net.proofs.RunKeeps.{RunStep, run_keeps, start, count}
 
 module _ {F R : Type 0} (a k : ℕ) where
   -- a node, and a world with its log

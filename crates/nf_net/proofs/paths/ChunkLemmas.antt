@@ -2,7 +2,7 @@
 use Rattle.nf_net.proofs.Words.{◌≡◌, ℕ, ◌+◌, ◌≤◌, true, false, cond, Option, Some, List, [], ◌∷◌, ◌++◌, map, refl, sym, ap, ◌∙◌, subst, arith, if◌then◌else◌}
 use Rattle.nf_net.proofs.Words.{is_some, option_to_list, flat_map, option_map_or, map-append, filter-append, Chunk, Semantics, Piece, units_in, same_unit}
 use Rattle.nf_net.proofs.Words.{is_among, spelled, same_unit-true, records, records_one, Each, each_map, Frame, record_at, is_chunk_of, spelled_of, IsChunk}
-use Rattle.nf_net.proofs.Words.{units_same, entries, outline_piece, Given, place, AreGoodChunks, Unit}
+use Rattle.nf_net.proofs.Words.{units_same, entries, outline_piece, Given, place, AreGoodChunks, Unit, split}
 use Rattle.std.specs.Prelude.{filter}
 use Rattle.move_op.specs.Move.{chunks_of}
 use Rattle.proof_machines.proofs.unit.Real.{see}
@@ -49,15 +49,14 @@ module _ {R : Type 0} (f : Semantics R) (u : Unit) where
     one_spelled [] h few = refl
     one_spelled (c ∷ cs) h few =
         spelled_more c cs h.0
-        ∙ elim (same_unit u h.0.entry.0) as (λ b. same_unit u h.0.entry.0 ≡ b → (if b then 1 else 0) + times u (entries f cs) ≤ 1
-        → map (spelled f) (cond b (c ∷ filter (is_chunk_of u) cs) (filter (is_chunk_of u) cs))
-        ≡ as_spelled u (option_to_list (cond b (Some h.0.entry.1) (record_at u (entries f cs))))) [
-          | true ↦ λ on e.
-              let none = none_spelled cs h.1 (omega (arith, e)) in
-              let same : u ≡ h.0.entry.0 = same_unit-true u h.0.entry.0 on in
-              ap (λ v. spelled f c ∷ v) none ∙ ap (λ o. o ∷ []) (h.0.spells ∙ ap (λ v. Some (v, h.0.entry.1)) (sym same))
-          | false ↦ λ _ e. one_spelled cs h.1 (omega (arith, e))
-        ] refl (subst (λ es. times u es ≤ 1) (entries_more c cs h.0) few)
+        ∙ split (same_unit u h.0.entry.0)
+        (λ b. (if b then 1 else 0) + times u (entries f cs) ≤ 1 → map (spelled f) (cond b (c ∷ filter (is_chunk_of u) cs) (filter (is_chunk_of u) cs))
+        ≡ as_spelled u (option_to_list (cond b (Some h.0.entry.1) (record_at u (entries f cs)))))
+        (λ on e.
+        let none = none_spelled cs h.1 (omega (arith, e)) in
+        let same : u ≡ h.0.entry.0 = same_unit-true u h.0.entry.0 on in
+        ap (λ v. spelled f c ∷ v) none ∙ ap (λ o. o ∷ []) (h.0.spells ∙ ap (λ v. Some (v, h.0.entry.1)) (sym same)))
+        (λ _ e. one_spelled cs h.1 (omega (arith, e))) (subst (λ es. times u es ≤ 1) (entries_more c cs h.0) few)
         ∙ ap (λ es. as_spelled u (option_to_list (record_at u es))) (sym (entries_more c cs h.0))
 
 pub all_chunks : {R : Type 0} (f : Semantics R) (g : Given) (cs : List Chunk) → AreGoodChunks f g cs → Each (IsChunk f (place g)) cs

@@ -5,7 +5,7 @@ use Rattle.nf_net.proofs.Words.{arith, if◌then◌else◌, ◌==◌, ◌&&◌, 
 use Rattle.nf_net.proofs.Words.{stored_of, Piece, Door, Phase, Operation, Move, Copy, Share, on_link, State, records, records_on, records_one, Each, each_map}
 use Rattle.nf_net.proofs.Words.{expect, is_over, Op, Frame, see_phase, Open, find_op, each_found, Seeing, frame, OpLabel, olds, Node, Switch, on_links}
 use Rattle.nf_net.proofs.Words.{chunks_in, kept_in, kept_for, kept_by, spelled_of, Sees, but_shares, outline_phase, outline_piece, is_sys, given, Given, place}
-use Rattle.nf_net.proofs.Words.{S, AreGoodChunks, IsGoodPiece, HasPieces, node_of, FromController, ToController, Unit}
+use Rattle.nf_net.proofs.Words.{S, AreGoodChunks, IsGoodPiece, HasPieces, node_of, FromController, ToController, Unit, split}
 use Rattle.std.specs.FinMap as finite
 use Rattle.move_op.specs.Phases as phase
 use Rattle.move_op.specs.Move.{chunks_of}
@@ -129,43 +129,39 @@ module _ {F R : Type 0} (here : Reached F R) (u : Unit) (apart : IsApart here u)
     low_out s low = let two_a = holds.nodes.a_is in let two_b = holds.nodes.b_is in (grind (arith, nat_tests, low, two_a), grind (arith, nat_tests, low, two_b))
 
     on_is : (s r : ℕ) → s < n → r < n → on s r ≡ as_spelled u (at s r)
-    on_is s r hs hr = elim (r == 1) as (λ t. (r == 1) ≡ t → on s r ≡ as_spelled u (if t then (if s == a then records_on x.ac else if s == b
-        then records_on x.bc else []) else if s == 1 then (if r == a then records_on x.ca else if r == b then records_on x.cb else []) else [])) [
-          | true ↦ λ e.
-              let one : r ≡ 1 = (Decides-eqb r 1).0 e in
-              elim (nat_lt s 2) as (λ t. nat_lt s 2 ≡ t → on s r ≡ as_spelled u (if s == a then records_on x.ac else if s == b then records_on x.bc else [])) [
-                | true ↦ λ low.
-                    let few : s < 2 = (Decides-ltb s 2).0 low in
-                    let out = low_out s few in
-                    let out_a = out.0 in let out_b = out.1 in
-                    rw (out_a, out_b) (none_else s r hs hr (λ h. (let m = h.1 in absurd (omega (arith, one, m))))
-                    (λ h. (let m = h.0 in absurd (omega (arith, few, m)))))
-                | false ↦ λ high.
-                    let two : 2 ≤ s = ltb-false s 2 high in
-                    let s0 : (s == 0) ≡ false = grind (arith, nat_tests, two) in
-                    ap (on s) one ∙ (link_spelled s 1 hs (subst (λ k. k < n) one hr) (rw s0 refl)).chunks ∙ ap (as_spelled u) (to_controller s two)
-              ] refl
-          | false ↦ λ e. elim (s == 1)
-              as (λ t. (s == 1) ≡ t → on s r ≡ as_spelled u (if t then (if r == a then records_on x.ca else if r == b then records_on x.cb else []) else [])) [
-                | true ↦ λ d.
-                    let one : s ≡ 1 = (Decides-eqb s 1).0 d in
-                    elim (nat_lt r 2)
-                    as (λ t. nat_lt r 2 ≡ t → on s r ≡ as_spelled u (if r == a then records_on x.ca else if r == b then records_on x.cb else [])) [
-                      | true ↦ λ low.
-                          let few : r < 2 = (Decides-ltb r 2).0 low in
-                          let out = low_out r few in
-                          let out_a = out.0 in let out_b = out.1 in
-                          rw (out_a, out_b) (none_else s r hs hr (λ h. (let m = h.1 in absurd (omega (arith, few, m))))
-                          (λ h. (let m = h.0 in absurd (omega (arith, one, m)))))
-                      | false ↦ λ high.
-                          let two : 2 ≤ r = ltb-false r 2 high in
-                          ap (λ k. on k r) one ∙ (link_spelled 1 r (subst (λ k. k < n) one hs) hr refl).chunks
-                          ∙ ap (as_spelled u) (from_controller r two ∙ (let r1 : (r == 1) ≡ false = e in rw r1 refl))
-                    ] refl
-                | false ↦ λ d. none_else s r hs hr (λ h. (let never : false ≡ true = sym d ∙ (Decides-eqb s 1).1 h.0 in cc))
-                    (λ h. (let never : false ≡ true = sym e ∙ (Decides-eqb r 1).1 h.1 in cc))
-              ] refl
-        ] refl
+    on_is s r hs hr = split (r == 1)
+        (λ t. on s r ≡ as_spelled u
+        (if t then (if s == a then records_on x.ac else if s == b then records_on x.bc else []) else if s == 1 then
+        (if r == a then records_on x.ca else if r == b then records_on x.cb else []) else []))
+        (λ e.
+        let one : r ≡ 1 = (Decides-eqb r 1).0 e in
+        split (nat_lt s 2) (λ _. on s r ≡ as_spelled u (if s == a then records_on x.ac else if s == b then records_on x.bc else []))
+        (λ low.
+        let few : s < 2 = (Decides-ltb s 2).0 low in
+        let out = low_out s few in
+        let out_a = out.0 in let out_b = out.1 in
+        rw (out_a, out_b) (none_else s r hs hr (λ h. (let m = h.1 in absurd (omega (arith, one, m))))
+        (λ h. (let m = h.0 in absurd (omega (arith, few, m))))))
+        (λ high.
+        let two : 2 ≤ s = ltb-false s 2 high in
+        let s0 : (s == 0) ≡ false = grind (arith, nat_tests, two) in
+        ap (on s) one ∙ (link_spelled s 1 hs (subst (λ k. k < n) one hr) (rw s0 refl)).chunks ∙ ap (as_spelled u) (to_controller s two)))
+        (λ e. split (s == 1) (λ t. on s r ≡ as_spelled u (if t then (if r == a then records_on x.ca else if r == b then records_on x.cb else []) else []))
+        (λ d.
+        let one : s ≡ 1 = (Decides-eqb s 1).0 d in
+        split (nat_lt r 2) (λ _. on s r ≡ as_spelled u (if r == a then records_on x.ca else if r == b then records_on x.cb else []))
+        (λ low.
+        let few : r < 2 = (Decides-ltb r 2).0 low in
+        let out = low_out r few in
+        let out_a = out.0 in let out_b = out.1 in
+        rw (out_a, out_b) (none_else s r hs hr (λ h. (let m = h.1 in absurd (omega (arith, few, m))))
+        (λ h. (let m = h.0 in absurd (omega (arith, one, m))))))
+        (λ high.
+        let two : 2 ≤ r = ltb-false r 2 high in
+        ap (λ k. on k r) one ∙ (link_spelled 1 r (subst (λ k. k < n) one hs) hr refl).chunks
+        ∙ ap (as_spelled u) (from_controller r two ∙ (let r1 : (r == 1) ≡ false = e in rw r1 refl))))
+        (λ d. none_else s r hs hr (λ h. (let never : false ≡ true = sym d ∙ (Decides-eqb s 1).1 h.0 in cc))
+        (λ h. (let never : false ≡ true = sym e ∙ (Decides-eqb r 1).1 h.1 in cc))))
 
     -- all links, where no record is on one, and where one has all there is
     pub links_none : ((s r : ℕ) → at s r ≡ []) → spelled_of f u (on_links w chunks_in) ≡ []
@@ -184,23 +180,18 @@ module _ {F R : Type 0} (here : Reached F R) (u : Unit) (apart : IsApart here u)
     -- nothing is where none of four is
     at_only : (s r : ℕ) → (s ≡ a → r ≡ 1 → records_on x.ac ≡ []) → (s ≡ b → r ≡ 1 → records_on x.bc ≡ []) → (s ≡ 1 → r ≡ a → records_on x.ca ≡ [])
         → (s ≡ 1 → r ≡ b → records_on x.cb ≡ []) → at s r ≡ []
-    at_only s r ac bc ca cb = elim (r == 1) as (λ t. (r == 1) ≡ t → (if t then (if s == a then records_on x.ac else if s == b then records_on x.bc else [])
-        else if s == 1 then (if r == a then records_on x.ca else if r == b then records_on x.cb else []) else []) ≡ []) [
-          | true ↦ λ r1. elim (s == a) as (λ t. (s == a) ≡ t → (if t then records_on x.ac else if s == b then records_on x.bc else []) ≡ []) [
-            | true ↦ λ sa. ac ((Decides-eqb s a).0 sa) ((Decides-eqb r 1).0 r1)
-            | false ↦ λ _. elim (s == b) as (λ t. (s == b) ≡ t → (if t then records_on x.bc else []) ≡ [])
-                [ true ↦ λ sb. bc ((Decides-eqb s b).0 sb) ((Decides-eqb r 1).0 r1) | false ↦ λ _. refl ] refl
-          ] refl
-          | false ↦ λ _.
-              elim (s == 1) as (λ t. (s == 1) ≡ t → (if t then (if r == a then records_on x.ca else if r == b then records_on x.cb else []) else []) ≡ []) [
-                | true ↦ λ s1. elim (r == a) as (λ t. (r == a) ≡ t → (if t then records_on x.ca else if r == b then records_on x.cb else []) ≡ []) [
-                  | true ↦ λ ra. ca ((Decides-eqb s 1).0 s1) ((Decides-eqb r a).0 ra)
-                  | false ↦ λ _. elim (r == b) as (λ t. (r == b) ≡ t → (if t then records_on x.cb else []) ≡ [])
-                      [ true ↦ λ rb. cb ((Decides-eqb s 1).0 s1) ((Decides-eqb r b).0 rb) | false ↦ λ _. refl ] refl
-                ] refl
-                | false ↦ λ _. refl
-              ] refl
-        ] refl
+    at_only s r ac bc ca cb = split (r == 1)
+        (λ t. (if t then (if s == a then records_on x.ac else if s == b then records_on x.bc else []) else if s == 1 then
+        (if r == a then records_on x.ca else if r == b then records_on x.cb else []) else []) ≡ [])
+        (λ r1. split (s == a) (λ t. (if t then records_on x.ac else if s == b then records_on x.bc else []) ≡ [])
+        (λ sa. ac ((Decides-eqb s a).0 sa) ((Decides-eqb r 1).0 r1))
+        (λ _. split (s == b) (λ t. (if t then records_on x.bc else []) ≡ []) (λ sb. bc ((Decides-eqb s b).0 sb) ((Decides-eqb r 1).0 r1)) (λ _. refl)))
+        (λ _.
+        split (s == 1) (λ t. (if t then (if r == a then records_on x.ca else if r == b then records_on x.cb else []) else []) ≡ [])
+        (λ s1. split (r == a) (λ t. (if t then records_on x.ca else if r == b then records_on x.cb else []) ≡ [])
+        (λ ra. ca ((Decides-eqb s 1).0 s1) ((Decides-eqb r a).0 ra))
+        (λ _. split (r == b) (λ t. (if t then records_on x.cb else []) ≡ []) (λ rb. cb ((Decides-eqb s 1).0 s1) ((Decides-eqb r b).0 rb))
+        (λ _. refl))) (λ _. refl))
 
   -- What the controller keeps.
   abbrev kept_at : Option Operation → List (Option (Unit × R))

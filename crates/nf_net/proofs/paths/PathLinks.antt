@@ -5,7 +5,7 @@ use Rattle.nf_net.proofs.Words.{◌&&◌, option_map, cons_option, filter, filte
 use Rattle.nf_net.proofs.Words.{Order, Msg, instance_node, Carry, Event, Fence_to, Install, Stray, At_a, At_b, Frame, where_true, sends_to, add, passes_in}
 use Rattle.nf_net.proofs.Words.{events_in, is_known, seen, MoveAsked, Seeing, frame, Any, New, WantShare, S_asked, S_shared, EachNew, olds, OpenShare, NoShare}
 use Rattle.nf_net.proofs.Words.{passed_in, carried_in, forwarded_in, handed_over_in, diverted_in, number, want_of, asked_of, want_share_of, Given, place, S}
-use Rattle.nf_net.proofs.Words.{shown, Label, FromSwitch, ToSwitch, ToController, Unit}
+use Rattle.nf_net.proofs.Words.{shown, Label, FromSwitch, ToSwitch, ToController, Unit, split}
 use Rattle.proof_machines.proofs.unit.Machine.{Item, Pass, Fence, Forward}
 use Rattle.actor_net.proofs.WeightLaws.{Each}
 use Rattle.proof_machines.proofs.unit.NetViews.{items}
@@ -73,36 +73,30 @@ module _ {R : Type 0} (f : Semantics R) (g : Given) (z : Seeing) (es : List Open
   forward_read : (to : ℕ) (m : Mark) (cell : FullCell)
       → IsRead (Msg.Forward to m cell) (where_true (mine (number cell)) (sends_to its (instance_node to) (λ w. Forward w (number cell))))
   forward_read to m cell =
-      elim (mine (number cell))
-      as (λ b. mine (number cell) ≡ b → IsRead (Msg.Forward to m cell) (where_true b (sends_to its (instance_node to) (λ w. Forward w (number cell))))) [
-        | true ↦ λ is. elim (instance_node to == its.from) as (λ a. IsRead (Msg.Forward to m cell)
-            (Some (if a then Forward At_a (number cell) else if instance_node to == its.to then Forward At_b (number cell) else Stray))) [
-              | true ↦ record { pass = refl; carry = refl; event = refl; forward = λ _. rw is refl }
-              | false ↦ elim (instance_node to == its.to) as (λ b. IsRead (Msg.Forward to m cell) (Some (if b then Forward At_b (number cell) else Stray))) [
-                | true ↦ record { pass = refl; carry = refl; event = refl; forward = λ _. rw is refl }
-                | false ↦ record { pass = refl; carry = refl; event = refl; forward = λ e. cc }
-              ]
-            ]
-        | false ↦ λ off. record { pass = refl; carry = refl; event = refl; forward = λ _. rw off refl }
-      ] refl
+      split (mine (number cell)) (λ b. IsRead (Msg.Forward to m cell) (where_true b (sends_to its (instance_node to) (λ w. Forward w (number cell)))))
+      (λ is. elim (instance_node to == its.from) as (λ a. IsRead (Msg.Forward to m cell)
+      (Some (if a then Forward At_a (number cell) else if instance_node to == its.to then Forward At_b (number cell) else Stray))) [
+        | true ↦ record { pass = refl; carry = refl; event = refl; forward = λ _. rw is refl }
+        | false ↦ elim (instance_node to == its.to) as (λ b. IsRead (Msg.Forward to m cell) (Some (if b then Forward At_b (number cell) else Stray))) [
+          | true ↦ record { pass = refl; carry = refl; event = refl; forward = λ _. rw is refl }
+          | false ↦ record { pass = refl; carry = refl; event = refl; forward = λ e. cc }
+        ]
+      ]) (λ off. record { pass = refl; carry = refl; event = refl; forward = λ _. rw off refl })
 
   carry_read : (cell : FullCell) → IsRead (Msg.Carry Mark.Plain cell) (where_true (mine (number cell)) (Carry (number cell)))
-  carry_read cell = elim (mine (number cell)) as (λ b. mine (number cell) ≡ b → IsRead (Msg.Carry Mark.Plain cell) (where_true b (Carry (number cell)))) [
-    | true ↦ λ is. record { pass = refl; carry = rw is refl; event = refl; forward = λ _. refl }
-    | false ↦ λ off. record { pass = refl; carry = rw off refl; event = refl; forward = λ _. refl }
-  ] refl
+  carry_read cell = split (mine (number cell)) (λ b. IsRead (Msg.Carry Mark.Plain cell) (where_true b (Carry (number cell))))
+      (λ is. record { pass = refl; carry = rw is refl; event = refl; forward = λ _. refl })
+      (λ off. record { pass = refl; carry = rw off refl; event = refl; forward = λ _. refl })
 
   pass_read : (op : ℕ) (cell : FullCell) → IsRead (Msg.Carry (Mark.Pass op) cell) (where_true (mine (number cell)) (Pass (number cell)))
-  pass_read op cell = elim (mine (number cell)) as (λ b. mine (number cell) ≡ b → IsRead (Msg.Carry (Mark.Pass op) cell) (where_true b (Pass (number cell)))) [
-    | true ↦ λ is. record { pass = rw is refl; carry = refl; event = refl; forward = λ _. refl }
-    | false ↦ λ off. record { pass = rw off refl; carry = refl; event = refl; forward = λ _. refl }
-  ] refl
+  pass_read op cell = split (mine (number cell)) (λ b. IsRead (Msg.Carry (Mark.Pass op) cell) (where_true b (Pass (number cell))))
+      (λ is. record { pass = rw is refl; carry = refl; event = refl; forward = λ _. refl })
+      (λ off. record { pass = rw off refl; carry = refl; event = refl; forward = λ _. refl })
 
   event_read : (op : ℕ) (cell : FullCell) → IsRead (Msg.Event op cell) (where_true (mine (number cell)) (Event (number cell)))
-  event_read op cell = elim (mine (number cell)) as (λ b. mine (number cell) ≡ b → IsRead (Msg.Event op cell) (where_true b (Event (number cell)))) [
-    | true ↦ λ is. record { pass = refl; carry = refl; event = rw is refl; forward = λ _. refl }
-    | false ↦ λ off. record { pass = refl; carry = refl; event = rw off refl; forward = λ _. refl }
-  ] refl
+  event_read op cell = split (mine (number cell)) (λ b. IsRead (Msg.Event op cell) (where_true b (Event (number cell))))
+      (λ is. record { pass = refl; carry = refl; event = rw is refl; forward = λ _. refl })
+      (λ off. record { pass = refl; carry = refl; event = rw off refl; forward = λ _. refl })
 
   fence_read : (op to : ℕ) → IsRead (Msg.FenceTo op to) (Some (sends_to its (instance_node to) (λ w. Fence_to w)))
   fence_read op to = elim (instance_node to == its.from)

@@ -3,7 +3,7 @@ use Rattle.nf_net.proofs.Words.{◌≡◌, ◌≢◌, ℕ, Bool, true, false, co
 use Rattle.nf_net.proofs.Words.{nat_eq, if◌then◌else◌, unwrap_or, filter, flat_map, nat_cmp, eq_by_cmp, is_lt, is_eq, Ordering, Less, Equal, Greater, is_sorted}
 use Rattle.nf_net.proofs.Words.{entries_sorted, get-entries, below_all, nat_tests, Decides-eqb, IsDistinct-head, IsDistinct-tail, and_yes, Semantics, same_unit}
 use Rattle.nf_net.proofs.Words.{HaveOneEach, stored_of, FullCell, Each, each-append, only_mine, find_rule, held_of, Seeing, frame, RuleLabel, none_mine}
-use Rattle.nf_net.proofs.Words.{RestRule, Given, S, Unit}
+use Rattle.nf_net.proofs.Words.{RestRule, Given, S, Unit, split}
 use Rattle.std.proofs.Common.{eqb}
 use Rattle.std.specs.FinMap as finite
 use Rattle.std.specs.FinMap.{find}
@@ -37,23 +37,21 @@ module _ {V Y : Type 0} (of : ℕ → Option V → List Y) (none : (k : ℕ) →
       let below = (and_yes (below_all nat_cmp e.0 es) (is_sorted nat_cmp es) up).0 in
       let more = (and_yes (below_all nat_cmp e.0 es) (is_sorted nat_cmp es) up).1 in
       let gone = absent e.0 es below in
-      let later : (k : ℕ) → k ≢ op → of k (find nat_cmp k es) ≡ [] = λ k off. elim (eqb k e.0) as (λ b. eqb k e.0 ≡ b → of k (find nat_cmp k es) ≡ []) [
-        | true ↦ λ is. (let same : k ≡ e.0 = eqb-true k e.0 is in ap (λ q. of k (find nat_cmp q es)) same ∙ ap (of k) gone ∙ none k)
-        | false ↦ λ is. ap (λ b. of k (cond b (Some e.1) (find nat_cmp k es))) (sym (order_test k e.0 ∙ is)) ∙ h k off
-      ] refl in
+      let later : (k : ℕ) → k ≢ op → of k (find nat_cmp k es) ≡ [] = λ k off. split (eqb k e.0) (λ _. of k (find nat_cmp k es) ≡ [])
+      (λ is. (let same : k ≡ e.0 = eqb-true k e.0 is in ap (λ q. of k (find nat_cmp q es)) same ∙ ap (of k) gone ∙ none k))
+      (λ is. ap (λ b. of k (cond b (Some e.1) (find nat_cmp k es))) (sym (order_test k e.0 ∙ is)) ∙ h k off) in
       let rest = entries_of es more later in
-      elim (eqb op e.0) as (λ b. eqb op e.0 ≡ b → of e.0 (Some e.1) ++ flat_map (λ x. of x.0 (Some x.1)) es ≡ of op (find nat_cmp op (e ∷ es))) [
-        | true ↦ λ is.
-            let same : op ≡ e.0 = eqb-true op e.0 is in
-            let left : flat_map (λ x. of x.0 (Some x.1)) es ≡ [] = rest ∙ ap (λ q. of op (find nat_cmp q es)) same ∙ ap (of op) gone ∙ none op in
-            ap (λ v. of e.0 (Some e.1) ++ v) left ∙ append-nil (of e.0 (Some e.1)) ∙ ap (λ q. of q (Some e.1)) (sym same)
-            ∙ ap (λ b. of op (cond b (Some e.1) (find nat_cmp op es))) (sym (order_test op e.0 ∙ is))
-        | false ↦ λ is.
-            let own : of e.0 (Some e.1) ≡ [] = ap (λ b. of e.0 (cond b (Some e.1) (find nat_cmp e.0 es))) (sym (own_tie e.0))
-            ∙ h e.0 (λ same. (let never : false ≡ true = sym is ∙ (Decides-eqb op e.0).1 (sym same) in cc)) in
-            ap (λ v. v ++ flat_map (λ x. of x.0 (Some x.1)) es) own ∙ rest
-            ∙ ap (λ b. of op (cond b (Some e.1) (find nat_cmp op es))) (sym (order_test op e.0 ∙ is))
-      ] refl
+      split (eqb op e.0) (λ _. of e.0 (Some e.1) ++ flat_map (λ x. of x.0 (Some x.1)) es ≡ of op (find nat_cmp op (e ∷ es)))
+      (λ is.
+      let same : op ≡ e.0 = eqb-true op e.0 is in
+      let left : flat_map (λ x. of x.0 (Some x.1)) es ≡ [] = rest ∙ ap (λ q. of op (find nat_cmp q es)) same ∙ ap (of op) gone ∙ none op in
+      ap (λ v. of e.0 (Some e.1) ++ v) left ∙ append-nil (of e.0 (Some e.1)) ∙ ap (λ q. of q (Some e.1)) (sym same)
+      ∙ ap (λ b. of op (cond b (Some e.1) (find nat_cmp op es))) (sym (order_test op e.0 ∙ is)))
+      (λ is.
+      let own : of e.0 (Some e.1) ≡ [] = ap (λ b. of e.0 (cond b (Some e.1) (find nat_cmp e.0 es))) (sym (own_tie e.0))
+      ∙ h e.0 (λ same. (let never : false ≡ true = sym is ∙ (Decides-eqb op e.0).1 (sym same) in cc)) in
+      ap (λ v. v ++ flat_map (λ x. of x.0 (Some x.1)) es) own ∙ rest
+      ∙ ap (λ b. of op (cond b (Some e.1) (find nat_cmp op es))) (sym (order_test op e.0 ∙ is)))
 
   pub map_of : (m : finite.FinMap nat_cmp V) → ((k : ℕ) → k ≢ op → of k (finite.get m k) ≡ [])
       → flat_map (λ e. of e.0 (Some e.1)) (finite.entries m) ≡ of op (finite.get m op)
@@ -68,10 +66,9 @@ module _ {V Y : Type 0} (P : Y → Type 0) (of : ℕ → V → List Y) where
       let gone = absent e.0 es (and_yes (below_all nat_cmp e.0 es) (is_sorted nat_cmp es) up).0 in
       let own = h e.0 e.1 (ap (λ b. cond b (Some e.1) (find nat_cmp e.0 es)) (own_tie e.0)) in
       each-append P (of e.0 e.1) (flat_map (λ x. of x.0 x.1) es) own (each_of es (and_yes (below_all nat_cmp e.0 es) (is_sorted nat_cmp es) up).1
-      (λ k v there. h k v (elim (eqb k e.0) as (λ b. eqb k e.0 ≡ b → find nat_cmp k (e ∷ es) ≡ Some v) [
-        | true ↦ λ is. (let never : None ≡ Some v = sym gone ∙ ap (λ q. find nat_cmp q es) (sym (eqb-true k e.0 is)) ∙ there in cc)
-        | false ↦ λ is. ap (λ b. cond b (Some e.1) (find nat_cmp k es)) (order_test k e.0 ∙ is) ∙ there
-      ] refl)))
+      (λ k v there. h k v (split (eqb k e.0) (λ _. find nat_cmp k (e ∷ es) ≡ Some v)
+      (λ is. (let never : None ≡ Some v = sym gone ∙ ap (λ q. find nat_cmp q es) (sym (eqb-true k e.0 is)) ∙ there in cc))
+      (λ is. ap (λ b. cond b (Some e.1) (find nat_cmp k es)) (order_test k e.0 ∙ is) ∙ there))))
 
   pub each_entry : (m : finite.FinMap nat_cmp V) → ((k : ℕ) (v : V) → finite.get m k ≡ Some v → Each P (of k v))
       → Each P (flat_map (λ e. of e.0 e.1) (finite.entries m))
@@ -104,13 +101,13 @@ module _ {R : Type 0} (f : Semantics R) (g : Given) (z : Seeing) where
       → flat_map held_in rs ≡ only_mine (frame (S f g) z) (held_of (find_rule z.op.num (map outline_rule rs)))
   held_is [] one h = refl
   held_is (r ∷ rs) one h =
-      elim (eqb r.op z.op.num) as (λ b. eqb r.op z.op.num ≡ b → held_in r ++ flat_map held_in rs
-      ≡ only_mine (frame (S f g) z) (held_of (if b then Some (outline_rule r) else find_rule z.op.num (map outline_rule rs)))) [
-        | true ↦ λ is.
-            let rest = other_rules rs (none_behind rs z.op.num r.op is (IsDistinct-head nat_eq r.op (map (λ x. x.op) rs) one)) h.1 in
-            ap (λ v. held_in r ++ v) rest ∙ append-nil (held_in r) ∙ sym (only_those (numbers r.held))
-        | false ↦ λ off. ap (λ v. v ++ flat_map held_in rs) (other_rule r h.0 off) ∙ held_is rs (IsDistinct-tail nat_eq r.op (map (λ x. x.op) rs) one) h.1
-      ] refl
+      split (eqb r.op z.op.num)
+      (λ b. held_in r ++ flat_map held_in rs ≡ only_mine (frame (S f g) z)
+      (held_of (if b then Some (outline_rule r) else find_rule z.op.num (map outline_rule rs))))
+      (λ is.
+      let rest = other_rules rs (none_behind rs z.op.num r.op is (IsDistinct-head nat_eq r.op (map (λ x. x.op) rs) one)) h.1 in
+      ap (λ v. held_in r ++ v) rest ∙ append-nil (held_in r) ∙ sym (only_those (numbers r.held)))
+      (λ off. ap (λ v. v ++ flat_map held_in rs) (other_rule r h.0 off) ∙ held_is rs (IsDistinct-tail nat_eq r.op (map (λ x. x.op) rs) one) h.1)
 
 -- Of a unit that no move has, rules hold nothing.
 module _ {R : Type 0} (f : Semantics R) (g : Given) (u : Unit) where

@@ -2,7 +2,7 @@
 use Rattle.nf_net.proofs.Words.{◌≡◌, ◌≢◌, ℕ, ◌<◌, ◌≤◌, Bool, true, false, List, [], ◌++◌, refl, sym, ap, ◌∙◌, subst, append-nil, arith, if◌then◌else◌, ◌==◌}
 use Rattle.nf_net.proofs.Words.{◌&&◌, nat_lt, filter, flat_map, ltb-false, nat_tests, Decides-eqb, Decides-ltb, Msg, on_link, State, Op, expect, passes_in}
 use Rattle.nf_net.proofs.Words.{events_in, is_known, Seeing, frame, passed_in, forwarded_in, handed_over_in, diverted_in, on_links, is_sys, Given, S, given}
-use Rattle.nf_net.proofs.Words.{Unit}
+use Rattle.nf_net.proofs.Words.{Unit, split}
 use Rattle.proof_machines.proofs.unit.Path.{forwards}
 use Rattle.proof_machines.proofs.unit.Sides.{OneOf, First, Second}
 use Rattle.proof_machines.proofs.net.Units.{see}
@@ -45,13 +45,10 @@ module _ {F R : Type 0} (here : Reached F R) (u : Unit) (apart : IsApart here u)
         ∙ sym none
       where
         empty : (i k : ℕ) → at i k ≡ []
-        empty i k = elim (i == s) as (λ b. (i == s) ≡ b → at i k ≡ []) [
-          | true ↦ λ a. elim (k == r) as (λ b. (k == r) ≡ b → at i k ≡ []) [
-            | true ↦ λ b. ap (λ v. at v k) ((Decides-eqb i s).0 a) ∙ ap (at s) ((Decides-eqb k r).0 b) ∙ none
-            | false ↦ λ b. only i k (λ _ same. (let never : false ≡ true = sym b ∙ (Decides-eqb k r).1 same in cc))
-          ] refl
-          | false ↦ λ a. only i k (λ same _. (let never : false ≡ true = sym a ∙ (Decides-eqb i s).1 same in cc))
-        ] refl
+        empty i k = split (i == s) (λ _. at i k ≡ [])
+            (λ a. split (k == r) (λ _. at i k ≡ []) (λ b. ap (λ v. at v k) ((Decides-eqb i s).0 a) ∙ ap (at s) ((Decides-eqb k r).0 b) ∙ none)
+            (λ b. only i k (λ _ same. (let never : false ≡ true = sym b ∙ (Decides-eqb k r).1 same in cc))))
+            (λ a. only i k (λ same _. (let never : false ≡ true = sym a ∙ (Decides-eqb i s).1 same in cc)))
 
   abbrev a : ℕ
   a = op.src
@@ -81,31 +78,27 @@ module _ {F R : Type 0} (here : Reached F R) (u : Unit) (apart : IsApart here u)
         ]
 
     pass_is : (i k : ℕ) → i < n → k < n → filter mine (flat_map passed_in (on_link w i k)) ≡ pass_at i k
-    pass_is i k hi hk = elim (i == 0) as (λ t. (i == 0) ≡ t
-        → filter mine (flat_map passed_in (on_link w i k)) ≡ (if t then (if k == a then passes_in x.sa else if k == b then passes_in x.sb else []) else [])) [
-          | true ↦ λ e. elim (nat_lt k 2) as (λ t. nat_lt k 2 ≡ t
-              → filter mine (flat_map passed_in (on_link w i k)) ≡ (if k == a then passes_in x.sa else if k == b then passes_in x.sb else [])) [
-                | true ↦ λ low.
-                    let off_a : (k == a) ≡ false = grind (arith, nat_tests, low, a_two) in
-                    let off_b : (k == b) ≡ false = grind (arith, nat_tests, low, b_two) in
-                    let small : k < 2 = (Decides-ltb k 2).0 low in
-                    rw (off_a, off_b) (passed_else here mine i k hi hk (λ h. absurd (omega (arith, small, h.1))))
-                | false ↦ λ high.
-                    let two : 2 ≤ k = ltb-false k 2 high in
-                    ap (λ v. filter mine (flat_map passed_in (on_link w v k))) ((Decides-eqb i 0).0 e)
-                    ∙ passed_from here u apart op third x holds k two hk ∙ expect_pass k
-              ] refl
-          | false ↦ λ e. passed_else here mine i k hi hk
-              (λ h. (let never : false ≡ true = sym e ∙ (Decides-eqb i 0).1 h.0 in cc))
-        ] refl
+    pass_is i k hi hk = split (i == 0)
+        (λ t. filter mine (flat_map passed_in (on_link w i k)) ≡ (if t then (if k == a then passes_in x.sa else if k == b then passes_in x.sb else []) else []))
+        (λ e. split (nat_lt k 2)
+        (λ _. filter mine (flat_map passed_in (on_link w i k)) ≡ (if k == a then passes_in x.sa else if k == b then passes_in x.sb else []))
+        (λ low.
+        let off_a : (k == a) ≡ false = grind (arith, nat_tests, low, a_two) in
+        let off_b : (k == b) ≡ false = grind (arith, nat_tests, low, b_two) in
+        let small : k < 2 = (Decides-ltb k 2).0 low in
+        rw (off_a, off_b) (passed_else here mine i k hi hk (λ h. absurd (omega (arith, small, h.1)))))
+        (λ high.
+        let two : 2 ≤ k = ltb-false k 2 high in
+        ap (λ v. filter mine (flat_map passed_in (on_link w v k))) ((Decides-eqb i 0).0 e)
+        ∙ passed_from here u apart op third x holds k two hk ∙ expect_pass k))
+        (λ e. passed_else here mine i k hi hk
+        (λ h. (let never : false ≡ true = sym e ∙ (Decides-eqb i 0).1 h.0 in cc)))
 
     -- on the link of one side alone
     pass_only : (side : ℕ) → ((k : ℕ) → k ≢ side → pass_at 0 k ≡ []) → (i k : ℕ) → (i ≡ 0 → k ≡ side → ⊥) → pass_at i k ≡ []
     pass_only side other i k off =
-        elim (i == 0) as (λ t. (i == 0) ≡ t → (if t then (if k == a then passes_in x.sa else if k == b then passes_in x.sb else []) else []) ≡ []) [
-          | true ↦ λ e. other k (λ same. off ((Decides-eqb i 0).0 e) same)
-          | false ↦ λ _. refl
-        ] refl
+        split (i == 0) (λ t. (if t then (if k == a then passes_in x.sa else if k == b then passes_in x.sb else []) else []) ≡ [])
+        (λ e. other k (λ same. off ((Decides-eqb i 0).0 e) same)) (λ _. refl)
 
     other_a : passes_in x.sb ≡ [] → (k : ℕ) → k ≢ a → pass_at 0 k ≡ []
     other_a none k off =
@@ -139,25 +132,21 @@ module _ {F R : Type 0} (here : Reached F R) (u : Unit) (apart : IsApart here u)
 
   module _ (known : is_known x.cs ≡ true) where
     forward_is : (i k : ℕ) → i < n → k < n → filter mine (flat_map forwarded_in (on_link w i k)) ≡ forward_at i k
-    forward_is i k hi hk = elim ((i == 1) && (k == 0))
-        as (λ t. (i == 1) && (k == 0) ≡ t → filter mine (flat_map forwarded_in (on_link w i k)) ≡ (if t then forwards x.cs else [])) [
-          | true ↦ λ on.
-              let i1 : i ≡ 1 = grind (arith, nat_tests, on) in
-              let k0 : k ≡ 0 = grind (arith, nat_tests, on) in
-              ap (λ v. filter mine (flat_map forwarded_in (on_link w v k))) i1 ∙ ap (λ v. filter mine (flat_map forwarded_in (on_link w 1 v))) k0
-              ∙ forwarded_to here u apart op third x holds known
-          | false ↦ λ off. forwarded_else here mine i k hi hk
-              (λ h. (let on : (i == 1) && (k == 0) ≡ true = rw (h.0, h.1) refl in let never : false ≡ true = sym off ∙ on in cc))
-        ] refl
+    forward_is i k hi hk = split ((i == 1) && (k == 0)) (λ t. filter mine (flat_map forwarded_in (on_link w i k)) ≡ (if t then forwards x.cs else []))
+        (λ on.
+        let i1 : i ≡ 1 = grind (arith, nat_tests, on) in
+        let k0 : k ≡ 0 = grind (arith, nat_tests, on) in
+        ap (λ v. filter mine (flat_map forwarded_in (on_link w v k))) i1 ∙ ap (λ v. filter mine (flat_map forwarded_in (on_link w 1 v))) k0
+        ∙ forwarded_to here u apart op third x holds known)
+        (λ off. forwarded_else here mine i k hi hk
+        (λ h. (let on : (i == 1) && (k == 0) ≡ true = rw (h.0, h.1) refl in let never : false ≡ true = sym off ∙ on in cc)))
 
     pub forwards_are : filter mine (on_links w forwarded_in) ≡ forwards x.cs
     forwards_are = links_there forwarded_in forward_at forward_is 1 0 only (omega (arith, count)) (omega (arith, count))
       where
         only : (i k : ℕ) → (i ≡ 1 → k ≡ 0 → ⊥) → forward_at i k ≡ []
-        only i k off = elim ((i == 1) && (k == 0)) as (λ t. (i == 1) && (k == 0) ≡ t → (if t then forwards x.cs else []) ≡ []) [
-          | true ↦ λ on. absurd (off (grind (arith, nat_tests, on)) (grind (arith, nat_tests, on)))
-          | false ↦ λ _. refl
-        ] refl
+        only i k off = split ((i == 1) && (k == 0)) (λ t. (if t then forwards x.cs else []) ≡ [])
+            (λ on. absurd (off (grind (arith, nat_tests, on)) (grind (arith, nat_tests, on)))) (λ _. refl)
 
   -- events
   abbrev event_at : ℕ → ℕ → List ℕ
@@ -178,31 +167,25 @@ module _ {F R : Type 0} (here : Reached F R) (u : Unit) (apart : IsApart here u)
         ])
 
     event_is : (i k : ℕ) → i < n → k < n → filter mine (flat_map handed_over_in (on_link w i k)) ≡ event_at i k
-    event_is i k hi hk = elim (k == 1)
-        as (λ t. (k == 1) ≡ t → filter mine (flat_map handed_over_in (on_link w i k)) ≡ (if t then (if i == a then events_in x.ac else []) else [])) [
-          | true ↦ λ e.
-              elim (nat_lt i 2) as (λ t. nat_lt i 2 ≡ t → filter mine (flat_map handed_over_in (on_link w i k)) ≡ (if i == a then events_in x.ac else [])) [
-                | true ↦ λ low.
-                    let off : (i == a) ≡ false = grind (arith, nat_tests, low, a_two) in
-                    let small : i < 2 = (Decides-ltb i 2).0 low in
-                    rw off (events_else here mine i k hi hk (λ h. absurd (omega (arith, small, h.0))))
-                | false ↦ λ high.
-                    let two : 2 ≤ i = ltb-false i 2 high in
-                    ap (λ v. filter mine (flat_map handed_over_in (on_link w i v))) ((Decides-eqb k 1).0 e)
-                    ∙ events_to here u apart op third x holds i two hi ∙ expect_event i two
-              ] refl
-          | false ↦ λ e. events_else here mine i k hi hk
-              (λ h. (let never : false ≡ true = sym e ∙ (Decides-eqb k 1).1 h.1 in cc))
-        ] refl
+    event_is i k hi hk = split (k == 1)
+        (λ t. filter mine (flat_map handed_over_in (on_link w i k)) ≡ (if t then (if i == a then events_in x.ac else []) else []))
+        (λ e.
+        split (nat_lt i 2) (λ _. filter mine (flat_map handed_over_in (on_link w i k)) ≡ (if i == a then events_in x.ac else []))
+        (λ low.
+        let off : (i == a) ≡ false = grind (arith, nat_tests, low, a_two) in
+        let small : i < 2 = (Decides-ltb i 2).0 low in
+        rw off (events_else here mine i k hi hk (λ h. absurd (omega (arith, small, h.0)))))
+        (λ high.
+        let two : 2 ≤ i = ltb-false i 2 high in
+        ap (λ v. filter mine (flat_map handed_over_in (on_link w i v))) ((Decides-eqb k 1).0 e)
+        ∙ events_to here u apart op third x holds i two hi ∙ expect_event i two))
+        (λ e. events_else here mine i k hi hk
+        (λ h. (let never : false ≡ true = sym e ∙ (Decides-eqb k 1).1 h.1 in cc)))
 
     event_only : (i k : ℕ) → (i ≡ a → k ≡ 1 → ⊥) → event_at i k ≡ []
-    event_only i k off = elim (k == 1) as (λ t. (k == 1) ≡ t → (if t then (if i == a then events_in x.ac else []) else []) ≡ []) [
-      | true ↦ λ e. elim (i == a) as (λ t. (i == a) ≡ t → (if t then events_in x.ac else []) ≡ []) [
-        | true ↦ λ h. absurd (off ((Decides-eqb i a).0 h) ((Decides-eqb k 1).0 e))
-        | false ↦ λ _. refl
-      ] refl
-      | false ↦ λ _. refl
-    ] refl
+    event_only i k off = split (k == 1) (λ t. (if t then (if i == a then events_in x.ac else []) else []) ≡ [])
+        (λ e. split (i == a) (λ t. (if t then events_in x.ac else []) ≡ []) (λ h. absurd (off ((Decides-eqb i a).0 h) ((Decides-eqb k 1).0 e))) (λ _. refl))
+        (λ _. refl)
 
     own_event : event_at a 1 ≡ events_in x.ac
     own_event = let self = holds.apart.src in rw self refl

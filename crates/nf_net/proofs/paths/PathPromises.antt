@@ -2,7 +2,7 @@
 use Rattle.nf_net.proofs.Words.{◌≡◌, ℕ, suc, ◌+◌, ◌<◌, ◌≤◌, Bool, true, false, List, [], ◌∷◌, ◌++◌, map, refl, sym, ap, ◌∙◌, subst, arith, if◌then◌else◌, ◌==◌}
 use Rattle.nf_net.proofs.Words.{nat_tests, Decides-eqb, Semantics, Msg, Note, Network, same_of, IsOrderedAs, exactly, not_both, WhereAll, Apart_from_shares}
 use Rattle.nf_net.proofs.Words.{Under_share, Config, Node, IsRising, IsInput, arrivals_in, is_loose, IsFront, arrived_of, processed_of, in_flight_of, is_sys}
-use Rattle.nf_net.proofs.Words.{Given, S, A, came_by, same_times, given, Unit}
+use Rattle.nf_net.proofs.Words.{Given, S, A, came_by, same_times, given, Unit, split}
 use Rattle.net_world.specs.Input.{packets}
 use Rattle.net_world.specs.Fold.{times}
 use Rattle.net_world.proofs.NumberCounts.{times-append}
@@ -22,10 +22,9 @@ rising_above p least (n ∷ ns) h low =
 
 pub rising_once : (p least : ℕ) (ns : List ℕ) → IsRising least ns → times p ns ≤ 1
 rising_once p least [] h = omega arith
-rising_once p least (n ∷ ns) h = elim (p == n) as (λ b. (p == n) ≡ b → (if b then 1 else 0) + times p ns ≤ 1) [
-  | true ↦ λ e. (let same : p ≡ n = (Decides-eqb p n).0 e in let rest = rising_above p (suc n) ns h.1 (omega (arith, same)) in omega (arith, rest))
-  | false ↦ λ _. (let rest = rising_once p (suc n) ns h.1 in omega (arith, rest))
-] refl
+rising_once p least (n ∷ ns) h = split (p == n) (λ b. (if b then 1 else 0) + times p ns ≤ 1)
+    (λ e. (let same : p ≡ n = (Decides-eqb p n).0 e in let rest = rising_above p (suc n) ns h.1 (omega (arith, same)) in omega (arith, rest)))
+    (λ _. (let rest = rising_once p (suc n) ns h.1 in omega (arith, rest)))
 
 pub came_once : {F R : Type 0} (f : Semantics R) (c : Config) (items : List Msg) → IsInput f.kind c items → (w : Network (Node F R) Msg Note)
     → IsFront (arrivals_in w.log) (map (λ p. p.number) (packets items)) → (p : ℕ) → times p (arrivals_in w.log) ≤ 1

@@ -7,7 +7,7 @@ use Rattle.nf_net.proofs.Words.{queue_at, at, EachOn, At_a, At_b, State, IsOrder
 use Rattle.nf_net.proofs.Words.{seat_all, is_known, Open, find_op, find_rule, held_of, seen, Seeing, frame, node_at, RuleLabel, EachNew, olds, OpenShare}
 use Rattle.nf_net.proofs.Words.{moves_of, NoShare, Config, Node, IsInput, is_loose, passed_in, carried_in, forwarded_in, handed_over_in, diverted_in, held_by}
 use Rattle.nf_net.proofs.Words.{arrived_of, Sees, but_shares, is_sys, Given, place, S, A, Label, FromSwitch, ToSwitch, ToController, shown, Joined, given, Unit}
-use Rattle.nf_net.proofs.Words.{Instance}
+use Rattle.nf_net.proofs.Words.{Instance, split}
 use Rattle.std.specs.FinMap as finite
 use Rattle.proof_machines.proofs.unit.Kept.{on_way}
 use Rattle.proof_machines.proofs.unit.Path.{carries, forwards, no_passes}
@@ -147,13 +147,11 @@ module _ {F R : Type 0} (here : Reached F R) where
 
   -- what holds of an empty link, and of each but the loop, holds of each
   pub on_each : (P : List Msg → Type 0) → P [] → (s r : ℕ) → ((s == 0) && (r == 0) ≡ false → P (on_link w s r)) → P (on_link w s r)
-  on_each P empty s r other = elim ((s == 0) && (r == 0)) as (λ b. (s == 0) && (r == 0) ≡ b → P (on_link w s r)) [
-    | true ↦ λ on.
-        let zs : s ≡ 0 = grind (arith, nat_tests) in
-        let zr : r ≡ 0 = grind (arith, nat_tests) in
-        subst P (sym (ap (λ v. on_link w v r) zs ∙ ap (λ v. on_link w 0 v) zr ∙ loop_is)) empty
-    | false ↦ λ off. other off
-  ] refl
+  on_each P empty s r other = split ((s == 0) && (r == 0)) (λ _. P (on_link w s r))
+      (λ on.
+      let zs : s ≡ 0 = grind (arith, nat_tests) in
+      let zr : r ≡ 0 = grind (arith, nat_tests) in
+      subst P (sym (ap (λ v. on_link w v r) zs ∙ ap (λ v. on_link w 0 v) zr ∙ loop_is)) empty) (λ off. other off)
 
   pub none_on : (mine : ℕ → Bool) (s r : ℕ) (of : Msg → List ℕ)
       → ((s == 0) && (r == 0) ≡ false → filter mine (flat_map of (on_link w s r)) ≡ []) → filter mine (flat_map of (on_link w s r)) ≡ []

@@ -1,7 +1,7 @@
 -- Where one of many has anything, what all of them have is what that one has; and what all have of one unit is what each has of it.
 use Rattle.nf_net.proofs.Words.{◌≡◌, ◌≢◌, ℕ, zero, suc, ◌+◌, ◌*◌, ◌<◌, ◌≤◌, Bool, true, false, List, [], ◌∷◌, ◌++◌, length, get_or, refl, sym, ap, ◌∙◌, subst}
 use Rattle.nf_net.proofs.Words.{append-nil, arith, if◌then◌else◌, ◌==◌, ◌-◌, nat_lt, filter, flat_map, ltb-false, nat_tests, Decides-eqb, Decides-ltb}
-use Rattle.nf_net.proofs.Words.{filter-append, Network, on_link, Each, each-append, all_but}
+use Rattle.nf_net.proofs.Words.{filter-append, Network, on_link, Each, each-append, all_but, split}
 use Rattle.actor_net.proofs.LinkLemmas.{inside}
 
 module _ {X Y : Type 0} where
@@ -45,31 +45,26 @@ pub but_none : (one : ℕ) (of : ℕ → List ℕ) (n : ℕ) → ((i : ℕ) → 
 but_none one of zero h = refl
 but_none one of (suc i) h =
     let rest = but_none one of i (λ k small off. h k (omega (arith, small)) off) in
-    rw rest (elim (i == one) as (λ b. (i == one) ≡ b → (if b then [] else of i) ≡ []) [
-      | true ↦ λ _. refl
-      | false ↦ λ e. h i (omega arith) (λ same. (let never : false ≡ true = sym e ∙ (Decides-eqb i one).1 same in cc))
-    ] refl)
+    rw rest (split (i == one) (λ b. (if b then [] else of i) ≡ []) (λ _. refl)
+    (λ e. h i (omega arith) (λ same. (let never : false ≡ true = sym e ∙ (Decides-eqb i one).1 same in cc))))
 
 pub but_one : (one m : ℕ) (of : ℕ → List ℕ) (n : ℕ) → m < n → m ≢ one → ((i : ℕ) → i < n → i ≢ one → i ≢ m → of i ≡ []) → all_but one of n ≡ of m
 but_one one m of zero small other h = absurd (omega (arith, small))
 but_one one m of (suc i) small other h =
-    elim (i == m) as (λ b. (i == m) ≡ b → all_but one of i ++ (if i == one then [] else of i) ≡ of m) [
-      | true ↦ λ e.
-          let same : i ≡ m = (Decides-eqb i m).0 e in
-          let off : (i == one) ≡ false = grind (arith, nat_tests, same, other) in
-          let rest = but_none one of i (λ k little out. h k (omega (arith, little)) out (λ at. absurd (omega (arith, little, at, same)))) in
-          rw (rest, off) (ap of same)
-      | false ↦ λ e.
-          let apart : i ≢ m = λ same. (let never : false ≡ true = sym e ∙ (Decides-eqb i m).1 same in cc) in
-          let rest = but_one one m of i (let below : m < i = grind (arith, nat_tests, small, e) in below) other
-          (λ k little out off. h k (omega (arith, little)) out off) in
-          let own : ◌≡◌ {A = List ℕ} (if i == one then [] else of i) [] =
-          elim (i == one) as (λ b. (i == one) ≡ b → ◌≡◌ {A = List ℕ} (if b then [] else of i) []) [
-            | true ↦ λ _. refl
-            | false ↦ λ out. h i (omega arith) (λ same. (let never : false ≡ true = sym out ∙ (Decides-eqb i one).1 same in cc)) apart
-          ] refl in
-          rw (rest, own) (append-nil (of m))
-    ] refl
+    split (i == m) (λ _. all_but one of i ++ (if i == one then [] else of i) ≡ of m)
+    (λ e.
+    let same : i ≡ m = (Decides-eqb i m).0 e in
+    let off : (i == one) ≡ false = grind (arith, nat_tests, same, other) in
+    let rest = but_none one of i (λ k little out. h k (omega (arith, little)) out (λ at. absurd (omega (arith, little, at, same)))) in
+    rw (rest, off) (ap of same))
+    (λ e.
+    let apart : i ≢ m = λ same. (let never : false ≡ true = sym e ∙ (Decides-eqb i m).1 same in cc) in
+    let rest = but_one one m of i (let below : m < i = grind (arith, nat_tests, small, e) in below) other
+    (λ k little out off. h k (omega (arith, little)) out off) in
+    let own : ◌≡◌ {A = List ℕ} (if i == one then [] else of i) [] =
+    split (i == one) (λ b. ◌≡◌ {A = List ℕ} (if b then [] else of i) []) (λ _. refl)
+    (λ out. h i (omega arith) (λ same. (let never : false ≡ true = sym out ∙ (Decides-eqb i one).1 same in cc)) apart) in
+    rw (rest, own) (append-nil (of m)))
 
 -- Links: a place in the list is that of a sender and a receiver.
 record IsPair (m n i : ℕ) : Type 0 where
@@ -84,22 +79,21 @@ one_more m n = omega arith
 
 pair_of : (m n i : ℕ) → i < m * n → IsPair m n i
 pair_of zero n i h = absurd (omega (arith, h))
-pair_of (suc m) n i h = elim (nat_lt i n) as (λ b. nat_lt i n ≡ b → IsPair (suc m) n i) [
-  | true ↦ λ e. record { from = 0; to = i; at = omega arith; from_is = omega arith; to_is = (Decides-ltb i n).0 e }
-  | false ↦ λ e.
-      let far : n ≤ i = ltb-false i n e in
-      let below : i < n + m * n = subst (λ v. i < v) (one_more m n) h in
-      let rest = pair_of m n (i - n) (omega (arith, far, below)) in
-      let at : i - n ≡ rest.from * n + rest.to = rest.at in
-      let whole : i ≡ (n + rest.from * n) + rest.to = omega (arith, far, at) in
-      record {
-        from = suc rest.from;
-        to = rest.to;
-        at = whole ∙ ap (λ v. v + rest.to) (sym (one_more rest.from n));
-        from_is = omega (arith, rest.from_is);
-        to_is = rest.to_is;
-      }
-] refl
+pair_of (suc m) n i h = split (nat_lt i n) (λ _. IsPair (suc m) n i)
+    (λ e. record { from = 0; to = i; at = omega arith; from_is = omega arith; to_is = (Decides-ltb i n).0 e })
+    (λ e.
+    let far : n ≤ i = ltb-false i n e in
+    let below : i < n + m * n = subst (λ v. i < v) (one_more m n) h in
+    let rest = pair_of m n (i - n) (omega (arith, far, below)) in
+    let at : i - n ≡ rest.from * n + rest.to = rest.at in
+    let whole : i ≡ (n + rest.from * n) + rest.to = omega (arith, far, at) in
+    record {
+      from = suc rest.from;
+      to = rest.to;
+      at = whole ∙ ap (λ v. v + rest.to) (sym (one_more rest.from n));
+      from_is = omega (arith, rest.from_is);
+      to_is = rest.to_is;
+    })
 
 module _ {A M N Y : Type 0} (w : Network A M N) (square : length w.links ≡ length w.nodes * length w.nodes) (of : List M → List Y) where
   abbrev n : ℕ

@@ -1,9 +1,9 @@
 -- The live record of a unit that no share has is the fold of what was processed of it, and it stands at one instance.
-use Rattle.nf_net.proofs.Words.{◌≡◌, ℕ, zero, suc, ◌<◌, ◌≤◌, true, false, Option, Some, None, List, [], ◌∷◌, ◌++◌, length, refl, sym, ap, ◌∙◌, arith}
-use Rattle.nf_net.proofs.Words.{if◌then◌else◌, ◌==◌, slice_get, option_to_list, Decides-eqb, slice_get_within, get_or_from_slice_get, Semantics, Msg, Note}
-use Rattle.nf_net.proofs.Words.{instance_node, Network, State, idle, Kept, Sys, World, Seeing, node_at, done_u, moves_of, Where, Config, Node, Switch}
-use Rattle.nf_net.proofs.Words.{Controller, IsInput, is_loose, arrived_of, live_in, live_at, is_sys, given, Given, WhereAll, Apart_from_shares, Under_share, S}
-use Rattle.nf_net.proofs.Words.{A, came_by, node_of, Joined, Unit, Instance}
+use Rattle.nf_net.proofs.Words.{◌≡◌, ℕ, zero, suc, ◌<◌, ◌≤◌, Option, Some, None, List, [], ◌∷◌, ◌++◌, length, refl, sym, ap, ◌∙◌, arith, if◌then◌else◌, ◌==◌}
+use Rattle.nf_net.proofs.Words.{slice_get, option_to_list, Decides-eqb, slice_get_within, get_or_from_slice_get, Semantics, Msg, Note, instance_node, Network}
+use Rattle.nf_net.proofs.Words.{State, idle, Kept, Sys, World, Seeing, node_at, done_u, moves_of, Where, Config, Node, Switch, Controller, IsInput, is_loose}
+use Rattle.nf_net.proofs.Words.{arrived_of, live_in, live_at, is_sys, given, Given, WhereAll, Apart_from_shares, Under_share, S, A, came_by, node_of, Joined}
+use Rattle.nf_net.proofs.Words.{Unit, Instance, split, either_way}
 use Rattle.std.specs.FinMap as finite
 use Rattle.proof_machines.proofs.unit.Kept.{Kept.Nowhere, Kept.Is_live, Kept.On_way, Kept.Twice, lives, on_way}
 use Rattle.proof_machines.proofs.net.Readings.{fold, RecordOf, record_of}
@@ -17,18 +17,12 @@ data LivesAt {R : Type 0} (z : Seeing) (x : State R) (k : ℕ) (r : R) : Type 0 
 
 lives_at : {R : Type 0} (S : Sys R) (z : Seeing) (x : State R) (k : ℕ) (r : R) → (node_at S z x k).live ≡ Some r → LivesAt z x k r
 lives_at S z x k r =
-    elim (k == z.op.src) as (λ b. (k == z.op.src) ≡ b
-    → (if b then x.a else if k == z.op.dst then x.b else if k == z.third then x.c else idle None).live ≡ Some r → LivesAt z x k r) [
-      | true ↦ λ e h. In_a ((Decides-eqb k z.op.src).0 e) h
-      | false ↦ λ _. elim (k == z.op.dst)
-          as (λ b. (k == z.op.dst) ≡ b → (if b then x.b else if k == z.third then x.c else idle None).live ≡ Some r → LivesAt z x k r) [
-            | true ↦ λ e h. In_b ((Decides-eqb k z.op.dst).0 e) h
-            | false ↦ λ _. elim (k == z.third) as (λ b. (k == z.third) ≡ b → (if b then x.c else idle None).live ≡ Some r → LivesAt z x k r) [
-              | true ↦ λ e h. In_c ((Decides-eqb k z.third).0 e) h
-              | false ↦ λ _ h. cc
-            ] refl
-          ] refl
-    ] refl
+    split (k == z.op.src) (λ b. (if b then x.a else if k == z.op.dst then x.b else if k == z.third then x.c else idle None).live ≡ Some r → LivesAt z x k r)
+    (λ e h. In_a ((Decides-eqb k z.op.src).0 e) h)
+    (λ _. split (k == z.op.dst) (λ b. (if b then x.b else if k == z.third then x.c else idle None).live ≡ Some r → LivesAt z x k r)
+    (λ e h. In_b ((Decides-eqb k z.op.dst).0 e) h)
+    (λ _. split (k == z.third) (λ b. (if b then x.c else idle None).live ≡ Some r → LivesAt z x k r) (λ e h. In_c ((Decides-eqb k z.third).0 e) h)
+    (λ _ h. cc)))
 
 -- at most one of three, and it is the fold
 record IsOne {R : Type 0} (o : Option R) (a b c : Option R) : Type 0 where
@@ -151,7 +145,5 @@ module _ {F R : Type 0} (f : Semantics R) (c : Config) (items : List Msg) (is : 
         where
           -- under a share it is at the home
           at_home : (m : ℕ) (y : R) → live_at w m u ≡ Some y → instance_node m ≡ x.home
-          at_home m y live = elim (instance_node m == x.home) as (λ t. (instance_node m == x.home) ≡ t → instance_node m ≡ x.home) [
-            | true ↦ λ on. (Decides-eqb (instance_node m) x.home).0 on
-            | false ↦ λ off. (let never : None ≡ Some y = sym (h.away (instance_node m) off) ∙ live_in_world f c items is n w count j u m y live in cc)
-          ] refl
+          at_home m y live = either_way (instance_node m == x.home) (λ on. (Decides-eqb (instance_node m) x.home).0 on)
+              (λ off. (let never : None ≡ Some y = sym (h.away (instance_node m) off) ∙ live_in_world f c items is n w count j u m y live in cc))

@@ -5,7 +5,7 @@ use Rattle.nf_net.proofs.Words.{filter-append, Packet, unit_at, same_unit-true, 
 use Rattle.nf_net.proofs.Words.{passes_in, events_in, expect, seat_shape, seat_all, seat_path, none_in, Seeing, node_at, side_place, same_done, seat_parts}
 use Rattle.nf_net.proofs.Words.{where_two, moves_of, packet_numbered, arrivals_in, installs_in, all_but, passed_in, forwarded_in, handed_over_in, diverted_in}
 use Rattle.nf_net.proofs.Words.{stored_by, queued_by, on_links, owner, is_loose, IsFront, is_of, arrived_of, processed_of, in_flight_of, unit_fits, target_node}
-use Rattle.nf_net.proofs.Words.{is_sys, unit_is_fit, Given, GenuinePacket, S, A, done_same, given, genuine, Unit, flow_of}
+use Rattle.nf_net.proofs.Words.{is_sys, unit_is_fit, Given, GenuinePacket, S, A, done_same, given, genuine, Unit, flow_of, split}
 use Rattle.std.specs.Prelude.{None}
 use Rattle.proof_machines.proofs.unit.Stages as stages
 use Rattle.proof_machines.proofs.unit.Path.{carries, forwards}
@@ -90,16 +90,13 @@ module _ {F R : Type 0} (here : Reached F R) (in_turn : IsFront (arrivals_in her
   known_of : (qs : List Packet) → Each (GenuinePacket f g) qs → (p : ℕ) (ps : List ℕ) → filter mine (map (λ q. q.number) qs) ≡ p ∷ ps → IsOwned
   known_of [] h p ps e = cc
   known_of (q ∷ qs) h p ps e =
-      elim (mine q.number) as (λ b. mine q.number ≡ b
-      → (if b then q.number ∷ filter mine (map (λ y. y.number) qs) else filter mine (map (λ y. y.number) qs)) ≡ p ∷ ps → IsOwned) [
-        | true ↦ λ its _.
-            let to = j.shown_is.switch.routes (flow_of c.site q).0 h.0.fits in
-            let unit : unit_at f.kind c.site q ≡ u = ap (unit_at f.kind c.site) h.0.same
-            ∙ same_unit-true (unit_at f.kind c.site (packet_numbered items q.number)) u its in
-            let fits : unit_fits f.kind u ≡ true = subst (λ v. unit_fits f.kind v ≡ true) unit (unit_is_fit f.kind (flow_of c.site q).0 h.0.fits) in
-            owned_by to.target (ap j.world.target (sym unit) ∙ to.node) to.there fits
-        | false ↦ λ _ rest. known_of qs h.1 p ps rest
-      ] refl e
+      split (mine q.number) (λ b. (if b then q.number ∷ filter mine (map (λ y. y.number) qs) else filter mine (map (λ y. y.number) qs)) ≡ p ∷ ps → IsOwned)
+      (λ its _.
+      let to = j.shown_is.switch.routes (flow_of c.site q).0 h.0.fits in
+      let unit : unit_at f.kind c.site q ≡ u = ap (unit_at f.kind c.site) h.0.same
+      ∙ same_unit-true (unit_at f.kind c.site (packet_numbered items q.number)) u its in
+      let fits : unit_fits f.kind u ≡ true = subst (λ v. unit_fits f.kind v ≡ true) unit (unit_is_fit f.kind (flow_of c.site q).0 h.0.fits) in
+      owned_by to.target (ap j.world.target (sym unit) ∙ to.node) to.there fits) (λ _ rest. known_of qs h.1 p ps rest) e
 
   pub by_came : {P : Type 0} → (seat_all k.seat ≡ [] → P) → (IsOwned → P) → P
   by_came {P = P} none some = by_list (arrived_of f c items u w.log) refl
@@ -181,11 +178,8 @@ module _ {F R : Type 0} (here : Reached F R) (in_turn : IsFront (arrivals_in her
   nowhere none =
       let empty = empty_of x way stands.last none in
       let no_side : (m : ℕ) → at_one m ≡ [] = λ m. no_one m empty in
-      let none_at : (i : ℕ) → filter mine (at_instance w i) ≡ [] = λ i. elim (nat_lt (instance_node i) n)
-      as (λ t. nat_lt (instance_node i) n ≡ t → filter mine (at_instance w i) ≡ []) [
-        | true ↦ λ e. inside i ((Decides-ltb (instance_node i) n).0 e) ∙ no_side (instance_node i)
-        | false ↦ λ e. outside i (ltb-false (instance_node i) n e)
-      ] refl in
+      let none_at : (i : ℕ) → filter mine (at_instance w i) ≡ [] = λ i. split (nat_lt (instance_node i) n) (λ _. filter mine (at_instance w i) ≡ [])
+      (λ e. inside i ((Decides-ltb (instance_node i) n).0 e) ∙ no_side (instance_node i)) (λ e. outside i (ltb-false (instance_node i) n e)) in
       placed [] (record {
         joins = ap (λ v. v ++ filter mine (at_instance w i0))
             (but [] (but_none i0 (λ i. filter mine (at_instance w i)) (length c.names) (λ i _ _. none_at i))) ∙ none_at i0;

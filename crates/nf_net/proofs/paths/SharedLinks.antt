@@ -5,7 +5,7 @@ use Rattle.nf_net.proofs.Words.{if◌then◌else◌, ◌==◌, option_map, cons_
 use Rattle.nf_net.proofs.Words.{same_unit-true, FullCell, Target, Command, Order, Msg, instance_node, record_at, where_true, add, UnitShare, forwarded}
 use Rattle.nf_net.proofs.Words.{diverted, MoveAsked, NothingOf, ShareLabel, unit_share, share_seen, share_items, Any, New, WantShare, S_asked, S_shared}
 use Rattle.nf_net.proofs.Words.{EachNew, olds, same, SeeingShare, passed_in, carried_in, handed_over_in, number, entries, want_of, asked_of, want_share_of}
-use Rattle.nf_net.proofs.Words.{Given, place, S, A, shown, Label, Unit, Mark}
+use Rattle.nf_net.proofs.Words.{Given, place, S, A, shown, Label, Unit, Mark, split}
 use Rattle.actor_net.proofs.WeightLaws.{Each}
 use Rattle.proof_machines.proofs.unit.Labels as labels
 use Rattle.proof_machines.proofs.share.Share.{Item, Item.Carry, Item.Fence, Item.Shared, Item.Diverted, Item.Install, Item.Forward, Item.Get, Item.Sync}
@@ -101,46 +101,43 @@ module _ {R : Type 0} (f : Semantics R) (g : Given) (z : SeeingShare) where
   shared_read : (op : ℕ) (home : Bool) (cell : FullCell) (right : Bool) → ((op == z.num) ≡ true → right ≡ true)
       → ((op == z.num) ≡ false → mine (number cell) ≡ false) → IsRead (Msg.Carry (Mark.Shared op home) cell)
       (if op == z.num then Some (if right then Shared (number cell) else Stray) else where_true (mine (number cell)) Stray)
-  shared_read op home cell right own other = elim (op == z.num) as (λ b. (op == z.num) ≡ b → IsRead (Msg.Carry (Mark.Shared op home) cell)
-      (if b then Some (if right then Shared (number cell) else Stray) else where_true (mine (number cell)) Stray)) [
-        | true ↦ λ on. let ok = own on in
-            rw ok (elim (mine (number cell))
-            as (λ b. ◌≡◌ {A = Reading} (record { shared = if b then number cell ∷ [] else []; carry = []; forward = []; divert = [] })
-            (record { shared = (if b then number cell ∷ [] else []) ++ []; carry = []; forward = []; divert = [] })) [ true ↦ refl | false ↦ refl ])
-        | false ↦ λ off. let no = other off in rw no refl
-      ] refl
+  shared_read op home cell right own other = split (op == z.num)
+      (λ b. IsRead (Msg.Carry (Mark.Shared op home) cell)
+      (if b then Some (if right then Shared (number cell) else Stray) else where_true (mine (number cell)) Stray))
+      (λ on. let ok = own on in
+      rw ok (elim (mine (number cell))
+      as (λ b. ◌≡◌ {A = Reading} (record { shared = if b then number cell ∷ [] else []; carry = []; forward = []; divert = [] })
+      (record { shared = (if b then number cell ∷ [] else []) ++ []; carry = []; forward = []; divert = [] })) [ true ↦ refl | false ↦ refl ]))
+      (λ off. let no = other off in rw no refl)
 
   forward_read : (to op : ℕ) (home : Bool) (cell : FullCell) (right : Bool) → ((op == z.num) ≡ true → right ≡ true)
       → ((op == z.num) ≡ false → mine (number cell) ≡ false) → IsRead (Msg.Forward to (Mark.Shared op home) cell)
       (if op == z.num then Some (if right then Forward (number cell) (instance_node to) else Stray) else where_true (mine (number cell)) Stray)
-  forward_read to op home cell right own other = elim (op == z.num) as (λ b. (op == z.num) ≡ b → IsRead (Msg.Forward to (Mark.Shared op home) cell)
-      (if b then Some (if right then Forward (number cell) (instance_node to) else Stray) else where_true (mine (number cell)) Stray)) [
-        | true ↦ λ on. let ok = own on in
-            rw ok (elim (mine (number cell))
-            as (λ b. ◌≡◌ {A = Reading} (record { shared = []; carry = []; forward = if b then number cell ∷ [] else []; divert = [] })
-            (record { shared = []; carry = []; forward = (if b then number cell ∷ [] else []) ++ []; divert = [] })) [ true ↦ refl | false ↦ refl ])
-        | false ↦ λ off. let no = other off in rw no refl
-      ] refl
+  forward_read to op home cell right own other = split (op == z.num)
+      (λ b. IsRead (Msg.Forward to (Mark.Shared op home) cell)
+      (if b then Some (if right then Forward (number cell) (instance_node to) else Stray) else where_true (mine (number cell)) Stray))
+      (λ on. let ok = own on in
+      rw ok (elim (mine (number cell))
+      as (λ b. ◌≡◌ {A = Reading} (record { shared = []; carry = []; forward = if b then number cell ∷ [] else []; divert = [] })
+      (record { shared = []; carry = []; forward = (if b then number cell ∷ [] else []) ++ []; divert = [] })) [ true ↦ refl | false ↦ refl ]))
+      (λ off. let no = other off in rw no refl)
 
   module _ (covered : (S f g).takes z.filter z.unit ≡ true) where
     -- what the share doesn't take isn't the unit's
     not_taken : (p : ℕ) → (S f g).takes z.filter ((S f g).packet_unit p) ≡ false → mine p ≡ false
-    not_taken p out = elim (mine p) as (λ b. mine p ≡ b → b ≡ false) [
-      | true ↦ λ on. (let its_unit : (S f g).packet_unit p ≡ z.unit = same_unit-true ((S f g).packet_unit p) z.unit on in
-          let never : true ≡ false = sym covered ∙ ap ((S f g).takes z.filter) (sym its_unit) ∙ out in cc)
-      | false ↦ λ _. refl
-    ] refl
+    not_taken p out = split (mine p) (λ b. b ≡ false)
+        (λ on. (let its_unit : (S f g).packet_unit p ≡ z.unit = same_unit-true ((S f g).packet_unit p) z.unit on in
+        let never : true ≡ false = sym covered ∙ ap ((S f g).takes z.filter) (sym its_unit) ∙ out in cc)) (λ _. refl)
 
     diverted_read : (cell : FullCell) → IsRead (Msg.Diverted cell)
         (if (S f g).takes z.filter ((S f g).packet_unit (number cell)) then Some (Diverted (number cell)) else where_true (mine (number cell)) Stray)
     diverted_read cell =
-        elim ((S f g).takes z.filter ((S f g).packet_unit (number cell))) as (λ b. (S f g).takes z.filter ((S f g).packet_unit (number cell)) ≡ b
-        → IsRead (Msg.Diverted cell) (if b then Some (Diverted (number cell)) else where_true (mine (number cell)) Stray)) [
-          | true ↦ λ _. elim (mine (number cell))
-              as (λ b. ◌≡◌ {A = Reading} (record { shared = []; carry = []; forward = []; divert = if b then number cell ∷ [] else [] })
-              (record { shared = []; carry = []; forward = []; divert = (if b then number cell ∷ [] else []) ++ [] })) [ true ↦ refl | false ↦ refl ]
-          | false ↦ λ out. let no = not_taken (number cell) out in rw no refl
-        ] refl
+        split ((S f g).takes z.filter ((S f g).packet_unit (number cell)))
+        (λ b. IsRead (Msg.Diverted cell) (if b then Some (Diverted (number cell)) else where_true (mine (number cell)) Stray))
+        (λ _. elim (mine (number cell))
+        as (λ b. ◌≡◌ {A = Reading} (record { shared = []; carry = []; forward = []; divert = if b then number cell ∷ [] else [] })
+        (record { shared = []; carry = []; forward = []; divert = (if b then number cell ∷ [] else []) ++ [] })) [ true ↦ refl | false ↦ refl ])
+        (λ out. let no = not_taken (number cell) out in rw no refl)
 
     asked_read : (k : Command) (r : ℕ) (what : Order) → IsRead (Msg.Asked k) (item_of r (asked_of f (place g) k.op what))
     asked_read k r (Order.Move src dst filter keep) = by_want (want_of (place g) k.op (Order.Move src dst filter keep))

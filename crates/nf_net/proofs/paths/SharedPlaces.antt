@@ -4,7 +4,7 @@ use Rattle.nf_net.proofs.Words.{◌==◌, ◌&&◌, nat_lt, slice_get, filter, f
 use Rattle.nf_net.proofs.Words.{on_link, Each, UnitShare, View, mine_in, shape, OfShare, Open, find_op, RestRule, NothingOf, none_mine, ShareLabel, label_of}
 use Rattle.nf_net.proofs.Words.{unit_share, share_expect, share_items, as_share, WantShare, OpenShare, EachNew, olds, SeeingShare, seeing, lasts, passed_in}
 use Rattle.nf_net.proofs.Words.{carried_in, forwarded_in, handed_over_in, diverted_in, stored_by, queued_by, held_by, on_links, Sees, but_shares, both, Given}
-use Rattle.nf_net.proofs.Words.{place, S, A, shown, given, Unit}
+use Rattle.nf_net.proofs.Words.{place, S, A, shown, given, Unit, either_way}
 use Rattle.proof_machines.proofs.share.Path.{carries, shared_in, forwarded as forwards, diverted as diverts}
 use Rattle.proof_machines.proofs.net.NewMessages.{each_new_map}
 use Rattle.proof_machines.proofs.net.ShareLabels.{queue_other}
@@ -88,15 +88,14 @@ module _ {F R : Type 0} (here : Reached F R) (u : Unit) (x : WantShare) (before 
       ∙ (to_instance its_places.at (k.insts its_places.at its_places.inside) at_few).shared
     where
       elsewhere : (a b : ℕ) → a < n → b < n → (a ≡ 0 → b ≡ its_places.at → ⊥) → filter mine (flat_map passed_in (on_link w a b)) ≡ []
-      elsewhere a b ha hb off = elim ((a == 0) && nat_lt 1 b) as (λ t. (a == 0) && nat_lt 1 b ≡ t → filter mine (flat_map passed_in (on_link w a b)) ≡ []) [
-        | true ↦ λ on.
-            let from : a ≡ 0 = grind (arith, nat_tests, on) in
-            let high : 2 ≤ b = grind (arith, nat_tests, on) in
-            ap (λ s. filter mine (flat_map passed_in (on_link w s b))) from ∙ (to_instance b high hb).shared ∙ its_places.others b (λ same. off from same)
-        | false ↦ λ out. passed_else here mine a b ha hb (λ h. (let from = h.0 in
-            let high = h.1 in
-            let on : (a == 0) && nat_lt 1 b ≡ true = grind (arith, nat_tests, from, high) in let never : true ≡ false = sym on ∙ out in cc))
-      ] refl
+      elsewhere a b ha hb off = either_way ((a == 0) && nat_lt 1 b)
+          (λ on.
+          let from : a ≡ 0 = grind (arith, nat_tests, on) in
+          let high : 2 ≤ b = grind (arith, nat_tests, on) in
+          ap (λ s. filter mine (flat_map passed_in (on_link w s b))) from ∙ (to_instance b high hb).shared ∙ its_places.others b (λ same. off from same))
+          (λ out. passed_else here mine a b ha hb (λ h. (let from = h.0 in
+          let high = h.1 in
+          let on : (a == 0) && nat_lt 1 b ≡ true = grind (arith, nat_tests, from, high) in let never : true ≡ false = sym on ∙ out in cc)))
 
   -- packets on their way by the switch, and those that are diverted
   pub forwards_are : filter mine (on_links w forwarded_in) ≡ forwards fr v.cs

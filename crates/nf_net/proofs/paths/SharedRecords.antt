@@ -4,7 +4,7 @@ use Rattle.nf_net.proofs.Words.{◌≡◌, ◌≢◌, ℕ, ◌<◌, ◌≤◌, t
 use Rattle.nf_net.proofs.Words.{nat_lt, slice_get, flat_map, ltb-false, or_left, or_right, nat_tests, Decides-ltb, slice_get_past, Semantics, same_unit}
 use Rattle.nf_net.proofs.Words.{is_among, controller_node, instance_node, on_link, Ran, UnitShare, View, has, processed, shape, self, unit_share, as_share}
 use Rattle.nf_net.proofs.Words.{WantShare, SeeingShare, ran_of, seeing, packets_done, fold_packets, owner, is_of, processed_of, live_in, live_at, standby_in}
-use Rattle.nf_net.proofs.Words.{standby_at, Given, S, A, done_same, given, Unit}
+use Rattle.nf_net.proofs.Words.{standby_at, Given, S, A, done_same, given, Unit, split}
 use Rattle.std.specs.FinMap as finite
 use Rattle.proof_machines.proofs.share.Share.{runs}
 use Rattle.proof_machines.proofs.share.Stages.{packets}
@@ -23,11 +23,9 @@ last_mine : {R : Type 0} (f : Semantics R) (g : Given) (u : Unit) (ds xs : List 
     → same_unit ((S f g).packet_unit d.0) u ≡ true
 last_mine f g u [] [] d e = cc
 last_mine f g u [] (y ∷ ys) d e = cc
-last_mine f g u (x ∷ ds) xs d e = elim (same_unit ((S f g).packet_unit x.0) u) as (λ b. same_unit ((S f g).packet_unit x.0) u ≡ b
-    → (if b then x ∷ ran_of (S f g) (A f g) u ds else ran_of (S f g) (A f g) u ds) ≡ xs ++ d ∷ [] → same_unit ((S f g).packet_unit d.0) u ≡ true) [
-      | true ↦ λ on q. by_front on (λ ys more. last_mine f g u ds ys d more) xs q
-      | false ↦ λ _ q. last_mine f g u ds xs d q
-    ] refl e
+last_mine f g u (x ∷ ds) xs d e = split (same_unit ((S f g).packet_unit x.0) u)
+    (λ b. (if b then x ∷ ran_of (S f g) (A f g) u ds else ran_of (S f g) (A f g) u ds) ≡ xs ++ d ∷ [] → same_unit ((S f g).packet_unit d.0) u ≡ true)
+    (λ on q. by_front on (λ ys more. last_mine f g u ds ys d more) xs q) (λ _ q. last_mine f g u ds xs d q) e
   where
     by_front : same_unit ((S f g).packet_unit x.0) u ≡ true
         → ((ys : List Ran) → ran_of (S f g) (A f g) u ds ≡ ys ++ d ∷ [] → same_unit ((S f g).packet_unit d.0) u ≡ true) → (ys : List Ran)
@@ -89,10 +87,9 @@ module _ {F R : Type 0} (here : Reached F R) (told : HomesTold here) (u : Unit) 
   pub alone : (i : ℕ) → i ≢ i0 → live_at w i u ≡ None
   alone i off =
       let other : (instance_node i == x.home) ≡ false = (let home = home_is in grind (arith, nat_tests, off, home)) in
-      elim (nat_lt (instance_node i) n) as (λ t. nat_lt (instance_node i) n ≡ t → live_at w i u ≡ None) [
-        | true ↦ λ e. live_there (instance_node i) (omega arith) ((Decides-ltb (instance_node i) n).0 e) ∙ k.away (instance_node i) other
-        | false ↦ λ e. ap (live_in u) (slice_get_past w.nodes (instance_node i) (rw nodes (ltb-false (instance_node i) n e)))
-      ] refl
+      split (nat_lt (instance_node i) n) (λ _. live_at w i u ≡ None)
+      (λ e. live_there (instance_node i) (omega arith) ((Decides-ltb (instance_node i) n).0 e) ∙ k.away (instance_node i) other)
+      (λ e. ap (live_in u) (slice_get_past w.nodes (instance_node i) (rw nodes (ltb-false (instance_node i) n e))))
 
   -- a member has processed the last packet, and the home is to take its record
   pub record HomeLacksLast : Type 0 where

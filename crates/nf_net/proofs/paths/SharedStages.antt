@@ -2,7 +2,7 @@
 -- processed, or the record of the member that processed the last packet is on its way to the home.
 use Rattle.nf_net.proofs.Words.{◌≡◌, ◌≢◌, ℕ, Bool, true, false, cond, Option, Some, None, List, [], ◌∷◌, ◌++◌, map, inl, inr, refl, sym, ap, ◌∙◌, append_assoc}
 use Rattle.nf_net.proofs.Words.{append-nil, arith, nat_tests, Decides-eqb, Ran, UnitShare, has, mine_in, served, Stage, processed, shape, self, cond-same}
-use Rattle.nf_net.proofs.Words.{forwarded, diverted}
+use Rattle.nf_net.proofs.Words.{forwarded, diverted, split}
 use Rattle.std.proofs.Common.{◌==◌}
 use Rattle.proof_machines.proofs.share.Share.{Item, Item.Carry, Item.Fence, Item.Shared, Item.Sync, Item.Chunk, after, over, only, nowhere}
 use Rattle.proof_machines.proofs.share.Stages.{Turn, Turn.Going, Turn.Coming, Turn.Quiet, is_going, is_pending, goes_to, Stage.Diverting, Stage.Fence_goes}
@@ -161,10 +161,8 @@ module _ {R : Type 0} (f : UnitShare R) where
     sees (Get_goes d b q v) h = let home = self f.home in Sees_all (rw home refl)
     sees (Chunks_come d b q v) h = let home = self f.home in Sees_all (rw home refl)
     sees (Spreads first d e b c at o left q v) h =
-        elim (is_going (at f.home)) as (λ t. is_going (at f.home) ≡ t → Sees (Spreads first d e b c at o left q v)) [
-          | true ↦ λ on. spread first d e b c at o left q v on (h.gives f.home is.home_in) (h.lately on)
-          | false ↦ λ off. Sees_all (rw off refl)
-        ] refl
+        split (is_going (at f.home)) (λ _. Sees (Spreads first d e b c at o left q v))
+        (λ on. spread first d e b c at o left q v on (h.gives f.home is.home_in) (h.lately on)) (λ off. Sees_all (rw off refl))
     sees (Resting d e v) h = Sees_all refl
     sees (Forwards d e p q v) h = Sees_all refl
     sees (Carries d e p q v) h = Sees_all refl

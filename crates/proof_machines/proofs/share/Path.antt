@@ -1,7 +1,10 @@
 -- The path of a stage is what waits of the unit in its view, place by place: carried to members, forwarded, plain on the link to home, in
 -- the queue, and diverted.
-use Rattle.std.proofs.Common.{◌≡◌, ℕ, Bool, true, false, cond, ◌==◌, List, [], ◌∷◌, ◌++◌, map, refl, sym, ap, subst, append_assoc, append-nil, arith}
+use Rattle.std.proofs.Common.{◌≡◌, ℕ, Bool, true, false, cond, ◌==◌, Option, Some, None, List, [], ◌∷◌, ◌++◌, map, refl, sym, ap, subst, append_assoc, append-nil, arith}
+use Rattle.std.specs.List.{filter_map}
 use Rattle.std.proofs.lemmas.Bool.Decides.{nat_tests, Decides-eqb}
+use Rattle.std.proofs.lemmas.List.Elements.{filter_map-append}
+use Rattle.proof_machines.proofs.unit.Lists.{picked_each}
 use Rattle.proof_machines.proofs.share.Share.{Item, Item.Carry, Item.Fence, Item.Shared, Item.Diverted, Item.Forward, UnitShare, View, has, if_mine, mine_in}
 use Rattle.proof_machines.proofs.share.Share.{only, nowhere}
 use Rattle.proof_machines.proofs.share.Stages.{Stage, Stage.Diverting, Stage.Fence_goes, Stage.Carries, shape, path, distinct, IsShare}
@@ -13,10 +16,12 @@ abbrev pub gather : {X : Type 0} → List ℕ → (ℕ → List X) → List X
 gather [] g = []
 gather (m ∷ ms) g = g m ++ gather ms g
 
+abbrev carry_of : {R : Type 0} → Item R → Option ℕ
+carry_of (Carry p) = Some p
+carry_of x = None
+
 abbrev pub carries : {R : Type 0} → List (Item R) → List ℕ
-carries [] = []
-carries (Carry p ∷ xs) = p ∷ carries xs
-carries (_ ∷ xs) = carries xs
+carries xs = filter_map carry_of xs
 
 abbrev pub shared_in : {R : Type 0} → UnitShare R → List (Item R) → List ℕ
 shared_in f [] = []
@@ -69,13 +74,10 @@ abbrev divert : {R : Type 0} → ℕ → Item R
 divert p = Diverted p
 
 carries-append : {R : Type 0} (xs ys : List (Item R)) → carries (xs ++ ys) ≡ carries xs ++ carries ys
-carries-append [] ys = refl
-carries-append (Carry p ∷ xs) ys = ap (λ z. p ∷ z) (carries-append xs ys)
-carries-append (x ∷ xs) ys = carries-append xs ys
+carries-append xs ys = filter_map-append carry_of xs ys
 
 all_carries : (R : Type 0) (l : List ℕ) → carries (map (carry {R = R}) l) ≡ l
-all_carries R [] = refl
-all_carries R (p ∷ l) = ap (λ z. p ∷ z) (all_carries R l)
+all_carries R l = picked_each carry_of carry (λ p. refl) l
 
 no_shared : {R : Type 0} (f : UnitShare R) (l : List ℕ) → shared_in f (map carry l) ≡ []
 no_shared f [] = refl

@@ -1,7 +1,9 @@
 -- Laws over `++` of the lists in a stage: processed packets, plain packets mixed with passed ones, and events mixed with pieces and
 -- Deleteds.
-use Rattle.std.proofs.Common.{◌≡◌, ℕ, Bool, true, false, Option, None, Some, List, [], ◌∷◌, ◌++◌, map, refl, ap}
+use Rattle.std.proofs.Common.{◌≡◌, ℕ, Bool, true, false, Option, None, Some, List, [], ◌∷◌, ◌++◌, ◌∙◌, map, refl, ap}
 use Rattle.std.specs.Prelude.{if◌then◌else◌, is_some}
+use Rattle.std.specs.List.{filter_map, cons_option}
+use Rattle.std.proofs.lemmas.List.Elements.{filter_map-append}
 use Rattle.proof_machines.proofs.unit.Machine.{Where, Ran, on, Steps, runs, Part, Item, Carry, Pass, Event, Piece, Deleted, is_nil}
 
 pub nil_is : {X : Type 0} (xs : List X) → is_nil xs ≡ true → xs ≡ []
@@ -98,42 +100,45 @@ shown (Ev p) = Event p
 shown (Pc h) = Piece h
 shown (Dd h) = Deleted
 
+abbrev event_of : {R : Type 0} → Mix R → Option ℕ
+event_of (Ev p) = Some p
+event_of x = None
+
+abbrev piece_of : {R : Type 0} → Mix R → Option (Part R)
+piece_of (Pc h) = Some h
+piece_of x = None
+
+abbrev deleted_of : {R : Type 0} → Mix R → Option (Part R)
+deleted_of (Dd h) = Some h
+deleted_of x = None
+
 abbrev pub events : {R : Type 0} → List (Mix R) → List ℕ
-events [] = []
-events (Ev p ∷ y) = p ∷ events y
-events (Pc h ∷ y) = events y
-events (Dd h ∷ y) = events y
+events y = filter_map event_of y
 
 abbrev pub parts_in : {R : Type 0} → List (Mix R) → List (Part R)
-parts_in [] = []
-parts_in (Ev p ∷ y) = parts_in y
-parts_in (Pc h ∷ y) = h ∷ parts_in y
-parts_in (Dd h ∷ y) = parts_in y
+parts_in y = filter_map piece_of y
 
 -- the pieces whose Deleted is on the link
 abbrev pub named : {R : Type 0} → List (Mix R) → List (Part R)
-named [] = []
-named (Ev p ∷ y) = named y
-named (Pc h ∷ y) = named y
-named (Dd h ∷ y) = h ∷ named y
+named y = filter_map deleted_of y
 
 pub events-append : {R : Type 0} (x y : List (Mix R)) → events (x ++ y) ≡ events x ++ events y
-events-append [] y = refl
-events-append (Ev p ∷ x) y = ap (λ z. p ∷ z) (events-append x y)
-events-append (Pc h ∷ x) y = events-append x y
-events-append (Dd h ∷ x) y = events-append x y
+events-append x y = filter_map-append event_of x y
 
 pub pieces-append : {R : Type 0} (x y : List (Mix R)) → parts_in (x ++ y) ≡ parts_in x ++ parts_in y
-pieces-append [] y = refl
-pieces-append (Ev p ∷ x) y = pieces-append x y
-pieces-append (Pc h ∷ x) y = ap (λ z. h ∷ z) (pieces-append x y)
-pieces-append (Dd h ∷ x) y = pieces-append x y
+pieces-append x y = filter_map-append piece_of x y
 
 pub named-append : {R : Type 0} (x y : List (Mix R)) → named (x ++ y) ≡ named x ++ named y
-named-append [] y = refl
-named-append (Ev p ∷ x) y = named-append x y
-named-append (Pc h ∷ x) y = named-append x y
-named-append (Dd h ∷ x) y = ap (λ z. h ∷ z) (named-append x y)
+named-append x y = filter_map-append deleted_of x y
+
+-- what is picked of a list of one kind: all of it, or nothing
+pub picked_each : {X Y : Type 0} (pick : Y → Option X) (make : X → Y) → ((x : X) → pick (make x) ≡ Some x) → (xs : List X) → filter_map pick (map make xs) ≡ xs
+picked_each pick make is [] = refl
+picked_each pick make is (x ∷ xs) = ap (λ o. cons_option o (filter_map pick (map make xs))) (is x) ∙ ap (λ ys. x ∷ ys) (picked_each pick make is xs)
+
+pub picked_none : {X Y Z : Type 0} (pick : Y → Option Z) (make : X → Y) → ((x : X) → pick (make x) ≡ None) → (xs : List X) → filter_map pick (map make xs) ≡ []
+picked_none pick make is [] = refl
+picked_none pick make is (x ∷ xs) = ap (λ o. cons_option o (filter_map pick (map make xs))) (is x) ∙ picked_none pick make is xs
 
 -- the link as Stream leaves it
 pub events-sent : {R : Type 0} (e : List ℕ) (ps : List (Part R)) → events (map Ev e ++ map Pc ps) ≡ e

@@ -9,7 +9,7 @@ use Rattle.std.specs.FinMap as finite
 use Rattle.proof_machines.proofs.net.Net as net
 use Rattle.proof_outlines.proofs.joined.Words.{is_sys, filter_map-put, outline_each, outline_all, is_sharing, SeesAny, AllStep, all_step, Given, place, Genuine}
 use Rattle.proof_outlines.proofs.joined.Words.{Label, Scene, Nodes, AreShown, IsTaken, IsController, IsListed, Leads, node_of, shown, S, A, by_node, commands}
-use Rattle.proof_outlines.proofs.joined.Words.{links_next, came_by, asked_nums, Grows, same_grows}
+use Rattle.proof_outlines.proofs.joined.Words.{links_next, came_by, asked_nums, Grows, same_grows, instance_stays}
 use Rattle.proof_outlines.proofs.joined.LogLemmas.{every_same, owners_on, came_on}
 
 -- a message is taken from the switch's link, or from another: the numbers of waiting commands rise as before
@@ -115,16 +115,7 @@ module _ {F R : Type 0} (f : Semantics R) (g : Given) where
         switch = are.switch;
         controller = is;
         owners = owners_on f g n x are did.notes l.quiet.installed_is;
-        instances = λ k two low. (let i = are.instances k two low in
-            record {
-              outline_is = i.outline_is;
-              standby_is = i.standby_is;
-              stands = i.stands;
-              rules = i.rules;
-              held = i.held;
-              records = i.records;
-              number = i.number;
-            });
+        instances = λ k two low. instance_stays f g refl refl (are.instances k two low);
         every = every_same (S f g) (A f g) (is_sys f g.site g.packet) world_after (came_by f g x.log) (came_by f g (x.log ++ did.notes))
             (came_on f g n x are did.notes l.quiet.installed_is l.quiet.arrived_is) l.every;
         done_is = are.done_is ∙ ap (by_node f g) done_same;

@@ -8,7 +8,7 @@ use Rattle.instance_worker.specs.Instance.{Step}
 use Rattle.proof_machines.proofs.net.Shares.{keeps}
 use Rattle.proof_outlines.proofs.joined.Words.{unit_fits, ran_in, is_sys, is_sharing, Given, place, target_by, Nodes, Took, Scene, S, A, shown, commands}
 use Rattle.proof_outlines.proofs.joined.Words.{asked_nums, came_by, by_node, links_next, IsSwitch, IsController, IsInstanceAt, AreShown, IsTaken, Leads}
-use Rattle.proof_outlines.proofs.joined.Words.{node_of, Grows, Instance, same_grows}
+use Rattle.proof_outlines.proofs.joined.Words.{node_of, Grows, Instance, same_grows, instance_stays}
 use Rattle.proof_outlines.proofs.whole.InstanceWorlds.{ShowsAt, StepsTo, KeepsTo}
 use Rattle.proof_outlines.proofs.joined.LogLemmas.{by_node-append, every_same, owners_on, came_on}
 use Rattle.proof_outlines.proofs.joined.InstanceNotes.{AreOwn, none_arrived, none_installed, done_own}
@@ -147,15 +147,7 @@ module _ {F R : Type 0} (f : Semantics R) (laws : FunctionLaws f) (g : Given) (n
     }
 
     other_right : (k : ℕ) → (k == own_node) ≡ false → IsInstanceAt f g k (x.nodes.instance k) x.world → IsInstanceAt f g k (x.nodes.instance k) goes.next
-    other_right k off at = record {
-      outline_is = at.outline_is ∙ sym (goes.differs_so.insts k off);
-      standby_is = at.standby_is ∙ sym (goes.differs_so.standby k off);
-      stands = at.stands;
-      rules = at.rules;
-      held = at.held;
-      records = at.records;
-      number = at.number;
-    }
+    other_right k off at = instance_stays f g (sym (goes.differs_so.insts k off)) (sym (goes.differs_so.standby k off)) at
 
     instances_after : (k : ℕ) → 2 ≤ k → k < n → IsInstanceAt f g k (put x.nodes.instance own_node step.node k) goes.next
     instances_after k two within =

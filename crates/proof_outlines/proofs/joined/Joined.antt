@@ -1,7 +1,7 @@
 -- What holds of each world of a run of moves, copies and shares: a whole world of the abstract network shows it, and its messages and nodes are
 -- such as come in a run.
-use Rattle.proof_outlines.proofs.Words.{◌≡◌, ◌≢◌, ℕ, zero, suc, ◌+◌, ◌<◌, ◌≤◌, Bool, true, false, Option, Some, None, List, [], ◌∷◌, ◌++◌, length, get_or, map}
-use Rattle.proof_outlines.proofs.Words.{if◌then◌else◌, ◌&&◌, ◌==◌, not, nat_lt, filter, filter_map, keys_of, bytes_eq, Filter, Packet, Chunk, Semantics}
+use Rattle.proof_outlines.proofs.Words.{◌∙◌, ◌≡◌, ◌≢◌, ℕ, zero, suc, ◌+◌, ◌<◌, ◌≤◌, Bool, true, false, Option, Some, None, List, [], ◌∷◌, ◌++◌, length, get_or}
+use Rattle.proof_outlines.proofs.Words.{map, if◌then◌else◌, ◌&&◌, ◌==◌, not, nat_lt, filter, filter_map, keys_of, bytes_eq, Filter, Packet, Chunk, Semantics}
 use Rattle.proof_outlines.proofs.Words.{unit_at, same_unit, Mark, stored_of, FullCell, Target, AreFilters, Command, Order, Piece, Msg, Note, instance_node}
 use Rattle.proof_outlines.proofs.Words.{Door, Phase, MoveState, answer_of, CopyState, ShareState, home, SharePhase, SwitchState, takes_in, Move, Copy, Share}
 use Rattle.proof_outlines.proofs.Words.{ControllerState, Network, Stepped, queue_at, at, less_first, OnLinks, EachSent, Each, Open, is_free, links_after}
@@ -292,6 +292,19 @@ module _ {F R : Type 0} (f : Semantics R) (g : Given) where
     pub held : Each (λ r. is_free (rule_of r.action) ≡ false) i.rules
     pub records : HasRecords f i.table.live
     pub number : instance_node i.index ≡ k
+
+  -- also of another world that has the same there
+  pub instance_stays : {k : ℕ} {i : InstanceState F R} {w v : WholeWorld (S f g) (A f g)} → w.inst k ≡ v.inst k → w.standby k ≡ v.standby k
+      → IsInstanceAt k i w → IsInstanceAt k i v
+  instance_stays same also h = record {
+    outline_is = h.outline_is ∙ same;
+    standby_is = h.standby_is ∙ also;
+    stands = h.stands;
+    rules = h.rules;
+    held = h.held;
+    records = h.records;
+    number = h.number;
+  }
 
   -- a list of links as the abstract network sees it
   abbrev pub Shows : ℕ → Network (Node F R) Msg Note → (ℕ → ℕ → List (Any R)) → Type 0

@@ -7,6 +7,7 @@ use Rattle.proof_machines.proofs.net.Net as net
 use Rattle.proof_machines.proofs.net.Shares as shares
 use Rattle.proof_outlines.proofs.joined.Words.{unit_fits, want_at, want_of, is_sys, outline_all, routes_same, Given, place, target_by, Nodes, node_of, Label}
 use Rattle.proof_outlines.proofs.joined.Words.{shown, S, A, asked_nums, came_by, commands, by_node, IsSwitch, Scene, AreShown, Leads, same_grows}
+use Rattle.proof_outlines.proofs.joined.Words.{instance_stays}
 use Rattle.proof_outlines.proofs.joined.LogLemmas.{came_on, every_same, owners_on}
 
 pub asked_nums-append : {R : Type 0} (xs ys : List (Any R)) → asked_nums (xs ++ ys) ≡ asked_nums xs ++ asked_nums ys
@@ -85,16 +86,7 @@ module _ {F R : Type 0} (f : Semantics R) (g : Given) (n : ℕ) (x : Scene F f g
     switch = switch;
     controller = are.controller;
     owners = owners;
-    instances = λ k two few. let i = are.instances k two few in
-        record {
-          outline_is = i.outline_is;
-          standby_is = i.standby_is;
-          stands = i.stands;
-          rules = i.rules;
-          held = i.held;
-          records = i.records;
-          number = i.number;
-        };
+    instances = λ k two few. instance_stays f g refl refl (are.instances k two few);
     every = every;
     done_is = are.done_is ∙ ap (by_node f g) (sym (done-append x.log notes ∙ ap (λ v. dones_in x.log ++ v) none ∙ append-nil (dones_in x.log)));
     rising = rising;
