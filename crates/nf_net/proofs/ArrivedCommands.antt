@@ -4,9 +4,7 @@ use Rattle.nf_net.proofs.Words.{nat_tests, length-map, FunctionLaws, Semantics, 
 use Rattle.nf_net.proofs.Words.{Node, is_begun, has_answered, commands, IsInput, arrivals_in, node_step, node_ready, given, split}
 use Rattle.net_world.specs.Input.{packets}
 use Rattle.nf_net.proofs.answers.ArrivalLemmas.{numbers, runs_joined}
-use Rattle.nf_net.proofs.answers.BusyLemmas.{is_noted, or_off}
-use Rattle.nf_net.proofs.answers.CommandPromises.{run_busy}
-use Rattle.nf_net.proofs.RunKeeps.{start}
+use Rattle.nf_net.proofs.RunWords.{is_noted, or_off, run_busy, start}
 use Rattle.nf_net.proofs.SettleCounts.{commands-append, longer_end, packets-append}
 use Rattle.nf_net.proofs.SettleKeeps.{run_settles}
 use Rattle.nf_net.proofs.SettleSteps.{Counted, unnoted_waits}

@@ -11,15 +11,10 @@ use Rattle.net_world.proofs.NumberCounts.{times-append}
 use Rattle.proof_outlines.proofs.joined.Given.{diverted_in}
 use Rattle.proof_outlines.proofs.joined.LogLemmas.{diverted_in-append}
 use Rattle.proof_machines.proofs.whole.Fronts.{ran_more}
-use Rattle.nf_net.proofs.answers.ArrivalLemmas.{arrivals_run}
-use Rattle.nf_net.proofs.answers.BusyRuns.{Busy}
-use Rattle.nf_net.proofs.answers.CommandPromises.{run_busy}
-use Rattle.nf_net.proofs.answers.InstallRuns.{Installs, run_installs}
+use Rattle.nf_net.proofs.RunWords.{arrivals_run, Busy, run_busy, Installs, run_installs, units_fit, start, count}
 use Rattle.nf_net.proofs.paths.PathPromises.{came_once}
 use Rattle.nf_net.proofs.MemberLemmas.{IsSharedBy, shared_by, members_diverted, InstalledIn, installed_in, times_there}
 use Rattle.nf_net.proofs.MembersServed.{DoneAt, done_at}
-use Rattle.nf_net.proofs.NumberedUnits.{units_fit}
-use Rattle.nf_net.proofs.RunKeeps.{start, count}
 use Rattle.nf_net.proofs.UnitShares.{IsOpenShare, open_installed, member_is}
 
 pub times_those : (mine : ℕ → Bool) (p : ℕ) (qs : List ℕ) → times p (filter mine qs) ≤ times p qs

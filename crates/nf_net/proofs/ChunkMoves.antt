@@ -12,14 +12,11 @@ use Rattle.move_op.specs.Move.{chunks_of}
 use Rattle.proof_machines.proofs.net.Units.{see}
 use Rattle.nf_net.proofs.paths.ChunkLemmas.{all_chunks, spelled_more}
 use Rattle.nf_net.proofs.paths.ChunkPlaces.{good_pieces, free_pieces, none_on_way}
-use Rattle.nf_net.proofs.answers.MovesUnderWay.{AreUnderWay}
+use Rattle.nf_net.proofs.RunWords.{AreUnderWay, labels, on_each, Seated, seated, HasSides, Are_there, Rests, each_place, each_link, Reached, AsMoves}
 use Rattle.nf_net.proofs.paths.PathNodes.{each_entry}
-use Rattle.nf_net.proofs.paths.PathSeats.{labels, on_each, Seated, seated, HasSides, Are_there, Rests}
 use Rattle.nf_net.proofs.paths.SharedChunks.{none_on_way as none_shared}
-use Rattle.nf_net.proofs.paths.PathSums.{each_place, each_link}
 use Rattle.nf_net.specs.NumberedChunks.{numbered_on_way, IsOfItsMove}
 use Rattle.nf_net.proofs.NumberedChunks.{bare, same_chunks, shorter, IsOwn, own_on_way}
-use Rattle.nf_net.proofs.paths.Reached.{Reached, AsMoves}
 
 all_from : {X : Type 0} (P : X → Type 0) (xs : List X) → Each P xs → All P xs
 all_from P [] h k d small = absurd (omega (arith, small))

@@ -19,19 +19,12 @@ use Rattle.proof_machines.proofs.whole.WhereAll.{order_same}
 use Rattle.net_world.specs.Input.{packets}
 use Rattle.net_world.specs.Fold.{times, fold}
 use Rattle.nf_net.proofs.answers.ArrivalLemmas.{numbers, runs_joined}
-use Rattle.nf_net.proofs.answers.CommandPromises.{run_busy}
+use Rattle.nf_net.proofs.RunWords.{run_busy, is_moving, there, sides, instance_of, one_place, HomesOwn, members_few, fold_is, units_fit, after_world}
 use Rattle.nf_net.proofs.answers.InstallRuns.{run_installs, done_installed}
-use Rattle.nf_net.proofs.answers.InstallSteps.{is_moving}
-use Rattle.nf_net.proofs.paths.PathSeats.{there, sides}
-use Rattle.nf_net.proofs.paths.RecordPromises.{instance_of, one_place}
-use Rattle.nf_net.proofs.paths.SharedOwners.{HomesOwn, members_few}
-use Rattle.nf_net.proofs.FoldLemmas.{fold_is}
-use Rattle.nf_net.proofs.NumberedUnits.{units_fit}
 use Rattle.nf_net.proofs.SharedHomes.{run_homes}
 use Rattle.nf_net.proofs.StandbyFronts.{IsOfFront, still_some, lives_front}
 use Rattle.nf_net.proofs.UnitShares.{owner_goes}
 use Rattle.nf_net.proofs.answers.ToldCommands.{each_answered}
-use Rattle.nf_net.proofs.RunKeeps.{after_world}
 
 module _ {R : Type 0} (f : Semantics R) (c : Config) (items : List Msg) (is : IsInput f.kind c items) where
   abbrev g : Given

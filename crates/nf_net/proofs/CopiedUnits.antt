@@ -18,9 +18,7 @@ use Rattle.net_world.specs.Fold.{fold}
 use Rattle.net_world.specs.Log.{Done}
 use Rattle.proof_outlines.proofs.joined.CopiesUnshared.{copy_out}
 use Rattle.proof_outlines.proofs.joined.Joined.{IsListed}
-use Rattle.nf_net.proofs.paths.RecordPromises.{instance_of, record_is}
-use Rattle.nf_net.proofs.FoldLemmas.{fold_is}
-use Rattle.nf_net.proofs.NumberedUnits.{units_fit}
+use Rattle.nf_net.proofs.RunWords.{instance_of, record_is, fold_is, units_fit}
 use Rattle.nf_net.proofs.UnitShares.{owner_goes}
 
 -- a unit of which a packet was processed is one that packets may have

@@ -10,14 +10,11 @@ use Rattle.record_table.proofs.MadeChunks.{table_read}
 use Rattle.record_table.proofs.RecordLookUps.{sound_retain_keys}
 use Rattle.record_table.specs.Table.{AreSound}
 use Rattle.proof_outlines.proofs.joined.Joined.{IsCopy, is_whole_if}
-use Rattle.nf_net.proofs.answers.BusyLemmas.{unanswered}
-use Rattle.nf_net.proofs.answers.BusyRuns.{Busy, keeps_is}
-use Rattle.nf_net.proofs.answers.CommandPromises.{run_busy}
+use Rattle.nf_net.proofs.RunWords.{unanswered, Busy, keeps_is, run_busy, start, after_world}
 use Rattle.nf_net.proofs.ArrivedCommands.{came_before}
 use Rattle.nf_net.proofs.CopiedUnits.{had, owned}
 use Rattle.nf_net.proofs.CopyFacts.{WasKept}
 use Rattle.nf_net.proofs.JudgedRuns.{verdicts}
-use Rattle.nf_net.proofs.RunKeeps.{start, after_world}
 
 both_so : (a s b : Bool) → a ≡ true → b ≡ false → a && (s || not b) ≡ true
 both_so true true b h k = refl

@@ -13,10 +13,8 @@ use Rattle.instance_worker.specs.Instance.{on_get}
 use Rattle.actor_net.proofs.WeightLaws.{Each}
 use Rattle.proof_machines.proofs.unit.Labels as labels
 use Rattle.proof_outlines.proofs.joined.CopyAnswers.{IsAnswer, get_sent, standby_sent, put_all_sent, other_none}
-use Rattle.nf_net.proofs.answers.ArrivalLemmas.{next_in_run, runs_joined}
-use Rattle.nf_net.proofs.answers.BusyLemmas.{none_answered, other_not_answered}
-use Rattle.nf_net.proofs.answers.BusyNodes.{switch_hands, instance_says}
-use Rattle.nf_net.proofs.answers.MoveOnce.{once}
+use Rattle.nf_net.proofs.RunWords.{next_in_run, runs_joined, none_answered, other_not_answered, switch_hands, instance_says, once, start, run_keeps, each_item}
+use Rattle.nf_net.proofs.RunWords.{each_sent}
 use Rattle.nf_net.proofs.CopyTurns.{all_none, controller_did}
 use Rattle.nf_net.proofs.CopyFacts.{AreGiven, HasGiven, WasKept, Told, given_still, kept_still, links_still}
 use Rattle.nf_net.proofs.CopyGives.{given_spell, to_give}
@@ -25,10 +23,8 @@ use Rattle.nf_net.proofs.CountedRoom.{room}
 use Rattle.nf_net.proofs.JudgedRuns.{run_judging}
 use Rattle.nf_net.proofs.JudgedSteps.{OneOf, In_first, In_second, one_of, none_once}
 use Rattle.nf_net.proofs.JudgedTables.{used_few}
-use Rattle.nf_net.proofs.RunKeeps.{start, run_keeps}
 use Rattle.nf_net.proofs.StandbyFronts.{went_more}
 use Rattle.nf_net.proofs.VerdictLemmas.{none_exported, exported_new, before_export_new}
-use Rattle.nf_net.proofs.WeightlessMessages.{each_item, each_sent}
 
 get_notes : {F R : Type 0} (f : Semantics R) (i : InstanceState F R) (op : ℕ) (filter : Filter)
     → (instance_step f i (Msg.Get op filter)).notes ≡ Note.Exported i.index op (units_in (selected_chunks f i filter)) ∷ []

@@ -13,9 +13,8 @@ use Rattle.proof_outlines.proofs.outline.CopyTurns.{ends}
 use Rattle.proof_outlines.proofs.joined.CopyAnswers.{is_of_copy, AreNoCopies, move_none}
 use Rattle.proof_outlines.proofs.joined.CopySends.{handed_sent, queued_sent}
 use Rattle.proof_outlines.proofs.joined.Joined.{IsController}
-use Rattle.nf_net.proofs.answers.BusyLemmas.{first_is}
+use Rattle.nf_net.proofs.RunWords.{first_is, ShareStep, handed_share, queued_share}
 use Rattle.nf_net.proofs.answers.ControllerCases.{OpensBy, Opens_copy, by_command, by_finish, by_operation, by_queue}
-use Rattle.nf_net.proofs.answers.ShareTells.{ShareStep, handed_share, queued_share}
 use Rattle.nf_net.proofs.CopyFacts.{WasKept, Told, told_still}
 use Rattle.nf_net.proofs.CopyController.{row_ends, not_refused, is_shared, answer_shared}
 

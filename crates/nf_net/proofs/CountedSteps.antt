@@ -5,11 +5,8 @@ use Rattle.nf_net.proofs.Words.{Msg, Note, SwitchState, switch_step, takes_in, c
 use Rattle.nf_net.proofs.Words.{taken_outcome, less_first, EachSent, total, sent_weight, total_after, Config, Node, Switch, has_answered, answers_of, commands}
 use Rattle.nf_net.proofs.Words.{IsInput, node_step, node_ready, answers_of-append, known, Given, Label, Joined, node_of, given, split}
 use Rattle.actor_net.specs.Network.{is_input}
-use Rattle.nf_net.proofs.answers.AnswerSends.{answering}
-use Rattle.nf_net.proofs.answers.BusyLemmas.{other_not_answered}
-use Rattle.nf_net.proofs.answers.BusyNodes.{switch_hands, instance_says}
-use Rattle.nf_net.proofs.answers.BusyRuns.{Busy}
-use Rattle.nf_net.proofs.answers.ControllerActs.{SaysSo, SaysSo.Neither, SaysSo.Begins, SaysSo.Answers, controller_acts}
+use Rattle.nf_net.proofs.RunWords.{answering, other_not_answered, switch_hands, instance_says, Busy, SaysSo, SaysSo.Neither, SaysSo.Begins, SaysSo.Answers}
+use Rattle.nf_net.proofs.RunWords.{controller_acts}
 use Rattle.nf_net.proofs.SettleCounts.{answered_in, AllAnswered, all_answered_more, answered_in_same, answered_one, same_ends}
 use Rattle.nf_net.proofs.answers.ToldCommands.{some_answers}
 use Rattle.nf_net.proofs.SettleSteps.{switch_in, asking, Counted, InputGoes, InputGoes.Stays, InputGoes.Loses, no_answer_to, none_sent, asked_there}

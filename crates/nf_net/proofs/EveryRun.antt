@@ -10,15 +10,13 @@ use Rattle.actor_net.specs.Replays.{replay_of}
 use Rattle.actor_net.proofs.ReplayLaws.{replayed_ok}
 use Rattle.net_world.specs.Runs.{LeadsTo, choices_of, EndsIn, StopsAt}
 use Rattle.nf_net.specs.Promises.{Promises}
-use Rattle.nf_net.proofs.answers.ArrivalLemmas.{arrivals_run}
+use Rattle.nf_net.proofs.RunWords.{arrivals_run, one_place, moves_under_way, reached}
 use Rattle.nf_net.proofs.AtMembers.{at_members}
 use Rattle.nf_net.proofs.ChunkMoves.{chunks_moved}
 use Rattle.nf_net.proofs.CompleteRuns.{complete_run}
 use Rattle.nf_net.proofs.OutputSteps.{outputs_run}
-use Rattle.nf_net.proofs.paths.RecordPromises.{one_place}
 use Rattle.nf_net.proofs.answers.CommandPromises.{run_answers, no_rules, none_noted}
 use Rattle.nf_net.proofs.JudgedRuns.{verdicts}
-use Rattle.nf_net.proofs.answers.MovesUnderWay.{moves_under_way}
 use Rattle.nf_net.proofs.paths.PathPromises.{in_place, each_in_place, came_once}
 use Rattle.nf_net.proofs.ParcelCounts.{parcels_are}
 use Rattle.nf_net.proofs.PlaceRuns.{places}
@@ -29,7 +27,6 @@ use Rattle.nf_net.proofs.SourceRuns.{stays_at_source}
 use Rattle.nf_net.proofs.StandbyRuns.{standbys}
 use Rattle.nf_net.proofs.WindowRuns.{window_kept, all_home}
 use Rattle.proof_outlines.proofs.joined.RunsJoined.{in_order, once}
-use Rattle.nf_net.proofs.paths.Reached.{reached}
 
 module _ (F : Type 0) {R : Type 0} (f : Semantics R) (laws : FunctionLaws f) (alloc : Global) (c : Config) (items : List Msg) (is : IsInput f.kind c items)
     (cs : List Choice) where

@@ -13,12 +13,9 @@ use Rattle.actor_net.proofs.EnabledChoices.{at as at_node}
 use Rattle.proof_machines.proofs.unit.Real as real
 use Rattle.proof_machines.proofs.net.Net as net
 use Rattle.proof_machines.proofs.net.Shares.{Old}
-use Rattle.nf_net.proofs.answers.BusyRuns.{Busy, open_began}
-use Rattle.nf_net.proofs.answers.CommandPromises.{run_busy}
-use Rattle.nf_net.proofs.answers.InstallRuns.{Installs, run_installs}
+use Rattle.nf_net.proofs.RunWords.{Busy, open_began, run_busy, Installs, run_installs, start, count, log_keeps}
 use Rattle.nf_net.proofs.MemberLemmas.{SharesIt, shares_it, members-append}
 use Rattle.nf_net.proofs.RuleSteps.{Changed, No_rule, Moves_on, Diverts, changed}
-use Rattle.nf_net.proofs.RunKeeps.{start, count, log_keeps}
 use Rattle.nf_net.proofs.UnitShares.{members_go, set_up_installed}
 
 none_or : {X : Type 0} (o : Option X) → option_or o None ≡ o

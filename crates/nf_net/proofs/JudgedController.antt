@@ -13,12 +13,10 @@ use Rattle.copy_share.specs.Share as share
 use Rattle.ctrl_node.specs.Controller as controller
 use Rattle.ctrl_node.specs.Controller.{Step, still}
 use Rattle.nf_net.proofs.answers.ControllerCases.{OpensBy, Opens_move, Opens_copy, Opens_share, by_command, by_finish, by_operation, by_queue}
-use Rattle.nf_net.proofs.answers.ControllerActs.{other_there}
+use Rattle.nf_net.proofs.RunWords.{other_there, began_same, first_is, sent_weight-append}
 use Rattle.nf_net.proofs.JudgedShares.{handed_shared, queued_shared}
 use Rattle.nf_net.proofs.JudgedTables as tables
 use Rattle.nf_net.proofs.JudgedTables.{used, By_verdict}
-use Rattle.nf_net.proofs.answers.BusyLemmas.{began_same, first_is}
-use Rattle.nf_net.proofs.answers.CreditCounts.{sent_weight-append}
 use Rattle.nf_net.proofs.MoveJudged.{Said, Knows, answer_known, row_follows}
 use Rattle.nf_net.proofs.answers.MoveOnce.{once, spent, spent_few, NoneOnce, no_one, at_most, few_counts, row_spends}
 

@@ -9,9 +9,8 @@ use Rattle.instance_worker.specs.declared.instance.Instance.{Instance}
 use Rattle.actor_net.proofs.WeightLaws.{Each}
 use Rattle.proof_machines.proofs.unit.Labels as labels
 use Rattle.net_world.specs.Verdicts.{Weighed, verdict, IsWeighed}
-use Rattle.nf_net.proofs.answers.InstallSteps.{is_moving}
+use Rattle.nf_net.proofs.RunWords.{is_moving, Said, Knows}
 use Rattle.nf_net.proofs.JudgedInstance.{answer_by}
-use Rattle.nf_net.proofs.MoveJudged.{Said, Knows}
 use Rattle.nf_net.proofs.VerdictLemmas.{exported_kept, before_export_kept, taken_more}
 use Rattle.move_op.specs.Phases as phase
 

@@ -3,9 +3,8 @@ use Rattle.nf_net.proofs.Words.{◌≡◌, ℕ, true, false, List, [], ◌∷◌
 use Rattle.nf_net.proofs.Words.{switch_step, InstanceState, selected_chunks, EachSent, Each, Node, step_fits, Given, Label, Instance}
 use Rattle.instance_worker.specs.Instance.{on_stream}
 use Rattle.nf_net.proofs.JudgedTables.{is_own}
-use Rattle.nf_net.proofs.MoveJudged.{Said}
+use Rattle.nf_net.proofs.RunWords.{Said, each_sent}
 use Rattle.nf_net.proofs.VerdictLemmas.{times_given}
-use Rattle.nf_net.proofs.WeightlessMessages.{each_sent}
 
 -- The switch and the controller note nothing of state that is given.
 module _ (op : ℕ) where

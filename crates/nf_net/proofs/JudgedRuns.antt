@@ -8,19 +8,14 @@ use Rattle.nf_net.proofs.Words.{first_nodes, started_with, is_refusal, receiver_
 use Rattle.std.specs.FinMap as finite
 use Rattle.actor_net.proofs.RunLaws.{run_splits}
 use Rattle.net_world.specs.Verdicts.{IsVerdict}
-use Rattle.nf_net.proofs.answers.CommandPromises.{run_answers}
-use Rattle.nf_net.proofs.answers.InstallSteps.{is_moving}
+use Rattle.nf_net.proofs.RunWords.{run_answers, is_moving, Said, once, run_keeps, each_item, weighs_nothing}
 use Rattle.nf_net.proofs.JudgedTables.{used, used_few}
 use Rattle.nf_net.proofs.JudgedFacts.{HasVerdict, IsFound, Was_refused, Was_judged, Was_still}
 use Rattle.nf_net.proofs.JudgedWorlds.{judging_next}
 use Rattle.nf_net.proofs.JudgedSteps.{Part, Verdict, Goes, Judging, SaidBy, happened}
 use Rattle.nf_net.proofs.LiveRuns.{run_lived, lives_number}
-use Rattle.nf_net.proofs.MoveJudged.{Said}
-use Rattle.nf_net.proofs.answers.MoveOnce.{once}
 use Rattle.proof_outlines.proofs.joined.StartJoined.{instance_found}
 use Rattle.nf_net.proofs.VerdictLemmas.{once_taken, times_taken}
-use Rattle.nf_net.proofs.RunKeeps.{run_keeps}
-use Rattle.nf_net.proofs.WeightlessMessages.{each_item, weighs_nothing}
 
 -- An input says nothing of moves.
 items_said : (P : ℕ → Piece → Type 0) (V : ℕ → Answer → Type 0) (G : ℕ → ℕ → Type 0) (items : List Msg) → Each (λ item. is_item item ≡ true) items

@@ -8,13 +8,10 @@ use Rattle.std.specs.FinMap as finite
 use Rattle.copy_share.specs.Share.{next_phase, row}
 use Rattle.ctrl_node.specs.Controller.{Step}
 use Rattle.proof_outlines.proofs.whole.ShareLeft.{next_share}
-use Rattle.nf_net.proofs.answers.BusyLemmas.{began_same, first_is}
-use Rattle.nf_net.proofs.answers.ControllerActs.{other_there}
+use Rattle.nf_net.proofs.RunWords.{began_same, first_is, other_there, once, Said}
 use Rattle.nf_net.proofs.answers.ShareTells.{is_set_up, is_of_share, AreOfShare, Tells, ShareStep, handed_share, queued_share}
-use Rattle.nf_net.proofs.answers.MoveOnce.{once}
 use Rattle.nf_net.proofs.JudgedTables as tables
 use Rattle.nf_net.proofs.JudgedTables.{used, is_own, By_still}
-use Rattle.nf_net.proofs.MoveJudged.{Said}
 use Rattle.nf_net.proofs.ShareAsks.{asked, Asks, row_asks, none_asked, leaves_own, leaves_other}
 
 -- an answer begins no command

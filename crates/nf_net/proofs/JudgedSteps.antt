@@ -5,13 +5,11 @@ use Rattle.nf_net.proofs.Words.{InstanceState, Choice, Network, Stepped, run, wo
 use Rattle.nf_net.proofs.Words.{on_links_after, total, total_after, sent_weight, Each, Config, Node, Controller, is_begun, answers_of, IsInput, node_step}
 use Rattle.nf_net.proofs.Words.{started_with, answers_of-append, Given, Label, given, Instance}
 use Rattle.std.specs.FinMap as finite
-use Rattle.nf_net.proofs.answers.BusyLemmas.{AreOther, none_answered, other_not_answered, other_not_begun, began_same}
+use Rattle.nf_net.proofs.RunWords.{AreOther, none_answered, other_not_answered, other_not_begun, began_same, Said, Knows, sends_nothing}
 use Rattle.nf_net.proofs.JudgedTables.{used}
 use Rattle.nf_net.proofs.JudgedFacts.{IsPart, IsGoing, HasVerdict, IsFound, part_kept, verdict_kept, found_kept, said_kept, knows_kept, links_kept}
-use Rattle.nf_net.proofs.MoveJudged.{Said, Knows}
 use Rattle.nf_net.proofs.answers.MoveOnce.{once, counts}
 use Rattle.nf_net.proofs.VerdictLemmas.{times_given, times_given-append, is_first_piece, times_taken, times_taken-append}
-use Rattle.nf_net.proofs.WeightlessMessages.{sends_nothing}
 
 -- a list that is two has its one element in the first or in the second
 pub data OneOf (xs ys : List Answer) (a : Answer) : Type 0 where

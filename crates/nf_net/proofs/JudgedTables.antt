@@ -5,10 +5,8 @@ use Rattle.nf_net.proofs.Words.{Share, OpenOperations, ControllerState, EachSent
 use Rattle.nf_net.proofs.Words.{NotMove, CopyTurn, Idle, Hands, Hands_all, Ends, hands, Done, split}
 use Rattle.std.specs.FinMap as finite
 use Rattle.ctrl_node.specs.Controller.{Step, still}
-use Rattle.nf_net.proofs.answers.ControllerActs.{other_there}
+use Rattle.nf_net.proofs.RunWords.{other_there, began_same, first_is, Said, Knows}
 use Rattle.proof_outlines.proofs.outline.CopyTurns.{ends}
-use Rattle.nf_net.proofs.answers.BusyLemmas.{began_same, first_is}
-use Rattle.nf_net.proofs.MoveJudged.{Said, Knows}
 use Rattle.nf_net.proofs.answers.MoveOnce.{once, spent, spent_few, NoneOnce, no_one}
 use Rattle.nf_net.proofs.ShareAsks.{asked, asked_few}
 

@@ -10,13 +10,10 @@ use Rattle.nf_net.proofs.Words.{all_fit, Unit, Instance, Runs, split}
 use Rattle.std.specs.FinMap as finite
 use Rattle.nf_function.specs.Units as filters
 use Rattle.copy_share.specs.Copy as copy
-use Rattle.nf_net.proofs.answers.BusyLemmas.{or_off}
-use Rattle.nf_net.proofs.answers.BusyNodes.{switch_hands, instance_says}
+use Rattle.nf_net.proofs.RunWords.{or_off, switch_hands, instance_says, Busy, own_controller, open_began, plan_is, is_moving, run_busy, Knows, once}
+use Rattle.nf_net.proofs.RunWords.{after_world}
 use Rattle.nf_net.proofs.answers.BusyController.{told_in}
 use Rattle.nf_net.proofs.answers.BusyOperations.{IsBusy}
-use Rattle.nf_net.proofs.answers.BusyRuns.{Busy, own_controller, open_began, plan_is}
-use Rattle.nf_net.proofs.answers.InstallSteps.{is_moving}
-use Rattle.nf_net.proofs.answers.CommandPromises.{run_busy}
 use Rattle.nf_net.proofs.StreamedUnits.{IsOf, pieces_of, GivesState, record_timed}
 use Rattle.nf_net.proofs.MovedRecords.{streamed_record, taken_give}
 use Rattle.nf_net.proofs.JudgedController.{IsNew, controller_judges}
@@ -26,11 +23,8 @@ use Rattle.nf_net.proofs.JudgedInstance.{answer_by, IsReady, instance_does}
 use Rattle.nf_net.proofs.JudgedSteps as steps
 use Rattle.nf_net.proofs.JudgedSteps.{Judging, Leaves, IsFixed, no_stream_to, none_once}
 use Rattle.nf_net.proofs.answers.LinePicks.{at_controller as way_at_controller}
-use Rattle.nf_net.proofs.MoveJudged.{Knows}
-use Rattle.nf_net.proofs.answers.MoveOnce.{once}
 use Rattle.nf_net.proofs.VerdictLemmas.{none_exported, exported_new, before_export_new, before_own}
 use Rattle.nf_net.proofs.JudgedNodes.{switch_given, own_given, switch_says, same_instance, stream_notes}
-use Rattle.nf_net.proofs.RunKeeps.{after_world}
 
 module _ (F : Type 0) {R : Type 0} (f : Semantics R) (laws : FunctionLaws f) (alloc : Global) (c : Config) (items : List Msg) (is : IsInput f.kind c items)
     (cs : List Choice) (run_is : IsRun node_ready (node_step f) cs (steps.start F f alloc c items is))

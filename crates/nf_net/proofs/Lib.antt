@@ -70,3 +70,4 @@ pub mod length
 pub mod ends
 mod Words
 mod WeightlessMessages
+mod RunWords

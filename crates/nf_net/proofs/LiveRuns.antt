@@ -14,13 +14,11 @@ use Rattle.net_world.specs.Fold.{fold}
 use Rattle.net_world.specs.Lives.{lost_by, lives, lives_next, lives_from}
 use Rattle.net_world.specs.Verdicts.{number_live}
 use Rattle.proof_outlines.proofs.joined.CopyTokens.{token_open}
-use Rattle.nf_net.proofs.answers.CommandPromises.{run_busy}
+use Rattle.nf_net.proofs.RunWords.{run_busy, units_fit, start, count, RunStep, run_keeps, after_world}
 use Rattle.nf_net.proofs.LiveRows.{Free, Lives}
 use Rattle.nf_net.proofs.LiveShares.{nothing_live}
 use Rattle.nf_net.proofs.LiveSteps.{away_quiet, step_lives}
 use Rattle.nf_net.proofs.LiveUnits.{AreOnce, with_in, with_once, without_in, without_once, as_many}
-use Rattle.nf_net.proofs.NumberedUnits.{units_fit}
-use Rattle.nf_net.proofs.RunKeeps.{start, count, RunStep, run_keeps, after_world}
 use Rattle.nf_net.proofs.SharedHomes.{homes_of}
 use Rattle.nf_net.proofs.ShareOwners.{owners_stay}
 use Rattle.nf_net.proofs.StandbyFronts.{IsOfFront, lives_front}

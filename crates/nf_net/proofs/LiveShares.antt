@@ -13,9 +13,7 @@ use Rattle.std.specs.FinMap as finite
 use Rattle.std.proofs.lemmas.Bool.{not-true}
 use Rattle.proof_outlines.proofs.whole.SwitchAll.{same_node}
 use Rattle.proof_outlines.proofs.joined.Joined.{IsShare}
-use Rattle.nf_net.proofs.answers.BusyRuns.{Busy, open_began}
-use Rattle.nf_net.proofs.paths.RecordPromises.{instance_of}
-use Rattle.nf_net.proofs.paths.SharedOwners.{HomesOwn}
+use Rattle.nf_net.proofs.RunWords.{Busy, open_began, instance_of, HomesOwn}
 use Rattle.nf_net.proofs.MemberLemmas.{SharesIt, shares_it, home_first}
 use Rattle.nf_net.proofs.ShareOwners.{OwnersStay, begun_open, begun_seen, begun_takes}
 use Rattle.nf_net.proofs.UnitShares.{owner_goes, IsOpenShare, number_is}

@@ -6,13 +6,11 @@ use Rattle.nf_net.proofs.Words.{before_begun, is_first_of, is_shared_away, has_b
 use Rattle.nf_net.proofs.Words.{unit_numbered, held_genuine, number, entries, Given, Rows, by_message, Genuine, IsInstanceAt, IsTaken, Joined, Scene, AllApart}
 use Rattle.nf_net.proofs.Words.{installed_quiet, IsQuiet, given, Unit, Mark}
 use Rattle.actor_net.proofs.EnabledChoices.{at as at_node}
-use Rattle.nf_net.proofs.paths.SharedOwners.{HomesOwn}
+use Rattle.nf_net.proofs.RunWords.{HomesOwn, Busy, units_fit}
 use Rattle.proof_outlines.proofs.joined.OwnerLemmas.{begun_quiet}
-use Rattle.nf_net.proofs.answers.BusyRuns.{Busy}
 use Rattle.nf_net.proofs.LiveRows.{stays, Lives, Free, carry_lives, away_lives, fence_lives, delete_lives, put_lives, restore_lives, standby_lives, sync_lives}
 use Rattle.nf_net.proofs.LiveRows.{stream_lives, get_lives, put_all_lives}
 use Rattle.nf_net.proofs.LiveShares.{away_marked, first_synced}
-use Rattle.nf_net.proofs.NumberedUnits.{units_fit}
 use Rattle.nf_net.proofs.ShareOwners.{OwnersStay, installed_before}
 
 same_begun : (these those : ℕ → Bool) → ((op : ℕ) → these op ≡ those op) → (log : List Note) → has_begun these log ≡ has_begun those log

@@ -11,8 +11,7 @@ use Rattle.record_table.proofs.RecordLookUps.{same_records}
 use Rattle.proof_machines.proofs.net.Readings as readings
 use Rattle.proof_machines.proofs.net.Shares.{Any.Old}
 use Rattle.net_world.specs.Fold.{fold}
-use Rattle.nf_net.proofs.paths.RecordPromises.{record_is}
-use Rattle.nf_net.proofs.FoldLemmas.{fold_is}
+use Rattle.nf_net.proofs.RunWords.{record_is, fold_is}
 use Rattle.nf_net.proofs.StreamedUnits.{GivesState, selected_give}
 
 module _ {R : Type 0} (S : Sys R) (laws : IsSys S) (u : Unit) where

@@ -12,10 +12,8 @@ use Rattle.nf_net.proofs.paths.ChunkLemmas.{as_spelled, good_spelled}
 use Rattle.nf_net.proofs.paths.ChunkLinks.{MayBe, first_of_link}
 use Rattle.nf_net.proofs.paths.ChunkPlaces.{none_in_others}
 use Rattle.nf_net.proofs.paths.PathNodes.{each_entry}
-use Rattle.nf_net.proofs.paths.PathSeats.{labels, link_shown, on_each, Seated}
-use Rattle.nf_net.proofs.paths.PathSums.{each_place, each_link}
+use Rattle.nf_net.proofs.RunWords.{labels, link_shown, on_each, Seated, each_place, each_link, Reached, IsApart}
 use Rattle.nf_net.specs.NumberedChunks.{numbered, numbered_in, numbered_by, numbered_on_way}
-use Rattle.nf_net.proofs.paths.Reached.{Reached, IsApart}
 
 -- Without their numbers, they are the chunks on their way.
 abbrev pub bare : Option ℕ × Chunk → Chunk

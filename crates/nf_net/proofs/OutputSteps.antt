@@ -15,8 +15,7 @@ use Rattle.proof_outlines.proofs.outline.InstanceOutline.{carry_follows, pass_fo
 use Rattle.nf_net.proofs.OutputLemmas.{numbers, Answered, answered_nothing, answered_more, answered_by, numbers_ran}
 use Rattle.nf_net.proofs.AnsweredNotes.{live_of, kept_of, carry_answered, fence_answered, instance_none, switch_none, controller_none}
 use Rattle.nf_net.proofs.FreshRecords.{fresh_live, fresh_shared}
-use Rattle.nf_net.proofs.FoldLemmas.{fold_is}
-use Rattle.nf_net.proofs.RunKeeps.{log_keeps}
+use Rattle.nf_net.proofs.RunWords.{fold_is, log_keeps}
 
 module _ {R : Type 0} (f : Semantics R) (c : Config) (items : List Msg) (is : IsInput f.kind c items) where
   abbrev g : Given

@@ -4,13 +4,9 @@ use Rattle.nf_net.proofs.Words.{controller_step, Msg, Note, Choice, Network, IsR
 use Rattle.nf_net.proofs.Words.{ArePlaces, Given, IsTaken, node_of, scene, Wants, node_leads, Stands, In_first, In_second, stands, each_there, AreUnprocessed}
 use Rattle.nf_net.proofs.Words.{switch_unprocessed, controller_uninstalled, uninstalled_unprocessed, Runs, given, all_fit, length, ◌+◌}
 use Rattle.proof_outlines.proofs.joined.PlaceNotes.{is_unprocessed}
-use Rattle.nf_net.proofs.answers.BusyRuns.{Busy}
-use Rattle.nf_net.proofs.answers.CommandPromises.{run_busy}
-use Rattle.nf_net.proofs.answers.InstallRuns.{Installs, run_installs}
-use Rattle.nf_net.proofs.answers.MovesUnderWay.{AreUnderWay, moves_under_way}
+use Rattle.nf_net.proofs.RunWords.{Busy, run_busy, Installs, run_installs, AreUnderWay, moves_under_way, start, log_keeps}
 use Rattle.nf_net.proofs.InstalledShares.{SaysOfShares, says_of_shares}
 use Rattle.nf_net.proofs.PlaceSteps.{processed_place}
-use Rattle.nf_net.proofs.RunKeeps.{start, log_keeps}
 
 pub processed_off : (front back : List Note) (number i : ℕ) (output : Output) (notes : List Note) → AreUnprocessed notes
     → notes ≡ front ++ Note.Processed number i output ∷ back → ⊥

@@ -11,13 +11,10 @@ use Rattle.actor_net.proofs.EnabledChoices.{at as at_node}
 use Rattle.proof_machines.proofs.net.Shares.{Old}
 use Rattle.proof_machines.proofs.whole.MovePlaces.{At_route, At_destination}
 use Rattle.proof_outlines.proofs.joined.OwnerLemmas.{each_front, place_quiet}
-use Rattle.nf_net.proofs.answers.BusyRuns.{Busy}
-use Rattle.nf_net.proofs.answers.InstallRuns.{Installs}
-use Rattle.nf_net.proofs.answers.MovesUnderWay.{AreUnderWay}
+use Rattle.nf_net.proofs.RunWords.{Busy, Installs, AreUnderWay, units_fit, RanThere, ran_there}
 use Rattle.nf_net.proofs.InstalledShares.{SaysOfShares}
 use Rattle.nf_net.proofs.MemberLemmas.{IsThere}
 use Rattle.nf_net.proofs.MembersServed.{ProcessesOne, By_move, By_home, By_member, processes_one}
-use Rattle.nf_net.proofs.NumberedUnits.{units_fit, RanThere, ran_there}
 use Rattle.nf_net.proofs.SharedHomes.{home_owns, member_goes}
 use Rattle.nf_net.proofs.UnitShares.{diverted_members, owner_goes}
 

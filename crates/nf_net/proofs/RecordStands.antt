@@ -21,20 +21,13 @@ use Rattle.net_world.specs.Seen.{HasRecord, Sees_all, Lacks_last}
 use Rattle.net_world.specs.Records as records
 use Rattle.net_world.specs.Records.{is_to_remove, IsNowhereLive, IsLiveAt, HasOneRecord}
 use Rattle.nf_net.proofs.paths.ChunkPlaces.{link_spelled, none_on_way, one_on_way}
-use Rattle.nf_net.proofs.answers.ArrivalLemmas.{arrivals_run}
-use Rattle.nf_net.proofs.answers.BusyRuns.{Busy}
-use Rattle.nf_net.proofs.answers.CommandPromises.{run_busy}
-use Rattle.nf_net.proofs.answers.InstallRuns.{Installs, run_installs}
-use Rattle.nf_net.proofs.paths.SharedOwners.{HomesOwn}
-use Rattle.nf_net.proofs.FoldLemmas.{fold_is}
+use Rattle.nf_net.proofs.RunWords.{arrivals_run, Busy, run_busy, Installs, run_installs, HomesOwn, fold_is, Seated, seated, HasSides, Are_there, Rests}
+use Rattle.nf_net.proofs.RunWords.{found_instance, one_place, Reached, reached, IsApart, AsMoves, IsUnder}
 use Rattle.nf_net.proofs.paths.SeatPaths.{IsOwned, by_came}
-use Rattle.nf_net.proofs.paths.PathSeats.{Seated, seated, HasSides, Are_there, Rests, found_instance}
-use Rattle.nf_net.proofs.paths.RecordPromises.{one_place}
 use Rattle.nf_net.proofs.paths.SharedChunks.{none_on_way as none_shared}
 use Rattle.nf_net.proofs.InstalledShares.{SaysOfShares, says_of_shares}
 use Rattle.nf_net.proofs.SharedHomes.{goes_so, homes_own}
 use Rattle.nf_net.proofs.paths.SharedRecords.{HasShared, Saw_all, Home_lacks_last, alone, has_shared}
-use Rattle.nf_net.proofs.paths.Reached.{Reached, reached, IsApart, AsMoves, IsUnder}
 
 -- none of three, and one of three
 record AreNone {R : Type 0} (a b c : Option R) : Type 0 where

@@ -4,8 +4,7 @@ use Rattle.nf_net.proofs.Words.{if◌then◌else◌, ◌||◌, ◌==◌, find, o
 use Rattle.nf_net.proofs.Words.{has_answered, commands, IsRising, has_answered-append, split}
 use Rattle.net_world.specs.Input.{packets}
 use Rattle.nf_net.proofs.answers.BusyController.{told_in}
-use Rattle.nf_net.proofs.answers.BusyLemmas.{answered_same}
-use Rattle.nf_net.proofs.answers.EndTables.{flag, flag_most, flag_full}
+use Rattle.nf_net.proofs.RunWords.{answered_same, flag, flag_most, flag_full}
 use Rattle.nf_net.proofs.answers.LinePicks.{picked}
 
 -- how many are answered

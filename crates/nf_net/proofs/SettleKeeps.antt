@@ -9,18 +9,13 @@ use Rattle.nf_net.proofs.Words.{controller_uninstalled, uninstalled_unprocessed,
 use Rattle.net_world.specs.Input.{packets}
 use Rattle.net_world.specs.Fold.{times}
 use Rattle.net_world.proofs.NumberCounts.{times-append}
-use Rattle.nf_net.proofs.answers.AnswerSends.{answering}
+use Rattle.nf_net.proofs.RunWords.{answering, answered_same, other_not_answered, switch_hands, Busy, busy_next, run_busy, start, count, run_keeps, RunStep}
 use Rattle.nf_net.proofs.answers.ArrivalLemmas.{numbers, InRun, next_in_run, runs_joined}
 use Rattle.nf_net.proofs.answers.ArrivalNotes.{controller_notes_none, instance_notes_none}
-use Rattle.nf_net.proofs.answers.BusyLemmas.{answered_same, other_not_answered}
-use Rattle.nf_net.proofs.answers.BusyNodes.{switch_hands}
-use Rattle.nf_net.proofs.answers.BusyRuns.{Busy, busy_next}
-use Rattle.nf_net.proofs.answers.CommandPromises.{run_busy}
 use Rattle.proof_outlines.proofs.joined.RunsJoined.{once}
 use Rattle.nf_net.proofs.paths.PathPromises.{rising_once}
 use Rattle.nf_net.proofs.AtMembers.{times_those}
 use Rattle.nf_net.proofs.PlaceRuns.{processed_off}
-use Rattle.nf_net.proofs.RunKeeps.{start, count, run_keeps, RunStep}
 use Rattle.nf_net.proofs.SettleCounts.{AllAnswered, answered_in, all_answered_more, packets-append, longer_end}
 use Rattle.nf_net.proofs.SettleSteps.{Counted, items_none}
 use Rattle.nf_net.proofs.CountedSteps.{counted_after}

@@ -7,12 +7,10 @@ use Rattle.nf_net.proofs.Words.{members, member_for, unit_numbered, IsMoving, Is
 use Rattle.nf_net.proofs.Words.{installed-append, all_each, Given, Stands, In_first, In_second, stands, given, Unit, Order}
 use Rattle.net_world.specs.Places.{goes_to}
 use Rattle.net_world.specs.Settles.{IsAfterSettle, NoneBegan, Settles}
-use Rattle.nf_net.proofs.answers.CommandPromises.{run_answers}
+use Rattle.nf_net.proofs.RunWords.{run_answers, units_fit, start}
 use Rattle.nf_net.proofs.AtMembers.{at_members}
 use Rattle.nf_net.proofs.InstalledShares.{IsInstalledShare, says_of_shares}
 use Rattle.nf_net.proofs.MemberLemmas.{IsSharedBy, shared_by, still_shared, InstalledIn, installed_in, times_there}
-use Rattle.nf_net.proofs.NumberedUnits.{units_fit}
-use Rattle.nf_net.proofs.RunKeeps.{start}
 use Rattle.nf_net.proofs.SettleCounts.{AllAnswered, answered_more, all_answered_more, found, commands-append}
 use Rattle.nf_net.proofs.SettleKeeps.{ArrivedIn, arrived_in, run_settles}
 

@@ -8,14 +8,12 @@ use Rattle.std.proofs.Common.{◌-◌}
 use Rattle.std.specs.Prelude.{min}
 use Rattle.packet_pool.specs.Pool.{one_more as one_more_cell}
 use Rattle.switch_node.specs.Switch as switches
-use Rattle.nf_net.proofs.answers.AnswerSends.{answering}
+use Rattle.nf_net.proofs.RunWords.{answering, is_noted, or_off, weighs_nothing, sends_nothing}
 use Rattle.nf_net.proofs.answers.BusyController.{told_in}
-use Rattle.nf_net.proofs.answers.BusyLemmas.{is_noted, or_off}
 use Rattle.nf_net.proofs.answers.BusyRuns.{Busy, waits_of}
 use Rattle.nf_net.proofs.answers.LinePicks.{picked}
 use Rattle.nf_net.proofs.SettleCounts.{answered_in, AllAnswered, answered_in-append, answered_most, all_answered, none_answered_in, low_commands}
 use Rattle.nf_net.proofs.SettleCounts.{commands-append}
-use Rattle.nf_net.proofs.WeightlessMessages.{weighs_nothing, sends_nothing}
 
 abbrev pub switch_in : {F R : Type 0} → SwitchState → Node F R → SwitchState
 switch_in s (Switch t) = t

@@ -15,10 +15,8 @@ use Rattle.proof_machines.proofs.net.Shares.{Old}
 use Rattle.proof_machines.proofs.net.Units.{At_rest, In_move, see}
 use Rattle.net_world.specs.Log.{change_in}
 use Rattle.net_world.proofs.PickedLists.{before_all, front_picked}
-use Rattle.nf_net.proofs.answers.BusyRuns.{Busy}
-use Rattle.nf_net.proofs.answers.CommandPromises.{run_busy}
+use Rattle.nf_net.proofs.RunWords.{Busy, run_busy, start, count, log_keeps}
 use Rattle.nf_net.proofs.RuleSteps.{Changed, No_rule, Moves_on, Diverts, changed}
-use Rattle.nf_net.proofs.RunKeeps.{start, count, log_keeps}
 use Rattle.nf_net.proofs.SourceSteps.{owner_stays}
 use Rattle.nf_net.proofs.UnitShares.{IsOpenShare, open_begun}
 

@@ -5,13 +5,9 @@ use Rattle.nf_net.proofs.Words.{unit_share, OpenShare, WantShare, Under, seeing,
 use Rattle.nf_net.proofs.Words.{node_ready, owner, members, member_for, unit_numbered, is_whole, unit_fits, is_sys, Given, S, A, Joined, AllApart, run_beside}
 use Rattle.nf_net.proofs.Words.{given, Unit, either_way, Runs}
 use Rattle.net_world.specs.Places.{goes_to}
-use Rattle.nf_net.proofs.answers.BusyRuns.{Busy}
-use Rattle.nf_net.proofs.answers.CommandPromises.{run_busy}
-use Rattle.nf_net.proofs.answers.InstallRuns.{Installs, run_installs}
-use Rattle.nf_net.proofs.paths.SharedOwners.{HomesOwn}
+use Rattle.nf_net.proofs.RunWords.{Busy, run_busy, Installs, run_installs, HomesOwn, start, count}
 use Rattle.nf_net.proofs.InstalledShares.{SaysOfShares, says_of_shares}
 use Rattle.nf_net.proofs.MemberLemmas.{IsThere, There}
-use Rattle.nf_net.proofs.RunKeeps.{start, count}
 use Rattle.nf_net.proofs.UnitShares.{share_of_unit, home_is, member_is, diverted_members, owner_goes}
 
 module _ {F R : Type 0} (f : Semantics R) (c : Config) (items : List Msg) (is : IsInput f.kind c items) (n : ℕ) (count_is : n ≡ length c.names + 2)

@@ -12,17 +12,11 @@ use Rattle.std.specs.FinMap as finite
 use Rattle.nf_function.specs.Units.{takes as takes_unit}
 use Rattle.net_world.specs.Refused.{moves_away, StaysAtSource}
 use Rattle.nf_net.proofs.answers.BusyLemmas.{AreOther, is_other, other_not_begun}
-use Rattle.nf_net.proofs.answers.BusyNodes.{switch_hands, instance_says}
-use Rattle.nf_net.proofs.answers.BusyRuns.{Busy, own_controller, busy_next}
-use Rattle.nf_net.proofs.answers.CommandPromises.{run_busy}
+use Rattle.nf_net.proofs.RunWords.{switch_hands, instance_says, Busy, own_controller, busy_next, run_busy, controller_acts, passed, AreUnderWay}
+use Rattle.nf_net.proofs.RunWords.{moves_under_way, units_fit, start, count, run_keeps}
 use Rattle.nf_net.proofs.answers.ControllerActs.{IsEarly, Was, Was.Was_open, Was.Begins_now, SaysSo, SaysSo.Neither, SaysSo.Begins, SaysSo.Answers, Acts}
-use Rattle.nf_net.proofs.answers.ControllerActs.{controller_acts}
-use Rattle.nf_net.proofs.answers.InstallCounts.{passed}
-use Rattle.nf_net.proofs.answers.MovesUnderWay.{AreUnderWay, moves_under_way}
 use Rattle.nf_net.proofs.InstalledShares.{Alone, Is_it, alone}
-use Rattle.nf_net.proofs.NumberedUnits.{units_fit}
 use Rattle.nf_net.proofs.RuleSteps.{Changed, No_rule, Moves_on, Diverts, changed}
-use Rattle.nf_net.proofs.RunKeeps.{start, count, run_keeps}
 use Rattle.nf_net.proofs.SourceSteps.{Stays, Leaves, AreAt, Is_at, stays_more, owner_stays, quiet_leaves, unprocessed_at, other_change, instance_leaves}
 use Rattle.nf_net.proofs.SourceSteps.{began_there}
 use Rattle.nf_net.proofs.answers.ToldCommands.{some_answers}

@@ -17,10 +17,9 @@ use Rattle.proof_machines.proofs.net.Net as net
 use Rattle.proof_machines.proofs.net.Shares.{Old}
 use Rattle.proof_machines.proofs.net.Sources.{is_early_real, at_source, untaken}
 use Rattle.proof_outlines.proofs.outline.ControlOutline.{SeesMove}
-use Rattle.nf_net.proofs.answers.InstallCounts.{passed}
+use Rattle.nf_net.proofs.RunWords.{passed, RanThere, ran_there}
 use Rattle.proof_machines.proofs.whole.UnderMoves.{not_taken}
 use Rattle.nf_net.proofs.MembersServed.{mine_there, unseen_ran}
-use Rattle.nf_net.proofs.NumberedUnits.{RanThere, ran_there}
 use Rattle.nf_net.proofs.UnitShares.{owner_goes}
 
 -- a fact of each element, by where it stands

@@ -12,8 +12,7 @@ use Rattle.proof_machines.proofs.share.Stages.{packets}
 use Rattle.proof_machines.proofs.whole.FrontPackets.{front_packets}
 use Rattle.proof_machines.proofs.whole.Fronts.{FrontOf}
 use Rattle.net_world.specs.Fold.{fold}
-use Rattle.nf_net.proofs.paths.RecordPromises.{instance_of}
-use Rattle.nf_net.proofs.FoldLemmas.{fold_is}
+use Rattle.nf_net.proofs.RunWords.{instance_of, fold_is}
 use Rattle.nf_net.proofs.FrontLemmas.{front_same, front_more}
 use Rattle.nf_net.proofs.OutputLemmas.{numbers, numbers-append}
 

@@ -5,11 +5,10 @@ use Rattle.nf_net.proofs.Words.{IsInput, course_of, job_of, node_step, node_read
 use Rattle.nf_net.proofs.Words.{run_beside}
 use Rattle.nf_net.proofs.CopyRuns.{run_copying}
 use Rattle.nf_net.proofs.CountedRoom.{room}
-use Rattle.nf_net.proofs.answers.ArrivalLemmas.{next_in_run, runs_joined}
+use Rattle.nf_net.proofs.RunWords.{next_in_run, runs_joined, RunStep, run_keeps, after_world}
 use Rattle.nf_net.proofs.FrontLemmas.{front_same, front_trans, front_more, one_front}
 use Rattle.nf_net.proofs.StandbyFronts.{went_more, stands_front, still_some}
 use Rattle.nf_net.proofs.StandbySteps.{GoesOn, goes_on}
-use Rattle.nf_net.proofs.RunKeeps.{RunStep, run_keeps, after_world}
 
 -- what begins a list with one more element: all of it, or what begins the list
 fronts_of_more : {X : Type 0} (before after xs : List X) (x : X) → before ++ after ≡ xs ++ x ∷ []

@@ -16,11 +16,9 @@ use Rattle.proof_machines.proofs.share.Stages.{Stage.Diverting}
 use Rattle.proof_outlines.proofs.outline.FiltersApart.{filters_apart}
 use Rattle.proof_outlines.proofs.whole.ShareOutline.{share_phase, index_same}
 use Rattle.proof_outlines.proofs.joined.Joined.{IsShare}
-use Rattle.nf_net.proofs.answers.BusyLemmas.{unanswered}
-use Rattle.nf_net.proofs.answers.BusyRuns.{Busy, own_controller, keeps_is, plan_is, told_is, open_began}
+use Rattle.nf_net.proofs.RunWords.{unanswered, Busy, own_controller, keeps_is, plan_is, told_is, open_began, is_set_up}
 use Rattle.nf_net.proofs.answers.InstallRuns.{Installs, dones_still}
 use Rattle.nf_net.proofs.answers.InstallSteps.{is_moving, dones, open_in}
-use Rattle.nf_net.proofs.answers.ShareTells.{is_set_up}
 use Rattle.nf_net.proofs.MemberLemmas.{IsThere, There, is_there, IsSharedBy, shared_by, members_diverted, InstalledIn, installed_in, times_there, home_first}
 use Rattle.nf_net.proofs.MemberLemmas.{member_at}
 

@@ -11,8 +11,7 @@ use Rattle.nf_net.proofs.answers.ArrivalNotes.{controller_notes_none}
 use Rattle.nf_net.proofs.WindowSteps.{switch_counts}
 use Rattle.nf_net.proofs.PacketCounts.{few_done}
 use Rattle.nf_net.proofs.AnsweredNotes.{controller_none}
-use Rattle.nf_net.proofs.RunKeeps.{run_keeps, after_world}
-use Rattle.nf_net.proofs.WeightlessMessages.{weighs_nothing}
+use Rattle.nf_net.proofs.RunWords.{run_keeps, after_world, weighs_nothing}
 
 -- what holds of the switch and the log of each world of a run
 pub record InWindow (window : ℕ) {F R : Type 0} (w : Network (Node F R) Msg Note) : Type 0 where

@@ -8,8 +8,7 @@ use Rattle.nf_net.proofs.Words.{ends_last, node_step, node_ready, node_ended, fi
 use Rattle.nf_net.proofs.Words.{all_labelled, count_at_start, all_each}
 use Rattle.std.specs.FinMap as finite
 use Rattle.ctrl_node.specs.Controller as controller
-use Rattle.nf_net.proofs.answers.BusyRuns.{own_controller}
-use Rattle.nf_net.proofs.answers.CreditCounts.{sent_weight-append}
+use Rattle.nf_net.proofs.RunWords.{own_controller, sent_weight-append, run_keeps, start}
 use Rattle.nf_net.proofs.answers.EndTables.{sign_in, no_command, in_order, ordered_behind, IsSettled, quiet_settled, row_ends, sign_at_switch}
 use Rattle.nf_net.proofs.answers.EndTables.{sign_at_controller, flag, switch_closes}
 use Rattle.nf_net.proofs.answers.InstallCounts.{finish}
@@ -18,7 +17,6 @@ use Rattle.nf_net.proofs.answers.InstallNotes.{no_install_to, none_sent, items_n
 use Rattle.proof_outlines.proofs.joined.Joined.{count}
 use Rattle.proof_outlines.proofs.joined.KnownOperations.{AreKnown}
 use Rattle.nf_net.proofs.answers.LinePicks.{picked, on_way, at_switch, at_controller, at_instance}
-use Rattle.nf_net.proofs.RunKeeps.{run_keeps, start}
 
 -- how far the end of the input has come: on the way to the controller, at the controller, and with the finish to the switch
 pub record IsEnding (closed : ℕ) (c : ControllerState) (way : List Bool) (finishes : ℕ) : Type 0 where

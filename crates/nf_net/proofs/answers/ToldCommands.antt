@@ -12,13 +12,9 @@ use Rattle.std.specs.FinMap as finite
 use Rattle.ctrl_node.specs.Controller as controller
 use Rattle.ctrl_node.specs.Controller.{Step, still}
 use Rattle.net_world.proofs.PickedLists.{some_kept}
-use Rattle.nf_net.proofs.answers.BusyLemmas.{is_noted}
-use Rattle.nf_net.proofs.answers.BusyRuns.{Busy, own_controller, keeps_is, told_is}
-use Rattle.nf_net.proofs.answers.CommandPromises.{run_busy}
+use Rattle.nf_net.proofs.RunWords.{is_noted, Busy, own_controller, keeps_is, told_is, run_busy, flag, IsSettled, flag_full, run_keeps, after_world}
 use Rattle.nf_net.proofs.answers.EndRuns.{run_ends, all_settled}
-use Rattle.nf_net.proofs.answers.EndTables.{flag, IsSettled, flag_full}
 use Rattle.proof_outlines.proofs.joined.Joined.{count, is_built}
-use Rattle.nf_net.proofs.RunKeeps.{run_keeps, after_world}
 
 -- a command of this number that waits
 abbrev pub told : ℕ → Msg → ℕ

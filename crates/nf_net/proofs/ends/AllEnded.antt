@@ -7,10 +7,9 @@ use Rattle.std.specs.FinMap as finite
 use Rattle.proof_outlines.proofs.whole.OpenShares.{share_in, SeesOne}
 use Rattle.proof_outlines.proofs.whole.ShareOutline.{Rests}
 use Rattle.proof_outlines.proofs.joined.Joined.{count}
-use Rattle.nf_net.proofs.answers.BusyRuns.{own_controller}
+use Rattle.nf_net.proofs.RunWords.{own_controller, flag_full}
 use Rattle.nf_net.proofs.answers.FirstEntries.{passes, found_passes}
 use Rattle.nf_net.proofs.answers.InstallCounts.{finish}
-use Rattle.nf_net.proofs.answers.EndTables.{flag_full}
 use Rattle.net_world.proofs.SilentLinks.{all_of}
 use Rattle.nf_net.proofs.ends.TokenRuns.{HasEnough, IsCalm, calm}
 use Rattle.nf_net.proofs.ends.NoMoves.{no_move}

@@ -7,8 +7,7 @@ use Rattle.nf_net.proofs.Words.{switch_step, InstanceState, instance_step, Choic
 use Rattle.nf_net.proofs.Words.{opening_weight, Takes, taken_outcome, weigh, total, total_after, Config, Node, Switch, Controller, IsInput, node_step}
 use Rattle.nf_net.proofs.Words.{node_ready, node_ended, first_nodes, first_switch, first_instance, first_instances, Given, Label, Joined, node_of, given}
 use Rattle.nf_net.proofs.Words.{all_fit, Instance, split}
-use Rattle.nf_net.proofs.answers.BusyRuns.{own_controller}
-use Rattle.nf_net.proofs.answers.EndTables.{flag}
+use Rattle.nf_net.proofs.RunWords.{own_controller, flag, run_keeps, start}
 use Rattle.nf_net.proofs.answers.InstallCounts.{finish}
 use Rattle.nf_net.proofs.answers.InstallNotes.{no_install_to}
 use Rattle.proof_outlines.proofs.joined.Joined.{count}
@@ -17,7 +16,6 @@ use Rattle.nf_net.proofs.ends.LinkWeights.{cell}
 use Rattle.nf_net.proofs.ends.TallySteps.{over_by, StepLeaves}
 use Rattle.nf_net.proofs.ends.TokenRuns.{each_at, HasEnough, its_leaves, run_enough}
 use Rattle.nf_net.proofs.ends.EndSteps.{ending, stop, final, controller_ends, switch_ends}
-use Rattle.nf_net.proofs.RunKeeps.{run_keeps, start}
 
 -- how far the end has come
 pub record HasEnding {F R : Type 0} (n : ℕ) (w : Network (Node F R) Msg Note) : Type 0 where

@@ -11,9 +11,7 @@ use Rattle.proof_machines.proofs.whole.EndAll.{As_moves}
 use Rattle.net_world.specs.Input.{packets}
 use Rattle.net_world.specs.Fold.{times}
 use Rattle.nf_net.proofs.answers.ArrivalLemmas.{numbers}
-use Rattle.nf_net.proofs.answers.CreditCounts.{credit}
-use Rattle.nf_net.proofs.paths.PathSeats.{there, sides}
-use Rattle.nf_net.proofs.paths.SharedOwners.{members_few}
+use Rattle.nf_net.proofs.RunWords.{credit, there, sides, members_few}
 use Rattle.nf_net.proofs.PacketCounts.{few_done, few_came}
 use Rattle.nf_net.proofs.WindowRuns.{InWindow, items_none}
 use Rattle.nf_net.proofs.ends.NoMoves.{quiet_links}

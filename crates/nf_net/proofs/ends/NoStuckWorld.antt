@@ -6,8 +6,7 @@ use Rattle.nf_net.proofs.Words.{Choice, MOST_CHOICES, Network, IsWorld, IsRun, i
 use Rattle.nf_net.proofs.Words.{node_ready, node_ended, started_with, Joined, given, IsShort, run_beside}
 use Rattle.actor_net.specs.Schedules.{enabled_choices}
 use Rattle.actor_net.proofs.DisabledChoices.{IsUnready, stuck_links, stuck_input}
-use Rattle.nf_net.proofs.answers.ArrivalLemmas.{runs_joined}
-use Rattle.nf_net.proofs.answers.CommandPromises.{run_busy}
+use Rattle.nf_net.proofs.RunWords.{runs_joined, run_busy, after_world}
 use Rattle.nf_net.proofs.answers.ToldCommands.{run_told}
 use Rattle.nf_net.proofs.SettleKeeps.{run_settles}
 use Rattle.nf_net.proofs.WindowRuns.{in_window}
@@ -19,7 +18,6 @@ use Rattle.nf_net.proofs.ends.EndingRuns.{run_ending}
 use Rattle.nf_net.proofs.ends.AllEnded.{nodes_ended}
 use Rattle.nf_net.proofs.ends.GroundedWorlds.{grounded}
 use Rattle.nf_net.proofs.ends.WaitingWorlds.{none_waits}
-use Rattle.nf_net.proofs.RunKeeps.{after_world}
 
 -- a switch for which nothing is under way and no command waits takes whatever is next
 takes_all : (s : SwitchState) (m : Msg) → s.flying ≡ 0 → 1 ≤ s.pool.cells → s.waiting ≡ 0 → takes_in s m ≡ true

@@ -11,17 +11,15 @@ use Rattle.std.specs.FinMap as finite
 use Rattle.std.proofs.lemmas.List.{length-replicate}
 use Rattle.copy_share.specs.Copy as copy
 use Rattle.actor_net.proofs.WeightLaws as weights
-use Rattle.nf_net.proofs.answers.BusyRuns.{own_controller}
+use Rattle.nf_net.proofs.RunWords.{own_controller, flag, run_keeps, start}
 use Rattle.proof_outlines.proofs.joined.CopySends.{BeginSo, controller_sent}
 use Rattle.proof_outlines.proofs.joined.Joined.{count}
-use Rattle.nf_net.proofs.answers.EndTables.{flag}
 use Rattle.nf_net.proofs.ends.LinkWeights.{sends_weigh, at_links, at_links_same, at_links_none, at_links_after, taken_least}
 use Rattle.nf_net.proofs.ends.Tokens.{Token, token_of, awaits, counts, weight, some_left, copy_wants, share_wants, wanted, passes_weigh}
 use Rattle.nf_net.proofs.ends.TokenNodes.{CanRead, instance_passes, switch_passes}
 use Rattle.nf_net.proofs.ends.TokenRows.{Grants, Fresh, Waits}
 use Rattle.nf_net.proofs.ends.TokenController.{AreWithin, controller_gives}
 use Rattle.nf_net.proofs.ends.TallySteps.{IsTallyChunk, reads, GivesTally, MergesTally, over_by, StepLeaves, instance_leaves}
-use Rattle.nf_net.proofs.RunKeeps.{run_keeps, start}
 
 counts_same : (k : ℕ) (a b : Option Operation) → ((leg : _) (node : ℕ) → awaits b leg node ≡ awaits a leg node) → (t : Option Token)
     → counts k b t ≡ counts k a t

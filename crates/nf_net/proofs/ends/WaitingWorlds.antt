@@ -5,10 +5,7 @@ use Rattle.nf_net.proofs.Words.{IsWorld, queue_at, at, weigh, weigh-append, tota
 use Rattle.nf_net.proofs.Words.{keeps_off, answers_of, IsInput, IsRising, is_item, commands, all_each, Given, Label, Joined, given, silent_total}
 use Rattle.std.specs.FinMap as finite
 use Rattle.net_world.specs.Log as log
-use Rattle.nf_net.proofs.answers.AnswerSends.{answering}
-use Rattle.nf_net.proofs.answers.BusyLemmas.{is_noted}
-use Rattle.nf_net.proofs.answers.BusyRuns.{Busy, keeps_is, told_is}
-use Rattle.nf_net.proofs.answers.EndTables.{flag}
+use Rattle.nf_net.proofs.RunWords.{answering, is_noted, Busy, keeps_is, told_is, flag}
 use Rattle.nf_net.proofs.answers.ToldCommands.{told, Told, closed_answered}
 use Rattle.nf_net.proofs.SettleCounts.{answered_in, AllAnswered, answered_in-append, commands-append}
 use Rattle.nf_net.proofs.SettleSteps.{Counted, items_none}

@@ -22,9 +22,8 @@ use Rattle.nf_net.proofs.paths.ChunkLinks.{AreSpelled, are_spelled, no_chunks}
 use Rattle.nf_net.proofs.paths.ChunkSums.{kept_records, IsAt, From_a, From_b, To_a, To_b, In_store, none_of, one_of}
 use Rattle.nf_net.proofs.paths.PathNodes.{map_of}
 use Rattle.nf_net.proofs.paths.PathSeats.{labels, link_shown, link_view, on_each}
-use Rattle.nf_net.proofs.paths.PathSums.{one_at, no_link, one_link}
+use Rattle.nf_net.proofs.RunWords.{one_at, no_link, one_link, Reached, IsApart, HoldsAt}
 use Rattle.proof_outlines.proofs.joined.Joined.{AreFree}
-use Rattle.nf_net.proofs.paths.Reached.{Reached, IsApart, HoldsAt}
 
 -- The pieces that the controller keeps.
 module _ {R : Type 0} (f : Semantics R) (g : Given) where

@@ -8,8 +8,7 @@ use Rattle.proof_machines.proofs.unit.Sides.{OneOf, First, Second}
 use Rattle.proof_machines.proofs.net.Units.{see}
 use Rattle.nf_net.proofs.paths.PathSeats.{There, Is_there, Has_none, passed_from, passed_else, events_to, events_else, forwarded_to, forwarded_else}
 use Rattle.nf_net.proofs.paths.PathSeats.{diverted_none}
-use Rattle.nf_net.proofs.paths.PathSums.{those-all, no_link, one_link}
-use Rattle.nf_net.proofs.paths.Reached.{Reached, IsApart, HoldsAt}
+use Rattle.nf_net.proofs.RunWords.{those-all, no_link, one_link, Reached, IsApart, HoldsAt}
 
 if_nil : (b : Bool) (xs : List ℕ) → xs ≡ [] → (if b then xs else []) ≡ []
 if_nil true xs e = e

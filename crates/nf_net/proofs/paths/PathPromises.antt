@@ -6,10 +6,9 @@ use Rattle.nf_net.proofs.Words.{Given, S, A, came_by, same_times, given, Unit, s
 use Rattle.net_world.specs.Input.{packets}
 use Rattle.net_world.specs.Fold.{times}
 use Rattle.net_world.proofs.NumberCounts.{times-append}
-use Rattle.nf_net.proofs.paths.PathSeats.{seated}
+use Rattle.nf_net.proofs.RunWords.{seated, Reached, HomesTold}
 use Rattle.nf_net.proofs.paths.SeatPaths as seats
 use Rattle.nf_net.proofs.paths.SharedPaths as shares
-use Rattle.nf_net.proofs.paths.Reached.{Reached, HomesTold}
 
 -- no number stands twice where numbers rise
 rising_above : (p least : ℕ) (ns : List ℕ) → IsRising least ns → p < least → times p ns ≡ 0

@@ -9,8 +9,7 @@ use Rattle.proof_machines.proofs.net.Holding.{IsController}
 use Rattle.proof_machines.proofs.net.Units.{see}
 use Rattle.net_world.specs.Path.{numbers}
 use Rattle.nf_net.proofs.paths.PathNodes.{only_those, those_mine, store_of}
-use Rattle.nf_net.proofs.paths.PathSums.{those-all, one_at}
-use Rattle.nf_net.proofs.paths.Reached.{Reached, IsApart, HoldsAt}
+use Rattle.nf_net.proofs.RunWords.{those-all, one_at, Reached, IsApart, HoldsAt}
 
 module _ {F R : Type 0} (here : Reached F R) where
   open here use {f, c, items, is, n, count, w, nodes, j}

@@ -18,11 +18,9 @@ use Rattle.nf_net.proofs.paths.ChunkLemmas.{as_spelled, spelled-append, spelled-
 use Rattle.nf_net.proofs.paths.ChunkPlaces.{phase_spelled, none_kept}
 use Rattle.nf_net.proofs.paths.ChunkSums.{kept_records}
 use Rattle.nf_net.proofs.paths.PathNodes.{map_of}
-use Rattle.nf_net.proofs.paths.PathSeats.{labels, on_each}
-use Rattle.nf_net.proofs.paths.PathSums.{one_at, no_link}
+use Rattle.nf_net.proofs.RunWords.{labels, on_each, one_at, no_link, Reached, IsUnder}
 use Rattle.nf_net.proofs.paths.SharedLinks.{item_of, IsKnown, AreKnown, first_known, view, seen_more}
 use Rattle.nf_net.proofs.paths.SharedPlaces.{v, link_known, link_view}
-use Rattle.nf_net.proofs.paths.Reached.{Reached, IsUnder}
 
 module _ {R : Type 0} (f : Semantics R) (g : Given) (z : SeeingShare) where
   abbrev u : Unit

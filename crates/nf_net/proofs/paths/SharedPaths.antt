@@ -6,11 +6,9 @@ use Rattle.proof_machines.proofs.share.Stages.{path as stage_path}
 use Rattle.proof_machines.proofs.share.Path.{carries}
 use Rattle.proof_machines.proofs.net.UnderReadings.{under_order}
 use Rattle.net_world.specs.Path.{at_instance}
-use Rattle.nf_net.proofs.paths.PathSums.{those-but, but_none}
+use Rattle.nf_net.proofs.RunWords.{those-but, but_none, members_few, Reached, IsUnder, HomesTold}
 use Rattle.nf_net.proofs.paths.SeatPaths.{those-places}
-use Rattle.nf_net.proofs.paths.SharedOwners.{members_few}
 use Rattle.nf_net.proofs.paths.SharedPlaces.{fr, v, its_places, passed_are, forwards_are, diverts_are, events_are, store_is, queue_is, stands_is}
-use Rattle.nf_net.proofs.paths.Reached.{Reached, IsUnder, HomesTold}
 
 module _ {F R : Type 0} (here : Reached F R) (told : HomesTold here) (u : Unit) (x : WantShare) (before since : List ℕ)
     (k : IsUnder here u x before since) where

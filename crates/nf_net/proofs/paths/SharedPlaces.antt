@@ -13,12 +13,11 @@ use Rattle.net_world.specs.Path.{numbers}
 use Rattle.nf_net.proofs.paths.PathNodes.{those_mine, held_none}
 use Rattle.nf_net.proofs.paths.PathSeats.{labels, link_shown, none_on, passed_else, forwarded_else, diverted_else, found_instance}
 use Rattle.nf_net.proofs.paths.PathStores.{for_other, stored_for, queued_for, unseen_store, cells, got}
-use Rattle.nf_net.proofs.paths.PathSums.{those-all, no_link, one_link}
+use Rattle.nf_net.proofs.RunWords.{those-all, no_link, one_link, Reached, IsUnder}
 use Rattle.nf_net.proofs.paths.SharedLinks as links
 use Rattle.nf_net.proofs.paths.SharedLinks.{AreKnown, AreRead, are_read}
 use Rattle.nf_net.proofs.paths.SharedOwners.{real, members_few}
 use Rattle.nf_net.proofs.paths.SharedStages.{Places, places}
-use Rattle.nf_net.proofs.paths.Reached.{Reached, IsUnder}
 
 module _ {F R : Type 0} (here : Reached F R) (u : Unit) (x : WantShare) (before since : List ℕ) (k : IsUnder here u x before since) where
   open here use {f, c, items, is, n, count, w, nodes, j, world}

@@ -12,11 +12,9 @@ use Rattle.proof_machines.proofs.share.Lists.{packets-append}
 use Rattle.proof_machines.proofs.net.Readings.{fold}
 use Rattle.proof_machines.proofs.net.UnderReadings.{all_done}
 use Rattle.net_world.specs.Records.{shared_in, synced_in, is_to_take}
-use Rattle.nf_net.proofs.paths.PathSeats.{found_instance}
+use Rattle.nf_net.proofs.RunWords.{found_instance, members_few, Reached, IsUnder, HomesTold}
 use Rattle.nf_net.proofs.paths.SharedChunks.{given_on, taken_on}
-use Rattle.nf_net.proofs.paths.SharedOwners.{members_few}
 use Rattle.nf_net.proofs.paths.SharedStages.{Comes, From_member, To_home, Ahead, Sees, Sees_all, Is_ahead, sees}
-use Rattle.nf_net.proofs.paths.Reached.{Reached, IsUnder, HomesTold}
 
 -- the last of those that were done of a unit is the unit's
 last_mine : {R : Type 0} (f : Semantics R) (g : Given) (u : Unit) (ds xs : List Ran) (d : Ran) → ran_of (S f g) (A f g) u ds ≡ xs ++ d ∷ []

@@ -8,7 +8,7 @@ use Rattle.proof_machines.proofs.unit.Lists.{firsts}
 use Rattle.proof_machines.proofs.unit.Real
 use Rattle.proof_machines.proofs.unit.Real.{record_at, M_enable, M_stream, M_delete, M_put, M_restore, M_event, M_piece, M_put_no, M_forward, M_install}
 use Rattle.proof_machines.proofs.unit.Seen.{NodesDiffer}
-use Rattle.proof_machines.proofs.unit.Labels.{Each, Without, Clean}
+use Rattle.proof_machines.proofs.unit.Labels.{Each, Without, Clean, Foreign}
 use Rattle.flow_filter.specs.declared.filter.Filter.{Filter}
 use Rattle.proof_machines.proofs.net.Net.{Msg, Carry_on, Pass_on, Fence_on, Mv, Sys, Ruling, is_free, Open, num_of, World}
 use Rattle.nf_function.specs.declared.unit.Unit as units
@@ -40,12 +40,7 @@ module _ {R : Type 0} (S : Sys R) (u : units.Unit) where
   HasNothing g (M_install n from to) = S.takes g u ≡ false
   HasNothing g (M_event n p) = mine p ≡ false
   HasNothing g (M_forward p to) = mine p ≡ false
-  HasNothing g (M_delete n us) = is_among us u ≡ false
-  HasNothing g (M_put n p first) = Without u p
-  HasNothing g (M_restore n cs) = record_at u cs ≡ None
-  HasNothing g (M_piece n p) = Without u p
-  HasNothing g (M_put_no n why cs) = record_at u cs ≡ None
-  HasNothing g m = Prim.Unit {0}
+  HasNothing g m = Foreign u m
 
   -- a message has nothing of the unit but a plain packet
   abbrev pub NothingOf : ℕ → Msg R → Type 0

@@ -1,6 +1,7 @@
 -- The path of a stage is what waits of the unit in its view, place by place: carried to members, forwarded, plain on the link to home, in
 -- the queue, and diverted.
-use Rattle.std.proofs.Common.{◌≡◌, ℕ, Bool, true, false, cond, ◌==◌, Option, Some, None, List, [], ◌∷◌, ◌++◌, map, refl, sym, ap, subst, append_assoc, append-nil, arith}
+use Rattle.std.proofs.Common.{◌≡◌, ℕ, Bool, true, false, cond, ◌==◌, Option, Some, None, List, [], ◌∷◌, ◌++◌, map, refl, sym, ap, subst, append_assoc}
+use Rattle.std.proofs.Common.{append-nil, arith}
 use Rattle.std.specs.List.{filter_map}
 use Rattle.std.proofs.lemmas.Bool.Decides.{nat_tests, Decides-eqb}
 use Rattle.std.proofs.lemmas.List.Elements.{filter_map-append}
@@ -73,9 +74,6 @@ shared p = Shared p
 abbrev divert : {R : Type 0} → ℕ → Item R
 divert p = Diverted p
 
-carries-append : {R : Type 0} (xs ys : List (Item R)) → carries (xs ++ ys) ≡ carries xs ++ carries ys
-carries-append xs ys = filter_map-append carry_of xs ys
-
 all_carries : (R : Type 0) (l : List ℕ) → carries (map (carry {R = R}) l) ≡ l
 all_carries R l = picked_each carry_of carry (λ p. refl) l
 
@@ -96,7 +94,7 @@ not_plain : (R : Type 0) (b : Bool) (p : ℕ) → carries {R = R} (cond b (Share
 not_plain R true p = refl
 not_plain R false p = refl
 
-ruleset reads = (carries-append, all_carries, no_shared, no_shared_fence, all_diverted, not_plain, gather_none, append_assoc, append-nil)
+ruleset reads = (filter_map-append, all_carries, no_shared, no_shared_fence, all_diverted, not_plain, gather_none, append_assoc, append-nil)
 
 pub path_is : {R : Type 0} (f : UnitShare R) → IsShare f → (s : Stage R) → path_of f (shape f s) ≡ path f s
 path_is f is (Diverting d b l) = rw (gather_only f.members f.home (map carry l) is.apart is.home_in, self f.home) (simp reads)

@@ -3,7 +3,7 @@ use Rattle.proof_machines.proofs.unit.Words.{◌≡◌, ◌≢◌, ℕ, Bool, tr
 use Rattle.proof_machines.proofs.unit.Words.{append-nil, if◌then◌else◌, Answer, Where, At_a, At_b, Steps, after, Part, Inst, inst_does, put, Item, Carry, Pass}
 use Rattle.proof_machines.proofs.unit.Words.{Fence, Put, delete, next, State, Take_sa, Take_sb, put_a, put_b, moved, nil_right, drops, Stage, At_rest, Streams}
 use Rattle.proof_machines.proofs.unit.Words.{All_put, Hold_goes, Held, Laying, Turned, Turned_loose, Restore_goes, Doorway, Is_wide, puts_of, shape, all_of}
-use Rattle.proof_machines.proofs.unit.Words.{cons_nil}
+use Rattle.proof_machines.proofs.unit.Words.{cons_nil, MachineStep, Allowed, arrived_by, Ran}
 use Rattle.proof_machines.proofs.unit.Bare.{bare_facts, stays_bare}
 use Rattle.proof_machines.proofs.unit.Steps.{goes_on}
 use Rattle.proof_machines.proofs.unit.Seats.{UnitSeat, Covered, Is_beside, Is_away, seat_shape}
@@ -108,17 +108,19 @@ sc_stage F (At_rest d l k) = refl
 sc_stage F s = refl
 
 -- Another seat's base: nothing of the unit is ever done there.
+bare_ran : {R : Type 0} (F : Steps R) (s : Stage F) → all_of s ≡ [] → (m : MachineStep R) (a : Allowed (shape F s) m) → arrived_by m ≡ [] → (ran : List Ran)
+    → (moved F (shape F s) m).done ≡ (shape F s).done ++ ran → ran ≡ []
+bare_ran F s bare m a none ran taken =
+    let g = goes_on F s m a in
+    nil_right (shape F s).done ran (sym taken ∙ ap (λ x. x.done) g.1 ∙ (bare_facts F g.0 (stays_bare F s m a bare none)).done)
+
 taken_sa : {R : Type 0} (F : Steps R) (u : State R) (it : Item R) (v : List (Item R)) → u.sa ≡ it ∷ v
     → (moved F u Take_sa).done ≡ u.done ++ (inst_does F At_a [] None u.a it).ran
 taken_sa {R = R} F u it v e = ap (λ l. (elim l as (λ _. State R) [ [] ↦ u | x ∷ xs ↦ put_a (record u { sa = xs }) (inst_does F At_a [] None u.a x) ]).done) e
 
 pub bare_sa : {R : Type 0} (F : Steps R) (s : Stage F) → all_of s ≡ [] → (it : Item R) (v : List (Item R)) → (shape F s).sa ≡ it ∷ v
     → (inst_does F At_a [] None (shape F s).a it).ran ≡ []
-bare_sa F s bare it v e =
-    let u = shape F s in
-    let g = goes_on F s Take_sa tt in
-    let none : (moved F u Take_sa).done ≡ [] = ap (λ x. x.done) g.1 ∙ (bare_facts F g.0 (stays_bare F s Take_sa tt bare refl)).done in
-    nil_right u.done (inst_does F At_a [] None u.a it).ran (sym (taken_sa F u it v e) ∙ none)
+bare_sa F s bare it v e = bare_ran F s bare Take_sa tt refl _ (taken_sa F (shape F s) it v e)
 
 taken_sb : {R : Type 0} (F : Steps R) (u : State R) (it : Item R) (v : List (Item R)) → u.sb ≡ it ∷ v
     → (moved F u Take_sb).done ≡ u.done ++ (inst_does F At_b [] None u.b it).ran
@@ -126,11 +128,7 @@ taken_sb {R = R} F u it v e = ap (λ l. (elim l as (λ _. State R) [ [] ↦ u | 
 
 pub bare_sb : {R : Type 0} (F : Steps R) (s : Stage F) → all_of s ≡ [] → (it : Item R) (v : List (Item R)) → (shape F s).sb ≡ it ∷ v
     → (inst_does F At_b [] None (shape F s).b it).ran ≡ []
-bare_sb F s bare it v e =
-    let u = shape F s in
-    let g = goes_on F s Take_sb tt in
-    let none : (moved F u Take_sb).done ≡ [] = ap (λ x. x.done) g.1 ∙ (bare_facts F g.0 (stays_bare F s Take_sb tt bare refl)).done in
-    nil_right u.done (inst_does F At_b [] None u.b it).ran (sym (taken_sb F u it v e) ∙ none)
+bare_sb F s bare it v e = bare_ran F s bare Take_sb tt refl _ (taken_sb F (shape F s) it v e)
 
 -- The links from the switch, at any seat.
 pub fresh_sa : {R : Type 0} (F : Steps R) (s : UnitSeat F) (it : Item R) (v : List (Item R)) (parts : List (Part R)) (refuse : Option Answer)

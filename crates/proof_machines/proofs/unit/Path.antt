@@ -1,6 +1,6 @@
 -- The path of a stage is what waits in the machine, place by place: on links, in the store, and held.
-use Rattle.proof_machines.proofs.unit.Words.{◌≡◌, ℕ, Bool, true, false, Option, Some, None, List, [], ◌∷◌, ◌++◌, map, refl, ap, append_assoc, append-nil, Steps, Item, Carry}
-use Rattle.proof_machines.proofs.unit.Words.{Pass}
+use Rattle.proof_machines.proofs.unit.Words.{◌≡◌, ℕ, Bool, true, false, Option, Some, None, List, [], ◌∷◌, ◌++◌, map, refl, ap, append_assoc, append-nil, Steps}
+use Rattle.proof_machines.proofs.unit.Words.{Item, Carry, Pass}
 use Rattle.std.specs.List.{filter_map}
 use Rattle.std.proofs.lemmas.List.Elements.{filter_map-append}
 use Rattle.proof_machines.proofs.unit.Lists.{picked_each, picked_none}
@@ -40,17 +40,8 @@ forwards xs = filter_map forward_of xs
 abbrev pub path_of : {R : Type 0} → State R → List ℕ
 path_of u = passes_in u.sa ++ (passes_in u.sb ++ (forwards u.cs ++ (u.store ++ (events_in u.ac ++ (u.a.held ++ (carries u.sa ++ (u.b.held ++ carries u.sb)))))))
 
-pub passes_in-append : {R : Type 0} (xs ys : List (Item R)) → passes_in (xs ++ ys) ≡ passes_in xs ++ passes_in ys
-passes_in-append xs ys = filter_map-append pass_of xs ys
-
 pub carries-append : {R : Type 0} (xs ys : List (Item R)) → carries (xs ++ ys) ≡ carries xs ++ carries ys
 carries-append xs ys = filter_map-append carry_of xs ys
-
-pub events_in-append : {R : Type 0} (xs ys : List (Item R)) → events_in (xs ++ ys) ≡ events_in xs ++ events_in ys
-events_in-append xs ys = filter_map-append event_of xs ys
-
-pub forwards-append : {R : Type 0} (xs ys : List (Item R)) → forwards (xs ++ ys) ≡ forwards xs ++ forwards ys
-forwards-append xs ys = filter_map-append forward_of xs ys
 
 -- lists of one kind
 abbrev carry : {R : Type 0} → ℕ → Item R
@@ -100,10 +91,7 @@ mixed_events (Pc h ∷ y) = mixed_events y
 mixed_events (Dd h ∷ y) = mixed_events y
 
 ruleset reads = (
-  passes_in-append,
-  carries-append,
-  events_in-append,
-  forwards-append,
+  filter_map-append,
   no_passes,
   all_carries,
   all_passes,

@@ -4,11 +4,12 @@ use Rattle.proof_machines.proofs.unit.Words.{◌≡◌, ℕ, Bool, true, false, 
 use Rattle.proof_machines.proofs.unit.Words.{At_b, At_c, Steps, Item, Carry, Pass, Stray, Inst, Phase, Passing, Ending, Undoing, Over, State, firsts, nil_left}
 use Rattle.proof_machines.proofs.unit.Words.{nil_right, Stage, At_rest, Streams, Is_shut, Is_agreed, Laying, Turned, Fenced_a, Ending_b, Fence_b, Turned_loose}
 use Rattle.proof_machines.proofs.unit.Words.{Fenced_loose, Ending_loose, Fence_loose, Fenced_b, Moved, shape, path, all_of, to_a, to_b}
-use Rattle.proof_machines.proofs.unit.Path.{passes_in, carries, events_in, forwards, path_of, path_is, passes_in-append, no_passes, all_carries, no_carries}
+use Rattle.proof_machines.proofs.unit.Path.{passes_in, carries, events_in, forwards, path_of, path_is, no_passes, all_carries, no_carries}
 use Rattle.proof_machines.proofs.unit.DestinationUnits.{strip, DestinationUnit, shape_beside}
 use Rattle.proof_machines.proofs.unit.Away.{Away, shape_away}
 use Rattle.proof_machines.proofs.unit.Rests.{is_over}
 use Rattle.proof_machines.proofs.unit.Seats.{UnitSeat, Covered, Is_beside, Is_away, seat_shape, seat_path}
+use Rattle.std.proofs.lemmas.List.Elements.{filter_map-append}
 
 -- what an instance holds, and behind it what comes to it by the rules
 abbrev pub at_side : {R : Type 0} → Inst R → List (Item R) → List ℕ
@@ -64,11 +65,11 @@ plain F s = record { sc = refl; from_c = refl; held = refl }
 
 handed_at : {R : Type 0} (F : Steps R) (s : Stage F) → OneOf (passes_in (shape F s).sa) (passes_in (shape F s).sb)
 handed_at {R = R} F (Laying d x f g e l k) = Second (no_passes R l)
-handed_at F (Turned d x f e l h) = Second (simp (passes_in-append, no_passes))
+handed_at F (Turned d x f e l h) = Second (simp (filter_map-append, no_passes))
 handed_at F (Fenced_a d x f e h) = Second refl
 handed_at F (Ending_b d x f h) = Second refl
 handed_at F (Fence_b d x n h) = Second refl
-handed_at F (Turned_loose d x f e l) = Second (simp (passes_in-append, no_passes))
+handed_at F (Turned_loose d x f e l) = Second (simp (filter_map-append, no_passes))
 handed_at F (Fenced_loose d x f e) = Second refl
 handed_at F (Ending_loose d x f) = Second refl
 handed_at F (Fence_loose d x n) = Second refl
@@ -148,37 +149,49 @@ stage_stands F s = record {
   last = last_at F s;
 }
 
--- A stage without any packet of the unit has none anywhere.
-record HasNone {R : Type 0} (x : State R) : Type 0 where
+-- a path that has nothing has none at its first places, and none at its last
+record NoneBefore {R : Type 0} (x : State R) (last : List ℕ) : Type 0 where
   passes_a : passes_in x.sa ≡ []
   passes_b : passes_in x.sb ≡ []
   forwards_s : forwards x.cs ≡ []
   store : x.store ≡ []
   events_a : events_in x.ac ≡ []
-  held_a : x.a.held ≡ []
-  carries_a : carries x.sa ≡ []
-  held_b : x.b.held ≡ []
-  carries_b : carries x.sb ≡ []
+  rest : last ≡ []
 
-none_of : {R : Type 0} (x : State R) → path_of x ≡ [] → HasNone x
-none_of x p0 =
+none_before : {R : Type 0} (x : State R) (last : List ℕ) → places x last ≡ [] → NoneBefore x last
+none_before x last p0 =
     let p1 = nil_right (passes_in x.sa) _ p0 in
     let p2 = nil_right (passes_in x.sb) _ p1 in
     let p3 = nil_right (forwards x.cs) _ p2 in
     let p4 = nil_right x.store _ p3 in
-    let p5 = nil_right (events_in x.ac) _ p4 in
-    let p6 = nil_right x.a.held _ p5 in
-    let p7 = nil_right (carries x.sa) _ p6 in
     record {
       passes_a = nil_left (passes_in x.sa) _ p0;
       passes_b = nil_left (passes_in x.sb) _ p1;
       forwards_s = nil_left (forwards x.cs) _ p2;
       store = nil_left x.store _ p3;
       events_a = nil_left (events_in x.ac) _ p4;
-      held_a = nil_left x.a.held _ p5;
-      carries_a = nil_left (carries x.sa) _ p6;
-      held_b = nil_left x.b.held _ p7;
-      carries_b = nil_right x.b.held _ p7;
+      rest = nil_right (events_in x.ac) _ p4;
+    }
+
+-- A stage without any packet of the unit has none anywhere.
+record HasNone {R : Type 0} (x : State R) : Type 0 where
+  before : NoneBefore x (x.a.held ++ (carries x.sa ++ (x.b.held ++ carries x.sb)))
+  held_a : x.a.held ≡ []
+  carries_a : carries x.sa ≡ []
+  held_b : x.b.held ≡ []
+  carries_b : carries x.sb ≡ []
+
+none_of : {R : Type 0} (x : State R) → path_of x ≡ [] → HasNone x
+none_of x none =
+    let before = none_before x (x.a.held ++ (carries x.sa ++ (x.b.held ++ carries x.sb))) none in
+    let p1 = nil_right x.a.held _ before.rest in
+    let p2 = nil_right (carries x.sa) _ p1 in
+    record {
+      before = before;
+      held_a = nil_left x.a.held _ before.rest;
+      carries_a = nil_left (carries x.sa) _ p1;
+      held_b = nil_left x.b.held _ p2;
+      carries_b = nil_right x.b.held _ p2;
     }
 
 bare_none : {R : Type 0} (F : Steps R) (s : Stage F) → all_of s ≡ [] → HasNone (shape F s)
@@ -195,7 +208,7 @@ beside_stands F s =
     let base = stage_stands F s.base in
     let none = bare_none F s.base s.bare in
     let third = plain F s.base in
-    let own : passes_in s.z ≡ [] = passes-strip s.z ∙ ap passes_in s.strips ∙ none.passes_b in
+    let own : passes_in s.z ≡ [] = passes-strip s.z ∙ ap passes_in s.strips ∙ none.before.passes_b in
     record {
       handed = First own;
       third = base.third;
@@ -204,7 +217,7 @@ beside_stands F s =
       known = base.known;
       released = base.released;
       last = At_destination refl (nothing_on (shape F s.base).c (shape F s.base).sc third.held third.sc)
-          (rw (none.passes_a, own, none.forwards_s, none.store, none.events_a, none.held_a, none.carries_a) refl);
+          (rw (none.before.passes_a, own, none.before.forwards_s, none.before.store, none.before.events_a, none.held_a, none.carries_a) refl);
     }
 
 away_stands : {R : Type 0} (F : Steps R) (s : Away F) → SidesStand (shape_away F s) s.l
@@ -219,7 +232,7 @@ away_stands {R = R} F s =
       known = base.known;
       released = base.released;
       last = At_third refl (rw (none.held_a, none.carries_a) refl) (rw (none.held_b, none.carries_b) refl)
-          (rw (none.passes_a, none.passes_b, none.forwards_s, none.store, none.events_a) (sym (all_carries R s.l)));
+          (rw (none.before.passes_a, none.before.passes_b, none.before.forwards_s, none.before.store, none.before.events_a) (sym (all_carries R s.l)));
     }
 
 pub seat_stands : {R : Type 0} (F : Steps R) (s : UnitSeat F) → SidesStand (seat_shape F s) (seat_path s)
@@ -246,20 +259,16 @@ pub record Empty {R : Type 0} (x : State R) : Type 0 where
 empty_from : {R : Type 0} (x : State R) (last : List ℕ) → places x last ≡ [] → (last ≡ [] → at_side x.a x.sa ≡ []) → (last ≡ [] → at_side x.b x.sb ≡ [])
     → (last ≡ [] → at_side x.c x.sc ≡ []) → Empty x
 empty_from x last p0 a b c =
-    let p1 = nil_right (passes_in x.sa) _ p0 in
-    let p2 = nil_right (passes_in x.sb) _ p1 in
-    let p3 = nil_right (forwards x.cs) _ p2 in
-    let p4 = nil_right x.store _ p3 in
-    let none = nil_right (events_in x.ac) _ p4 in
+    let n = none_before x last p0 in
     record {
-      passes_a = nil_left (passes_in x.sa) _ p0;
-      passes_b = nil_left (passes_in x.sb) _ p1;
-      forwards_s = nil_left (forwards x.cs) _ p2;
-      store = nil_left x.store _ p3;
-      events_a = nil_left (events_in x.ac) _ p4;
-      at_a = a none;
-      at_b = b none;
-      at_c = c none;
+      passes_a = n.passes_a;
+      passes_b = n.passes_b;
+      forwards_s = n.forwards_s;
+      store = n.store;
+      events_a = n.events_a;
+      at_a = a n.rest;
+      at_b = b n.rest;
+      at_c = c n.rest;
     }
 
 pub empty_of : {R : Type 0} (x : State R) (way : List ℕ) → Last x way → way ≡ [] → Empty x

@@ -3,7 +3,7 @@ use Rattle.proof_outlines.proofs.Words.{◌≡◌, ℕ, Bool, true, false, Some,
 use Rattle.proof_outlines.proofs.Words.{Chunk, Semantics, FullCell, Answer, Msg, Piece, Door, Phase, MovePlan, MoveState, MoveRow, row, answer_of, keeps}
 use Rattle.proof_outlines.proofs.Words.{next_phase, have_units, source, destination, MoveNext, from_source, from_destination, put_back, words, is_nil, push_on}
 use Rattle.proof_outlines.proofs.Words.{all_put, on_event, on_source_enabled, on_piece, on_deleted, on_restored, on_source_fenced, on_put_ok, on_put_no}
-use Rattle.proof_outlines.proofs.Words.{on_destination_enabled, on_destination_fenced, Open, find_op, WholeWorld, ends, Came, EveryAll, by_if, Unit}
+use Rattle.proof_outlines.proofs.Words.{on_destination_enabled, on_destination_fenced, Open, find_op, WholeWorld, ends, Came, EveryAll, by_if, Unit, split}
 use Rattle.move_op.specs.Phases as phase
 use Rattle.proof_machines.proofs.net.Stores.{nothing}
 use Rattle.proof_outlines.proofs.joined.Words.{number, is_sys, outline_phase, SeesMove, Given, place, S, A}
@@ -106,18 +106,16 @@ module _ (plan : MovePlan) (events : List FullCell) where
       → answer_of (row (record { plan = plan; phase = ph }) events port m).next.phase ≡ Some why
       → Closes ph (row (record { plan = plan; phase = ph }) events port m)
   closes ph port m why h =
-      elim (port == source plan) as (λ b. answer_of (if b then from_source plan ph events m else if port == destination plan
-      then from_destination plan ph events m else keeps (next_phase ph [])).next.phase ≡ Some why
-      → Closes ph
-      (if b then from_source plan ph events m else if port == destination plan then from_destination plan ph events m else keeps (next_phase ph []))) [
-        | true ↦ source_closes ph m why h
-        | false ↦ elim (port == destination plan)
-            as (λ b. answer_of (if b then from_destination plan ph events m else keeps (next_phase ph [])).next.phase ≡ Some why
-            → Closes ph (if b then from_destination plan ph events m else keeps (next_phase ph []))) [
-              | true ↦ destination_closes ph m why h
-              | false ↦ λ over. goes_on ph _ why h over
-            ]
-      ]
+      split (port == source plan)
+      (λ b. answer_of (if b then from_source plan ph events m else if port == destination plan then from_destination plan ph events m else keeps
+      (next_phase ph [])).next.phase ≡ Some why → Closes ph
+      (if b then from_source plan ph events m else if port == destination plan then from_destination plan ph events m else keeps
+      (next_phase ph [])))
+      (λ _. source_closes ph m why h)
+      (λ _. split (port == destination plan)
+      (λ b. answer_of (if b then from_destination plan ph events m else keeps (next_phase ph [])).next.phase ≡ Some why → Closes ph
+      (if b then from_destination plan ph events m else keeps (next_phase ph [])))
+      (λ _. destination_closes ph m why h) (λ _. λ over. goes_on ph _ why h over))
 
 module _ {R : Type 0} (f : Semantics R) (g : Given) where
   ends_at : (ph : Phase) → closing ph ≡ true → ends (outline_phase f (place g) ph) ≡ true

@@ -23,10 +23,8 @@ use Rattle.proof_outlines.proofs.joined.ControllerChanges.{NotMove, AreAlike, Is
 find_none : {X : Type 0} (p : X → Bool) (es : List (ℕ × X)) (k : ℕ) (v : X) → find (λ e. p e.1) es ≡ None → finite.find nat_cmp k es ≡ Some v → p v ≡ false
 find_none p [] k v none there = cc
 find_none {X = X} p (e ∷ es) k v none there = split (p e.1) (λ b. (if b then Some e else find (λ d. p d.1) es) ≡ None → p v ≡ false) (λ _ bad. cc)
-    (λ out more. elim (eq_by_cmp nat_cmp k e.0) as (λ b. cond b (Some e.1) (finite.find nat_cmp k es) ≡ Some v → p v ≡ false) [
-      | true ↦ λ is. let same : e.1 ≡ v = cc in subst (λ y. p y ≡ false) same out
-      | false ↦ λ is. find_none p es k v more is
-    ] there) none
+    (λ out more. split (eq_by_cmp nat_cmp k e.0) (λ b. cond b (Some e.1) (finite.find nat_cmp k es) ≡ Some v → p v ≡ false)
+    (λ _. λ is. let same : e.1 ≡ v = cc in subst (λ y. p y ≡ false) same out) (λ _. λ is. find_none p es k v more is) there) none
 
 map_none : {X Y : Type 0} (h : X → Y) (o : Option X) → option_map h o ≡ None → o ≡ None
 map_none h None e = refl

@@ -4,7 +4,7 @@ use Rattle.proof_outlines.proofs.Words.{◌≡◌, ◌≢◌, ℕ, zero, suc, Bo
 use Rattle.proof_outlines.proofs.Words.{append-nil, arith, if◌then◌else◌, ◌&&◌, ◌==◌, nat_tests, Semantics, stored_of, Each, Msg, Note, ControllerState, Step}
 use Rattle.proof_outlines.proofs.Words.{step_and_finish, may_finish, EachSent, sent_for, Open, find_op, behind, links_after, Any, Old, New, S_asked, OpenShare}
 use Rattle.proof_outlines.proofs.Words.{find_share, WholeWorld, Rising, rising_less, EveryAll, ctrl_every_all, as_node, Controller, arrivals_in, dones_in}
-use Rattle.proof_outlines.proofs.Words.{installs_in, sent-append, done-append}
+use Rattle.proof_outlines.proofs.Words.{installs_in, sent-append, done-append, split}
 use Rattle.std.specs.FinMap as finite
 use Rattle.proof_machines.proofs.net.Net as net
 use Rattle.proof_outlines.proofs.joined.Words.{is_sys, filter_map-put, outline_each, outline_all, is_sharing, SeesAny, AllStep, all_step, Given, place, Genuine}
@@ -124,15 +124,17 @@ module _ {F R : Type 0} (f : Semantics R) (g : Given) where
     }
 
     pub lead : Leads f g n x (record { node = 1; port = p; message = m }) (as_node Controller (step_and_finish did))
-    lead = elim (may_finish did.node) as (λ b. Leads f g n x (record { node = 1; port = p; message = m }) (record {
-      node = Controller (if b then record did.node { finish_sent = true } else did.node);
-      sends = did.sends ++ (if b then (0, Msg.Finish) ∷ [] else []);
-      notes = did.notes;
-    })) [
-      | true ↦ with_tail (record did.node { finish_sent = true }) ((0, Msg.Finish) ∷ []) (controller_same f g did.node
-          (record did.node { finish_sent = true }) l.ops l.shares l.next refl refl refl refl l.controller) refl ((refl, refl), tt)
-      | false ↦ with_tail did.node [] l.controller refl tt
-    ]
+    lead = split (may_finish did.node)
+        (λ b. Leads f g n x (record { node = 1; port = p; message = m })
+        (record {
+          node = Controller (if b then record did.node { finish_sent = true } else did.node);
+          sends = did.sends ++
+              (if b then (0, Msg.Finish) ∷ [] else []);
+          notes = did.notes;
+        }))
+        (λ _. with_tail (record did.node { finish_sent = true }) ((0, Msg.Finish) ∷ []) (controller_same f g did.node
+        (record did.node { finish_sent = true }) l.ops l.shares l.next refl refl refl refl l.controller) refl ((refl, refl), tt))
+        (λ _. with_tail did.node [] l.controller refl tt)
 
   module _ (n : ℕ) (x : Scene F f g) (p : ℕ) (m : Msg) (are : AreShown f g n x) (is : IsTaken f g n x (record { node = 1; port = p; message = m })) where
     not_input : (p == 0) && (1 == 0) ≡ false

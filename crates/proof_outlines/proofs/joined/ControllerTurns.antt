@@ -5,7 +5,7 @@ use Rattle.proof_outlines.proofs.Words.{Semantics, FullCell, stored_of, Answer, 
 use Rattle.proof_outlines.proofs.Words.{destination, from_source, from_destination, keeps, next_phase, CopyState, ShareState, Operation, Move, Copy, Share}
 use Rattle.proof_outlines.proofs.Words.{turn_of, turn_of_move, ControllerState, Step, still, after_turn, takes_turn, hand_step, instance_at, Each, Open}
 use Rattle.proof_outlines.proofs.Words.{find_op, num_of, found, numbered, each_found, Any, Old, find_share, told_by, by_share, as_old, found_num, found_each}
-use Rattle.proof_outlines.proofs.Words.{copies, either_way, Unit, Mark}
+use Rattle.proof_outlines.proofs.Words.{copies, either_way, Unit, Mark, split}
 use Rattle.std.specs.FinMap as finite
 use Rattle.copy_share.specs.Share as share
 use Rattle.ctrl_node.specs.Controller.{on_event}
@@ -259,13 +259,13 @@ module _ {F R : Type 0} (f : Semantics R) (g : Given) (n : ℕ) (x : Scene F f g
 
   -- elsewhere it does what a message does that isn't looked at
   as_put_ok : (mv : MoveState) → (p == destination mv.plan) ≡ false → row mv its_store p (Msg.PutOk op) ≡ row mv its_store p (Msg.PutNo op refused)
-  as_put_ok mv off = elim (p == source mv.plan) as (λ a. (if a then from_source mv.plan mv.phase its_store (Msg.PutOk op) else if p == destination mv.plan
-      then from_destination mv.plan mv.phase its_store (Msg.PutOk op) else keeps (next_phase mv.phase []))
-      ≡ (if a then from_source mv.plan mv.phase its_store (Msg.PutNo op refused) else if p == destination mv.plan
-      then from_destination mv.plan mv.phase its_store (Msg.PutNo op refused) else keeps (next_phase mv.phase []))) [
-        | true ↦ refl
-        | false ↦ rw off refl
-      ]
+  as_put_ok mv off = split (p == source mv.plan)
+      (λ a. (if a then from_source mv.plan mv.phase its_store (Msg.PutOk op) else if p == destination mv.plan then from_destination mv.plan mv.phase its_store
+      (Msg.PutOk op) else keeps (next_phase mv.phase [])) ≡
+      (if a then from_source mv.plan mv.phase its_store
+      (Msg.PutNo op refused) else if p == destination mv.plan then from_destination mv.plan mv.phase its_store (Msg.PutNo op refused) else keeps
+      (next_phase mv.phase [])))
+      (λ _. refl) (λ _. rw off refl)
 
   back_keeps : (mv : MoveState) → finite.get x.nodes.controller.operations op ≡ Some (Move mv)
       → RowKeeps f g op mv its_store (row mv its_store p (Msg.PutNo op refused))

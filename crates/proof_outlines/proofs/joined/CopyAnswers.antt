@@ -2,28 +2,13 @@
 use Rattle.proof_outlines.proofs.Words.{◌≡◌, ℕ, Bool, true, false, ◌⊎◌, inl, inr, Option, Some, None, List, [], ◌∷◌, ◌++◌, map, refl, if◌then◌else◌, ◌||◌}
 use Rattle.proof_outlines.proofs.Words.{option_map, Result, Ok, Err, Filter, Chunk, Semantics, unit_at, ChunkFault, tally_read, are_good, record_chunk, part}
 use Rattle.proof_outlines.proofs.Words.{Mark, FullCell, Piece, Msg, Instance, pieces, to_controller, chunk_told, table_after, with_count, tally_put}
-use Rattle.proof_outlines.proofs.Words.{with_standby, keep_note, tells_and_notes, instance_step, selected_chunks, Each, each-append, each_map}
+use Rattle.proof_outlines.proofs.Words.{with_standby, keep_note, tells_and_notes, instance_step, selected_chunks, Each, each-append, each_map, not}
 use Rattle.std.specs.FinMap as finite
 use Rattle.instance_worker.specs.Instance.{still, process_step, on_get, on_standby, on_put_all}
 use Rattle.proof_outlines.proofs.outline.InstanceWays.{instance_fits}
 use Rattle.proof_outlines.proofs.outline.MoveRows.{is_of_move}
 
--- a message by which a copy goes on
-abbrev pub is_of_copy : Msg → Bool
-is_of_copy (Msg.Get op filter) = true
-is_of_copy (Msg.GetAll op) = true
-is_of_copy (Msg.Chunks op chunks) = true
-is_of_copy (Msg.AllChunk op chunk) = true
-is_of_copy (Msg.Standby op chunks) = true
-is_of_copy (Msg.PutAll op chunk) = true
-is_of_copy (Msg.Kept op) = true
-is_of_copy m = false
-
--- none is sent
-abbrev pub AreNoCopies : List (ℕ × Msg) → Type 0
-AreNoCopies sends = Each (λ x. is_of_copy x.1 ≡ false) sends
-
--- not such a message, but for those of the all-flows state that ask and give
+-- not a message by which a copy goes on, but for those of the all-flows state that ask and give
 abbrev pub is_uncopied : Msg → Bool
 is_uncopied (Msg.Get op filter) = false
 is_uncopied (Msg.Chunks op chunks) = false
@@ -31,6 +16,16 @@ is_uncopied (Msg.Standby op chunks) = false
 is_uncopied (Msg.PutAll op chunk) = false
 is_uncopied (Msg.Kept op) = false
 is_uncopied m = true
+
+-- a message by which a copy goes on
+abbrev pub is_of_copy : Msg → Bool
+is_of_copy (Msg.GetAll op) = true
+is_of_copy (Msg.AllChunk op chunk) = true
+is_of_copy m = not (is_uncopied m)
+
+-- none is sent
+abbrev pub AreNoCopies : List (ℕ × Msg) → Type 0
+AreNoCopies sends = Each (λ x. is_of_copy x.1 ≡ false) sends
 
 -- nothing of a copy is sent
 abbrev pub AreUncopied : List (ℕ × Msg) → Type 0

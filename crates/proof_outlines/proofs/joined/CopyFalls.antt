@@ -2,7 +2,7 @@
 use Rattle.proof_outlines.proofs.Words.{◌≡◌, ℕ, ◌+◌, ◌≤◌, Bool, true, false, cond, Option, Some, None, [], ◌∷◌, ◌++◌, refl, sym, ap, ◌∙◌, subst, arith}
 use Rattle.proof_outlines.proofs.Words.{if◌then◌else◌, ◌==◌, nat_tests, Decides-eqb, flow_of, FullCell, stored_of, with_parcels, Command, Msg, switch_node}
 use Rattle.proof_outlines.proofs.Words.{op_of, CopyPhase, CopyState, CopyRow, Operation, Move, Copy, Share, turn_of, share_of, turn_of_copy, ControllerState}
-use Rattle.proof_outlines.proofs.Words.{Step}
+use Rattle.proof_outlines.proofs.Words.{Step, split}
 use Rattle.std.specs.FinMap as finite
 use Rattle.copy_share.specs.Copy as copy
 use Rattle.ctrl_node.specs.Controller as ctrl
@@ -106,11 +106,11 @@ module _ (n : ℕ) (c : ControllerState) (port : ℕ) (numbered : AreNumbered c)
       light = asked_sent (IsLight n) (light_others n) c port k (begin_light (Msg.Asked k))
 
       by_test : (b : Bool) → (k.op == n) ≡ b → Falls (Msg.Asked k) (ctrl.on_asked c k)
-      by_test false off = stays (Msg.Asked k) (ctrl.on_asked c k) (elim (finite.contains_key c.operations k.op) as (λ b.
-          finite.get (if b then ctrl.still c else ctrl.decision_step c k.op k.what (ctrl.refusal c k.what)).node.operations n ≡ finite.get c.operations n) [
-            | true ↦ refl
-            | false ↦ decided_at n k.op (let back : (n == k.op) ≡ false = grind (arith, nat_tests, off) in back) c k.what (ctrl.refusal c k.what)
-          ]) light
+      by_test false off = stays (Msg.Asked k) (ctrl.on_asked c k)
+          (split (finite.contains_key c.operations k.op)
+          (λ b. finite.get (if b then ctrl.still c else ctrl.decision_step c k.op k.what (ctrl.refusal c k.what)).node.operations n
+          ≡ finite.get c.operations n)
+          (λ _. refl) (λ _. decided_at n k.op (let back : (n == k.op) ≡ false = grind (arith, nat_tests, off) in back) c k.what (ctrl.refusal c k.what))) light
       by_test true on = by_got (finite.get c.operations k.op) refl
         where
           by_got : (o : Option Operation) → finite.get c.operations k.op ≡ o → Falls (Msg.Asked k) (ctrl.on_asked c k)
@@ -165,11 +165,12 @@ module _ (n : ℕ) (c : ControllerState) (port : ℕ) (numbered : AreNumbered c)
       let did = ctrl.row c port m in
       let low = row_falls_all m in
       let sent = keeps_sent-append n did.sends (ctrl.finish_of did.node) in
-      elim (ctrl.may_finish did.node) as (λ b. Falls m (record {
+      split (ctrl.may_finish did.node)
+      (λ b. Falls m (record {
         node = if b then record did.node { finish_sent = true } else did.node;
-        sends = did.sends ++ (if b then (switch_node, Msg.Finish) ∷ [] else []);
+        sends = did.sends ++
+            (if b then (switch_node, Msg.Finish) ∷ [] else []);
         notes = did.notes;
-      })) [
-        | true ↦ (let more = keeps_sent-append n did.sends ((switch_node, Msg.Finish) ∷ []) in omega (arith, low, more))
-        | false ↦ (let more = keeps_sent-append n did.sends [] in omega (arith, low, more))
-      ]
+      }))
+      (λ _. (let more = keeps_sent-append n did.sends ((switch_node, Msg.Finish) ∷ []) in omega (arith, low, more)))
+      (λ _. (let more = keeps_sent-append n did.sends [] in omega (arith, low, more)))

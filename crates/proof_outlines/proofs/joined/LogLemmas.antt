@@ -1,7 +1,7 @@
 -- What is read off a log that goes on; and where a unit is doesn't depend on how its packets are told.
 use Rattle.proof_outlines.proofs.Words.{◌≡◌, ℕ, Bool, true, false, List, [], ◌∷◌, ◌++◌, refl, sym, ap, ◌∙◌, subst, append_assoc, append-nil, if◌then◌else◌}
 use Rattle.proof_outlines.proofs.Words.{◌&&◌, ◌||◌, filter, or_assoc, map-append, Note, instance_node, Semantics, Sys, IsSys, Sharing, WholeWorld, Came}
-use Rattle.proof_outlines.proofs.Words.{WhereAll, EveryAll, Done, arrivals_in, installs_in, owner_after_order, owner_after, Unit}
+use Rattle.proof_outlines.proofs.Words.{WhereAll, EveryAll, Done, arrivals_in, installs_in, owner_after_order, owner_after, Unit, split}
 pub use Rattle.net_world.proofs.LogLemmas.{arrived-append, done-append}
 use Rattle.proof_outlines.proofs.joined.Words.{unit_fits, Given, loose_by, diverts, diverted_after, is_diverted, diverted_in, target_by, Scene, AreShown}
 use Rattle.proof_outlines.proofs.joined.Words.{by_node, came_by, is_of}
@@ -32,11 +32,10 @@ module _ (g : Given) where
       → diverted_in g mine u ops (xs ++ ys) ≡ diverted_in g mine u ops xs ++ diverted_in g mine u (ops ++ installs_in xs) ys
   diverted_in-append mine u ops [] ys = ap (λ v. diverted_in g mine u v ys) (sym (append-nil ops))
   diverted_in-append mine u ops (Note.Arrived p ∷ xs) ys =
-      elim (mine p && is_diverted g u ops) as (λ b. (if b then p ∷ diverted_in g mine u ops (xs ++ ys) else diverted_in g mine u ops (xs ++ ys))
-      ≡ (if b then p ∷ diverted_in g mine u ops xs else diverted_in g mine u ops xs) ++ diverted_in g mine u (ops ++ installs_in xs) ys) [
-        | true ↦ ap (λ v. p ∷ v) (diverted_in-append mine u ops xs ys)
-        | false ↦ diverted_in-append mine u ops xs ys
-      ]
+      split (mine p && is_diverted g u ops)
+      (λ b. (if b then p ∷ diverted_in g mine u ops (xs ++ ys) else diverted_in g mine u ops (xs ++ ys)) ≡
+      (if b then p ∷ diverted_in g mine u ops xs else diverted_in g mine u ops xs) ++ diverted_in g mine u (ops ++ installs_in xs) ys)
+      (λ _. ap (λ v. p ∷ v) (diverted_in-append mine u ops xs ys)) (λ _. diverted_in-append mine u ops xs ys)
   diverted_in-append mine u ops (Note.Installed op ∷ xs) ys = diverted_in-append mine u (ops ++ op ∷ []) xs ys
       ∙ ap (λ v. diverted_in g mine u (ops ++ op ∷ []) xs ++ diverted_in g mine u v ys) (append_assoc ops (op ∷ []) (installs_in xs))
   diverted_in-append mine u ops (n ∷ xs) ys = diverted_in-append mine u ops xs ys

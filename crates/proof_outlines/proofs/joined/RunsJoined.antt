@@ -2,7 +2,7 @@
 use Rattle.proof_outlines.proofs.Words.{◌≡◌, ℕ, ◌+◌, ◌≤◌, true, false, List, [], ◌∷◌, ◌++◌, map, length, refl, sym, ap, ◌∙◌, arith, if◌then◌else◌, ◌==◌, Global}
 use Rattle.proof_outlines.proofs.Words.{Semantics, Msg, Note, Choice, Network, IsWorld, IsRun, run, world_next, opening_world, Taking, run_induction, done_u}
 use Rattle.proof_outlines.proofs.Words.{Config, Node, IsInput, Done, dones_in, done_where, is_loose, node_step, node_ready, first_nodes, started_with, Unit}
-use Rattle.proof_outlines.proofs.Words.{FunctionLaws}
+use Rattle.proof_outlines.proofs.Words.{FunctionLaws, split}
 use Rattle.proof_machines.proofs.unit.Stages as stages
 use Rattle.proof_machines.proofs.net.Readings.{In_order}
 use Rattle.proof_machines.proofs.whole.Readings.{order_all}
@@ -51,11 +51,10 @@ module _ {R : Type 0} (f : Semantics R) (c : Config) (items : List Msg) (is : Is
   pub went_same : (u : Unit) (ds : List Done) → done_u (S f gi) u (by_node f gi ds) ≡ map (λ d. d.number) (done_where (is_of f c items u) ds)
   went_same u [] = refl
   went_same u (d ∷ ds) =
-      elim (is_of f c items u d.number) as (λ b. (if b then d.number ∷ done_u (S f gi) u (by_node f gi ds) else done_u (S f gi) u (by_node f gi ds))
-      ≡ map (λ x. x.number) (if b then d ∷ done_where (is_of f c items u) ds else done_where (is_of f c items u) ds)) [
-        | true ↦ ap (λ xs. d.number ∷ xs) (went_same u ds)
-        | false ↦ went_same u ds
-      ]
+      split (is_of f c items u d.number)
+      (λ b. (if b then d.number ∷ done_u (S f gi) u (by_node f gi ds) else done_u (S f gi) u (by_node f gi ds)) ≡ map (λ x. x.number)
+      (if b then d ∷ done_where (is_of f c items u) ds else done_where (is_of f c items u) ds))
+      (λ _. ap (λ xs. d.number ∷ xs) (went_same u ds)) (λ _. went_same u ds)
 
 pub same_times : (p : ℕ) (xs : List ℕ) → stages.times p xs ≡ times p xs
 same_times p [] = refl

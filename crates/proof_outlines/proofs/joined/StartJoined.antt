@@ -6,7 +6,7 @@ use Rattle.proof_outlines.proofs.Words.{WholeWorld, moves_of, Rising, Filter, Fl
 use Rattle.proof_outlines.proofs.Words.{Semantics, AreFilters, any, first_match, opened, FullCell, Command, Order, Msg, instance_node, Each, each_both, Config}
 use Rattle.proof_outlines.proofs.Words.{is_item, packets, commands, no_packet, packet_numbered, order_numbered, IsRising, IsSteered, IsWhole, IsProper, IsInput}
 use Rattle.proof_outlines.proofs.Words.{Node, Note, queue_at, at, opening_waiting, opening_on_links, first_owner, first_switch, first_instance, first_instances}
-use Rattle.proof_outlines.proofs.Words.{first_nodes, started_with, either_way, by_if, Unit, Target, InstanceState}
+use Rattle.proof_outlines.proofs.Words.{first_nodes, started_with, either_way, by_if, Unit, Target, InstanceState, split}
 use Rattle.std.specs.FinMap as finite
 use Rattle.std.proofs.Math.Seq.{get_or-append_seam}
 use Rattle.event_filter.proofs.RulePlaces.{one_each-none}
@@ -33,11 +33,10 @@ module _ (kind : Kind) where
   route_first (r ∷ rs) flow whole fits =
       let same = whole_takes kind r.0 flow whole.0 fits in
       rw same
-      (elim (matches r.0 flow) as (λ b. option_map (λ x. x.1) (if b then Some (r.0, Target.Instance r.1) else find (λ x. matches x.0 flow) (opened rs))
-      ≡ Some (Target.Instance (if b then r.1 else route rs (unit_of kind flow)))) [
-        | true ↦ refl
-        | false ↦ route_first rs flow whole.1 fits
-      ])
+      (split (matches r.0 flow)
+      (λ b. option_map (λ x. x.1) (if b then Some (r.0, Target.Instance r.1) else find (λ x. matches x.0 flow) (opened rs)) ≡ Some
+      (Target.Instance (if b then r.1 else route rs (unit_of kind flow))))
+      (λ _. refl) (λ _. route_first rs flow whole.1 fits))
 
   route_there : (count : ℕ) → 0 < count → (rs : List (Filter × ℕ)) (u : Unit) → Each (λ r. r.1 < count) rs → nat_lt (route rs u) count ≡ true
   route_there count some [] u few = (Decides-ltb 0 count).1 some
@@ -48,10 +47,8 @@ module _ (kind : Kind) where
   route_is : (u : Unit) → unit_fits kind u ≡ true → (rs : List (Filter × ℕ)) → Each (λ r. is_whole kind r.0 ≡ true) rs → route rs u ≡ first_owner u rs
   route_is u fits [] h = refl
   route_is u fits (r ∷ rs) h = ap (λ b. if b then r.1 else route rs u) (takes_same kind r.0 u h.0 fits)
-      ∙ elim (takes r.0 u) as (λ b. (if b then r.1 else route rs u) ≡ option_map_or (λ x. x.1) (if b then Some r else find (λ x. takes x.0 u) rs) 0) [
-        | true ↦ refl
-        | false ↦ route_is u fits rs h.1
-      ]
+      ∙ split (takes r.0 u) (λ b. (if b then r.1 else route rs u) ≡ option_map_or (λ x. x.1) (if b then Some r else find (λ x. takes x.0 u) rs) 0) (λ _. refl)
+      (λ _. route_is u fits rs h.1)
 
 module _ {R : Type 0} (f : Semantics R) (c : Config) (items : List Msg) (is : IsInput f.kind c items) where
   abbrev pub given : Given

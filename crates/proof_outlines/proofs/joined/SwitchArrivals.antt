@@ -5,7 +5,7 @@ use Rattle.proof_outlines.proofs.Words.{flow_of, Semantics, unit_at, same_unit-t
 use Rattle.proof_outlines.proofs.Words.{instance_node, SwitchState, arrival_step, goes_to, has_room, is_there, on_packet, on_command, on_credit, target_of}
 use Rattle.proof_outlines.proofs.Words.{less_first, EachSent, neither, sent_for, MoveAsked, Rising, Any, Old, New, S_asked, WantShare, WholeWorld, arrive_sends}
 use Rattle.proof_outlines.proofs.Words.{asks, whole_input, comes, EveryAll, input_every_all, asks_move_every_all, asks_share_every_all, as_node, Switch}
-use Rattle.proof_outlines.proofs.Words.{arrivals_in, installs_in, arrived-append, by_if, Unit, Mark}
+use Rattle.proof_outlines.proofs.Words.{arrivals_in, installs_in, arrived-append, by_if, Unit, Mark, split}
 use Rattle.switch_node.specs.Switch.{still}
 use Rattle.proof_machines.proofs.net.Net as net
 use Rattle.proof_outlines.proofs.joined.Words.{unit_fits, want_of, is_sys, asked_of, outline_all, is_sharing, want_share_of, asked_move, asked_share}
@@ -34,10 +34,8 @@ none_arrives {R = R} f g t p =
 
 -- packets that go to the controller are of a unit that a share has
 sent_to_one : (g : Given) (u : Unit) (ops : List ℕ) → (target_by g u ops == 1) ≡ is_diverted g u ops
-sent_to_one g u ops = elim (is_diverted g u ops) as (λ b. ((if b then 1 else instance_node (owner_by g u ops)) == 1) ≡ b) [
-  | true ↦ refl
-  | false ↦ grind (arith, nat_tests)
-]
+sent_to_one g u ops = split (is_diverted g u ops) (λ b. ((if b then 1 else instance_node (owner_by g u ops)) == 1) ≡ b) (λ _. refl)
+    (λ _. grind (arith, nat_tests))
 
 module _ {R : Type 0} (f : Semantics R) (g : Given) where
   labels_for : (k : Target) (cell : FullCell) → Genuine f g cell → EachSent (Label f g) 0 ((target_node k, message_for k cell) ∷ [])
@@ -172,9 +170,9 @@ module _ {F R : Type 0} (f : Semantics R) (g : Given) (n : ℕ) (x : Scene F f g
   credit_leads p cell two =
       let off : (0 == p) ≡ false = grind (arith, nat_tests, two) in
       let rising : Rising x.world.next (asked_nums (x.world.link 0 1) ++ commands f g (less_first ((0 == 0) && (0 == p)) x.input)) = rw off are.rising in
-      elim ((s.flying == 0) || not (cell.pool == s.pool.name)) as (λ b. Leads f g n x (record { node = 0; port = p; message = Msg.Credit cell })
-      (as_node Switch (if b then still s else record { node = record s { pool = one_more s.pool; flying = s.flying - 1 }; sends = []; notes = [] }))) [
-        | true ↦ quiet f g n x are p (Msg.Credit cell) s [] refl refl tt are.switch rising
-        | false ↦ quiet f g n x are p (Msg.Credit cell) (record s { pool = one_more s.pool; flying = s.flying - 1 }) [] refl refl tt
-            (same_switch f g s _ x.world.target refl refl refl refl are.switch) rising
-      ]
+      split ((s.flying == 0) || not (cell.pool == s.pool.name))
+      (λ b. Leads f g n x (record { node = 0; port = p; message = Msg.Credit cell })
+      (as_node Switch (if b then still s else record { node = record s { pool = one_more s.pool; flying = s.flying - 1 }; sends = []; notes = [] })))
+      (λ _. quiet f g n x are p (Msg.Credit cell) s [] refl refl tt are.switch rising)
+      (λ _. quiet f g n x are p (Msg.Credit cell) (record s { pool = one_more s.pool; flying = s.flying - 1 }) [] refl refl tt
+      (same_switch f g s _ x.world.target refl refl refl refl are.switch) rising)

@@ -2,7 +2,7 @@
 use Rattle.proof_outlines.proofs.Words.{◌≡◌, ◌≢◌, ℕ, zero, suc, true, false, Option, Some, None, List, [], ◌∷◌, ◌++◌, refl, sym, ap, ◌∙◌, subst, append-nil}
 use Rattle.proof_outlines.proofs.Words.{arith, if◌then◌else◌, ◌&&◌, ◌==◌, Semantics, AreFilters, Order, Msg, Note, instance_node, SwitchState, stop_messages}
 use Rattle.proof_outlines.proofs.Words.{less_first, EachSent, sent_for, MoveAsked, Rising, rising_less, Any, Old, New, WholeWorld, EveryAll, Switch, dones_in}
-use Rattle.proof_outlines.proofs.Words.{installs_in, sent-append, done-append, Unit}
+use Rattle.proof_outlines.proofs.Words.{installs_in, sent-append, done-append, Unit, split}
 use Rattle.proof_machines.proofs.net.Net as net
 use Rattle.proof_machines.proofs.net.Shares as shares
 use Rattle.proof_outlines.proofs.joined.Words.{unit_fits, want_at, want_of, is_sys, outline_all, routes_same, Given, place, target_by, Nodes, node_of, Label}
@@ -24,10 +24,8 @@ NoneAsked (x ∷ xs) = (asked_nums (x.1 ∷ []) ≡ []) × NoneAsked xs
 -- the numbers of commands among what is sent to one node
 pub nums_sent : {R : Type 0} (r : ℕ) (xs : List (ℕ × Any R)) → NoneAsked xs → asked_nums (sent_for r xs) ≡ []
 nums_sent r [] h = refl
-nums_sent r (x ∷ xs) h = elim (x.0 == r) as (λ b. asked_nums (if b then x.1 ∷ sent_for r xs else sent_for r xs) ≡ []) [
-  | true ↦ asked_nums-append (x.1 ∷ []) (sent_for r xs) ∙ ap (λ v. v ++ asked_nums (sent_for r xs)) h.0 ∙ nums_sent r xs h.1
-  | false ↦ nums_sent r xs h.1
-]
+nums_sent r (x ∷ xs) h = split (x.0 == r) (λ b. asked_nums (if b then x.1 ∷ sent_for r xs else sent_for r xs) ≡ [])
+    (λ _. asked_nums-append (x.1 ∷ []) (sent_for r xs) ∙ ap (λ v. v ++ asked_nums (sent_for r xs)) h.0 ∙ nums_sent r xs h.1) (λ _. nums_sent r xs h.1)
 
 -- and where none is put on a link
 pub nums_put : {R : Type 0} (l : List (Any R)) (r : ℕ) (xs : List (ℕ × Any R)) → NoneAsked xs → asked_nums (l ++ sent_for r xs) ≡ asked_nums l

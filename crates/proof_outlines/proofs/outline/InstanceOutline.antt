@@ -16,20 +16,16 @@ use Rattle.proof_outlines.proofs.outline.Outline.{number, rule_of, outline_rule,
 without_same : (op : ℕ) (rs : List (EventRule FullCell)) → map outline_rule (rules.without_rule rs op) ≡ drop_rule op (map outline_rule rs)
 without_same op [] = refl
 without_same op (r ∷ rs) =
-    elim (r.op == op) as (λ b. map outline_rule (if not b then r ∷ rules.without_rule rs op else rules.without_rule rs op)
-    ≡ (if b then drop_rule op (map outline_rule rs) else outline_rule r ∷ drop_rule op (map outline_rule rs))) [
-      | true ↦ without_same op rs
-      | false ↦ ap (λ xs. outline_rule r ∷ xs) (without_same op rs)
-    ]
+    split (r.op == op) (λ b. map outline_rule (if not b then r ∷ rules.without_rule rs op else rules.without_rule rs op) ≡
+    (if b then drop_rule op (map outline_rule rs) else outline_rule r ∷ drop_rule op (map outline_rule rs)))
+    (λ _. without_same op rs) (λ _. ap (λ xs. outline_rule r ∷ xs) (without_same op rs))
 
 rule_same : (op : ℕ) (rs : List (EventRule FullCell)) → option_map outline_rule (rules.rule_at rs op) ≡ find_rule op (map outline_rule rs)
 rule_same op [] = refl
 rule_same op (r ∷ rs) =
-    elim (r.op == op) as (λ b. option_map outline_rule (if b then Some r else rules.rule_at rs op)
-    ≡ (if b then Some (outline_rule r) else find_rule op (map outline_rule rs))) [
-      | true ↦ refl
-      | false ↦ rule_same op rs
-    ]
+    split (r.op == op) (λ b. option_map outline_rule (if b then Some r else rules.rule_at rs op) ≡
+    (if b then Some (outline_rule r) else find_rule op (map outline_rule rs)))
+    (λ _. refl) (λ _. rule_same op rs)
 
 pub some_same : {X Y : Type 0} (g : X → Y) (o : Option X) → is_some (option_map g o) ≡ is_some o
 some_same g None = refl
@@ -47,12 +43,11 @@ changed_same : (op : ℕ) (change : EventRule FullCell → EventRule FullCell) (
     → map outline_rule (rules.with_change rs op change) ≡ change_rules op outlined (map outline_rule rs)
 changed_same op change outlined same [] = refl
 changed_same op change outlined same (r ∷ rs) =
-    elim (r.op == op) as (λ b. outline_rule (if b then change r else r) ∷ map outline_rule (rules.with_change rs op change)
-    ≡ (if b then outlined (outline_rule r) else outline_rule r) ∷ change_rules op outlined (map outline_rule rs)) [
-      | true ↦ ap (λ x. x ∷ map outline_rule (rules.with_change rs op change)) (same r)
-          ∙ ap (λ xs. outlined (outline_rule r) ∷ xs) (changed_same op change outlined same rs)
-      | false ↦ ap (λ xs. outline_rule r ∷ xs) (changed_same op change outlined same rs)
-    ]
+    split (r.op == op) (λ b. outline_rule (if b then change r else r) ∷ map outline_rule (rules.with_change rs op change) ≡
+    (if b then outlined (outline_rule r) else outline_rule r) ∷ change_rules op outlined (map outline_rule rs))
+    (λ _. ap (λ x. x ∷ map outline_rule (rules.with_change rs op change)) (same r)
+    ∙ ap (λ xs. outlined (outline_rule r) ∷ xs) (changed_same op change outlined same rs))
+    (λ _. ap (λ xs. outline_rule r ∷ xs) (changed_same op change outlined same rs))
 
 set_same : (op : ℕ) (filter : Filter) (act : Action) (rs : List (EventRule FullCell))
     → map outline_rule (rules.with_rule rs op filter act) ≡ set_rule op filter (rule_of act) (map outline_rule rs)
@@ -139,11 +134,10 @@ first_same : {R : Type 0} (f : Semantics R) (site : Site) (packet : ℕ → Pack
 first_same f site packet flow fits [] h = refl
 first_same f site packet flow fits (r ∷ rs) h =
     let same : takes_whole f.kind r.filter (unit_of f.kind flow) ≡ matches r.filter flow = whole_takes f.kind r.filter flow h.0 fits in
-    rw same (elim (matches r.filter flow) as (λ b. option_map outline_rule (if b then Some r else rules.first_rule rs flow)
-    ≡ (if b then Some (outline_rule r) else net.first_rule (sys f site packet) (unit_of f.kind flow) (map outline_rule rs))) [
-      | true ↦ refl
-      | false ↦ first_same f site packet flow fits rs h.1
-    ])
+    rw same (split (matches r.filter flow)
+    (λ b. option_map outline_rule (if b then Some r else rules.first_rule rs flow) ≡
+    (if b then Some (outline_rule r) else net.first_rule (sys f site packet) (unit_of f.kind flow) (map outline_rule rs)))
+    (λ _. refl) (λ _. first_same f site packet flow fits rs h.1))
 
 pub filter_map-put : {X Y : Type 0} (g : X → Option Y) (xs ys : List X) → filter_map g (xs ++ ys) ≡ filter_map g xs ++ filter_map g ys
 filter_map-put g [] ys = refl
@@ -158,10 +152,8 @@ pub held_genuine : (site : Site) (packet : ℕ → Packet) (op : ℕ) (rs : List
     → Each (IsGenuine site packet) (rules.held_at rs op)
 held_genuine site packet op [] h = tt
 held_genuine site packet op (r ∷ rs) h =
-    elim (r.op == op) as (λ b. Each (IsGenuine site packet) (option_map_or (λ x. x.held) (if b then Some r else rules.rule_at rs op) [])) [
-      | true ↦ h.0
-      | false ↦ held_genuine site packet op rs h.1
-    ]
+    split (r.op == op) (λ b. Each (IsGenuine site packet) (option_map_or (λ x. x.held) (if b then Some r else rules.rule_at rs op) [])) (λ _. h.0)
+    (λ _. held_genuine site packet op rs h.1)
 
 module _ {F R : Type 0} (f : Semantics R) (site : Site) (packet : ℕ → Packet) (place : List ℕ → Option ℕ) where
   -- what holds of each instance in a run: its rules are those of moves, and it holds packets of the trace

@@ -3,7 +3,7 @@ use Rattle.proof_outlines.proofs.Words.{◌≡◌, ℕ, Bool, true, false, Optio
 use Rattle.proof_outlines.proofs.Words.{unwrap_or, Chunk, Semantics, spelled, FullCell, Answer, Refused, Msg, instance_node, Phase, MovePlan, MoveNext, MoveRow}
 use Rattle.proof_outlines.proofs.Words.{keeps, next_phase, have_units, chunks_of, put_back, source, destination, put_to, forward_to, words, from_source}
 use Rattle.proof_outlines.proofs.Words.{from_destination, row, on_event, on_piece, on_source_fenced, RPhase, Op, OperationTurn, r_words, Each, wrap, row_of}
-use Rattle.proof_outlines.proofs.Words.{Unit, Target, Door, APiece}
+use Rattle.proof_outlines.proofs.Words.{Unit, Target, Door, APiece, split}
 use Rattle.nf_msgs.specs.Exports.{units_in}
 use Rattle.move_op.specs.Phases as phase
 use Rattle.proof_machines.proofs.unit.Real as real
@@ -168,20 +168,18 @@ module _ {R : Type 0} (f : Semantics R) (place : List ℕ → Option ℕ) where
         → RowFollows plan events (from_destination plan ph events m) (real.r_from_destination (outline_plan plan) (outline_phase ph) (map number events) seen)
         → Rows m seen
     by_sender m seen at_source at_destination =
-        elim (sender == source plan) as (λ a. RowFollows plan events
-        (if a then from_source plan ph events m else if sender == destination plan then from_destination plan ph events m else keeps (next_phase ph []))
-        (if a then real.r_from_source (outline_plan plan) (outline_phase ph) (map number events) seen else if sender == destination plan
-        then real.r_from_destination (outline_plan plan) (outline_phase ph) (map number events) seen
-        else real.r_goes (outline_phase ph) (map number events) [])) [
-          | true ↦ at_source
-          | false ↦ elim (sender == destination plan) as (λ b. RowFollows plan events
-              (if b then from_destination plan ph events m else keeps (next_phase ph []))
-              (if b then real.r_from_destination (outline_plan plan) (outline_phase ph)
-              (map number events) seen else real.r_goes (outline_phase ph) (map number events) [])) [
-                | true ↦ at_destination
-                | false ↦ stays plan ph events
-              ]
-        ]
+        split (sender == source plan)
+        (λ a. RowFollows plan events
+        (if a then from_source plan ph events m else if sender == destination plan then from_destination plan ph events m else keeps
+        (next_phase ph [])) (if a then real.r_from_source (outline_plan plan) (outline_phase ph)
+        (map number events) seen else if sender == destination plan then real.r_from_destination (outline_plan plan) (outline_phase ph)
+        (map number events) seen else real.r_goes (outline_phase ph) (map number events) []))
+        (λ _. at_source)
+        (λ _. split (sender == destination plan)
+        (λ b. RowFollows plan events (if b then from_destination plan ph events m else keeps (next_phase ph []))
+        (if b then real.r_from_destination (outline_plan plan) (outline_phase ph) (map number events) seen else real.r_goes (outline_phase ph)
+        (map number events) []))
+        (λ _. at_destination) (λ _. stays plan ph events))
 
     pub event_row : (op : ℕ) (cell : FullCell) → Rows (Msg.Event op cell) (real.M_event op (number cell))
     event_row op cell = by_sender (Msg.Event op cell) (real.M_event op (number cell)) (event_same plan ph events cell) (stays plan ph events)

@@ -25,11 +25,10 @@ module _ (test : Operation → Bool) where
 
   above : (j : ℕ) (es : List (ℕ × Operation)) (x : ℕ × Operation) → T (below_all nat_cmp j es) → first es ≡ Some x → j < x.0
   above j [] x below is = cc
-  above j (e ∷ es) x below is = elim (test e.1) as (λ b. (if b then Some e else first es) ≡ Some x → j < x.0) [
-    | true ↦ λ here. let same : e ≡ x = ap (λ o. unwrap_or o e) here in
-        subst (λ y. j < y.0) same (is_less j e.0 (and_yes (is_lt (nat_cmp j e.0)) (below_all nat_cmp j es) below).0)
-    | false ↦ λ rest. above j es x (and_yes (is_lt (nat_cmp j e.0)) (below_all nat_cmp j es) below).1 rest
-  ] is
+  above j (e ∷ es) x below is = split (test e.1) (λ b. (if b then Some e else first es) ≡ Some x → j < x.0)
+      (λ _. λ here. let same : e ≡ x = ap (λ o. unwrap_or o e) here in
+      subst (λ y. j < y.0) same (is_less j e.0 (and_yes (is_lt (nat_cmp j e.0)) (below_all nat_cmp j es) below).0))
+      (λ _. λ rest. above j es x (and_yes (is_lt (nat_cmp j e.0)) (below_all nat_cmp j es) below).1 rest) is
 
   first_found : (es : List (ℕ × Operation)) (x : ℕ × Operation) → T (finite.is_sorted nat_cmp es) → first es ≡ Some x
       → (test x.1 ≡ true) × (finite.find nat_cmp x.0 es ≡ Some x.1)
@@ -50,20 +49,17 @@ module _ (test : Operation → Bool) where
   none_passes : (es : List (ℕ × Operation)) (k : ℕ) (v : Operation) → first es ≡ None → finite.find nat_cmp k es ≡ Some v → test v ≡ false
   none_passes [] k v none there = cc
   none_passes (e ∷ es) k v none there = split (test e.1) (λ b. (if b then Some e else first es) ≡ None → test v ≡ false) (λ _ bad. cc)
-      (λ out more. elim (eq_by_cmp nat_cmp k e.0) as (λ b. cond b (Some e.1) (finite.find nat_cmp k es) ≡ Some v → test v ≡ false) [
-        | true ↦ λ is. let same : e.1 ≡ v = cc in subst (λ y. test y ≡ false) same out
-        | false ↦ λ is. none_passes es k v more is
-      ] there) none
+      (λ out more. split (eq_by_cmp nat_cmp k e.0) (λ b. cond b (Some e.1) (finite.find nat_cmp k es) ≡ Some v → test v ≡ false)
+      (λ _. λ is. let same : e.1 ≡ v = cc in subst (λ y. test y ≡ false) same out) (λ _. λ is. none_passes es k v more is) there) none
 
 -- a share whose filter takes a unit is among those that do
 takes_some : {R : Type 0} (S : Sys R) (es : List OpenShare) (n : ℕ) (e : OpenShare) (v : Unit) → find_share es n ≡ Some e → S.takes e.filter v ≡ true
     → share_taking S es v ≡ None → ⊥
 takes_some S [] n e v is on none = cc
 takes_some S (x ∷ es) n e v is on none = split (S.takes x.filter v) (λ b. (if b then Some x else share_taking S es v) ≡ None → ⊥) (λ _ bad. cc)
-    (λ off rest. elim (x.num == n) as (λ b. (if b then Some x else find_share es n) ≡ Some e → ⊥) [
-      | true ↦ λ here. let same : x ≡ e = cc in let never : false ≡ true = sym off ∙ ap (λ y. S.takes y.filter v) same ∙ on in cc
-      | false ↦ λ there. takes_some S es n e v there on rest
-    ] is) none
+    (λ off rest. split (x.num == n) (λ b. (if b then Some x else find_share es n) ≡ Some e → ⊥)
+    (λ _. λ here. let same : x ≡ e = cc in let never : false ≡ true = sym off ∙ ap (λ y. S.takes y.filter v) same ∙ on in cc)
+    (λ _. λ there. takes_some S es n e v there on rest) is) none
 
 module _ {R : Type 0} (f : Semantics R) (at : Site) (packet : ℕ → Packet) (place : List ℕ → Option ℕ) (c : ControllerState) (ops : List (Open R))
     (shares : List OpenShare) (h : OpensAll f place at ops shares c) where

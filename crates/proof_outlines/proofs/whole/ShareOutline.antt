@@ -4,7 +4,7 @@ use Rattle.proof_outlines.proofs.Words.{◌∙◌, subst, append-nil, arith, if�
 use Rattle.proof_outlines.proofs.Words.{map-append, nat_tests, Flow, Packet, Site, flow_of, Chunk, Semantics, spelled, FullCell, Msg, instance_node, SharePhase}
 use Rattle.proof_outlines.proofs.Words.{SharePlan, ShareState, ShareRow, home, others, setting, syncing, on_fenced, on_chunks, member_of, service_if_idle, Each}
 use Rattle.proof_outlines.proofs.Words.{each-append, without_number, Sys, Any, New, S_forward, S_get, S_sync, Sharing, OpenShare, Told, Is_fenced, Has_chunks}
-use Rattle.proof_outlines.proofs.Words.{Has_chunk, Is_synced, Has_packet, ShareTurn, s_left, s_row, s_served, share_row, Unit, Mark, Answer}
+use Rattle.proof_outlines.proofs.Words.{Has_chunk, Is_synced, Has_packet, ShareTurn, s_left, s_row, s_served, share_row, Unit, Mark, Answer, split}
 use Rattle.std.specs.Prelude.{filter}
 use Rattle.copy_share.specs.Share.{next_phase, row}
 use Rattle.copy_share.specs.Share as shares
@@ -54,12 +54,10 @@ others_same : (one : ℕ) (ms : List ℕ)
 others_same one [] = refl
 others_same one (m ∷ ms) = ap (λ b. if b then without_number (map instance_node ms) (instance_node one)
     else instance_node m ∷ without_number (map instance_node ms) (instance_node one)) (same_node m one)
-    ∙ elim (m == one) as (λ b.
+    ∙ split (m == one) (λ b.
     (if b then without_number (map instance_node ms) (instance_node one) else instance_node m ∷ without_number (map instance_node ms) (instance_node one))
-    ≡ map instance_node (if not b then m ∷ filter (λ member. not (member == one)) ms else filter (λ member. not (member == one)) ms)) [
-      | true ↦ others_same one ms
-      | false ↦ ap (λ xs. instance_node m ∷ xs) (others_same one ms)
-    ]
+    ≡ map instance_node (if not b then m ∷ filter (λ member. not (member == one)) ms else filter (λ member. not (member == one)) ms))
+    (λ _. others_same one ms) (λ _. ap (λ xs. instance_node m ∷ xs) (others_same one ms))
 
 count_same : (plan : SharePlan) (one : ℕ) → length (without_number (map instance_node plan.members) (instance_node one)) ≡ length (others plan one)
 count_same plan one = ap length (others_same one plan.members) ∙ length-map (others plan one) instance_node
@@ -98,15 +96,14 @@ module _ {R : Type 0} (f : Semantics R) (at : Site) (packet : ℕ → Packet) (p
       let rest = syncs_same plan one chunks ms in
       let own : (m == one) ≡ (instance_node m == instance_node one) = sym (same_node m one) in
       let flag : (m == home plan) ≡ (instance_node m == instance_node (home plan)) = sym (same_node m (home plan)) in
-      elim (m == one) as (λ b. b ≡ (instance_node m == instance_node one)
-      → outline_all f place (map (λ member. (instance_node member, Msg.Sync (member == home plan) plan.op chunks))
-      (if not b then m ∷ filter (λ member. not (member == one)) ms else filter (λ member. not (member == one)) ms))
-      ≡ syncs plan.op (instance_node (home plan)) (instance_node one) (entries f chunks) (map instance_node (m ∷ ms))) [
-        | true ↦ λ on. rw (← on) rest
-        | false ↦ λ off. rw (← off) (ap (λ b. (instance_node m, New (S_sync plan.op b (entries f chunks))) ∷ outline_all f place
-            (map (λ member. (instance_node member, Msg.Sync (member == home plan) plan.op chunks)) (filter (λ member. not (member == one)) ms))) flag
-            ∙ ap (λ xs. (instance_node m, New (S_sync plan.op (instance_node m == instance_node (home plan)) (entries f chunks))) ∷ xs) rest)
-      ] own
+      split (m == one) (λ b. b ≡ (instance_node m == instance_node one) → outline_all f place
+      (map (λ member. (instance_node member, Msg.Sync (member == home plan) plan.op chunks))
+      (if not b then m ∷ filter (λ member. not (member == one)) ms else filter (λ member. not (member == one)) ms)) ≡ syncs plan.op
+      (instance_node (home plan)) (instance_node one) (entries f chunks) (map instance_node (m ∷ ms)))
+      (λ _. λ on. rw (← on) rest)
+      (λ _. λ off. rw (← off) (ap (λ b. (instance_node m, New (S_sync plan.op b (entries f chunks))) ∷ outline_all f place
+      (map (λ member. (instance_node member, Msg.Sync (member == home plan) plan.op chunks)) (filter (λ member. not (member == one)) ms))) flag
+      ∙ ap (λ xs. (instance_node m, New (S_sync plan.op (instance_node m == instance_node (home plan)) (entries f chunks))) ∷ xs) rest)) own
 
   -- what a share does with a message, before it serves
   pub record RowIs (cells : List FullCell) (r : ShareRow) (did : ShareTurn R) : Type 0 where
@@ -116,20 +113,17 @@ module _ {R : Type 0} (f : Semantics R) (at : Site) (packet : ℕ → Packet) (p
 
   setting_same : (left : ℕ) (cells : List FullCell) (sends : List (ℕ × Msg)) (xs : List (ℕ × Any R)) → outline_all f place sends ≡ xs
       → RowIs cells (setting left sends) (s_left S A machine.Setting left (map number cells) xs)
-  setting_same left cells sends xs e = elim (left == 0) as (λ b. RowIs cells
-      (if b then record { phase = SharePhase.Idle; sends = sends; answer = Some Answer.Done } else next_phase (SharePhase.Setting left) sends)
-      (record { phase = if b then machine.Idle else machine.Setting left; queue = map number cells; sends = xs })) [
-        | true ↦ record { phase = refl; queue = refl; sends = sym e }
-        | false ↦ record { phase = refl; queue = refl; sends = sym e }
-      ]
+  setting_same left cells sends xs e = split (left == 0)
+      (λ b. RowIs cells (if b then record { phase = SharePhase.Idle; sends = sends; answer = Some Answer.Done } else next_phase
+      (SharePhase.Setting left) sends) (record { phase = if b then machine.Idle else machine.Setting left; queue = map number cells; sends = xs }))
+      (λ _. record { phase = refl; queue = refl; sends = sym e }) (λ _. record { phase = refl; queue = refl; sends = sym e })
 
   syncing_same : (left : ℕ) (cells : List FullCell) (sends : List (ℕ × Msg)) (xs : List (ℕ × Any R)) → outline_all f place sends ≡ xs
       → RowIs cells (syncing left sends) (s_left S A machine.Syncing left (map number cells) xs)
-  syncing_same left cells sends xs e = elim (left == 0) as (λ b. RowIs cells (next_phase (if b then SharePhase.Idle else SharePhase.Syncing left) sends)
-      (record { phase = if b then machine.Idle else machine.Syncing left; queue = map number cells; sends = xs })) [
-        | true ↦ record { phase = refl; queue = refl; sends = sym e }
-        | false ↦ record { phase = refl; queue = refl; sends = sym e }
-      ]
+  syncing_same left cells sends xs e = split (left == 0)
+      (λ b. RowIs cells (next_phase (if b then SharePhase.Idle else SharePhase.Syncing left) sends)
+      (record { phase = if b then machine.Idle else machine.Syncing left; queue = map number cells; sends = xs }))
+      (λ _. record { phase = refl; queue = refl; sends = sym e }) (λ _. record { phase = refl; queue = refl; sends = sym e })
 
   same_row : (cells : List FullCell) (ph : SharePhase)
       → RowIs cells (next_phase ph []) (record { phase = share_phase ph; queue = map number cells; sends = [] })
@@ -152,25 +146,27 @@ module _ {R : Type 0} (f : Semantics R) (at : Site) (packet : ℕ → Packet) (p
 
     fenced_same : (op : ℕ) (ph : SharePhase) → RowAgrees ph (row (of ph) sender (Msg.Fenced op)) Is_fenced
     fenced_same op SharePhase.Fencing =
-        elim (sender == instance_node (home plan)) as (λ b. RowIs cells (if b then on_fenced plan SharePhase.Fencing else next_phase SharePhase.Fencing [])
-        (if b then record { phase = machine.Getting; queue = map number cells; sends = (instance_node (home plan), New (S_get plan.op plan.filter)) ∷ [] }
-        else still SharePhase.Fencing)) [
-          | true ↦ record { phase = refl; queue = refl; sends = refl }
-          | false ↦ same_row cells SharePhase.Fencing
-        ]
+        split (sender == instance_node (home plan))
+        (λ b. RowIs cells (if b then on_fenced plan SharePhase.Fencing else next_phase SharePhase.Fencing [])
+        (if b then record {
+          phase = machine.Getting;
+          queue = map number cells;
+          sends =
+              (instance_node (home plan), New (S_get plan.op plan.filter)) ∷ [];
+        } else still SharePhase.Fencing))
+        (λ _. record { phase = refl; queue = refl; sends = refl }) (λ _. same_row cells SharePhase.Fencing)
     fenced_same op ph = either_same (sender == instance_node (home plan)) ph
 
     chunks_same : (op : ℕ) (chunks : List Chunk) (ph : SharePhase) → RowAgrees ph (row (of ph) sender (Msg.Chunks op chunks)) (Has_chunks (entries f chunks))
     chunks_same op chunks SharePhase.Getting =
         let xs = syncs plan.op (instance_node (home plan)) (instance_node (home plan)) (entries f chunks) (map instance_node plan.members) in
-        elim (sender == instance_node (home plan)) as (λ b. RowIs cells (if b then on_chunks plan SharePhase.Getting chunks else next_phase SharePhase.Getting [])
-        (if b then s_left S A machine.Setting (length (without_number (map instance_node plan.members) (instance_node (home plan)))) (map number cells) xs
-        else still SharePhase.Getting)) [
-          | true ↦ subst (λ n. RowIs cells (on_chunks plan SharePhase.Getting chunks) (s_left S A machine.Setting n (map number cells) xs))
-              (sym (count_same plan (home plan))) (setting_same (length (others plan (home plan))) cells (shares.syncs plan (home plan) chunks) xs
-              (syncs_same plan (home plan) chunks plan.members))
-          | false ↦ same_row cells SharePhase.Getting
-        ]
+        split (sender == instance_node (home plan))
+        (λ b. RowIs cells (if b then on_chunks plan SharePhase.Getting chunks else next_phase SharePhase.Getting [])
+        (if b then s_left S A machine.Setting (length (without_number (map instance_node plan.members) (instance_node (home plan))))
+        (map number cells) xs else still SharePhase.Getting))
+        (λ _. subst (λ n. RowIs cells (on_chunks plan SharePhase.Getting chunks) (s_left S A machine.Setting n (map number cells) xs))
+        (sym (count_same plan (home plan))) (setting_same (length (others plan (home plan))) cells (shares.syncs plan (home plan) chunks) xs
+        (syncs_same plan (home plan) chunks plan.members))) (λ _. same_row cells SharePhase.Getting)
     chunks_same op chunks ph = either_same (sender == instance_node (home plan)) ph
 
     chunk_same : (op : ℕ) (chunk : Chunk) (entry : Unit × R) (ph : SharePhase) → spelled f chunk ≡ Some entry
@@ -180,15 +176,15 @@ module _ {R : Type 0} (f : Semantics R) (at : Site) (packet : ℕ → Packet) (p
         let told : entries f (chunk ∷ []) ≡ entry ∷ [] = rw spells refl in
         let sent : outline_all f place (shares.syncs plan member (chunk ∷ [])) ≡ xs = syncs_same plan member (chunk ∷ []) plan.members
         ∙ ap (λ cs. syncs plan.op (instance_node (home plan)) (instance_node member) cs (map instance_node plan.members)) told in
-        elim (sender == instance_node member)
-        as (λ b. RowIs cells (if b then syncing (length (others plan member)) (shares.syncs plan member (chunk ∷ [])) else next_phase (SharePhase.Out member) [])
-        (if b then s_left S A machine.Syncing (length (without_number (map instance_node plan.members) (instance_node member))) (map number cells) xs
-        else still (SharePhase.Out member))) [
-          | true ↦ subst (λ n. RowIs cells (syncing (length (others plan member)) (shares.syncs plan member (chunk ∷ [])))
-              (s_left S A machine.Syncing n (map number cells) xs))
-              (sym (count_same plan member)) (syncing_same (length (others plan member)) cells (shares.syncs plan member (chunk ∷ [])) xs sent)
-          | false ↦ same_row cells (SharePhase.Out member)
-        ]
+        split (sender == instance_node member)
+        (λ b. RowIs cells (if b then syncing (length (others plan member)) (shares.syncs plan member (chunk ∷ [])) else next_phase
+        (SharePhase.Out member) [])
+        (if b then s_left S A machine.Syncing (length (without_number (map instance_node plan.members) (instance_node member)))
+        (map number cells) xs else still (SharePhase.Out member)))
+        (λ _. subst (λ n. RowIs cells (syncing (length (others plan member)) (shares.syncs plan member (chunk ∷ [])))
+        (s_left S A machine.Syncing n (map number cells) xs))
+        (sym (count_same plan member)) (syncing_same (length (others plan member)) cells (shares.syncs plan member (chunk ∷ [])) xs sent))
+        (λ _. same_row cells (SharePhase.Out member))
     chunk_same op chunk entry ph spells = same_row cells ph
 
     synced_same : (op : ℕ) (ph : SharePhase) → RowAgrees ph (row (of ph) sender (Msg.Synced op)) Is_synced
